@@ -1,0 +1,15 @@
+pub mod Splits
+pub mod Values
+pub mod Reading
+pub mod Chains
+pub mod Lists
+pub mod Laws
+pub mod Pieces
+pub mod Progress
+pub mod Cuts
+pub mod Decimals
+pub mod DigitCuts
+pub mod Walks
+pub mod CommandLaws
+pub mod ExactReaders
+pub mod Asked

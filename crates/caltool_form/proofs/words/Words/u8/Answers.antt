@@ -1,0 +1,15 @@
+use Rattle.std.proofs.Common.{ap, sym, ◌∙◌, to_z-of_z, SFits, w64, rules, None, Some}
+use Rattle.std.specs.Option.{option_and_then}
+use Rattle.caltool_form.specs.Numbers.{to_u8}
+use Rattle.caltool_form.specs.Cursor.{leaving}
+use Rattle.caltool_form.proofs.Reading.{narrowed_reads, inside_u8}
+use Rattle.caltool_form.proofs.words.Words.u8.Goals as goal
+
+pub returns-in_err-i64 : goal.returns-in_err-i64
+returns-in_err-i64 c = rw c.from_residual.ensures (narrowed_reads to_u8 inside_u8 _ c.i64.new.self None c.in_err-i64.ensures.read)
+
+pub returns : goal.returns
+returns c =
+    let f : SFits w64 c.in_ok-i64.field-0 = search rules in
+    narrowed_reads to_u8 inside_u8 _ c.i64.new.self (Some c.in_ok-i64.field-0) c.in_ok-i64.ensures.read
+    ∙ ap (option_and_then (λ a. leaving a c.i64.new.self)) (sym (c.to_u8.ensures ∙ ap to_u8 (to_z-of_z f)))

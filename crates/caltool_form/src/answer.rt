@@ -1,0 +1,77 @@
+//! The answer to one line.
+ghost use Rattle.std.specs.Prelude.{◌≡◌, ◌≤◌, ℕ, List, length, take};
+ghost use Rattle.caltool_form.specs.Answers.{answer_of};
+ghost use Rattle.caltool_form.specs.declared.command.Command.{Command};
+
+use crate::command::{Command, command_of};
+use crate::text::put_text;
+use std::marker::Model;
+
+/// What answers a command.
+pub trait CommandAnswers {
+    /// The text of the answer to a command, without a newline.
+    ghost answer_to: { Command → List ℕ };
+
+    /// Writes the answer to the start of a buffer, and gives its length, at most 63 bytes.
+    fn write_answer(command: Command, out: &mut [u8]) -> usize
+        requires { 63 ≤ length out.old }
+        ensures fits { result ≤ 63 }
+        ensures text { take result out.new ≡ answer_to command };
+}
+
+// An answer has at most 63 bytes.
+const LONGEST_ANSWER: usize = 63;
+
+// A longer line is answered by `error`.
+const LONGEST_LINE: usize = 120;
+
+/// The answer to one line, without its newline.
+#[derive(Debug, Drop)]
+pub struct Answer {
+    bytes: [u8; LONGEST_ANSWER],
+    len: usize,
+}
+
+impl Model for Answer {
+    ghost Value = { List ℕ };
+
+    ghost view = { λ a. take a.len a.bytes };
+
+    ghost invariant = { λ a. a.len ≤ 63 };
+}
+
+impl Answer {
+    /// The bytes of the answer, at most 63.
+    pub fn as_bytes(&self) -> &[u8]
+        ensures value { result.now ≡ self.now }
+        ensures fits { length result.now ≤ 63 }
+    {
+        &self.bytes[..self.len]
+    }
+}
+
+/// The answer to one line, given without its newline: that of `A` to the line's command, and `error`
+/// for a line of more than 120 bytes and for one that is no command.
+pub fn answer_line<A: CommandAnswers>(line: &[u8]) -> Answer
+    ensures { result ≡ answer_of A.answer_to line.now }
+{
+    let mut bytes = [0u8; LONGEST_ANSWER];
+    let len = write_line_answer::<A>(line, &mut bytes);
+    Answer { bytes, len }
+}
+
+// Writes the answer to a line to the start of a buffer, and gives its length.
+#[tactic(auto, unfolding(crate::specs::Answers::answer_of, crate::specs::Answers::short_answer))]
+pub(crate) fn write_line_answer<A: CommandAnswers>(line: &[u8], out: &mut [u8]) -> usize
+    requires { 63 ≤ length out.old }
+    ensures fits { result ≤ 63 }
+    ensures text { take result out.new ≡ answer_of A.answer_to line.now }
+{
+    if line.len() > LONGEST_LINE {
+        return put_text(out, 0, b"error");
+    }
+    match command_of(line) {
+        Some(command) => A::write_answer(command, out),
+        None => put_text(out, 0, b"error"),
+    }
+}

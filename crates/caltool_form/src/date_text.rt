@@ -1,0 +1,98 @@
+//! Years, dates and weeks put into a buffer as ISO 8601 writes them.
+ghost use Rattle.std.specs.Prelude.{◌≡◌, ◌+◌, ◌<◌, ◌≤◌, ◌++◌, length, take, unsigned_abs};
+ghost use Rattle.chrono_clock.specs.Text.{year_digits, year_text, calendar_text, week_text};
+
+use crate::digits::{put_four, put_two};
+use crate::text::{put_natural, put_text};
+
+/// Puts a year, a month and a day of the month with `-` between (ISO 8601 calendar date) after the
+/// first `at` bytes of `out`, and gives where they end: at most 13 bytes on. Those bytes stay.
+///
+/// The year has at most six digits, the month and the day are below 100, and `out` has 13 bytes of
+/// room.
+pub fn put_calendar_date(out: &mut [u8], at: usize, year: i32, month: u32, day: u32) -> usize
+    requires year { unsigned_abs year < 1_000_000 }
+    requires month { month < 100 }
+    requires day { day < 100 }
+    requires room { at + 13 ≤ length out.old }
+    ensures end { result ≤ at + 13 }
+    ensures text { take result out.new ≡ take at out.old ++ calendar_text year month day }
+{
+    let end = put_year(out, at, year);
+    out[end] = b'-';
+    let end = put_two(out, end + 1, month);
+    out[end] = b'-';
+    put_two(out, end + 1, day)
+}
+
+/// Puts a year, `-W` and a week of the year (ISO 8601 week date, without its day) after the first
+/// `at` bytes of `out`, and gives where they end: at most 11 bytes on. Those bytes stay.
+///
+/// The year has at most six digits, the week is below 100, and `out` has 11 bytes of room.
+pub fn put_week(out: &mut [u8], at: usize, year: i32, week: u32) -> usize
+    requires year { unsigned_abs year < 1_000_000 }
+    requires week { week < 100 }
+    requires room { at + 11 ≤ length out.old }
+    ensures end { result ≤ at + 11 }
+    ensures text { take result out.new ≡ take at out.old ++ week_text year week }
+{
+    let end = put_year(out, at, year);
+    let end = put_text(out, end, b"-W");
+    put_two(out, end, week)
+}
+
+// Puts a year after the first `at` bytes: four digits from 0 to 9999, and else a sign and its size.
+fn put_year(out: &mut [u8], at: usize, year: i32) -> usize
+    requires year { unsigned_abs year < 1_000_000 }
+    requires room { at + 7 ≤ length out.old }
+    ensures end { result ≤ at + 7 }
+    ensures text { take result out.new ≡ take at out.old ++ year_text year }
+{
+    if year < 0 {
+        out[at] = b'-';
+        return put_year_digits(out, at + 1, year.unsigned_abs());
+    }
+    if year < 10_000 {
+        return put_four(out, at, year as u32);
+    }
+    out[at] = b'+';
+    put_year_digits(out, at + 1, year as u32)
+}
+
+// Puts the size of a year in at least four digits after the first `at` bytes.
+#[tactic(auto, using(crate::proofs::Decimals::decimals))]
+fn put_year_digits(out: &mut [u8], at: usize, size: u32) -> usize
+    requires size { size < 1_000_000 }
+    requires room { at + 6 ≤ length out.old }
+    ensures end { result ≤ at + 6 }
+    ensures text { take result out.new ≡ take at out.old ++ year_digits size }
+{
+    if size < 10_000 {
+        return put_four(out, at, size);
+    }
+    put_natural(out, at, u64::from(size))
+}
+
+#[cfg(test)]
+mod tests {
+    use super::*;
+
+    #[test]
+    fn dates_and_weeks(rt: HostRuntime) {
+        let cases: [(i32, &[u8], &[u8]); 6] = [
+            (0, b"x 0000-02-29", b"x 0000-W05"),
+            (-1, b"x -0001-02-29", b"x -0001-W05"),
+            (2024, b"x 2024-02-29", b"x 2024-W05"),
+            (10_000, b"x +10000-02-29", b"x +10000-W05"),
+            (-262_143, b"x -262143-02-29", b"x -262143-W05"),
+            (262_143, b"x +262143-02-29", b"x +262143-W05"),
+        ];
+        for (year, date, week) in &cases {
+            let mut out = *b"x              ";
+            let end = put_calendar_date(&mut out, 2, *year, 2, 29);
+            assert_eq!(rt; &out[..end], *date);
+            let end = put_week(&mut out, 2, *year, 5);
+            assert_eq!(rt; &out[..end], *week);
+        }
+    }
+}

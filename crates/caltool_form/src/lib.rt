@@ -1,0 +1,35 @@
+//! What `caltool` does with bytes, whatever its dates are: the cutting of an input into lines, the
+//! reading of a line as a command, the writing of texts and numbers, and the loop that answers each
+//! line of a reader by one line to a writer. What answers a command is a type with `CommandAnswers`.
+#![tactic(auto)]
+
+mod answer;
+mod arguments;
+mod carried;
+mod command;
+mod date_text;
+mod digits;
+mod duration_text;
+mod law;
+mod newline;
+mod number;
+mod output;
+mod read;
+mod run;
+mod set_text;
+mod text;
+mod time_text;
+mod words;
+
+pub use answer::{Answer, CommandAnswers, answer_line};
+pub use arguments::{CalendarDate, ClockTime, Moment};
+pub use command::{Command, command_of};
+pub use date_text::{put_calendar_date, put_week};
+pub use duration_text::put_duration;
+pub use law::{
+    commands_are_lines, cut_is_unique, lines_are_commands, numbers_are_texts, words_are_unique,
+};
+pub use run::{RunFault, answer_lines};
+pub use set_text::{put_set, put_walk, put_weekday};
+pub use text::{put_i32, put_number, put_text, put_u32};
+pub use time_text::put_clock;

@@ -1,0 +1,106 @@
+//! The answers that wait to be written.
+ghost use Rattle.std.specs.Prelude.{◌≡◌, ◌+◌, ◌≤◌, ◌<◌, ◌++◌, ◌∷◌, ◌↔◌, ℕ, List, [], length, take, OnOk, OnErr, IfErr, IsTrue};
+ghost use Rattle.std.specs.Io.KnownBytes.{Appends};
+ghost use Rattle.caltool_form.specs.Answers.{answer_of};
+
+use crate::answer::{CommandAnswers, write_line_answer};
+use crate::run::RunFault;
+use std::io::Write;
+use std::marker::Model;
+
+const ROOM: usize = 65536;
+
+// The bytes that wait to be written.
+#[derive(Drop)]
+pub(crate) struct Output {
+    bytes: [u8; ROOM],
+    len: usize,
+}
+
+impl Model for Output {
+    ghost Value = { List ℕ };
+
+    ghost view = { λ o. take o.len o.bytes };
+
+    ghost invariant = { λ o. o.len ≤ 65536 };
+}
+
+impl Output {
+    pub(crate) fn new() -> Output
+        ensures { result ≡ [] }
+    {
+        Output {
+            bytes: [0; ROOM],
+            len: 0,
+        }
+    }
+
+    // Adds the answer to a line, and its newline.
+    pub(crate) fn answer<A: CommandAnswers>(&mut self, line: &[u8])
+        requires { length self.old + 63 < 65536 }
+        ensures { self.new ≡ self.old ++ answer_of A.answer_to line.now ++ 10 ∷ [] }
+    {
+        self.len = add_answer::<A>(&mut self.bytes, self.len, line);
+    }
+
+    // Makes room for an answer of at most 63 bytes and its newline.
+    pub(crate) fn make_room<W: Write>(&mut self, w: &mut W) -> Result<(), RunFault>
+        ensures ok { OnOk result ((done : List ℕ) × Appends (W.contents w.old) (W.contents w.new) done
+            × (self.old ≡ done ++ self.new)) }
+        ensures room { OnOk result (length self.new + 63 < 65536) }
+        ensures err { OnErr result ((n : ℕ) × Appends (W.contents w.old) (W.contents w.new) (take n self.old)) }
+        ensures fault { IfErr result (λ e. e ≡ RunFault.Write) }
+    {
+        if self.has_room() {
+            return Ok(());
+        }
+        self.send(w)
+    }
+
+    // Writes what waits. After a fault a beginning of it is written.
+    pub(crate) fn send<W: Write>(&mut self, w: &mut W) -> Result<(), RunFault>
+        ensures ok { OnOk result (Appends (W.contents w.old) (W.contents w.new) self.old) }
+        ensures nothing { OnOk result (self.new ≡ []) }
+        ensures err { OnErr result ((n : ℕ) × Appends (W.contents w.old) (W.contents w.new) (take n self.old)) }
+        ensures fault { IfErr result (λ e. e ≡ RunFault.Write) }
+    {
+        write_whole(w, &self.bytes[..self.len])?;
+        self.len = 0;
+        Ok(())
+    }
+
+    fn has_room(&self) -> bool
+        ensures { IsTrue result ↔ (length self.now + 63 < 65536) }
+    {
+        self.len + 63 < ROOM
+    }
+}
+
+// Puts an answer and a newline after the first `len` bytes, and gives the new length.
+fn add_answer<A: CommandAnswers>(bytes: &mut [u8], len: usize, line: &[u8]) -> usize
+    requires { len + 63 < length bytes.old }
+    ensures fits { result ≤ length bytes.old }
+    ensures text { take result bytes.new ≡ take len bytes.old ++ answer_of A.answer_to line.now ++ 10 ∷ [] }
+{
+    let n = write_line_answer::<A>(line, &mut bytes[len..]);
+    let end = len + n;
+    bytes[end] = b'\n';
+    end + 1
+}
+
+// Writes the bytes. A write that fails, or takes none of them, is not tried again.
+fn write_whole<W: Write>(w: &mut W, bytes: &[u8]) -> Result<(), RunFault>
+    ensures ok { OnOk result (Appends (W.contents w.old) (W.contents w.new) bytes.now) }
+    ensures err { OnErr result ((n : ℕ) × Appends (W.contents w.old) (W.contents w.new) (take n bytes.now)) }
+    ensures fault { IfErr result (λ e. e ≡ RunFault.Write) }
+{
+    let mut rest = bytes;
+    while !rest.is_empty() {
+        match w.write(rest) {
+            Ok(0) => return Err(RunFault::Write),
+            Ok(n) => rest = &rest[n..],
+            Err(_) => return Err(RunFault::Write),
+        }
+    }
+    Ok(())
+}

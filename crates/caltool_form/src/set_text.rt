@@ -1,0 +1,122 @@
+//! Weekdays and sets of weekdays put into a buffer.
+ghost use Rattle.std.specs.Prelude.{◌≡◌, ◌+◌, ◌-◌, ◌*◌, ◌≤◌, ◌++◌, length, take};
+ghost use Rattle.chrono_units.specs.WeekdayText.{weekday_text, further_days_text, days_text, set_text};
+ghost use Rattle.chrono_units.specs.WeekdaySet.{walk};
+ghost use Rattle.caltool_form.specs.Texts.{spaced_days_text};
+
+use crate::text::put_text;
+use chrono_units::{Weekday, WeekdaySet, WeekdaySetIter};
+
+/// Puts the English name of a day in three letters after the first `at` bytes of `out`, and gives
+/// where it ends. Those bytes stay.
+pub fn put_weekday(out: &mut [u8], at: usize, day: Weekday) -> usize
+    requires { at + 3 ≤ length out.old }
+    ensures end { result ≡ at + 3 }
+    ensures text { take result out.new ≡ take at out.old ++ weekday_text day }
+{
+    match day {
+        Weekday::Mon => put_text(out, at, b"Mon"),
+        Weekday::Tue => put_text(out, at, b"Tue"),
+        Weekday::Wed => put_text(out, at, b"Wed"),
+        Weekday::Thu => put_text(out, at, b"Thu"),
+        Weekday::Fri => put_text(out, at, b"Fri"),
+        Weekday::Sat => put_text(out, at, b"Sat"),
+        Weekday::Sun => put_text(out, at, b"Sun"),
+    }
+}
+
+/// Puts the members of a set from Monday on in brackets, as `[Mon, Thu]`, after the first `at` bytes
+/// of `out`, and gives where they end: at most 35 bytes on. Those bytes stay.
+#[tactic(auto, using(crate::proofs::Walks::walks))]
+pub fn put_set(out: &mut [u8], at: usize, set: WeekdaySet) -> usize
+    requires { at + 35 ≤ length out.old }
+    ensures end { result ≤ at + 35 }
+    ensures text { take result out.new ≡ take at out.old ++ set_text set }
+{
+    out[at] = b'[';
+    let end = put_days(out, at + 1, set.iter(Weekday::Mon));
+    out[end] = b']';
+    end + 1
+}
+
+/// Puts a space and a day for each member of a set, in week order from `start` on, after the first
+/// `at` bytes of `out`, and gives where they end: at most 28 bytes on. Those bytes stay.
+#[tactic(auto, using(crate::proofs::Walks::walks))]
+pub fn put_walk(out: &mut [u8], at: usize, set: WeekdaySet, start: Weekday) -> usize
+    requires { at + 28 ≤ length out.old }
+    ensures end { result ≤ at + 28 }
+    ensures text { take result out.new ≡ take at out.old ++ spaced_days_text (walk set start) }
+{
+    put_spaced_days(out, at, set.iter(start))
+}
+
+// Puts the days with a comma and a space between each two.
+fn put_days(out: &mut [u8], at: usize, mut days: WeekdaySetIter) -> usize
+    requires { at + (5 * length days - 2) ≤ length out.old }
+    ensures end { result ≡ at + (5 * length days - 2) }
+    ensures text { take result out.new ≡ take at out.old ++ days_text days }
+{
+    match days.next() {
+        None => at,
+        Some(day) => {
+            let end = put_weekday(out, at, day);
+            put_further_days(out, end, days)
+        }
+    }
+}
+
+// Puts the days, each after a comma and a space.
+fn put_further_days(out: &mut [u8], at: usize, mut days: WeekdaySetIter) -> usize
+    requires { at + 5 * length days ≤ length out.old }
+    ensures end { result ≡ at + 5 * length days }
+    ensures text { take result out.new ≡ take at out.old ++ further_days_text days }
+{
+    match days.next() {
+        None => at,
+        Some(day) => {
+            let end = put_text(out, at, b", ");
+            let end = put_weekday(out, end, day);
+            put_further_days(out, end, days)
+        }
+    }
+}
+
+// Puts the days, each after a space.
+fn put_spaced_days(out: &mut [u8], at: usize, mut days: WeekdaySetIter) -> usize
+    requires { at + 4 * length days ≤ length out.old }
+    ensures end { result ≡ at + 4 * length days }
+    ensures text { take result out.new ≡ take at out.old ++ spaced_days_text days }
+{
+    match days.next() {
+        None => at,
+        Some(day) => {
+            out[at] = b' ';
+            let end = put_weekday(out, at + 1, day);
+            put_spaced_days(out, end, days)
+        }
+    }
+}
+
+#[cfg(test)]
+mod tests {
+    use super::*;
+
+    #[test]
+    fn sets_and_walks(rt: HostRuntime) {
+        let three = WeekdaySet::from_array([Weekday::Sun, Weekday::Thu, Weekday::Mon]);
+        let cases: [(WeekdaySet, &[u8]); 3] = [
+            (WeekdaySet::EMPTY, b"[]"),
+            (three, b"[Mon, Thu, Sun] Thu Sun Mon"),
+            (
+                WeekdaySet::ALL,
+                b"[Mon, Tue, Wed, Thu, Fri, Sat, Sun] Wed Thu Fri Sat Sun Mon Tue",
+            ),
+        ];
+        for (set, wanted) in &cases {
+            let mut out = [0u8; 63];
+            let end = put_set(&mut out, 0, *set);
+            let end = put_walk(&mut out, end, *set, Weekday::Wed);
+            assert_eq!(rt; &out[..end], *wanted);
+        }
+    }
+}

@@ -1,0 +1,37 @@
+-- A move by months, as the code makes it: from the months since the first of the library's to the date in the target month.
+use Rattle.std.proofs.Common.{Some, ◌≡◌, ℕ, ◌+◌, ◌/◌, ◌%◌, ◌<◌, ◌≤◌, ◌&&◌, min, None, refl, arith, ℤ, pos, neg_ℤ, ◌+ℤ◌}
+use Rattle.chrono_units.specs.Years.{is_year, IsYear, month_length}
+use Rattle.chrono_calendar.specs.Days.{IsCalendarName, is_calendar_name, date_of_ymd, day_of}
+use Rattle.chrono_calendar.specs.MonthMoves.{year_of_month_index, month_of_month_index, month_index_of, day_number_in_month, month_move}
+use Rattle.chrono_calendar.proofs.Signed.{signed}
+use Rattle.chrono_calendar.proofs.Dates.{is_year-fact, is_calendar_name-test}
+use Rattle.chrono_calendar.proofs.NamedDates.{None-cond, same_test, both_tests, joined_tests}
+use Rattle.chrono_calendar.proofs.MonthOrder.{month_of_month_index-bounds, day_at-exists}
+
+-- the year and the month of an index, from the months since the first of the library's
+pub month_index-shifted : (i : ℤ) (t : ℕ) → pos t ≡ i +ℤ pos 3_145_716 → (year_of_month_index i ≡ pos (t / 12) +ℤ neg_ℤ (pos 262_143)) × (month_of_month_index i ≡ t % 12 + 1)
+month_index-shifted i t e = (omega (arith, signed), omega (arith, signed))
+
+pub year_of_month_index-range : (y : ℤ) (t : ℕ) → y ≡ pos (t / 12) +ℤ neg_ℤ (pos 262_143) → t < 6_291_432 → IsYear y
+year_of_month_index-range y t e h = (omega (arith, signed), omega (arith, signed))
+
+month_length_low : (y : ℤ) (m : ℕ) → 28 ≤ month_length y m
+month_length_low y m = grind arith
+
+-- no move to a year that the library has not
+pub month_move-None : (n k : ℤ) → (IsYear (year_of_month_index (month_index_of n +ℤ k)) → ⊥) → None ≡ month_move n k
+unfolding month_move
+month_move-None n k h =
+    let y = year_of_month_index (month_index_of n +ℤ k) in
+    None-cond (is_year y) (Some (day_number_in_month (month_index_of n +ℤ k) (day_of n))) (λ t. h (is_year-fact y t))
+
+-- the day of the target month exists, so the move comes to the date with that name
+pub month_move-ymd : (n k y : ℤ) (m d : ℕ) → y ≡ year_of_month_index (month_index_of n +ℤ k) → m ≡ month_of_month_index (month_index_of n +ℤ k) → d ≡ min (day_of n) (month_length y m) → date_of_ymd y m d ≡ month_move n k
+unfolding month_move date_of_ymd
+month_move-ymd n k y m d e f g =
+    let month = month_of_month_index-bounds (month_index_of n +ℤ k) in
+    let first = (day_at-exists n).first in
+    let exists : IsCalendarName y m d = ((omega (arith, month), omega (arith, month)), (omega (arith, month_length_low y m), omega arith)) in
+    let test = is_calendar_name-test y m d exists in
+    let same : (is_year y && is_calendar_name y m d) ≡ is_year y = same_test (is_year y && is_calendar_name y m d) (is_year y) (λ t. (both_tests (is_year y) (is_calendar_name y m d) t).0) (λ t. joined_tests (is_year y) (is_calendar_name y m d) t test) in
+    rw (same, g, f, e) refl

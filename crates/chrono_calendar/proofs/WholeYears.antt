@@ -1,0 +1,98 @@
+-- The whole years between two days, from the years and the order of the days in them.
+use Rattle.std.proofs.Common.{◌≡◌, ℕ, ◌+◌, ◌-◌, ◌*◌, ◌<◌, ◌≤◌, inl, inr, Bool, true, false, cond, nat_lt, Some, None, refl, ap, arith, ℤ, pos, ◌-ℤ◌, ◌≤ℤ◌, ◌<ℤ◌, unsigned_abs, int_lt}
+use mir.Val.{bool_byte}
+use Rattle.std.proofs.lemmas.Bool.Decides.{nat_tests}
+use Rattle.std.proofs.lemmas.Bool.{cases_order, ltb-true}
+use Rattle.std.proofs.lemmas.Int.{ints, by_lt_z}
+use Rattle.chrono_units.specs.Years.{month_length}
+use Rattle.chrono_calendar.specs.Days.{year_of, month_of, day_of}
+use Rattle.chrono_calendar.specs.MonthMoves.{month_index_of}
+use Rattle.chrono_calendar.specs.YearsBetween.{is_earlier_in_year, years_between}
+use Rattle.chrono_calendar.proofs.Signed.{signed}
+use Rattle.chrono_calendar.proofs.NamedDates.{calendar_name-exists}
+use Rattle.chrono_calendar.proofs.MonthOrder.{before_month, day_at-exists, earlier_month}
+
+month_length-high : (y : ℤ) (m : ℕ) → month_length y m ≤ 31
+month_length-high y m = grind arith
+
+-- the order of days in a year by one number
+pub is_earlier_in_year-code : (m d p q : ℕ) → d < 32 → q < 32 → nat_lt (m * 32 + d) (p * 32 + q) ≡ is_earlier_in_year m d p q
+is_earlier_in_year-code m d p q h k = grind (arith, nat_tests)
+
+-- what the order in the year says of the two days
+before_in_month : (n base : ℤ) → month_index_of n ≡ month_index_of base → day_of n < day_of base → n <ℤ base
+before_in_month n base e h = omega (arith, signed, ap before_month e, (day_at-exists n).number, (day_at-exists base).number)
+
+not_before_in_month : (n base : ℤ) → month_index_of n ≡ month_index_of base → day_of base ≤ day_of n → base ≤ℤ n
+not_before_in_month n base e h = omega (arith, signed, ap before_month e, (day_at-exists n).number, (day_at-exists base).number)
+
+before_by_month : (n base : ℤ) → month_index_of n <ℤ month_index_of base → n <ℤ base
+before_by_month n base h = earlier_month n base (month_index_of n) (month_index_of base) (day_of n) (day_of base) (day_at-exists n) (day_at-exists base) h
+
+-- the number that the order is read from
+abbrev pub place : ℤ → ℕ
+place n = month_of n * 32 + day_of n
+
+place_bounds : (n : ℤ) → (1 ≤ month_of n) × (month_of n ≤ 12) × (1 ≤ day_of n) × (day_of n < 32)
+place_bounds n =
+    let h = calendar_name-exists n in
+    (omega (arith, h.0), omega (arith, h.0), omega (arith, h.1), omega (arith, h.1, month_length-high (year_of n) (month_of n)))
+
+before_year : (n base : ℤ) → year_of n <ℤ year_of base → n <ℤ base
+before_year n base h = before_by_month n base (omega (arith, signed, place_bounds n, place_bounds base))
+
+before_place : (n base : ℤ) → year_of n ≡ year_of base → place n < place base → n <ℤ base
+before_place n base e h =
+    elim (cases_order (month_of n) (month_of base)) [
+      | inl same ↦ before_in_month n base (omega (arith, signed)) (omega arith)
+      | inr apart ↦ elim apart [
+        | inl lt ↦ before_by_month n base (omega (arith, signed, place_bounds n, place_bounds base))
+        | inr gt ↦ absurd (omega (arith, place_bounds n, place_bounds base))
+      ]
+    ]
+
+not_before_place : (n base : ℤ) → year_of n ≡ year_of base → place base ≤ place n → base ≤ℤ n
+not_before_place n base e h =
+    elim (cases_order (month_of n) (month_of base)) [
+      | inl same ↦ not_before_in_month n base (omega (arith, signed)) (omega arith)
+      | inr apart ↦ elim apart [
+        | inl lt ↦ absurd (omega (arith, place_bounds n, place_bounds base))
+        | inr gt ↦ omega (arith, signed, before_by_month base n (omega (arith, signed, place_bounds n, place_bounds base)))
+      ]
+    ]
+
+-- the years as the code counts them: less one if the first day comes earlier in its year
+abbrev pub years_counted : ℤ → ℤ → Bool → ℤ
+years_counted y z earlier = y -ℤ z -ℤ pos (bool_byte earlier)
+
+before_counted : (n base : ℤ) (e : Bool) → nat_lt (place n) (place base) ≡ e → years_counted (year_of n) (year_of base) e <ℤ pos 0 → n <ℤ base
+before_counted n base true t h =
+    by_lt_z (year_of n) (year_of base) (before_year n base) (λ ge. before_place n base (omega (arith, signed)) (ltb-true (place n) (place base) t))
+before_counted n base false t h = before_year n base (omega (arith, signed))
+
+not_before_counted : (n base : ℤ) (e : Bool) → nat_lt (place n) (place base) ≡ e → pos 0 ≤ℤ years_counted (year_of n) (year_of base) e → base ≤ℤ n
+not_before_counted n base true t h = omega (arith, signed, before_year base n (omega (arith, signed)))
+not_before_counted n base false t h =
+    by_lt_z (year_of base) (year_of n) (λ lt. omega (arith, signed, before_year base n lt))
+    (λ ge. not_before_place n base (omega (arith, signed)) (grind (arith, nat_tests, t)))
+
+-- none, if that is negative
+pub years_between-None : (n base : ℤ) → years_counted (year_of n) (year_of base) (nat_lt (place n) (place base)) <ℤ pos 0 → None ≡ years_between n base
+unfolding years_between
+years_between-None n base h =
+    let before = before_counted n base (nat_lt (place n) (place base)) refl h in
+    let test : int_lt n base ≡ true = grind (arith, ints, before) in
+    rw test refl
+
+counted_value : (k : ℕ) (y z : ℤ) (e : Bool) → pos k ≡ years_counted y z e → k ≡ cond e (unsigned_abs (y -ℤ z) - 1) (unsigned_abs (y -ℤ z))
+counted_value k y z true h = omega (arith, signed)
+counted_value k y z false h = omega (arith, signed)
+
+-- and else those years
+pub years_between-Some : (n base : ℤ) (k : ℕ) → pos k ≡ years_counted (year_of n) (year_of base) (nat_lt (place n) (place base)) → Some k ≡ years_between n base
+unfolding years_between
+years_between-Some n base k h =
+    let after = not_before_counted n base (nat_lt (place n) (place base)) refl (omega (arith, signed)) in
+    let test : int_lt n base ≡ false = grind (arith, ints, after) in
+    let earlier = is_earlier_in_year-code (month_of n) (day_of n) (month_of base) (day_of base) (omega (arith, place_bounds n)) (omega (arith, place_bounds base)) in
+    rw (test, ← earlier) (ap Some (counted_value k (year_of n) (year_of base) (nat_lt (place n) (place base)) h))

@@ -1,0 +1,78 @@
+-- The days before a year in closed form.
+use Rattle.std.proofs.Common.{◌≡◌, ℕ, zero, suc, ◌+◌, ◌/◌, cond, refl, ap, arith, ℤ, pos, negsuc, ◌+ℤ◌, ◌-ℤ◌, ◌*ℤ◌}
+use Rattle.std.proofs.lemmas.Bool.Decides.{nat_tests}
+use Rattle.std.specs.Int.{int_div_euclid}
+use Rattle.chrono_units.specs.Years.{is_leap_year, year_length}
+use Rattle.chrono_calendar.specs.Days.{days_of_years, days_before_year}
+use Rattle.chrono_calendar.proofs.Signed.{signed}
+
+-- 1 for a leap year, and else 0
+abbrev pub leap_day : ℤ → ℕ
+leap_day y = cond (is_leap_year y) 1 0
+
+-- the leap years among the years 1 to p, and for a negative p those of p + 1 to 0, negative
+abbrev pub leap_years_to : ℤ → ℤ
+leap_years_to p = int_div_euclid p (pos 4) -ℤ int_div_euclid p (pos 100) +ℤ int_div_euclid p (pos 400)
+
+-- the days from 1 January of year 1 to the end of the year p
+unfoldable pub days_to_year : ℤ → ℤ
+days_to_year p = pos 365 *ℤ p +ℤ leap_years_to p
+
+pub year_length-leap_day : (y : ℤ) → year_length y ≡ 365 + leap_day y
+year_length-leap_day y = grind arith
+
+-- the leap years to n + 1 and to n differ by one exactly if n + 1 is a leap year
+leap_count-suc : (n : ℕ) → suc n / 4 + n / 100 + suc n / 400 ≡ n / 4 + suc n / 100 + n / 400 + leap_day (pos (suc n))
+leap_count-suc n = grind (arith, nat_tests)
+
+-- a year more has the days of that year more
+pub days_to_year-next : (p q : ℤ) → q ≡ p +ℤ pos 1 → days_to_year q ≡ days_to_year p +ℤ pos (year_length q)
+unfolding days_to_year
+days_to_year-next (pos n) q e =
+    let here : q ≡ pos (suc n) = omega (arith, signed) in
+    rw here (omega (arith, signed, leap_count-suc n, year_length-leap_day (pos (suc n))))
+days_to_year-next (negsuc zero) q e = let here : q ≡ pos 0 = omega (arith, signed) in rw here refl
+days_to_year-next (negsuc (suc n)) q e =
+    let here : q ≡ negsuc n = omega (arith, signed) in
+    rw here (omega (arith, signed, leap_count-suc n, year_length-leap_day (negsuc n)))
+
+-- n years in a row have the difference of the days to their ends
+pub days_of_years-to_year : (p y : ℤ) (n : ℕ) (q : ℤ) → y ≡ p +ℤ pos 1 → q ≡ p +ℤ pos n → pos (days_of_years y n) ≡ days_to_year q -ℤ days_to_year p
+unfolding days_of_years
+days_of_years-to_year p y zero q e f =
+    let same : q ≡ p = omega (arith, signed) in rw same (omega (arith, signed))
+days_of_years-to_year p y (suc n) q e f =
+    let last : q ≡ y +ℤ pos n = omega (arith, signed) in
+    let next : y +ℤ pos n ≡ p +ℤ pos n +ℤ pos 1 = omega (arith, signed) in
+    omega (arith, signed, days_of_years-to_year p y n (p +ℤ pos n) e refl, days_to_year-next (p +ℤ pos n) (y +ℤ pos n) next, ap days_to_year last)
+
+days_to_year-zero : (days_to_year (pos 0) ≡ pos 0) × (days_to_year (negsuc 0) ≡ negsuc 365)
+unfolding days_to_year
+days_to_year-zero = (refl, refl)
+
+-- the days before a year are those to the end of the year before
+pub days_before_year-to_year : (p y : ℤ) → y ≡ p +ℤ pos 1 → days_before_year y ≡ days_to_year p
+unfolding days_before_year
+days_before_year-to_year p (pos zero) e =
+    let here : p ≡ negsuc 0 = omega (arith, signed) in
+    rw here (omega (arith, signed, days_to_year-zero, days_of_years-to_year (negsuc 0) (pos 0) 1 (pos 0) refl refl))
+days_before_year-to_year p (pos (suc n)) e =
+    let here : p ≡ pos n = omega (arith, signed) in
+    rw here (omega (arith, signed, days_to_year-zero, days_of_years-to_year (pos 0) (pos 1) n (pos n) refl (omega (arith, signed))))
+days_before_year-to_year p (negsuc n) e =
+    omega (arith, signed, days_to_year-zero, days_of_years-to_year p (negsuc n) (n + 2) (pos 0) e (omega (arith, signed)))
+
+-- the closed form
+pub days_before_year-closed : (y : ℤ) → days_before_year y ≡ pos 365 *ℤ (y -ℤ pos 1) +ℤ (int_div_euclid (y -ℤ pos 1) (pos 4) -ℤ int_div_euclid (y -ℤ pos 1) (pos 100) +ℤ int_div_euclid (y -ℤ pos 1) (pos 400))
+unfolding days_to_year
+days_before_year-closed y = days_before_year-to_year (y -ℤ pos 1) y (omega (arith, signed))
+
+-- the next year begins after the days of this one
+pub days_before_year-next : (y next : ℤ) → next ≡ y +ℤ pos 1 → days_before_year next ≡ days_before_year y +ℤ pos (year_length y)
+days_before_year-next y next e =
+    let q : y ≡ (y -ℤ pos 1) +ℤ pos 1 = omega (arith, signed) in
+    rw (days_before_year-to_year y next e, days_before_year-to_year (y -ℤ pos 1) y q) (days_to_year-next (y -ℤ pos 1) y q)
+
+-- 400 years have 146,097 days
+pub days_before_year-cycle : (y later : ℤ) → later ≡ y +ℤ pos 400 → days_before_year later ≡ days_before_year y +ℤ pos 146_097
+days_before_year-cycle y later e = rw e (omega (arith, signed, days_before_year-closed y, days_before_year-closed (y +ℤ pos 400)))

@@ -1,0 +1,5 @@
+use Rattle.chrono_calendar.proofs.MonthMoveLaws.{month_move-AddsUp}
+use Rattle.chrono_calendar.proofs.law.month_moves_add_up.Goals as goal
+
+pub returns : goal.returns
+returns c = month_move-AddsUp

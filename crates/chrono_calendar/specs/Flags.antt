@@ -1,0 +1,22 @@
+-- The numbers that store the flags of a year, and what the flags say of its weeks.
+use Rattle.std.specs.Prelude.{◌≢◌, ℕ, ◌+◌, ℤ, if◌then◌else◌, int_lt}
+use Rattle.std.specs.Int.{IsInRange}
+use Rattle.std.specs.Ordering.{int_eq}
+use Rattle.chrono_calendar.specs.Days.{day_number_of_yo, day_number_of_ymd}
+use Rattle.chrono_calendar.specs.Weeks.{iso_year_of, iso_week_of}
+
+-- the number stores the flags of a year: 1 to 7 those of a leap year, 9 to 15 those of a common year
+abbrev pub IsYearFlags : ℕ → Type 0
+IsYearFlags n = IsInRange 1 15 n × (n ≢ 8)
+
+-- the weeks of the ISO year y: 28 December is always in the last of them
+unfoldable pub weeks_of_iso_year : ℤ → ℕ
+weeks_of_iso_year y = iso_week_of (day_number_of_ymd y 12 28)
+
+-- the ISO week of the o-th day of the year y, counted in that year:
+-- 0 for a day of the ISO year before, and one more than the weeks for a day of the next
+unfoldable pub week_counted_in : ℤ → ℕ → ℕ
+week_counted_in y o =
+    let n = day_number_of_yo y o in
+    if int_eq (iso_year_of n) y then iso_week_of n
+    else (if int_lt (iso_year_of n) y then 0 else weeks_of_iso_year y + 1)

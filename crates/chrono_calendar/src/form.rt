@@ -1,0 +1,65 @@
+//! What a stored form of a date owes to its users.
+ghost use Rattle.std.specs.Prelude.{◌≡◌, ℕ, ℤ, ◌+◌, ◌≤◌};
+ghost use Rattle.std.specs.Option.{option_map};
+ghost use Rattle.std.specs.Ordering.{int_cmp};
+ghost use Rattle.chrono_units.specs.Years.{is_leap_year, IsYear};
+ghost use Rattle.chrono_calendar.specs.Days.{IsDate, IsOrdinalName, IsCalendarName, date_of_day, date_of_yo, date_of_ymd, year_of, ordinal_of, month_of, day_of};
+ghost use Rattle.chrono_calendar.specs.Weeks.{weekday_of};
+
+use crate::steps::Steps;
+use chrono_units::Weekday;
+use std::hash::Hash;
+
+/// A stored form of a date. Its meaning is the date's day number, and each number has one form.
+pub trait DayForm: Copy + Ord + Hash {
+    ghost number: { Self → ℤ };
+
+    /// The date with an ordinal name (ISO 8601 ordinal date), or `None` if there is none.
+    fn from_yo(year: i32, ordinal: u32) -> Option<Self>
+        ensures { option_map number result ≡ date_of_yo year ordinal };
+
+    /// The date with a calendar name, or `None` if there is none.
+    fn from_ymd(year: i32, month: u32, day: u32) -> Option<Self>
+        ensures { option_map number result ≡ date_of_ymd year month day };
+
+    /// The date with a day number, or `None` if there is none. It takes at most three steps.
+    fn from_day(days: i32, steps: &mut Steps) -> Option<Self>
+        ensures date { option_map number result ≡ date_of_day days }
+        ensures kept { steps.old ≤ steps.new }
+        ensures cost { steps.new ≤ steps.old + 3 };
+
+    /// The day number: 1 for 1 January of year 1.
+    fn day(&self) -> i32
+        ensures value { result ≡ number self.now }
+        ensures in_range { IsDate (number self.now) };
+
+    /// The year.
+    fn year(&self) -> i32
+        ensures value { result ≡ year_of (number self.now) }
+        ensures in_range { IsYear (year_of (number self.now)) };
+
+    /// The place of the day in its year, from 1.
+    fn ordinal(&self) -> u32
+        ensures value { result ≡ ordinal_of (number self.now) }
+        ensures exists { IsOrdinalName (year_of (number self.now)) (ordinal_of (number self.now)) };
+
+    /// The month, from 1 for January, and the place of the day there, from 1.
+    fn month_day(&self) -> (u32, u32)
+        ensures month { result.0 ≡ month_of (number self.now) }
+        ensures day { result.1 ≡ day_of (number self.now) }
+        ensures exists { IsCalendarName (year_of (number self.now)) (month_of (number self.now)) (day_of (number self.now)) };
+
+    /// Whether the year is a leap year.
+    fn is_leap(&self) -> bool
+        ensures { result ≡ is_leap_year (year_of (number self.now)) };
+
+    /// The weekday.
+    fn weekday(&self) -> Weekday
+        ensures { result ≡ weekday_of (number self.now) };
+
+    // Each number has one form.
+    ghost one_form: { (a b : Self) → number a ≡ number b → a ≡ b };
+
+    // Forms compare as their numbers do.
+    ghost in_order: { (a b : Self) → Self.cmp a b ≡ int_cmp (number a) (number b) };
+}

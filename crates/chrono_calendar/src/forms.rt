@@ -1,0 +1,198 @@
+//! The arithmetic of dates over any stored form, from the laws of [`DayForm`] alone.
+//!
+//! Each function reads a form, computes with plain numbers, and asks the form for the date that it found. An answer is
+//! `None` exactly where the definition names no date.
+ghost use Rattle.std.specs.Prelude.{◌≡◌, pos, neg_ℤ, ◌+◌, ◌≤◌, ◌+ℤ◌, ◌≤ℤ◌, ◌<ℤ◌, min, SomeIff};
+ghost use Rattle.std.specs.Int.{IsInRange};
+ghost use Rattle.std.specs.Option.{option_map};
+ghost use Rattle.chrono_units.specs.Years.{IsYear, month_length as length_of_month};
+ghost use Rattle.chrono_calendar.specs.Days.{date_of_day, days_before_year};
+ghost use Rattle.chrono_calendar.specs.Weeks.{date_of_iso, date_of_nth_weekday, days_from_sunday_of, iso_week_of, iso_year_of, week_first_of, weekday_of};
+ghost use Rattle.chrono_calendar.specs.MonthMoves.{month_index, month_move, month_of_month_index, year_of_month_index};
+ghost use Rattle.chrono_calendar.specs.YearsBetween.{years_between as whole_years};
+
+use crate::form::DayForm;
+use crate::steps::Steps;
+use chrono_units::Weekday;
+use chrono_units::year::{MAX_YEAR, MIN_YEAR, is_leap_year, month_length, year_length};
+
+// The months of the library's years.
+const MONTHS: i64 = (MAX_YEAR - MIN_YEAR + 1) as i64 * 12;
+
+// The years of 656 whole cycles of 400, which no weekday feels: with them added, every year of the library comes after 0.
+const CYCLE_YEARS: i32 = 262_400;
+
+/// The date `k` days later, or earlier for a negative `k`; `None` if that day is outside the range of dates.
+///
+/// It takes at most four steps, of which one stands for reading the form's day number. So
+/// 28 February 2023 moved by one day is 1 March 2023.
+#[inline]
+pub fn move_days<F: DayForm>(f: F, k: i64, steps: &mut Steps) -> Option<F>
+    ensures date { option_map F.number result ≡ date_of_day (F.number f +ℤ k) }
+    ensures kept { steps.old ≤ steps.new }
+    ensures cost { steps.new ≤ steps.old + 4 }
+{
+    steps.tick();
+    let target = i64::from(f.day()).checked_add(k)?;
+    let day = i32::try_from(target).ok()?;
+    F::from_day(day, steps)
+}
+
+// The year and the month that lie `k` months after a month, if the library has that year.
+#[inline]
+fn month_after(year: i32, month: u32, k: i64) -> Option<(i32, u32)>
+    requires year { IsYear year }
+    requires month { IsInRange 1 12 month }
+    ensures { let i = month_index year month +ℤ k in
+        SomeIff result (IsYear (year_of_month_index i)) (record { 0 = year_of_month_index i; 1 = month_of_month_index i }) }
+{
+    let from = (year - MIN_YEAR) as u32 * 12 + (month - 1);
+    let moved = i64::from(from).checked_add(k)?;
+    if moved < 0 {
+        return None;
+    }
+    if moved >= MONTHS {
+        return None;
+    }
+    let target = moved as u32;
+    Some(((target / 12) as i32 + MIN_YEAR, target % 12 + 1))
+}
+
+// The day of the month, or the month's last day if that is earlier. Each month has 28 days.
+#[inline]
+fn day_within(year: i32, month: u32, day: u32) -> u32
+    requires { IsInRange 1 12 month }
+    ensures { result ≡ min day (length_of_month year month) }
+{
+    if day <= 28 {
+        return day;
+    }
+    day.min(u32::from(month_length(is_leap_year(year), month)))
+}
+
+/// The date `k` months later, or earlier for a negative `k`: on the same day of the month, or on the month's last day if
+/// that is earlier. `None` if the year of that month is outside the range of years.
+///
+/// So 31 January 2023 moved by one month is 28 February 2023.
+#[inline]
+pub fn move_months<F: DayForm>(f: F, k: i64) -> Option<F>
+    ensures { option_map F.number result ≡ month_move (F.number f) k }
+{
+    let (month, day) = f.month_day();
+    let (year, month) = month_after(f.year(), month, k)?;
+    F::from_ymd(year, month, day_within(year, month, day))
+}
+
+/// The ISO year and the week in it, from 1 to 53 (ISO 8601 week date): those of the Thursday of the date's week.
+///
+/// So 30 December 2024, a Monday, is in week 1 of 2025. The last days of the year 262,142 are in the ISO year 262,143.
+#[inline]
+pub fn iso_name<F: DayForm>(f: &F) -> (i32, u32)
+    ensures year { result.0 ≡ iso_year_of (F.number f.now) }
+    ensures week { result.1 ≡ iso_week_of (F.number f.now) }
+    ensures year_in_range { (neg_ℤ (pos 262_143) ≤ℤ result.0) × (result.0 ≤ℤ pos 262_143) }
+    ensures week_in_range { IsInRange 1 53 result.1 }
+{
+    let year = f.year();
+    let place = f.ordinal() + 3;
+    let from_monday = f.weekday().num_days_from_monday();
+    if place <= from_monday {
+        let thursday = place + year_length(year - 1) - from_monday;
+        return (year - 1, (thursday - 1) / 7 + 1);
+    }
+    let thursday = place - from_monday;
+    if thursday > 365 + u32::from(f.is_leap()) {
+        return (year + 1, 1);
+    }
+    (year, (thursday - 1) / 7 + 1)
+}
+
+// The weekday of the day before the year, from 0 for Sunday. A common year moves it on by a day, and a leap year by two.
+#[inline]
+fn days_from_sunday_before(year: i32) -> u32
+    requires low { neg_ℤ (pos 262_143) ≤ℤ year }
+    requires high { year ≤ℤ pos 262_143 }
+    ensures { result ≡ days_from_sunday_of (days_before_year year) }
+{
+    let past = (year - 1 + CYCLE_YEARS) as u32;
+    (past + past / 4 - past / 100 + past / 400) % 7
+}
+
+/// The date with an ISO year, a week from 1 and a weekday (ISO 8601 week date), or `None` if there is none.
+///
+/// So week 53 names a date only in a year that has 53 weeks, as 2020: its Sunday is 3 January 2021.
+#[inline]
+pub fn from_iso<F: DayForm>(year: i32, week: u32, weekday: Weekday) -> Option<F>
+    ensures { option_map F.number result ≡ date_of_iso year week weekday }
+{
+    if year < MIN_YEAR || year > MAX_YEAR + 1 {
+        return None;
+    }
+    if week == 0 || week > 53 {
+        return None;
+    }
+    // 4 January is always in week 1: so many days before it that week's Monday lies.
+    let before_monday = (days_from_sunday_before(year) + 3) % 7;
+    let length = year_length(year);
+    // A week belongs to the year that its Thursday is in.
+    if week * 7 > length + before_monday {
+        return None;
+    }
+    let place = week * 7 + weekday.num_days_from_monday();
+    if place <= before_monday + 3 {
+        return F::from_yo(year - 1, place + year_length(year - 1) - before_monday - 3);
+    }
+    let ordinal = place - before_monday - 3;
+    if ordinal > length {
+        return F::from_yo(year + 1, ordinal - length);
+    }
+    F::from_yo(year, ordinal)
+}
+
+/// The first day number of the week that holds the date and begins on `start`, also where that number is no date.
+///
+/// So 1 January of year 1, a Monday, is the first of its week for Monday, and its week for Sunday begins a day earlier.
+#[inline]
+pub fn week_first<F: DayForm>(f: &F, start: Weekday) -> i32
+    ensures value { result ≡ week_first_of (F.number f.now) start }
+    ensures starts { weekday_of result ≡ start }
+    ensures not_after { result ≤ℤ F.number f.now }
+    ensures within { F.number f.now <ℤ (result +ℤ pos 7) }
+    ensures in_range { (neg_ℤ (pos 95_746_135) ≤ℤ result) × (result ≤ℤ pos 95_745_399) }
+{
+    f.day() - f.weekday().days_since(start) as i32
+}
+
+/// The day that is the `n`-th with a weekday in a month, counted from 1; `None` for a year or a
+/// month out of range, for an `n` of 0, and for one past the last such day.
+///
+/// So the third Friday of January 2024 is the 19th, and there is no fifth.
+#[inline]
+pub fn nth_weekday<F: DayForm>(year: i32, month: u32, weekday: Weekday, n: u8) -> Option<F>
+    ensures { option_map F.number result ≡ date_of_nth_weekday year month weekday n }
+{
+    if n == 0 {
+        return None;
+    }
+    let first: F = F::from_ymd(year, month, 1)?;
+    let ahead = weekday.days_since(first.weekday());
+    F::from_ymd(year, month, (u32::from(n) - 1) * 7 + ahead + 1)
+}
+
+/// The whole years from `base` to the date: the difference of the years, one less if the date's month and day come
+/// before those of `base`. `None` if the date is before `base`.
+///
+/// So from 29 February 2000 it is no whole year to 28 February 2001, and one to the day after.
+#[inline]
+pub fn years_between<F: DayForm>(f: &F, base: &F) -> Option<u32>
+    ensures { result ≡ whole_years (F.number f.now) (F.number base.now) }
+{
+    let (month, day) = f.month_day();
+    let (base_month, base_day) = base.month_day();
+    let is_earlier = month * 32 + day < base_month * 32 + base_day; // no month has 32 days
+    let years = f.year() - base.year() - i32::from(is_earlier);
+    if years < 0 {
+        return None;
+    }
+    Some(years as u32)
+}

@@ -1,0 +1,124 @@
+//! The flags of a year: its length and the weekday before it, which give the ISO weeks of its days.
+ghost use Rattle.std.specs.Prelude.{◌≡◌, ℕ, ◌+◌, ◌/◌, ◌<◌, SomeIff, ℤ, pos};
+ghost use Rattle.std.specs.Int.{IsInRange, int_rem_euclid};
+ghost use Rattle.chrono_units.specs.Years.{year_length};
+ghost use Rattle.chrono_calendar.specs.Days.{IsOrdinalName};
+ghost use Rattle.chrono_calendar.specs.Stored.{flags_of_year};
+ghost use Rattle.chrono_calendar.specs.Flags.{IsYearFlags, weeks_of_iso_year, week_counted_in};
+
+use crate::steps::Steps;
+use crate::tables::year_flags::year_to_flags;
+use std::marker::Model;
+
+#[cfg(test)]
+mod tests;
+
+/// The flags of a year, a number of four binary digits.
+///
+/// The highest digit (8) is set in a common year. The others name the weekday of the last day
+/// before the year, from 1 for Tuesday to 7 for Monday. Contracts see the flags as that number.
+#[derive(Clone, Copy, PartialEq, Eq)]
+pub struct YearFlags {
+    number: u8,
+}
+
+impl Model for YearFlags {
+    ghost use Rattle.std.specs.Prelude.{ℕ};
+
+    ghost Value = { ℕ };
+
+    ghost view = { λ f. f.number };
+
+    ghost use Rattle.chrono_calendar.specs.Flags.{IsYearFlags};
+
+    ghost invariant = { λ f. IsYearFlags f.number };
+
+    ghost inverse = { λ n. record { number = n } };
+}
+
+impl YearFlags {
+    /// The flags of a year of the proleptic Gregorian calendar, any that an `i32` holds.
+    ///
+    /// Those of 2024, a leap year after a Sunday, are 6.
+    #[inline]
+    pub fn from_year(year: i32) -> YearFlags
+        ensures value { result ≡ flags_of_year year }
+        ensures in_range { IsYearFlags result }
+    {
+        YearFlags::from_year_counted(year, &mut Steps::new())
+    }
+
+    /// The flags of a year, in one step.
+    #[inline]
+    pub fn from_year_counted(year: i32, steps: &mut Steps) -> YearFlags
+        ensures value { result ≡ flags_of_year year }
+        ensures in_range { IsYearFlags result }
+        ensures cost { steps.new ≡ steps.old + 1 }
+    {
+        YearFlags {
+            number: year_to_flags(year_of_cycle(year), steps),
+        }
+    }
+
+    /// The number of the flags: 1 to 7 for a leap year, 9 to 15 for a common year.
+    #[inline]
+    pub fn bits(&self) -> u8
+        ensures value { result ≡ self.now }
+        ensures in_range { IsYearFlags self.now }
+    {
+        self.number
+    }
+
+    /// The flags with a number, or `None` if it is none of the fourteen that years have.
+    #[inline]
+    pub fn from_bits(bits: u8) -> Option<YearFlags>
+        ensures { SomeIff result (IsYearFlags bits) bits }
+    {
+        if bits == 0 || bits == 8 || bits > 15 {
+            return None;
+        }
+        Some(YearFlags { number: bits })
+    }
+
+    /// The days of the year: 366 in a leap year, 365 in a common year.
+    #[inline]
+    pub fn ndays(&self) -> u32
+        ensures { (y : ℤ) → self.now ≡ flags_of_year y → result ≡ year_length y }
+    {
+        366 - u32::from(self.bits() / 8)
+    }
+
+    /// What is added to an ordinal of the year to count its ISO week: week `(ordinal + delta) / 7`.
+    ///
+    /// That is 0 for a day of the ISO year before (ISO 8601), and [`nisoweeks`](YearFlags::nisoweeks) + 1
+    /// for a day of the next. From 3 to 9.
+    #[inline]
+    pub fn isoweek_delta(&self) -> u32
+        ensures week { (y : ℤ) (o : ℕ) → self.now ≡ flags_of_year y → IsOrdinalName y o →
+            week_counted_in y o ≡ (o + result) / 7 }
+        ensures bound { IsInRange 3 9 result }
+    {
+        let digits = u32::from(self.bits() % 8);
+        if digits < 3 { digits + 7 } else { digits }
+    }
+
+    /// The weeks of the ISO year (ISO 8601): 53 in a year that begins on Thursday, or on Wednesday if it
+    /// is a leap year, and else 52.
+    #[inline]
+    pub fn nisoweeks(&self) -> u32
+        ensures weeks { (y : ℤ) → self.now ≡ flags_of_year y → result ≡ weeks_of_iso_year y }
+        ensures bound { IsInRange 52 53 result }
+    {
+        52 + u32::from(matches!(self.bits(), 1 | 2 | 10))
+    }
+}
+
+// The Euclidean remainder of a year by 400.
+#[inline]
+fn year_of_cycle(year: i32) -> u32
+    ensures value { pos result ≡ int_rem_euclid year (pos 400) }
+    ensures bound { result < 400 }
+{
+    // A multiple of 400 makes the year positive, and a remainder of unsigned numbers needs no branch.
+    ((i64::from(year) + 2_147_484_000) as u64 % 400) as u32
+}

@@ -1,0 +1,7 @@
+pub mod DurationLemmas
+pub mod SumLemmas
+pub mod TextLemmas
+pub mod TimeLemmas
+pub mod LandingLemmas
+pub mod DistanceLemmas
+pub mod OrderLemmas

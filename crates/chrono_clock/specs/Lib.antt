@@ -1,0 +1,6 @@
+pub mod SignedLemmas
+pub mod Duration
+pub mod StoredLemmas
+pub mod StoredDelta
+pub mod Text
+pub mod Time

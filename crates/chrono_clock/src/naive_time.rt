@@ -1,0 +1,339 @@
+//! Times of day: the type, its constructors, and how durations move times and measure between them.
+//!
+//! The operators stand in `ops`, and the texts in `text`.
+ghost use Rattle.std.specs.Prelude.{◌≡◌, ℕ, ℤ, pos, ◌<◌, ◌≤◌, ◌^◌, ◌+◌, ◌*◌, ◌%◌, ◌<ℤ◌, ◌⊎◌, ◌+ℤ◌, ◌*ℤ◌, neg_ℤ, unsigned_abs};
+ghost use Rattle.std.specs.Option.{SomeIff};
+ghost use Rattle.chrono_clock.specs.Duration.{nanos_of, nanos_per_second};
+ghost use Rattle.chrono_clock.specs.Time.{IsTime, IsClock, FractionFits, TimeOfDay, SameWay, AddsUp, IsEarlier, IsEarlierLanding, IsLeap, IsPlain, landing_of, is_leap, place, place_beside, plain_landing, leap_landing, land, distance, time_at};
+
+use crate::TimeDelta;
+use crate::carry::carried;
+use std::marker::Model;
+
+mod ops;
+#[cfg(test)]
+mod tests;
+mod text;
+
+// The seconds of so many whole days that no duration reaches as far back.
+const SHIFT: i64 = 21_600_000_000_000_000;
+
+/// A time of day, to the nanosecond, with leap seconds.
+///
+/// A time is a second of the day, from 0 to 86,399, and a fraction of it in nanoseconds. A fraction of 1,000,000,000 or
+/// more, up to 1,999,999,999, lies in the leap second that follows that second; leap seconds are not looked up, so any
+/// minute may have one. Times are ordered, equal and hashed by second and then fraction, and the default is midnight.
+#[derive(Clone, Copy, PartialEq, Eq, PartialOrd, Ord, Hash)]
+pub struct NaiveTime {
+    // The second of the day.
+    secs: u32,
+    // The nanoseconds past it.
+    frac: u32,
+}
+
+const _: () = prove!(std::mem::size_of::<NaiveTime>() <= 8);
+
+impl Model for NaiveTime {
+    ghost use Rattle.chrono_clock.specs.Time.{TimeOfDay, IsTime};
+
+    ghost Value = { TimeOfDay };
+
+    ghost view = { λ a. record { second = a.secs; fraction = a.frac } };
+
+    ghost invariant = { λ a. IsTime (record { second = a.secs; fraction = a.frac }) };
+
+    ghost inverse = { λ t. record { secs = t.second; frac = t.fraction } };
+}
+
+impl NaiveTime {
+    /// Midnight, the first time of the day.
+    pub const MIN: NaiveTime = NaiveTime { secs: 0, frac: 0 };
+
+    /// The last time of the day in no leap second: 23:59:59.999999999.
+    pub const MAX: NaiveTime = NaiveTime {
+        secs: 86_399,
+        frac: 999_999_999,
+    };
+
+    /// The time of this hour, minute and second.
+    ///
+    /// `None` exactly if `hour` is 24 or more, or `minute` or `second` is 60 or more.
+    #[inline]
+    pub fn from_hms_opt(hour: u32, minute: u32, second: u32) -> Option<NaiveTime>
+        ensures { SomeIff result (IsClock hour minute second) (time_at hour minute second 0) }
+    {
+        if hour >= 24 || minute >= 60 || second >= 60 {
+            return None;
+        }
+        Some(NaiveTime {
+            secs: hour * 3_600 + minute * 60 + second,
+            frac: 0,
+        })
+    }
+
+    /// The time of this hour, minute and second, and so many milliseconds past it.
+    ///
+    /// `None` exactly as for [`from_hms_nano_opt`](Self::from_hms_nano_opt): the milliseconds go up to 1,999 at second
+    /// 59, and else up to 999.
+    #[inline]
+    pub fn from_hms_milli_opt(hour: u32, minute: u32, second: u32, milli: u32) -> Option<NaiveTime>
+        ensures { SomeIff result (IsClock hour minute second × FractionFits second (milli * 1_000_000))
+            (time_at hour minute second (milli * 1_000_000)) }
+    {
+        NaiveTime::from_hms_nano_opt(hour, minute, second, milli.checked_mul(1_000_000)?)
+    }
+
+    /// The time of this hour, minute and second, and so many microseconds past it.
+    ///
+    /// `None` exactly as for [`from_hms_nano_opt`](Self::from_hms_nano_opt): the microseconds go up to 1,999,999 at
+    /// second 59, and else up to 999,999.
+    #[inline]
+    pub fn from_hms_micro_opt(hour: u32, minute: u32, second: u32, micro: u32) -> Option<NaiveTime>
+        ensures { SomeIff result (IsClock hour minute second × FractionFits second (micro * 1_000))
+            (time_at hour minute second (micro * 1_000)) }
+    {
+        NaiveTime::from_hms_nano_opt(hour, minute, second, micro.checked_mul(1_000)?)
+    }
+
+    /// The time of this hour, minute and second, and so many nanoseconds past it.
+    ///
+    /// `None` exactly if `hour` is 24 or more, `minute` or `second` is 60 or more, `nano` is 2,000,000,000 or more, or
+    /// `nano` is 1,000,000,000 or more, which is a leap second, and `second` is not 59.
+    #[inline]
+    pub fn from_hms_nano_opt(hour: u32, minute: u32, second: u32, nano: u32) -> Option<NaiveTime>
+        ensures { SomeIff result (IsClock hour minute second × FractionFits second nano)
+            (time_at hour minute second nano) }
+    {
+        if hour >= 24 || minute >= 60 || second >= 60 || nano >= 2_000_000_000 {
+            return None;
+        }
+        if nano >= 1_000_000_000 && second != 59 {
+            return None;
+        }
+        Some(NaiveTime {
+            secs: hour * 3_600 + minute * 60 + second,
+            frac: nano,
+        })
+    }
+
+    /// The time so many seconds after midnight, and so many nanoseconds past those.
+    ///
+    /// `None` exactly if `secs` is 86,400 or more, `nano` is 2,000,000,000 or more, or `nano` is 1,000,000,000 or more
+    /// and `secs` is not the last second of a minute.
+    #[inline]
+    pub fn from_num_seconds_from_midnight_opt(secs: u32, nano: u32) -> Option<NaiveTime>
+        ensures { SomeIff result ((secs < 86_400) × FractionFits (secs % 60) nano)
+            (record { second = secs; fraction = nano }) }
+    {
+        if secs >= 86_400 || nano >= 2_000_000_000 {
+            return None;
+        }
+        if nano >= 1_000_000_000 && secs % 60 != 59 {
+            return None;
+        }
+        Some(NaiveTime { secs, frac: nano })
+    }
+
+    /// The time that a duration leads to, and the seconds of the whole days that it passes.
+    ///
+    /// From a plain time the clock goes on without leap seconds. From a time inside a leap second the clock has that
+    /// one leap second: a duration that ends inside it gives a time inside it, and one that ends past it has that second
+    /// less to go. The seconds of days are a multiple of 86,400, negative for days back.
+    #[inline]
+    pub fn overflowing_add_signed(&self, rhs: TimeDelta) -> (NaiveTime, i64)
+        ensures time { result.0 ≡ (land self.now rhs).time }
+        ensures seconds { result.1 ≡ (land self.now rhs).day *ℤ pos 86_400 }
+        ensures start { IsTime self.now }
+        ensures end { IsTime result.0 }
+
+        // A second move ends where the one move by the sum ends.
+        ensures adds_up { (y : ℤ) → IsPlain self.now ⊎ SameWay rhs y → AddsUp self.now rhs y }
+        ensures forward { pos 0 <ℤ rhs → IsEarlierLanding (landing_of self.now) (land self.now rhs) }
+        ensures backward { rhs <ℤ pos 0 → IsEarlierLanding (land self.now rhs) (landing_of self.now) }
+    {
+        if self.is_leap() {
+            self.moved_from_leap(rhs)
+        } else {
+            self.moved_plainly(rhs)
+        }
+    }
+
+    /// The time that a duration leads back to, and the seconds of the whole days that it passes back.
+    ///
+    /// The time is that of [`overflowing_add_signed`](Self::overflowing_add_signed) by the negated duration, and the
+    /// seconds are the negated ones.
+    #[inline]
+    pub fn overflowing_sub_signed(&self, rhs: TimeDelta) -> (NaiveTime, i64)
+        ensures time { result.0 ≡ (land self.now (neg_ℤ rhs)).time }
+        ensures seconds { result.1 ≡ neg_ℤ ((land self.now (neg_ℤ rhs)).day *ℤ pos 86_400) }
+    {
+        let (time, seconds) = self.overflowing_add_signed(-rhs);
+        (time, -seconds)
+    }
+
+    /// The duration from `rhs` to this time of the same day, negative if this time is earlier.
+    ///
+    /// The leap second of either time counts if it comes before the other. So the answer is
+    /// sometimes longer than a day, though by under one second.
+    #[inline]
+    pub fn signed_duration_since(self, rhs: NaiveTime) -> TimeDelta
+        ensures value { result ≡ distance self rhs }
+        ensures bound { unsigned_abs result < 2 ^ 48 }
+        ensures times { IsTime self × IsTime rhs }
+
+        // A move from `rhs` by the answer ends at this time.
+        ensures back { IsPlain self ⊎ (IsLeap self × IsLeap rhs × (self.second ≡ rhs.second))
+            → land rhs result ≡ landing_of self }
+        ensures later { IsEarlier rhs self → pos 0 <ℤ result }
+        ensures same { self ≡ rhs → result ≡ pos 0 }
+        ensures earlier { IsEarlier self rhs → result <ℤ pos 0 }
+    {
+        let here = self.place_beside(&rhs);
+        let there = rhs.place_beside(&self);
+        TimeDelta::nanoseconds(here as i64 - there as i64)
+    }
+
+    // The second of the day.
+    #[inline]
+    pub(crate) fn second_of_day(&self) -> u32
+        ensures value { result ≡ self.now.second }
+        ensures bound { result < 86_400 }
+    {
+        self.secs
+    }
+
+    // The nanoseconds past the second.
+    #[inline]
+    pub(crate) fn fraction(&self) -> u32
+        ensures value { result ≡ self.now.fraction }
+        ensures bound { result < 2_000_000_000 }
+    {
+        self.frac
+    }
+
+    // This fraction at another second of the day.
+    #[inline]
+    pub(crate) fn at_second_of_day(&self, secs: u32) -> NaiveTime
+        requires { secs < 86_400 }
+        ensures { result ≡ record { second = secs; fraction = self.now.fraction } }
+    {
+        NaiveTime {
+            secs,
+            frac: self.frac,
+        }
+    }
+
+    // Another fraction at this second of the day.
+    #[inline]
+    pub(crate) fn at_fraction(&self, frac: u32) -> NaiveTime
+        requires { frac < 2_000_000_000 }
+        ensures { result ≡ record { second = self.now.second; fraction = frac } }
+    {
+        NaiveTime {
+            secs: self.secs,
+            frac,
+        }
+    }
+
+    // Whether the time lies in a leap second.
+    #[inline]
+    fn is_leap(&self) -> bool
+        ensures leap { result ≡ is_leap self.now }
+        ensures time { IsTime self.now }
+    {
+        self.frac >= 1_000_000_000
+    }
+
+    // The place of this time, past the other's leap second if that comes first.
+    #[inline]
+    fn place_beside(&self, other: &NaiveTime) -> u64
+        ensures value { result ≡ place_beside self.now other.now }
+        ensures bound { result < 2 ^ 47 }
+        ensures time { IsTime self.now }
+    {
+        let place = self.secs as u64 * 1_000_000_000 + self.frac as u64;
+        if other.frac >= 1_000_000_000 && other.secs < self.secs {
+            place + 1_000_000_000
+        } else {
+            place
+        }
+    }
+
+    // The landing of a plain start.
+    #[inline]
+    fn moved_plainly(&self, rhs: TimeDelta) -> (NaiveTime, i64)
+        requires { IsPlain self.now }
+        ensures time { result.0 ≡ (plain_landing (pos (place self.now) +ℤ rhs)).time }
+        ensures seconds { result.1 ≡ (plain_landing (pos (place self.now) +ℤ rhs)).day *ℤ pos 86_400 }
+    {
+        let (secs, nanos) = carried(
+            self.secs as i64 + rhs.stored_secs(),
+            self.frac + rhs.stored_nanos(),
+        );
+        landed(secs, nanos)
+    }
+
+    // The landing of a leap start, counted from the begin of its leap second.
+    #[inline(never)]
+    fn moved_from_leap(&self, rhs: TimeDelta) -> (NaiveTime, i64)
+        requires { IsLeap self.now }
+        ensures time { result.0 ≡ (leap_landing self.now.second (pos (place self.now) +ℤ rhs)).time }
+        ensures seconds { result.1 ≡ (leap_landing self.now.second (pos (place self.now) +ℤ rhs)).day *ℤ pos 86_400 }
+    {
+        let (secs, nanos) = carried(
+            self.secs as i64 + 1 + rhs.stored_secs(),
+            self.frac - 1_000_000_000 + rhs.stored_nanos(),
+        );
+        landed_on_leap_line(self.secs, secs, nanos)
+    }
+}
+
+// The landing of a point on the plain line, given in seconds and nanoseconds.
+#[inline]
+fn landed(secs: i64, nanos: u32) -> (NaiveTime, i64)
+    requires near { unsigned_abs secs < 2 ^ 54 }
+    requires past_second { nanos < nanos_per_second }
+    ensures time { result.0 ≡ (plain_landing (nanos_of secs nanos)).time }
+    ensures seconds { result.1 ≡ (plain_landing (nanos_of secs nanos)).day *ℤ pos 86_400 }
+{
+    let second = ((secs + SHIFT) as u64 % 86_400) as u32;
+    (
+        NaiveTime {
+            secs: second,
+            frac: nanos,
+        },
+        secs - second as i64,
+    )
+}
+
+// The landing of a point on the line that holds a leap second after `start`.
+#[inline]
+fn landed_on_leap_line(start: u32, secs: i64, nanos: u32) -> (NaiveTime, i64)
+    requires in_day { start < 86_400 }
+    requires near { unsigned_abs secs + 1 < 2 ^ 54 }
+    requires past_second { nanos < nanos_per_second }
+    ensures time { result.0 ≡ (leap_landing start (nanos_of secs nanos)).time }
+    ensures seconds { result.1 ≡ (leap_landing start (nanos_of secs nanos)).day *ℤ pos 86_400 }
+{
+    if secs <= start as i64 {
+        return landed(secs, nanos);
+    }
+    if secs > start as i64 + 1 {
+        return landed(secs - 1, nanos);
+    }
+    let time = NaiveTime {
+        secs: start,
+        frac: nanos + 1_000_000_000,
+    };
+    (time, 0)
+}
+
+impl Default for NaiveTime {
+    ghost is_default = { λ t. t ≡ record { second = 0; fraction = 0 } };
+
+    /// Midnight.
+    #[inline]
+    fn default() -> NaiveTime {
+        NaiveTime::MIN
+    }
+}

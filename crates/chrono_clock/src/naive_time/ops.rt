@@ -1,0 +1,62 @@
+//! The operators of times of day: moves by durations, and differences.
+ghost use Rattle.std.specs.Prelude.{◌≡◌, neg_ℤ};
+ghost use Rattle.chrono_clock.specs.Time.{land, distance};
+
+use crate::{NaiveTime, TimeDelta};
+use std::ops::{Add, AddAssign, Sub, SubAssign};
+
+impl Add<TimeDelta> for NaiveTime {
+    type Output = NaiveTime;
+
+    ghost add_gives = { λ t x r. r ≡ (land t x).time };
+
+    /// The time that the duration leads to, around midnight if need be.
+    #[inline]
+    fn add(self, rhs: TimeDelta) -> NaiveTime {
+        self.overflowing_add_signed(rhs).0
+    }
+}
+
+impl Sub<TimeDelta> for NaiveTime {
+    type Output = NaiveTime;
+
+    ghost sub_gives = { λ t x r. r ≡ (land t (neg_ℤ x)).time };
+
+    /// The time that the duration leads back to, around midnight if need be.
+    #[inline]
+    fn sub(self, rhs: TimeDelta) -> NaiveTime {
+        self.overflowing_sub_signed(rhs).0
+    }
+}
+
+impl AddAssign<TimeDelta> for NaiveTime {
+    ghost add_assign_gives = { λ t x r. r ≡ (land t x).time };
+
+    /// Moves the time on by a duration.
+    #[inline]
+    fn add_assign(&mut self, rhs: TimeDelta) {
+        *self = *self + rhs;
+    }
+}
+
+impl SubAssign<TimeDelta> for NaiveTime {
+    ghost sub_assign_gives = { λ t x r. r ≡ (land t (neg_ℤ x)).time };
+
+    /// Moves the time back by a duration.
+    #[inline]
+    fn sub_assign(&mut self, rhs: TimeDelta) {
+        *self = *self - rhs;
+    }
+}
+
+impl Sub<NaiveTime> for NaiveTime {
+    type Output = TimeDelta;
+
+    ghost sub_gives = { λ a b r. r ≡ distance a b };
+
+    /// The duration of [`signed_duration_since`](NaiveTime::signed_duration_since).
+    #[inline]
+    fn sub(self, rhs: NaiveTime) -> TimeDelta {
+        self.signed_duration_since(rhs)
+    }
+}

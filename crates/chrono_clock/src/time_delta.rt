@@ -1,0 +1,178 @@
+//! Durations: the type, its ends and its stored parts.
+//!
+//! Durations are made of units and read in units in `units`, added, multiplied and divided in `ops`, compared in
+//! `order`, summed in `sum` and written in `text`.
+ghost use Rattle.std.specs.Prelude.{◌≡◌, ℕ, ℤ, pos, ◌<◌, ◌≤◌, neg_ℤ, unsigned_abs, IsTrue, ◌↔◌};
+ghost use Rattle.std.specs.Option.{SomeIff};
+ghost use Rattle.chrono_clock.specs.Duration.{IsDuration, longest, nanos_per_second, nanos_of, floor_secs, past_floor};
+
+use std::marker::Model;
+
+mod ops;
+mod order;
+mod sum;
+#[cfg(test)]
+mod tests;
+mod text;
+mod units;
+
+/// A duration: a whole number of nanoseconds, negative, zero or positive.
+///
+/// Its size is at most `i64::MAX` milliseconds, about 292 million years. Durations are ordered, equal and hashed as
+/// that number, and the default is zero. `{}` writes an ISO 8601 duration in seconds, with a sign before it if need be:
+/// `PT0.042S` for 42 milliseconds, `-PT86400S` for a day back and `P0D` for zero.
+#[derive(Clone, Copy, Debug)]
+pub struct TimeDelta {
+    // The whole seconds, rounded down.
+    secs: i64,
+    // The nanoseconds past those seconds.
+    nanos: u32,
+}
+
+const _: () = prove!(std::mem::size_of::<TimeDelta>() <= 16);
+
+impl Model for TimeDelta {
+    ghost use Rattle.std.specs.Prelude.{ℤ, ◌<◌};
+    ghost use Rattle.std.specs.Coded.{coded_ℤ};
+    ghost use Rattle.chrono_clock.specs.Duration.{IsDuration, nanos_of};
+
+    ghost Value = { ℤ };
+
+    ghost coded = { coded_ℤ };
+
+    ghost view = { λ a. nanos_of a.secs a.nanos };
+
+    ghost invariant = { λ a. (a.nanos < 1_000_000_000) × IsDuration (nanos_of a.secs a.nanos) };
+
+    ghost use Rattle.chrono_clock.specs.StoredDelta.{stored, stored-nanos_of};
+
+    ghost inverse = { stored };
+
+    ghost inverse_ok = { λ a h. stored-nanos_of a h.0 };
+}
+
+impl TimeDelta {
+    /// The least duration, of -`i64::MAX` milliseconds.
+    pub const MIN: TimeDelta = TimeDelta {
+        secs: -9_223_372_036_854_776,
+        nanos: 193_000_000,
+    };
+
+    /// The greatest duration, of `i64::MAX` milliseconds.
+    pub const MAX: TimeDelta = TimeDelta {
+        secs: 9_223_372_036_854_775,
+        nanos: 807_000_000,
+    };
+
+    /// The duration of `secs` seconds and `nanos` nanoseconds more.
+    ///
+    /// `None` exactly if `nanos` is 1,000,000,000 or more, or the duration would pass [`MIN`](Self::MIN) or
+    /// [`MAX`](Self::MAX). A duration of -1.5 seconds is `TimeDelta::new(-2, 500_000_000)`.
+    #[inline]
+    pub fn new(secs: i64, nanos: u32) -> Option<TimeDelta>
+        ensures { SomeIff result ((nanos < nanos_per_second) × IsDuration (nanos_of secs nanos))
+            (nanos_of secs nanos) }
+    {
+        if nanos >= 1_000_000_000 {
+            return None;
+        }
+        TimeDelta::from_stored(secs, nanos)
+    }
+
+    /// [`MIN`](Self::MIN), the least duration.
+    #[inline]
+    pub fn min_value() -> TimeDelta
+        ensures { result ≡ neg_ℤ (pos longest) }
+    {
+        TimeDelta::MIN
+    }
+
+    /// [`MAX`](Self::MAX), the greatest duration.
+    #[inline]
+    pub fn max_value() -> TimeDelta
+        ensures { result ≡ pos longest }
+    {
+        TimeDelta::MAX
+    }
+
+    /// The duration of no nanosecond.
+    #[inline]
+    pub fn zero() -> TimeDelta
+        ensures { result ≡ pos 0 }
+    {
+        TimeDelta { secs: 0, nanos: 0 }
+    }
+
+    /// Whether the duration is zero.
+    #[inline]
+    pub fn is_zero(&self) -> bool
+        ensures { IsTrue result ↔ (self.now ≡ pos 0) }
+    {
+        self.secs == 0 && self.nanos == 0
+    }
+
+    // The duration of so many seconds, rounded down, and the nanoseconds past them.
+    #[inline]
+    fn from_stored(secs: i64, nanos: u32) -> Option<TimeDelta>
+        requires { nanos < nanos_per_second }
+        ensures { SomeIff result (IsDuration (nanos_of secs nanos)) (nanos_of secs nanos) }
+    {
+        if is_in_range(secs, nanos) {
+            Some(TimeDelta { secs, nanos })
+        } else {
+            None
+        }
+    }
+
+    // The whole seconds of the duration, rounded down.
+    #[inline]
+    pub(crate) fn stored_secs(&self) -> i64
+        ensures value { result ≡ floor_secs self.now }
+        ensures bound { unsigned_abs result ≤ 9_223_372_036_854_776 }
+    {
+        self.secs
+    }
+
+    // The nanoseconds of the duration past those seconds.
+    #[inline]
+    pub(crate) fn stored_nanos(&self) -> u32
+        ensures value { result ≡ past_floor self.now }
+        ensures bound { result < nanos_per_second }
+    {
+        self.nanos
+    }
+
+    // All the nanoseconds of the duration.
+    #[inline]
+    fn total_nanos(&self) -> i128
+        ensures value { result ≡ self.now }
+        ensures bound { IsDuration self.now }
+    {
+        self.secs as i128 * 1_000_000_000 + self.nanos as i128
+    }
+}
+
+impl Default for TimeDelta {
+    ghost is_default = { λ x. x ≡ pos 0 };
+
+    /// The duration of no nanosecond.
+    #[inline]
+    fn default() -> TimeDelta {
+        TimeDelta::zero()
+    }
+}
+
+// Whether so many seconds and nanoseconds are a duration.
+#[inline]
+fn is_in_range(secs: i64, nanos: u32) -> bool
+    requires { nanos < nanos_per_second }
+    ensures { IsTrue result ↔ IsDuration (nanos_of secs nanos) }
+{
+    if secs == -9_223_372_036_854_776 {
+        return nanos >= 193_000_000;
+    }
+    if secs == 9_223_372_036_854_775 {
+        return nanos <= 807_000_000;
+    }
+    -9_223_372_036_854_776 < secs && secs < 9_223_372_036_854_775
+}

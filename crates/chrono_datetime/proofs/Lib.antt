@@ -1,0 +1,3 @@
+pub mod ReachLemmas
+pub mod DifferenceLemmas
+pub mod Ends

@@ -1,0 +1,19 @@
+//! Date-times: a date and a time of day, with no time zone.
+//!
+//! A [`NaiveDateTime`] is a [`NaiveDate`] and a [`NaiveTime`], and a duration moves it on a line that holds the leap second
+//! of its own time. [`AndTime`] puts a date and a time together. A user lists this crate alone: it passes on the names of
+//! the crates below.
+#![tactic(auto)]
+
+mod and_time;
+mod naive_date_time;
+#[cfg(test)]
+mod tests;
+
+pub use and_time::AndTime;
+pub use chrono_naive::{
+    Datelike, Days, IsoWeek, MAX_DATE, MIN_DATE, Month, Months, NaiveDate, NaiveDateDaysIterator,
+    NaiveDateWeeksIterator, NaiveTime, NaiveWeek, OutOfRange, TimeDelta, Timelike, Weekday,
+    WeekdaySet, WeekdaySetIter,
+};
+pub use naive_date_time::{MAX_DATETIME, MIN_DATETIME, NaiveDateTime};

@@ -1,0 +1,214 @@
+//! `NaiveDateTime`: the type, its ends and parts, and its moves and differences by durations.
+//!
+//! Its order stands in `order`, its fields in `fields`, its moves by months and days in `moves`, its operators in `ops`.
+ghost use Rattle.std.specs.Prelude.{◌≡◌, ℤ, pos, neg_ℤ, ◌+ℤ◌, ◌-ℤ◌, ◌*ℤ◌, ◌<ℤ◌, ◌<◌, ◌^◌, ◌↔◌, IfSome, Some, unsigned_abs};
+ghost use Rattle.chrono_clock.specs.Duration.{nanos_per_day};
+ghost use Rattle.chrono_clock.specs.Time.{time_at};
+ghost use Rattle.chrono_naive.specs.Days.{IsDate, date_of_day};
+ghost use Rattle.chrono_datetime.specs.Moment.{moment, reach, moment_of_landing, moment_distance, IsBefore, MovesAddUp, LeadsBack, SignTellsOrder};
+
+mod fields;
+mod moves;
+mod ops;
+mod order;
+mod text;
+
+use chrono_clock::{NaiveTime, TimeDelta};
+use chrono_naive::{Datelike, Days, NaiveDate};
+use std::marker::Model;
+
+/// The first date-time, [`NaiveDateTime::MIN`].
+pub const MIN_DATETIME: NaiveDateTime = NaiveDateTime::MIN;
+
+/// The last date-time in no leap second, [`NaiveDateTime::MAX`].
+pub const MAX_DATETIME: NaiveDateTime = NaiveDateTime::MAX;
+
+/// A date and a time of day, with no time zone (ISO 8601 date and time of day).
+///
+/// Contracts see it as the date's day number and the time's second and fraction. A move by a duration
+/// goes along a line that holds the leap second of the starting time, if it is in one, and no other. Date-times are
+/// equal, ordered and hashed by date and then time of day, and the default is 1 January 1970, 00:00:00.
+#[derive(Clone, Copy, PartialEq, Eq, Hash)]
+pub struct NaiveDateTime {
+    date: NaiveDate,
+    time: NaiveTime,
+}
+
+const _: () = prove!(std::mem::size_of::<NaiveDateTime>() <= 12);
+
+impl Model for NaiveDateTime {
+    ghost use Rattle.chrono_datetime.specs.Moment.{Moment};
+
+    ghost Value = { Moment };
+
+    ghost view = { λ a. record { date = a.date; time = a.time } };
+
+    ghost inverse = { λ m. record { date = m.date; time = m.time } };
+}
+
+impl NaiveDateTime {
+    /// The first date-time: 1 January of year -262,143, 00:00:00.
+    pub const MIN: NaiveDateTime = NaiveDateTime {
+        date: NaiveDate::MIN,
+        time: NaiveTime::MIN,
+    };
+
+    /// The last date-time in no leap second: 31 December of year 262,142, 23:59:59.999999999.
+    ///
+    /// A leap second after it is a date-time too, and compares greater.
+    pub const MAX: NaiveDateTime = NaiveDateTime {
+        date: NaiveDate::MAX,
+        time: NaiveTime::MAX,
+    };
+
+    /// The date-time at this date and time of day.
+    #[inline]
+    pub fn new(date: NaiveDate, time: NaiveTime) -> NaiveDateTime
+        ensures { result ≡ moment date time }
+    {
+        NaiveDateTime { date, time }
+    }
+
+    /// The date.
+    #[inline]
+    pub fn date(&self) -> NaiveDate
+        ensures { result ≡ self.now.date }
+    {
+        self.date
+    }
+
+    /// The time of day.
+    #[inline]
+    pub fn time(&self) -> NaiveTime
+        ensures { result ≡ self.now.time }
+    {
+        self.time
+    }
+
+    /// The date-time that lies a duration later, or `None` if its date is out of range.
+    ///
+    /// From inside a leap second the move counts the rest of that second; a leap second that the move passes elsewhere has
+    /// no place on the line. So half a second after 30 June 2015, 23:59:60.5, it is 1 July 2015, 00:00:00. A leap second
+    /// on the last date can be reached, though it is past [`MAX`](Self::MAX).
+    #[inline]
+    pub fn checked_add_signed(self, rhs: TimeDelta) -> Option<NaiveDateTime>
+        ensures value { result ≡ reach self rhs }
+
+        // A second move ends where the one move by the sum ends.
+        ensures adds_up { IfSome result (λ e. MovesAddUp self rhs e) }
+        ensures later { IfSome result (λ e. (pos 0 <ℤ rhs) ↔ IsBefore self e) }
+        ensures earlier { IfSome result (λ e. (rhs <ℤ pos 0) ↔ IsBefore e self) }
+    {
+        let (time, seconds) = self.time.overflowing_add_signed(rhs);
+        at_landing(self.date, time, seconds)
+    }
+
+    /// The date-time that lies a duration earlier, or `None` if its date is out of range: a move by
+    /// the negated duration.
+    #[inline]
+    pub fn checked_sub_signed(self, rhs: TimeDelta) -> Option<NaiveDateTime>
+        ensures { result ≡ reach self (neg_ℤ rhs) }
+    {
+        self.checked_add_signed(-rhs)
+    }
+
+    /// How far this date-time is from `rhs`: the days between the dates, of 86,400 seconds each, and how
+    /// far the times are apart. A leap second counts if one of the two times is in it and has the smaller
+    /// second of day.
+    #[inline]
+    pub fn signed_duration_since(self, rhs: NaiveDateTime) -> TimeDelta
+        ensures value { result ≡ moment_distance self rhs }
+
+        // A move from `rhs` by the answer ends here.
+        ensures back { LeadsBack self rhs → reach rhs result ≡ Some self }
+        ensures later { SignTellsOrder self rhs → (pos 0 <ℤ result) ↔ IsBefore rhs self }
+        ensures same { SignTellsOrder self rhs → (result ≡ pos 0) ↔ (self ≡ rhs) }
+        ensures earlier { SignTellsOrder self rhs → (result <ℤ pos 0) ↔ IsBefore self rhs }
+    {
+        self.days_since(&rhs) + self.time.signed_duration_since(rhs.time)
+    }
+
+    // The date-time at another date and the same time of day.
+    #[inline]
+    fn with_date(&self, date: NaiveDate) -> NaiveDateTime
+        ensures { result ≡ moment date self.now.time }
+    {
+        NaiveDateTime {
+            date,
+            time: self.time,
+        }
+    }
+
+    // The date-time at another time of day and the same date.
+    #[inline]
+    fn with_time(&self, time: NaiveTime) -> NaiveDateTime
+        ensures { result ≡ moment self.now.date time }
+    {
+        NaiveDateTime {
+            date: self.date,
+            time,
+        }
+    }
+
+    // The days between the dates.
+    #[inline]
+    fn days_since(&self, rhs: &NaiveDateTime) -> TimeDelta
+        ensures value { result ≡ (self.now.date -ℤ rhs.now.date) *ℤ pos nanos_per_day }
+        ensures bound { unsigned_abs result < 2 ^ 75 }
+        ensures dates { IsDate self.now.date × IsDate rhs.now.date }
+    {
+        let days = self.date.num_days_from_ce() as i64 - rhs.date.num_days_from_ce() as i64;
+        TimeDelta::seconds(days * 86_400)
+    }
+}
+
+// The date-time so many seconds of whole days from a date, if that day is a date.
+#[inline]
+fn at_landing(date: NaiveDate, time: NaiveTime, seconds: i64) -> Option<NaiveDateTime>
+    ensures { (day : ℤ) → seconds ≡ day *ℤ pos 86_400 → result ≡ moment_of_landing date (record { day = day; time = time }) }
+{
+    let landed = moved_by_days(date, seconds / 86_400)?;
+    Some(NaiveDateTime { date: landed, time })
+}
+
+// The date so many days later, or earlier where the number is negative.
+#[inline]
+fn moved_by_days(date: NaiveDate, days: i64) -> Option<NaiveDate>
+    ensures { result ≡ date_of_day (date +ℤ days) }
+{
+    if days < 0 {
+        date.checked_sub_days(Days::new(days.unsigned_abs()))
+    } else {
+        date.checked_add_days(Days::new(days as u64))
+    }
+}
+
+impl Default for NaiveDateTime {
+    ghost is_default = { λ m. m ≡ moment (pos 719_163) (time_at 0 0 0 0) };
+
+    /// 1 January 1970, 00:00:00.
+    #[inline]
+    fn default() -> NaiveDateTime {
+        NaiveDateTime::from(NaiveDate::default())
+    }
+}
+
+impl From<NaiveDate> for NaiveDateTime {
+    ghost from_gives = { λ d m. m ≡ moment d (time_at 0 0 0 0) };
+
+    /// The date-time at midnight, the first of the date.
+    #[inline]
+    fn from(date: NaiveDate) -> NaiveDateTime {
+        NaiveDateTime::new(date, NaiveTime::MIN)
+    }
+}
+
+impl From<NaiveDateTime> for NaiveDate {
+    ghost from_gives = { λ m d. d ≡ m.date };
+
+    /// The date of the date-time.
+    #[inline]
+    fn from(datetime: NaiveDateTime) -> NaiveDate {
+        datetime.date()
+    }
+}

@@ -1,0 +1,64 @@
+//! Moves by calendar months and days: they move the date and keep the time of day.
+ghost use Rattle.std.specs.Prelude.{◌≡◌, pos, neg_ℤ, ◌+ℤ◌, ◌-ℤ◌, IfSome};
+ghost use Rattle.chrono_naive.specs.Days.{date_of_day};
+ghost use Rattle.chrono_naive.specs.MonthMoves.{AddsUp, ComesBack, KeepsOrder, month_move};
+ghost use Rattle.chrono_datetime.specs.Moment.{moment_on};
+
+use crate::NaiveDateTime;
+use chrono_naive::{Days, Months};
+
+impl NaiveDateTime {
+    /// The same day of the month so many months later, or the last day of that month if it is shorter, at the same time
+    /// of day; `None` exactly if the year of that month is past 262,142.
+    ///
+    /// So 30 January 2023, 23:00, and one month make 28 February 2023, 23:00.
+    #[inline]
+    pub fn checked_add_months(self, rhs: Months) -> Option<NaiveDateTime>
+        ensures value { result ≡ moment_on (month_move self.date (pos rhs)) self.time }
+        // No later date comes to lie before the answer's by the same move.
+        ensures order { IfSome result (λ e. KeepsOrder self.date (pos rhs) e.date) }
+        // Moved back, the answer's date comes to the date again, or to one to three days before it in its month.
+        ensures back { IfSome result (λ e. ComesBack self.date (neg_ℤ (pos rhs)) e.date) }
+        // A second move ends in the month of one move by the sum, and not later.
+        ensures sum { IfSome result (λ e. AddsUp self.date (pos rhs) e.date) }
+    {
+        Some(self.with_date(self.date.checked_add_months(rhs)?))
+    }
+
+    /// The same day of the month so many months earlier, or the last day of that month if it is shorter, at the same
+    /// time of day; `None` exactly if the year of that month is before -262,143.
+    #[inline]
+    pub fn checked_sub_months(self, rhs: Months) -> Option<NaiveDateTime>
+        ensures value { result ≡ moment_on (month_move self.date (neg_ℤ (pos rhs))) self.time }
+        // No later date comes to lie before the answer's by the same move.
+        ensures order { IfSome result (λ e. KeepsOrder self.date (neg_ℤ (pos rhs)) e.date) }
+        // Moved on again, the answer's date comes to the date again, or to one to three days before it in its month.
+        ensures back { IfSome result (λ e. ComesBack self.date (pos rhs) e.date) }
+        // A second move ends in the month of one move by the sum, and not later.
+        ensures sum { IfSome result (λ e. AddsUp self.date (neg_ℤ (pos rhs)) e.date) }
+    {
+        Some(self.with_date(self.date.checked_sub_months(rhs)?))
+    }
+
+    /// The date-time at the same time of day so many days later; `None` exactly if that day is past
+    /// [`MAX`](Self::MAX).
+    #[inline]
+    pub fn checked_add_days(self, days: Days) -> Option<NaiveDateTime>
+        ensures value { result ≡ moment_on (date_of_day (self.date +ℤ pos days)) self.time }
+        // As many days less, the answer's date is the date again.
+        ensures back { IfSome result (λ e. e.date -ℤ pos days ≡ self.date) }
+    {
+        Some(self.with_date(self.date.checked_add_days(days)?))
+    }
+
+    /// The date-time at the same time of day so many days earlier; `None` exactly if that day is before
+    /// [`MIN`](Self::MIN).
+    #[inline]
+    pub fn checked_sub_days(self, days: Days) -> Option<NaiveDateTime>
+        ensures value { result ≡ moment_on (date_of_day (self.date -ℤ pos days)) self.time }
+        // As many days more, the answer's date is the date again.
+        ensures back { IfSome result (λ e. e.date +ℤ pos days ≡ self.date) }
+    {
+        Some(self.with_date(self.date.checked_sub_days(days)?))
+    }
+}

@@ -1,0 +1,52 @@
+-- Lemmas on the texts of dates.
+use Rattle.std.proofs.Common.{◌≡◌, ℕ, ◌^◌, ◌<◌, ◌≤◌, Bool, ℤ, pos, negsuc, neg_ℤ, ◌≤ℤ◌, Some, length, unsigned_abs, arith, refl, sym, ap, ◌∙◌}
+use Rattle.std.proofs.lemmas.Int.{ints}
+use Rattle.chrono_units.specs.Years.{IsYear, is_leap_year, month_length_in}
+use Rattle.chrono_clock.specs.Text.{year_text, calendar_text}
+use Rattle.chrono_clock.proofs.TextLemmas.{calendar_text_injective, length-calendar_text, length-year_text-four, length-year_text-le}
+use Rattle.chrono_calendar.specs.Days.{IsDate, date_of_ymd, day_number_of_ymd, year_of, month_of, day_of}
+use Rattle.chrono_calendar.proofs.MonthMoveLaws.{year_of-range}
+use Rattle.chrono_calendar.proofs.NamedDates.{calendar_name-exists, date_of_ymd-name, number-calendar_name}
+use Rattle.chrono_naive.specs.DateText.{date_text}
+
+-- a date with a calendar name has that name's text
+pub date_text-named : (n y : ℤ) (m d : ℕ) → date_of_ymd y m d ≡ Some n → date_text n ≡ calendar_text y m d
+date_text-named n y m d e =
+    let name = date_of_ymd-name n y m d e in
+    λ i. calendar_text (sym name.0 i) (sym name.1 i) (sym name.2 i)
+
+-- a year's size, a month and a day of the month are small
+year_size : (y : ℤ) → IsYear y → unsigned_abs y < 1_000_000
+year_size (pos n) h = omega (arith, ints, h.1)
+year_size (negsuc n) h = omega (arith, ints, h.0)
+
+longest_month : (leap : Bool) (m : ℕ) → month_length_in leap m ≤ 31
+longest_month leap m = grind arith
+
+month_of-small : (n : ℤ) → month_of n < 100
+month_of-small n = omega (arith, (calendar_name-exists n).0.1)
+
+day_of-small : (n : ℤ) → day_of n < 100
+day_of-small n = omega (arith, (calendar_name-exists n).1.1, longest_month (is_leap_year (year_of n)) (month_of n))
+
+-- different dates have different texts
+pub date_text_injective : (n m : ℤ) → IsDate n → IsDate m → date_text n ≡ date_text m → n ≡ m
+date_text_injective n m first second e =
+    let names =
+    calendar_text_injective (year_of n) (year_of m) (month_of n) (month_of m) (day_of n) (day_of m)
+    (omega (arith, year_size (year_of n) (year_of-range n first)))
+    (omega (arith, year_size (year_of m) (year_of-range m second)))
+    (month_of-small n) (month_of-small m) (day_of-small n) (day_of-small m) e
+    in
+    sym (number-calendar_name n) ∙ (λ i. day_number_of_ymd (names.0 i) (names.1 i) (names.2 i)) ∙ number-calendar_name m
+
+-- how long a date's text is
+four_digits : (y : ℤ) → pos 0 ≤ℤ y → y ≤ℤ pos 9_999 → length (year_text y) ≡ 4
+four_digits (pos n) low high = length-year_text-four n (omega (arith, ints, high))
+four_digits (negsuc n) low high = absurd (omega (arith, ints, low))
+
+pub length-date_text-four : (n : ℤ) → pos 0 ≤ℤ year_of n → year_of n ≤ℤ pos 9_999 → length (date_text n) ≡ 10
+length-date_text-four n low high = omega (arith, length-calendar_text (year_of n) (month_of n) (day_of n), four_digits (year_of n) low high)
+
+pub length-date_text-le : (n : ℤ) → IsDate n → length (date_text n) ≤ 13
+length-date_text-le n h = omega (arith, length-calendar_text (year_of n) (month_of n) (day_of n), length-year_text-le (year_of n) (year_size (year_of n) (year_of-range n h)))

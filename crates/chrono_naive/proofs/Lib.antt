@@ -1,0 +1,4 @@
+mod DayMoves
+mod DateListLemmas
+pub mod DateTextLemmas
+pub mod Ends

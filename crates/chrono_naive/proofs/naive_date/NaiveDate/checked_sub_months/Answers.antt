@@ -1,0 +1,15 @@
+use Rattle.std.proofs.Common.{◌≡◌, pos, neg_ℤ, to_z, of_z, ◌-ℤ◌, w64, arith, ap, ◌∙◌}
+use Rattle.chrono_calendar.specs.MonthMoves.{month_move}
+use Rattle.chrono_calendar.proofs.MonthMoveLaws.{if_moved}
+use Rattle.chrono_calendar.proofs.Signed.{casts}
+use Rattle.chrono_naive.proofs.naive_date.NaiveDate.checked_sub_months.Goals as goal
+
+moved : (c : goal.After-moved_by_months) → c.moved_by_months.result ≡ month_move c.args.self (neg_ℤ (pos c.args.months))
+moved c =
+    let months : to_z w64 (of_z w64 (pos 0 -ℤ to_z w64 (of_z w64 c.from.result))) ≡ neg_ℤ (pos c.args.months) = omega (arith, casts, c.from.ensures, c.as_u32.ensures) in
+    c.moved_by_months.ensures.date ∙ ap (month_move c.args.self) months
+
+pub returns : goal.returns
+returns c =
+    let laws = if_moved c.moved_by_months.result c.args.self (neg_ℤ (pos c.args.months)) (pos c.args.months) (omega (arith, casts)) c.moved_by_months.ensures.in_range (moved c) in
+    record { date = moved c; order = laws.0; back = laws.1; sum = laws.2 }

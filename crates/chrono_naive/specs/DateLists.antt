@@ -1,0 +1,31 @@
+-- Days in a row, and the lists that the iterators over dates run through.
+use Rattle.std.specs.Prelude.{◌≡◌, ℕ, zero, suc, ◌/◌, false, List, [], ◌∷◌, ℤ, pos, ◌+ℤ◌, ◌-ℤ◌, unsigned_abs}
+use Rattle.std.specs.declared.ops.RangeInclusive.{RangeInclusive}
+use Rattle.std.specs.Range.{range_inclusive_start, range_inclusive_end, range_inclusive_exhausted}
+
+-- n numbers in a row, the first of them first and each d more than the one before
+unfoldable pub in_steps : ℕ → ℕ → ℤ → List ℤ
+in_steps d zero first = []
+in_steps d (suc n) first = first ∷ in_steps d n (first +ℤ pos d)
+
+-- the days from the date n to the last date
+abbrev pub days_left : ℤ → ℕ
+days_left n = unsigned_abs (pos 95_745_399 -ℤ n)
+
+-- n and the dates after it, day after day, up to the one before the last date
+abbrev pub days_from : ℤ → List ℤ
+days_from n = in_steps 1 (days_left n) n
+
+-- n and the dates after it, week after week, as long as the week after is a date too
+abbrev pub weeks_from : ℤ → List ℤ
+weeks_from n = in_steps 7 (days_left n / 7) n
+
+-- the seven days of the week that begins with the day first
+abbrev pub days_of_week : ℤ → List ℤ
+days_of_week first = in_steps 1 7 first
+
+-- the range has both ends, and nothing was taken from it
+pub record IsRange (first last : ℤ) (r : RangeInclusive ℤ) : Type 0 where
+  pub start : range_inclusive_start r ≡ first
+  pub end : range_inclusive_end r ≡ last
+  pub whole : range_inclusive_exhausted r ≡ false

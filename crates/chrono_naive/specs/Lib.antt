@@ -1,0 +1,16 @@
+pub use Rattle.chrono_units.specs.Years
+pub use Rattle.chrono_units.specs.Weekday
+pub use Rattle.chrono_units.specs.Month
+pub use Rattle.chrono_units.specs.WeekdaySet
+pub use Rattle.chrono_clock.specs.Duration
+pub use Rattle.chrono_clock.specs.Time
+pub use Rattle.chrono_clock.specs.Text
+pub use Rattle.chrono_calendar.specs.Days
+pub use Rattle.chrono_calendar.specs.Weeks
+pub use Rattle.chrono_calendar.specs.Order
+pub use Rattle.chrono_calendar.specs.NameLaws
+pub use Rattle.chrono_calendar.specs.MonthMoves
+pub use Rattle.chrono_calendar.specs.YearsBetween
+pub mod Fields
+pub mod DateLists
+pub mod DateText

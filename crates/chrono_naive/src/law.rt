@@ -1,0 +1,28 @@
+//! Laws of the texts of dates, each as the contract of a function that does nothing.
+ghost use Rattle.std.specs.Prelude.{◌≡◌, ◌≤◌, ◌≤ℤ◌, ℤ, pos, neg_ℤ, length, codes};
+ghost use Rattle.chrono_calendar.specs.Days.{IsDate, year_of};
+ghost use Rattle.chrono_naive.specs.DateText.{date_text};
+
+/// The text of a date in the years 0 to 9999 has ten bytes.
+pub fn four_digit_years_have_ten_bytes()
+    ensures { (n : ℤ) → pos 0 ≤ℤ year_of n → year_of n ≤ℤ pos 9_999 → length (date_text n) ≡ 10 }
+{}
+
+/// The text of a date has at most thirteen bytes.
+pub fn dates_have_at_most_thirteen_bytes()
+    ensures { (n : ℤ) → IsDate n → length (date_text n) ≤ 13 }
+{}
+
+/// Different dates have different texts.
+pub fn dates_have_texts_of_their_own()
+    ensures { (n m : ℤ) → IsDate n → IsDate m → date_text n ≡ date_text m → n ≡ m }
+{}
+
+/// Texts that are known: a date of four digits, the first day of year 0 and the day before, and both ends.
+pub fn known_date_texts()
+    ensures plain { date_text (pos 735_438) ≡ codes "2014-07-24" }
+    ensures year_zero { date_text (neg_ℤ (pos 365)) ≡ codes "0000-01-01" }
+    ensures before_zero { date_text (neg_ℤ (pos 366)) ≡ codes "-0001-12-31" }
+    ensures first { date_text (neg_ℤ (pos 95_746_129)) ≡ codes "-262143-01-01" }
+    ensures last { date_text (pos 95_745_399) ≡ codes "+262142-12-31" }
+{}

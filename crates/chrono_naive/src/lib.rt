@@ -1,0 +1,23 @@
+//! Dates of the proleptic Gregorian calendar, with no time zone.
+#![tactic(auto)]
+
+mod datelike;
+mod days;
+mod iso_week;
+pub mod law;
+mod naive_date;
+mod naive_date_days_iterator;
+mod naive_date_weeks_iterator;
+mod naive_week;
+#[cfg(test)]
+mod tests;
+
+pub use chrono_clock::{NaiveTime, TimeDelta, Timelike};
+pub use chrono_units::{Month, Months, OutOfRange, Weekday, WeekdaySet, WeekdaySetIter};
+pub use datelike::Datelike;
+pub use days::Days;
+pub use iso_week::IsoWeek;
+pub use naive_date::{MAX_DATE, MIN_DATE, NaiveDate};
+pub use naive_date_days_iterator::NaiveDateDaysIterator;
+pub use naive_date_weeks_iterator::NaiveDateWeeksIterator;
+pub use naive_week::NaiveWeek;

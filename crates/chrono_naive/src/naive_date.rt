@@ -1,0 +1,272 @@
+//! `NaiveDate`: a date with no time zone.
+//!
+//! This file has the type, its ends, and how a date is named, numbered and moved by days. Its
+//! fields stand in `fields`, its order in `order`, its further moves and differences in `moves`,
+//! its operators in `ops`, and its printed text in `text`.
+ghost use Rattle.std.specs.Prelude.{◌≡◌, ◌+◌, ◌≤◌, pos, ◌+ℤ◌, ◌-ℤ◌, IfSome};
+ghost use Rattle.chrono_units.specs.Years.{is_leap_year};
+ghost use Rattle.chrono_calendar.specs.Days.{IsDate, date_of_day, date_of_yo, date_of_ymd, year_of};
+ghost use Rattle.chrono_calendar.specs.Weeks.{date_of_iso, date_of_nth_weekday};
+ghost use Rattle.chrono_naive.specs.DateLists.{days_left};
+
+mod fields;
+mod moves;
+mod ops;
+mod order;
+mod text;
+
+use crate::days::Days;
+use chrono_calendar::{DayForm, Steps, forms};
+use chrono_units::Weekday;
+use std::marker::Model;
+
+// The form in which every date is stored.
+type Form = chrono_stored::PackedForm;
+
+// The day number of 1 January 1970.
+const UNIX_EPOCH_DAY: i32 = 719_163;
+
+/// The first date, [`NaiveDate::MIN`].
+pub const MIN_DATE: NaiveDate = NaiveDate::MIN;
+
+/// The last date, [`NaiveDate::MAX`].
+pub const MAX_DATE: NaiveDate = NaiveDate::MAX;
+
+/// A date of the proleptic Gregorian calendar (ISO 8601, with a year 0 before year 1), with no time zone:
+/// from -262143-01-01 to +262142-12-31.
+///
+/// Contracts see a date as its day number, in which 1 January of year 1 is 1. Dates are equal, ordered and hashed as
+/// that number, and the default is 1 January 1970.
+#[derive(Clone, Copy, PartialEq, Eq, Hash)]
+pub struct NaiveDate {
+    form: Form,
+}
+
+impl Model for NaiveDate {
+    ghost use Rattle.std.specs.Prelude.{ℤ};
+
+    ghost Value = { ℤ };
+
+    ghost view = { λ d. d.form };
+
+    ghost inverse = { λ n. record { form = n } };
+}
+
+impl NaiveDate {
+    /// The first date: 1 January of year -262,143, a Thursday.
+    pub const MIN: NaiveDate = NaiveDate { form: Form::MIN };
+
+    /// The last date: 31 December of year 262,142, a Monday.
+    pub const MAX: NaiveDate = NaiveDate { form: Form::MAX };
+
+    /// The date with a calendar name (ISO 8601 calendar date), or `None` if there is none: the year is not from
+    /// -262,143 to 262,142, the month not from 1 to 12, or the day not from 1 to the month's last.
+    ///
+    /// So `from_ymd_opt(2024, 2, 29)` is a date, and `from_ymd_opt(1900, 2, 29)` is `None`.
+    #[inline]
+    pub fn from_ymd_opt(year: i32, month: u32, day: u32) -> Option<NaiveDate>
+        ensures { result ≡ date_of_ymd year month day }
+    {
+        Some(NaiveDate {
+            form: Form::from_ymd(year, month, day)?,
+        })
+    }
+
+    /// The date with an ordinal name (ISO 8601 ordinal date), or `None` if there is none: the year is not from
+    /// -262,143 to 262,142, or the ordinal not from 1 to the days of the year.
+    ///
+    /// So `from_yo_opt(2024, 366)` is 31 December 2024, and `from_yo_opt(2023, 366)` is `None`.
+    #[inline]
+    pub fn from_yo_opt(year: i32, ordinal: u32) -> Option<NaiveDate>
+        ensures { result ≡ date_of_yo year ordinal }
+    {
+        Some(NaiveDate {
+            form: Form::from_yo(year, ordinal)?,
+        })
+    }
+
+    /// The date with an ISO year, a week and a weekday (ISO 8601 week date), or `None` if there is none.
+    ///
+    /// So week 53 names a date only in a year that has 53 weeks, and week 0 and any week past 53 name none.
+    /// `from_isoywd_opt(2020, 53, Weekday::Sun)` is 3 January 2021.
+    #[inline]
+    pub fn from_isoywd_opt(year: i32, week: u32, weekday: Weekday) -> Option<NaiveDate>
+        ensures { result ≡ date_of_iso year week weekday }
+    {
+        Some(NaiveDate {
+            form: forms::from_iso(year, week, weekday)?,
+        })
+    }
+
+    /// The `n`-th day with the weekday in a month, counted from 1. `None` exactly if the month is
+    /// not one of 1 to 12, the year is not one of -262,143 to 262,142, or `n` is 0 or past the last
+    /// such day.
+    ///
+    /// So `from_weekday_of_month_opt(2017, 3, Weekday::Fri, 2)` is 10 March 2017.
+    #[inline]
+    pub fn from_weekday_of_month_opt(
+        year: i32,
+        month: u32,
+        weekday: Weekday,
+        n: u8,
+    ) -> Option<NaiveDate>
+        ensures { result ≡ date_of_nth_weekday year month weekday n }
+    {
+        Some(NaiveDate {
+            form: forms::nth_weekday(year, month, weekday, n)?,
+        })
+    }
+
+    /// The date with a day number, in which 1 January of year 1 is 1; `None` exactly if the number is not from
+    /// -95,746,129 to 95,745,399.
+    #[inline]
+    pub fn from_num_days_from_ce_opt(days: i32) -> Option<NaiveDate>
+        ensures { result ≡ date_of_day days }
+    {
+        NaiveDate::from_num_days_from_ce_counted(days, &mut Steps::new())
+    }
+
+    /// The date with a day number, as [`from_num_days_from_ce_opt`](Self::from_num_days_from_ce_opt) gives it, with its
+    /// steps counted: at most three, whether there is such a date or not.
+    #[inline]
+    pub fn from_num_days_from_ce_counted(days: i32, steps: &mut Steps) -> Option<NaiveDate>
+        ensures date { result ≡ date_of_day days }
+        ensures kept { steps.old ≤ steps.new }
+        ensures cost { steps.new ≤ steps.old + 3 }
+    {
+        Some(NaiveDate {
+            form: Form::from_day(days, steps)?,
+        })
+    }
+
+    /// The date so many days after 1 January 1970, or before it if the number is negative; `None` exactly out of range.
+    #[inline]
+    pub fn from_epoch_days(days: i32) -> Option<NaiveDate>
+        ensures { result ≡ date_of_day (days +ℤ pos 719_163) }
+    {
+        NaiveDate::from_num_days_from_ce_opt(days.checked_add(UNIX_EPOCH_DAY)?)
+    }
+
+    /// The days from 1 January 1970 to this date, negative for a date before it.
+    #[inline]
+    pub fn to_epoch_days(&self) -> i32
+        ensures { result ≡ self.now -ℤ pos 719_163 }
+    {
+        self.day_number() - UNIX_EPOCH_DAY
+    }
+
+    // The day number.
+    #[inline]
+    pub(crate) fn day_number(&self) -> i32
+        ensures value { result ≡ self.now }
+        ensures in_range { IsDate result }
+    {
+        self.form.day()
+    }
+
+    /// The date so many days later; `None` exactly if that is past [`MAX`](Self::MAX).
+    #[inline]
+    pub fn checked_add_days(self, days: Days) -> Option<NaiveDate>
+        ensures date { result ≡ date_of_day (self +ℤ pos days) }
+        // As many days less, the answer is the date again.
+        ensures back { IfSome result (λ e. e -ℤ pos days ≡ self) }
+    {
+        self.checked_add_days_counted(days, &mut Steps::new())
+    }
+
+    /// The date so many days later, as [`checked_add_days`](Self::checked_add_days) gives it, with its steps counted: at
+    /// most four, whether there is such a date or not.
+    #[inline]
+    pub fn checked_add_days_counted(self, days: Days, steps: &mut Steps) -> Option<NaiveDate>
+        ensures date { result ≡ date_of_day (self +ℤ pos days) }
+        ensures kept { steps.old ≤ steps.new }
+        ensures cost { steps.new ≤ steps.old + 4 }
+    {
+        let Ok(forward) = i64::try_from(days.count()) else {
+            // No two dates are so far apart.
+            prove!(self.day_number() >= -95_746_129);
+            return None;
+        };
+        self.moved_by_days_counted(forward, steps)
+    }
+
+    /// The date so many days earlier; `None` exactly if that is before [`MIN`](Self::MIN).
+    #[inline]
+    pub fn checked_sub_days(self, days: Days) -> Option<NaiveDate>
+        ensures date { result ≡ date_of_day (self -ℤ pos days) }
+        // As many days more, the answer is the date again.
+        ensures back { IfSome result (λ e. e +ℤ pos days ≡ self) }
+    {
+        let Ok(back) = i64::try_from(days.count()) else {
+            // No two dates are so far apart.
+            prove!(self.day_number() <= 95_745_399);
+            return None;
+        };
+        self.moved_by_days(-back)
+    }
+
+    /// The next date; `None` exactly for [`MAX`](Self::MAX).
+    #[inline]
+    pub fn succ_opt(&self) -> Option<NaiveDate>
+        ensures { result ≡ date_of_day (self.now +ℤ pos 1) }
+    {
+        self.moved_by_days(1)
+    }
+
+    /// The date before; `None` exactly for [`MIN`](Self::MIN).
+    #[inline]
+    pub fn pred_opt(&self) -> Option<NaiveDate>
+        ensures { result ≡ date_of_day (self.now -ℤ pos 1) }
+    {
+        self.moved_by_days(-1)
+    }
+
+    // The date so many days later, or earlier for a negative number.
+    #[inline]
+    pub(crate) fn moved_by_days(self, days: i64) -> Option<NaiveDate>
+        ensures date { result ≡ date_of_day (self +ℤ days) }
+        ensures in_range { IsDate self }
+    {
+        // No date is before the first.
+        prove!(NaiveDate::MIN.day_number() <= self.day_number());
+        self.moved_by_days_counted(days, &mut Steps::new())
+    }
+
+    // The same, with the steps counted.
+    #[inline]
+    fn moved_by_days_counted(self, days: i64, steps: &mut Steps) -> Option<NaiveDate>
+        ensures date { result ≡ date_of_day (self +ℤ days) }
+        ensures kept { steps.old ≤ steps.new }
+        ensures cost { steps.new ≤ steps.old + 4 }
+    {
+        Some(NaiveDate {
+            form: forms::move_days(self.form, days, steps)?,
+        })
+    }
+
+    // The days from this date to the last one.
+    #[inline]
+    pub(crate) fn days_left(self) -> u32
+        ensures { result ≡ days_left self }
+    {
+        (NaiveDate::MAX.day_number() - self.day_number()) as u32
+    }
+
+    /// Whether the date lies in a leap year.
+    #[inline]
+    pub fn leap_year(&self) -> bool
+        ensures { result ≡ is_leap_year (year_of self.now) }
+    {
+        self.form.is_leap()
+    }
+}
+
+impl Default for NaiveDate {
+    /// 1 January 1970.
+    #[inline]
+    fn default() -> NaiveDate
+        ensures { result ≡ pos 719_163 }
+    {
+        NaiveDate::from_num_days_from_ce_opt(UNIX_EPOCH_DAY).unwrap()
+    }
+}

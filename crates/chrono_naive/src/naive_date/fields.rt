@@ -1,0 +1,108 @@
+//! The fields of a date, read and replaced.
+ghost use Rattle.std.specs.Prelude.{◌≡◌};
+ghost use Rattle.chrono_calendar.specs.Days.{IsDate};
+
+use crate::datelike::Datelike;
+use crate::iso_week::IsoWeek;
+use crate::naive_date::NaiveDate;
+use chrono_calendar::{DayForm, forms};
+use chrono_units::Weekday;
+
+impl Datelike for NaiveDate {
+    ghost use Rattle.std.specs.Prelude.{[]};
+
+    ghost number = { λ d. d };
+
+    ghost rest = { λ _. [] };
+
+    #[inline]
+    fn year(&self) -> i32 {
+        self.form.year()
+    }
+
+    #[inline]
+    fn month(&self) -> u32 {
+        self.form.month_day().0
+    }
+
+    #[inline]
+    fn month0(&self) -> u32 {
+        self.month() - 1
+    }
+
+    #[inline]
+    fn day(&self) -> u32 {
+        self.form.month_day().1
+    }
+
+    #[inline]
+    fn day0(&self) -> u32 {
+        self.day() - 1
+    }
+
+    #[inline]
+    fn ordinal(&self) -> u32 {
+        self.form.ordinal()
+    }
+
+    #[inline]
+    fn ordinal0(&self) -> u32 {
+        self.ordinal() - 1
+    }
+
+    #[inline]
+    fn weekday(&self) -> Weekday {
+        self.form.weekday()
+    }
+
+    #[inline]
+    fn iso_week(&self) -> IsoWeek {
+        let (year, week) = forms::iso_name(&self.form);
+        IsoWeek::new(year, week)
+    }
+
+    #[inline]
+    fn with_year(&self, year: i32) -> Option<NaiveDate> {
+        let (month, day) = self.form.month_day();
+        NaiveDate::from_ymd_opt(year, month, day)
+    }
+
+    #[inline]
+    fn with_month(&self, month: u32) -> Option<NaiveDate> {
+        NaiveDate::from_ymd_opt(self.year(), month, self.day())
+    }
+
+    #[inline]
+    fn with_month0(&self, month0: u32) -> Option<NaiveDate> {
+        self.with_month(month0.checked_add(1)?)
+    }
+
+    #[inline]
+    fn with_day(&self, day: u32) -> Option<NaiveDate> {
+        NaiveDate::from_ymd_opt(self.year(), self.month(), day)
+    }
+
+    #[inline]
+    fn with_day0(&self, day0: u32) -> Option<NaiveDate> {
+        self.with_day(day0.checked_add(1)?)
+    }
+
+    #[inline]
+    fn with_ordinal(&self, ordinal: u32) -> Option<NaiveDate> {
+        NaiveDate::from_yo_opt(self.year(), ordinal)
+    }
+
+    #[inline]
+    fn with_ordinal0(&self, ordinal0: u32) -> Option<NaiveDate> {
+        self.with_ordinal(ordinal0.checked_add(1)?)
+    }
+
+    /// The day number: 1 for 1 January of year 1, 0 for the day before, 719,163 for 1 January 1970.
+    #[inline]
+    fn num_days_from_ce(&self) -> i32
+        ensures value { result ≡ self.now }
+        ensures in_range { IsDate result }
+    {
+        self.day_number()
+    }
+}

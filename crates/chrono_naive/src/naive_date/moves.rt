@@ -1,0 +1,139 @@
+//! Moves of a date by months and by durations, the difference of dates, and what is reached from a date: weeks and iterators.
+ghost use Rattle.std.specs.Prelude.{◌≡◌, pos, neg_ℤ, ◌+ℤ◌, ◌-ℤ◌, ◌≤ℤ◌, ◌<ℤ◌, unsigned_abs, IfSome};
+ghost use Rattle.chrono_units.specs.Years.{IsYear};
+ghost use Rattle.chrono_clock.specs.Duration.{nanos_per_day, units_of, whole_units};
+ghost use Rattle.chrono_calendar.specs.Days.{date_of_day, year_of};
+ghost use Rattle.chrono_calendar.specs.Weeks.{week_first_of, weekday_of};
+ghost use Rattle.chrono_calendar.specs.MonthMoves.{AddsUp, ComesBack, KeepsOrder, month_move};
+ghost use Rattle.chrono_calendar.specs.YearsBetween.{years_between as whole_years};
+
+use crate::days::Days;
+use crate::naive_date::NaiveDate;
+use crate::naive_date_days_iterator::NaiveDateDaysIterator;
+use crate::naive_date_weeks_iterator::NaiveDateWeeksIterator;
+use crate::naive_week::NaiveWeek;
+use chrono_calendar::{DayForm, forms};
+use chrono_clock::TimeDelta;
+use chrono_units::year::is_year;
+use chrono_units::{Months, Weekday};
+
+impl NaiveDate {
+    /// The same day so many months later, or the last day of that month if it is shorter; `None` exactly if the year of
+    /// that month is past 262,142.
+    ///
+    /// So 31 January 2022 and one month make 28 February 2022.
+    #[inline]
+    pub fn checked_add_months(self, months: Months) -> Option<NaiveDate>
+        ensures date { result ≡ month_move self (pos months) }
+        // No later date comes to lie before the answer by the same move.
+        ensures order { IfSome result (λ e. KeepsOrder self (pos months) e) }
+        // Moved back, the answer comes to the date again, or one to three days before it in its month.
+        ensures back { IfSome result (λ e. ComesBack self (neg_ℤ (pos months)) e) }
+        // A second move ends in the month of one move by the sum, and not later.
+        ensures sum { IfSome result (λ e. AddsUp self (pos months) e) }
+    {
+        self.moved_by_months(i64::from(months.as_u32()))
+    }
+
+    /// The same day so many months earlier, or the last day of that month if it is shorter; `None` exactly if the year of
+    /// that month is before -262,143.
+    #[inline]
+    pub fn checked_sub_months(self, months: Months) -> Option<NaiveDate>
+        ensures date { result ≡ month_move self (neg_ℤ (pos months)) }
+        // No later date comes to lie before the answer by the same move.
+        ensures order { IfSome result (λ e. KeepsOrder self (neg_ℤ (pos months)) e) }
+        // Moved on again, the answer comes to the date again, or one to three days before it in its month.
+        ensures back { IfSome result (λ e. ComesBack self (pos months) e) }
+        // A second move ends in the month of one move by the sum, and not later.
+        ensures sum { IfSome result (λ e. AddsUp self (neg_ℤ (pos months)) e) }
+    {
+        self.moved_by_months(-i64::from(months.as_u32()))
+    }
+
+    // The same day so many months later, or earlier for a negative number.
+    #[inline]
+    fn moved_by_months(self, months: i64) -> Option<NaiveDate>
+        ensures date { result ≡ month_move self months }
+        ensures in_range { IsYear (year_of self) }
+    {
+        prove!(is_year(self.form.year()));
+        Some(NaiveDate {
+            form: forms::move_months(self.form, months)?,
+        })
+    }
+
+    /// The date later by the whole days of the duration, earlier if it is negative; `None` exactly out of range.
+    ///
+    /// The days are rounded towards zero: 23 hours move no date, and nor does -1 nanosecond.
+    #[inline]
+    pub fn checked_add_signed(self, rhs: TimeDelta) -> Option<NaiveDate>
+        ensures { result ≡ date_of_day (self +ℤ whole_units nanos_per_day rhs) }
+    {
+        self.moved_by_days(rhs.num_days())
+    }
+
+    /// The date earlier by the whole days of the duration, later if it is negative; `None` exactly out of range.
+    ///
+    /// The days are rounded towards zero: 23 hours move no date, and nor does -1 nanosecond.
+    #[inline]
+    pub fn checked_sub_signed(self, rhs: TimeDelta) -> Option<NaiveDate>
+        ensures { result ≡ date_of_day (self -ℤ whole_units nanos_per_day rhs) }
+    {
+        self.moved_by_days(-rhs.num_days())
+    }
+
+    /// The duration from `rhs` to this date, in days of 86,400 seconds; negative if this date is the earlier.
+    #[inline]
+    pub fn signed_duration_since(self, rhs: NaiveDate) -> TimeDelta
+        ensures { result ≡ units_of nanos_per_day (self -ℤ rhs) }
+    {
+        TimeDelta::days(i64::from(self.day_number() - rhs.day_number()))
+    }
+
+    /// The whole years from `base` to this date: the difference of their years, less one if this month and day come before
+    /// those of `base`; `None` exactly if this date is before `base`.
+    ///
+    /// So one who was born on 29 February 2004 is 18 on 1 March 2022, and 17 on 28 February 2022.
+    #[inline]
+    pub fn years_since(&self, base: NaiveDate) -> Option<u32>
+        ensures { result ≡ whole_years self.now base }
+    {
+        forms::years_between(&self.form, &base.form)
+    }
+
+    /// The days from the earlier of two dates to the later.
+    #[inline]
+    pub fn abs_diff(self, rhs: NaiveDate) -> Days
+        ensures { result ≡ unsigned_abs (self -ℤ rhs) }
+    {
+        Days::new(u64::from(self.day_number().abs_diff(rhs.day_number())))
+    }
+
+    /// The week that holds the date and begins on `start`.
+    #[inline]
+    pub fn week(&self, start: Weekday) -> NaiveWeek
+        ensures first { result ≡ week_first_of self.now start }
+        // The first day has that weekday, and the date is one of the seven.
+        ensures starts { weekday_of result ≡ start }
+        ensures not_after { result ≤ℤ self.now }
+        ensures within { self.now <ℤ (result +ℤ pos 7) }
+    {
+        NaiveWeek::new(forms::week_first(&self.form, start))
+    }
+
+    /// This date and those after it, day after day, up to the one before [`MAX`](Self::MAX).
+    #[inline]
+    pub fn iter_days(&self) -> NaiveDateDaysIterator
+        ensures { result ≡ self.now }
+    {
+        NaiveDateDaysIterator::new(*self)
+    }
+
+    /// This date and those after it, week after week, as long as the week after is a date too.
+    #[inline]
+    pub fn iter_weeks(&self) -> NaiveDateWeeksIterator
+        ensures { result ≡ self.now }
+    {
+        NaiveDateWeeksIterator::new(*self)
+    }
+}

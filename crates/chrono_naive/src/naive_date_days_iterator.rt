@@ -1,0 +1,95 @@
+//! `NaiveDateDaysIterator`: dates, day after day.
+ghost use Rattle.std.specs.Prelude.{◌≡◌, pos, ◌+ℤ◌, ◌-ℤ◌, length, OnSome, IfNone, Some, ⊤};
+ghost use Rattle.std.specs.Option.{SomeIff};
+ghost use Rattle.std.specs.Iterator.{MakesProgress, YieldsFirst, item_count};
+ghost use Rattle.chrono_calendar.specs.Days.{IsDate};
+ghost use Rattle.chrono_naive.specs.DateLists.{days_from};
+
+use crate::naive_date::NaiveDate;
+use std::iter::FusedIterator;
+use std::marker::Model;
+
+/// The dates from a date on, day after day. From [`NaiveDate::iter_days`].
+///
+/// Contracts see it as its cursor, the day number of the date that it would give next.
+#[derive(Clone, Copy, PartialEq, Eq, PartialOrd, Ord, Hash, Debug)]
+pub struct NaiveDateDaysIterator {
+    cursor: NaiveDate,
+}
+
+impl Model for NaiveDateDaysIterator {
+    ghost use Rattle.std.specs.Prelude.{ℤ};
+
+    ghost Value = { ℤ };
+
+    ghost view = { λ it. it.cursor };
+
+    ghost inverse = { λ n. record { cursor = n } };
+}
+
+impl NaiveDateDaysIterator {
+    // The dates from that date on.
+    #[inline]
+    pub(crate) fn new(cursor: NaiveDate) -> NaiveDateDaysIterator
+        ensures { result ≡ cursor }
+    {
+        NaiveDateDaysIterator { cursor }
+    }
+
+    /// The date at the cursor, which then stands one day earlier; `None` if that would be before
+    /// [`NaiveDate::MIN`], with the cursor left where it is.
+    ///
+    /// So it goes back from the date that the iterator would give next, and not from the end of its dates.
+    #[inline]
+    pub fn next_back(&mut self) -> Option<NaiveDate>
+        ensures date { SomeIff result (IsDate (self.old -ℤ pos 1)) self.old }
+        ensures moved { OnSome result (self.new ≡ self.old -ℤ pos 1) }
+        ensures refused { IfNone result (self.new ≡ self.old) }
+    {
+        let current = self.cursor;
+        self.cursor = current.moved_by_days(-1)?;
+        Some(current)
+    }
+}
+
+impl Iterator for NaiveDateDaysIterator {
+    type Item = NaiveDate;
+
+    ghost next_gives = { YieldsFirst days_from };
+
+    ghost remaining = { item_count days_from };
+
+    /// The date at the cursor, which then stands one day later; `None` if that would be past
+    /// [`NaiveDate::MAX`], with the cursor left where it is.
+    #[inline]
+    fn next(&mut self) -> Option<NaiveDate>
+        ensures steps { YieldsFirst days_from self.old result self.new }
+        ensures goes { MakesProgress (λ _. ⊤) (item_count days_from) self.old result self.new }
+        ensures date { SomeIff result (IsDate (self.old +ℤ pos 1)) self.old }
+        ensures moved { OnSome result (self.new ≡ self.old +ℤ pos 1) }
+        ensures refused { IfNone result (self.new ≡ self.old) }
+    {
+        let current = self.cursor;
+        self.cursor = current.moved_by_days(1)?;
+        Some(current)
+    }
+
+    /// The number of dates that are left, exactly.
+    #[inline]
+    fn size_hint(&self) -> (usize, Option<usize>)
+        ensures { result ≡ (length (days_from self.now), Some (length (days_from self.now))) }
+    {
+        let left = self.len();
+        (left, Some(left))
+    }
+}
+
+impl ExactSizeIterator for NaiveDateDaysIterator {
+    /// The number of dates that are left.
+    #[inline]
+    fn len(&self) -> usize {
+        self.cursor.days_left() as usize
+    }
+}
+
+impl FusedIterator for NaiveDateDaysIterator {}

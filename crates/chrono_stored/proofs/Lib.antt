@@ -1,0 +1,4 @@
+pub mod DayNumbers
+pub mod MonthDay
+pub mod PackedNames
+pub mod Ends

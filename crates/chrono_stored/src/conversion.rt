@@ -1,0 +1,100 @@
+//! Between the day number of a date and its ordinal name (ISO 8601 ordinal date), by closed formulas.
+//!
+//! Counting begins here with a cycle of 400 years so early that it gives no negative number, since
+//! an unsigned number is divided by a constant with one product and one shift. The cycle begins on
+//! 1 January of a year 1 above a multiple of 400: the leap year then ends its four years, and the
+//! long century its four centuries.
+
+ghost use Rattle.std.specs.Prelude.{◌≡◌, ◌+◌, ◌*◌, ◌/◌, ◌%◌, ◌<◌, ◌≤◌, pos, ◌+ℤ◌};
+ghost use Rattle.chrono_units.specs.Years.{IsYear};
+ghost use Rattle.chrono_calendar.specs.Days.{IsDate, days_before_year as days_before, year_of, ordinal_of};
+
+/// Years from the first year that is counted here to year 1: 656 cycles of 400 years.
+const YEARS_TO_ONE: i32 = 262_400;
+
+/// The days of those years.
+const DAYS_TO_ONE: i32 = 95_839_632;
+
+// The years that are counted before a year.
+#[inline]
+fn years_before(year: i32) -> u32
+    requires { IsYear year }
+    ensures { pos result +ℤ pos 1 ≡ year +ℤ pos 262_400 }
+{
+    (year - 1 + YEARS_TO_ONE) as u32
+}
+
+// The year that as many years are counted before.
+#[inline]
+fn year_after(years: u32) -> i32
+    requires { years < 600_000 }
+    ensures { pos years +ℤ pos 1 ≡ result +ℤ pos 262_400 }
+{
+    years as i32 + 1 - YEARS_TO_ONE
+}
+
+// The days that are counted before a day.
+#[inline]
+fn days_before_day(day: i32) -> u32
+    requires { IsDate day }
+    ensures { pos result +ℤ pos 1 ≡ day +ℤ pos 95_839_632 }
+{
+    (day - 1 + DAYS_TO_ONE) as u32
+}
+
+// The days of as many years from the first.
+#[inline]
+fn days_of_years(years: u32) -> u32
+    requires { years < 600_000 }
+    ensures { result + years / 100 ≡ 365 * years + years / 4 + years / 400 }
+{
+    let centuries = years / 100;
+    1461 * years / 4 - centuries + centuries / 4
+}
+
+/// The days before 1 January of a year, counted from 1 January of year 1.
+#[inline]
+pub fn days_before_year(year: i32) -> i32
+    requires { IsYear year }
+    ensures { result ≡ days_before year }
+{
+    days_of_years(years_before(year)) as i32 - DAYS_TO_ONE
+}
+
+// The century of a day, and the place of the day there, all counted from 0.
+#[inline]
+fn century(day: u32) -> (u32, u32)
+    requires { day < 200_000_000 }
+    ensures century { result.0 ≡ (4 * day + 3) / 146_097 }
+    ensures day { result.1 ≡ (4 * day + 3) % 146_097 / 4 }
+{
+    let quarters = 4 * day + 3;
+    (quarters / 146_097, quarters % 146_097 / 4)
+}
+
+// The year of a day of a century, and the place of the day there, all counted from 0.
+//
+// Division by 1461 quarters of a day is a product with 2^32 / 1461, rounded up: the product's upper
+// half is the quotient, and its lower half the remainder, as a part of 2^32.
+#[inline]
+fn year_of_century(day: u32) -> (u32, u32)
+    requires { day ≤ 36_524 }
+    ensures year { result.0 ≡ (4 * day + 3) / 1461 }
+    ensures day { result.1 ≡ (4 * day + 3) % 1461 / 4 }
+{
+    let product = 2_939_745 * (4 * day + 3) as u64;
+    let part = (product & 0xffff_ffff) as u32;
+    ((product >> 32) as u32, part / 2_939_745 / 4)
+}
+
+/// The year of a date's day number, and the place of the day there, from 1.
+#[inline]
+pub fn year_and_ordinal(days: i32) -> (i32, u32)
+    requires { IsDate days }
+    ensures year { result.0 ≡ year_of days }
+    ensures ordinal { result.1 ≡ ordinal_of days }
+{
+    let (centuries, day_of_century) = century(days_before_day(days));
+    let (years, day) = year_of_century(day_of_century);
+    (year_after(100 * centuries + years), day + 1)
+}

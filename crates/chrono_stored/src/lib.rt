@@ -1,0 +1,12 @@
+//! The stored forms of a date: what a calendar date is kept as, behind the trait
+//! [`chrono_calendar::DayForm`] of all such forms.
+#![tactic(auto)]
+
+mod conversion;
+mod month_day;
+mod packed;
+mod packing;
+#[cfg(test)]
+mod tests;
+
+pub use packed::PackedForm;

@@ -1,0 +1,67 @@
+//! Between the place of a day in its year and its month and day there, by closed formulas.
+//!
+//! A year is read here as if February had 30 days: then the months of 31 and 30 days follow one
+//! another so evenly that one linear formula, rounded down, tells the month of a day.
+
+ghost use Rattle.std.specs.Prelude.{◌≡◌, ◌+◌, ◌-◌, ◌≤◌, SomeIff, if◌then◌else◌};
+ghost use Rattle.std.specs.Int.{IsInRange};
+ghost use Rattle.chrono_units.specs.Years.{month_length_in};
+ghost use Rattle.chrono_calendar.specs.Days.{month_of_ordinal, day_of_ordinal, days_of_months_in};
+
+use chrono_units::year::month_length;
+
+// The days that a February of 30 days has more than that of a leap year or of a common year.
+#[inline]
+fn missing_days(leap: bool) -> u32
+    ensures { result ≡ (if leap then 1 else 2) }
+{
+    if leap { 1 } else { 2 }
+}
+
+/// The month of a day of a leap year or of a common year, and the place of the day there, all
+/// counted from 1.
+#[inline]
+pub fn month_day(leap: bool, ordinal: u32) -> (u32, u32)
+    requires { IsInRange 1 (if leap then 366 else 365) ordinal }
+    ensures month { result.0 ≡ month_of_ordinal leap ordinal }
+    ensures day { result.1 ≡ day_of_ordinal leap ordinal }
+{
+    let missing = missing_days(leap);
+    let even = if ordinal > 61 - missing {
+        ordinal - 1 + missing
+    } else {
+        ordinal - 1
+    };
+    let scaled = 67 * even + 2080;
+    (scaled / 2048, scaled % 2048 / 67 + 1)
+}
+
+/// The place in a leap year or in a common year of a day of a month, all counted from 1, or `None`
+/// if such years have no such day.
+#[inline]
+pub fn ordinal_of_month_day(leap: bool, month: u32, day: u32) -> Option<u32>
+    ensures { SomeIff result (IsInRange 1 12 month × IsInRange 1 (month_length_in leap month) day) (days_of_months_in leap (month - 1) + day) }
+{
+    if month < 1 || month > 12 {
+        return None;
+    }
+    if day < 1 || day > u32::from(month_length(leap, month)) {
+        return None;
+    }
+    Some(ordinal_in_year(leap, month, day))
+}
+
+// The place in such a year of a day that it has.
+#[inline]
+fn ordinal_in_year(leap: bool, month: u32, day: u32) -> u32
+    requires month { IsInRange 1 12 month }
+    requires day { IsInRange 1 (month_length_in leap month) day }
+    ensures { result ≡ days_of_months_in leap (month - 1) + day }
+{
+    let even = (489 * month - 480) / 16 + day;
+    if month > 2 {
+        even - missing_days(leap)
+    } else {
+        even
+    }
+}

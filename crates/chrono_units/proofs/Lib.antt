@@ -1,0 +1,7 @@
+pub mod EachSet
+mod KnownValues
+pub mod SetDigitLemmas
+pub mod SetMembers
+pub mod SetPlaces
+pub mod SetWalks
+pub mod WeekdayCycle

@@ -1,0 +1,6 @@
+pub mod Month
+pub mod SetDigits
+pub mod Weekday
+pub mod WeekdaySet
+pub mod Years
+pub mod WeekdayText

@@ -1,0 +1,32 @@
+//! The error of a number that names no day or month.
+
+ghost use Rattle.std.specs.Prelude.{◌≡◌, Some, codes};
+ghost use Rattle.chrono_units.specs.declared.out_of_range.OutOfRange.{OutOfRange};
+
+use std::fmt;
+
+/// A number was out of the range of the type that it was to become.
+///
+/// All values of this type are equal. It prints as `out of range`.
+#[derive(Clone, Copy, PartialEq, Eq, Hash, Debug)]
+pub struct OutOfRange {
+    _private: (),
+}
+
+impl OutOfRange {
+    /// The error.
+    #[inline]
+    pub fn new() -> OutOfRange
+        ensures only_value { (other : OutOfRange) → other ≡ result }
+    {
+        OutOfRange { _private: () }
+    }
+}
+
+impl fmt::Display for OutOfRange {
+    ghost output = { λ _. Some (codes "out of range") };
+
+    fn fmt<W: fmt::Write>(&self, f: &mut fmt::Formatter<W>) -> fmt::Result {
+        f.write_str("out of range")
+    }
+}

@@ -1,0 +1,364 @@
+//! Sets of weekdays, stored as seven binary digits.
+
+ghost use Rattle.std.specs.Prelude.{◌≡◌, ◌↔◌, ◌^◌, ◌<◌, ◌==◌, IsTrue, false, not, length, List};
+ghost use Rattle.std.specs.Cmp.{partial_order_from_own_ties};
+ghost use Rattle.std.specs.Cmp.Rules.{comparing, hashing};
+ghost use Rattle.std.specs.Hash as hash;
+ghost use Rattle.std.specs.Iterator.{IsFinite};
+ghost use Rattle.std.specs.Iterator.Runs.{WholeRun};
+ghost use Rattle.std.specs.Ordering.{as_partial_cmp, nat_cmp, on};
+ghost use Rattle.std.proofs.Common.{rules};
+ghost use Rattle.chrono_units.specs.SetDigits.{set_at};
+ghost use Rattle.chrono_units.specs.Weekday.{days_from_monday};
+ghost use Rattle.chrono_units.specs.WeekdaySet as set;
+ghost use Rattle.chrono_units.specs.WeekdaySet.{set_number, walk};
+
+use crate::weekday::Weekday;
+use crate::weekday_set_iter::WeekdaySetIter;
+use std::cmp::Ordering;
+use std::hash::{Hash, Hasher};
+use std::marker::Model;
+
+/// A set of weekdays.
+///
+/// Contracts see it as the record that says of each day whether it is a member. Sets compare by
+/// the number whose seven binary digits are the days, Monday's being the lowest: so {Sun}, which is
+/// 64, is greater than the set of all other days, which is 63.
+#[derive(Clone, Copy)]
+pub struct WeekdaySet {
+    // The set's number, whose digit 7 is always 0.
+    digits: u8,
+}
+
+impl Model for WeekdaySet {
+    ghost use Rattle.std.specs.Prelude.{ℕ, ◌<◌};
+    ghost use Rattle.chrono_units.specs.WeekdaySet.{DaySet, set_number};
+    ghost use Rattle.chrono_units.specs.SetDigits.{set_at, set_number-set_at};
+    ghost use Rattle.std.proofs.Common.{ap};
+
+    ghost Value = { DaySet };
+
+    ghost view = { λ s. set_at s.digits };
+
+    ghost invariant = { λ s. s.digits < 128 };
+
+    ghost inverse = { λ days. record { digits = set_number days } };
+
+    ghost inverse_ok = { λ s h.
+        let with_digits : ℕ → Inside = λ n. record { digits = n } in
+        ap with_digits (set_number-set_at s.digits h) };
+}
+
+impl WeekdaySet {
+    /// The set with no day.
+    pub const EMPTY: WeekdaySet = WeekdaySet { digits: 0 };
+
+    /// The set of all seven days.
+    pub const ALL: WeekdaySet = WeekdaySet { digits: 0b111_1111 };
+
+    /// The set of the days in the array.
+    pub fn from_array<const C: usize>(days: [Weekday; C]) -> WeekdaySet
+        ensures { result ≡ set.set_of days.entry }
+    {
+        let mut members = WeekdaySet::EMPTY;
+        for day in days {
+            members.insert(day);
+        }
+        members
+    }
+
+    /// The set of the days that the iterator gives, which must end.
+    ///
+    /// It takes the place of `collect`, which takes an allocator that a set does not need.
+    pub fn from_iter<I: Iterator<Item = Weekday>>(iter: I) -> WeekdaySet
+        requires callable { I.can_next iter }
+        requires ends { IsFinite (I.remaining iter) }
+        ensures { WholeRun I.next_gives iter (λ run. result ≡ set.set_of run.items) }
+    {
+        let mut members = WeekdaySet::EMPTY;
+        for day in iter {
+            members.insert(day);
+        }
+        members
+    }
+
+    /// The set of that one day.
+    #[inline]
+    pub fn single(weekday: Weekday) -> WeekdaySet
+        ensures { result ≡ set.single weekday }
+    {
+        WeekdaySet {
+            digits: digit(weekday),
+        }
+    }
+
+    /// The day, if the set has just one member; `None` for any other set.
+    #[inline]
+    pub fn single_day(self) -> Option<Weekday>
+        ensures { (d : Weekday) → (result ≡ Some d) ↔ (self ≡ set.single d) }
+    {
+        if self.digits.count_ones() == 1 {
+            self.first()
+        } else {
+            None
+        }
+    }
+
+    /// Adds the day. True exactly if that changed the set, so if the day was not in it.
+    #[inline]
+    pub fn insert(&mut self, day: Weekday) -> bool
+        ensures is_new { result ≡ not (set.contains self.old day) }
+        ensures changed { (result ≡ false) ↔ (self.new ≡ self.old) }
+        ensures after { self.new ≡ set.union self.old (set.single day) }
+    {
+        let is_new = !self.contains(day);
+        *self = self.union(WeekdaySet::single(day));
+        is_new
+    }
+
+    /// Removes the day. True exactly if that changed the set, so if the day was in it.
+    #[inline]
+    pub fn remove(&mut self, day: Weekday) -> bool
+        ensures was_member { result ≡ set.contains self.old day }
+        ensures changed { (result ≡ false) ↔ (self.new ≡ self.old) }
+        ensures after { self.new ≡ set.difference self.old (set.single day) }
+    {
+        let was_member = self.contains(day);
+        *self = self.difference(WeekdaySet::single(day));
+        was_member
+    }
+
+    /// Whether every day of this set is in `other`.
+    #[inline]
+    pub fn is_subset(self, other: WeekdaySet) -> bool
+        ensures { IsTrue result ↔ set.IsSubset self other }
+    {
+        self.difference(other).is_empty()
+    }
+
+    /// The days in both sets.
+    #[inline]
+    pub fn intersection(self, other: WeekdaySet) -> WeekdaySet
+        ensures { result ≡ set.intersection self other }
+    {
+        WeekdaySet {
+            digits: self.digits & other.digits,
+        }
+    }
+
+    /// The days in this set, in `other` or in both.
+    #[inline]
+    pub fn union(self, other: WeekdaySet) -> WeekdaySet
+        ensures { result ≡ set.union self other }
+    {
+        WeekdaySet {
+            digits: self.digits | other.digits,
+        }
+    }
+
+    /// The days in just one of the two sets.
+    #[inline]
+    pub fn symmetric_difference(self, other: WeekdaySet) -> WeekdaySet
+        ensures { result ≡ set.symmetric_difference self other }
+    {
+        WeekdaySet {
+            digits: self.digits ^ other.digits,
+        }
+    }
+
+    /// The days in this set that are not in `other`.
+    #[inline]
+    pub fn difference(self, other: WeekdaySet) -> WeekdaySet
+        ensures { result ≡ set.difference self other }
+    {
+        WeekdaySet {
+            digits: self.digits & !other.digits,
+        }
+    }
+
+    /// The first day of the set from Monday on; `None` if it is empty.
+    #[inline]
+    pub fn first(self) -> Option<Weekday>
+        ensures { result ≡ set.first_day (walk self Weekday.Mon) }
+    {
+        lowest_day(self.digits)
+    }
+
+    /// The last day of the set before the next Monday; `None` if it is empty.
+    #[inline]
+    pub fn last(self) -> Option<Weekday>
+        ensures { result ≡ set.last_day (walk self Weekday.Mon) }
+    {
+        highest_day(self.digits)
+    }
+
+    /// The members of the set in week order from `start` on, going on with Monday after Sunday.
+    ///
+    /// The set of Monday, Thursday and Sunday gives, from Wednesday on, Thursday, Sunday, Monday.
+    #[inline]
+    pub fn iter(self, start: Weekday) -> WeekdaySetIter
+        ensures { result ≡ walk self start }
+    {
+        WeekdaySetIter::new(self, start)
+    }
+
+    /// Whether the day is in the set.
+    #[inline]
+    pub fn contains(self, day: Weekday) -> bool
+        ensures { result ≡ set.contains self day }
+    {
+        self.digits & digit(day) != 0
+    }
+
+    /// Whether the set has no day.
+    #[inline]
+    pub fn is_empty(self) -> bool
+        ensures { IsTrue result ↔ (self ≡ set.no_days) }
+    {
+        self.digits == 0
+    }
+
+    /// The number of days in the set, 0 to 7.
+    #[inline]
+    pub fn len(self) -> u8
+        ensures { result ≡ length (walk self Weekday.Mon) }
+    {
+        self.digits.count_ones() as u8
+    }
+}
+
+impl WeekdaySet {
+    // The first member in week order from `start` on.
+    #[inline]
+    pub(crate) fn first_from(self, start: Weekday) -> Option<Weekday>
+        ensures { result ≡ set.first_day (walk self start) }
+    {
+        let later = self.digits & !(digit(start) - 1);
+        if later == 0 {
+            self.first()
+        } else {
+            lowest_day(later)
+        }
+    }
+
+    // The last member in week order from `start` on, so the last one before the next `start`.
+    #[inline]
+    pub(crate) fn last_before(self, start: Weekday) -> Option<Weekday>
+        ensures { result ≡ set.last_day (walk self start) }
+    {
+        let earlier = self.digits & (digit(start) - 1);
+        if earlier == 0 {
+            self.last()
+        } else {
+            highest_day(earlier)
+        }
+    }
+}
+
+impl Default for WeekdaySet {
+    ghost is_default = { λ days. days ≡ set.no_days };
+
+    /// The set with no day.
+    #[inline]
+    fn default() -> WeekdaySet {
+        Self::EMPTY
+    }
+}
+
+impl PartialEq for WeekdaySet {
+    ghost eq = { on set_number ◌==◌ };
+
+    ghost laws = { Prim.search (comparing, rules) };
+
+    #[inline]
+    fn eq(&self, other: &WeekdaySet) -> bool {
+        self.digits == other.digits
+    }
+}
+
+impl Eq for WeekdaySet {
+    ghost laws = { Prim.search (comparing, rules) };
+}
+
+impl PartialOrd for WeekdaySet {
+    ghost partial_cmp = { as_partial_cmp (on set_number nat_cmp) };
+
+    ghost laws = { partial_order_from_own_ties
+        (Prim.search (comparing, rules)) (Prim.search (comparing, rules)) };
+
+    #[inline]
+    fn partial_cmp(&self, other: &WeekdaySet) -> Option<Ordering> {
+        Some(self.cmp(other))
+    }
+}
+
+impl Ord for WeekdaySet {
+    ghost cmp = { on set_number nat_cmp };
+
+    ghost total = { Prim.search (comparing, rules) };
+
+    ghost matches_partial_cmp = { Prim.search (comparing, rules) };
+
+    ghost matches_eq = { Prim.search (comparing, rules) };
+
+    #[inline]
+    fn cmp(&self, other: &WeekdaySet) -> Ordering {
+        self.digits.cmp(&other.digits)
+    }
+}
+
+impl Hash for WeekdaySet {
+    ghost hash_input = { λ s. hash.u8 (set_number s) };
+
+    ghost respects_eq = { Prim.search (hashing, rules) };
+
+    #[inline]
+    fn hash<H: Hasher>(&self, state: &mut H) {
+        self.digits.hash(state);
+    }
+}
+
+// The binary digit of the day.
+#[inline]
+fn digit(day: Weekday) -> u8
+    ensures { result ≡ 2 ^ days_from_monday day }
+{
+    1 << day.num_days_from_monday()
+}
+
+// The day of the lowest digit that is set.
+#[inline]
+fn lowest_day(digits: u8) -> Option<Weekday>
+    requires { digits < 128 }
+    ensures { result ≡ set.first_day (walk (set_at digits) Weekday.Mon) }
+{
+    Weekday::from_u32(digits.trailing_zeros())
+}
+
+// The day of the highest digit that is set.
+#[inline]
+fn highest_day(digits: u8) -> Option<Weekday>
+    requires { digits < 128 }
+    ensures { result ≡ set.last_day (walk (set_at digits) Weekday.Mon) }
+{
+    Weekday::from_u32(7u32.checked_sub(digits.leading_zeros())?)
+}
+
+#[cfg(test)]
+mod tests {
+    use super::*;
+
+    // Digit 7, which stands for no day, is 0 in every set that the operations make.
+    #[test]
+    fn operations_keep_digit_7_at_0(rt: HostRuntime) {
+        for a in 0..128u8 {
+            for b in 0..128u8 {
+                let first = WeekdaySet { digits: a };
+                let second = WeekdaySet { digits: b };
+                assert_eq!(rt; first.union(second).digits & 0b1000_0000, 0);
+                assert_eq!(rt; first.intersection(second).digits & 0b1000_0000, 0);
+                assert_eq!(rt; first.symmetric_difference(second).digits & 0b1000_0000, 0);
+            }
+        }
+    }
+}

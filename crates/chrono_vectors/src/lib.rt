@@ -1,0 +1,24 @@
+//! Tests of the calendar's public calls against answers from outside: worked examples, and the answers that the Rust
+//! library of the same names gives.
+//!
+//! What a contract says is proved where it stands. These tests show that it says what was meant.
+#![tactic(auto)]
+
+#[cfg(test)]
+mod month;
+#[cfg(test)]
+mod naive_date;
+#[cfg(test)]
+mod naive_date_time;
+#[cfg(test)]
+mod naive_time;
+#[cfg(test)]
+mod time_delta;
+#[cfg(test)]
+mod weekday;
+#[cfg(test)]
+mod weekday_set;
+#[cfg(test)]
+mod weekday_set_iter;
+#[cfg(test)]
+mod weekday_texts;
