@@ -18,7 +18,10 @@ ghost use Rattle.chrono_datetime.specs.MomentText.{moment_text};
 
 use crate::named::{date_named, duration_named, moment_named};
 use crate::texts::{put_date, put_moment, put_names};
-use caltool_form::{CalendarDate, Command, Moment, CommandAnswers, put_duration, put_set, put_text, put_u32, put_walk};
+use caltool_form::{
+    CalendarDate, Command, CommandAnswers, Moment, put_duration, put_set, put_text, put_u32,
+    put_walk,
+};
 use chrono_datetime::{
     Datelike, Days, Months, NaiveDate, NaiveDateTime, NaiveWeek, TimeDelta, Weekday, WeekdaySet,
 };
