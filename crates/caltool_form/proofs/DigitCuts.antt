@@ -22,19 +22,14 @@ four_digits n small =
 
 -- the first digits and the others
 
-first_of_six : (n : ℕ) → all_digits 6 n ≡ all_digits 3 (n / 1_000) ++ all_digits 3 (n % 1_000)
-first_of_six n =
-    let a : n / 100_000 ≡ n / 1_000 / 100 = omega arith in
-    let b : n % 100_000 / 10_000 ≡ n / 1_000 % 100 / 10 = omega arith in
-    let c : n % 100_000 % 10_000 / 1_000 ≡ n / 1_000 % 100 % 10 / 1 = omega arith in
-    let d : n % 100_000 % 10_000 % 1_000 ≡ n % 1_000 = omega arith in
-    ap (λ x. (48 + x) ∷ (48 + n % 100_000 / 10_000) ∷ (48 + n % 100_000 % 10_000 / 1_000) ∷ all_digits 3 (n % 100_000 % 10_000 % 1_000)) a
-    ∙ ap (λ x. (48 + n / 1_000 / 100) ∷ (48 + x) ∷ (48 + n % 100_000 % 10_000 / 1_000) ∷ all_digits 3 (n % 100_000 % 10_000 % 1_000)) b
-    ∙ ap (λ x. (48 + n / 1_000 / 100) ∷ (48 + n / 1_000 % 100 / 10) ∷ (48 + x) ∷ all_digits 3 (n % 100_000 % 10_000 % 1_000)) c
-    ∙ ap (λ x. (48 + n / 1_000 / 100) ∷ (48 + n / 1_000 % 100 / 10) ∷ (48 + n / 1_000 % 100 % 10 / 1) ∷ all_digits 3 x) d
-
-pub six_digits : (n : ℕ) → n < 1_000_000 → all_digits 6 n ≡ all_digits 3 (n / 1_000) ++ all_digits 3 (n % 1_000)
-six_digits n small = first_of_six n
+pub six_digits : (n : ℕ) → n < 1_000_000 → all_digits 6 n ≡ two_digits (n / 10_000) ++ all_digits 4 (n % 10_000)
+six_digits n small =
+    let a : n / 100_000 ≡ n / 10_000 / 10 = omega arith in
+    let b : n % 100_000 / 10_000 ≡ n / 10_000 % 10 = omega arith in
+    let c : n % 100_000 % 10_000 ≡ n % 10_000 = omega arith in
+    ap (λ x. (48 + x) ∷ (48 + n % 100_000 / 10_000) ∷ all_digits 4 (n % 100_000 % 10_000)) a
+    ∙ ap (λ x. (48 + n / 10_000 / 10) ∷ (48 + x) ∷ all_digits 4 (n % 100_000 % 10_000)) b
+    ∙ ap (λ x. (48 + n / 10_000 / 10) ∷ (48 + n / 10_000 % 10) ∷ all_digits 4 x) c
 
 pub nine_digits : (n : ℕ) → n < 1_000_000_000 → all_digits 9 n ≡ all_digits 3 (n / 1_000_000) ++ all_digits 6 (n % 1_000_000)
 nine_digits n small =

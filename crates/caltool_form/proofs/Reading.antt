@@ -1,5 +1,6 @@
 -- Numbers at the front of the words.
-use Rattle.std.proofs.Common.{◌≡◌, ◌≢◌, ◌==◌, ◌<◌, ◌≤◌, ◌^◌, ◌-◌, ◌&&◌, min, ℕ, suc, Bool, true, false, cond, inl, inr, List, [], ◌∷◌, ◌++◌, length, get_or, take, drop, refl, ap, sym, ◌∙◌, subst, arith, ℤ, pos, negsuc, neg_ℤ, ◌≤ℤ◌, int_le, ◌⊎◌, Option, Some, None, OnSome, take-append-drop, drop-cons, length-take}
+use Rattle.std.proofs.Common.{◌≡◌, ◌≢◌, ◌==◌, ◌<◌, ◌≤◌, ◌^◌, ◌*◌, ◌-◌, ◌&&◌, ℕ, zero, suc, Bool, true, false, cond, inl, inr, List, [], ◌∷◌, ◌++◌, length, get_or, take, drop, refl, ap, sym, ◌∙◌, subst, arith, ℤ, pos, negsuc, neg_ℤ, ◌≤ℤ◌, int_le, ◌⊎◌, Option, Some, None, OnSome, take-append-drop, drop-cons, length-take}
+use Rattle.std.proofs.lemmas.Str.Parse.{digit_from_value}
 use Rattle.std.proofs.lemmas.List.Splits.{length-slice_split}
 use Rattle.std.specs.Int.{IsInRange}
 use Rattle.std.specs.List.{onto_first}
@@ -13,7 +14,7 @@ use Rattle.caltool_form.specs.Grammar.{numbers_of}
 use Rattle.caltool_form.specs.Readers.{number, i64}
 use Rattle.caltool_form.specs.Cursor.{first_word, sized, reading, leaving, Reads}
 use Rattle.caltool_form.proofs.Splits.{words_go_on, words_at, word_of_digits}
-use Rattle.caltool_form.proofs.Values.{natural_some, natural_none}
+use Rattle.caltool_form.proofs.Values.{AtLeast, natural_some, natural_none, natural_long}
 
 pub sized_none : (negative : Bool) (parts : List (List ℕ)) (text : List ℕ) (others : List (List ℕ)) → parts ≡ text ∷ others → natural_of text ≡ None → sized negative parts ≡ None
 unfolding sized
@@ -24,17 +25,55 @@ pub sized_some : (negative : Bool) (parts : List (List ℕ)) (text : List ℕ) (
 unfolding sized
 sized_some negative parts text others n e h = rw (e, h) refl
 
--- the first word goes on with a byte that is no digit
-no_number : (negative : Bool) (text : List ℕ) (len : ℕ) → AllDigits 10 (take len text) → len < length text → ¬ (IsInRange 48 57 (get_or text len 0)) → get_or text len 0 ≢ 32
+-- no number fits that is so large
+too_large : (negative : Bool) (n : ℕ) → 2 ^ 63 < n → to_i64 (signed negative n) ≡ None
+unfolding to_i64
+too_large true n large =
+    let e : int_le (negsuc (2 ^ 63 - 1)) (neg_ℤ (pos n)) ≡ false = grind (arith, ints) in
+    rw e refl
+too_large false n large =
+    let e : int_le (pos n) (pos (2 ^ 63 - 1)) ≡ false = grind (arith, ints) in
+    rw e refl
+
+no_fit : (negative : Bool) (parts : List (List ℕ)) (text : List ℕ) (others : List (List ℕ)) → parts ≡ text ∷ others → AtLeast (10 ^ 19) (natural_of text) → sized negative parts ≡ None
+no_fit negative parts text others e (inl none) = sized_none negative parts text others e none
+no_fit negative parts text others e (inr (n, is, large)) =
+    sized_some negative parts text others n e is ∙ ap (option_map (λ a. (a, others))) (too_large negative n (omega arith))
+
+-- where the first word goes on after its digits: with no digit, or with one too many
+abbrev pub GoesWrong : List ℕ → ℕ → Type 0
+GoesWrong text len = IsInRange 48 57 (get_or text len 0) → 10 ^ 18 ≤ digits_value 10 (take len text)
+
+goes_wrong : (negative : Bool) (xs : List ℕ) (y : ℕ) (more : List ℕ) (parts others : List (List ℕ)) → parts ≡ (xs ++ y ∷ more) ∷ others
+    → (IsInRange 48 57 y → 10 ^ 18 ≤ digits_value 10 xs) → (IsInRange 48 57 y) ⊎ (¬ (IsInRange 48 57 y)) → sized negative parts ≡ None
+goes_wrong negative xs y more parts others e wrong (inr other) = sized_none negative parts _ others e (natural_none xs y more other)
+goes_wrong negative xs y more parts others e wrong (inl digit) =
+    let large : 10 ^ 19 ≤ digits_value 10 xs * 10 = omega (arith, wrong digit) in
+    no_fit negative parts _ others e (more_at_least large (natural_long xs y more))
+  where
+    more_at_least : {low high : ℕ} {result : Option ℕ} → low ≤ high → AtLeast high result → AtLeast low result
+    more_at_least le (inl none) = inl none
+    more_at_least le (inr (n, is, large)) = inr (n, is, omega arith)
+
+digit_or_not : (y : ℕ) → (IsInRange 48 57 y) ⊎ (¬ (IsInRange 48 57 y))
+digit_or_not y = elim (cases_lt y 48) as (λ _. (IsInRange 48 57 y) ⊎ (¬ (IsInRange 48 57 y))) [
+  | inl low ↦ inr (λ r. omega arith)
+  | inr high ↦ elim (cases_lt y 58) as (λ _. (IsInRange 48 57 y) ⊎ (¬ (IsInRange 48 57 y))) [
+    | inl low ↦ inl (high, omega arith)
+    | inr above ↦ inr (λ r. omega arith)
+  ]
+]
+
+no_number : (negative : Bool) (text : List ℕ) (len : ℕ) → AllDigits 10 (take len text) → len < length text → GoesWrong text len → get_or text len 0 ≢ 32
     → sized negative (words text) ≡ None
-no_number negative text len digits more other ne =
+no_number negative text len digits more wrong ne =
     let y = get_or text len 0 in
     let cut : text ≡ take len text ++ y ∷ drop (suc len) text = sym (take-append-drop len text) ∙ ap (λ l. take len text ++ l) (drop-cons text len 0 more) in
     let g = words_go_on (take len text) y (drop (suc len) text) (word_of_digits (take len text) digits) ne in
-    sized_none negative (words text) _ g.others (ap words cut ∙ g.split) (natural_none (take len text) y g.more other)
+    goes_wrong negative (take len text) y g.more (words text) g.others (ap words cut ∙ g.split) wrong (digit_or_not y)
 
 -- the first word has no digit in front
-no_digit_first : (negative : Bool) (text : List ℕ) → (0 < length text → ¬ (IsInRange 48 57 (get_or text 0 0))) → sized negative (words text) ≡ None
+no_digit_first : (negative : Bool) (text : List ℕ) → (0 < length text → GoesWrong text 0) → sized negative (words text) ≡ None
 unfolding sized natural_of
 no_digit_first negative [] other = refl
 no_digit_first negative (x ∷ xs) other = elim (cases_eq x 32) as (λ _. sized negative (words (x ∷ xs)) ≡ None) [
@@ -42,14 +81,14 @@ no_digit_first negative (x ∷ xs) other = elim (cases_eq x 32) as (λ _. sized 
   | inr ne ↦ no_number negative (x ∷ xs) 0 tt (omega arith) (other (omega arith)) ne
 ]
 
-no_digit : (negative : Bool) (text : List ℕ) (len : ℕ) → len ≡ 0 → (len < length text → ¬ (IsInRange 48 57 (get_or text len 0))) → sized negative (words text) ≡ None
-no_digit negative text len none other = no_digit_first negative text (subst (λ n. n < length text → ¬ (IsInRange 48 57 (get_or text n 0))) none other)
+no_digit : (negative : Bool) (text : List ℕ) (len : ℕ) → len ≡ 0 → (len < length text → GoesWrong text len) → sized negative (words text) ≡ None
+no_digit negative text len none other = no_digit_first negative text (subst (λ n. n < length text → GoesWrong text n) none other)
 
 -- the digits are none, or end before the word does
-pub no_digits : (negative : Bool) (text : List ℕ) (len : ℕ) → AllDigits 10 (take len text) → (len < length text → ¬ (IsInRange 48 57 (get_or text len 0)))
-    → (len ≡ 0) ⊎ ((len < length text) × (get_or text len 0 ≢ 32)) → sized negative (words text) ≡ None
-no_digits negative text len digits other (inl none) = no_digit negative text len none other
-no_digits negative text len digits other (inr (more, ne)) = no_number negative text len digits more (other more) ne
+pub no_digits : (negative : Bool) (text : List ℕ) (len size : ℕ) → AllDigits 10 (take len text) → size ≡ digits_value 10 (take len text)
+    → (len < length text → IsInRange 48 57 (get_or text len 0) → 10 ^ 18 ≤ size) → (len ≡ 0) ⊎ ((len < length text) × (get_or text len 0 ≢ 32)) → sized negative (words text) ≡ None
+no_digits negative text len size digits is wrong (inl none) = no_digit negative text len none (λ more digit. subst (λ n. 10 ^ 18 ≤ n) is (wrong more digit))
+no_digits negative text len size digits is wrong (inr (more, ne)) = no_number negative text len digits more (λ digit. subst (λ n. 10 ^ 18 ≤ n) is (wrong more digit)) ne
 
 -- a minus in front
 minus_onto : (parts : List (List ℕ)) → first_word to_i64 (onto_first 45 parts) ≡ sized true parts
@@ -76,34 +115,38 @@ unfolding first_word sized number_of natural_of
 with_no_minus [] other = refl
 with_no_minus (x ∷ xs) other = no_minus_onto x (x == 32) (words xs) (ne_eqb x 45 (other (omega arith)))
 
--- a size that saturates fits no better
-too_large : (negative : Bool) (n : ℕ) → 2 ^ 63 < n → to_i64 (signed negative n) ≡ None
-unfolding to_i64
-too_large true n large =
-    let e : int_le (negsuc (2 ^ 63 - 1)) (neg_ℤ (pos n)) ≡ false = grind (arith, ints) in
-    rw e refl
-too_large false n large =
-    let e : int_le (pos n) (pos (2 ^ 63 - 1)) ≡ false = grind (arith, ints) in
-    rw e refl
-
-pub saturated : (negative : Bool) (n : ℕ) → to_i64 (signed negative (min n (10 ^ 19))) ≡ to_i64 (signed negative n)
-saturated negative n = elim (cases_lt n (10 ^ 19)) as (λ _. to_i64 (signed negative (min n (10 ^ 19))) ≡ to_i64 (signed negative n)) [
-  | inl small ↦ ap (λ m. to_i64 (signed negative m)) (omega arith)
-  | inr large ↦ too_large negative (min n (10 ^ 19)) (omega arith) ∙ sym (too_large negative n (omega arith))
-]
-
 -- the first word is digits
 pub reads_digits : (negative : Bool) (text rest : List ℕ) (len size : ℕ) (result : Option ℤ) → rest ≡ drop len text → 0 < len → len ≤ length text → AllDigits 10 (take len text)
-    → EndsWord rest → size ≡ min (digits_value 10 (take len text)) (10 ^ 19) → result ≡ to_i64 (signed negative size)
+    → EndsWord rest → size ≡ digits_value 10 (take len text) → result ≡ to_i64 (signed negative size)
     → sized negative (words text) ≡ option_map (λ a. (a, drop 1 (words rest))) result
 reads_digits negative text rest len size result is some within digits ends size_is result_is =
     let ends' : EndsWord (drop len text) = subst EndsWord is ends in
     let value = digits_value 10 (take len text) in
-    let fits : to_i64 (signed negative value) ≡ result = sym (saturated negative value) ∙ ap (λ n. to_i64 (signed negative n)) (sym size_is) ∙ sym result_is in
+    let fits : to_i64 (signed negative value) ≡ result = ap (λ n. to_i64 (signed negative n)) (sym size_is) ∙ sym result_is in
     sized_some negative (words text) (take len text) (drop 1 (words (drop len text))) value
     (words_at text len (word_of_digits (take len text) digits) ends') (natural_some (take len text) digits (omega (arith, length-take len text)))
     ∙ ap (option_map (λ a. (a, drop 1 (words (drop len text))))) fits
     ∙ ap (λ r. option_map (λ a. (a, drop 1 (words r))) result) (sym is)
+
+-- digits in front are no minus
+digit_first : (text : List ℕ) (len : ℕ) → 0 < len → AllDigits 10 (take len text) → 0 < length text → get_or text 0 0 ≢ 45
+digit_first [] len some digits more = absurd (omega arith)
+digit_first (x ∷ xs) zero some digits more = absurd (omega arith)
+digit_first (x ∷ xs) (suc len) some digits more = let r : IsInRange 48 57 x = digit_from_value x digits.0 in λ is. omega arith
+
+fits_small : (n : ℕ) → n < 100 → to_i64 (signed false n) ≡ Some (pos n)
+unfolding to_i64
+fits_small n small =
+    let high : int_le (pos n) (pos (2 ^ 63 - 1)) ≡ true = grind (arith, ints) in
+    rw high refl
+
+-- the first word is a small number without a sign
+pub reads_small : (text rest : List ℕ) (len size : ℕ) → rest ≡ drop len text → 0 < len → len ≤ length text → AllDigits 10 (take len text)
+    → EndsWord rest → size ≡ digits_value 10 (take len text) → size < 100
+    → first_word to_i64 (words text) ≡ Some (pos size, drop 1 (words rest))
+reads_small text rest len size is some within digits ends size_is small =
+    with_no_minus text (digit_first text len some digits)
+    ∙ reads_digits false text rest len size (Some (pos size)) is some within digits ends size_is (sym (fits_small size small))
 
 -- a number is kept or dropped
 either : (b : Bool) (z : ℤ) → (cond b (Some z) None ≡ None) ⊎ (cond b (Some z) None ≡ Some z)

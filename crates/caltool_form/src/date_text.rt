@@ -42,6 +42,7 @@ pub fn put_week(out: &mut [u8], at: usize, year: i32, week: u32) -> usize
 }
 
 // Puts a year after the first `at` bytes: four digits from 0 to 9999, and else a sign and its size.
+#[inline]
 fn put_year(out: &mut [u8], at: usize, year: i32) -> usize
     requires year { unsigned_abs year < 1_000_000 }
     requires room { at + 7 ≤ length out.old }

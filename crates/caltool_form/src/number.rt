@@ -1,43 +1,59 @@
 //! The reading of whole numbers.
-ghost use Rattle.std.specs.Prelude.{◌≡◌, ◌+◌, ◌*◌, ◌^◌, ◌<◌, ◌≤◌, min, length, take, slice_index};
+ghost use Rattle.std.specs.Prelude.{◌≡◌, ◌^◌, ◌<◌, ◌≤◌, length, take, slice_index};
 ghost use Rattle.std.specs.Int.{IsInRange};
 ghost use Rattle.std.specs.Str.Parse.{AllDigits, digits_value};
 ghost use Rattle.caltool_form.specs.Numbers.{signed, to_i64, to_i32, to_u32, to_u8, to_months, to_weekday};
 
 use chrono_units::Weekday;
 
-// No number of this size or more fits an `i64`.
-const TOO_LARGE: u64 = 10_000_000_000_000_000_000;
+// With one digit more, a number of this size fits no `i64`.
+const NO_MORE_DIGITS: u64 = 1_000_000_000_000_000_000;
 
-// The digits at the front: their value, or 10^19 if it is more, and their count.
+// Digits at the front: their value, and their count. They are all that stand there, unless one more
+// would make a number that fits no `i64`.
 #[inline]
 pub(crate) fn leading_digits(text: &[u8]) -> (u64, usize)
     ensures within { result.1 ≤ length text.now }
     ensures digits { AllDigits 10 (take result.1 text.now) }
-    ensures value { result.0 ≡ min (digits_value 10 (take result.1 text.now)) (10 ^ 19) }
-    ensures end { result.1 < length text.now → IsInRange 48 57 (slice_index text.now result.1) → ⊥ }
+    ensures value { result.0 ≡ digits_value 10 (take result.1 text.now) }
+    ensures end { result.1 < length text.now → IsInRange 48 57 (slice_index text.now result.1) → 10 ^ 18 ≤ result.0 }
 {
     let mut size = 0u64;
-    for (len, byte) in text.iter().enumerate() {
-        let byte = *byte;
-        if byte < b'0' || byte > b'9' {
+    let mut len = 0;
+    while len < text.len() {
+        let digit = text[len].wrapping_sub(b'0');
+        if digit > 9 || size >= NO_MORE_DIGITS {
             return (size, len);
         }
-        size = with_digit(size, byte - b'0');
+        size = size * 10 + u64::from(digit);
+        len += 1;
     }
-    (size, text.len())
+    (size, len)
 }
 
-// The number with one digit more at its end, or 10^19 if it is more.
+// One digit or two at the front, if any stand there: their value, and their count.
+//
+// No branch here asks which of the two it is, since that is a guess that a processor often gets wrong.
 #[inline]
-fn with_digit(size: u64, digit: u8) -> u64
-    requires { digit < 10 }
-    ensures { result ≡ min (size * 10 + digit) (10 ^ 19) }
+pub(crate) fn few_digits(text: &[u8]) -> (u32, usize)
+    ensures within { result.1 ≤ length text.now }
+    ensures digits { AllDigits 10 (take result.1 text.now) }
+    ensures value { result.0 ≡ digits_value 10 (take result.1 text.now) }
+    ensures small { result.0 < 100 }
 {
-    if size < TOO_LARGE / 10 {
-        size * 10 + u64::from(digit)
+    if text.is_empty() {
+        return (0, 0);
+    }
+    let tens = text[0].wrapping_sub(b'0');
+    if tens > 9 {
+        return (0, 0);
+    }
+    let second = usize::from(text.len() > 1);
+    let ones = text[second].wrapping_sub(b'0');
+    if (second == 1) & (ones <= 9) {
+        (10 * u32::from(tens) + u32::from(ones), 2)
     } else {
-        TOO_LARGE
+        (u32::from(tens), 1)
     }
 }
 

@@ -177,6 +177,7 @@ fn read_set(words: &mut Words) -> Option<Command>
 }
 
 // Reads a year, a month and a day.
+#[inline(never)]
 #[tactic(auto, unfolding(crate::specs::Commands::calendar_date), using(crate::proofs::Chains::steps))]
 fn read_calendar_date(words: &mut Words) -> Option<CalendarDate>
     ensures { Reads command.calendar_date words.old result words.new }
@@ -188,6 +189,7 @@ fn read_calendar_date(words: &mut Words) -> Option<CalendarDate>
 }
 
 // Reads an hour, a minute, a second and a nanosecond.
+#[inline(never)]
 #[tactic(auto, unfolding(crate::specs::Commands::clock_time), using(crate::proofs::Chains::steps))]
 fn read_clock_time(words: &mut Words) -> Option<ClockTime>
     ensures { Reads command.clock_time words.old result words.new }

@@ -14,14 +14,22 @@ pub fn put_weekday(out: &mut [u8], at: usize, day: Weekday) -> usize
     ensures end { result ≡ at + 3 }
     ensures text { take result out.new ≡ take at out.old ++ weekday_text day }
 {
+    put_text(out, at, short_name(day))
+}
+
+// The English name of a day in three letters.
+#[inline]
+fn short_name(day: Weekday) -> &'static [u8]
+    ensures { result.now ≡ weekday_text day }
+{
     match day {
-        Weekday::Mon => put_text(out, at, b"Mon"),
-        Weekday::Tue => put_text(out, at, b"Tue"),
-        Weekday::Wed => put_text(out, at, b"Wed"),
-        Weekday::Thu => put_text(out, at, b"Thu"),
-        Weekday::Fri => put_text(out, at, b"Fri"),
-        Weekday::Sat => put_text(out, at, b"Sat"),
-        Weekday::Sun => put_text(out, at, b"Sun"),
+        Weekday::Mon => b"Mon",
+        Weekday::Tue => b"Tue",
+        Weekday::Wed => b"Wed",
+        Weekday::Thu => b"Thu",
+        Weekday::Fri => b"Fri",
+        Weekday::Sat => b"Sat",
+        Weekday::Sun => b"Sun",
     }
 }
 

@@ -1,5 +1,5 @@
 //! The words of a line, read one after another.
-ghost use Rattle.std.specs.Prelude.{◌≡◌, ◌≢◌, ◌<◌, ◌≤◌, ◌↔◌, ℕ, List, [], ◌∷◌, length, take, drop, slice_index, IsTrue, OnSome, IfSome, IfNone, ◌⊎◌};
+ghost use Rattle.std.specs.Prelude.{◌≡◌, ◌≢◌, ◌<◌, ◌≤◌, ◌↔◌, ℕ, List, [], ◌∷◌, Some, length, take, drop, slice_index, IsTrue, OnSome, IfSome, IfNone, ◌⊎◌};
 ghost use Rattle.std.specs.Option.{option_map};
 ghost use Rattle.std.specs.Bool.{MatchBool};
 ghost use Rattle.caltool_form.specs.Numbers.{to_i64};
@@ -7,7 +7,7 @@ ghost use Rattle.caltool_form.specs.Words.{words, IsWord, EndsWord};
 ghost use Rattle.caltool_form.specs.Readers.{i64, i32, u32, u8, months, weekday};
 ghost use Rattle.caltool_form.specs.Cursor.{Reads, first_word, sized};
 
-use crate::number::{leading_digits, signed, to_i32, to_months, to_u8, to_u32, to_weekday};
+use crate::number::{few_digits, leading_digits, signed, to_i32, to_months, to_u8, to_u32, to_weekday};
 use chrono_units::Weekday;
 use std::marker::Model;
 
@@ -40,6 +40,7 @@ impl<'a> Words<'a> {
     }
 
     // Reads a number that fits an `i64`.
+    #[inline(always)]
     pub(crate) fn i64(&mut self) -> Option<i64>
         ensures read { Reads i64 self.old result self.new }
         ensures shorter { OnSome result (length self.new < length self.old) }
@@ -48,6 +49,7 @@ impl<'a> Words<'a> {
     }
 
     // Reads a number that fits an `i32`.
+    #[inline(always)]
     pub(crate) fn i32(&mut self) -> Option<i32>
         ensures { Reads i32 self.old result self.new }
     {
@@ -55,17 +57,18 @@ impl<'a> Words<'a> {
     }
 
     // Reads a number that fits a `u32`.
+    #[inline(always)]
     pub(crate) fn u32(&mut self) -> Option<u32>
         ensures { Reads u32 self.old result self.new }
     {
-        to_u32(self.i64()?)
+        to_u32(self.small()?)
     }
 
     // Reads a number that fits a `u8`.
     pub(crate) fn u8(&mut self) -> Option<u8>
         ensures { Reads u8 self.old result self.new }
     {
-        to_u8(self.i64()?)
+        to_u8(self.small()?)
     }
 
     // Reads a number of months, whose size fits a `u32`.
@@ -80,7 +83,7 @@ impl<'a> Words<'a> {
         ensures read { Reads weekday self.old result self.new }
         ensures shorter { OnSome result (length self.new < length self.old) }
     {
-        to_weekday(self.i64()?)
+        to_weekday(self.small()?)
     }
 
     // Whether no word is left.
@@ -90,7 +93,43 @@ impl<'a> Words<'a> {
         self.rest.is_empty()
     }
 
+    // Reads a number that fits an `i64`. It is the faster if the number has one digit or two.
+    #[inline(always)]
+    fn small(&mut self) -> Option<i64>
+        ensures read { Reads i64 self.old result self.new }
+        ensures shorter { OnSome result (length self.new < length self.old) }
+    {
+        match self.next_short() {
+            Some(n) => Some(n),
+            None => self.large(),
+        }
+    }
+
+    // Reads a number that fits an `i64`.
+    #[inline(never)]
+    fn large(&mut self) -> Option<i64>
+        ensures read { Reads i64 self.old result self.new }
+        ensures shorter { OnSome result (length self.new < length self.old) }
+    {
+        self.i64()
+    }
+
+    // Takes the next word if it is a number of one digit or two, and gives that number.
+    #[inline(always)]
+    fn next_short(&mut self) -> Option<i64>
+        ensures taken { IfSome result (λ n. first_word to_i64 self.old ≡ Some (n, self.new)) }
+        ensures left { IfNone result (self.new ≡ self.old) }
+    {
+        if self.rest.is_empty() {
+            return None;
+        }
+        let (n, rest) = short_number(&self.rest[1..])?;
+        self.rest = rest;
+        Some(n)
+    }
+
     // Takes the next word, and gives the number that it writes if that fits an `i64`.
+    #[inline(always)]
     fn next(&mut self) -> Option<i64>
         ensures { first_word to_i64 self.old ≡ option_map (λ n. (n, self.new)) result }
     {
@@ -104,6 +143,7 @@ impl<'a> Words<'a> {
 }
 
 // How long the first word is.
+#[inline]
 fn word_len(line: &[u8]) -> usize
     ensures within { result ≤ length line.now }
     ensures word { IsWord (take result line.now) }
@@ -118,6 +158,7 @@ fn word_len(line: &[u8]) -> usize
 }
 
 // The number that the first word writes, if it fits an `i64`, and what follows that word.
+#[inline]
 fn first_number(text: &[u8]) -> Option<(i64, &[u8])>
     ensures number { first_word to_i64 (words text.now) ≡ option_map (λ read. (read.0, drop 1 (words read.1.now))) result }
     ensures space { IfSome result (λ read. EndsWord read.1.now) }
@@ -128,7 +169,19 @@ fn first_number(text: &[u8]) -> Option<(i64, &[u8])>
     sized_number(false, text)
 }
 
+// The number that the first word writes, if it has one digit or two, and what follows that word.
+#[inline]
+fn short_number(text: &[u8]) -> Option<(i64, &[u8])>
+    ensures number { IfSome result (λ read. first_word to_i64 (words text.now) ≡ Some (read.0, drop 1 (words read.1.now))) }
+    ensures space { IfSome result (λ read. EndsWord read.1.now) }
+{
+    let (size, len) = few_digits(text);
+    let rest = after_digits(text, len)?;
+    Some((i64::from(size), rest))
+}
+
 // The number of this sign whose digits the first word is, if it fits an `i64`, and what follows.
+#[inline]
 fn sized_number(negative: bool, text: &[u8]) -> Option<(i64, &[u8])>
     ensures number { sized negative (words text.now) ≡ option_map (λ read. (read.0, drop 1 (words read.1.now))) result }
     ensures space { IfSome result (λ read. EndsWord read.1.now) }
@@ -159,6 +212,7 @@ fn after_digits(text: &[u8], len: usize) -> Option<&[u8]>
 }
 
 // Whether a word ends here: a space follows, or nothing.
+#[inline]
 fn ends_word(rest: &[u8]) -> bool
     ensures { MatchBool result (EndsWord rest.now) ((0 < length rest.now) × (slice_index rest.now 0 ≢ 32)) }
 {

@@ -4,7 +4,7 @@ use Rattle.caltool_form.proofs.Reading.{no_digits, reads_digits}
 use Rattle.caltool_form.proofs.words.sized_number.Goals as goal
 
 pub returns-in_err-rest-clause-number : goal.returns-in_err-rest-clause-number
-returns-in_err-rest-clause-number c = rw c.from_residual.ensures (no_digits _ _ _ c.leading_digits-size.ensures.digits c.leading_digits-size.ensures.end c.in_err-rest.ensures.none)
+returns-in_err-rest-clause-number c = rw c.from_residual.ensures (no_digits _ _ _ _ c.leading_digits-size.ensures.digits c.leading_digits-size.ensures.value c.leading_digits-size.ensures.end c.in_err-rest.ensures.none)
 
 pub returns-in_err-n-clause-number : goal.returns-in_err-n-clause-number
 returns-in_err-n-clause-number c = rw c.from_residual-in_err-n.ensures (

@@ -5,11 +5,11 @@ use Rattle.caltool_form.specs.Cursor.{leaving}
 use Rattle.caltool_form.proofs.Reading.{narrowed_reads, inside_u32}
 use Rattle.caltool_form.proofs.words.Words.u32.Goals as goal
 
-pub returns-in_err-i64 : goal.returns-in_err-i64
-returns-in_err-i64 c = rw c.from_residual.ensures (narrowed_reads to_u32 inside_u32 _ c.i64.new.self None c.in_err-i64.ensures.read)
+pub returns-in_err-small : goal.returns-in_err-small
+returns-in_err-small c = rw c.from_residual.ensures (narrowed_reads to_u32 inside_u32 _ c.small.new.self None c.in_err-small.ensures.read)
 
 pub returns : goal.returns
 returns c =
-    let f : SFits w64 c.in_ok-i64.field-0 = search rules in
-    narrowed_reads to_u32 inside_u32 _ c.i64.new.self (Some c.in_ok-i64.field-0) c.in_ok-i64.ensures.read
-    ∙ ap (option_and_then (λ a. leaving a c.i64.new.self)) (sym (c.to_u32.ensures ∙ ap to_u32 (to_z-of_z f)))
+    let f : SFits w64 c.in_ok-small.field-0 = search rules in
+    narrowed_reads to_u32 inside_u32 _ c.small.new.self (Some c.in_ok-small.field-0) c.in_ok-small.ensures.read
+    ∙ ap (option_and_then (λ a. leaving a c.small.new.self)) (sym (c.to_u32.ensures ∙ ap to_u32 (to_z-of_z f)))

@@ -5,11 +5,11 @@ use Rattle.caltool_form.specs.Cursor.{leaving}
 use Rattle.caltool_form.proofs.Reading.{narrowed_reads, inside_weekday}
 use Rattle.caltool_form.proofs.words.Words.weekday.Goals as goal
 
-pub returns-in_err-i64-clause-read : goal.returns-in_err-i64-clause-read
-returns-in_err-i64-clause-read c = rw c.from_residual.ensures (narrowed_reads to_weekday inside_weekday _ c.i64.new.self None c.in_err-i64.ensures.read)
+pub returns-in_err-small-clause-read : goal.returns-in_err-small-clause-read
+returns-in_err-small-clause-read c = rw c.from_residual.ensures (narrowed_reads to_weekday inside_weekday _ c.small.new.self None c.in_err-small.ensures.read)
 
 pub returns-clause-read : goal.returns-clause-read
 returns-clause-read c =
-    let f : SFits w64 c.in_ok-i64.field-0 = search rules in
-    narrowed_reads to_weekday inside_weekday _ c.i64.new.self (Some c.in_ok-i64.field-0) c.in_ok-i64.ensures.read
-    ∙ ap (option_and_then (λ a. leaving a c.i64.new.self)) (sym (c.to_weekday.ensures ∙ ap to_weekday (to_z-of_z f)))
+    let f : SFits w64 c.in_ok-small.field-0 = search rules in
+    narrowed_reads to_weekday inside_weekday _ c.small.new.self (Some c.in_ok-small.field-0) c.in_ok-small.ensures.read
+    ∙ ap (option_and_then (λ a. leaving a c.small.new.self)) (sym (c.to_weekday.ensures ∙ ap to_weekday (to_z-of_z f)))
