@@ -28,7 +28,6 @@ decimal_more n low high =
 pub length_more : (n : ℕ) → 100 ≤ n → n < 10 ^ 19 → length (decimal n) ≡ length (decimal (n / 100)) + 2
 length_more n low high = ap length (decimal_more n low high) ∙ length-append (decimal (n / 100)) (pair (n % 100))
 
-
 -- the last four or six digits
 
 pub decimal_four : (n : ℕ) → 10_000 ≤ n → n < 10 ^ 19 → decimal n ≡ decimal (n / 10_000) ++ all_digits 4 (n % 10_000)

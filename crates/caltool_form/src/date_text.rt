@@ -3,7 +3,7 @@ ghost use Rattle.std.specs.Prelude.{◌≡◌, ◌+◌, ◌<◌, ◌≤◌, ◌+
 ghost use Rattle.chrono_clock.specs.Text.{year_digits, year_text, calendar_text, week_text};
 
 use crate::digits::{put_four, put_two};
-use crate::text::{put_natural, put_text};
+use crate::text::put_natural;
 
 /// Puts a year, a month and a day of the month with `-` between (ISO 8601 calendar date) after the
 /// first `at` bytes of `out`, and gives where they end: at most 13 bytes on. Those bytes stay.
@@ -37,8 +37,9 @@ pub fn put_week(out: &mut [u8], at: usize, year: i32, week: u32) -> usize
     ensures text { take result out.new ≡ take at out.old ++ week_text year week }
 {
     let end = put_year(out, at, year);
-    let end = put_text(out, end, b"-W");
-    put_two(out, end, week)
+    out[end] = b'-';
+    out[end + 1] = b'W';
+    put_two(out, end + 2, week)
 }
 
 // Puts a year after the first `at` bytes: four digits from 0 to 9999, and else a sign and its size.

@@ -14,12 +14,16 @@ pub fn put_weekday(out: &mut [u8], at: usize, day: Weekday) -> usize
     ensures end { result ≡ at + 3 }
     ensures text { take result out.new ≡ take at out.old ++ weekday_text day }
 {
-    put_text(out, at, short_name(day))
+    let name = short_name(day);
+    out[at] = name[0];
+    out[at + 1] = name[1];
+    out[at + 2] = name[2];
+    at + 3
 }
 
 // The English name of a day in three letters.
 #[inline]
-fn short_name(day: Weekday) -> &'static [u8]
+fn short_name(day: Weekday) -> &'static [u8; 3]
     ensures { result.now ≡ weekday_text day }
 {
     match day {

@@ -1,5 +1,5 @@
 //! The words of a line, read one after another.
-ghost use Rattle.std.specs.Prelude.{◌≡◌, ◌≢◌, ◌<◌, ◌≤◌, ◌↔◌, ℕ, List, [], ◌∷◌, Some, length, take, drop, slice_index, IsTrue, OnSome, IfSome, IfNone, ◌⊎◌};
+ghost use Rattle.std.specs.Prelude.{◌≡◌, ◌≢◌, ◌<◌, ◌≤◌, ◌↔◌, ℕ, List, [], ◌∷◌, Some, pos, length, take, drop, slice_index, IsTrue, OnSome, IfSome, IfNone, ◌⊎◌};
 ghost use Rattle.std.specs.Option.{option_map};
 ghost use Rattle.std.specs.Bool.{MatchBool};
 ghost use Rattle.caltool_form.specs.Numbers.{to_i64};
@@ -7,7 +7,9 @@ ghost use Rattle.caltool_form.specs.Words.{words, IsWord, EndsWord};
 ghost use Rattle.caltool_form.specs.Readers.{i64, i32, u32, u8, months, weekday};
 ghost use Rattle.caltool_form.specs.Cursor.{Reads, first_word, sized};
 
-use crate::number::{few_digits, leading_digits, signed, to_i32, to_months, to_u8, to_u32, to_weekday};
+use crate::number::{
+    few_digits, leading_digits, signed, to_i32, to_months, to_u8, to_u32, to_weekday,
+};
 use chrono_units::Weekday;
 use std::marker::Model;
 
@@ -61,7 +63,10 @@ impl<'a> Words<'a> {
     pub(crate) fn u32(&mut self) -> Option<u32>
         ensures { Reads u32 self.old result self.new }
     {
-        to_u32(self.small()?)
+        match self.next_short() {
+            Some(n) => Some(n),
+            None => to_u32(self.large()?),
+        }
     }
 
     // Reads a number that fits a `u8`.
@@ -100,7 +105,7 @@ impl<'a> Words<'a> {
         ensures shorter { OnSome result (length self.new < length self.old) }
     {
         match self.next_short() {
-            Some(n) => Some(n),
+            Some(n) => Some(i64::from(n)),
             None => self.large(),
         }
     }
@@ -116,8 +121,8 @@ impl<'a> Words<'a> {
 
     // Takes the next word if it is a number of one digit or two, and gives that number.
     #[inline(always)]
-    fn next_short(&mut self) -> Option<i64>
-        ensures taken { IfSome result (λ n. first_word to_i64 self.old ≡ Some (n, self.new)) }
+    fn next_short(&mut self) -> Option<u32>
+        ensures taken { IfSome result (λ n. first_word to_i64 self.old ≡ Some (pos n, self.new)) }
         ensures left { IfNone result (self.new ≡ self.old) }
     {
         if self.rest.is_empty() {
@@ -171,13 +176,13 @@ fn first_number(text: &[u8]) -> Option<(i64, &[u8])>
 
 // The number that the first word writes, if it has one digit or two, and what follows that word.
 #[inline]
-fn short_number(text: &[u8]) -> Option<(i64, &[u8])>
-    ensures number { IfSome result (λ read. first_word to_i64 (words text.now) ≡ Some (read.0, drop 1 (words read.1.now))) }
+fn short_number(text: &[u8]) -> Option<(u32, &[u8])>
+    ensures number { IfSome result (λ read. first_word to_i64 (words text.now) ≡ Some (pos read.0, drop 1 (words read.1.now))) }
     ensures space { IfSome result (λ read. EndsWord read.1.now) }
 {
     let (size, len) = few_digits(text);
     let rest = after_digits(text, len)?;
-    Some((i64::from(size), rest))
+    Some((size, rest))
 }
 
 // The number of this sign whose digits the first word is, if it fits an `i64`, and what follows.

@@ -6,6 +6,7 @@
 
 mod call;
 mod generator;
+mod numbers;
 mod sums;
 mod tables;
 
@@ -29,7 +30,8 @@ fn main(rt: HostRuntime) -> ExitCode {
     }
 }
 
-// Prints a sum for each pair of arguments, up to the first that names no call or no number; whether all did.
+// Prints a sum for each call and count among the program's arguments, up to the first that is none. Whether there were
+// any, and no other arguments.
 fn run(rt: &(impl Env + Alloc + Print)) -> io::Result<bool> {
     let words: Vec<_, _> = env::args(rt)?.skip(1).collect(rt.alloc())?;
     for pair in words.as_slice().chunks(2) {
@@ -41,5 +43,5 @@ fn run(rt: &(impl Env + Alloc + Print)) -> io::Result<bool> {
         };
         println!(rt; "{}", sum_of_answers(call, count))?;
     }
-    Ok(true)
+    Ok(!words.is_empty())
 }

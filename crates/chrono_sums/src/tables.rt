@@ -1,6 +1,8 @@
 //! Tables of arguments, drawn before the calls are made.
-ghost use Rattle.std.specs.Prelude.{◌<◌};
-ghost use Rattle.chrono_sums.specs.Drawn.{IsDrawnDay};
+ghost use Rattle.std.specs.Prelude.{◌<◌, ◌*◌, unsigned_abs};
+ghost use Rattle.chrono_datetime.specs.Duration.{nanos_per_second};
+ghost use Rattle.chrono_datetime.specs.Time.{IsPlain};
+ghost use Rattle.chrono_sums.specs.Drawn.{IsDrawnDay, IsDrawnName};
 
 use crate::generator::Generator;
 use chrono_datetime::{Days, Months, NaiveDate, NaiveDateTime, NaiveTime, TimeDelta};
@@ -41,7 +43,7 @@ pub fn table<T: Copy, F: Fn(&mut Generator) -> T>(generator: &mut Generator, pic
     table
 }
 
-/// A day of the years 1800 to 2199.
+/// The number of a day of the years 1800 to 2199.
 pub fn day(generator: &mut Generator) -> i32
     ensures { IsDrawnDay result }
 {
@@ -53,4 +55,55 @@ pub fn date(generator: &mut Generator) -> NaiveDate
     ensures { IsDrawnDay result }
 {
     NaiveDate::from_num_days_from_ce_opt(day(generator)).unwrap()
+}
+
+/// A year of those, a month and a day from 1 to 31, which not every month has.
+pub fn name(generator: &mut Generator) -> (i32, u32, u32)
+    ensures { IsDrawnName result.0 result.1 result.2 }
+{
+    let year = 1_800 + generator.below(400) as i32;
+    let month = 1 + generator.below(12) as u32;
+    let day = 1 + generator.below(31) as u32;
+    (year, month, day)
+}
+
+/// A time in no leap second.
+pub fn time(generator: &mut Generator) -> NaiveTime
+    ensures { IsPlain result }
+{
+    let second = generator.below(86_400) as u32;
+    let nano = generator.below(1_000_000_000) as u32;
+    NaiveTime::from_num_seconds_from_midnight_opt(second, nano).unwrap()
+}
+
+/// A date of those years and a time in no leap second.
+pub fn moment(generator: &mut Generator) -> NaiveDateTime
+    ensures date { IsDrawnDay result.date }
+    ensures time { IsPlain result.time }
+{
+    let date = date(generator);
+    NaiveDateTime::new(date, time(generator))
+}
+
+/// At most 1,200 months, a hundred years.
+pub fn months(generator: &mut Generator) -> Months
+    ensures { result < 1_201 }
+{
+    Months::new(generator.below(1_201) as u32)
+}
+
+/// At most 100,000 days.
+pub fn days(generator: &mut Generator) -> Days
+    ensures { result < 100_001 }
+{
+    Days::new(generator.below(100_001))
+}
+
+/// About 1,000,000,000 seconds at most, forward or back, to the nanosecond.
+pub fn duration(generator: &mut Generator) -> TimeDelta
+    ensures { unsigned_abs result < 1_000_000_001 * nanos_per_second }
+{
+    let seconds = generator.below(2_000_000_001) as i64 - 1_000_000_000;
+    let nanos = generator.below(1_000_000_000) as i64;
+    TimeDelta::seconds(seconds) + TimeDelta::nanoseconds(nanos)
 }

@@ -1,0 +1,268 @@
+//! The twin of `crates/chrono_sums` over chrono: what `benches/calls.py` compares with.
+//!
+//! `chrono_sums CALL COUNT ..` makes each call so many times on the arguments that the other draws too, and prints the sum
+//! of its answers, which has to be the same.
+
+use chrono::{Datelike, Days, Duration, Months, NaiveDate, NaiveDateTime, NaiveTime, Timelike};
+use std::array;
+use std::env;
+use std::process::ExitCode;
+
+/// How many arguments a table has.
+const SIZE: usize = 1024;
+
+/// The day number of 1 January 1800.
+const FIRST_DAY: i32 = 657_072;
+
+/// The days of the 400 years from then on.
+const DAYS: u64 = 146_097;
+
+/// A linear congruential generator modulo 2^64, with the numbers of Knuth's MMIX.
+struct Generator {
+    state: u64,
+}
+
+impl Generator {
+    fn new() -> Generator {
+        Generator { state: 1 }
+    }
+
+    fn draw(&mut self) -> u64 {
+        self.state = self
+            .state
+            .wrapping_mul(6_364_136_223_846_793_005)
+            .wrapping_add(1_442_695_040_888_963_407);
+        self.state
+    }
+
+    fn below(&mut self, bound: u64) -> u64 {
+        (self.draw() >> 32) % bound
+    }
+}
+
+fn first(drawn: u64) -> usize {
+    (drawn >> 54) as usize
+}
+
+fn second(drawn: u64) -> usize {
+    (drawn >> 44) as usize % SIZE
+}
+
+fn table<T>(generator: &mut Generator, pick: impl Fn(&mut Generator) -> T) -> [T; SIZE] {
+    array::from_fn(|_| pick(generator))
+}
+
+fn day(generator: &mut Generator) -> i32 {
+    FIRST_DAY + generator.below(DAYS) as i32
+}
+
+fn date(generator: &mut Generator) -> NaiveDate {
+    NaiveDate::from_num_days_from_ce_opt(day(generator)).unwrap()
+}
+
+fn name(generator: &mut Generator) -> (i32, u32, u32) {
+    let year = 1_800 + generator.below(400) as i32;
+    let month = 1 + generator.below(12) as u32;
+    let day = 1 + generator.below(31) as u32;
+    (year, month, day)
+}
+
+fn time(generator: &mut Generator) -> NaiveTime {
+    let second = generator.below(86_400) as u32;
+    let nano = generator.below(1_000_000_000) as u32;
+    NaiveTime::from_num_seconds_from_midnight_opt(second, nano).unwrap()
+}
+
+fn moment(generator: &mut Generator) -> NaiveDateTime {
+    let date = date(generator);
+    NaiveDateTime::new(date, time(generator))
+}
+
+fn months(generator: &mut Generator) -> Months {
+    Months::new(generator.below(1_201) as u32)
+}
+
+fn days(generator: &mut Generator) -> Days {
+    Days::new(generator.below(100_001))
+}
+
+fn duration(generator: &mut Generator) -> Duration {
+    let seconds = generator.below(2_000_000_001) as i64 - 1_000_000_000;
+    let nanos = generator.below(1_000_000_000) as i64;
+    Duration::seconds(seconds) + Duration::nanoseconds(nanos)
+}
+
+fn of_year(year: i32, part: u32) -> u64 {
+    (i64::from(year) * 512 + i64::from(part)) as u64
+}
+
+fn of_date(date: Option<NaiveDate>) -> u64 {
+    date.map_or(0, |date| of_year(date.year(), date.ordinal()))
+}
+
+fn of_time(time: NaiveTime) -> u64 {
+    u64::from(time.num_seconds_from_midnight()) * 0x1_0000_0000 + u64::from(time.nanosecond())
+}
+
+fn of_moment(moment: Option<NaiveDateTime>) -> u64 {
+    moment.map_or(0, |moment| {
+        of_date(Some(moment.date())).wrapping_add(of_time(moment.time()))
+    })
+}
+
+/// The nanoseconds past the whole seconds, which chrono 0.4.23 has no call for.
+fn subsec_nanos(duration: Duration) -> i64 {
+    (duration - Duration::seconds(duration.num_seconds()))
+        .num_nanoseconds()
+        .unwrap()
+}
+
+fn of_duration(duration: Duration) -> u64 {
+    (duration.num_seconds() as u64)
+        .wrapping_mul(0x1_0000_0000)
+        .wrapping_add(subsec_nanos(duration) as u64)
+}
+
+/// The sum of what `answer` makes of so many drawn numbers.
+fn sum(mut generator: Generator, count: u64, answer: impl Fn(u64) -> u64) -> u64 {
+    let mut sum: u64 = 0;
+    for _ in 0..count {
+        sum = sum.wrapping_add(answer(generator.draw()));
+    }
+    sum
+}
+
+/// No call: what every sum takes besides its call.
+fn nothing(mut generator: Generator, count: u64) -> u64 {
+    let days = table(&mut generator, day);
+    sum(generator, count, |drawn| {
+        i64::from(days[first(drawn)]) as u64
+    })
+}
+
+/// Every second move goes back: the lowest binary digit of a drawn number alternates.
+fn add_months(mut generator: Generator, count: u64) -> u64 {
+    let dates = table(&mut generator, date);
+    let months = table(&mut generator, months);
+    sum(generator, count, |drawn| {
+        let date = dates[first(drawn)];
+        let months = months[second(drawn)];
+        of_date(if drawn % 2 == 0 {
+            date.checked_add_months(months)
+        } else {
+            date.checked_sub_months(months)
+        })
+    })
+}
+
+fn add_days(mut generator: Generator, count: u64) -> u64 {
+    let dates = table(&mut generator, date);
+    let days = table(&mut generator, days);
+    sum(generator, count, |drawn| {
+        of_date(dates[first(drawn)].checked_add_days(days[second(drawn)]))
+    })
+}
+
+fn iso_week(mut generator: Generator, count: u64) -> u64 {
+    let dates = table(&mut generator, date);
+    sum(generator, count, |drawn| {
+        let week = dates[first(drawn)].iso_week();
+        of_year(week.year(), week.week())
+    })
+}
+
+fn from_ymd(mut generator: Generator, count: u64) -> u64 {
+    let names = table(&mut generator, name);
+    sum(generator, count, |drawn| {
+        let (year, month, day) = names[first(drawn)];
+        of_date(NaiveDate::from_ymd_opt(year, month, day))
+    })
+}
+
+fn to_days(mut generator: Generator, count: u64) -> u64 {
+    let dates = table(&mut generator, date);
+    sum(generator, count, |drawn| {
+        i64::from(dates[first(drawn)].num_days_from_ce()) as u64
+    })
+}
+
+fn from_days(mut generator: Generator, count: u64) -> u64 {
+    let days = table(&mut generator, day);
+    sum(generator, count, |drawn| {
+        NaiveDate::from_num_days_from_ce_opt(days[first(drawn)]).map_or(0, |date| {
+            of_year(date.year(), date.month() * 32 + date.day())
+        })
+    })
+}
+
+fn time_add(mut generator: Generator, count: u64) -> u64 {
+    let times = table(&mut generator, time);
+    let durations = table(&mut generator, duration);
+    sum(generator, count, |drawn| {
+        let (time, seconds) = times[first(drawn)].overflowing_add_signed(durations[second(drawn)]);
+        of_time(time).wrapping_add(seconds as u64)
+    })
+}
+
+fn moment_add(mut generator: Generator, count: u64) -> u64 {
+    let moments = table(&mut generator, moment);
+    let durations = table(&mut generator, duration);
+    sum(generator, count, |drawn| {
+        of_moment(moments[first(drawn)].checked_add_signed(durations[second(drawn)]))
+    })
+}
+
+fn moment_diff(mut generator: Generator, count: u64) -> u64 {
+    let moments = table(&mut generator, moment);
+    sum(generator, count, |drawn| {
+        of_duration(moments[first(drawn)].signed_duration_since(moments[second(drawn)]))
+    })
+}
+
+/// The sum is read in milliseconds, which takes either library as long.
+fn duration_add(mut generator: Generator, count: u64) -> u64 {
+    let durations = table(&mut generator, duration);
+    sum(generator, count, |drawn| {
+        durations[first(drawn)]
+            .checked_add(&durations[second(drawn)])
+            .map_or(0, |sum| sum.num_milliseconds() as u64)
+    })
+}
+
+fn call_named(name: &str) -> Option<fn(Generator, u64) -> u64> {
+    Some(match name {
+        "none" => nothing,
+        "add_months" => add_months,
+        "add_days" => add_days,
+        "iso_week" => iso_week,
+        "from_ymd" => from_ymd,
+        "to_days" => to_days,
+        "from_days" => from_days,
+        "time_add" => time_add,
+        "moment_add" => moment_add,
+        "moment_diff" => moment_diff,
+        "duration_add" => duration_add,
+        _ => return None,
+    })
+}
+
+/// Prints a sum for each pair of words; `None` if one names no call or no number.
+fn run(words: &[String]) -> Option<()> {
+    for pair in words.chunks(2) {
+        let [name, count] = pair else {
+            return None;
+        };
+        let call = call_named(name)?;
+        println!("{}", call(Generator::new(), count.parse().ok()?));
+    }
+    Some(())
+}
+
+fn main() -> ExitCode {
+    let words: Vec<String> = env::args().skip(1).collect();
+    if words.is_empty() || run(&words).is_none() {
+        eprintln!("usage: chrono_sums CALL COUNT ..");
+        return ExitCode::from(2);
+    }
+    ExitCode::SUCCESS
+}
