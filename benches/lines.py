@@ -17,7 +17,6 @@ import time
 
 TOP = os.path.dirname(os.path.dirname(os.path.abspath(__file__)))
 CALTOOL = os.path.join(TOP, "crates", "caltool", "out", "caltool")
-CHRONO_LINES = os.path.join(TOP, "benches", "chrono_lines")
 FIRST = datetime.date(1800, 1, 1).toordinal()
 LAST = datetime.date(2199, 12, 31).toordinal()
 
@@ -68,14 +67,15 @@ def debian_registry():
     return os.path.dirname(os.path.dirname(manifest))
 
 
-def build_chrono_lines(folder):
+def build_over_chrono(folder, name):
+    """Builds a program of this folder over Debian's chrono; where it then lies."""
     target = os.path.join(folder, "target")
     env = dict(os.environ, CARGO_TARGET_DIR=target)
     command = ["cargo", "build", "--release", "--offline", "--quiet"]
     command += ["--config", 'source.crates-io.replace-with="debian"']
     command += ["--config", f'source.debian.directory="{debian_registry()}"']
-    subprocess.run(command, cwd=CHRONO_LINES, env=env, check=True)
-    return os.path.join(target, "release", "chrono_lines")
+    subprocess.run(command, cwd=os.path.join(TOP, "benches", name), env=env, check=True)
+    return os.path.join(target, "release", name)
 
 
 def show(title, rows):
@@ -111,7 +111,7 @@ def main():
                 ("GNU date -f -", best_of(1, ["date", "-u", "-f", "-", "+%F %j %a %G-W%V"], plain)),
             ],
         )
-        chrono_lines = build_chrono_lines(folder)
+        chrono_lines = build_over_chrono(folder, "chrono_lines")
         show(
             f"{2 * count} mixed lines",
             [

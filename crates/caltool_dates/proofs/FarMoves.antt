@@ -1,5 +1,5 @@
 -- No date is 2 ^ 32 months from another.
-use Rattle.std.proofs.Common.{◌≡◌, ◌≤◌, ◌^◌, None, ℤ, unsigned_abs, arith, sym}
+use Rattle.std.proofs.Common.{◌≡◌, ◌≤◌, ◌^◌, None, ℤ, unsigned_abs, arith}
 use Rattle.chrono_datetime.specs.Years.{IsYear}
 use Rattle.chrono_calendar.specs.Days.{year_of}
 use Rattle.chrono_calendar.specs.MonthMoves.{month_move}

@@ -1,5 +1,5 @@
 -- The answer to each command, by what the calendar and the clock count.
-use Rattle.std.specs.Prelude.{◌≡◌, ℕ, ◌==◌, ◌<◌, ◌≤◌, nat_lt, nat_le, Bool, not, ◌&&◌, ◌||◌, if◌then◌else◌, List, ◌∷◌, ◌++◌, ℤ, pos, ◌+ℤ◌, ◌-ℤ◌, unsigned_abs, Option, Some, None, codes}
+use Rattle.std.specs.Prelude.{ℕ, ◌==◌, nat_lt, nat_le, ◌&&◌, ◌||◌, if◌then◌else◌, List, ◌++◌, ℤ, pos, ◌+ℤ◌, unsigned_abs, Option, Some, None, codes}
 use Rattle.std.specs.Fmt.{decimal, signed_decimal}
 use Rattle.std.specs.Option.{option_map, option_and_then}
 use Rattle.chrono_datetime.specs.Duration.{nanos_per_second, longest, nanos_of}
@@ -7,7 +7,7 @@ use Rattle.chrono_datetime.specs.Time.{TimeOfDay, time_at}
 use Rattle.chrono_datetime.specs.Text.{week_text, duration_text}
 use Rattle.chrono_datetime.specs.WeekdayText.{weekday_text, set_text}
 use Rattle.chrono_datetime.specs.WeekdaySet.{walk}
-use Rattle.chrono_datetime.specs.Days.{date_of_day, date_of_yo, date_of_ymd, year_of, ordinal_of}
+use Rattle.chrono_datetime.specs.Days.{date_of_day, date_of_yo, date_of_ymd, ordinal_of}
 use Rattle.chrono_datetime.specs.Weeks.{weekday_of, iso_year_of, iso_week_of, date_of_iso, date_of_nth_weekday, week_first_of}
 use Rattle.chrono_datetime.specs.MonthMoves.{month_move}
 use Rattle.chrono_datetime.specs.YearsBetween.{years_between}

@@ -1,10 +1,10 @@
 -- Which names and numbers are dates, from tests to facts.
-use Rattle.std.proofs.Common.{◌≡◌, ℕ, Bool, true, false, ◌&&◌, cond, Option, Some, None, refl, sym, ap, arith, ℤ}
+use Rattle.std.proofs.Common.{◌≡◌, ℕ, Bool, true, false, ◌&&◌, cond, Option, Some, None, refl, ap, arith, ℤ}
 use Rattle.std.proofs.lemmas.Bool.{false≢true}
 use Rattle.std.proofs.lemmas.Bool.Decides.{nat_tests}
 use Rattle.std.proofs.lemmas.Int.{ints}
 use Rattle.std.specs.Option.{SomeIff}
-use Rattle.chrono_units.specs.Years.{IsYear, is_year, year_length, month_length}
+use Rattle.chrono_units.specs.Years.{IsYear, is_year}
 use Rattle.chrono_calendar.specs.Days.{IsDate, is_date, IsOrdinalName, is_ordinal_name, IsCalendarName, is_calendar_name, day_number_of_yo, day_number_of_ymd, date_of_day, date_of_yo, date_of_ymd}
 
 -- an answer that exists exactly under a fact is the one that a test for the fact gives

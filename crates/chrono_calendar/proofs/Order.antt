@@ -1,21 +1,18 @@
 -- Days compare by their names as they do by their numbers.
-use Rattle.std.proofs.Common.{◌≡◌, ℕ, suc, ◌+◌, ◌-◌, ◌<◌, ◌≤◌, ◌⊎◌, inl, inr, Bool, true, false, ◌||◌, nat_lt, nat_le, refl, sym, ap, ◌∙◌, arith, ℤ, pos, ◌<ℤ◌, int_cmp}
+use Rattle.std.proofs.Common.{◌≡◌, ℕ, ◌+◌, ◌-◌, ◌<◌, ◌≤◌, Bool, true, false, ◌||◌, nat_le, refl, sym, ap, arith, ℤ, ◌<ℤ◌, int_cmp}
 use Rattle.std.proofs.lemmas.Bool.Decides.{nat_tests}
-use Rattle.std.proofs.lemmas.Bool.{cases_order}
-use Rattle.std.proofs.lemmas.Int.{by_lt_z}
 use Rattle.std.proofs.lemmas.Cmp.{ranked, int_ranked}
 use Rattle.std.specs.Cmp.{int_cmp_is}
 use Rattle.std.specs.Ordering.{nat_cmp, ordering_then, MatchOrdering}
 use Rattle.std.specs.declared.cmp.Ordering.{Ordering}
 use Rattle.std.specs.declared.cmp.Ordering.TheVariants.{Less, Equal, Greater}
-use Rattle.std.specs.Int.{IsInRange}
 use Rattle.chrono_units.specs.Years.{is_leap_year, month_length_in}
-use Rattle.chrono_calendar.specs.Days.{days_before_year, days_of_months_in, day_number_of_yo, IsMonthAndDay, year_of, ordinal_of, month_of, day_of}
+use Rattle.chrono_calendar.specs.Days.{days_before_year, days_of_months_in, IsMonthAndDay, year_of, ordinal_of, month_of, day_of}
 use Rattle.chrono_calendar.specs.Order.{ordinal_cmp, calendar_cmp}
 use Rattle.chrono_calendar.proofs.Signed.{signed}
 use Rattle.chrono_calendar.proofs.Tests.{passes_below, passes_below-at}
 use Rattle.chrono_calendar.proofs.Months.{month_of_ordinal-exists}
-use Rattle.chrono_calendar.proofs.Names.{HasOrdinalName, ordinal_name_of-number, day_number-lt_year}
+use Rattle.chrono_calendar.proofs.Names.{ordinal_name_of-number, day_number-lt_year}
 
 -- an earlier month of a year ends before a later one begins
 ends_before : Bool → ℕ → ℕ → Bool

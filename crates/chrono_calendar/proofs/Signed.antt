@@ -1,5 +1,5 @@
 -- Signed numbers for `omega`, which reads a number z as `up z` less `down z`: with rounding down, and with casts.
-use Rattle.std.proofs.Common.{◌≡◌, ℕ, zero, suc, ◌+◌, ◌-◌, ◌*◌, ◌/◌, ◌%◌, ◌<◌, ◌≤◌, ◌⊎◌, inl, inr, refl, sym, ap, ◌∙◌, arith, ℤ, pos, negsuc, ◌+ℤ◌, ◌*ℤ◌, of_z}
+use Rattle.std.proofs.Common.{◌≡◌, ℕ, ◌+◌, ◌*◌, ◌<◌, ◌≤◌, ◌⊎◌, inl, inr, refl, arith, ℤ, pos, negsuc, of_z}
 use Rattle.std.specs.Int.{Width, int_div_euclid, int_rem_euclid}
 use Rattle.std.proofs.Math.Nat.{div-add-mod, mod-lt}
 use borrow.Author.Differences.{up, down, same_out, Apart-out, lt_T, le_T, lt_not, le_not, lt-true, lt-false, le-true, le-false, true-lt, false-lt, true-le, false-le, not_negative_out, lt_out, le_out, fits_out, fits_in, same_in, lt_in, le_in, below_in, at_most_in, not_negative_in, true_is_lt, false_is_lt, true_is_le, false_is_le, sum_is_lem, neg_is, product_is, quot_is, rem_is, abs_is, mag_is, back_is, small_is, read_fits, bits_is}

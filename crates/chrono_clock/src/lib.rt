@@ -6,10 +6,10 @@
 #![tactic(auto)]
 
 mod carry;
-pub mod naive_time;
+mod naive_time;
 pub mod text;
-pub mod time_delta;
-pub mod timelike;
+mod time_delta;
+mod timelike;
 
 pub use naive_time::NaiveTime;
 pub use time_delta::TimeDelta;

@@ -1,4 +1,6 @@
 //! Values from outside, each public call once, and the generic calls at a date.
+ghost use Rattle.std.specs.Prelude.{◌≡◌, pos, negsuc};
+
 use super::*;
 use chrono_calendar::Steps;
 use std::hash::{DefaultHasher, Hash, Hasher};
@@ -14,8 +16,22 @@ fn hash_of<T: Hash>(x: &T) -> u64 {
     state.finish()
 }
 
+// The first date.
+fn first_date() -> NaiveDate
+    ensures { result ≡ negsuc 95_746_128 }
+{
+    MIN_DATE
+}
+
+// The last date.
+fn last_date() -> NaiveDate
+    ensures { result ≡ pos 95_745_399 }
+{
+    MAX_DATE
+}
+
 #[test]
-fn dates_by_name(rt: HostRuntime) {
+fn dates_by_calendar_and_ordinal_name(rt: HostRuntime) {
     for (year, month, day, want) in [
         (2024, 2, 29, Some(738_945)),
         (1900, 2, 29, None),
@@ -36,6 +52,10 @@ fn dates_by_name(rt: HostRuntime) {
     ] {
         assert_eq!(rt; number(NaiveDate::from_yo_opt(year, ordinal)), want);
     }
+}
+
+#[test]
+fn dates_by_week_and_weekday(rt: HostRuntime) {
     for (year, week, weekday, want) in [
         (2020, 53, Weekday::Sun, Some(737_793)),
         (2024, 53, Weekday::Mon, None),
@@ -89,8 +109,8 @@ fn ends(rt: HostRuntime) {
     let last = NaiveDate::from_num_days_from_ce_opt(95_745_399).expect(&rt, "the last date");
     assert_eq!(rt; NaiveDate::MIN, first);
     assert_eq!(rt; NaiveDate::MAX, last);
-    assert_eq!(rt; MIN_DATE, first);
-    assert_eq!(rt; MAX_DATE, last);
+    assert_eq!(rt; first_date(), first);
+    assert_eq!(rt; last_date(), last);
     assert_eq!(rt; first.weekday(), Weekday::Thu);
     assert_eq!(rt; last.weekday(), Weekday::Mon);
     assert!(rt; first < last);

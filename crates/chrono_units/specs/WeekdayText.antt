@@ -2,7 +2,7 @@
 use Rattle.std.specs.Prelude.{◌≡◌, ℕ, Bool, if◌then◌else◌, List, [], ◌∷◌, ◌++◌, codes, refl}
 use Rattle.chrono_units.specs.declared.weekday.Weekday.{Weekday}
 use Rattle.chrono_units.specs.declared.weekday.Weekday.TheVariants.{Mon, Tue, Wed, Thu, Fri, Sat, Sun}
-use Rattle.chrono_units.specs.WeekdaySet.{DaySet, all_days, set_of, no_days, walk}
+use Rattle.chrono_units.specs.WeekdaySet.{DaySet, set_of, no_days, walk}
 
 -- the English name of a day in three letters
 abbrev pub weekday_text : Weekday → List ℕ

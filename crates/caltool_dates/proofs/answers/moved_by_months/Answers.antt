@@ -1,8 +1,7 @@
-use Rattle.std.proofs.Common.{◌≡◌, ◌≤◌, ◌<◌, ◌^◌, ℕ, ℤ, Option, Some, None, unsigned_abs, sym, ap, ◌∙◌, subst, arith, w32, w64, to_z, of_z, FitsSigned}
+use Rattle.std.proofs.Common.{◌≡◌, ◌≤◌, ◌<◌, ◌^◌, ℕ, ℤ, Option, Some, None, unsigned_abs, sym, ap, ◌∙◌, subst, arith, w64, to_z, of_z, FitsSigned}
 use Rattle.std.specs.Option.{option_and_then}
 use Rattle.std.proofs.lemmas.Int.{to_z-of_z}
 use Rattle.chrono_datetime.specs.Years.{IsYear}
-use Rattle.chrono_datetime.specs.Days.{year_of}
 use Rattle.chrono_datetime.specs.MonthMoves.{month_move}
 use Rattle.caltool_dates.specs.Answers.{date_named}
 use Rattle.caltool_dates.proofs.FarMoves.{month_move-far}

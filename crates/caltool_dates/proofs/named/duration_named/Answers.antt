@@ -1,4 +1,4 @@
-use Rattle.std.proofs.Common.{w64, FitsSigned}
+use Rattle.std.proofs.Common.{w64}
 use Rattle.std.proofs.lemmas.Int.{to_z-of_z}
 use Rattle.caltool_dates.proofs.Tests.{duration_named-SomeIff}
 use Rattle.caltool_dates.proofs.named.duration_named.Goals as goal

@@ -1,4 +1,4 @@
-use Rattle.std.proofs.Common.{ap, Some, pos, negsuc, refl, ◌∙◌}
+use Rattle.std.proofs.Common.{ap, Some, pos, negsuc, refl}
 use Rattle.std.specs.Fmt.{digits}
 use Rattle.chrono_calendar.specs.Days.{days_of_years, days_before_year, days_of_months_in, date_of_ymd}
 use Rattle.chrono_calendar.proofs.KnownValues.{first_number, last_number}

@@ -6,9 +6,3 @@ invariant_of-assert_eq g c = search ends
 
 pub invariant_of-assert_eq-2 : goal.invariant_of-assert_eq-2
 invariant_of-assert_eq-2 g c = search ends
-
-pub invariant_of-assert_eq-3 : goal.invariant_of-assert_eq-3
-invariant_of-assert_eq-3 g c = search ends
-
-pub invariant_of-assert_eq-4 : goal.invariant_of-assert_eq-4
-invariant_of-assert_eq-4 g c = search ends
