@@ -17,14 +17,14 @@ impl CommandAnswers for Echo {
     #[tactic(auto, unfolding(crate::specs::Echo::echo_of))]
     fn write_answer(command: Command, out: &mut [u8]) -> usize {
         match command {
-            Command::Ymd { date } => put_three(
+            Command::Ymd { date } => put_triple(
                 out,
                 i64::from(date.year),
                 i64::from(date.month),
                 i64::from(date.day),
             ),
-            Command::Yo { year, ordinal } => put_two(out, i64::from(year), i64::from(ordinal)),
-            Command::Iwd { year, week, .. } => put_two(out, i64::from(year), i64::from(week)),
+            Command::Yo { year, ordinal } => put_pair(out, i64::from(year), i64::from(ordinal)),
+            Command::Iwd { year, week, .. } => put_pair(out, i64::from(year), i64::from(week)),
             Command::Day { number } => put_number(out, 0, i64::from(number)),
             Command::Days { count, .. } => put_number(out, 0, count),
             Command::Wom { .. }
@@ -38,16 +38,16 @@ impl CommandAnswers for Echo {
     }
 }
 
-fn put_three(out: &mut [u8], a: i64, b: i64, c: i64) -> usize
+fn put_triple(out: &mut [u8], a: i64, b: i64, c: i64) -> usize
     requires { 62 ≤ length out.old }
     ensures end { result ≤ 62 }
     ensures text { take result out.new ≡ three_numbers a b c }
 {
-    let at = put_two(out, a, b);
+    let at = put_pair(out, a, b);
     put_next(out, at, c)
 }
 
-fn put_two(out: &mut [u8], a: i64, b: i64) -> usize
+fn put_pair(out: &mut [u8], a: i64, b: i64) -> usize
     requires { 41 ≤ length out.old }
     ensures end { result ≤ 41 }
     ensures text { take result out.new ≡ two_numbers a b }

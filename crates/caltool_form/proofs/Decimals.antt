@@ -1,24 +1,20 @@
--- The text of a number, one and two digits at a time.
+-- The text of a number: its last one, two, four or six digits, and those before them.
 use Rattle.std.proofs.Common.{◌≡◌, ℕ, ◌+◌, ◌/◌, ◌%◌, ◌^◌, ◌<◌, ◌≤◌, List, [], ◌∷◌, ◌++◌, length, ap, sym, ◌∙◌, append_assoc, length-append, arith}
 use Rattle.std.proofs.lemmas.Fmt.{decimal_digit, decimal_step, length-decimal-le}
 use Rattle.std.specs.Fmt.{decimal}
-use Rattle.chrono_clock.specs.Text.{all_digits}
+use Rattle.chrono_clock.specs.Text.{two_digits, all_digits}
 use Rattle.caltool_form.proofs.DigitCuts.{four_digits, six_digits}
 
 pub length_one : (n : ℕ) → n < 10 → length (decimal n) ≡ 1
 length_one n small = ap length (decimal_digit n small)
 
--- the text of two digits
-abbrev pub pair : ℕ → List ℕ
-pair n = (48 + n / 10) ∷ (48 + n % 10) ∷ []
-
-pub decimal_pair : (n : ℕ) → 10 ≤ n → n < 100 → decimal n ≡ pair n
+pub decimal_pair : (n : ℕ) → 10 ≤ n → n < 100 → decimal n ≡ two_digits n
 decimal_pair n low high = rw (decimal_step n low (omega arith), decimal_digit (n / 10) (omega arith))
 
 pub length_pair : (n : ℕ) → 10 ≤ n → n < 100 → length (decimal n) ≡ 2
 length_pair n low high = ap length (decimal_pair n low high)
 
-pub decimal_more : (n : ℕ) → 100 ≤ n → n < 10 ^ 19 → decimal n ≡ decimal (n / 100) ++ pair (n % 100)
+pub decimal_more : (n : ℕ) → 100 ≤ n → n < 10 ^ 19 → decimal n ≡ decimal (n / 100) ++ two_digits (n % 100)
 decimal_more n low high =
     let a : n / 10 / 10 ≡ n / 100 = omega arith in
     let b : n / 10 % 10 ≡ n % 100 / 10 = omega arith in
@@ -26,7 +22,7 @@ decimal_more n low high =
     rw (decimal_step n (omega arith) (omega arith), decimal_step (n / 10) (omega arith) (omega arith), append_assoc, a, b, ← c)
 
 pub length_more : (n : ℕ) → 100 ≤ n → n < 10 ^ 19 → length (decimal n) ≡ length (decimal (n / 100)) + 2
-length_more n low high = ap length (decimal_more n low high) ∙ length-append (decimal (n / 100)) (pair (n % 100))
+length_more n low high = ap length (decimal_more n low high) ∙ length-append (decimal (n / 100)) (two_digits (n % 100))
 
 -- the last four or six digits
 

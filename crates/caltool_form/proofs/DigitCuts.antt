@@ -5,7 +5,6 @@ use Rattle.chrono_clock.specs.Text.{two_digits, all_digits, fraction_digits}
 
 pub three_digits : (n : ℕ) → n < 1_000 → all_digits 3 n ≡ (48 + n / 100) ∷ two_digits (n % 100)
 three_digits n small =
-    let b : n % 100 / 10 ≡ n % 100 / 10 = refl in
     let c : n % 100 % 10 / 1 ≡ n % 100 % 10 = omega arith in
     ap (λ d. (48 + n / 100) ∷ (48 + n % 100 / 10) ∷ (48 + d) ∷ []) c
 

@@ -269,13 +269,6 @@ pub inside_weekday : (z : ℤ) → to_i64 z ≡ None → to_weekday z ≡ None
 unfolding to_weekday
 inside_weekday z gone = rw (within_none (pos 1) (pos 7) z (omega (arith, ints)) (omega (arith, ints)) gone) refl
 
-pub fits_u32 : (n : ℕ) → n < 2 ^ 32 → to_u32 (pos n) ≡ Some n
-unfolding to_u32
-fits_u32 n small =
-    let low : int_le (pos 0) (pos n) ≡ true = grind (arith, ints) in
-    let high : int_le (pos n) (pos (2 ^ 32 - 1)) ≡ true = grind (arith, ints) in
-    rw (low, high) refl
-
 -- what the cursor's view is where nothing is left, and where something is
 pub nothing_left : (rest : List ℕ) (now : List (List ℕ)) → drop 1 (words rest) ≡ now → (length rest == 0) ≡ true → now ≡ []
 nothing_left [] now view none = sym view

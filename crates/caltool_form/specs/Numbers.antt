@@ -54,7 +54,7 @@ to_u32 z = option_map unsigned_abs (within (pos 0) (pos (2 ^ 32 - 1)) z)
 unfoldable pub to_u8 : ℤ → Option ℕ
 to_u8 z = option_map unsigned_abs (within (pos 0) (pos (2 ^ 8 - 1)) z)
 
--- a number of months, as a `u32` or less than 0 by one
+-- a number of months: its size fits a `u32`
 unfoldable pub to_months : ℤ → Option ℤ
 to_months = within (negsuc (2 ^ 32 - 2)) (pos (2 ^ 32 - 1))
 

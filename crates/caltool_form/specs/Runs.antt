@@ -19,7 +19,7 @@ abbrev pub AnsweredEnded : (List ℕ → List ℕ) → Option (List ℕ) → Opt
 AnsweredEnded answer left left' held held' =
     (bytes : List ℕ) × Answered left left' held held' bytes (answers_of answer (ended_lines bytes))
 
--- what was written is a beginning of the output of the bytes read
+-- the writer got a first part of the output of the bytes read, or all of it
 abbrev pub AnsweredPart : (List ℕ → List ℕ) → Option (List ℕ) → Option (List ℕ) → Option (List ℕ) → Option (List ℕ) → Type 0
 AnsweredPart answer left left' held held' =
     (bytes : List ℕ) × (n : ℕ) × Answered left left' held held' bytes (take n (output_of answer bytes))

@@ -27,7 +27,7 @@ pub fn numbers_are_texts()
     ensures written { (text : List ℕ) (z : ℤ) → WritesNumber text z → number_of text ≡ Some z }
 {}
 
-/// A line is a command word and whole numbers, with one space before each.
+/// A line holds a word and then whole numbers, each of them after one space.
 pub fn lines_are_commands()
     ensures read { (line name : List ℕ) (numbers : List ℤ) → arguments_of line ≡ Some (name, numbers) → IsCommandLine line name numbers }
     ensures written { (line name : List ℕ) (numbers : List ℤ) → IsCommandLine line name numbers → arguments_of line ≡ Some (name, numbers) }

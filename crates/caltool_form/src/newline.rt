@@ -41,7 +41,7 @@ fn newline_at(bytes: &[u8]) -> usize
     newline_from(bytes, at)
 }
 
-// The same, where the first `start` bytes are no newline.
+// The same, where the first `start` bytes hold no newline.
 fn newline_from(bytes: &[u8], start: usize) -> usize
     requires within { start ≤ length bytes.now }
     requires before { IsPiece (take start bytes.now) }

@@ -31,9 +31,11 @@ pub(crate) fn leading_digits(text: &[u8]) -> (u64, usize)
     (size, len)
 }
 
-// One digit or two at the front, if any stand there: their value, and their count.
+// One digit or two at the front, if any stand there: their value, and their count. Of three or more it
+// takes two.
 //
-// No branch here asks which of the two it is, since that is a guess that a processor often gets wrong.
+// Whether there is a second one is a guess that a processor often gets wrong. So the test is joined by
+// `&` and both answers are plain values, which compile to no branch.
 #[inline]
 pub(crate) fn few_digits(text: &[u8]) -> (u32, usize)
     ensures within { result.1 ≤ length text.now }
@@ -48,6 +50,7 @@ pub(crate) fn few_digits(text: &[u8]) -> (u32, usize)
     if tens > 9 {
         return (0, 0);
     }
+    // The place of the second byte, or of the first again where there is no second.
     let second = usize::from(text.len() > 1);
     let ones = text[second].wrapping_sub(b'0');
     if (second == 1) & (ones <= 9) {
@@ -57,7 +60,7 @@ pub(crate) fn few_digits(text: &[u8]) -> (u32, usize)
     }
 }
 
-// The number of this sign and size, if it fits.
+// The number of this sign and size, if it fits an `i64`.
 #[inline]
 #[tactic(auto, unfolding(crate::specs::Numbers::to_i64))]
 pub(crate) fn signed(negative: bool, size: u64) -> Option<i64>
@@ -78,6 +81,7 @@ pub(crate) fn signed(negative: bool, size: u64) -> Option<i64>
     }
 }
 
+// The number, if it fits an `i32`.
 #[inline]
 #[tactic(auto, unfolding(crate::specs::Numbers::to_i32))]
 pub(crate) fn to_i32(n: i64) -> Option<i32>
@@ -90,6 +94,7 @@ pub(crate) fn to_i32(n: i64) -> Option<i32>
     }
 }
 
+// The number, if it fits a `u32`.
 #[inline]
 #[tactic(auto, unfolding(crate::specs::Numbers::to_u32))]
 pub(crate) fn to_u32(n: i64) -> Option<u32>
@@ -102,6 +107,7 @@ pub(crate) fn to_u32(n: i64) -> Option<u32>
     }
 }
 
+// The number, if it fits a `u8`.
 #[inline]
 #[tactic(auto, unfolding(crate::specs::Numbers::to_u8))]
 pub(crate) fn to_u8(n: i64) -> Option<u8>

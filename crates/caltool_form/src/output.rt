@@ -8,6 +8,7 @@ use crate::run::RunFault;
 use std::io::Write;
 use std::marker::Model;
 
+// The most bytes that wait to be written.
 const ROOM: usize = 65536;
 
 // The bytes that wait to be written.

@@ -31,7 +31,8 @@ pub(crate) fn read_named(name: &[u8], words: &mut Words) -> Option<Command>
     }
 }
 
-// Reads what the command of this name takes, if it has one of the later names.
+// Reads what the command of this name takes, if it has one of the later names. The names are asked in two
+// halves, so that each proof stays small.
 #[tactic(auto, unfolding(crate::specs::Commands::later_named), using(crate::proofs::Chains::names))]
 fn read_later_named(name: &[u8], words: &mut Words) -> Option<Command>
     ensures { Reads (later_named name.now) words.old result words.new }

@@ -22,10 +22,11 @@ pub enum RunFault {
     Write,
 }
 
+// The most bytes that one read gives.
 const PIECE: usize = 65536;
 
-/// Answers each line of the input by one line, until the input ends: `A` answers the commands, and
-/// `error` any other line. What is answered is written before each read, so that a user who waits
+/// Answers each line of the input by one line, until the input ends: `A` answers each command, and
+/// any other line is answered `error`. What is answered is written before each read, so that a user who waits
 /// for an answer has it. No failed call is tried again, and no memory is taken.
 pub fn answer_lines<A: CommandAnswers, R: Read, W: Write>(
     r: &mut R,
@@ -36,7 +37,7 @@ pub fn answer_lines<A: CommandAnswers, R: Read, W: Write>(
     // The lines that a newline ends among the bytes read are answered, and nothing else is written.
     ensures read { IsErrOf result RunFault.Read
         → AnsweredEnded (answer_of A.answer_to) (R.remaining r.old) (R.remaining r.new) (W.contents w.old) (W.contents w.new) }
-    // What was written is a beginning of the output of the bytes read.
+    // The writer got a first part of the output of the bytes read, or all of it.
     ensures write { IsErrOf result RunFault.Write
         → AnsweredPart (answer_of A.answer_to) (R.remaining r.old) (R.remaining r.new) (W.contents w.old) (W.contents w.new) }
 {

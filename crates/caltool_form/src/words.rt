@@ -98,7 +98,7 @@ impl<'a> Words<'a> {
         self.rest.is_empty()
     }
 
-    // Reads a number that fits an `i64`. It is the faster if the number has one digit or two.
+    // Reads a number that fits an `i64`, tried as one of one digit or two first.
     #[inline(always)]
     fn small(&mut self) -> Option<i64>
         ensures read { Reads i64 self.old result self.new }
@@ -110,7 +110,7 @@ impl<'a> Words<'a> {
         }
     }
 
-    // Reads a number that fits an `i64`.
+    // Reads a number that fits an `i64`, as a call of its own, which keeps its callers short.
     #[inline(never)]
     fn large(&mut self) -> Option<i64>
         ensures read { Reads i64 self.old result self.new }

@@ -1,8 +1,9 @@
 -- Which names and numbers are dates, from tests to facts.
 use Rattle.std.proofs.Common.{◌≡◌, ℕ, Bool, true, false, ◌&&◌, cond, Option, Some, None, refl, ap, arith, ℤ}
-use Rattle.std.proofs.lemmas.Bool.{false≢true}
+use Rattle.std.proofs.lemmas.Bool.{and_parts, false≢true}
 use Rattle.std.proofs.lemmas.Bool.Decides.{nat_tests}
 use Rattle.std.proofs.lemmas.Int.{ints}
+use Rattle.std.specs.Cmp.Derive.{both_true}
 use Rattle.std.specs.Option.{SomeIff}
 use Rattle.chrono_units.specs.Years.{IsYear, is_year}
 use Rattle.chrono_calendar.specs.Days.{IsDate, is_date, IsOrdinalName, is_ordinal_name, IsCalendarName, is_calendar_name, day_number_of_yo, day_number_of_ymd, date_of_day, date_of_yo, date_of_ymd}
@@ -13,10 +14,6 @@ by_test true (Some x) v P f g given = ap Some given.1
 by_test true None v P f g given = absurd (given (f refl))
 by_test false (Some x) v P f g given = absurd (false≢true (g given.0))
 by_test false None v P f g given = refl
-
-both : (a b : Bool) → (a && b) ≡ true → (a ≡ true) × (b ≡ true)
-both true b e = (refl, e)
-both false b e = absurd (false≢true e)
 
 pub is_year-fact : (y : ℤ) → is_year y ≡ true → IsYear y
 is_year-fact y e = (grind (arith, ints), grind (arith, ints))
@@ -43,9 +40,6 @@ is_calendar_name-fact y m d e =
 pub is_calendar_name-test : (y : ℤ) (m d : ℕ) → IsCalendarName y m d → is_calendar_name y m d ≡ true
 is_calendar_name-test y m d h = grind (arith, nat_tests, h.0.0, h.0.1, h.1.0, h.1.1)
 
-joined : (a b : Bool) → a ≡ true → b ≡ true → (a && b) ≡ true
-joined a b e f = rw (e, f) refl
-
 -- answers that exist exactly for a name or a number of a date
 pub date_of_day-SomeIff : (o : Option ℤ) (n : ℤ) → SomeIff o (IsDate n) n → o ≡ date_of_day n
 unfolding date_of_day
@@ -55,12 +49,12 @@ pub date_of_yo-SomeIff : (r : Option ℤ) (y : ℤ) (o : ℕ) → SomeIff r (IsY
 unfolding date_of_yo
 date_of_yo-SomeIff r y o given =
     by_test (is_year y && is_ordinal_name y o) r (day_number_of_yo y o) (IsYear y × IsOrdinalName y o)
-    (λ e. (is_year-fact y (both (is_year y) (is_ordinal_name y o) e).0, is_ordinal_name-fact y o (both (is_year y) (is_ordinal_name y o) e).1))
-    (λ h. joined (is_year y) (is_ordinal_name y o) (is_year-test y h.0) (is_ordinal_name-test y o h.1)) given
+    (λ e. (is_year-fact y (and_parts (is_year y) (is_ordinal_name y o) e).0, is_ordinal_name-fact y o (and_parts (is_year y) (is_ordinal_name y o) e).1))
+    (λ h. both_true (is_year-test y h.0) (is_ordinal_name-test y o h.1)) given
 
 pub date_of_ymd-SomeIff : (r : Option ℤ) (y : ℤ) (m d : ℕ) → SomeIff r (IsYear y × IsCalendarName y m d) (day_number_of_ymd y m d) → r ≡ date_of_ymd y m d
 unfolding date_of_ymd
 date_of_ymd-SomeIff r y m d given =
     by_test (is_year y && is_calendar_name y m d) r (day_number_of_ymd y m d) (IsYear y × IsCalendarName y m d)
-    (λ e. (is_year-fact y (both (is_year y) (is_calendar_name y m d) e).0, is_calendar_name-fact y m d (both (is_year y) (is_calendar_name y m d) e).1))
-    (λ h. joined (is_year y) (is_calendar_name y m d) (is_year-test y h.0) (is_calendar_name-test y m d h.1)) given
+    (λ e. (is_year-fact y (and_parts (is_year y) (is_calendar_name y m d) e).0, is_calendar_name-fact y m d (and_parts (is_year y) (is_calendar_name y m d) e).1))
+    (λ h. both_true (is_year-test y h.0) (is_calendar_name-test y m d h.1)) given

@@ -1,20 +1,23 @@
 -- The day that an ISO name names, and the ISO name of each date.
-use Rattle.std.proofs.Common.{◌≡◌, ℕ, ◌+◌, ◌-◌, ◌*◌, ◌%◌, ◌<◌, ◌≤◌, true, ◌&&◌, nat_eq, Some, None, refl, sym, ap, ◌∙◌, arith, ℤ, pos, neg_ℤ, ◌+ℤ◌, ◌-ℤ◌, ◌≤ℤ◌}
+use Rattle.std.proofs.Common.{◌≡◌, ℕ, ◌+◌, ◌-◌, ◌*◌, ◌<◌, ◌≤◌, true, ◌&&◌, nat_eq, Some, None, refl, sym, ap, ◌∙◌, arith, ℤ, pos, neg_ℤ, ◌+ℤ◌, ◌-ℤ◌, ◌≤ℤ◌}
+use Rattle.std.proofs.lemmas.Bool.{and_parts}
 use Rattle.std.proofs.lemmas.Bool.Decides.{nat_tests}
 use Rattle.std.proofs.lemmas.Int.{ints}
 use Rattle.std.proofs.lemmas.Option.{cond_some}
+use Rattle.std.specs.Cmp.Derive.{both_true}
 use Rattle.std.specs.Ordering.{int_eq}
 use Rattle.chrono_units.specs.Years.{year_length}
 use Rattle.chrono_units.specs.declared.weekday.Weekday.{Weekday}
-use Rattle.chrono_units.specs.Weekday.{days_from_monday, number_from_monday, weekday_from_sunday}
+use Rattle.chrono_units.specs.Weekday.{days_from_monday, number_from_monday}
+use Rattle.chrono_units.proofs.WeekdayCycle.{days_from_monday-lt}
 use Rattle.chrono_calendar.specs.Days.{IsDate, is_date, days_before_year, IsOrdinalName, day_number_of_yo, ordinal_of, date_of_day, date_of_yo}
 use Rattle.chrono_calendar.specs.Weeks.{days_from_sunday_of, iso_weekday_of, weekday_of, thursday_of_week, iso_year_of, iso_week_of, day_number_of_iso, is_iso_name, date_of_iso}
 use Rattle.chrono_calendar.proofs.Signed.{signed}
 use Rattle.chrono_calendar.proofs.Years.{days_before_year-next}
 use Rattle.chrono_calendar.proofs.Names.{ordinal_name_of-number, year_length_bounds}
 use Rattle.chrono_calendar.proofs.Dates.{is_date-fact}
-use Rattle.chrono_calendar.proofs.NamedDates.{same_test, both_tests, joined_tests, None-cond, date_of_day-Some, date_of_yo-day}
-use Rattle.chrono_calendar.proofs.IsoWeeks.{days_from_monday-bound, weekday_from_sunday-days, days_from_monday-of, iso_weekday_of-monday, same_weekday, thursday_of_week-monday, iso_name-thursday, before_monday, iso_year_of-range}
+use Rattle.chrono_calendar.proofs.NamedDates.{same_test, None-cond, date_of_day-Some, date_of_yo-day}
+use Rattle.chrono_calendar.proofs.IsoWeeks.{days_from_monday-of, iso_weekday_of-monday, same_weekday, thursday_of_week-monday, iso_name-thursday, before_monday, iso_year_of-range}
 
 fourth_of_january : (y : ℤ) → days_from_monday (weekday_of (days_before_year y +ℤ pos 4)) ≡ before_monday y
 fourth_of_january y = omega (arith, signed, days_from_monday-of (days_before_year y +ℤ pos 4))
@@ -26,7 +29,7 @@ day_number_of_iso-place y w d =
 -- that day has the weekday, and its Thursday lies as many weeks on
 pub weekday_of-iso : (n y : ℤ) (w : ℕ) (d : Weekday) → n ≡ days_before_year y +ℤ pos (7 * w + days_from_monday d) -ℤ pos (before_monday y + 3) → weekday_of n ≡ d
 weekday_of-iso n y w d e =
-    let bound = days_from_monday-bound d in
+    let bound = days_from_monday-lt d in
     same_weekday n d (omega (arith, signed))
 
 pub thursday_of-iso : (n y : ℤ) (w : ℕ) (d : Weekday) → n ≡ days_before_year y +ℤ pos (7 * w + days_from_monday d) -ℤ pos (before_monday y + 3) → thursday_of_week n ≡ days_before_year y +ℤ pos (7 * w) -ℤ pos (before_monday y)
@@ -42,8 +45,8 @@ name_test p y v w i d e f g = rw (e, f, g) (grind (arith, ints, nat_tests))
 
 name_parts : (p y : ℤ) (v w i d : ℕ) → (int_eq p y && nat_eq v w && nat_eq i d) ≡ true → (p ≡ y) × (v ≡ w) × (i ≡ d)
 name_parts p y v w i d e =
-    let two = both_tests (int_eq p y && nat_eq v w) (nat_eq i d) e in
-    let one = both_tests (int_eq p y) (nat_eq v w) two.0 in
+    let two = and_parts (int_eq p y && nat_eq v w) (nat_eq i d) e in
+    let one = and_parts (int_eq p y) (nat_eq v w) two.0 in
     (grind (arith, ints, one.0), grind (arith, nat_tests, one.1), grind (arith, nat_tests, two.1))
 
 -- a week that the year has: its days are named so, and are dates where they lie in the range
@@ -58,7 +61,7 @@ date_of_iso-named y w d first last =
     let week : iso_week_of n ≡ w = omega (arith, name.1, before_monday-bound y) in
     let number : iso_weekday_of n ≡ number_from_monday d = iso_weekday_of-monday n ∙ ap number_from_monday weekday in
     let test : is_iso_name y w (number_from_monday d) n ≡ true = name_test (iso_year_of n) y (iso_week_of n) w (iso_weekday_of n) (number_from_monday d) name.0 week number in
-    let same : (is_date n && is_iso_name y w (number_from_monday d) n) ≡ is_date n = same_test (is_date n && is_iso_name y w (number_from_monday d) n) (is_date n) (λ t. (both_tests (is_date n) (is_iso_name y w (number_from_monday d) n) t).0) (λ t. joined_tests (is_date n) (is_iso_name y w (number_from_monday d) n) t test) in
+    let same : (is_date n && is_iso_name y w (number_from_monday d) n) ≡ is_date n = same_test (is_date n && is_iso_name y w (number_from_monday d) n) (is_date n) (λ t. (and_parts (is_date n) (is_iso_name y w (number_from_monday d) n) t).0) (λ t. both_true t test) in
     rw same refl
 
 -- no date where the day that would be named has another name
@@ -67,7 +70,7 @@ unfolding date_of_iso
 date_of_iso-None y w d h =
     let n = day_number_of_iso y w (number_from_monday d) in
     let test : (is_date n && is_iso_name y w (number_from_monday d) n) ≡ true → ⊥ = λ t.
-    let both = both_tests (is_date n) (is_iso_name y w (number_from_monday d) n) t in
+    let both = and_parts (is_date n) (is_iso_name y w (number_from_monday d) n) t in
     let name = name_parts (iso_year_of n) y (iso_week_of n) w (iso_weekday_of n) (number_from_monday d) both.1 in
     h (is_date-fact n both.0) name.0 name.1 in
     None-cond (is_date n && is_iso_name y w (number_from_monday d) n) (Some n) test
@@ -115,16 +118,13 @@ date_of_iso-again n h =
     let bounds = iso_week_of-bounds n in
     date_of_iso-named (iso_year_of n) (iso_week_of n) (weekday_of n) bounds.0 bounds.1 ∙ ap date_of_day (day_number_of_iso-name n) ∙ date_of_day-Some n h
 
-days_from_monday-same : (d e : Weekday) → days_from_monday d ≡ days_from_monday e → d ≡ e
-days_from_monday-same d e h = sym (weekday_from_sunday-days d) ∙ ap (λ (k : ℕ). weekday_from_sunday ((k + 1) % 7)) h ∙ weekday_from_sunday-days e
-
 -- and by no other
 pub date_of_iso-name : (n y : ℤ) (w : ℕ) (d : Weekday) → date_of_iso y w d ≡ Some n → (y ≡ iso_year_of n) × (w ≡ iso_week_of n) × (d ≡ weekday_of n)
 unfolding date_of_iso
 date_of_iso-name n y w d e =
     let m = day_number_of_iso y w (number_from_monday d) in
     let found = cond_some (is_date m && is_iso_name y w (number_from_monday d) m) m n e in
-    let both = both_tests (is_date m) (is_iso_name y w (number_from_monday d) m) found.0 in
+    let both = and_parts (is_date m) (is_iso_name y w (number_from_monday d) m) found.0 in
     let name = name_parts (iso_year_of m) y (iso_week_of m) w (iso_weekday_of m) (number_from_monday d) both.1 in
     let weekday = weekday_of-iso m y w d (day_number_of_iso-place y w d) in
     rw (← found.1) (sym name.0, sym name.1, sym weekday)
@@ -147,4 +147,4 @@ date_of_iso-before y p w o d first last past e high =
 -- in the first days of the year after
 pub date_of_iso-after : (y q : ℤ) (w o : ℕ) (d : Weekday) → 1 ≤ w → 7 * w ≤ year_length y + before_monday y → q ≡ y +ℤ pos 1 → o + year_length y + before_monday y + 3 ≡ 7 * w + days_from_monday d → 1 ≤ o → date_of_yo q o ≡ date_of_iso y w d
 date_of_iso-after y q w o d first last next e low =
-    date_of_iso-yo y q w o d first last (omega (arith, signed, days_before_year-next y q next)) (low, omega (arith, year_length_bounds q, days_from_monday-bound d))
+    date_of_iso-yo y q w o d first last (omega (arith, signed, days_before_year-next y q next)) (low, omega (arith, year_length_bounds q, days_from_monday-lt d))

@@ -7,20 +7,12 @@ use Rattle.chrono_units.specs.Years.{year_length}
 use Rattle.chrono_units.specs.declared.weekday.Weekday.{Weekday}
 use Rattle.chrono_units.specs.declared.weekday.Weekday.TheVariants.{Mon, Tue, Wed, Thu, Fri, Sat, Sun}
 use Rattle.chrono_units.specs.Weekday.{days_from_monday, weekday_from_sunday}
+use Rattle.chrono_units.proofs.WeekdayCycle.{days_from_monday-lt}
 use Rattle.chrono_calendar.specs.Days.{IsDate, days_before_year, IsOrdinalName, day_number_of_yo}
 use Rattle.chrono_calendar.specs.Weeks.{days_from_sunday_of, iso_weekday_of, weekday_of, thursday_of_week, iso_year_of, iso_week_of}
 use Rattle.chrono_calendar.proofs.Signed.{signed}
 use Rattle.chrono_calendar.proofs.Years.{days_before_year-next, days_before_year-closed}
 use Rattle.chrono_calendar.proofs.Names.{ordinal_name_of-number, year_of-number, ordinal_of-number, days_before_year-later, year_length_bounds}
-
-pub days_from_monday-bound : (d : Weekday) → days_from_monday d < 7
-days_from_monday-bound Mon = omega arith
-days_from_monday-bound Tue = omega arith
-days_from_monday-bound Wed = omega arith
-days_from_monday-bound Thu = omega arith
-days_from_monday-bound Fri = omega arith
-days_from_monday-bound Sat = omega arith
-days_from_monday-bound Sun = omega arith
 
 pub weekday_from_sunday-days : (d : Weekday) → weekday_from_sunday ((days_from_monday d + 1) % 7) ≡ d
 weekday_from_sunday-days Mon = refl
@@ -80,7 +72,7 @@ iso_name-inside n y o f e g low high =
 
 pub iso_name-before : (n y p : ℤ) (o f : ℕ) → n ≡ day_number_of_yo y o → f ≡ days_from_monday (weekday_of n) → p ≡ y -ℤ pos 1 → 1 ≤ o → o + 3 ≤ f → has_iso_name n p (o + 3 + year_length p - f)
 iso_name-before n y p o f e g past low high =
-    let bound = days_from_monday-bound (weekday_of n) in
+    let bound = days_from_monday-lt (weekday_of n) in
     let next : y ≡ p +ℤ pos 1 = omega (arith, signed) in
     let found : day_number_of_yo p (o + 3 + year_length p - f) ≡ thursday_of_week n = omega (arith, signed, thursday_of_week-monday n, days_before_year-next p y next, year_length_bounds p) in
     let name = iso_name-thursday n p (o + 3 + year_length p - f) found (omega (arith, year_length_bounds p), omega arith) in
@@ -112,13 +104,14 @@ iso_year_of-range n h =
     later_year : (y : ℤ) → pos 262_143 <ℤ y → pos 95_745_764 ≤ℤ days_before_year y
     later_year y lt = by_lt_z (pos 262_144) y (λ more. omega (arith, signed, days_before_year-later (pos 262_144) y more, last_years.1)) (λ le. let same : y ≡ pos 262_144 = omega (arith, signed) in rw same (omega (arith, signed, last_years.1)))
 
--- the weekday of the last day before a year, from the years since a common multiple of 400
-leaps : (y : ℤ) (p : ℕ) → pos p ≡ y +ℤ pos 262_399 → (int_div_euclid (y -ℤ pos 1) (pos 4) ≡ pos (p / 4) -ℤ pos 65_600) × (int_div_euclid (y -ℤ pos 1) (pos 100) ≡ pos (p / 100) -ℤ pos 2_624) × (int_div_euclid (y -ℤ pos 1) (pos 400) ≡ pos (p / 400) -ℤ pos 656)
-leaps y p e = (omega (arith, signed), omega (arith, signed), omega (arith, signed))
+-- the quotients that the leap years before a year are counted by, from the years since a common multiple of 400
+pub leap_quotients : (y : ℤ) (p : ℕ) → pos p ≡ y +ℤ pos 262_399 → (int_div_euclid (y -ℤ pos 1) (pos 4) ≡ pos (p / 4) -ℤ pos 65_600) × (int_div_euclid (y -ℤ pos 1) (pos 100) ≡ pos (p / 100) -ℤ pos 2_624) × (int_div_euclid (y -ℤ pos 1) (pos 400) ≡ pos (p / 400) -ℤ pos 656)
+leap_quotients y p e = (omega (arith, signed), omega (arith, signed), omega (arith, signed))
 
+-- the weekday of the last day before that year
 pub days_from_sunday_of-year : (y : ℤ) (p : ℕ) → pos p ≡ y +ℤ pos 262_399 → days_from_sunday_of (days_before_year y) ≡ (p + p / 4 - p / 100 + p / 400) % 7
 days_from_sunday_of-year y p e =
-    let l = leaps y p e in
+    let l = leap_quotients y p e in
     let days : days_before_year y +ℤ pos 95_839_632 ≡ pos (365 * p + p / 4 - p / 100 + p / 400) = omega (arith, signed, days_before_year-closed y, l.0, l.1, l.2) in
     omega (arith, signed)
 

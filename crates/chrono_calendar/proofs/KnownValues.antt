@@ -1,10 +1,10 @@
 -- Values that the calendar gives, so that a wrong rule does not check.
 use Rattle.std.proofs.Common.{◌≡◌, pos, negsuc, refl, arith}
 use Rattle.chrono_calendar.specs.Days.{days_of_years, days_before_year, days_of_months_in, day_number_of_yo, day_number_of_ymd}
-use Rattle.chrono_calendar.specs.Weeks.{iso_weekday_of, iso_year_of, iso_week_of}
+use Rattle.chrono_calendar.specs.Weeks.{iso_weekday_of, iso_week_of}
 use Rattle.chrono_calendar.proofs.Signed.{signed}
 use Rattle.chrono_calendar.proofs.Years.{days_before_year-closed}
-use Rattle.chrono_calendar.proofs.Names.{year_of-number, ordinal_of-number}
+use Rattle.chrono_calendar.proofs.Names.{ordinal_of-number}
 
 pub epoch : day_number_of_ymd (pos 1970) 1 1 ≡ pos 719_163
 unfolding days_before_year days_of_years days_of_months_in
@@ -22,7 +22,7 @@ pub before_zero : day_number_of_ymd (negsuc 3) 2 29 ≡ negsuc 1766
 unfolding days_before_year days_of_years days_of_months_in
 before_zero = refl
 
--- 2024-12-30 is in 2025-W01
+-- 30 December 2024 has the number that `known_weeks` of `law.rt` names
 pub days_2024 : day_number_of_ymd (pos 2024) 12 30 ≡ pos 739_250
 unfolding days_before_year days_of_years days_of_months_in
 days_2024 = refl
@@ -36,11 +36,7 @@ first_number = omega (arith, signed, days_before_year-closed (negsuc 262_142))
 pub last_number : day_number_of_yo (pos 262_142) 365 ≡ pos 95_745_399
 last_number = omega (arith, signed, days_before_year-closed (pos 262_142))
 
--- 2024-12-30 is in 2025-W01, and 2021-01-03 in 2020-W53
-pub week_one : iso_year_of (pos 739_250) ≡ pos 2025
-unfolding days_before_year days_of_years
-week_one = year_of-number (pos 739_253) (pos 2025) 2 refl (omega arith, omega arith)
-
+-- 3 January 2021 is in week 53 of 2020
 pub week_53 : iso_week_of (pos 737_793) ≡ 53
 unfolding days_before_year days_of_years
 week_53 = rw (ordinal_of-number (pos 737_790) (pos 2020) 366 refl (omega arith, omega arith)) refl

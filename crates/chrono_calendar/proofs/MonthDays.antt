@@ -7,15 +7,12 @@ use Rattle.chrono_calendar.specs.Days.{days_of_months_in, month_of_ordinal}
 use Rattle.chrono_calendar.specs.Flags.{IsYearFlags}
 use Rattle.chrono_calendar.specs.Tables.{ol_of, mdl_adjustment, ol_adjustment, is_day_of_month}
 use Rattle.chrono_calendar.specs.MonthDay.{MonthDayFlags, is_leap_flags, IsDayOfMonth, ordinal_of_month_day, month_day_stored, month_day_of_ordinal}
-use Rattle.chrono_calendar.proofs.Months.{month_of_ordinal-exists}
-
-month_length_in-bound : (leap : Bool) (m : ℕ) → month_length_in leap m ≤ 31
-month_length_in-bound leap m = grind arith
+use Rattle.chrono_calendar.proofs.Months.{month_length_in-bounds, month_of_ordinal-exists}
 
 pub days_of_months_in-bound : (leap : Bool) (n : ℕ) → days_of_months_in leap n ≤ 31 * n
 unfolding days_of_months_in
 days_of_months_in-bound leap zero = omega arith
-days_of_months_in-bound leap (suc n) = omega (arith, days_of_months_in-bound leap n, month_length_in-bound leap (suc n))
+days_of_months_in-bound leap (suc n) = omega (arith, days_of_months_in-bound leap n, month_length_in-bounds leap (suc n))
 
 -- the last digit of an ordinal's number says whether the year is leap, as the flags do
 same_leap : (n f : ℕ) → n % 2 ≡ f / 8 → f ≤ 15 → nat_eq (n % 2) 0 ≡ is_leap_flags f
@@ -30,7 +27,7 @@ ol_adjustment-stored n f h e k =
     let last : n / 2 ≤ cond leap 366 365 = grind (arith, nat_tests) in
     let named = month_of_ordinal-exists leap (n / 2) (omega arith, last) in
     let before = days_of_months_in-bound leap (month_of_ordinal leap (n / 2) - 1) in
-    let short = month_length_in-bound leap (month_of_ordinal leap (n / 2)) in
+    let short = month_length_in-bounds leap (month_of_ordinal leap (n / 2)) in
     rw (same_leap n f e (omega arith)) (omega (arith, named.month), omega (arith, named.day), omega (arith, named.month, named.day, named.ordinal))
 
 day_tested : (leap : Bool) (m d : ℕ) → is_day_of_month leap m d ≡ true → IsInRange 1 12 m × IsInRange 1 (month_length_in leap m) d

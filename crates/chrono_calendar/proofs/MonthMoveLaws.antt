@@ -1,7 +1,7 @@
 -- The laws of month moves.
-use Rattle.std.proofs.Common.{◌≡◌, ℕ, zero, suc, ◌-◌, ◌*◌, ◌^◌, ◌<◌, ◌≤◌, inl, inr, min, Bool, true, false, cond, Option, Some, None, IfSome, IsSomeAnd, refl, sym, ap, subst, ◌∙◌, arith, ℤ, pos, negsuc, ◌+ℤ◌, ◌-ℤ◌, ◌*ℤ◌, ◌≤ℤ◌, ◌<ℤ◌, FitsSigned, w32, w64}
+use Rattle.std.proofs.Common.{◌≡◌, ℕ, zero, suc, ◌*◌, ◌<◌, ◌≤◌, inl, inr, min, Bool, true, false, cond, Option, Some, None, IfSome, IsSomeAnd, refl, sym, ap, subst, ◌∙◌, arith, ℤ, pos, negsuc, ◌+ℤ◌, ◌-ℤ◌, ◌*ℤ◌, ◌≤ℤ◌, ◌<ℤ◌}
 use Rattle.std.proofs.lemmas.Option.{cond_some}
-use Rattle.std.proofs.Math.Nat.{mul-lt-mul_of_pos_left, mul-le-mul}
+use Rattle.std.proofs.Math.Nat.{mul-lt-mul_of_pos_left}
 use Rattle.chrono_units.specs.Years.{is_year, IsYear}
 use Rattle.chrono_calendar.specs.Days.{IsDate, year_of, ordinal_of, month_of, day_of}
 use Rattle.chrono_calendar.specs.MonthMoves.{year_of_month_index, month_of_month_index, day_number_in_month, month_index_of, month_length_of, month_move, InSameMonth, KeepsOrder, IsMonthMoveBack, ComesBack, AddsUp, LaterMultiplesAreLater}
@@ -117,7 +117,7 @@ month_move-ComesBack n k l e zero_sum y h =
       shorter = λ short. law.2 (omega (arith, length));
     })
 
--- a second move comes to the month of the one move by the sum, and not to a later day of it
+-- two moves end in the month that a single move by both reaches, on the same day there or before it
 added_in_month : (target i : ℤ) (d : ℕ) → 1 ≤ d → InSameMonth (day_number_in_month target (min d (length_at i))) (day_number_in_month target d) × (day_number_in_month target (min d (length_at i)) ≤ℤ day_number_in_month target d)
 added_in_month target i d first =
     let twice = day_at-moved target (min d (length_at i)) (omega (arith, length_at-bounds i)) in
@@ -165,21 +165,3 @@ month_move-LaterMultiplesAreLater n k i e h m =
 pub if_moved : (o : Option ℤ) (n k l : ℤ) → k +ℤ l ≡ pos 0 → IsYear (year_of n) → o ≡ month_move n k → IfSome o (KeepsOrder n k) × IfSome o (ComesBack n l) × IfSome o (AddsUp n k)
 if_moved None n k l z y h = (tt, tt, tt)
 if_moved (Some e) n k l z y h = (month_move-KeepsOrder n k e (sym h), month_move-ComesBack n k l e z y (sym h), month_move-AddsUp n k e (sym h))
-
--- the months of i steps of k months, in the machine's range
-pub multiple_fits : (k : ℤ) (i : ℕ) → FitsSigned w32 k → i < 2 ^ 32 → FitsSigned w64 (k *ℤ pos i)
-multiple_fits (pos a) i h lt =
-    let last : i ≤ 2 ^ 32 - 1 = omega arith in
-    let size : a ≤ 2 ^ 31 = omega (arith, signed) in
-    let below : a * i ≤ 2 ^ 31 * (2 ^ 32 - 1) = mul-le-mul size last in
-    omega (arith, signed)
-multiple_fits (negsuc a) i h lt =
-    let last : i ≤ 2 ^ 32 - 1 = omega arith in
-    let size : suc a ≤ 2 ^ 31 = omega (arith, signed) in
-    let below : suc a * i ≤ 2 ^ 31 * (2 ^ 32 - 1) = mul-le-mul size last in
-    omega (arith, signed)
-
--- the law of multiples, of an answer that is the move
-pub if_multiple : (o : Option ℤ) (n k : ℤ) (i : ℕ) → o ≡ month_move n (k *ℤ pos i) → pos 0 <ℤ k → IfSome o (LaterMultiplesAreLater n k i)
-if_multiple None n k i h p = tt
-if_multiple (Some e) n k i h p = month_move-LaterMultiplesAreLater n k i e p (sym h)

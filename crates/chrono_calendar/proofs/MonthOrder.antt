@@ -10,7 +10,7 @@ use Rattle.chrono_calendar.specs.MonthMoves.{month_index_of}
 use Rattle.chrono_calendar.proofs.Signed.{signed}
 use Rattle.chrono_calendar.proofs.Years.{days_before_year-next}
 use Rattle.chrono_calendar.proofs.Names.{ordinal_name_of-number, year_of-number, ordinal_of-number}
-use Rattle.chrono_calendar.proofs.Months.{days_of_months_in-year, ordinal_within, month_of_ordinal-exists, month_of_ordinal-unique}
+use Rattle.chrono_calendar.proofs.Months.{days_of_months_in-year, month_length_in-bounds, ordinal_within, month_of_ordinal-exists, month_of_ordinal-unique}
 use borrow.Author.Differences.{up, down}
 
 -- the length of the month with the index i
@@ -24,7 +24,7 @@ before_month i = days_before_year (year_of_month_index i) +ℤ pos (days_of_mont
 -- a month has 28 to 31 days
 pub length_at-bounds : (i : ℤ) → (28 ≤ length_at i) × (length_at i ≤ 31)
 unfolding length_at
-length_at-bounds i = grind arith
+length_at-bounds i = month_length_in-bounds (is_leap_year (year_of_month_index i)) (month_of_month_index i)
 
 -- the year and the month of an index are those that it was made of
 pub month_index-parts : (y : ℤ) (m : ℕ) → IsInRange 1 12 m → (year_of_month_index (month_index y m) ≡ y) × (month_of_month_index (month_index y m) ≡ m)

@@ -1,35 +1,20 @@
 -- The days before each month, and the month of each day.
-use Rattle.std.proofs.Common.{◌≡◌, ℕ, ◌+◌, ◌-◌, ◌<◌, ◌≤◌, Bool, true, false, ◌&&◌, ◌||◌, cond, nat_eq, nat_lt, nat_le, List, [], ◌∷◌, get_or, refl, arith}
+use Rattle.std.proofs.Common.{◌≡◌, ℕ, ◌+◌, ◌-◌, ◌≤◌, Bool, true, false, ◌&&◌, ◌||◌, cond, nat_eq, nat_lt, nat_le, refl, arith}
 use Rattle.std.proofs.lemmas.Bool.Decides.{nat_tests}
 use Rattle.chrono_units.specs.Years.{month_length_in}
 use Rattle.chrono_calendar.specs.Days.{days_of_months_in, month_of_ordinal, day_of_ordinal, IsMonthAndDay}
 use Rattle.chrono_calendar.proofs.Tests.{passes_below, passes_below-at}
 use Rattle.std.specs.Int.{IsInRange}
 
--- the days before each month of a common year
-abbrev pub month_starts : List ℕ
-month_starts = 0 ∷ 31 ∷ 59 ∷ 90 ∷ 120 ∷ 151 ∷ 181 ∷ 212 ∷ 243 ∷ 273 ∷ 304 ∷ 334 ∷ []
-
-abbrev is_month_start : Bool → ℕ → Bool
-is_month_start leap n = nat_eq (days_of_months_in leap n) (get_or month_starts n 0 + cond (leap && nat_lt 1 n) 1 0)
-
-month_starts_right : (leap : Bool) → passes_below (is_month_start leap) 12 ≡ true
-unfolding passes_below days_of_months_in
-month_starts_right true = refl
-month_starts_right false = refl
-
-pub days_of_months_in-starts : (leap : Bool) (n : ℕ) → n < 12 → days_of_months_in leap n ≡ get_or month_starts n 0 + cond (leap && nat_lt 1 n) 1 0
-days_of_months_in-starts leap n h =
-    let passed = passes_below-at (is_month_start leap) 12 (month_starts_right leap) n h in grind (arith, nat_tests)
-
+-- the months of a year have its days
 pub days_of_months_in-year : (leap : Bool) → days_of_months_in leap 12 ≡ cond leap 366 365
 unfolding days_of_months_in
 days_of_months_in-year true = refl
 days_of_months_in-year false = refl
 
-pub month_start_bound : (n : ℕ) → n < 12 → get_or month_starts n 0 ≤ 334
-month_start_bound n h =
-    let passed = passes_below-at (λ k. nat_le (get_or month_starts k 0) 334) 12 (unfold passes_below in refl) n h in grind (arith, nat_tests)
+-- a month has 28 to 31 days
+pub month_length_in-bounds : (leap : Bool) (m : ℕ) → (28 ≤ month_length_in leap m) × (month_length_in leap m ≤ 31)
+month_length_in-bounds leap m = (grind arith, grind arith)
 
 -- a month ends within its year
 abbrev month_ends_in_year : Bool → ℕ → Bool
@@ -92,15 +77,12 @@ days_tested false = refl
 itself : (a b c : Bool) → (a || (b && c)) ≡ true → a ≡ false → (b ≡ true) × (c ≡ true)
 itself a b c h k = grind arith
 
-month_length_in_bound : (leap : Bool) (m : ℕ) → month_length_in leap m ≤ 31
-month_length_in_bound leap m = grind arith
-
 pub month_of_ordinal-unique : (leap : Bool) (m d o : ℕ) → IsMonthAndDay leap m d o → (month_of_ordinal leap o ≡ m) × (day_of_ordinal leap o ≡ d)
 month_of_ordinal-unique leap m d o h =
     let month_back : m - 1 + 1 ≡ m = omega (arith, h.month) in
     let day_back : d - 1 + 1 ≡ d = omega (arith, h.day) in
     let in_month = passes_below-at (λ k. passes_below (λ d. names_itself leap (k + 1) (d + 1)) 31) 12 (days_tested leap) (m - 1) (omega (arith, h.month)) in
-    let passed = passes_below-at (λ k. names_itself leap (m - 1 + 1) (k + 1)) 31 in_month (d - 1) (omega (arith, h.day, month_length_in_bound leap m)) in
+    let passed = passes_below-at (λ k. names_itself leap (m - 1 + 1) (k + 1)) 31 in_month (d - 1) (omega (arith, h.day, month_length_in-bounds leap m)) in
     let here : names_itself leap m d ≡ true = rw (month_back, day_back) at passed in
     let inside : nat_lt (month_length_in leap m) d ≡ false = grind (arith, nat_tests, h.day) in
     let same = itself (nat_lt (month_length_in leap m) d) (nat_eq (month_of_ordinal leap (days_of_months_in leap (m - 1) + d)) m) (nat_eq (day_of_ordinal leap (days_of_months_in leap (m - 1) + d)) d) here inside in

@@ -1,11 +1,14 @@
 -- A move by months, as the code makes it: from the months since the first of the library's to the date in the target month.
-use Rattle.std.proofs.Common.{Some, ◌≡◌, ℕ, ◌+◌, ◌/◌, ◌%◌, ◌<◌, ◌≤◌, ◌&&◌, min, None, refl, arith, ℤ, pos, neg_ℤ, ◌+ℤ◌}
-use Rattle.chrono_units.specs.Years.{is_year, IsYear, month_length}
+use Rattle.std.proofs.Common.{Some, ◌≡◌, ℕ, ◌+◌, ◌/◌, ◌%◌, ◌<◌, ◌&&◌, min, None, refl, arith, ℤ, pos, neg_ℤ, ◌+ℤ◌}
+use Rattle.std.proofs.lemmas.Bool.{and_parts}
+use Rattle.std.specs.Cmp.Derive.{both_true}
+use Rattle.chrono_units.specs.Years.{is_leap_year, is_year, IsYear, month_length}
 use Rattle.chrono_calendar.specs.Days.{IsCalendarName, is_calendar_name, date_of_ymd, day_of}
 use Rattle.chrono_calendar.specs.MonthMoves.{year_of_month_index, month_of_month_index, month_index_of, day_number_in_month, month_move}
 use Rattle.chrono_calendar.proofs.Signed.{signed}
+use Rattle.chrono_calendar.proofs.Months.{month_length_in-bounds}
 use Rattle.chrono_calendar.proofs.Dates.{is_year-fact, is_calendar_name-test}
-use Rattle.chrono_calendar.proofs.NamedDates.{None-cond, same_test, both_tests, joined_tests}
+use Rattle.chrono_calendar.proofs.NamedDates.{None-cond, same_test}
 use Rattle.chrono_calendar.proofs.MonthOrder.{month_of_month_index-bounds, day_at-exists}
 
 -- the year and the month of an index, from the months since the first of the library's
@@ -14,9 +17,6 @@ month_index-shifted i t e = (omega (arith, signed), omega (arith, signed))
 
 pub year_of_month_index-range : (y : ℤ) (t : ℕ) → y ≡ pos (t / 12) +ℤ neg_ℤ (pos 262_143) → t < 6_291_432 → IsYear y
 year_of_month_index-range y t e h = (omega (arith, signed), omega (arith, signed))
-
-month_length_low : (y : ℤ) (m : ℕ) → 28 ≤ month_length y m
-month_length_low y m = grind arith
 
 -- no move to a year that the library has not
 pub month_move-None : (n k : ℤ) → (IsYear (year_of_month_index (month_index_of n +ℤ k)) → ⊥) → None ≡ month_move n k
@@ -31,7 +31,7 @@ unfolding month_move date_of_ymd
 month_move-ymd n k y m d e f g =
     let month = month_of_month_index-bounds (month_index_of n +ℤ k) in
     let first = (day_at-exists n).first in
-    let exists : IsCalendarName y m d = ((omega (arith, month), omega (arith, month)), (omega (arith, month_length_low y m), omega arith)) in
+    let exists : IsCalendarName y m d = ((omega (arith, month), omega (arith, month)), (omega (arith, month_length_in-bounds (is_leap_year y) m), omega arith)) in
     let test = is_calendar_name-test y m d exists in
-    let same : (is_year y && is_calendar_name y m d) ≡ is_year y = same_test (is_year y && is_calendar_name y m d) (is_year y) (λ t. (both_tests (is_year y) (is_calendar_name y m d) t).0) (λ t. joined_tests (is_year y) (is_calendar_name y m d) t test) in
+    let same : (is_year y && is_calendar_name y m d) ≡ is_year y = same_test (is_year y && is_calendar_name y m d) (is_year y) (λ t. (and_parts (is_year y) (is_calendar_name y m d) t).0) (λ t. both_true t test) in
     rw (same, g, f, e) refl

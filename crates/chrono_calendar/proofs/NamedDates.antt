@@ -1,7 +1,8 @@
 -- Which numbers and names are dates: from one to the other.
 use Rattle.std.proofs.Common.{Option, ◌≡◌, ℕ, Bool, true, false, ◌&&◌, cond, Some, None, refl, sym, ap, ◌∙◌, ℤ}
-use Rattle.std.proofs.lemmas.Bool.{false≢true}
+use Rattle.std.proofs.lemmas.Bool.{and_parts}
 use Rattle.std.proofs.lemmas.Option.{cond_some}
+use Rattle.std.specs.Cmp.Derive.{both_true}
 use Rattle.chrono_units.specs.Years.{IsYear, is_year, is_leap_year}
 use Rattle.chrono_calendar.specs.Days.{IsDate, is_date, IsOrdinalName, is_ordinal_name, IsCalendarName, is_calendar_name, day_number_of_yo, day_number_of_ymd, ordinal_of_ymd, date_of_day, date_of_yo, date_of_ymd, year_of, ordinal_of, month_of, day_of}
 use Rattle.chrono_calendar.proofs.Names.{ordinal_name_of-number, year_of-number, ordinal_of-number, day_number_in_range, year_in_range}
@@ -15,20 +16,13 @@ same_test true false f g = sym (f refl)
 same_test false true f g = g refl
 same_test false false f g = refl
 
-pub both_tests : (a b : Bool) → (a && b) ≡ true → (a ≡ true) × (b ≡ true)
-both_tests true b e = (refl, e)
-both_tests false b e = absurd (false≢true e)
-
-pub joined_tests : (a b : Bool) → a ≡ true → b ≡ true → (a && b) ≡ true
-joined_tests a b e f = rw (e, f) refl
-
 -- the day with an ordinal name is a date exactly if its year is one of the library's
 pub date_of_yo-day : (n y : ℤ) (o : ℕ) → day_number_of_yo y o ≡ n → IsOrdinalName y o → date_of_yo y o ≡ date_of_day n
 unfolding date_of_yo date_of_day
 date_of_yo-day n y o e h =
     let same : (is_year y && is_ordinal_name y o) ≡ is_date n = same_test (is_year y && is_ordinal_name y o) (is_date n)
-    (λ t. is_date-test n (rw e at (day_number_in_range y o (is_year-fact y (both_tests (is_year y) (is_ordinal_name y o) t).0) h)))
-    (λ t. joined_tests (is_year y) (is_ordinal_name y o) (is_year-test y (year_in_range y o h (rw (← e) at (is_date-fact n t)))) (is_ordinal_name-test y o h)) in
+    (λ t. is_date-test n (rw e at (day_number_in_range y o (is_year-fact y (and_parts (is_year y) (is_ordinal_name y o) t).0) h)))
+    (λ t. both_true (is_year-test y (year_in_range y o h (rw (← e) at (is_date-fact n t)))) (is_ordinal_name-test y o h)) in
     rw (same, e) refl
 
 -- and so is the day with a calendar name
@@ -40,8 +34,8 @@ unfolding date_of_ymd date_of_day
 date_of_ymd-day n y m d e h =
     let inside = IsCalendarName-ordinal y m d h in
     let same : (is_year y && is_calendar_name y m d) ≡ is_date n = same_test (is_year y && is_calendar_name y m d) (is_date n)
-    (λ t. is_date-test n (rw e at (day_number_in_range y (ordinal_of_ymd y m d) (is_year-fact y (both_tests (is_year y) (is_calendar_name y m d) t).0) inside)))
-    (λ t. joined_tests (is_year y) (is_calendar_name y m d) (is_year-test y (year_in_range y (ordinal_of_ymd y m d) inside (rw (← e) at (is_date-fact n t)))) (is_calendar_name-test y m d h)) in
+    (λ t. is_date-test n (rw e at (day_number_in_range y (ordinal_of_ymd y m d) (is_year-fact y (and_parts (is_year y) (is_calendar_name y m d) t).0) inside)))
+    (λ t. both_true (is_year-test y (year_in_range y (ordinal_of_ymd y m d) inside (rw (← e) at (is_date-fact n t)))) (is_calendar_name-test y m d h)) in
     rw (same, e) refl
 
 -- a number in the range is a date, and another is none
@@ -83,14 +77,14 @@ pub date_of_yo-name : (n y : ℤ) (o : ℕ) → date_of_yo y o ≡ Some n → (y
 unfolding date_of_yo
 date_of_yo-name n y o e =
     let found = cond_some (is_year y && is_ordinal_name y o) (day_number_of_yo y o) n e in
-    let exists = is_ordinal_name-fact y o (both_tests (is_year y) (is_ordinal_name y o) found.0).1 in
+    let exists = is_ordinal_name-fact y o (and_parts (is_year y) (is_ordinal_name y o) found.0).1 in
     (sym (year_of-number n y o found.1 exists), sym (ordinal_of-number n y o found.1 exists))
 
 pub date_of_ymd-name : (n y : ℤ) (m d : ℕ) → date_of_ymd y m d ≡ Some n → (y ≡ year_of n) × (m ≡ month_of n) × (d ≡ day_of n)
 unfolding date_of_ymd
 date_of_ymd-name n y m d e =
     let found = cond_some (is_year y && is_calendar_name y m d) (day_number_of_ymd y m d) n e in
-    let exists = is_calendar_name-fact y m d (both_tests (is_year y) (is_calendar_name y m d) found.0).1 in
+    let exists = is_calendar_name-fact y m d (and_parts (is_year y) (is_calendar_name y m d) found.0).1 in
     let inside = IsCalendarName-ordinal y m d exists in
     let year = year_of-number n y (ordinal_of_ymd y m d) found.1 inside in
     let ordinal = ordinal_of-number n y (ordinal_of_ymd y m d) found.1 inside in

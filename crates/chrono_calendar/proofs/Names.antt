@@ -1,5 +1,5 @@
 -- Each whole number has one ordinal name, in order.
-use Rattle.std.proofs.Common.{◌≡◌, ℕ, zero, suc, ◌+◌, ◌-◌, ◌<◌, ◌≤◌, ◌⊎◌, inl, inr, Bool, true, false, cond, nat_lt, refl, sym, ap, ◌∙◌, arith, ℤ, pos, negsuc, neg_ℤ, ◌+ℤ◌, ◌-ℤ◌, ◌≤ℤ◌, ◌<ℤ◌}
+use Rattle.std.proofs.Common.{◌≡◌, ℕ, zero, suc, ◌+◌, ◌-◌, ◌<◌, ◌≤◌, Bool, true, false, cond, nat_lt, refl, sym, ap, ◌∙◌, arith, ℤ, pos, negsuc, neg_ℤ, ◌+ℤ◌, ◌-ℤ◌, ◌≤ℤ◌, ◌<ℤ◌}
 use Rattle.std.proofs.lemmas.Bool.Decides.{nat_tests}
 use Rattle.std.proofs.lemmas.Int.{by_lt_z}
 use Rattle.chrono_units.specs.Years.{year_length, IsYear}
@@ -112,12 +112,6 @@ year_of-number n y o e h = rw (← e) (fields_from_number y o h (λ a b. a))
 
 pub ordinal_of-number : (n y : ℤ) (o : ℕ) → day_number_of_yo y o ≡ n → IsOrdinalName y o → ordinal_of n ≡ o
 ordinal_of-number n y o e h = rw (← e) (fields_from_number y o h (λ a b. b))
-
--- two numbers lie as their years do, where these differ
-pub order_of_years : (n m y z : ℤ) (o p : ℕ) → day_number_of_yo y o ≡ n → day_number_of_yo z p ≡ m → IsOrdinalName y o → IsOrdinalName z p → ((y <ℤ z) × (n <ℤ m)) ⊎ (((z <ℤ y) × (m <ℤ n)) ⊎ (y ≡ z))
-order_of_years n m y z o p e f h k =
-    by_lt_z y z (λ lt. inl (lt, rw (← e, ← f) (day_number-lt_year y z o p h k lt)))
-    (λ le. by_lt_z z y (λ lt. inr (inl (lt, rw (← e, ← f) (day_number-lt_year z y p o k h lt)))) (λ le2. inr (inr (omega (arith, signed)))))
 
 -- the first and the last of the years begin and end at the first and the last of the numbers
 days_before_year_low : (y : ℤ) → neg_ℤ (pos 262_143) ≤ℤ y → neg_ℤ (pos 95_746_130) ≤ℤ days_before_year y

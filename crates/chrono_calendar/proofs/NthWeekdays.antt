@@ -1,20 +1,22 @@
 -- The days of a month that have one weekday: the first lies at most six days on from the first of the month, and each next a week on.
 use Rattle.std.proofs.Common.{◌≡◌, ℕ, ◌+◌, ◌-◌, ◌*◌, ◌%◌, ◌<◌, ◌≤◌, inl, inr, Bool, true, false, ◌&&◌, cond, nat_eq, nat_le, List, length, slice_get, Option, Some, None, refl, sym, ap, ◌∙◌, arith, ℤ, pos, ◌+ℤ◌}
 use Rattle.std.proofs.lemmas.Bool.Decides.{nat_tests}
-use Rattle.std.proofs.lemmas.Bool.{cases_order, eqb-true}
+use Rattle.std.proofs.lemmas.Bool.{and_parts, cases_order, eqb-true}
 use Rattle.std.proofs.lemmas.Option.{slice_get_past}
 use Rattle.std.proofs.lemmas.List.Elements.{filter_agree}
 use Rattle.std.specs.List.{filter, range_with_len}
 use Rattle.std.specs.Option.{option_eq, option_map}
-use Rattle.chrono_units.specs.Years.{is_year, month_length}
+use Rattle.chrono_units.specs.Years.{is_leap_year, is_year, month_length}
 use Rattle.chrono_units.specs.declared.weekday.Weekday.{Weekday}
 use Rattle.chrono_units.specs.Weekday.{days_from_monday, days_from_sunday, days_since}
+use Rattle.chrono_units.proofs.WeekdayCycle.{days_from_monday-lt}
 use Rattle.chrono_calendar.specs.Days.{days_before_year, days_of_months, day_number_of_ymd, is_calendar_name, date_of_ymd}
 use Rattle.chrono_calendar.specs.Weeks.{days_from_sunday_of, weekday_of, days_with_weekday, date_of_nth_weekday}
 use Rattle.chrono_calendar.proofs.Signed.{signed}
 use Rattle.chrono_calendar.proofs.Tests.{passes_below, passes_below-at}
-use Rattle.chrono_calendar.proofs.NamedDates.{None-cond, both_tests}
-use Rattle.chrono_calendar.proofs.IsoWeeks.{days_from_monday-bound, days_from_monday-of, days_from_sunday_of-bound}
+use Rattle.chrono_calendar.proofs.Months.{month_length_in-bounds}
+use Rattle.chrono_calendar.proofs.NamedDates.{None-cond}
+use Rattle.chrono_calendar.proofs.IsoWeeks.{days_from_monday-of, days_from_sunday_of-bound}
 
 -- the weekday of the last day before the month m of the year y
 abbrev before_month : ℤ → ℕ → ℕ
@@ -62,7 +64,7 @@ days_found-at s f l i a b c =
     let at_s = passes_below-at (λ p. passes_below (λ q. passes_below (λ r. found_few p q r && passes_below (λ j. found_at p q r j) 5) 4) 7) 7 found_tested s a in
     let at_f = passes_below-at (λ q. passes_below (λ r. found_few s q r && passes_below (λ j. found_at s q r j) 5) 4) 7 at_s f b in
     let at_l = passes_below-at (λ r. found_few s f r && passes_below (λ j. found_at s f r j) 5) 4 at_f l c in
-    let both = both_tests (found_few s f l) (passes_below (λ j. found_at s f l j) 5) at_l in
+    let both = and_parts (found_few s f l) (passes_below (λ j. found_at s f l j) 5) at_l in
     elim (cases_order i 5) [
       | inl same ↦ few_or_none s f l i both.0 c (omega arith)
       | inr apart ↦ elim apart [
@@ -72,13 +74,10 @@ days_found-at s f l i a b c =
     ]
 
 -- the days of a month that have a weekday, by numbers alone
-month_length_low : (y : ℤ) (m : ℕ) → (28 ≤ month_length y m) × (month_length y m ≤ 31)
-month_length_low y m = grind arith
-
 days_with_weekday-found : (y : ℤ) (m : ℕ) (d : Weekday) → days_with_weekday y m d ≡ days_found (before_month y m) (days_from_monday d) (month_length y m - 28)
 unfolding days_with_weekday
 days_with_weekday-found y m d =
-    let whole : month_length y m ≡ 28 + (month_length y m - 28) = omega (arith, month_length_low y m) in
+    let whole : month_length y m ≡ 28 + (month_length y m - 28) = omega (arith, month_length_in-bounds (is_leap_year y) m) in
     ap (λ (n : ℕ). filter (λ p. nat_eq (days_from_sunday_of (day_number_of_ymd y m p)) (days_from_sunday d)) (range_with_len 1 n)) whole
     ∙ filter_agree (λ p. nat_eq (days_from_sunday_of (day_number_of_ymd y m p)) (days_from_sunday d)) (λ p. nat_eq ((before_month y m + p) % 7) ((days_from_monday d + 1) % 7)) (λ p. ap (λ (w : ℕ). nat_eq w (days_from_sunday d)) (weekday_in_month y m p)) (range_with_len 1 (28 + (month_length y m - 28)))
 
@@ -88,16 +87,16 @@ days_found-in s f l len i e a b c = rw (← e) (days_found-at s f l i a b c)
 -- the n-th of them
 pub days_with_weekday-at : (y : ℤ) (m i : ℕ) (d : Weekday) → slice_get (days_with_weekday y m d) i ≡ cond (nat_le (nth_day (before_month y m) (days_from_monday d) i) (month_length y m)) (Some (nth_day (before_month y m) (days_from_monday d) i)) None
 days_with_weekday-at y m i d =
-    let low = month_length_low y m in
+    let low = month_length_in-bounds (is_leap_year y) m in
     ap (λ (l : List ℕ). slice_get l i) (days_with_weekday-found y m d)
-    ∙ days_found-in (before_month y m) (days_from_monday d) (month_length y m - 28) (month_length y m) i (omega (arith, low)) (days_from_sunday_of-bound (days_before_year y +ℤ pos (days_of_months y (m - 1)))) (days_from_monday-bound d) (omega (arith, low))
+    ∙ days_found-in (before_month y m) (days_from_monday d) (month_length y m - 28) (month_length y m) i (omega (arith, low)) (days_from_sunday_of-bound (days_before_year y +ℤ pos (days_of_months y (m - 1)))) (days_from_monday-lt d) (omega (arith, low))
 
 -- none of them is the one before the first
 pub date_of_nth_weekday-zero : (y : ℤ) (m n : ℕ) (d : Weekday) → n ≡ 0 → None ≡ date_of_nth_weekday y m d n
 unfolding date_of_nth_weekday
 date_of_nth_weekday-zero y m n d e =
     None-cond (is_year y && (nat_le 1 m && nat_le m 12) && nat_le 1 n) (option_map (λ p. day_number_of_ymd y m p) (slice_get (days_with_weekday y m d) (n - 1)))
-    (λ t. let first = (both_tests (is_year y && (nat_le 1 m && nat_le m 12)) (nat_le 1 n) t).1 in grind (arith, nat_tests, first))
+    (λ t. let first = (and_parts (is_year y && (nat_le 1 m && nat_le m 12)) (nat_le 1 n) t).1 in grind (arith, nat_tests, first))
 
 -- and there is none in a month without a first day
 pub date_of_nth_weekday-no_month : (y : ℤ) (m n : ℕ) (d : Weekday) → None ≡ date_of_ymd y m 1 → None ≡ date_of_nth_weekday y m d n
@@ -105,8 +104,8 @@ unfolding date_of_nth_weekday date_of_ymd
 date_of_nth_weekday-no_month y m n d h =
     None-cond (is_year y && (nat_le 1 m && nat_le m 12) && nat_le 1 n) (option_map (λ p. day_number_of_ymd y m p) (slice_get (days_with_weekday y m d) (n - 1)))
     (λ t.
-    let both = both_tests (is_year y) (nat_le 1 m && nat_le m 12) (both_tests (is_year y && (nat_le 1 m && nat_le m 12)) (nat_le 1 n) t).0 in
-    let inside : nat_le 1 (month_length y m) ≡ true = grind (arith, nat_tests, month_length_low y m) in
+    let both = and_parts (is_year y) (nat_le 1 m && nat_le m 12) (and_parts (is_year y && (nat_le 1 m && nat_le m 12)) (nat_le 1 n) t).0 in
+    let inside : nat_le 1 (month_length y m) ≡ true = grind (arith, nat_tests, month_length_in-bounds (is_leap_year y) m) in
     let test : (is_year y && is_calendar_name y m 1) ≡ true = rw (both.0, both.1, inside) refl in
     let some = rw test at h in cc)
 
@@ -124,9 +123,9 @@ pub date_of_nth_weekday-ymd : (y v : ℤ) (m n k ahead : ℕ) (d : Weekday) → 
 unfolding date_of_nth_weekday date_of_ymd
 date_of_nth_weekday-ymd y v m n k ahead d found first a e =
     let known = months_known (is_year y) (is_calendar_name y m 1) v (day_number_of_ymd y m 1) found in
-    let month = (both_tests (nat_le 1 m && nat_le m 12) (nat_le 1 1 && nat_le 1 (month_length y m)) known.1).0 in
+    let month = (and_parts (nat_le 1 m && nat_le m 12) (nat_le 1 1 && nat_le 1 (month_length y m)) known.1).0 in
     let weekday : days_from_sunday_of v ≡ (before_month y m + 1) % 7 = ap days_from_sunday_of known.2 ∙ weekday_in_month y m 1 in
-    let same : k ≡ nth_day (before_month y m) (days_from_monday d) (n - 1) = omega (arith, days_from_monday-of v, days_from_sunday_of-bound (days_before_year y +ℤ pos (days_of_months y (m - 1))), days_from_monday-bound d) in
+    let same : k ≡ nth_day (before_month y m) (days_from_monday d) (n - 1) = omega (arith, days_from_monday-of v, days_from_sunday_of-bound (days_before_year y +ℤ pos (days_of_months y (m - 1))), days_from_monday-lt d) in
     let one : nat_le 1 n ≡ true = grind (arith, nat_tests) in
     let low : nat_le 1 k ≡ true = grind (arith, nat_tests) in
     let at = days_with_weekday-at y m (n - 1) d in

@@ -66,7 +66,8 @@ same_year n m e =
       λ eq. omega (arith, signed, before, (ordinal_name_of-number n).number, (ordinal_name_of-number m).number),
     )
 
-earlier_year : (n m : ℤ) → year_of n <ℤ year_of m → n <ℤ m
+-- a day of an earlier year is earlier
+pub earlier_year : (n m : ℤ) → year_of n <ℤ year_of m → n <ℤ m
 earlier_year n m lt =
     let h = ordinal_name_of-number n in
     let k = ordinal_name_of-number m in

@@ -11,6 +11,7 @@ use Rattle.chrono_calendar.specs.Flags.{weeks_of_iso_year, week_counted_in}
 use Rattle.chrono_calendar.proofs.Signed.{signed}
 use Rattle.chrono_calendar.proofs.Years.{days_before_year-next}
 use Rattle.chrono_calendar.proofs.Names.{year_of-number, ordinal_of-number, year_length_bounds}
+use Rattle.chrono_calendar.proofs.IsoWeeks.{days_from_sunday_of-bound}
 
 -- the digits of the flags that name a weekday, and what is added to an ordinal to count weeks
 abbrev pub weekday_digits : ℤ → ℕ
@@ -25,9 +26,6 @@ week_delta-parts w h = grind (arith, nat_tests)
 parts_of : (k : ℕ) → k < 7 → (1 ≤ cond (nat_eq k 0) 7 k) × (cond (nat_eq k 0) 7 k ≤ 7) × (cond (nat_eq k 0) 7 k % 7 ≡ k)
 parts_of k h = (grind (arith, nat_tests), grind (arith, nat_tests), grind (arith, nat_tests))
 
-weekday_bound : (n : ℤ) → days_from_sunday_of n < 7
-weekday_bound n = omega (arith, signed)
-
 -- the weekday of a day of the year y
 weekday-in_year : (y : ℤ) (o : ℕ) → days_from_sunday_of (day_number_of_yo y o) ≡ (days_from_sunday_of (days_before_year y) + o) % 7
 weekday-in_year y o = omega (arith, signed)
@@ -39,8 +37,8 @@ weeks w i o d h low high e c = grind arith
 pub week_of_ordinal : (y : ℤ) (o : ℕ) → (o + week_delta y) / 7 ≡ (o + 10 - iso_weekday_of (day_number_of_yo y o)) / 7
 week_of_ordinal y o =
     let n = day_number_of_yo y o in
-    let p = parts_of (days_from_sunday_of n) (weekday_bound n) in
-    weeks (days_from_sunday_of (days_before_year y)) (iso_weekday_of n) o (week_delta y) (weekday_bound (days_before_year y)) p.0 p.1 (p.2 ∙ weekday-in_year y o) (week_delta-parts (days_from_sunday_of (days_before_year y)) (weekday_bound (days_before_year y)))
+    let p = parts_of (days_from_sunday_of n) (days_from_sunday_of-bound n) in
+    weeks (days_from_sunday_of (days_before_year y)) (iso_weekday_of n) o (week_delta y) (days_from_sunday_of-bound (days_before_year y)) p.0 p.1 (p.2 ∙ weekday-in_year y o) (week_delta-parts (days_from_sunday_of (days_before_year y)) (days_from_sunday_of-bound (days_before_year y)))
 
 -- where the Thursday lies in the year, that is its ISO week
 pub iso_week_of-inside : (y : ℤ) (o t : ℕ) → t + iso_weekday_of (day_number_of_yo y o) ≡ o + 4 → IsOrdinalName y t → (iso_year_of (day_number_of_yo y o) ≡ y) × (iso_week_of (day_number_of_yo y o) ≡ (o + week_delta y) / 7)
@@ -50,13 +48,13 @@ iso_week_of-inside y o t e h =
     (year_of-number (thursday_of_week n) y t found h, rw (week_of_ordinal y o, ordinal_of-number (thursday_of_week n) y t found h) (omega (arith, h.0)))
 
 iso_weekday_of-bounds : (n : ℤ) → (1 ≤ iso_weekday_of n) × (iso_weekday_of n ≤ 7)
-iso_weekday_of-bounds n = let p = parts_of (days_from_sunday_of n) (weekday_bound n) in (p.0, p.1)
+iso_weekday_of-bounds n = let p = parts_of (days_from_sunday_of n) (days_from_sunday_of-bound n) in (p.0, p.1)
 
 -- the weekday some days later
 iso_weekday_of-later : (n m : ℤ) (k : ℕ) → m ≡ n +ℤ pos k → iso_weekday_of m % 7 ≡ (iso_weekday_of n + k) % 7
 iso_weekday_of-later n m k e =
-    let p = parts_of (days_from_sunday_of n) (weekday_bound n) in
-    let q = parts_of (days_from_sunday_of m) (weekday_bound m) in
+    let p = parts_of (days_from_sunday_of n) (days_from_sunday_of-bound n) in
+    let q = parts_of (days_from_sunday_of m) (days_from_sunday_of-bound m) in
     let days : days_from_sunday_of m ≡ (days_from_sunday_of n + k) % 7 = omega (arith, signed) in
     omega (arith, p.2, q.2, days)
 

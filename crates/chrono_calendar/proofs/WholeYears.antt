@@ -4,16 +4,15 @@ use mir.Val.{bool_byte}
 use Rattle.std.proofs.lemmas.Bool.Decides.{nat_tests}
 use Rattle.std.proofs.lemmas.Bool.{cases_order, ltb-true}
 use Rattle.std.proofs.lemmas.Int.{ints, by_lt_z}
-use Rattle.chrono_units.specs.Years.{month_length}
+use Rattle.chrono_units.specs.Years.{is_leap_year}
 use Rattle.chrono_calendar.specs.Days.{year_of, month_of, day_of}
 use Rattle.chrono_calendar.specs.MonthMoves.{month_index_of}
 use Rattle.chrono_calendar.specs.YearsBetween.{is_earlier_in_year, years_between}
 use Rattle.chrono_calendar.proofs.Signed.{signed}
+use Rattle.chrono_calendar.proofs.Months.{month_length_in-bounds}
+use Rattle.chrono_calendar.proofs.Order.{earlier_year}
 use Rattle.chrono_calendar.proofs.NamedDates.{calendar_name-exists}
 use Rattle.chrono_calendar.proofs.MonthOrder.{before_month, day_at-exists, earlier_month}
-
-month_length-high : (y : ℤ) (m : ℕ) → month_length y m ≤ 31
-month_length-high y m = grind arith
 
 -- the order of days in a year by one number
 pub is_earlier_in_year-code : (m d p q : ℕ) → d < 32 → q < 32 → nat_lt (m * 32 + d) (p * 32 + q) ≡ is_earlier_in_year m d p q
@@ -36,10 +35,7 @@ place n = month_of n * 32 + day_of n
 place_bounds : (n : ℤ) → (1 ≤ month_of n) × (month_of n ≤ 12) × (1 ≤ day_of n) × (day_of n < 32)
 place_bounds n =
     let h = calendar_name-exists n in
-    (omega (arith, h.0), omega (arith, h.0), omega (arith, h.1), omega (arith, h.1, month_length-high (year_of n) (month_of n)))
-
-before_year : (n base : ℤ) → year_of n <ℤ year_of base → n <ℤ base
-before_year n base h = before_by_month n base (omega (arith, signed, place_bounds n, place_bounds base))
+    (omega (arith, h.0), omega (arith, h.0), omega (arith, h.1), omega (arith, h.1, month_length_in-bounds (is_leap_year (year_of n)) (month_of n)))
 
 before_place : (n base : ℤ) → year_of n ≡ year_of base → place n < place base → n <ℤ base
 before_place n base e h =
@@ -67,13 +63,13 @@ years_counted y z earlier = y -ℤ z -ℤ pos (bool_byte earlier)
 
 before_counted : (n base : ℤ) (e : Bool) → nat_lt (place n) (place base) ≡ e → years_counted (year_of n) (year_of base) e <ℤ pos 0 → n <ℤ base
 before_counted n base true t h =
-    by_lt_z (year_of n) (year_of base) (before_year n base) (λ ge. before_place n base (omega (arith, signed)) (ltb-true (place n) (place base) t))
-before_counted n base false t h = before_year n base (omega (arith, signed))
+    by_lt_z (year_of n) (year_of base) (earlier_year n base) (λ ge. before_place n base (omega (arith, signed)) (ltb-true (place n) (place base) t))
+before_counted n base false t h = earlier_year n base (omega (arith, signed))
 
 not_before_counted : (n base : ℤ) (e : Bool) → nat_lt (place n) (place base) ≡ e → pos 0 ≤ℤ years_counted (year_of n) (year_of base) e → base ≤ℤ n
-not_before_counted n base true t h = omega (arith, signed, before_year base n (omega (arith, signed)))
+not_before_counted n base true t h = omega (arith, signed, earlier_year base n (omega (arith, signed)))
 not_before_counted n base false t h =
-    by_lt_z (year_of base) (year_of n) (λ lt. omega (arith, signed, before_year base n lt))
+    by_lt_z (year_of base) (year_of n) (λ lt. omega (arith, signed, earlier_year base n lt))
     (λ ge. not_before_place n base (omega (arith, signed)) (grind (arith, nat_tests, t)))
 
 -- none, if that is negative

@@ -72,7 +72,3 @@ pub days_before_year-next : (y next : ℤ) → next ≡ y +ℤ pos 1 → days_be
 days_before_year-next y next e =
     let q : y ≡ (y -ℤ pos 1) +ℤ pos 1 = omega (arith, signed) in
     rw (days_before_year-to_year y next e, days_before_year-to_year (y -ℤ pos 1) y q) (days_to_year-next (y -ℤ pos 1) y q)
-
--- 400 years have 146,097 days
-pub days_before_year-cycle : (y later : ℤ) → later ≡ y +ℤ pos 400 → days_before_year later ≡ days_before_year y +ℤ pos 146_097
-days_before_year-cycle y later e = rw e (omega (arith, signed, days_before_year-closed y, days_before_year-closed (y +ℤ pos 400)))

@@ -12,33 +12,36 @@ use std::hash::Hash;
 
 /// A stored form of a date. Its meaning is the date's day number, and each number has one form.
 pub trait DayForm: Copy + Ord + Hash {
+    // The day number of the date.
     ghost number: { Self → ℤ };
 
-    /// The date with an ordinal name (ISO 8601 ordinal date), or `None` if there is none.
+    /// The date with an ordinal name (ISO 8601 ordinal date), or `None` if there is none: the year is not from
+    /// -262,143 to 262,142, or has no such day.
     fn from_yo(year: i32, ordinal: u32) -> Option<Self>
         ensures { option_map number result ≡ date_of_yo year ordinal };
 
-    /// The date with a calendar name, or `None` if there is none.
+    /// The date with a calendar name (ISO 8601 calendar date), or `None` if there is none: the year is not from
+    /// -262,143 to 262,142, the month not from 1 to 12, or the day not from 1 to the month's last.
     fn from_ymd(year: i32, month: u32, day: u32) -> Option<Self>
         ensures { option_map number result ≡ date_of_ymd year month day };
 
-    /// The date with a day number, or `None` if there is none. It takes at most three steps.
+    /// The date with a day number, or `None` if it is not from -95,746,129 to 95,745,399. It takes at most three steps.
     fn from_day(days: i32, steps: &mut Steps) -> Option<Self>
         ensures date { option_map number result ≡ date_of_day days }
         ensures kept { steps.old ≤ steps.new }
         ensures cost { steps.new ≤ steps.old + 3 };
 
-    /// The day number: 1 for 1 January of year 1.
+    /// The day number, from -95,746,129 to 95,745,399: 1 for 1 January of year 1.
     fn day(&self) -> i32
         ensures value { result ≡ number self.now }
         ensures in_range { IsDate (number self.now) };
 
-    /// The year.
+    /// The year, proleptic Gregorian, from -262,143 to 262,142.
     fn year(&self) -> i32
         ensures value { result ≡ year_of (number self.now) }
         ensures in_range { IsYear (year_of (number self.now)) };
 
-    /// The place of the day in its year, from 1.
+    /// The place of the day in its year, from 1 to 365 or 366.
     fn ordinal(&self) -> u32
         ensures value { result ≡ ordinal_of (number self.now) }
         ensures exists { IsOrdinalName (year_of (number self.now)) (ordinal_of (number self.now)) };

@@ -23,9 +23,9 @@ const MONTHS: i64 = (MAX_YEAR - MIN_YEAR + 1) as i64 * 12;
 const CYCLE_YEARS: i32 = 262_400;
 
 /// The date `k` days later, or earlier for a negative `k`; `None` if that day is outside the range of dates.
+/// So 28 February 2023 moved by one day is 1 March 2023.
 ///
-/// It takes at most four steps, of which one stands for reading the form's day number. So
-/// 28 February 2023 moved by one day is 1 March 2023.
+/// It takes at most four steps, of which one stands for reading the form's day number.
 #[inline]
 pub fn move_days<F: DayForm>(f: F, k: i64, steps: &mut Steps) -> Option<F>
     ensures date { option_map F.number result ≡ date_of_day (F.number f +ℤ k) }
@@ -58,7 +58,7 @@ fn month_after(year: i32, month: u32, k: i64) -> Option<(i32, u32)>
     Some(((target / 12) as i32 + MIN_YEAR, target % 12 + 1))
 }
 
-// The day of the month, or the month's last day if that is earlier. Each month has 28 days.
+// The day of the month, or the month's last day if that is earlier. A day up to 28 is in every month.
 #[inline]
 fn day_within(year: i32, month: u32, day: u32) -> u32
     requires { IsInRange 1 12 month }
@@ -118,7 +118,8 @@ fn days_from_sunday_before(year: i32) -> u32
     (past + past / 4 - past / 100 + past / 400) % 7
 }
 
-/// The date with an ISO year, a week from 1 and a weekday (ISO 8601 week date), or `None` if there is none.
+/// The date with an ISO year, a week from 1 and a weekday (ISO 8601 week date). `None` exactly if the week is 0 or past
+/// the year's last, or the day is outside the range of dates.
 ///
 /// So week 53 names a date only in a year that has 53 weeks, as 2020: its Sunday is 3 January 2021.
 #[inline]
@@ -131,7 +132,7 @@ pub fn from_iso<F: DayForm>(year: i32, week: u32, weekday: Weekday) -> Option<F>
     if week == 0 || week > 53 {
         return None;
     }
-    // 4 January is always in week 1: so many days before it that week's Monday lies.
+    // The days from the Monday of week 1 to 4 January, which that week always holds.
     let before_monday = (days_from_sunday_before(year) + 3) % 7;
     let length = year_length(year);
     // A week belongs to the year that its Thursday is in.

@@ -66,7 +66,7 @@ pub fn month_moves_add_up()
     ensures { (n k e : ℤ) → month_move n k ≡ Some e → AddsUp n k e }
 {}
 
-/// Of the moves by the multiples of some months, a higher multiple comes to a later day.
+/// Of the moves by the multiples of a positive number of months, a higher multiple comes to a later day.
 pub fn later_multiples_are_later()
     ensures { (n k : ℤ) (i : ℕ) (e : ℤ) → pos 0 <ℤ k → month_move n (k *ℤ pos i) ≡ Some e → LaterMultiplesAreLater n k i e }
 {}
@@ -92,7 +92,8 @@ pub fn known_weeks()
 {}
 
 /// Moves and differences that are known, each day by its number. A month takes 31 January to 28 February in the year 1
-/// and to 29 February in the year 4, and 31 March back to 28 February. From 29 February of the year 4 it is no whole year
+/// and to 29 February in the year 4, 31 March back to 28 February, and 31 January back to 31 December; twelve take a leap day
+/// to 28 February. From 1 January of the year 1 the last month is 3,145,703 on. From 29 February of the year 4 it is no whole year
 /// to 28 February of the year 5, and one to the day after. January of the year 1 has four Fridays, the third on the 19th.
 pub fn known_moves()
     ensures to_february { month_move (pos 31) (pos 1) ≡ Some (pos 59) }

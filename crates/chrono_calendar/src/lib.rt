@@ -1,12 +1,15 @@
 //! The calendar as whole numbers: what a stored date means, with the tables and the cycles of the calendar.
+//!
+//! A date over a form reads the year's flags alone. [`Mdf`] and the two calls on cycles are parts that chrono has inside; they are
+//! offered and proved beside it.
 #![tactic(auto)]
 
 mod cycle;
-pub mod form;
+mod form;
 pub mod forms;
 pub mod law;
 mod mdf;
-pub mod steps;
+mod steps;
 mod tables;
 mod tally;
 mod year_flags;

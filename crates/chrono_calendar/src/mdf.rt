@@ -40,7 +40,7 @@ impl Model for Mdf {
 
 impl Mdf {
     /// The month and the day with the flags, or `None` if the month is above 12 or the day above 31.
-    /// A 0 is held.
+    /// A month or a day of 0 is held too.
     #[inline]
     pub fn new(month: u32, day: u32, flags: YearFlags) -> Option<Mdf>
         ensures { SomeIff result ((month ≤ 12) × (day ≤ 31))
@@ -56,7 +56,7 @@ impl Mdf {
 
     /// The month and the day of an ordinal, in a year with these flags.
     ///
-    /// `ol` is `(ordinal << 1) + l`, where l is 1 if the flags are a common year's and else 0.
+    /// `ol` is `(ordinal << 1) + l`, from 2 to 732, where l is 1 if the flags are a common year's and else 0.
     /// So 120 with the flags 6, those of 2024, is 29 February.
     #[inline]
     pub fn from_ol(ol: u32, flags: YearFlags) -> Mdf

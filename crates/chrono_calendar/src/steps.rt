@@ -17,7 +17,7 @@ impl Model for Steps {
 }
 
 impl Steps {
-    /// No step was taken yet.
+    /// A counter at 0.
     #[inline]
     pub fn new() -> Steps
         ensures { result ≡ 0 }
@@ -27,7 +27,7 @@ impl Steps {
         }
     }
 
-    /// One more step.
+    /// Counts one step more.
     #[inline]
     pub fn tick(&mut self)
         ensures { self.new ≡ self.old + 1 }

@@ -1,4 +1,4 @@
-//! The tables of the calendar, each in a module with the one function that reads it.
+//! The tables of the calendar: each has a module of its own, where a single function reads it.
 
 pub(crate) mod mdl_to_ol;
 pub(crate) mod ol_to_mdl;

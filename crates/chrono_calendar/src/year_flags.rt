@@ -90,8 +90,8 @@ impl YearFlags {
 
     /// What is added to an ordinal of the year to count its ISO week: week `(ordinal + delta) / 7`.
     ///
-    /// That is 0 for a day of the ISO year before (ISO 8601), and [`nisoweeks`](YearFlags::nisoweeks) + 1
-    /// for a day of the next. From 3 to 9.
+    /// The week so counted is 0 for a day of the ISO year before (ISO 8601), and
+    /// [`nisoweeks`](YearFlags::nisoweeks) + 1 for a day of the next. The number added is from 3 to 9.
     #[inline]
     pub fn isoweek_delta(&self) -> u32
         ensures week { (y : ℤ) (o : ℕ) → self.now ≡ flags_of_year y → IsOrdinalName y o →

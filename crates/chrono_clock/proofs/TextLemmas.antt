@@ -1,10 +1,10 @@
 -- Lemmas on the texts of numbers: how long they are, and that different numbers have different texts.
 use Rattle.std.proofs.Common.{◌≡◌, ℕ, suc, ◌+◌, ◌/◌, ◌%◌, ◌^◌, ◌<◌, ◌≤◌, ℤ, pos, negsuc, List, [], ◌∷◌, ◌++◌, length, length-append, take, drop, unsigned_abs, arith, refl, sym, ap, ◌∙◌}
-use Rattle.std.specs.Prelude.{codes, get_or}
+use Rattle.std.specs.Prelude.{get_or}
 use Rattle.std.specs.Str.Parse.{digits_value}
 use Rattle.std.proofs.lemmas.Str.{digit_value_digit}
 use Rattle.std.proofs.lemmas.Fmt.{decimal_is_IsNumeral, length-decimal-le}
-use Rattle.chrono_clock.specs.Text.{two_digits, all_digits, year_digits, year_text, calendar_text, week_text}
+use Rattle.chrono_clock.specs.Text.{two_digits, all_digits, year_digits, year_text, calendar_text}
 use Rattle.chrono_clock.proofs.TimeLemmas.{by_order}
 
 -- ---- lists
@@ -46,10 +46,7 @@ year_digits-value n h = by_order 10_000 n
 pub year_digits_injective : (n m : ℕ) → n < 2 ^ 64 → m < 2 ^ 64 → year_digits n ≡ year_digits m → n ≡ m
 year_digits_injective n m h k e = sym (year_digits-value n h) ∙ ap (λ (c : List ℕ). digits_value 10 c) e ∙ year_digits-value m k
 
--- the three kinds of years
-pub year_text-negative : (n : ℕ) → year_text (negsuc n) ≡ 45 ∷ year_digits (suc n)
-year_text-negative n = refl
-
+-- the kinds of years from 0 up
 pub year_text-four : (n : ℕ) → n < 10_000 → year_text (pos n) ≡ all_digits 4 n
 year_text-four n h = grind arith
 
@@ -79,22 +76,12 @@ year_text_injective (pos n) (pos m) h k e = by_order 10_000 n
 abbrev calendar_tail : ℕ → ℕ → List ℕ
 calendar_tail m d = 45 ∷ (48 + m / 10) ∷ (48 + m % 10) ∷ 45 ∷ two_digits d
 
-abbrev week_tail : ℕ → List ℕ
-week_tail w = 45 ∷ 87 ∷ two_digits w
-
 calendar_tail-after : (xs : List ℕ) (m d : ℕ) → xs ++ 45 ∷ [] ++ two_digits m ++ 45 ∷ [] ++ two_digits d ≡ xs ++ calendar_tail m d
 calendar_tail-after [] m d = refl
 calendar_tail-after (x ∷ xs) m d = ap (λ (c : List ℕ). x ∷ c) (calendar_tail-after xs m d)
 
-week_tail-after : (xs : List ℕ) (w : ℕ) → xs ++ codes "-W" ++ two_digits w ≡ xs ++ week_tail w
-week_tail-after [] w = refl
-week_tail-after (x ∷ xs) w = ap (λ (c : List ℕ). x ∷ c) (week_tail-after xs w)
-
 calendar_text-parts : (y : ℤ) (m d : ℕ) → calendar_text y m d ≡ year_text y ++ calendar_tail m d
 calendar_text-parts y m d = calendar_tail-after (year_text y) m d
-
-week_text-parts : (y : ℤ) (w : ℕ) → week_text y w ≡ year_text y ++ week_tail w
-week_text-parts y w = week_tail-after (year_text y) w
 
 -- different calendar names have different texts
 pub calendar_text_injective : (y z : ℤ) (m n d k : ℕ) → unsigned_abs y < 2 ^ 64 → unsigned_abs z < 2 ^ 64 → m < 100 → n < 100 → d < 100 → k < 100 → calendar_text y m d ≡ calendar_text z n k → (y ≡ z) × (m ≡ n) × (d ≡ k)
@@ -104,12 +91,6 @@ calendar_text_injective y z m n d k small also hm hn hd hk e =
       two_digits_injective m n hm hn (ap (λ (c : List ℕ). take 2 (drop 1 c)) parts.1),
       two_digits_injective d k hd hk (ap (λ (c : List ℕ). drop 4 c) parts.1),
     )
-
--- and so have different weeks
-pub week_text_injective : (y z : ℤ) (w v : ℕ) → unsigned_abs y < 2 ^ 64 → unsigned_abs z < 2 ^ 64 → w < 100 → v < 100 → week_text y w ≡ week_text z v → (y ≡ z) × (w ≡ v)
-week_text_injective y z w v small also hw hv e =
-    let parts = same_parts (year_text y) (year_text z) (week_tail w) (week_tail v) refl (sym (week_text-parts y w) ∙ e ∙ week_text-parts z v) in
-    (year_text_injective y z small also parts.0, two_digits_injective w v hw hv (ap (λ (c : List ℕ). drop 2 c) parts.1))
 
 -- how long the texts are
 pub length-year_text-four : (n : ℕ) → n < 10_000 → length (year_text (pos n)) ≡ 4
@@ -128,6 +109,3 @@ length-year_text-le (pos n) h = by_order 10_000 n
 
 pub length-calendar_text : (y : ℤ) (m d : ℕ) → length (calendar_text y m d) ≡ length (year_text y) + 6
 length-calendar_text y m d = rw (calendar_text-parts y m d) (length-append (year_text y) (calendar_tail m d))
-
-pub length-week_text : (y : ℤ) (w : ℕ) → length (week_text y w) ≡ length (year_text y) + 4
-length-week_text y w = rw (week_text-parts y w) (length-append (year_text y) (week_tail w))

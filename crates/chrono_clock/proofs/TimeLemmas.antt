@@ -1,9 +1,8 @@
 -- Lemmas on times of day: leap and plain ones, and the three parts of a leap second's line.
-use Rattle.std.proofs.Common.{◌≡◌, ℕ, ◌+◌, ◌-◌, ◌*◌, ◌<◌, ◌≤◌, zero, suc, true, false, ℤ, pos, ◌+ℤ◌, ◌-ℤ◌, ◌<ℤ◌, ◌≤ℤ◌, arith, refl, unsigned_abs}
+use Rattle.std.proofs.Common.{◌≡◌, ℕ, ◌+◌, ◌*◌, ◌<◌, ◌≤◌, zero, suc, true, false, ℤ, pos, ◌+ℤ◌, ◌-ℤ◌, ◌<ℤ◌, ◌≤ℤ◌, arith, refl, unsigned_abs}
 use Rattle.std.specs.Int.RustNames.{int_lt}
 use Rattle.std.proofs.lemmas.Int.{ints, by_lt_z}
 use Rattle.chrono_clock.specs.Time.{TimeOfDay, IsLeap, IsPlain, is_leap, place, plain_landing, leap_landing, land}
-use Rattle.chrono_clock.specs.Duration.{nanos_of, floor_secs, past_floor}
 use Rattle.chrono_clock.specs.SignedLemmas.{signed_arith}
 
 -- ---- cases
@@ -61,13 +60,3 @@ pub leap_landing-past : (s : ℕ) (p : ℤ) → pos ((s + 2) * 1_000_000_000) �
 leap_landing-past s p h =
     let h' : pos ((s + 1) * 1_000_000_000) ≤ℤ p = omega (arith, signed_arith) in
     rw (is_not_below p (pos ((s + 1) * 1_000_000_000)) h', is_not_below p (pos ((s + 2) * 1_000_000_000)) h) refl
-
--- ---- points in seconds and nanoseconds
-
--- the point x past a time, from the seconds and nanoseconds of both
-pub nanos_of-moved : (s f : ℕ) (x q : ℤ) (n : ℕ) → q ≡ floor_secs x → n ≡ past_floor x → nanos_of (pos s +ℤ q) (f + n) ≡ pos (s * 1_000_000_000 + f) +ℤ x
-nanos_of-moved s f x q n e h = omega (arith, signed_arith)
-
--- the same, with a second of a leap fraction moved over to the seconds
-pub nanos_of-moved_leap : (s f : ℕ) (x q : ℤ) (n : ℕ) → 1_000_000_000 ≤ f → q ≡ floor_secs x → n ≡ past_floor x → nanos_of ((pos s +ℤ pos 1) +ℤ q) (f - 1_000_000_000 + n) ≡ pos (s * 1_000_000_000 + f) +ℤ x
-nanos_of-moved_leap s f x q n h e k = omega (arith, signed_arith)

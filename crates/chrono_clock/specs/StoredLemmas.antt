@@ -8,6 +8,3 @@ floor_secs-nanos_of s n h = omega (arith, signed_arith)
 
 pub past_floor-nanos_of : (s : ℤ) (n : ℕ) → n < 1_000_000_000 → past_floor (nanos_of s n) ≡ n
 past_floor-nanos_of s n h = omega (arith, signed_arith)
-
-pub nanos_of-stored : (x : ℤ) → nanos_of (floor_secs x) (past_floor x) ≡ x
-nanos_of-stored x = omega (arith, signed_arith)

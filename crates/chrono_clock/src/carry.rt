@@ -2,7 +2,7 @@
 ghost use Rattle.std.specs.Prelude.{◌≡◌, ℕ, pos, ◌<◌, ◌^◌, ◌+ℤ◌, ◌≤ℤ◌, unsigned_abs};
 ghost use Rattle.chrono_clock.specs.Duration.{nanos_of, nanos_per_second};
 
-/// As many nanoseconds in all, with less than a second of them past the seconds; at most one second carries.
+/// The same number of nanoseconds, with less than a second of them past the seconds: one second is carried if need be.
 #[inline]
 pub(crate) fn carried(secs: i64, nanos: u32) -> (i64, u32)
     requires few { unsigned_abs secs < 2 ^ 62 }

@@ -15,7 +15,7 @@ mod ops;
 mod tests;
 mod text;
 
-// The seconds of so many whole days that no duration reaches as far back.
+// A whole number of days, in seconds, longer than any duration: with it added no second is negative.
 const SHIFT: i64 = 21_600_000_000_000_000;
 
 /// A time of day, to the nanosecond, with leap seconds.
@@ -137,8 +137,8 @@ impl NaiveTime {
     /// The time that a duration leads to, and the seconds of the whole days that it passes.
     ///
     /// From a plain time the clock goes on without leap seconds. From a time inside a leap second the clock has that
-    /// one leap second: a duration that ends inside it gives a time inside it, and one that ends past it has that second
-    /// less to go. The seconds of days are a multiple of 86,400, negative for days back.
+    /// one leap second: a duration that ends inside it gives a time inside it, and one that ends past it comes one second
+    /// less far. The seconds of days are a multiple of 86,400, negative for days back.
     #[inline]
     pub fn overflowing_add_signed(&self, rhs: TimeDelta) -> (NaiveTime, i64)
         ensures time { result.0 ≡ (land self.now rhs).time }
@@ -273,7 +273,7 @@ impl NaiveTime {
         landed(secs, nanos)
     }
 
-    // The landing of a leap start, counted from the begin of its leap second.
+    // The landing of a leap start, counted from the start of its leap second.
     #[inline(never)]
     fn moved_from_leap(&self, rhs: TimeDelta) -> (NaiveTime, i64)
         requires { IsLeap self.now }

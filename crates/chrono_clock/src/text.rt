@@ -1,6 +1,6 @@
 //! Writers of numbers as ISO 8601 writes them: digits, years, dates, weeks and times of day.
 //!
-//! The crates above print their dates by these, so that each of them stands once.
+//! Dates and times print by these.
 ghost use Rattle.std.specs.Prelude.{◌≡◌, ◌<◌, ◌≤◌, ◌-◌, ◌/◌, ◌%◌, ◌^◌, ℤ, pos, ◌≤ℤ◌, ◌++◌};
 ghost use Rattle.std.specs.Fmt.{WritesOnOk};
 ghost use Rattle.chrono_clock.specs.Duration.{nanos_per_second};
@@ -23,8 +23,8 @@ pub fn write_year<W: fmt::Write>(f: &mut fmt::Formatter<W>, year: i32) -> fmt::R
     write_year_digits(f, year as u32)
 }
 
-/// Writes a year, a month and a day of the month with `-` between (ISO 8601 calendar date), if the
-/// month and the day are below 100.
+/// Writes a year, a month and a day of the month with `-` between (ISO 8601 calendar date). The
+/// month and the day have to be below 100.
 pub fn write_calendar_date<W: fmt::Write>(
     f: &mut fmt::Formatter<W>,
     year: i32,
@@ -42,8 +42,8 @@ pub fn write_calendar_date<W: fmt::Write>(
     write_two_digits(f, day)
 }
 
-/// Writes a year, `-W` and a week of the year (ISO 8601 week date, without its day), if the week is
-/// below 100.
+/// Writes a year, `-W` and a week of the year (ISO 8601 week date, without its day). The week has to
+/// be below 100.
 pub fn write_week<W: fmt::Write>(f: &mut fmt::Formatter<W>, year: i32, week: u32) -> fmt::Result
     requires { week < 100 }
     ensures { WritesOnOk W.write_str_gives f.old result (week_text year week) f.new }
@@ -53,8 +53,8 @@ pub fn write_week<W: fmt::Write>(f: &mut fmt::Formatter<W>, year: i32, week: u32
     write_two_digits(f, week)
 }
 
-/// Writes an hour, a minute, a second and the nanoseconds past it (ISO 8601 time of day), if they
-/// are below 24, 60, 60 and 2,000,000,000.
+/// Writes an hour, a minute, a second and the nanoseconds past it (ISO 8601 time of day). They have
+/// to be below 24, 60, 60 and 2,000,000,000.
 ///
 /// A fraction of 1,000,000,000 or more is that of a leap second: it shows as one second more.
 pub fn write_clock<W: fmt::Write>(

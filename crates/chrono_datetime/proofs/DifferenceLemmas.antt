@@ -1,27 +1,21 @@
 -- Differences of date-times, from those of times of day.
-use Rattle.std.proofs.Common.{◌≡◌, ◌⊎◌, inl, inr, ⊎_elim, ◌↔◌, ℕ, ℤ, pos, ◌+ℤ◌, ◌-ℤ◌, ◌<ℤ◌, true, cond, Some, None, arith, refl, sym, ap, ◌∙◌}
+use Rattle.std.proofs.Common.{◌≡◌, ◌⊎◌, inl, inr, ⊎_elim, ◌↔◌, ℕ, ℤ, pos, ◌+ℤ◌, ◌-ℤ◌, ◌<ℤ◌, Some, arith, refl, sym, ap, ◌∙◌}
 use Rattle.std.proofs.lemmas.Bool.{cases_order}
-use Rattle.std.proofs.lemmas.Int.{by_lt_z, ints}
+use Rattle.std.proofs.lemmas.Int.{by_lt_z}
 use Rattle.std.specs.Option.{option_map}
 use Rattle.chrono_clock.specs.SignedLemmas.{signed_arith}
 use Rattle.chrono_clock.specs.Time.{TimeOfDay, IsTime, IsPlain, IsEarlier, landing_of, land, later, place, distance}
 use Rattle.chrono_clock.proofs.TimeLemmas.{is_leap-plain}
 use Rattle.chrono_clock.proofs.DistanceLemmas.{land-distance, land-distance_days, distance-later, distance-earlier, distance-same}
-use Rattle.chrono_naive.specs.Days.{IsDate, date_of_day, is_date}
+use Rattle.chrono_naive.specs.Days.{IsDate, date_of_day}
+use Rattle.chrono_naive.proofs.NamedDates.{date_of_day-Some}
 use Rattle.chrono_datetime.specs.Moment.{Moment, moment, reach, moment_of_landing, moment_distance, IsBefore, LeadsBack, SignTellsOrder}
-
-is_date-test : (n : ℤ) → IsDate n → is_date n ≡ true
-is_date-test n i = grind (arith, ints, i.0, i.1)
-
-date_of_day-date : (n : ℤ) → IsDate n → date_of_day n ≡ Some n
-unfolding date_of_day
-date_of_day-date n i = ap (λ b. cond b (Some n) None) (is_date-test n i)
 
 -- from b on, a landing whose day is that of a
 reach-at : (a b : Moment) (x day : ℤ) → IsDate a.date → land b.time x ≡ later day (landing_of a.time) → b.date +ℤ (day +ℤ pos 0) ≡ a.date → reach b x ≡ Some a
 unfolding reach moment_of_landing
 reach-at a b x day i e f =
-    ap (moment_of_landing b.date) e ∙ ap (λ n. option_map (λ d. moment d a.time) (date_of_day n)) f ∙ ap (option_map (λ d. moment d a.time)) (date_of_day-date a.date i)
+    ap (moment_of_landing b.date) e ∙ ap (λ n. option_map (λ d. moment d a.time) (date_of_day n)) f ∙ ap (option_map (λ d. moment d a.time)) (date_of_day-Some a.date i)
 
 -- of one date the distance is that of the times
 one_date : (a b : Moment) → a.date ≡ b.date → moment_distance a b ≡ distance a.time b.time

@@ -1,6 +1,7 @@
 //! `NaiveDateTime`: the type, its ends and parts, and its moves and differences by durations.
 //!
-//! Its order stands in `order`, its fields in `fields`, its moves by months and days in `moves`, its operators in `ops`.
+//! Its order stands in `order`, its fields in `fields`, its moves by months and days in `moves`, its operators in `ops`,
+//! and its printed texts in `text`.
 ghost use Rattle.std.specs.Prelude.{◌≡◌, ℤ, pos, neg_ℤ, ◌+ℤ◌, ◌-ℤ◌, ◌*ℤ◌, ◌<ℤ◌, ◌<◌, ◌^◌, ◌↔◌, IfSome, Some, unsigned_abs};
 ghost use Rattle.chrono_clock.specs.Duration.{nanos_per_day};
 ghost use Rattle.chrono_clock.specs.Time.{time_at};
@@ -162,7 +163,7 @@ impl NaiveDateTime {
     }
 }
 
-// The date-time so many seconds of whole days from a date, if that day is a date.
+// The date-time at `time`, on the day that lies `seconds` of whole days from the date, if that day is a date.
 #[inline]
 fn at_landing(date: NaiveDate, time: NaiveTime, seconds: i64) -> Option<NaiveDateTime>
     ensures { (day : ℤ) → seconds ≡ day *ℤ pos 86_400 → result ≡ moment_of_landing date (record { day = day; time = time }) }

@@ -1,10 +1,11 @@
 -- Lemmas on the texts of dates.
-use Rattle.std.proofs.Common.{◌≡◌, ℕ, ◌<◌, ◌≤◌, Bool, ℤ, pos, negsuc, ◌≤ℤ◌, Some, length, unsigned_abs, arith, sym, ◌∙◌}
+use Rattle.std.proofs.Common.{◌≡◌, ℕ, ◌<◌, ◌≤◌, ℤ, pos, negsuc, ◌≤ℤ◌, Some, length, unsigned_abs, arith, sym, ◌∙◌}
 use Rattle.std.proofs.lemmas.Int.{ints}
-use Rattle.chrono_units.specs.Years.{IsYear, is_leap_year, month_length_in}
+use Rattle.chrono_units.specs.Years.{IsYear, is_leap_year}
 use Rattle.chrono_clock.specs.Text.{year_text, calendar_text}
 use Rattle.chrono_clock.proofs.TextLemmas.{calendar_text_injective, length-calendar_text, length-year_text-four, length-year_text-le}
 use Rattle.chrono_calendar.specs.Days.{IsDate, date_of_ymd, day_number_of_ymd, year_of, month_of, day_of}
+use Rattle.chrono_calendar.proofs.Months.{month_length_in-bounds}
 use Rattle.chrono_calendar.proofs.MonthMoveLaws.{year_of-range}
 use Rattle.chrono_calendar.proofs.NamedDates.{calendar_name-exists, date_of_ymd-name, number-calendar_name}
 use Rattle.chrono_naive.specs.DateText.{date_text}
@@ -20,14 +21,11 @@ year_size : (y : ℤ) → IsYear y → unsigned_abs y < 1_000_000
 year_size (pos n) h = omega (arith, ints, h.1)
 year_size (negsuc n) h = omega (arith, ints, h.0)
 
-longest_month : (leap : Bool) (m : ℕ) → month_length_in leap m ≤ 31
-longest_month leap m = grind arith
-
 month_of-small : (n : ℤ) → month_of n < 100
 month_of-small n = omega (arith, (calendar_name-exists n).0.1)
 
 day_of-small : (n : ℤ) → day_of n < 100
-day_of-small n = omega (arith, (calendar_name-exists n).1.1, longest_month (is_leap_year (year_of n)) (month_of n))
+day_of-small n = omega (arith, (calendar_name-exists n).1.1, month_length_in-bounds (is_leap_year (year_of n)) (month_of n))
 
 -- different dates have different texts
 pub date_text_injective : (n m : ℤ) → IsDate n → IsDate m → date_text n ≡ date_text m → n ≡ m

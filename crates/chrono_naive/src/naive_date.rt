@@ -1,8 +1,8 @@
 //! `NaiveDate`: a date with no time zone.
 //!
 //! This file has the type, its ends, and how a date is named, numbered and moved by days. Its
-//! fields stand in `fields`, its order in `order`, its further moves and differences in `moves`,
-//! its operators in `ops`, and its printed text in `text`.
+//! fields stand in `fields`, its order in `order`, its further moves, differences, weeks and
+//! iterators in `moves`, its operators in `ops`, and its printed text in `text`.
 ghost use Rattle.std.specs.Prelude.{◌≡◌, ◌+◌, ◌≤◌, pos, ◌+ℤ◌, ◌-ℤ◌, IfSome};
 ghost use Rattle.chrono_units.specs.Years.{is_leap_year};
 ghost use Rattle.chrono_calendar.specs.Days.{IsDate, date_of_day, date_of_yo, date_of_ymd, year_of};

@@ -1,20 +1,15 @@
 -- Day numbers and ordinal names, counted from a start far enough back that no number is negative.
-use Rattle.std.proofs.Common.{◌≡◌, ℕ, ◌+◌, ◌*◌, ◌/◌, ◌%◌, ◌<◌, refl, arith, ℤ, pos, ◌+ℤ◌, ◌-ℤ◌}
-use Rattle.std.specs.Int.{int_div_euclid}
-use Rattle.chrono_units.specs.Years.{year_length, IsYear}
-use Rattle.chrono_calendar.specs.Days.{days_before_year, IsDate, IsOrdinalName, day_number_of_yo, year_of, ordinal_of}
+use Rattle.std.proofs.Common.{◌≡◌, ℕ, ◌+◌, ◌*◌, ◌/◌, ◌%◌, ◌<◌, refl, arith, ℤ, pos, ◌+ℤ◌}
+use Rattle.chrono_units.specs.Years.{year_length}
+use Rattle.chrono_calendar.specs.Days.{days_before_year, IsOrdinalName, day_number_of_yo}
 use Rattle.chrono_calendar.proofs.Signed.{signed}
-use Rattle.chrono_calendar.proofs.Names.{ordinal_name_of-number, year_in_range}
 use Rattle.chrono_calendar.proofs.Years.{days_before_year-closed, days_before_year-next}
-
--- 656 cycles of 400 years move a quotient by a whole number
-quotient_moved : (p : ℕ) (z : ℤ) → pos p ≡ z +ℤ pos 262_400 → (int_div_euclid z (pos 4) +ℤ pos 65_600 ≡ pos (p / 4)) × (int_div_euclid z (pos 100) +ℤ pos 2_624 ≡ pos (p / 100)) × (int_div_euclid z (pos 400) +ℤ pos 656 ≡ pos (p / 400))
-quotient_moved p z e = (omega (arith, signed), omega (arith, signed), omega (arith, signed))
+use Rattle.chrono_calendar.proofs.IsoWeeks.{leap_quotients}
 
 -- the days before the year that p years of the count precede
 pub days_before_year-counted : (p : ℕ) (y : ℤ) → pos p +ℤ pos 1 ≡ y +ℤ pos 262_400 → days_before_year y +ℤ pos 95_839_632 +ℤ pos (p / 100) ≡ pos (365 * p + p / 4 + p / 400)
 days_before_year-counted p y e =
-    omega (arith, signed, quotient_moved p (y -ℤ pos 1) (omega (arith, signed)), days_before_year-closed y)
+    omega (arith, signed, leap_quotients y p (omega (arith, signed)), days_before_year-closed y)
 
 -- the length of that year
 pub year_length-counted : (p : ℕ) (y : ℤ) → pos p +ℤ pos 1 ≡ y +ℤ pos 262_400 → year_length y + p / 4 + (p + 1) / 100 + p / 400 ≡ 365 + (p + 1) / 4 + p / 100 + (p + 1) / 400
@@ -50,8 +45,3 @@ ordinal_name-counted days y n c k z d start e f g h years =
     let century_day : 36_524 * c + c / 4 + k ≡ n = rw (e, f) (day_of_century n) in
     let year_day : 365 * z + z / 4 + d ≡ k = rw (g, h) (day_of_year k) in
     ((omega arith, omega arith), omega (arith, signed))
-
--- a day number in the range names a year in the range
-pub year_of-in_range : (n : ℤ) → IsDate n → IsYear (year_of n)
-year_of-in_range n h =
-    year_in_range (year_of n) (ordinal_of n) (ordinal_name_of-number n).exists (rw (← (ordinal_name_of-number n).number) h)

@@ -1,5 +1,6 @@
 -- The linear formulas of months tell what counting does.
 use Rattle.std.proofs.Common.{◌≡◌, ℕ, ◌+◌, ◌-◌, ◌*◌, ◌/◌, ◌%◌, Bool, true, false, ◌&&◌, cond, nat_eq, nat_lt, refl, arith}
+use Rattle.std.proofs.lemmas.Bool.{and_parts}
 use Rattle.std.proofs.lemmas.Bool.Decides.{nat_tests}
 use Rattle.std.specs.Int.{IsInRange}
 use Rattle.chrono_calendar.specs.Days.{days_of_months_in, month_of_ordinal, day_of_ordinal}
@@ -19,15 +20,12 @@ unfolding passes_below days_of_months_in month_of_ordinal day_of_ordinal
 told true = refl
 told false = refl
 
-both : (a b : Bool) → (a && b) ≡ true → (a ≡ true) × (b ≡ true)
-both a b h = grind arith
-
 pub month_day-told : (leap : Bool) (o : ℕ) → IsInRange 1 (cond leap 366 365) o → ((67 * even_day leap o + 2080) / 2048 ≡ month_of_ordinal leap o) × ((67 * even_day leap o + 2080) % 2048 / 67 + 1 ≡ day_of_ordinal leap o)
 month_day-told leap o h =
     let back : o - 1 + 1 ≡ o = omega arith in
     let passed = passes_below-at (tells_month_day leap) (cond leap 366 365) (told leap) (o - 1) (omega arith) in
     let here : tells_month_day leap (o - 1) ≡ true = passed in
-    let p = both (nat_eq ((67 * even_day leap (o - 1 + 1) + 2080) / 2048) (month_of_ordinal leap (o - 1 + 1))) (nat_eq ((67 * even_day leap (o - 1 + 1) + 2080) % 2048 / 67 + 1) (day_of_ordinal leap (o - 1 + 1))) here in
+    let p = and_parts (nat_eq ((67 * even_day leap (o - 1 + 1) + 2080) / 2048) (month_of_ordinal leap (o - 1 + 1))) (nat_eq ((67 * even_day leap (o - 1 + 1) + 2080) % 2048 / 67 + 1) (day_of_ordinal leap (o - 1 + 1))) here in
     rw (← back) (grind (arith, nat_tests, p.0), grind (arith, nat_tests, p.1))
 
 -- the days before each month

@@ -1,5 +1,5 @@
 -- Dates packed into one number: what is read back, and in which order they lie.
-use Rattle.std.proofs.Common.{◌≡◌, ℕ, ◌+◌, ◌%◌, ◌<◌, ◌≤◌, ◌⊎◌, inl, inr, Bool, true, false, cond, Option, Some, None, nat_lt, refl, sym, ◌∙◌, ap, arith, ℤ, pos, ◌<ℤ◌, int_cmp, int_eq, nat_eq, FitsSigned, w32, of_z, to_z}
+use Rattle.std.proofs.Common.{◌≡◌, ℕ, ◌+◌, ◌%◌, ◌<◌, ◌≤◌, ◌⊎◌, inl, inr, true, false, cond, Option, Some, None, refl, sym, ◌∙◌, ap, arith, ℤ, pos, ◌<ℤ◌, int_cmp, int_eq, nat_eq, FitsSigned, w32, of_z, to_z}
 use Rattle.std.proofs.lemmas.Bool.{cases_order}
 use Rattle.std.proofs.lemmas.Bool.Decides.{nat_tests, same_from_decides, Decides-eqb, Decides-int_eq}
 use Rattle.std.proofs.lemmas.Int.{ints, by_lt_z, to_z-of_z}
@@ -94,12 +94,7 @@ IsPackedName-stored z n h e =
 pub flags-read : (z n : ℤ) (f : ℕ) → IsStored z n → pos f ≡ int_rem_euclid z (pos 16) → f ≡ flags_of_year (year_of n)
 flags-read z n f h e = omega (arith, signed, h.number, flags_of_year_bounds (year_of n))
 
--- the flags are below 8 exactly in a leap year
-pub leap-flags : (y : ℤ) → nat_lt (flags_of_year y) 8 ≡ is_leap_year y
-unfolding flags_of_year
-leap-flags y = elim (is_leap_year y) as (λ b. nat_lt (cond b 0 8 + ((days_from_sunday_of (days_before_year y) + 5) % 7 + 1)) 8 ≡ b) [ true ↦ grind (arith, nat_tests) | false ↦ grind (arith, nat_tests) ]
-
--- and their other three digits tell the weekday of each day
+-- and the low three of those tell the weekday of each day
 low_digits : (y : ℤ) → flags_of_year y % 8 ≡ (days_from_sunday_of (days_before_year y) + 5) % 7 + 1
 unfolding flags_of_year
 low_digits y = elim (is_leap_year y) as (λ b. (cond b 0 8 + ((days_from_sunday_of (days_before_year y) + 5) % 7 + 1)) % 8 ≡ (days_from_sunday_of (days_before_year y) + 5) % 7 + 1) [ true ↦ omega arith | false ↦ omega arith ]
@@ -118,7 +113,3 @@ weekday-flags y o =
 pub SomeIff-in_year : (r : Option ℤ) (P Q : Type 0) (v : ℤ) → P → SomeIff r Q v → SomeIff (option_map (λ (n : ℤ). n) r) (P × Q) v
 SomeIff-in_year (Some n) P Q v p h = ((p, h.0), h.1)
 SomeIff-in_year None P Q v p h = λ both. h both.1
-
--- the test of the flags tells whether the year is leap
-pub leap_by : (y : ℤ) (f : ℕ) (b : Bool) → b ≡ nat_lt f 8 → f ≡ flags_of_year y → b ≡ is_leap_year y
-leap_by y f b e g = e ∙ ap (λ k. nat_lt k 8) g ∙ leap-flags y

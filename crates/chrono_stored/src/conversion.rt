@@ -9,10 +9,10 @@ ghost use Rattle.std.specs.Prelude.{◌≡◌, ◌+◌, ◌*◌, ◌/◌, ◌%�
 ghost use Rattle.chrono_units.specs.Years.{IsYear};
 ghost use Rattle.chrono_calendar.specs.Days.{IsDate, days_before_year as days_before, year_of, ordinal_of};
 
-/// Years from the first year that is counted here to year 1: 656 cycles of 400 years.
+// Years from the first year that is counted here to year 1: 656 cycles of 400 years.
 const YEARS_TO_ONE: i32 = 262_400;
 
-/// The days of those years.
+// The days of those years.
 const DAYS_TO_ONE: i32 = 95_839_632;
 
 // The years that are counted before a year.

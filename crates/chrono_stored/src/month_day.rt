@@ -37,7 +37,7 @@ pub fn month_day(leap: bool, ordinal: u32) -> (u32, u32)
 }
 
 /// The place in a leap year or in a common year of a day of a month, all counted from 1, or `None`
-/// if such years have no such day. Each month has 28 days.
+/// if such years have no such day. A day up to 28 is in every month.
 #[inline]
 pub fn ordinal_of_month_day(leap: bool, month: u32, day: u32) -> Option<u32>
     ensures { SomeIff result (IsInRange 1 12 month × IsInRange 1 (month_length_in leap month) day) (days_of_months_in leap (month - 1) + day) }

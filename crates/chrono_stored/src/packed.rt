@@ -15,10 +15,10 @@ use std::cmp::Ordering;
 use std::hash::{Hash, Hasher};
 use std::marker::Model;
 
-/// The day number of the first date.
+// The day number of the first date.
 const FIRST_DAY: i32 = -95_746_129;
 
-/// The day number of the last date.
+// The day number of the last date.
 const LAST_DAY: i32 = 95_745_399;
 
 /// A date of the proleptic Gregorian calendar, stored as `(year << 13) + (ordinal << 4) + flags`,

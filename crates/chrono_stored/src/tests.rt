@@ -1,4 +1,4 @@
-//! Dates whose names other calendars give, and a walk over every day of the range.
+//! Dates whose names are known from outside, and a walk over every day of the range.
 
 use crate::PackedForm;
 use chrono_calendar::{DayForm, Steps};

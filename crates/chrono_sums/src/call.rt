@@ -5,15 +5,25 @@
 pub enum Call {
     /// No call: the generator, a look-up and the sum alone.
     Nothing,
+    /// `NaiveDate::checked_add_months`, and `checked_sub_months` for a number below 0.
     AddMonths,
+    /// `NaiveDate::checked_add_days`.
     AddDays,
+    /// `Datelike::iso_week`.
     IsoWeek,
+    /// `NaiveDate::from_ymd_opt`.
     FromYmd,
+    /// `Datelike::num_days_from_ce`.
     ToDays,
+    /// `NaiveDate::from_num_days_from_ce_opt`, and the year, month and day of the answer.
     FromDays,
+    /// `NaiveTime::overflowing_add_signed`.
     TimeAdd,
+    /// `NaiveDateTime::checked_add_signed`.
     MomentAdd,
+    /// `NaiveDateTime::signed_duration_since`.
     MomentDiff,
+    /// `TimeDelta::checked_add`.
     DurationAdd,
 }
 

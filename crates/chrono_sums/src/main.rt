@@ -38,7 +38,8 @@ fn run(rt: &(impl Env + Alloc + Print)) -> io::Result<bool> {
         let [name, count] = pair else {
             return Ok(false);
         };
-        let (Some(call), Ok(count)) = (call_named(name.as_str()), count.as_str().parse::<u64>()) else {
+        let (Some(call), Ok(count)) = (call_named(name.as_str()), count.as_str().parse::<u64>())
+        else {
             return Ok(false);
         };
         println!(rt; "{}", sum_of_answers(call, count))?;

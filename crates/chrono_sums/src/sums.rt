@@ -39,7 +39,11 @@ fn sum<F: Fn(u64) -> u64>(mut generator: Generator, count: u64, answer: F) -> u6
 // No call: what every sum takes besides its call.
 fn nothing(mut generator: Generator, count: u64) -> u64 {
     let days = table(&mut generator, day);
-    sum(generator, count, |drawn| of_signed(i64::from(days[first(drawn)])))
+    sum(
+        generator,
+        count,
+        |drawn| of_signed(i64::from(days[first(drawn)])),
+    )
 }
 
 // Every second move goes back: the lowest binary digit of a drawn number alternates.
@@ -91,8 +95,10 @@ fn to_days(mut generator: Generator, count: u64) -> u64 {
 fn from_days(mut generator: Generator, count: u64) -> u64 {
     let days = table(&mut generator, day);
     sum(generator, count, |drawn| {
-        NaiveDate::from_num_days_from_ce_opt(days[first(drawn)])
-            .map_or(0, |date| of_year(date.year(), date.month() * 32 + date.day()))
+        NaiveDate::from_num_days_from_ce_opt(days[first(drawn)]).map_or(
+            0,
+            |date| of_year(date.year(), date.month() * 32 + date.day()),
+        )
     })
 }
 

@@ -63,7 +63,7 @@ impl Month {
         }
     }
 
-    /// The month of the cycle before: `Month::January.pred()` is December.
+    /// The previous month of the cycle: `Month::January.pred()` is December.
     #[inline]
     pub fn pred(&self) -> Month
         ensures { result ≡ previous_month self.now }
@@ -113,8 +113,8 @@ impl Month {
         }
     }
 
-    /// The days of this month in that year of the proleptic Gregorian calendar, 28 to 31; `None`
-    /// exactly if the year is out of range, so below -262,143 or above 262,142.
+    /// The days of this month in that year of the proleptic Gregorian calendar, 28 to 31; `None` for
+    /// a year below -262,143 or above 262,142, and for no other.
     ///
     /// `Month::February.num_days(1900)` is `Some(28)`, and of year 0, which is leap, `Some(29)`.
     #[inline]

@@ -26,6 +26,7 @@ impl OutOfRange {
 impl fmt::Display for OutOfRange {
     ghost output = { λ _. Some (codes "out of range") };
 
+    /// Writes `out of range`.
     fn fmt<W: fmt::Write>(&self, f: &mut fmt::Formatter<W>) -> fmt::Result {
         f.write_str("out of range")
     }

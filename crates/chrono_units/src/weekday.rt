@@ -47,7 +47,7 @@ impl Weekday {
         }
     }
 
-    /// The day of the week before: `Weekday::Mon.pred()` is Sunday.
+    /// The previous day of the week: `Weekday::Mon.pred()` is Sunday.
     #[inline]
     pub fn pred(&self) -> Weekday
         ensures { result ≡ previous_weekday self.now }
@@ -95,9 +95,9 @@ impl Weekday {
         self.days_since(Weekday::Sun)
     }
 
-    /// The days from `other` forward to the next day like this one, 0 to 6.
+    /// The days from `other` on to the first day that is this weekday, 0 to 6.
     ///
-    /// `Weekday::Mon.days_since(Weekday::Sun)` is 1, and of a day since itself 0.
+    /// `Weekday::Mon.days_since(Weekday::Sun)` is 1. A day since itself is 0.
     #[inline]
     pub fn days_since(&self, other: Weekday) -> u32
         ensures { result ≡ days_since self.now other }

@@ -19,7 +19,7 @@ pub fn is_year(year: i32) -> bool
     MIN_YEAR <= year && year <= MAX_YEAR
 }
 
-/// Whether the year is leap: 4 divides it, and either 100 does not or 400 does.
+/// Whether the year is leap: a multiple of 4 that is no multiple of 100, unless it is one of 400.
 ///
 /// So 2024, 2000 and 0 are leap, and 2023 and 1900 are not.
 #[inline]

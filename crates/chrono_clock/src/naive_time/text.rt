@@ -9,6 +9,7 @@ use std::fmt;
 impl fmt::Display for NaiveTime {
     ghost output = { λ t. Some (time_text t) };
 
+    /// Writes the time as ISO 8601 does, with as few digits of its fraction as hold it: none, 3, 6 or 9.
     fn fmt<W: fmt::Write>(&self, f: &mut fmt::Formatter<W>) -> fmt::Result {
         write_clock(
             f,
@@ -23,6 +24,7 @@ impl fmt::Display for NaiveTime {
 impl fmt::Debug for NaiveTime {
     ghost debug_output = { λ t. Some (time_text t) };
 
+    /// Writes what `Display` writes.
     fn fmt<W: fmt::Write>(&self, f: &mut fmt::Formatter<W>) -> fmt::Result {
         fmt::Display::fmt(self, f)
     }

@@ -36,6 +36,7 @@ impl TimeDelta {
     }
 }
 
+// A `-`, or nothing.
 fn write_sign<W: fmt::Write>(f: &mut fmt::Formatter<W>, negative: bool) -> fmt::Result
     ensures { WritesOnOk W.write_str_gives f.old result (sign_text negative) f.new }
 {

@@ -1,4 +1,5 @@
-use Rattle.std.proofs.Common.{◌≡◌, ℤ, pos, ◌+ℤ◌, ◌-ℤ◌, ap, ◌∙◌, arith, to_z, of_z, w32, FitsSigned}
+use Rattle.std.proofs.Common.{ℤ, pos, ◌+ℤ◌, ◌-ℤ◌, ap, ◌∙◌, arith, to_z, of_z, w32}
+use Rattle.std.proofs.lemmas.Int.{to_z-of_z}
 use Rattle.chrono_units.specs.Years.{year_length}
 use Rattle.chrono_calendar.specs.Days.{days_before_year}
 use Rattle.chrono_calendar.specs.Weeks.{days_from_sunday_of}
@@ -19,14 +20,10 @@ pub returns-then-week-eq0 : goal.returns-then-week-eq0
 returns-then-week-eq0 g c =
     date_of_iso-no_week c.args.year c.args.week c.args.weekday (λ first last. omega (arith, year_length_bounds c.args.year, before_monday-bound c.args.year, c.then-week-eq0.either))
 
--- the year as the code has it
-same_year : (y : ℤ) → FitsSigned w32 y → to_z w32 (of_z w32 y) ≡ y
-same_year y h = omega (arith, casts)
-
 pub returns-then-week-length : goal.returns-then-week-length
 returns-then-week-length g c =
     let y = c.args.year in
-    let same = same_year y c.ranges.year in
+    let same = to_z-of_z w32 y c.ranges.year in
     let days = c.year_length-length.ensures ∙ ap year_length same in
     let before = c.days_from_sunday_before.ensures ∙ ap (λ (z : ℤ). days_from_sunday_of (days_before_year z)) same in
     date_of_iso-no_week y c.args.week c.args.weekday (λ first last. omega (arith, days, before))
@@ -34,7 +31,7 @@ returns-then-week-length g c =
 pub returns-then-place-before_monday : goal.returns-then-place-before_monday
 returns-then-place-before_monday g c =
     let y = c.args.year in
-    let same = same_year y c.ranges.year in
+    let same = to_z-of_z w32 y c.ranges.year in
     let days = c.year_length-length.ensures ∙ ap year_length same in
     let before = c.days_from_sunday_before.ensures ∙ ap (λ (z : ℤ). days_from_sunday_of (days_before_year z)) same in
     let p = to_z w32 (of_z w32 (to_z w32 (of_z w32 y) -ℤ pos 1)) in
@@ -45,7 +42,7 @@ returns-then-place-before_monday g c =
 pub returns-then-ordinal-length : goal.returns-then-ordinal-length
 returns-then-ordinal-length g c =
     let y = c.args.year in
-    let same = same_year y c.ranges.year in
+    let same = to_z-of_z w32 y c.ranges.year in
     let days = c.year_length-length.ensures ∙ ap year_length same in
     let before = c.days_from_sunday_before.ensures ∙ ap (λ (z : ℤ). days_from_sunday_of (days_before_year z)) same in
     c.from_yo-then-ordinal-length.ensures ∙ date_of_iso-after y (to_z w32 (of_z w32 (to_z w32 (of_z w32 y) +ℤ pos 1))) c.args.week _ c.args.weekday (omega arith) (omega (arith, days, before)) (omega (arith, casts)) (omega (arith, days, before, c.num_days_from_monday.ensures)) (omega (arith, days, before))
@@ -53,7 +50,7 @@ returns-then-ordinal-length g c =
 pub returns : goal.returns
 returns g c =
     let y = c.args.year in
-    let same = same_year y c.ranges.year in
+    let same = to_z-of_z w32 y c.ranges.year in
     let days = c.year_length-length.ensures ∙ ap year_length same in
     let before = c.days_from_sunday_before.ensures ∙ ap (λ (z : ℤ). days_from_sunday_of (days_before_year z)) same in
     rw same at c.from_yo-2.ensures ∙ date_of_iso-inside y c.args.week _ c.args.weekday (omega arith) (omega (arith, days, before)) (omega (arith, days, before, c.num_days_from_monday.ensures)) (omega (arith, before)) (omega (arith, days, before))

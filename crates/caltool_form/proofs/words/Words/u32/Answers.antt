@@ -3,7 +3,8 @@ use Rattle.std.specs.Option.{option_and_then}
 use Rattle.caltool_form.specs.Numbers.{to_u32}
 use Rattle.caltool_form.specs.Readers.{i64}
 use Rattle.caltool_form.specs.Cursor.{leaving, Reads}
-use Rattle.caltool_form.proofs.Reading.{reads_word, narrowed_reads, inside_u32, fits_u32}
+use Rattle.caltool_form.proofs.Reading.{reads_word, narrowed_reads, inside_u32}
+use Rattle.caltool_form.proofs.CommandLaws.{u32_written}
 use Rattle.caltool_form.proofs.words.Words.u32.Goals as goal
 
 pub returns-in_err-large-in-None : goal.returns-in_err-large-in-None
@@ -14,7 +15,7 @@ pub returns-in-Some : goal.returns-in-Some
 returns-in-Some c =
     let small : c.in-Some.n < 2 ^ 32 = search rules in
     narrowed_reads to_u32 inside_u32 _ c.next_short.new.self (Some (pos c.in-Some.n)) (reads_word _ _ (Some (pos c.in-Some.n)) c.in-Some.ensures.taken)
-    ∙ ap (option_and_then (λ a. leaving a c.next_short.new.self)) (fits_u32 c.in-Some.n small)
+    ∙ ap (option_and_then (λ a. leaving a c.next_short.new.self)) (u32_written c.in-Some.n small)
 
 pub returns-in_ok-large-in-None : goal.returns-in_ok-large-in-None
 returns-in_ok-large-in-None c =

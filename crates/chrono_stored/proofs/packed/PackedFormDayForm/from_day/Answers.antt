@@ -4,7 +4,7 @@ use Rattle.chrono_calendar.specs.Days.{IsDate, year_of, ordinal_of, day_number_o
 use Rattle.chrono_calendar.proofs.Signed.{casts}
 use Rattle.chrono_calendar.proofs.Names.{ordinal_name_of-number}
 use Rattle.chrono_calendar.proofs.Dates.{date_of_day-SomeIff}
-use Rattle.chrono_stored.proofs.DayNumbers.{year_of-in_range}
+use Rattle.chrono_calendar.proofs.MonthMoveLaws.{year_of-range}
 use Rattle.chrono_stored.proofs.packed.PackedFormDayForm.from_day.Goals as goal
 use Rattle.chrono_stored.proofs.packed.PackedFormDayForm.from_day.Goals.{then-days-lt-FIRST_DAY-via-then-days-lt-FIRST_DAY, then-days-lt-FIRST_DAY-via-else-days-lt-FIRST_DAY+then-days-gt-LAST_DAY}
 
@@ -28,7 +28,7 @@ ordinal : (c : goal.After-from_year_counted-flags) → c.year_and_ordinal-year.r
 ordinal c = c.year_and_ordinal-year.ensures.ordinal ∙ ap (λ n. ordinal_of n) (to_z-of_z w32 c.args.days c.ranges.days)
 
 pub pack-requires-clause-year : goal.pack-requires-clause-year
-pack-requires-clause-year c = rw (year c) (year_of-in_range c.args.days (date c))
+pack-requires-clause-year c = rw (year c) (year_of-range c.args.days (date c))
 
 pub pack-requires-clause-ordinal : goal.pack-requires-clause-ordinal
 pack-requires-clause-ordinal c = rw (year c, ordinal c) (ordinal_name_of-number c.args.days).exists
