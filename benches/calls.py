@@ -7,7 +7,8 @@ It needs crates/chrono_sums/out/chrono_sums, which `rt run` leaves there, and li
 is its twin over that library.
 Both programs make each call COUNT times on the same pseudo-random arguments and print the sum of its answers, which has to be
 the same. They take turns in five rounds over all calls, and the best run counts, less that of `none`, which draws, looks up and
-adds without a call.
+adds without a call. No call waits for the answer of the one before, so what a processor does of a call beside the next drawing
+is not seen.
 """
 import os
 import subprocess

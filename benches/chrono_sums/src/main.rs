@@ -110,7 +110,8 @@ fn of_moment(moment: Option<NaiveDateTime>) -> u64 {
     })
 }
 
-/// The nanoseconds past the whole seconds, which chrono 0.4.23 has no call for.
+/// The nanoseconds past the whole seconds, which chrono 0.4.23 has no call for. After a difference of date-times this took
+/// no time that could be measured.
 fn subsec_nanos(duration: Duration) -> i64 {
     (duration - Duration::seconds(duration.num_seconds()))
         .num_nanoseconds()
@@ -219,7 +220,7 @@ fn moment_diff(mut generator: Generator, count: u64) -> u64 {
     })
 }
 
-/// The sum is read in milliseconds, which takes either library as long.
+/// Read in milliseconds, which takes either library as long, unlike what stands for `subsec_nanos`.
 fn duration_add(mut generator: Generator, count: u64) -> u64 {
     let durations = table(&mut generator, duration);
     sum(generator, count, |drawn| {

@@ -2,7 +2,7 @@
 //!
 //! Each function reads a form, computes with plain numbers, and asks the form for the date that it found. An answer is
 //! `None` exactly where the definition names no date.
-ghost use Rattle.std.specs.Prelude.{◌≡◌, pos, neg_ℤ, ◌+◌, ◌≤◌, ◌+ℤ◌, ◌≤ℤ◌, ◌<ℤ◌, min, SomeIff};
+ghost use Rattle.std.specs.Prelude.{◌≡◌, pos, neg_ℤ, ◌+◌, ◌-◌, ◌/◌, ◌≤◌, ◌+ℤ◌, ◌≤ℤ◌, ◌<ℤ◌, min, SomeIff, IfSome};
 ghost use Rattle.std.specs.Int.{IsInRange};
 ghost use Rattle.std.specs.Option.{option_map};
 ghost use Rattle.chrono_units.specs.Years.{IsYear, month_length as length_of_month};
@@ -22,10 +22,28 @@ const MONTHS: i64 = (MAX_YEAR - MIN_YEAR + 1) as i64 * 12;
 // The years of 656 whole cycles of 400, which no weekday feels: with them added, every year of the library comes after 0.
 const CYCLE_YEARS: i32 = 262_400;
 
+// The ordinal `k` days after an ordinal of the same year, if it is one of the first 365, which every year has.
+#[inline]
+fn ordinal_after(ordinal: u32, k: i64) -> Option<u32>
+    requires { ordinal ≤ 366 }
+    ensures place { IfSome result (λ o. pos o ≡ pos ordinal +ℤ k) }
+    ensures in_year { IfSome result (λ o. IsInRange 1 365 o) }
+{
+    if k < -365 || k > 365 {
+        return None;
+    }
+    let place = i64::from(ordinal) + k;
+    if place < 1 || place > 365 {
+        return None;
+    }
+    Some(place as u32)
+}
+
 /// The date `k` days later, or earlier for a negative `k`; `None` if that day is outside the range of dates.
 /// So 28 February 2023 moved by one day is 1 March 2023.
 ///
-/// It takes at most four steps, of which one stands for reading the form's day number.
+/// It takes at most four steps, of which one stands for reading the form. A move within the first 365 days of the year does
+/// not leave the year.
 #[inline]
 pub fn move_days<F: DayForm>(f: F, k: i64, steps: &mut Steps) -> Option<F>
     ensures date { option_map F.number result ≡ date_of_day (F.number f +ℤ k) }
@@ -33,6 +51,11 @@ pub fn move_days<F: DayForm>(f: F, k: i64, steps: &mut Steps) -> Option<F>
     ensures cost { steps.new ≤ steps.old + 4 }
 {
     steps.tick();
+    if let Some(ordinal) = ordinal_after(f.ordinal(), k) {
+        // The year's flags are read once more.
+        steps.tick();
+        return F::from_yo(f.year(), ordinal);
+    }
     let target = i64::from(f.day()).checked_add(k)?;
     let day = i32::try_from(target).ok()?;
     F::from_day(day, steps)
@@ -83,6 +106,15 @@ pub fn move_months<F: DayForm>(f: F, k: i64) -> Option<F>
     F::from_ymd(year, month, day_within(year, month, day))
 }
 
+// The week of a Thursday, by its place in its year: a division by 7 as one product with 2^14 / 7, rounded up.
+#[inline]
+fn week_of_thursday(place: u32) -> u32
+    requires { IsInRange 1 366 place }
+    ensures { result ≡ (place - 1) / 7 + 1 }
+{
+    ((place + 6) * 2_341) >> 14
+}
+
 /// The ISO year and the week in it, from 1 to 53 (ISO 8601 week date): those of the Thursday of the date's week.
 ///
 /// So 30 December 2024, a Monday, is in week 1 of 2025. The last days of the year 262,142 are in the ISO year 262,143.
@@ -98,13 +130,13 @@ pub fn iso_name<F: DayForm>(f: &F) -> (i32, u32)
     let from_monday = f.weekday().num_days_from_monday();
     if place <= from_monday {
         let thursday = place + year_length(year - 1) - from_monday;
-        return (year - 1, (thursday - 1) / 7 + 1);
+        return (year - 1, week_of_thursday(thursday));
     }
     let thursday = place - from_monday;
     if thursday > 365 + u32::from(f.is_leap()) {
         return (year + 1, 1);
     }
-    (year, (thursday - 1) / 7 + 1)
+    (year, week_of_thursday(thursday))
 }
 
 // The weekday of the day before the year, from 0 for Sunday. A common year moves it on by a day, and a leap year by two.

@@ -126,7 +126,7 @@ fn moment_diff(mut generator: Generator, count: u64) -> u64 {
     })
 }
 
-// The sum is read in milliseconds, which takes either library as long.
+// Read in milliseconds, which takes either library as long; the chrono of the twin has no call for nanoseconds.
 fn duration_add(mut generator: Generator, count: u64) -> u64 {
     let durations = table(&mut generator, duration);
     sum(generator, count, |drawn| {

@@ -15,7 +15,7 @@ abbrev year_read : ℤ → ℤ
 year_read y = to_z w32 (of_z w32 y)
 
 -- in the week of a Thursday of the year before
-before : (g : Over) (c : goal.After-year_length g) → has_iso_name (g.F.DayForm.number c.args.f.now) (year_read (year_read c.year-year.result -ℤ pos 1)) (c.ordinal-place.result + 3 + c.year_length.result - c.num_days_from_monday-from_monday.result)
+before : (g : Over) (c : goal.After-week_of_thursday g) → has_iso_name (g.F.DayForm.number c.args.f.now) (year_read (year_read c.year-year.result -ℤ pos 1)) (c.ordinal-place.result + 3 + c.year_length.result - c.num_days_from_monday-from_monday.result)
 before g c =
     let n = g.F.DayForm.number c.args.f.now in
     let monday = c.num_days_from_monday-from_monday.ensures ∙ ap days_from_monday c.weekday.ensures in
@@ -27,7 +27,7 @@ pub returns-then-place-from_monday-clause-year : goal.returns-then-place-from_mo
 returns-then-place-from_monday-clause-year g c = sym (before g c).0
 
 pub returns-then-place-from_monday-clause-week : goal.returns-then-place-from_monday-clause-week
-returns-then-place-from_monday-clause-week g c = sym (before g c).1
+returns-then-place-from_monday-clause-week g c = c.week_of_thursday.ensures ∙ sym (before g c).1
 
 pub returns-then-place-from_monday-clause-year_in_range : goal.returns-then-place-from_monday-clause-year_in_range
 returns-then-place-from_monday-clause-year_in_range g c =
@@ -57,7 +57,7 @@ pub returns-then-thursday-from-clause-week : goal.returns-then-thursday-from-cla
 returns-then-thursday-from-clause-week g c = sym (after g c).1
 
 -- in the week of a Thursday of the same year
-inside : (g : Over) (c : goal.Else-thursday-from g) → has_iso_name (g.F.DayForm.number c.args.f.now) (year_read c.year-year.result) (c.ordinal-place.result + 3 - c.num_days_from_monday-from_monday.result)
+inside : (g : Over) (c : goal.After-week_of_thursday-2 g) → has_iso_name (g.F.DayForm.number c.args.f.now) (year_read c.year-year.result) (c.ordinal-place.result + 3 - c.num_days_from_monday-from_monday.result)
 inside g c =
     let n = g.F.DayForm.number c.args.f.now in
     let monday = c.num_days_from_monday-from_monday.ensures ∙ ap days_from_monday c.weekday.ensures in
@@ -70,4 +70,4 @@ pub returns-clause-year : goal.returns-clause-year
 returns-clause-year g c = sym (inside g c).0
 
 pub returns-clause-week : goal.returns-clause-week
-returns-clause-week g c = sym (inside g c).1
+returns-clause-week g c = c.week_of_thursday-2.ensures ∙ sym (inside g c).1
