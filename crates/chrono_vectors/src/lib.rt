@@ -21,4 +21,6 @@ mod weekday_set;
 #[cfg(test)]
 mod weekday_set_iter;
 #[cfg(test)]
+mod weekday_set_pairs;
+#[cfg(test)]
 mod weekday_texts;
