@@ -24,3 +24,5 @@ mod weekday_set_iter;
 mod weekday_set_pairs;
 #[cfg(test)]
 mod weekday_texts;
+#[cfg(test)]
+mod weekday_writing;
