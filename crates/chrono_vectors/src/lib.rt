@@ -5,6 +5,8 @@
 #![tactic(auto)]
 
 #[cfg(test)]
+mod clock;
+#[cfg(test)]
 mod month;
 #[cfg(test)]
 mod naive_date;
