@@ -3,7 +3,7 @@ use Rattle.std.proofs.Common.{◌≡◌, ◌⊎◌, inl, inr, ⊎_elim, ◌↔�
 use Rattle.std.proofs.lemmas.Bool.{cases_order}
 use Rattle.std.proofs.lemmas.Int.{by_lt_z}
 use Rattle.std.specs.Option.{option_map}
-use Rattle.chrono_clock.specs.SignedLemmas.{signed_arith}
+use Rattle.chrono_clock.specs.Signed.{signed}
 use Rattle.chrono_clock.specs.Time.{TimeOfDay, IsTime, IsPlain, IsEarlier, landing_of, land, later, place, distance}
 use Rattle.chrono_clock.proofs.TimeLemmas.{is_leap-plain}
 use Rattle.chrono_clock.proofs.DistanceLemmas.{land-distance, land-distance_days, distance-later, distance-earlier, distance-same}
@@ -20,16 +20,13 @@ reach-at a b x day i e f =
 -- of one date the distance is that of the times
 one_date : (a b : Moment) → a.date ≡ b.date → moment_distance a b ≡ distance a.time b.time
 unfolding moment_distance
-one_date a b e = omega (arith, signed_arith, e)
-
-landing_of-later : (t : TimeOfDay) → landing_of t ≡ later (pos 0) (landing_of t)
-landing_of-later t = refl
+one_date a b e = omega (arith, signed, e)
 
 pub reach-distance : (a b : Moment) → IsDate a.date → IsTime a.time → IsTime b.time → LeadsBack a b → reach b (moment_distance a b) ≡ Some a
 unfolding moment_distance
 reach-distance a b d i j way =
-    ⊎_elim (λ plain. reach-at a b _ (a.date -ℤ b.date) d (land-distance_days a.time b.time (a.date -ℤ b.date) i j plain.0 plain.1) (omega (arith, signed_arith)))
-    (λ one. ap (reach b) (one_date a b one.0) ∙ reach-at a b _ (pos 0) d (land-distance a.time b.time i j one.1) (omega (arith, signed_arith, one.0)))
+    ⊎_elim (λ plain. reach-at a b _ (a.date -ℤ b.date) d (land-distance_days a.time b.time (a.date -ℤ b.date) i j plain.0 plain.1) (omega (arith, signed)))
+    (λ one. ap (reach b) (one_date a b one.0) ∙ reach-at a b _ (pos 0) d (land-distance a.time b.time i j one.1) (omega (arith, signed, one.0)))
     way
 
 -- ---- the sign of a distance is the order
@@ -37,22 +34,22 @@ reach-distance a b d i j way =
 -- a plain distance is that of the places
 distance-plain : (s t : TimeOfDay) → IsPlain s → IsPlain t → distance s t ≡ pos (place s) -ℤ pos (place t)
 unfolding distance
-distance-plain s t p q = rw (is_leap-plain t q, is_leap-plain s p) (omega (arith, signed_arith))
+distance-plain s t p q = rw (is_leap-plain t q, is_leap-plain s p) (omega (arith, signed))
 
 -- dates apart outweigh the times, where no time is leap
 apart : (a b : Moment) → IsTime a.time → IsTime b.time → IsPlain a.time → IsPlain b.time → a.date <ℤ b.date → (moment_distance a b <ℤ pos 0) × (pos 0 <ℤ moment_distance b a)
 unfolding moment_distance
 apart a b i j p q h =
-    (omega (arith, signed_arith, h, i.second, j.second, distance-plain a.time b.time p q), omega (arith, signed_arith, h, i.second, j.second, distance-plain b.time a.time q p))
+    (omega (arith, signed, h, i.second, j.second, distance-plain a.time b.time p q), omega (arith, signed, h, i.second, j.second, distance-plain b.time a.time q p))
 
 -- and on one date the times decide
 beside : (a b : Moment) → IsTime a.time → IsTime b.time → a.date ≡ b.date → IsEarlier a.time b.time → (moment_distance a b <ℤ pos 0) × (pos 0 <ℤ moment_distance b a)
 beside a b i j e h =
-    (omega (arith, signed_arith, one_date a b e, distance-earlier a.time b.time i j h), omega (arith, signed_arith, one_date b a (sym e), distance-later b.time a.time j i h))
+    (omega (arith, signed, one_date a b e, distance-earlier a.time b.time i j h), omega (arith, signed, one_date b a (sym e), distance-later b.time a.time j i h))
 
 signs : (a b : Moment) → IsTime a.time → IsTime b.time → SignTellsOrder a b → IsBefore a b → (moment_distance a b <ℤ pos 0) × (pos 0 <ℤ moment_distance b a)
 signs a b i j way h =
-    ⊎_elim (λ lt. ⊎_elim (λ one. absurd (omega (arith, signed_arith, lt, one))) (λ plain. apart a b i j plain.0 plain.1 lt) way)
+    ⊎_elim (λ lt. ⊎_elim (λ one. absurd (omega (arith, signed, lt, one))) (λ plain. apart a b i j plain.0 plain.1 lt) way)
     (λ p. beside a b i j p.0 p.1) h
 
 same_sign : (a b : Moment) → a ≡ b → moment_distance a b ≡ pos 0
@@ -60,7 +57,7 @@ unfolding moment_distance
 same_sign a b e =
     let dates : a.date ≡ b.date = ap (λ (m : Moment). m.date) e in
     let times : a.time ≡ b.time = ap (λ (m : Moment). m.time) e in
-    omega (arith, signed_arith, dates, distance-same a.time b.time times)
+    omega (arith, signed, dates, distance-same a.time b.time times)
 
 -- of two date-times one comes first, or they are one
 same_time : (s t : TimeOfDay) → s.second ≡ t.second → s.fraction ≡ t.fraction → s ≡ t
@@ -81,7 +78,7 @@ moments_in_order a b =
     by_lt_z a.date b.date (λ lt. inr (inl (inl lt)))
     (λ ge. by_lt_z b.date a.date (λ lt. inr (inr (inl lt)))
     (λ le.
-    let one : a.date ≡ b.date = omega (arith, signed_arith, ge, le) in
+    let one : a.date ≡ b.date = omega (arith, signed, ge, le) in
     ⊎_elim (λ e. inl (same_moment a b one e)) (λ apart. ⊎_elim (λ h. inr (inl (inr (one, h)))) (λ h. inr (inr (inr (sym one, h)))) apart) (times_in_order a.time b.time)))
 
 other_way : (a b : Moment) → SignTellsOrder a b → SignTellsOrder b a
@@ -93,7 +90,7 @@ sign_tells a b i j way =
     let later = λ (h : IsBefore b a). (signs b a j i (other_way a b way) h).1 in
     let earlier = λ (h : IsBefore a b). (signs a b i j way h).0 in
     let same = same_sign a b in (
-      (λ up. ⊎_elim (λ e. absurd (omega (arith, signed_arith, up, same e))) (λ apart. ⊎_elim (λ h. absurd (omega (arith, signed_arith, up, earlier h))) (λ h. h) apart) (moments_in_order a b), later),
-      (λ zero. ⊎_elim (λ e. e) (λ apart. ⊎_elim (λ h. absurd (omega (arith, signed_arith, zero, earlier h))) (λ h. absurd (omega (arith, signed_arith, zero, later h))) apart) (moments_in_order a b), same),
-      (λ down. ⊎_elim (λ e. absurd (omega (arith, signed_arith, down, same e))) (λ apart. ⊎_elim (λ h. h) (λ h. absurd (omega (arith, signed_arith, down, later h))) apart) (moments_in_order a b), earlier),
+      (λ up. ⊎_elim (λ e. absurd (omega (arith, signed, up, same e))) (λ apart. ⊎_elim (λ h. absurd (omega (arith, signed, up, earlier h))) (λ h. h) apart) (moments_in_order a b), later),
+      (λ zero. ⊎_elim (λ e. e) (λ apart. ⊎_elim (λ h. absurd (omega (arith, signed, zero, earlier h))) (λ h. absurd (omega (arith, signed, zero, later h))) apart) (moments_in_order a b), same),
+      (λ down. ⊎_elim (λ e. absurd (omega (arith, signed, down, same e))) (λ apart. ⊎_elim (λ h. h) (λ h. absurd (omega (arith, signed, down, later h))) apart) (moments_in_order a b), earlier),
     )

@@ -2,10 +2,10 @@
 use Rattle.std.proofs.Common.{◌≡◌, inl, inr, ⊎_elim, ℤ, pos, ◌+ℤ◌, ◌<ℤ◌, Bool, true, false, cond, Option, Some, None, arith, refl, sym, ap, ◌∙◌, subst, ◌↔◌, IfSome}
 use Rattle.std.proofs.lemmas.Int.{by_lt_z}
 use Rattle.std.specs.Option.{option_map}
-use Rattle.chrono_clock.specs.SignedLemmas.{signed_arith}
+use Rattle.chrono_clock.specs.Signed.{signed}
 use Rattle.chrono_clock.specs.Time.{TimeOfDay, Landing, IsTime, IsEarlier, IsEarlierLanding, landing_of, land, later}
 use Rattle.chrono_clock.proofs.TimeLemmas.{by_leap}
-use Rattle.chrono_clock.proofs.LandingLemmas.{AddsUp-land}
+use Rattle.chrono_clock.proofs.LandingLemmas.{TimeMovesAddUp-land}
 use Rattle.chrono_clock.proofs.OrderLemmas.{land-forward, land-backward}
 use Rattle.chrono_clock.proofs.DistanceLemmas.{land-distance, distance-same}
 use Rattle.chrono_naive.specs.Days.{date_of_day, is_date}
@@ -20,17 +20,11 @@ pub reach-Some : (m e : Moment) (x : ℤ) → Some e ≡ reach m x → e ≡ mom
 unfolding reach moment_of_landing date_of_day
 reach-Some m e x h = found (is_date (m.date +ℤ (land m.time x).day)) _ _ e h
 
-later-later : (c d : ℤ) (l : Landing) → later c (later d l) ≡ later (c +ℤ d) l
-later-later c d l =
-    let on_day : ℤ → Landing = λ e. record { day = e; time = l.time } in
-    let e : c +ℤ (d +ℤ l.day) ≡ (c +ℤ d) +ℤ l.day = omega (arith, signed_arith) in
-    ap on_day e
-
 -- a landing so many days later, from a date as many days earlier
 moment_of_landing-later : (n d : ℤ) (l : Landing) → moment_of_landing n (later d l) ≡ moment_of_landing (n +ℤ d) l
 unfolding moment_of_landing
 moment_of_landing-later n d l =
-    let e : n +ℤ (d +ℤ l.day) ≡ (n +ℤ d) +ℤ l.day = omega (arith, signed_arith) in
+    let e : n +ℤ (d +ℤ l.day) ≡ (n +ℤ d) +ℤ l.day = omega (arith, signed) in
     ap (λ k. option_map (λ j. moment j l.time) (date_of_day k)) e
 
 pub MovesAddUp-reach : (m e : Moment) (x : ℤ) → IsTime m.time → Some e ≡ reach m x → MovesAddUp m x e
@@ -39,7 +33,7 @@ MovesAddUp-reach m e x i h = λ y in_range way.
     let l = land m.time x in
     ap (λ k. moment_of_landing k.date (land k.time y)) (reach-Some m e x h)
     ∙ sym (moment_of_landing-later m.date l.day (land l.time y))
-    ∙ ap (moment_of_landing m.date) (sym (AddsUp-land m.time x y i way))
+    ∙ ap (moment_of_landing m.date) (sym (TimeMovesAddUp-land m.time x y i way))
 
 -- order of date-times is no loop
 IsEarlier-not_back : (s t : TimeOfDay) → IsEarlier s t → IsEarlier t s → ⊥
@@ -47,8 +41,8 @@ IsEarlier-not_back s t h k = ⊎_elim (λ a. ⊎_elim (λ b. omega (arith, a, b)
 
 pub IsBefore-not_back : (a b : Moment) → IsBefore a b → IsBefore b a → ⊥
 IsBefore-not_back a b h k =
-    ⊎_elim (λ p. ⊎_elim (λ q. omega (arith, signed_arith, p, q)) (λ q. omega (arith, signed_arith, p, q.0)) k)
-    (λ p. ⊎_elim (λ q. omega (arith, signed_arith, p.0, q)) (λ q. IsEarlier-not_back a.time b.time p.1 q.1) k) h
+    ⊎_elim (λ p. ⊎_elim (λ q. omega (arith, signed, p, q)) (λ q. omega (arith, signed, p, q.0)) k)
+    (λ p. ⊎_elim (λ q. omega (arith, signed, p.0, q)) (λ q. IsEarlier-not_back a.time b.time p.1 q.1) k) h
 
 pub IsBefore-not_same : (a b : Moment) → a ≡ b → IsBefore a b → ⊥
 IsBefore-not_same a b e h = let P : Moment → Type 0 = λ c. IsBefore c b in IsBefore-not_back b b (subst P e h) (subst P e h)
@@ -61,10 +55,10 @@ land-zero t i =
 
 -- landings in order are date-times in order
 before_landing : (m : Moment) (l : Landing) → IsEarlierLanding (landing_of m.time) l → IsBefore m (moment (m.date +ℤ l.day) l.time)
-before_landing m l h = ⊎_elim (λ d. inl (omega (arith, signed_arith, d))) (λ p. inr (omega (arith, signed_arith, p.0), p.1)) h
+before_landing m l h = ⊎_elim (λ d. inl (omega (arith, signed, d))) (λ p. inr (omega (arith, signed, p.0), p.1)) h
 
 past_landing : (m : Moment) (l : Landing) → IsEarlierLanding l (landing_of m.time) → IsBefore (moment (m.date +ℤ l.day) l.time) m
-past_landing m l h = ⊎_elim (λ d. inl (omega (arith, signed_arith, d))) (λ p. inr (omega (arith, signed_arith, p.0), p.1)) h
+past_landing m l h = ⊎_elim (λ d. inl (omega (arith, signed, d))) (λ p. inr (omega (arith, signed, p.0), p.1)) h
 
 reach-forward : (m e : Moment) (x : ℤ) → IsTime m.time → Some e ≡ reach m x → pos 0 <ℤ x → IsBefore m e
 reach-forward m e x i h up =
@@ -77,7 +71,7 @@ reach-backward m e x i h down =
 reach-still : (m e : Moment) (x : ℤ) → IsTime m.time → Some e ≡ reach m x → x ≡ pos 0 → e ≡ m
 reach-still m e x i h zero =
     let still = ap (land m.time) zero ∙ land-zero m.time i in
-    let same : m.date +ℤ pos 0 ≡ m.date = omega (arith, signed_arith) in
+    let same : m.date +ℤ pos 0 ≡ m.date = omega (arith, signed) in
     reach-Some m e x h ∙ ap (λ (l : Landing). moment (m.date +ℤ l.day) l.time) still ∙ ap (λ n. moment n m.time) same
 
 -- the end is later exactly for a positive duration, and earlier exactly for a negative one
@@ -86,7 +80,7 @@ reach-later m e x i h = (
   reach-forward m e x i h,
   λ later. by_lt_z (pos 0) x (λ up. up)
       (λ le. by_lt_z x (pos 0) (λ down. absurd (IsBefore-not_back m e later (reach-backward m e x i h down)))
-      (λ ge. absurd (IsBefore-not_same m e (sym (reach-still m e x i h (omega (arith, signed_arith, le, ge)))) later))),
+      (λ ge. absurd (IsBefore-not_same m e (sym (reach-still m e x i h (omega (arith, signed, le, ge)))) later))),
 )
 
 pub reach-earlier : (m e : Moment) (x : ℤ) → IsTime m.time → Some e ≡ reach m x → (x <ℤ pos 0) ↔ IsBefore e m
@@ -94,7 +88,7 @@ reach-earlier m e x i h = (
   reach-backward m e x i h,
   λ earlier. by_lt_z x (pos 0) (λ down. down)
       (λ le. by_lt_z (pos 0) x (λ up. absurd (IsBefore-not_back m e (reach-forward m e x i h up) earlier))
-      (λ ge. absurd (IsBefore-not_same e m (reach-still m e x i h (omega (arith, signed_arith, le, ge))) earlier))),
+      (λ ge. absurd (IsBefore-not_same e m (reach-still m e x i h (omega (arith, signed, le, ge))) earlier))),
 )
 
 -- the three laws of a move, whatever it answers

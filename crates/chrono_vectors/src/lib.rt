@@ -5,6 +5,8 @@
 #![tactic(auto)]
 
 #[cfg(test)]
+mod clock;
+#[cfg(test)]
 mod month;
 #[cfg(test)]
 mod naive_date;
@@ -21,4 +23,8 @@ mod weekday_set;
 #[cfg(test)]
 mod weekday_set_iter;
 #[cfg(test)]
+mod weekday_set_pairs;
+#[cfg(test)]
 mod weekday_texts;
+#[cfg(test)]
+mod weekday_writing;

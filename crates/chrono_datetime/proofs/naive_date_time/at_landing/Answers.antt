@@ -1,6 +1,6 @@
 use Rattle.std.proofs.Common.{◌≡◌, ℤ, pos, ◌+ℤ◌, ◌*ℤ◌, int_div, FitsSigned, w64, to_z, of_z, Option, Some, None, ap, ◌∙◌, arith}
 use Rattle.std.specs.Option.{option_map}
-use Rattle.chrono_clock.specs.SignedLemmas.{signed_casts}
+use Rattle.chrono_clock.specs.Signed.{signed}
 use Rattle.chrono_clock.specs.Time.{TimeOfDay}
 use Rattle.chrono_naive.specs.Days.{date_of_day}
 use Rattle.chrono_datetime.specs.Moment.{moment, moment_of_landing}
@@ -8,7 +8,7 @@ use Rattle.chrono_datetime.proofs.naive_date_time.at_landing.Goals as goal
 
 -- the whole days that the code counts
 whole_days : (s d : ℤ) → FitsSigned w64 s → s ≡ d *ℤ pos 86_400 → to_z w64 (of_z w64 (int_div (to_z w64 (of_z w64 s)) (pos 86_400))) ≡ d
-whole_days s d fits e = omega (arith, signed_casts)
+whole_days s d fits e = omega (arith, signed)
 
 moved : (o : Option ℤ) (n x day : ℤ) (t : TimeOfDay) → x ≡ day → o ≡ date_of_day (n +ℤ x) → option_map (λ d. moment d t) o ≡ moment_of_landing n (record { day = day; time = t })
 unfolding moment_of_landing

@@ -1,5 +1,5 @@
 use Rattle.std.proofs.Common.{◌≡◌, ℤ, pos, ◌-ℤ◌, ◌*ℤ◌, ◌<◌, ◌^◌, unsigned_abs, w32, w64, to_z, of_z, arith, ap, ◌∙◌, subst}
-use Rattle.chrono_clock.specs.SignedLemmas.{signed_casts, one_part}
+use Rattle.chrono_clock.specs.Signed.{signed}
 use Rattle.chrono_naive.specs.Days.{IsDate}
 use Rattle.chrono_datetime.specs.Moment.{Moment}
 use Rattle.chrono_datetime.proofs.naive_date_time.NaiveDateTime.days_since.Goals as goal
@@ -9,10 +9,10 @@ abbrev seconds_of : ℤ → ℤ → ℤ
 seconds_of n m = to_z w64 (of_z w64 (to_z w64 (of_z w64 (to_z w64 (of_z w64 (to_z w32 (of_z w32 n))) -ℤ to_z w64 (of_z w64 (to_z w32 (of_z w32 m))))) *ℤ pos 86_400))
 
 in_nanos : (n m x : ℤ) → IsDate n → IsDate m → x ≡ seconds_of n m *ℤ pos 1_000_000_000 → x ≡ (n -ℤ m) *ℤ pos 86_400_000_000_000
-in_nanos n m x h k e = omega (arith, signed_casts, h.0, h.1, k.0, k.1)
+in_nanos n m x h k e = omega (arith, signed, h.0, h.1, k.0, k.1)
 
 is_small : (n m : ℤ) → IsDate n → IsDate m → unsigned_abs ((n -ℤ m) *ℤ pos 86_400_000_000_000) < 2 ^ 75
-is_small n m h k = omega (arith, signed_casts, one_part (n -ℤ m), h.0, h.1, k.0, k.1)
+is_small n m h k = omega (arith, signed, h.0, h.1, k.0, k.1)
 
 pub returns : goal.returns
 returns c =
