@@ -9,15 +9,30 @@ ghost use Rattle.std.specs.Prelude.{◌≡◌, ◌+◌, ◌*◌, ◌/◌, ◌%�
 ghost use Rattle.chrono_units.specs.Years.{IsYear};
 ghost use Rattle.chrono_calendar.specs.Days.{IsDate, days_before_year as days_before, year_of, ordinal_of};
 
-// Years from the first year that is counted here to year 1: 656 cycles of 400 years.
-const YEARS_TO_ONE: i32 = 262_400;
+/// The day number of the first date, -262143-01-01.
+pub(crate) const FIRST_DAY: i32 = -95_746_129;
 
-// The days of those years.
-const DAYS_TO_ONE: i32 = 95_839_632;
+/// The day number of the last date, +262142-12-31.
+pub(crate) const LAST_DAY: i32 = 95_745_399;
+
+// Years from the first year that is counted here to year 1: 656 cycles of 400 years.
+const YEARS_TO_ONE: i32 = 656 * 400;
+
+// The days of a cycle of 400 years: 20,871 weeks.
+const DAYS_OF_CYCLE: u32 = 146_097;
+
+// The days of the years to year 1.
+pub(crate) const DAYS_TO_ONE: i32 = 656 * DAYS_OF_CYCLE as i32;
+
+// The days of four years, of which the last is leap.
+const DAYS_OF_FOUR_YEARS: u32 = 1_461;
+
+// 2^32 / 1461, rounded up.
+const PART_OF_FOUR_YEARS: u32 = 2_939_745;
 
 // The years that are counted before a year.
 #[inline]
-fn years_before(year: i32) -> u32
+pub(crate) fn years_before(year: i32) -> u32
     requires { IsYear year }
     ensures { pos result +ℤ pos 1 ≡ year +ℤ pos 262_400 }
 {
@@ -26,7 +41,7 @@ fn years_before(year: i32) -> u32
 
 // The year that as many years are counted before.
 #[inline]
-fn year_after(years: u32) -> i32
+pub(crate) fn year_after(years: u32) -> i32
     requires { years < 600_000 }
     ensures { pos years +ℤ pos 1 ≡ result +ℤ pos 262_400 }
 {
@@ -35,7 +50,7 @@ fn year_after(years: u32) -> i32
 
 // The days that are counted before a day.
 #[inline]
-fn days_before_day(day: i32) -> u32
+pub(crate) fn days_before_day(day: i32) -> u32
     requires { IsDate day }
     ensures { pos result +ℤ pos 1 ≡ day +ℤ pos 95_839_632 }
 {
@@ -44,17 +59,17 @@ fn days_before_day(day: i32) -> u32
 
 // The days of as many years from the first.
 #[inline]
-fn days_of_years(years: u32) -> u32
+pub(crate) fn days_of_years(years: u32) -> u32
     requires { years < 600_000 }
     ensures { result + years / 100 ≡ 365 * years + years / 4 + years / 400 }
 {
     let centuries = years / 100;
-    1461 * years / 4 - centuries + centuries / 4
+    DAYS_OF_FOUR_YEARS * years / 4 - centuries + centuries / 4
 }
 
 /// The days before 1 January of a year, counted from 1 January of year 1.
 #[inline]
-pub fn days_before_year(year: i32) -> i32
+pub(crate) fn days_before_year(year: i32) -> i32
     requires { IsYear year }
     ensures { result ≡ days_before year }
 {
@@ -69,7 +84,7 @@ fn century(day: u32) -> (u32, u32)
     ensures day { result.1 ≡ (4 * day + 3) % 146_097 / 4 }
 {
     let quarters = 4 * day + 3;
-    (quarters / 146_097, quarters % 146_097 / 4)
+    (quarters / DAYS_OF_CYCLE, quarters % DAYS_OF_CYCLE / 4)
 }
 
 // The year of a day of a century, and the place of the day there, all counted from 0.
@@ -82,19 +97,32 @@ fn year_of_century(day: u32) -> (u32, u32)
     ensures year { result.0 ≡ (4 * day + 3) / 1461 }
     ensures day { result.1 ≡ (4 * day + 3) % 1461 / 4 }
 {
-    let product = 2_939_745 * (4 * day + 3) as u64;
+    let product = PART_OF_FOUR_YEARS as u64 * (4 * day + 3) as u64;
     let part = (product & 0xffff_ffff) as u32;
-    ((product >> 32) as u32, part / 2_939_745 / 4)
+    ((product >> 32) as u32, part / PART_OF_FOUR_YEARS / 4)
+}
+
+// The whole years before a day, and the place of the day in its own year, all counted from 0.
+#[inline]
+pub(crate) fn years_and_place(day: u32) -> (u32, u32)
+    requires { day < 200_000_000 }
+    ensures place { let n = result.0 in
+        365 * n + n / 4 + n / 400 + result.1 ≡ day + n / 100 }
+    ensures in_year { let n = result.0 + 1 in
+        day + n / 100 < 365 * n + n / 4 + n / 400 }
+{
+    let (centuries, day_of_century) = century(day);
+    let (years, place) = year_of_century(day_of_century);
+    (100 * centuries + years, place)
 }
 
 /// The year of a date's day number, and the place of the day there, from 1.
 #[inline]
-pub fn year_and_ordinal(days: i32) -> (i32, u32)
+pub(crate) fn year_and_ordinal(days: i32) -> (i32, u32)
     requires { IsDate days }
     ensures year { result.0 ≡ year_of days }
     ensures ordinal { result.1 ≡ ordinal_of days }
 {
-    let (centuries, day_of_century) = century(days_before_day(days));
-    let (years, day) = year_of_century(day_of_century);
-    (year_after(100 * centuries + years), day + 1)
+    let (years, place) = years_and_place(days_before_day(days));
+    (year_after(years), place + 1)
 }

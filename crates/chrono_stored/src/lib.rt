@@ -3,10 +3,14 @@
 #![tactic(auto)]
 
 mod conversion;
+mod counted;
+mod march;
 mod month_day;
 mod packed;
 mod packing;
 #[cfg(test)]
 mod tests;
+mod weekdays;
 
+pub use counted::CountedForm;
 pub use packed::PackedForm;

@@ -21,7 +21,7 @@ fn missing_days(leap: bool) -> u32
 /// The month of a day of a leap year or of a common year, and the place of the day there, all
 /// counted from 1.
 #[inline]
-pub fn month_day(leap: bool, ordinal: u32) -> (u32, u32)
+pub(crate) fn month_day(leap: bool, ordinal: u32) -> (u32, u32)
     requires { IsInRange 1 (if leap then 366 else 365) ordinal }
     ensures month { result.0 ≡ month_of_ordinal leap ordinal }
     ensures day { result.1 ≡ day_of_ordinal leap ordinal }
@@ -39,7 +39,7 @@ pub fn month_day(leap: bool, ordinal: u32) -> (u32, u32)
 /// The place in a leap year or in a common year of a day of a month, all counted from 1, or `None`
 /// if such years have no such day. A day up to 28 is in every month.
 #[inline]
-pub fn ordinal_of_month_day(leap: bool, month: u32, day: u32) -> Option<u32>
+pub(crate) fn ordinal_of_month_day(leap: bool, month: u32, day: u32) -> Option<u32>
     ensures { SomeIff result (IsInRange 1 12 month × IsInRange 1 (month_length_in leap month) day) (days_of_months_in leap (month - 1) + day) }
 {
     if month < 1 || month > 12 {

@@ -5,7 +5,7 @@ ghost use Rattle.chrono_units.specs.Years.{IsYear};
 ghost use Rattle.chrono_calendar.specs.Days.{IsOrdinalName, IsCalendarName, day_number_of_yo, day_number_of_ymd, year_of, ordinal_of};
 ghost use Rattle.chrono_calendar.specs.Stored.{flags_of_year, packed_name};
 
-use crate::conversion::{days_before_year, year_and_ordinal};
+use crate::conversion::{FIRST_DAY, LAST_DAY, days_before_year, year_and_ordinal};
 use crate::month_day::{month_day, ordinal_of_month_day};
 use crate::packing::{flags_in, is_leap_by, ordinal_in, packed_number, weekday_by, year_in};
 use chrono_calendar::{DayForm, Steps, YearFlags};
@@ -14,12 +14,6 @@ use chrono_units::year::is_year;
 use std::cmp::Ordering;
 use std::hash::{Hash, Hasher};
 use std::marker::Model;
-
-// The day number of the first date.
-const FIRST_DAY: i32 = -95_746_129;
-
-// The day number of the last date.
-const LAST_DAY: i32 = 95_745_399;
 
 /// A date of the proleptic Gregorian calendar, stored as `(year << 13) + (ordinal << 4) + flags`,
 /// where the flags are the [`YearFlags`] of the year.

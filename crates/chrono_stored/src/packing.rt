@@ -7,65 +7,73 @@ ghost use Rattle.chrono_units.specs.Years.{IsYear};
 ghost use Rattle.chrono_units.specs.Weekday.{weekday_from_monday};
 ghost use Rattle.chrono_calendar.specs.Stored.{packed_year, packed_ordinal};
 
+use crate::weekdays::days_after_monday;
 use chrono_units::Weekday;
+
+// How many binary digits stand below the year, and below the ordinal.
+const DIGITS_BELOW_YEAR: u32 = 13;
+
+const DIGITS_BELOW_ORDINAL: u32 = 4;
+
+// The digits below the year, and those of the flags.
+const ORDINAL_AND_FLAGS: i32 = 0x1fff;
+
+const FLAGS: i32 = 0xf;
+
+// The digit that a common year's flags have, and those that tell a weekday.
+const COMMON_YEAR: u8 = 8;
+
+const WEEKDAY_DIGITS: u8 = 7;
 
 /// The number of a year, an ordinal and flags: `(year << 13) + (ordinal << 4) + flags`.
 #[inline]
-pub fn packed_number(year: i32, ordinal: u32, flags: u8) -> i32
+pub(crate) fn packed_number(year: i32, ordinal: u32, flags: u8) -> i32
     requires year { IsYear year }
     requires ordinal { ordinal ≤ 366 }
     requires flags { flags ≤ 15 }
     ensures { result ≡ year *ℤ pos 8192 +ℤ pos (ordinal * 16 + flags) }
 {
-    (year << 13) + ((ordinal << 4) as i32) + i32::from(flags)
+    (year << DIGITS_BELOW_YEAR) + ((ordinal << DIGITS_BELOW_ORDINAL) as i32) + i32::from(flags)
 }
 
 /// The year in such a number: what stands above its 13 lowest binary digits.
 #[inline]
-pub fn year_in(packed: i32) -> i32
+pub(crate) fn year_in(packed: i32) -> i32
     ensures { result ≡ packed_year packed }
 {
-    packed >> 13
+    packed >> DIGITS_BELOW_YEAR
 }
 
 /// The ordinal in such a number: the nine digits above the lowest four.
 #[inline]
-pub fn ordinal_in(packed: i32) -> u32
+pub(crate) fn ordinal_in(packed: i32) -> u32
     ensures { result ≡ packed_ordinal packed }
 {
-    ((packed & 0x1fff) >> 4) as u32
+    ((packed & ORDINAL_AND_FLAGS) >> DIGITS_BELOW_ORDINAL) as u32
 }
 
 /// The flags in such a number: its lowest four digits.
 #[inline]
-pub fn flags_in(packed: i32) -> u8
+pub(crate) fn flags_in(packed: i32) -> u8
     ensures { pos result ≡ int_rem_euclid packed (pos 16) }
 {
-    (packed & 0xf) as u8
+    (packed & FLAGS) as u8
 }
 
 /// Whether the flags are those of a leap year, which lack the digit 8 of a common year.
 #[inline]
-pub fn is_leap_by(flags: u8) -> bool
+pub(crate) fn is_leap_by(flags: u8) -> bool
     ensures { result ≡ nat_lt flags 8 }
 {
-    flags < 8
+    flags < COMMON_YEAR
 }
 
 /// The weekday of a day of a year, by its ordinal and the flags of the year, whose low three digits
 /// are the days from a Monday on to the last day before the year.
 #[inline]
-pub fn weekday_by(ordinal: u32, flags: u8) -> Weekday
+pub(crate) fn weekday_by(ordinal: u32, flags: u8) -> Weekday
     requires { ordinal ≤ 366 }
     ensures { result ≡ weekday_from_monday ((ordinal + flags % 8) % 7) }
 {
-    match (ordinal + u32::from(flags & 7)) % 7 {
-        0 => Weekday::Mon,
-        1 => Weekday::Tue,
-        2 => Weekday::Wed,
-        3 => Weekday::Thu,
-        4 => Weekday::Fri,
-        5 => Weekday::Sat,
-        _ => Weekday::Sun,
-    }
+    days_after_monday(ordinal + u32::from(flags & WEEKDAY_DIGITS))
 }

@@ -1,11 +1,13 @@
 -- Values that the definitions must give.
 use Rattle.std.proofs.Common.{◌≡◌, refl, true, false, pos, neg_ℤ, [], ◌∷◌}
+use Rattle.std.specs.Prelude.{codes}
 use Rattle.chrono_units.specs.declared.weekday.Weekday.TheVariants.{Mon, Tue, Wed, Thu, Fri, Sat, Sun}
 use Rattle.chrono_units.specs.declared.month.Month.TheVariants.{January, February, December}
 use Rattle.chrono_units.specs.Years.{is_leap_year, is_year, month_length, year_length}
 use Rattle.chrono_units.specs.Weekday.{days_from_sunday, number_from_monday, number_from_sunday, weekday_from_sunday, next_weekday, previous_weekday, days_since}
 use Rattle.chrono_units.specs.Month.{next_month, previous_month}
 use Rattle.chrono_units.specs.WeekdaySet.{set_of, set_number, all_days, no_days, single, difference, walk}
+use Rattle.chrono_units.specs.WeekdayText.{digit_text, set_digits_text, set_text}
 
 -- ---- the leap rule: every fourth year, of the centuries every fourth, below year 1 as above
 
@@ -151,3 +153,15 @@ walk_of_all = refl
 
 walk_of_none : walk no_days Tue ≡ []
 walk_of_none = refl
+
+-- ---- texts of sets
+
+set_text_three_days : set_text (set_of (Thu ∷ Sun ∷ Mon ∷ [])) ≡ codes "[Mon, Thu, Sun]"
+set_text_three_days = refl
+
+set_text_no_days : set_text no_days ≡ codes "[]"
+set_text_no_days = refl
+
+set_digits_two_days : set_digits_text (set_of (Mon ∷ Tue ∷ [])) ≡ codes "WeekdaySet(0000011)"
+unfolding digit_text
+set_digits_two_days = refl

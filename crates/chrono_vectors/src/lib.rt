@@ -23,4 +23,8 @@ mod weekday_set;
 #[cfg(test)]
 mod weekday_set_iter;
 #[cfg(test)]
+mod weekday_set_pairs;
+#[cfg(test)]
 mod weekday_texts;
+#[cfg(test)]
+mod weekday_writing;

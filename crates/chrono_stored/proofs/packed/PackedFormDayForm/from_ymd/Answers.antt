@@ -4,7 +4,7 @@ use Rattle.std.proofs.lemmas.Int.{to_z-of_z}
 use Rattle.chrono_units.specs.Years.{IsYear, is_year}
 use Rattle.chrono_calendar.specs.Days.{IsCalendarName, day_number_of_ymd}
 use Rattle.chrono_calendar.proofs.Dates.{date_of_ymd-SomeIff, is_year-test, is_year-fact}
-use Rattle.chrono_stored.proofs.PackedNames.{SomeIff-in_year}
+use Rattle.chrono_stored.proofs.YearAnswers.{SomeIff-in_year}
 use Rattle.chrono_stored.proofs.packed.PackedFormDayForm.from_ymd.Goals as goal
 
 pub returns-then-not-is_year : goal.returns-then-not-is_year

@@ -1,0 +1,73 @@
+//! Between the day number of a date and its calendar name (ISO 8601 calendar date), by closed
+//! formulas.
+//!
+//! A year is read here from March to February, so that the leap day is its last. The months from
+//! March on then follow one another so evenly that one linear formula, rounded down, tells the month
+//! of a day, and another the days before a month. January and February are the months 13 and 14 of
+//! the year before.
+
+ghost use Rattle.std.specs.Prelude.{◌≡◌, ◌+◌, ◌-◌, ◌*◌, ◌/◌, ◌%◌, ◌<◌, ◌≤◌, pos, ◌+ℤ◌};
+ghost use Rattle.std.specs.Int.{IsInRange};
+ghost use Rattle.chrono_units.specs.Years.{IsYear};
+ghost use Rattle.chrono_calendar.specs.Days.{IsDate, IsCalendarName, year_of, month_of, day_of, day_number_of_ymd};
+
+use crate::conversion::{
+    DAYS_TO_ONE, days_before_day, days_of_years, year_after, years_and_place, years_before,
+};
+
+// The days from 1 March to 31 December, by which a year from March is ahead.
+const DAYS_FROM_MARCH: u32 = 306;
+
+// The month of a day of a year from March, from 3 to 14, and the place of the day there, from 1.
+#[inline]
+fn month_from_march(place: u32) -> (u32, u32)
+    requires { place < 366 }
+    ensures month { result.0 ≡ (2141 * place + 197_913) / 65_536 }
+    ensures day { result.1 ≡ (2141 * place + 197_913) % 65_536 / 2141 + 1 }
+{
+    let scaled = 2_141 * place + 197_913;
+    (scaled / 65_536, scaled % 65_536 / 2_141 + 1)
+}
+
+/// The year, the month and the day of the month of a date's day number.
+#[inline]
+pub(crate) fn year_month_day(days: i32) -> (i32, u32, u32)
+    requires { IsDate days }
+    ensures year { result.0 ≡ year_of days }
+    ensures month { result.1 ≡ month_of days }
+    ensures day { result.2 ≡ day_of days }
+{
+    let (years, place) = years_and_place(days_before_day(days) + DAYS_FROM_MARCH);
+    let (month, day) = month_from_march(place);
+    if place < DAYS_FROM_MARCH {
+        (year_after(years) - 1, month, day)
+    } else {
+        (year_after(years), month - 12, day)
+    }
+}
+
+// The days of a year from March before a month, from 3 to 14.
+#[inline]
+fn days_before_month(month: u32) -> u32
+    requires { IsInRange 3 14 month }
+    ensures { result ≡ (979 * month - 2919) / 32 }
+{
+    (979 * month - 2_919) / 32
+}
+
+/// The day number of a day of a month.
+#[inline]
+pub(crate) fn day_number(year: i32, month: u32, day: u32) -> i32
+    requires year { IsYear year }
+    requires exists { IsCalendarName year month day }
+    ensures { result ≡ day_number_of_ymd year month day }
+{
+    let years = years_before(year);
+    let (years, month) = if month > 2 {
+        (years + 1, month)
+    } else {
+        (years, month + 12)
+    };
+    let from_march = days_of_years(years) + days_before_month(month) + day;
+    from_march as i32 - (DAYS_TO_ONE + DAYS_FROM_MARCH as i32)
+}
