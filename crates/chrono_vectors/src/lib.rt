@@ -7,6 +7,8 @@
 #[cfg(test)]
 mod clock;
 #[cfg(test)]
+mod dates;
+#[cfg(test)]
 mod month;
 #[cfg(test)]
 mod naive_date;

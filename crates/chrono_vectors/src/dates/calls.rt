@@ -1,6 +1,6 @@
-//! Values from outside, each public call once, and the generic calls at a date.
-use super::*;
+//! Dates: each public call once, at values from outside, and the generic calls at a date.
 use chrono_calendar::Steps;
+use chrono_naive::{Datelike, Days, Months, NaiveDate, TimeDelta, Weekday, law};
 use std::hash::{DefaultHasher, Hash, Hasher};
 
 // The day number of a date, and none of no date.
