@@ -5,6 +5,8 @@
 #![tactic(auto)]
 
 #[cfg(test)]
+mod calendar_parts;
+#[cfg(test)]
 mod clock;
 #[cfg(test)]
 mod dates;
