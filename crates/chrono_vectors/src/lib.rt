@@ -5,6 +5,10 @@
 #![tactic(auto)]
 
 #[cfg(test)]
+mod date_time_calls;
+#[cfg(test)]
+mod date_time_texts;
+#[cfg(test)]
 mod month;
 #[cfg(test)]
 mod naive_date;
