@@ -6,7 +6,7 @@ use Rattle.std.proofs.lemmas.Int.{ints}
 use Rattle.chrono_clock.specs.Duration.{nanos_per_day, nanos_per_second, IsDuration, units_of, whole_units}
 use Rattle.chrono_clock.specs.Time.{TimeOfDay, Landing, IsTime, IsEarlier, IsEarlierLanding, landing_of, land, later}
 use Rattle.chrono_clock.proofs.TimeLemmas.{by_leap}
-use Rattle.chrono_clock.proofs.LandingLemmas.{AddsUp-land}
+use Rattle.chrono_clock.proofs.LandingLemmas.{TimeMovesAddUp-land}
 use Rattle.chrono_clock.proofs.OrderLemmas.{land-forward, land-backward}
 use Rattle.chrono_clock.proofs.DistanceLemmas.{land-distance, distance-same}
 use Rattle.chrono_naive.specs.Days.{IsDate, date_of_day, is_date}
@@ -35,7 +35,7 @@ MovesAddUp-reach m e x i h = λ y in_range way.
     let l = land m.time x in
     ap (λ k. moment_of_landing k.date (land k.time y)) (reach-Some m e x h)
     ∙ sym (moment_of_landing-later m.date l.day (land l.time y))
-    ∙ ap (moment_of_landing m.date) (sym (AddsUp-land m.time x y i way))
+    ∙ ap (moment_of_landing m.date) (sym (TimeMovesAddUp-land m.time x y i way))
 
 -- order of date-times is no loop
 IsEarlier-not_back : (s t : TimeOfDay) → IsEarlier s t → IsEarlier t s → ⊥

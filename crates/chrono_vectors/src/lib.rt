@@ -5,6 +5,8 @@
 #![tactic(auto)]
 
 #[cfg(test)]
+mod clock;
+#[cfg(test)]
 mod date_time_calls;
 #[cfg(test)]
 mod date_time_texts;

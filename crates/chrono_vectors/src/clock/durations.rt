@@ -1,5 +1,5 @@
-//! Each call once, at values from outside.
-use crate::TimeDelta;
+//! Durations: each call once, at values from outside.
+use chrono_clock::TimeDelta;
 
 #[test]
 fn constructors(rt: HostRuntime) {

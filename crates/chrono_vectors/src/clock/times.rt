@@ -1,5 +1,5 @@
-//! Each call once, at values from outside.
-use crate::{NaiveTime, TimeDelta, Timelike};
+//! Times of day: each call once, at values from outside.
+use chrono_clock::{NaiveTime, TimeDelta, Timelike};
 
 // The time of a second of the day and a fraction, by the fields.
 fn parts(time: NaiveTime) -> (u32, u32) {
@@ -37,6 +37,7 @@ fn constructors(rt: HostRuntime) {
         None
     );
     assert_eq!(rt; parts(NaiveTime::MIN), (0, 0));
+    assert_eq!(rt; parts(NaiveTime::MAX), (86_399, 999_999_999));
     assert_eq!(rt; NaiveTime::default(), NaiveTime::MIN);
 }
 
@@ -72,6 +73,9 @@ fn distances(rt: HostRuntime) {
     assert_eq!(rt; end.signed_duration_since(NaiveTime::MIN), day);
     assert_eq!(rt; NaiveTime::MIN - end, -day);
     assert!(rt; NaiveTime::MIN < end);
+    let next = NaiveTime::from_hms_opt(0, 0, 6).unwrap();
+    let before = NaiveTime::from_num_seconds_from_midnight_opt(5, 999_999_999).unwrap();
+    assert!(rt; before < next && next > before && before.cmp(&before).is_eq());
 }
 
 #[test]
