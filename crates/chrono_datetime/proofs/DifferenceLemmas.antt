@@ -79,7 +79,7 @@ IsEarlier-total : (s t : TimeOfDay) → (s ≡ t) ⊎ (IsEarlier s t ⊎ IsEarli
 IsEarlier-total s t =
     let made : ℕ → ℕ → TimeOfDay = λ second fraction. record { second = second; fraction = fraction } in
     let in_second = λ (e : s.second ≡ t.second). ⊎_elim (λ f. inl (ap (λ n. made n s.fraction) e ∙ ap (made t.second) f))
-        (⊎_elim (λ lt. inr (inl (inr (e, lt)))) (λ gt. inr (inr (inr (sym e, gt))))) (cases_order s.fraction t.fraction) in
+    (⊎_elim (λ lt. inr (inl (inr (e, lt)))) (λ gt. inr (inr (inr (sym e, gt))))) (cases_order s.fraction t.fraction) in
     ⊎_elim in_second (⊎_elim (λ lt. inr (inl (inl lt))) (λ gt. inr (inr (inl gt)))) (cases_order s.second t.second)
 
 IsBefore-total : (a b : Moment) → (a ≡ b) ⊎ (IsBefore a b ⊎ IsBefore b a)

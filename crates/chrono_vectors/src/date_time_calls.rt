@@ -91,7 +91,8 @@ fn leap_seconds_at_the_ends(rt: HostRuntime) {
         .with_nanosecond(1_000_000_000)
         .expect(&rt, "in range");
     assert_eq!(rt;
-        leap.checked_sub_signed(TimeDelta::nanoseconds(1)).map(parts),
+        leap.checked_sub_signed(TimeDelta::nanoseconds(1))
+            .map(parts),
         Some(((-262_143, 1, 1), 0, 999_999_999))
     );
     assert_eq!(rt;

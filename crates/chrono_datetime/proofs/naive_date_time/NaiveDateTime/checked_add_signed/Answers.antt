@@ -17,7 +17,7 @@ returns-in_err-date-clause-value c =
     let fits : FitsSigned w64 c.overflowing_add_signed-time.result.1 = search rules in
     let start = moment c.self.inside.date c.self.inside.time in
     let seconds = to_z-of_z fits ∙ c.overflowing_add_signed-time.ensures.seconds in
-    let nowhere = reach-parts None start c.args.rhs _ _ _ c.overflowing_add_signed-time.ensures.time seconds c.in_ok-try_seconds.ensures.1 c.in_err-date.ensures in
+    let nowhere = reach-parts None start c.args.rhs _ _ _ c.overflowing_add_signed-time.ensures.time seconds c.in_ok-try_seconds.ensures.1 c.in_err-date.ensures.date in
     c.from_residual-in_err-date.ensures ∙ nowhere ∙ ap (λ (m : Moment). reach m c.args.rhs) c.self.view_is
 
 pub returns : goal.returns
@@ -25,7 +25,7 @@ returns c =
     let fits : FitsSigned w64 c.overflowing_add_signed-time.result.1 = search rules in
     let start = moment c.self.inside.date c.self.inside.time in
     let seconds = to_z-of_z fits ∙ c.overflowing_add_signed-time.ensures.seconds in
-    let landed = reach-parts (Some c.in_ok-date.date) start c.args.rhs _ _ _ c.overflowing_add_signed-time.ensures.time seconds c.in_ok-try_seconds.ensures.1 c.in_ok-date.ensures in
+    let landed = reach-parts (Some c.in_ok-date.date) start c.args.rhs _ _ _ c.overflowing_add_signed-time.ensures.time seconds c.in_ok-try_seconds.ensures.1 c.in_ok-date.ensures.date in
     let reached = reach-along (Some (moment c.in_ok-date.date c.overflowing_add_signed-time.result.0)) start c.args.self c.args.rhs c.self.view_is c.overflowing_add_signed-time.ensures.start landed in
     let laws = IfSome-reach (Some (moment c.in_ok-date.date c.overflowing_add_signed-time.result.0)) c.args.self c.args.rhs reached.0 reached.1 in
     record { value = reached.1; adds_up = laws.0; later = laws.1; earlier = laws.2 }
