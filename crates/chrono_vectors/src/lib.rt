@@ -9,6 +9,10 @@ mod calendar_parts;
 #[cfg(test)]
 mod clock;
 #[cfg(test)]
+mod date_time_calls;
+#[cfg(test)]
+mod date_time_texts;
+#[cfg(test)]
 mod dates;
 #[cfg(test)]
 mod month;
