@@ -53,7 +53,8 @@ impl NaiveWeek {
     /// The first day of the week; `None` exactly if it is no date.
     #[inline]
     pub fn checked_first_day(&self) -> Option<NaiveDate>
-        ensures { result ≡ date_of_day self.now }
+        ensures date { result ≡ date_of_day self.now }
+        ensures exists { IsSome result ↔ IsDate self.now }
     {
         NaiveDate::from_num_days_from_ce_opt(self.first)
     }
@@ -70,7 +71,8 @@ impl NaiveWeek {
     /// The last day of the week; `None` exactly if it is no date.
     #[inline]
     pub fn checked_last_day(&self) -> Option<NaiveDate>
-        ensures { result ≡ date_of_day (self.now +ℤ pos 6) }
+        ensures date { result ≡ date_of_day (self.now +ℤ pos 6) }
+        ensures exists { IsSome result ↔ IsDate (self.now +ℤ pos 6) }
     {
         NaiveDate::from_num_days_from_ce_opt(self.first + 6)
     }

@@ -1,6 +1,4 @@
 //! Values from outside, each public call once, and the generic calls at a date.
-ghost use Rattle.std.specs.Prelude.{◌≡◌, pos, negsuc};
-
 use super::*;
 use chrono_calendar::Steps;
 use std::hash::{DefaultHasher, Hash, Hasher};
@@ -14,20 +12,6 @@ fn hash_of<T: Hash>(x: &T) -> u64 {
     let mut state = DefaultHasher::new();
     x.hash(&mut state);
     state.finish()
-}
-
-// The first date.
-fn first_date() -> NaiveDate
-    ensures { result ≡ negsuc 95_746_128 }
-{
-    MIN_DATE
-}
-
-// The last date.
-fn last_date() -> NaiveDate
-    ensures { result ≡ pos 95_745_399 }
-{
-    MAX_DATE
 }
 
 #[test]
@@ -107,10 +91,8 @@ fn dates_by_number(rt: HostRuntime) {
 fn ends(rt: HostRuntime) {
     let first = NaiveDate::from_num_days_from_ce_opt(-95_746_129).expect(&rt, "the first date");
     let last = NaiveDate::from_num_days_from_ce_opt(95_745_399).expect(&rt, "the last date");
-    assert_eq!(rt; NaiveDate::MIN, first);
-    assert_eq!(rt; NaiveDate::MAX, last);
-    assert_eq!(rt; first_date(), first);
-    assert_eq!(rt; last_date(), last);
+    assert_eq!(rt; law::first_date(), (first, first));
+    assert_eq!(rt; law::last_date(), (last, last));
     assert_eq!(rt; first.weekday(), Weekday::Thu);
     assert_eq!(rt; last.weekday(), Weekday::Mon);
     assert!(rt; first < last);

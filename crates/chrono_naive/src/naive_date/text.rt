@@ -11,6 +11,8 @@ impl fmt::Display for NaiveDate {
     ghost output = { λ n. Some (date_text n) };
 
     /// Writes the calendar name (ISO 8601 calendar date), as `2024-02-29`; a year before 0 or after 9999 has its sign.
+    ///
+    /// A width, a fill, an alignment, a sign or a precision makes no difference.
     fn fmt<W: fmt::Write>(&self, f: &mut fmt::Formatter<W>) -> fmt::Result {
         write_calendar_date(f, self.year(), self.month(), self.day())
     }

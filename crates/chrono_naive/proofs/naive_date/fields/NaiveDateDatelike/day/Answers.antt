@@ -1,0 +1,5 @@
+use Rattle.chrono_calendar.proofs.NamedDates.{date_of_ymd-again, IsDate-year}
+use Rattle.chrono_naive.proofs.naive_date.fields.NaiveDateDatelike.day.Goals as goal
+
+pub returns-clause-names : goal.returns-clause-names
+returns-clause-names c = rw (c.month_day.ensures.day, ← c.self.view_is) (date_of_ymd-again c.self.inside.form (IsDate-year c.self.inside.form c.year.ensures.in_range))
