@@ -59,7 +59,7 @@ impl Ord for Months {
     fn cmp(&self, other: &Months) -> Ordering
         ensures count { result ≡ nat_cmp self.now other.now }
     {
-        self.count.cmp(&other.count)
+        self.as_u32().cmp(&other.as_u32())
     }
 }
 
