@@ -186,7 +186,8 @@ impl Ord for Month {
     /// Months compare by their numbers, so January is the least and December the greatest.
     #[inline]
     fn cmp(&self, other: &Month) -> Ordering
-        ensures number { result ≡ nat_cmp (number_from_month self.now) (number_from_month other.now) }
+        ensures number { result
+            ≡ nat_cmp (number_from_month self.now) (number_from_month other.now) }
     {
         self.number_from_month().cmp(&other.number_from_month())
     }
