@@ -48,7 +48,7 @@ flags_of_year-in_range y = (omega (arith, flags_of_year-parts y, leap_day-bound 
 
 pub leap_years_before-suc : (n : ℕ) → leap_years_before (suc n) ≡ leap_years_before n + leap_day (pos n)
 unfolding leap_years_before
-leap_years_before-suc n = refl
+leap_years_before-suc n = grind arith
 
 -- the days before a year from 0 on, counted from year 0
 pub days_before_year-natural : (n : ℕ) → days_before_year (pos n) +ℤ pos 366 ≡ pos (365 * n + leap_years_before n)

@@ -1,5 +1,6 @@
 -- The weeks of ISO 8601: the name of a day by its Thursday, and the day that a name names.
-use Rattle.std.proofs.Common.{◌≡◌, ℕ, zero, suc, ◌+◌, ◌-◌, ◌*◌, ◌/◌, ◌%◌, ◌<◌, ◌≤◌, cond, nat_eq, refl, sym, ap, ◌∙◌, arith, ℤ, pos, neg_ℤ, ◌+ℤ◌, ◌-ℤ◌, ◌≤ℤ◌, ◌<ℤ◌}
+use Rattle.std.proofs.Common.{◌≡◌, ℕ, true, ◌+◌, ◌-◌, ◌*◌, ◌/◌, ◌%◌, ◌<◌, ◌≤◌, cond, nat_eq, refl, sym, ap, ◌∙◌, arith, ℤ, pos, neg_ℤ, ◌+ℤ◌, ◌-ℤ◌, ◌≤ℤ◌, ◌<ℤ◌}
+use Rattle.std.proofs.lemmas.Bool.{eqb-true}
 use Rattle.std.proofs.lemmas.Bool.Decides.{nat_tests}
 use Rattle.std.proofs.lemmas.Int.{by_lt_z}
 use Rattle.std.specs.Int.{int_div_euclid}
@@ -11,6 +12,7 @@ use Rattle.chrono_units.proofs.WeekdayCycle.{days_from_monday-lt}
 use Rattle.chrono_calendar.specs.Days.{IsDate, days_before_year, IsOrdinalName, day_number_of_yo}
 use Rattle.chrono_calendar.specs.Weeks.{days_from_sunday_of, iso_weekday_of, weekday_of, thursday_of_week, iso_year_of, iso_week_of}
 use Rattle.chrono_calendar.proofs.Signed.{signed}
+use Rattle.chrono_calendar.proofs.Tests.{passes_below, passes_below-at}
 use Rattle.chrono_calendar.proofs.Years.{days_before_year-next, days_before_year-closed}
 use Rattle.chrono_calendar.proofs.Names.{ordinal_name_of-number, year_of-number, ordinal_of-number, days_before_year-later, year_length_bounds}
 
@@ -23,15 +25,14 @@ weekday_from_sunday-days Fri = refl
 weekday_from_sunday-days Sat = refl
 weekday_from_sunday-days Sun = refl
 
+-- the weekday k days after a Sunday, for each k
+weekdays_tested : passes_below (λ k. nat_eq (days_from_monday (weekday_from_sunday k)) ((k + 6) % 7)) 7 ≡ true
+unfolding passes_below
+weekdays_tested = refl
+
 pub days_from_monday-weekday : (k : ℕ) → k < 7 → days_from_monday (weekday_from_sunday k) ≡ (k + 6) % 7
-days_from_monday-weekday zero h = refl
-days_from_monday-weekday (suc zero) h = refl
-days_from_monday-weekday (suc (suc zero)) h = refl
-days_from_monday-weekday (suc (suc (suc zero))) h = refl
-days_from_monday-weekday (suc (suc (suc (suc zero)))) h = refl
-days_from_monday-weekday (suc (suc (suc (suc (suc zero))))) h = refl
-days_from_monday-weekday (suc (suc (suc (suc (suc (suc zero)))))) h = refl
-days_from_monday-weekday (suc (suc (suc (suc (suc (suc (suc k))))))) h = absurd (omega arith)
+days_from_monday-weekday k h =
+    eqb-true (days_from_monday (weekday_from_sunday k)) ((k + 6) % 7) (passes_below-at (λ j. nat_eq (days_from_monday (weekday_from_sunday j)) ((j + 6) % 7)) 7 weekdays_tested k h)
 
 pub days_from_sunday_of-bound : (n : ℤ) → days_from_sunday_of n < 7
 days_from_sunday_of-bound n = omega (arith, signed)
@@ -108,12 +109,13 @@ iso_year_of-range n h =
 pub leap_quotients : (y : ℤ) (p : ℕ) → pos p ≡ y +ℤ pos 262_399 → (int_div_euclid (y -ℤ pos 1) (pos 4) ≡ pos (p / 4) -ℤ pos 65_600) × (int_div_euclid (y -ℤ pos 1) (pos 100) ≡ pos (p / 100) -ℤ pos 2_624) × (int_div_euclid (y -ℤ pos 1) (pos 400) ≡ pos (p / 400) -ℤ pos 656)
 leap_quotients y p e = (omega (arith, signed), omega (arith, signed), omega (arith, signed))
 
--- the weekday of the last day before that year
-pub days_from_sunday_of-year : (y : ℤ) (p : ℕ) → pos p ≡ y +ℤ pos 262_399 → days_from_sunday_of (days_before_year y) ≡ (p + p / 4 - p / 100 + p / 400) % 7
-days_from_sunday_of-year y p e =
-    let l = leap_quotients y p e in
-    let days : days_before_year y +ℤ pos 95_839_632 ≡ pos (365 * p + p / 4 - p / 100 + p / 400) = omega (arith, signed, days_before_year-closed y, l.0, l.1, l.2) in
-    omega (arith, signed)
+-- the days before the year, counted from the first day of those years
+pub days_before_year-counted : (y : ℤ) (p days : ℕ) → pos p ≡ y +ℤ pos 262_399 → days + p / 100 ≡ 1461 * p / 4 + p / 100 / 4 → pos days ≡ days_before_year y +ℤ pos 95_839_632
+days_before_year-counted y p days e f = omega (arith, signed, leap_quotients y p e, days_before_year-closed y)
+
+-- the weekday of the last day before the year, from those days, which are whole weeks more
+pub days_from_sunday_of-counted : (y : ℤ) (days : ℕ) → pos days ≡ days_before_year y +ℤ pos 95_839_632 → days_from_sunday_of (days_before_year y) ≡ days % 7
+days_from_sunday_of-counted y days e = omega (arith, signed)
 
 -- the days from the first Monday of the first week of the year y to 4 January
 abbrev pub before_monday : ℤ → ℕ

@@ -4,7 +4,7 @@ use Rattle.std.proofs.lemmas.Option.{cond_some}
 use Rattle.std.proofs.Math.Nat.{mul-lt-mul_of_pos_left}
 use Rattle.chrono_units.specs.Years.{is_year, IsYear}
 use Rattle.chrono_calendar.specs.Days.{IsDate, year_of, ordinal_of, month_of, day_of}
-use Rattle.chrono_calendar.specs.MonthMoves.{year_of_month_index, month_of_month_index, day_number_in_month, month_index_of, month_length_of, month_move, InSameMonth, KeepsOrder, IsMonthMoveBack, ComesBack, AddsUp, LaterMultiplesAreLater}
+use Rattle.chrono_calendar.specs.MonthMoves.{year_of_month_index, month_of_month_index, day_number_in_month, month_index_of, month_length_of, month_move, InSameMonth, KeepsOrder, IsMonthMoveBack, ComesBack, MonthMovesAddUp, LaterMultiplesAreLater}
 use Rattle.chrono_calendar.proofs.Signed.{signed}
 use Rattle.chrono_calendar.proofs.Names.{ordinal_name_of-number, year_in_range, day_number_in_range}
 use Rattle.chrono_calendar.proofs.Dates.{is_year-fact, is_year-test}
@@ -129,9 +129,9 @@ if_some_and true true v w x P e same p = subst (λ s. P s x) (sym same) p
 if_some_and true false v w x P e same p = cc
 if_some_and false c v w x P e same p = tt
 
-pub month_move-AddsUp : (n k e : ℤ) → month_move n k ≡ Some e → AddsUp n k e
+pub month_move-MonthMovesAddUp : (n k e : ℤ) → month_move n k ≡ Some e → MonthMovesAddUp n k e
 unfolding month_move
-month_move-AddsUp n k e h =
+month_move-MonthMovesAddUp n k e h =
     let target = month_index_of n +ℤ k in
     let moved = month_move-at n k e (month_move-is n k e h) in
     let place = day_at-unique e target (min (day_of n) (length_at target)) moved in
@@ -162,6 +162,6 @@ month_move-LaterMultiplesAreLater n k i e h m =
     (earlier_month _ _ _ _ _ _ moved later (omega (arith, signed, more_months k i j h lt)))
 
 -- the laws, of an answer that is the move
-pub if_moved : (o : Option ℤ) (n k l : ℤ) → k +ℤ l ≡ pos 0 → IsYear (year_of n) → o ≡ month_move n k → IfSome o (KeepsOrder n k) × IfSome o (ComesBack n l) × IfSome o (AddsUp n k)
+pub if_moved : (o : Option ℤ) (n k l : ℤ) → k +ℤ l ≡ pos 0 → IsYear (year_of n) → o ≡ month_move n k → IfSome o (KeepsOrder n k) × IfSome o (ComesBack n l) × IfSome o (MonthMovesAddUp n k)
 if_moved None n k l z y h = (tt, tt, tt)
-if_moved (Some e) n k l z y h = (month_move-KeepsOrder n k e (sym h), month_move-ComesBack n k l e z y (sym h), month_move-AddsUp n k e (sym h))
+if_moved (Some e) n k l z y h = (month_move-KeepsOrder n k e (sym h), month_move-ComesBack n k l e z y (sym h), month_move-MonthMovesAddUp n k e (sym h))

@@ -1,5 +1,5 @@
 -- A move by months, as the code makes it: from the months since the first of the library's to the date in the target month.
-use Rattle.std.proofs.Common.{Some, ◌≡◌, ℕ, ◌+◌, ◌/◌, ◌%◌, ◌<◌, ◌&&◌, min, None, refl, arith, ℤ, pos, neg_ℤ, ◌+ℤ◌}
+use Rattle.std.proofs.Common.{Some, ◌≡◌, ℕ, ◌+◌, ◌/◌, ◌%◌, ◌<◌, ◌&&◌, min, None, refl, arith, ℤ, pos, neg_ℤ, ◌+ℤ◌, ◌≤ℤ◌, ◌<ℤ◌}
 use Rattle.std.proofs.lemmas.Bool.{and_parts}
 use Rattle.std.specs.Cmp.Derive.{both_true}
 use Rattle.chrono_units.specs.Years.{is_leap_year, is_year, IsYear, month_length}
@@ -17,6 +17,13 @@ month_index-shifted i t e = (omega (arith, signed), omega (arith, signed))
 
 pub year_of_month_index-range : (y : ℤ) (t : ℕ) → y ≡ pos (t / 12) +ℤ neg_ℤ (pos 262_143) → t < 6_291_432 → IsYear y
 year_of_month_index-range y t e h = (omega (arith, signed), omega (arith, signed))
+
+-- a month before the first of the library's, and one after the last, is in no year of the library
+pub year_of_month_index-below : (i : ℤ) → (i +ℤ pos 3_145_716) <ℤ pos 0 → IsYear (year_of_month_index i) → ⊥
+year_of_month_index-below i h year = omega (arith, signed, h, year.0)
+
+pub year_of_month_index-above : (i : ℤ) → pos 6_291_432 ≤ℤ (i +ℤ pos 3_145_716) → IsYear (year_of_month_index i) → ⊥
+year_of_month_index-above i h year = omega (arith, signed, h, year.1)
 
 -- no move to a year that the library has not
 pub month_move-None : (n k : ℤ) → (IsYear (year_of_month_index (month_index_of n +ℤ k)) → ⊥) → None ≡ month_move n k

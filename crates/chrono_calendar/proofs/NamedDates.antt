@@ -43,6 +43,13 @@ pub date_of_day-Some : (n : ℤ) → IsDate n → date_of_day n ≡ Some n
 unfolding date_of_day
 date_of_day-Some n h = rw (is_date-test n h) refl
 
+-- a number that gives a date is that date's
+pub date_of_day-number : (n m : ℤ) → date_of_day m ≡ Some n → IsDate n × (m ≡ n)
+unfolding date_of_day
+date_of_day-number n m e =
+    let found = cond_some (is_date m) m n e in
+    (rw found.1 at (is_date-fact m found.0), found.1)
+
 -- no value where a test cannot hold
 pub None-cond : (b : Bool) (x : Option ℤ) → (b ≡ true → ⊥) → None ≡ cond b x None
 None-cond true x h = absurd (h refl)

@@ -1,5 +1,6 @@
 -- Each whole number has one ordinal name, in order.
-use Rattle.std.proofs.Common.{◌≡◌, ℕ, zero, suc, ◌+◌, ◌-◌, ◌<◌, ◌≤◌, Bool, true, false, cond, nat_lt, refl, sym, ap, ◌∙◌, arith, ℤ, pos, negsuc, neg_ℤ, ◌+ℤ◌, ◌-ℤ◌, ◌≤ℤ◌, ◌<ℤ◌}
+use Rattle.std.proofs.Common.{◌≡◌, ℕ, zero, suc, ◌+◌, ◌-◌, ◌<◌, ◌≤◌, nat_lt, refl, sym, ap, ◌∙◌, arith, ℤ, pos, negsuc, neg_ℤ, ◌+ℤ◌, ◌-ℤ◌, ◌≤ℤ◌, ◌<ℤ◌}
+use Rattle.std.proofs.lemmas.Bool.{cond_both}
 use Rattle.std.proofs.lemmas.Bool.Decides.{nat_tests}
 use Rattle.std.proofs.lemmas.Int.{by_lt_z}
 use Rattle.chrono_units.specs.Years.{year_length, IsYear}
@@ -45,14 +46,9 @@ one_name n a b h k =
     let years : a.year ≡ b.year = same_year a.year b.year a.ordinal b.ordinal h.exists k.exists numbers in
     same_parts a.year b.year a.ordinal b.ordinal years (same_ordinal a.year b.year a.ordinal b.ordinal years numbers)
 
--- both arms of an `if` may be used under its test
-by_test : (b : Bool) (n : ℤ) (x y : OrdinalName) → (b ≡ true → HasOrdinalName n x) → (b ≡ false → HasOrdinalName n y) → HasOrdinalName n (cond b x y)
-by_test true n x y f g = f refl
-by_test false n x y f g = g refl
-
 next_day-number : (n m : ℤ) (a : OrdinalName) → m ≡ n +ℤ pos 1 → HasOrdinalName n a → HasOrdinalName m (next_day a)
 next_day-number n m a e h =
-    by_test (nat_lt a.ordinal (year_length a.year)) m _ _
+    cond_both (nat_lt a.ordinal (year_length a.year)) _ _ (HasOrdinalName m)
     (λ t. record {
       exists = (omega arith, grind (arith, nat_tests));
       number = omega (arith, signed);
@@ -66,7 +62,7 @@ next_day-number n m a e h =
 
 previous_day-number : (n m : ℤ) (a : OrdinalName) → n ≡ m +ℤ pos 1 → HasOrdinalName n a → HasOrdinalName m (previous_day a)
 previous_day-number n m a e h =
-    by_test (nat_lt 1 a.ordinal) m _ _
+    cond_both (nat_lt 1 a.ordinal) _ _ (HasOrdinalName m)
     (λ t.
     let later : 1 < a.ordinal = grind (arith, nat_tests) in
     record { exists = (omega arith, omega (arith, h.exists)); number = omega (arith, signed) })

@@ -1,6 +1,6 @@
 -- The ISO week of a day from its ordinal and its year's flags.
 use Rattle.std.proofs.Common.{◌≡◌, ℕ, Bool, ◌||◌, int_eq, int_lt, ◌+◌, ◌-◌, ◌/◌, ◌%◌, ◌<◌, ◌≤◌, ◌⊎◌, inl, inr, true, false, cond, nat_eq, nat_lt, refl, ap, ◌∙◌, arith, ℤ, pos, ◌+ℤ◌, ◌-ℤ◌}
-use Rattle.std.proofs.lemmas.Bool.{cases_order}
+use Rattle.std.proofs.lemmas.Bool.{cases_lt}
 use Rattle.std.proofs.lemmas.Bool.Decides.{nat_tests}
 use Rattle.std.proofs.lemmas.Int.{ints}
 use Rattle.chrono_units.specs.Years.{is_leap_year, year_length}
@@ -123,19 +123,16 @@ unfolding week_counted_in
 week_counted_in-delta y o h =
     let n = day_number_of_yo y o in
     let w = iso_weekday_of-bounds n in
-    elim (le_or_lt (o + 4) (iso_weekday_of n)) [
-      | inl before ↦ rw (iso_year_of-before y o h before, earlier_year y, week_of_ordinal y o) (omega arith)
-      | inr more ↦
-          elim (le_or_lt (o + 4) (year_length y + iso_weekday_of n)) [
-            | inl within ↦
+    elim (cases_lt (iso_weekday_of n) (o + 4)) [
+      | inr before ↦ rw (iso_year_of-before y o h before, earlier_year y, week_of_ordinal y o) (omega arith)
+      | inl more ↦
+          elim (cases_lt (year_length y + iso_weekday_of n) (o + 4)) [
+            | inr within ↦
                 let inside = iso_week_of-inside y o (o + 4 - iso_weekday_of n) (omega arith) (omega arith, omega arith) in
                 rw (inside.0, same_year y) inside.1
-            | inr after ↦ rw (iso_year_of-after y o h after, later_year y) (week_after y o h after)
+            | inl after ↦ rw (iso_year_of-after y o h after, later_year y) (week_after y o h after)
           ]
     ]
-  where
-    le_or_lt : (a b : ℕ) → (a ≤ b) ⊎ (b < a)
-    le_or_lt a b = elim (cases_order a b) [ inl same ↦ inl (omega arith) | inr apart ↦ elim apart [ inl lt ↦ inl (omega arith) | inr gt ↦ inr gt ] ]
 
 -- the flags are 8 in a common year and the digits of the weekday
 pub flags_of_year-digits : (y : ℤ) → flags_of_year y ≡ cond (is_leap_year y) 0 8 + weekday_digits y

@@ -1,14 +1,15 @@
 -- The days before a year in closed form.
-use Rattle.std.proofs.Common.{◌≡◌, ℕ, zero, suc, ◌+◌, ◌/◌, cond, refl, ap, arith, ℤ, pos, negsuc, ◌+ℤ◌, ◌-ℤ◌, ◌*ℤ◌}
+use Rattle.std.proofs.Common.{◌≡◌, ℕ, zero, suc, ◌+◌, ◌-◌, ◌%◌, cond, refl, ap, arith, ℤ, pos, negsuc, ◌+ℤ◌, ◌-ℤ◌, ◌*ℤ◌, unsigned_abs}
+use Rattle.std.proofs.lemmas.Bool.{cond_both, eqb-true, eqb-false}
 use Rattle.std.proofs.lemmas.Bool.Decides.{nat_tests}
 use Rattle.std.specs.Int.{int_div_euclid}
-use Rattle.chrono_units.specs.Years.{is_leap_year, year_length}
+use Rattle.chrono_units.specs.Years.{divides, year_length}
 use Rattle.chrono_calendar.specs.Days.{days_of_years, days_before_year}
 use Rattle.chrono_calendar.proofs.Signed.{signed}
 
 -- 1 for a leap year, and else 0
 abbrev pub leap_day : ℤ → ℕ
-leap_day y = cond (is_leap_year y) 1 0
+leap_day y = year_length y - 365
 
 -- the leap years among the years 1 to p, and for a negative p those of p + 1 to 0, negative
 abbrev pub leap_years_to : ℤ → ℤ
@@ -21,20 +22,38 @@ days_to_year p = pos 365 *ℤ p +ℤ leap_years_to p
 pub year_length-leap_day : (y : ℤ) → year_length y ≡ 365 + leap_day y
 year_length-leap_day y = grind arith
 
--- the leap years to n + 1 and to n differ by one exactly if n + 1 is a leap year
-leap_count-suc : (n : ℕ) → suc n / 4 + n / 100 + suc n / 400 ≡ n / 4 + suc n / 100 + n / 400 + leap_day (pos (suc n))
-leap_count-suc n = grind (arith, nat_tests)
+-- 1 for a year that k divides, and else 0
+abbrev multiple : ℕ → ℤ → ℕ
+multiple k y = cond (divides k y) 1 0
+
+-- a quotient is one more from one year to the next exactly if the divisor divides the next
+fourths-next : (p q : ℤ) → q ≡ p +ℤ pos 1 → int_div_euclid q (pos 4) ≡ int_div_euclid p (pos 4) +ℤ pos (multiple 4 q)
+fourths-next p q e =
+    cond_both (divides 4 q) 1 0 (λ more. int_div_euclid q (pos 4) ≡ int_div_euclid p (pos 4) +ℤ pos more)
+    (λ t. let whole = eqb-true (unsigned_abs q % 4) 0 t in omega (arith, signed))
+    (λ t. let rest = eqb-false (unsigned_abs q % 4) 0 t in omega (arith, signed))
+
+hundredths-next : (p q : ℤ) → q ≡ p +ℤ pos 1 → int_div_euclid q (pos 100) ≡ int_div_euclid p (pos 100) +ℤ pos (multiple 100 q)
+hundredths-next p q e =
+    cond_both (divides 100 q) 1 0 (λ more. int_div_euclid q (pos 100) ≡ int_div_euclid p (pos 100) +ℤ pos more)
+    (λ t. let whole = eqb-true (unsigned_abs q % 100) 0 t in omega (arith, signed))
+    (λ t. let rest = eqb-false (unsigned_abs q % 100) 0 t in omega (arith, signed))
+
+four_hundredths-next : (p q : ℤ) → q ≡ p +ℤ pos 1 → int_div_euclid q (pos 400) ≡ int_div_euclid p (pos 400) +ℤ pos (multiple 400 q)
+four_hundredths-next p q e =
+    cond_both (divides 400 q) 1 0 (λ more. int_div_euclid q (pos 400) ≡ int_div_euclid p (pos 400) +ℤ pos more)
+    (λ t. let whole = eqb-true (unsigned_abs q % 400) 0 t in omega (arith, signed))
+    (λ t. let rest = eqb-false (unsigned_abs q % 400) 0 t in omega (arith, signed))
+
+-- of the years that 4 divides those are not leap that 100 divides and 400 does not
+leap_day-multiples : (y : ℤ) → leap_day y + multiple 100 y ≡ multiple 4 y + multiple 400 y
+leap_day-multiples y = grind (arith, nat_tests)
 
 -- a year more has the days of that year more
 pub days_to_year-next : (p q : ℤ) → q ≡ p +ℤ pos 1 → days_to_year q ≡ days_to_year p +ℤ pos (year_length q)
 unfolding days_to_year
-days_to_year-next (pos n) q e =
-    let here : q ≡ pos (suc n) = omega (arith, signed) in
-    rw here (omega (arith, signed, leap_count-suc n, year_length-leap_day (pos (suc n))))
-days_to_year-next (negsuc zero) q e = let here : q ≡ pos 0 = omega (arith, signed) in rw here refl
-days_to_year-next (negsuc (suc n)) q e =
-    let here : q ≡ negsuc n = omega (arith, signed) in
-    rw here (omega (arith, signed, leap_count-suc n, year_length-leap_day (negsuc n)))
+days_to_year-next p q e =
+    omega (arith, signed, fourths-next p q e, hundredths-next p q e, four_hundredths-next p q e, leap_day-multiples q, year_length-leap_day q)
 
 -- n years in a row have the difference of the days to their ends
 pub days_of_years-to_year : (p y : ℤ) (n : ℕ) (q : ℤ) → y ≡ p +ℤ pos 1 → q ≡ p +ℤ pos n → pos (days_of_years y n) ≡ days_to_year q -ℤ days_to_year p

@@ -58,8 +58,8 @@ ComesBack n k e = IsSomeAnd (month_move e k) (λ back. IsMonthMoveBack n e back)
 
 -- e is the day n moved by k months: moved on by any number of months more, it comes to the month in which one move of n
 -- by the sum ends, and to a day there that is not later
-abbrev pub AddsUp : ℤ → ℤ → ℤ → Type 0
-AddsUp n k e = (more : ℤ) → IfSome (month_move e more) (λ twice.
+abbrev pub MonthMovesAddUp : ℤ → ℤ → ℤ → Type 0
+MonthMovesAddUp n k e = (more : ℤ) → IfSome (month_move e more) (λ twice.
     IsSomeAnd (month_move n (k +ℤ more)) (λ once. InSameMonth twice once × (twice ≤ℤ once)))
 
 -- e is the day n moved by i times k months: moved by more such steps, n comes to a later day

@@ -1,5 +1,5 @@
 -- Weekdays and the weeks of ISO 8601.
-use Rattle.std.specs.Prelude.{ℕ, ◌+◌, ◌-◌, ◌*◌, ◌/◌, Bool, ◌&&◌, ◌==◌, nat_le, if◌then◌else◌, slice_get, ℤ, pos, ◌+ℤ◌, ◌-ℤ◌, unsigned_abs, List, Option, Some, None}
+use Rattle.std.specs.Prelude.{ℕ, ◌+◌, ◌-◌, ◌*◌, ◌/◌, Bool, ◌&&◌, ◌==◌, nat_le, if◌then◌else◌, slice_get, ℤ, pos, neg_ℤ, ◌+ℤ◌, ◌-ℤ◌, ◌≤ℤ◌, unsigned_abs, List, Option, Some, None}
 use Rattle.std.specs.Int.{int_rem_euclid}
 use Rattle.std.specs.List.{filter, range_with_len}
 use Rattle.std.specs.Option.{option_map}
@@ -57,6 +57,10 @@ date_of_iso y w weekday =
 -- the day before n by the days from the weekday start on to that of n: the last day on or before n that has that weekday
 abbrev pub week_first_of : ℤ → Weekday → ℤ
 week_first_of n start = n -ℤ pos (days_since (weekday_of n) start)
+
+-- n lies from six days before the first date to the last date, as each first day of a date's week does
+abbrev pub IsFirstOfWeek : ℤ → Type 0
+IsFirstOfWeek n = (neg_ℤ (pos 95_746_135) ≤ℤ n) × (n ≤ℤ pos 95_745_399)
 
 -- the days of the month m of the year y that have the weekday, in order
 unfoldable pub days_with_weekday : ℤ → ℕ → Weekday → List ℕ

@@ -7,10 +7,11 @@ ghost use Rattle.std.specs.Int.{IsInRange};
 ghost use Rattle.std.specs.Option.{option_map};
 ghost use Rattle.chrono_units.specs.Years.{IsYear, month_length as length_of_month};
 ghost use Rattle.chrono_calendar.specs.Days.{date_of_day, days_before_year};
-ghost use Rattle.chrono_calendar.specs.Weeks.{date_of_iso, date_of_nth_weekday, days_from_sunday_of, iso_week_of, iso_year_of, week_first_of, weekday_of};
+ghost use Rattle.chrono_calendar.specs.Weeks.{IsFirstOfWeek, date_of_iso, date_of_nth_weekday, days_from_sunday_of, iso_week_of, iso_year_of, week_first_of, weekday_of};
 ghost use Rattle.chrono_calendar.specs.MonthMoves.{month_index, month_move, month_of_month_index, year_of_month_index};
 ghost use Rattle.chrono_calendar.specs.YearsBetween.{years_between as whole_years};
 
+use crate::counted_years::days_counted_before;
 use crate::form::DayForm;
 use crate::steps::Steps;
 use chrono_units::Weekday;
@@ -18,9 +19,6 @@ use chrono_units::year::{MAX_YEAR, MIN_YEAR, is_leap_year, month_length, year_le
 
 // The months of the library's years.
 const MONTHS: i64 = (MAX_YEAR - MIN_YEAR + 1) as i64 * 12;
-
-// The years of 656 whole cycles of 400, which no weekday feels: with them added, every year of the library comes after 0.
-const CYCLE_YEARS: i32 = 262_400;
 
 // The ordinal `k` days after an ordinal of the same year, if it is one of the first 365, which every year has.
 #[inline]
@@ -139,15 +137,14 @@ pub fn iso_name<F: DayForm>(f: &F) -> (i32, u32)
     (year, week_of_thursday(thursday))
 }
 
-// The weekday of the day before the year, from 0 for Sunday. A common year moves it on by a day, and a leap year by two.
+// The weekday of the day before the year, from 0 for Sunday.
 #[inline]
 fn days_from_sunday_before(year: i32) -> u32
     requires low { neg_ℤ (pos 262_143) ≤ℤ year }
     requires high { year ≤ℤ pos 262_143 }
     ensures { result ≡ days_from_sunday_of (days_before_year year) }
 {
-    let past = (year - 1 + CYCLE_YEARS) as u32;
-    (past + past / 4 - past / 100 + past / 400) % 7
+    days_counted_before(year) % 7
 }
 
 /// The date with an ISO year, a week from 1 and a weekday (ISO 8601 week date). `None` exactly if the week is 0 or past
@@ -191,7 +188,7 @@ pub fn week_first<F: DayForm>(f: &F, start: Weekday) -> i32
     ensures starts { weekday_of result ≡ start }
     ensures not_after { result ≤ℤ F.number f.now }
     ensures within { F.number f.now <ℤ (result +ℤ pos 7) }
-    ensures in_range { (neg_ℤ (pos 95_746_135) ≤ℤ result) × (result ≤ℤ pos 95_745_399) }
+    ensures in_range { IsFirstOfWeek result }
 {
     f.day() - f.weekday().days_since(start) as i32
 }

@@ -3,11 +3,21 @@ ghost use Rattle.std.specs.Prelude.{◌≡◌, ℕ, ℤ, Some, None, pos, neg_�
 ghost use Rattle.std.specs.Ordering.{int_cmp};
 ghost use Rattle.chrono_units.specs.declared.weekday.Weekday.TheVariants.{Fri, Mon, Sun};
 ghost use Rattle.chrono_calendar.specs.Days.{IsDate, date_of_day, date_of_ymd, date_of_yo};
-ghost use Rattle.chrono_calendar.specs.MonthMoves.{AddsUp, ComesBack, KeepsOrder, LaterMultiplesAreLater, month_move};
-ghost use Rattle.chrono_calendar.specs.NameLaws.{DatesHaveOneCalendarName, DatesHaveOneIsoName, DatesHaveOneOrdinalName, WeeksHaveOneFirstDay, iso_cmp};
+ghost use Rattle.chrono_calendar.specs.MonthMoves.{MonthMovesAddUp, ComesBack, KeepsOrder, LaterMultiplesAreLater, month_move};
+ghost use Rattle.chrono_calendar.specs.NameLaws.{DatesAreDaysOfYears, DatesHaveOneCalendarName, DatesHaveOneIsoName, DatesHaveOneNumber, DatesHaveOneOrdinalName, WeeksHaveOneFirstDay, iso_cmp};
 ghost use Rattle.chrono_calendar.specs.Order.{calendar_cmp, ordinal_cmp};
 ghost use Rattle.chrono_calendar.specs.Weeks.{date_of_iso, date_of_nth_weekday, iso_week_of, iso_year_of, week_first_of, weekday_of};
 ghost use Rattle.chrono_calendar.specs.YearsBetween.{years_between};
+
+/// The number of a date gives that date, and no other number does.
+pub fn dates_have_one_number()
+    ensures { DatesHaveOneNumber }
+{}
+
+/// The dates are the days of the years from -262,143 to 262,142.
+pub fn dates_are_days_of_years()
+    ensures { DatesAreDaysOfYears }
+{}
 
 /// The year, the month and the day of a date name that date, and no other name does.
 pub fn dates_have_one_calendar_name()
@@ -58,17 +68,19 @@ pub fn month_moves_keep_order()
 /// A month move, taken back, ends in the date's month: on the date, if the month between had that day, and else one to
 /// three days before it.
 pub fn month_moves_come_back()
-    ensures { (n k back e : ℤ) → IsDate n → k +ℤ back ≡ pos 0 → month_move n k ≡ Some e → ComesBack n back e }
+    ensures { (n k back e : ℤ) → IsDate n → k +ℤ back ≡ pos 0 → month_move n k ≡ Some e →
+        ComesBack n back e }
 {}
 
 /// Two month moves end in the month of the one move by their sum, and never on a later day.
 pub fn month_moves_add_up()
-    ensures { (n k e : ℤ) → month_move n k ≡ Some e → AddsUp n k e }
+    ensures { (n k e : ℤ) → month_move n k ≡ Some e → MonthMovesAddUp n k e }
 {}
 
 /// Of the moves by the multiples of a positive number of months, a higher multiple comes to a later day.
 pub fn later_multiples_are_later()
-    ensures { (n k : ℤ) (i : ℕ) (e : ℤ) → pos 0 <ℤ k → month_move n (k *ℤ pos i) ≡ Some e → LaterMultiplesAreLater n k i e }
+    ensures { (n k : ℤ) (i : ℕ) (e : ℤ) → pos 0 <ℤ k → month_move n (k *ℤ pos i) ≡ Some e →
+        LaterMultiplesAreLater n k i e }
 {}
 
 /// Days that are known: 1 January 1970, the first and the last date, and 1 January of year 1, a Monday.

@@ -4,6 +4,7 @@
 //! offered and proved beside it.
 #![tactic(auto)]
 
+pub mod counted_years;
 mod cycle;
 mod form;
 pub mod forms;

@@ -1,7 +1,7 @@
 //! Moves by calendar months and days: they move the date and keep the time of day.
 ghost use Rattle.std.specs.Prelude.{◌≡◌, pos, neg_ℤ, ◌+ℤ◌, ◌-ℤ◌, IfSome};
 ghost use Rattle.chrono_naive.specs.Days.{date_of_day};
-ghost use Rattle.chrono_naive.specs.MonthMoves.{AddsUp, ComesBack, KeepsOrder, month_move};
+ghost use Rattle.chrono_naive.specs.MonthMoves.{MonthMovesAddUp, ComesBack, KeepsOrder, month_move};
 ghost use Rattle.chrono_datetime.specs.Moment.{moment_on};
 
 use crate::NaiveDateTime;
@@ -20,7 +20,7 @@ impl NaiveDateTime {
         // Moved back, the answer's date comes to the date again, or to one to three days before it in its month.
         ensures back { IfSome result (λ e. ComesBack self.date (neg_ℤ (pos rhs)) e.date) }
         // A second move ends in the month of one move by the sum, and not later.
-        ensures sum { IfSome result (λ e. AddsUp self.date (pos rhs) e.date) }
+        ensures sum { IfSome result (λ e. MonthMovesAddUp self.date (pos rhs) e.date) }
     {
         Some(self.with_date(self.date.checked_add_months(rhs)?))
     }
@@ -35,7 +35,7 @@ impl NaiveDateTime {
         // Moved on again, the answer's date comes to the date again, or to one to three days before it in its month.
         ensures back { IfSome result (λ e. ComesBack self.date (pos rhs) e.date) }
         // A second move ends in the month of one move by the sum, and not later.
-        ensures sum { IfSome result (λ e. AddsUp self.date (neg_ℤ (pos rhs)) e.date) }
+        ensures sum { IfSome result (λ e. MonthMovesAddUp self.date (neg_ℤ (pos rhs)) e.date) }
     {
         Some(self.with_date(self.date.checked_sub_months(rhs)?))
     }

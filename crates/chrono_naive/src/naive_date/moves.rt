@@ -4,7 +4,7 @@ ghost use Rattle.chrono_units.specs.Years.{IsYear};
 ghost use Rattle.chrono_clock.specs.Duration.{nanos_per_day, units_of, whole_units};
 ghost use Rattle.chrono_calendar.specs.Days.{date_of_day, year_of};
 ghost use Rattle.chrono_calendar.specs.Weeks.{week_first_of, weekday_of};
-ghost use Rattle.chrono_calendar.specs.MonthMoves.{AddsUp, ComesBack, KeepsOrder, month_move};
+ghost use Rattle.chrono_calendar.specs.MonthMoves.{MonthMovesAddUp, ComesBack, KeepsOrder, month_move};
 ghost use Rattle.chrono_calendar.specs.YearsBetween.{years_between as whole_years};
 
 use crate::days::Days;
@@ -30,7 +30,7 @@ impl NaiveDate {
         // Moved back, the answer comes to the date again, or one to three days before it in its month.
         ensures back { IfSome result (λ e. ComesBack self (neg_ℤ (pos months)) e) }
         // A second move ends in the month of one move by the sum, and not later.
-        ensures sum { IfSome result (λ e. AddsUp self (pos months) e) }
+        ensures sum { IfSome result (λ e. MonthMovesAddUp self (pos months) e) }
     {
         self.moved_by_months(i64::from(months.as_u32()))
     }
@@ -45,7 +45,7 @@ impl NaiveDate {
         // Moved on again, the answer comes to the date again, or one to three days before it in its month.
         ensures back { IfSome result (λ e. ComesBack self (pos months) e) }
         // A second move ends in the month of one move by the sum, and not later.
-        ensures sum { IfSome result (λ e. AddsUp self (neg_ℤ (pos months)) e) }
+        ensures sum { IfSome result (λ e. MonthMovesAddUp self (neg_ℤ (pos months)) e) }
     {
         self.moved_by_months(-i64::from(months.as_u32()))
     }

@@ -1,7 +1,7 @@
 use Rattle.std.proofs.Common.{◌≡◌, ℕ, ℤ, pos, neg_ℤ, refl, ◌/◌, ◌<◌, ◌+ℤ◌, arith, unsigned_abs, to_z, of_z, w32, w64}
 use Rattle.chrono_calendar.specs.MonthMoves.{month_index, year_of_month_index}
 use Rattle.chrono_calendar.proofs.Signed.{casts}
-use Rattle.chrono_calendar.proofs.Moves.{month_index-shifted, year_of_month_index-range}
+use Rattle.chrono_calendar.proofs.Moves.{month_index-shifted, year_of_month_index-range, year_of_month_index-below, year_of_month_index-above}
 use Rattle.chrono_calendar.proofs.forms.month_after.Goals as goal
 
 -- the months since the first of the library's
@@ -26,3 +26,14 @@ returns c =
       year_of_month_index-range (year_of_month_index (index c)) (target c) parts.0 (target-bound c),
       rw (year_cast (year_of_month_index (index c)) (target c) parts.0 (target-bound c), parts.1) refl,
     )
+
+pub returns-then-moved-lt0 : goal.returns-then-moved-lt0
+returns-then-moved-lt0 c =
+    year_of_month_index-below (month_index c.args.year c.args.month +ℤ c.args.k) (omega (arith, casts, c.from.ensures, c.in_ok-moved.ensures, c.if-moved-lt0.true))
+
+pub returns-then-moved-ge-MONTHS : goal.returns-then-moved-ge-MONTHS
+returns-then-moved-ge-MONTHS c =
+    year_of_month_index-above (month_index c.args.year c.args.month +ℤ c.args.k) (omega (arith, casts, c.from.ensures, c.in_ok-moved.ensures, c.if-moved-ge-MONTHS.true))
+
+pub returns-in_err-moved : goal.returns-in_err-moved
+returns-in_err-moved c = rw c.from_residual.ensures (λ h. c.in_err-moved.ensures (omega (arith, casts, c.from.ensures, h)))

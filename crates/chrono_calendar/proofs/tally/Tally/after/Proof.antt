@@ -1,21 +1,23 @@
 -- `after` makes the number after the one behind the reference.
-use Rattle.std.proofs.Common.{[], ◌∷◌, ◌+◌, refl}
+use Rattle.std.proofs.Common.{List, [], ◌∷◌, ◌+◌, refl}
 use Rattle.std.proofs.raw_atomic.Walks.{proved}
-use types.Kit.{raw, ‵, ◌⊛◌, ◌$◌, ◌∵◌, !, qed, done, move, keep, split, join, fjoin, suffices}
+use types.Kit.{raw, ‵, ◌⊛◌, ◌$◌, ◌∵◌, !, qed, done, move, keep, split, join, fjoin, fpack, feq_i, suffices}
 use types.Part.{agg}
 use types.Run.{enter, no_more, returns}
 use types.ByLocal.{alloc_all, pass_all, free_all, look_at, sets}
 use base.Fml.{ftrue}
 use mir.Syntax.{named}
+use mir.Val.{Val}
 use denote.Builtin.{RefOf}
 use denote.Exit.{yes}
 use denote.Ref.{shr_vals, shr_Tells}
-use denote.RattleType.{owns}
+use denote.RattleType.{owns, Valss}
 use denote.Signature.{plain, types_at}
 use denote.Steps.{nothing}
+use denote.Struct.Struct.{within}
 use denote.Triple.Entry.{alive}
 use denote.Triple.Walked.{says, Stays, stay_dropped, Goes-dropped, walk_of, ends_at}
-use Rattle.chrono_calendar.proofs.GhostWalks.{no_bytes, owns_nothing}
+use Rattle.chrono_calendar.proofs.GhostWalks.{no_bytes, fieldless}
 use Rattle.chrono_calendar.specs.contracts.tally.Tally as Tally
 use Rattle.chrono_calendar.specs.contracts.tally.Tally.after as f
 use Rattle.chrono_calendar.proofs.tally.Tally.after.Statement.{statement}
@@ -38,4 +40,5 @@ after_spec 𝓤 𝓛 𝓜 𝓡 wired =
     sets ! (agg ! (no_more !)) refl (tt, tt) $
     returns ! (look_at ! 0 refl) $ free_all ! refl $
     suffices ! _ (ends_at 𝓛 f.ended stayed c y no_bytes next (tt, tt) (tt, tt)) $ says ! refl $
-    nothing ! $ owns_nothing ! $ fjoin ! $ nothing ! $ nothing ! $ join ! $ move ! (2 ∷ 0 ∷ 1 ∷ []) $ done !))
+    nothing ! $ nothing ! $ feq_i ! (List Val) (no_bytes ∷ []) (no_bytes ∷ []) refl $
+    fjoin ! $ fpack ! (Valss []) (within fieldless tt (no_bytes ∷ [])) tt $ fjoin ! $ nothing ! $ nothing ! $ join ! $ move ! (2 ∷ 0 ∷ 1 ∷ []) $ done !))
