@@ -50,7 +50,8 @@ pub trait DayForm: Copy + Ord + Hash {
     fn month_day(&self) -> (u32, u32)
         ensures month { result.0 ≡ month_of (number self.now) }
         ensures day { result.1 ≡ day_of (number self.now) }
-        ensures exists { IsCalendarName (year_of (number self.now)) (month_of (number self.now)) (day_of (number self.now)) };
+        ensures exists { IsCalendarName (year_of (number self.now)) (month_of (number self.now))
+            (day_of (number self.now)) };
 
     /// Whether the year is a leap year.
     fn is_leap(&self) -> bool

@@ -65,7 +65,8 @@ fn month_after(year: i32, month: u32, k: i64) -> Option<(i32, u32)>
     requires year { IsYear year }
     requires month { IsInRange 1 12 month }
     ensures { let i = month_index year month +ℤ k in
-        SomeIff result (IsYear (year_of_month_index i)) (record { 0 = year_of_month_index i; 1 = month_of_month_index i }) }
+        SomeIff result (IsYear (year_of_month_index i))
+        (record { 0 = year_of_month_index i; 1 = month_of_month_index i }) }
 {
     let from = (year - MIN_YEAR) as u32 * 12 + (month - 1);
     let moved = i64::from(from).checked_add(k)?;

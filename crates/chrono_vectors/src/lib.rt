@@ -5,6 +5,8 @@
 #![tactic(auto)]
 
 #[cfg(test)]
+mod calendar_parts;
+#[cfg(test)]
 mod month;
 #[cfg(test)]
 mod naive_date;
