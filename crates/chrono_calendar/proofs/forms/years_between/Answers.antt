@@ -32,4 +32,4 @@ returns g c =
 
 pub overflow_sub-years : goal.overflow_sub-years
 overflow_sub-years g c =
-    omega (arith, casts, c.year.ensures.value, c.year.ensures.in_range, c.year-2.ensures.value, c.year-2.ensures.in_range)
+    omega (arith, casts, c.year_month_day-year.ensures.year, c.year_month_day-year.ensures.in_range, c.year_month_day-base_year.ensures.year, c.year_month_day-base_year.ensures.in_range)
