@@ -1,15 +1,22 @@
 #!/usr/bin/env python3
-"""Measures caltool against other programs on lines of dates, in one run, as ratios.
+"""Measures caltool beside two Rust programs over chrono, command by command and mixed, in one run, as ratios.
 
-    benches/lines.py [LINES]        (a million if left out; twice as many mixed ones)
+    benches/lines.py [LINES]        (300,000 of each command and a million mixed, if left out)
 
-It needs crates/caltool/out/caltool, which `rt run` leaves there, Debian's packages dateutils and coreutils, and for the mixed
-lines librust-chrono-dev with cargo: benches/chrono_lines is the plainest good Rust program over that library.
-Each program reads the same dates from a file and writes to /dev/null; the best of five runs counts (GNU date: of one).
+benches/chrono_tuned reads and writes bytes by hand through buffers of 64 KiB, benches/chrono_lines is the plainest good program.
+All three answer each file before any is timed, and their answers have to be the same, byte for byte. Years have one to six digits
+and both signs, times all nine digits of their fraction, counts up to eighteen digits.
+The programs then take turns in seven rounds, from a file to /dev/null, and the best run of each counts: the table says how often
+caltool's time goes into that of the other program.
+
+It needs crates/caltool/out/caltool, which `rt run` and `rt ci` leave there, and Debian's librust-chrono-dev with cargo; with
+Debian's dateutils and GNU date it also prints a table of the conversion of dates.
 """
 import datetime
+import hashlib
 import os
 import random
+import shutil
 import subprocess
 import sys
 import tempfile
@@ -17,20 +24,48 @@ import time
 
 TOP = os.path.dirname(os.path.dirname(os.path.abspath(__file__)))
 CALTOOL = os.path.join(TOP, "crates", "caltool", "out", "caltool")
-FIRST = datetime.date(1800, 1, 1).toordinal()
-LAST = datetime.date(2199, 12, 31).toordinal()
+ROUNDS = 7
 
 
-def best_of(runs, command, path):
-    """The least wall time of some runs of a command that reads a file and writes to nowhere."""
-    best = None
-    for _ in range(runs):
-        with open(path, "rb") as source, open(os.devnull, "wb") as sink:
-            start = time.perf_counter()
-            subprocess.run(command, stdin=source, stdout=sink, stderr=subprocess.DEVNULL, check=True)
-            taken = time.perf_counter() - start
-        best = taken if best is None else min(best, taken)
-    return best
+def a_year(chance):
+    """A year of one to six digits; one in four is negative."""
+    digits = chance.randint(1, 6)
+    size = chance.randint(10 ** (digits - 1), min(10**digits - 1, 262_000))
+    return -size if chance.random() < 0.25 else size
+
+
+def a_date(chance):
+    return f"{a_year(chance)} {chance.randint(1, 12)} {chance.randint(1, 28)}"
+
+
+def a_moment(chance):
+    clock = f"{chance.randrange(24)} {chance.randrange(60)} {chance.randrange(60)} {chance.randrange(10**9)}"
+    return f"{a_date(chance)} {clock}"
+
+
+def a_count(chance, digits):
+    """A count of one to so many digits, one half of them negative."""
+    return chance.choice((-1, 1)) * chance.randrange(10 ** chance.randint(1, digits))
+
+
+COMMANDS = {
+    "ymd": a_date,
+    "yo": lambda chance: f"{a_year(chance)} {chance.randint(1, 366)}",
+    "iwd": lambda chance: f"{a_year(chance)} {chance.randint(1, 53)} {chance.randint(1, 7)}",
+    "day": lambda chance: f"{a_count(chance, 8)}",
+    "wom": lambda chance: f"{a_year(chance)} {chance.randint(1, 12)} {chance.randint(1, 7)} {chance.randint(1, 5)}",
+    "days": lambda chance: f"{a_date(chance)} {a_count(chance, 9)}",
+    "months": lambda chance: f"{a_date(chance)} {a_count(chance, 6)}",
+    "week": lambda chance: f"{a_date(chance)} {chance.randint(1, 7)}",
+    "move": lambda chance: f"{a_moment(chance)} {a_count(chance, 18)} {chance.randrange(10**9)}",
+    "diff": lambda chance: f"{a_moment(chance)} {a_moment(chance)}",
+    "since": lambda chance: f"{a_date(chance)} {a_date(chance)}",
+    "set": lambda chance: " ".join(str(chance.randint(1, 7)) for _ in range(chance.randint(1, 8))),
+}
+
+
+def a_line(chance, command):
+    return f"{command} {COMMANDS[command](chance)}"
 
 
 def write_lines(folder, name, lines):
@@ -38,26 +73,6 @@ def write_lines(folder, name, lines):
     with open(path, "w", encoding="ascii") as out:
         out.writelines(line + "\n" for line in lines)
     return path
-
-
-COMMANDS = ["ymd", "yo", "iwd", "day", "wom", "days", "months", "move", "diff"]
-
-
-def line_of(chance, dates, kind):
-    """A line of one of the nine commands that a program over chrono can answer as well."""
-    d, e = chance.choice(dates), chance.choice(dates)
-    clock = f"{chance.randrange(24)} {chance.randrange(60)} {chance.randrange(60)} {chance.randrange(10**9)}"
-    return [
-        f"ymd {d.year} {d.month} {d.day}",
-        f"yo {d.year} {chance.randint(1, 366)}",
-        f"iwd {d.year} {chance.randint(1, 53)} {chance.randint(1, 7)}",
-        f"day {d.toordinal()}",
-        f"wom {d.year} {d.month} {chance.randint(1, 7)} {chance.randint(1, 5)}",
-        f"days {d.year} {d.month} {d.day} {chance.randint(-100_000, 100_000)}",
-        f"months {d.year} {d.month} {d.day} {chance.randint(-1_000, 1_000)}",
-        f"move {d.year} {d.month} {d.day} {clock} {chance.randint(-10**9, 10**9)} {chance.randrange(10**9)}",
-        f"diff {d.year} {d.month} {d.day} {clock} {e.year} {e.month} {e.day} {clock}",
-    ][kind]
 
 
 def debian_registry():
@@ -78,56 +93,65 @@ def build_over_chrono(folder, name):
     return os.path.join(target, "release", name)
 
 
-def show(title, rows):
-    print(title)
-    least = rows[0][1]
-    for name, taken in rows:
-        print(f"  {name:40} {taken:8.3f} s   {taken / least:7.2f} times the first")
+def sum_of_answers(program, path):
+    """A sum of all that the program writes for the lines of a file."""
+    with open(path, "rb") as source:
+        ran = subprocess.run([program], stdin=source, stdout=subprocess.PIPE, check=True)
+    return hashlib.sha256(ran.stdout).digest()
+
+
+def best_times(commands, path, rounds):
+    """The least wall time of each command, from the file to nowhere, the commands taking turns."""
+    best = [float("inf")] * len(commands)
+    for _ in range(rounds):
+        for at, command in enumerate(commands):
+            with open(path, "rb") as source, open(os.devnull, "wb") as sink:
+                start = time.perf_counter()
+                subprocess.run(command, stdin=source, stdout=sink, stderr=subprocess.DEVNULL, check=True)
+                best[at] = min(best[at], time.perf_counter() - start)
+    return best
+
+
+def compare_conversions(folder, count):
+    """Prints the times of dateutils and GNU date on dates that they can read, beside caltool's."""
+    chance = random.Random(2)
+    first, last = datetime.date(1800, 1, 1).toordinal(), datetime.date(2199, 12, 31).toordinal()
+    dates = [datetime.date.fromordinal(chance.randint(first, last)) for _ in range(count)]
+    plain = write_lines(folder, "dates", (date.isoformat() for date in dates))
+    ymd = write_lines(folder, "ymd_dates", (f"ymd {d.year} {d.month} {d.day}" for d in dates))
+    ours = best_times([[CALTOOL]], ymd, ROUNDS)[0]
+    others = {
+        "dateutils.dconv -f ldn": ["dateutils.dconv", "-f", "ldn"],
+        "dateutils.dconv -f '%F %j %a %G-W%V'": ["dateutils.dconv", "-f", "%F %j %a %G-W%V"],
+        "GNU date -f -": ["date", "-u", "-f", "-", "+%F %j %a %G-W%V"],
+    }
+    print(f"\n{count} dates of four centuries\n\n| Program | its time by caltool's |\n|---|---|")
+    for name, command in others.items():
+        if shutil.which(command[0]):
+            print(f"| `{name}` | {best_times([command], plain, 1)[0] / ours:.1f} |")
+        else:
+            print(f"| `{name}` | not run: no {command[0]} |")
 
 
 def main():
-    count = int(sys.argv[1]) if len(sys.argv) > 1 else 1_000_000
+    count = int(sys.argv[1]) if len(sys.argv) > 1 else 300_000
     chance = random.Random(1)
-    dates = [datetime.date.fromordinal(chance.randint(FIRST, LAST)) for _ in range(count)]
     with tempfile.TemporaryDirectory() as folder:
-        plain = write_lines(folder, "dates", (date.isoformat() for date in dates))
-        ymd = write_lines(folder, "ymd", (f"ymd {d.year} {d.month} {d.day}" for d in dates))
-        day = write_lines(folder, "day", (f"day {d.toordinal()}" for d in dates))
-        days = write_lines(
-            folder, "days", (f"days {d.year} {d.month} {d.day} {chance.randint(-100_000, 100_000)}" for d in dates)
-        )
-        mixed = write_lines(folder, "mixed", (line_of(chance, dates, chance.randrange(9)) for _ in range(2 * count)))
-        show(
-            f"{count} dates",
-            [
-                ("caltool ymd", best_of(5, [CALTOOL], ymd)),
-                ("caltool day", best_of(5, [CALTOOL], day)),
-                ("caltool days", best_of(5, [CALTOOL], days)),
-                ("dateutils.dconv -f ldn", best_of(5, ["dateutils.dconv", "-f", "ldn"], plain)),
-                (
-                    "dateutils.dconv -f '%F %j %a %G-W%V'",
-                    best_of(5, ["dateutils.dconv", "-f", "%F %j %a %G-W%V"], plain),
-                ),
-                ("GNU date -f -", best_of(1, ["date", "-u", "-f", "-", "+%F %j %a %G-W%V"], plain)),
-            ],
-        )
-        chrono_lines = build_over_chrono(folder, "chrono_lines")
-        show(
-            f"{2 * count} mixed lines",
-            [
-                ("caltool", best_of(5, [CALTOOL], mixed)),
-                ("the plainest program over chrono", best_of(5, [chrono_lines], mixed)),
-            ],
-        )
-        for kind, command in enumerate(COMMANDS):
-            path = write_lines(folder, command, (line_of(chance, dates, kind) for _ in range(count)))
-            show(
-                f"{count} lines of {command}",
-                [
-                    ("caltool", best_of(5, [CALTOOL], path)),
-                    ("the plainest program over chrono", best_of(5, [chrono_lines], path)),
-                ],
-            )
+        programs = [CALTOOL, *(build_over_chrono(folder, name) for name in ("chrono_tuned", "chrono_lines"))]
+        files = {it: write_lines(folder, it, (a_line(chance, it) for _ in range(count))) for it in COMMANDS}
+        names = list(COMMANDS)
+        mixed = (a_line(chance, chance.choice(names)) for _ in range(count * 10 // 3))
+        files["mixed"] = write_lines(folder, "mixed", mixed)
+        for name, path in files.items():
+            if len({sum_of_answers(it, path) for it in programs}) > 1:
+                sys.exit(f"{name}: the programs do not answer alike, so none was timed")
+        print(f"{count} lines of each command, {count * 10 // 3} mixed: the other program's time by caltool's\n")
+        print("| Lines | caltool, ns a line | tuned | plain |\n|---|---|---|---|")
+        for name, path in files.items():
+            ours, tuned, plain = best_times([[it] for it in programs], path, ROUNDS)
+            lines = count * 10 // 3 if name == "mixed" else count
+            print(f"| `{name}` | {ours / lines * 1e9:.0f} | {tuned / ours:.2f} | {plain / ours:.2f} |", flush=True)
+        compare_conversions(folder, count)
 
 
 if __name__ == "__main__":

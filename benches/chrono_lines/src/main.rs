@@ -7,35 +7,45 @@ use std::fmt::Write as _;
 use std::io::{self, BufRead, BufWriter, Write};
 use std::str::{FromStr, SplitAsciiWhitespace};
 
+/// More days than there are in chrono's range, at which version 0.4.23 does not panic.
+const ALL_DAYS: u64 = 200_000_000;
+const WEEK: [Weekday; 7] =
+    [Weekday::Mon, Weekday::Tue, Weekday::Wed, Weekday::Thu, Weekday::Fri, Weekday::Sat, Weekday::Sun];
+
 fn next<T: FromStr>(words: &mut SplitAsciiWhitespace) -> Option<T> {
     words.next()?.parse().ok()
 }
 
 fn weekday(words: &mut SplitAsciiWhitespace) -> Option<Weekday> {
-    Some(match next::<u8>(words)? {
-        1 => Weekday::Mon,
-        2 => Weekday::Tue,
-        3 => Weekday::Wed,
-        4 => Weekday::Thu,
-        5 => Weekday::Fri,
-        6 => Weekday::Sat,
-        7 => Weekday::Sun,
-        _ => return None,
-    })
+    WEEK.get(next::<usize>(words)?.checked_sub(1)?).copied()
+}
+
+/// Whether chrono 0.4.45 has the date: its range is a year shorter at each end.
+fn in_range(date: &NaiveDate) -> bool {
+    (-262_143..=262_142).contains(&date.year())
 }
 
 fn ymd(words: &mut SplitAsciiWhitespace) -> Option<Option<NaiveDate>> {
-    Some(NaiveDate::from_ymd_opt(next(words)?, next(words)?, next(words)?))
+    let date = NaiveDate::from_ymd_opt(next(words)?, next(words)?, next(words)?);
+    Some(date.filter(in_range))
 }
 
 fn moment(words: &mut SplitAsciiWhitespace) -> Option<Option<NaiveDateTime>> {
     let date = ymd(words)?;
     let (h, m, s, n) = (next(words)?, next(words)?, next(words)?, next(words)?);
-    Some(date.and_then(|date| date.and_hms_nano_opt(h, m, s, n)))
+    let is_time = n < 1_000_000_000 || s == 59;
+    Some(date.filter(|_| is_time).and_then(|date| date.and_hms_nano_opt(h, m, s, n)))
+}
+
+fn duration(secs: i64, nanos: u32) -> Option<Duration> {
+    if nanos >= 1_000_000_000 || secs.unsigned_abs() > i64::MAX as u64 / 1_000 {
+        return None;
+    }
+    Duration::seconds(secs).checked_add(&Duration::nanoseconds(i64::from(nanos)))
 }
 
 fn date_line(date: Option<NaiveDate>, out: &mut String) {
-    match date {
+    match date.filter(in_range) {
         Some(date) => {
             let _ = write!(
                 out,
@@ -49,6 +59,58 @@ fn date_line(date: Option<NaiveDate>, out: &mut String) {
         }
         None => out.push_str("none"),
     }
+}
+
+fn end_of_week(date: Option<NaiveDate>, out: &mut String) {
+    match date.filter(in_range) {
+        Some(date) => {
+            let _ = write!(out, "{date}");
+        }
+        None => out.push_str("none"),
+    }
+}
+
+fn week_line(date: Option<NaiveDate>, start: Weekday, out: &mut String) {
+    let Some(date) = date else {
+        return out.push_str("none");
+    };
+    let back = (7 + date.weekday().num_days_from_monday() - start.num_days_from_monday()) % 7;
+    end_of_week(date.checked_sub_days(Days::new(u64::from(back))), out);
+    out.push(' ');
+    end_of_week(date.checked_add_days(Days::new(u64::from(6 - back))), out);
+}
+
+/// The duration as chrono 0.4.45 writes it, in seconds alone.
+fn duration_line(duration: Duration, out: &mut String) {
+    let secs = duration.num_seconds();
+    let nanos = (duration - Duration::seconds(secs)).num_nanoseconds().unwrap_or(0);
+    if secs == 0 && nanos == 0 {
+        return out.push_str("P0D");
+    }
+    let sign = if secs < 0 || nanos < 0 { "-" } else { "" };
+    let _ = write!(out, "{sign}PT{}", secs.unsigned_abs());
+    if nanos != 0 {
+        let fraction = format!("{:09}", nanos.unsigned_abs());
+        let _ = write!(out, ".{}", fraction.trim_end_matches('0'));
+    }
+    out.push('S');
+}
+
+fn set_line(words: &mut SplitAsciiWhitespace, out: &mut String) -> Option<()> {
+    let start = weekday(words)?.num_days_from_monday();
+    let mut set = [false; 7];
+    for word in words {
+        set[word.parse::<usize>().ok().filter(|day| (1..=7).contains(day))? - 1] = true;
+    }
+    let days: Vec<String> = WEEK.iter().zip(set).filter(|(_, is_in)| *is_in).map(|(day, _)| day.to_string()).collect();
+    let _ = write!(out, "[{}]", days.join(", "));
+    for step in 0..7 {
+        let day = ((start + step) % 7) as usize;
+        if set[day] {
+            let _ = write!(out, " {}", WEEK[day]);
+        }
+    }
+    Some(())
 }
 
 fn answer(line: &str, out: &mut String) -> Option<()> {
@@ -70,7 +132,7 @@ fn answer(line: &str, out: &mut String) -> Option<()> {
             let date = ymd(words)?;
             let k: i64 = next(words)?;
             let moved = date.and_then(|date| {
-                let days = Days::new(k.unsigned_abs());
+                let days = Days::new(k.unsigned_abs().min(ALL_DAYS));
                 if k < 0 { date.checked_sub_days(days) } else { date.checked_add_days(days) }
             });
             date_line(moved, out)
@@ -84,11 +146,15 @@ fn answer(line: &str, out: &mut String) -> Option<()> {
             });
             date_line(moved, out)
         }
+        "week" => {
+            let date = ymd(words)?;
+            week_line(date, weekday(words)?, out)
+        }
         "move" => {
             let start = moment(words)?;
-            let (secs, nanos): (i64, i64) = (next(words)?, next(words)?);
-            let by = Duration::seconds(secs) + Duration::nanoseconds(nanos);
-            match start.and_then(|start| start.checked_add_signed(by)) {
+            let (secs, nanos) = (next(words)?, next(words)?);
+            let moved = start.and_then(|start| start.checked_add_signed(duration(secs, nanos)?));
+            match moved.filter(|end| in_range(&end.date())) {
                 Some(end) => {
                     let _ = write!(out, "{end:?}");
                 }
@@ -98,12 +164,20 @@ fn answer(line: &str, out: &mut String) -> Option<()> {
         "diff" => {
             let (first, second) = (moment(words)?, moment(words)?);
             match first.zip(second) {
-                Some((first, second)) => {
-                    let _ = write!(out, "{}", first.signed_duration_since(second));
+                Some((first, second)) => duration_line(first.signed_duration_since(second), out),
+                None => out.push_str("none"),
+            }
+        }
+        "since" => {
+            let (date, from) = (ymd(words)?, ymd(words)?);
+            match date.zip(from).and_then(|(date, from)| date.years_since(from)) {
+                Some(years) => {
+                    let _ = write!(out, "{years}");
                 }
                 None => out.push_str("none"),
             }
         }
+        "set" => set_line(words, out)?,
         _ => return None,
     }
     if words.next().is_none() { Some(()) } else { None }

@@ -8,3 +8,5 @@ pub mod Lines
 pub mod Texts
 pub mod Answers
 pub mod Runs
+pub mod Marks
+pub mod Faults

@@ -10,6 +10,7 @@ mod command;
 mod date_text;
 mod digits;
 mod duration_text;
+mod fault;
 mod law;
 mod newline;
 mod number;
@@ -19,6 +20,7 @@ mod run;
 mod set_text;
 mod text;
 mod time_text;
+mod watch;
 mod words;
 
 pub use answer::{Answer, CommandAnswers, answer_line};
@@ -26,10 +28,11 @@ pub use arguments::{CalendarDate, ClockTime, Moment};
 pub use command::{Command, command_of};
 pub use date_text::{put_calendar_date, put_week};
 pub use duration_text::put_duration;
+pub use fault::RunFault;
 pub use law::{
     commands_are_lines, cut_is_unique, lines_are_commands, numbers_are_texts, words_are_unique,
 };
-pub use run::{RunFault, answer_lines};
+pub use run::answer_lines;
 pub use set_text::{put_set, put_walk, put_weekday};
 pub use text::{put_i32, put_number, put_text, put_u32};
 pub use time_text::put_clock;

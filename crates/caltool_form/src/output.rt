@@ -1,10 +1,13 @@
 //! The answers that wait to be written.
 ghost use Rattle.std.specs.Prelude.{◌≡◌, ◌+◌, ◌≤◌, ◌<◌, ◌++◌, ◌∷◌, ◌↔◌, ℕ, List, [], length, take, OnOk, OnErr, IfErr, IsTrue};
 ghost use Rattle.std.specs.Io.KnownBytes.{Appends};
+ghost use Rattle.caltool_form.specs.Marks.{mark_of_write};
+ghost use Rattle.caltool_form.specs.declared.watch.Mark.{Mark};
 ghost use Rattle.caltool_form.specs.Answers.{answer_of};
 
 use crate::answer::{CommandAnswers, write_line_answer};
-use crate::run::RunFault;
+use crate::fault::RunFault;
+use crate::watch::WatchedWriter;
 use std::io::Write;
 use std::marker::Model;
 
@@ -45,11 +48,17 @@ impl Output {
     }
 
     // Makes room for an answer of at most 63 bytes and its newline.
-    pub(crate) fn make_room<W: Write>(&mut self, w: &mut W) -> Result<(), RunFault>
-        ensures ok { OnOk result ((done : List ℕ) × Appends (W.contents w.old) (W.contents w.new) done
+    pub(crate) fn make_room<W: Write>(
+        &mut self,
+        w: &mut WatchedWriter<'_, W>,
+    ) -> Result<(), RunFault>
+        requires { w.old.mark ≡ Mark.Open }
+        ensures same { w.new.inner.ghost_name ≡ w.old.inner.ghost_name }
+        ensures ok { OnOk result ((done : List ℕ) × Appends (W.contents w.old.inner.now) (W.contents w.new.inner.now) done
             × (self.old ≡ done ++ self.new)) }
         ensures room { OnOk result (length self.new + 63 < 65536) }
-        ensures err { OnErr result ((n : ℕ) × Appends (W.contents w.old) (W.contents w.new) (take n self.old)) }
+        ensures err { OnErr result ((n : ℕ) × Appends (W.contents w.old.inner.now) (W.contents w.new.inner.now) (take n self.old)) }
+        ensures mark { w.new.mark ≡ mark_of_write result }
         ensures fault { IfErr result (λ e. e ≡ RunFault.Write) }
     {
         if self.has_room() {
@@ -59,10 +68,13 @@ impl Output {
     }
 
     // Writes what waits. After a fault a beginning of it is written.
-    pub(crate) fn send<W: Write>(&mut self, w: &mut W) -> Result<(), RunFault>
-        ensures ok { OnOk result (Appends (W.contents w.old) (W.contents w.new) self.old) }
+    pub(crate) fn send<W: Write>(&mut self, w: &mut WatchedWriter<'_, W>) -> Result<(), RunFault>
+        requires { w.old.mark ≡ Mark.Open }
+        ensures same { w.new.inner.ghost_name ≡ w.old.inner.ghost_name }
+        ensures ok { OnOk result (Appends (W.contents w.old.inner.now) (W.contents w.new.inner.now) self.old) }
         ensures nothing { OnOk result (self.new ≡ []) }
-        ensures err { OnErr result ((n : ℕ) × Appends (W.contents w.old) (W.contents w.new) (take n self.old)) }
+        ensures err { OnErr result ((n : ℕ) × Appends (W.contents w.old.inner.now) (W.contents w.new.inner.now) (take n self.old)) }
+        ensures mark { w.new.mark ≡ mark_of_write result }
         ensures fault { IfErr result (λ e. e ≡ RunFault.Write) }
     {
         write_whole(w, &self.bytes[..self.len])?;
@@ -89,19 +101,19 @@ fn add_answer<A: CommandAnswers>(bytes: &mut [u8], len: usize, line: &[u8]) -> u
     end + 1
 }
 
-// Writes the bytes. A write that fails, or takes none of them, is not tried again.
-fn write_whole<W: Write>(w: &mut W, bytes: &[u8]) -> Result<(), RunFault>
-    ensures ok { OnOk result (Appends (W.contents w.old) (W.contents w.new) bytes.now) }
-    ensures err { OnErr result ((n : ℕ) × Appends (W.contents w.old) (W.contents w.new) (take n bytes.now)) }
+// Writes the bytes, by as many writes as it takes.
+fn write_whole<W: Write>(w: &mut WatchedWriter<'_, W>, bytes: &[u8]) -> Result<(), RunFault>
+    requires { w.old.mark ≡ Mark.Open }
+    ensures same { w.new.inner.ghost_name ≡ w.old.inner.ghost_name }
+    ensures ok { OnOk result (Appends (W.contents w.old.inner.now) (W.contents w.new.inner.now) bytes.now) }
+    ensures err { OnErr result ((n : ℕ) × Appends (W.contents w.old.inner.now) (W.contents w.new.inner.now) (take n bytes.now)) }
+    ensures mark { w.new.mark ≡ mark_of_write result }
     ensures fault { IfErr result (λ e. e ≡ RunFault.Write) }
 {
     let mut rest = bytes;
     while !rest.is_empty() {
-        match w.write(rest) {
-            Ok(0) => return Err(RunFault::Write),
-            Ok(n) => rest = &rest[n..],
-            Err(_) => return Err(RunFault::Write),
-        }
+        let n = w.write(rest)?;
+        rest = &rest[n..];
     }
     Ok(())
 }

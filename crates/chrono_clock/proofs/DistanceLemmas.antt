@@ -1,7 +1,7 @@
 -- Lemmas on distances of times: the move back, and the order.
 use Rattle.std.proofs.Common.{◌≡◌, ℕ, ◌+◌, ◌*◌, ◌/◌, ◌%◌, ◌<◌, ◌≤◌, ◌⊎◌, ⊎_elim, true, false, ℤ, pos, ◌+ℤ◌, ◌-ℤ◌, ◌*ℤ◌, ◌<ℤ◌, ◌≤ℤ◌, arith, refl, sym, ap, ◌∙◌, unsigned_abs, nat_lt}
 use Rattle.chrono_clock.specs.Time.{TimeOfDay, Landing, IsTime, IsLeap, IsPlain, IsEarlier, landing_of, later, place, place_beside, plain_landing, leap_landing, land, distance}
-use Rattle.chrono_clock.specs.SignedLemmas.{signed_arith, one_part}
+use Rattle.chrono_clock.specs.Signed.{signed}
 use Rattle.chrono_clock.proofs.TimeLemmas.{by_order, by_leap, is_leap-plain, is_leap-leap, land-plain, land-leap, leap_landing-before, leap_landing-inside, leap_landing-past}
 use Rattle.chrono_clock.proofs.LandingLemmas.{plain_landing-shift}
 
@@ -33,7 +33,7 @@ plain_landing-place t h k =
 
 -- the point that a move by a distance reaches
 point_reached : (b : TimeOfDay) (m n k : ℕ) → k + n ≡ m + place b → pos (place b) +ℤ (pos m -ℤ pos n) ≡ pos k
-point_reached b m n k e = omega (arith, signed_arith)
+point_reached b m n k e = omega (arith, signed)
 
 -- back to a plain time
 land-distance_plain : (a b : TimeOfDay) → IsTime a → IsTime b → IsPlain a → land b (distance a b) ≡ landing_of a
@@ -48,12 +48,12 @@ land-distance_plain a b i j h =
     (λ f. by_order a.second b.second
     (λ g.
     let p : pos (place b) +ℤ distance a b ≡ pos (place a) = point_reached b (place_beside a b) (place_beside b a) (place a) (omega (arith, back, beside-not_before a b g)) in
-    let low : pos (place a) <ℤ pos ((b.second + 1) * 1_000_000_000) = omega (arith, signed_arith) in
+    let low : pos (place a) <ℤ pos ((b.second + 1) * 1_000_000_000) = omega (arith, signed) in
     land-leap b (distance a b) f ∙ ap (leap_landing b.second) p ∙ leap_landing-before b.second (pos (place a)) low ∙ home)
     (λ g.
     let p : pos (place b) +ℤ distance a b ≡ pos (place a + 1_000_000_000) = point_reached b (place_beside a b) (place_beside b a) (place a + 1_000_000_000) (omega (arith, back, beside-leap_before a b f g)) in
-    let high : pos ((b.second + 2) * 1_000_000_000) ≤ℤ pos (place a + 1_000_000_000) = omega (arith, signed_arith) in
-    let q : pos (place a + 1_000_000_000) -ℤ pos 1_000_000_000 ≡ pos (place a) = omega (arith, signed_arith) in
+    let high : pos ((b.second + 2) * 1_000_000_000) ≤ℤ pos (place a + 1_000_000_000) = omega (arith, signed) in
+    let q : pos (place a + 1_000_000_000) -ℤ pos 1_000_000_000 ≡ pos (place a) = omega (arith, signed) in
     land-leap b (distance a b) f ∙ ap (leap_landing b.second) p ∙ leap_landing-past b.second (pos (place a + 1_000_000_000)) high ∙ ap plain_landing q ∙ home))
 
 -- back to a leap time from another of the same second
@@ -61,10 +61,10 @@ land-distance_leap : (a b : TimeOfDay) → IsTime a → IsTime b → IsLeap a �
 unfolding distance
 land-distance_leap a b i j e f s =
     let p : pos (place b) +ℤ distance a b ≡ pos (place a) = point_reached b (place_beside a b) (place_beside b a) (place a) (omega (arith, beside-not_before a b, beside-not_before b a)) in
-    let low : pos ((b.second + 1) * 1_000_000_000) ≤ℤ pos (place a) = omega (arith, signed_arith) in
-    let high : pos (place a) <ℤ pos ((b.second + 2) * 1_000_000_000) = omega (arith, signed_arith, i.fraction) in
+    let low : pos ((b.second + 1) * 1_000_000_000) ≤ℤ pos (place a) = omega (arith, signed) in
+    let high : pos (place a) <ℤ pos ((b.second + 2) * 1_000_000_000) = omega (arith, signed, i.fraction) in
     let of_parts : ℕ → ℕ → Landing = λ s f. record { day = pos 0; time = record { second = s; fraction = f } } in
-    let g : unsigned_abs (pos (place a) -ℤ pos (b.second * 1_000_000_000)) ≡ a.fraction = omega (arith, signed_arith, one_part (pos (place a) -ℤ pos (b.second * 1_000_000_000))) in
+    let g : unsigned_abs (pos (place a) -ℤ pos (b.second * 1_000_000_000)) ≡ a.fraction = omega (arith, signed) in
     land-leap b (distance a b) f ∙ ap (leap_landing b.second) p ∙ leap_landing-inside b.second (pos (place a)) low high ∙ ap (of_parts b.second) g ∙ ap (λ t. of_parts t a.fraction) (sym s)
 
 -- a move from b by the distance of a ends at a, if a is plain or both are in one leap second
@@ -81,7 +81,7 @@ land-distance_days a b k i j e f =
     land-plain b (k *ℤ pos 86_400_000_000_000 +ℤ distance a b) f ∙ ap plain_landing q ∙ plain_landing-shift (pos (place a)) k ∙ ap (later k) home
   where
     along_sum : (m n : ℕ) (d x : ℤ) → pos m +ℤ d ≡ pos n → pos m +ℤ (x +ℤ d) ≡ pos n +ℤ x
-    along_sum m n d x h = omega (arith, signed_arith)
+    along_sum m n d x h = omega (arith, signed)
 
 -- ---- the sign of a distance is the order of the times
 
@@ -90,9 +90,9 @@ unfolding distance
 distance-later a b i j h =
     ⊎_elim
     (λ k. by_leap b
-    (λ f. omega (arith, signed_arith, beside-plain a b f, beside-not_before b a))
-    (λ f. omega (arith, signed_arith, beside-leap_before a b f k, beside-not_before b a, j.fraction)))
-    (λ k. omega (arith, signed_arith, beside-not_before a b, beside-not_before b a))
+    (λ f. omega (arith, signed, beside-plain a b f, beside-not_before b a))
+    (λ f. omega (arith, signed, beside-leap_before a b f k, beside-not_before b a, j.fraction)))
+    (λ k. omega (arith, signed, beside-not_before a b, beside-not_before b a))
     h
 
 pub distance-earlier : (a b : TimeOfDay) → IsTime a → IsTime b → IsEarlier a b → distance a b <ℤ pos 0
@@ -100,13 +100,13 @@ unfolding distance
 distance-earlier a b i j h =
     ⊎_elim
     (λ k. by_leap a
-    (λ f. omega (arith, signed_arith, beside-plain b a f, beside-not_before a b))
-    (λ f. omega (arith, signed_arith, beside-leap_before b a f k, beside-not_before a b, i.fraction)))
-    (λ k. omega (arith, signed_arith, beside-not_before a b, beside-not_before b a))
+    (λ f. omega (arith, signed, beside-plain b a f, beside-not_before a b))
+    (λ f. omega (arith, signed, beside-leap_before b a f k, beside-not_before a b, i.fraction)))
+    (λ k. omega (arith, signed, beside-not_before a b, beside-not_before b a))
     h
 
 pub distance-same : (a b : TimeOfDay) → a ≡ b → distance a b ≡ pos 0
 unfolding distance
 distance-same a b e =
-    let zero_apart : (n : ℕ) → pos n -ℤ pos n ≡ pos 0 = λ n. omega (arith, signed_arith) in
+    let zero_apart : (n : ℕ) → pos n -ℤ pos n ≡ pos 0 = λ n. omega (arith, signed) in
     ap (distance a) (sym e) ∙ zero_apart (place_beside a a)

@@ -2,24 +2,24 @@
 use Rattle.std.proofs.Common.{◌≡◌, ℕ, ◌+◌, ◌*◌, ◌<◌, ◌⊎◌, ⊎_elim, inl, inr, ℤ, pos, ◌+ℤ◌, ◌-ℤ◌, ◌*ℤ◌, ◌<ℤ◌, ◌≤ℤ◌, arith, refl, subst, sym}
 use Rattle.std.proofs.lemmas.Int.{by_lt_z}
 use Rattle.chrono_clock.specs.Time.{TimeOfDay, Landing, IsTime, IsEarlierLanding, landing_of, place, plain_landing, land}
-use Rattle.chrono_clock.specs.SignedLemmas.{signed_arith, one_part}
+use Rattle.chrono_clock.specs.Signed.{signed}
 use Rattle.chrono_clock.proofs.TimeLemmas.{by_order, by_leap, by_parts, land-plain, land-leap, leap_landing-before, leap_landing-inside, leap_landing-past}
 use Rattle.chrono_clock.proofs.LandingLemmas.{place-plain_landing}
 
 parts_of : (q : ℤ) → ((plain_landing q).time.second < 86_400) × ((plain_landing q).time.fraction < 1_000_000_000)
-parts_of q = (omega (arith, signed_arith), omega arith)
+parts_of q = (omega (arith, signed), omega arith)
 
 -- a plain point after a plain time is later
 plain-forward : (t : TimeOfDay) (q : ℤ) → pos (place t) <ℤ q → IsTime t → t.fraction < 1_000_000_000 → IsEarlierLanding (landing_of t) (plain_landing q)
 plain-forward t q h i k =
     let w = place-plain_landing q in
     let r = parts_of q in
-    let at_day : (n : ℕ) (d : ℤ) → pos n +ℤ d *ℤ pos 86_400_000_000_000 ≡ q → n < 86_400_000_000_000 → (pos 0 <ℤ d) ⊎ (pos 0 ≡ d) = λ n d e f. by_lt_z (pos 0) d inl (λ g. inr (omega (arith, signed_arith))) in
+    let at_day : (n : ℕ) (d : ℤ) → pos n +ℤ d *ℤ pos 86_400_000_000_000 ≡ q → n < 86_400_000_000_000 → (pos 0 <ℤ d) ⊎ (pos 0 ≡ d) = λ n d e f. by_lt_z (pos 0) d inl (λ g. inr (omega (arith, signed))) in
     ⊎_elim inl
     (λ e. inr (
       e,
       by_order (plain_landing q).time.second t.second
-          (λ a. by_order t.second (plain_landing q).time.second (λ b. inr (omega arith, omega (arith, signed_arith))) (λ b. absurd (omega (arith, signed_arith))))
+          (λ a. by_order t.second (plain_landing q).time.second (λ b. inr (omega arith, omega (arith, signed))) (λ b. absurd (omega (arith, signed))))
           (λ a. inl a),
     ))
     (at_day (place (plain_landing q).time) (plain_landing q).day w (omega arith))
@@ -29,12 +29,12 @@ plain-next_second : (t : TimeOfDay) (q : ℤ) → pos ((t.second + 1) * 1_000_00
 plain-next_second t q h =
     let w = place-plain_landing q in
     let r = parts_of q in
-    let at_day : (n : ℕ) (d : ℤ) → pos n +ℤ d *ℤ pos 86_400_000_000_000 ≡ q → n < 86_400_000_000_000 → (pos 0 <ℤ d) ⊎ (pos 0 ≡ d) = λ n d e f. by_lt_z (pos 0) d inl (λ g. inr (omega (arith, signed_arith))) in
+    let at_day : (n : ℕ) (d : ℤ) → pos n +ℤ d *ℤ pos 86_400_000_000_000 ≡ q → n < 86_400_000_000_000 → (pos 0 <ℤ d) ⊎ (pos 0 ≡ d) = λ n d e f. by_lt_z (pos 0) d inl (λ g. inr (omega (arith, signed))) in
     ⊎_elim inl
     (λ e. inr (
       e,
       by_order (plain_landing q).time.second t.second
-          (λ a. absurd (omega (arith, signed_arith)))
+          (λ a. absurd (omega (arith, signed)))
           (λ a. inl a),
     ))
     (at_day (place (plain_landing q).time) (plain_landing q).day w (omega arith))
@@ -44,12 +44,12 @@ plain-backward : (t : TimeOfDay) (q : ℤ) → q <ℤ pos ((t.second + 1) * 1_00
 plain-backward t q h k i =
     let w = place-plain_landing q in
     let r = parts_of q in
-    let at_day : (n : ℕ) (d : ℤ) → pos n +ℤ d *ℤ pos 86_400_000_000_000 ≡ q → (d <ℤ pos 0) ⊎ (d ≡ pos 0) = λ n d e. by_lt_z d (pos 0) inl (λ g. inr (omega (arith, signed_arith, i.second))) in
+    let at_day : (n : ℕ) (d : ℤ) → pos n +ℤ d *ℤ pos 86_400_000_000_000 ≡ q → (d <ℤ pos 0) ⊎ (d ≡ pos 0) = λ n d e. by_lt_z d (pos 0) inl (λ g. inr (omega (arith, signed, i.second))) in
     ⊎_elim inl
     (λ e. inr (
       e,
       by_order t.second (plain_landing q).time.second
-          (λ a. by_order (plain_landing q).time.second t.second (λ b. inr (omega arith, omega (arith, signed_arith))) (λ b. absurd (omega (arith, signed_arith))))
+          (λ a. by_order (plain_landing q).time.second t.second (λ b. inr (omega arith, omega (arith, signed))) (λ b. absurd (omega (arith, signed))))
           (λ a. inl a),
     ))
     (at_day (place (plain_landing q).time) (plain_landing q).day w)
@@ -59,23 +59,23 @@ pub land-forward : (t : TimeOfDay) (x : ℤ) → IsTime t → pos 0 <ℤ x → I
 land-forward t x i h =
     let P : Landing → Type 0 = λ l. IsEarlierLanding (landing_of t) l in
     by_leap t
-    (λ e. subst P (sym (land-plain t x e)) (plain-forward t (pos (place t) +ℤ x) (omega (arith, signed_arith)) i e))
+    (λ e. subst P (sym (land-plain t x e)) (plain-forward t (pos (place t) +ℤ x) (omega (arith, signed)) i e))
     (λ e. subst P (sym (land-leap t x e))
     (by_parts (pos (place t) +ℤ x) t.second
-    (λ a. absurd (omega (arith, signed_arith)))
+    (λ a. absurd (omega (arith, signed)))
     (λ a b. subst P (sym (leap_landing-inside t.second (pos (place t) +ℤ x) a b))
-    (inr (refl, inr (refl, omega (arith, signed_arith, one_part ((pos (place t) +ℤ x) -ℤ pos (t.second * 1_000_000_000)))))))
-    (λ a. subst P (sym (leap_landing-past t.second (pos (place t) +ℤ x) a)) (plain-next_second t ((pos (place t) +ℤ x) -ℤ pos 1_000_000_000) (omega (arith, signed_arith))))))
+    (inr (refl, inr (refl, omega (arith, signed)))))
+    (λ a. subst P (sym (leap_landing-past t.second (pos (place t) +ℤ x) a)) (plain-next_second t ((pos (place t) +ℤ x) -ℤ pos 1_000_000_000) (omega (arith, signed))))))
 
 -- a move back ends earlier
 pub land-backward : (t : TimeOfDay) (x : ℤ) → IsTime t → x <ℤ pos 0 → IsEarlierLanding (land t x) (landing_of t)
 land-backward t x i h =
     let P : Landing → Type 0 = λ l. IsEarlierLanding l (landing_of t) in
     by_leap t
-    (λ e. subst P (sym (land-plain t x e)) (plain-backward t (pos (place t) +ℤ x) (omega (arith, signed_arith)) (omega (arith, signed_arith)) i))
+    (λ e. subst P (sym (land-plain t x e)) (plain-backward t (pos (place t) +ℤ x) (omega (arith, signed)) (omega (arith, signed)) i))
     (λ e. subst P (sym (land-leap t x e))
     (by_parts (pos (place t) +ℤ x) t.second
-    (λ a. subst P (sym (leap_landing-before t.second (pos (place t) +ℤ x) a)) (plain-backward t (pos (place t) +ℤ x) a (omega (arith, signed_arith)) i))
+    (λ a. subst P (sym (leap_landing-before t.second (pos (place t) +ℤ x) a)) (plain-backward t (pos (place t) +ℤ x) a (omega (arith, signed)) i))
     (λ a b. subst P (sym (leap_landing-inside t.second (pos (place t) +ℤ x) a b))
-    (inr (refl, inr (refl, omega (arith, signed_arith, one_part ((pos (place t) +ℤ x) -ℤ pos (t.second * 1_000_000_000)))))))
-    (λ a. absurd (omega (arith, signed_arith, i.fraction)))))
+    (inr (refl, inr (refl, omega (arith, signed)))))
+    (λ a. absurd (omega (arith, signed, i.fraction)))))

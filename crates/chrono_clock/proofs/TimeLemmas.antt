@@ -3,7 +3,7 @@ use Rattle.std.proofs.Common.{◌≡◌, ℕ, ◌+◌, ◌*◌, ◌<◌, ◌≤�
 use Rattle.std.specs.Int.RustNames.{int_lt}
 use Rattle.std.proofs.lemmas.Int.{ints, by_lt_z}
 use Rattle.chrono_clock.specs.Time.{TimeOfDay, IsLeap, IsPlain, is_leap, place, plain_landing, leap_landing, land}
-use Rattle.chrono_clock.specs.SignedLemmas.{signed_arith}
+use Rattle.chrono_clock.specs.Signed.{signed}
 
 -- ---- cases
 
@@ -58,5 +58,5 @@ leap_landing-inside s p h k = rw (is_not_below p (pos ((s + 1) * 1_000_000_000))
 
 pub leap_landing-past : (s : ℕ) (p : ℤ) → pos ((s + 2) * 1_000_000_000) ≤ℤ p → leap_landing s p ≡ plain_landing (p -ℤ pos 1_000_000_000)
 leap_landing-past s p h =
-    let h' : pos ((s + 1) * 1_000_000_000) ≤ℤ p = omega (arith, signed_arith) in
+    let h' : pos ((s + 1) * 1_000_000_000) ≤ℤ p = omega (arith, signed) in
     rw (is_not_below p (pos ((s + 1) * 1_000_000_000)) h', is_not_below p (pos ((s + 2) * 1_000_000_000)) h) refl

@@ -1,4 +1,4 @@
-pub mod SignedLemmas
+pub mod Signed
 pub mod Duration
 pub mod StoredLemmas
 pub mod StoredDelta

@@ -2,6 +2,9 @@
 use Rattle.std.specs.Prelude.{◌≡◌, ℕ, ◌+◌, ◌*◌, ◌/◌, ◌%◌, ◌<◌, ◌≤◌, Bool, ◌&&◌, ◌==◌, nat_lt, nat_le, if◌then◌else◌, ℤ, pos, neg_ℤ, ◌+ℤ◌, ◌-ℤ◌, ◌<ℤ◌, ◌≤ℤ◌, ◌⊎◌, unsigned_abs, refl}
 use Rattle.std.specs.Int.{int_div_euclid, int_rem_euclid}
 use Rattle.std.specs.Int.RustNames.{int_lt}
+use Rattle.std.specs.Ordering.{nat_cmp, on, then_cmp}
+use Rattle.std.specs.declared.cmp.Ordering.{Ordering}
+use Rattle.std.specs.declared.cmp.Ordering.TheVariants.{Less, Greater}
 use Rattle.chrono_clock.specs.Duration.{nanos_per_day, nanos_per_second}
 
 -- a second of the day, and the nanoseconds past it, of which a leap second has 1_000_000_000 or more
@@ -121,12 +124,16 @@ abbrev pub SameWay : ℤ → ℤ → Type 0
 SameWay x y = ((pos 0 ≤ℤ x) × (pos 0 ≤ℤ y)) ⊎ ((x ≤ℤ pos 0) × (y ≤ℤ pos 0))
 
 -- to move by x and then by y is to move by the sum
-abbrev pub AddsUp : TimeOfDay → ℤ → ℤ → Type 0
-AddsUp start x y = land start (x +ℤ y) ≡ later (land start x).day (land (land start x).time y)
+abbrev pub TimeMovesAddUp : TimeOfDay → ℤ → ℤ → Type 0
+TimeMovesAddUp start x y = land start (x +ℤ y) ≡ later (land start x).day (land (land start x).time y)
 
 -- a comes before b on a clock
 abbrev pub IsEarlier : TimeOfDay → TimeOfDay → Type 0
 IsEarlier a b = (a.second < b.second) ⊎ ((a.second ≡ b.second) × (a.fraction < b.fraction))
+
+-- times compared: by second of the day, and then by fraction
+abbrev pub time_cmp : TimeOfDay → TimeOfDay → Ordering
+time_cmp = then_cmp (on (λ t. t.second) nat_cmp) (on (λ t. t.fraction) nat_cmp)
 
 -- a is on an earlier day, or earlier on the same day
 abbrev pub IsEarlierLanding : Landing → Landing → Type 0
@@ -164,3 +171,12 @@ distance-last_leap = refl
 distance-past_leap : distance (time_at 3 5 59 0) (time_at 3 5 57 1_000_000_000) ≡ pos 2_000_000_000
 unfolding distance
 distance-past_leap = refl
+
+-- ---- known values, of the order
+
+-- one second outweighs a longer fraction, and in one second the fraction decides
+time_cmp-later_second : time_cmp (time_at 23 59 58 1_999_999_999) (time_at 23 59 59 0) ≡ Less
+time_cmp-later_second = refl
+
+time_cmp-leap_fraction : time_cmp (time_at 23 59 59 1_000_000_000) (time_at 23 59 59 999_999_999) ≡ Greater
+time_cmp-leap_fraction = refl

@@ -2,6 +2,8 @@
 ghost use Rattle.std.specs.Prelude.{◌≡◌, ℕ, pos, ◌<◌, ◌^◌, ◌+ℤ◌, ◌≤ℤ◌, unsigned_abs};
 ghost use Rattle.chrono_clock.specs.Duration.{nanos_of, nanos_per_second};
 
+use crate::lengths::NANOS_PER_SEC;
+
 /// The same number of nanoseconds, with less than a second of them past the seconds: one second is carried if need be.
 #[inline]
 pub(crate) fn carried(secs: i64, nanos: u32) -> (i64, u32)
@@ -12,6 +14,6 @@ pub(crate) fn carried(secs: i64, nanos: u32) -> (i64, u32)
     ensures at_least { secs ≤ℤ result.0 }
     ensures at_most { result.0 ≤ℤ (secs +ℤ pos 1) }
 {
-    let carry = (nanos >= 1_000_000_000) as u32;
-    (secs + carry as i64, nanos - carry * 1_000_000_000)
+    let carry = (nanos >= NANOS_PER_SEC) as u32;
+    (secs + carry as i64, nanos - carry * NANOS_PER_SEC)
 }

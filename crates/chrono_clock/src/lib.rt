@@ -6,6 +6,8 @@
 #![tactic(auto)]
 
 mod carry;
+pub mod law;
+mod lengths;
 mod naive_time;
 pub mod text;
 mod time_delta;

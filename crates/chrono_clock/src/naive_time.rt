@@ -1,29 +1,31 @@
 //! Times of day: the type, its constructors, and how durations move times and measure between them.
 //!
-//! The operators stand in `ops`, and the texts in `text`.
+//! The operators stand in `ops`, the order in `order`, and the texts in `text`.
 ghost use Rattle.std.specs.Prelude.{◌≡◌, ℕ, ℤ, pos, ◌<◌, ◌≤◌, ◌^◌, ◌+◌, ◌*◌, ◌%◌, ◌<ℤ◌, ◌⊎◌, ◌+ℤ◌, ◌*ℤ◌, neg_ℤ, unsigned_abs};
 ghost use Rattle.std.specs.Option.{SomeIff};
 ghost use Rattle.chrono_clock.specs.Duration.{nanos_of, nanos_per_second};
-ghost use Rattle.chrono_clock.specs.Time.{IsTime, IsClock, FractionFits, TimeOfDay, SameWay, AddsUp, IsEarlier, IsEarlierLanding, IsLeap, IsPlain, landing_of, is_leap, place, place_beside, plain_landing, leap_landing, land, distance, time_at};
+ghost use Rattle.chrono_clock.specs.Time.{IsTime, IsClock, FractionFits, TimeOfDay, SameWay, TimeMovesAddUp, IsEarlier, IsEarlierLanding, IsLeap, IsPlain, landing_of, is_leap, place, place_beside, plain_landing, leap_landing, land, distance, time_at};
 
 use crate::TimeDelta;
 use crate::carry::carried;
+use crate::lengths::{
+    NANOS_PER_MICRO, NANOS_PER_MILLI, NANOS_PER_SEC, SECS_PER_DAY, SECS_PER_HOUR, SECS_PER_MINUTE,
+};
 use std::marker::Model;
 
 mod ops;
-#[cfg(test)]
-mod tests;
+mod order;
 mod text;
 
-// A whole number of days, in seconds, longer than any duration: with it added no second is negative.
-const SHIFT: i64 = 21_600_000_000_000_000;
+// More days than two durations have: with them added no second is negative.
+const SHIFT_DAYS: i64 = 500_000_000_000;
 
 /// A time of day, to the nanosecond, with leap seconds.
 ///
 /// A time is a second of the day, from 0 to 86,399, and a fraction of it in nanoseconds. A fraction of 1,000,000,000 or
 /// more, up to 1,999,999,999, lies in the leap second that follows that second; leap seconds are not looked up, so any
 /// minute may have one. Times are ordered, equal and hashed by second and then fraction, and the default is midnight.
-#[derive(Clone, Copy, PartialEq, Eq, PartialOrd, Ord, Hash)]
+#[derive(Clone, Copy, PartialEq, Eq, Hash)]
 pub struct NaiveTime {
     // The second of the day.
     secs: u32,
@@ -62,13 +64,7 @@ impl NaiveTime {
     pub fn from_hms_opt(hour: u32, minute: u32, second: u32) -> Option<NaiveTime>
         ensures { SomeIff result (IsClock hour minute second) (time_at hour minute second 0) }
     {
-        if hour >= 24 || minute >= 60 || second >= 60 {
-            return None;
-        }
-        Some(NaiveTime {
-            secs: hour * 3_600 + minute * 60 + second,
-            frac: 0,
-        })
+        NaiveTime::from_hms_nano_opt(hour, minute, second, 0)
     }
 
     /// The time of this hour, minute and second, and so many milliseconds past it.
@@ -80,7 +76,7 @@ impl NaiveTime {
         ensures { SomeIff result (IsClock hour minute second × FractionFits second (milli * 1_000_000))
             (time_at hour minute second (milli * 1_000_000)) }
     {
-        NaiveTime::from_hms_nano_opt(hour, minute, second, milli.checked_mul(1_000_000)?)
+        NaiveTime::from_hms_nano_opt(hour, minute, second, milli.checked_mul(NANOS_PER_MILLI)?)
     }
 
     /// The time of this hour, minute and second, and so many microseconds past it.
@@ -92,7 +88,7 @@ impl NaiveTime {
         ensures { SomeIff result (IsClock hour minute second × FractionFits second (micro * 1_000))
             (time_at hour minute second (micro * 1_000)) }
     {
-        NaiveTime::from_hms_nano_opt(hour, minute, second, micro.checked_mul(1_000)?)
+        NaiveTime::from_hms_nano_opt(hour, minute, second, micro.checked_mul(NANOS_PER_MICRO)?)
     }
 
     /// The time of this hour, minute and second, and so many nanoseconds past it.
@@ -104,16 +100,11 @@ impl NaiveTime {
         ensures { SomeIff result (IsClock hour minute second × FractionFits second nano)
             (time_at hour minute second nano) }
     {
-        if hour >= 24 || minute >= 60 || second >= 60 || nano >= 2_000_000_000 {
+        if hour >= 24 || minute >= 60 || second >= 60 {
             return None;
         }
-        if nano >= 1_000_000_000 && second != 59 {
-            return None;
-        }
-        Some(NaiveTime {
-            secs: hour * 3_600 + minute * 60 + second,
-            frac: nano,
-        })
+        let secs = hour * SECS_PER_HOUR + minute * SECS_PER_MINUTE + second;
+        NaiveTime::from_num_seconds_from_midnight_opt(secs, nano)
     }
 
     /// The time so many seconds after midnight, and so many nanoseconds past those.
@@ -125,10 +116,10 @@ impl NaiveTime {
         ensures { SomeIff result ((secs < 86_400) × FractionFits (secs % 60) nano)
             (record { second = secs; fraction = nano }) }
     {
-        if secs >= 86_400 || nano >= 2_000_000_000 {
+        if secs >= SECS_PER_DAY || nano >= 2 * NANOS_PER_SEC {
             return None;
         }
-        if nano >= 1_000_000_000 && secs % 60 != 59 {
+        if nano >= NANOS_PER_SEC && secs % SECS_PER_MINUTE != 59 {
             return None;
         }
         Some(NaiveTime { secs, frac: nano })
@@ -147,9 +138,21 @@ impl NaiveTime {
         ensures end { IsTime result.0 }
 
         // A second move ends where the one move by the sum ends.
-        ensures adds_up { (y : ℤ) → IsPlain self.now ⊎ SameWay rhs y → AddsUp self.now rhs y }
+        ensures adds_up { (y : ℤ) → IsPlain self.now ⊎ SameWay rhs y → TimeMovesAddUp self.now rhs y }
         ensures forward { pos 0 <ℤ rhs → IsEarlierLanding (landing_of self.now) (land self.now rhs) }
         ensures backward { rhs <ℤ pos 0 → IsEarlierLanding (land self.now rhs) (landing_of self.now) }
+    {
+        let (time, days) = self.landing(rhs);
+        (time, days * SECS_PER_DAY as i64)
+    }
+
+    // The time that a duration leads to, and the whole days that it passes, negative for days back.
+    #[inline]
+    pub(crate) fn landing(&self, rhs: TimeDelta) -> (NaiveTime, i64)
+        ensures time { result.0 ≡ (land self.now rhs).time }
+        ensures days { result.1 ≡ (land self.now rhs).day }
+        ensures start { IsTime self.now }
+        ensures near { unsigned_abs result.1 < 2 ^ 40 }
     {
         if self.is_leap() {
             self.moved_from_leap(rhs)
@@ -241,7 +244,7 @@ impl NaiveTime {
         ensures leap { result ≡ is_leap self.now }
         ensures time { IsTime self.now }
     {
-        self.frac >= 1_000_000_000
+        self.frac >= NANOS_PER_SEC
     }
 
     // The place of this time, past the other's leap second if that comes first.
@@ -251,9 +254,9 @@ impl NaiveTime {
         ensures bound { result < 2 ^ 47 }
         ensures time { IsTime self.now }
     {
-        let place = self.secs as u64 * 1_000_000_000 + self.frac as u64;
-        if other.frac >= 1_000_000_000 && other.secs < self.secs {
-            place + 1_000_000_000
+        let place = self.secs as u64 * NANOS_PER_SEC as u64 + self.frac as u64;
+        if other.frac >= NANOS_PER_SEC && other.secs < self.secs {
+            place + NANOS_PER_SEC as u64
         } else {
             place
         }
@@ -264,7 +267,8 @@ impl NaiveTime {
     fn moved_plainly(&self, rhs: TimeDelta) -> (NaiveTime, i64)
         requires { IsPlain self.now }
         ensures time { result.0 ≡ (plain_landing (pos (place self.now) +ℤ rhs)).time }
-        ensures seconds { result.1 ≡ (plain_landing (pos (place self.now) +ℤ rhs)).day *ℤ pos 86_400 }
+        ensures days { result.1 ≡ (plain_landing (pos (place self.now) +ℤ rhs)).day }
+        ensures near { unsigned_abs result.1 < 2 ^ 40 }
     {
         let (secs, nanos) = carried(
             self.secs as i64 + rhs.stored_secs(),
@@ -278,11 +282,12 @@ impl NaiveTime {
     fn moved_from_leap(&self, rhs: TimeDelta) -> (NaiveTime, i64)
         requires { IsLeap self.now }
         ensures time { result.0 ≡ (leap_landing self.now.second (pos (place self.now) +ℤ rhs)).time }
-        ensures seconds { result.1 ≡ (leap_landing self.now.second (pos (place self.now) +ℤ rhs)).day *ℤ pos 86_400 }
+        ensures days { result.1 ≡ (leap_landing self.now.second (pos (place self.now) +ℤ rhs)).day }
+        ensures near { unsigned_abs result.1 < 2 ^ 40 }
     {
         let (secs, nanos) = carried(
             self.secs as i64 + 1 + rhs.stored_secs(),
-            self.frac - 1_000_000_000 + rhs.stored_nanos(),
+            self.frac - NANOS_PER_SEC + rhs.stored_nanos(),
         );
         landed_on_leap_line(self.secs, secs, nanos)
     }
@@ -291,29 +296,30 @@ impl NaiveTime {
 // The landing of a point on the plain line, given in seconds and nanoseconds.
 #[inline]
 fn landed(secs: i64, nanos: u32) -> (NaiveTime, i64)
-    requires near { unsigned_abs secs < 2 ^ 54 }
+    requires near { unsigned_abs secs < 2 ^ 55 }
     requires past_second { nanos < nanos_per_second }
     ensures time { result.0 ≡ (plain_landing (nanos_of secs nanos)).time }
-    ensures seconds { result.1 ≡ (plain_landing (nanos_of secs nanos)).day *ℤ pos 86_400 }
+    ensures days { result.1 ≡ (plain_landing (nanos_of secs nanos)).day }
+    ensures near { unsigned_abs result.1 < 2 ^ 40 }
 {
-    let second = ((secs + SHIFT) as u64 % 86_400) as u32;
-    (
-        NaiveTime {
-            secs: second,
-            frac: nanos,
-        },
-        secs - second as i64,
-    )
+    let day = SECS_PER_DAY as u64;
+    let shifted = (secs + SHIFT_DAYS * SECS_PER_DAY as i64) as u64;
+    let time = NaiveTime {
+        secs: (shifted % day) as u32,
+        frac: nanos,
+    };
+    (time, (shifted / day) as i64 - SHIFT_DAYS)
 }
 
 // The landing of a point on the line that holds a leap second after `start`.
 #[inline]
 fn landed_on_leap_line(start: u32, secs: i64, nanos: u32) -> (NaiveTime, i64)
     requires in_day { start < 86_400 }
-    requires near { unsigned_abs secs + 1 < 2 ^ 54 }
+    requires near { unsigned_abs secs + 1 < 2 ^ 55 }
     requires past_second { nanos < nanos_per_second }
     ensures time { result.0 ≡ (leap_landing start (nanos_of secs nanos)).time }
-    ensures seconds { result.1 ≡ (leap_landing start (nanos_of secs nanos)).day *ℤ pos 86_400 }
+    ensures days { result.1 ≡ (leap_landing start (nanos_of secs nanos)).day }
+    ensures near { unsigned_abs result.1 < 2 ^ 40 }
 {
     if secs <= start as i64 {
         return landed(secs, nanos);
@@ -323,7 +329,7 @@ fn landed_on_leap_line(start: u32, secs: i64, nanos: u32) -> (NaiveTime, i64)
     }
     let time = NaiveTime {
         secs: start,
-        frac: nanos + 1_000_000_000,
+        frac: nanos + NANOS_PER_SEC,
     };
     (time, 0)
 }

@@ -6,6 +6,7 @@ ghost use Rattle.std.specs.Fmt.{WritesOnOk};
 ghost use Rattle.chrono_clock.specs.Duration.{nanos_per_second};
 ghost use Rattle.chrono_clock.specs.Text.{two_digits, all_digits, year_digits, year_text, calendar_text, week_text, subsecond_text, clock_text};
 
+use crate::lengths::{NANOS_PER_MICRO, NANOS_PER_MILLI, NANOS_PER_SEC};
 use std::fmt;
 
 /// Writes a year (ISO 8601): four digits from 0 to 9999, and else a sign and at least four digits.
@@ -17,7 +18,7 @@ pub fn write_year<W: fmt::Write>(f: &mut fmt::Formatter<W>, year: i32) -> fmt::R
         return write_year_digits(f, year.unsigned_abs());
     }
     if year < 10_000 {
-        return write_digits(f, 4, year as u32);
+        return write_all_digits(f, 4, year as u32);
     }
     f.write_str("+")?;
     write_year_digits(f, year as u32)
@@ -74,9 +75,9 @@ pub fn write_clock<W: fmt::Write>(
     f.write_str(":")?;
     write_two_digits(f, minute)?;
     f.write_str(":")?;
-    if fraction >= 1_000_000_000 {
+    if fraction >= NANOS_PER_SEC {
         write_two_digits(f, second + 1)?;
-        return write_subsecond(f, fraction - 1_000_000_000);
+        return write_subsecond(f, fraction - NANOS_PER_SEC);
     }
     write_two_digits(f, second)?;
     write_subsecond(f, fraction)
@@ -96,7 +97,7 @@ fn write_year_digits<W: fmt::Write>(f: &mut fmt::Formatter<W>, size: u32) -> fmt
     ensures { WritesOnOk W.write_str_gives f.old result (year_digits size) f.new }
 {
     if size < 10_000 {
-        return write_digits(f, 4, size);
+        return write_all_digits(f, 4, size);
     }
     write!(f, "{size}")
 }
@@ -110,17 +111,17 @@ fn write_subsecond<W: fmt::Write>(f: &mut fmt::Formatter<W>, nanos: u32) -> fmt:
         return Ok(());
     }
     f.write_str(".")?;
-    if nanos % 1_000_000 == 0 {
-        return write_digits(f, 3, nanos / 1_000_000);
+    if nanos % NANOS_PER_MILLI == 0 {
+        return write_all_digits(f, 3, nanos / NANOS_PER_MILLI);
     }
-    if nanos % 1_000 == 0 {
-        return write_digits(f, 6, nanos / 1_000);
+    if nanos % NANOS_PER_MICRO == 0 {
+        return write_all_digits(f, 6, nanos / NANOS_PER_MICRO);
     }
-    write_digits(f, 9, nanos)
+    write_all_digits(f, 9, nanos)
 }
 
 // All the digits of a number of so many places.
-fn write_digits<W: fmt::Write>(f: &mut fmt::Formatter<W>, places: u32, n: u32) -> fmt::Result
+fn write_all_digits<W: fmt::Write>(f: &mut fmt::Formatter<W>, places: u32, n: u32) -> fmt::Result
     requires few { places ≤ 9 }
     requires within { n < 10 ^ places }
     ensures { WritesOnOk W.write_str_gives f.old result (all_digits places n) f.new }
@@ -130,7 +131,7 @@ fn write_digits<W: fmt::Write>(f: &mut fmt::Formatter<W>, places: u32, n: u32) -
     }
     let (digit, rest) = first_digit(places, n);
     f.write_char((b'0' + digit) as char)?;
-    write_digits(f, places - 1, rest)
+    write_all_digits(f, places - 1, rest)
 }
 
 // The first digit of a number of so many places, and the number that is left.

@@ -2,17 +2,16 @@
 //!
 //! Durations are made of units and read in units in `units`, added, multiplied and divided in `ops`, compared in
 //! `order`, summed in `sum` and written in `text`.
-ghost use Rattle.std.specs.Prelude.{◌≡◌, ℕ, ℤ, pos, ◌<◌, ◌≤◌, neg_ℤ, unsigned_abs, IsTrue, ◌↔◌};
+ghost use Rattle.std.specs.Prelude.{◌≡◌, ℕ, ℤ, pos, ◌<◌, ◌^◌, neg_ℤ, unsigned_abs, IsTrue, ◌↔◌};
 ghost use Rattle.std.specs.Option.{SomeIff};
 ghost use Rattle.chrono_clock.specs.Duration.{IsDuration, longest, nanos_per_second, nanos_of, floor_secs, past_floor};
 
+use crate::lengths::NANOS_PER_SEC;
 use std::marker::Model;
 
 mod ops;
 mod order;
 mod sum;
-#[cfg(test)]
-mod tests;
 mod text;
 mod units;
 
@@ -51,17 +50,27 @@ impl Model for TimeDelta {
     ghost inverse_ok = { λ a h. stored-nanos_of a h.0 };
 }
 
+// The parts of the least duration, of -`i64::MAX` milliseconds.
+const MIN_SECS: i64 = -9_223_372_036_854_776;
+
+const MIN_NANOS: u32 = 193_000_000;
+
+// The parts of the greatest duration, of `i64::MAX` milliseconds.
+const MAX_SECS: i64 = 9_223_372_036_854_775;
+
+const MAX_NANOS: u32 = 807_000_000;
+
 impl TimeDelta {
     /// The least duration, of -`i64::MAX` milliseconds.
     pub const MIN: TimeDelta = TimeDelta {
-        secs: -9_223_372_036_854_776,
-        nanos: 193_000_000,
+        secs: MIN_SECS,
+        nanos: MIN_NANOS,
     };
 
     /// The greatest duration, of `i64::MAX` milliseconds.
     pub const MAX: TimeDelta = TimeDelta {
-        secs: 9_223_372_036_854_775,
-        nanos: 807_000_000,
+        secs: MAX_SECS,
+        nanos: MAX_NANOS,
     };
 
     /// The duration of `secs` seconds and `nanos` nanoseconds more.
@@ -73,7 +82,7 @@ impl TimeDelta {
         ensures { SomeIff result ((nanos < nanos_per_second) × IsDuration (nanos_of secs nanos))
             (nanos_of secs nanos) }
     {
-        if nanos >= 1_000_000_000 {
+        if nanos >= NANOS_PER_SEC {
             return None;
         }
         TimeDelta::from_stored(secs, nanos)
@@ -128,7 +137,7 @@ impl TimeDelta {
     #[inline]
     pub(crate) fn stored_secs(&self) -> i64
         ensures value { result ≡ floor_secs self.now }
-        ensures bound { unsigned_abs result ≤ 9_223_372_036_854_776 }
+        ensures bound { unsigned_abs result < 2 ^ 54 }
     {
         self.secs
     }
@@ -148,7 +157,7 @@ impl TimeDelta {
         ensures value { result ≡ self.now }
         ensures bound { IsDuration self.now }
     {
-        self.secs as i128 * 1_000_000_000 + self.nanos as i128
+        self.secs as i128 * NANOS_PER_SEC as i128 + self.nanos as i128
     }
 }
 
@@ -168,11 +177,11 @@ fn is_in_range(secs: i64, nanos: u32) -> bool
     requires { nanos < nanos_per_second }
     ensures { IsTrue result ↔ IsDuration (nanos_of secs nanos) }
 {
-    if secs == -9_223_372_036_854_776 {
-        return nanos >= 193_000_000;
+    if secs == MIN_SECS {
+        return nanos >= MIN_NANOS;
     }
-    if secs == 9_223_372_036_854_775 {
-        return nanos <= 807_000_000;
+    if secs == MAX_SECS {
+        return nanos <= MAX_NANOS;
     }
-    -9_223_372_036_854_776 < secs && secs < 9_223_372_036_854_775
+    MIN_SECS < secs && secs < MAX_SECS
 }

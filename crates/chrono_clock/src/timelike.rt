@@ -3,6 +3,7 @@ ghost use Rattle.std.specs.Prelude.{◌≡◌, ℕ, ℤ, List, [], ◌<◌, ◌�
 ghost use Rattle.chrono_clock.specs.Time.{TimeOfDay, hour_of, minute_of, second_of, hour12_of, time_with_hour, time_with_minute, time_with_second, time_with_fraction};
 
 use crate::NaiveTime;
+use crate::lengths::{NANOS_PER_SEC, SECS_PER_HOUR, SECS_PER_MINUTE};
 
 /// What has a time of day, and perhaps a rest beside it, as a date.
 ///
@@ -73,7 +74,7 @@ pub trait Timelike: Sized {
         ensures value { result ≡ (time self.now).second }
         ensures bound { result < 86_400 }
     {
-        self.hour() * 3_600 + self.minute() * 60 + self.second()
+        self.hour() * SECS_PER_HOUR + self.minute() * SECS_PER_MINUTE + self.second()
     }
 }
 
@@ -84,17 +85,17 @@ impl Timelike for NaiveTime {
 
     #[inline]
     fn hour(&self) -> u32 {
-        self.second_of_day() / 3_600
+        self.second_of_day() / SECS_PER_HOUR
     }
 
     #[inline]
     fn minute(&self) -> u32 {
-        self.second_of_day() / 60 % 60
+        self.second_of_day() / SECS_PER_MINUTE % 60
     }
 
     #[inline]
     fn second(&self) -> u32 {
-        self.second_of_day() % 60
+        self.second_of_day() % SECS_PER_MINUTE
     }
 
     #[inline]
@@ -107,7 +108,7 @@ impl Timelike for NaiveTime {
         if hour >= 24 {
             return None;
         }
-        Some(self.at_second_of_day(hour * 3_600 + self.second_of_day() % 3_600))
+        Some(self.at_second_of_day(hour * SECS_PER_HOUR + self.second_of_day() % SECS_PER_HOUR))
     }
 
     #[inline]
@@ -116,7 +117,8 @@ impl Timelike for NaiveTime {
             return None;
         }
         let second = self.second_of_day();
-        Some(self.at_second_of_day(second / 3_600 * 3_600 + minute * 60 + second % 60))
+        let hours = second / SECS_PER_HOUR * SECS_PER_HOUR;
+        Some(self.at_second_of_day(hours + minute * SECS_PER_MINUTE + second % SECS_PER_MINUTE))
     }
 
     #[inline]
@@ -124,12 +126,13 @@ impl Timelike for NaiveTime {
         if second >= 60 {
             return None;
         }
-        Some(self.at_second_of_day(self.second_of_day() / 60 * 60 + second))
+        let minutes = self.second_of_day() / SECS_PER_MINUTE * SECS_PER_MINUTE;
+        Some(self.at_second_of_day(minutes + second))
     }
 
     #[inline]
     fn with_nanosecond(&self, nano: u32) -> Option<NaiveTime> {
-        if nano >= 2_000_000_000 {
+        if nano >= 2 * NANOS_PER_SEC {
             return None;
         }
         Some(self.at_fraction(nano))

@@ -1,10 +1,10 @@
 -- The lists of dates: their lengths, and what one step takes from them.
-use Rattle.std.proofs.Common.{◌≡◌, ℕ, zero, suc, ◌+◌, ◌*◌, ◌/◌, ◌<◌, ◌≤◌, List, [], ◌∷◌, length, refl, ap, arith, Some, None, ℤ, pos, ◌+ℤ◌}
-use Rattle.chrono_calendar.proofs.Signed.{signed}
+use Rattle.std.proofs.Common.{◌≡◌, ℕ, zero, suc, ◌+◌, ◌*◌, ◌/◌, ◌<◌, ◌≤◌, List, [], ◌∷◌, length, refl, ap, arith, Option, Some, None, ℤ, pos, ◌+ℤ◌}
 use Rattle.std.specs.Bool.{⊤}
-use Rattle.std.specs.Iterator.{MakesProgress, item_count}
-use Rattle.chrono_calendar.specs.Days.{IsDate, date_of_day}
-use Rattle.chrono_naive.proofs.DayMoves.{some-date_of_day, none-date_of_day}
+use Rattle.std.specs.Option.{SomeIff, OnSome, IfNone}
+use Rattle.std.specs.Iterator.{MakesProgress, YieldsFirst, item_count}
+use Rattle.chrono_calendar.specs.Days.{IsDate}
+use Rattle.chrono_calendar.proofs.Signed.{signed}
 use Rattle.chrono_naive.specs.DateLists.{in_steps, days_left, days_from, weeks_from, days_of_week}
 
 pub length-in_steps : (d n : ℕ) (first : ℤ) → length (in_steps d n first) ≡ n
@@ -32,27 +32,26 @@ none_left n d (suc k) low h past fits =
     mul_le_left : (k d : ℕ) → d ≤ suc k * d
     mul_le_left k d = grind arith
 
-pub days_from-end : (n : ℤ) → IsDate n → None ≡ date_of_day (n +ℤ pos 1) → days_from n ≡ []
-days_from-end n h none = in_steps-none 1 (days_left n) n (none_left n 1 (days_left n) (omega arith) h (none-date_of_day (n +ℤ pos 1) none) (omega arith))
+-- what a step of a cursor gives is the first of its list, and the rest is the list from where it then stands
+pub days_from-yields : (n next : ℤ) (o : Option ℤ) → IsDate n → SomeIff o (IsDate (n +ℤ pos 1)) n → OnSome o (next ≡ n +ℤ pos 1) → IfNone o (next ≡ n) → YieldsFirst days_from n o next
+days_from-yields n next None h past moved stays =
+    let none = in_steps-none 1 (days_left n) n (none_left n 1 (days_left n) (omega arith) h past (omega arith)) in
+    (none, rw stays none)
+days_from-yields n next (Some x) h found moved stays =
+    rw found.1 (in_steps-some 1 (days_left n) (days_left next) n next (omega (arith, signed, found.0.1, moved)) moved)
 
-pub weeks_from-end : (n : ℤ) → IsDate n → None ≡ date_of_day (n +ℤ pos 7) → weeks_from n ≡ []
-weeks_from-end n h none = in_steps-none 7 (days_left n / 7) n (none_left n 7 (days_left n / 7) (omega arith) h (none-date_of_day (n +ℤ pos 7) none) (omega arith))
-
--- and where one is, the list goes on from it
-pub days_from-step : (n next : ℤ) → Some next ≡ date_of_day (n +ℤ pos 1) → days_from n ≡ n ∷ days_from next
-days_from-step n next some =
-    let found = some-date_of_day (n +ℤ pos 1) next some in
-    in_steps-some 1 (days_left n) (days_left next) n next (omega (arith, signed, found.0.1, found.1)) found.1
-
-pub weeks_from-step : (n next : ℤ) → Some next ≡ date_of_day (n +ℤ pos 7) → weeks_from n ≡ n ∷ weeks_from next
-weeks_from-step n next some =
-    let found = some-date_of_day (n +ℤ pos 7) next some in
-    in_steps-some 7 (days_left n / 7) (days_left next / 7) n next (omega (arith, signed, found.0.1, found.1)) found.1
+pub weeks_from-yields : (n next : ℤ) (o : Option ℤ) → IsDate n → SomeIff o (IsDate (n +ℤ pos 7)) n → OnSome o (next ≡ n +ℤ pos 7) → IfNone o (next ≡ n) → YieldsFirst weeks_from n o next
+weeks_from-yields n next None h past moved stays =
+    let none = in_steps-none 7 (days_left n / 7) n (none_left n 7 (days_left n / 7) (omega arith) h past (omega arith)) in
+    (none, rw stays none)
+weeks_from-yields n next (Some x) h found moved stays =
+    rw found.1 (in_steps-some 7 (days_left n / 7) (days_left next / 7) n next (omega (arith, signed, found.0.1, moved)) moved)
 
 -- a step takes one from what is left
-pub MakesProgress-first : (rest : ℤ → List ℤ) (s t x : ℤ) → rest s ≡ x ∷ rest t → MakesProgress (λ _. ⊤) (item_count rest) s (Some x) t
-MakesProgress-first rest s t x e =
-    let fewer : length (rest t) < length (rest s) = omega (arith, ap length e) in
+pub YieldsFirst-goes : (rest : ℤ → List ℤ) (s : ℤ) (o : Option ℤ) (t : ℤ) → YieldsFirst rest s o t → MakesProgress (λ _. ⊤) (item_count rest) s o t
+YieldsFirst-goes rest s None t h = record { on = λ _. tt; keeps = tt; rests = λ _. tt }
+YieldsFirst-goes rest s (Some x) t h =
+    let fewer : length (rest t) < length (rest s) = omega (arith, ap length h) in
     record { on = λ _. (tt, tt, fewer); keeps = tt; rests = λ _. tt }
 
 first_of : List ℤ → ℤ

@@ -1,6 +1,12 @@
 -- What is read of a date besides its names.
 use Rattle.std.specs.Prelude.{ℕ, ◌+◌, ◌-◌, ◌/◌, Bool, if◌then◌else◌, int_le, ℤ, pos, neg_ℤ, ◌-ℤ◌, ◌≤ℤ◌, unsigned_abs}
+use Rattle.std.specs.Ordering.{int_cmp, nat_cmp, on, then_cmp}
+use Rattle.std.specs.declared.cmp.Ordering.{Ordering}
 use Rattle.chrono_calendar.specs.Weeks.{iso_year_of, iso_week_of}
+
+-- the number of 1 January 1970, a Thursday
+abbrev pub unix_epoch_day : ℤ
+unix_epoch_day = pos 719_163
 
 -- the year y lies in the common era, which begins with year 1
 abbrev pub is_common_era : ℤ → Bool
@@ -26,3 +32,7 @@ pub record IsoYearAndWeek : Type 0 where
 -- those of the day n
 abbrev pub iso_year_and_week_of : ℤ → IsoYearAndWeek
 iso_year_and_week_of n = record { year = iso_year_of n; week = iso_week_of n }
+
+-- ISO weeks compared: by ISO year, and then by the week
+abbrev pub iso_week_cmp : IsoYearAndWeek → IsoYearAndWeek → Ordering
+iso_week_cmp = then_cmp (on (λ w. w.year) int_cmp) (on (λ w. w.week) nat_cmp)

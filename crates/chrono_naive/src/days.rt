@@ -1,6 +1,6 @@
 //! Spans of whole days.
 
-ghost use Rattle.std.specs.Prelude.{◌≡◌};
+ghost use Rattle.std.specs.Prelude.{◌≡◌, pos, min};
 
 use std::marker::Model;
 
@@ -31,11 +31,11 @@ impl Days {
         Days { count }
     }
 
-    // The number of days.
+    // The number of days, or of those that a signed number counts if they are more: past them no two dates are apart.
     #[inline]
-    pub(crate) fn count(self) -> u64
-        ensures { result ≡ self }
+    pub(crate) fn clipped(self) -> i64
+        ensures { result ≡ pos (min self 9_223_372_036_854_775_807) }
     {
-        self.count
+        i64::try_from(self.count).unwrap_or(i64::MAX)
     }
 }

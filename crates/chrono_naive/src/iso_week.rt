@@ -3,6 +3,7 @@ ghost use Rattle.std.specs.Prelude.{◌≡◌, ◌+◌, ◌<◌};
 ghost use Rattle.std.specs.Int.{IsInRange};
 ghost use Rattle.chrono_naive.specs.Fields.{IsIsoYear};
 
+mod order;
 mod text;
 
 use std::marker::Model;
@@ -10,7 +11,7 @@ use std::marker::Model;
 /// A week of an ISO year (ISO 8601 week date): weeks begin on Monday, and the first of a year holds its first Thursday.
 ///
 /// Contracts see the ISO year and the week. Weeks are ordered by the year, then by the week.
-#[derive(Clone, Copy, PartialEq, Eq, PartialOrd, Ord, Hash)]
+#[derive(Clone, Copy, PartialEq, Eq, Hash)]
 pub struct IsoWeek {
     year: i32,
     week: u32,

@@ -1,7 +1,16 @@
-//! Laws of the texts of dates, each as the contract of a function that does nothing.
+//! The ends of the dates, and laws of their names, weeks, month moves and texts, each as the contract of a function.
 ghost use Rattle.std.specs.Prelude.{◌≡◌, ◌≤◌, ◌≤ℤ◌, ℤ, pos, neg_ℤ, length, codes};
 ghost use Rattle.chrono_calendar.specs.Days.{IsDate, year_of};
 ghost use Rattle.chrono_naive.specs.DateText.{date_text};
+
+use crate::naive_date::{MAX_DATE, MIN_DATE, NaiveDate};
+pub use chrono_calendar::law::{
+    calendar_names_are_in_order, dates_are_days_of_years, dates_have_one_calendar_name,
+    dates_have_one_iso_name, dates_have_one_number, dates_have_one_ordinal_name,
+    iso_names_are_in_order, known_days, known_moves, known_weeks, later_multiples_are_later,
+    month_moves_add_up, month_moves_come_back, month_moves_keep_order, month_moves_reach_dates,
+    ordinal_names_are_in_order, weeks_have_one_first_day,
+};
 
 /// The text of a date in the years 0 to 9999 has ten bytes.
 pub fn four_digit_years_have_ten_bytes()
@@ -17,6 +26,24 @@ pub fn dates_have_at_most_thirteen_bytes()
 pub fn dates_have_texts_of_their_own()
     ensures { (n m : ℤ) → IsDate n → IsDate m → date_text n ≡ date_text m → n ≡ m }
 {}
+
+/// The first date, as [`NaiveDate::MIN`] and as [`MIN_DATE`]: its day number is -95,746,129.
+#[tactic(auto, using(crate::proofs::Ends::ends))]
+pub fn first_date() -> (NaiveDate, NaiveDate)
+    ensures of_type { result.0 ≡ neg_ℤ (pos 95_746_129) }
+    ensures of_crate { result.1 ≡ neg_ℤ (pos 95_746_129) }
+{
+    (NaiveDate::MIN, MIN_DATE)
+}
+
+/// The last date, as [`NaiveDate::MAX`] and as [`MAX_DATE`]: its day number is 95,745,399.
+#[tactic(auto, using(crate::proofs::Ends::ends))]
+pub fn last_date() -> (NaiveDate, NaiveDate)
+    ensures of_type { result.0 ≡ pos 95_745_399 }
+    ensures of_crate { result.1 ≡ pos 95_745_399 }
+{
+    (NaiveDate::MAX, MAX_DATE)
+}
 
 /// Texts that are known: a date of four digits, the first day of year 0 and the day before, and both ends.
 pub fn known_date_texts()

@@ -1,13 +1,13 @@
 //! `NaiveDate`: a date with no time zone.
 //!
-//! This file has the type, its ends, and how a date is named, numbered and moved by days. Its
-//! fields stand in `fields`, its order in `order`, its further moves, differences, weeks and
-//! iterators in `moves`, its operators in `ops`, and its printed text in `text`.
-ghost use Rattle.std.specs.Prelude.{◌≡◌, ◌+◌, ◌≤◌, pos, ◌+ℤ◌, ◌-ℤ◌, IfSome};
+//! This file has the type, its ends, and how a date is named and numbered. Its fields stand in `fields`, its
+//! order in `order`, its moves, differences, weeks and iterators in `moves`, its operators in `ops`, and its
+//! printed text in `text`.
+ghost use Rattle.std.specs.Prelude.{◌≡◌, ◌+◌, ◌≤◌, ◌+ℤ◌, ◌-ℤ◌};
 ghost use Rattle.chrono_units.specs.Years.{is_leap_year};
 ghost use Rattle.chrono_calendar.specs.Days.{IsDate, date_of_day, date_of_yo, date_of_ymd, year_of};
 ghost use Rattle.chrono_calendar.specs.Weeks.{date_of_iso, date_of_nth_weekday};
-ghost use Rattle.chrono_naive.specs.DateLists.{days_left};
+ghost use Rattle.chrono_naive.specs.Fields.{unix_epoch_day};
 
 mod fields;
 mod moves;
@@ -15,7 +15,6 @@ mod ops;
 mod order;
 mod text;
 
-use crate::days::Days;
 use chrono_calendar::{DayForm, Steps, forms};
 use chrono_units::Weekday;
 use std::marker::Model;
@@ -25,6 +24,9 @@ type Form = chrono_stored::PackedForm;
 
 // The day number of 1 January 1970.
 const UNIX_EPOCH_DAY: i32 = 719_163;
+
+// The day number of the last date.
+const LAST_DAY: i32 = 95_745_399;
 
 /// The first date, [`NaiveDate::MIN`].
 pub const MIN_DATE: NaiveDate = NaiveDate::MIN;
@@ -85,9 +87,10 @@ impl NaiveDate {
         })
     }
 
-    /// The date with an ISO year, a week and a weekday (ISO 8601 week date), or `None` if there is none.
+    /// The date with an ISO year, a week and a weekday (ISO 8601 week date), or `None` if there is none: the week is 0
+    /// or past the year's last, which is 52 or 53, or the day is before [`MIN`](Self::MIN) or past [`MAX`](Self::MAX).
     ///
-    /// So week 53 names a date only in a year that has 53 weeks, and week 0 and any week past 53 name none.
+    /// So the ISO year is from -262,143 to 262,143, and of the last of these one day is a date, the Monday of week 1.
     /// `from_isoywd_opt(2020, 53, Weekday::Sun)` is 3 January 2021.
     #[inline]
     pub fn from_isoywd_opt(year: i32, week: u32, weekday: Weekday) -> Option<NaiveDate>
@@ -139,10 +142,11 @@ impl NaiveDate {
         })
     }
 
-    /// The date so many days after 1 January 1970, or before it if the number is negative; `None` exactly out of range.
+    /// The date so many days after 1 January 1970, or before it if the number is negative; `None` exactly if the number
+    /// is not from -96,465,292 to 95,026,236.
     #[inline]
     pub fn from_epoch_days(days: i32) -> Option<NaiveDate>
-        ensures { result ≡ date_of_day (days +ℤ pos 719_163) }
+        ensures { result ≡ date_of_day (days +ℤ unix_epoch_day) }
     {
         NaiveDate::from_num_days_from_ce_opt(days.checked_add(UNIX_EPOCH_DAY)?)
     }
@@ -150,7 +154,7 @@ impl NaiveDate {
     /// The days from 1 January 1970 to this date, negative for a date before it.
     #[inline]
     pub fn to_epoch_days(&self) -> i32
-        ensures { result ≡ self.now -ℤ pos 719_163 }
+        ensures { result ≡ self.now -ℤ unix_epoch_day }
     {
         self.day_number() - UNIX_EPOCH_DAY
     }
@@ -164,94 +168,6 @@ impl NaiveDate {
         self.form.day()
     }
 
-    /// The date so many days later; `None` exactly if that is past [`MAX`](Self::MAX).
-    #[inline]
-    pub fn checked_add_days(self, days: Days) -> Option<NaiveDate>
-        ensures date { result ≡ date_of_day (self +ℤ pos days) }
-        // As many days less, the answer is the date again.
-        ensures back { IfSome result (λ e. e -ℤ pos days ≡ self) }
-    {
-        self.checked_add_days_counted(days, &mut Steps::new())
-    }
-
-    /// The date so many days later, as [`checked_add_days`](Self::checked_add_days) gives it, with its steps counted: at
-    /// most four, whether there is such a date or not.
-    #[inline]
-    pub fn checked_add_days_counted(self, days: Days, steps: &mut Steps) -> Option<NaiveDate>
-        ensures date { result ≡ date_of_day (self +ℤ pos days) }
-        ensures kept { steps.old ≤ steps.new }
-        ensures cost { steps.new ≤ steps.old + 4 }
-    {
-        let Ok(forward) = i64::try_from(days.count()) else {
-            // No two dates are so far apart.
-            prove!(self.day_number() >= -95_746_129);
-            return None;
-        };
-        self.moved_by_days_counted(forward, steps)
-    }
-
-    /// The date so many days earlier; `None` exactly if that is before [`MIN`](Self::MIN).
-    #[inline]
-    pub fn checked_sub_days(self, days: Days) -> Option<NaiveDate>
-        ensures date { result ≡ date_of_day (self -ℤ pos days) }
-        // As many days more, the answer is the date again.
-        ensures back { IfSome result (λ e. e +ℤ pos days ≡ self) }
-    {
-        let Ok(back) = i64::try_from(days.count()) else {
-            // No two dates are so far apart.
-            prove!(self.day_number() <= 95_745_399);
-            return None;
-        };
-        self.moved_by_days(-back)
-    }
-
-    /// The next date; `None` exactly for [`MAX`](Self::MAX).
-    #[inline]
-    pub fn succ_opt(&self) -> Option<NaiveDate>
-        ensures { result ≡ date_of_day (self.now +ℤ pos 1) }
-    {
-        self.moved_by_days(1)
-    }
-
-    /// The date before; `None` exactly for [`MIN`](Self::MIN).
-    #[inline]
-    pub fn pred_opt(&self) -> Option<NaiveDate>
-        ensures { result ≡ date_of_day (self.now -ℤ pos 1) }
-    {
-        self.moved_by_days(-1)
-    }
-
-    // The date so many days later, or earlier for a negative number.
-    #[inline]
-    pub(crate) fn moved_by_days(self, days: i64) -> Option<NaiveDate>
-        ensures date { result ≡ date_of_day (self +ℤ days) }
-        ensures in_range { IsDate self }
-    {
-        // No date is before the first.
-        prove!(NaiveDate::MIN.day_number() <= self.day_number());
-        self.moved_by_days_counted(days, &mut Steps::new())
-    }
-
-    // The same, with the steps counted.
-    #[inline]
-    fn moved_by_days_counted(self, days: i64, steps: &mut Steps) -> Option<NaiveDate>
-        ensures date { result ≡ date_of_day (self +ℤ days) }
-        ensures kept { steps.old ≤ steps.new }
-        ensures cost { steps.new ≤ steps.old + 4 }
-    {
-        Some(NaiveDate {
-            form: forms::move_days(self.form, days, steps)?,
-        })
-    }
-
-    // The days from this date to the last one.
-    #[inline]
-    pub(crate) fn days_left(self) -> u32
-        ensures { result ≡ days_left self }
-    {
-        (NaiveDate::MAX.day_number() - self.day_number()) as u32
-    }
-
     /// Whether the date lies in a leap year.
     #[inline]
     pub fn leap_year(&self) -> bool
@@ -262,11 +178,11 @@ impl NaiveDate {
 }
 
 impl Default for NaiveDate {
+    ghost is_default = { λ d. d ≡ unix_epoch_day };
+
     /// 1 January 1970.
     #[inline]
-    fn default() -> NaiveDate
-        ensures { result ≡ pos 719_163 }
-    {
+    fn default() -> NaiveDate {
         NaiveDate::from_num_days_from_ce_opt(UNIX_EPOCH_DAY).unwrap()
     }
 }

@@ -46,9 +46,7 @@ impl NaiveDateDaysIterator {
         ensures moved { OnSome result (self.new ≡ self.old -ℤ pos 1) }
         ensures refused { IfNone result (self.new ≡ self.old) }
     {
-        let current = self.cursor;
-        self.cursor = current.moved_by_days(-1)?;
-        Some(current)
+        self.cursor.step(-1)
     }
 }
 
@@ -69,9 +67,7 @@ impl Iterator for NaiveDateDaysIterator {
         ensures moved { OnSome result (self.new ≡ self.old +ℤ pos 1) }
         ensures refused { IfNone result (self.new ≡ self.old) }
     {
-        let current = self.cursor;
-        self.cursor = current.moved_by_days(1)?;
-        Some(current)
+        self.cursor.step(1)
     }
 
     /// The number of dates that are left, exactly.

@@ -46,9 +46,7 @@ impl NaiveDateWeeksIterator {
         ensures moved { OnSome result (self.new ≡ self.old -ℤ pos 7) }
         ensures refused { IfNone result (self.new ≡ self.old) }
     {
-        let current = self.cursor;
-        self.cursor = current.moved_by_days(-7)?;
-        Some(current)
+        self.cursor.step(-7)
     }
 }
 
@@ -69,9 +67,7 @@ impl Iterator for NaiveDateWeeksIterator {
         ensures moved { OnSome result (self.new ≡ self.old +ℤ pos 7) }
         ensures refused { IfNone result (self.new ≡ self.old) }
     {
-        let current = self.cursor;
-        self.cursor = current.moved_by_days(7)?;
-        Some(current)
+        self.cursor.step(7)
     }
 
     /// The number of dates that are left, exactly.

@@ -5,7 +5,7 @@
 pub enum Call {
     /// No call: the generator, a look-up and the sum alone.
     Nothing,
-    /// `NaiveDate::checked_add_months`, and `checked_sub_months` for a number below 0.
+    /// `NaiveDate::checked_add_months` and `checked_sub_months`, each in half of the turns.
     AddMonths,
     /// `NaiveDate::checked_add_days`.
     AddDays,

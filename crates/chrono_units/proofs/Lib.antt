@@ -5,3 +5,4 @@ pub mod SetMembers
 pub mod SetPlaces
 pub mod SetWalks
 pub mod WeekdayCycle
+pub mod Writing

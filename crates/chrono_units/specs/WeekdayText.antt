@@ -1,8 +1,8 @@
 -- The texts of weekdays and of sets of weekdays, as lists of ASCII codes.
-use Rattle.std.specs.Prelude.{◌≡◌, ℕ, Bool, if◌then◌else◌, List, [], ◌∷◌, ◌++◌, codes, refl}
+use Rattle.std.specs.Prelude.{ℕ, Bool, if◌then◌else◌, List, [], ◌∷◌, ◌++◌, codes}
 use Rattle.chrono_units.specs.declared.weekday.Weekday.{Weekday}
 use Rattle.chrono_units.specs.declared.weekday.Weekday.TheVariants.{Mon, Tue, Wed, Thu, Fri, Sat, Sun}
-use Rattle.chrono_units.specs.WeekdaySet.{DaySet, set_of, no_days, walk}
+use Rattle.chrono_units.specs.WeekdaySet.{DaySet, walk}
 
 -- the English name of a day in three letters
 abbrev pub weekday_text : Weekday → List ℕ
@@ -32,24 +32,9 @@ set_text s = codes "[" ++ days_text (walk s Mon) ++ codes "]"
 unfoldable pub digit_text : Bool → List ℕ
 digit_text member = if member then codes "1" else codes "0"
 
--- the digits of Sunday down to Thursday, and of Wednesday down to Monday
-abbrev pub later_digits_text : DaySet → List ℕ
-later_digits_text s = digit_text s.sun ++ digit_text s.sat ++ digit_text s.fri ++ digit_text s.thu
-
-abbrev pub earlier_digits_text : DaySet → List ℕ
-earlier_digits_text s = digit_text s.wed ++ digit_text s.tue ++ digit_text s.mon
-
--- what `{:?}` writes for a set: its number in seven binary digits
+-- what `{:?}` writes for a set: its number in seven binary digits, Sunday's first
 abbrev pub set_digits_text : DaySet → List ℕ
-set_digits_text s = codes "WeekdaySet(" ++ later_digits_text s ++ earlier_digits_text s ++ codes ")"
-
--- known values
-set_text-three_days : set_text (set_of (Thu ∷ Sun ∷ Mon ∷ [])) ≡ codes "[Mon, Thu, Sun]"
-set_text-three_days = refl
-
-set_text-no_days : set_text no_days ≡ codes "[]"
-set_text-no_days = refl
-
-set_digits_text-two_days : set_digits_text (set_of (Mon ∷ Tue ∷ [])) ≡ codes "WeekdaySet(0000011)"
-unfolding digit_text
-set_digits_text-two_days = refl
+set_digits_text s =
+    codes "WeekdaySet("
+    ++ digit_text s.sun ++ digit_text s.sat ++ digit_text s.fri ++ digit_text s.thu
+    ++ digit_text s.wed ++ digit_text s.tue ++ digit_text s.mon ++ codes ")"

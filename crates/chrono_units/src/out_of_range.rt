@@ -26,7 +26,9 @@ impl OutOfRange {
 impl fmt::Display for OutOfRange {
     ghost output = { λ _. Some (codes "out of range") };
 
-    /// Writes `out of range`.
+    ghost styled_output = { λ _ _. Some (codes "out of range") };
+
+    /// Writes `out of range`, whatever width or precision is asked for.
     fn fmt<W: fmt::Write>(&self, f: &mut fmt::Formatter<W>) -> fmt::Result {
         f.write_str("out of range")
     }

@@ -1,8 +1,7 @@
 //! The texts of weekdays and of sets of weekdays.
 ghost use Rattle.std.specs.Prelude.{◌≡◌, List, Some, [], ◌∷◌};
-ghost use Rattle.std.specs.Fmt.{WritesOnOk, padded};
-ghost use Rattle.chrono_units.specs.WeekdayText.{weekday_text, further_days_text, days_text, set_text, digit_text, later_digits_text, earlier_digits_text, set_digits_text};
-ghost use Rattle.chrono_units.specs.WeekdaySet as set;
+ghost use Rattle.std.specs.Fmt.{WritesOnOk, WritesStyledOnOk, padded};
+ghost use Rattle.chrono_units.specs.WeekdayText.{weekday_text, further_days_text, days_text, set_text, digit_text, set_digits_text};
 
 use crate::weekday::Weekday;
 use crate::weekday_set::WeekdaySet;
@@ -39,7 +38,9 @@ fn short_name(day: Weekday) -> &'static str
 impl fmt::Display for WeekdaySet {
     ghost output = { λ s. Some (set_text s) };
 
-    /// Writes the days from Monday on in brackets, as `[Mon, Thu]`.
+    ghost styled_output = { λ s _. Some (set_text s) };
+
+    /// Writes the days from Monday on in brackets, as `[Mon, Thu]`, whatever width or precision is asked for.
     fn fmt<W: fmt::Write>(&self, f: &mut fmt::Formatter<W>) -> fmt::Result {
         f.write_str("[")?;
         write_days(f, self.iter(Weekday::Mon))?;
@@ -50,44 +51,38 @@ impl fmt::Display for WeekdaySet {
 impl fmt::Debug for WeekdaySet {
     ghost debug_output = { λ s. Some (set_digits_text s) };
 
-    /// Writes a digit for each day, 1 for a member, from Sunday down to Monday, as `WeekdaySet(0001001)`.
-    fn fmt<W: fmt::Write>(&self, f: &mut fmt::Formatter<W>) -> fmt::Result {
+    /// Writes a digit for each day, 1 for a member, from Sunday down to Monday, as `WeekdaySet(0001001)`, whatever
+    /// width or precision is asked for.
+    fn fmt<W: fmt::Write>(&self, f: &mut fmt::Formatter<W>) -> fmt::Result
+        ensures writes { WritesOnOk W.write_str_gives f.old result
+            (set_digits_text self.now) f.new }
+        ensures styled { WritesStyledOnOk W.write_str_gives f.old result
+            (set_digits_text self.now) f.new }
+    {
         f.write_str("WeekdaySet(")?;
-        write_later_digits(f, *self)?;
-        write_earlier_digits(f, *self)?;
+        write_digit(f, self.contains(Weekday::Sun))?;
+        write_digit(f, self.contains(Weekday::Sat))?;
+        write_digit(f, self.contains(Weekday::Fri))?;
+        write_digit(f, self.contains(Weekday::Thu))?;
+        write_digit(f, self.contains(Weekday::Wed))?;
+        write_digit(f, self.contains(Weekday::Tue))?;
+        write_digit(f, self.contains(Weekday::Mon))?;
         f.write_str(")")
     }
 }
 
-// The digits of Sunday down to Thursday.
-fn write_later_digits<W: fmt::Write>(f: &mut fmt::Formatter<W>, days: WeekdaySet) -> fmt::Result
-    ensures { WritesOnOk W.write_str_gives f.old result (later_digits_text days) f.new }
+// The name of the day in three letters, with no width, fill or precision.
+fn write_name<W: fmt::Write>(f: &mut fmt::Formatter<W>, day: Weekday) -> fmt::Result
+    ensures { WritesStyledOnOk W.write_str_gives f.old result (weekday_text day) f.new }
 {
-    write_digit(f, days, Weekday::Sun)?;
-    write_digit(f, days, Weekday::Sat)?;
-    write_digit(f, days, Weekday::Fri)?;
-    write_digit(f, days, Weekday::Thu)
-}
-
-// The digits of Wednesday down to Monday.
-fn write_earlier_digits<W: fmt::Write>(f: &mut fmt::Formatter<W>, days: WeekdaySet) -> fmt::Result
-    ensures { WritesOnOk W.write_str_gives f.old result (earlier_digits_text days) f.new }
-{
-    write_digit(f, days, Weekday::Wed)?;
-    write_digit(f, days, Weekday::Tue)?;
-    write_digit(f, days, Weekday::Mon)
+    f.write_str(short_name(day))
 }
 
 // 1 for a member, else 0.
-#[tactic(auto, unfolding(crate::specs::WeekdayText::digit_text))]
-fn write_digit<W: fmt::Write>(
-    f: &mut fmt::Formatter<W>,
-    days: WeekdaySet,
-    day: Weekday,
-) -> fmt::Result
-    ensures { WritesOnOk W.write_str_gives f.old result (digit_text (set.contains days day)) f.new }
+fn write_digit<W: fmt::Write>(f: &mut fmt::Formatter<W>, member: bool) -> fmt::Result
+    ensures { WritesStyledOnOk W.write_str_gives f.old result (digit_text member) f.new }
 {
-    if days.contains(day) {
+    if member {
         f.write_str("1")
     } else {
         f.write_str("0")
@@ -96,12 +91,12 @@ fn write_digit<W: fmt::Write>(
 
 // The days with a comma and a space between each two.
 fn write_days<W: fmt::Write>(f: &mut fmt::Formatter<W>, mut days: WeekdaySetIter) -> fmt::Result
-    ensures { WritesOnOk W.write_str_gives f.old result (days_text days) f.new }
+    ensures { WritesStyledOnOk W.write_str_gives f.old result (days_text days) f.new }
 {
     match days.next() {
         None => Ok(()),
         Some(day) => {
-            f.write_str(short_name(day))?;
+            write_name(f, day)?;
             write_further_days(f, days)
         }
     }
@@ -112,13 +107,13 @@ fn write_further_days<W: fmt::Write>(
     f: &mut fmt::Formatter<W>,
     mut days: WeekdaySetIter,
 ) -> fmt::Result
-    ensures { WritesOnOk W.write_str_gives f.old result (further_days_text days) f.new }
+    ensures { WritesStyledOnOk W.write_str_gives f.old result (further_days_text days) f.new }
 {
     match days.next() {
         None => Ok(()),
         Some(day) => {
             f.write_str(", ")?;
-            f.write_str(short_name(day))?;
+            write_name(f, day)?;
             write_further_days(f, days)
         }
     }

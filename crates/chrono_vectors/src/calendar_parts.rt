@@ -106,11 +106,13 @@ fn counts_every_year(rt: HostRuntime) {
     assert_eq!(rt; wrong_year_back(), None);
 }
 
-fn wrong_flags() -> Option<usize> {
-    for (row, flags) in FROM_MINUS_400.iter().enumerate() {
-        if YearFlags::from_year(row as i32 - 400).bits() != *flags {
-            return Some(row);
+fn wrong_flags() -> Option<i32> {
+    let mut year = -400i32;
+    for flags in FROM_MINUS_400 {
+        if YearFlags::from_year(year).bits() != flags {
+            return Some(year);
         }
+        year = year.saturating_add(1);
     }
     None
 }
@@ -122,10 +124,10 @@ fn flags_of_years(rt: HostRuntime) {
     assert_eq!(rt; YearFlags::from_year(i32::MAX).bits(), 15);
 }
 
-fn wrong_length() -> Option<usize> {
-    for (row, (year, days)) in LENGTHS.iter().enumerate() {
-        if YearFlags::from_year(*year).ndays() != *days {
-            return Some(row);
+fn wrong_length() -> Option<i32> {
+    for (year, days) in LENGTHS {
+        if YearFlags::from_year(year).ndays() != days {
+            return Some(year);
         }
     }
     None
@@ -136,14 +138,16 @@ fn days_of_years(rt: HostRuntime) {
     assert_eq!(rt; wrong_length(), None);
 }
 
-fn wrong_weeks() -> Option<usize> {
-    for (row, (bits, days, delta, weeks)) in WEEKS.iter().enumerate() {
-        let Some(flags) = YearFlags::from_bits(*bits) else {
-            return Some(row);
+fn wrong_weeks() -> Option<u8> {
+    for (bits, days, delta, weeks) in WEEKS {
+        let Some(flags) = YearFlags::from_bits(bits) else {
+            return Some(bits);
         };
-        let found = (flags.ndays(), flags.isoweek_delta(), flags.nisoweeks());
-        if flags.bits() != *bits || found != (*days, *delta, *weeks) {
-            return Some(row);
+        if flags.bits() != bits || flags.ndays() != days {
+            return Some(bits);
+        }
+        if flags.isoweek_delta() != delta || flags.nisoweeks() != weeks {
+            return Some(bits);
         }
     }
     None
@@ -334,10 +338,10 @@ fn months_and_days_of_ordinals(rt: HostRuntime) {
     }
 }
 
-fn wrong_day_of_cycle() -> Option<usize> {
-    for (row, (day, name)) in CYCLE.iter().enumerate() {
-        if *day >= 146_097 || cycle_to_yo(*day, &mut Steps::new()) != *name {
-            return Some(row);
+fn wrong_day_of_cycle() -> Option<u32> {
+    for (day, name) in CYCLE {
+        if day >= 146_097 || cycle_to_yo(day, &mut Steps::new()) != name {
+            return Some(day);
         }
     }
     None

@@ -9,6 +9,14 @@ mod both_forms;
 #[cfg(test)]
 mod calendar_parts;
 #[cfg(test)]
+mod clock;
+#[cfg(test)]
+mod date_time_calls;
+#[cfg(test)]
+mod date_time_texts;
+#[cfg(test)]
+mod dates;
+#[cfg(test)]
 mod month;
 #[cfg(test)]
 mod naive_date;
@@ -27,4 +35,8 @@ mod weekday_set;
 #[cfg(test)]
 mod weekday_set_iter;
 #[cfg(test)]
+mod weekday_set_pairs;
+#[cfg(test)]
 mod weekday_texts;
+#[cfg(test)]
+mod weekday_writing;

@@ -29,37 +29,3 @@ impl fmt::Debug for NaiveTime {
         fmt::Display::fmt(self, f)
     }
 }
-
-#[cfg(test)]
-mod tests {
-    use crate::{NaiveTime, Timelike};
-    use std::alloc::AllocError;
-
-    #[test]
-    fn texts(rt: HostRuntime) -> Result<(), AllocError> {
-        for (second, fraction, text) in [
-            (0, 0, "00:00:00"),
-            (86_399, 0, "23:59:59"),
-            (47_096, 500_000_000, "13:04:56.500"),
-            (47_096, 500_001_000, "13:04:56.500001"),
-            (47_096, 1, "13:04:56.000000001"),
-            (86_399, 1_000_000_000, "23:59:60"),
-            (86_399, 1_999_999_999, "23:59:60.999999999"),
-        ] {
-            let time = NaiveTime::from_num_seconds_from_midnight_opt(second, fraction).expect(
-                &rt, "a time",
-            );
-            let shown = format!(in rt.alloc(); "{time}")?;
-            assert_eq!(rt; shown.as_str(), text);
-            let debug = format!(in rt.alloc(); "{time:?}")?;
-            assert_eq!(rt; debug.as_str(), text);
-            let padded = format!(in rt.alloc(); "{time:*^+40.3}")?;
-            assert_eq!(rt; padded.as_str(), text);
-        }
-        let leap = NaiveTime::from_hms_nano_opt(23, 59, 59, 1_500_000_000).expect(&rt, "a time");
-        let later = leap.with_second(5).expect(&rt, "a time");
-        let shown = format!(in rt.alloc(); "{later}")?;
-        assert_eq!(rt; shown.as_str(), "23:59:06.500");
-        Ok(())
-    }
-}

@@ -5,10 +5,9 @@ ghost use Rattle.chrono_clock.specs.Duration.{IsDuration, nanos_per_second, nano
 
 use crate::TimeDelta;
 use crate::carry::carried;
+use crate::lengths::NANOS_PER_SEC;
+use crate::time_delta::{MAX_SECS, MIN_SECS};
 use std::ops::{Add, AddAssign, Div, Mul, Neg, Sub, SubAssign};
-
-// No duration has more seconds, forward or back.
-const SECS_LIMIT: i128 = 9_223_372_036_854_776;
 
 impl TimeDelta {
     /// The sum of two durations; `None` exactly out of range.
@@ -27,7 +26,7 @@ impl TimeDelta {
     {
         let (secs, nanos) = carried(
             self.secs - rhs.secs - 1,
-            self.nanos + 1_000_000_000 - rhs.nanos,
+            self.nanos + NANOS_PER_SEC - rhs.nanos,
         );
         TimeDelta::from_stored(secs, nanos)
     }
@@ -56,7 +55,7 @@ impl TimeDelta {
         }
         // A long division: the remainder of the seconds goes on in nanoseconds.
         let secs = quotient(self.secs, rhs);
-        let rest = quotient(remainder(self.secs, rhs) * 1_000_000_000, rhs);
+        let rest = quotient(remainder(self.secs, rhs) * NANOS_PER_SEC as i64, rhs);
         let nanos = quotient(self.nanos as i64, rhs);
         from_parts(secs as i128, rest + nanos)
     }
@@ -77,8 +76,9 @@ fn from_parts(secs: i128, nanos: i64) -> Option<TimeDelta>
     ensures { SomeIff result (IsDuration (secs *ℤ pos nanos_per_second +ℤ nanos))
         (secs *ℤ pos nanos_per_second +ℤ nanos) }
 {
-    let carry = nanos.div_euclid(1_000_000_000);
-    from_floor(secs + carry as i128, nanos.rem_euclid(1_000_000_000) as u32)
+    let second = NANOS_PER_SEC as i64;
+    let carry = nanos.div_euclid(second);
+    from_floor(secs + carry as i128, nanos.rem_euclid(second) as u32)
 }
 
 // The duration of so many seconds and nanoseconds past them.
@@ -87,7 +87,7 @@ fn from_floor(secs: i128, nanos: u32) -> Option<TimeDelta>
     requires { nanos < nanos_per_second }
     ensures { SomeIff result (IsDuration (nanos_of secs nanos)) (nanos_of secs nanos) }
 {
-    if secs < -SECS_LIMIT || secs > SECS_LIMIT {
+    if secs < MIN_SECS as i128 || secs > MAX_SECS as i128 {
         return None;
     }
     TimeDelta::from_stored(secs as i64, nanos)
@@ -211,7 +211,7 @@ impl Neg for TimeDelta {
         }
         TimeDelta {
             secs: -self.secs - 1,
-            nanos: 1_000_000_000 - self.nanos,
+            nanos: NANOS_PER_SEC - self.nanos,
         }
     }
 }

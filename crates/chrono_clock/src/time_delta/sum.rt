@@ -36,10 +36,6 @@ impl TimeDelta {
             (λ sum. WholeRun I.next_gives iter
             (λ p. StaysInRange (map (λ r. r.now) p.items) × (sum ≡ total (map (λ r. r.now) p.items)))) }
     {
-        let mut acc = TimeDelta::zero();
-        for item in iter {
-            acc = acc.checked_add(item)?;
-        }
-        Some(acc)
+        TimeDelta::checked_sum(iter.copied())
     }
 }

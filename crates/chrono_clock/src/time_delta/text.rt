@@ -52,11 +52,15 @@ fn write_fraction<W: fmt::Write>(f: &mut fmt::Formatter<W>, nanos: u32) -> fmt::
         return Ok(());
     }
     f.write_str(".")?;
-    write_digits(f, 9, nanos)
+    write_fraction_digits(f, 9, nanos)
 }
 
 // The digits of a fraction of so many places, up to the last that is not 0.
-fn write_digits<W: fmt::Write>(f: &mut fmt::Formatter<W>, places: u32, fraction: u32) -> fmt::Result
+fn write_fraction_digits<W: fmt::Write>(
+    f: &mut fmt::Formatter<W>,
+    places: u32,
+    fraction: u32,
+) -> fmt::Result
     requires few { places ≤ 9 }
     requires within { fraction < 10 ^ places }
     ensures { WritesOnOk W.write_str_gives f.old result (fraction_digits places fraction) f.new }
@@ -66,33 +70,5 @@ fn write_digits<W: fmt::Write>(f: &mut fmt::Formatter<W>, places: u32, fraction:
     }
     let (digit, rest) = first_digit(places, fraction);
     f.write_char((b'0' + digit) as char)?;
-    write_digits(f, places - 1, rest)
-}
-
-#[cfg(test)]
-mod tests {
-    use crate::TimeDelta;
-    use std::alloc::AllocError;
-
-    #[test]
-    fn texts(rt: HostRuntime) -> Result<(), AllocError> {
-        let all = [
-            (TimeDelta::days(42), "PT3628800S"),
-            (TimeDelta::days(-42), "-PT3628800S"),
-            (TimeDelta::milliseconds(42), "PT0.042S"),
-            (TimeDelta::microseconds(42), "PT0.000042S"),
-            (TimeDelta::nanoseconds(42), "PT0.000000042S"),
-            (TimeDelta::nanoseconds(-42), "-PT0.000000042S"),
-            (TimeDelta::MAX, "PT9223372036854775.807S"),
-            (TimeDelta::MIN, "-PT9223372036854775.807S"),
-            (TimeDelta::zero(), "P0D"),
-        ];
-        for (duration, text) in all {
-            let shown = format!(in rt.alloc(); "{duration}")?;
-            assert_eq!(rt; shown.as_str(), text);
-            let padded = format!(in rt.alloc(); "{duration:*^+40.3}")?;
-            assert_eq!(rt; padded.as_str(), text);
-        }
-        Ok(())
-    }
+    write_fraction_digits(f, places - 1, rest)
 }

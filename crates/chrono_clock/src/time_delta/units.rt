@@ -5,12 +5,10 @@ ghost use Rattle.std.specs.Option.{SomeIff};
 ghost use Rattle.chrono_clock.specs.Duration.{IsDuration, nanos_per_week, nanos_per_day, nanos_per_hour, nanos_per_minute, nanos_per_second, nanos_per_milli, nanos_per_micro, units_of, whole_units, past_seconds};
 
 use crate::TimeDelta;
-
-const SECS_PER_MINUTE: i64 = 60;
-
-const SECS_PER_HOUR: i64 = 3_600;
-
-const SECS_PER_DAY: i64 = 86_400;
+use crate::lengths::{
+    NANOS_PER_MICRO, NANOS_PER_MILLI, NANOS_PER_SEC, SECS_PER_DAY, SECS_PER_HOUR, SECS_PER_MINUTE,
+};
+use crate::time_delta::MAX_SECS;
 
 const SECS_PER_WEEK: i64 = 604_800;
 
@@ -38,7 +36,7 @@ impl TimeDelta {
     pub fn try_days(days: i64) -> Option<TimeDelta>
         ensures { SomeIff result (IsDuration (units_of nanos_per_day days)) (units_of nanos_per_day days) }
     {
-        try_units(days, SECS_PER_DAY)
+        try_units(days, SECS_PER_DAY as i64)
     }
 
     /// The duration of so many days, which has to be in range.
@@ -56,7 +54,7 @@ impl TimeDelta {
         ensures { SomeIff result (IsDuration (units_of nanos_per_hour hours))
             (units_of nanos_per_hour hours) }
     {
-        try_units(hours, SECS_PER_HOUR)
+        try_units(hours, SECS_PER_HOUR as i64)
     }
 
     /// The duration of so many hours, which has to be in range.
@@ -74,7 +72,7 @@ impl TimeDelta {
         ensures { SomeIff result (IsDuration (units_of nanos_per_minute minutes))
             (units_of nanos_per_minute minutes) }
     {
-        try_units(minutes, SECS_PER_MINUTE)
+        try_units(minutes, SECS_PER_MINUTE as i64)
     }
 
     /// The duration of so many minutes, which has to be in range.
@@ -92,7 +90,7 @@ impl TimeDelta {
         ensures { SomeIff result (IsDuration (units_of nanos_per_second seconds))
             (units_of nanos_per_second seconds) }
     {
-        if (-9_223_372_036_854_775..=9_223_372_036_854_775).contains(&seconds) {
+        if (-MAX_SECS..=MAX_SECS).contains(&seconds) {
             Some(TimeDelta {
                 secs: seconds,
                 nanos: 0,
@@ -132,7 +130,7 @@ impl TimeDelta {
     {
         from_signed(
             milliseconds / 1_000,
-            (milliseconds % 1_000) as i32 * 1_000_000,
+            (milliseconds % 1_000) as i32 * NANOS_PER_MILLI as i32,
         )
     }
 
@@ -143,7 +141,7 @@ impl TimeDelta {
     {
         from_signed(
             microseconds / 1_000_000,
-            (microseconds % 1_000_000) as i32 * 1_000,
+            (microseconds % 1_000_000) as i32 * NANOS_PER_MICRO as i32,
         )
     }
 
@@ -152,7 +150,8 @@ impl TimeDelta {
     pub fn nanoseconds(nanos: i64) -> TimeDelta
         ensures { result ≡ nanos }
     {
-        from_signed(nanos / 1_000_000_000, (nanos % 1_000_000_000) as i32)
+        let second = NANOS_PER_SEC as i64;
+        from_signed(nanos / second, (nanos % second) as i32)
     }
 
     /// The whole weeks of the duration, rounded towards zero.
@@ -169,7 +168,7 @@ impl TimeDelta {
         ensures value { result ≡ whole_units nanos_per_day self.now }
         ensures in_range { IsDuration self.now }
     {
-        self.num_seconds() / SECS_PER_DAY
+        self.num_seconds() / SECS_PER_DAY as i64
     }
 
     /// The whole hours of the duration, rounded towards zero.
@@ -177,7 +176,7 @@ impl TimeDelta {
     pub fn num_hours(&self) -> i64
         ensures { result ≡ whole_units nanos_per_hour self.now }
     {
-        self.num_seconds() / SECS_PER_HOUR
+        self.num_seconds() / SECS_PER_HOUR as i64
     }
 
     /// The whole minutes of the duration, rounded towards zero.
@@ -185,7 +184,7 @@ impl TimeDelta {
     pub fn num_minutes(&self) -> i64
         ensures { result ≡ whole_units nanos_per_minute self.now }
     {
-        self.num_seconds() / SECS_PER_MINUTE
+        self.num_seconds() / SECS_PER_MINUTE as i64
     }
 
     /// The whole seconds of the duration, rounded towards zero: -1 for -1.5 seconds.
@@ -231,7 +230,7 @@ impl TimeDelta {
     pub fn subsec_millis(&self) -> i32
         ensures { result ≡ whole_units nanos_per_milli (past_seconds self.now) }
     {
-        self.subsec_nanos() / 1_000_000
+        self.subsec_nanos() / NANOS_PER_MILLI as i32
     }
 
     /// The whole microseconds past the whole seconds, from -999,999 to 999,999, with the duration's sign.
@@ -239,7 +238,7 @@ impl TimeDelta {
     pub fn subsec_micros(&self) -> i32
         ensures { result ≡ whole_units nanos_per_micro (past_seconds self.now) }
     {
-        self.subsec_nanos() / 1_000
+        self.subsec_nanos() / NANOS_PER_MICRO as i32
     }
 
     /// The nanoseconds past the whole seconds, from -999,999,999 to 999,999,999, with the duration's sign.
@@ -248,7 +247,7 @@ impl TimeDelta {
         ensures { result ≡ past_seconds self.now }
     {
         if self.secs < 0 && self.nanos > 0 {
-            self.nanos as i32 - 1_000_000_000
+            self.nanos as i32 - NANOS_PER_SEC as i32
         } else {
             self.nanos as i32
         }
@@ -275,7 +274,7 @@ fn from_signed(secs: i64, nanos: i32) -> TimeDelta
     if nanos < 0 {
         TimeDelta {
             secs: secs - 1,
-            nanos: (nanos + 1_000_000_000) as u32,
+            nanos: (nanos + NANOS_PER_SEC as i32) as u32,
         }
     } else {
         TimeDelta {

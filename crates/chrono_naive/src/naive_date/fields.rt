@@ -1,10 +1,10 @@
 //! The fields of a date, read and replaced.
-ghost use Rattle.std.specs.Prelude.{◌≡◌};
-ghost use Rattle.chrono_calendar.specs.Days.{IsDate};
+ghost use Rattle.std.specs.Prelude.{◌≡◌, Some};
+ghost use Rattle.chrono_calendar.specs.Days.{IsDate, date_of_day};
 
 use crate::datelike::Datelike;
 use crate::iso_week::IsoWeek;
-use crate::naive_date::NaiveDate;
+use crate::naive_date::{LAST_DAY, NaiveDate};
 use chrono_calendar::{DayForm, forms};
 use chrono_units::Weekday;
 
@@ -32,6 +32,7 @@ impl Datelike for NaiveDate {
 
     #[inline]
     fn day(&self) -> u32 {
+        prove!(self.day_number() <= LAST_DAY);
         self.form.month_day().1
     }
 
@@ -42,6 +43,7 @@ impl Datelike for NaiveDate {
 
     #[inline]
     fn ordinal(&self) -> u32 {
+        prove!(self.day_number() <= LAST_DAY);
         self.form.ordinal()
     }
 
@@ -52,6 +54,7 @@ impl Datelike for NaiveDate {
 
     #[inline]
     fn weekday(&self) -> Weekday {
+        prove!(self.day_number() <= LAST_DAY);
         self.form.weekday()
     }
 
@@ -102,6 +105,8 @@ impl Datelike for NaiveDate {
     fn num_days_from_ce(&self) -> i32
         ensures value { result ≡ self.now }
         ensures in_range { IsDate result }
+        // The number names the date again.
+        ensures names { date_of_day result ≡ Some self.now }
     {
         self.day_number()
     }

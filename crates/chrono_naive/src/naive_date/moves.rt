@@ -1,23 +1,120 @@
-//! Moves of a date by months and by durations, the difference of dates, and what is reached from a date: weeks and iterators.
-ghost use Rattle.std.specs.Prelude.{◌≡◌, pos, neg_ℤ, ◌+ℤ◌, ◌-ℤ◌, ◌≤ℤ◌, ◌<ℤ◌, unsigned_abs, IfSome};
+//! Moves of a date by days, by months and by durations, the difference of dates, and what is reached from a date: weeks and
+//! iterators.
+ghost use Rattle.std.specs.Prelude.{◌≡◌, ◌+◌, ◌≤◌, pos, neg_ℤ, ◌+ℤ◌, ◌-ℤ◌, ◌≤ℤ◌, ◌<ℤ◌, unsigned_abs, IsSome, OnSome, IfSome, IfNone, SomeIff, ◌↔◌};
 ghost use Rattle.chrono_units.specs.Years.{IsYear};
 ghost use Rattle.chrono_clock.specs.Duration.{nanos_per_day, units_of, whole_units};
-ghost use Rattle.chrono_calendar.specs.Days.{date_of_day, year_of};
+ghost use Rattle.chrono_calendar.specs.Days.{IsDate, date_of_day, year_of};
 ghost use Rattle.chrono_calendar.specs.Weeks.{week_first_of, weekday_of};
 ghost use Rattle.chrono_calendar.specs.MonthMoves.{MonthMovesAddUp, ComesBack, KeepsOrder, month_move};
 ghost use Rattle.chrono_calendar.specs.YearsBetween.{years_between as whole_years};
+ghost use Rattle.chrono_naive.specs.DateLists.{days_left};
 
 use crate::days::Days;
-use crate::naive_date::NaiveDate;
+use crate::naive_date::{LAST_DAY, NaiveDate};
 use crate::naive_date_days_iterator::NaiveDateDaysIterator;
 use crate::naive_date_weeks_iterator::NaiveDateWeeksIterator;
 use crate::naive_week::NaiveWeek;
-use chrono_calendar::{DayForm, forms};
+use chrono_calendar::{DayForm, Steps, forms};
 use chrono_clock::TimeDelta;
 use chrono_units::year::is_year;
 use chrono_units::{Months, Weekday};
 
 impl NaiveDate {
+    /// The date so many days later; `None` exactly if that is past [`MAX`](Self::MAX).
+    #[inline]
+    pub fn checked_add_days(self, days: Days) -> Option<NaiveDate>
+        ensures date { result ≡ date_of_day (self +ℤ pos days) }
+        ensures exists { IsSome result ↔ IsDate (self +ℤ pos days) }
+        // As many days less, the answer is the date again.
+        ensures back { IfSome result (λ e. e -ℤ pos days ≡ self) }
+    {
+        self.checked_add_days_counted(days, &mut Steps::new())
+    }
+
+    /// The date so many days later, as [`checked_add_days`](Self::checked_add_days) gives it, with its steps counted: at
+    /// most four, whether there is such a date or not.
+    #[inline]
+    pub fn checked_add_days_counted(self, days: Days, steps: &mut Steps) -> Option<NaiveDate>
+        ensures date { result ≡ date_of_day (self +ℤ pos days) }
+        ensures kept { steps.old ≤ steps.new }
+        ensures cost { steps.new ≤ steps.old + 4 }
+    {
+        self.moved_by_days_counted(days.clipped(), steps)
+    }
+
+    /// The date so many days earlier; `None` exactly if that is before [`MIN`](Self::MIN).
+    #[inline]
+    pub fn checked_sub_days(self, days: Days) -> Option<NaiveDate>
+        ensures date { result ≡ date_of_day (self -ℤ pos days) }
+        ensures exists { IsSome result ↔ IsDate (self -ℤ pos days) }
+        // As many days more, the answer is the date again.
+        ensures back { IfSome result (λ e. e +ℤ pos days ≡ self) }
+    {
+        self.moved_by_days(-days.clipped())
+    }
+
+    /// The next date; `None` exactly for [`MAX`](Self::MAX).
+    #[inline]
+    pub fn succ_opt(&self) -> Option<NaiveDate>
+        ensures { result ≡ date_of_day (self.now +ℤ pos 1) }
+    {
+        self.moved_by_days(1)
+    }
+
+    /// The date before; `None` exactly for [`MIN`](Self::MIN).
+    #[inline]
+    pub fn pred_opt(&self) -> Option<NaiveDate>
+        ensures { result ≡ date_of_day (self.now -ℤ pos 1) }
+    {
+        self.moved_by_days(-1)
+    }
+
+    // The date so many days later, or earlier for a negative number.
+    #[inline]
+    pub(crate) fn moved_by_days(self, days: i64) -> Option<NaiveDate>
+        ensures date { result ≡ date_of_day (self +ℤ days) }
+        ensures in_range { IsDate self }
+    {
+        self.moved_by_days_counted(days, &mut Steps::new())
+    }
+
+    // The same, with the steps counted.
+    #[inline]
+    fn moved_by_days_counted(self, days: i64, steps: &mut Steps) -> Option<NaiveDate>
+        ensures date { result ≡ date_of_day (self +ℤ days) }
+        ensures in_range { IsDate self }
+        ensures kept { steps.old ≤ steps.new }
+        ensures cost { steps.new ≤ steps.old + 4 }
+    {
+        // No date is past the last.
+        prove!(self.day_number() <= LAST_DAY);
+        Some(NaiveDate {
+            form: forms::move_days(self.form, days, steps)?,
+        })
+    }
+
+    // Moves the date by so many days, and answers where it stood; `None` if the move would end at no date, and then the
+    // date stays.
+    #[inline]
+    pub(crate) fn step(&mut self, days: i64) -> Option<NaiveDate>
+        ensures date { SomeIff result (IsDate (self.old +ℤ days)) self.old }
+        ensures moved { OnSome result (self.new ≡ self.old +ℤ days) }
+        ensures refused { IfNone result (self.new ≡ self.old) }
+        ensures in_range { IsDate self.old }
+    {
+        let current = *self;
+        *self = current.moved_by_days(days)?;
+        Some(current)
+    }
+
+    // The days from this date to the last one.
+    #[inline]
+    pub(crate) fn days_left(self) -> u32
+        ensures { result ≡ days_left self }
+    {
+        (LAST_DAY - self.day_number()) as u32
+    }
+
     /// The same day so many months later, or the last day of that month if it is shorter; `None` exactly if the year of
     /// that month is past 262,142.
     ///
@@ -62,22 +159,29 @@ impl NaiveDate {
         })
     }
 
-    /// The date later by the whole days of the duration, earlier if it is negative; `None` exactly out of range.
+    /// The date later by the whole days of the duration, earlier if it is negative; `None` exactly if that is past
+    /// [`MAX`](Self::MAX) or before [`MIN`](Self::MIN).
     ///
     /// The days are rounded towards zero: 23 hours move no date, and nor does -1 nanosecond.
     #[inline]
     pub fn checked_add_signed(self, rhs: TimeDelta) -> Option<NaiveDate>
-        ensures { result ≡ date_of_day (self +ℤ whole_units nanos_per_day rhs) }
+        ensures date { result ≡ date_of_day (self +ℤ whole_units nanos_per_day rhs) }
+        ensures exists { IsSome result ↔ IsDate (self +ℤ whole_units nanos_per_day rhs) }
     {
         self.moved_by_days(rhs.num_days())
     }
 
-    /// The date earlier by the whole days of the duration, later if it is negative; `None` exactly out of range.
+    /// The date earlier by the whole days of the duration, later if it is negative; `None` exactly if that is before
+    /// [`MIN`](Self::MIN) or past [`MAX`](Self::MAX).
     ///
-    /// The days are rounded towards zero: 23 hours move no date, and nor does -1 nanosecond.
+    /// The days are rounded towards zero: 23 hours move no date, and nor does -1 nanosecond. So it is the move by `-rhs` that
+    /// [`checked_add_signed`](Self::checked_add_signed) makes.
     #[inline]
     pub fn checked_sub_signed(self, rhs: TimeDelta) -> Option<NaiveDate>
-        ensures { result ≡ date_of_day (self -ℤ whole_units nanos_per_day rhs) }
+        ensures date { result ≡ date_of_day (self -ℤ whole_units nanos_per_day rhs) }
+        ensures exists { IsSome result ↔ IsDate (self -ℤ whole_units nanos_per_day rhs) }
+        // The duration the other way leads to the same date.
+        ensures turned { result ≡ date_of_day (self +ℤ whole_units nanos_per_day (neg_ℤ rhs)) }
     {
         self.moved_by_days(-rhs.num_days())
     }

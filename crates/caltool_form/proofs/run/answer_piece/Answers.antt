@@ -1,28 +1,34 @@
+use Rattle.std.proofs.Common.{rules}
 use Rattle.caltool_form.proofs.Pieces.{on_ok, on_err, on_err_any}
 use Rattle.caltool_form.proofs.Progress.{progress_start, progress_more, progress_end, progress_fault, progress_left}
 use Rattle.caltool_form.proofs.run.answer_piece.Goals as goal
 
 pub loop-line-init : goal.loop-line-init
-loop-line-init g c = progress_start g.A.CommandAnswers.answer_to _ _ _ _ c.requires
+loop-line-init g c = record { answered = progress_start g.A.CommandAnswers.answer_to _ _ _ _ c.requires.nothing; writable = search rules; same = search rules }
 
 pub returns-in_err-make_room-clause-err : goal.returns-in_err-make_room-clause-err
 returns-in_err-make_room-clause-err g c = on_err_any c.from_residual.result _
-    (progress_fault g.A.CommandAnswers.answer_to _ _ _ _ _ _ _ _ c.loop-line.invariant c.in_err-make_room.ensures.err)
+    (progress_fault g.A.CommandAnswers.answer_to _ _ _ _ _ _ _ _ c.loop-line.invariant.answered c.in_err-make_room.ensures.err)
 
 pub loop-line-preserved : goal.loop-line-preserved
 loop-line-preserved g c =
     let (done, wrote, parts) = c.in_ok-make_room.ensures.ok in
-    progress_more g.A.CommandAnswers.answer_to _ _ _ _ _ _ _ _ _ _ c.in-Some.line.now c.in-Some.after.now done _ c.loop-line.invariant
-    c.in-Some.ensures.some c.in-Some.ensures.first wrote parts c.answer_with.ensures.nothing c.answer_with.ensures.answer
+    record {
+      answered =
+          progress_more g.A.CommandAnswers.answer_to _ _ _ _ _ _ _ _ _ _ c.in-Some.line.now c.in-Some.after.now done _ c.loop-line.invariant.answered
+          c.in-Some.ensures.some c.in-Some.ensures.first wrote parts c.answer_with.ensures.nothing c.answer_with.ensures.answer;
+      writable = search rules;
+      same = search rules;
+    }
 
 pub returns-clause-ok : goal.returns-clause-ok
 returns-clause-ok g c = on_ok c.send.result _ _ (λ wrote.
-    progress_end g.A.CommandAnswers.answer_to _ _ _ _ _ _ _ _ c.loop-line.invariant c.in_default.ensures.none wrote) c.send.ensures.ok
+    progress_end g.A.CommandAnswers.answer_to _ _ _ _ _ _ _ _ c.loop-line.invariant.answered c.in_default.ensures.none wrote) c.send.ensures.ok
 
 pub returns-clause-carries : goal.returns-clause-carries
 returns-clause-carries g c = on_ok c.send.result _ _ (λ wrote.
-    progress_left g.A.CommandAnswers.answer_to _ _ _ _ _ _ _ _ c.loop-line.invariant c.in_default.ensures.none c.push.ensures) c.send.ensures.ok
+    progress_left g.A.CommandAnswers.answer_to _ _ _ _ _ _ _ _ c.loop-line.invariant.answered c.in_default.ensures.none c.push.ensures) c.send.ensures.ok
 
 pub returns-clause-err : goal.returns-clause-err
 returns-clause-err g c = on_err c.send.result _ _ (λ part.
-    progress_fault g.A.CommandAnswers.answer_to _ _ _ _ _ _ _ _ c.loop-line.invariant part) c.send.ensures.err
+    progress_fault g.A.CommandAnswers.answer_to _ _ _ _ _ _ _ _ c.loop-line.invariant.answered part) c.send.ensures.err

@@ -1,0 +1,117 @@
+#!/usr/bin/env python3
+"""Uses the libraries from outside: proves the callers that CALLING.md quotes in a fresh repository of their own.
+
+    checks/outside.py           (in a folder below $TMPDIR, removed afterwards)
+    checks/outside.py FOLDER    (in that folder, which must not exist yet and stays)
+
+The repository gets the folders of the library crates and their lines of crates.txt, as CALLING.md says, and each file that a line
+of CALLING.md names in backquotes, with a colon, right above a fenced block. Each caller is then checked by `rt check`.
+What is proved of the libraries here is taken over: what `rt` has kept, or what `rt ci` has just left, if it is newer than their
+sources. Otherwise they are proved first, which takes a quarter of an hour.
+"""
+import os
+import re
+import shutil
+import subprocess
+import sys
+import tempfile
+
+sys.path.insert(0, os.path.join(os.path.dirname(os.path.dirname(os.path.abspath(__file__))), "benches"))
+from gate import load_rt  # noqa: E402
+
+TOP = os.path.dirname(os.path.dirname(os.path.abspath(__file__)))
+USED = "chrono_datetime"
+QUOTED = re.compile(r"^`(crates(?:\.txt|/[\w/.]+))`:\n\n```\w*\n(.*?)^```$", re.M | re.S)
+
+
+def quoted_files():
+    """The files that CALLING.md quotes, by path."""
+    with open(f"{TOP}/CALLING.md", encoding="utf-8") as it:
+        return dict(QUOTED.findall(it.read()))
+
+
+def listed_crates():
+    """The libraries that each crate of crates.txt uses."""
+    with open(f"{TOP}/crates.txt", encoding="utf-8") as it:
+        lines = [line.partition("#")[0].strip() for line in it]
+    return {line.partition(":")[0].strip(): line.partition(":")[2].split() for line in lines if line}
+
+
+def below(name, crates):
+    """A crate and those that it uses, lowest first."""
+    found = []
+    for used in crates[name]:
+        found += [it for it in below(used, crates) if it not in found] if used in crates else []
+    return [*found, name]
+
+
+def make_repository(room):
+    """Writes the repository; the names of its libraries and of its callers."""
+    crates, files = listed_crates(), quoted_files()
+    libraries = below(USED, crates)
+    for name in libraries:
+        for part in ("src", "specs", "proofs"):
+            if os.path.isdir(f"{TOP}/crates/{name}/{part}"):
+                shutil.copytree(f"{TOP}/crates/{name}/{part}", f"{room}/crates/{name}/{part}")
+    own = files.pop("crates.txt", "")
+    with open(f"{room}/crates.txt", "w", encoding="utf-8") as it:
+        it.writelines(f"{name}: {' '.join(crates[name])}\n" for name in libraries)
+        it.write(own)
+    for path, text in files.items():
+        os.makedirs(os.path.dirname(f"{room}/{path}"), exist_ok=True)
+        with open(f"{room}/{path}", "w", encoding="utf-8") as it:
+            it.write(text)
+    return libraries, [line.partition(":")[0] for line in own.splitlines() if line]
+
+
+def newest(folders):
+    """The time of the last change below the folders."""
+    return max(os.path.getmtime(f"{at}/{name}") for it in folders for at, _, names in os.walk(it) for name in names)
+
+
+def take_proved(room, libraries):
+    """Takes over what is proved of the libraries here; whether all of it is there."""
+    kept = [f"{TOP}/crates/{name}/out/rlib" for name in libraries]
+    stamped = [os.path.isfile(f"{it}/stamp") for it in kept]
+    parts = [f"{TOP}/crates/{name}/{part}" for name in libraries for part in ("src", "specs", "proofs")]
+    # (what the gate leaves has no stamp, and serves only as a whole)
+    if not all(os.path.isdir(f"{it}/{name}.rlib") for it, name in zip(kept, libraries)):
+        return False
+    if not all(stamped) and (any(stamped) or min(os.path.getmtime(f"{it}/{name}.rlib") for it, name in zip(kept, libraries)) < newest(parts)):
+        return False
+    for name, it in zip(libraries, kept):
+        shutil.copytree(it, f"{room}/crates/{name}/out/rlib")
+    if not any(stamped):
+        for crate in load_rt().rtlib.crates_below(room):
+            if crate.name in libraries:
+                with open(f"{crate.folder}/out/rlib/stamp", "w", encoding="utf-8") as it:
+                    it.write(crate.stamp())
+    return True
+
+
+def main():
+    if not shutil.which("rt"):
+        print("not run: there is no rt, the Rattle kit's command\n0 passed, 1 failed")
+        return 1
+    with tempfile.TemporaryDirectory(prefix="outside-") as room:
+        if len(sys.argv) > 1:
+            room = os.path.abspath(sys.argv[1])
+            os.makedirs(room)
+        libraries, callers = make_repository(room)
+        if not take_proved(room, libraries):
+            print("nothing kept serves: the libraries are proved first", flush=True)
+        passed, failed = 0, 0 if callers else 1
+        for name in callers:
+            words = ["rt", "check", "--jobs", "1"]
+            ran = subprocess.run(words, cwd=f"{room}/crates/{name}", stdout=subprocess.PIPE, stderr=subprocess.STDOUT)
+            is_proved = ran.returncode == 0
+            passed, failed = passed + is_proved, failed + (not is_proved)
+            print(f"{name}: {'proved' if is_proved else 'NOT PROVED'}")
+            if not is_proved:
+                print(ran.stdout.decode(errors="replace")[-3000:])
+    print(f"{passed} passed, {failed} failed")
+    return 1 if failed else 0
+
+
+if __name__ == "__main__":
+    sys.exit(main())

@@ -1,0 +1,88 @@
+#!/usr/bin/env python3
+"""Holds caltool to its exit statuses, its two texts and its answers where reading or writing fails.
+
+    checks/statuses.py      (the programs that `rt ci` or `rt run` left in crates/caltool/out)
+
+Both builds are tried where both are there: LLVM's, and that of Rattle's own compiler, which `rt ci` alone leaves.
+"""
+import os
+import subprocess
+import sys
+import tempfile
+
+TOP = os.path.dirname(os.path.dirname(os.path.abspath(__file__)))
+PROGRAMS = [os.path.join(TOP, "crates", "caltool", "out", name) for name in ("caltool", "caltool.by-rattle")]
+LINE = b"ymd 2024 2 29\n"
+ANSWER = b"2024-02-29 738945 Thu 2024-W09 60\n"
+# More lines than any buffer holds.
+MANY = 20_000
+READ_FAULT, WRITE_FAULT = (1, b"read fault\n"), (2, b"write fault\n")
+DONE = (0, b"")
+
+
+def run(program, given, redirected="", **how):
+    """Runs the program under a shell's redirections; its status, what it wrote to standard error, and its answers."""
+    words = ["sh", "-c", f'exec "$0" {redirected}', program]
+    how = {"stdout": subprocess.PIPE, "stderr": subprocess.PIPE, "timeout": 60, **how}
+    ran = subprocess.run(words, input=given, **how)
+    return (ran.returncode, ran.stderr or b""), ran.stdout or b""
+
+
+def of_broken_pipe(program):
+    """The status where the reader of the answers goes away after the first of them."""
+    with subprocess.Popen([program], stdin=subprocess.PIPE, stdout=subprocess.PIPE, stderr=subprocess.PIPE) as ran:
+        ran.stdin.write(LINE)
+        ran.stdin.flush()
+        first = ran.stdout.readline()
+        ran.stdout.close()
+        try:
+            ran.stdin.write(LINE * MANY)
+            ran.stdin.close()
+        except BrokenPipeError:
+            pass
+        said = ran.stderr.read()
+        ran.stdin = None
+        return (ran.wait(60), said), first
+
+
+def cases(program, folder):
+    """Each case: what it is, what the program did, and what it has to do."""
+    yield "no input", run(program, b""), (DONE, b"")
+    yield "one line", run(program, LINE), (DONE, ANSWER)
+    yield "a last line without a newline", run(program, LINE + LINE[:-1]), (DONE, ANSWER * 2)
+    yield "many lines", run(program, LINE * MANY), (DONE, ANSWER * MANY)
+    yield "a directory as input", run(program, None, f"< {folder}"), (READ_FAULT, b"")
+    yield "standard input closed", run(program, None, "<&-"), (READ_FAULT, b"")
+    if os.path.exists("/dev/full"):
+        yield "a full device", run(program, LINE, "> /dev/full"), (WRITE_FAULT, b"")
+        yield "a full device and many lines", run(program, LINE * MANY, "> /dev/full"), (WRITE_FAULT, b"")
+        yield "a full device and no input", run(program, b"", "> /dev/full"), (DONE, b"")
+    yield "a pipe closed after the first answer", of_broken_pipe(program), (WRITE_FAULT, ANSWER)
+    yield "standard output closed", run(program, LINE, ">&-"), (WRITE_FAULT, b"")
+    yield "standard error closed", run(program, LINE, "2>&-"), (DONE, ANSWER)
+    yield "a directory as input and standard error closed", run(program, None, f"< {folder} 2>&-"), ((1, b""), b"")
+
+
+def main():
+    found = [it for it in PROGRAMS if os.path.exists(it)]
+    passed, failed = 0, 0
+    if not found:
+        print("there is no crates/caltool/out/caltool: `rt run` in crates/caltool builds it")
+        failed = 1
+    if not os.path.exists("/dev/full"):
+        print("not run: a full device, since there is no /dev/full")
+    for program in found:
+        with tempfile.TemporaryDirectory() as folder:
+            for what, did, has_to in cases(program, folder):
+                is_right = did == has_to
+                passed, failed = passed + is_right, failed + (not is_right)
+                if not is_right:
+                    (status, said), wrote = did
+                    name = os.path.basename(program)
+                    print(f"{name}: {what}: status {status}, {said!r} on standard error, {len(wrote)} bytes of answers")
+    print(f"{passed} passed, {failed} failed")
+    return 1 if failed else 0
+
+
+if __name__ == "__main__":
+    sys.exit(main())

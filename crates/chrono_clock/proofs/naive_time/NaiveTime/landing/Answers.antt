@@ -1,0 +1,24 @@
+use Rattle.std.proofs.Common.{sym, ap, ◌∙◌}
+use Rattle.chrono_clock.specs.Time.{Landing}
+use Rattle.chrono_clock.proofs.TimeLemmas.{land-plain, land-leap, IsPlain-is_leap, IsLeap-is_leap}
+use Rattle.chrono_clock.proofs.naive_time.NaiveTime.landing.Goals as goal
+
+pub returns-then-is_leap-clause-time : goal.returns-then-is_leap-clause-time
+returns-then-is_leap-clause-time c =
+    let leap = IsLeap-is_leap c.args.self.now (sym c.is_leap.ensures.leap ∙ c.if-is_leap.true) in
+    c.moved_from_leap.ensures.time ∙ ap (λ (l : Landing). l.time) (sym (land-leap c.args.self.now c.args.rhs leap))
+
+pub returns-then-is_leap-clause-days : goal.returns-then-is_leap-clause-days
+returns-then-is_leap-clause-days c =
+    let leap = IsLeap-is_leap c.args.self.now (sym c.is_leap.ensures.leap ∙ c.if-is_leap.true) in
+    c.moved_from_leap.ensures.days ∙ ap (λ (l : Landing). l.day) (sym (land-leap c.args.self.now c.args.rhs leap))
+
+pub returns-else-is_leap-clause-time : goal.returns-else-is_leap-clause-time
+returns-else-is_leap-clause-time c =
+    let plain = IsPlain-is_leap c.args.self.now (sym c.is_leap.ensures.leap ∙ c.if-is_leap.false) in
+    c.moved_plainly.ensures.time ∙ ap (λ (l : Landing). l.time) (sym (land-plain c.args.self.now c.args.rhs plain))
+
+pub returns-else-is_leap-clause-days : goal.returns-else-is_leap-clause-days
+returns-else-is_leap-clause-days c =
+    let plain = IsPlain-is_leap c.args.self.now (sym c.is_leap.ensures.leap ∙ c.if-is_leap.false) in
+    c.moved_plainly.ensures.days ∙ ap (λ (l : Landing). l.day) (sym (land-plain c.args.self.now c.args.rhs plain))
