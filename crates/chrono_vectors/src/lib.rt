@@ -5,6 +5,8 @@
 #![tactic(auto)]
 
 #[cfg(test)]
+mod both_forms;
+#[cfg(test)]
 mod calendar_parts;
 #[cfg(test)]
 mod clock;
@@ -22,6 +24,8 @@ mod naive_date;
 mod naive_date_time;
 #[cfg(test)]
 mod naive_time;
+#[cfg(test)]
+mod stored_forms;
 #[cfg(test)]
 mod time_delta;
 #[cfg(test)]

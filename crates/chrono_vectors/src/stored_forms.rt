@@ -1,7 +1,8 @@
-//! Dates whose names are known from outside, and a walk over every day of the range.
+//! Both stored forms of a date against names that are known from outside, and against a walk over every day of the
+//! range.
 
-use crate::PackedForm;
 use chrono_calendar::{DayForm, Steps};
+use chrono_stored::{CountedForm, PackedForm};
 use std::hash::{DefaultHasher, Hash, Hasher};
 
 /// A day as a walk reaches it: its names, and its weekday from 0 for Monday.
@@ -55,7 +56,9 @@ fn agrees<F: DayForm>(days: i32, walk: &Walk) -> bool {
         form.weekday().num_days_from_monday(),
         form.is_leap(),
     );
-    names == (walk.year, (walk.month, walk.day), walk.ordinal)
+    form.year_ordinal() == (walk.year, walk.ordinal)
+        && form.year_month_day() == (walk.year, walk.month, walk.day)
+        && names == (walk.year, (walk.month, walk.day), walk.ordinal)
         && reads == (days, walk.weekday, is_leap(walk.year))
         && F::from_yo(walk.year, walk.ordinal) == Some(form)
         && F::from_ymd(walk.year, walk.month, walk.day) == Some(form)
@@ -79,7 +82,8 @@ fn a_walk_names_every_97th_day(rt: HostRuntime) {
     let mut days = -95_746_129;
     for n in 0..191_491_529u32 {
         if n % 97 == 0 {
-            assert!(rt; agrees::<PackedForm>(days, &walk), "day {days}");
+            assert!(rt; agrees::<PackedForm>(days, &walk), "packed, day {days}");
+            assert!(rt; agrees::<CountedForm>(days, &walk), "counted, day {days}");
         }
         walk.step();
         days = days.wrapping_add(1);
@@ -107,6 +111,10 @@ fn known_dates_are_stored_so(rt: HostRuntime) {
         assert_eq!(rt; form.weekday().num_days_from_monday(), weekday);
         assert_eq!(rt; form.bits(), bits);
         assert_eq!(rt; PackedForm::from_day(number, &mut Steps::new()), Some(form));
+        let form = CountedForm::from_ymd(year, month, day).expect(&rt, "a date");
+        assert_eq!(rt; form.day(), number);
+        assert_eq!(rt; form.weekday().num_days_from_monday(), weekday);
+        assert_eq!(rt; CountedForm::from_day(number, &mut Steps::new()), Some(form));
     }
 }
 
@@ -127,6 +135,7 @@ fn other_names_are_no_dates(rt: HostRuntime) {
         (i32::MAX, 12, 31),
     ] {
         assert_eq!(rt; PackedForm::from_ymd(year, month, day), None);
+        assert_eq!(rt; CountedForm::from_ymd(year, month, day), None);
     }
     for (year, ordinal) in [
         (2023, 366),
@@ -136,21 +145,37 @@ fn other_names_are_no_dates(rt: HostRuntime) {
         (262_143, 1),
     ] {
         assert_eq!(rt; PackedForm::from_yo(year, ordinal), None);
+        assert_eq!(rt; CountedForm::from_yo(year, ordinal), None);
     }
     for days in [-95_746_130, 95_745_400, i32::MIN, i32::MAX] {
         assert_eq!(rt; PackedForm::from_day(days, &mut Steps::new()), None);
+        assert_eq!(rt; CountedForm::from_day(days, &mut Steps::new()), None);
     }
+}
+
+/// Whether a date before year 0 comes between the ends and a date after them, and is equal and hashed alike by each of
+/// its names.
+fn is_ordered<F: DayForm>(first: F, last: F) -> bool {
+    let (Some(before), Some(same), Some(after)) = (
+        F::from_yo(-1, 365),
+        F::from_ymd(-1, 12, 31),
+        F::from_yo(1, 1),
+    ) else {
+        return false;
+    };
+    first < before
+        && before < after
+        && after < last
+        && same == before
+        && hash_of(&same) == hash_of(&before)
 }
 
 #[test]
 fn the_ends_and_the_order(rt: HostRuntime) {
-    let first = PackedForm::min_value();
-    let last = PackedForm::max_value();
-    assert_eq!(rt; first.bits(), -2_147_475_430);
-    assert_eq!(rt; last.bits(), 2_147_473_118);
-    let before = PackedForm::from_yo(-1, 365).expect(&rt, "a date");
-    let after = PackedForm::from_yo(1, 1).expect(&rt, "a date");
-    assert!(rt; first < before && before < after && after < last);
-    let same = PackedForm::from_ymd(-1, 12, 31).expect(&rt, "a date");
-    assert_eq!(rt; hash_of(&same), hash_of(&before));
+    assert_eq!(rt; PackedForm::min_value().bits(), -2_147_475_430);
+    assert_eq!(rt; PackedForm::max_value().bits(), 2_147_473_118);
+    assert_eq!(rt; CountedForm::min_value().year_month_day(), (-262_143, 1, 1));
+    assert_eq!(rt; CountedForm::max_value().year_month_day(), (262_142, 12, 31));
+    assert!(rt; is_ordered(PackedForm::min_value(), PackedForm::max_value()));
+    assert!(rt; is_ordered(CountedForm::min_value(), CountedForm::max_value()));
 }
