@@ -7,6 +7,7 @@ use Rattle.chrono_clock.proofs.LandingLemmas.{plain_landing-shift}
 
 -- ---- places beside another time
 
+-- a plain time lengthens no other, and a leap one those of later seconds alone
 beside-plain : (t other : TimeOfDay) → IsPlain other → place_beside t other ≡ place t
 beside-plain t other h = let e = is_leap-plain other h in rw e (omega arith)
 

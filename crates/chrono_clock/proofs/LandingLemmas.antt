@@ -27,11 +27,11 @@ plain_landing-shift q k =
 pub place-plain_landing : (q : ℤ) → pos (place (plain_landing q).time) +ℤ (plain_landing q).day *ℤ pos 86_400_000_000_000 ≡ q
 place-plain_landing q = omega (arith, signed)
 
-pub IsPlain-plain_landing : (q : ℤ) → IsPlain (plain_landing q).time
+IsPlain-plain_landing : (q : ℤ) → IsPlain (plain_landing q).time
 IsPlain-plain_landing q = omega arith
 
 -- a move on from a plain point
-pub land-plain_landing : (q y : ℤ) → plain_landing (q +ℤ y) ≡ later (plain_landing q).day (land (plain_landing q).time y)
+land-plain_landing : (q y : ℤ) → plain_landing (q +ℤ y) ≡ later (plain_landing q).day (land (plain_landing q).time y)
 land-plain_landing q y =
     let t = (plain_landing q).time in
     let d = (plain_landing q).day in
@@ -54,6 +54,7 @@ TimeMovesAddUp-plain t x y h =
 LeapAddsUp : ℕ → ℤ → ℤ → Type 0
 LeapAddsUp s p y = leap_landing s (p +ℤ y) ≡ later (leap_landing s p).day (land (leap_landing s p).time y)
 
+-- a move back from before the leap second, a move on from past it, and any move from inside it
 before_leap : (s : ℕ) (p y : ℤ) → p <ℤ pos ((s + 1) * 1_000_000_000) → y ≤ℤ pos 0 → LeapAddsUp s p y
 unfolding LeapAddsUp
 before_leap s p y h k =
@@ -67,6 +68,7 @@ past_leap s p y h k =
     let e : (p +ℤ y) -ℤ pos 1_000_000_000 ≡ (p -ℤ pos 1_000_000_000) +ℤ y = omega (arith, signed) in
     rw (leap_landing-past s p h, leap_landing-past s (p +ℤ y) h') (ap plain_landing e ∙ land-plain_landing (p -ℤ pos 1_000_000_000) y)
 
+-- no day later is the landing itself
 later-none : (l : Landing) → later (pos 0) l ≡ l
 later-none l =
     let of_day : ℤ → Landing = λ d. record { day = d; time = l.time } in

@@ -6,6 +6,7 @@ use Rattle.chrono_clock.specs.Signed.{signed}
 use Rattle.chrono_clock.proofs.TimeLemmas.{by_order, by_leap, by_parts, land-plain, land-leap, leap_landing-before, leap_landing-inside, leap_landing-past}
 use Rattle.chrono_clock.proofs.LandingLemmas.{place-plain_landing}
 
+-- a plain landing lies in its day, and in no leap second
 parts_of : (q : ℤ) → ((plain_landing q).time.second < 86_400) × ((plain_landing q).time.fraction < 1_000_000_000)
 parts_of q = (omega (arith, signed), omega arith)
 

@@ -31,7 +31,7 @@ four_digits-value n h = omega (
 )
 
 -- numbers below 100 with the same two digits are the same
-pub two_digits_injective : (n m : ℕ) → n < 100 → m < 100 → two_digits n ≡ two_digits m → n ≡ m
+two_digits_injective : (n m : ℕ) → n < 100 → m < 100 → two_digits n ≡ two_digits m → n ≡ m
 two_digits_injective n m h k e = omega (arith, ap (λ (c : List ℕ). get_or c 0 0) e, ap (λ (c : List ℕ). get_or c 1 0) e)
 
 -- ---- years
@@ -42,18 +42,19 @@ year_digits-value n h = by_order 10_000 n
     (λ high. grind (arith, (decimal_is_IsNumeral n h).1))
     (λ low. grind (arith, four_digits-value n low))
 
-pub year_digits_injective : (n m : ℕ) → n < 2 ^ 64 → m < 2 ^ 64 → year_digits n ≡ year_digits m → n ≡ m
+-- so different sizes have different digits
+year_digits_injective : (n m : ℕ) → n < 2 ^ 64 → m < 2 ^ 64 → year_digits n ≡ year_digits m → n ≡ m
 year_digits_injective n m h k e = sym (year_digits-value n h) ∙ ap (λ (c : List ℕ). digits_value 10 c) e ∙ year_digits-value m k
 
 -- the kinds of years from 0 up
-pub year_text-four : (n : ℕ) → n < 10_000 → year_text (pos n) ≡ all_digits 4 n
+year_text-four : (n : ℕ) → n < 10_000 → year_text (pos n) ≡ all_digits 4 n
 year_text-four n h = grind arith
 
-pub year_text-more : (n : ℕ) → 10_000 ≤ n → year_text (pos n) ≡ 43 ∷ year_digits n
+year_text-more : (n : ℕ) → 10_000 ≤ n → year_text (pos n) ≡ 43 ∷ year_digits n
 year_text-more n h = grind arith
 
 -- different years have different texts
-pub year_text_injective : (y z : ℤ) → unsigned_abs y < 2 ^ 64 → unsigned_abs z < 2 ^ 64 → year_text y ≡ year_text z → y ≡ z
+year_text_injective : (y z : ℤ) → unsigned_abs y < 2 ^ 64 → unsigned_abs z < 2 ^ 64 → year_text y ≡ year_text z → y ≡ z
 year_text_injective (negsuc n) (negsuc m) h k e = ap negsuc (omega (arith, year_digits_injective (suc n) (suc m) h k (ap (λ (c : List ℕ). drop 1 c) e)))
 year_text_injective (negsuc n) (pos m) h k e = by_order 10_000 m
     (λ high. absurd (omega (arith, ap (λ (c : List ℕ). get_or c 0 0) (e ∙ year_text-more m high))))
