@@ -6,7 +6,7 @@ use Rattle.chrono_units.proofs.weekday_set_iter.WeekdaySetIterDoubleEndedIterato
 pub returns-clause-steps : goal.returns-clause-steps
 returns-clause-steps c =
     sym c.self.view_is
-    ∙ walk-last c.self.inside.days c.self.inside.start c.in_ok-day.day (sym c.last_before.ensures ∙ c.in_ok-day.was)
+    ∙ walk-last c.self.inside.days c.self.inside.start c.in_ok-day.day (sym c.in_ok-day.ensures)
     ∙ ap (λ s. walk s c.self.inside.start ++ c.in_ok-day.day ∷ []) (sym c.remove.ensures.after)
 
 pub returns-clause-goes : goal.returns-clause-goes
