@@ -15,14 +15,49 @@ const DAYS: [(i32, i32); 5] = [
 
 // Years of each kind, about year 0 and at both ends, and past them.
 const YEARS: [i32; 24] = [
-    i32::MIN, -262_144, -262_143, -262_142, -401, -400, -399, -100, -4, -1, 0, 1, 3, 4, 100, 400,
-    1900, 2000, 2023, 2024, 262_141, 262_142, 262_143, i32::MAX,
+    i32::MIN,
+    -262_144,
+    -262_143,
+    -262_142,
+    -401,
+    -400,
+    -399,
+    -100,
+    -4,
+    -1,
+    0,
+    1,
+    3,
+    4,
+    100,
+    400,
+    1900,
+    2000,
+    2023,
+    2024,
+    262_141,
+    262_142,
+    262_143,
+    i32::MAX,
 ];
 
 // Days or months to move by.
 const MOVES: [i64; 15] = [
-    i64::MIN, -191_491_529, -146_097, -4_801, -366, -31, -1, 0, 1, 30, 365, 4_800, 146_097,
-    191_491_529, i64::MAX,
+    i64::MIN,
+    -191_491_529,
+    -146_097,
+    -4_801,
+    -366,
+    -31,
+    -1,
+    0,
+    1,
+    30,
+    365,
+    4_800,
+    146_097,
+    191_491_529,
+    i64::MAX,
 ];
 
 /// What a form reads of its date.
@@ -76,7 +111,10 @@ fn years_between<F: DayForm>(days: i32, base: i32) -> Option<u32> {
 fn days_are_read_alike(rt: HostRuntime) {
     for (first, last) in DAYS {
         for days in first..last {
-            assert!(rt; of_day::<PackedForm>(days) == of_day::<CountedForm>(days), "day {days}");
+            assert!(rt;
+                of_day::<PackedForm>(days) == of_day::<CountedForm>(days),
+                "day {days}"
+            );
         }
     }
 }
@@ -110,13 +148,19 @@ fn weeks_are_taken_alike(rt: HostRuntime) {
             for week in 0..55u32 {
                 let packed: Option<PackedForm> = forms::from_iso(year, week, weekday);
                 let counted: Option<CountedForm> = forms::from_iso(year, week, weekday);
-                assert!(rt; fields_of(packed) == fields_of(counted), "week {week} of {year}");
+                assert!(rt;
+                    fields_of(packed) == fields_of(counted),
+                    "week {week} of {year}"
+                );
             }
             for month in 0..14u32 {
                 for n in 0..7u8 {
                     let packed: Option<PackedForm> = forms::nth_weekday(year, month, weekday, n);
                     let counted: Option<CountedForm> = forms::nth_weekday(year, month, weekday, n);
-                    assert!(rt; fields_of(packed) == fields_of(counted), "{n} in {year}-{month}");
+                    assert!(rt;
+                        fields_of(packed) == fields_of(counted),
+                        "{n} in {year}-{month}"
+                    );
                 }
             }
         }
@@ -124,17 +168,26 @@ fn weeks_are_taken_alike(rt: HostRuntime) {
     }
 }
 
+fn moves_agree(days: i32) -> bool {
+    for k in MOVES {
+        if moved::<PackedForm>(days, k) != moved::<CountedForm>(days, k) {
+            return false;
+        }
+    }
+    for (base, _) in DAYS {
+        if years_between::<PackedForm>(days, base) != years_between::<CountedForm>(days, base) {
+            return false;
+        }
+    }
+    true
+}
+
 #[test]
 fn moves_are_made_alike(rt: HostRuntime) {
     for (first, last) in DAYS {
-        for days in (first..last).step_by(13) {
-            for k in MOVES {
-                assert!(rt; moved::<PackedForm>(days, k) == moved::<CountedForm>(days, k), "day {days} by {k}");
-            }
-            for (base, _) in DAYS {
-                let packed = years_between::<PackedForm>(days, base);
-                let counted = years_between::<CountedForm>(days, base);
-                assert!(rt; packed == counted, "from {base} to {days}");
+        for days in first..last {
+            if days % 13 == 0 {
+                assert!(rt; moves_agree(days), "day {days}");
             }
         }
     }

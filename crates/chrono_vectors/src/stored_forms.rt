@@ -114,7 +114,10 @@ fn known_dates_are_stored_so(rt: HostRuntime) {
         let form = CountedForm::from_ymd(year, month, day).expect(&rt, "a date");
         assert_eq!(rt; form.day(), number);
         assert_eq!(rt; form.weekday().num_days_from_monday(), weekday);
-        assert_eq!(rt; CountedForm::from_day(number, &mut Steps::new()), Some(form));
+        assert_eq!(rt;
+            CountedForm::from_day(number, &mut Steps::new()),
+            Some(form)
+        );
     }
 }
 
@@ -175,7 +178,10 @@ fn the_ends_and_the_order(rt: HostRuntime) {
     assert_eq!(rt; PackedForm::min_value().bits(), -2_147_475_430);
     assert_eq!(rt; PackedForm::max_value().bits(), 2_147_473_118);
     assert_eq!(rt; CountedForm::min_value().year_month_day(), (-262_143, 1, 1));
-    assert_eq!(rt; CountedForm::max_value().year_month_day(), (262_142, 12, 31));
+    assert_eq!(rt;
+        CountedForm::max_value().year_month_day(),
+        (262_142, 12, 31)
+    );
     assert!(rt; is_ordered(PackedForm::min_value(), PackedForm::max_value()));
     assert!(rt; is_ordered(CountedForm::min_value(), CountedForm::max_value()));
 }

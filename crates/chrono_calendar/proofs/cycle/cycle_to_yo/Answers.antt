@@ -24,3 +24,8 @@ pub returns-clause-place : goal.returns-clause-place
 returns-clause-place c =
     let later = leap_years_before-positive (c.args.cycle / 365) (omega arith) in
     omega (arith, signed, days_before_year-natural (c.args.cycle / 365 - 1))
+
+pub returns-clause-taken : goal.returns-clause-taken
+returns-clause-taken c =
+    let later = leap_years_before-positive (c.args.cycle / 365) (omega arith) in
+    omega arith
