@@ -1,5 +1,5 @@
 -- The answer to each command, by what the calendar and the clock count.
-use Rattle.std.specs.Prelude.{ℕ, ◌==◌, nat_lt, nat_le, ◌&&◌, ◌||◌, if◌then◌else◌, List, ◌++◌, ℤ, pos, ◌+ℤ◌, unsigned_abs, Option, Some, None, codes}
+use Rattle.std.specs.Prelude.{ℕ, ◌==◌, nat_lt, nat_le, ◌&&◌, ◌||◌, if◌then◌else◌, List, ◌++◌, ℤ, pos, neg_ℤ, ◌+ℤ◌, unsigned_abs, Option, Some, None, codes}
 use Rattle.std.specs.Fmt.{decimal, signed_decimal}
 use Rattle.std.specs.Option.{option_map, option_and_then}
 use Rattle.chrono_datetime.specs.Duration.{nanos_per_second, longest, nanos_of}
@@ -13,13 +13,14 @@ use Rattle.chrono_datetime.specs.MonthMoves.{month_move}
 use Rattle.chrono_datetime.specs.YearsBetween.{years_between}
 use Rattle.chrono_datetime.specs.DateText.{date_text}
 use Rattle.chrono_datetime.specs.MomentText.{moment_text}
-use Rattle.chrono_datetime.specs.Moment as there
-use Rattle.chrono_datetime.specs.Moment.{moment, reach, moment_distance}
+use Rattle.chrono_datetime.specs.Moment.{Moment, moment, reach, moment_distance}
 use Rattle.caltool_form.specs.Answers as form
 use Rattle.caltool_form.specs.Texts.{spaced_days_text}
 use Rattle.caltool_form.specs.declared.arguments.CalendarDate.{CalendarDate}
 use Rattle.caltool_form.specs.declared.arguments.ClockTime.{ClockTime}
-use Rattle.caltool_form.specs.declared.arguments.Moment.{Moment}
+use Rattle.caltool_form.specs.declared.arguments.DateAndTime.{DateAndTime}
+use Rattle.caltool_form.specs.declared.arguments.MonthSpan.{MonthSpan}
+use Rattle.caltool_form.specs.declared.arguments.MonthSpan.TheVariants.{Later, Earlier}
 use Rattle.caltool_form.specs.declared.command.Command.{Command}
 use Rattle.caltool_form.specs.declared.command.Command.TheVariants.{Ymd, Yo, Iwd, Day, Wom, Days, Months, Week, Move, Diff, Since, Set}
 
@@ -37,8 +38,13 @@ time_named t =
     then Some (time_at t.hour t.minute t.second t.nanosecond) else None
 
 -- the date-time of both, if both exist
-unfoldable pub moment_named : Moment → Option there.Moment
+unfoldable pub moment_named : DateAndTime → Option Moment
 moment_named m = option_and_then (λ n. option_map (moment n) (time_named m.time)) (date_named m.date)
+
+-- a number of months, below 0 if they go back
+abbrev pub months_of : MonthSpan → ℤ
+months_of (Later n) = pos n
+months_of (Earlier n) = neg_ℤ (pos n)
 
 -- the duration of seconds and nanoseconds, if there is one
 unfoldable pub duration_named : ℤ → ℕ → Option ℤ
@@ -76,7 +82,7 @@ answer_to (Iwd year week weekday) = date_line (date_of_iso year week weekday)
 answer_to (Day number) = date_line (date_of_day number)
 answer_to (Wom year month weekday nth) = date_line (date_of_nth_weekday year month weekday nth)
 answer_to (Days date count) = date_line (option_and_then (λ n. date_of_day (n +ℤ count)) (date_named date))
-answer_to (Months date count) = date_line (option_and_then (λ n. month_move n count) (date_named date))
+answer_to (Months date span) = date_line (option_and_then (λ n. month_move n (months_of span)) (date_named date))
 answer_to (Week date start) = text_or_none (λ n. week_line (week_first_of n start)) (date_named date)
 answer_to (Move from seconds nanoseconds) =
     text_or_none (moment_text 84)

@@ -13,14 +13,14 @@ ghost use Rattle.chrono_datetime.specs.Text.{duration_text};
 ghost use Rattle.chrono_datetime.specs.WeekdaySet.{walk};
 ghost use Rattle.chrono_datetime.specs.WeekdayText.{set_text};
 ghost use Rattle.chrono_datetime.specs.Moment.{reach, moment_distance};
-ghost use Rattle.caltool_dates.specs.Answers.{answer_to as the_answer, date_named as the_date, moment_named as the_moment, duration_named as the_duration, date_line, week_line, text_or_none};
+ghost use Rattle.caltool_dates.specs.Answers.{answer_to as the_answer, date_named as the_date, moment_named as the_moment, duration_named as the_duration, months_of, date_line, week_line, text_or_none};
 ghost use Rattle.chrono_datetime.specs.MomentText.{moment_text};
 
 use crate::named::{date_named, duration_named, moment_named};
 use crate::texts::{put_date, put_moment, put_names};
 use caltool_form::{
-    CalendarDate, Command, CommandAnswers, Moment, put_duration, put_set, put_text, put_u32,
-    put_walk,
+    CalendarDate, Command, CommandAnswers, DateAndTime, MonthSpan, put_duration, put_set, put_text,
+    put_u32, put_walk,
 };
 use chrono_datetime::{
     Datelike, Days, Months, NaiveDate, NaiveDateTime, NaiveWeek, TimeDelta, Weekday, WeekdaySet,
@@ -57,7 +57,7 @@ impl CommandAnswers for DateAnswers {
                 out,
             ),
             Command::Days { date, count } => write_date_line(moved_by_days(date, count), out),
-            Command::Months { date, count } => write_date_line(moved_by_months(date, count), out),
+            Command::Months { date, span } => write_date_line(moved_by_months(date, span), out),
             Command::Week { date, start } => write_week(date_named(date), start, out),
             Command::Move {
                 from,
@@ -86,23 +86,14 @@ fn moved_by_days(date: CalendarDate, count: i64) -> Option<NaiveDate>
     }
 }
 
-// The date so many months later, or earlier where the count is negative.
-fn moved_by_months(date: CalendarDate, count: i64) -> Option<NaiveDate>
-    ensures { result ≡ option_and_then (λ n. month_move n count) (the_date date) }
+// The date so many months later, or earlier.
+fn moved_by_months(date: CalendarDate, span: MonthSpan) -> Option<NaiveDate>
+    ensures { result ≡ option_and_then (λ n. month_move n (months_of span)) (the_date date) }
 {
     let date = date_named(date)?;
-    match u32::try_from(count.unsigned_abs()) {
-        Err(_) => {
-            prove!(date.year() >= -262_143);
-            None
-        }
-        Ok(months) => {
-            if count < 0 {
-                date.checked_sub_months(Months::new(months))
-            } else {
-                date.checked_add_months(Months::new(months))
-            }
-        }
+    match span {
+        MonthSpan::Later(months) => date.checked_add_months(Months::new(months)),
+        MonthSpan::Earlier(months) => date.checked_sub_months(Months::new(months)),
     }
 }
 
@@ -114,14 +105,14 @@ fn years_since(date: CalendarDate, base: CalendarDate) -> Option<u32>
 }
 
 // The date-time a duration later.
-fn moved(from: Moment, seconds: i64, nanoseconds: u32) -> Option<NaiveDateTime>
+fn moved(from: DateAndTime, seconds: i64, nanoseconds: u32) -> Option<NaiveDateTime>
     ensures { result ≡ option_and_then (λ m. option_and_then (λ x. reach m x) (the_duration seconds nanoseconds)) (the_moment from) }
 {
     moment_named(from)?.checked_add_signed(duration_named(seconds, nanoseconds)?)
 }
 
 // How far the first date-time is from the second.
-fn difference(first: Moment, second: Moment) -> Option<TimeDelta>
+fn difference(first: DateAndTime, second: DateAndTime) -> Option<TimeDelta>
     ensures { result ≡ option_and_then (λ a. option_map (λ b. moment_distance a b) (the_moment second)) (the_moment first) }
 {
     let first = moment_named(first)?;

@@ -2,7 +2,7 @@
 ghost use Rattle.std.specs.Prelude.{◌≡◌};
 ghost use Rattle.caltool_dates.specs.Answers.{date_named as the_date, time_named as the_time, moment_named as the_moment, duration_named as the_duration};
 
-use caltool_form::{CalendarDate, ClockTime, Moment};
+use caltool_form::{CalendarDate, ClockTime, DateAndTime};
 use chrono_datetime::{NaiveDate, NaiveDateTime, NaiveTime, TimeDelta};
 
 // The date of a year, a month and a day.
@@ -25,7 +25,7 @@ pub(crate) fn time_named(time: ClockTime) -> Option<NaiveTime>
 // The date-time of both.
 #[inline]
 #[tactic(auto, unfolding(crate::specs::Answers::moment_named))]
-pub(crate) fn moment_named(moment: Moment) -> Option<NaiveDateTime>
+pub(crate) fn moment_named(moment: DateAndTime) -> Option<NaiveDateTime>
     ensures { result ≡ the_moment moment }
 {
     let date = date_named(moment.date)?;

@@ -1,6 +1,6 @@
 -- The laws of words, numbers and lines.
-use Rattle.std.proofs.Common.{◌≡◌, ◌≢◌, ◌==◌, ◌<◌, ℕ, Bool, true, false, cond, inl, inr, List, [], ◌∷◌, ◌++◌, length, refl, ap, sym, ◌∙◌, subst, arith, append-nil, ℤ, pos, neg_ℤ, Option, Some, None}
-use Rattle.std.specs.Int.{IsInRange}
+use Rattle.std.proofs.Common.{◌≡◌, ◌≢◌, ◌==◌, ◌<◌, ℕ, Bool, true, false, cond, inl, inr, List, [], ◌∷◌, ◌++◌, length, refl, ap, sym, ◌∙◌, subst, arith, append-nil, ℤ, pos, neg_ℤ, FitsSigned, Option, Some, None}
+use Rattle.std.specs.Int.{IsInRange, w64}
 use Rattle.std.specs.List.{onto_first, join_with_byte, AllByRecursion}
 use Rattle.std.specs.Option.{option_map, option_and_then}
 use Rattle.std.specs.Str.{all_ascii_digits}
@@ -9,9 +9,10 @@ use Rattle.std.proofs.lemmas.Str.Parse.{tells_all_ascii_digits}
 use Rattle.std.proofs.lemmas.List.Splits.{join_with_byte-slice_split, length-slice_split, slice_split_none, slice_split_at}
 use Rattle.std.proofs.lemmas.List.Elements.{All-cons, All-nil}
 use Rattle.caltool_form.specs.Words.{words, IsWord, AreWords}
-use Rattle.caltool_form.specs.Numbers.{value_of, natural_of, number_of, signed, AreDigits, WritesNumber}
+use Rattle.caltool_form.specs.Numbers.{value_of, natural_of, number_of, signed, to_i64, AreDigits, WritesNumber}
 use Rattle.caltool_form.specs.Grammar.{numbers_of, arguments_from, arguments_of, WritesNumbers, IsCommandLine}
 use Rattle.caltool_form.proofs.Splits.{NotSpace, no_space}
+use Rattle.caltool_form.proofs.Types.{i64_read, i64_written}
 
 -- words
 
@@ -114,13 +115,18 @@ one_more texts (Some n) numbers h =
     let (ns, e, same) = mapped (λ ns. n ∷ ns) (numbers_of texts) numbers h in
     (n, ns, refl, e, same)
 
+fitting : (text : List ℕ) (o : Option ℤ) (n : ℤ) → number_of text ≡ o → option_and_then to_i64 o ≡ Some n → WritesNumber text n × FitsSigned w64 n
+fitting text None n is h = let wrong : ⊥ = cc in absurd wrong
+fitting text (Some z) n is h = let (same, fits) = i64_read z n h in (number_read text n (is ∙ ap Some same), fits)
+
 numbers_read : (texts : List (List ℕ)) (numbers : List ℤ) → numbers_of texts ≡ Some numbers → WritesNumbers (spaced texts) numbers
 unfolding numbers_of
 numbers_read [] [] h = refl
 numbers_read [] (z ∷ zs) h = let wrong : ⊥ = cc in absurd wrong
 numbers_read (text ∷ texts) numbers h =
-    let (n, ns, one, others, same) = one_more texts (number_of text) numbers h in
-    subst (WritesNumbers (spaced (text ∷ texts))) (sym same) (text, spaced texts, refl, number_read text n one, numbers_read texts ns others)
+    let (n, ns, one, others, same) = one_more texts (option_and_then to_i64 (number_of text)) numbers h in
+    let (writes, fits) = fitting text (number_of text) n refl one in
+    subst (WritesNumbers (spaced (text ∷ texts))) (sym same) (text, spaced texts, refl, writes, fits, numbers_read texts ns others)
 
 pub line_read : (line name : List ℕ) (numbers : List ℤ) → arguments_of line ≡ Some (name, numbers) → IsCommandLine line name numbers
 unfolding arguments_of
@@ -157,12 +163,12 @@ record Texts (rest : List ℕ) (numbers : List ℤ) : Type 0 where
 texts_of : (rest : List ℕ) (numbers : List ℤ) → WritesNumbers rest numbers → Texts rest numbers
 unfolding numbers_of
 texts_of rest [] h = record { texts = []; cut = h; read = refl; plain = tt }
-texts_of rest (z ∷ zs) (text, others, cut, one, more) =
+texts_of rest (z ∷ zs) (text, others, cut, one, fits, more) =
     let t = texts_of others zs more in
     record {
       texts = text ∷ t.texts;
       cut = cut ∙ ap (λ l. 32 ∷ text ++ l) t.cut;
-      read = ap (option_and_then (λ n. option_map (λ ns. n ∷ ns) (numbers_of t.texts))) (number_written text z one) ∙ ap (option_map (λ ns. z ∷ ns)) t.read;
+      read = ap (option_and_then (λ n. option_map (λ ns. n ∷ ns) (numbers_of t.texts))) (ap (option_and_then to_i64) (number_written text z one) ∙ i64_written z fits) ∙ ap (option_map (λ ns. z ∷ ns)) t.read;
       plain = (word_of_number text z one, t.plain);
     }
 

@@ -1,8 +1,9 @@
 pub mod Splits
 pub mod Values
+pub mod Types
 pub mod Reading
-pub mod Chains
-pub mod Lists
+pub mod Weekdays
+pub mod Commands
 pub mod Laws
 pub mod Pieces
 pub mod Progress
@@ -10,6 +11,3 @@ pub mod Cuts
 pub mod Decimals
 pub mod DigitCuts
 pub mod Walks
-pub mod CommandLaws
-pub mod ExactReaders
-pub mod Asked

@@ -1,6 +1,7 @@
 -- Laws of `take`, and of lines that come in pieces.
-use Rattle.std.proofs.Common.{◌≡◌, ◌≢◌, ◌==◌, ℕ, zero, suc, ◌+◌, ◌-◌, ◌<◌, ◌≤◌, min, true, false, cond, inl, inr, List, [], ◌∷◌, ◌++◌, length, take, drop, set, length-append, refl, ap, sym, ◌∙◌, arith, append_assoc, append-nil, take-append-drop, subst, Option, Result, Ok, Err, OnOk, OnErr, IsErrOf}
+use Rattle.std.proofs.Common.{◌≡◌, ◌≢◌, ◌==◌, ℕ, zero, suc, ◌+◌, ◌-◌, ◌<◌, ◌≤◌, min, true, false, cond, inl, inr, List, [], ◌∷◌, ◌++◌, length, take, drop, set, length-append, refl, ap, sym, ◌∙◌, arith, append_assoc, append-nil, take-append-drop, subst, Option, codes, Result, Ok, Err, OnOk, OnErr, IsErrOf}
 use Rattle.std.specs.List.{AllByRecursion}
+use Rattle.std.specs.Option.{option_map_or}
 use Rattle.std.proofs.lemmas.Bool.Decides.{nat_tests}
 use Rattle.std.proofs.lemmas.Bool.{cases_lt, lt-ltb, cond-true}
 use Rattle.std.proofs.lemmas.List.{take_min, take_all, take_at, take_rest, take-append-le, length-take, take_more_set}
@@ -9,7 +10,8 @@ use Rattle.std.proofs.KnownBytes.{Appends-trans, Appends-kept}
 use Rattle.std.specs.Io.KnownBytes.{Appends, Keeps}
 use Rattle.std.proofs.lemmas.List.Elements.{recursion_from_All}
 use Rattle.caltool_form.specs.Lines.{ended_after, rest_after, last_line, IsPiece}
-use Rattle.caltool_form.specs.Answers.{answers_of, answer_of, is_long}
+use Rattle.caltool_form.specs.Answers.{answers_of, answer_of}
+use Rattle.caltool_form.specs.Commands.{is_long, command_of}
 use Rattle.caltool_form.specs.declared.command.Command.{Command}
 
 -- a front of two lists
@@ -88,14 +90,14 @@ begun_more a b c bytes done rest n e h k =
 
 -- of a line that is too long the first 121 bytes have its answer
 pub clipped : (answer_to : Command → List ℕ) (line : List ℕ) → answer_of answer_to (take 121 line) ≡ answer_of answer_to line
-unfolding answer_of
+unfolding answer_of command_of
 clipped answer_to line = elim (cases_lt (length line) 121) as (λ _. answer_of answer_to (take 121 line) ≡ answer_of answer_to line) [
   | inl short ↦ ap (answer_of answer_to) (take_all 121 line (omega arith))
   | inr long ↦
       let e : length (take 121 line) ≡ 121 = omega (arith, length-take 121 line) in
       let a : is_long (take 121 line) ≡ true = lt-ltb _ _ (omega arith) in
       let b : is_long line ≡ true = lt-ltb _ _ (omega arith) in
-      cond-true _ _ _ a ∙ sym (cond-true _ _ _ b)
+      ap (λ c. option_map_or answer_to c (codes "error")) (cond-true _ _ _ a ∙ sym (cond-true _ _ _ b))
 ]
 
 -- a writer that holds what was done, and then a beginning of the next part

@@ -1,7 +1,9 @@
 -- Numbers at the front of the words.
-use Rattle.std.proofs.Common.{◌≡◌, ◌≢◌, ◌==◌, ◌<◌, ◌≤◌, ◌^◌, ◌*◌, ◌-◌, ◌&&◌, ℕ, zero, suc, Bool, true, false, cond, inl, inr, List, [], ◌∷◌, ◌++◌, length, get_or, take, drop, refl, ap, sym, ◌∙◌, subst, arith, ℤ, pos, negsuc, neg_ℤ, ◌≤ℤ◌, int_le, ◌⊎◌, Option, Some, None, OnSome, take-append-drop, drop-cons, length-take}
+use Rattle.std.proofs.Common.{◌≡◌, ◌≢◌, ◌==◌, ◌<◌, ◌≤◌, ◌^◌, ◌*◌, ◌-◌, ◌++◌, ℕ, zero, suc, Bool, true, false, cond, inl, inr, List, [], ◌∷◌, length, get_or, take, drop, refl, ap, sym, ◌∙◌, subst, arith, ℤ, pos, negsuc, neg_ℤ, int_le, ◌⊎◌, Option, Some, None, take-append-drop, drop-cons, length-take, length-drop, append_assoc, append-nil}
 use Rattle.std.proofs.lemmas.Str.Parse.{digit_from_value}
 use Rattle.std.proofs.lemmas.List.Splits.{length-slice_split}
+use mir.Val.{bool_byte}
+use Rattle.std.specs.Bool.{MatchBool}
 use Rattle.std.specs.Int.{IsInRange}
 use Rattle.std.specs.List.{onto_first}
 use Rattle.std.specs.Option.{option_map, option_and_then}
@@ -9,18 +11,26 @@ use Rattle.std.specs.Str.Parse.{AllDigits, digits_value}
 use Rattle.std.proofs.lemmas.Bool.{cases_lt, cases_eq, eq-eqb, ne_eqb}
 use Rattle.std.proofs.lemmas.Int.{ints}
 use Rattle.caltool_form.specs.Words.{words, EndsWord}
-use Rattle.caltool_form.specs.Numbers.{natural_of, number_of, signed, within, to_i64, to_i32, to_u32, to_u8, to_months, to_weekday}
-use Rattle.caltool_form.specs.Grammar.{numbers_of}
-use Rattle.caltool_form.specs.Readers.{number, i64}
-use Rattle.caltool_form.specs.Cursor.{first_word, sized, reading, leaving, Reads}
+use Rattle.caltool_form.specs.Numbers.{natural_of, number_of, signed, to_i64}
+use Rattle.caltool_form.specs.Grammar.{numbers_of, numbers_behind}
 use Rattle.caltool_form.proofs.Splits.{words_go_on, words_at, word_of_digits}
 use Rattle.caltool_form.proofs.Values.{AtLeast, natural_some, natural_none, natural_long}
 
-pub sized_none : (negative : Bool) (parts : List (List ℕ)) (text : List ℕ) (others : List (List ℕ)) → parts ≡ text ∷ others → natural_of text ≡ None → sized negative parts ≡ None
+-- the number that the first word writes, if it fits an `i64`, and the words after it
+unfoldable first_word : List (List ℕ) → Option (ℤ × List (List ℕ))
+first_word [] = None
+first_word (text ∷ texts) = option_map (λ a. (a, texts)) (option_and_then to_i64 (number_of text))
+
+-- the same, where the first word is the digits of a number of this sign
+unfoldable sized : Bool → List (List ℕ) → Option (ℤ × List (List ℕ))
+sized negative [] = None
+sized negative (text ∷ texts) = option_map (λ a. (a, texts)) (option_and_then to_i64 (option_map (signed negative) (natural_of text)))
+
+sized_none : (negative : Bool) (parts : List (List ℕ)) (text : List ℕ) (others : List (List ℕ)) → parts ≡ text ∷ others → natural_of text ≡ None → sized negative parts ≡ None
 unfolding sized
 sized_none negative parts text others e h = rw (e, h) refl
 
-pub sized_some : (negative : Bool) (parts : List (List ℕ)) (text : List ℕ) (others : List (List ℕ)) (n : ℕ) → parts ≡ text ∷ others → natural_of text ≡ Some n
+sized_some : (negative : Bool) (parts : List (List ℕ)) (text : List ℕ) (others : List (List ℕ)) (n : ℕ) → parts ≡ text ∷ others → natural_of text ≡ Some n
     → sized negative parts ≡ option_map (λ a. (a, others)) (to_i64 (signed negative n))
 unfolding sized
 sized_some negative parts text others n e h = rw (e, h) refl
@@ -85,38 +95,38 @@ no_digit : (negative : Bool) (text : List ℕ) (len : ℕ) → len ≡ 0 → (le
 no_digit negative text len none other = no_digit_first negative text (subst (λ n. n < length text → GoesWrong text n) none other)
 
 -- the digits are none, or end before the word does
-pub no_digits : (negative : Bool) (text : List ℕ) (len size : ℕ) → AllDigits 10 (take len text) → size ≡ digits_value 10 (take len text)
+no_digits : (negative : Bool) (text : List ℕ) (len size : ℕ) → AllDigits 10 (take len text) → size ≡ digits_value 10 (take len text)
     → (len < length text → IsInRange 48 57 (get_or text len 0) → 10 ^ 18 ≤ size) → (len ≡ 0) ⊎ ((len < length text) × (get_or text len 0 ≢ 32)) → sized negative (words text) ≡ None
 no_digits negative text len size digits is wrong (inl none) = no_digit negative text len none (λ more digit. subst (λ n. 10 ^ 18 ≤ n) is (wrong more digit))
 no_digits negative text len size digits is wrong (inr (more, ne)) = no_number negative text len digits more (λ digit. subst (λ n. 10 ^ 18 ≤ n) is (wrong more digit)) ne
 
 -- a minus in front
-minus_onto : (parts : List (List ℕ)) → first_word to_i64 (onto_first 45 parts) ≡ sized true parts
+minus_onto : (parts : List (List ℕ)) → first_word (onto_first 45 parts) ≡ sized true parts
 unfolding first_word sized number_of natural_of
 minus_onto [] = refl
 minus_onto (part ∷ parts) = refl
 
-pub with_minus : (text : List ℕ) → first_word to_i64 (words (45 ∷ text)) ≡ sized true (words text)
+with_minus : (text : List ℕ) → first_word (words (45 ∷ text)) ≡ sized true (words text)
 with_minus text = minus_onto (words text)
 
-pub with_minus_at : (text : List ℕ) → 0 < length text → get_or text 0 0 ≡ 45 → first_word to_i64 (words text) ≡ sized true (words (drop 1 text))
+with_minus_at : (text : List ℕ) → 0 < length text → get_or text 0 0 ≡ 45 → first_word (words text) ≡ sized true (words (drop 1 text))
 with_minus_at [] some minus = absurd (omega arith)
-with_minus_at (x ∷ xs) some minus = ap (λ y. first_word to_i64 (words (y ∷ xs))) minus ∙ with_minus xs
+with_minus_at (x ∷ xs) some minus = ap (λ y. first_word (words (y ∷ xs))) minus ∙ with_minus xs
 
 -- no minus in front
-no_minus_onto : (x : ℕ) (b : Bool) (parts : List (List ℕ)) → (x == 45) ≡ false → first_word to_i64 (cond b ([] ∷ parts) (onto_first x parts)) ≡ sized false (cond b ([] ∷ parts) (onto_first x parts))
+no_minus_onto : (x : ℕ) (b : Bool) (parts : List (List ℕ)) → (x == 45) ≡ false → first_word (cond b ([] ∷ parts) (onto_first x parts)) ≡ sized false (cond b ([] ∷ parts) (onto_first x parts))
 unfolding first_word sized number_of natural_of
 no_minus_onto x true parts test = refl
 no_minus_onto x false [] test = rw test refl
 no_minus_onto x false (part ∷ parts) test = rw test refl
 
-pub with_no_minus : (text : List ℕ) → (0 < length text → get_or text 0 0 ≢ 45) → first_word to_i64 (words text) ≡ sized false (words text)
+with_no_minus : (text : List ℕ) → (0 < length text → get_or text 0 0 ≢ 45) → first_word (words text) ≡ sized false (words text)
 unfolding first_word sized number_of natural_of
 with_no_minus [] other = refl
 with_no_minus (x ∷ xs) other = no_minus_onto x (x == 32) (words xs) (ne_eqb x 45 (other (omega arith)))
 
 -- the first word is digits
-pub reads_digits : (negative : Bool) (text rest : List ℕ) (len size : ℕ) (result : Option ℤ) → rest ≡ drop len text → 0 < len → len ≤ length text → AllDigits 10 (take len text)
+reads_digits : (negative : Bool) (text rest : List ℕ) (len size : ℕ) (result : Option ℤ) → rest ≡ drop len text → 0 < len → len ≤ length text → AllDigits 10 (take len text)
     → EndsWord rest → size ≡ digits_value 10 (take len text) → result ≡ to_i64 (signed negative size)
     → sized negative (words text) ≡ option_map (λ a. (a, drop 1 (words rest))) result
 reads_digits negative text rest len size result is some within digits ends size_is result_is =
@@ -141,160 +151,109 @@ fits_small n small =
     rw high refl
 
 -- the first word is a small number without a sign
-pub reads_small : (text rest : List ℕ) (len size : ℕ) → rest ≡ drop len text → 0 < len → len ≤ length text → AllDigits 10 (take len text)
+reads_small : (text rest : List ℕ) (len size : ℕ) → rest ≡ drop len text → 0 < len → len ≤ length text → AllDigits 10 (take len text)
     → EndsWord rest → size ≡ digits_value 10 (take len text) → size < 100
-    → first_word to_i64 (words text) ≡ Some (pos size, drop 1 (words rest))
+    → first_word (words text) ≡ Some (pos size, drop 1 (words rest))
 reads_small text rest len size is some within digits ends size_is small =
     with_no_minus text (digit_first text len some digits)
     ∙ reads_digits false text rest len size (Some (pos size)) is some within digits ends size_is (sym (fits_small size small))
 
--- a number is kept or dropped
-either : (b : Bool) (z : ℤ) → (cond b (Some z) None ≡ None) ⊎ (cond b (Some z) None ≡ Some z)
-either true z = inr refl
-either false z = inl refl
+-- the numbers of words, by the first of them
+after_first : Option (ℤ × List (List ℕ)) → Option (List ℤ)
+after_first read = option_and_then (λ (r : ℤ × List (List ℕ)). option_map (λ numbers. r.0 ∷ numbers) (numbers_of r.1)) read
 
-kept_i64 : (z : ℤ) → (to_i64 z ≡ None) ⊎ (to_i64 z ≡ Some z)
-unfolding to_i64
-kept_i64 z = either (int_le (negsuc (2 ^ 63 - 1)) z && int_le z (pos (2 ^ 63 - 1))) z
+one_first : (texts : List (List ℕ)) (o : Option ℤ) → option_and_then (λ n. option_map (λ ns. n ∷ ns) (numbers_of texts)) o ≡ after_first (option_map (λ a. (a, texts)) o)
+unfolding after_first
+one_first texts None = refl
+one_first texts (Some n) = refl
 
--- what was read, before these numbers
-abbrev pub before : {A : Type 0} → Option (List ℤ) → Option A → Option (A × List ℤ)
-before left result = option_and_then (λ a. option_map (λ numbers. (a, numbers)) left) result
+by_first : (parts : List (List ℕ)) → 0 < length parts → numbers_of parts ≡ after_first (first_word parts)
+unfolding numbers_of first_word
+by_first [] some = absurd (omega arith)
+by_first (text ∷ texts) some = one_first texts (option_and_then to_i64 (number_of text))
 
-module _ {A : Type 0} (to_type : ℤ → Option A) (inside : (z : ℤ) → to_i64 z ≡ None → to_type z ≡ None) where
-  no_rest : (o : Option A) → before None o ≡ None
-  no_rest None = refl
-  no_rest (Some a) = refl
+words_by_first : (text : List ℕ) → numbers_of (words text) ≡ after_first (first_word (words text))
+words_by_first text = by_first (words text) (omega (arith, length-slice_split (λ x. x == 32) text))
 
-  same_form : (numbers : List ℤ) (o : Option A) → option_map (λ a. (a, numbers)) o ≡ before (Some numbers) o
-  same_form numbers None = refl
-  same_form numbers (Some a) = refl
+-- what a text begins with: a sign, or none
+abbrev pub HasSign : Bool → List ℕ → List ℕ → Type 0
+HasSign true text digits = (digits ≡ drop 1 text) × (0 < length text) × (get_or text 0 0 ≡ 45)
+HasSign false text digits = (digits ≡ text) × (0 < length text → get_or text 0 0 ≢ 45)
 
-  gone_one : (result : Option ℤ) (new : Option (List ℤ)) → None ≡ before new result → None ≡ before new (option_and_then to_type result)
-  gone_one None new h = refl
-  gone_one (Some z) None h = sym (no_rest (to_type z))
-  gone_one (Some z) (Some numbers) h = let wrong : ⊥ = cc in absurd wrong
+pub has_sign : (negative : Bool) (k : ℕ) (text digits : List ℕ) → k ≡ bool_byte negative → digits ≡ drop k text
+    → MatchBool negative ((0 < length text) × (get_or text 0 0 ≡ 45)) (0 < length text → get_or text 0 0 ≢ 45) → HasSign negative text digits
+has_sign true k text digits is cut (some, minus) = (cut ∙ ap (λ n. drop n text) is, some, minus)
+has_sign false k text digits is cut other = (cut ∙ ap (λ n. drop n text) is, other)
 
-  kept_one : (n : ℤ) (numbers : List ℤ) (result : Option ℤ) (new : Option (List ℤ)) → Some (n, numbers) ≡ before new result → before (Some numbers) (to_type n) ≡ before new (option_and_then to_type result)
-  kept_one n numbers None new h = let wrong : ⊥ = cc in absurd wrong
-  kept_one n numbers (Some z) None h = let wrong : ⊥ = cc in absurd wrong
-  kept_one n numbers (Some z) (Some others) h =
-      let e : ◌≡◌ {A = ℤ × List ℤ} (n, numbers) (z, others) = cc in
-      ap (λ (r : ℤ × List ℤ). before (Some r.1) (to_type r.0)) e
+by_sign : (negative : Bool) (text digits : List ℕ) → HasSign negative text digits → first_word (words text) ≡ sized negative (words digits)
+by_sign true text digits (is, some, minus) = with_minus_at text some minus ∙ ap (λ l. sized true (words l)) (sym is)
+by_sign false text digits (is, other) = with_no_minus text other ∙ ap (λ l. sized false (words l)) (sym is)
 
-  -- any type within an `i64`
-  pub narrowed : (old new : Option (List ℤ)) (result : Option ℤ) → option_and_then i64 old ≡ before new result → option_and_then (number to_type) old ≡ before new (option_and_then to_type result)
-  unfolding number
-  narrowed None new result h = gone_one result new h
-  narrowed (Some []) new result h = gone_one result new h
-  narrowed (Some (n ∷ numbers)) new result h = elim (kept_i64 n) as (λ _. option_map (λ a. (a, numbers)) (to_type n) ≡ before new (option_and_then to_type result)) [
-    | inl gone ↦ ap (option_map (λ a. (a, numbers))) (inside n gone) ∙ gone_one result new (sym (ap (option_map (λ a. (a, numbers))) gone) ∙ h)
-    | inr same ↦ same_form numbers (to_type n) ∙ kept_one n numbers result new (sym (ap (option_map (λ a. (a, numbers))) same) ∙ h)
-  ]
+-- the first word is a sign or none, and digits
+pub number_first : (negative : Bool) (text digits rest : List ℕ) (len size : ℕ) (n : ℤ) → HasSign negative text digits
+    → rest ≡ drop len digits → 0 < len → len ≤ length digits → AllDigits 10 (take len digits) → EndsWord rest
+    → size ≡ digits_value 10 (take len digits) → Some n ≡ to_i64 (signed negative size)
+    → numbers_of (words text) ≡ option_map (λ numbers. n ∷ numbers) (numbers_behind rest)
+unfolding after_first
+number_first negative text digits rest len size n sign is some within all ends size_is fits =
+    words_by_first text ∙ ap after_first (by_sign negative text digits sign ∙ reads_digits negative digits rest len size (Some n) is some within all ends size_is fits)
 
-  pub narrowed_reads : (old new : List (List ℕ)) (result : Option ℤ) → Reads i64 old result new → Reads (number to_type) old (option_and_then to_type result) new
-  unfolding reading leaving
-  narrowed_reads old new result h = narrowed (numbers_of old) (numbers_of new) result h
+-- they are worth too much
+pub number_too_large : (negative : Bool) (text digits rest : List ℕ) (len size : ℕ) → HasSign negative text digits
+    → rest ≡ drop len digits → 0 < len → len ≤ length digits → AllDigits 10 (take len digits) → EndsWord rest
+    → size ≡ digits_value 10 (take len digits) → None ≡ to_i64 (signed negative size) → numbers_of (words text) ≡ None
+unfolding after_first
+number_too_large negative text digits rest len size sign is some within all ends size_is fits =
+    words_by_first text ∙ ap after_first (by_sign negative text digits sign ∙ reads_digits negative digits rest len size None is some within all ends size_is fits)
 
--- a word read is a number read
-from_word : (o : Option ℤ) (others : Option (List ℤ)) → option_and_then i64 (option_and_then (λ n. option_map (λ ns. n ∷ ns) others) o) ≡ before others (option_and_then to_i64 o)
-unfolding number
-from_word None others = refl
-from_word (Some n) None = one (to_i64 n)
-  where
-    one : (r : Option ℤ) → None ≡ before None r
-    one None = refl
-    one (Some z) = refl
-from_word (Some n) (Some ns) = one (to_i64 n)
-  where
-    one : (r : Option ℤ) → option_map (λ a. (a, ns)) r ≡ before (Some ns) r
-    one None = refl
-    one (Some z) = refl
+-- the first word has another byte
+pub no_number_first : (negative : Bool) (text digits : List ℕ) (len size : ℕ) → HasSign negative text digits → AllDigits 10 (take len digits)
+    → size ≡ digits_value 10 (take len digits) → (len < length digits → IsInRange 48 57 (get_or digits len 0) → 10 ^ 18 ≤ size)
+    → (len ≡ 0) ⊎ ((len < length digits) × (get_or digits len 0 ≢ 32)) → numbers_of (words text) ≡ None
+unfolding after_first
+no_number_first negative text digits len size sign all is wrong stops =
+    words_by_first text ∙ ap after_first (by_sign negative text digits sign ∙ no_digits negative digits len size all is wrong stops)
 
-abbrev pub left : List (List ℕ) → Option ℤ → Option (ℤ × List (List ℕ))
-left parts o = option_map (λ a. (a, parts)) o
+-- the first word is one digit or two
+pub small_first : (text rest : List ℕ) (len size : ℕ) → rest ≡ drop len text → 0 < len → len ≤ length text → AllDigits 10 (take len text)
+    → EndsWord rest → size ≡ digits_value 10 (take len text) → size < 100
+    → numbers_of (words text) ≡ option_map (λ numbers. pos size ∷ numbers) (numbers_behind rest)
+unfolding after_first
+small_first text rest len size is some within all ends size_is small =
+    words_by_first text ∙ ap after_first (reads_small text rest len size is some within all ends size_is small)
 
-word_result : (o result : Option ℤ) (parts new : List (List ℕ)) → left parts o ≡ left new result → before (numbers_of parts) o ≡ before (numbers_of new) result
-word_result None None parts new h = refl
-word_result None (Some y) parts new h = let wrong : ⊥ = cc in absurd wrong
-word_result (Some z) None parts new h = let wrong : ⊥ = cc in absurd wrong
-word_result (Some z) (Some y) parts new h =
-    let e : ◌≡◌ {A = ℤ × List (List ℕ)} (z, parts) (y, new) = cc in
-    ap (λ (r : ℤ × List (List ℕ)). before (numbers_of r.1) (Some r.0)) e
+-- what follows the digits is shorter than the text
+pub shorter_behind : (negative : Bool) (text digits rest : List ℕ) (len : ℕ) → HasSign negative text digits → rest ≡ drop len digits → 0 < len → len ≤ length digits → length rest < length text
+shorter_behind true text digits rest len (sign, some, minus) is more within = omega (arith, ap length is, length-drop len digits, ap length sign, length-drop 1 text)
+shorter_behind false text digits rest len (same, other) is more within = omega (arith, ap length is, length-drop len digits, ap length same)
 
-pub reads_word : (old new : List (List ℕ)) (result : Option ℤ) → first_word to_i64 old ≡ option_map (λ a. (a, new)) result → Reads i64 old result new
-unfolding first_word numbers_of number reading leaving
-reads_word [] new None h = refl
-reads_word [] new (Some y) h = let wrong : ⊥ = cc in absurd wrong
-reads_word (text ∷ parts) new result h = from_word (number_of text) (numbers_of parts) ∙ word_result (option_and_then to_i64 (number_of text)) result parts new h
+-- numbers read before others
+abbrev pub before : List ℤ → Option (List ℤ) → Option (List ℤ)
+before done others = option_map (λ numbers. done ++ numbers) others
 
--- each type is within an `i64`
-in_range : (low high z : ℤ) → (within low high z ≡ None) ⊎ ((int_le low z ≡ true) × (int_le z high ≡ true))
-in_range low high z = tests (int_le low z) (int_le z high)
-  where
-    tests : (b d : Bool) → (cond (b && d) (Some z) None ≡ None) ⊎ ((b ≡ true) × (d ≡ true))
-    tests true true = inr (refl, refl)
-    tests true false = inl refl
-    tests false d = inl refl
+pub before-none_yet : (others : Option (List ℤ)) → others ≡ before [] others
+before-none_yet None = refl
+before-none_yet (Some numbers) = refl
 
-within_none : (low high z : ℤ) → negsuc (2 ^ 63 - 1) ≤ℤ low → high ≤ℤ pos (2 ^ 63 - 1) → to_i64 z ≡ None → within low high z ≡ None
-unfolding to_i64
-within_none low high z below above gone = elim (in_range low high z) as (λ _. within low high z ≡ None) [
-  | inl none ↦ none
-  | inr (from, to) ↦
-      let from' : int_le (negsuc (2 ^ 63 - 1)) z ≡ true = grind (arith, ints) in
-      let to' : int_le z (pos (2 ^ 63 - 1)) ≡ true = grind (arith, ints) in
-      let wrong : Some z ≡ None = rw (from', to') at gone in
-      let no_way : ⊥ = cc in
-      absurd no_way
-]
+one_more : (done : List ℤ) (n : ℤ) (others : Option (List ℤ)) → before done (option_map (λ numbers. n ∷ numbers) others) ≡ before (done ++ n ∷ []) others
+one_more done n None = refl
+one_more done n (Some numbers) = ap Some (sym (append_assoc done (n ∷ []) numbers))
 
-pub inside_i32 : (z : ℤ) → to_i64 z ≡ None → to_i32 z ≡ None
-unfolding to_i32
-inside_i32 z gone = within_none (negsuc (2 ^ 31 - 1)) (pos (2 ^ 31 - 1)) z (omega (arith, ints)) (omega (arith, ints)) gone
+-- behind a space stand words
+behind_space : (rest : List ℕ) → 0 < length rest → get_or rest 0 0 ≡ 32 → numbers_behind rest ≡ numbers_of (words (drop 1 rest))
+behind_space [] some space = absurd (omega arith)
+behind_space (x ∷ xs) some space = rw (eq-eqb x 32 space) refl
 
-pub inside_u32 : (z : ℤ) → to_i64 z ≡ None → to_u32 z ≡ None
-unfolding to_u32
-inside_u32 z gone = rw (within_none (pos 0) (pos (2 ^ 32 - 1)) z (omega (arith, ints)) (omega (arith, ints)) gone) refl
+pub before-more : (start rest after : List ℕ) (done : List ℤ) (n : ℤ) → numbers_behind start ≡ before done (numbers_behind rest) → 0 < length rest → EndsWord rest
+    → numbers_of (words (drop 1 rest)) ≡ option_map (λ numbers. n ∷ numbers) (numbers_behind after) → numbers_behind start ≡ before (done ++ n ∷ []) (numbers_behind after)
+before-more start rest after done n so_far some ends read =
+    so_far ∙ ap (before done) (behind_space rest some (ends some) ∙ read) ∙ one_more done n (numbers_behind after)
 
-pub inside_u8 : (z : ℤ) → to_i64 z ≡ None → to_u8 z ≡ None
-unfolding to_u8
-inside_u8 z gone = rw (within_none (pos 0) (pos (2 ^ 8 - 1)) z (omega (arith, ints)) (omega (arith, ints)) gone) refl
+pub before-fails : (start rest : List ℕ) (done : List ℤ) → numbers_behind start ≡ before done (numbers_behind rest) → 0 < length rest → EndsWord rest
+    → numbers_of (words (drop 1 rest)) ≡ None → numbers_behind start ≡ None
+before-fails start rest done so_far some ends read = so_far ∙ ap (before done) (behind_space rest some (ends some) ∙ read)
 
-pub inside_months : (z : ℤ) → to_i64 z ≡ None → to_months z ≡ None
-unfolding to_months
-inside_months z gone = within_none (negsuc (2 ^ 32 - 2)) (pos (2 ^ 32 - 1)) z (omega (arith, ints)) (omega (arith, ints)) gone
-
-pub inside_weekday : (z : ℤ) → to_i64 z ≡ None → to_weekday z ≡ None
-unfolding to_weekday
-inside_weekday z gone = rw (within_none (pos 1) (pos 7) z (omega (arith, ints)) (omega (arith, ints)) gone) refl
-
--- what the cursor's view is where nothing is left, and where something is
-pub nothing_left : (rest : List ℕ) (now : List (List ℕ)) → drop 1 (words rest) ≡ now → (length rest == 0) ≡ true → now ≡ []
-nothing_left [] now view none = sym view
-nothing_left (x ∷ xs) now view none = let wrong : ⊥ = grind arith in absurd wrong
-
-pub something_left : (rest : List ℕ) (now : List (List ℕ)) → drop 1 (words rest) ≡ now → EndsWord rest → now ≡ [] → (length rest == 0) ≡ true
-something_left [] now view ends none = refl
-something_left (x ∷ xs) now view ends none =
-    let test : (x == 32) ≡ true = eq-eqb x 32 (ends (omega arith)) in
-    let all : words xs ≡ [] = (rw test at view) ∙ none in
-    absurd (omega (arith, length-slice_split (λ y. y == 32) xs, ap length all))
-
-pub none_read : (now : List (List ℕ)) → now ≡ [] → first_word to_i64 now ≡ None
-unfolding first_word
-none_read [] none = refl
-none_read (part ∷ parts) none = let wrong : ⊥ = cc in absurd wrong
-
--- a word that is read is gone
-pub fewer_left : {A : Type 0} (to_type : ℤ → Option A) (old new : List (List ℕ)) (result : Option A) → first_word to_type old ≡ option_map (λ a. (a, new)) result → OnSome result (length new < length old)
-unfolding first_word
-fewer_left to_type old new None h = tt
-fewer_left to_type [] new (Some a) h = let wrong : ⊥ = cc in absurd wrong
-fewer_left {A} to_type (text ∷ words) new (Some a) h = from (option_and_then to_type (number_of text)) h
-  where
-    from : (o : Option A) → option_map {U = A × List (List ℕ)} (λ x. (x, words)) o ≡ Some (a, new) → length new < suc (length words)
-    from None e = let wrong : ⊥ = cc in absurd wrong
-    from (Some x) e =
-        let same : ◌≡◌ {A = A × List (List ℕ)} (x, words) (a, new) = cc in
-        omega (arith, ap (λ (r : A × List (List ℕ)). length r.1) same)
+pub before-ends : (start rest : List ℕ) (done : List ℤ) → numbers_behind start ≡ before done (numbers_behind rest) → (length rest == 0) ≡ true → numbers_behind start ≡ Some done
+unfolding numbers_of
+before-ends start [] done so_far none = so_far ∙ ap Some (append-nil done)
+before-ends start (x ∷ xs) done so_far none = let wrong : ⊥ = grind arith in absurd wrong

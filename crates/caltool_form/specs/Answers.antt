@@ -1,22 +1,14 @@
 -- The text that answers an input, whatever answers a command.
-use Rattle.std.specs.Prelude.{ℕ, Bool, List, [], ◌∷◌, ◌++◌, length, nat_lt, codes, if◌then◌else◌}
+use Rattle.std.specs.Prelude.{ℕ, List, [], ◌∷◌, ◌++◌, codes}
 use Rattle.std.specs.List.{flat_map}
 use Rattle.std.specs.Option.{option_map_or}
 use Rattle.caltool_form.specs.Commands.{command_of}
 use Rattle.caltool_form.specs.Lines.{lines}
 use Rattle.caltool_form.specs.declared.command.Command.{Command}
 
--- a line has more than 120 bytes
-abbrev pub is_long : List ℕ → Bool
-is_long line = nat_lt 120 (length line)
-
--- the answer to a line of at most 120 bytes: to its command, if it is one
-unfoldable pub short_answer : (Command → List ℕ) → List ℕ → List ℕ
-short_answer answer_to line = option_map_or answer_to (command_of line) (codes "error")
-
--- the answer to a line, without its newline
+-- the answer to a line, without its newline: to its command, if it is one
 unfoldable pub answer_of : (Command → List ℕ) → List ℕ → List ℕ
-answer_of answer_to line = if is_long line then codes "error" else short_answer answer_to line
+answer_of answer_to line = option_map_or answer_to (command_of line) (codes "error")
 
 -- the answers of these lines, each ended by a newline
 abbrev pub answers_of : (List ℕ → List ℕ) → List (List ℕ) → List ℕ

@@ -1,223 +1,107 @@
--- The commands, and what a line asks for.
-use Rattle.std.specs.Prelude.{◌≡◌, ◌<◌, ◌^◌, ℕ, ℤ, pos, negsuc, ◌-◌, ◌≤ℤ◌, FitsSigned, List, [], ◌∷◌, ◌++◌, map, Option, None, codes, if◌then◌else◌}
-use Rattle.std.specs.Int.{w32, w64}
+-- The commands: which numbers each of them takes, and what they ask for.
+use Rattle.std.specs.Prelude.{ℕ, ℤ, List, [], ◌∷◌, take, drop, Option, Some, None, Bool, length, nat_lt, codes, if◌then◌else◌}
 use Rattle.std.specs.Str.{bytes_eq}
-use Rattle.std.specs.Option.{option_and_then}
+use Rattle.std.specs.Option.{option_map, option_and_then}
 use Rattle.chrono_units.specs.declared.weekday.Weekday.{Weekday}
-use Rattle.chrono_units.specs.Weekday.{number_from_monday}
 use Rattle.chrono_units.specs.WeekdaySet.{DaySet, set_of}
-use Rattle.caltool_form.specs.Numbers.{to_weekday}
+use Rattle.caltool_form.specs.Numbers.{to_i64, to_i32, to_u32, to_u8, to_months, to_weekday}
 use Rattle.caltool_form.specs.Grammar.{arguments_of}
-use Rattle.caltool_form.specs.Readers.{Reader, ◌>>=◌, i32, u32, u8, i64, months, weekday, all_numbers, just, whole}
 use Rattle.caltool_form.specs.declared.arguments.CalendarDate.{CalendarDate}
 use Rattle.caltool_form.specs.declared.arguments.ClockTime.{ClockTime}
-use Rattle.caltool_form.specs.declared.arguments.Moment.{Moment}
+use Rattle.caltool_form.specs.declared.arguments.DateAndTime.{DateAndTime}
 use Rattle.caltool_form.specs.declared.command.Command.{Command}
 use Rattle.caltool_form.specs.declared.command.Command.TheVariants.{Ymd, Yo, Iwd, Day, Wom, Days, Months, Week, Move, Diff, Since, Set}
+use Rattle.caltool_form.specs.declared.name.Name.{Name}
+use Rattle.caltool_form.specs.declared.name.Name.TheVariants as name
+
+-- a function of an argument, where both are there
+infixl 10 ◌·◌
+abbrev pub ◌·◌ : {A B : Type 0} → Option (A → B) → Option A → Option B
+None · a = None
+Some f · None = None
+Some f · Some a = Some (f a)
+
+-- a single number, as a value of a type
+unfoldable pub only : {A : Type 0} → (ℤ → Option A) → List ℤ → Option A
+only to_type (number ∷ []) = to_type number
+only to_type _ = None
 
 -- a year, a month and a day
-unfoldable pub calendar_date : Reader CalendarDate
-calendar_date = do
-  year ← i32
-  month ← u32
-  day ← u32
-  just (record { year = year; month = month; day = day })
+unfoldable pub calendar_date : List ℤ → Option CalendarDate
+calendar_date (year ∷ month ∷ day ∷ []) =
+    Some (λ y m d. record { year = y; month = m; day = d }) · to_i32 year · to_u32 month · to_u32 day
+calendar_date _ = None
 
 -- an hour, a minute, a second and a nanosecond
-unfoldable pub clock_time : Reader ClockTime
-clock_time = do
-  hour ← u32
-  minute ← u32
-  second ← u32
-  nanosecond ← u32
-  just (record { hour = hour; minute = minute; second = second; nanosecond = nanosecond })
+unfoldable pub clock_time : List ℤ → Option ClockTime
+clock_time (hour ∷ minute ∷ second ∷ nanosecond ∷ []) =
+    Some (λ h m s n. record { hour = h; minute = m; second = s; nanosecond = n })
+    · to_u32 hour · to_u32 minute · to_u32 second · to_u32 nanosecond
+clock_time _ = None
 
 -- a date and a time of day
-unfoldable pub moment : Reader Moment
-moment = do
-  date ← calendar_date
-  time ← clock_time
-  just (record { date = date; time = time })
+unfoldable pub date_and_time : List ℤ → Option DateAndTime
+date_and_time numbers =
+    Some (λ d t. record { date = d; time = t }) · calendar_date (take 3 numbers) · clock_time (drop 3 numbers)
 
--- weekdays up to the end of the line, as a set
-unfoldable pub weekday_set : Reader DaySet
-weekday_set = do
-  days ← all_numbers to_weekday
-  just (set_of days)
+-- weekdays
+unfoldable pub weekdays : List ℤ → Option (List Weekday)
+weekdays [] = Some []
+weekdays (number ∷ numbers) = Some (λ day days. day ∷ days) · to_weekday number · weekdays numbers
 
--- a date
-unfoldable pub ymd_command : Reader Command
-ymd_command = do
-  date ← calendar_date
-  just (Ymd date)
+-- weekdays as a set
+unfoldable pub weekday_set : List ℤ → Option DaySet
+weekday_set numbers = option_map set_of (weekdays numbers)
 
--- a year and a day of the year
-unfoldable pub yo_command : Reader Command
-yo_command = do
-  year ← i32
-  ordinal ← u32
-  just (Yo year ordinal)
+-- the command of this name and these numbers, if they are as many as it takes and each is in its range
+unfoldable pub command_from : Name → List ℤ → Option Command
+command_from name.Ymd numbers = Some (λ date. Ymd date) · calendar_date numbers
+command_from name.Yo (year ∷ ordinal ∷ []) = Some (λ y o. Yo y o) · to_i32 year · to_u32 ordinal
+command_from name.Iwd (year ∷ week ∷ day ∷ []) = Some (λ y w d. Iwd y w d) · to_i32 year · to_u32 week · to_weekday day
+command_from name.Day numbers = Some (λ n. Day n) · only to_i32 numbers
+command_from name.Wom (year ∷ month ∷ day ∷ nth ∷ []) =
+    Some (λ y m d n. Wom y m d n) · to_i32 year · to_u32 month · to_weekday day · to_u8 nth
+command_from name.Days numbers =
+    Some (λ date count. Days date count) · calendar_date (take 3 numbers) · only to_i64 (drop 3 numbers)
+command_from name.Months numbers =
+    Some (λ date span. Months date span) · calendar_date (take 3 numbers) · only to_months (drop 3 numbers)
+command_from name.Week numbers =
+    Some (λ date start. Week date start) · calendar_date (take 3 numbers) · only to_weekday (drop 3 numbers)
+command_from name.Move numbers =
+    Some (λ from seconds nanoseconds. Move from seconds nanoseconds)
+    · date_and_time (take 7 numbers) · only to_i64 (take 1 (drop 7 numbers)) · only to_u32 (drop 8 numbers)
+command_from name.Diff numbers =
+    Some (λ first second. Diff first second) · date_and_time (take 7 numbers) · date_and_time (drop 7 numbers)
+command_from name.Since numbers =
+    Some (λ date base. Since date base) · calendar_date (take 3 numbers) · calendar_date (drop 3 numbers)
+command_from name.Set (start ∷ numbers) = Some (λ day days. Set day days) · to_weekday start · weekday_set numbers
+command_from _ _ = None
 
--- an ISO year, a week and a weekday
-unfoldable pub iwd_command : Reader Command
-iwd_command = do
-  year ← i32
-  week ← u32
-  day ← weekday
-  just (Iwd year week day)
+-- the command word that these bytes are
+unfoldable pub name_of : List ℕ → Option Name
+name_of word =
+    if bytes_eq word (codes "ymd") then Some name.Ymd
+    else if bytes_eq word (codes "yo") then Some name.Yo
+    else if bytes_eq word (codes "iwd") then Some name.Iwd
+    else if bytes_eq word (codes "day") then Some name.Day
+    else if bytes_eq word (codes "wom") then Some name.Wom
+    else if bytes_eq word (codes "days") then Some name.Days
+    else if bytes_eq word (codes "months") then Some name.Months
+    else if bytes_eq word (codes "week") then Some name.Week
+    else if bytes_eq word (codes "move") then Some name.Move
+    else if bytes_eq word (codes "diff") then Some name.Diff
+    else if bytes_eq word (codes "since") then Some name.Since
+    else if bytes_eq word (codes "set") then Some name.Set
+    else None
 
--- a day number
-unfoldable pub day_command : Reader Command
-day_command = do
-  number ← i32
-  just (Day number)
+-- the command of a word and numbers
+unfoldable pub command_named : List ℕ → List ℤ → Option Command
+command_named word numbers = option_and_then (λ name. command_from name numbers) (name_of word)
 
--- a year, a month, a weekday and which of that weekday's days in the month
-unfoldable pub wom_command : Reader Command
-wom_command = do
-  year ← i32
-  month ← u32
-  day ← weekday
-  nth ← u8
-  just (Wom year month day nth)
-
--- a date and how many days on
-unfoldable pub days_command : Reader Command
-days_command = do
-  date ← calendar_date
-  count ← i64
-  just (Days date count)
-
--- a date and how many months on
-unfoldable pub months_command : Reader Command
-months_command = do
-  date ← calendar_date
-  count ← months
-  just (Months date count)
-
--- a date and the weekday that weeks start with
-unfoldable pub week_command : Reader Command
-week_command = do
-  date ← calendar_date
-  start ← weekday
-  just (Week date start)
-
--- a date and a time of day, and how many seconds and nanoseconds on
-unfoldable pub move_command : Reader Command
-move_command = do
-  from ← moment
-  seconds ← i64
-  nanoseconds ← u32
-  just (Move from seconds nanoseconds)
-
--- two dates with times of day
-unfoldable pub diff_command : Reader Command
-diff_command = do
-  first ← moment
-  second ← moment
-  just (Diff first second)
-
--- a date and the date that years are counted from
-unfoldable pub since_command : Reader Command
-since_command = do
-  date ← calendar_date
-  base ← calendar_date
-  just (Since date base)
-
--- the weekday that a walk starts with, and a set
-unfoldable pub set_command : Reader Command
-set_command = do
-  start ← weekday
-  days ← weekday_set
-  just (Set start days)
-
--- a name that no command has reads nothing
-unfoldable pub no_command : Reader Command
-no_command numbers = None
-
--- what the command of this name reads, if it has one of the later names
-unfoldable pub later_named : List ℕ → Reader Command
-later_named name =
-    if bytes_eq name (codes "months") then months_command
-    else if bytes_eq name (codes "week") then week_command
-    else if bytes_eq name (codes "move") then move_command
-    else if bytes_eq name (codes "diff") then diff_command
-    else if bytes_eq name (codes "since") then since_command
-    else if bytes_eq name (codes "set") then set_command
-    else no_command
-
--- what the command of this name reads
-unfoldable pub command_named : List ℕ → Reader Command
-command_named name =
-    if bytes_eq name (codes "ymd") then ymd_command
-    else if bytes_eq name (codes "yo") then yo_command
-    else if bytes_eq name (codes "iwd") then iwd_command
-    else if bytes_eq name (codes "day") then day_command
-    else if bytes_eq name (codes "wom") then wom_command
-    else if bytes_eq name (codes "days") then days_command
-    else later_named name
+-- a line has more than 120 bytes
+abbrev pub is_long : List ℕ → Bool
+is_long line = nat_lt 120 (length line)
 
 -- the command of a line
 unfoldable pub command_of : List ℕ → Option Command
-command_of line = option_and_then (λ read. whole (command_named read.0 read.1)) (arguments_of line)
-
--- the number that stands for a weekday, from 1 for Monday
-abbrev pub weekday_number : Weekday → ℤ
-weekday_number day = pos (number_from_monday day)
-
--- the numbers that stand for a date, and for a time of day
-abbrev pub date_numbers : CalendarDate → List ℤ
-date_numbers date = date.year ∷ pos date.month ∷ pos date.day ∷ []
-
-abbrev pub time_numbers : ClockTime → List ℤ
-time_numbers time = pos time.hour ∷ pos time.minute ∷ pos time.second ∷ pos time.nanosecond ∷ []
-
-abbrev pub moment_numbers : Moment → List ℤ
-moment_numbers moment = date_numbers moment.date ++ time_numbers moment.time
-
--- the numbers of a date, and of a time of day, fit their types
-pub record DateFits (date : CalendarDate) : Type 0 where
-  pub year : FitsSigned w32 date.year
-  pub month : date.month < 2 ^ 32
-  pub day : date.day < 2 ^ 32
-
-pub record TimeFits (time : ClockTime) : Type 0 where
-  pub hour : time.hour < 2 ^ 32
-  pub minute : time.minute < 2 ^ 32
-  pub second : time.second < 2 ^ 32
-  pub nanosecond : time.nanosecond < 2 ^ 32
-
-pub record MomentFits (moment : Moment) : Type 0 where
-  pub date : DateFits moment.date
-  pub time : TimeFits moment.time
-
--- a number of months: its size fits a `u32`
-abbrev pub MonthsFit : ℤ → Type 0
-MonthsFit count = (negsuc (2 ^ 32 - 2) ≤ℤ count) × (count ≤ℤ pos (2 ^ 32 - 1))
-
--- a line whose command word and numbers are these asks for this command
-abbrev pub Asks : Command → List ℕ → List ℤ → Type 0
-Asks (Ymd date) name numbers =
-    (name ≡ codes "ymd") × (numbers ≡ date_numbers date) × DateFits date
-Asks (Yo year ordinal) name numbers =
-    (name ≡ codes "yo") × (numbers ≡ year ∷ pos ordinal ∷ []) × FitsSigned w32 year × (ordinal < 2 ^ 32)
-Asks (Iwd year week day) name numbers =
-    (name ≡ codes "iwd") × (numbers ≡ year ∷ pos week ∷ weekday_number day ∷ []) × FitsSigned w32 year × (week < 2 ^ 32)
-Asks (Day number) name numbers =
-    (name ≡ codes "day") × (numbers ≡ number ∷ []) × FitsSigned w32 number
-Asks (Wom year month day nth) name numbers =
-    (name ≡ codes "wom") × (numbers ≡ year ∷ pos month ∷ weekday_number day ∷ pos nth ∷ []) × FitsSigned w32 year × (month < 2 ^ 32) × (nth < 2 ^ 8)
-Asks (Days date count) name numbers =
-    (name ≡ codes "days") × (numbers ≡ date_numbers date ++ count ∷ []) × DateFits date × FitsSigned w64 count
-Asks (Months date count) name numbers =
-    (name ≡ codes "months") × (numbers ≡ date_numbers date ++ count ∷ []) × DateFits date × MonthsFit count
-Asks (Week date start) name numbers =
-    (name ≡ codes "week") × (numbers ≡ date_numbers date ++ weekday_number start ∷ []) × DateFits date
-Asks (Move from seconds nanoseconds) name numbers =
-    (name ≡ codes "move") × (numbers ≡ moment_numbers from ++ seconds ∷ pos nanoseconds ∷ []) × MomentFits from × FitsSigned w64 seconds × (nanoseconds < 2 ^ 32)
-Asks (Diff first second) name numbers =
-    (name ≡ codes "diff") × (numbers ≡ moment_numbers first ++ moment_numbers second) × MomentFits first × MomentFits second
-Asks (Since date base) name numbers =
-    (name ≡ codes "since") × (numbers ≡ date_numbers date ++ date_numbers base) × DateFits date × DateFits base
-Asks (Set start days) name numbers =
-    (name ≡ codes "set") × (listed : List Weekday) × (numbers ≡ weekday_number start ∷ map weekday_number listed) × (days ≡ set_of listed)
+command_of line = if is_long line then None else option_and_then (λ read. command_named read.0 read.1) (arguments_of line)

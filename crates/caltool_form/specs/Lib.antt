@@ -1,8 +1,6 @@
 pub mod Words
 pub mod Numbers
 pub mod Grammar
-pub mod Readers
-pub mod Cursor
 pub mod Commands
 pub mod Lines
 pub mod Texts

@@ -6,6 +6,8 @@ use Rattle.std.specs.Int.{IsInRange}
 use Rattle.std.specs.Str.{all_ascii_digits}
 use Rattle.chrono_units.specs.declared.weekday.Weekday.{Weekday}
 use Rattle.chrono_units.specs.Weekday.{weekday_from_monday}
+use Rattle.caltool_form.specs.declared.arguments.MonthSpan.{MonthSpan}
+use Rattle.caltool_form.specs.declared.arguments.MonthSpan.TheVariants.{Later, Earlier}
 
 -- what digits are worth: each its own value times ten to the number of digits behind it
 abbrev pub value_of : List ℕ → ℕ
@@ -54,9 +56,14 @@ to_u32 z = option_map unsigned_abs (within (pos 0) (pos (2 ^ 32 - 1)) z)
 unfoldable pub to_u8 : ℤ → Option ℕ
 to_u8 z = option_map unsigned_abs (within (pos 0) (pos (2 ^ 8 - 1)) z)
 
--- a number of months: its size fits a `u32`
-unfoldable pub to_months : ℤ → Option ℤ
-to_months = within (negsuc (2 ^ 32 - 2)) (pos (2 ^ 32 - 1))
+-- so many months on, or back
+abbrev pub span_of : ℤ → MonthSpan
+span_of (pos n) = Later n
+span_of (negsuc n) = Earlier (n + 1)
+
+-- a number of months, whose size fits a `u32`
+unfoldable pub to_months : ℤ → Option MonthSpan
+to_months z = option_map span_of (within (negsuc (2 ^ 32 - 2)) (pos (2 ^ 32 - 1)) z)
 
 -- a day of the week, from 1 for Monday to 7 for Sunday
 unfoldable pub to_weekday : ℤ → Option Weekday

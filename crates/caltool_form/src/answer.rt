@@ -3,7 +3,8 @@ ghost use Rattle.std.specs.Prelude.{◌≡◌, ◌≤◌, ℕ, List, length, tak
 ghost use Rattle.caltool_form.specs.Answers.{answer_of};
 ghost use Rattle.caltool_form.specs.declared.command.Command.{Command};
 
-use crate::command::{Command, command_of};
+use crate::command::{Command, read_command};
+use crate::numbers::Numbers;
 use crate::text::put_text;
 use std::marker::Model;
 
@@ -21,9 +22,6 @@ pub trait CommandAnswers {
 
 // An answer has at most 63 bytes.
 const LONGEST_ANSWER: usize = 63;
-
-// A longer line is answered by `error`.
-const LONGEST_LINE: usize = 120;
 
 /// The answer to one line, without its newline.
 #[derive(Debug, Drop)]
@@ -56,21 +54,23 @@ pub fn answer_line<A: CommandAnswers>(line: &[u8]) -> Answer
     ensures { result ≡ answer_of A.answer_to line.now }
 {
     let mut bytes = [0u8; LONGEST_ANSWER];
-    let len = write_line_answer::<A>(line, &mut bytes);
+    let len = write_line_answer::<A>(line, &mut Numbers::new(), &mut bytes);
     Answer { bytes, len }
 }
 
-// Writes the answer to a line to the start of a buffer, and gives its length.
-#[tactic(auto, unfolding(crate::specs::Answers::answer_of, crate::specs::Answers::short_answer))]
-pub(crate) fn write_line_answer<A: CommandAnswers>(line: &[u8], out: &mut [u8]) -> usize
+// Writes the answer to a line to the start of a buffer, and gives its length. The line's numbers go into
+// the given room.
+#[tactic(auto, unfolding(crate::specs::Answers::answer_of))]
+pub(crate) fn write_line_answer<A: CommandAnswers>(
+    line: &[u8],
+    numbers: &mut Numbers,
+    out: &mut [u8],
+) -> usize
     requires { 63 ≤ length out.old }
     ensures fits { result ≤ 63 }
     ensures text { take result out.new ≡ answer_of A.answer_to line.now }
 {
-    if line.len() > LONGEST_LINE {
-        return put_text(out, 0, b"error");
-    }
-    match command_of(line) {
+    match read_command(line, numbers) {
         Some(command) => A::write_answer(command, out),
         None => put_text(out, 0, b"error"),
     }

@@ -26,9 +26,18 @@ pub struct ClockTime {
 
 /// A date and a time of day as numbers; there need be no such date or time.
 #[derive(Clone, Copy, Debug, PartialEq, Eq)]
-pub struct Moment {
+pub struct DateAndTime {
     /// The date.
     pub date: CalendarDate,
     /// The time of day.
     pub time: ClockTime,
+}
+
+/// How many months, and whether they go on or back.
+#[derive(Clone, Copy, Debug, PartialEq, Eq)]
+pub enum MonthSpan {
+    /// So many months later.
+    Later(u32),
+    /// So many months earlier.
+    Earlier(u32),
 }

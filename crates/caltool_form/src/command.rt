@@ -2,10 +2,15 @@
 ghost use Rattle.std.specs.Prelude.{◌≡◌};
 ghost use Rattle.caltool_form.specs.Commands.{command_of};
 
-use crate::arguments::{CalendarDate, Moment};
-use crate::read::read_named;
-use crate::words::Words;
+use crate::arguments::{CalendarDate, DateAndTime, MonthSpan};
+use crate::name::name_of;
+use crate::numbers::Numbers;
+use crate::read::command_from;
+use crate::words::split_name;
 use chrono_units::{Weekday, WeekdaySet};
+
+// A longer line asks for nothing.
+const LONGEST_LINE: usize = 120;
 
 /// What a line asks for: a command word and its numbers.
 #[derive(Clone, Copy, Debug, PartialEq, Eq)]
@@ -58,8 +63,8 @@ pub enum Command {
     Months {
         /// The date.
         date: CalendarDate,
-        /// How many months on, from -4,294,967,295 to 4,294,967,295; below 0 it is as many back.
-        count: i64,
+        /// How many months on, or back.
+        span: MonthSpan,
     },
     /// `week Y M D S`: the week of a date, among the weeks that start with `S`.
     Week {
@@ -71,7 +76,7 @@ pub enum Command {
     /// `move Y M D h m s n S N`: a date and time, `S` seconds and `N` nanoseconds on.
     Move {
         /// The date and time.
-        from: Moment,
+        from: DateAndTime,
         /// How many seconds on; below 0 it is as many seconds back.
         seconds: i64,
         /// How many nanoseconds further on.
@@ -80,9 +85,9 @@ pub enum Command {
     /// `diff` and two of `Y M D h m s n`: the first date and time minus the second.
     Diff {
         /// The date and time that is taken from.
-        first: Moment,
+        first: DateAndTime,
         /// The date and time that is taken off.
-        second: Moment,
+        second: DateAndTime,
     },
     /// `since Y M D Y M D`: the whole years from the second date to the first.
     Since {
@@ -100,21 +105,27 @@ pub enum Command {
     },
 }
 
-/// The command of a line, given without its newline. `None` if the line is no command word with as
-/// many numbers as it takes, each within its type, or has a space too many or too few.
+/// The command of a line, given without its newline. `None` if the line has more than 120 bytes, is no
+/// command word with as many numbers as it takes, each within its type, or has a space too many or too few.
 ///
 /// Example: `day 719163` asks for `Day { number: 719163 }`.
-#[tactic(auto, using(crate::proofs::Chains::ends))]
 pub fn command_of(line: &[u8]) -> Option<Command>
     ensures { result ≡ command_of line.now }
 {
-    let (name, mut words) = Words::of(line);
-    let command = read_named(name, &mut words)?;
-    if words.is_empty() {
-        Some(command)
-    } else {
-        None
+    read_command(line, &mut Numbers::new())
+}
+
+// The command of a line, whose numbers go into the given room.
+pub(crate) fn read_command(line: &[u8], numbers: &mut Numbers) -> Option<Command>
+    ensures { result ≡ command_of line.now }
+{
+    if line.len() > LONGEST_LINE {
+        return None;
     }
+    let (word, rest) = split_name(line);
+    let name = name_of(word)?;
+    numbers.read(rest)?;
+    command_from(name, numbers.as_slice())
 }
 
 #[cfg(test)]
@@ -128,7 +139,7 @@ mod tests {
         day: 29,
     };
 
-    const LEAP: Moment = Moment {
+    const LEAP: DateAndTime = DateAndTime {
         date: CalendarDate {
             year: 2015,
             month: 6,
@@ -191,14 +202,14 @@ mod tests {
                 b"months -4 2 29 -4294967295",
                 Command::Months {
                     date: DATE,
-                    count: -4_294_967_295,
+                    span: MonthSpan::Earlier(u32::MAX),
                 },
             ),
             (
                 b"months -4 2 29 4294967295",
                 Command::Months {
                     date: DATE,
-                    count: 4_294_967_295,
+                    span: MonthSpan::Later(u32::MAX),
                 },
             ),
             (
@@ -228,7 +239,7 @@ mod tests {
 
     #[test]
     fn commands_of_two_dates_or_of_weekdays(rt: HostRuntime) {
-        let start = Moment {
+        let start = DateAndTime {
             date: DATE,
             time: ClockTime {
                 hour: 0,

@@ -3,8 +3,6 @@ ghost use Rattle.std.specs.Prelude.{◌≡◌, ℕ, ℤ, List, Some};
 ghost use Rattle.caltool_form.specs.Words.{words, AreWords};
 ghost use Rattle.caltool_form.specs.Numbers.{number_of, WritesNumber};
 ghost use Rattle.caltool_form.specs.Grammar.{arguments_of, IsCommandLine};
-ghost use Rattle.caltool_form.specs.Commands.{command_of, Asks};
-ghost use Rattle.caltool_form.specs.declared.command.Command.{Command};
 ghost use Rattle.caltool_form.specs.Lines.{IsCut, ended_lines, rest_of};
 
 /// The lines that a newline ends, and what stands after the last newline, are the only cut of the
@@ -27,17 +25,8 @@ pub fn numbers_are_texts()
     ensures written { (text : List ℕ) (z : ℤ) → WritesNumber text z → number_of text ≡ Some z }
 {}
 
-/// A line holds a word and then whole numbers, each of them after one space.
+/// A line holds a word and then whole numbers that fit an `i64`, each of them after one space.
 pub fn lines_are_commands()
     ensures read { (line name : List ℕ) (numbers : List ℤ) → arguments_of line ≡ Some (name, numbers) → IsCommandLine line name numbers }
     ensures written { (line name : List ℕ) (numbers : List ℤ) → IsCommandLine line name numbers → arguments_of line ≡ Some (name, numbers) }
-{}
-
-/// A line is a command exactly if its command word is that command's, and its numbers are as many as
-/// that command takes, each within its type.
-pub fn commands_are_lines()
-    ensures read { (line : List ℕ) (command : Command) → command_of line ≡ Some command
-        → (name : List ℕ) × (numbers : List ℤ) × IsCommandLine line name numbers × Asks command name numbers }
-    ensures written { (line name : List ℕ) (numbers : List ℤ) (command : Command) → IsCommandLine line name numbers
-        → Asks command name numbers → command_of line ≡ Some command }
 {}

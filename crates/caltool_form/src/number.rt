@@ -4,6 +4,7 @@ ghost use Rattle.std.specs.Int.{IsInRange};
 ghost use Rattle.std.specs.Str.Parse.{AllDigits, digits_value};
 ghost use Rattle.caltool_form.specs.Numbers.{signed, to_i64, to_i32, to_u32, to_u8, to_months, to_weekday};
 
+use crate::arguments::MonthSpan;
 use chrono_units::Weekday;
 
 // With one digit more, a number of this size fits no `i64`.
@@ -120,14 +121,18 @@ pub(crate) fn to_u8(n: i64) -> Option<u8>
     }
 }
 
-// The number, if its size fits a `u32`.
+// The number of months, if its size fits a `u32`.
 #[inline]
 #[tactic(auto, unfolding(crate::specs::Numbers::to_months))]
-pub(crate) fn to_months(n: i64) -> Option<i64>
+pub(crate) fn to_months(n: i64) -> Option<MonthSpan>
     ensures { result ≡ to_months n }
 {
     if -i64::from(u32::MAX) <= n && n <= i64::from(u32::MAX) {
-        Some(n)
+        if n < 0 {
+            Some(MonthSpan::Earlier((-n) as u32))
+        } else {
+            Some(MonthSpan::Later(n as u32))
+        }
     } else {
         None
     }

@@ -7,6 +7,7 @@ ghost use Rattle.caltool_form.specs.Answers.{answer_of};
 
 use crate::answer::{CommandAnswers, write_line_answer};
 use crate::fault::RunFault;
+use crate::numbers::Numbers;
 use crate::watch::WatchedWriter;
 use std::io::Write;
 use std::marker::Model;
@@ -19,6 +20,8 @@ const ROOM: usize = 65536;
 pub(crate) struct Output {
     bytes: [u8; ROOM],
     len: usize,
+    // Room for the numbers of the line that is answered.
+    numbers: Numbers,
 }
 
 impl Model for Output {
@@ -26,7 +29,7 @@ impl Model for Output {
 
     ghost view = { λ o. take o.len o.bytes };
 
-    ghost invariant = { λ o. o.len ≤ 65536 };
+    ghost invariant = { λ o. (o.len ≤ 65536) × (length o.bytes ≡ 65536) };
 }
 
 impl Output {
@@ -36,6 +39,7 @@ impl Output {
         Output {
             bytes: [0; ROOM],
             len: 0,
+            numbers: Numbers::new(),
         }
     }
 
@@ -44,7 +48,7 @@ impl Output {
         requires { length self.old + 63 < 65536 }
         ensures { self.new ≡ self.old ++ answer_of A.answer_to line.now ++ 10 ∷ [] }
     {
-        self.len = add_answer::<A>(&mut self.bytes, self.len, line);
+        self.len = add_answer::<A>(line, &mut self.numbers, &mut self.bytes, self.len);
     }
 
     // Makes room for an answer of at most 63 bytes and its newline.
@@ -90,12 +94,17 @@ impl Output {
 }
 
 // Puts an answer and a newline after the first `len` bytes, and gives the new length.
-fn add_answer<A: CommandAnswers>(bytes: &mut [u8], len: usize, line: &[u8]) -> usize
+fn add_answer<A: CommandAnswers>(
+    line: &[u8],
+    numbers: &mut Numbers,
+    bytes: &mut [u8],
+    len: usize,
+) -> usize
     requires { len + 63 < length bytes.old }
     ensures fits { result ≤ length bytes.old }
     ensures text { take result bytes.new ≡ take len bytes.old ++ answer_of A.answer_to line.now ++ 10 ∷ [] }
 {
-    let n = write_line_answer::<A>(line, &mut bytes[len..]);
+    let n = write_line_answer::<A>(line, numbers, &mut bytes[len..]);
     let end = len + n;
     bytes[end] = b'\n';
     end + 1

@@ -1,83 +1,64 @@
-//! The readers of the commands' numbers, one for each command.
-ghost use Rattle.std.specs.Prelude.{◌≡◌};
-ghost use Rattle.caltool_form.specs.Cursor.{Reads};
-ghost use Rattle.caltool_form.specs.Commands as command;
-ghost use Rattle.caltool_form.specs.Commands.{command_named, later_named};
+//! The commands that names and numbers ask for.
+ghost use Rattle.std.specs.Prelude.{◌≡◌, take, drop};
+ghost use Rattle.caltool_form.specs.Numbers.{to_i64, to_i32, to_u32, to_months, to_weekday};
+ghost use Rattle.caltool_form.specs.Commands.{command_from, only, calendar_date, clock_time, date_and_time, weekday_set};
 
-use crate::arguments::{CalendarDate, ClockTime, Moment};
+use crate::arguments::{CalendarDate, ClockTime, DateAndTime, MonthSpan};
 use crate::command::Command;
-use crate::words::Words;
-use chrono_units::WeekdaySet;
+use crate::name::Name;
+use crate::number::{to_i32, to_months, to_u8, to_u32, to_weekday};
+use chrono_units::{Weekday, WeekdaySet};
 
-// Reads what the command of this name takes.
-#[tactic(auto, unfolding(crate::specs::Commands::command_named))]
-pub(crate) fn read_named(name: &[u8], words: &mut Words) -> Option<Command>
-    ensures { Reads (command_named name.now) words.old result words.new }
+// The command of this name and these numbers, if they are as many as it takes and each fits its type.
+pub(crate) fn command_from(name: Name, numbers: &[i64]) -> Option<Command>
+    ensures { result ≡ command_from name numbers.now }
 {
-    if name == b"ymd".as_slice() {
-        read_ymd(words)
-    } else if name == b"yo".as_slice() {
-        read_yo(words)
-    } else if name == b"iwd".as_slice() {
-        read_iwd(words)
-    } else if name == b"day".as_slice() {
-        read_day(words)
-    } else if name == b"wom".as_slice() {
-        read_wom(words)
-    } else if name == b"days".as_slice() {
-        read_days(words)
-    } else {
-        read_later_named(name, words)
+    match name {
+        Name::Ymd => ymd(numbers),
+        Name::Yo => yo(numbers),
+        Name::Iwd => iwd(numbers),
+        Name::Day => day(numbers),
+        Name::Wom => wom(numbers),
+        Name::Days => days(numbers),
+        Name::Months => months(numbers),
+        Name::Week => week(numbers),
+        Name::Move => moved(numbers),
+        Name::Diff => diff(numbers),
+        Name::Since => since(numbers),
+        Name::Set => set(numbers),
     }
 }
 
-// Reads what the command of this name takes, if it has one of the later names. The names are asked in two
-// halves, so that each proof stays small.
-#[tactic(auto, unfolding(crate::specs::Commands::later_named), using(crate::proofs::Chains::names))]
-fn read_later_named(name: &[u8], words: &mut Words) -> Option<Command>
-    ensures { Reads (later_named name.now) words.old result words.new }
+#[tactic(auto, unfolding(crate::specs::Commands::command_from))]
+fn ymd(numbers: &[i64]) -> Option<Command>
+    ensures { result ≡ command_from Name.Ymd numbers.now }
 {
-    if name == b"months".as_slice() {
-        read_months(words)
-    } else if name == b"week".as_slice() {
-        read_week(words)
-    } else if name == b"move".as_slice() {
-        read_move(words)
-    } else if name == b"diff".as_slice() {
-        read_diff(words)
-    } else if name == b"since".as_slice() {
-        read_since(words)
-    } else if name == b"set".as_slice() {
-        read_set(words)
-    } else {
-        None
-    }
-}
-
-#[tactic(auto, unfolding(crate::specs::Commands::ymd_command), using(crate::proofs::Chains::steps))]
-fn read_ymd(words: &mut Words) -> Option<Command>
-    ensures { Reads command.ymd_command words.old result words.new }
-{
-    let date = read_calendar_date(words)?;
+    let date = calendar_date(numbers)?;
     Some(Command::Ymd { date })
 }
 
-#[tactic(auto, unfolding(crate::specs::Commands::yo_command), using(crate::proofs::Chains::steps))]
-fn read_yo(words: &mut Words) -> Option<Command>
-    ensures { Reads command.yo_command words.old result words.new }
+#[tactic(auto, unfolding(crate::specs::Commands::command_from))]
+fn yo(numbers: &[i64]) -> Option<Command>
+    ensures { result ≡ command_from Name.Yo numbers.now }
 {
-    let year = words.i32()?;
-    let ordinal = words.u32()?;
+    let [year, ordinal] = numbers else {
+        return None;
+    };
+    let year = to_i32(*year)?;
+    let ordinal = to_u32(*ordinal)?;
     Some(Command::Yo { year, ordinal })
 }
 
-#[tactic(auto, unfolding(crate::specs::Commands::iwd_command), using(crate::proofs::Chains::steps))]
-fn read_iwd(words: &mut Words) -> Option<Command>
-    ensures { Reads command.iwd_command words.old result words.new }
+#[tactic(auto, unfolding(crate::specs::Commands::command_from))]
+fn iwd(numbers: &[i64]) -> Option<Command>
+    ensures { result ≡ command_from Name.Iwd numbers.now }
 {
-    let year = words.i32()?;
-    let week = words.u32()?;
-    let weekday = words.weekday()?;
+    let [year, week, weekday] = numbers else {
+        return None;
+    };
+    let year = to_i32(*year)?;
+    let week = to_u32(*week)?;
+    let weekday = to_weekday(*weekday)?;
     Some(Command::Iwd {
         year,
         week,
@@ -85,22 +66,28 @@ fn read_iwd(words: &mut Words) -> Option<Command>
     })
 }
 
-#[tactic(auto, unfolding(crate::specs::Commands::day_command), using(crate::proofs::Chains::steps))]
-fn read_day(words: &mut Words) -> Option<Command>
-    ensures { Reads command.day_command words.old result words.new }
+#[tactic(auto, unfolding(crate::specs::Commands::command_from, crate::specs::Commands::only))]
+fn day(numbers: &[i64]) -> Option<Command>
+    ensures { result ≡ command_from Name.Day numbers.now }
 {
-    let number = words.i32()?;
+    let [number] = numbers else {
+        return None;
+    };
+    let number = to_i32(*number)?;
     Some(Command::Day { number })
 }
 
-#[tactic(auto, unfolding(crate::specs::Commands::wom_command), using(crate::proofs::Chains::steps))]
-fn read_wom(words: &mut Words) -> Option<Command>
-    ensures { Reads command.wom_command words.old result words.new }
+#[tactic(auto, unfolding(crate::specs::Commands::command_from))]
+fn wom(numbers: &[i64]) -> Option<Command>
+    ensures { result ≡ command_from Name.Wom numbers.now }
 {
-    let year = words.i32()?;
-    let month = words.u32()?;
-    let weekday = words.weekday()?;
-    let nth = words.u8()?;
+    let [year, month, weekday, nth] = numbers else {
+        return None;
+    };
+    let year = to_i32(*year)?;
+    let month = to_u32(*month)?;
+    let weekday = to_weekday(*weekday)?;
+    let nth = to_u8(*nth)?;
     Some(Command::Wom {
         year,
         month,
@@ -109,40 +96,45 @@ fn read_wom(words: &mut Words) -> Option<Command>
     })
 }
 
-#[tactic(auto, unfolding(crate::specs::Commands::days_command), using(crate::proofs::Chains::steps))]
-fn read_days(words: &mut Words) -> Option<Command>
-    ensures { Reads command.days_command words.old result words.new }
+#[tactic(auto, unfolding(crate::specs::Commands::command_from))]
+fn days(numbers: &[i64]) -> Option<Command>
+    ensures { result ≡ command_from Name.Days numbers.now }
 {
-    let date = read_calendar_date(words)?;
-    let count = words.i64()?;
+    let (date, count) = cut(numbers, 3);
+    let date = calendar_date(date)?;
+    let count = only_i64(count)?;
     Some(Command::Days { date, count })
 }
 
-#[tactic(auto, unfolding(crate::specs::Commands::months_command), using(crate::proofs::Chains::steps))]
-fn read_months(words: &mut Words) -> Option<Command>
-    ensures { Reads command.months_command words.old result words.new }
+#[tactic(auto, unfolding(crate::specs::Commands::command_from))]
+fn months(numbers: &[i64]) -> Option<Command>
+    ensures { result ≡ command_from Name.Months numbers.now }
 {
-    let date = read_calendar_date(words)?;
-    let count = words.months()?;
-    Some(Command::Months { date, count })
+    let (date, span) = cut(numbers, 3);
+    let date = calendar_date(date)?;
+    let span = only_months(span)?;
+    Some(Command::Months { date, span })
 }
 
-#[tactic(auto, unfolding(crate::specs::Commands::week_command), using(crate::proofs::Chains::steps))]
-fn read_week(words: &mut Words) -> Option<Command>
-    ensures { Reads command.week_command words.old result words.new }
+#[tactic(auto, unfolding(crate::specs::Commands::command_from))]
+fn week(numbers: &[i64]) -> Option<Command>
+    ensures { result ≡ command_from Name.Week numbers.now }
 {
-    let date = read_calendar_date(words)?;
-    let start = words.weekday()?;
+    let (date, start) = cut(numbers, 3);
+    let date = calendar_date(date)?;
+    let start = only_weekday(start)?;
     Some(Command::Week { date, start })
 }
 
-#[tactic(auto, unfolding(crate::specs::Commands::move_command), using(crate::proofs::Chains::steps))]
-fn read_move(words: &mut Words) -> Option<Command>
-    ensures { Reads command.move_command words.old result words.new }
+#[tactic(auto, unfolding(crate::specs::Commands::command_from))]
+fn moved(numbers: &[i64]) -> Option<Command>
+    ensures { result ≡ command_from Name.Move numbers.now }
 {
-    let from = read_moment(words)?;
-    let seconds = words.i64()?;
-    let nanoseconds = words.u32()?;
+    let (from, by) = cut(numbers, 7);
+    let (seconds, nanoseconds) = cut(by, 1);
+    let from = date_and_time(from)?;
+    let seconds = only_i64(seconds)?;
+    let nanoseconds = only_u32(nanoseconds)?;
     Some(Command::Move {
         from,
         seconds,
@@ -150,55 +142,70 @@ fn read_move(words: &mut Words) -> Option<Command>
     })
 }
 
-#[tactic(auto, unfolding(crate::specs::Commands::diff_command), using(crate::proofs::Chains::steps))]
-fn read_diff(words: &mut Words) -> Option<Command>
-    ensures { Reads command.diff_command words.old result words.new }
+#[tactic(auto, unfolding(crate::specs::Commands::command_from))]
+fn diff(numbers: &[i64]) -> Option<Command>
+    ensures { result ≡ command_from Name.Diff numbers.now }
 {
-    let first = read_moment(words)?;
-    let second = read_moment(words)?;
+    let (first, second) = cut(numbers, 7);
+    let first = date_and_time(first)?;
+    let second = date_and_time(second)?;
     Some(Command::Diff { first, second })
 }
 
-#[tactic(auto, unfolding(crate::specs::Commands::since_command), using(crate::proofs::Chains::steps))]
-fn read_since(words: &mut Words) -> Option<Command>
-    ensures { Reads command.since_command words.old result words.new }
+#[tactic(auto, unfolding(crate::specs::Commands::command_from))]
+fn since(numbers: &[i64]) -> Option<Command>
+    ensures { result ≡ command_from Name.Since numbers.now }
 {
-    let date = read_calendar_date(words)?;
-    let base = read_calendar_date(words)?;
+    let (date, base) = cut(numbers, 3);
+    let date = calendar_date(date)?;
+    let base = calendar_date(base)?;
     Some(Command::Since { date, base })
 }
 
-#[tactic(auto, unfolding(crate::specs::Commands::set_command), using(crate::proofs::Chains::steps))]
-fn read_set(words: &mut Words) -> Option<Command>
-    ensures { Reads command.set_command words.old result words.new }
+#[tactic(auto, unfolding(crate::specs::Commands::command_from))]
+fn set(numbers: &[i64]) -> Option<Command>
+    ensures { result ≡ command_from Name.Set numbers.now }
 {
-    let start = words.weekday()?;
-    let days = read_weekday_set(words)?;
+    let [start, days @ ..] = numbers else {
+        return None;
+    };
+    let start = to_weekday(*start)?;
+    let days = weekday_set(days)?;
     Some(Command::Set { start, days })
 }
 
-// Reads a year, a month and a day.
-#[inline(never)]
-#[tactic(auto, unfolding(crate::specs::Commands::calendar_date), using(crate::proofs::Chains::steps))]
-fn read_calendar_date(words: &mut Words) -> Option<CalendarDate>
-    ensures { Reads command.calendar_date words.old result words.new }
+// The first numbers, and the others.
+fn cut(numbers: &[i64], count: usize) -> (&[i64], &[i64])
+    ensures first { result.0.now ≡ take count numbers.now }
+    ensures others { result.1.now ≡ drop count numbers.now }
 {
-    let year = words.i32()?;
-    let month = words.u32()?;
-    let day = words.u32()?;
+    numbers.split_at(count.min(numbers.len()))
+}
+
+#[tactic(auto, unfolding(crate::specs::Commands::calendar_date))]
+fn calendar_date(numbers: &[i64]) -> Option<CalendarDate>
+    ensures { result ≡ calendar_date numbers.now }
+{
+    let [year, month, day] = numbers else {
+        return None;
+    };
+    let year = to_i32(*year)?;
+    let month = to_u32(*month)?;
+    let day = to_u32(*day)?;
     Some(CalendarDate { year, month, day })
 }
 
-// Reads an hour, a minute, a second and a nanosecond.
-#[inline(never)]
-#[tactic(auto, unfolding(crate::specs::Commands::clock_time), using(crate::proofs::Chains::steps))]
-fn read_clock_time(words: &mut Words) -> Option<ClockTime>
-    ensures { Reads command.clock_time words.old result words.new }
+#[tactic(auto, unfolding(crate::specs::Commands::clock_time))]
+fn clock_time(numbers: &[i64]) -> Option<ClockTime>
+    ensures { result ≡ clock_time numbers.now }
 {
-    let hour = words.u32()?;
-    let minute = words.u32()?;
-    let second = words.u32()?;
-    let nanosecond = words.u32()?;
+    let [hour, minute, second, nanosecond] = numbers else {
+        return None;
+    };
+    let hour = to_u32(*hour)?;
+    let minute = to_u32(*minute)?;
+    let second = to_u32(*second)?;
+    let nanosecond = to_u32(*nanosecond)?;
     Some(ClockTime {
         hour,
         minute,
@@ -207,23 +214,63 @@ fn read_clock_time(words: &mut Words) -> Option<ClockTime>
     })
 }
 
-// Reads a date and a time of day.
-#[tactic(auto, unfolding(crate::specs::Commands::moment), using(crate::proofs::Chains::steps))]
-fn read_moment(words: &mut Words) -> Option<Moment>
-    ensures { Reads command.moment words.old result words.new }
+#[tactic(auto, unfolding(crate::specs::Commands::date_and_time))]
+fn date_and_time(numbers: &[i64]) -> Option<DateAndTime>
+    ensures { result ≡ date_and_time numbers.now }
 {
-    let date = read_calendar_date(words)?;
-    let time = read_clock_time(words)?;
-    Some(Moment { date, time })
+    let (date, time) = cut(numbers, 3);
+    let date = calendar_date(date)?;
+    let time = clock_time(time)?;
+    Some(DateAndTime { date, time })
 }
 
-// Reads weekdays up to the end of the line.
-fn read_weekday_set(words: &mut Words) -> Option<WeekdaySet>
-    ensures { Reads command.weekday_set words.old result words.new }
+#[tactic(auto, unfolding(crate::specs::Commands::only), using(crate::proofs::Types::i64_written))]
+fn only_i64(numbers: &[i64]) -> Option<i64>
+    ensures { result ≡ only to_i64 numbers.now }
+{
+    let [number] = numbers else {
+        return None;
+    };
+    Some(*number)
+}
+
+#[tactic(auto, unfolding(crate::specs::Commands::only))]
+fn only_u32(numbers: &[i64]) -> Option<u32>
+    ensures { result ≡ only to_u32 numbers.now }
+{
+    let [number] = numbers else {
+        return None;
+    };
+    to_u32(*number)
+}
+
+#[tactic(auto, unfolding(crate::specs::Commands::only))]
+fn only_months(numbers: &[i64]) -> Option<MonthSpan>
+    ensures { result ≡ only to_months numbers.now }
+{
+    let [number] = numbers else {
+        return None;
+    };
+    to_months(*number)
+}
+
+#[tactic(auto, unfolding(crate::specs::Commands::only))]
+fn only_weekday(numbers: &[i64]) -> Option<Weekday>
+    ensures { result ≡ only to_weekday numbers.now }
+{
+    let [number] = numbers else {
+        return None;
+    };
+    to_weekday(*number)
+}
+
+// The set of these weekdays.
+fn weekday_set(numbers: &[i64]) -> Option<WeekdaySet>
+    ensures { result ≡ weekday_set numbers.now }
 {
     let mut days = WeekdaySet::EMPTY;
-    while !words.is_empty() {
-        days.insert(words.weekday()?);
+    for number in numbers {
+        days.insert(to_weekday(*number)?);
     }
     Some(days)
 }

@@ -1,12 +1,13 @@
 //! Lines and their answers, and a run over them in pieces and past failing calls.
-use caltool_dates::{DateAnswers, RunFault, answer_line, run};
-use caltool_fakes::{Pieces, Sink};
+use crate::{Asker, Counter, Pieces, Sink};
+use caltool_dates::{RunFault, answer_line, run};
 use std::alloc::{AllocError, Global};
+use std::cell::Cell;
 use std::io::ErrorKind;
 use std::test::Fail;
 
 // Lines and their answers.
-const ROWS: [(&[u8], &[u8]); 82] = [
+const ROWS: [(&[u8], &[u8]); 100] = [
     (b"ymd 1900 2 29", b"none"),
     (b"ymd 2024 2 29", b"2024-02-29 738945 Thu 2024-W09 60"),
     (b"ymd 2024 12 30", b"2024-12-30 739250 Mon 2025-W01 365"),
@@ -42,6 +43,24 @@ const ROWS: [(&[u8], &[u8]); 82] = [
     ),
     (b"ymd 2024 02 029", b"2024-02-29 738945 Thu 2024-W09 60"),
     (b"", b"error"),
+    (b" ", b"error"),
+    (b"\x00", b"error"),
+    (b"\xff", b"error"),
+    (b"ymd 2024 2 29\r", b"error"),
+    (b"ymd 2024\t2 29", b"error"),
+    (b"ymd 2024 2 29\x00", b"error"),
+    (b"ymd 2024 2 29\xff", b"error"),
+    (b"ymd - 2 29", b"error"),
+    (b"ymd --1 2 29", b"error"),
+    (b"ymd 2024 2 2a", b"error"),
+    (b"ymd 2024 2 29-", b"error"),
+    (b"ymd2024 2 29", b"error"),
+    (b"month 1", b"error"),
+    (b"ymd", b"error"),
+    (b"ymd ", b"error"),
+    (b" ymd 2024 2 29", b"error"),
+    (b"ymd 18446744073709551617 1 1", b"error"),
+    (b"ymd 2024 36893488147419103233 1", b"error"),
     (b"ymd 2024 2 29 ", b"error"),
     (b"ymd  2024 2 29", b"error"),
     (b"ymd +2024 2 29", b"error"),
@@ -223,6 +242,7 @@ fn a_failed_read_ends_the_run(rt: HostRuntime) -> Result<(), Fail> {
     Ok(())
 }
 
+// The writer takes a byte a call, so the call that fails says how many bytes are held.
 #[test]
 fn a_failed_write_ends_the_run(rt: HostRuntime) -> Result<(), Fail> {
     let input = input(rt.alloc())?;
@@ -230,7 +250,7 @@ fn a_failed_write_ends_the_run(rt: HostRuntime) -> Result<(), Fail> {
     for kind in KINDS {
         for call in 1u64..10000 {
             let mut reader = Pieces::new(input.as_slice(), 120);
-            let mut writer = Sink::failing(Vec::new(rt.alloc()), 3, call, kind);
+            let mut writer = Sink::failing(Vec::new(rt.alloc()), 1, call, kind);
             let outcome = run(&mut reader, &mut writer);
             assert!(rt; whole.as_slice().starts_with(writer.held()));
             if outcome == Ok(()) {
@@ -240,7 +260,113 @@ fn a_failed_write_ends_the_run(rt: HostRuntime) -> Result<(), Fail> {
             }
             assert_eq!(rt; outcome, Err(RunFault::Write));
             assert_eq!(rt; writer.calls(), call);
+            assert_eq!(rt; writer.held().len() as u64, call - 1);
         }
     }
+    Ok(())
+}
+
+#[test]
+fn a_writer_that_takes_nothing(rt: HostRuntime) {
+    let mut reader = Pieces::new(b"day 1", 7);
+    let mut writer = Sink::new(Vec::new(rt.alloc()), 0);
+    assert_eq!(rt; run(&mut reader, &mut writer), Err(RunFault::Write));
+    assert_eq!(rt; writer.held(), b"".as_slice());
+    assert_eq!(rt; writer.calls(), 1);
+}
+
+#[test]
+fn each_line_is_answered_before_the_next_read(rt: HostRuntime) -> Result<(), Fail> {
+    let input = input(rt.alloc())?;
+    for size in [1usize, 7, 120, 100000] {
+        let answered = Cell::new(0usize);
+        let mut reader = Asker::new(input.as_slice(), size, &answered);
+        let mut writer = Counter::new(&answered);
+        assert_eq!(rt; run(&mut reader, &mut writer), Ok(()));
+        assert!(rt; !reader.is_early(), "at {size}");
+        assert_eq!(rt; answered.get(), ROWS.len());
+    }
+    Ok(())
+}
+
+#[test]
+fn no_line_and_an_empty_line(rt: HostRuntime) {
+    let day: &[u8] = b"0001-01-01 1 Mon 0001-W01 1\nerror\n";
+    let cases: [(&[u8], &[u8]); 3] = [(b"", b""), (b"\n", b"error\n"), (b"day 1\n\n", day)];
+    for (bytes, wanted) in &cases {
+        let mut reader = Pieces::new(bytes, 7);
+        let mut writer = Sink::new(Vec::new(rt.alloc()), 100);
+        assert_eq!(rt; run(&mut reader, &mut writer), Ok(()));
+        assert_eq!(rt; writer.held(), *wanted);
+        assert_eq!(rt; writer.flushes(), 1);
+    }
+}
+
+// `ymd 2024 2 29` with zeros before its day, up to this length.
+fn long_line(alloc: Global, length: usize) -> Result<Vec<u8>, AllocError> {
+    let mut line = Vec::new(alloc);
+    line.extend_from_slice(b"ymd 2024 2 ")?;
+    for _ in 13..length {
+        line.push(b'0')?;
+    }
+    line.extend_from_slice(b"29")?;
+    Ok(line)
+}
+
+#[test]
+fn lines_about_the_longest(rt: HostRuntime) -> Result<(), Fail> {
+    let date: &[u8] = b"2024-02-29 738945 Thu 2024-W09 60\n";
+    let cases: [(usize, &[u8]); 3] = [(119, date), (120, date), (121, b"error\n")];
+    for (length, wanted) in &cases {
+        for ended in [false, true] {
+            for size in [1usize, 60, 120, 121, 100000] {
+                assert!(rt; size > 0);
+                let mut input = long_line(rt.alloc(), *length)?;
+                assert_eq!(rt; input.len(), *length);
+                if ended {
+                    input.push(b'\n')?;
+                }
+                let mut reader = Pieces::new(input.as_slice(), size);
+                let mut writer = Sink::new(Vec::new(rt.alloc()), 1000);
+                assert_eq!(rt; run(&mut reader, &mut writer), Ok(()));
+                assert_eq!(rt; writer.held(), *wanted, "at {length}");
+            }
+        }
+    }
+    Ok(())
+}
+
+#[test]
+fn ten_thousand_nines(rt: HostRuntime) -> Result<(), Fail> {
+    let mut input = Vec::new(rt.alloc());
+    for _ in 0..10000 {
+        input.push(b'9')?;
+    }
+    input.extend_from_slice(b"\nymd 2023 2 29")?;
+    for size in [1usize, 120, 121, 100000] {
+        assert!(rt; size > 0);
+        let mut reader = Pieces::new(input.as_slice(), size);
+        let mut writer = Sink::new(Vec::new(rt.alloc()), 1000);
+        assert_eq!(rt; run(&mut reader, &mut writer), Ok(()));
+        assert_eq!(rt; writer.held(), b"error\nnone\n".as_slice());
+    }
+    Ok(())
+}
+
+// 20,000 answers of 6 bytes are more than one buffer, and are written in two calls.
+#[test]
+fn more_answers_than_the_buffer_holds(rt: HostRuntime) -> Result<(), Fail> {
+    let mut input = Vec::new(rt.alloc());
+    let mut wanted = Vec::new(rt.alloc());
+    for _ in 0..20000 {
+        input.push(b'\n')?;
+        wanted.extend_from_slice(b"error\n")?;
+    }
+    let mut reader = Pieces::new(input.as_slice(), 100000);
+    let mut writer = Sink::new(Vec::new(rt.alloc()), 200000);
+    assert_eq!(rt; run(&mut reader, &mut writer), Ok(()));
+    assert!(rt; writer.held() == wanted.as_slice());
+    assert_eq!(rt; writer.calls(), 3);
+    assert_eq!(rt; reader.calls(), 2);
     Ok(())
 }

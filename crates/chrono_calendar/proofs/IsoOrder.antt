@@ -18,8 +18,8 @@ earlier_thursday : (n m : ℤ) → thursday_of_week n <ℤ thursday_of_week m �
 earlier_thursday n m h =
     omega (arith, signed, thursday_of_week-monday n, thursday_of_week-monday m, days_from_monday-of n, days_from_monday-of m)
 
-earlier_year : (n m : ℤ) → iso_year_of n <ℤ iso_year_of m → n <ℤ m
-earlier_year n m h =
+earlier_iso_year : (n m : ℤ) → iso_year_of n <ℤ iso_year_of m → n <ℤ m
+earlier_iso_year n m h =
     let s = thursday_of_week n in
     let t = thursday_of_week m in
     let a = ordinal_name_of-number s in
@@ -31,15 +31,15 @@ earlier_week n m e h =
     let before = ap days_before_year e in
     earlier_thursday n m (omega (arith, signed, before, (ordinal_name_of-number (thursday_of_week n)).number, (ordinal_name_of-number (thursday_of_week m)).number))
 
-same_week : (n m : ℤ) → iso_year_of n ≡ iso_year_of m → iso_week_of n ≡ iso_week_of m → thursday_of_week n ≡ thursday_of_week m
-same_week n m e f =
+same_thursday : (n m : ℤ) → iso_year_of n ≡ iso_year_of m → iso_week_of n ≡ iso_week_of m → thursday_of_week n ≡ thursday_of_week m
+same_thursday n m e f =
     omega (arith, signed, ap days_before_year e, ap before_monday e, thursday-place n, thursday-place m)
 
-earlier_weekday : (n m : ℤ) → thursday_of_week n ≡ thursday_of_week m → days_from_monday (weekday_of n) < days_from_monday (weekday_of m) → n <ℤ m
-earlier_weekday n m e h = omega (arith, signed, thursday_of_week-monday n, thursday_of_week-monday m)
+earlier_weekday_of_week : (n m : ℤ) → thursday_of_week n ≡ thursday_of_week m → days_from_monday (weekday_of n) < days_from_monday (weekday_of m) → n <ℤ m
+earlier_weekday_of_week n m e h = omega (arith, signed, thursday_of_week-monday n, thursday_of_week-monday m)
 
-same_weekday : (n m : ℤ) → thursday_of_week n ≡ thursday_of_week m → days_from_monday (weekday_of n) ≡ days_from_monday (weekday_of m) → n ≡ m
-same_weekday n m e h = omega (arith, signed, thursday_of_week-monday n, thursday_of_week-monday m)
+same_weekday_of_week : (n m : ℤ) → thursday_of_week n ≡ thursday_of_week m → days_from_monday (weekday_of n) ≡ days_from_monday (weekday_of m) → n ≡ m
+same_weekday_of_week n m e h = omega (arith, signed, thursday_of_week-monday n, thursday_of_week-monday m)
 
 abbrev weekday_number : ℤ → ℕ
 weekday_number n = days_from_monday (weekday_of n)
@@ -48,6 +48,6 @@ pub iso_cmp-numbers : (n m : ℤ) → iso_cmp n m ≡ int_cmp n m
 unfolding iso_cmp
 iso_cmp-numbers n m =
     int_cmp_is n m (ordering_then (int_cmp (iso_year_of n) (iso_year_of m)) (ordering_then (nat_cmp (iso_week_of n) (iso_week_of m)) (nat_cmp (weekday_number n) (weekday_number m))))
-    (ranked_then _ _ _ _ _ _ (int_cmp (iso_year_of n) (iso_year_of m)) (ordering_then (nat_cmp (iso_week_of n) (iso_week_of m)) (nat_cmp (weekday_number n) (weekday_number m))) (int_ranked (iso_year_of n) (iso_year_of m) (int_cmp (iso_year_of n) (iso_year_of m)) refl) (earlier_year n m) (earlier_year m n)
+    (ranked_then _ _ _ _ _ _ (int_cmp (iso_year_of n) (iso_year_of m)) (ordering_then (nat_cmp (iso_week_of n) (iso_week_of m)) (nat_cmp (weekday_number n) (weekday_number m))) (int_ranked (iso_year_of n) (iso_year_of m) (int_cmp (iso_year_of n) (iso_year_of m)) refl) (earlier_iso_year n m) (earlier_iso_year m n)
     (λ e. ranked_then _ _ _ _ _ _ (nat_cmp (iso_week_of n) (iso_week_of m)) (nat_cmp (weekday_number n) (weekday_number m)) (ranked (iso_week_of n) (iso_week_of m) (nat_cmp (iso_week_of n) (iso_week_of m)) refl) (earlier_week n m e) (earlier_week m n (sym e))
-    (λ f. ranked_by _ _ _ _ _ _ (nat_cmp (weekday_number n) (weekday_number m)) (ranked (weekday_number n) (weekday_number m) (nat_cmp (weekday_number n) (weekday_number m)) refl) (earlier_weekday n m (same_week n m e f)) (same_weekday n m (same_week n m e f)) (earlier_weekday m n (sym (same_week n m e f))))))
+    (λ f. ranked_by _ _ _ _ _ _ (nat_cmp (weekday_number n) (weekday_number m)) (ranked (weekday_number n) (weekday_number m) (nat_cmp (weekday_number n) (weekday_number m)) refl) (earlier_weekday_of_week n m (same_thursday n m e f)) (same_weekday_of_week n m (same_thursday n m e f)) (earlier_weekday_of_week m n (sym (same_thursday n m e f))))))

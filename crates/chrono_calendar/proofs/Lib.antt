@@ -22,4 +22,3 @@ pub mod MonthDays
 pub mod WeekDays
 pub mod WholeYears
 pub mod NthWeekdays
-pub mod KnownTables

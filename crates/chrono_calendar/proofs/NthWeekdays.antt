@@ -19,10 +19,10 @@ use Rattle.chrono_calendar.proofs.NamedDates.{None-cond}
 use Rattle.chrono_calendar.proofs.IsoWeeks.{days_from_monday-of, days_from_sunday_of-bound}
 
 -- the weekday of the last day before the month m of the year y
-abbrev before_month : ℤ → ℕ → ℕ
-before_month y m = days_from_sunday_of (days_before_year y +ℤ pos (days_of_months y (m - 1)))
+abbrev weekday_before_month : ℤ → ℕ → ℕ
+weekday_before_month y m = days_from_sunday_of (days_before_year y +ℤ pos (days_of_months y (m - 1)))
 
-weekday_in_month : (y : ℤ) (m d : ℕ) → days_from_sunday_of (day_number_of_ymd y m d) ≡ (before_month y m + d) % 7
+weekday_in_month : (y : ℤ) (m d : ℕ) → days_from_sunday_of (day_number_of_ymd y m d) ≡ (weekday_before_month y m + d) % 7
 weekday_in_month y m d = omega (arith, signed)
 
 -- the days with a weekday, by numbers alone: s is the weekday before the month, f that sought, counted from Monday, and l the month's days past 28
@@ -74,22 +74,22 @@ days_found-at s f l i a b c =
     ]
 
 -- the days of a month that have a weekday, by numbers alone
-days_with_weekday-found : (y : ℤ) (m : ℕ) (d : Weekday) → days_with_weekday y m d ≡ days_found (before_month y m) (days_from_monday d) (month_length y m - 28)
+days_with_weekday-found : (y : ℤ) (m : ℕ) (d : Weekday) → days_with_weekday y m d ≡ days_found (weekday_before_month y m) (days_from_monday d) (month_length y m - 28)
 unfolding days_with_weekday
 days_with_weekday-found y m d =
     let whole : month_length y m ≡ 28 + (month_length y m - 28) = omega (arith, month_length_in-bounds (is_leap_year y) m) in
     ap (λ (n : ℕ). filter (λ p. nat_eq (days_from_sunday_of (day_number_of_ymd y m p)) (days_from_sunday d)) (range_with_len 1 n)) whole
-    ∙ filter_agree (λ p. nat_eq (days_from_sunday_of (day_number_of_ymd y m p)) (days_from_sunday d)) (λ p. nat_eq ((before_month y m + p) % 7) ((days_from_monday d + 1) % 7)) (λ p. ap (λ (w : ℕ). nat_eq w (days_from_sunday d)) (weekday_in_month y m p)) (range_with_len 1 (28 + (month_length y m - 28)))
+    ∙ filter_agree (λ p. nat_eq (days_from_sunday_of (day_number_of_ymd y m p)) (days_from_sunday d)) (λ p. nat_eq ((weekday_before_month y m + p) % 7) ((days_from_monday d + 1) % 7)) (λ p. ap (λ (w : ℕ). nat_eq w (days_from_sunday d)) (weekday_in_month y m p)) (range_with_len 1 (28 + (month_length y m - 28)))
 
 days_found-in : (s f l len i : ℕ) → 28 + l ≡ len → s < 7 → f < 7 → l < 4 → slice_get (days_found s f l) i ≡ cond (nat_le (nth_day s f i) len) (Some (nth_day s f i)) None
 days_found-in s f l len i e a b c = rw (← e) (days_found-at s f l i a b c)
 
 -- the n-th of them
-pub days_with_weekday-at : (y : ℤ) (m i : ℕ) (d : Weekday) → slice_get (days_with_weekday y m d) i ≡ cond (nat_le (nth_day (before_month y m) (days_from_monday d) i) (month_length y m)) (Some (nth_day (before_month y m) (days_from_monday d) i)) None
+pub days_with_weekday-at : (y : ℤ) (m i : ℕ) (d : Weekday) → slice_get (days_with_weekday y m d) i ≡ cond (nat_le (nth_day (weekday_before_month y m) (days_from_monday d) i) (month_length y m)) (Some (nth_day (weekday_before_month y m) (days_from_monday d) i)) None
 days_with_weekday-at y m i d =
     let low = month_length_in-bounds (is_leap_year y) m in
     ap (λ (l : List ℕ). slice_get l i) (days_with_weekday-found y m d)
-    ∙ days_found-in (before_month y m) (days_from_monday d) (month_length y m - 28) (month_length y m) i (omega (arith, low)) (days_from_sunday_of-bound (days_before_year y +ℤ pos (days_of_months y (m - 1)))) (days_from_monday-lt d) (omega (arith, low))
+    ∙ days_found-in (weekday_before_month y m) (days_from_monday d) (month_length y m - 28) (month_length y m) i (omega (arith, low)) (days_from_sunday_of-bound (days_before_year y +ℤ pos (days_of_months y (m - 1)))) (days_from_monday-lt d) (omega (arith, low))
 
 -- none of them is the one before the first
 pub date_of_nth_weekday-zero : (y : ℤ) (m n : ℕ) (d : Weekday) → n ≡ 0 → None ≡ date_of_nth_weekday y m d n
@@ -124,8 +124,8 @@ unfolding date_of_nth_weekday date_of_ymd
 date_of_nth_weekday-ymd y v m n k ahead d found first a e =
     let known = months_known (is_year y) (is_calendar_name y m 1) v (day_number_of_ymd y m 1) found in
     let month = (and_parts (nat_le 1 m && nat_le m 12) (nat_le 1 1 && nat_le 1 (month_length y m)) known.1).0 in
-    let weekday : days_from_sunday_of v ≡ (before_month y m + 1) % 7 = ap days_from_sunday_of known.2 ∙ weekday_in_month y m 1 in
-    let same : k ≡ nth_day (before_month y m) (days_from_monday d) (n - 1) = omega (arith, days_from_monday-of v, days_from_sunday_of-bound (days_before_year y +ℤ pos (days_of_months y (m - 1))), days_from_monday-lt d) in
+    let weekday : days_from_sunday_of v ≡ (weekday_before_month y m + 1) % 7 = ap days_from_sunday_of known.2 ∙ weekday_in_month y m 1 in
+    let same : k ≡ nth_day (weekday_before_month y m) (days_from_monday d) (n - 1) = omega (arith, days_from_monday-of v, days_from_sunday_of-bound (days_before_year y +ℤ pos (days_of_months y (m - 1))), days_from_monday-lt d) in
     let one : nat_le 1 n ≡ true = grind (arith, nat_tests) in
     let low : nat_le 1 k ≡ true = grind (arith, nat_tests) in
     let at = days_with_weekday-at y m (n - 1) d in

@@ -96,15 +96,15 @@ iso_year_of-after y o h after =
     let found : day_number_of_yo (y +ℤ pos 1) t ≡ thursday_of_week n = omega (arith, signed, days_before_year-next y (y +ℤ pos 1) refl) in
     year_of-number (thursday_of_week n) (y +ℤ pos 1) t found (omega arith, omega arith)
 
--- the cases of the count
-same_year : (y : ℤ) (a b c : ℕ) → cond (int_eq y y) a (cond (int_lt y y) b c) ≡ a
-same_year y a b c = grind (arith, ints)
+-- the week counted in the year y of a day whose ISO year is y itself, the one before, and the one after
+counted_here : (y : ℤ) (a b c : ℕ) → cond (int_eq y y) a (cond (int_lt y y) b c) ≡ a
+counted_here y a b c = grind (arith, ints)
 
-earlier_year : (y : ℤ) (a b c : ℕ) → cond (int_eq (y -ℤ pos 1) y) a (cond (int_lt (y -ℤ pos 1) y) b c) ≡ b
-earlier_year y a b c = grind (arith, ints)
+counted_before : (y : ℤ) (a b c : ℕ) → cond (int_eq (y -ℤ pos 1) y) a (cond (int_lt (y -ℤ pos 1) y) b c) ≡ b
+counted_before y a b c = grind (arith, ints)
 
-later_year : (y : ℤ) (a b c : ℕ) → cond (int_eq (y +ℤ pos 1) y) a (cond (int_lt (y +ℤ pos 1) y) b c) ≡ c
-later_year y a b c = grind (arith, ints)
+counted_after : (y : ℤ) (a b c : ℕ) → cond (int_eq (y +ℤ pos 1) y) a (cond (int_lt (y +ℤ pos 1) y) b c) ≡ c
+counted_after y a b c = grind (arith, ints)
 
 -- the last days of a year whose Thursday lies after it are in the week after that of 28 December
 week_after : (y : ℤ) (o : ℕ) → IsOrdinalName y o → year_length y + iso_weekday_of (day_number_of_yo y o) < o + 4 → weeks_of_iso_year y + 1 ≡ (o + week_delta y) / 7
@@ -124,13 +124,13 @@ week_counted_in-delta y o h =
     let n = day_number_of_yo y o in
     let w = iso_weekday_of-bounds n in
     elim (cases_lt (iso_weekday_of n) (o + 4)) [
-      | inr before ↦ rw (iso_year_of-before y o h before, earlier_year y, week_of_ordinal y o) (omega arith)
+      | inr before ↦ rw (iso_year_of-before y o h before, counted_before y, week_of_ordinal y o) (omega arith)
       | inl more ↦
           elim (cases_lt (year_length y + iso_weekday_of n) (o + 4)) [
             | inr within ↦
                 let inside = iso_week_of-inside y o (o + 4 - iso_weekday_of n) (omega arith) (omega arith, omega arith) in
-                rw (inside.0, same_year y) inside.1
-            | inl after ↦ rw (iso_year_of-after y o h after, later_year y) (week_after y o h after)
+                rw (inside.0, counted_here y) inside.1
+            | inl after ↦ rw (iso_year_of-after y o h after, counted_after y) (week_after y o h after)
           ]
     ]
 

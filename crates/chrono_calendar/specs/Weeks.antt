@@ -65,10 +65,12 @@ IsFirstOfWeek n = (neg_ℤ (pos 95_746_135) ≤ℤ n) × (n ≤ℤ pos 95_745_39
 -- the days of the month m of the year y that have the weekday, in order
 unfoldable pub days_with_weekday : ℤ → ℕ → Weekday → List ℕ
 days_with_weekday y m weekday =
-    filter (λ d. days_from_sunday_of (day_number_of_ymd y m d) == days_from_sunday weekday) (range_with_len 1 (month_length y m))
+    filter (λ d. days_from_sunday_of (day_number_of_ymd y m d) == days_from_sunday weekday)
+    (range_with_len 1 (month_length y m))
 
 -- the date that is the n-th of these days, counted from 1, if there is one
 unfoldable pub date_of_nth_weekday : ℤ → ℕ → Weekday → ℕ → Option ℤ
 date_of_nth_weekday y m weekday n =
     if is_year y && (nat_le 1 m && nat_le m 12) && nat_le 1 n
-    then option_map (λ d. day_number_of_ymd y m d) (slice_get (days_with_weekday y m weekday) (n - 1)) else None
+    then option_map (λ d. day_number_of_ymd y m d) (slice_get (days_with_weekday y m weekday) (n - 1))
+    else None

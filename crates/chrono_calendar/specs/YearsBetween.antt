@@ -12,4 +12,5 @@ unfoldable pub years_between : ℤ → ℤ → Option ℕ
 years_between n base =
     let years = unsigned_abs (year_of n -ℤ year_of base) in
     if int_lt n base then None
-    else Some (if is_earlier_in_year (month_of n) (day_of n) (month_of base) (day_of base) then years - 1 else years)
+    else Some (
+    if is_earlier_in_year (month_of n) (day_of n) (month_of base) (day_of base) then years - 1 else years)

@@ -5,9 +5,6 @@ ghost use Rattle.chrono_calendar.specs.Days.{IsOrdinalName, day_number_of_yo};
 use crate::steps::Steps;
 use crate::tables::year_deltas::year_delta;
 
-#[cfg(test)]
-mod tests;
-
 /// The year of the cycle, from 0 to 399, and the ordinal of the day that lies that many days after the
 /// cycle's first, from 0 to 146,096. It takes one step or two.
 ///

@@ -1,9 +1,9 @@
 //! What a stored form of a date owes to its users.
-ghost use Rattle.std.specs.Prelude.{◌≡◌, ℕ, ℤ, ◌+◌, ◌≤◌};
+ghost use Rattle.std.specs.Prelude.{◌≡◌, ℕ, ℤ, false, ◌+◌, ◌≤◌};
 ghost use Rattle.std.specs.Option.{option_map};
 ghost use Rattle.std.specs.Ordering.{int_cmp};
 ghost use Rattle.chrono_units.specs.Years.{is_leap_year, IsYear};
-ghost use Rattle.chrono_calendar.specs.Days.{IsDate, IsOrdinalName, IsCalendarName, date_of_day, date_of_yo, date_of_ymd, year_of, ordinal_of, month_of, day_of};
+ghost use Rattle.chrono_calendar.specs.Days.{IsDate, is_date, IsOrdinalName, IsCalendarName, date_of_day, date_of_yo, date_of_ymd, year_of, ordinal_of, month_of, day_of};
 ghost use Rattle.chrono_calendar.specs.Weeks.{weekday_of};
 
 use crate::steps::Steps;
@@ -25,10 +25,13 @@ pub trait DayForm: Copy + Ord + Hash {
     fn from_ymd(year: i32, month: u32, day: u32) -> Option<Self>
         ensures { option_map number result ≡ date_of_ymd year month day };
 
+    // The steps that it takes to find the date with a day number.
+    ghost steps_of: { ℤ → ℕ };
+
     /// The date with a day number, or `None` if it is not from -95,746,129 to 95,745,399. It takes at most three steps.
     fn from_day(days: i32, steps: &mut Steps) -> Option<Self>
         ensures date { option_map number result ≡ date_of_day days }
-        ensures kept { steps.old ≤ steps.new }
+        ensures taken { steps.new ≡ steps.old + steps_of days }
         ensures cost { steps.new ≤ steps.old + 3 };
 
     /// The day number, from -95,746,129 to 95,745,399: 1 for 1 January of year 1.
@@ -50,7 +53,32 @@ pub trait DayForm: Copy + Ord + Hash {
     fn month_day(&self) -> (u32, u32)
         ensures month { result.0 ≡ month_of (number self.now) }
         ensures day { result.1 ≡ day_of (number self.now) }
-        ensures exists { IsCalendarName (year_of (number self.now)) (month_of (number self.now)) (day_of (number self.now)) };
+        ensures exists { IsCalendarName (year_of (number self.now)) (month_of (number self.now))
+            (day_of (number self.now)) };
+
+    /// The year and the place of the day there, by one reading of the form.
+    #[inline]
+    fn year_ordinal(&self) -> (i32, u32)
+        ensures year { result.0 ≡ year_of (number self.now) }
+        ensures ordinal { result.1 ≡ ordinal_of (number self.now) }
+        ensures in_range { IsYear (year_of (number self.now)) }
+        ensures exists { IsOrdinalName (year_of (number self.now)) (ordinal_of (number self.now)) }
+    {
+        (self.year(), self.ordinal())
+    }
+
+    /// The year, the month and the place of the day in the month, by one reading of the form.
+    #[inline]
+    fn year_month_day(&self) -> (i32, u32, u32)
+        ensures year { result.0 ≡ year_of (number self.now) }
+        ensures month { result.1 ≡ month_of (number self.now) }
+        ensures day { result.2 ≡ day_of (number self.now) }
+        ensures in_range { IsYear (year_of (number self.now)) }
+        ensures exists { IsCalendarName (year_of (number self.now)) (month_of (number self.now)) (day_of (number self.now)) }
+    {
+        let (month, day) = self.month_day();
+        (self.year(), month, day)
+    }
 
     /// Whether the year is a leap year.
     fn is_leap(&self) -> bool
@@ -59,6 +87,9 @@ pub trait DayForm: Copy + Ord + Hash {
     /// The weekday.
     fn weekday(&self) -> Weekday
         ensures { result ≡ weekday_of (number self.now) };
+
+    // No step is taken for a number that is no date's.
+    ghost no_step: { (n : ℤ) → is_date n ≡ false → steps_of n ≡ 0 };
 
     // Each number has one form.
     ghost one_form: { (a b : Self) → number a ≡ number b → a ≡ b };

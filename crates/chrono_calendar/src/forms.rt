@@ -20,40 +20,17 @@ use chrono_units::year::{MAX_YEAR, MIN_YEAR, is_leap_year, month_length, year_le
 // The months of the library's years.
 const MONTHS: i64 = (MAX_YEAR - MIN_YEAR + 1) as i64 * 12;
 
-// The ordinal `k` days after an ordinal of the same year, if it is one of the first 365, which every year has.
-#[inline]
-fn ordinal_after(ordinal: u32, k: i64) -> Option<u32>
-    requires { ordinal ≤ 366 }
-    ensures place { IfSome result (λ o. pos o ≡ pos ordinal +ℤ k) }
-    ensures in_year { IfSome result (λ o. IsInRange 1 365 o) }
-{
-    if k < -365 || k > 365 {
-        return None;
-    }
-    let place = i64::from(ordinal) + k;
-    if place < 1 || place > 365 {
-        return None;
-    }
-    Some(place as u32)
-}
-
 /// The date `k` days later, or earlier for a negative `k`; `None` if that day is outside the range of dates.
 /// So 28 February 2023 moved by one day is 1 March 2023.
 ///
-/// It takes at most four steps, of which one stands for reading the form. A move within the first 365 days of the year does
-/// not leave the year.
+/// It takes one step for reading the form, and those that the form takes for the day: at most four in all.
 #[inline]
 pub fn move_days<F: DayForm>(f: F, k: i64, steps: &mut Steps) -> Option<F>
     ensures date { option_map F.number result ≡ date_of_day (F.number f +ℤ k) }
-    ensures kept { steps.old ≤ steps.new }
+    ensures taken { steps.new ≡ steps.old + 1 + F.steps_of (F.number f +ℤ k) }
     ensures cost { steps.new ≤ steps.old + 4 }
 {
     steps.tick();
-    if let Some(ordinal) = ordinal_after(f.ordinal(), k) {
-        // The year's flags are read once more.
-        steps.tick();
-        return F::from_yo(f.year(), ordinal);
-    }
     let target = i64::from(f.day()).checked_add(k)?;
     let day = i32::try_from(target).ok()?;
     F::from_day(day, steps)
@@ -65,7 +42,8 @@ fn month_after(year: i32, month: u32, k: i64) -> Option<(i32, u32)>
     requires year { IsYear year }
     requires month { IsInRange 1 12 month }
     ensures { let i = month_index year month +ℤ k in
-        SomeIff result (IsYear (year_of_month_index i)) (record { 0 = year_of_month_index i; 1 = month_of_month_index i }) }
+        SomeIff result (IsYear (year_of_month_index i))
+        (record { 0 = year_of_month_index i; 1 = month_of_month_index i }) }
 {
     let from = (year - MIN_YEAR) as u32 * 12 + (month - 1);
     let moved = i64::from(from).checked_add(k)?;
@@ -99,8 +77,8 @@ fn day_within(year: i32, month: u32, day: u32) -> u32
 pub fn move_months<F: DayForm>(f: F, k: i64) -> Option<F>
     ensures { option_map F.number result ≡ month_move (F.number f) k }
 {
-    let (month, day) = f.month_day();
-    let (year, month) = month_after(f.year(), month, k)?;
+    let (year, month, day) = f.year_month_day();
+    let (year, month) = month_after(year, month, k)?;
     F::from_ymd(year, month, day_within(year, month, day))
 }
 
@@ -123,14 +101,18 @@ pub fn iso_name<F: DayForm>(f: &F) -> (i32, u32)
     ensures year_in_range { (neg_ℤ (pos 262_143) ≤ℤ result.0) × (result.0 ≤ℤ pos 262_143) }
     ensures week_in_range { IsInRange 1 53 result.1 }
 {
-    let year = f.year();
-    let place = f.ordinal() + 3;
+    let (year, ordinal) = f.year_ordinal();
+    let place = ordinal + 3;
     let from_monday = f.weekday().num_days_from_monday();
     if place <= from_monday {
         let thursday = place + year_length(year - 1) - from_monday;
         return (year - 1, week_of_thursday(thursday));
     }
     let thursday = place - from_monday;
+    // Few Thursdays come past the first 365 days, so the leap rule is seldom asked.
+    if thursday <= 365 {
+        return (year, week_of_thursday(thursday));
+    }
     if thursday > 365 + u32::from(f.is_leap()) {
         return (year + 1, 1);
     }
@@ -217,10 +199,10 @@ pub fn nth_weekday<F: DayForm>(year: i32, month: u32, weekday: Weekday, n: u8) -
 pub fn years_between<F: DayForm>(f: &F, base: &F) -> Option<u32>
     ensures { result ≡ whole_years (F.number f.now) (F.number base.now) }
 {
-    let (month, day) = f.month_day();
-    let (base_month, base_day) = base.month_day();
+    let (year, month, day) = f.year_month_day();
+    let (base_year, base_month, base_day) = base.year_month_day();
     let is_earlier = month * 32 + day < base_month * 32 + base_day; // no month has 32 days
-    let years = f.year() - base.year() - i32::from(is_earlier);
+    let years = year - base_year - i32::from(is_earlier);
     if years < 0 {
         return None;
     }

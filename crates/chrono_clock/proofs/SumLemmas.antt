@@ -1,6 +1,7 @@
 -- Lemmas on sums of durations, of which each beginning is in range.
-use Rattle.std.proofs.Common.{lit≤, zero, suc, ◌≡◌, List, [], ◌∷◌, ◌++◌, length, take, ℤ, pos, ◌+ℤ◌, arith, sym, ap, ◌∙◌, subst, length-append, map, Bor}
-use Rattle.std.proofs.lemmas.List.{map-append, take-append-le}
+use Rattle.std.proofs.Common.{lit≤, zero, suc, ◌≡◌, List, [], ◌∷◌, ◌++◌, length, take, ℤ, pos, ◌+ℤ◌, arith, sym, ap, ◌∙◌, subst, length-append, map, Bor, Option, None, Some, MatchOption}
+use Rattle.std.specs.Iterator.Runs.{SomeRun, WholeRun, EachRunFrom, IsCopiedRun}
+use Rattle.std.proofs.lemmas.List.{take-append-le}
 use Rattle.std.proofs.Math.Seq.{take-length}
 use Rattle.std.proofs.lemmas.List.Sums.{fold-append}
 use Rattle.chrono_clock.specs.Duration.{IsDuration, total, StaysInRange}
@@ -24,12 +25,14 @@ pub StaysInRange-none : StaysInRange []
 StaysInRange-none zero h = lit≤ tt
 StaysInRange-none (suc k) h = lit≤ tt
 
--- the same for what references point to
-abbrev pub now_of : Bor ℤ → ℤ
-now_of r = r.now
-
-pub total-append_one_ref : (xs : List (Bor ℤ)) (x : Bor ℤ) → total (map now_of (xs ++ x ∷ [])) ≡ total (map now_of xs) +ℤ x.now
-total-append_one_ref xs x = ap total (map-append now_of xs (x ∷ [])) ∙ total-append_one (map now_of xs) x.now
-
-pub StaysInRange-append_one_ref : (xs : List (Bor ℤ)) (x : Bor ℤ) → StaysInRange (map now_of xs) → IsDuration (total (map now_of xs) +ℤ x.now) → StaysInRange (map now_of (xs ++ x ∷ []))
-StaysInRange-append_one_ref xs x stays in_range = let P : List ℤ → Type 0 = StaysInRange in subst P (sym (map-append now_of xs (x ∷ []))) (StaysInRange-append_one (map now_of xs) x.now stays in_range)
+-- a run of copies stands on a run of the references, with the same numbers: what is said of the one holds of the other
+module _ {S T : Type 0} {source : S → Option (Bor ℤ) → S → Type 0} {copies : T → Option ℤ → T → Type 0} (s : S) (t : T) (runs : EachRunFrom copies t (λ p. SomeRun source s (λ q. IsCopiedRun p q (λ r. r.now)))) where
+  pub sum-of_copies : (sum : Option ℤ) → MatchOption sum (SomeRun copies t (λ p. ¬ IsDuration (total p.items))) (λ x. WholeRun copies t (λ p. StaysInRange p.items × (x ≡ total p.items))) → MatchOption sum (SomeRun source s (λ q. ¬ IsDuration (total (map (λ r. r.now) q.items)))) (λ x. WholeRun source s (λ q. StaysInRange (map (λ r. r.now) q.items) × (x ≡ total (map (λ r. r.now) q.items))))
+  sum-of_copies None (p, from, out) =
+      let P : List ℤ → Type 0 = λ xs. ¬ IsDuration (total xs) in
+      let (q, q_from, same) = runs p p.seen from in
+      (q, q_from, subst P same.2 out)
+  sum-of_copies (Some x) (p, from, ended, within) =
+      let P : List ℤ → Type 0 = λ xs. StaysInRange xs × (x ≡ total xs) in
+      let (q, q_from, same) = runs p p.seen from in
+      (q, q_from, same.0 ∙ ended, subst P same.2 within)

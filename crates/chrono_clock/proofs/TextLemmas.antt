@@ -2,6 +2,7 @@
 use Rattle.std.proofs.Common.{◌≡◌, ℕ, suc, ◌+◌, ◌/◌, ◌%◌, ◌^◌, ◌<◌, ◌≤◌, ℤ, pos, negsuc, List, [], ◌∷◌, ◌++◌, length, length-append, take, drop, unsigned_abs, arith, refl, sym, ap, ◌∙◌}
 use Rattle.std.specs.Prelude.{get_or}
 use Rattle.std.specs.Str.Parse.{digits_value}
+use Rattle.std.proofs.Math.Seq.{take-append_seam, drop-append_seam}
 use Rattle.std.proofs.lemmas.Str.{digit_value_digit}
 use Rattle.std.proofs.lemmas.Fmt.{decimal_is_IsNumeral, length-decimal-le}
 use Rattle.chrono_clock.specs.Text.{two_digits, all_digits, year_digits, year_text, calendar_text}
@@ -11,13 +12,11 @@ use Rattle.chrono_clock.proofs.TimeLemmas.{by_order}
 
 -- two texts with ends of one length are the same in both parts
 pub same_parts : (xs ys s t : List ℕ) → length s ≡ length t → xs ++ s ≡ ys ++ t → (xs ≡ ys) × (s ≡ t)
-same_parts [] [] s t l e = (refl, e)
-same_parts [] (y ∷ ys) s t l e = absurd (omega (arith, length-append ys t, ap (λ (c : List ℕ). length c) e))
-same_parts (x ∷ xs) [] s t l e = absurd (omega (arith, length-append xs s, ap (λ (c : List ℕ). length c) e))
-same_parts (x ∷ xs) (y ∷ ys) s t l e =
-    let rest = same_parts xs ys s t l (ap (λ (c : List ℕ). drop 1 c) e) in
-    let first : x ≡ y = ap (λ (c : List ℕ). get_or c 0 0) e in
-    ((λ i. first i ∷ rest.0 i), rest.1)
+same_parts xs ys s t l e =
+    let cut : length xs ≡ length ys = omega (arith, l, length-append xs s, length-append ys t, ap (λ (c : List ℕ). length c) e) in (
+      sym (take-append_seam xs s) ∙ ap (λ (c : List ℕ). take (length xs) c) e ∙ ap (λ n. take n (ys ++ t)) cut ∙ take-append_seam ys t,
+      sym (drop-append_seam xs s) ∙ ap (λ (c : List ℕ). drop (length xs) c) e ∙ ap (λ n. drop n (ys ++ t)) cut ∙ drop-append_seam ys t,
+    )
 
 -- ---- digits
 

@@ -1,30 +1,32 @@
 -- Moves of date-times, from those of times of day.
-use Rattle.std.proofs.Common.{◌≡◌, inl, inr, ⊎_elim, ℤ, pos, ◌+ℤ◌, ◌<ℤ◌, Bool, true, false, cond, Option, Some, None, arith, refl, sym, ap, ◌∙◌, subst, ◌↔◌, IfSome}
+use Rattle.std.proofs.Common.{◌≡◌, inl, inr, ⊎_elim, ℤ, pos, ◌+ℤ◌, ◌*ℤ◌, ◌<ℤ◌, Bool, true, false, cond, Option, Some, None, arith, refl, sym, ap, ◌∙◌, subst, ◌↔◌, IfSome}
 use Rattle.std.proofs.lemmas.Int.{by_lt_z}
 use Rattle.std.specs.Option.{option_map}
-use Rattle.chrono_clock.specs.Signed.{signed}
+use Rattle.std.proofs.lemmas.Int.{ints}
+use Rattle.chrono_clock.specs.Duration.{nanos_per_day, nanos_per_second, IsDuration, units_of, whole_units}
 use Rattle.chrono_clock.specs.Time.{TimeOfDay, Landing, IsTime, IsEarlier, IsEarlierLanding, landing_of, land, later}
 use Rattle.chrono_clock.proofs.TimeLemmas.{by_leap}
 use Rattle.chrono_clock.proofs.LandingLemmas.{TimeMovesAddUp-land}
 use Rattle.chrono_clock.proofs.OrderLemmas.{land-forward, land-backward}
 use Rattle.chrono_clock.proofs.DistanceLemmas.{land-distance, distance-same}
-use Rattle.chrono_naive.specs.Days.{date_of_day, is_date}
-use Rattle.chrono_datetime.specs.Moment.{Moment, moment, reach, moment_of_landing, IsBefore, MovesAddUp}
+use Rattle.chrono_naive.specs.Days.{IsDate, date_of_day, is_date}
+use Rattle.chrono_naive.proofs.NamedDates.{date_of_day-None}
+use Rattle.chrono_datetime.specs.Moment.{Moment, moment, moment_on, reach, moment_of_landing, IsBefore, MovesAddUp}
 
 -- what was found is the date of the number, at the time
-found : (b : Bool) (n : ℤ) (t : TimeOfDay) (e : Moment) → Some e ≡ option_map (λ d. moment d t) (cond b (Some n) None) → e ≡ moment n t
-found true n t e h = cc
-found false n t e h = absurd cc
+option_map-cond : (b : Bool) (n : ℤ) (t : TimeOfDay) (e : Moment) → Some e ≡ option_map (λ d. moment d t) (cond b (Some n) None) → e ≡ moment n t
+option_map-cond true n t e h = cc
+option_map-cond false n t e h = absurd cc
 
 pub reach-Some : (m e : Moment) (x : ℤ) → Some e ≡ reach m x → e ≡ moment (m.date +ℤ (land m.time x).day) (land m.time x).time
 unfolding reach moment_of_landing date_of_day
-reach-Some m e x h = found (is_date (m.date +ℤ (land m.time x).day)) _ _ e h
+reach-Some m e x h = option_map-cond (is_date (m.date +ℤ (land m.time x).day)) _ _ e h
 
 -- a landing so many days later, from a date as many days earlier
 moment_of_landing-later : (n d : ℤ) (l : Landing) → moment_of_landing n (later d l) ≡ moment_of_landing (n +ℤ d) l
 unfolding moment_of_landing
 moment_of_landing-later n d l =
-    let e : n +ℤ (d +ℤ l.day) ≡ (n +ℤ d) +ℤ l.day = omega (arith, signed) in
+    let e : n +ℤ (d +ℤ l.day) ≡ (n +ℤ d) +ℤ l.day = omega (arith, ints) in
     ap (λ k. option_map (λ j. moment j l.time) (date_of_day k)) e
 
 pub MovesAddUp-reach : (m e : Moment) (x : ℤ) → IsTime m.time → Some e ≡ reach m x → MovesAddUp m x e
@@ -41,8 +43,8 @@ IsEarlier-not_back s t h k = ⊎_elim (λ a. ⊎_elim (λ b. omega (arith, a, b)
 
 pub IsBefore-not_back : (a b : Moment) → IsBefore a b → IsBefore b a → ⊥
 IsBefore-not_back a b h k =
-    ⊎_elim (λ p. ⊎_elim (λ q. omega (arith, signed, p, q)) (λ q. omega (arith, signed, p, q.0)) k)
-    (λ p. ⊎_elim (λ q. omega (arith, signed, p.0, q)) (λ q. IsEarlier-not_back a.time b.time p.1 q.1) k) h
+    ⊎_elim (λ p. ⊎_elim (λ q. omega (arith, ints, p, q)) (λ q. omega (arith, ints, p, q.0)) k)
+    (λ p. ⊎_elim (λ q. omega (arith, ints, p.0, q)) (λ q. IsEarlier-not_back a.time b.time p.1 q.1) k) h
 
 pub IsBefore-not_same : (a b : Moment) → a ≡ b → IsBefore a b → ⊥
 IsBefore-not_same a b e h = let P : Moment → Type 0 = λ c. IsBefore c b in IsBefore-not_back b b (subst P e h) (subst P e h)
@@ -54,24 +56,24 @@ land-zero t i =
     by_leap t (λ plain. at_zero ∙ land-distance t t i i (inl plain)) (λ leap. at_zero ∙ land-distance t t i i (inr (leap, leap, refl)))
 
 -- landings in order are date-times in order
-before_landing : (m : Moment) (l : Landing) → IsEarlierLanding (landing_of m.time) l → IsBefore m (moment (m.date +ℤ l.day) l.time)
-before_landing m l h = ⊎_elim (λ d. inl (omega (arith, signed, d))) (λ p. inr (omega (arith, signed, p.0), p.1)) h
+IsBefore-landing : (m : Moment) (l : Landing) → IsEarlierLanding (landing_of m.time) l → IsBefore m (moment (m.date +ℤ l.day) l.time)
+IsBefore-landing m l h = ⊎_elim (λ d. inl (omega (arith, ints, d))) (λ p. inr (omega (arith, ints, p.0), p.1)) h
 
-past_landing : (m : Moment) (l : Landing) → IsEarlierLanding l (landing_of m.time) → IsBefore (moment (m.date +ℤ l.day) l.time) m
-past_landing m l h = ⊎_elim (λ d. inl (omega (arith, signed, d))) (λ p. inr (omega (arith, signed, p.0), p.1)) h
+IsBefore-landing_back : (m : Moment) (l : Landing) → IsEarlierLanding l (landing_of m.time) → IsBefore (moment (m.date +ℤ l.day) l.time) m
+IsBefore-landing_back m l h = ⊎_elim (λ d. inl (omega (arith, ints, d))) (λ p. inr (omega (arith, ints, p.0), p.1)) h
 
 reach-forward : (m e : Moment) (x : ℤ) → IsTime m.time → Some e ≡ reach m x → pos 0 <ℤ x → IsBefore m e
 reach-forward m e x i h up =
-    let P : Moment → Type 0 = IsBefore m in subst P (sym (reach-Some m e x h)) (before_landing m (land m.time x) (land-forward m.time x i up))
+    let P : Moment → Type 0 = IsBefore m in subst P (sym (reach-Some m e x h)) (IsBefore-landing m (land m.time x) (land-forward m.time x i up))
 
 reach-backward : (m e : Moment) (x : ℤ) → IsTime m.time → Some e ≡ reach m x → x <ℤ pos 0 → IsBefore e m
 reach-backward m e x i h down =
-    let P : Moment → Type 0 = λ k. IsBefore k m in subst P (sym (reach-Some m e x h)) (past_landing m (land m.time x) (land-backward m.time x i down))
+    let P : Moment → Type 0 = λ k. IsBefore k m in subst P (sym (reach-Some m e x h)) (IsBefore-landing_back m (land m.time x) (land-backward m.time x i down))
 
 reach-still : (m e : Moment) (x : ℤ) → IsTime m.time → Some e ≡ reach m x → x ≡ pos 0 → e ≡ m
 reach-still m e x i h zero =
     let still = ap (land m.time) zero ∙ land-zero m.time i in
-    let same : m.date +ℤ pos 0 ≡ m.date = omega (arith, signed) in
+    let same : m.date +ℤ pos 0 ≡ m.date = omega (arith, ints) in
     reach-Some m e x h ∙ ap (λ (l : Landing). moment (m.date +ℤ l.day) l.time) still ∙ ap (λ n. moment n m.time) same
 
 -- the end is later exactly for a positive duration, and earlier exactly for a negative one
@@ -80,7 +82,7 @@ reach-later m e x i h = (
   reach-forward m e x i h,
   λ later. by_lt_z (pos 0) x (λ up. up)
       (λ le. by_lt_z x (pos 0) (λ down. absurd (IsBefore-not_back m e later (reach-backward m e x i h down)))
-      (λ ge. absurd (IsBefore-not_same m e (sym (reach-still m e x i h (omega (arith, signed, le, ge)))) later))),
+      (λ ge. absurd (IsBefore-not_same m e (sym (reach-still m e x i h (omega (arith, ints, le, ge)))) later))),
 )
 
 pub reach-earlier : (m e : Moment) (x : ℤ) → IsTime m.time → Some e ≡ reach m x → (x <ℤ pos 0) ↔ IsBefore e m
@@ -88,20 +90,32 @@ reach-earlier m e x i h = (
   reach-backward m e x i h,
   λ earlier. by_lt_z x (pos 0) (λ down. down)
       (λ le. by_lt_z (pos 0) x (λ up. absurd (IsBefore-not_back m e (reach-forward m e x i h up) earlier))
-      (λ ge. absurd (IsBefore-not_same e m (reach-still m e x i h (omega (arith, signed, le, ge))) earlier))),
+      (λ ge. absurd (IsBefore-not_same e m (reach-still m e x i h (omega (arith, ints, le, ge))) earlier))),
 )
 
 -- the three laws of a move, whatever it answers
-pub if_reached : (o : Option Moment) (m : Moment) (x : ℤ) → IsTime m.time → o ≡ reach m x → IfSome o (MovesAddUp m x) × IfSome o (λ e. (pos 0 <ℤ x) ↔ IsBefore m e) × IfSome o (λ e. (x <ℤ pos 0) ↔ IsBefore e m)
-if_reached None m x i h = (tt, tt, tt)
-if_reached (Some e) m x i h = (MovesAddUp-reach m e x i h, reach-later m e x i h, reach-earlier m e x i h)
+pub IfSome-reach : (o : Option Moment) (m : Moment) (x : ℤ) → IsTime m.time → o ≡ reach m x → IfSome o (MovesAddUp m x) × IfSome o (λ e. (pos 0 <ℤ x) ↔ IsBefore m e) × IfSome o (λ e. (x <ℤ pos 0) ↔ IsBefore e m)
+IfSome-reach None m x i h = (tt, tt, tt)
+IfSome-reach (Some e) m x i h = (MovesAddUp-reach m e x i h, reach-later m e x i h, reach-earlier m e x i h)
 
--- a landing that the clock answers in two parts
-pub reach-landing : (m : Moment) (x : ℤ) (t : TimeOfDay) (o : Option Moment) → t ≡ (land m.time x).time → o ≡ moment_of_landing m.date (record { day = (land m.time x).day; time = t }) → o ≡ reach m x
-unfolding reach
-reach-landing m x t o e h =
-    let at_time : TimeOfDay → Landing = λ u. record { day = (land m.time x).day; time = u } in
-    h ∙ ap (λ u. moment_of_landing m.date (at_time u)) e
+-- the seconds of so many whole days are a duration of as many days
+whole_units-days : (s day x : ℤ) → s ≡ day *ℤ pos 86_400 → x ≡ units_of nanos_per_second s → whole_units nanos_per_day x ≡ day
+whole_units-days s day x e f = omega (arith, ints, e, f)
+
+-- the clock answers a time and the seconds of the days passed, and the date moves by a duration of these
+pub reach-parts : (o : Option ℤ) (m : Moment) (x s d : ℤ) (t : TimeOfDay) → t ≡ (land m.time x).time → s ≡ (land m.time x).day *ℤ pos 86_400 → d ≡ units_of nanos_per_second s → o ≡ date_of_day (m.date +ℤ whole_units nanos_per_day d) → moment_on o t ≡ reach m x
+unfolding reach moment_of_landing
+reach-parts o m x s d t e f g h =
+    let landed = land m.time x in
+    ap (moment_on o) e ∙ ap (λ p. moment_on p landed.time) (h ∙ ap (λ day. date_of_day (m.date +ℤ day)) (whole_units-days s landed.day d f g))
+
+-- where these seconds are no duration, the day is no date
+pub reach-None : (m : Moment) (x s : ℤ) → IsDate m.date → s ≡ (land m.time x).day *ℤ pos 86_400 → (IsDuration (units_of nanos_per_second s) → ⊥) → None ≡ reach m x
+unfolding reach moment_of_landing
+reach-None m x s i e too_far =
+    let landed = land m.time x in
+    let no_date = date_of_day-None (m.date +ℤ landed.day) (λ h. too_far (omega (arith, ints, e, i.0, i.1, h.0, h.1))) in
+    ap (λ p. moment_on p landed.time) no_date
 
 -- the same for a date-time that is known by another name
 pub reach-along : (o : Option Moment) (m k : Moment) (x : ℤ) → m ≡ k → IsTime m.time → o ≡ reach m x → IsTime k.time × (o ≡ reach k x)

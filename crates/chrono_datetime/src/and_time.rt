@@ -24,7 +24,8 @@ pub trait AndTime: Sized {
     /// `None` exactly if `hour` is 24 or more, or `min` or `sec` is 60 or more.
     #[inline]
     fn and_hms_opt(&self, hour: u32, min: u32, sec: u32) -> Option<NaiveDateTime>
-        ensures { SomeIff result (IsClock hour min sec) (moment (day self.now) (time_at hour min sec 0)) }
+        ensures { SomeIff result (IsClock hour min sec)
+            (moment (day self.now) (time_at hour min sec 0)) }
     {
         Some(self.and_time(NaiveTime::from_hms_opt(hour, min, sec)?))
     }

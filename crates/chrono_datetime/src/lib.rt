@@ -6,9 +6,8 @@
 #![tactic(auto)]
 
 mod and_time;
+pub mod law;
 mod naive_date_time;
-#[cfg(test)]
-mod tests;
 
 pub use and_time::AndTime;
 pub use chrono_naive::{

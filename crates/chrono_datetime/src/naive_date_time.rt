@@ -2,11 +2,9 @@
 //!
 //! Its order stands in `order`, its fields in `fields`, its moves by months and days in `moves`, its operators in `ops`,
 //! and its printed texts in `text`.
-ghost use Rattle.std.specs.Prelude.{◌≡◌, ℤ, pos, neg_ℤ, ◌+ℤ◌, ◌-ℤ◌, ◌*ℤ◌, ◌<ℤ◌, ◌<◌, ◌^◌, ◌↔◌, IfSome, Some, unsigned_abs};
-ghost use Rattle.chrono_clock.specs.Duration.{nanos_per_day};
+ghost use Rattle.std.specs.Prelude.{◌≡◌, pos, neg_ℤ, ◌<ℤ◌, ◌↔◌, IfSome, Some};
 ghost use Rattle.chrono_clock.specs.Time.{time_at};
-ghost use Rattle.chrono_naive.specs.Days.{IsDate, date_of_day};
-ghost use Rattle.chrono_datetime.specs.Moment.{moment, reach, moment_of_landing, moment_distance, IsBefore, MovesAddUp, LeadsBack, SignTellsOrder};
+ghost use Rattle.chrono_datetime.specs.Moment.{moment, reach, moment_distance, IsBefore, MovesAddUp, LeadsBack, SignTellsOrder};
 
 mod fields;
 mod moves;
@@ -15,7 +13,7 @@ mod order;
 mod text;
 
 use chrono_clock::{NaiveTime, TimeDelta};
-use chrono_naive::{Datelike, Days, NaiveDate};
+use chrono_naive::{Datelike, NaiveDate};
 use std::marker::Model;
 
 /// The first date-time, [`NaiveDateTime::MIN`].
@@ -86,7 +84,8 @@ impl NaiveDateTime {
         self.time
     }
 
-    /// The date-time that lies a duration later, or `None` if its date is out of range.
+    /// The date-time that lies a duration later; `None` exactly if the day on which the move ends is past the date of
+    /// [`MAX`](Self::MAX), or for a negative duration before that of [`MIN`](Self::MIN).
     ///
     /// From inside a leap second the move counts the rest of that second; a leap second that the move passes elsewhere has
     /// no place on the line. So half a second after 30 June 2015, 23:59:60.5, it is 1 July 2015, 00:00:00. A leap second
@@ -100,12 +99,18 @@ impl NaiveDateTime {
         ensures later { IfSome result (λ e. (pos 0 <ℤ rhs) ↔ IsBefore self e) }
         ensures earlier { IfSome result (λ e. (rhs <ℤ pos 0) ↔ IsBefore e self) }
     {
+        // No date lies as far from another as the longest duration.
+        prove!(self.date.num_days_from_ce() <= 95_745_399);
         let (time, seconds) = self.time.overflowing_add_signed(rhs);
-        at_landing(self.date, time, seconds)
+        let date = self
+            .date
+            .checked_add_signed(TimeDelta::try_seconds(seconds)?)?;
+        Some(NaiveDateTime { date, time })
     }
 
-    /// The date-time that lies a duration earlier, or `None` if its date is out of range: a move by
-    /// the negated duration.
+    /// The date-time that lies a duration earlier: where [`checked_add_signed`](Self::checked_add_signed) by the negated
+    /// duration ends, from inside a leap second too. `None` exactly if the day on which the move ends is before the date
+    /// of [`MIN`](Self::MIN), or for a negative duration past that of [`MAX`](Self::MAX).
     #[inline]
     pub fn checked_sub_signed(self, rhs: TimeDelta) -> Option<NaiveDateTime>
         ensures { result ≡ reach self (neg_ℤ rhs) }
@@ -126,7 +131,9 @@ impl NaiveDateTime {
         ensures same { SignTellsOrder self rhs → (result ≡ pos 0) ↔ (self ≡ rhs) }
         ensures earlier { SignTellsOrder self rhs → (result <ℤ pos 0) ↔ IsBefore self rhs }
     {
-        self.days_since(&rhs) + self.time.signed_duration_since(rhs.time)
+        // Dates and times are not too far apart for a duration.
+        prove!(self.date.num_days_from_ce() - rhs.date.num_days_from_ce() <= 191_491_528);
+        self.date.signed_duration_since(rhs.date) + self.time.signed_duration_since(rhs.time)
     }
 
     // The date-time at another date and the same time of day.
@@ -149,38 +156,6 @@ impl NaiveDateTime {
             date: self.date,
             time,
         }
-    }
-
-    // The days between the dates.
-    #[inline]
-    fn days_since(&self, rhs: &NaiveDateTime) -> TimeDelta
-        ensures value { result ≡ (self.now.date -ℤ rhs.now.date) *ℤ pos nanos_per_day }
-        ensures bound { unsigned_abs result < 2 ^ 75 }
-        ensures dates { IsDate self.now.date × IsDate rhs.now.date }
-    {
-        let days = self.date.num_days_from_ce() as i64 - rhs.date.num_days_from_ce() as i64;
-        TimeDelta::seconds(days * 86_400)
-    }
-}
-
-// The date-time at `time`, on the day that lies `seconds` of whole days from the date, if that day is a date.
-#[inline]
-fn at_landing(date: NaiveDate, time: NaiveTime, seconds: i64) -> Option<NaiveDateTime>
-    ensures { (day : ℤ) → seconds ≡ day *ℤ pos 86_400 → result ≡ moment_of_landing date (record { day = day; time = time }) }
-{
-    let landed = moved_by_days(date, seconds / 86_400)?;
-    Some(NaiveDateTime { date: landed, time })
-}
-
-// The date so many days later, or earlier where the number is negative.
-#[inline]
-fn moved_by_days(date: NaiveDate, days: i64) -> Option<NaiveDate>
-    ensures { result ≡ date_of_day (date +ℤ days) }
-{
-    if days < 0 {
-        date.checked_sub_days(Days::new(days.unsigned_abs()))
-    } else {
-        date.checked_add_days(Days::new(days as u64))
     }
 }
 

@@ -1,5 +1,5 @@
 -- Days in a row, and the lists that the iterators over dates run through.
-use Rattle.std.specs.Prelude.{◌≡◌, ℕ, zero, suc, ◌/◌, false, List, [], ◌∷◌, ℤ, pos, ◌+ℤ◌, ◌-ℤ◌, unsigned_abs}
+use Rattle.std.specs.Prelude.{◌≡◌, ℕ, zero, suc, ◌/◌, false, List, [], ◌∷◌, ℤ, pos, neg_ℤ, ◌+ℤ◌, ◌-ℤ◌, ◌≤ℤ◌, unsigned_abs}
 use Rattle.std.specs.declared.ops.RangeInclusive.{RangeInclusive}
 use Rattle.std.specs.Range.{range_inclusive_start, range_inclusive_end, range_inclusive_exhausted}
 
@@ -8,9 +8,13 @@ unfoldable pub in_steps : ℕ → ℕ → ℤ → List ℤ
 in_steps d zero first = []
 in_steps d (suc n) first = first ∷ in_steps d n (first +ℤ pos d)
 
--- the days from the date n to the last date
+-- the number of the last date
+abbrev pub last_date : ℤ
+last_date = pos 95_745_399
+
+-- the days from the date n to it
 abbrev pub days_left : ℤ → ℕ
-days_left n = unsigned_abs (pos 95_745_399 -ℤ n)
+days_left n = unsigned_abs (last_date -ℤ n)
 
 -- n and the dates after it, day after day, up to the one before the last date
 abbrev pub days_from : ℤ → List ℤ
@@ -19,6 +23,10 @@ days_from n = in_steps 1 (days_left n) n
 -- n and the dates after it, week after week, as long as the week after is a date too
 abbrev pub weeks_from : ℤ → List ℤ
 weeks_from n = in_steps 7 (days_left n / 7) n
+
+-- the day first may begin a week that holds a date: the week of the first date begins up to six days before it
+abbrev pub IsWeekStart : ℤ → Type 0
+IsWeekStart first = (neg_ℤ (pos 95_746_135) ≤ℤ first) × (first ≤ℤ last_date)
 
 -- the seven days of the week that begins with the day first
 abbrev pub days_of_week : ℤ → List ℤ

@@ -4,6 +4,10 @@ use Rattle.std.specs.Ordering.{int_cmp, nat_cmp, on, then_cmp}
 use Rattle.std.specs.declared.cmp.Ordering.{Ordering}
 use Rattle.chrono_calendar.specs.Weeks.{iso_year_of, iso_week_of}
 
+-- the number of 1 January 1970, a Thursday
+abbrev pub unix_epoch_day : ℤ
+unix_epoch_day = pos 719_163
+
 -- the year y lies in the common era, which begins with year 1
 abbrev pub is_common_era : ℤ → Bool
 is_common_era y = int_le (pos 1) y

@@ -66,9 +66,11 @@ pub trait Datelike: Sized {
     /// The day of the month, from 1.
     fn day(&self) -> u32
         ensures value { result ≡ day_of (number self.now) }
-        ensures exists { IsCalendarName (year_of (number self.now)) (month_of (number self.now)) result }
+        ensures exists { IsCalendarName (year_of (number self.now))
+            (month_of (number self.now)) result }
         // The year, the month and the day name the date again.
-        ensures names { date_of_ymd (year_of (number self.now)) (month_of (number self.now)) result ≡ Some (number self.now) };
+        ensures names { date_of_ymd (year_of (number self.now)) (month_of (number self.now)) result
+            ≡ Some (number self.now) };
 
     /// The day of the month, from 0.
     fn day0(&self) -> u32
@@ -89,7 +91,8 @@ pub trait Datelike: Sized {
     fn weekday(&self) -> Weekday
         ensures value { result ≡ weekday_of (number self.now) }
         // The ISO year, the week and the weekday name the date again.
-        ensures names { date_of_iso (iso_year_of (number self.now)) (iso_week_of (number self.now)) result ≡ Some (number self.now) };
+        ensures names { date_of_iso (iso_year_of (number self.now))
+            (iso_week_of (number self.now)) result ≡ Some (number self.now) };
 
     /// The ISO week (ISO 8601 week date), which belongs to the year of its Thursday: 30 December 2024 is in week 1 of 2025.
     fn iso_week(&self) -> IsoWeek
@@ -97,27 +100,32 @@ pub trait Datelike: Sized {
 
     /// The same month and day in another year; `None` exactly if that is no date, so for 29 February in a common year.
     fn with_year(&self, year: i32) -> Option<Self>
-        ensures date { option_map number result ≡ date_of_ymd year (month_of (number self.now)) (day_of (number self.now)) }
+        ensures date { option_map number result
+            ≡ date_of_ymd year (month_of (number self.now)) (day_of (number self.now)) }
         ensures kept { IfSome result (λ d. rest d ≡ rest self.now) };
 
     /// The same day in another month of the year; `None` exactly if that is no date, so for the 31st in April.
     fn with_month(&self, month: u32) -> Option<Self>
-        ensures date { option_map number result ≡ date_of_ymd (year_of (number self.now)) month (day_of (number self.now)) }
+        ensures date { option_map number result
+            ≡ date_of_ymd (year_of (number self.now)) month (day_of (number self.now)) }
         ensures kept { IfSome result (λ d. rest d ≡ rest self.now) };
 
     /// The same day in another month of the year, counted from 0; `None` exactly if that is no date.
     fn with_month0(&self, month0: u32) -> Option<Self>
-        ensures date { option_map number result ≡ date_of_ymd (year_of (number self.now)) (month0 + 1) (day_of (number self.now)) }
+        ensures date { option_map number result
+            ≡ date_of_ymd (year_of (number self.now)) (month0 + 1) (day_of (number self.now)) }
         ensures kept { IfSome result (λ d. rest d ≡ rest self.now) };
 
     /// Another day of the month; `None` exactly if the month has no such day.
     fn with_day(&self, day: u32) -> Option<Self>
-        ensures date { option_map number result ≡ date_of_ymd (year_of (number self.now)) (month_of (number self.now)) day }
+        ensures date { option_map number result
+            ≡ date_of_ymd (year_of (number self.now)) (month_of (number self.now)) day }
         ensures kept { IfSome result (λ d. rest d ≡ rest self.now) };
 
     /// Another day of the month, counted from 0; `None` exactly if the month has no such day.
     fn with_day0(&self, day0: u32) -> Option<Self>
-        ensures date { option_map number result ≡ date_of_ymd (year_of (number self.now)) (month_of (number self.now)) (day0 + 1) }
+        ensures date { option_map number result
+            ≡ date_of_ymd (year_of (number self.now)) (month_of (number self.now)) (day0 + 1) }
         ensures kept { IfSome result (λ d. rest d ≡ rest self.now) };
 
     /// Another day of the year; `None` exactly if the year has no such day.
@@ -127,7 +135,8 @@ pub trait Datelike: Sized {
 
     /// Another day of the year, counted from 0; `None` exactly if the year has no such day.
     fn with_ordinal0(&self, ordinal0: u32) -> Option<Self>
-        ensures date { option_map number result ≡ date_of_yo (year_of (number self.now)) (ordinal0 + 1) }
+        ensures date { option_map number result
+            ≡ date_of_yo (year_of (number self.now)) (ordinal0 + 1) }
         ensures kept { IfSome result (λ d. rest d ≡ rest self.now) };
 
     /// The day number: 1 for 1 January of year 1, 0 for the day before, 719,163 for 1 January 1970.

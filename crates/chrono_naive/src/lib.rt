@@ -9,8 +9,6 @@ mod naive_date;
 mod naive_date_days_iterator;
 mod naive_date_weeks_iterator;
 mod naive_week;
-#[cfg(test)]
-mod tests;
 
 pub use chrono_clock::{NaiveTime, TimeDelta, Timelike};
 pub use chrono_units::{Month, Months, OutOfRange, Weekday, WeekdaySet, WeekdaySetIter};

@@ -3,10 +3,11 @@
 //! This file has the type, its ends, and how a date is named and numbered. Its fields stand in `fields`, its
 //! order in `order`, its moves, differences, weeks and iterators in `moves`, its operators in `ops`, and its
 //! printed text in `text`.
-ghost use Rattle.std.specs.Prelude.{◌≡◌, ◌+◌, ◌≤◌, pos, ◌+ℤ◌, ◌-ℤ◌};
+ghost use Rattle.std.specs.Prelude.{◌≡◌, ◌+◌, ◌≤◌, ◌+ℤ◌, ◌-ℤ◌};
 ghost use Rattle.chrono_units.specs.Years.{is_leap_year};
 ghost use Rattle.chrono_calendar.specs.Days.{IsDate, date_of_day, date_of_yo, date_of_ymd, year_of};
 ghost use Rattle.chrono_calendar.specs.Weeks.{date_of_iso, date_of_nth_weekday};
+ghost use Rattle.chrono_naive.specs.Fields.{unix_epoch_day};
 
 mod fields;
 mod moves;
@@ -145,7 +146,7 @@ impl NaiveDate {
     /// is not from -96,465,292 to 95,026,236.
     #[inline]
     pub fn from_epoch_days(days: i32) -> Option<NaiveDate>
-        ensures { result ≡ date_of_day (days +ℤ pos 719_163) }
+        ensures { result ≡ date_of_day (days +ℤ unix_epoch_day) }
     {
         NaiveDate::from_num_days_from_ce_opt(days.checked_add(UNIX_EPOCH_DAY)?)
     }
@@ -153,7 +154,7 @@ impl NaiveDate {
     /// The days from 1 January 1970 to this date, negative for a date before it.
     #[inline]
     pub fn to_epoch_days(&self) -> i32
-        ensures { result ≡ self.now -ℤ pos 719_163 }
+        ensures { result ≡ self.now -ℤ unix_epoch_day }
     {
         self.day_number() - UNIX_EPOCH_DAY
     }
@@ -177,7 +178,7 @@ impl NaiveDate {
 }
 
 impl Default for NaiveDate {
-    ghost is_default = { λ d. d ≡ pos 719_163 };
+    ghost is_default = { λ d. d ≡ unix_epoch_day };
 
     /// 1 January 1970.
     #[inline]

@@ -1,8 +1,8 @@
 //! `NaiveWeek`: the week that holds a date and begins on a day of one's choice.
-ghost use Rattle.std.specs.Prelude.{◌≡◌, pos, neg_ℤ, ◌+ℤ◌, ◌≤ℤ◌, IsTrue, IsSome, IfSome, ◌↔◌};
+ghost use Rattle.std.specs.Prelude.{◌≡◌, pos, ◌+ℤ◌, IsTrue, IsSome, IfSome, ◌↔◌};
 ghost use Rattle.std.specs.Ordering.{int_eq};
 ghost use Rattle.chrono_calendar.specs.Days.{IsDate, date_of_day};
-ghost use Rattle.chrono_naive.specs.DateLists.{IsRange, days_of_week};
+ghost use Rattle.chrono_naive.specs.DateLists.{IsRange, IsWeekStart, days_of_week};
 
 use crate::naive_date::NaiveDate;
 use std::marker::Model;
@@ -19,13 +19,14 @@ pub struct NaiveWeek {
 }
 
 impl Model for NaiveWeek {
-    ghost use Rattle.std.specs.Prelude.{ℤ, pos, neg_ℤ, ◌≤ℤ◌};
+    ghost use Rattle.std.specs.Prelude.{ℤ};
+    ghost use Rattle.chrono_naive.specs.DateLists.{IsWeekStart};
 
     ghost Value = { ℤ };
 
     ghost view = { λ w. w.first };
 
-    ghost invariant = { λ w. (neg_ℤ (pos 95_746_135) ≤ℤ w.first) × (w.first ≤ℤ pos 95_745_399) };
+    ghost invariant = { λ w. IsWeekStart w.first };
 
     ghost inverse = { λ n. record { first = n } };
 }
@@ -34,8 +35,7 @@ impl NaiveWeek {
     // The week whose first day has that number.
     #[inline]
     pub(crate) fn new(first: i32) -> NaiveWeek
-        requires low { neg_ℤ (pos 95_746_135) ≤ℤ first }
-        requires high { first ≤ℤ pos 95_745_399 }
+        requires { IsWeekStart first }
         ensures { result ≡ first }
     {
         NaiveWeek { first }

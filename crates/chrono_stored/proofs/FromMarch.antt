@@ -4,12 +4,12 @@ use Rattle.std.proofs.lemmas.Bool.{and_parts}
 use Rattle.std.proofs.lemmas.Bool.Decides.{nat_tests}
 use Rattle.std.specs.Int.{IsInRange}
 use Rattle.chrono_units.specs.Years.{is_leap_year}
-use Rattle.chrono_calendar.specs.Days.{days_of_months_in, month_of_ordinal, day_of_ordinal, IsOrdinalName, day_number_of_yo, day_number_of_ymd, year_of, month_of, day_of}
+use Rattle.chrono_calendar.specs.Days.{days_before_year, days_of_months_in, month_of_ordinal, day_of_ordinal, IsOrdinalName, day_number_of_yo, day_number_of_ymd, year_of, month_of, day_of}
 use Rattle.chrono_calendar.proofs.Signed.{signed}
 use Rattle.chrono_calendar.proofs.Names.{year_of-number, ordinal_of-number}
 use Rattle.chrono_calendar.proofs.Tests.{passes_below, passes_below-at}
 use Rattle.chrono_calendar.proofs.Years.{days_before_year-next}
-use Rattle.chrono_stored.proofs.DayNumbers.{days_before_year-counted, ordinal_name-counted}
+use Rattle.chrono_stored.proofs.DayNumbers.{ordinal_name-counted}
 
 -- the days of January and February
 abbrev pub days_to_march : Bool → ℕ
@@ -111,11 +111,9 @@ month_start-january leap m h early =
     grind (arith, nat_tests)
 
 -- the number of a day of a month, by the days of the years that begin in March, and those of the months from there
-pub day_number-from_march : (y : ℤ) (m d p s : ℕ) → pos p +ℤ pos 1 ≡ y +ℤ pos 262_400 → IsInRange 1 12 m → 2 < m → s + (p + 1) / 100 ≡ 365 * (p + 1) + (p + 1) / 4 + (p + 1) / 400 → day_number_of_ymd y m d +ℤ pos 95_839_938 ≡ pos (s + (979 * m - 2919) / 32 + d)
-day_number-from_march y m d p s years h late sum =
-    let next = days_before_year-next y (y +ℤ pos 1) refl in
-    omega (arith, signed, next, days_before_year-counted (p + 1) (y +ℤ pos 1) (omega (arith, signed)), month_start-march (is_leap_year y) m h late)
+pub day_number-from_march : (y : ℤ) (m d s : ℕ) → IsInRange 1 12 m → 2 < m → pos s ≡ days_before_year (y +ℤ pos 1) +ℤ pos 95_839_632 → day_number_of_ymd y m d +ℤ pos 95_839_938 ≡ pos (s + (979 * m - 2919) / 32 + d)
+day_number-from_march y m d s h late days =
+    omega (arith, signed, days_before_year-next y (y +ℤ pos 1) refl, month_start-march (is_leap_year y) m h late)
 
-pub day_number-to_march : (y : ℤ) (m d p s : ℕ) → pos p +ℤ pos 1 ≡ y +ℤ pos 262_400 → IsInRange 1 12 m → m ≤ 2 → s + p / 100 ≡ 365 * p + p / 4 + p / 400 → day_number_of_ymd y m d +ℤ pos 95_839_938 ≡ pos (s + (979 * (m + 12) - 2919) / 32 + d)
-day_number-to_march y m d p s years h early sum =
-    omega (arith, signed, days_before_year-counted p y years, month_start-january (is_leap_year y) m h early)
+pub day_number-to_march : (y : ℤ) (m d s : ℕ) → IsInRange 1 12 m → m ≤ 2 → pos s ≡ days_before_year y +ℤ pos 95_839_632 → day_number_of_ymd y m d +ℤ pos 95_839_938 ≡ pos (s + (979 * (m + 12) - 2919) / 32 + d)
+day_number-to_march y m d s h early days = omega (arith, signed, month_start-january (is_leap_year y) m h early)

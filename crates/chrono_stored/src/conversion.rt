@@ -5,9 +5,11 @@
 //! 1 January of a year 1 above a multiple of 400: the leap year then ends its four years, and the
 //! long century its four centuries.
 
-ghost use Rattle.std.specs.Prelude.{◌≡◌, ◌+◌, ◌*◌, ◌/◌, ◌%◌, ◌<◌, ◌≤◌, pos, ◌+ℤ◌};
+ghost use Rattle.std.specs.Prelude.{◌≡◌, ◌+◌, ◌*◌, ◌/◌, ◌%◌, ◌<◌, ◌≤◌, pos, neg_ℤ, ◌+ℤ◌, ◌≤ℤ◌};
 ghost use Rattle.chrono_units.specs.Years.{IsYear};
 ghost use Rattle.chrono_calendar.specs.Days.{IsDate, days_before_year as days_before, year_of, ordinal_of};
+
+use chrono_calendar::counted_years::{DAYS_TO_ONE, YEARS_TO_ONE, days_counted_before};
 
 /// The day number of the first date, -262143-01-01.
 pub(crate) const FIRST_DAY: i32 = -95_746_129;
@@ -15,29 +17,14 @@ pub(crate) const FIRST_DAY: i32 = -95_746_129;
 /// The day number of the last date, +262142-12-31.
 pub(crate) const LAST_DAY: i32 = 95_745_399;
 
-// Years from the first year that is counted here to year 1: 656 cycles of 400 years.
-const YEARS_TO_ONE: i32 = 656 * 400;
-
-// The days of a cycle of 400 years: 20,871 weeks.
+// The days of a cycle of 400 years.
 const DAYS_OF_CYCLE: u32 = 146_097;
-
-// The days of the years to year 1.
-pub(crate) const DAYS_TO_ONE: i32 = 656 * DAYS_OF_CYCLE as i32;
 
 // The days of four years, of which the last is leap.
 const DAYS_OF_FOUR_YEARS: u32 = 1_461;
 
 // 2^32 / 1461, rounded up.
 const PART_OF_FOUR_YEARS: u32 = 2_939_745;
-
-// The years that are counted before a year.
-#[inline]
-pub(crate) fn years_before(year: i32) -> u32
-    requires { IsYear year }
-    ensures { pos result +ℤ pos 1 ≡ year +ℤ pos 262_400 }
-{
-    (year - 1 + YEARS_TO_ONE) as u32
-}
 
 // The year that as many years are counted before.
 #[inline]
@@ -57,14 +44,15 @@ pub(crate) fn days_before_day(day: i32) -> u32
     (day - 1 + DAYS_TO_ONE) as u32
 }
 
-// The days of as many years from the first.
+// The days that are counted before 1 January of a year of the range, or of the year after its last.
 #[inline]
-pub(crate) fn days_of_years(years: u32) -> u32
-    requires { years < 600_000 }
-    ensures { result + years / 100 ≡ 365 * years + years / 4 + years / 400 }
+pub(crate) fn days_to_year(year: i32) -> u32
+    requires low { neg_ℤ (pos 262_143) ≤ℤ year }
+    requires high { year ≤ℤ pos 262_143 }
+    ensures value { pos result ≡ days_before year +ℤ pos 95_839_632 }
+    ensures in_range { result < 192_000_000 }
 {
-    let centuries = years / 100;
-    DAYS_OF_FOUR_YEARS * years / 4 - centuries + centuries / 4
+    days_counted_before(year)
 }
 
 /// The days before 1 January of a year, counted from 1 January of year 1.
@@ -73,7 +61,7 @@ pub(crate) fn days_before_year(year: i32) -> i32
     requires { IsYear year }
     ensures { result ≡ days_before year }
 {
-    days_of_years(years_before(year)) as i32 - DAYS_TO_ONE
+    days_to_year(year) as i32 - DAYS_TO_ONE
 }
 
 // The century of a day, and the place of the day there, all counted from 0.

@@ -117,6 +117,10 @@ impl DayForm for CountedForm {
 
     ghost number = { λ n. n };
 
+    ghost steps_of = { λ n. 0 };
+
+    ghost no_step = { λ n h. refl };
+
     ghost one_form = { λ a b h. h };
 
     ghost in_order = { λ a b. refl };
@@ -169,6 +173,16 @@ impl DayForm for CountedForm {
     fn month_day(&self) -> (u32, u32) {
         let (_, month, day) = year_month_day(self.days);
         (month, day)
+    }
+
+    #[inline]
+    fn year_ordinal(&self) -> (i32, u32) {
+        year_and_ordinal(self.days)
+    }
+
+    #[inline]
+    fn year_month_day(&self) -> (i32, u32, u32) {
+        year_month_day(self.days)
     }
 
     #[inline]

@@ -8,8 +8,6 @@ mod march;
 mod month_day;
 mod packed;
 mod packing;
-#[cfg(test)]
-mod tests;
 mod weekdays;
 
 pub use counted::CountedForm;

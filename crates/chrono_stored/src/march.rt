@@ -11,9 +11,8 @@ ghost use Rattle.std.specs.Int.{IsInRange};
 ghost use Rattle.chrono_units.specs.Years.{IsYear};
 ghost use Rattle.chrono_calendar.specs.Days.{IsDate, IsCalendarName, year_of, month_of, day_of, day_number_of_ymd};
 
-use crate::conversion::{
-    DAYS_TO_ONE, days_before_day, days_of_years, year_after, years_and_place, years_before,
-};
+use crate::conversion::{days_before_day, days_to_year, year_after, years_and_place};
+use chrono_calendar::counted_years::DAYS_TO_ONE;
 
 // The days from 1 March to 31 December, by which a year from March is ahead.
 const DAYS_FROM_MARCH: u32 = 306;
@@ -62,12 +61,11 @@ pub(crate) fn day_number(year: i32, month: u32, day: u32) -> i32
     requires exists { IsCalendarName year month day }
     ensures { result ≡ day_number_of_ymd year month day }
 {
-    let years = years_before(year);
-    let (years, month) = if month > 2 {
-        (years + 1, month)
+    let (year, month) = if month > 2 {
+        (year + 1, month)
     } else {
-        (years, month + 12)
+        (year, month + 12)
     };
-    let from_march = days_of_years(years) + days_before_month(month) + day;
+    let from_march = days_to_year(year) + days_before_month(month) + day;
     from_march as i32 - (DAYS_TO_ONE + DAYS_FROM_MARCH as i32)
 }

@@ -197,9 +197,16 @@ impl Hash for PackedForm {
 }
 
 impl DayForm for PackedForm {
-    ghost use Rattle.std.specs.Prelude.{ℤ, refl};
+    ghost use Rattle.std.specs.Prelude.{ℤ, refl, if◌then◌else◌};
+    ghost use Rattle.std.proofs.Common.{ap};
+    ghost use Rattle.chrono_calendar.specs.Days.{is_date};
 
     ghost number = { λ n. n };
+
+    // The flags of the year are read once, for a date alone.
+    ghost steps_of = { λ n. if is_date n then 1 else 0 };
+
+    ghost no_step = { λ n h. ap (λ b. if b then 1 else 0) h };
 
     ghost one_form = { λ a b h. h };
 

@@ -1,24 +1,21 @@
 -- A test that every weekday, every set of weekdays or every set's number passes: it computes, and gives the fact at each.
-use Rattle.std.proofs.Common.{◌≡◌, refl, Bool, true, false, ◌&&◌, ℕ, ◌<◌}
+use Rattle.std.proofs.Common.{◌≡◌, refl, ap, sym, ◌∙◌, Bool, true, false, ◌&&◌, ℕ, ◌<◌}
 use Rattle.std.proofs.lemmas.Bool.{agree_below, agree_below_at, and_parts}
 use Rattle.chrono_units.specs.declared.weekday.Weekday.{Weekday}
 use Rattle.chrono_units.specs.declared.weekday.Weekday.TheVariants.{Mon, Tue, Wed, Thu, Fri, Sat, Sun}
+use Rattle.chrono_units.specs.Weekday.{days_from_monday, weekday_from_monday}
 use Rattle.chrono_units.specs.WeekdaySet.{DaySet, contains, days_where}
+use Rattle.chrono_units.proofs.WeekdayCycle.{days_from_monday-lt, weekday_from_monday-days_from_monday}
 
 -- every day passes
 unfoldable pub each_day : (Weekday → Bool) → Bool
-each_day p = p Mon && (p Tue && (p Wed && (p Thu && (p Fri && (p Sat && p Sun)))))
+each_day p = agree_below (λ n. p (weekday_from_monday n)) (λ n. true) 7
 
 pub each_day-at : (p : Weekday → Bool) → each_day p ≡ true → (d : Weekday) → p d ≡ true
 unfolding each_day
-each_day-at p h =
-    let a = and_parts _ _ h in
-    let b = and_parts _ _ a.1 in
-    let c = and_parts _ _ b.1 in
-    let d = and_parts _ _ c.1 in
-    let e = and_parts _ _ d.1 in
-    let f = and_parts _ _ e.1 in
-    elim [ Mon ↦ a.0 | Tue ↦ b.0 | Wed ↦ c.0 | Thu ↦ d.0 | Fri ↦ e.0 | Sat ↦ f.0 | Sun ↦ f.1 ]
+each_day-at p h d =
+    sym (ap p (weekday_from_monday-days_from_monday d))
+    ∙ agree_below_at (λ n. p (weekday_from_monday n)) (λ n. true) 7 (days_from_monday d) h (days_from_monday-lt d)
 
 -- every number of a set passes
 unfoldable pub each_number : (ℕ → Bool) → Bool

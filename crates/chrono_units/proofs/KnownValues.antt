@@ -1,11 +1,13 @@
 -- Values that the definitions must give.
 use Rattle.std.proofs.Common.{◌≡◌, refl, true, false, pos, neg_ℤ, [], ◌∷◌}
 use Rattle.std.specs.Prelude.{codes}
+use Rattle.std.specs.Ordering.{nat_cmp, on}
+use Rattle.std.specs.declared.cmp.Ordering.TheVariants.{Less, Greater}
 use Rattle.chrono_units.specs.declared.weekday.Weekday.TheVariants.{Mon, Tue, Wed, Thu, Fri, Sat, Sun}
-use Rattle.chrono_units.specs.declared.month.Month.TheVariants.{January, February, December}
+use Rattle.chrono_units.specs.declared.month.Month.TheVariants.{January, February, September, October, December}
 use Rattle.chrono_units.specs.Years.{is_leap_year, is_year, month_length, year_length}
 use Rattle.chrono_units.specs.Weekday.{days_from_sunday, number_from_monday, number_from_sunday, weekday_from_sunday, next_weekday, previous_weekday, days_since}
-use Rattle.chrono_units.specs.Month.{next_month, previous_month}
+use Rattle.chrono_units.specs.Month.{next_month, number_from_month, previous_month}
 use Rattle.chrono_units.specs.WeekdaySet.{set_of, set_number, all_days, no_days, single, difference, walk}
 use Rattle.chrono_units.specs.WeekdayText.{digit_text, set_digits_text, set_text}
 
@@ -130,6 +132,17 @@ before_january = refl
 
 before_february : previous_month February ≡ January
 before_february = refl
+
+-- ---- orders
+
+september_before_october : on number_from_month nat_cmp September October ≡ Less
+september_before_october = refl
+
+december_after_january : on number_from_month nat_cmp December January ≡ Greater
+december_after_january = refl
+
+two_months_after_one : nat_cmp 2 1 ≡ Greater
+two_months_after_one = refl
 
 -- ---- sets
 

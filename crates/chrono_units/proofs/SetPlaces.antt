@@ -30,11 +30,11 @@ day_at-place (Some Fri) = refl
 day_at-place (Some Sat) = refl
 day_at-place (Some Sun) = refl
 
-pub same_place : (o p : Option Weekday) → place o ≡ place p → o ≡ p
+same_place : (o p : Option Weekday) → place o ≡ place p → o ≡ p
 same_place o p h = sym (day_at-place o) ∙ ap day_at h ∙ day_at-place p
 
 -- the place of the day that `Weekday::from_u32` gives
-pub place-SomeIff : (o : Option Weekday) (n : ℕ) → SomeIff o (n < 7) (weekday_from_monday n) → place o ≡ min n 7
+place-SomeIff : (o : Option Weekday) (n : ℕ) → SomeIff o (n < 7) (weekday_from_monday n) → place o ≡ min n 7
 place-SomeIff None n h = omega arith
 place-SomeIff (Some d) n h = ap days_from_monday h.1 ∙ days_from_monday-weekday_from_monday n h.0 ∙ omega (arith, h.0)
 

@@ -61,6 +61,12 @@ lengths_agree : each_day (λ start. each_set (λ s. length (walk s Mon) == lengt
 unfolding each_day each_set both
 lengths_agree = refl
 
+-- a list with no last day is empty
+pub last_day-none : (ds : List Weekday) → last_day ds ≡ None → ds ≡ []
+last_day-none [] h = refl
+last_day-none (d ∷ []) h = absurd (search (rules, h))
+last_day-none (d ∷ e ∷ ds) h = absurd (search (rules, last_day-none (e ∷ ds) h))
+
 -- a walk is as long from every start
 pub length-walk : (s : DaySet) (start : Weekday) → length (walk s Mon) ≡ length (walk s start)
 length-walk s start = eqb-true _ _ (each_set-at _ (each_day-at _ lengths_agree start) s)

@@ -1,6 +1,6 @@
 -- The numbers of the weekdays give the days back.
-use Rattle.std.proofs.Common.{◌≡◌, ℕ, zero, suc, ◌<◌, refl, ap, sym, ◌∙◌, arith, true}
-use Rattle.std.proofs.lemmas.Bool.{eqb-true}
+use Rattle.std.proofs.Common.{◌≡◌, ℕ, ◌<◌, ◌==◌, refl, ap, sym, ◌∙◌, arith, true}
+use Rattle.std.proofs.lemmas.Bool.{agree_below_at, eqb-true}
 use Rattle.chrono_units.specs.declared.weekday.Weekday.{Weekday}
 use Rattle.chrono_units.specs.declared.weekday.Weekday.TheVariants.{Mon, Tue, Wed, Thu, Fri, Sat, Sun}
 use Rattle.chrono_units.specs.Weekday.{days_from_monday, weekday_from_monday}
@@ -16,14 +16,8 @@ weekday_from_monday-days_from_monday = elim [ Mon ↦ refl | Tue ↦ refl | Wed 
 
 -- the number of a number's day is that number
 pub days_from_monday-weekday_from_monday : (n : ℕ) → n < 7 → days_from_monday (weekday_from_monday n) ≡ n
-days_from_monday-weekday_from_monday zero h = refl
-days_from_monday-weekday_from_monday (suc zero) h = refl
-days_from_monday-weekday_from_monday (suc (suc zero)) h = refl
-days_from_monday-weekday_from_monday (suc (suc (suc zero))) h = refl
-days_from_monday-weekday_from_monday (suc (suc (suc (suc zero)))) h = refl
-days_from_monday-weekday_from_monday (suc (suc (suc (suc (suc zero))))) h = refl
-days_from_monday-weekday_from_monday (suc (suc (suc (suc (suc (suc zero)))))) h = refl
-days_from_monday-weekday_from_monday (suc (suc (suc (suc (suc (suc (suc n))))))) h = absurd (omega arith)
+days_from_monday-weekday_from_monday n h =
+    eqb-true _ _ (agree_below_at (λ k. days_from_monday (weekday_from_monday k) == k) (λ k. true) 7 n refl h)
 
 -- two days with one number are one day
 pub same_weekday : (d e : Weekday) → days_from_monday d ≡ days_from_monday e → d ≡ e

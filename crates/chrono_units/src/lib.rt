@@ -5,6 +5,7 @@
 //! by the numbers of days and months, by the members of a set, or by the leap rule.
 #![tactic(auto)]
 
+pub mod law;
 mod month;
 mod months;
 mod out_of_range;

@@ -1,7 +1,11 @@
 //! The months of the year: their cycle of twelve, their numbers, names and lengths.
 
 ghost use Rattle.std.specs.Prelude.{◌≡◌, ◌≤◌, ◌≤ℤ◌, pos, unsigned_abs};
+ghost use Rattle.std.specs.Cmp.{partial_order_from_own_ties};
+ghost use Rattle.std.specs.Cmp.Rules.{comparing};
 ghost use Rattle.std.specs.Option.{SomeIff};
+ghost use Rattle.std.specs.Ordering.{as_partial_cmp, nat_cmp, on};
+ghost use Rattle.std.proofs.Common.{rules};
 ghost use Rattle.std.specs.Result.{OkIff};
 ghost use Rattle.chrono_units.specs.Month.{month_from_number, month_name, next_month, number_from_month, previous_month};
 ghost use Rattle.chrono_units.specs.Years.{IsYear, month_length as length_of_month};
@@ -9,11 +13,12 @@ ghost use Rattle.chrono_units.specs.Years.{IsYear, month_length as length_of_mon
 use crate::out_of_range::OutOfRange;
 use crate::year::{is_leap_year, is_year, month_length};
 use num_traits::cast;
+use std::cmp::Ordering;
 
 /// A month of the year.
 ///
 /// The months form a cycle of twelve, and compare by their numbers, January being the least.
-#[derive(Clone, Copy, PartialEq, Eq, PartialOrd, Ord, Hash, Debug)]
+#[derive(Clone, Copy, PartialEq, Eq, Hash, Debug)]
 pub enum Month {
     /// January.
     January = 0,
@@ -166,6 +171,37 @@ impl Month {
             (month_from_number (unsigned_abs n)) }
     {
         Month::from_u64(cast(n)?)
+    }
+}
+
+impl Ord for Month {
+    ghost cmp = { on number_from_month nat_cmp };
+
+    ghost total = { Prim.search (comparing, rules) };
+
+    ghost matches_partial_cmp = { Prim.search (comparing, rules) };
+
+    ghost matches_eq = { Prim.search (comparing, rules) };
+
+    /// Months compare by their numbers, so January is the least and December the greatest.
+    #[inline]
+    fn cmp(&self, other: &Month) -> Ordering
+        ensures number { result
+            ≡ nat_cmp (number_from_month self.now) (number_from_month other.now) }
+    {
+        self.number_from_month().cmp(&other.number_from_month())
+    }
+}
+
+impl PartialOrd for Month {
+    ghost partial_cmp = { as_partial_cmp (on number_from_month nat_cmp) };
+
+    ghost laws = { partial_order_from_own_ties
+        (Prim.search (comparing, rules)) (Prim.search (comparing, rules)) };
+
+    #[inline]
+    fn partial_cmp(&self, other: &Month) -> Option<Ordering> {
+        Some(self.cmp(other))
     }
 }
 

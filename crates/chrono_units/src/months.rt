@@ -1,13 +1,18 @@
 //! Spans of whole months.
 
 ghost use Rattle.std.specs.Prelude.{◌≡◌};
+ghost use Rattle.std.specs.Cmp.{partial_order_from_own_ties};
+ghost use Rattle.std.specs.Cmp.Rules.{comparing};
+ghost use Rattle.std.specs.Ordering.{as_partial_cmp, nat_cmp};
+ghost use Rattle.std.proofs.Common.{rules};
 
+use std::cmp::Ordering;
 use std::marker::Model;
 
 /// A number of calendar months, by which a date can be moved.
 ///
-/// Contracts see it as that number.
-#[derive(Clone, Copy, PartialEq, Eq, PartialOrd, Ord, Hash, Debug)]
+/// Contracts see it as that number, by which such spans compare.
+#[derive(Clone, Copy, PartialEq, Eq, Hash, Debug)]
 pub struct Months {
     count: u32,
 }
@@ -37,5 +42,35 @@ impl Months {
         ensures { result ≡ self.now }
     {
         self.count
+    }
+}
+
+impl Ord for Months {
+    ghost cmp = { nat_cmp };
+
+    ghost total = { Prim.search (comparing, rules) };
+
+    ghost matches_partial_cmp = { Prim.search (comparing, rules) };
+
+    ghost matches_eq = { Prim.search (comparing, rules) };
+
+    /// Spans compare by their numbers of months.
+    #[inline]
+    fn cmp(&self, other: &Months) -> Ordering
+        ensures count { result ≡ nat_cmp self.now other.now }
+    {
+        self.as_u32().cmp(&other.as_u32())
+    }
+}
+
+impl PartialOrd for Months {
+    ghost partial_cmp = { as_partial_cmp nat_cmp };
+
+    ghost laws = { partial_order_from_own_ties
+        (Prim.search (comparing, rules)) (Prim.search (comparing, rules)) };
+
+    #[inline]
+    fn partial_cmp(&self, other: &Months) -> Option<Ordering> {
+        Some(self.cmp(other))
     }
 }

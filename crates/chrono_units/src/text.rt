@@ -54,7 +54,8 @@ impl fmt::Debug for WeekdaySet {
     /// Writes a digit for each day, 1 for a member, from Sunday down to Monday, as `WeekdaySet(0001001)`, whatever
     /// width or precision is asked for.
     fn fmt<W: fmt::Write>(&self, f: &mut fmt::Formatter<W>) -> fmt::Result
-        ensures writes { WritesOnOk W.write_str_gives f.old result (set_digits_text self.now) f.new }
+        ensures writes { WritesOnOk W.write_str_gives f.old result
+            (set_digits_text self.now) f.new }
         ensures styled { WritesStyledOnOk W.write_str_gives f.old result
             (set_digits_text self.now) f.new }
     {

@@ -271,7 +271,10 @@ impl PartialEq for WeekdaySet {
     ghost laws = { Prim.search (comparing, rules) };
 
     #[inline]
-    fn eq(&self, other: &WeekdaySet) -> bool {
+    fn eq(&self, other: &WeekdaySet) -> bool
+        ensures same { IsTrue result ↔ (self.now ≡ other.now) }
+        ensures number { result ≡ (set_number self.now == set_number other.now) }
+    {
         self.digits == other.digits
     }
 }

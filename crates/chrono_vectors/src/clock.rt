@@ -1,5 +1,5 @@
 //! The clock's public calls, each once, and its texts under every style and at every refusal of a writer.
 
 mod durations;
-mod texts;
+pub mod texts;
 mod times;

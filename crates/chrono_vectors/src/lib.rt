@@ -5,7 +5,17 @@
 #![tactic(auto)]
 
 #[cfg(test)]
+mod both_forms;
+#[cfg(test)]
+mod calendar_parts;
+#[cfg(test)]
 mod clock;
+#[cfg(test)]
+mod date_time_calls;
+#[cfg(test)]
+mod date_time_texts;
+#[cfg(test)]
+mod dates;
 #[cfg(test)]
 mod month;
 #[cfg(test)]
@@ -14,6 +24,8 @@ mod naive_date;
 mod naive_date_time;
 #[cfg(test)]
 mod naive_time;
+#[cfg(test)]
+mod stored_forms;
 #[cfg(test)]
 mod time_delta;
 #[cfg(test)]

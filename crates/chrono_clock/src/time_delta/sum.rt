@@ -36,10 +36,6 @@ impl TimeDelta {
             (λ sum. WholeRun I.next_gives iter
             (λ p. StaysInRange (map (λ r. r.now) p.items) × (sum ≡ total (map (λ r. r.now) p.items)))) }
     {
-        let mut sum = TimeDelta::zero();
-        for duration in iter {
-            sum = sum.checked_add(duration)?;
-        }
-        Some(sum)
+        TimeDelta::checked_sum(iter.copied())
     }
 }

@@ -1,6 +1,4 @@
 //! The fields of the date and of the time of day, read and replaced. What replaces a field of one half keeps the other.
-ghost use Rattle.std.specs.Prelude.{◌≡◌};
-ghost use Rattle.chrono_naive.specs.Days.{IsDate};
 
 use crate::NaiveDateTime;
 use chrono_clock::Timelike;
@@ -95,10 +93,7 @@ impl Datelike for NaiveDateTime {
 
     /// The day number of the date: 1 for 1 January of year 1, 0 for the day before, 719,163 for 1 January 1970.
     #[inline]
-    fn num_days_from_ce(&self) -> i32
-        ensures value { result ≡ self.now.date }
-        ensures in_range { IsDate result }
-    {
+    fn num_days_from_ce(&self) -> i32 {
         self.date.num_days_from_ce()
     }
 }

@@ -1,6 +1,6 @@
 //! Moves by calendar months and days: they move the date and keep the time of day.
-ghost use Rattle.std.specs.Prelude.{◌≡◌, pos, neg_ℤ, ◌+ℤ◌, ◌-ℤ◌, IfSome};
-ghost use Rattle.chrono_naive.specs.Days.{date_of_day};
+ghost use Rattle.std.specs.Prelude.{◌≡◌, ◌↔◌, pos, neg_ℤ, ◌+ℤ◌, ◌-ℤ◌, IfSome, IsSome};
+ghost use Rattle.chrono_naive.specs.Days.{IsDate, date_of_day};
 ghost use Rattle.chrono_naive.specs.MonthMoves.{MonthMovesAddUp, ComesBack, KeepsOrder, month_move};
 ghost use Rattle.chrono_datetime.specs.Moment.{moment_on};
 
@@ -15,6 +15,7 @@ impl NaiveDateTime {
     #[inline]
     pub fn checked_add_months(self, rhs: Months) -> Option<NaiveDateTime>
         ensures value { result ≡ moment_on (month_move self.date (pos rhs)) self.time }
+        ensures exists { IsSome result ↔ IsSome (month_move self.date (pos rhs)) }
         // No later date comes to lie before the answer's by the same move.
         ensures order { IfSome result (λ e. KeepsOrder self.date (pos rhs) e.date) }
         // Moved back, the answer's date comes to the date again, or to one to three days before it in its month.
@@ -30,6 +31,7 @@ impl NaiveDateTime {
     #[inline]
     pub fn checked_sub_months(self, rhs: Months) -> Option<NaiveDateTime>
         ensures value { result ≡ moment_on (month_move self.date (neg_ℤ (pos rhs))) self.time }
+        ensures exists { IsSome result ↔ IsSome (month_move self.date (neg_ℤ (pos rhs))) }
         // No later date comes to lie before the answer's by the same move.
         ensures order { IfSome result (λ e. KeepsOrder self.date (neg_ℤ (pos rhs)) e.date) }
         // Moved on again, the answer's date comes to the date again, or to one to three days before it in its month.
@@ -45,6 +47,7 @@ impl NaiveDateTime {
     #[inline]
     pub fn checked_add_days(self, days: Days) -> Option<NaiveDateTime>
         ensures value { result ≡ moment_on (date_of_day (self.date +ℤ pos days)) self.time }
+        ensures exists { IsSome result ↔ IsDate (self.date +ℤ pos days) }
         // As many days less, the answer's date is the date again.
         ensures back { IfSome result (λ e. e.date -ℤ pos days ≡ self.date) }
     {
@@ -56,6 +59,7 @@ impl NaiveDateTime {
     #[inline]
     pub fn checked_sub_days(self, days: Days) -> Option<NaiveDateTime>
         ensures value { result ≡ moment_on (date_of_day (self.date -ℤ pos days)) self.time }
+        ensures exists { IsSome result ↔ IsDate (self.date -ℤ pos days) }
         // As many days more, the answer's date is the date again.
         ensures back { IfSome result (λ e. e.date +ℤ pos days ≡ self.date) }
     {

@@ -75,10 +75,7 @@ impl Add<Days> for NaiveDateTime {
     /// The date-time at the same time of day so many days later, which has to be in range.
     #[inline]
     fn add(self, days: Days) -> NaiveDateTime {
-        NaiveDateTime {
-            date: self.date + days,
-            time: self.time,
-        }
+        self.checked_add_days(days).unwrap()
     }
 }
 
@@ -92,10 +89,7 @@ impl Sub<Days> for NaiveDateTime {
     /// The date-time at the same time of day so many days earlier, which has to be in range.
     #[inline]
     fn sub(self, days: Days) -> NaiveDateTime {
-        NaiveDateTime {
-            date: self.date - days,
-            time: self.time,
-        }
+        self.checked_sub_days(days).unwrap()
     }
 }
 

@@ -4,10 +4,9 @@ ghost use Rattle.chrono_calendar.specs.Days.{IsDate, date_of_day};
 
 use crate::datelike::Datelike;
 use crate::iso_week::IsoWeek;
-use crate::naive_date::NaiveDate;
+use crate::naive_date::{LAST_DAY, NaiveDate};
 use chrono_calendar::{DayForm, forms};
 use chrono_units::Weekday;
-use chrono_units::year::is_year;
 
 impl Datelike for NaiveDate {
     ghost use Rattle.std.specs.Prelude.{[]};
@@ -33,7 +32,7 @@ impl Datelike for NaiveDate {
 
     #[inline]
     fn day(&self) -> u32 {
-        prove!(is_year(self.form.year()));
+        prove!(self.day_number() <= LAST_DAY);
         self.form.month_day().1
     }
 
@@ -44,7 +43,7 @@ impl Datelike for NaiveDate {
 
     #[inline]
     fn ordinal(&self) -> u32 {
-        prove!(is_year(self.form.year()));
+        prove!(self.day_number() <= LAST_DAY);
         self.form.ordinal()
     }
 
@@ -55,7 +54,7 @@ impl Datelike for NaiveDate {
 
     #[inline]
     fn weekday(&self) -> Weekday {
-        prove!(is_year(self.form.year()));
+        prove!(self.day_number() <= LAST_DAY);
         self.form.weekday()
     }
 

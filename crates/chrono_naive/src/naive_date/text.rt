@@ -26,31 +26,3 @@ impl fmt::Debug for NaiveDate {
         fmt::Display::fmt(self, f)
     }
 }
-
-#[cfg(test)]
-mod tests {
-    use crate::NaiveDate;
-    use std::alloc::AllocError;
-
-    #[test]
-    fn texts(rt: HostRuntime) -> Result<(), AllocError> {
-        for (year, month, day, text) in [
-            (2014, 7, 24, "2014-07-24"),
-            (0, 1, 1, "0000-01-01"),
-            (-1, 12, 31, "-0001-12-31"),
-            (9_999, 12, 31, "9999-12-31"),
-            (10_000, 1, 1, "+10000-01-01"),
-            (-262_143, 1, 1, "-262143-01-01"),
-            (262_142, 12, 31, "+262142-12-31"),
-        ] {
-            let date = NaiveDate::from_ymd_opt(year, month, day).expect(&rt, "a date");
-            let shown = format!(in rt.alloc(); "{date}")?;
-            assert_eq!(rt; shown.as_str(), text);
-            let debug = format!(in rt.alloc(); "{date:?}")?;
-            assert_eq!(rt; debug.as_str(), text);
-            let padded = format!(in rt.alloc(); "{date:*^+40.3}")?;
-            assert_eq!(rt; padded.as_str(), text);
-        }
-        Ok(())
-    }
-}

@@ -145,8 +145,8 @@ impl Write for Few {
     }
 }
 
-// Whether writing the value fails exactly where the writer refuses a piece, whichever piece that is.
-fn fails_where_refused<T: fmt::Display>(value: &T) -> bool {
+/// Whether writing the value fails exactly where the writer refuses a piece, whichever piece that is.
+pub fn fails_where_refused<T: fmt::Display>(value: &T) -> bool {
     for pieces in 0..64 {
         let mut few = Few {
             pieces,

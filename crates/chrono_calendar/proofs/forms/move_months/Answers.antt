@@ -14,7 +14,7 @@ index n y k m f e r h = omega (arith, casts)
 pub returns-in_err-year : goal.returns-in_err-year
 returns-in_err-year g c =
     let n = g.F.DayForm.number c.args.f in
-    let same = index n c.year.result c.args.k c.month_day-month.result.0 c.ranges.k c.year.ensures.value c.year.ensures.in_range c.month_day-month.ensures.month in
+    let same = index n c.year_month_day-year.result.0 c.args.k c.year_month_day-year.result.1 c.ranges.k c.year_month_day-year.ensures.year c.year_month_day-year.ensures.in_range c.year_month_day-year.ensures.month in
     ap (option_map g.F.DayForm.number) c.from_residual.ensures ∙ month_move-None n c.args.k (λ h. c.in_err-year.ensures (rw same h))
 
 year_cast : (y z : ℤ) → y ≡ z → IsYear z → to_z w32 (of_z w32 y) ≡ z
@@ -23,8 +23,8 @@ year_cast y z e h = omega (arith, casts)
 pub returns : goal.returns
 returns g c =
     let n = g.F.DayForm.number c.args.f in
-    let same = index n c.year.result c.args.k c.month_day-month.result.0 c.ranges.k c.year.ensures.value c.year.ensures.in_range c.month_day-month.ensures.month in
+    let same = index n c.year_month_day-year.result.0 c.args.k c.year_month_day-year.result.1 c.ranges.k c.year_month_day-year.ensures.year c.year_month_day-year.ensures.in_range c.year_month_day-year.ensures.month in
     let found = rw same at c.in_ok-year.ensures in
     let year = year_cast c.in_ok-year.year (year_of_month_index (month_index_of n +ℤ c.args.k)) (ap (λ (p : ℤ × ℕ). p.0) found.1) found.0 in
     let month : c.in_ok-year.month ≡ month_of_month_index (month_index_of n +ℤ c.args.k) = ap (λ (p : ℤ × ℕ). p.1) found.1 in
-    c.from_ymd.ensures ∙ month_move-ymd n c.args.k _ _ _ year month (rw c.month_day-month.ensures.day at c.day_within.ensures)
+    c.from_ymd.ensures ∙ month_move-ymd n c.args.k _ _ _ year month (rw c.year_month_day-year.ensures.day at c.day_within.ensures)

@@ -18,14 +18,18 @@ pub returns-then-years-lt0 : goal.returns-then-years-lt0
 returns-then-years-lt0 g c =
     let n = g.F.DayForm.number c.args.f.now in
     let base = g.F.DayForm.number c.args.base.now in
-    let earlier = rw (c.month_day-month.ensures.month, c.month_day-month.ensures.day, c.month_day-base_month.ensures.month, c.month_day-base_month.ensures.day) at c.from.ensures in
-    let counted = difference-counted (year_of n) (year_of base) c.year.result c.year-2.result c.from.result (nat_lt (place n) (place base)) c.year.ensures.value c.year-2.ensures.value c.year.ensures.in_range c.year-2.ensures.in_range earlier in
+    let earlier = rw (c.year_month_day-year.ensures.month, c.year_month_day-year.ensures.day, c.year_month_day-base_year.ensures.month, c.year_month_day-base_year.ensures.day) at c.from.ensures in
+    let counted = difference-counted (year_of n) (year_of base) c.year_month_day-year.result.0 c.year_month_day-base_year.result.0 c.from.result (nat_lt (place n) (place base)) c.year_month_day-year.ensures.year c.year_month_day-base_year.ensures.year c.year_month_day-year.ensures.in_range c.year_month_day-base_year.ensures.in_range earlier in
     years_between-None n base (rw (← counted) (omega (arith, casts, c.if-years-lt0.true)))
 
 pub returns : goal.returns
 returns g c =
     let n = g.F.DayForm.number c.args.f.now in
     let base = g.F.DayForm.number c.args.base.now in
-    let earlier = rw (c.month_day-month.ensures.month, c.month_day-month.ensures.day, c.month_day-base_month.ensures.month, c.month_day-base_month.ensures.day) at c.from.ensures in
-    let counted = difference-counted (year_of n) (year_of base) c.year.result c.year-2.result c.from.result (nat_lt (place n) (place base)) c.year.ensures.value c.year-2.ensures.value c.year.ensures.in_range c.year-2.ensures.in_range earlier in
+    let earlier = rw (c.year_month_day-year.ensures.month, c.year_month_day-year.ensures.day, c.year_month_day-base_year.ensures.month, c.year_month_day-base_year.ensures.day) at c.from.ensures in
+    let counted = difference-counted (year_of n) (year_of base) c.year_month_day-year.result.0 c.year_month_day-base_year.result.0 c.from.result (nat_lt (place n) (place base)) c.year_month_day-year.ensures.year c.year_month_day-base_year.ensures.year c.year_month_day-year.ensures.in_range c.year_month_day-base_year.ensures.in_range earlier in
     years_between-Some n base _ (rw (← counted) (omega (arith, casts, c.if-years-lt0.false)))
+
+pub overflow_sub-years : goal.overflow_sub-years
+overflow_sub-years g c =
+    omega (arith, casts, c.year_month_day-year.ensures.year, c.year_month_day-year.ensures.in_range, c.year_month_day-base_year.ensures.year, c.year_month_day-base_year.ensures.in_range)

@@ -1,4 +1,4 @@
-use Rattle.std.proofs.Common.{arith, rules, to_z-of_z, FitsSigned, w64, ◌≡◌, ◌≤◌, ◌+◌, ◌*◌, ℤ, pos, ◌+ℤ◌, ◌*ℤ◌, ap, ◌∙◌}
+use Rattle.std.proofs.Common.{arith, rules, to_z-of_z, FitsSigned, w64, ◌≡◌, ◌≤◌, ◌+◌, ◌*◌, ℤ, pos, ◌+ℤ◌, ap, ◌∙◌}
 use Rattle.chrono_clock.specs.Duration.{nanos_of}
 use Rattle.chrono_clock.specs.Time.{TimeOfDay, place, leap_landing}
 use Rattle.chrono_clock.specs.Signed.{signed}

@@ -1,6 +1,10 @@
-use Rattle.std.proofs.Common.{◌∙◌}
+use Rattle.std.proofs.Common.{◌∙◌, ◌-◌, arith}
+use Rattle.std.proofs.lemmas.Nat.{and_le_l}
 use Rattle.chrono_units.proofs.SetPlaces.{first_from-none, first_from-some}
 use Rattle.chrono_units.proofs.weekday_set.WeekdaySet.first_from.Goals as goal
+
+pub lowest_day-requires : goal.lowest_day-requires
+lowest_day-requires c = omega (arith, and_le_l c.self.inside.digits (255 - (c.digit.result - 1)), c.self.invariant)
 
 pub returns-then-later-eq0 : goal.returns-then-later-eq0
 returns-then-later-eq0 c =

@@ -6,7 +6,7 @@ use Rattle.chrono_units.proofs.weekday_set_iter.WeekdaySetIterIterator.next.Goal
 pub returns-clause-steps : goal.returns-clause-steps
 returns-clause-steps c =
     sym c.self.view_is
-    ∙ walk-first c.self.inside.days c.self.inside.start c.in_ok-day.day (sym c.first_from.ensures ∙ c.in_ok-day.was)
+    ∙ walk-first c.self.inside.days c.self.inside.start c.in_ok-day.day (sym c.in_ok-day.ensures)
     ∙ ap (λ s. c.in_ok-day.day ∷ walk s c.self.inside.start) (sym c.remove.ensures.after)
 
 pub returns-clause-goes : goal.returns-clause-goes

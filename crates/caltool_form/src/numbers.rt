@@ -1,0 +1,73 @@
+//! The numbers of a line.
+ghost use Rattle.std.specs.Prelude.{◌≡◌, ◌<◌, ◌≤◌, ◌++◌, ◌∷◌, ℤ, List, [], length, take};
+ghost use Rattle.std.specs.Option.{option_map};
+ghost use Rattle.caltool_form.specs.Words.{EndsWord};
+ghost use Rattle.caltool_form.specs.Grammar.{numbers_behind};
+
+use crate::words::next_number;
+use std::marker::Model;
+
+// No line of 120 bytes has more numbers.
+const ROOM: usize = 60;
+
+// The numbers of a line.
+#[derive(Drop)]
+pub(crate) struct Numbers {
+    items: [i64; ROOM],
+    len: usize,
+}
+
+impl Model for Numbers {
+    ghost Value = { List ℤ };
+
+    ghost view = { λ n. take n.len n.items };
+
+    ghost invariant = { λ n. n.len ≤ 60 };
+}
+
+impl Numbers {
+    pub(crate) fn new() -> Numbers
+        ensures { result ≡ [] }
+    {
+        Numbers {
+            items: [0; ROOM],
+            len: 0,
+        }
+    }
+
+    // Reads the numbers behind the first space of a text, in the place of those held.
+    pub(crate) fn read(&mut self, text: &[u8]) -> Option<()>
+        requires space { EndsWord text.now }
+        requires short { length text.now ≤ 120 }
+        ensures { numbers_behind text.now ≡ option_map (λ _. self.new) result }
+    {
+        self.clear();
+        let mut rest = text;
+        while !rest.is_empty() {
+            let (number, after) = next_number(&rest[1..])?;
+            self.push(number);
+            rest = after;
+        }
+        Some(())
+    }
+
+    pub(crate) fn as_slice(&self) -> &[i64]
+        ensures { result.now ≡ self.now }
+    {
+        &self.items[..self.len]
+    }
+
+    fn push(&mut self, number: i64)
+        requires { length self.old < 60 }
+        ensures { self.new ≡ self.old ++ number ∷ [] }
+    {
+        self.items[self.len] = number;
+        self.len += 1;
+    }
+
+    fn clear(&mut self)
+        ensures { self.new ≡ [] }
+    {
+        self.len = 0;
+    }
+}

@@ -1,0 +1,83 @@
+//! The ends of the date-times and values that are known, each as the contract of a function; and the laws of the crates
+//! below.
+ghost use Rattle.std.specs.Prelude.{◌≡◌, pos, neg_ℤ, Some, None, codes};
+ghost use Rattle.std.proofs.Common.{Less};
+ghost use Rattle.chrono_clock.specs.Time.{time_at};
+ghost use Rattle.chrono_datetime.specs.Moment.{moment, moment_cmp, moment_distance, reach};
+ghost use Rattle.chrono_datetime.specs.MomentText.{moment_text};
+
+use crate::naive_date_time::{MAX_DATETIME, MIN_DATETIME, NaiveDateTime};
+pub use chrono_clock::law::{first_time, last_time};
+pub use chrono_naive::law::{
+    calendar_names_are_in_order, dates_are_days_of_years, dates_have_at_most_thirteen_bytes,
+    dates_have_one_calendar_name, dates_have_one_iso_name, dates_have_one_number,
+    dates_have_one_ordinal_name, dates_have_texts_of_their_own, first_date,
+    four_digit_years_have_ten_bytes, iso_names_are_in_order, known_date_texts, known_days,
+    known_moves, known_weeks, last_date, later_multiples_are_later, month_moves_add_up,
+    month_moves_come_back, month_moves_keep_order, month_moves_reach_dates,
+    ordinal_names_are_in_order, weeks_have_one_first_day,
+};
+
+/// The first date-time, as [`NaiveDateTime::MIN`] and as [`MIN_DATETIME`]: day -95,746,129, 00:00:00.
+#[tactic(auto, using(crate::proofs::Ends::ends))]
+pub fn first_date_time() -> (NaiveDateTime, NaiveDateTime)
+    ensures of_type { result.0 ≡ moment (neg_ℤ (pos 95_746_129)) (time_at 0 0 0 0) }
+    ensures of_crate { result.1 ≡ moment (neg_ℤ (pos 95_746_129)) (time_at 0 0 0 0) }
+{
+    (NaiveDateTime::MIN, MIN_DATETIME)
+}
+
+/// The last date-time in no leap second, as [`NaiveDateTime::MAX`] and as [`MAX_DATETIME`]: day 95,745,399,
+/// 23:59:59.999999999.
+#[tactic(auto, using(crate::proofs::Ends::ends))]
+pub fn last_date_time() -> (NaiveDateTime, NaiveDateTime)
+    ensures of_type { result.0 ≡ moment (pos 95_745_399) (time_at 23 59 59 999_999_999) }
+    ensures of_crate { result.1 ≡ moment (pos 95_745_399) (time_at 23 59 59 999_999_999) }
+{
+    (NaiveDateTime::MAX, MAX_DATETIME)
+}
+
+/// Moves that are known. From half a second into the leap second at the end of 30 June 2015, which is day 735,779, half a
+/// second on is midnight of the next day, and a second back is 23:59:59.5. The leap second at the end of the last date can
+/// be reached to its end, and what comes after it is no date.
+pub fn known_reaches()
+    ensures next_day { let leap = moment (pos 735_779) (time_at 23 59 59 1_500_000_000) in
+        reach leap (pos 500_000_000) ≡ Some (moment (pos 735_780) (time_at 0 0 0 0)) }
+    ensures second_back { let leap = moment (pos 735_779) (time_at 23 59 59 1_500_000_000) in
+        reach leap (neg_ℤ (pos 1_000_000_000))
+        ≡ Some (moment (pos 735_779) (time_at 23 59 59 500_000_000)) }
+    ensures last_end { let leap = moment (pos 95_745_399) (time_at 23 59 59 1_500_000_000) in
+        reach leap (pos 499_999_999)
+        ≡ Some (moment (pos 95_745_399) (time_at 23 59 59 1_999_999_999)) }
+    ensures past_last { let leap = moment (pos 95_745_399) (time_at 23 59 59 1_500_000_000) in
+        reach leap (pos 500_000_000) ≡ None }
+{}
+
+/// Distances that are known, from half a second into the same leap second of 2015: one o'clock of the next day is
+/// 3,599.5 s past it, and midnight half a second before it, though it comes later.
+#[tactic(auto, unfolding(crate::specs::Moment::moment_distance, chrono_clock::specs::Time::distance))]
+pub fn known_moment_distances()
+    ensures one_o_clock { let leap = moment (pos 735_779) (time_at 23 59 59 1_500_000_000) in
+        moment_distance (moment (pos 735_780) (time_at 1 0 0 0)) leap ≡ pos 3_599_500_000_000 }
+    ensures midnight { let leap = moment (pos 735_779) (time_at 23 59 59 1_500_000_000) in
+        moment_distance (moment (pos 735_780) (time_at 0 0 0 0)) leap ≡ neg_ℤ (pos 500_000_000) }
+{}
+
+/// Comparisons that are known: an earlier date comes first though its time is later, then the second though its fraction is
+/// larger, and then the fraction.
+pub fn known_moment_order()
+    ensures by_date { moment_cmp (moment (pos 1) (time_at 23 59 59 0))
+        (moment (pos 2) (time_at 0 0 0 0)) ≡ Less }
+    ensures by_second { moment_cmp (moment (pos 1) (time_at 0 0 0 999_999_999))
+        (moment (pos 1) (time_at 0 0 1 0)) ≡ Less }
+    ensures by_fraction { moment_cmp (moment (pos 1) (time_at 0 0 1 0))
+        (moment (pos 1) (time_at 0 0 1 1)) ≡ Less }
+{}
+
+/// Texts that are known, with a space and with a `T`: in a leap second, and with a fraction of six digits.
+pub fn known_moment_texts()
+    ensures leap { moment_text 32 (moment (pos 736_153) (time_at 23 59 59 1_500_000_000))
+        ≡ codes "2016-07-08 23:59:60.500" }
+    ensures six_digits { moment_text 84 (moment (pos 719_163) (time_at 1 2 3 1_000))
+        ≡ codes "1970-01-01T01:02:03.000001" }
+{}

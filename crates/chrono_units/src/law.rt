@@ -1,0 +1,13 @@
+//! Laws of the sets that have names, as the contract of a function.
+ghost use Rattle.std.specs.Prelude.{◌≡◌};
+ghost use Rattle.chrono_units.specs.WeekdaySet.{all_days, no_days};
+
+use crate::weekday_set::WeekdaySet;
+
+/// [`WeekdaySet::EMPTY`] has no day, and [`WeekdaySet::ALL`] has all seven.
+pub fn named_sets() -> (WeekdaySet, WeekdaySet)
+    ensures empty { result.0 ≡ no_days }
+    ensures all { result.1 ≡ all_days }
+{
+    (WeekdaySet::EMPTY, WeekdaySet::ALL)
+}
