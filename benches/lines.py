@@ -6,8 +6,8 @@
 benches/chrono_tuned reads and writes bytes by hand through buffers of 64 KiB, benches/chrono_lines is the plainest good program.
 All three answer each file before any is timed, and their answers have to be the same, byte for byte. Years have one to six digits
 and both signs, times all nine digits of their fraction, counts up to eighteen digits.
-The programs then take turns in seven rounds, from a file to /dev/null, and the best run of each counts: the table says how often
-caltool's time goes into that of the other program.
+The programs then take turns in seven rounds, from a file to /dev/null, and the best run of each counts, by processor time: the
+table says how often caltool's time goes into that of the other program.
 
 It needs crates/caltool/out/caltool, which `rt run` and `rt ci` leave there, and Debian's librust-chrono-dev with cargo; with
 Debian's dateutils and GNU date it also prints a table of the conversion of dates.
@@ -20,7 +20,6 @@ import shutil
 import subprocess
 import sys
 import tempfile
-import time
 
 TOP = os.path.dirname(os.path.dirname(os.path.abspath(__file__)))
 CALTOOL = os.path.join(TOP, "crates", "caltool", "out", "caltool")
@@ -100,16 +99,21 @@ def sum_of_answers(program, path):
     return hashlib.sha256(ran.stdout).digest()
 
 
+def processor_time(command, path):
+    """The processor time of a run from the file to nowhere, which other programs on the machine change less than wall time."""
+    with open(path, "rb") as source, open(os.devnull, "wb") as sink:
+        ran = subprocess.Popen(command, stdin=source, stdout=sink, stderr=subprocess.DEVNULL)
+        _, status, used = os.wait4(ran.pid, 0)
+        ran.returncode = os.waitstatus_to_exitcode(status)
+    if ran.returncode:
+        sys.exit(f"{command[0]} ended with status {ran.returncode}")
+    return used.ru_utime + used.ru_stime
+
+
 def best_times(commands, path, rounds):
-    """The least wall time of each command, from the file to nowhere, the commands taking turns."""
-    best = [float("inf")] * len(commands)
-    for _ in range(rounds):
-        for at, command in enumerate(commands):
-            with open(path, "rb") as source, open(os.devnull, "wb") as sink:
-                start = time.perf_counter()
-                subprocess.run(command, stdin=source, stdout=sink, stderr=subprocess.DEVNULL, check=True)
-                best[at] = min(best[at], time.perf_counter() - start)
-    return best
+    """The least processor time of each command on the file, the commands taking turns."""
+    times = [[processor_time(it, path) for it in commands] for _ in range(rounds)]
+    return [min(of_command) for of_command in zip(*times)]
 
 
 def compare_conversions(folder, count):

@@ -1,7 +1,7 @@
-//! Tests of the calendar's public calls against answers from outside: worked examples, and the answers that the Rust
-//! library of the same names gives.
+//! Tests of the calendar's public calls: worked examples, texts, and loops over all of a kind.
 //!
-//! What a contract says is proved where it stands. These tests show that it says what was meant.
+//! What a contract says is proved where it stands. These tests show that it says what was meant. The answers that the Rust
+//! library of the same names gives to single calls are data of the program `chrono_calls`.
 #![tactic(auto)]
 
 #[cfg(test)]
@@ -28,8 +28,6 @@ mod naive_time;
 mod stored_forms;
 #[cfg(test)]
 mod time_delta;
-#[cfg(test)]
-mod weekday;
 #[cfg(test)]
 mod weekday_set;
 #[cfg(test)]

@@ -1,10 +1,7 @@
-//! Times of day: how they are made, read, changed, moved and taken from one another.
+//! Times of day: the first of them, and moves and distances at every second.
 
-mod distance;
 mod every_second;
-mod fields;
 mod making;
-mod moves;
 
 use chrono_clock::{NaiveTime, Timelike};
 use std::process::Abort;

@@ -1,8 +1,7 @@
-//! Durations: how they are made, read, reckoned with, summed and written.
+//! Durations: the named ones, the calls that ask no question, operators, sums and texts.
 
 mod arithmetic;
 mod making;
-mod reading;
 mod sums;
 mod texts;
 

@@ -15,7 +15,10 @@ fn a_day_stands_in_a_width(rt: HostRuntime) -> Result<(), Fail> {
     let shown = format!(in rt.alloc();
         "{day:9}|{day:*<9}|{day:*>9}|{day:*^9}|{day:+}|{day:.2}|{day:*^9.2}"
     )?;
-    assert_eq!(rt; shown.as_str(), "Thu      |Thu******|******Thu|***Thu***|Thu|Th|***Th****");
+    assert_eq!(rt;
+        shown.as_str(),
+        "Thu      |Thu******|******Thu|***Thu***|Thu|Th|***Th****"
+    );
     Ok(())
 }
 
