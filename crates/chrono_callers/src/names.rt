@@ -1,7 +1,5 @@
 //! A date read and named again, and two ways to one date.
-ghost use Rattle.std.specs.Prelude.{◌≡◌, pos, neg_ℤ, Some, unwrap_or};
-ghost use Rattle.chrono_datetime.specs.Days.{date_of_day};
-ghost use Rattle.chrono_datetime.specs.Duration.{nanos_per_day, whole_units};
+ghost use Rattle.std.specs.Prelude.{◌≡◌, pos, Some, unwrap_or};
 
 use chrono_datetime::{Datelike, NaiveDate, TimeDelta};
 

@@ -1,8 +1,7 @@
 -- Moves of date-times, from those of times of day.
 use Rattle.std.proofs.Common.{◌≡◌, inl, inr, ⊎_elim, ℤ, pos, ◌+ℤ◌, ◌*ℤ◌, ◌<ℤ◌, Bool, true, false, cond, Option, Some, None, arith, refl, sym, ap, ◌∙◌, subst, ◌↔◌, IfSome}
-use Rattle.std.proofs.lemmas.Int.{by_lt_z}
+use Rattle.std.proofs.lemmas.Int.{by_lt_z, ints}
 use Rattle.std.specs.Option.{option_map}
-use Rattle.std.proofs.lemmas.Int.{ints}
 use Rattle.chrono_clock.specs.Duration.{nanos_per_day, nanos_per_second, IsDuration, units_of, whole_units}
 use Rattle.chrono_clock.specs.Time.{TimeOfDay, Landing, IsTime, IsEarlier, IsEarlierLanding, landing_of, land, later}
 use Rattle.chrono_clock.proofs.TimeLemmas.{by_leap}
