@@ -1,50 +1,54 @@
 -- The lines are the only cut.
-use Rattle.std.proofs.Common.{◌≡◌, ◌≢◌, ◌==◌, ℕ, true, false, inl, inr, List, [], ◌∷◌, ◌++◌, ap, sym, ◌∙◌, append_assoc, append-nil}
-use Rattle.std.specs.List.{flat_map, AllByRecursion}
-use Rattle.std.proofs.lemmas.Bool.{cases_eq, eq-eqb, ne_eqb}
-use Rattle.std.proofs.lemmas.List.Elements.{All-cons, All-nil, All-append}
-use Rattle.caltool_form.specs.Lines.{ended_after, rest_after, ended_lines, rest_of, IsPiece, IsCut}
-use Rattle.caltool_form.proofs.Pieces.{ended_after-piece, rest_after-piece, ended_after-line, rest_after-line}
+use Rattle.std.proofs.Common.{◌≡◌, ◌==◌, ◌<◌, ℕ, List, [], ◌∷◌, ◌++◌, length, refl, ap, sym, ◌∙◌, append_assoc, arith}
+use Rattle.std.specs.List.{flat_map, join_with_byte, AllByRecursion}
+use Rattle.std.proofs.lemmas.List.Splits.{join_with_byte-slice_split, slice_split_none, slice_split_at}
+use Rattle.caltool_form.specs.Lines.{pieces, but_last, last_part, ended_lines, rest_of, IsPiece, IsCut}
+use Rattle.caltool_form.proofs.Pieces.{some_pieces, no_newline}
+use Rattle.caltool_form.proofs.Parts.{plain_parts}
 
 abbrev joined_of : List (List ℕ) → List ℕ → List ℕ
 joined_of cut rest = flat_map (λ line. line ++ 10 ∷ []) cut ++ rest
 
-abbrev pub NotNewline : ℕ → Type 0
-NotNewline x = x ≢ 10
+-- parts, joined by newlines
+joined_parts : (part : List ℕ) (parts : List (List ℕ)) → join_with_byte 10 (part ∷ parts) ≡ joined_of (but_last (part ∷ parts)) (last_part (part ∷ parts))
+joined_parts part [] = refl
+joined_parts part (next ∷ parts) =
+    let cut = flat_map (λ line. line ++ 10 ∷ []) (but_last (next ∷ parts)) in
+    ap (λ l. part ++ 10 ∷ l) (joined_parts next parts) ∙ sym (append_assoc part (10 ∷ []) _) ∙ sym (append_assoc (part ++ 10 ∷ []) cut (last_part (next ∷ parts)))
 
-push_piece : (line : List ℕ) (x : ℕ) → IsPiece line → x ≢ 10 → IsPiece (line ++ x ∷ [])
-push_piece line x plain ne = All-append NotNewline line (x ∷ []) plain (All-cons NotNewline x [] ne (All-nil NotNewline))
+plain_ended : (part : List ℕ) (parts : List (List ℕ)) → AllByRecursion IsPiece (part ∷ parts) → AllByRecursion IsPiece (but_last (part ∷ parts))
+plain_ended part [] plain = tt
+plain_ended part (next ∷ parts) plain = (plain.0, plain_ended next parts plain.1)
 
-pub cut_after : (line bytes : List ℕ) → IsPiece line → IsCut (line ++ bytes) (ended_after line bytes) (rest_after line bytes)
-cut_after line [] plain = record { joined = append-nil line; lines = tt; last = plain }
-cut_after line (x ∷ bytes) plain =
-    elim (cases_eq x 10) as (λ _. IsCut (line ++ x ∷ bytes) (ended_after line (x ∷ bytes)) (rest_after line (x ∷ bytes))) [
-      | inl is ↦
-          let test : (x == 10) ≡ true = eq-eqb x 10 is in
-          let p = cut_after [] bytes (All-nil NotNewline) in
-          rw test (record {
-            joined = ap (λ y. line ++ y ∷ bytes) is ∙ ap (λ l. line ++ 10 ∷ l) p.joined ∙ sym (append_assoc line (10 ∷ []) _) ∙ sym (append_assoc (line ++ 10 ∷ []) _ _);
-            lines = (plain, p.lines);
-            last = p.last;
-          })
-      | inr ne ↦
-          let test : (x == 10) ≡ false = ne_eqb x 10 ne in
-          let p = cut_after (line ++ x ∷ []) bytes (push_piece line x plain ne) in
-          rw test (record {
-            joined = sym (append_assoc line (x ∷ []) bytes) ∙ p.joined;
-            lines = p.lines;
-            last = p.last;
-          })
-    ]
+plain_last : (part : List ℕ) (parts : List (List ℕ)) → AllByRecursion IsPiece (part ∷ parts) → IsPiece (last_part (part ∷ parts))
+plain_last part [] plain = plain.0
+plain_last part (next ∷ parts) plain = plain_last next parts plain.1
 
-pub only_lines : (cut : List (List ℕ)) (rest : List ℕ) → AllByRecursion IsPiece cut → IsPiece rest → ended_lines (joined_of cut rest) ≡ cut
-only_lines [] rest plain last = ended_after-piece [] rest last
-only_lines (line ∷ cut) rest plain last =
+cut_into : (bytes : List ℕ) (parts : List (List ℕ)) → 0 < length parts → join_with_byte 10 parts ≡ bytes → AllByRecursion IsPiece parts → IsCut bytes (but_last parts) (last_part parts)
+cut_into bytes [] some joined plain = absurd (omega arith)
+cut_into bytes (part ∷ parts) some joined plain = record { joined = sym joined ∙ joined_parts part parts; lines = plain_ended part parts plain; last = plain_last part parts plain }
+
+pub lines_are : (bytes : List ℕ) → IsCut bytes (ended_lines bytes) (rest_of bytes)
+lines_are bytes = cut_into bytes (pieces bytes) (some_pieces bytes) (join_with_byte-slice_split 10 bytes) (plain_parts 10 bytes)
+
+pieces_of : (cut : List (List ℕ)) (rest : List ℕ) → AllByRecursion IsPiece cut → IsPiece rest → pieces (joined_of cut rest) ≡ cut ++ rest ∷ []
+pieces_of [] rest plain last = slice_split_none (λ x. x == 10) rest (no_newline rest last)
+pieces_of (line ∷ cut) rest plain last =
     let step : joined_of (line ∷ cut) rest ≡ line ++ 10 ∷ joined_of cut rest = simp append_assoc in
-    ap ended_lines step ∙ ended_after-line [] line (joined_of cut rest) plain.0 ∙ ap (λ l. line ∷ l) (only_lines cut rest plain.1 last)
+    ap pieces step ∙ slice_split_at (λ x. x == 10) line 10 (joined_of cut rest) (no_newline line plain.0) refl ∙ ap (λ l. line ∷ l) (pieces_of cut rest plain.1 last)
 
-pub only_rest : (cut : List (List ℕ)) (rest : List ℕ) → AllByRecursion IsPiece cut → IsPiece rest → rest_of (joined_of cut rest) ≡ rest
-only_rest [] rest plain last = rest_after-piece [] rest last
-only_rest (line ∷ cut) rest plain last =
-    let step : joined_of (line ∷ cut) rest ≡ line ++ 10 ∷ joined_of cut rest = simp append_assoc in
-    ap rest_of step ∙ rest_after-line [] line (joined_of cut rest) plain.0 ∙ only_rest cut rest plain.1 last
+before_end : (cut : List (List ℕ)) (rest : List ℕ) → but_last (cut ++ rest ∷ []) ≡ cut
+before_end [] rest = refl
+before_end (line ∷ []) rest = refl
+before_end (line ∷ next ∷ cut) rest = ap (λ l. line ∷ l) (before_end (next ∷ cut) rest)
+
+at_end : (cut : List (List ℕ)) (rest : List ℕ) → last_part (cut ++ rest ∷ []) ≡ rest
+at_end [] rest = refl
+at_end (line ∷ []) rest = refl
+at_end (line ∷ next ∷ cut) rest = at_end (next ∷ cut) rest
+
+pub only_lines : (bytes : List ℕ) (cut : List (List ℕ)) (rest : List ℕ) → IsCut bytes cut rest → cut ≡ ended_lines bytes
+only_lines bytes cut rest p = sym (ap ended_lines p.joined ∙ ap but_last (pieces_of cut rest p.lines p.last) ∙ before_end cut rest)
+
+pub only_rest : (bytes : List ℕ) (cut : List (List ℕ)) (rest : List ℕ) → IsCut bytes cut rest → rest ≡ rest_of bytes
+only_rest bytes cut rest p = sym (ap rest_of p.joined ∙ ap last_part (pieces_of cut rest p.lines p.last) ∙ at_end cut rest)

@@ -12,23 +12,13 @@ use Rattle.caltool_form.specs.Words.{words, IsWord, AreWords}
 use Rattle.caltool_form.specs.Numbers.{value_of, natural_of, number_of, signed, to_i64, AreDigits, WritesNumber}
 use Rattle.caltool_form.specs.Grammar.{numbers_of, arguments_from, arguments_of, WritesNumbers, IsCommandLine}
 use Rattle.caltool_form.proofs.Splits.{NotSpace, no_space}
+use Rattle.caltool_form.proofs.Parts.{plain_parts}
 use Rattle.caltool_form.proofs.Types.{i64_read, i64_written}
 
 -- words
 
-plain_onto : (x : ℕ) (parts : List (List ℕ)) → x ≢ 32 → AllByRecursion IsWord parts → AllByRecursion IsWord (onto_first x parts)
-plain_onto x [] ne h = (All-cons NotSpace x [] ne (All-nil NotSpace), tt)
-plain_onto x (part ∷ parts) ne h = (All-cons NotSpace x part ne h.0, h.1)
-
-plain_words : (line : List ℕ) → AllByRecursion IsWord (words line)
-plain_words [] = (All-nil NotSpace, tt)
-plain_words (x ∷ xs) = elim (cases_eq x 32) as (λ _. AllByRecursion IsWord (words (x ∷ xs))) [
-  | inl is ↦ rw (eq-eqb x 32 is) (All-nil NotSpace, plain_words xs)
-  | inr ne ↦ rw (ne_eqb x 32 ne) (plain_onto x (words xs) ne (plain_words xs))
-]
-
 pub words_are : (line : List ℕ) → AreWords line (words line)
-words_are line = record { some = omega (arith, length-slice_split (λ x. x == 32) line); joined = join_with_byte-slice_split 32 line; plain = plain_words line }
+words_are line = record { some = omega (arith, length-slice_split (λ x. x == 32) line); joined = join_with_byte-slice_split 32 line; plain = plain_parts 32 line }
 
 words_of_joined : (parts : List (List ℕ)) → 0 < length parts → AllByRecursion IsWord parts → words (join_with_byte 32 parts) ≡ parts
 words_of_joined [] some plain = absurd (omega arith)

@@ -1,5 +1,6 @@
 pub mod Splits
 pub mod Values
+pub mod Parts
 pub mod Types
 pub mod Reading
 pub mod Weekdays

@@ -1,15 +1,15 @@
--- Laws of `take`, and of lines that come in pieces.
-use Rattle.std.proofs.Common.{◌≡◌, ◌≢◌, ◌==◌, ℕ, zero, suc, ◌+◌, ◌-◌, ◌<◌, ◌≤◌, min, true, false, cond, inl, inr, List, [], ◌∷◌, ◌++◌, length, take, drop, set, length-append, refl, ap, sym, ◌∙◌, arith, append_assoc, append-nil, take-append-drop, subst, Option, codes, Result, Ok, Err, OnOk, OnErr, IsErrOf}
-use Rattle.std.specs.List.{AllByRecursion}
+-- Lines that come in pieces, and writers that hold a beginning of a text.
+use Rattle.std.proofs.Common.{◌≡◌, ◌≢◌, ◌==◌, ℕ, zero, suc, ◌+◌, ◌-◌, ◌<◌, ◌≤◌, All, min, true, false, inl, inr, List, [], ◌∷◌, ◌++◌, length, take, drop, set, length-append, refl, ap, sym, ◌∙◌, arith, append_assoc, take-append-drop, subst, Option, codes, Result, Ok, Err, OnErr, IsErrOf}
+use Rattle.std.specs.List.{slice_split, onto_first}
 use Rattle.std.specs.Option.{option_map_or}
-use Rattle.std.proofs.lemmas.Bool.Decides.{nat_tests}
-use Rattle.std.proofs.lemmas.Bool.{cases_lt, lt-ltb, cond-true}
+use Rattle.std.proofs.lemmas.Bool.{cases_lt, cases_eq, eq-eqb, ne_eqb, lt-ltb, cond-true}
 use Rattle.std.proofs.lemmas.List.{take_min, take_all, take_at, take_rest, take-append-le, length-take, take_more_set}
+use Rattle.std.proofs.lemmas.List.Splits.{slice_split_none, slice_split_at, slice_split-cons_yes, slice_split-cons_no, length-slice_split}
+use Rattle.std.proofs.lemmas.Grind.{flat_map-append}
 use Rattle.std.proofs.Math.Seq.{take-append-add}
 use Rattle.std.proofs.KnownBytes.{Appends-trans, Appends-kept}
 use Rattle.std.specs.Io.KnownBytes.{Appends, Keeps}
-use Rattle.std.proofs.lemmas.List.Elements.{recursion_from_All}
-use Rattle.caltool_form.specs.Lines.{ended_after, rest_after, last_line, IsPiece}
+use Rattle.caltool_form.specs.Lines.{pieces, but_last, last_part, ended_lines, rest_of, onto_front, pieces_after, last_line, IsPiece}
 use Rattle.caltool_form.specs.Answers.{answers_of, answer_of}
 use Rattle.caltool_form.specs.Commands.{is_long, command_of}
 use Rattle.caltool_form.specs.declared.command.Command.{Command}
@@ -29,56 +29,98 @@ kept_more bytes line more len taken kept whole within is =
     let tail : take taken more ≡ take (121 - length line) more = ap (λ n. take n more) room ∙ take_min (121 - length line) more in
     ap (λ l. l ++ take taken more) kept ∙ ap (λ l. take 121 line ++ l) tail ∙ sym (take-append 121 line more)
 
--- what the lines of two pieces are
-pub ended_after-append : (line xs ys : List ℕ) → ended_after line (xs ++ ys) ≡ ended_after line xs ++ ended_after (rest_after line xs) ys
-ended_after-append line [] ys = refl
-ended_after-append line (x ∷ xs) ys =
-    elim (x == 10) as (λ b. cond b (line ∷ ended_after [] (xs ++ ys)) (ended_after (line ++ x ∷ []) (xs ++ ys))
-    ≡ cond b (line ∷ ended_after [] xs) (ended_after (line ++ x ∷ []) xs) ++ ended_after (cond b (rest_after [] xs) (rest_after (line ++ x ∷ []) xs)) ys) [
-      | true ↦ ap (λ l. line ∷ l) (ended_after-append [] xs ys)
-      | false ↦ ended_after-append (line ++ x ∷ []) xs ys
-    ]
+-- what stands behind the first part
 
-pub rest_after-append : (line xs ys : List ℕ) → rest_after line (xs ++ ys) ≡ rest_after (rest_after line xs) ys
-rest_after-append line [] ys = refl
-rest_after-append line (x ∷ xs) ys =
-    elim (x == 10) as (λ b. cond b (rest_after [] (xs ++ ys)) (rest_after (line ++ x ∷ []) (xs ++ ys))
-    ≡ rest_after (cond b (rest_after [] xs) (rest_after (line ++ x ∷ []) xs)) ys) [
-      | true ↦ rest_after-append [] xs ys
-      | false ↦ rest_after-append (line ++ x ∷ []) xs ys
-    ]
+cons-but_last : (part : List ℕ) (parts : List (List ℕ)) → 0 < length parts → but_last (part ∷ parts) ≡ part ∷ but_last parts
+cons-but_last part [] some = absurd (omega arith)
+cons-but_last part (next ∷ parts) some = refl
 
-not_newline : (x : ℕ) → x ≢ 10 → (x == 10) ≡ false
-not_newline x h = grind (arith, nat_tests)
+cons-last_part : (part : List ℕ) (parts : List (List ℕ)) → 0 < length parts → last_part (part ∷ parts) ≡ last_part parts
+cons-last_part part [] some = absurd (omega arith)
+cons-last_part part (next ∷ parts) some = refl
+
+pub some_pieces : (bytes : List ℕ) → 0 < length (pieces bytes)
+some_pieces bytes = omega (arith, length-slice_split (λ x. x == 10) bytes)
+
+pub no_newline : (xs : List ℕ) → IsPiece xs → All (λ x. (x == 10) ≡ false) xs
+no_newline xs plain k e m = ne_eqb _ 10 (plain k e m)
+
+onto_nothing : (parts : List (List ℕ)) → 0 < length parts → onto_front [] parts ≡ parts
+onto_nothing [] some = absurd (omega arith)
+onto_nothing (part ∷ parts) some = refl
+
+pub pieces_after-nothing : (bytes : List ℕ) → pieces_after [] bytes ≡ pieces bytes
+pieces_after-nothing bytes = onto_nothing (pieces bytes) (some_pieces bytes)
 
 -- bytes without a newline end no line
-ended_in_piece : (line xs : List ℕ) → AllByRecursion (λ x. x ≢ 10) xs → ended_after line xs ≡ []
-ended_in_piece line [] h = refl
-ended_in_piece line (x ∷ xs) h = rw (not_newline x h.0) (ended_in_piece (line ++ x ∷ []) xs h.1)
-
-rest_in_piece : (line xs : List ℕ) → AllByRecursion (λ x. x ≢ 10) xs → rest_after line xs ≡ line ++ xs
-rest_in_piece line [] h = sym (append-nil line)
-rest_in_piece line (x ∷ xs) h = rw (not_newline x h.0) (rest_in_piece (line ++ x ∷ []) xs h.1 ∙ append_assoc line (x ∷ []) xs)
-
-pub ended_after-piece : (line xs : List ℕ) → IsPiece xs → ended_after line xs ≡ []
-ended_after-piece line xs h = ended_in_piece line xs (recursion_from_All _ xs h)
-
-pub rest_after-piece : (line xs : List ℕ) → IsPiece xs → rest_after line xs ≡ line ++ xs
-rest_after-piece line xs h = rest_in_piece line xs (recursion_from_All _ xs h)
+pub pieces_after-piece : (line xs : List ℕ) → IsPiece xs → pieces_after line xs ≡ (line ++ xs) ∷ []
+pieces_after-piece line xs plain = ap (onto_front line) (slice_split_none (λ x. x == 10) xs (no_newline xs plain))
 
 -- a line ends at the first newline
-pub ended_after-line : (line xs ys : List ℕ) → IsPiece xs → ended_after line (xs ++ 10 ∷ ys) ≡ (line ++ xs) ∷ ended_after [] ys
-ended_after-line line xs ys h =
-    ended_after-append line xs (10 ∷ ys) ∙ ap (λ l. l ++ rest_after line xs ∷ ended_after [] ys) (ended_after-piece line xs h)
-    ∙ ap (λ l. l ∷ ended_after [] ys) (rest_after-piece line xs h)
+pieces_after-line : (line xs ys : List ℕ) → IsPiece xs → pieces_after line (xs ++ 10 ∷ ys) ≡ (line ++ xs) ∷ pieces ys
+pieces_after-line line xs ys plain = ap (onto_front line) (slice_split_at (λ x. x == 10) xs 10 ys (no_newline xs plain) refl)
 
-pub rest_after-line : (line xs ys : List ℕ) → IsPiece xs → rest_after line (xs ++ 10 ∷ ys) ≡ rest_after [] ys
-rest_after-line line xs ys h = rest_after-append line xs (10 ∷ ys)
+pub but_last-line : (line xs ys : List ℕ) → IsPiece xs → but_last (pieces_after line (xs ++ 10 ∷ ys)) ≡ (line ++ xs) ∷ but_last (pieces_after [] ys)
+but_last-line line xs ys plain =
+    ap but_last (pieces_after-line line xs ys plain) ∙ cons-but_last (line ++ xs) (pieces ys) (some_pieces ys) ∙ ap (λ l. (line ++ xs) ∷ but_last l) (sym (pieces_after-nothing ys))
 
--- what is done grows from what is left
-pub moves_front : (all done rest : List ℕ) (n : ℕ) → all ≡ done ++ rest → all ≡ (done ++ take n rest) ++ take (length rest - n) (drop n rest)
-moves_front all done rest n e =
-    e ∙ ap (λ l. done ++ l) (sym (take-append-drop n rest)) ∙ sym (append_assoc done (take n rest) (drop n rest)) ∙ ap (λ l. (done ++ take n rest) ++ l) (sym (take_rest rest n))
+pub last_part-line : (line xs ys : List ℕ) → IsPiece xs → last_part (pieces_after line (xs ++ 10 ∷ ys)) ≡ last_part (pieces_after [] ys)
+last_part-line line xs ys plain =
+    ap last_part (pieces_after-line line xs ys plain) ∙ cons-last_part (line ++ xs) (pieces ys) (some_pieces ys) ∙ ap last_part (sym (pieces_after-nothing ys))
+
+-- the parts of two texts: those that end in the first, and those of the second behind what stands last
+
+onto_first-onto_front : (x : ℕ) (line : List ℕ) (parts : List (List ℕ)) → onto_first x (onto_front line parts) ≡ onto_front (x ∷ line) parts
+onto_first-onto_front x line [] = refl
+onto_first-onto_front x line (part ∷ parts) = refl
+
+first_byte : (x : ℕ) (parts behind : List (List ℕ)) → 0 < length parts
+    → onto_first x (but_last parts ++ onto_front (last_part parts) behind) ≡ but_last (onto_first x parts) ++ onto_front (last_part (onto_first x parts)) behind
+first_byte x [] behind some = absurd (omega arith)
+first_byte x (part ∷ []) behind some = onto_first-onto_front x part behind
+first_byte x (part ∷ next ∷ parts) behind some = refl
+
+pieces-append : (xs ys : List ℕ) → pieces (xs ++ ys) ≡ ended_lines xs ++ pieces_after (rest_of xs) ys
+pieces-append [] ys = sym (pieces_after-nothing ys)
+pieces-append (x ∷ xs) ys =
+    let is_newline = λ (y : ℕ). y == 10 in
+    let behind = pieces ys in
+    elim (cases_eq x 10) as (λ _. pieces (x ∷ xs ++ ys) ≡ ended_lines (x ∷ xs) ++ pieces_after (rest_of (x ∷ xs)) ys) [
+      | inl is ↦
+          let test = eq-eqb x 10 is in
+          let here : pieces (x ∷ xs) ≡ [] ∷ pieces xs = slice_split-cons_yes is_newline x xs test in
+          let ends : ended_lines (x ∷ xs) ≡ [] ∷ ended_lines xs = ap but_last here ∙ cons-but_last [] (pieces xs) (some_pieces xs) in
+          let last : rest_of (x ∷ xs) ≡ rest_of xs = ap last_part here ∙ cons-last_part [] (pieces xs) (some_pieces xs) in
+          slice_split-cons_yes is_newline x (xs ++ ys) test ∙ ap (λ l. [] ∷ l) (pieces-append xs ys)
+          ∙ ap (λ l. l ++ onto_front (rest_of xs) behind) (sym ends) ∙ ap (λ l. ended_lines (x ∷ xs) ++ onto_front l behind) (sym last)
+      | inr ne ↦
+          let test = ne_eqb x 10 ne in
+          let here : pieces (x ∷ xs) ≡ onto_first x (pieces xs) = slice_split-cons_no is_newline x xs test in
+          slice_split-cons_no is_newline x (xs ++ ys) test ∙ ap (onto_first x) (pieces-append xs ys) ∙ first_byte x (pieces xs) behind (some_pieces xs)
+          ∙ ap (λ parts. but_last parts ++ onto_front (last_part parts) behind) (sym here)
+    ]
+
+but_last-append : (cut : List (List ℕ)) (line : List ℕ) (parts : List (List ℕ)) → but_last (cut ++ onto_front line parts) ≡ cut ++ but_last (onto_front line parts)
+but_last-append [] line parts = refl
+but_last-append (part ∷ cut) line parts =
+    cons-but_last part (cut ++ onto_front line parts) (some_behind cut line parts) ∙ ap (λ l. part ∷ l) (but_last-append cut line parts)
+  where
+    some_behind : (cut : List (List ℕ)) (line : List ℕ) (parts : List (List ℕ)) → 0 < length (cut ++ onto_front line parts)
+    some_behind [] line [] = omega arith
+    some_behind [] line (part ∷ parts) = omega arith
+    some_behind (part ∷ cut) line parts = omega arith
+
+last_part-append : (cut : List (List ℕ)) (line : List ℕ) (parts : List (List ℕ)) → last_part (cut ++ onto_front line parts) ≡ last_part (onto_front line parts)
+last_part-append [] line parts = refl
+last_part-append (part ∷ []) line [] = refl
+last_part-append (part ∷ []) line (next ∷ parts) = refl
+last_part-append (part ∷ next ∷ cut) line parts = last_part-append (next ∷ cut) line parts
+
+-- a beginning of what is left joins what is done
+pub n_more_done : (bytes done rest : List ℕ) (n : ℕ) → bytes ≡ done ++ rest → bytes ≡ (done ++ take n rest) ++ take (length rest - n) (drop n rest)
+n_more_done bytes done rest n split =
+    let back : take n rest ++ take (length rest - n) (drop n rest) ≡ rest = rw (take_rest rest n) (take-append-drop n rest) in
+    rw (append_assoc, back) split
 
 -- a writer that holds a beginning of the bytes, and then no more or some more of them
 pub begun : (a b c : Option (List ℕ)) (bytes done rest : List ℕ) → bytes ≡ done ++ rest → Appends a b done → Keeps b c → (n : ℕ) × Appends a c (take n bytes)
@@ -107,23 +149,6 @@ begun_within a b c all done front more e h (n, k) =
     let same : take (min n (length front)) (front ++ more) ≡ take n front = take-append-le (min n (length front)) front more (omega arith) ∙ take_min n front in
     begun_more a b c all done (front ++ more) (min n (length front)) e h (subst (Appends b c) (sym same) k)
 
--- a fact for one variant, at any result
-pub on_ok : {E T : Type 0} (r : Result T E) (P Q : Type 0) → (P → Q) → OnOk r P → OnOk r Q
-on_ok (Ok x) P Q f h = f h
-on_ok (Err e) P Q f h = h
-
-pub on_err : {E T : Type 0} (r : Result T E) (P Q : Type 0) → (P → Q) → OnErr r P → OnErr r Q
-on_err (Ok x) P Q f h = h
-on_err (Err e) P Q f h = f h
-
-pub on_err_any : {E T : Type 0} (r : Result T E) (P : Type 0) → P → OnErr r P
-on_err_any (Ok x) P p = tt
-on_err_any (Err e) P p = p
-
-pub from_err_of : {E T : Type 0} (r : Result T E) (e : E) (P : Type 0) → IsErrOf r e → OnErr r P → P
-from_err_of (Ok x) e P h p = let no : ⊥ = cc in absurd no
-from_err_of (Err x) e P h p = p
-
 -- a text and one byte more, written past the first bytes
 pub put_text : (bytes ys post : List ℕ) (len n y : ℕ) → len ≤ length bytes → n < length ys
     → take (len + n + 1) (set (take len bytes ++ (ys ++ post)) (len + n) y) ≡ take len bytes ++ take n ys ++ y ∷ []
@@ -136,6 +161,15 @@ put_text bytes ys post len n y fits room =
     take_more_set (front ++ (ys ++ post)) (len + n) y (omega arith)
     ∙ ap (λ l. l ++ y ∷ []) (at ∙ ap (λ l. front ++ l) (take-append-le n ys post (omega arith)))
 
+-- a fact of any error
+pub on_err_any : {E T : Type 0} (r : Result T E) (P : Type 0) → P → OnErr r P
+on_err_any (Ok x) P p = tt
+on_err_any (Err e) P p = p
+
+pub from_err_of : {E T : Type 0} (r : Result T E) (e : E) (P : Type 0) → IsErrOf r e → OnErr r P → P
+from_err_of (Ok x) e P h p = let no : ⊥ = cc in absurd no
+from_err_of (Err x) e P h p = p
+
 -- two lines that are kept alike answer alike, however they go on
 pub same_more : (a b more : List ℕ) → take 121 a ≡ take 121 b → take 121 (a ++ more) ≡ take 121 (b ++ more)
 same_more a b more h =
@@ -147,15 +181,22 @@ module _ (answer_to : Command → List ℕ) where
   same_answer : (a b : List ℕ) → take 121 a ≡ take 121 b → answer_of answer_to a ≡ answer_of answer_to b
   same_answer a b h = sym (clipped answer_to a) ∙ ap (answer_of answer_to) h ∙ clipped answer_to b
 
-  pub same_ended : (a b bytes : List ℕ) → take 121 a ≡ take 121 b
-      → answers_of (answer_of answer_to) (ended_after a bytes) ≡ answers_of (answer_of answer_to) (ended_after b bytes)
+  same_ended : (a b : List ℕ) (parts : List (List ℕ)) → take 121 a ≡ take 121 b
+      → answers_of (answer_of answer_to) (but_last (onto_front a parts)) ≡ answers_of (answer_of answer_to) (but_last (onto_front b parts))
   same_ended a b [] h = refl
-  same_ended a b (x ∷ bytes) h =
-      elim (x == 10) as (λ t. answers_of (answer_of answer_to) (cond t (a ∷ ended_after [] bytes) (ended_after (a ++ x ∷ []) bytes))
-      ≡ answers_of (answer_of answer_to) (cond t (b ∷ ended_after [] bytes) (ended_after (b ++ x ∷ []) bytes))) [
-        | true ↦ ap (λ l. (l ++ 10 ∷ []) ++ answers_of (answer_of answer_to) (ended_after [] bytes)) (same_answer a b h)
-        | false ↦ same_ended (a ++ x ∷ []) (b ++ x ∷ []) bytes (same_more a b (x ∷ []) h)
-      ]
+  same_ended a b (part ∷ []) h = refl
+  same_ended a b (part ∷ next ∷ parts) h =
+      ap (λ l. (l ++ 10 ∷ []) ++ answers_of (answer_of answer_to) (but_last (next ∷ parts))) (same_answer (a ++ part) (b ++ part) (same_more a b part h))
+
+  -- the answers of two texts, where the last line of the first is kept
+  pub ended_more : (kept bytes more : List ℕ) → take 121 kept ≡ take 121 (rest_of bytes)
+      → answers_of (answer_of answer_to) (ended_lines (bytes ++ more))
+      ≡ answers_of (answer_of answer_to) (ended_lines bytes) ++ answers_of (answer_of answer_to) (but_last (pieces_after kept more))
+  ended_more kept bytes more h =
+      ap (λ parts. answers_of (answer_of answer_to) (but_last parts)) (pieces-append bytes more)
+      ∙ ap (answers_of (answer_of answer_to)) (but_last-append (ended_lines bytes) (rest_of bytes) (pieces more))
+      ∙ flat_map-append _ (ended_lines bytes) (but_last (pieces_after (rest_of bytes) more))
+      ∙ ap (λ l. answers_of (answer_of answer_to) (ended_lines bytes) ++ l) (sym (same_ended kept (rest_of bytes) (pieces more) h))
 
   pub same_last : (a b : List ℕ) → take 121 a ≡ take 121 b
       → answers_of (answer_of answer_to) (last_line a) ≡ answers_of (answer_of answer_to) (last_line b)
@@ -164,11 +205,12 @@ module _ (answer_to : Command → List ℕ) where
   same_last (x ∷ a) [] h = let e : length (take 121 (x ∷ a)) ≡ 0 = ap length h in absurd (omega (arith, e, length-take 121 (x ∷ a)))
   same_last (x ∷ a) (y ∷ b) h = ap (λ l. (l ++ 10 ∷ []) ++ []) (same_answer (x ∷ a) (y ∷ b) h)
 
-pub same_rest : (a b bytes : List ℕ) → take 121 a ≡ take 121 b → take 121 (rest_after a bytes) ≡ take 121 (rest_after b bytes)
-same_rest a b [] h = h
-same_rest a b (x ∷ bytes) h =
-    elim (x == 10) as (λ t. take 121 (cond t (rest_after [] bytes) (rest_after (a ++ x ∷ []) bytes))
-    ≡ take 121 (cond t (rest_after [] bytes) (rest_after (b ++ x ∷ []) bytes))) [
-      | true ↦ refl
-      | false ↦ same_rest (a ++ x ∷ []) (b ++ x ∷ []) bytes (same_more a b (x ∷ []) h)
-    ]
+same_left : (a b : List ℕ) (parts : List (List ℕ)) → take 121 a ≡ take 121 b → take 121 (last_part (onto_front a parts)) ≡ take 121 (last_part (onto_front b parts))
+same_left a b [] h = h
+same_left a b (part ∷ []) h = same_more a b part h
+same_left a b (part ∷ next ∷ parts) h = refl
+
+pub rest_more : (kept bytes more : List ℕ) → take 121 kept ≡ take 121 (rest_of bytes) → take 121 (last_part (pieces_after kept more)) ≡ take 121 (rest_of (bytes ++ more))
+rest_more kept bytes more h =
+    same_left kept (rest_of bytes) (pieces more) h
+    ∙ ap (take 121) (sym (ap last_part (pieces-append bytes more) ∙ last_part-append (ended_lines bytes) (rest_of bytes) (pieces more)))

@@ -3,7 +3,7 @@ ghost use Rattle.std.specs.Prelude.{◌≡◌, ◌⊎◌, ◌+◌, ◌-◌, ◌^
 ghost use Rattle.std.specs.Io.KnownBytes.{Appends, ReadConsumes};
 ghost use Rattle.std.specs.Io.{ReadsAtMost};
 ghost use Rattle.caltool_form.specs.Answers.{answer_of, answers_of};
-ghost use Rattle.caltool_form.specs.Lines.{ended_after, rest_after, last_line};
+ghost use Rattle.caltool_form.specs.Lines.{but_last, last_part, pieces_after, last_line};
 ghost use Rattle.caltool_form.specs.Marks.{mark_of_read, mark_of_write, mark_of_flush};
 ghost use Rattle.caltool_form.specs.Runs.{AnsweredAll, AnsweredEnded, AnsweredPart};
 ghost use Rattle.caltool_form.specs.declared.watch.Mark.{Mark};
@@ -107,11 +107,11 @@ fn answer_piece<A: CommandAnswers, W: Write>(
     requires writer { w.old.mark ≡ Mark.Open }
     ensures same { w.new.inner.ghost_name ≡ w.old.inner.ghost_name }
     ensures ok { OnOk result (Appends (W.contents w.old.inner.now) (W.contents w.new.inner.now)
-        (answers_of (answer_of A.answer_to) (ended_after carried.old piece.now))) }
-    ensures carries { OnOk result (carried.new ≡ take 121 (rest_after carried.old piece.now)) }
+        (answers_of (answer_of A.answer_to) (but_last (pieces_after carried.old piece.now)))) }
+    ensures carries { OnOk result (carried.new ≡ take 121 (last_part (pieces_after carried.old piece.now))) }
     ensures nothing { OnOk result (out.new ≡ []) }
     ensures err { OnErr result ((n : ℕ) × Appends (W.contents w.old.inner.now) (W.contents w.new.inner.now)
-        (take n (answers_of (answer_of A.answer_to) (ended_after carried.old piece.now)))) }
+        (take n (answers_of (answer_of A.answer_to) (but_last (pieces_after carried.old piece.now))))) }
     ensures mark { w.new.mark ≡ mark_of_write result }
     ensures fault { IfErr result (λ e. e ≡ RunFault.Write) }
 {

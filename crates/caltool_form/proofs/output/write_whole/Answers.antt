@@ -1,6 +1,6 @@
 use Rattle.std.proofs.Common.{◌++◌, take, rules}
 use Rattle.std.proofs.KnownBytes.{Appends-trans}
-use Rattle.caltool_form.proofs.Pieces.{moves_front, begun, on_err_any}
+use Rattle.caltool_form.proofs.Pieces.{n_more_done, begun, on_err_any}
 use Rattle.caltool_form.proofs.output.write_whole.Goals as goal
 
 pub loop-rest-preserved : goal.loop-rest-preserved
@@ -9,7 +9,7 @@ loop-rest-preserved g c =
     let rest = c.loop-rest.rest.now in
     let n = c.in_ok-n.n in
     record {
-      split = (done ++ take n rest, moves_front _ done rest n split, Appends-trans _ _ _ _ _ appended c.in_ok-n.ensures.bytes);
+      split = (done ++ take n rest, n_more_done _ done rest n split, Appends-trans _ _ _ _ _ appended c.in_ok-n.ensures.bytes);
       writable = search rules;
       same = search rules;
     }

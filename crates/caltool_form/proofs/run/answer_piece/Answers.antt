@@ -1,5 +1,6 @@
 use Rattle.std.proofs.Common.{rules}
-use Rattle.caltool_form.proofs.Pieces.{on_ok, on_err, on_err_any}
+use Rattle.std.proofs.lemmas.Result.{on_ok_weaker, on_err_weaker}
+use Rattle.caltool_form.proofs.Pieces.{on_err_any}
 use Rattle.caltool_form.proofs.Progress.{progress_start, progress_more, progress_end, progress_fault, progress_left}
 use Rattle.caltool_form.proofs.run.answer_piece.Goals as goal
 
@@ -22,13 +23,13 @@ loop-line-preserved g c =
     }
 
 pub returns-clause-ok : goal.returns-clause-ok
-returns-clause-ok g c = on_ok c.send.result _ _ (λ wrote.
+returns-clause-ok g c = on_ok_weaker c.send.result (λ wrote.
     progress_end g.A.CommandAnswers.answer_to _ _ _ _ _ _ _ _ c.loop-line.invariant.answered c.in_default.ensures.none wrote) c.send.ensures.ok
 
 pub returns-clause-carries : goal.returns-clause-carries
-returns-clause-carries g c = on_ok c.send.result _ _ (λ wrote.
+returns-clause-carries g c = on_ok_weaker c.send.result (λ wrote.
     progress_left g.A.CommandAnswers.answer_to _ _ _ _ _ _ _ _ c.loop-line.invariant.answered c.in_default.ensures.none c.push.ensures) c.send.ensures.ok
 
 pub returns-clause-err : goal.returns-clause-err
-returns-clause-err g c = on_err c.send.result _ _ (λ part.
+returns-clause-err g c = on_err_weaker c.send.result (λ part.
     progress_fault g.A.CommandAnswers.answer_to _ _ _ _ _ _ _ _ c.loop-line.invariant.answered part) c.send.ensures.err

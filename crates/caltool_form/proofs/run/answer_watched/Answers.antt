@@ -1,11 +1,12 @@
 use Rattle.std.proofs.Common.{◌≡◌, ◌≤◌, ◌^◌, ◌-◌, take, ap, arith, rules, inl, inr, true, false}
 use Rattle.std.proofs.lemmas.Bool.{cases_lt}
-use Rattle.caltool_form.proofs.Pieces.{on_ok, from_err_of}
+use Rattle.std.proofs.lemmas.Result.{on_ok_weaker}
+use Rattle.caltool_form.proofs.Pieces.{from_err_of}
 use Rattle.caltool_form.proofs.Progress.{ran_more, ran_all, ran_part, ran_part_last}
 use Rattle.caltool_form.proofs.run.answer_watched.Goals as goal
 
 pub returns-then-n-eq0-clause-ok : goal.returns-then-n-eq0-clause-ok
-returns-then-n-eq0-clause-ok g c = on_ok c.finish.result _ _ (λ wrote.
+returns-then-n-eq0-clause-ok g c = on_ok_weaker c.finish.result (λ wrote.
     let read = c.in_ok-n.ensures.bytes in
     ran_all g.A.CommandAnswers.answer_to _ _ _ _ _ _ _ (take c.in_ok-n.n c.read_piece.new.piece) c.loop-piece.invariant.ran read.0 (ap (λ n. take n c.read_piece.new.piece) c.if-n-eq0.true)
     (read.1 c.if-n-eq0.true (omega arith)) wrote) c.finish.ensures.ok
