@@ -1,3 +1,2 @@
 pub mod ReachLemmas
 pub mod DifferenceLemmas
-pub mod Ends

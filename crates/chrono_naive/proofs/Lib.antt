@@ -2,4 +2,3 @@ pub use Rattle.chrono_calendar.proofs.NamedDates
 mod DayMoves
 mod DateListLemmas
 pub mod DateTextLemmas
-pub mod Ends

@@ -1,5 +1,0 @@
-use Rattle.chrono_naive.proofs.Ends.{ends}
-use Rattle.chrono_vectors.proofs.naive_date.first.Goals as goal
-
-pub invariant_of-result : goal.invariant_of-result
-invariant_of-result c = search ends
