@@ -43,9 +43,12 @@ impl Numbers {
     {
         self.clear();
         let mut rest = text;
+        // The first is a year in most commands.
+        let mut likely_short = false;
         while !rest.is_empty() {
-            let (number, after) = next_number(&rest[1..])?;
+            let (number, after) = next_number(&rest[1..], likely_short)?;
             self.push(number);
+            likely_short = true;
             rest = after;
         }
         Some(())

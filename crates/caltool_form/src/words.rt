@@ -36,19 +36,21 @@ fn word_len(line: &[u8]) -> usize
     line.len()
 }
 
-// The number that the first word writes, if it fits an `i64`, and what follows that word. It is tried as
-// one of one digit or two first.
+// The number that the first word writes, if it fits an `i64`, and what follows that word. One that is likely
+// to have one digit or two is tried as such first.
 #[inline(always)]
-pub(crate) fn next_number(text: &[u8]) -> Option<(i64, &[u8])>
+pub(crate) fn next_number(text: &[u8], likely_short: bool) -> Option<(i64, &[u8])>
     ensures some { IfSome result (λ read. numbers_of (words text.now) ≡ option_map (λ numbers. read.0 ∷ numbers) (numbers_behind read.1.now)) }
     ensures none { IfNone result (numbers_of (words text.now) ≡ None) }
     ensures space { IfSome result (λ read. EndsWord read.1.now) }
     ensures shorter { IfSome result (λ read. length read.1.now < length text.now) }
 {
-    match short_number(text) {
-        Some((number, rest)) => Some((i64::from(number), rest)),
-        None => long_number(text),
+    if likely_short {
+        if let Some((number, rest)) = short_number(text) {
+            return Some((i64::from(number), rest));
+        }
     }
+    long_number(text)
 }
 
 // The number that the first word writes, if it has one digit or two, and what follows that word.

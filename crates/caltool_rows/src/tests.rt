@@ -3,7 +3,7 @@ use crate::{Asker, Counter, Pieces, Sink};
 use caltool_dates::{RunFault, answer_line, run};
 use std::alloc::{AllocError, Global};
 use std::cell::Cell;
-use std::io::ErrorKind;
+use std::io::{ErrorKind, Read};
 use std::test::Fail;
 
 // Lines and their answers.
@@ -287,6 +287,17 @@ fn each_line_is_answered_before_the_next_read(rt: HostRuntime) -> Result<(), Fai
         assert_eq!(rt; answered.get(), ROWS.len());
     }
     Ok(())
+}
+
+#[test]
+fn a_read_before_the_answer_is_seen(rt: HostRuntime) {
+    let answered = Cell::new(0usize);
+    let mut reader = Asker::new(b"day 1\nday 2\n", 6, &answered);
+    let mut piece = [0u8; 6];
+    assert!(rt; reader.read(&mut piece).is_ok());
+    assert!(rt; !reader.is_early());
+    assert!(rt; reader.read(&mut piece).is_ok());
+    assert!(rt; reader.is_early());
 }
 
 #[test]
