@@ -20,7 +20,7 @@ use chrono_units::Weekday;
 use std::marker::Model;
 
 // The form in which every date is stored.
-type Form = chrono_stored::PackedForm;
+type Form = chrono_stored::CountedForm;
 
 // The day number of 1 January 1970.
 const UNIX_EPOCH_DAY: i32 = 719_163;

@@ -1,5 +1,8 @@
 //! Each call of [`DayForm`] and each function of [`forms`] over both stored forms, on the same inputs.
 
+ghost use Rattle.std.specs.Prelude.{◌≡◌, ◌+◌, if◌then◌else◌};
+ghost use Rattle.chrono_calendar.specs.Days.{is_date};
+
 use chrono_calendar::{DayForm, Steps, forms};
 use chrono_stored::{CountedForm, PackedForm};
 
@@ -191,4 +194,30 @@ fn moves_are_made_alike(rt: HostRuntime) {
             }
         }
     }
+}
+
+// A move over the counted form, which takes one step however far it goes.
+fn moved_in_one_step(form: CountedForm, k: i64, steps: &mut Steps) -> Option<CountedForm>
+    ensures { steps.new ≡ steps.old + 1 }
+{
+    forms::move_days(form, k, steps)
+}
+
+// The packed form of a day number, which takes one step if there is one.
+fn packed_in_one_step(days: i32, steps: &mut Steps) -> Option<PackedForm>
+    ensures { steps.new ≡ steps.old + (if is_date days then 1 else 0) }
+{
+    PackedForm::from_day(days, steps)
+}
+
+#[test]
+fn steps_are_counted(rt: HostRuntime) {
+    let mut steps = Steps::new();
+    let last = CountedForm::max_value();
+    assert!(rt;
+        moved_in_one_step(last, -191_491_528, &mut steps) == Some(CountedForm::min_value())
+    );
+    assert!(rt; moved_in_one_step(last, 1, &mut steps).is_none());
+    assert!(rt; packed_in_one_step(95_745_399, &mut steps) == Some(PackedForm::max_value()));
+    assert!(rt; packed_in_one_step(95_745_400, &mut steps).is_none());
 }
