@@ -64,28 +64,27 @@ def make_repository(room):
     return libraries, [line.partition(":")[0] for line in own.splitlines() if line]
 
 
-def newest(folders):
-    """The time of the last change below the folders."""
-    return max(os.path.getmtime(f"{at}/{name}") for it in folders for at, _, names in os.walk(it) for name in names)
+def time_of(folders, choose):
+    """The first or the last time of a change below the folders."""
+    return choose(os.path.getmtime(f"{at}/{name}") for it in folders for at, _, names in os.walk(it) for name in names)
 
 
 def take_proved(room, libraries):
-    """Takes over what is proved of the libraries here; whether all of it is there."""
+    """Takes over what is proved of the libraries here; whether all of it is there and of these sources."""
+    built = {it.name: it.is_built() for it in load_rt().rtlib.crates_below(TOP)}
     kept = [f"{TOP}/crates/{name}/out/rlib" for name in libraries]
-    stamped = [os.path.isfile(f"{it}/stamp") for it in kept]
     parts = [f"{TOP}/crates/{name}/{part}" for name in libraries for part in ("src", "specs", "proofs")]
+    is_kept = all(built[name] for name in libraries)
     # (what the gate leaves has no stamp, and serves only as a whole)
-    if not all(os.path.isdir(f"{it}/{name}.rlib") for it, name in zip(kept, libraries)):
-        return False
-    if not all(stamped) and (any(stamped) or min(os.path.getmtime(f"{it}/{name}.rlib") for it, name in zip(kept, libraries)) < newest(parts)):
+    is_left = not any(os.path.exists(f"{it}/stamp") for it in kept) and all(os.path.isdir(it) for it in kept)
+    if not is_kept and not (is_left and time_of(kept, min) > time_of(parts, max)):
         return False
     for name, it in zip(libraries, kept):
         shutil.copytree(it, f"{room}/crates/{name}/out/rlib")
-    if not any(stamped):
-        for crate in load_rt().rtlib.crates_below(room):
-            if crate.name in libraries:
-                with open(f"{crate.folder}/out/rlib/stamp", "w", encoding="utf-8") as it:
-                    it.write(crate.stamp())
+    for crate in load_rt().rtlib.crates_below(room) if is_left else []:
+        if crate.name in libraries:
+            with open(f"{crate.folder}/out/rlib/stamp", "w", encoding="utf-8") as it:
+                it.write(crate.stamp())
     return True
 
 

@@ -65,8 +65,8 @@ fn of_two(name: &str, own: NaiveDateTime, other: NaiveDateTime, answer: &str) ->
     })
 }
 
-// Whether the answer is all that a date-time tells of its time: whether it is past noon, the hour from 1 to 12, the second of
-// the day and the fraction.
+// Whether the answer is all that a date-time tells of its time: whether it is past noon, the hour from 1 to 12, the
+// second of the day and the fraction.
 fn is_time_of(answer: &str, own: NaiveDateTime) -> bool {
     let (is_past_noon, hour) = own.hour12();
     let second = i64::from(own.num_seconds_from_midnight());

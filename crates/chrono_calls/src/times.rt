@@ -85,7 +85,8 @@ fn of_two(name: &str, own: NaiveTime, other: NaiveTime, answer: &str) -> Option<
     })
 }
 
-// Whether the answer is the time of a move and the seconds of the whole days that it passes, and the operator's time the same.
+// Whether the answer is the time of a move and the seconds of the whole days that it passes, and the operator gives
+// the same time.
 fn is_move(answer: &str, (time, seconds): (NaiveTime, i64), moved: NaiveTime) -> bool {
     let second = i64::from(time.num_seconds_from_midnight());
     are(answer, &[second, i64::from(time.nanosecond()), seconds]) && time == moved
