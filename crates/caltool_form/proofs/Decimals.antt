@@ -1,5 +1,5 @@
 -- The text of a number: its last one, two, four or six digits, and those before them.
-use Rattle.std.proofs.Common.{◌≡◌, ℕ, ◌+◌, ◌/◌, ◌%◌, ◌^◌, ◌<◌, ◌≤◌, List, ◌++◌, length, ap, sym, ◌∙◌, append_assoc, length-append, arith}
+use Rattle.std.proofs.Common.{◌≡◌, ℕ, ◌+◌, ◌/◌, ◌%◌, ◌^◌, ◌<◌, ◌≤◌, List, [], ◌∷◌, ◌++◌, length, ap, sym, ◌∙◌, append_assoc, length-append, arith}
 use Rattle.std.proofs.lemmas.Fmt.{decimal_digit, decimal_step, length-decimal-le}
 use Rattle.std.specs.Fmt.{decimal}
 use Rattle.chrono_clock.specs.Text.{two_digits, all_digits}
@@ -16,10 +16,16 @@ length_pair n low high = ap length (decimal_pair n low high)
 
 pub decimal_more : (n : ℕ) → 100 ≤ n → n < 10 ^ 19 → decimal n ≡ decimal (n / 100) ++ two_digits (n % 100)
 decimal_more n low high =
-    let a : n / 10 / 10 ≡ n / 100 = omega arith in
-    let b : n / 10 % 10 ≡ n % 100 / 10 = omega arith in
-    let c : n % 10 ≡ n % 100 % 10 = omega arith in
-    rw (decimal_step n (omega arith) (omega arith), decimal_step (n / 10) (omega arith) (omega arith), append_assoc, a, b, ← c)
+    let tens : n / 10 % 10 ≡ n % 100 / 10 = omega arith in
+    let ones : n % 10 ≡ n % 100 % 10 = omega arith in
+    let front : n / 10 / 10 ≡ n / 100 = omega arith in
+    let last = (48 + n % 10) ∷ [] in
+    decimal_step n (omega arith) (omega arith)
+    ∙ ap (λ text. text ++ last) (decimal_step (n / 10) (omega arith) (omega arith))
+    ∙ append_assoc (decimal (n / 10 / 10)) ((48 + n / 10 % 10) ∷ []) last
+    ∙ ap (λ q. decimal q ++ (48 + n / 10 % 10) ∷ last) front
+    ∙ ap (λ d. decimal (n / 100) ++ (48 + d) ∷ last) tens
+    ∙ ap (λ d. decimal (n / 100) ++ (48 + n % 100 / 10) ∷ (48 + d) ∷ []) ones
 
 pub length_more : (n : ℕ) → 100 ≤ n → n < 10 ^ 19 → length (decimal n) ≡ length (decimal (n / 100)) + 2
 length_more n low high = ap length (decimal_more n low high) ∙ length-append (decimal (n / 100)) (two_digits (n % 100))

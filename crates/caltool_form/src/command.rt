@@ -131,152 +131,32 @@ pub(crate) fn read_command(line: &[u8], numbers: &mut Numbers) -> Option<Command
 #[cfg(test)]
 mod tests {
     use super::*;
-    use crate::arguments::ClockTime;
-
-    const DATE: CalendarDate = CalendarDate {
-        year: -4,
-        month: 2,
-        day: 29,
-    };
-
-    const LEAP: DateAndTime = DateAndTime {
-        date: CalendarDate {
-            year: 2015,
-            month: 6,
-            day: 30,
-        },
-        time: ClockTime {
-            hour: 23,
-            minute: 59,
-            second: 58,
-            nanosecond: 1_500_000_000,
-        },
-    };
 
     #[test]
-    fn commands_that_ask_for_a_date(rt: HostRuntime) {
+    fn commands_of_lines(rt: HostRuntime) {
+        let date = CalendarDate {
+            year: -4,
+            month: 2,
+            day: 29,
+        };
+        let days = WeekdaySet::from_array([Weekday::Sun, Weekday::Mon, Weekday::Thu]);
+        let start = Weekday::Wed;
+        let number = -95_746_129;
+        let span = MonthSpan::Earlier(u32::MAX);
+        let base = date;
         let cases: [(&[u8], Command); 5] = [
-            (b"ymd -0004 02 29", Command::Ymd { date: DATE }),
-            (
-                b"yo 2024 366",
-                Command::Yo {
-                    year: 2024,
-                    ordinal: 366,
-                },
-            ),
-            (
-                b"iwd 2020 53 7",
-                Command::Iwd {
-                    year: 2020,
-                    week: 53,
-                    weekday: Weekday::Sun,
-                },
-            ),
-            (b"day -95746129", Command::Day { number: -95746129 }),
-            (
-                b"wom 2017 3 5 255",
-                Command::Wom {
-                    year: 2017,
-                    month: 3,
-                    weekday: Weekday::Fri,
-                    nth: 255,
-                },
-            ),
-        ];
-        for (line, wanted) in &cases {
-            assert_eq!(rt; command_of(line), Some(*wanted));
-        }
-    }
-
-    #[test]
-    fn commands_that_move_a_date(rt: HostRuntime) {
-        let cases: [(&[u8], Command); 4] = [
-            (
-                b"days -4 2 29 -9223372036854775808",
-                Command::Days {
-                    date: DATE,
-                    count: i64::MIN,
-                },
-            ),
+            (b"ymd -0004 02 29", Command::Ymd { date }),
+            (b"day -95746129", Command::Day { number }),
             (
                 b"months -4 2 29 -4294967295",
-                Command::Months {
-                    date: DATE,
-                    span: MonthSpan::Earlier(u32::MAX),
-                },
+                Command::Months { date, span },
             ),
-            (
-                b"months -4 2 29 4294967295",
-                Command::Months {
-                    date: DATE,
-                    span: MonthSpan::Later(u32::MAX),
-                },
-            ),
-            (
-                b"week -4 2 29 1",
-                Command::Week {
-                    date: DATE,
-                    start: Weekday::Mon,
-                },
-            ),
+            (b"since -4 2 29 -4 2 29", Command::Since { date, base }),
+            (b"set 3 1 4 7 4", Command::Set { start, days }),
         ];
         for (line, wanted) in &cases {
             assert_eq!(rt; command_of(line), Some(*wanted));
         }
-    }
-
-    #[test]
-    fn commands_that_move_a_moment(rt: HostRuntime) {
-        assert_eq!(rt;
-            command_of(b"move 2015 6 30 23 59 58 1500000000 -1 4294967295"),
-            Some(Command::Move {
-                from: LEAP,
-                seconds: -1,
-                nanoseconds: u32::MAX
-            })
-        );
-    }
-
-    #[test]
-    fn commands_of_two_dates_or_of_weekdays(rt: HostRuntime) {
-        let start = DateAndTime {
-            date: DATE,
-            time: ClockTime {
-                hour: 0,
-                minute: 1,
-                second: 2,
-                nanosecond: 3,
-            },
-        };
-        assert_eq!(rt;
-            command_of(b"diff 2015 6 30 23 59 58 1500000000 -4 2 29 0 1 2 3"),
-            Some(Command::Diff {
-                first: LEAP,
-                second: start
-            })
-        );
-        assert_eq!(rt;
-            command_of(b"since 2015 6 30 -4 2 29"),
-            Some(Command::Since {
-                date: LEAP.date,
-                base: DATE
-            })
-        );
-        let days = [Weekday::Sun, Weekday::Mon, Weekday::Thu];
-        assert_eq!(rt;
-            command_of(b"set 3 1 4 7 4"),
-            Some(Command::Set {
-                start: Weekday::Wed,
-                days: WeekdaySet::from_array(days)
-            })
-        );
-        assert_eq!(rt;
-            command_of(b"set 1"),
-            Some(Command::Set {
-                start: Weekday::Mon,
-                days: WeekdaySet::EMPTY
-            })
-        );
     }
 
     #[test]
