@@ -1,13 +1,16 @@
 //! What a stored form of a date owes to its users.
-ghost use Rattle.std.specs.Prelude.{◌≡◌, ℕ, ℤ, false, ◌+◌, ◌≤◌};
+ghost use Rattle.std.specs.Prelude.{◌≡◌, ℕ, ℤ, false, pos, neg_ℤ, ◌+◌, ◌≤◌, ◌≤ℤ◌};
+ghost use Rattle.std.specs.Int.{IsInRange};
 ghost use Rattle.std.specs.Option.{option_map};
 ghost use Rattle.std.specs.Ordering.{int_cmp};
 ghost use Rattle.chrono_units.specs.Years.{is_leap_year, IsYear};
 ghost use Rattle.chrono_calendar.specs.Days.{IsDate, is_date, IsOrdinalName, IsCalendarName, date_of_day, date_of_yo, date_of_ymd, year_of, ordinal_of, month_of, day_of};
-ghost use Rattle.chrono_calendar.specs.Weeks.{weekday_of};
+ghost use Rattle.chrono_calendar.specs.Weeks.{iso_week_of, iso_year_of, weekday_of};
 
+use crate::forms::week_of_thursday;
 use crate::steps::Steps;
 use chrono_units::Weekday;
+use chrono_units::year::year_length;
 use std::hash::Hash;
 
 /// A stored form of a date. Its meaning is the date's day number, and each number has one form.
@@ -83,6 +86,32 @@ pub trait DayForm: Copy + Ord + Hash {
     /// Whether the year is a leap year.
     fn is_leap(&self) -> bool
         ensures { result ≡ is_leap_year (year_of (number self.now)) };
+
+    /// The ISO year and the week in it, from 1 to 53 (ISO 8601 week date), by one reading of the form.
+    #[inline]
+    fn iso_name(&self) -> (i32, u32)
+        ensures year { result.0 ≡ iso_year_of (number self.now) }
+        ensures week { result.1 ≡ iso_week_of (number self.now) }
+        ensures year_in_range { (neg_ℤ (pos 262_143) ≤ℤ result.0) × (result.0 ≤ℤ pos 262_143) }
+        ensures week_in_range { IsInRange 1 53 result.1 }
+    {
+        let (year, ordinal) = self.year_ordinal();
+        let place = ordinal + 3;
+        let from_monday = self.weekday().num_days_from_monday();
+        if place <= from_monday {
+            let thursday = place + year_length(year - 1) - from_monday;
+            return (year - 1, week_of_thursday(thursday));
+        }
+        let thursday = place - from_monday;
+        // Few Thursdays come past the first 365 days, so the leap rule is seldom asked.
+        if thursday <= 365 {
+            return (year, week_of_thursday(thursday));
+        }
+        if thursday > 365 + u32::from(self.is_leap()) {
+            return (year + 1, 1);
+        }
+        (year, week_of_thursday(thursday))
+    }
 
     /// The weekday.
     fn weekday(&self) -> Weekday

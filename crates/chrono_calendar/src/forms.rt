@@ -84,7 +84,7 @@ pub fn move_months<F: DayForm>(f: F, k: i64) -> Option<F>
 
 // The week of a Thursday, by its place in its year: a division by 7 as one product with 2^14 / 7, rounded up.
 #[inline]
-fn week_of_thursday(place: u32) -> u32
+pub(crate) fn week_of_thursday(place: u32) -> u32
     requires { IsInRange 1 366 place }
     ensures { result ≡ (place - 1) / 7 + 1 }
 {
@@ -101,22 +101,7 @@ pub fn iso_name<F: DayForm>(f: &F) -> (i32, u32)
     ensures year_in_range { (neg_ℤ (pos 262_143) ≤ℤ result.0) × (result.0 ≤ℤ pos 262_143) }
     ensures week_in_range { IsInRange 1 53 result.1 }
 {
-    let (year, ordinal) = f.year_ordinal();
-    let place = ordinal + 3;
-    let from_monday = f.weekday().num_days_from_monday();
-    if place <= from_monday {
-        let thursday = place + year_length(year - 1) - from_monday;
-        return (year - 1, week_of_thursday(thursday));
-    }
-    let thursday = place - from_monday;
-    // Few Thursdays come past the first 365 days, so the leap rule is seldom asked.
-    if thursday <= 365 {
-        return (year, week_of_thursday(thursday));
-    }
-    if thursday > 365 + u32::from(f.is_leap()) {
-        return (year + 1, 1);
-    }
-    (year, week_of_thursday(thursday))
+    f.iso_name()
 }
 
 // The weekday of the day before the year, from 0 for Sunday.

@@ -5,6 +5,7 @@ ghost use Rattle.chrono_units.specs.Years.{IsYear};
 ghost use Rattle.chrono_calendar.specs.Days.{IsOrdinalName, IsCalendarName, date_of_day, day_number_of_yo, day_number_of_ymd};
 
 use crate::conversion::{FIRST_DAY, LAST_DAY, days_before_day, days_before_year, year_and_ordinal};
+use crate::iso_week::iso_year_and_week;
 use crate::march::{day_number, year_month_day};
 use crate::weekdays::days_after_monday;
 use chrono_calendar::{DayForm, Steps};
@@ -188,6 +189,11 @@ impl DayForm for CountedForm {
     #[inline]
     fn is_leap(&self) -> bool {
         is_leap_year(self.year())
+    }
+
+    #[inline]
+    fn iso_name(&self) -> (i32, u32) {
+        iso_year_and_week(self.days)
     }
 
     #[inline]

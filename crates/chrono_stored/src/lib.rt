@@ -4,6 +4,7 @@
 
 mod conversion;
 mod counted;
+mod iso_week;
 mod march;
 mod month_day;
 mod packed;

@@ -8,17 +8,17 @@ use Rattle.chrono_calendar.proofs.Signed.{casts}
 use Rattle.chrono_calendar.proofs.Names.{year_length_bounds}
 use Rattle.chrono_calendar.proofs.NamedDates.{number-ordinal_name, IsDate-year}
 use Rattle.chrono_calendar.proofs.IsoWeeks.{has_iso_name, iso_name-before, iso_name-inside, iso_name-after, iso_year_of-range}
-use Rattle.chrono_calendar.proofs.forms.iso_name.Given.{Over}
-use Rattle.chrono_calendar.proofs.forms.iso_name.Goals as goal
+use Rattle.chrono_calendar.proofs.form.DayForm.iso_name.Given.{Over}
+use Rattle.chrono_calendar.proofs.form.DayForm.iso_name.Goals as goal
 
 -- the year as the code has it
 abbrev year_read : ℤ → ℤ
 year_read y = to_z w32 (of_z w32 y)
 
 -- in the week of a Thursday of the year before
-before : (g : Over) (c : goal.After-week_of_thursday g) → has_iso_name (g.F.DayForm.number c.args.f.now) (year_read (year_read c.year_ordinal-year.result.0 -ℤ pos 1)) (c.year_ordinal-year.result.1 + 3 + c.year_length.result - c.num_days_from_monday-from_monday.result)
+before : (g : Over) (c : goal.After-week_of_thursday g) → has_iso_name (g.Self.DayForm.number c.args.self.now) (year_read (year_read c.year_ordinal-year.result.0 -ℤ pos 1)) (c.year_ordinal-year.result.1 + 3 + c.year_length.result - c.num_days_from_monday-from_monday.result)
 before g c =
-    let n = g.F.DayForm.number c.args.f.now in
+    let n = g.Self.DayForm.number c.args.self.now in
     let monday = c.num_days_from_monday-from_monday.ensures ∙ ap days_from_monday c.weekday.ensures in
     let past : year_read (year_read c.year_ordinal-year.result.0 -ℤ pos 1) ≡ year_of n -ℤ pos 1 = omega (arith, casts, c.year_ordinal-year.ensures.year) in
     rw (c.year_ordinal-year.ensures.ordinal, c.year_length.ensures)
@@ -32,12 +32,12 @@ returns-then-place-from_monday-clause-week g c = c.week_of_thursday.ensures ∙ 
 
 pub returns-then-place-from_monday-clause-year_in_range : goal.returns-then-place-from_monday-clause-year_in_range
 returns-then-place-from_monday-clause-year_in_range g c =
-    rw (before g c).0 at (iso_year_of-range (g.F.DayForm.number c.args.f.now) (IsDate-year (g.F.DayForm.number c.args.f.now) c.year_ordinal-year.ensures.in_range))
+    rw (before g c).0 at (iso_year_of-range (g.Self.DayForm.number c.args.self.now) (IsDate-year (g.Self.DayForm.number c.args.self.now) c.year_ordinal-year.ensures.in_range))
 
 -- in the week of a Thursday of the same year, one of its first 365 days
-within : (g : Over) (c : goal.After-week_of_thursday-then-thursday-le365 g) → has_iso_name (g.F.DayForm.number c.args.f.now) (year_read c.year_ordinal-year.result.0) (c.year_ordinal-year.result.1 + 3 - c.num_days_from_monday-from_monday.result)
+within : (g : Over) (c : goal.After-week_of_thursday-then-thursday-le365 g) → has_iso_name (g.Self.DayForm.number c.args.self.now) (year_read c.year_ordinal-year.result.0) (c.year_ordinal-year.result.1 + 3 - c.num_days_from_monday-from_monday.result)
 within g c =
-    let n = g.F.DayForm.number c.args.f.now in
+    let n = g.Self.DayForm.number c.args.self.now in
     let monday = c.num_days_from_monday-from_monday.ensures ∙ ap days_from_monday c.weekday.ensures in
     let same : year_read c.year_ordinal-year.result.0 ≡ year_of n = omega (arith, casts, c.year_ordinal-year.ensures.year) in
     let long = year_length_bounds (year_of n) in
@@ -59,9 +59,9 @@ length : (y : ℤ) (b : Bool) (k : ℕ) → k ≡ bool_byte b → b ≡ is_leap_
 length y b k e f = ap (λ (i : ℕ). 365 + i) e ∙ leap_length b ∙ ap (λ (l : Bool). cond {A = ℕ} l 366 365) f
 
 -- in the first week of the year after
-after : (g : Over) (c : goal.Then-thursday-from g) → (iso_year_of (g.F.DayForm.number c.args.f.now) ≡ year_read (year_read c.year_ordinal-year.result.0 +ℤ pos 1)) × (iso_week_of (g.F.DayForm.number c.args.f.now) ≡ 1)
+after : (g : Over) (c : goal.Then-thursday-from g) → (iso_year_of (g.Self.DayForm.number c.args.self.now) ≡ year_read (year_read c.year_ordinal-year.result.0 +ℤ pos 1)) × (iso_week_of (g.Self.DayForm.number c.args.self.now) ≡ 1)
 after g c =
-    let n = g.F.DayForm.number c.args.f.now in
+    let n = g.Self.DayForm.number c.args.self.now in
     let monday = c.num_days_from_monday-from_monday.ensures ∙ ap days_from_monday c.weekday.ensures in
     let next : year_read (year_read c.year_ordinal-year.result.0 +ℤ pos 1) ≡ year_of n +ℤ pos 1 = omega (arith, casts, c.year_ordinal-year.ensures.year) in
     let days = length (year_of n) c.is_leap.result c.from.result c.from.ensures c.is_leap.ensures in
@@ -74,9 +74,9 @@ pub returns-then-thursday-from-clause-week : goal.returns-then-thursday-from-cla
 returns-then-thursday-from-clause-week g c = sym (after g c).1
 
 -- in the week of a Thursday of the same year
-inside : (g : Over) (c : goal.After-week_of_thursday-2 g) → has_iso_name (g.F.DayForm.number c.args.f.now) (year_read c.year_ordinal-year.result.0) (c.year_ordinal-year.result.1 + 3 - c.num_days_from_monday-from_monday.result)
+inside : (g : Over) (c : goal.After-week_of_thursday-2 g) → has_iso_name (g.Self.DayForm.number c.args.self.now) (year_read c.year_ordinal-year.result.0) (c.year_ordinal-year.result.1 + 3 - c.num_days_from_monday-from_monday.result)
 inside g c =
-    let n = g.F.DayForm.number c.args.f.now in
+    let n = g.Self.DayForm.number c.args.self.now in
     let monday = c.num_days_from_monday-from_monday.ensures ∙ ap days_from_monday c.weekday.ensures in
     let same : year_read c.year_ordinal-year.result.0 ≡ year_of n = omega (arith, casts, c.year_ordinal-year.ensures.year) in
     let days = length (year_of n) c.is_leap.result c.from.result c.from.ensures c.is_leap.ensures in
