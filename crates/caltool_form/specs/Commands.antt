@@ -21,10 +21,10 @@ None · a = None
 Some f · None = None
 Some f · Some a = Some (f a)
 
--- a single number, as a value of a type
-unfoldable pub only : {A : Type 0} → (ℤ → Option A) → List ℤ → Option A
-only to_type (number ∷ []) = to_type number
-only to_type _ = None
+-- a single number
+unfoldable pub only : List ℤ → Option ℤ
+only (number ∷ []) = Some number
+only _ = None
 
 -- a year, a month and a day
 unfoldable pub calendar_date : List ℤ → Option CalendarDate
@@ -58,18 +58,18 @@ unfoldable pub command_from : Name → List ℤ → Option Command
 command_from name.Ymd numbers = Some (λ date. Ymd date) · calendar_date numbers
 command_from name.Yo (year ∷ ordinal ∷ []) = Some (λ y o. Yo y o) · to_i32 year · to_u32 ordinal
 command_from name.Iwd (year ∷ week ∷ day ∷ []) = Some (λ y w d. Iwd y w d) · to_i32 year · to_u32 week · to_weekday day
-command_from name.Day numbers = Some (λ n. Day n) · only to_i32 numbers
+command_from name.Day numbers = Some (λ n. Day n) · option_and_then to_i32 (only numbers)
 command_from name.Wom (year ∷ month ∷ day ∷ nth ∷ []) =
     Some (λ y m d n. Wom y m d n) · to_i32 year · to_u32 month · to_weekday day · to_u8 nth
 command_from name.Days numbers =
-    Some (λ date count. Days date count) · calendar_date (take 3 numbers) · only to_i64 (drop 3 numbers)
+    Some (λ date count. Days date count) · calendar_date (take 3 numbers) · option_and_then to_i64 (only (drop 3 numbers))
 command_from name.Months numbers =
-    Some (λ date span. Months date span) · calendar_date (take 3 numbers) · only to_months (drop 3 numbers)
+    Some (λ date span. Months date span) · calendar_date (take 3 numbers) · option_and_then to_months (only (drop 3 numbers))
 command_from name.Week numbers =
-    Some (λ date start. Week date start) · calendar_date (take 3 numbers) · only to_weekday (drop 3 numbers)
+    Some (λ date start. Week date start) · calendar_date (take 3 numbers) · option_and_then to_weekday (only (drop 3 numbers))
 command_from name.Move numbers =
     Some (λ from seconds nanoseconds. Move from seconds nanoseconds)
-    · date_and_time (take 7 numbers) · only to_i64 (take 1 (drop 7 numbers)) · only to_u32 (drop 8 numbers)
+    · date_and_time (take 7 numbers) · option_and_then to_i64 (only (take 1 (drop 7 numbers))) · option_and_then to_u32 (only (drop 8 numbers))
 command_from name.Diff numbers =
     Some (λ first second. Diff first second) · date_and_time (take 7 numbers) · date_and_time (drop 7 numbers)
 command_from name.Since numbers =

@@ -1,13 +1,14 @@
 //! The commands that names and numbers ask for.
 ghost use Rattle.std.specs.Prelude.{◌≡◌, take, drop};
-ghost use Rattle.caltool_form.specs.Numbers.{to_i64, to_i32, to_u32, to_months, to_weekday};
+ghost use Rattle.std.specs.Option.{option_and_then};
+ghost use Rattle.caltool_form.specs.Numbers.{to_i64};
 ghost use Rattle.caltool_form.specs.Commands.{command_from, only, calendar_date, clock_time, date_and_time, weekday_set};
 
-use crate::arguments::{CalendarDate, ClockTime, DateAndTime, MonthSpan};
+use crate::arguments::{CalendarDate, ClockTime, DateAndTime};
 use crate::command::Command;
 use crate::name::Name;
 use crate::number::{to_i32, to_months, to_u8, to_u32, to_weekday};
-use chrono_units::{Weekday, WeekdaySet};
+use chrono_units::WeekdaySet;
 
 // The command of this name and these numbers, if they are as many as it takes and each fits its type.
 pub(crate) fn command_from(name: Name, numbers: &[i64]) -> Option<Command>
@@ -66,14 +67,11 @@ fn iwd(numbers: &[i64]) -> Option<Command>
     })
 }
 
-#[tactic(auto, unfolding(crate::specs::Commands::command_from, crate::specs::Commands::only))]
+#[tactic(auto, unfolding(crate::specs::Commands::command_from))]
 fn day(numbers: &[i64]) -> Option<Command>
     ensures { result ≡ command_from Name.Day numbers.now }
 {
-    let [number] = numbers else {
-        return None;
-    };
-    let number = to_i32(*number)?;
+    let number = to_i32(only(numbers)?)?;
     Some(Command::Day { number })
 }
 
@@ -112,7 +110,7 @@ fn months(numbers: &[i64]) -> Option<Command>
 {
     let (date, span) = cut(numbers, 3);
     let date = calendar_date(date)?;
-    let span = only_months(span)?;
+    let span = to_months(only(span)?)?;
     Some(Command::Months { date, span })
 }
 
@@ -122,7 +120,7 @@ fn week(numbers: &[i64]) -> Option<Command>
 {
     let (date, start) = cut(numbers, 3);
     let date = calendar_date(date)?;
-    let start = only_weekday(start)?;
+    let start = to_weekday(only(start)?)?;
     Some(Command::Week { date, start })
 }
 
@@ -134,7 +132,7 @@ fn moved(numbers: &[i64]) -> Option<Command>
     let (seconds, nanoseconds) = cut(by, 1);
     let from = date_and_time(from)?;
     let seconds = only_i64(seconds)?;
-    let nanoseconds = only_u32(nanoseconds)?;
+    let nanoseconds = to_u32(only(nanoseconds)?)?;
     Some(Command::Move {
         from,
         seconds,
@@ -224,9 +222,10 @@ fn date_and_time(numbers: &[i64]) -> Option<DateAndTime>
     Some(DateAndTime { date, time })
 }
 
-#[tactic(auto, unfolding(crate::specs::Commands::only), using(crate::proofs::Types::i64_written))]
-fn only_i64(numbers: &[i64]) -> Option<i64>
-    ensures { result ≡ only to_i64 numbers.now }
+// A single number.
+#[tactic(auto, unfolding(crate::specs::Commands::only))]
+fn only(numbers: &[i64]) -> Option<i64>
+    ensures { result ≡ only numbers.now }
 {
     let [number] = numbers else {
         return None;
@@ -234,34 +233,13 @@ fn only_i64(numbers: &[i64]) -> Option<i64>
     Some(*number)
 }
 
-#[tactic(auto, unfolding(crate::specs::Commands::only))]
-fn only_u32(numbers: &[i64]) -> Option<u32>
-    ensures { result ≡ only to_u32 numbers.now }
+// A single number, which fits an `i64` as all do.
+#[tactic(auto, using(crate::proofs::Types::i64_written))]
+fn only_i64(numbers: &[i64]) -> Option<i64>
+    ensures { result ≡ option_and_then to_i64 (only numbers.now) }
 {
-    let [number] = numbers else {
-        return None;
-    };
-    to_u32(*number)
-}
-
-#[tactic(auto, unfolding(crate::specs::Commands::only))]
-fn only_months(numbers: &[i64]) -> Option<MonthSpan>
-    ensures { result ≡ only to_months numbers.now }
-{
-    let [number] = numbers else {
-        return None;
-    };
-    to_months(*number)
-}
-
-#[tactic(auto, unfolding(crate::specs::Commands::only))]
-fn only_weekday(numbers: &[i64]) -> Option<Weekday>
-    ensures { result ≡ only to_weekday numbers.now }
-{
-    let [number] = numbers else {
-        return None;
-    };
-    to_weekday(*number)
+    let number = only(numbers)?;
+    Some(number)
 }
 
 // The set of these weekdays.
