@@ -40,7 +40,9 @@ pub(crate) fn month_day(leap: bool, ordinal: u32) -> (u32, u32)
 /// if such years have no such day. A day up to 28 is in every month.
 #[inline]
 pub(crate) fn ordinal_of_month_day(leap: bool, month: u32, day: u32) -> Option<u32>
-    ensures { SomeIff result (IsInRange 1 12 month × IsInRange 1 (month_length_in leap month) day) (days_of_months_in leap (month - 1) + day) }
+    ensures { SomeIff result
+        (IsInRange 1 12 month × IsInRange 1 (month_length_in leap month) day)
+        (days_of_months_in leap (month - 1) + day) }
 {
     if month < 1 || month > 12 {
         return None;

@@ -9,14 +9,14 @@ use Rattle.chrono_stored.proofs.DayNumbers.{ordinal_name-counted}
 use Rattle.chrono_stored.proofs.iso_week.iso_year_and_week.Goals as goal
 
 -- the year and the ordinal that are found name the Thursday
-thursday : (c : goal.After-year_after) → IsOrdinalName c.year_after.result (c.years_and_place-years.result.1 + 1) × (day_number_of_yo c.year_after.result (c.years_and_place-years.result.1 + 1) ≡ thursday_of_week c.args.days)
+thursday : (c : goal.After-weeks_in-2) → IsOrdinalName c.year_after.result (c.years_and_place-years.result.1 + 1) × (day_number_of_yo c.year_after.result (c.years_and_place-years.result.1 + 1) ≡ thursday_of_week c.args.days)
 thursday c =
-    let days = c.days_before_day.result / 7 * 7 + 3 in
+    let days = 7 * c.weeks_in.result + 3 in
     let start : pos days +ℤ pos 1 ≡ thursday_of_week c.args.days +ℤ pos 95_839_632 =
-    omega (arith, casts, c.days_before_day.ensures, thursday_of_week-monday c.args.days, days_from_monday-of c.args.days) in
+    omega (arith, casts, c.days_before_day.ensures, c.weeks_in.ensures, thursday_of_week-monday c.args.days, days_from_monday-of c.args.days) in
     ordinal_name-counted (thursday_of_week c.args.days) c.year_after.result days c.years_and_place-years.result.0 c.years_and_place-years.result.1 start c.year_after.ensures c.years_and_place-years.ensures.place c.years_and_place-years.ensures.in_year
 
-named : (c : goal.After-year_after) → (iso_year_of c.args.days ≡ c.year_after.result) × (iso_week_of c.args.days ≡ 1 + (c.years_and_place-years.result.1 + 1 - 1) / 7)
+named : (c : goal.After-weeks_in-2) → (iso_year_of c.args.days ≡ c.year_after.result) × (iso_week_of c.args.days ≡ 1 + (c.years_and_place-years.result.1 + 1 - 1) / 7)
 named c =
     iso_name-thursday c.args.days c.year_after.result (c.years_and_place-years.result.1 + 1) (thursday c).1 (thursday c).0
 
@@ -24,11 +24,11 @@ pub returns-clause-year : goal.returns-clause-year
 returns-clause-year c = to_z-of_z w32 c.year_after.result (search rules) ∙ sym (named c).0
 
 pub returns-clause-week : goal.returns-clause-week
-returns-clause-week c = omega (arith, (named c).1)
+returns-clause-week c = omega (arith, (named c).1, c.weeks_in-2.ensures)
 
 pub returns-clause-year_in_range : goal.returns-clause-year_in_range
 returns-clause-year_in_range c =
     rw ((named c).0, sym (to_z-of_z w32 c.year_after.result (search rules))) at (iso_year_of-range c.args.days c.requires)
 
 pub returns-clause-week_in_range : goal.returns-clause-week_in_range
-returns-clause-week_in_range c = omega (arith, (thursday c).0, year_length_bounds c.year_after.result)
+returns-clause-week_in_range c = omega (arith, (thursday c).0, c.weeks_in-2.ensures, year_length_bounds c.year_after.result)
