@@ -56,11 +56,9 @@ fn rows_of_durations_are_summed(rt: HostRuntime) -> Result<(), Fail> {
             durations.push(delta(&rt, secs, nanos))?;
         }
         let sum = Some(delta(&rt, secs, nanos));
-        let sums = (
-            TimeDelta::checked_sum(durations.iter().copied()),
-            TimeDelta::checked_sum_refs(durations.iter()),
-        );
-        assert_eq!(rt; sums, (sum, sum));
+        let by_value = TimeDelta::checked_sum(durations.iter().copied());
+        let by_reference = TimeDelta::checked_sum_refs(durations.iter());
+        assert!(rt; by_value == sum && by_reference == sum, "{secs} {nanos}");
     }
     Ok(())
 }
