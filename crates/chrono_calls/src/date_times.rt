@@ -1,14 +1,27 @@
 //! Calls of `NaiveDateTime`.
 
-use crate::dates::read_any;
+use crate::dates::{read_any, with_field};
+use crate::times::with_each;
 use crate::words::{
-    Words, are, count, date_time, duration, is_date_time, is_duration, is_order, signed, unsigned,
+    Words, are, count, date, date_time, duration, is_date_time, is_duration, is_order, unsigned,
 };
-use chrono_datetime::{Datelike, Days, Months, NaiveDateTime, Timelike};
+use chrono_datetime::{
+    Datelike, Days, MAX_DATETIME, MIN_DATETIME, Months, NaiveDate, NaiveDateTime, Timelike,
+};
 
 /// Whether the call of that name has that answer; `None` if there is no such call, or its arguments are not right.
 pub fn is_answered(name: &str, words: &mut Words<'_>, answer: &str) -> Option<bool> {
-    let own = date_time(words)?;
+    let named = match name {
+        "MIN" if MIN_DATETIME == NaiveDateTime::MIN => MIN_DATETIME,
+        "MAX" if MAX_DATETIME == NaiveDateTime::MAX => MAX_DATETIME,
+        "default" => NaiveDateTime::default(),
+        "from" => NaiveDateTime::from(date(words)?),
+        _ => return of_one(name, date_time(words)?, words, answer),
+    };
+    Some(is_date_time(answer, Some(named)))
+}
+
+fn of_one(name: &str, own: NaiveDateTime, words: &mut Words<'_>, answer: &str) -> Option<bool> {
     let moved = match name {
         "checked_add_signed" => own.checked_add_signed(duration(words)?),
         "checked_sub_signed" => own.checked_sub_signed(duration(words)?),
@@ -16,42 +29,30 @@ pub fn is_answered(name: &str, words: &mut Words<'_>, answer: &str) -> Option<bo
         "checked_sub_months" => own.checked_sub_months(Months::new(unsigned(words)?)),
         "checked_add_days" => own.checked_add_days(Days::new(count(words)?)),
         "checked_sub_days" => own.checked_sub_days(Days::new(count(words)?)),
-        "with_year" => own.with_year(signed(words)?),
         "signed_duration_since" | "cmp" => {
             return of_two(name, own, date_time(words)?, answer);
         }
-        "with_month"
+        "with_year"
+        | "with_month"
         | "with_month0"
         | "with_day"
         | "with_day0"
         | "with_ordinal"
-        | "with_ordinal0"
-        | "with_hour"
-        | "with_minute"
-        | "with_second"
-        | "with_nanosecond" => { with(name, own, unsigned(words)?)? }
+        | "with_ordinal0" => with_field(name, &own, words)?,
+        "with_hour" => own.with_hour(unsigned(words)?),
+        "with_minute" => own.with_minute(unsigned(words)?),
+        "with_second" => own.with_second(unsigned(words)?),
+        "with_nanosecond" => own.with_nanosecond(unsigned(words)?),
+        "with_each" => {
+            let (hour, minute, second) = (unsigned(words)?, unsigned(words)?, unsigned(words)?);
+            with_each(&own, hour, minute, second, unsigned(words)?)
+        }
+        "date_and_time" => return Some(is_put_together(answer, own)),
         "num_days_from_ce" => return Some(are(answer, &[i64::from(own.num_days_from_ce())])),
         "time" => return Some(is_time_of(answer, own)),
         _ => return read_any(name, &own, answer),
     };
     Some(is_date_time(answer, moved))
-}
-
-// The date-time with one field replaced.
-fn with(name: &str, own: NaiveDateTime, new: u32) -> Option<Option<NaiveDateTime>> {
-    Some(match name {
-        "with_month" => own.with_month(new),
-        "with_month0" => own.with_month0(new),
-        "with_day" => own.with_day(new),
-        "with_day0" => own.with_day0(new),
-        "with_ordinal" => own.with_ordinal(new),
-        "with_ordinal0" => own.with_ordinal0(new),
-        "with_hour" => own.with_hour(new),
-        "with_minute" => own.with_minute(new),
-        "with_second" => own.with_second(new),
-        "with_nanosecond" => own.with_nanosecond(new),
-        _ => return None,
-    })
 }
 
 fn of_two(name: &str, own: NaiveDateTime, other: NaiveDateTime, answer: &str) -> Option<bool> {
@@ -60,7 +61,7 @@ fn of_two(name: &str, own: NaiveDateTime, other: NaiveDateTime, answer: &str) ->
             let distance = own.signed_duration_since(other);
             is_duration(answer, Some(distance)) && own - other == distance
         }
-        "cmp" => is_order(answer, own.cmp(&other), other.cmp(&own), own == other),
+        "cmp" => is_order(answer, &own, &other),
         _ => return None,
     })
 }
@@ -79,4 +80,12 @@ fn is_time_of(answer: &str, own: NaiveDateTime) -> bool {
             i64::from(own.nanosecond()),
         ],
     )
+}
+
+// Whether the answer is the date and the time that a date-time is of.
+fn is_put_together(answer: &str, own: NaiveDateTime) -> bool {
+    let (date, time) = (own.date(), own.time());
+    let days = i64::from(date.num_days_from_ce());
+    let second = i64::from(time.num_seconds_from_midnight());
+    are(answer, &[days, second, i64::from(time.nanosecond())]) && NaiveDate::from(own) == date
 }

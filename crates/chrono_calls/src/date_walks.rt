@@ -1,8 +1,9 @@
 //! The dates after a date, handed out day by day and week by week.
 //!
-//! The steps are written by a letter each: n `next`, b `next_back`, l `len`.
+//! The steps are written by a letter each: n `next`, b `next_back`, l `len` and `size_hint`, s whether it is as at its
+//! start, 1 or 0.
 
-use crate::words::is_next;
+use crate::words::{is_next, left};
 use chrono_datetime::{Datelike, NaiveDate};
 
 /// Whether the iterator by days answers so, step by step.
@@ -13,7 +14,8 @@ pub fn is_walk_by_days(start: NaiveDate, steps: &str, answer: &str) -> bool {
         let given = match step {
             b'n' => number(dates.next()),
             b'b' => number(dates.next_back()),
-            _ => i64::try_from(dates.len()).ok(),
+            b's' => Some(i64::from(dates == start.iter_days())),
+            _ => left(dates.len(), dates.size_hint()),
         };
         if !is_next(words, given) {
             return false;
@@ -30,7 +32,8 @@ pub fn is_walk_by_weeks(start: NaiveDate, steps: &str, answer: &str) -> bool {
         let given = match step {
             b'n' => number(dates.next()),
             b'b' => number(dates.next_back()),
-            _ => i64::try_from(dates.len()).ok(),
+            b's' => Some(i64::from(dates == start.iter_weeks())),
+            _ => left(dates.len(), dates.size_hint()),
         };
         if !is_next(words, given) {
             return false;

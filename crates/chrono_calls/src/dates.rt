@@ -2,14 +2,27 @@
 
 use crate::date_walks::{is_walk_by_days, is_walk_by_weeks};
 use crate::words::{
-    Words, are, count, date, duration, is_date, is_duration, is_number, is_order, signed, unsigned,
-    weekday,
+    Words, are, count, date, duration, is_date, is_date_time, is_duration, is_number, is_order,
+    signed, time, unsigned, weekday,
 };
-use chrono_datetime::{Datelike, Days, Months, NaiveDate};
+use chrono_datetime::{
+    AndTime, Datelike, Days, MAX_DATE, MIN_DATE, Months, NaiveDate, NaiveDateTime,
+};
 
 /// Whether the call of that name has that answer; `None` if there is no such call, or its arguments are not right.
 pub fn is_answered(name: &str, words: &mut Words<'_>, answer: &str) -> Option<bool> {
     let made = match name {
+        "MIN" => if MIN_DATE == NaiveDate::MIN {
+            Some(MIN_DATE)
+        } else {
+            None
+        },
+        "MAX" => if MAX_DATE == NaiveDate::MAX {
+            Some(MAX_DATE)
+        } else {
+            None
+        },
+        "default" => Some(NaiveDate::default()),
         "from_ymd_opt" => {
             NaiveDate::from_ymd_opt(signed(words)?, unsigned(words)?, unsigned(words)?)
         }
@@ -43,13 +56,19 @@ fn of_one(name: &str, own: NaiveDate, words: &mut Words<'_>, answer: &str) -> Op
         "checked_sub_months" => own.checked_sub_months(Months::new(unsigned(words)?)),
         "checked_add_signed" => own.checked_add_signed(duration(words)?),
         "checked_sub_signed" => own.checked_sub_signed(duration(words)?),
-        "with_year" => own.with_year(signed(words)?),
-        "with_month" => own.with_month(unsigned(words)?),
-        "with_month0" => own.with_month0(unsigned(words)?),
-        "with_day" => own.with_day(unsigned(words)?),
-        "with_day0" => own.with_day0(unsigned(words)?),
-        "with_ordinal" => own.with_ordinal(unsigned(words)?),
-        "with_ordinal0" => own.with_ordinal0(unsigned(words)?),
+        "with_year"
+        | "with_month"
+        | "with_month0"
+        | "with_day"
+        | "with_day0"
+        | "with_ordinal"
+        | "with_ordinal0" => with_field(name, &own, words)?,
+        "iter_days_last" => own.iter_days().last(),
+        "and_time"
+        | "and_hms_opt"
+        | "and_hms_milli_opt"
+        | "and_hms_micro_opt"
+        | "and_hms_nano_opt" => return Some(is_date_time(answer, joined(name, &own, words)?)),
         "signed_duration_since" | "abs_diff" | "years_since" | "cmp" => {
             return of_two(name, own, date(words)?, answer);
         }
@@ -58,6 +77,44 @@ fn of_one(name: &str, own: NaiveDate, words: &mut Words<'_>, answer: &str) -> Op
         _ => return read(name, own, answer),
     };
     Some(is_date(answer, moved))
+}
+
+/// The date, or what has one, with one field replaced, through the trait alone.
+pub fn with_field<T: Datelike + Drop>(
+    name: &str,
+    own: &T,
+    words: &mut Words<'_>,
+) -> Option<Option<T>> {
+    if name == "with_year" {
+        return Some(own.with_year(signed(words)?));
+    }
+    let new = unsigned(words)?;
+    Some(match name {
+        "with_month" => own.with_month(new),
+        "with_month0" => own.with_month0(new),
+        "with_day" => own.with_day(new),
+        "with_day0" => own.with_day0(new),
+        "with_ordinal" => own.with_ordinal(new),
+        "with_ordinal0" => own.with_ordinal0(new),
+        _ => return None,
+    })
+}
+
+// The date at a time, through the trait alone.
+fn joined<T: AndTime>(name: &str, own: &T, words: &mut Words<'_>) -> Option<Option<NaiveDateTime>> {
+    if name == "and_time" {
+        return Some(Some(own.and_time(time(words)?)));
+    }
+    let (hour, minute, second) = (unsigned(words)?, unsigned(words)?, unsigned(words)?);
+    if name == "and_hms_opt" {
+        return Some(own.and_hms_opt(hour, minute, second));
+    }
+    let fraction = unsigned(words)?;
+    Some(match name {
+        "and_hms_milli_opt" => own.and_hms_milli_opt(hour, minute, second, fraction),
+        "and_hms_micro_opt" => own.and_hms_micro_opt(hour, minute, second, fraction),
+        _ => own.and_hms_nano_opt(hour, minute, second, fraction),
+    })
 }
 
 fn of_two(name: &str, own: NaiveDate, other: NaiveDate, answer: &str) -> Option<bool> {
@@ -74,7 +131,7 @@ fn of_two(name: &str, own: NaiveDate, other: NaiveDate, answer: &str) -> Option<
             Some(years) => are(answer, &[i64::from(years)]),
             None => is_number(answer, None),
         },
-        "cmp" => is_order(answer, own.cmp(&other), other.cmp(&own), own == other),
+        "cmp" => is_order(answer, &own, &other),
         _ => return None,
     })
 }

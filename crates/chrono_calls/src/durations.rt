@@ -8,6 +8,12 @@ use chrono_datetime::TimeDelta;
 /// Whether the call of that name has that answer; `None` if there is no such call, or its arguments are not right.
 pub fn is_answered(name: &str, words: &mut Words<'_>, answer: &str) -> Option<bool> {
     Some(match name {
+        "MIN" => is_duration(answer, Some(TimeDelta::MIN)),
+        "MAX" => is_duration(answer, Some(TimeDelta::MAX)),
+        "min_value" => is_duration(answer, Some(TimeDelta::min_value())),
+        "max_value" => is_duration(answer, Some(TimeDelta::max_value())),
+        "zero" => is_duration(answer, Some(TimeDelta::zero())),
+        "default" => is_duration(answer, Some(TimeDelta::default())),
         "new" => is_duration(answer, TimeDelta::new(whole(words)?, unsigned(words)?)),
         "try_weeks" => is_duration(answer, TimeDelta::try_weeks(whole(words)?)),
         "try_days" => is_duration(answer, TimeDelta::try_days(whole(words)?)),
@@ -34,6 +40,7 @@ fn of_one(name: &str, own: TimeDelta, words: &mut Words<'_>, answer: &str) -> Op
         "subsec_millis" => are(answer, &[i64::from(own.subsec_millis())]),
         "subsec_micros" => are(answer, &[i64::from(own.subsec_micros())]),
         "subsec_nanos" => are(answer, &[i64::from(own.subsec_nanos())]),
+        "is_zero" => are(answer, &[i64::from(own.is_zero())]),
         "neg" => is_duration(answer, Some(-own)),
         "abs" => is_duration(answer, Some(own.abs())),
         "checked_mul" => is_duration(answer, own.checked_mul(signed(words)?)),
@@ -46,7 +53,7 @@ fn of_two(name: &str, own: TimeDelta, other: TimeDelta, answer: &str) -> Option<
     Some(match name {
         "checked_add" => is_duration(answer, own.checked_add(&other)),
         "checked_sub" => is_duration(answer, own.checked_sub(&other)),
-        "cmp" => is_order(answer, own.cmp(&other), other.cmp(&own), own == other),
+        "cmp" => is_order(answer, &own, &other),
         _ => return None,
     })
 }

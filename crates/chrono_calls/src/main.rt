@@ -49,10 +49,12 @@ fn is_answered(line: &str) -> bool {
         "NaiveTime" => times::is_answered(name, arguments, answer),
         "NaiveDate" => dates::is_answered(name, arguments, answer),
         "NaiveWeek" => weeks::is_answered(name, arguments, answer),
+        "IsoWeek" => weeks::is_answered_by_iso(name, arguments, answer),
         "NaiveDateTime" => date_times::is_answered(name, arguments, answer),
         "Weekday" => weekdays::is_answered(name, arguments, answer),
         "WeekdaySet" => sets::is_answered(name, arguments, answer),
         "Month" => months::is_answered(name, arguments, answer),
+        "Months" => months::is_answered_by_span(name, arguments, answer),
         _ => None,
     };
     is_same == Some(true) && arguments.next().is_none()

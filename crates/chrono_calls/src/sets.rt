@@ -1,12 +1,21 @@
 //! Calls of `WeekdaySet`.
 
-use crate::words::{Words, are, is_next, is_order, is_weekday, unsigned, weekday};
+use crate::words::{Words, are, is_next, is_order, is_weekday, left, unsigned, weekday};
 use chrono_datetime::Weekday::{self, Fri, Mon, Sat, Sun, Thu, Tue, Wed};
 use chrono_datetime::WeekdaySet;
 
 /// Whether the call of that name has that answer; `None` if there is no such call, or its arguments are not right.
 pub fn is_answered(name: &str, words: &mut Words<'_>, answer: &str) -> Option<bool> {
-    let own = set(words)?;
+    let own = match name {
+        "EMPTY" => return Some(are(answer, &[number_of(WeekdaySet::EMPTY)])),
+        "ALL" => return Some(are(answer, &[number_of(WeekdaySet::ALL)])),
+        "default" => return Some(are(answer, &[number_of(WeekdaySet::default())])),
+        "single" => {
+            let single = WeekdaySet::single(weekday(words)?);
+            return Some(are(answer, &[number_of(single)]));
+        }
+        _ => set(words)?,
+    };
     Some(match name {
         "len" => are(answer, &[i64::from(own.len())]),
         "is_empty" => are(answer, &[i64::from(own.is_empty())]),
@@ -36,7 +45,7 @@ fn of_two(name: &str, own: WeekdaySet, other: WeekdaySet, answer: &str) -> Optio
         "union" => are(answer, &[number_of(own.union(other))]),
         "symmetric_difference" => are(answer, &[number_of(own.symmetric_difference(other))]),
         "difference" => are(answer, &[number_of(own.difference(other))]),
-        "cmp" => is_order(answer, own.cmp(&other), other.cmp(&own), own == other),
+        "cmp" => is_order(answer, &own, &other),
         _ => return None,
     })
 }
@@ -74,7 +83,7 @@ fn number_of(set: WeekdaySet) -> i64 {
     i64::from(number)
 }
 
-// Whether a walk through the set answers so, step by step: n `next`, b `next_back`, l `len`.
+// Whether a walk through the set answers so, step by step: n `next`, b `next_back`, l `len` and `size_hint`.
 fn is_walk(set: WeekdaySet, start: Weekday, steps: &str, answer: &str) -> bool {
     let mut walk = set.iter(start);
     let words = &mut answer.split_ascii_whitespace();
@@ -82,7 +91,7 @@ fn is_walk(set: WeekdaySet, start: Weekday, steps: &str, answer: &str) -> bool {
         let given = match step {
             b'n' => number(walk.next()),
             b'b' => number(walk.next_back()),
-            _ => i64::try_from(walk.len()).ok(),
+            _ => left(walk.len(), walk.size_hint()),
         };
         if !is_next(words, given) {
             return false;

@@ -6,6 +6,9 @@ use chrono_datetime::{NaiveTime, TimeDelta, Timelike};
 /// Whether the call of that name has that answer; `None` if there is no such call, or its arguments are not right.
 pub fn is_answered(name: &str, words: &mut Words<'_>, answer: &str) -> Option<bool> {
     Some(match name {
+        "MIN" => is_time(answer, Some(NaiveTime::MIN)),
+        "MAX" => is_time(answer, Some(NaiveTime::MAX)),
+        "default" => is_time(answer, Some(NaiveTime::default())),
         "from_num_seconds_from_midnight_opt" => is_time(
             answer,
             NaiveTime::from_num_seconds_from_midnight_opt(unsigned(words)?, unsigned(words)?),
@@ -35,13 +38,6 @@ pub fn is_answered(name: &str, words: &mut Words<'_>, answer: &str) -> Option<bo
                 NaiveTime::from_hms_nano_opt(hour, minute, second, unsigned(words)?),
             )
         }
-        "with_each" => {
-            let (hour, minute, second) = (unsigned(words)?, unsigned(words)?, unsigned(words)?);
-            is_time(
-                answer,
-                with_each(&NaiveTime::MIN, hour, minute, second, unsigned(words)?),
-            )
-        }
         _ => return of_one(name, time(words)?, words, answer),
     })
 }
@@ -52,6 +48,13 @@ fn of_one(name: &str, own: NaiveTime, words: &mut Words<'_>, answer: &str) -> Op
         "hour12" => {
             let (is_past_noon, hour) = own.hour12();
             are(answer, &[i64::from(is_past_noon), i64::from(hour)])
+        }
+        "with_each" => {
+            let (hour, minute, second) = (unsigned(words)?, unsigned(words)?, unsigned(words)?);
+            is_time(
+                answer,
+                with_each(&own, hour, minute, second, unsigned(words)?),
+            )
         }
         "with_hour" => is_time(answer, own.with_hour(unsigned(words)?)),
         "with_minute" => is_time(answer, own.with_minute(unsigned(words)?)),
@@ -80,7 +83,7 @@ fn of_two(name: &str, own: NaiveTime, other: NaiveTime, answer: &str) -> Option<
             own.signed_duration_since(other),
             own - other,
         ),
-        "cmp" => is_order(answer, own.cmp(&other), other.cmp(&own), own == other),
+        "cmp" => is_order(answer, &own, &other),
         _ => return None,
     })
 }
@@ -105,8 +108,8 @@ fn are_fields<T: Timelike>(answer: &str, own: &T) -> bool {
     )
 }
 
-// A time with each of its fields set, through the trait alone.
-fn with_each<T: Timelike + Drop>(
+/// The same with each field of its time set, through the trait alone.
+pub fn with_each<T: Timelike + Drop>(
     own: &T,
     hour: u32,
     minute: u32,

@@ -3,7 +3,8 @@
 use chrono_datetime::{
     Datelike, NaiveDate, NaiveDateTime, NaiveTime, TimeDelta, Timelike, Weekday,
 };
-use std::cmp::Ordering::{self, Equal, Greater, Less};
+use std::cmp::Ordering::{Equal, Greater, Less};
+use std::hash::{DefaultHasher, Hash, Hasher};
 use std::str::SplitAsciiWhitespace;
 
 /// The words of a call after its name, from the first that is not read yet.
@@ -117,10 +118,16 @@ pub fn is_time(answer: &str, time: Option<NaiveTime>) -> bool {
     }
 }
 
-/// Whether the answer is that date, or `none` where there is none.
+/// Whether the answer is that date, or `none` where there is none, and the date is alike the one of its day number.
 pub fn is_date(answer: &str, date: Option<NaiveDate>) -> bool {
     match date {
-        Some(date) => are(answer, &[i64::from(date.num_days_from_ce())]),
+        Some(date) => {
+            let days = date.num_days_from_ce();
+            let again = NaiveDate::from_num_days_from_ce_opt(days);
+            let is_alike = again.is_some_and(|again| again == date
+                && hash_of(&again) == hash_of(&date));
+            are(answer, &[i64::from(days)]) && is_alike
+        }
         None => answer == "none",
     }
 }
@@ -145,13 +152,35 @@ pub fn is_weekday(answer: &str, weekday: Option<Weekday>) -> bool {
     }
 }
 
-/// Whether the answer is how the first value compares with the second, given how both compare either way round and whether
-/// they are equal.
-pub fn is_order(answer: &str, order: Ordering, other_way: Ordering, are_equal: bool) -> bool {
+/// Whether the answer is how the first value compares with the second: by each comparison, either way round, and equal
+/// values hash alike.
+pub fn is_order<T: Ord + Hash>(answer: &str, own: &T, other: &T) -> bool {
+    let order = own.cmp(other);
     let number = match order {
         Less => -1,
         Equal => 0,
         Greater => 1,
     };
-    are(answer, &[number]) && other_way == order.reverse() && are_equal == (order == Equal)
+    are(answer, &[number])
+        && other.cmp(own) == order.reverse()
+        && (own < other) == (order == Less)
+        && (own > other) == (order == Greater)
+        && (own == other) == (order == Equal)
+        && (order != Equal || hash_of(own) == hash_of(other))
+}
+
+/// The number that a hasher makes of the value.
+pub fn hash_of<T: Hash>(value: &T) -> u64 {
+    let mut state = DefaultHasher::new();
+    value.hash(&mut state);
+    state.finish()
+}
+
+/// The number of items that are left, where the two calls that tell it agree.
+pub fn left(len: usize, hint: (usize, Option<usize>)) -> Option<i64> {
+    if hint == (len, Some(len)) {
+        i64::try_from(len).ok()
+    } else {
+        None
+    }
 }

@@ -1,5 +1,3 @@
-//! The clock's public calls, each once, and its texts under every style and at every refusal of a writer.
+//! The texts of durations and of times of day, under every style and at every refusal of a writer.
 
-mod durations;
 pub mod texts;
-mod times;

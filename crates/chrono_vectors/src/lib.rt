@@ -1,7 +1,7 @@
-//! Tests of the calendar's public calls: worked examples, texts, and loops over all of a kind.
+//! Tests of the calendar's public calls: operators, texts, and loops over all of a kind.
 //!
-//! What a contract says is proved where it stands. These tests show that it says what was meant. The answers that the Rust
-//! library of the same names gives to single calls are data of the program `chrono_calls`.
+//! What a contract says is proved where it stands. These tests show that it says what was meant. The answers of single calls
+//! in whole numbers, those that the Rust library of the same names gives among them, are data of the program `chrono_calls`.
 #![tactic(auto)]
 
 #[cfg(test)]
@@ -11,17 +11,11 @@ mod calendar_parts;
 #[cfg(test)]
 mod clock;
 #[cfg(test)]
-mod date_time_calls;
-#[cfg(test)]
 mod date_time_texts;
 #[cfg(test)]
 mod dates;
 #[cfg(test)]
-mod month;
-#[cfg(test)]
 mod naive_date;
-#[cfg(test)]
-mod naive_date_time;
 #[cfg(test)]
 mod naive_time;
 #[cfg(test)]

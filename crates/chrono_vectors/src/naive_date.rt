@@ -1,8 +1,7 @@
-//! Dates: every year, the ends, operators, weeks and calls that count their steps.
+//! Dates: every year, operators, weeks that are there, and calls that count their steps.
 
 mod counted;
 mod every_year;
-mod naming;
 mod operators;
 mod weeks;
 
@@ -12,14 +11,4 @@ use std::process::Abort;
 /// The date of that day number, which has to be in range.
 pub fn day(rt: &impl Abort, days: i32) -> NaiveDate {
     NaiveDate::from_num_days_from_ce_opt(days).expect(rt, "a day in range")
-}
-
-/// The first date.
-pub fn first() -> NaiveDate {
-    NaiveDate::MIN
-}
-
-/// The last date.
-pub fn last() -> NaiveDate {
-    NaiveDate::MAX
 }

@@ -1,7 +1,6 @@
-//! Times of day: the first of them, and moves and distances at every second.
+//! Times of day: moves and distances at every second.
 
 mod every_second;
-mod making;
 
 use chrono_clock::{NaiveTime, Timelike};
 use std::process::Abort;

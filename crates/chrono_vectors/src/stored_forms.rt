@@ -1,5 +1,5 @@
-//! Both stored forms of a date against names that are known from outside, and against a walk over every day of the
-//! range.
+//! Both stored forms of a date against names that are known from outside, and against a walk over every month of
+//! the range.
 
 use chrono_calendar::{DayForm, Steps};
 use chrono_stored::{CountedForm, PackedForm};
@@ -16,15 +16,21 @@ struct Walk {
 }
 
 impl Walk {
-    /// The next day.
-    fn step(&mut self) {
-        self.weekday = self.weekday.wrapping_add(1) % 7;
-        self.ordinal = self.ordinal.wrapping_add(1);
-        self.day = self.day.wrapping_add(1);
-        if self.day > length(self.year, self.month) {
-            self.day = 1;
-            self.month = self.month.wrapping_add(1);
+    /// The day so many days later in the same month.
+    fn later(&self, days: u32) -> Walk {
+        Walk {
+            day: self.day.wrapping_add(days),
+            ordinal: self.ordinal.wrapping_add(days),
+            weekday: self.weekday.wrapping_add(days) % 7,
+            ..*self
         }
+    }
+
+    /// From the first day of a month to that of the next.
+    fn step(&mut self, days: u32) {
+        self.weekday = self.weekday.wrapping_add(days) % 7;
+        self.ordinal = self.ordinal.wrapping_add(days);
+        self.month = self.month.wrapping_add(1);
         if self.month > 12 {
             self.month = 1;
             self.ordinal = 1;
@@ -70,8 +76,15 @@ fn hash_of<T: Hash>(value: &T) -> u64 {
     state.finish()
 }
 
+// Whether both forms give the day so many days after the first of a month its names.
+fn both_agree(first: i32, walk: &Walk, later: u32) -> bool {
+    let (days, day) = (first.wrapping_add(later as i32), walk.later(later));
+    agrees::<PackedForm>(days, &day) && agrees::<CountedForm>(days, &day)
+}
+
+// Every month of the range, and of every 32nd a day, other ones in turn; of the last month the last day.
 #[test]
-fn a_walk_names_every_97th_day(rt: HostRuntime) {
+fn a_walk_by_months_names_days_of_them(rt: HostRuntime) {
     let mut walk = Walk {
         year: -262_143,
         month: 1,
@@ -79,81 +92,103 @@ fn a_walk_names_every_97th_day(rt: HostRuntime) {
         ordinal: 1,
         weekday: 3,
     };
-    let mut days = -95_746_129;
-    for n in 0..191_491_529u32 {
-        if n % 97 == 0 {
-            assert!(rt; agrees::<PackedForm>(days, &walk), "packed, day {days}");
-            assert!(rt; agrees::<CountedForm>(days, &walk), "counted, day {days}");
+    let mut days = -95_746_129i32;
+    for n in 0..6_291_432u32 {
+        let length = length(walk.year, walk.month);
+        if n % 32 == 0 {
+            assert!(rt;
+                both_agree(days, &walk, n / 32 % length),
+                "month from {days}"
+            );
+        } else if n == 6_291_431 {
+            assert!(rt; both_agree(days, &walk, 30), "month from {days}");
         }
-        walk.step();
-        days = days.wrapping_add(1);
+        walk.step(length);
+        days = days.wrapping_add(length as i32);
     }
-    assert_eq!(rt; (walk.year, walk.ordinal), (262_143, 1));
+    assert_eq!(rt; (walk.year, walk.ordinal, days), (262_143, 1, 95_745_400));
+}
+
+// A date: year, month, day, day number, weekday from 0 for Monday, stored number.
+const KNOWN: [(i32, u32, u32, i32, u32, i32); 9] = [
+    (-262_143, 1, 1, -95_746_129, 3, -2_147_475_430),
+    (0, 12, 31, 0, 6, 5860),
+    (1, 1, 1, 1, 0, 8222),
+    (1900, 3, 1, 693_655, 3, 15_565_774),
+    (1970, 1, 1, 719_163, 3, 16_138_266),
+    (2000, 2, 29, 730_179, 1, 16_384_964),
+    (2024, 12, 31, 739_251, 1, 16_586_470),
+    (9999, 12, 31, 3_652_059, 4, 81_917_659),
+    (262_142, 12, 31, 95_745_399, 0, 2_147_473_118),
+];
+
+// Whether the form has that day number and that weekday, and is the one of the number.
+fn is_known<F: DayForm>(form: &F, number: i32, weekday: u32) -> bool {
+    let again = F::from_day(number, &mut Steps::new());
+    form.day() == number
+        && form.weekday().num_days_from_monday() == weekday
+        && again.is_some_and(|again| again == *form)
 }
 
 #[test]
 fn known_dates_are_stored_so(rt: HostRuntime) {
-    // year, month, day, day number, weekday from 0 for Monday, stored number
-    let rows = [
-        (-262_143, 1, 1, -95_746_129, 3, -2_147_475_430),
-        (0, 12, 31, 0, 6, 5860),
-        (1, 1, 1, 1, 0, 8222),
-        (1900, 3, 1, 693_655, 3, 15_565_774),
-        (1970, 1, 1, 719_163, 3, 16_138_266),
-        (2000, 2, 29, 730_179, 1, 16_384_964),
-        (2024, 12, 31, 739_251, 1, 16_586_470),
-        (9999, 12, 31, 3_652_059, 4, 81_917_659),
-        (262_142, 12, 31, 95_745_399, 0, 2_147_473_118),
-    ];
-    for (year, month, day, number, weekday, bits) in rows {
-        let form = PackedForm::from_ymd(year, month, day).expect(&rt, "a date");
-        assert_eq!(rt; form.day(), number);
-        assert_eq!(rt; form.weekday().num_days_from_monday(), weekday);
-        assert_eq!(rt; form.bits(), bits);
-        assert_eq!(rt; PackedForm::from_day(number, &mut Steps::new()), Some(form));
-        let form = CountedForm::from_ymd(year, month, day).expect(&rt, "a date");
-        assert_eq!(rt; form.day(), number);
-        assert_eq!(rt; form.weekday().num_days_from_monday(), weekday);
-        assert_eq!(rt;
-            CountedForm::from_day(number, &mut Steps::new()),
-            Some(form)
+    for (year, month, day, number, weekday, bits) in KNOWN {
+        let packed = PackedForm::from_ymd(year, month, day).expect(&rt, "a date");
+        let counted = CountedForm::from_ymd(year, month, day).expect(&rt, "a date");
+        let are_known = (
+            is_known(&packed, number, weekday),
+            is_known(&counted, number, weekday),
         );
+        assert_eq!(rt; (are_known, packed.bits()), ((true, true), bits));
     }
+}
+
+const NO_DATES: [(i32, u32, u32); 12] = [
+    (2023, 2, 29),
+    (1900, 2, 29),
+    (2024, 2, 30),
+    (2024, 4, 31),
+    (2024, 0, 1),
+    (2024, 13, 1),
+    (2024, 1, 0),
+    (2024, u32::MAX, u32::MAX),
+    (-262_144, 12, 31),
+    (262_143, 1, 1),
+    (i32::MIN, 1, 1),
+    (i32::MAX, 12, 31),
+];
+
+const NO_ORDINALS: [(i32, u32); 5] = [
+    (2023, 366),
+    (2024, 367),
+    (2024, 0),
+    (2024, u32::MAX),
+    (262_143, 1),
+];
+
+// Whether a form has no date of any of these names and of any number past the ends.
+fn refuses_others<F: DayForm>() -> bool {
+    for (year, month, day) in NO_DATES {
+        if F::from_ymd(year, month, day).is_some() {
+            return false;
+        }
+    }
+    for (year, ordinal) in NO_ORDINALS {
+        if F::from_yo(year, ordinal).is_some() {
+            return false;
+        }
+    }
+    for days in [-95_746_130, 95_745_400, i32::MIN, i32::MAX] {
+        if F::from_day(days, &mut Steps::new()).is_some() {
+            return false;
+        }
+    }
+    true
 }
 
 #[test]
 fn other_names_are_no_dates(rt: HostRuntime) {
-    for (year, month, day) in [
-        (2023, 2, 29),
-        (1900, 2, 29),
-        (2024, 2, 30),
-        (2024, 4, 31),
-        (2024, 0, 1),
-        (2024, 13, 1),
-        (2024, 1, 0),
-        (2024, u32::MAX, u32::MAX),
-        (-262_144, 12, 31),
-        (262_143, 1, 1),
-        (i32::MIN, 1, 1),
-        (i32::MAX, 12, 31),
-    ] {
-        assert_eq!(rt; PackedForm::from_ymd(year, month, day), None);
-        assert_eq!(rt; CountedForm::from_ymd(year, month, day), None);
-    }
-    for (year, ordinal) in [
-        (2023, 366),
-        (2024, 367),
-        (2024, 0),
-        (2024, u32::MAX),
-        (262_143, 1),
-    ] {
-        assert_eq!(rt; PackedForm::from_yo(year, ordinal), None);
-        assert_eq!(rt; CountedForm::from_yo(year, ordinal), None);
-    }
-    for days in [-95_746_130, 95_745_400, i32::MIN, i32::MAX] {
-        assert_eq!(rt; PackedForm::from_day(days, &mut Steps::new()), None);
-        assert_eq!(rt; CountedForm::from_day(days, &mut Steps::new()), None);
-    }
+    assert!(rt; refuses_others::<PackedForm>() && refuses_others::<CountedForm>());
 }
 
 /// Whether a date before year 0 comes between the ends and a date after them, and is equal and hashed alike by each of
@@ -175,13 +210,15 @@ fn is_ordered<F: DayForm>(first: F, last: F) -> bool {
 
 #[test]
 fn the_ends_and_the_order(rt: HostRuntime) {
-    assert_eq!(rt; PackedForm::min_value().bits(), -2_147_475_430);
-    assert_eq!(rt; PackedForm::max_value().bits(), 2_147_473_118);
-    assert_eq!(rt; CountedForm::min_value().year_month_day(), (-262_143, 1, 1));
+    let packed = (PackedForm::min_value(), PackedForm::max_value());
+    let counted = (CountedForm::min_value(), CountedForm::max_value());
     assert_eq!(rt;
-        CountedForm::max_value().year_month_day(),
-        (262_142, 12, 31)
+        (packed.0.bits(), packed.1.bits()),
+        (-2_147_475_430, 2_147_473_118)
     );
-    assert!(rt; is_ordered(PackedForm::min_value(), PackedForm::max_value()));
-    assert!(rt; is_ordered(CountedForm::min_value(), CountedForm::max_value()));
+    assert_eq!(rt;
+        (counted.0.year_month_day(), counted.1.year_month_day()),
+        ((-262_143, 1, 1), (262_142, 12, 31))
+    );
+    assert!(rt; is_ordered(packed.0, packed.1) && is_ordered(counted.0, counted.1));
 }

@@ -1,9 +1,8 @@
-//! Durations: the named ones, the calls that ask no question, operators, sums and texts.
+//! Durations: the calls that ask no question, operators and sums.
 
 mod arithmetic;
 mod making;
 mod sums;
-mod texts;
 
 use chrono_clock::TimeDelta;
 use std::process::Abort;

@@ -41,15 +41,14 @@ fn number_of(set: WeekdaySet) -> u8 {
 
 #[test]
 fn a_set_is_made_of_its_days(rt: HostRuntime) {
-    assert_eq!(rt; WeekdaySet::from_array([]), WeekdaySet::EMPTY);
-    assert_eq!(rt; WeekdaySet::from_array([Sun, Mon, Thu, Mon]), numbered(73));
     assert_eq!(rt;
-        WeekdaySet::from_iter([Sat, Tue].iter().copied()),
-        numbered(34)
+        [
+            WeekdaySet::from_array([]),
+            WeekdaySet::from_array([Sun, Mon, Thu, Mon]),
+            WeekdaySet::from_iter([Sat, Tue].iter().copied()),
+        ],
+        [WeekdaySet::EMPTY, numbered(73), numbered(34)]
     );
-    assert_eq!(rt; WeekdaySet::single(Wed), numbered(4));
-    assert_eq!(rt; WeekdaySet::ALL, numbered(127));
-    assert_eq!(rt; WeekdaySet::default(), numbered(0));
 }
 
 #[test]

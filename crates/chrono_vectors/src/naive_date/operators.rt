@@ -1,50 +1,79 @@
-//! Operators on dates, against the checked calls.
+//! Operators on dates: the days that they lead to from 29 February 2024, from a month later, and from 1 January 1970.
 
-use crate::naive_date::day;
-use chrono_naive::{Datelike, Days, Months, TimeDelta};
+use chrono_naive::{Datelike, Days, Months, NaiveDate, TimeDelta};
 
-#[test]
-fn days_are_added_and_taken_away(rt: HostRuntime) {
-    let date = day(&rt, 738_945);
-    assert_eq!(rt; date.num_days_from_ce(), 738_945);
-    assert_eq!(rt; date + Days::new(31), day(&rt, 738_976));
-    assert_eq!(rt; date - Days::new(60), day(&rt, 738_885));
+// By 31 days on and by 60 back.
+fn by_days() -> Option<[i32; 2]> {
+    let date = NaiveDate::from_num_days_from_ce_opt(738_945)?;
+    let (later, earlier) = (date + Days::new(31), date - Days::new(60));
+    Some([later.num_days_from_ce(), earlier.num_days_from_ce()])
 }
 
-#[test]
-fn a_duration_is_added(rt: HostRuntime) {
-    let date = day(&rt, 738_945);
-    assert_eq!(rt; date.num_days_from_ce(), 738_945);
-    assert_eq!(rt; date + TimeDelta::days(306), day(&rt, 739_251));
+// By 306 days on, and by a day less than none.
+fn by_durations() -> Option<[i32; 2]> {
+    let date = NaiveDate::from_num_days_from_ce_opt(738_945)?;
+    let (later, next) = (date + TimeDelta::days(306), date - TimeDelta::days(-1));
+    Some([later.num_days_from_ce(), next.num_days_from_ce()])
 }
 
-#[test]
-fn a_duration_is_taken_away(rt: HostRuntime) {
-    let date = day(&rt, 738_945);
-    assert_eq!(rt; date.num_days_from_ce(), 738_945);
-    assert_eq!(rt; date - TimeDelta::days(-1), day(&rt, 738_946));
-}
-
-#[test]
-fn a_date_is_moved_in_place(rt: HostRuntime) {
-    let mut date = day(&rt, 738_945);
-    assert_eq!(rt; date.num_days_from_ce(), 738_945);
+// In place, by both in turn.
+fn in_place() -> Option<[i32; 2]> {
+    let mut date = NaiveDate::from_num_days_from_ce_opt(738_945)?;
     date += TimeDelta::days(306);
-    assert_eq!(rt; date.num_days_from_ce(), 739_251);
+    let later = date.num_days_from_ce();
     date -= TimeDelta::days(-1);
-    assert_eq!(rt; date.num_days_from_ce(), 739_252);
+    Some([later, date.num_days_from_ce()])
+}
+
+// From that day by a month on and back.
+fn by_months(date: NaiveDate) -> Option<[i32; 2]> {
+    let month = Months::new(1);
+    if date.checked_add_months(month).is_none() || date.checked_sub_months(month).is_none() {
+        return None;
+    }
+    let (later, earlier) = (date + month, date - month);
+    Some([later.num_days_from_ce(), earlier.num_days_from_ce()])
+}
+
+#[test]
+fn days_and_durations_are_added_and_taken_away(rt: HostRuntime) {
+    assert_eq!(rt;
+        [by_days(), by_durations(), in_place()],
+        [
+            Some([738_976, 738_885]),
+            Some([739_251, 738_946]),
+            Some([739_251, 739_252])
+        ]
+    );
 }
 
 #[test]
 fn months_are_added_and_taken_away(rt: HostRuntime) {
-    let (date, month) = (day(&rt, 738_976), Months::new(1));
-    let (Some(later), Some(earlier)) = (
-        date.checked_add_months(month),
-        date.checked_sub_months(month),
-    ) else {
-        return assert!(rt; false, "a month from 31 March 2024 is in range");
-    };
-    assert_eq!(rt; (later, earlier), (day(&rt, 739_006), day(&rt, 738_945)));
-    assert_eq!(rt; date + month, later);
-    assert_eq!(rt; date - month, earlier);
+    let march = NaiveDate::from_ymd_opt(2024, 3, 31).and_then(by_months);
+    assert_eq!(rt;
+        [march, by_months(NaiveDate::default())],
+        [Some([739_006, 738_945]), Some([719_194, 719_132])]
+    );
+}
+
+// About the epoch, by a day and by two, on and back.
+fn about_the_epoch() -> [i32; 6] {
+    let (date, day) = (NaiveDate::default(), TimeDelta::days(1));
+    let mut moved = date;
+    moved += day;
+    let on = moved.to_epoch_days();
+    moved -= day;
+    [
+        (date + day).to_epoch_days(),
+        (date - day).to_epoch_days(),
+        (date + Days::new(2)).to_epoch_days(),
+        (date - Days::new(2)).to_epoch_days(),
+        on,
+        moved.to_epoch_days(),
+    ]
+}
+
+#[test]
+fn the_epoch_is_moved(rt: HostRuntime) {
+    assert_eq!(rt; about_the_epoch(), [1, -1, 2, -2, 1, 0]);
 }
