@@ -28,7 +28,9 @@ impl RunFault {
 impl fmt::Display for RunFault {
     ghost output = { λ fault. Some (fault_text fault) };
 
-    /// Writes `read fault` or `write fault`.
+    ghost styled_output = { λ fault _. Some (fault_text fault) };
+
+    /// Writes `read fault` or `write fault`, whatever width or precision is asked for.
     fn fmt<W: fmt::Write>(&self, f: &mut fmt::Formatter<W>) -> fmt::Result {
         match self {
             RunFault::Read => f.write_str("read fault"),

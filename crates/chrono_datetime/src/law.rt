@@ -17,6 +17,7 @@ pub use chrono_naive::law::{
     month_moves_come_back, month_moves_keep_order, month_moves_reach_dates,
     ordinal_names_are_in_order, weeks_have_one_first_day,
 };
+pub use chrono_units::law::named_sets;
 
 /// The first date-time, as [`NaiveDateTime::MIN`] and as [`MIN_DATETIME`]: day -95,746,129, 00:00:00.
 pub fn first_date_time() -> (NaiveDateTime, NaiveDateTime)

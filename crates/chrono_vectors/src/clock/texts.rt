@@ -107,10 +107,11 @@ const TIMES: [(u32, u32, &str); 22] = [
 fn durations_are_written_in_every_shape(rt: HostRuntime) -> Result<(), Fail> {
     for (secs, nanos, text) in DURATIONS.iter().copied() {
         let duration = delta(&rt, secs, nanos);
-        let shown = format!(in rt.alloc(); "{duration}")?;
+        let shown = format!(in rt.alloc(); "{duration}|{duration:40}|{duration:*^+40.3}")?;
+        let expected = format!(in rt.alloc(); "{text}|{text}|{text}")?;
         assert_eq!(rt;
             (shown.as_str(), fails_where_refused(&duration)),
-            (text, true)
+            (expected.as_str(), true)
         );
     }
     Ok(())
@@ -120,8 +121,8 @@ fn durations_are_written_in_every_shape(rt: HostRuntime) -> Result<(), Fail> {
 fn times_are_written_in_every_shape(rt: HostRuntime) -> Result<(), Fail> {
     for (secs, nanos, text) in TIMES.iter().copied() {
         let time = at(&rt, secs, nanos);
-        let shown = format!(in rt.alloc(); "{time}|{time:?}")?;
-        let expected = format!(in rt.alloc(); "{text}|{text}")?;
+        let shown = format!(in rt.alloc(); "{time}|{time:?}|{time:40}|{time:*^+40.3}")?;
+        let expected = format!(in rt.alloc(); "{text}|{text}|{text}|{text}")?;
         assert_eq!(rt;
             (shown.as_str(), fails_where_refused(&time)),
             (expected.as_str(), true)

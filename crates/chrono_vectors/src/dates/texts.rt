@@ -67,8 +67,8 @@ fn week(rt: &impl Abort, year: i32, month: u32, day: u32) -> IsoWeek {
 fn dates_are_written_in_every_shape(rt: HostRuntime) -> Result<(), AllocError> {
     for (year, month, day, text) in DATES.iter().copied() {
         let date = date(&rt, year, month, day);
-        let shown = format!(in rt.alloc(); "{date}|{date:?}")?;
-        let expected = format!(in rt.alloc(); "{text}|{text}")?;
+        let shown = format!(in rt.alloc(); "{date}|{date:?}|{date:40}|{date:*^+40.3}")?;
+        let expected = format!(in rt.alloc(); "{text}|{text}|{text}|{text}")?;
         assert_eq!(rt; shown.as_str(), expected.as_str());
         assert!(rt; fails_where_refused(&date));
         assert!(rt; fails_where_refused(&ByDebug { value: date }));
@@ -80,8 +80,9 @@ fn dates_are_written_in_every_shape(rt: HostRuntime) -> Result<(), AllocError> {
 fn iso_weeks_are_written_in_every_shape(rt: HostRuntime) -> Result<(), AllocError> {
     for (year, month, day, text) in WEEKS.iter().copied() {
         let week = week(&rt, year, month, day);
-        let shown = format!(in rt.alloc(); "{week:?}")?;
-        assert_eq!(rt; shown.as_str(), text);
+        let shown = format!(in rt.alloc(); "{week:?}|{week:40?}|{week:*^+40.3?}")?;
+        let expected = format!(in rt.alloc(); "{text}|{text}|{text}")?;
+        assert_eq!(rt; shown.as_str(), expected.as_str());
         assert!(rt; fails_where_refused(&ByDebug { value: week }));
     }
     Ok(())
