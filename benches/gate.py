@@ -161,8 +161,12 @@ def main():
     words.add_argument("--no-edits", action="store_true")
     words.add_argument("--functions", metavar="NAME")
     words.add_argument("--log", metavar="FILE", help="keeps the line of each call of the prover")
+    words.add_argument("--at", metavar="FOLDER", help="makes the copy in that folder, which must not exist yet and stays")
     said = words.parse_args()
     keep = os.path.abspath(said.log) if said.log else None
+    if said.at:
+        os.makedirs(said.at)
+        return measure_gate(load_rt(), os.path.abspath(said.at), not said.no_edits, keep)
     with tempfile.TemporaryDirectory(prefix="gate-") as room:
         if said.functions:
             return measure_functions(room, said.functions)
