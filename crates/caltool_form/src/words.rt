@@ -66,7 +66,7 @@ fn short_number(text: &[u8]) -> Option<(u32, &[u8])>
 }
 
 // The number that the first word writes, if it fits an `i64`, and what follows that word.
-#[inline(never)]
+#[inline(always)]
 fn long_number(text: &[u8]) -> Option<(i64, &[u8])>
     ensures some { IfSome result (λ read. numbers_of (words text.now) ≡ option_map (λ numbers. read.0 ∷ numbers) (numbers_behind read.1.now)) }
     ensures none { IfNone result (numbers_of (words text.now) ≡ None) }
