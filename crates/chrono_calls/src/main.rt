@@ -1,11 +1,11 @@
 //! `chrono_calls` makes the library call that each line of standard input names, and compares its answer with the one
 //! that stands there: outside answers as data, which the builds of both compilers are held to.
 //!
-//! A line is `Type.call arguments = answer`, in whole numbers with a space between: a duration is its seconds rounded
-//! down and the nanoseconds past them, a time of day its second and its fraction, a date its day number, a date-time all
-//! three, a weekday 1, Monday, to 7, a set of weekdays 0 to 127 by its binary digits, Monday's the lowest; an order is
-//! -1, 0 or 1, and what is not there is `none`. Each line that is answered otherwise is printed with its number, and at
-//! the end their count.
+//! A line is `Type.call arguments = answer`, or a constant where the call stands, in whole numbers with a space between:
+//! a duration is its seconds rounded down and the nanoseconds past them, a time of day its second and its fraction, a
+//! date its day number, a date-time all three, a weekday 1, Monday, to 7, a set of weekdays 0 to 127 by its binary
+//! digits, Monday's the lowest, a month 1 to 12; an order is -1, 0 or 1, and what is not there is `none`. Each line that
+//! is answered otherwise is printed with its number, and at the end their count.
 #![tactic(auto)]
 
 mod date_times;
