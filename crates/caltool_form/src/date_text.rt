@@ -74,27 +74,3 @@ fn put_year_digits(out: &mut [u8], at: usize, size: u32) -> usize
     }
     put_natural(out, at, u64::from(size))
 }
-
-#[cfg(test)]
-mod tests {
-    use super::*;
-
-    #[test]
-    fn dates_and_weeks(rt: HostRuntime) {
-        let cases: [(i32, &[u8], &[u8]); 6] = [
-            (0, b"x 0000-02-29", b"x 0000-W05"),
-            (-1, b"x -0001-02-29", b"x -0001-W05"),
-            (2024, b"x 2024-02-29", b"x 2024-W05"),
-            (10_000, b"x +10000-02-29", b"x +10000-W05"),
-            (-262_143, b"x -262143-02-29", b"x -262143-W05"),
-            (262_143, b"x +262143-02-29", b"x +262143-W05"),
-        ];
-        for (year, date, week) in &cases {
-            let mut out = *b"x              ";
-            let end = put_calendar_date(&mut out, 2, *year, 2, 29);
-            assert_eq!(rt; &out[..end], *date);
-            let end = put_week(&mut out, 2, *year, 5);
-            assert_eq!(rt; &out[..end], *week);
-        }
-    }
-}

@@ -112,24 +112,3 @@ fn first_digit(places: u32, n: u32) -> (u8, u32)
     let unit = 10u32.pow(places - 1);
     ((n / unit) as u8, n % unit)
 }
-
-#[cfg(test)]
-mod tests {
-    use super::*;
-
-    #[test]
-    fn durations_in_seconds(rt: HostRuntime) {
-        let cases: [(TimeDelta, &[u8]); 5] = [
-            (TimeDelta::zero(), b"x P0D"),
-            (TimeDelta::milliseconds(-500), b"x -PT0.5S"),
-            (TimeDelta::nanoseconds(42), b"x PT0.000000042S"),
-            (TimeDelta::days(42), b"x PT3628800S"),
-            (TimeDelta::MIN, b"x -PT9223372036854775.807S"),
-        ];
-        for (duration, wanted) in &cases {
-            let mut out = *b"x                               ";
-            let end = put_duration(&mut out, 2, *duration);
-            assert_eq!(rt; &out[..end], *wanted);
-        }
-    }
-}

@@ -88,11 +88,7 @@ pub(crate) fn signed(negative: bool, size: u64) -> Option<i64>
 pub(crate) fn to_i32(n: i64) -> Option<i32>
     ensures { result ≡ to_i32 n }
 {
-    if i64::from(i32::MIN) <= n && n <= i64::from(i32::MAX) {
-        Some(n as i32)
-    } else {
-        None
-    }
+    i32::try_from(n).ok()
 }
 
 // The number, if it fits a `u32`.
@@ -101,11 +97,7 @@ pub(crate) fn to_i32(n: i64) -> Option<i32>
 pub(crate) fn to_u32(n: i64) -> Option<u32>
     ensures { result ≡ to_u32 n }
 {
-    if 0 <= n && n <= i64::from(u32::MAX) {
-        Some(n as u32)
-    } else {
-        None
-    }
+    u32::try_from(n).ok()
 }
 
 // The number, if it fits a `u8`.
@@ -114,11 +106,7 @@ pub(crate) fn to_u32(n: i64) -> Option<u32>
 pub(crate) fn to_u8(n: i64) -> Option<u8>
     ensures { result ≡ to_u8 n }
 {
-    if 0 <= n && n <= i64::from(u8::MAX) {
-        Some(n as u8)
-    } else {
-        None
-    }
+    u8::try_from(n).ok()
 }
 
 // The number of months, if its size fits a `u32`.

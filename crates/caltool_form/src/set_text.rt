@@ -108,27 +108,3 @@ fn put_spaced_days(out: &mut [u8], at: usize, mut days: WeekdaySetIter) -> usize
         }
     }
 }
-
-#[cfg(test)]
-mod tests {
-    use super::*;
-
-    #[test]
-    fn sets_and_walks(rt: HostRuntime) {
-        let three = WeekdaySet::from_array([Weekday::Sun, Weekday::Thu, Weekday::Mon]);
-        let cases: [(WeekdaySet, &[u8]); 3] = [
-            (WeekdaySet::EMPTY, b"[]"),
-            (three, b"[Mon, Thu, Sun] Thu Sun Mon"),
-            (
-                WeekdaySet::ALL,
-                b"[Mon, Tue, Wed, Thu, Fri, Sat, Sun] Wed Thu Fri Sat Sun Mon Tue",
-            ),
-        ];
-        for (set, wanted) in &cases {
-            let mut out = [0u8; 63];
-            let end = put_set(&mut out, 0, *set);
-            let end = put_walk(&mut out, end, *set, Weekday::Wed);
-            assert_eq!(rt; &out[..end], *wanted);
-        }
-    }
-}

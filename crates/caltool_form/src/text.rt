@@ -121,29 +121,3 @@ fn put_below_hundred(out: &mut [u8], at: usize, n: u32) -> usize
     out[at] = b'0' + n as u8;
     at + 1
 }
-
-#[cfg(test)]
-mod tests {
-    use super::*;
-
-    #[test]
-    fn numbers_in_decimal(rt: HostRuntime) {
-        let cases: [(i64, &[u8]); 9] = [
-            (0, b"n 0"),
-            (9, b"n 9"),
-            (10, b"n 10"),
-            (-1, b"n -1"),
-            (-100, b"n -100"),
-            (738945, b"n 738945"),
-            (1000000, b"n 1000000"),
-            (i64::MAX, b"n 9223372036854775807"),
-            (i64::MIN, b"n -9223372036854775808"),
-        ];
-        for (n, wanted) in &cases {
-            let mut out = [0u8; 22];
-            let at = put_text(&mut out, 0, b"n ");
-            let end = put_number(&mut out, at, *n);
-            assert_eq!(rt; &out[..end], *wanted);
-        }
-    }
-}

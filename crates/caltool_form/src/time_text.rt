@@ -57,25 +57,3 @@ fn put_subsecond(out: &mut [u8], at: usize, nanos: u32) -> usize
     }
     put_nine(out, at + 1, nanos)
 }
-
-#[cfg(test)]
-mod tests {
-    use super::*;
-
-    #[test]
-    fn times_of_day(rt: HostRuntime) {
-        let cases: [(u32, &[u8]); 6] = [
-            (0, b"x 09:08:59"),
-            (500_000_000, b"x 09:08:59.500"),
-            (1_000, b"x 09:08:59.000001"),
-            (42, b"x 09:08:59.000000042"),
-            (1_000_000_000, b"x 09:08:60"),
-            (1_999_999_999, b"x 09:08:60.999999999"),
-        ];
-        for (fraction, wanted) in &cases {
-            let mut out = *b"x                   ";
-            let end = put_clock(&mut out, 2, 9, 8, 59, *fraction);
-            assert_eq!(rt; &out[..end], *wanted);
-        }
-    }
-}

@@ -1,13 +1,17 @@
-//! Tests of `caltool_dates`: lines and their answers, runs in pieces and past failing calls, over readers
+//! Tests of `caltool_form` and `caltool_dates`: lines, commands, texts and answers, runs in pieces and past failing calls, over readers
 //! and writers that cut the bytes, count their calls, and fail where they are told to.
 #![tactic(auto)]
 
+#[cfg(test)]
+mod commands;
 mod pieces;
 mod run;
 mod shared;
 mod sink;
 #[cfg(test)]
 mod tests;
+#[cfg(test)]
+mod texts;
 
 pub use pieces::Pieces;
 pub use run::run_pieces;

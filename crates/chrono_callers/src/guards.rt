@@ -100,6 +100,8 @@ pub fn last_day_or(week: NaiveWeek, date: NaiveDate) -> NaiveDate
 /// The days of a week, or the days given where not all of them are dates.
 pub fn days_or(week: NaiveWeek, days: RangeInclusive<NaiveDate>) -> RangeInclusive<NaiveDate>
     ensures whole { IsDate week → IsDate (week +ℤ pos 6) → IsRange week (week +ℤ pos 6) result }
+    ensures late { ¬ IsDate (week +ℤ pos 6) → result ≡ days }
+    ensures early { ¬ IsDate week → result ≡ days }
 {
     if week.checked_days().is_none() {
         return days;

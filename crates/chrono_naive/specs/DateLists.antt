@@ -1,5 +1,5 @@
 -- Days in a row, and the lists that the iterators over dates run through.
-use Rattle.std.specs.Prelude.{◌≡◌, ℕ, zero, suc, ◌/◌, false, List, [], ◌∷◌, ℤ, pos, neg_ℤ, ◌+ℤ◌, ◌-ℤ◌, ◌≤ℤ◌, unsigned_abs}
+use Rattle.std.specs.Prelude.{◌≡◌, ℕ, zero, suc, ◌/◌, false, List, [], ◌∷◌, ℤ, pos, ◌+ℤ◌, ◌-ℤ◌, unsigned_abs}
 use Rattle.std.specs.declared.ops.RangeInclusive.{RangeInclusive}
 use Rattle.std.specs.Range.{range_inclusive_start, range_inclusive_end, range_inclusive_exhausted}
 
@@ -23,10 +23,6 @@ days_from n = in_steps 1 (days_left n) n
 -- n and the dates after it, week after week, as long as the week after is a date too
 abbrev pub weeks_from : ℤ → List ℤ
 weeks_from n = in_steps 7 (days_left n / 7) n
-
--- the day first may begin a week that holds a date: the week of the first date begins up to six days before it
-abbrev pub IsWeekStart : ℤ → Type 0
-IsWeekStart first = (neg_ℤ (pos 95_746_135) ≤ℤ first) × (first ≤ℤ last_date)
 
 -- the seven days of the week that begins with the day first
 abbrev pub days_of_week : ℤ → List ℤ

@@ -2,7 +2,8 @@
 ghost use Rattle.std.specs.Prelude.{◌≡◌, pos, ◌+ℤ◌, IsTrue, IsSome, IfSome, ◌↔◌};
 ghost use Rattle.std.specs.Ordering.{int_eq};
 ghost use Rattle.chrono_calendar.specs.Days.{IsDate, date_of_day};
-ghost use Rattle.chrono_naive.specs.DateLists.{IsRange, IsWeekStart, days_of_week};
+ghost use Rattle.chrono_calendar.specs.Weeks.{IsFirstOfWeek};
+ghost use Rattle.chrono_naive.specs.DateLists.{IsRange, days_of_week};
 
 use crate::naive_date::NaiveDate;
 use std::marker::Model;
@@ -20,13 +21,13 @@ pub struct NaiveWeek {
 
 impl Model for NaiveWeek {
     ghost use Rattle.std.specs.Prelude.{ℤ};
-    ghost use Rattle.chrono_naive.specs.DateLists.{IsWeekStart};
+    ghost use Rattle.chrono_calendar.specs.Weeks.{IsFirstOfWeek};
 
     ghost Value = { ℤ };
 
     ghost view = { λ w. w.first };
 
-    ghost invariant = { λ w. IsWeekStart w.first };
+    ghost invariant = { λ w. IsFirstOfWeek w.first };
 
     ghost inverse = { λ n. record { first = n } };
 }
@@ -35,7 +36,7 @@ impl NaiveWeek {
     // The week whose first day has that number.
     #[inline]
     pub(crate) fn new(first: i32) -> NaiveWeek
-        requires { IsWeekStart first }
+        requires { IsFirstOfWeek first }
         ensures { result ≡ first }
     {
         NaiveWeek { first }
