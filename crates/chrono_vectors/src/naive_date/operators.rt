@@ -1,24 +1,32 @@
 //! Operators on dates: the days that they lead to from 29 February 2024, from a month later, and from 1 January 1970.
 
+use crate::naive_date::day;
 use chrono_naive::{Datelike, Days, Months, NaiveDate, TimeDelta};
 
 // By 31 days on and by 60 back.
-fn by_days() -> Option<[i32; 2]> {
-    let date = NaiveDate::from_num_days_from_ce_opt(738_945)?;
+fn by_days(date: NaiveDate) -> Option<[i32; 2]> {
+    if date.num_days_from_ce() != 738_945 {
+        return None;
+    }
     let (later, earlier) = (date + Days::new(31), date - Days::new(60));
     Some([later.num_days_from_ce(), earlier.num_days_from_ce()])
 }
 
 // By 306 days on, and by a day less than none.
-fn by_durations() -> Option<[i32; 2]> {
-    let date = NaiveDate::from_num_days_from_ce_opt(738_945)?;
+fn by_durations(date: NaiveDate) -> Option<[i32; 2]> {
+    if date.num_days_from_ce() != 738_945 {
+        return None;
+    }
     let (later, next) = (date + TimeDelta::days(306), date - TimeDelta::days(-1));
     Some([later.num_days_from_ce(), next.num_days_from_ce()])
 }
 
 // In place, by both in turn.
-fn in_place() -> Option<[i32; 2]> {
-    let mut date = NaiveDate::from_num_days_from_ce_opt(738_945)?;
+fn in_place(date: NaiveDate) -> Option<[i32; 2]> {
+    if date.num_days_from_ce() != 738_945 {
+        return None;
+    }
+    let mut date = date;
     date += TimeDelta::days(306);
     let later = date.num_days_from_ce();
     date -= TimeDelta::days(-1);
@@ -37,8 +45,9 @@ fn by_months(date: NaiveDate) -> Option<[i32; 2]> {
 
 #[test]
 fn days_and_durations_are_added_and_taken_away(rt: HostRuntime) {
+    let date = day(&rt, 738_945);
     assert_eq!(rt;
-        [by_days(), by_durations(), in_place()],
+        [by_days(date), by_durations(date), in_place(date)],
         [
             Some([738_976, 738_885]),
             Some([739_251, 738_946]),
