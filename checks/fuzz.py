@@ -4,109 +4,27 @@
     checks/fuzz.py [--lines N] [--seed N]      (200,000 lines from seed 1, if left out)
 
 The lines come of a grammar of near misses: numbers at the ends of their types and of the calendar, days that a month may not have,
-signs, zeros and spaces where they do not belong, words cut or misspelt, lines about as long as a line may be, bytes of any kind;
-and each byte in each place of two short lines. What they answer is counted here with whole numbers, and with Python's datetime in
-the years 1 to 9999; nothing is taken from the program's own sources. The first line answered otherwise is printed with its seed.
+signs, zeros and spaces where they do not belong, numbers past every width, words cut or misspelt, a byte dropped, doubled or struck
+wrong, lines about as long as a line may be, bytes of any kind; and each byte in each place of two short lines. What they answer is
+counted (checks/counted.py); nothing is taken from the program's own sources. The first line answered otherwise is printed with
+its seed.
 """
 import argparse
-import bisect
-import datetime
 import os
 import random
 import re
 import subprocess
 import sys
 
+from counted import (DAY, FIRST_DAY, FIRST_YEAR, LAST_DAY, LAST_YEAR, LONGEST, NANOS, apart, day_in_year, day_of, day_of_month,
+                     day_of_week_date, first_of_week, in_range, is_time, land, month_move, name_of, ordinal_of, week_of, weekday_of,
+                     years_between)
+
 TOP = os.path.dirname(os.path.dirname(os.path.abspath(__file__)))
 CALTOOL = os.path.join(TOP, "crates", "caltool", "out", "caltool")
 
-FIRST_YEAR, LAST_YEAR = -262_143, 262_142
-NANOS = 10**9
-DAY = 86_400 * NANOS
 WEEKDAYS = ["Mon", "Tue", "Wed", "Thu", "Fri", "Sat", "Sun"]
-LONGEST = 120
-
-
-# ---- the calendar, counted
-
-
-def is_leap(year):
-    return year % 4 == 0 and (year % 100 != 0 or year % 400 == 0)
-
-
-def month_lengths(year):
-    return [31, 29 if is_leap(year) else 28, 31, 30, 31, 30, 31, 31, 30, 31, 30, 31]
-
-
-# The days before each year of the 400 that begin with year 1, and before the year after them.
-BEFORE = [0]
-for counted in range(1, 401):
-    BEFORE.append(BEFORE[-1] + sum(month_lengths(counted)))
-
-
-def days_before(year):
-    cycles, rest = divmod(year - 1, 400)
-    return cycles * BEFORE[400] + BEFORE[rest]
-
-
-FIRST_DAY, LAST_DAY = days_before(FIRST_YEAR) + 1, days_before(LAST_YEAR + 1)
-
-
-def day_of(year, month, day):
-    """The number of a calendar date, or None."""
-    if 1 <= year <= 9999:
-        try:
-            return datetime.date(year, month, day).toordinal()
-        except (ValueError, OverflowError):
-            return None
-    if not (FIRST_YEAR <= year <= LAST_YEAR and 1 <= month <= 12 and 1 <= day <= month_lengths(year)[month - 1]):
-        return None
-    return days_before(year) + sum(month_lengths(year)[: month - 1]) + day
-
-
-def name_of(number):
-    """Year, month and day of a number, which may lie past the calendar's ends."""
-    if 1 <= number <= datetime.date.max.toordinal():
-        date = datetime.date.fromordinal(number)
-        return date.year, date.month, date.day
-    cycles, rest = divmod(number - 1, BEFORE[400])
-    within = bisect.bisect_right(BEFORE, rest) - 1
-    year, rest = 400 * cycles + within + 1, rest - BEFORE[within]
-    for month, length in enumerate(month_lengths(year), 1):
-        if rest < length:
-            return year, month, rest + 1
-        rest -= length
-
-
-def in_range(number):
-    return number if number is not None and FIRST_DAY <= number <= LAST_DAY else None
-
-
-def weekday_of(number):
-    """From 0, Monday: day 1 was one."""
-    return (number - 1) % 7
-
-
-def week_of(number):
-    """The ISO year and week: those of the Thursday in the same week."""
-    thursday = number - weekday_of(number) + 3
-    year = name_of(thursday)[0]
-    return year, (thursday - days_before(year) - 1) // 7 + 1
-
-
-def day_of_week_date(year, week, weekday):
-    """The number of an ISO week date, or None."""
-    fourth = days_before(year) + 4
-    monday = fourth - weekday_of(fourth) + 7 * (week - 1)
-    return in_range(monday + weekday - 1) if week >= 1 and week_of(monday) == (year, week) else None
-
-
-def month_move(number, count):
-    year, month, day = name_of(number)
-    year, month = divmod(12 * year + month - 1 + count, 12)
-    if not FIRST_YEAR <= year <= LAST_YEAR:
-        return None
-    return day_of(year, month + 1, min(day, month_lengths(year)[month]))
+LONGEST_LINE = 120
 
 
 # ---- texts
@@ -125,8 +43,7 @@ def date_line(number):
     if number is None:
         return "none"
     year, week = week_of(number)
-    ordinal = number - days_before(name_of(number)[0])
-    return f"{date_text(number)} {number} {WEEKDAYS[weekday_of(number)]} {year_text(year)}-W{week:02} {ordinal}"
+    return f"{date_text(number)} {number} {WEEKDAYS[weekday_of(number)]} {year_text(year)}-W{week:02} {ordinal_of(number)}"
 
 
 def moment_text(number, second, fraction):
@@ -151,58 +68,40 @@ def duration_text(nanos):
 def moment_of(year, month, day, hour, minute, second, nano):
     """The day's number, the second of the day and the fraction, from 10^9 on in a leap second; or None."""
     number = day_of(year, month, day)
-    is_time = hour < 24 and minute < 60 and second < 60 and nano < (2 * NANOS if second == 59 else NANOS)
-    return (number, 3600 * hour + 60 * minute + second, nano) if number is not None and is_time else None
+    if number is None or not is_time(hour, minute, second, nano):
+        return None
+    return number, 3600 * hour + 60 * minute + second, nano
 
 
 def moved(*words):
-    """A move on the line that holds the leap second of the start, and no other."""
     start, (seconds, nanos) = moment_of(*words[:7]), words[7:]
     length = seconds * NANOS + nanos
-    if start is None or nanos >= NANOS or abs(length) > (2**63 - 1) * 10**6:
+    if start is None or nanos >= NANOS or abs(length) > LONGEST:
         return "none"
-    number, second, fraction = start
-    place = second * NANOS + fraction + length
-    leap = (second + 1) * NANOS if fraction >= NANOS else None
-    if leap is not None and leap <= place < leap + NANOS:
-        return moment_text(number, second, place - second * NANOS)
-    if leap is not None and place >= leap + NANOS:
-        place -= NANOS
-    days, rest = divmod(place, DAY)
-    return "none" if in_range(number + days) is None else moment_text(number + days, *divmod(rest, NANOS))
+    number, *time = start
+    days, *time = land(*time, length)
+    return "none" if in_range(number + days) is None else moment_text(number + days, *time)
 
 
 def distance(*words):
-    """The first less the second, with a second more where a leap second lies between their times of day."""
     first, second = moment_of(*words[:7]), moment_of(*words[7:])
     if first is None or second is None:
         return "none"
-    (date, time, fraction), (other_date, other_time, other_fraction) = first, second
-    between = (time > other_time and other_fraction >= NANOS) - (time < other_time and fraction >= NANOS)
-    return duration_text((date - other_date) * DAY + (time - other_time + between) * NANOS + fraction - other_fraction)
+    return duration_text((first[0] - second[0]) * DAY + apart(first[1:], second[1:]))
 
 
 def years_since(*words):
     first, base = day_of(*words[:3]), day_of(*words[3:])
-    if first is None or base is None:
-        return "none"
-    years = words[0] - words[3] - (words[1:3] < words[4:])
-    return str(years) if years >= 0 else "none"
+    years = None if first is None or base is None else years_between(first, base)
+    return "none" if years is None else str(years)
 
 
 def week(year, month, day, start):
     number = day_of(year, month, day)
     if number is None:
         return "none"
-    first = number - (weekday_of(number) + 1 - start) % 7
+    first = first_of_week(number, start)
     return " ".join("none" if in_range(it) is None else date_text(it) for it in (first, first + 6))
-
-
-def weekday_of_month(year, month, weekday, count):
-    first = day_of(year, month, 1)
-    if first is None or count == 0:
-        return None
-    return day_of(year, month, 1 + (weekday - 1 - weekday_of(first)) % 7 + 7 * (count - 1))
 
 
 def days_on(year, month, day, count):
@@ -213,11 +112,6 @@ def days_on(year, month, day, count):
 def months_on(year, month, day, count):
     number = day_of(year, month, day)
     return None if number is None else month_move(number, count)
-
-
-def day_in_year(year, ordinal):
-    first = day_of(year, 1, 1)
-    return first + ordinal - 1 if first is not None and 1 <= ordinal <= sum(month_lengths(year)) else None
 
 
 def set_line(start, *days):
@@ -236,7 +130,7 @@ COMMANDS = {
     "yo": ([I32, U32], lambda *it: date_line(day_in_year(*it))),
     "iwd": ([I32, U32, WEEKDAY], lambda *it: date_line(day_of_week_date(*it))),
     "day": ([I32], lambda it: date_line(in_range(it))),
-    "wom": ([I32, U32, WEEKDAY, U8], lambda *it: date_line(weekday_of_month(*it))),
+    "wom": ([I32, U32, WEEKDAY, U8], lambda *it: date_line(day_of_month(*it))),
     "days": (DATE + [I64], lambda *it: date_line(days_on(*it))),
     "months": (DATE + [MONTHS], lambda *it: date_line(months_on(*it))),
     "week": (DATE + [WEEKDAY], week),
@@ -250,7 +144,7 @@ COMMANDS = {
 def answer(line):
     """The answer of a line, which is a list of bytes."""
     name, *words = line.decode("latin-1").split(" ")
-    if len(line) > LONGEST or name not in COMMANDS or not all(re.fullmatch(r"-?[0-9]+", it, re.ASCII) for it in words):
+    if len(line) > LONGEST_LINE or name not in COMMANDS or not all(re.fullmatch(r"-?[0-9]+", it, re.ASCII) for it in words):
         return "error"
     types, answers = COMMANDS[name]
     numbers = [int(it) for it in words]
@@ -311,11 +205,14 @@ def numbers_of(chance, name):
 
 def written(chance, number):
     """A number's digits, at times with zeros before them, a sign too many, or a byte that is no digit."""
-    zeros = "0" * chance.choice([0] * 20 + [1, 2, 20])
-    text = ("-" if number < 0 else "") + zeros + str(abs(number))
+    sign, zeros = "-" if number < 0 else "", "0" * chance.choice([0] * 20 + [1, 2, 20])
+    text = sign + zeros + str(abs(number))
     slip = chance.random()
     if slip < 0.004:
         return chance.choice(["+" + text, "-" + text, "", "-", text + "-", text + ".", "0x" + text, text + "e0", "9" * 40])
+    if slip < 0.006:
+        # (a number that is the same to whoever drops its high bits)
+        return sign + str(abs(number) + 2 ** chance.choice([8, 16, 32, 64, 128]))
     return text
 
 
@@ -334,8 +231,16 @@ def a_line(chance):
         words[chance.randrange(len(words))] += chance.choice([" ", "\t", "\r", "\0", "\x7f", "\xff", "\xa0", "a"])
     elif slip < 0.05:
         length = len(" ".join(words))
-        words[-1] = words[-1].rjust(len(words[-1]) + max(0, LONGEST + chance.randint(-2, 2) - length), "0")
-    return " ".join(words).encode("latin-1")
+        words[-1] = words[-1].rjust(len(words[-1]) + max(0, LONGEST_LINE + chance.randint(-2, 2) - length), "0")
+    line = " ".join(words).encode("latin-1")
+    return struck(chance, line) if 0.05 <= slip < 0.07 else line
+
+
+def struck(chance, line):
+    """The line with one byte dropped, doubled, put in, or another in its place."""
+    place, byte = chance.randrange(len(line) + 1), bytes([chance.choice([chance.randrange(256), *b" -0159"])])
+    return chance.choice([line[:place] + line[place + 1 :], line[:place] + line[place - 1 :] if place else b" " + line,
+                          line[:place] + byte + line[place:], line[:place] + byte + line[place + 1 :]])
 
 
 def each_byte():
