@@ -1,14 +1,14 @@
 -- Lines that come in pieces, and writers that hold a beginning of a text.
-use Rattle.std.proofs.Common.{◌≡◌, ◌==◌, ℕ, zero, suc, ◌+◌, ◌-◌, ◌<◌, ◌≤◌, All, min, true, false, inl, inr, List, [], ◌∷◌, ◌++◌, length, take, drop, set, length-append, refl, ap, sym, ◌∙◌, arith, append_assoc, take-append-drop, subst, Option, codes, Result, Ok, Err, OnErr, IsErrOf}
+use Rattle.std.proofs.Common.{◌≡◌, ◌==◌, ℕ, zero, suc, ◌+◌, ◌-◌, ◌<◌, ◌≤◌, All, min, true, false, inl, inr, List, [], ◌∷◌, ◌++◌, length, take, set, length-append, refl, ap, sym, ◌∙◌, arith, subst, Option, codes, Result, Ok, Err, OnErr, IsErrOf}
 use Rattle.std.specs.List.{onto_first}
 use Rattle.std.specs.Option.{option_map_or}
 use Rattle.std.proofs.lemmas.Bool.{cases_lt, cases_eq, eq-eqb, ne_eqb, lt-ltb, cond-true}
-use Rattle.std.proofs.lemmas.List.{take_min, take_all, take_at, take_rest, take-append-le, length-take, take_more_set}
+use Rattle.std.proofs.lemmas.List.{take_min, take_all, take-append-le, length-take, take_more_set}
 use Rattle.std.proofs.lemmas.List.Splits.{slice_split_none, slice_split_at, slice_split-cons_yes, slice_split-cons_no, length-slice_split}
 use Rattle.std.proofs.lemmas.Grind.{flat_map-append}
 use Rattle.std.proofs.Math.Seq.{take-append-add}
-use Rattle.std.proofs.KnownBytes.{Appends-trans, Appends-kept}
-use Rattle.std.specs.Io.KnownBytes.{Appends, Keeps}
+use Rattle.std.proofs.KnownBytes.{Appends-trans}
+use Rattle.std.specs.Io.KnownBytes.{Appends}
 use Rattle.caltool_form.specs.Lines.{pieces, but_last, last_part, ended_lines, rest_of, onto_front, pieces_after, last_line, IsPiece}
 use Rattle.caltool_form.specs.Answers.{answers_of, answer_of}
 use Rattle.caltool_form.specs.Commands.{is_long, command_of}
@@ -116,17 +116,8 @@ last_part-append (part ∷ []) line [] = refl
 last_part-append (part ∷ []) line (next ∷ parts) = refl
 last_part-append (part ∷ next ∷ cut) line parts = last_part-append (next ∷ cut) line parts
 
--- a beginning of what is left joins what is done
-pub n_more_done : (bytes done rest : List ℕ) (n : ℕ) → bytes ≡ done ++ rest → bytes ≡ (done ++ take n rest) ++ take (length rest - n) (drop n rest)
-n_more_done bytes done rest n split =
-    let back : take n rest ++ take (length rest - n) (drop n rest) ≡ rest = rw (take_rest rest n) (take-append-drop n rest) in
-    rw (append_assoc, back) split
-
--- a writer that holds a beginning of the bytes, and then no more or some more of them
-pub begun : (a b c : Option (List ℕ)) (bytes done rest : List ℕ) → bytes ≡ done ++ rest → Appends a b done → Keeps b c → (n : ℕ) × Appends a c (take n bytes)
-begun a b c bytes done rest e h k = (length done, subst (Appends a c) (sym (ap (λ l. take (length done) l) e ∙ take_at done rest _ refl)) (Appends-kept a b c done h k))
-
-pub begun_more : (a b c : Option (List ℕ)) (bytes done rest : List ℕ) (n : ℕ) → bytes ≡ done ++ rest → Appends a b done → Appends b c (take n rest) → (m : ℕ) × Appends a c (take m bytes)
+-- a writer that holds a beginning of the bytes, and then some more of them
+begun_more : (a b c : Option (List ℕ)) (bytes done rest : List ℕ) (n : ℕ) → bytes ≡ done ++ rest → Appends a b done → Appends b c (take n rest) → (m : ℕ) × Appends a c (take m bytes)
 begun_more a b c bytes done rest n e h k =
     (length done + n, subst (Appends a c) (sym (ap (λ l. take (length done + n) l) e ∙ take-append-add done rest n)) (Appends-trans a b c done (take n rest) h k))
 

@@ -119,10 +119,10 @@ fn write_whole<W: Write>(w: &mut WatchedWriter<'_, W>, bytes: &[u8]) -> Result<(
     ensures mark { w.new.mark ≡ mark_of_write result }
     ensures fault { IfErr result (λ e. e ≡ RunFault.Write) }
 {
-    let mut rest = bytes;
-    while !rest.is_empty() {
-        let n = w.write(rest)?;
-        rest = &rest[n..];
+    let mut at = 0;
+    while at < bytes.len() {
+        let n = w.write(&bytes[at..])?;
+        at += n;
     }
     Ok(())
 }
