@@ -12,3 +12,5 @@ pub mod Cuts
 pub mod Decimals
 pub mod DigitCuts
 pub mod Walks
+pub mod Tests
+pub mod Moments
