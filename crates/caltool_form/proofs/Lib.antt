@@ -11,3 +11,5 @@ pub mod Progress
 pub mod Cuts
 pub mod Decimals
 pub mod Walks
+pub mod Tests
+pub mod Moments

@@ -10,9 +10,8 @@ use Rattle.std.proofs.Math.Seq.{take-append-add}
 use Rattle.std.proofs.KnownBytes.{Appends-trans}
 use Rattle.std.specs.Io.KnownBytes.{Appends}
 use Rattle.caltool_form.specs.Lines.{pieces, but_last, last_part, ended_lines, rest_of, onto_front, pieces_after, last_line, IsPiece}
-use Rattle.caltool_form.specs.Answers.{answers_of, answer_of}
+use Rattle.caltool_form.specs.Answers.{answer_of, answer_to, answers_of}
 use Rattle.caltool_form.specs.Commands.{is_long, command_of}
-use Rattle.caltool_form.specs.declared.command.Command.{Command}
 
 -- a front of two lists
 pub take-append : (n : ℕ) (xs ys : List ℕ) → take n (xs ++ ys) ≡ take n xs ++ take (n - length xs) ys
@@ -122,10 +121,10 @@ begun_more a b c bytes done rest n e h k =
     (length done + n, subst (Appends a c) (sym (ap (λ l. take (length done + n) l) e ∙ take-append-add done rest n)) (Appends-trans a b c done (take n rest) h k))
 
 -- of a line that is too long the first 121 bytes have its answer
-pub clipped : (answer_to : Command → List ℕ) (line : List ℕ) → answer_of answer_to (take 121 line) ≡ answer_of answer_to line
+pub clipped : (line : List ℕ) → answer_of (take 121 line) ≡ answer_of line
 unfolding answer_of command_of
-clipped answer_to line = elim (cases_lt (length line) 121) as (λ _. answer_of answer_to (take 121 line) ≡ answer_of answer_to line) [
-  | inl short ↦ ap (answer_of answer_to) (take_all 121 line (omega arith))
+clipped line = elim (cases_lt (length line) 121) as (λ _. answer_of (take 121 line) ≡ answer_of line) [
+  | inl short ↦ ap answer_of (take_all 121 line (omega arith))
   | inr long ↦
       let e : length (take 121 line) ≡ 121 = omega (arith, length-take 121 line) in
       let a : is_long (take 121 line) ≡ true = lt-ltb _ _ (omega arith) in
@@ -168,33 +167,32 @@ same_more a b more h =
     take-append 121 a more ∙ ap (λ l. l ++ take (121 - length a) more) h ∙ ap (λ n. take 121 b ++ take n more) room ∙ sym (take-append 121 b more)
 
 -- so what answers lines that are kept alike
-module _ (answer_to : Command → List ℕ) where
-  same_answer : (a b : List ℕ) → take 121 a ≡ take 121 b → answer_of answer_to a ≡ answer_of answer_to b
-  same_answer a b h = sym (clipped answer_to a) ∙ ap (answer_of answer_to) h ∙ clipped answer_to b
+same_answer : (a b : List ℕ) → take 121 a ≡ take 121 b → answer_of a ≡ answer_of b
+same_answer a b h = sym (clipped a) ∙ ap answer_of h ∙ clipped b
 
-  same_ended : (a b : List ℕ) (parts : List (List ℕ)) → take 121 a ≡ take 121 b
-      → answers_of (answer_of answer_to) (but_last (onto_front a parts)) ≡ answers_of (answer_of answer_to) (but_last (onto_front b parts))
-  same_ended a b [] h = refl
-  same_ended a b (part ∷ []) h = refl
-  same_ended a b (part ∷ next ∷ parts) h =
-      ap (λ l. (l ++ 10 ∷ []) ++ answers_of (answer_of answer_to) (but_last (next ∷ parts))) (same_answer (a ++ part) (b ++ part) (same_more a b part h))
+same_ended : (a b : List ℕ) (parts : List (List ℕ)) → take 121 a ≡ take 121 b
+    → answers_of answer_of (but_last (onto_front a parts)) ≡ answers_of answer_of (but_last (onto_front b parts))
+same_ended a b [] h = refl
+same_ended a b (part ∷ []) h = refl
+same_ended a b (part ∷ next ∷ parts) h =
+    ap (λ l. (l ++ 10 ∷ []) ++ answers_of answer_of (but_last (next ∷ parts))) (same_answer (a ++ part) (b ++ part) (same_more a b part h))
 
-  -- the answers of two texts, where the last line of the first is kept
-  pub ended_more : (kept bytes more : List ℕ) → take 121 kept ≡ take 121 (rest_of bytes)
-      → answers_of (answer_of answer_to) (ended_lines (bytes ++ more))
-      ≡ answers_of (answer_of answer_to) (ended_lines bytes) ++ answers_of (answer_of answer_to) (but_last (pieces_after kept more))
-  ended_more kept bytes more h =
-      ap (λ parts. answers_of (answer_of answer_to) (but_last parts)) (pieces-append bytes more)
-      ∙ ap (answers_of (answer_of answer_to)) (but_last-append (ended_lines bytes) (rest_of bytes) (pieces more))
-      ∙ flat_map-append _ (ended_lines bytes) (but_last (pieces_after (rest_of bytes) more))
-      ∙ ap (λ l. answers_of (answer_of answer_to) (ended_lines bytes) ++ l) (sym (same_ended kept (rest_of bytes) (pieces more) h))
+-- the answers of two texts, where the last line of the first is kept
+pub ended_more : (kept bytes more : List ℕ) → take 121 kept ≡ take 121 (rest_of bytes)
+    → answers_of answer_of (ended_lines (bytes ++ more))
+    ≡ answers_of answer_of (ended_lines bytes) ++ answers_of answer_of (but_last (pieces_after kept more))
+ended_more kept bytes more h =
+    ap (λ parts. answers_of answer_of (but_last parts)) (pieces-append bytes more)
+    ∙ ap (answers_of answer_of) (but_last-append (ended_lines bytes) (rest_of bytes) (pieces more))
+    ∙ flat_map-append _ (ended_lines bytes) (but_last (pieces_after (rest_of bytes) more))
+    ∙ ap (λ l. answers_of answer_of (ended_lines bytes) ++ l) (sym (same_ended kept (rest_of bytes) (pieces more) h))
 
-  pub same_last : (a b : List ℕ) → take 121 a ≡ take 121 b
-      → answers_of (answer_of answer_to) (last_line a) ≡ answers_of (answer_of answer_to) (last_line b)
-  same_last [] [] h = refl
-  same_last [] (y ∷ b) h = let e : 0 ≡ length (take 121 (y ∷ b)) = ap length h in absurd (omega (arith, e, length-take 121 (y ∷ b)))
-  same_last (x ∷ a) [] h = let e : length (take 121 (x ∷ a)) ≡ 0 = ap length h in absurd (omega (arith, e, length-take 121 (x ∷ a)))
-  same_last (x ∷ a) (y ∷ b) h = ap (λ l. (l ++ 10 ∷ []) ++ []) (same_answer (x ∷ a) (y ∷ b) h)
+pub same_last : (a b : List ℕ) → take 121 a ≡ take 121 b
+    → answers_of answer_of (last_line a) ≡ answers_of answer_of (last_line b)
+same_last [] [] h = refl
+same_last [] (y ∷ b) h = let e : 0 ≡ length (take 121 (y ∷ b)) = ap length h in absurd (omega (arith, e, length-take 121 (y ∷ b)))
+same_last (x ∷ a) [] h = let e : length (take 121 (x ∷ a)) ≡ 0 = ap length h in absurd (omega (arith, e, length-take 121 (x ∷ a)))
+same_last (x ∷ a) (y ∷ b) h = ap (λ l. (l ++ 10 ∷ []) ++ []) (same_answer (x ∷ a) (y ∷ b) h)
 
 same_left : (a b : List ℕ) (parts : List (List ℕ)) → take 121 a ≡ take 121 b → take 121 (last_part (onto_front a parts)) ≡ take 121 (last_part (onto_front b parts))
 same_left a b [] h = h

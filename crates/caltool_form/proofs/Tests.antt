@@ -3,10 +3,10 @@ use Rattle.std.proofs.Common.{◌≡◌, ℕ, ◌<◌, ◌≤◌, Bool, true, fa
 use Rattle.std.proofs.lemmas.Bool.{false≢true}
 use Rattle.std.proofs.lemmas.Bool.Decides.{nat_tests}
 use Rattle.std.specs.Option.{SomeIff}
-use Rattle.chrono_datetime.specs.Duration.{IsDuration, longest, nanos_of, nanos_per_second}
-use Rattle.chrono_datetime.specs.Time.{TimeOfDay, IsClock, FractionFits, time_at}
+use Rattle.chrono_clock.specs.Duration.{IsDuration, longest, nanos_of, nanos_per_second}
+use Rattle.chrono_clock.specs.Time.{TimeOfDay, IsClock, FractionFits, time_at}
 use Rattle.caltool_form.specs.declared.arguments.ClockTime.{ClockTime}
-use Rattle.caltool_dates.specs.Answers.{time_named, duration_named}
+use Rattle.caltool_form.specs.Named.{time_named, duration_named}
 
 -- an answer that exists exactly under a fact is the one that a test for the fact gives
 by_test : {A : Type 0} (t : Bool) (o : Option A) (v : A) (P : Type 0) → (t ≡ true → P) → (P → t ≡ true) → SomeIff o P v → o ≡ cond t (Some v) None
