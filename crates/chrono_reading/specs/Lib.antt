@@ -1,1 +1,3 @@
 pub mod NameTexts
+pub mod Numerals
+pub mod DateTexts

@@ -5,6 +5,11 @@
 //! value. Nothing here takes memory.
 #![tactic(auto)]
 
+mod date;
+mod digits;
+pub mod law;
 mod name;
+mod year;
 
+pub use date::read_date;
 pub use name::{read_month, read_weekday};
