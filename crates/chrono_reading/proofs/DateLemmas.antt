@@ -21,7 +21,7 @@ front_of front end text e =
       sym (drop_at front end _ size) ∙ ap (drop (length text - length end)) e,
     )
 
-calendar_text-parts : (y : ℤ) (m d : ℕ) → calendar_text y m d ≡ year_text y ++ (45 ∷ two_digits m ++ 45 ∷ two_digits d)
+pub calendar_text-parts : (y : ℤ) (m d : ℕ) → calendar_text y m d ≡ year_text y ++ (45 ∷ two_digits m ++ 45 ∷ two_digits d)
 calendar_text-parts y m d = simp append_assoc
 
 -- the year stands before the last six bytes

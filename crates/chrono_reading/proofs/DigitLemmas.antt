@@ -40,7 +40,7 @@ from_digits (c ∷ cs) h =
     )
 
 -- the digits of a number of so many places are as many digits, and write it
-to_digits : (k n : ℕ) → n < 10 ^ k → (length (all_digits k n) ≡ k) × AllDigits 10 (all_digits k n) × (worth (all_digits k n) ≡ n)
+pub to_digits : (k n : ℕ) → n < 10 ^ k → (length (all_digits k n) ≡ k) × AllDigits 10 (all_digits k n) × (worth (all_digits k n) ≡ n)
 to_digits zero n h = (refl, tt, omega arith)
 to_digits (suc k) n h =
     let unit : 10 ^ suc k ≡ 10 * 10 ^ k = pow-succ' 10 k in

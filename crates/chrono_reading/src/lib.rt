@@ -6,10 +6,17 @@
 #![tactic(auto)]
 
 mod date;
+mod date_time;
 mod digits;
+mod duration;
+mod fraction;
 pub mod law;
 mod name;
+mod time;
 mod year;
 
 pub use date::read_date;
+pub use date_time::read_date_time;
+pub use duration::read_duration;
 pub use name::{read_month, read_weekday};
+pub use time::read_time;
