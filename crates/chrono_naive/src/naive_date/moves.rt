@@ -1,13 +1,12 @@
 //! Moves of a date by days, by months and by durations, the difference of dates, and what is reached from a date: weeks and
 //! iterators.
-ghost use Rattle.std.specs.Prelude.{◌≡◌, ◌+◌, ◌≤◌, pos, neg_ℤ, ◌+ℤ◌, ◌-ℤ◌, ◌≤ℤ◌, ◌<ℤ◌, unsigned_abs, IsSome, OnSome, IfSome, IfNone, SomeIff, ◌↔◌};
+ghost use Rattle.std.specs.Prelude.{◌≡◌, ◌+◌, ◌≤◌, pos, neg_ℤ, ◌+ℤ◌, ◌-ℤ◌, ◌≤ℤ◌, ◌<ℤ◌, unsigned_abs, IsSome, IfSome, ◌↔◌};
 ghost use Rattle.chrono_units.specs.Years.{IsYear};
 ghost use Rattle.chrono_clock.specs.Duration.{nanos_per_day, units_of, whole_units};
 ghost use Rattle.chrono_calendar.specs.Days.{IsDate, date_of_day, year_of};
 ghost use Rattle.chrono_calendar.specs.Weeks.{week_first_of, weekday_of};
 ghost use Rattle.chrono_calendar.specs.MonthMoves.{MonthMovesAddUp, ComesBack, KeepsOrder, month_move};
 ghost use Rattle.chrono_calendar.specs.YearsBetween.{years_between as whole_years};
-ghost use Rattle.chrono_naive.specs.DateLists.{days_left};
 
 use crate::days::Days;
 use crate::naive_date::{LAST_DAY, NaiveDate};
@@ -91,28 +90,6 @@ impl NaiveDate {
         Some(NaiveDate {
             form: forms::move_days(self.form, days, steps)?,
         })
-    }
-
-    // Moves the date by so many days, and answers where it stood; `None` if the move would end at no date, and then the
-    // date stays.
-    #[inline]
-    pub(crate) fn step(&mut self, days: i64) -> Option<NaiveDate>
-        ensures date { SomeIff result (IsDate (self.old +ℤ days)) self.old }
-        ensures moved { OnSome result (self.new ≡ self.old +ℤ days) }
-        ensures refused { IfNone result (self.new ≡ self.old) }
-        ensures in_range { IsDate self.old }
-    {
-        let current = *self;
-        *self = current.moved_by_days(days)?;
-        Some(current)
-    }
-
-    // The days from this date to the last one.
-    #[inline]
-    pub(crate) fn days_left(self) -> u32
-        ensures { result ≡ days_left self }
-    {
-        (LAST_DAY - self.day_number()) as u32
     }
 
     /// The same day so many months later, or the last day of that month if it is shorter; `None` exactly if the year of
@@ -225,7 +202,7 @@ impl NaiveDate {
         NaiveWeek::new(forms::week_first(&self.form, start))
     }
 
-    /// This date and those after it, day after day, up to the one before [`MAX`](Self::MAX).
+    /// This date and those after it, day after day, up to [`MAX`](Self::MAX).
     #[inline]
     pub fn iter_days(&self) -> NaiveDateDaysIterator
         ensures { result ≡ self.now }
