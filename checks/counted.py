@@ -37,8 +37,12 @@ def days_before(year):
 FIRST_DAY, LAST_DAY = days_before(FIRST_YEAR) + 1, days_before(LAST_YEAR + 1)
 
 
+def is_date(number):
+    return FIRST_DAY <= number <= LAST_DAY
+
+
 def in_range(number):
-    return number if number is not None and FIRST_DAY <= number <= LAST_DAY else None
+    return number if number is not None and is_date(number) else None
 
 
 # ---- the names of a day

@@ -13,8 +13,8 @@ import os
 import sys
 
 from counted import (DAY, FIRST_DAY, FIRST_YEAR, LAST_DAY, LAST_YEAR, LONGEST, NANOS, apart, day_in_year, day_of, day_of_month,
-                     day_of_week_date, first_of_week, in_range, is_leap, is_time, land, month_lengths, month_move, name_of, ordinal_of,
-                     week_of, weekday_of, years_between)
+                     day_of_week_date, first_of_week, in_range, is_date, is_leap, is_time, land, month_lengths, month_move, name_of,
+                     ordinal_of, week_of, weekday_of, years_between)
 
 TOP = os.path.dirname(os.path.dirname(os.path.abspath(__file__)))
 ROWS = os.path.join(TOP, "crates", "chrono_calls", "stdin")
@@ -47,8 +47,6 @@ TIME = Kind([(0, 0), (86_399, NANOS - 1), (86_399, 2 * NANOS - 1)], (3661, 3 * N
 MOMENT = Kind([(FIRST_DAY, 0, 0), (LAST_DAY, 86_399, NANOS - 1), (LAST_DAY, 86_399, 2 * NANOS - 1)], (738_945, 86_399, 3 * NANOS // 2),
               lambda date, *time: (date, tuple(time)))
 STEPS = Kind([], ("nbl",))
-# (of a walk by days the rows at the ends are chosen one by one)
-ANY_DATE = Kind([], DATE.middle)
 
 
 # ---- answers
@@ -115,14 +113,26 @@ def set_walk(members, start, steps):
     return walk(step, days, steps)
 
 
-def date_walk(start, apart_by, steps):
-    """A cursor that gives a date only where there is one after it, and that `next_back` gives and steps back."""
+def day_walk(start, steps):
+    """A cursor that `next` gives and steps on, past the last date at the end, and `next_back` gives and steps back, if to a date."""
 
     def step(cursor, it):
         if it in "ls":
-            return cursor, (LAST_DAY - cursor) // apart_by if it == "l" else int(cursor == start)
-        moved = in_range(cursor + (apart_by if it == "n" else -apart_by))
-        return (cursor, None) if moved is None else (moved, cursor)
+            return cursor, LAST_DAY + 1 - cursor if it == "l" else cursor == start
+        moved = cursor + (1 if it == "n" else -1)
+        return (moved, cursor) if is_date(cursor) and (it == "n" or is_date(moved)) else (cursor, None)
+
+    return walk(step, start, steps)
+
+
+def week_walk(start, steps):
+    """A cursor that both calls give and step by a week, if to a date."""
+
+    def step(cursor, it):
+        if it in "ls":
+            return cursor, (LAST_DAY - cursor) // 7 if it == "l" else cursor == start
+        moved = cursor + (7 if it == "n" else -7)
+        return (moved, cursor) if is_date(moved) else (cursor, None)
 
     return walk(step, start, steps)
 
@@ -322,9 +332,9 @@ DATES = {
     "abs_diff": ([DATE, DATE], lambda it, other: abs(it - other)),
     "years_since": ([DATE, DATE], years_between),
     "cmp": ([DATE, DATE], order),
-    "iter_days": ([ANY_DATE, STEPS], lambda it, steps: date_walk(it, 1, steps)),
-    "iter_days_last": ([ANY_DATE], lambda it: LAST_DAY - 1 if it < LAST_DAY else None),
-    "iter_weeks": ([DATE, STEPS], lambda it, steps: date_walk(it, 7, steps)),
+    "iter_days": ([DATE, STEPS], day_walk),
+    "iter_days_last": ([DATE], lambda it: LAST_DAY),
+    "iter_weeks": ([DATE, STEPS], week_walk),
     **{name: ([DATE], read) for name, read in READ.items()},
     "to_epoch_days": ([DATE], lambda it: it - EPOCH),
     "leap_year": ([DATE], lambda it: is_leap(name_of(it)[0])),
@@ -333,7 +343,7 @@ WEEKS = {
     "checked_first_day": ([DATE, WEEKDAY], lambda *it: in_range(first_of_week(*it))),
     "checked_last_day": ([DATE, WEEKDAY], lambda *it: in_range(first_of_week(*it) + 6)),
     "checked_days": ([DATE, WEEKDAY], lambda *it: (first_of_week(*it), first_of_week(*it) + 6)
-                     if in_range(first_of_week(*it)) and in_range(first_of_week(*it) + 6) else None),
+                     if is_date(first_of_week(*it)) and is_date(first_of_week(*it) + 6) else None),
     "eq": ([DATE, WEEKDAY] * 2, lambda *it: first_of_week(*it[:2]) == first_of_week(*it[2:])),
 }
 ISO_WEEKS = {"cmp": ([DATE, DATE], lambda it, other: order(week_of(it), week_of(other)))}
@@ -380,8 +390,6 @@ def answer(name, words):
 def wanted(name):
     """The words of the rows that a call has to have: at its ends."""
     kinds = CALLS[name][0]
-    if kinds and not any(kind.ends for kind in kinds):
-        return
     middles = [kind.middle for kind in kinds]
     for place, kind in enumerate(kinds):
         for end in kind.ends:
