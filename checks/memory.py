@@ -1,11 +1,11 @@
 #!/usr/bin/env python3
-"""Refuses each request for memory in turn while values are printed into texts that grow: the answer is the whole text, or an error.
+"""Refuses each request for memory in turn while values are printed into texts that grow: each gives the whole text or an error.
 
     checks/memory.py
 
-The tests below stand in a fresh repository beside copies of the libraries, and run unproved by `rt try --test --fail-alloc N`, which
-refuses the N-th request of each test, from N = 1 on until none is refused any more. A test passes if its text is whole, and is
-refused if it ends by the error of the allocator; anything else, a text cut short above all, fails the check.
+The tests below stand in a fresh repository beside copies of the libraries, and run unproved by `rt try --test --fail-alloc N`,
+which refuses the N-th request of each test, from N = 1 on until none is refused any more. A test passes if its text is whole, and
+is refused if it ends by the error of the allocator; anything else, a text cut short above all, fails the check.
 That `caltool` itself takes no memory is tried in checks/statuses.py.
 """
 import os
@@ -46,7 +46,8 @@ TEXTS = [
     ("times", "NaiveTime::MIN, NaiveTime::MAX", "{} {:?}", "00:00:00 23:59:59.999999999"),
     ("dates", "NaiveDate::MIN, NaiveDate::MAX", "{} {:?}", "-262143-01-01 +262142-12-31"),
     ("iso_weeks", "NaiveDate::MIN.iso_week(), NaiveDate::MAX.iso_week()", "{:?} {:?}", "-262143-W01 +262143-W01"),
-    ("date_times", "NaiveDateTime::MIN, NaiveDateTime::MAX", "{} {:?}", "-262143-01-01 00:00:00 +262142-12-31T23:59:59.999999999"),
+    ("date_times", "NaiveDateTime::MIN, NaiveDateTime::MAX", "{} {:?}",
+     "-262143-01-01 00:00:00 +262142-12-31T23:59:59.999999999"),
 ]
 # How `rt try` tells of a test, and what it says of one that ended by the allocator's error.
 TOLD = re.compile(r"^test tests::(\w+) \.\.\. (ok|FAILED)\n((?:    .*\n)*)", re.M)
