@@ -7,7 +7,7 @@ use std::io::{ErrorKind, Read};
 use std::test::Fail;
 
 // Lines and their answers.
-const ROWS: [(&[u8], &[u8]); 100] = [
+pub const ROWS: [(&[u8], &[u8]); 100] = [
     (b"ymd 1900 2 29", b"none"),
     (b"ymd 2024 2 29", b"2024-02-29 738945 Thu 2024-W09 60"),
     (b"ymd 2024 12 30", b"2024-12-30 739250 Mon 2025-W01 365"),

@@ -1,0 +1,72 @@
+-- How the text of a date falls into its parts, and the ranges of those that name a date.
+use Rattle.std.proofs.Common.{◌≡◌, ℕ, ◌-◌, ◌<◌, ◌≤◌, true, List, ◌∷◌, ◌++◌, length, length-append, take, drop, append_assoc, ℤ, unsigned_abs, Option, Some, None, IfSome, arith, rules, refl, sym, ap, ◌∙◌}
+use Rattle.std.proofs.lemmas.Bool.{and_parts}
+use Rattle.std.proofs.lemmas.Bool.Decides.{nat_tests}
+use Rattle.std.proofs.lemmas.Int.{ints}
+use Rattle.std.proofs.lemmas.List.{take_at, drop_at, take-append-drop}
+use Rattle.std.proofs.lemmas.Option.{cond_some, some_pair_parts}
+use Rattle.std.proofs.Common.{SFits, w32}
+use Rattle.chrono_datetime.specs.Years.{is_year, month_length}
+use Rattle.chrono_datetime.specs.Days.{IsDate, year_of, month_of, day_of, date_of_ymd, is_calendar_name}
+use Rattle.chrono_datetime.specs.DateText.{date_text}
+use Rattle.chrono_datetime.specs.NameLaws.{DatesHaveOneCalendarName}
+use Rattle.chrono_datetime.specs.Text.{two_digits, year_text, calendar_text}
+use Rattle.chrono_reading.specs.DateTexts.{IsDateText}
+
+-- a text ends in so many bytes
+pub front_of : (front end text : List ℕ) → front ++ end ≡ text → (front ≡ take (length text - length end) text) × (end ≡ drop (length text - length end) text)
+front_of front end text e =
+    let size : length front ≡ length text - length end = omega (arith, length-append front end, ap length e) in (
+      sym (take_at front end _ size) ∙ ap (take (length text - length end)) e,
+      sym (drop_at front end _ size) ∙ ap (drop (length text - length end)) e,
+    )
+
+pub calendar_text-parts : (y : ℤ) (m d : ℕ) → calendar_text y m d ≡ year_text y ++ (45 ∷ two_digits m ++ 45 ∷ two_digits d)
+calendar_text-parts y m d = simp append_assoc
+
+-- the year stands before the last six bytes
+pub calendar_text-split : (text : List ℕ) (y : ℤ) (m d : ℕ) → calendar_text y m d ≡ text
+    → (year_text y ≡ take (length text - 6) text) × (45 ∷ two_digits m ++ 45 ∷ two_digits d ≡ drop (length text - 6) text)
+calendar_text-split text y m d e = front_of (year_text y) (45 ∷ two_digits m ++ 45 ∷ two_digits d) text (sym (calendar_text-parts y m d) ∙ e)
+
+pub calendar_text-joined : (text : List ℕ) (y : ℤ) (m d k : ℕ) → year_text y ≡ take k text → 45 ∷ two_digits m ++ 45 ∷ two_digits d ≡ drop k text → calendar_text y m d ≡ text
+calendar_text-joined text y m d k front end = calendar_text-parts y m d ∙ rw (front, end) (take-append-drop k text)
+
+-- the parts of the name of a date are small
+month_length-small : (y : ℤ) (m : ℕ) → month_length y m ≤ 31
+month_length-small y m = grind (arith, nat_tests)
+
+year-small : (y : ℤ) → is_year y ≡ true → unsigned_abs y < 1_000_000
+year-small y e = grind (arith, ints)
+
+pub date_of_ymd-small : (y : ℤ) (m d : ℕ) (n : ℤ) → date_of_ymd y m d ≡ Some n → (unsigned_abs y < 1_000_000) × (m < 100) × (d < 100)
+unfolding date_of_ymd
+date_of_ymd-small y m d n e =
+    let named = and_parts (is_year y) (is_calendar_name y m d) (cond_some _ _ _ e).0 in
+    let last = month_length-small y m in
+    (year-small y named.0, grind (arith, nat_tests), grind (arith, nat_tests))
+
+-- a date found by its name has the text of that name
+pub IsDateText-found : (r : Option ℤ) (text : List ℕ) (y : ℤ) (m d : ℕ) → r ≡ date_of_ymd y m d → calendar_text y m d ≡ text → IfSome r (λ n. IsDateText text n)
+IsDateText-found None text y m d found written = tt
+IsDateText-found (Some n) text y m d found written =
+    record { year = y; month = m; day = d; names = sym found; written = written }
+
+-- and is found by it
+pub found_by_name : (r : Option ℤ) (y z : ℤ) (m k d j : ℕ) (n : ℤ) → r ≡ date_of_ymd y m d → Some y ≡ Some z → ◌≡◌ {A = Option (ℕ × ℕ)} (Some (m, d)) (Some (k, j)) → date_of_ymd z k j ≡ Some n → r ≡ Some n
+found_by_name r y z m k d j n found year tail names = let parts = some_pair_parts m k d j tail in cc
+
+-- a year of six digits at most is the same as a machine word
+pub year_fits : (y : ℤ) → unsigned_abs y < 1_000_000 → SFits w32 y
+year_fits y small = search rules
+
+-- names that are the same are written the same
+calendar_text-same : (y z : ℤ) (m k d j : ℕ) → y ≡ z → m ≡ k → d ≡ j → calendar_text y m d ≡ calendar_text z k j
+calendar_text-same y z m k d j year month day = rw (year, month, day) refl
+
+-- what is a text of a date is the one that is printed
+pub date_text-only : (text : List ℕ) (n m : ℤ) → m ≡ n → IsDate m → DatesHaveOneCalendarName → IsDateText text n → IsDate n × (text ≡ date_text n)
+date_text-only text n m same inside law is =
+    let within = rw same at inside in
+    let parts = (law n is.year is.month is.day within).0 is.names in
+    (within, sym is.written ∙ calendar_text-same is.year (year_of n) is.month (month_of n) is.day (day_of n) parts.0 parts.1 parts.2)
