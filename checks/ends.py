@@ -138,6 +138,15 @@ def week_walk(start, steps):
     return walk(step, start, steps)
 
 
+def days_until(members, start):
+    """The days from a weekday, counted from 1 for Monday, on to the first member of a set."""
+    return next((it for it in range(7) if members >> ((start - 1 + it) % 7) & 1), None)
+
+
+def first_on(date, members):
+    return next((it for it in range(date, min(date + 7, LAST_DAY + 1)) if members >> weekday_of(it) & 1), None)
+
+
 def replaced(date, place, new):
     name = list(name_of(date))
     name[place] = new
@@ -210,6 +219,7 @@ SETS = {
     "insert": ([SET, WEEKDAY], lambda it, day: (not it >> (day - 1) & 1, it | 1 << (day - 1))),
     "remove": ([SET, WEEKDAY], lambda it, day: (it >> (day - 1) & 1, it & ~(1 << (day - 1)))),
     "iter": ([SET, WEEKDAY, STEPS], set_walk),
+    "days_until": ([SET, WEEKDAY], days_until),
     "is_subset": ([SET, SET], lambda one, other: one & ~other == 0),
     "intersection": ([SET, SET], lambda one, other: one & other),
     "union": ([SET, SET], lambda one, other: one | other),
@@ -333,6 +343,8 @@ DATES = {
     "abs_diff": ([DATE, DATE], lambda it, other: abs(it - other)),
     "years_since": ([DATE, DATE], years_between),
     "cmp": ([DATE, DATE], order),
+    "every_months": ([DATE, I32, U32], lambda it, months, times: month_move(it, months * times)),
+    "first_on": ([DATE, SET], first_on),
     "iter_days": ([DATE, STEPS], day_walk),
     "iter_days_last": ([DATE], lambda it: LAST_DAY),
     "iter_weeks": ([DATE, STEPS], week_walk),
