@@ -27,10 +27,6 @@ mod time_delta;
 #[cfg(test)]
 mod weekday_set;
 #[cfg(test)]
-mod weekday_set_iter;
-#[cfg(test)]
-mod weekday_set_pairs;
-#[cfg(test)]
 mod weekday_texts;
 #[cfg(test)]
-mod weekday_writing;
+mod written;
