@@ -12,9 +12,9 @@ use Rattle.chrono_datetime.specs.Days.{IsDate, year_of, month_of, day_of, date_o
 use Rattle.chrono_datetime.specs.declared.Weekday.{Weekday}
 use Rattle.chrono_datetime.specs.Fields.{IsIsoYear}
 use Rattle.chrono_datetime.specs.Weekday.{number_from_monday}
-use Rattle.chrono_datetime.specs.Weeks.{date_of_iso}
+use Rattle.chrono_datetime.specs.Weeks.{date_of_iso, iso_week_of, iso_year_of, weekday_of}
 use Rattle.chrono_datetime.specs.DateText.{date_text}
-use Rattle.chrono_datetime.specs.NameLaws.{DatesHaveOneCalendarName}
+use Rattle.chrono_datetime.specs.NameLaws.{DatesHaveOneCalendarName, DatesHaveOneIsoName}
 use Rattle.chrono_datetime.specs.Text.{all_digits, two_digits, year_text, calendar_text, week_text}
 use Rattle.chrono_reading.specs.DateTexts.{IsDateText, IsOrdinalDateText, IsWeekDateText}
 
@@ -140,3 +140,16 @@ IsWeekDateText-found (Some n) text y w d found range week written =
 
 pub iso_year_fits : (y : ℤ) → IsIsoYear y → SFits w32 y
 iso_year_fits y h = search rules
+
+-- its own ISO name is a text of a date
+pub IsWeekDateText-named : (n : ℤ) → IsDate n → IsIsoYear (iso_year_of n) → IsInRange 1 53 (iso_week_of n) → DatesHaveOneIsoName
+    → IsWeekDateText (week_text (iso_year_of n) (iso_week_of n) ++ 45 ∷ (48 + number_from_monday (weekday_of n)) ∷ []) n
+IsWeekDateText-named n is range week law = record {
+  year = iso_year_of n;
+  week = iso_week_of n;
+  weekday = weekday_of n;
+  year_in_range = range;
+  week_in_year = week;
+  names = (law n (iso_year_of n) (iso_week_of n) (weekday_of n) is).1 (refl, refl, refl);
+  written = refl;
+}

@@ -175,11 +175,11 @@ time_text-leap t leap = on_test (nat_le nanos_per_second t.fraction) _ _ (grind 
 same_time : (t : TimeOfDay) (second fraction : ℕ) → second ≡ t.second → fraction ≡ t.fraction → record { second = second; fraction = fraction } ≡ t
 same_time t second fraction e f = rw (e, f) refl
 
-shown_plain : (hour minute second nanos : ℕ) → second < 60 → time_at hour minute second nanos ≡ time_shown hour minute second nanos
+pub shown_plain : (hour minute second nanos : ℕ) → second < 60 → time_at hour minute second nanos ≡ time_shown hour minute second nanos
 shown_plain hour minute second nanos h =
     past_test (second == 60) _ _ (λ e. let same : second ≡ 60 = grind (arith, nat_tests) in omega arith)
 
-shown_leap : (hour minute second nanos : ℕ) → second ≡ 60 → time_shown hour minute second nanos ≡ time_at hour minute 59 (nanos_per_second + nanos)
+pub shown_leap : (hour minute second nanos : ℕ) → second ≡ 60 → time_shown hour minute second nanos ≡ time_at hour minute 59 (nanos_per_second + nanos)
 shown_leap hour minute second nanos e = rw e refl
 
 -- what is printed of a time is a text of it, if a leap fraction stands at second 59
