@@ -7,6 +7,7 @@ mod commands;
 mod pieces;
 mod run;
 mod shared;
+mod side_by_side;
 mod sink;
 #[cfg(test)]
 mod tests;
@@ -16,4 +17,5 @@ mod texts;
 pub use pieces::Pieces;
 pub use run::run_pieces;
 pub use shared::{Asker, Counter};
+pub use side_by_side::SideBySide;
 pub use sink::Sink;
