@@ -13,8 +13,9 @@ mod law;
 pub use answers::DateAnswers;
 pub use caltool_form::{
     Answer, CalendarDate, ClockTime, Command, CommandAnswers, DateAndTime, MonthSpan, RunFault,
-    answer_form, answer_lines, command_of, cut_is_unique, lines_are_commands, numbers_are_texts,
-    run_form, words_are_unique,
+    answer_by, answer_form, command_of, cut_is_unique, lines_are_commands, numbers_are_texts,
+    put_calendar_date, put_clock, put_duration, put_i32, put_number, put_set, put_text, put_u32,
+    put_walk, put_week, put_weekday, run_by, run_form, words_are_unique,
 };
 pub use law::answers_are_of_dates;
 use std::io::{Read, Write};
@@ -23,7 +24,7 @@ use std::io::{Read, Write};
 pub fn answer_line(line: &[u8]) -> Answer
     ensures { result ≡ answer_of line.now }
 {
-    caltool_form::answer_line::<DateAnswers>(line)
+    answer_by::<DateAnswers>(line)
 }
 
 /// Answers each line of the input by one line, until the input ends.
@@ -41,5 +42,5 @@ pub fn run<R: Read, W: Write>(r: &mut R, w: &mut W) -> Result<(), RunFault>
     ensures write { IsErrOf result RunFault.Write
         → AnsweredPart answer_of (R.remaining r.old) (R.remaining r.new) (W.contents w.old) (W.contents w.new) }
 {
-    answer_lines::<DateAnswers, R, W>(r, w)
+    run_by::<DateAnswers, R, W>(r, w)
 }

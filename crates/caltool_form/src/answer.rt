@@ -39,7 +39,7 @@ impl Answer {
 
 /// The answer to one line, given without its newline: that of `A` to the line's command, and `error`
 /// for a line of more than 120 bytes and for one that is no command.
-pub fn answer_line<A: CommandAnswers>(line: &[u8]) -> Answer
+pub fn answer_by<A: CommandAnswers>(line: &[u8]) -> Answer
     ensures { result ≡ answer_of line.now }
 {
     let mut bytes = [0u8; LONGEST_ANSWER];

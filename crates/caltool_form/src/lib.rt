@@ -29,7 +29,7 @@ mod watch;
 mod words;
 mod write_answer;
 
-pub use answer::{Answer, answer_line};
+pub use answer::{Answer, answer_by};
 pub use arguments::{CalendarDate, ClockTime, DateAndTime, MonthSpan};
 pub use command::{Command, command_of};
 pub use command_answers::CommandAnswers;
@@ -38,7 +38,7 @@ pub use duration_text::put_duration;
 pub use fault::RunFault;
 pub use form_answers::{answer_form, run_form};
 pub use law::{cut_is_unique, lines_are_commands, numbers_are_texts, words_are_unique};
-pub use run::answer_lines;
+pub use run::run_by;
 pub use set_text::{put_set, put_walk, put_weekday};
 pub use text::{put_i32, put_number, put_text, put_u32};
 pub use time_text::put_clock;

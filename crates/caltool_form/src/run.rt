@@ -22,10 +22,7 @@ const PIECE: usize = 65536;
 /// Answers each line of the input by one line, until the input ends: `A` answers each command, and
 /// any other line is answered `error`. What is answered is written before each read, so that a user who waits
 /// for an answer has it. No failed call is tried again, and no memory is taken.
-pub fn answer_lines<A: CommandAnswers, R: Read, W: Write>(
-    r: &mut R,
-    w: &mut W,
-) -> Result<(), RunFault>
+pub fn run_by<A: CommandAnswers, R: Read, W: Write>(r: &mut R, w: &mut W) -> Result<(), RunFault>
     // The input was read to its end, and its whole output written.
     ensures ok { OnOk result (AnsweredAll answer_of (R.remaining r.old) (R.remaining r.new) (W.contents w.old) (W.contents w.new)) }
     // The lines that a newline ends among the bytes read are answered, and nothing else is written.
