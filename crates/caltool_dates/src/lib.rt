@@ -34,13 +34,16 @@ pub fn answer_line(line: &[u8]) -> Answer
 /// took nothing, or if flushing at the end failed. It repeats no failed call and takes no memory.
 pub fn run<R: Read, W: Write>(r: &mut R, w: &mut W) -> Result<(), RunFault>
     // The input was read to its end, and its whole output written.
-    ensures ok { OnOk result (AnsweredAll answer_of (R.remaining r.old) (R.remaining r.new) (W.contents w.old) (W.contents w.new)) }
+    ensures ok { OnOk result (AnsweredAll answer_of
+        (R.remaining r.old) (R.remaining r.new) (W.contents w.old) (W.contents w.new)) }
     // The lines that a newline ends among the bytes read are answered, and nothing else is written.
     ensures read { IsErrOf result RunFault.Read
-        → AnsweredEnded answer_of (R.remaining r.old) (R.remaining r.new) (W.contents w.old) (W.contents w.new) }
+        → AnsweredEnded answer_of
+        (R.remaining r.old) (R.remaining r.new) (W.contents w.old) (W.contents w.new) }
     // The writer got the output of the bytes read, or only its first part.
     ensures write { IsErrOf result RunFault.Write
-        → AnsweredPart answer_of (R.remaining r.old) (R.remaining r.new) (W.contents w.old) (W.contents w.new) }
+        → AnsweredPart answer_of
+        (R.remaining r.old) (R.remaining r.new) (W.contents w.old) (W.contents w.new) }
 {
     run_by::<DateAnswers, R, W>(r, w)
 }

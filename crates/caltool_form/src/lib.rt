@@ -1,6 +1,9 @@
 //! What `caltool` does with bytes, whatever its dates are: the cutting of an input into lines, the
 //! reading of a line as a command, the writing of texts and numbers, and the loop that answers each
-//! line of a reader by one line to a writer. What answers a command is a type with `CommandAnswers`.
+//! line of a reader by one line to a writer.
+//!
+//! What answers a command is a type with [`CommandAnswers`], and whatever it is, the answers are the
+//! same. [`answer_form`] and [`run_form`] answer over any stored form of dates.
 #![tactic(auto)]
 
 mod answer;

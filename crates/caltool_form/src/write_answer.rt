@@ -68,21 +68,24 @@ pub(crate) fn write_answer<A: CommandAnswers>(command: Command, out: &mut [u8]) 
 
 // The date so many days later, or earlier where the count is negative.
 fn moved_by_days<A: CommandAnswers>(date: CalendarDate, count: i64) -> Option<A::Date>
-    ensures { option_map A.number result ≡ option_and_then (λ n. date_of_day (n +ℤ count)) (the_date date) }
+    ensures { option_map A.number result
+        ≡ option_and_then (λ n. date_of_day (n +ℤ count)) (the_date date) }
 {
     A::move_days(date_named::<A>(date)?, count)
 }
 
 // The date so many months later, or earlier.
 fn moved_by_months<A: CommandAnswers>(date: CalendarDate, span: MonthSpan) -> Option<A::Date>
-    ensures { option_map A.number result ≡ option_and_then (λ n. month_move n (months_of span)) (the_date date) }
+    ensures { option_map A.number result
+        ≡ option_and_then (λ n. month_move n (months_of span)) (the_date date) }
 {
     A::move_months(date_named::<A>(date)?, span)
 }
 
 // The whole years from the second date to the first.
 fn years_since<A: CommandAnswers>(date: CalendarDate, base: CalendarDate) -> Option<u32>
-    ensures { result ≡ option_and_then (λ n. option_and_then (λ m. years_between n m) (the_date base)) (the_date date) }
+    ensures { result
+        ≡ option_and_then (λ n. option_and_then (λ m. years_between n m) (the_date base)) (the_date date) }
 {
     A::years_between(date_named::<A>(date)?, date_named::<A>(base)?)
 }
@@ -112,7 +115,8 @@ fn moved<A: CommandAnswers>(
     nanoseconds: u32,
 ) -> Option<(A::Date, NaiveTime)>
     ensures { option_map (λ m. moment (A.number m.0) m.1) result
-        ≡ option_and_then (λ m. option_and_then (λ x. reach m x) (the_duration seconds nanoseconds)) (the_moment from) }
+        ≡ option_and_then (λ m. option_and_then (λ x. reach m x) (the_duration seconds nanoseconds))
+        (the_moment from) }
 {
     let (date, time) = moment_named::<A>(from)?;
     A::move_moment(date, time, duration_named(seconds, nanoseconds)?)
@@ -120,7 +124,9 @@ fn moved<A: CommandAnswers>(
 
 // How far the first date-time is from the second.
 fn difference<A: CommandAnswers>(first: DateAndTime, second: DateAndTime) -> Option<TimeDelta>
-    ensures { result ≡ option_and_then (λ a. option_map (λ b. moment_distance a b) (the_moment second)) (the_moment first) }
+    ensures { result
+        ≡ option_and_then (λ a. option_map (λ b. moment_distance a b) (the_moment second))
+        (the_moment first) }
 {
     let (date, time) = moment_named::<A>(first)?;
     let (base, base_time) = moment_named::<A>(second)?;
