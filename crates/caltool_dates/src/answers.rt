@@ -1,6 +1,6 @@
-//! The answers to commands: what each names is looked up by the public calls, and its text written straight into the
-//! buffer.
-ghost use Rattle.std.specs.Prelude.{◌≡◌, ◌≤◌, ◌+◌, ◌++◌, ◌+ℤ◌, ℤ, length, take, codes, Option};
+//! The answers to commands: what each names is looked up by the public calls, and its text put straight behind
+//! those that wait.
+ghost use Rattle.std.specs.Prelude.{◌≡◌, ◌≤◌, ◌+◌, ◌++◌, ◌+ℤ◌, ℤ, length, codes, Option};
 ghost use Rattle.std.specs.Option.{option_map, option_and_then};
 ghost use Rattle.std.specs.Fmt.{decimal};
 ghost use Rattle.chrono_datetime.specs.Days.{date_of_day};
@@ -17,11 +17,8 @@ ghost use Rattle.caltool_dates.specs.Answers.{answer_to as the_answer, date_name
 ghost use Rattle.chrono_datetime.specs.MomentText.{moment_text};
 
 use crate::named::{date_named, duration_named, moment_named};
-use crate::texts::{put_date, put_moment, put_names};
-use caltool_form::{
-    CalendarDate, Command, CommandAnswers, DateAndTime, MonthSpan, put_duration, put_set, put_text,
-    put_u32, put_walk,
-};
+use crate::texts::{push_date, push_moment, push_names};
+use caltool_form::{CalendarDate, Command, CommandAnswers, DateAndTime, MonthSpan, Text};
 use chrono_datetime::{
     Datelike, Days, Months, NaiveDate, NaiveDateTime, NaiveWeek, TimeDelta, Weekday, WeekdaySet,
 };
@@ -29,44 +26,47 @@ use chrono_datetime::{
 /// Answers each command by dates, times of day and date-times.
 pub struct DateAnswers;
 
-impl CommandAnswers for DateAnswers {
+impl<const N: usize> CommandAnswers<N> for DateAnswers {
     ghost answer_to = { the_answer };
 
     #[tactic(auto, unfolding(crate::specs::Answers::answer_to))]
-    fn write_answer(command: Command, out: &mut [u8]) -> usize {
+    fn write_answer(command: Command, out: &mut Text<N>) {
         match command {
-            Command::Ymd { date } => write_date_line(date_named(date), out),
+            Command::Ymd { date } => push_date_line(date_named(date), out),
             Command::Yo { year, ordinal } => {
-                write_date_line(NaiveDate::from_yo_opt(year, ordinal), out)
+                push_date_line(NaiveDate::from_yo_opt(year, ordinal), out)
             }
             Command::Iwd {
                 year,
                 week,
                 weekday,
-            } => { write_date_line(NaiveDate::from_isoywd_opt(year, week, weekday), out) }
+            } => { push_date_line(NaiveDate::from_isoywd_opt(year, week, weekday), out) }
             Command::Day { number } => {
-                write_date_line(NaiveDate::from_num_days_from_ce_opt(number), out)
+                push_date_line(NaiveDate::from_num_days_from_ce_opt(number), out)
             }
             Command::Wom {
                 year,
                 month,
                 weekday,
                 nth,
-            } => write_date_line(
+            } => push_date_line(
                 NaiveDate::from_weekday_of_month_opt(year, month, weekday, nth),
                 out,
             ),
-            Command::Days { date, count } => write_date_line(moved_by_days(date, count), out),
-            Command::Months { date, span } => write_date_line(moved_by_months(date, span), out),
-            Command::Week { date, start } => write_week(date_named(date), start, out),
+            Command::Days { date, count } => push_date_line(moved_by_days(date, count), out),
+            Command::Months { date, span } => push_date_line(moved_by_months(date, span), out),
+            Command::Week { date, start } => push_week(date_named(date), start, out),
             Command::Move {
                 from,
                 seconds,
                 nanoseconds,
-            } => write_moment(moved(from, seconds, nanoseconds), out),
-            Command::Diff { first, second } => write_duration(difference(first, second), out),
-            Command::Since { date, base } => write_years(years_since(date, base), out),
-            Command::Set { start, days } => write_set(days, start, out),
+            } => push_moment_or_none(moved(from, seconds, nanoseconds), out),
+            Command::Diff { first, second } => push_duration_or_none(
+                difference(first, second),
+                out,
+            ),
+            Command::Since { date, base } => push_years(years_since(date, base), out),
+            Command::Set { start, days } => push_days(days, start, out),
         }
     }
 }
@@ -120,103 +120,103 @@ fn difference(first: DateAndTime, second: DateAndTime) -> Option<TimeDelta>
     Some(first.signed_duration_since(second))
 }
 
-// ---- writers of answers to the start of a buffer, which give the length
+// ---- writers of answers, behind a text with room for 63 bytes
 
-fn write_none(out: &mut [u8]) -> usize
-    requires { 63 ≤ length out.old }
-    ensures fits { result ≤ 63 }
-    ensures text { take result out.new ≡ codes "none" }
+fn push_none<const N: usize>(out: &mut Text<N>)
+    requires { length out.old + 63 ≤ N }
+    ensures fits { length out.new ≤ length out.old + 63 }
+    ensures text { out.new ≡ out.old ++ codes "none" }
 {
-    put_text(out, 0, b"none")
+    out.push_text(b"none");
 }
 
 // A date with all its names.
-fn write_date_line(date: Option<NaiveDate>, out: &mut [u8]) -> usize
-    requires { 63 ≤ length out.old }
-    ensures fits { result ≤ 63 }
-    ensures text { take result out.new ≡ date_line date }
+fn push_date_line<const N: usize>(date: Option<NaiveDate>, out: &mut Text<N>)
+    requires { length out.old + 63 ≤ N }
+    ensures fits { length out.new ≤ length out.old + 63 }
+    ensures text { out.new ≡ out.old ++ date_line date }
 {
     match date {
-        None => write_none(out),
-        Some(date) => put_names(out, date),
+        None => push_none(out),
+        Some(date) => push_names(out, date),
     }
 }
 
 // The first and the last day of the date's week from the start on.
-fn write_week(date: Option<NaiveDate>, start: Weekday, out: &mut [u8]) -> usize
-    requires { 63 ≤ length out.old }
-    ensures fits { result ≤ 63 }
-    ensures text { take result out.new ≡ text_or_none (λ n. week_line (week_first_of n start)) date }
+fn push_week<const N: usize>(date: Option<NaiveDate>, start: Weekday, out: &mut Text<N>)
+    requires { length out.old + 63 ≤ N }
+    ensures fits { length out.new ≤ length out.old + 63 }
+    ensures text { out.new ≡ out.old ++ text_or_none (λ n. week_line (week_first_of n start)) date }
 {
     match date {
-        None => write_none(out),
-        Some(date) => put_week_days(out, date.week(start)),
+        None => push_none(out),
+        Some(date) => push_week_days(date.week(start), out),
     }
 }
 
 #[tactic(auto, unfolding(crate::specs::Answers::week_line))]
-fn put_week_days(out: &mut [u8], week: NaiveWeek) -> usize
-    requires { 63 ≤ length out.old }
-    ensures fits { result ≤ 63 }
-    ensures text { take result out.new ≡ week_line week }
+fn push_week_days<const N: usize>(week: NaiveWeek, out: &mut Text<N>)
+    requires { length out.old + 63 ≤ N }
+    ensures fits { length out.new ≤ length out.old + 63 }
+    ensures text { out.new ≡ out.old ++ week_line week }
 {
-    let at = put_date_or_none(out, 0, week.checked_first_day());
-    let at = put_text(out, at, b" ");
-    put_date_or_none(out, at, week.checked_last_day())
+    push_date_or_none(week.checked_first_day(), out);
+    out.push_text(b" ");
+    push_date_or_none(week.checked_last_day(), out);
 }
 
 // A date, or `none`.
-fn put_date_or_none(out: &mut [u8], at: usize, date: Option<NaiveDate>) -> usize
-    requires { at + 13 ≤ length out.old }
-    ensures end { result ≤ at + 13 }
-    ensures text { take result out.new ≡ take at out.old ++ text_or_none date_text date }
+fn push_date_or_none<const N: usize>(date: Option<NaiveDate>, out: &mut Text<N>)
+    requires { length out.old + 13 ≤ N }
+    ensures fits { length out.new ≤ length out.old + 13 }
+    ensures text { out.new ≡ out.old ++ text_or_none date_text date }
 {
     match date {
-        None => put_text(out, at, b"none"),
-        Some(date) => put_date(out, at, date),
+        None => out.push_text(b"none"),
+        Some(date) => push_date(out, date),
     }
 }
 
 // A date-time in one word.
-fn write_moment(moment: Option<NaiveDateTime>, out: &mut [u8]) -> usize
-    requires { 63 ≤ length out.old }
-    ensures fits { result ≤ 63 }
-    ensures text { take result out.new ≡ text_or_none (moment_text 84) moment }
+fn push_moment_or_none<const N: usize>(moment: Option<NaiveDateTime>, out: &mut Text<N>)
+    requires { length out.old + 63 ≤ N }
+    ensures fits { length out.new ≤ length out.old + 63 }
+    ensures text { out.new ≡ out.old ++ text_or_none (moment_text 84) moment }
 {
     match moment {
-        None => write_none(out),
-        Some(moment) => put_moment(out, moment),
+        None => push_none(out),
+        Some(moment) => push_moment(out, moment),
     }
 }
 
-fn write_duration(duration: Option<TimeDelta>, out: &mut [u8]) -> usize
-    requires { 63 ≤ length out.old }
-    ensures fits { result ≤ 63 }
-    ensures text { take result out.new ≡ text_or_none duration_text duration }
+fn push_duration_or_none<const N: usize>(duration: Option<TimeDelta>, out: &mut Text<N>)
+    requires { length out.old + 63 ≤ N }
+    ensures fits { length out.new ≤ length out.old + 63 }
+    ensures text { out.new ≡ out.old ++ text_or_none duration_text duration }
 {
     match duration {
-        None => write_none(out),
-        Some(duration) => put_duration(out, 0, duration),
+        None => push_none(out),
+        Some(duration) => out.push_duration(duration),
     }
 }
 
-fn write_years(years: Option<u32>, out: &mut [u8]) -> usize
-    requires { 63 ≤ length out.old }
-    ensures fits { result ≤ 63 }
-    ensures text { take result out.new ≡ text_or_none decimal years }
+fn push_years<const N: usize>(years: Option<u32>, out: &mut Text<N>)
+    requires { length out.old + 63 ≤ N }
+    ensures fits { length out.new ≤ length out.old + 63 }
+    ensures text { out.new ≡ out.old ++ text_or_none decimal years }
 {
     match years {
-        None => write_none(out),
-        Some(years) => put_u32(out, 0, years),
+        None => push_none(out),
+        Some(years) => out.push_u32(years),
     }
 }
 
 // The set, and its days in week order from the start.
-fn write_set(days: WeekdaySet, start: Weekday, out: &mut [u8]) -> usize
-    requires { 63 ≤ length out.old }
-    ensures fits { result ≤ 63 }
-    ensures text { take result out.new ≡ set_text days ++ spaced_days_text (walk days start) }
+fn push_days<const N: usize>(days: WeekdaySet, start: Weekday, out: &mut Text<N>)
+    requires { length out.old + 63 ≤ N }
+    ensures fits { length out.new ≤ length out.old + 63 }
+    ensures text { out.new ≡ out.old ++ set_text days ++ spaced_days_text (walk days start) }
 {
-    let at = put_set(out, 0, days);
-    put_walk(out, at, days, start)
+    out.push_set(days);
+    out.push_walk(days, start);
 }

@@ -5,9 +5,9 @@
 
 mod answer;
 mod arguments;
-mod carried;
 mod command;
 mod date_text;
+mod decimal;
 mod digits;
 mod duration_text;
 mod fault;
@@ -28,11 +28,7 @@ mod words;
 pub use answer::{Answer, CommandAnswers, answer_line};
 pub use arguments::{CalendarDate, ClockTime, DateAndTime, MonthSpan};
 pub use command::{Command, command_of};
-pub use date_text::{put_calendar_date, put_week};
-pub use duration_text::put_duration;
 pub use fault::RunFault;
 pub use law::{cut_is_unique, lines_are_commands, numbers_are_texts, words_are_unique};
 pub use run::answer_lines;
-pub use set_text::{put_set, put_walk, put_weekday};
-pub use text::{put_i32, put_number, put_text, put_u32};
-pub use time_text::put_clock;
+pub use text::Text;
