@@ -13,9 +13,8 @@ mod law;
 pub use answers::DateAnswers;
 pub use caltool_form::{
     Answer, CalendarDate, ClockTime, Command, CommandAnswers, DateAndTime, MonthSpan, RunFault,
-    answer_by, answer_form, command_of, cut_is_unique, lines_are_commands, numbers_are_texts,
-    put_calendar_date, put_clock, put_duration, put_i32, put_number, put_set, put_text, put_u32,
-    put_walk, put_week, put_weekday, run_by, run_form, words_are_unique,
+    Text, answer_by, answer_form, command_of, cut_is_unique, lines_are_commands, numbers_are_texts,
+    run_by, run_form, words_are_unique,
 };
 pub use law::answers_are_of_dates;
 use std::io::{Read, Write};

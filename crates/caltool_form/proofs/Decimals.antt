@@ -1,71 +1,168 @@
--- The text of a number: its last one, two, four or six digits, and those before them.
-use Rattle.std.proofs.Common.{◌≡◌, ℕ, ◌+◌, ◌/◌, ◌%◌, ◌^◌, ◌<◌, ◌≤◌, List, [], ◌∷◌, ◌++◌, length, ap, sym, ◌∙◌, append_assoc, length-append, arith}
+-- The digits of a number, cut at any place.
+use Rattle.std.proofs.Common.{◌≡◌, ◌≢◌, ℕ, zero, suc, ◌+◌, ◌-◌, ◌*◌, ◌/◌, ◌%◌, ◌^◌, ◌<◌, ◌≤◌, List, [], ◌∷◌, ◌++◌, length, take, drop, nat_le, inl, inr, if◌then◌else◌, refl, ap, sym, ◌∙◌, append_assoc, append-nil, length-append, arith}
+use Rattle.std.proofs.Math.Nat.{div-add-mod, mod-lt, one-le-pow, pow-succ', le-mul_of_pos_right, pow-le-pow_right, mul-mod_left}
+use Rattle.std.proofs.Math.Seq.{take-append-add}
+use Rattle.std.proofs.lemmas.Bool.{cases_lt, ne_eqb}
+use Rattle.std.proofs.lemmas.Bool.Decides.{nat_tests}
+use Rattle.std.proofs.lemmas.Nat.{pow-add, mul-add-lt, mod-mul-add, div_below, le-div}
 use Rattle.std.proofs.lemmas.Fmt.{decimal_digit, decimal_step, length-decimal-le}
 use Rattle.std.specs.Fmt.{decimal}
-use Rattle.chrono_clock.specs.Text.{two_digits, all_digits}
-use Rattle.caltool_form.proofs.DigitCuts.{four_digits, six_digits}
+use Rattle.chrono_clock.specs.Text.{two_digits, all_digits, fraction_digits}
 
-pub length_one : (n : ℕ) → n < 10 → length (decimal n) ≡ 1
-length_one n small = ap length (decimal_digit n small)
+-- the parts of a number before and behind its last digits
+parts : (places n : ℕ) → (n ≡ n / 10 ^ places * 10 ^ places + n % 10 ^ places) × (n % 10 ^ places < 10 ^ places)
+parts places n = let unit = one-le-pow places 10 (omega arith) in (omega (arith, div-add-mod n (10 ^ places)), mod-lt n unit)
 
-pub decimal_pair : (n : ℕ) → 10 ≤ n → n < 100 → decimal n ≡ two_digits n
-decimal_pair n low high = rw (decimal_step n low (omega arith), decimal_digit (n / 10) (omega arith))
+-- the text of a number that is not 0, and of so many digits behind it
+decimal_onto : (places front back : ℕ) → 0 < front → back < 10 ^ places → front * 10 ^ places + back < 10 ^ 19
+    → decimal (front * 10 ^ places + back) ≡ decimal front ++ all_digits places back
+decimal_onto zero front back some within fits =
+    let is : front * 1 + back ≡ front = omega arith in ap decimal is ∙ sym (append-nil (decimal front))
+decimal_onto (suc places) front back some within fits =
+    let unit = 10 ^ places in
+    let tenfold : 10 ^ suc places ≡ 10 * unit = pow-succ' 10 places in
+    let (is, rest) = parts places back in
+    let small : back / unit < 10 = div_below back unit 10 (one-le-pow places 10 (omega arith)) (omega (arith, tenfold)) in
+    let next = front * 10 + back / unit in
+    let same : front * 10 ^ suc places + back ≡ next * unit + back % unit = omega (arith, is, ap (λ u. front * u) tenfold) in
+    let before : next / 10 ≡ front = omega arith in
+    let last : next % 10 ≡ back / unit = omega arith in
+    let one : decimal next ≡ decimal front ++ (48 + back / unit) ∷ [] = decimal_step next (omega arith) (omega (arith, le-mul_of_pos_right next (one-le-pow places 10 (omega arith)))) ∙ rw (before, last) refl in
+    ap decimal same
+    ∙ decimal_onto places next (back % unit) (omega arith) rest (omega (arith, same))
+    ∙ ap (λ text. text ++ all_digits places (back % unit)) one
+    ∙ append_assoc (decimal front) ((48 + back / unit) ∷ []) (all_digits places (back % unit))
 
-pub length_pair : (n : ℕ) → 10 ≤ n → n < 100 → length (decimal n) ≡ 2
-length_pair n low high = ap length (decimal_pair n low high)
+-- the text of a number with at least one digit before the last ones
+pub decimal_cut : (places n : ℕ) → 10 ^ places ≤ n → n < 10 ^ 19 → decimal n ≡ decimal (n / 10 ^ places) ++ all_digits places (n % 10 ^ places)
+decimal_cut places n low high =
+    let (is, rest) = parts places n in
+    let some : 0 < n / 10 ^ places = le-div 1 n (10 ^ places) (one-le-pow places 10 (omega arith)) (omega arith) in
+    ap decimal is ∙ decimal_onto places (n / 10 ^ places) (n % 10 ^ places) some rest (omega (arith, is))
 
-pub decimal_more : (n : ℕ) → 100 ≤ n → n < 10 ^ 19 → decimal n ≡ decimal (n / 100) ++ two_digits (n % 100)
-decimal_more n low high =
-    let tens : n / 10 % 10 ≡ n % 100 / 10 = omega arith in
-    let ones : n % 10 ≡ n % 100 % 10 = omega arith in
-    let front : n / 10 / 10 ≡ n / 100 = omega arith in
-    let last = (48 + n % 10) ∷ [] in
-    decimal_step n (omega arith) (omega arith)
-    ∙ ap (λ text. text ++ last) (decimal_step (n / 10) (omega arith) (omega arith))
-    ∙ append_assoc (decimal (n / 10 / 10)) ((48 + n / 10 % 10) ∷ []) last
-    ∙ ap (λ q. decimal q ++ (48 + n / 10 % 10) ∷ last) front
-    ∙ ap (λ d. decimal (n / 100) ++ (48 + d) ∷ last) tens
-    ∙ ap (λ d. decimal (n / 100) ++ (48 + n % 100 / 10) ∷ (48 + d) ∷ []) ones
+-- all digits of a number: behind a 1 they are a number's text, which is cut as above
+pub digits_cut : (before behind n : ℕ) → before + behind ≤ 18 → n < 10 ^ (before + behind)
+    → all_digits (before + behind) n ≡ all_digits before (n / 10 ^ behind) ++ all_digits behind (n % 10 ^ behind)
+digits_cut before behind n few within =
+    let (is, rest) = parts behind n in
+    let joined = pow-add 10 before behind in
+    let front = 1 * 10 ^ before + n / 10 ^ behind in
+    let whole : 1 * 10 ^ (before + behind) + n ≡ front * 10 ^ behind + n % 10 ^ behind = omega (arith, is, joined) in
+    let fits : 1 * 10 ^ (before + behind) + n < 10 ^ 19 = omega (arith, pow-le-pow_right {n = 10} (omega arith) few) in
+    let small : n / 10 ^ behind < 10 ^ before = div_below n (10 ^ behind) (10 ^ before) (one-le-pow behind 10 (omega arith)) (omega (arith, joined)) in
+    let one = decimal_digit 1 (omega arith) in
+    let direct = decimal_onto (before + behind) 1 n (omega arith) within fits in
+    let by_parts = decimal_onto behind front (n % 10 ^ behind) (omega (arith, one-le-pow before 10 (omega arith))) rest (omega (arith, whole, fits)) in
+    let first = decimal_onto before 1 (n / 10 ^ behind) (omega arith) small (omega (arith, whole, fits, le-mul_of_pos_right front (one-le-pow behind 10 (omega arith)))) in
+    let same : decimal 1 ++ all_digits (before + behind) n ≡ (decimal 1 ++ all_digits before (n / 10 ^ behind)) ++ all_digits behind (n % 10 ^ behind) =
+    sym direct ∙ ap decimal whole ∙ by_parts ∙ ap (λ text. text ++ all_digits behind (n % 10 ^ behind)) first in
+    ap (drop 1) (rw one at same)
 
-pub length_more : (n : ℕ) → 100 ≤ n → n < 10 ^ 19 → length (decimal n) ≡ length (decimal (n / 100)) + 2
-length_more n low high = ap length (decimal_more n low high) ∙ length-append (decimal (n / 100)) (two_digits (n % 100))
+-- the numbers of places that are written together
 
--- the last four or six digits
+as_two : (n : ℕ) → all_digits 2 n ≡ two_digits n
+as_two n = let e : n % 10 / 1 ≡ n % 10 = omega arith in ap (λ d. (48 + n / 10) ∷ (48 + d) ∷ []) e
 
-pub decimal_four : (n : ℕ) → 10_000 ≤ n → n < 10 ^ 19 → decimal n ≡ decimal (n / 10_000) ++ all_digits 4 (n % 10_000)
-decimal_four n low high =
-    let a : n / 100 / 100 ≡ n / 10_000 = omega arith in
-    let b : n / 100 % 100 ≡ n % 10_000 / 100 = omega arith in
-    let c : n % 100 ≡ n % 10_000 % 100 = omega arith in
-    rw (decimal_more n (omega arith) high, decimal_more (n / 100) (omega arith) (omega arith), append_assoc, four_digits (n % 10_000) (omega arith), a, b, ← c)
+pub three_places : (n : ℕ) → n < 1_000 → all_digits 3 n ≡ (48 + n / 100) ∷ two_digits (n % 100)
+three_places n small = ap (λ l. (48 + n / 100) ∷ l) (as_two (n % 100))
 
-pub decimal_six : (n : ℕ) → 1_000_000 ≤ n → n < 10 ^ 19 → decimal n ≡ decimal (n / 1_000_000) ++ all_digits 6 (n % 1_000_000)
-decimal_six n low high =
-    let a : n / 10_000 / 100 ≡ n / 1_000_000 = omega arith in
-    let b : n / 10_000 % 100 ≡ n % 1_000_000 / 10_000 = omega arith in
-    let c : n % 10_000 ≡ n % 1_000_000 % 10_000 = omega arith in
-    rw (decimal_four n (omega arith) high, decimal_more (n / 10_000) (omega arith) (omega arith), append_assoc, six_digits (n % 1_000_000) (omega arith), a, b, ← c)
+pub four_places : (n : ℕ) → n < 10_000 → all_digits 4 n ≡ two_digits (n / 100) ++ two_digits (n % 100)
+four_places n small =
+    digits_cut 2 2 n (omega arith) small ∙ ap (λ l. l ++ all_digits 2 (n % 100)) (as_two (n / 100)) ∙ ap (λ l. two_digits (n / 100) ++ l) (as_two (n % 100))
 
-pub length_four : (n : ℕ) → 10_000 ≤ n → n < 10 ^ 19 → length (decimal n) ≡ length (decimal (n / 10_000)) + 4
-length_four n low high = ap length (decimal_four n low high) ∙ length-append (decimal (n / 10_000)) (all_digits 4 (n % 10_000))
+pub six_places : (n : ℕ) → n < 1_000_000_000 → all_digits 6 (n / 1_000) ≡ all_digits 3 (n / 1_000_000) ++ all_digits 3 (n / 1_000 % 1_000)
+six_places n small =
+    let front : n / 1_000 / 1_000 ≡ n / 1_000_000 = omega arith in
+    digits_cut 3 3 (n / 1_000) (omega arith) (omega arith) ∙ ap (λ q. all_digits 3 q ++ all_digits 3 (n / 1_000 % 1_000)) front
 
-pub length_six : (n : ℕ) → 1_000_000 ≤ n → n < 10 ^ 19 → length (decimal n) ≡ length (decimal (n / 1_000_000)) + 6
-length_six n low high = ap length (decimal_six n low high) ∙ length-append (decimal (n / 1_000_000)) (all_digits 6 (n % 1_000_000))
+pub nine_places : (n : ℕ) → n < 1_000_000_000 → all_digits 9 n ≡ all_digits 3 (n / 1_000_000) ++ all_digits 3 (n / 1_000 % 1_000) ++ all_digits 3 (n % 1_000)
+nine_places n small =
+    let front = all_digits 3 (n / 1_000_000) in
+    let middle : n % 1_000_000 / 1_000 ≡ n / 1_000 % 1_000 = omega arith in
+    let last : n % 1_000_000 % 1_000 ≡ n % 1_000 = omega arith in
+    digits_cut 3 6 n (omega arith) small
+    ∙ ap (λ l. front ++ l) (digits_cut 3 3 (n % 1_000_000) (omega arith) (omega arith))
+    ∙ ap (λ q. front ++ all_digits 3 q ++ all_digits 3 (n % 1_000_000 % 1_000)) middle
+    ∙ ap (λ r. front ++ all_digits 3 (n / 1_000 % 1_000) ++ all_digits 3 r) last
 
-pub length_at_most : (n : ℕ) → n < 10 ^ 19 → length (decimal n) ≤ 19
-length_at_most n small = length-decimal-le 19 n (omega arith) small (omega arith)
+-- the digits of a short number, each of which is there from its unit on
 
-pub length_of_u32 : (n : ℕ) → n < 2 ^ 32 → length (decimal n) ≤ 10
-length_of_u32 n small = length-decimal-le 10 n (omega arith) (omega arith) (omega arith)
+pub pair_text : (n : ℕ) → n < 100 → decimal n ≡ (if nat_le 10 n then (48 + n / 10) ∷ [] else []) ++ (48 + n % 10) ∷ []
+pair_text n small = grind (arith, nat_tests, decimal_digit, decimal_step)
 
-pub length_of_seconds : (n : ℕ) → n < 10 ^ 16 → length (decimal n) ≤ 16
-length_of_seconds n small = length-decimal-le 16 n (omega arith) small (omega arith)
+pub short_text : (n : ℕ) → n < 10_000
+    → decimal n ≡ (((if nat_le 1_000 n then (48 + n / 100 / 10) ∷ [] else []) ++ (if nat_le 100 n then (48 + n / 100 % 10) ∷ [] else [])) ++ (if nat_le 10 n then (48 + n % 100 / 10) ∷ [] else [])) ++ (48 + n % 100 % 10) ∷ []
+short_text n small = grind (arith, nat_tests, decimal_digit, decimal_step, append_assoc)
 
--- a text put after the front, in two parts
-pub in_parts : (front first second whole : List ℕ) {after_first after_second : List ℕ} → after_second ≡ after_first ++ second → after_first ≡ front ++ first → whole ≡ first ++ second
-    → after_second ≡ front ++ whole
-in_parts front first second whole last middle is =
-    last ∙ ap (λ l. l ++ second) middle ∙ append_assoc front first second ∙ ap (λ l. front ++ l) (sym is)
+pub six_digits : (n : ℕ) → n < 1_000_000 → all_digits 6 n ≡ two_digits (n / 10_000) ++ all_digits 4 (n % 10_000)
+six_digits n small = digits_cut 2 4 n (omega arith) small ∙ ap (λ l. l ++ all_digits 4 (n % 10_000)) (as_two (n / 10_000))
 
--- for the writer of numbers
-pub ruleset decimals = (decimal_digit, length_one, decimal_pair, length_pair, decimal_more, length_more, decimal_four, length_four, decimal_six, length_six, length_at_most, length_of_u32, length_of_seconds)
+-- how long the texts are
+
+pub at_most : (places n : ℕ) → 0 < places → n < 10 ^ places → n < 10 ^ 19 → length (decimal n) ≤ places
+at_most places n some small fits = length-decimal-le places n some small (omega arith)
+
+-- the digits of a fraction, less the zeros at its end
+
+nothing_left : (places : ℕ) → fraction_digits places 0 ≡ []
+nothing_left zero = refl
+nothing_left (suc places) = refl
+
+-- a number that is not 0, and zeros behind it
+at_least : (n ending front : ℕ) → n ≡ front * 10 ^ ending → front % 10 ≢ 0 → 10 ^ ending ≤ n
+at_least n ending front is some = omega (arith, is, le-mul_of_pos_right {m = front} (10 ^ ending) (omega arith))
+
+pub few_zeros : (places n ending front : ℕ) → n ≡ front * 10 ^ ending → front % 10 ≢ 0 → n < 10 ^ places → ending < places
+few_zeros places n ending front is some within = elim (cases_lt ending places) as (λ _. ending < places) [
+  | inl few ↦ few
+  | inr many ↦ absurd (omega (arith, at_least n ending front is some, pow-le-pow_right {n = 10} (omega arith) many))
+]
+
+-- the places behind the first
+behind_first : (places n ending front : ℕ) → n ≡ front * 10 ^ ending → ending < places
+    → (n % 10 ^ places ≡ front % 10 ^ (places - ending) * 10 ^ ending) × (front % 10 ^ (places - ending) % 10 ≡ front % 10)
+behind_first places n ending front is more =
+    let gap = places - ending in
+    let before = front / 10 ^ gap in
+    let rest = front % 10 ^ gap in
+    let (cut, small) = parts gap front in
+    let same : gap + ending ≡ places = omega arith in
+    let joined : 10 ^ places ≡ 10 ^ gap * 10 ^ ending = ap (λ k. 10 ^ k) (sym same) ∙ pow-add 10 gap ending in
+    let whole : n ≡ before * 10 ^ places + rest * 10 ^ ending = omega (arith, is, ap (λ f. f * 10 ^ ending) cut, ap (λ u. before * u) joined) in
+    let below : rest * 10 ^ ending < 10 ^ places = omega (arith, joined, mul-add-lt rest (10 ^ ending) 0 (10 ^ gap) small (one-le-pow ending 10 (omega arith))) in
+    let one_more : gap ≡ suc (gap - 1) = omega arith in
+    let tenfold : 10 ^ gap ≡ 10 * 10 ^ (gap - 1) = ap (λ k. 10 ^ k) one_more ∙ pow-succ' 10 (gap - 1) in
+    (ap (λ k. k % 10 ^ places) whole ∙ mod-mul-add before (10 ^ places) (rest * 10 ^ ending) below, omega (arith, cut, ap (λ u. before * u) tenfold))
+
+without_zeros : (places n ending front : ℕ) → n ≡ front * 10 ^ ending → front % 10 ≢ 0 → n < 10 ^ places → fraction_digits places n ≡ take (places - ending) (all_digits places n)
+without_zeros zero n ending front is some within =
+    absurd (omega (arith, at_least n ending front is some, one-le-pow ending 10 (omega arith)))
+without_zeros (suc places) n ending front is some within =
+    let digit = 48 + n / 10 ^ places in
+    let rest = n % 10 ^ places in
+    let not_zero : n ≢ 0 = omega (arith, at_least n ending front is some, one-le-pow ending 10 (omega arith)) in
+    rw (ne_eqb n 0 not_zero) (elim (cases_lt ending places) as (λ _. digit ∷ fraction_digits places rest ≡ take (suc places - ending) (digit ∷ all_digits places rest)) [
+      | inl more ↦
+          let (same, last) = behind_first places n ending front is more in
+          let e : suc places - ending ≡ suc (places - ending) = omega arith in
+          let below = mod-lt n (one-le-pow places 10 (omega arith)) in
+          rw e (ap (λ l. digit ∷ l) (without_zeros places rest ending (front % 10 ^ (places - ending)) same (omega (arith, last)) below))
+      | inr none ↦
+          let only : ending ≡ places = omega (arith, few_zeros (suc places) n ending front is some within) in
+          let e : suc places - ending ≡ 1 = omega arith in
+          let empty : rest ≡ 0 = ap (λ k. k % 10 ^ places) (is ∙ ap (λ k. front * 10 ^ k) only) ∙ mul-mod_left front (10 ^ places) in
+          rw e (ap (λ l. digit ∷ l) (ap (fraction_digits places) empty ∙ nothing_left places))
+    ])
+
+-- behind a text: nine digits, less the zeros at their end
+pub trimmed : (before : List ℕ) (n ending front : ℕ) → n ≡ front * 10 ^ ending → front % 10 ≢ 0 → n < 10 ^ 9
+    → take (length (before ++ all_digits 9 n) - ending) (before ++ all_digits 9 n) ≡ before ++ fraction_digits 9 n
+trimmed before n ending front is some within =
+    let few = few_zeros 9 n ending front is some within in
+    let size : length (before ++ all_digits 9 n) - ending ≡ length before + (9 - ending) = omega (arith, length-append before (all_digits 9 n)) in
+    rw size (take-append-add before (all_digits 9 n) (9 - ending) ∙ ap (λ l. before ++ l) (sym (without_zeros 9 n ending front is some within)))
+
+-- for the writers of digits, and of fractions
+pub ruleset places = (three_places, four_places)
+
+pub ruleset fractions = (six_places, nine_places)

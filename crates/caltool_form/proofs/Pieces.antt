@@ -1,14 +1,14 @@
 -- Lines that come in pieces, and writers that hold a beginning of a text.
-use Rattle.std.proofs.Common.{◌≡◌, ◌==◌, ℕ, zero, suc, ◌+◌, ◌-◌, ◌<◌, ◌≤◌, All, min, true, false, inl, inr, List, [], ◌∷◌, ◌++◌, length, take, drop, set, length-append, refl, ap, sym, ◌∙◌, arith, append_assoc, take-append-drop, subst, Option, codes, Result, Ok, Err, OnErr, IsErrOf}
+use Rattle.std.proofs.Common.{◌≡◌, ◌==◌, ℕ, zero, suc, ◌+◌, ◌-◌, ◌<◌, All, min, true, false, inl, inr, List, [], ◌∷◌, ◌++◌, length, take, refl, ap, sym, ◌∙◌, arith, subst, Option, codes, Result, Ok, Err, OnErr, IsErrOf}
 use Rattle.std.specs.List.{onto_first}
 use Rattle.std.specs.Option.{option_map_or}
 use Rattle.std.proofs.lemmas.Bool.{cases_lt, cases_eq, eq-eqb, ne_eqb, lt-ltb, cond-true}
-use Rattle.std.proofs.lemmas.List.{take_min, take_all, take_at, take_rest, take-append-le, length-take, take_more_set}
+use Rattle.std.proofs.lemmas.List.{take_min, take_all, take-append-le, length-take}
 use Rattle.std.proofs.lemmas.List.Splits.{slice_split_none, slice_split_at, slice_split-cons_yes, slice_split-cons_no, length-slice_split}
 use Rattle.std.proofs.lemmas.Grind.{flat_map-append}
 use Rattle.std.proofs.Math.Seq.{take-append-add}
-use Rattle.std.proofs.KnownBytes.{Appends-trans, Appends-kept}
-use Rattle.std.specs.Io.KnownBytes.{Appends, Keeps}
+use Rattle.std.proofs.KnownBytes.{Appends-trans}
+use Rattle.std.specs.Io.KnownBytes.{Appends}
 use Rattle.caltool_form.specs.Lines.{pieces, but_last, last_part, ended_lines, rest_of, onto_front, pieces_after, last_line, IsPiece}
 use Rattle.caltool_form.specs.Answers.{answer_of, answer_to, answers_of}
 use Rattle.caltool_form.specs.Commands.{is_long, command_of}
@@ -18,15 +18,6 @@ pub take-append : (n : ℕ) (xs ys : List ℕ) → take n (xs ++ ys) ≡ take n 
 take-append zero xs ys = let e : 0 - length xs ≡ 0 = omega arith in rw e refl
 take-append (suc n) [] ys = let e : suc n - 0 ≡ suc n = omega arith in rw e refl
 take-append (suc n) (x ∷ xs) ys = let e : suc n - suc (length xs) ≡ n - length xs = omega arith in rw e (ap (λ l. x ∷ l) (take-append n xs ys))
-
--- the kept front of a line grows with the line
-pub kept_more : (bytes line more : List ℕ) (len taken : ℕ) → take len bytes ≡ take 121 line → length bytes ≡ 121 → len ≤ 121
-    → taken ≡ min (length more) (121 - len) → take len bytes ++ take taken more ≡ take 121 (line ++ more)
-kept_more bytes line more len taken kept whole within is =
-    let same : 121 - len ≡ 121 - length line = omega (arith, ap length kept, length-take len bytes, length-take 121 line) in
-    let room : taken ≡ min (121 - length line) (length more) = omega arith in
-    let tail : take taken more ≡ take (121 - length line) more = ap (λ n. take n more) room ∙ take_min (121 - length line) more in
-    ap (λ l. l ++ take taken more) kept ∙ ap (λ l. take 121 line ++ l) tail ∙ sym (take-append 121 line more)
 
 -- what stands behind the first part
 
@@ -115,17 +106,8 @@ last_part-append (part ∷ []) line [] = refl
 last_part-append (part ∷ []) line (next ∷ parts) = refl
 last_part-append (part ∷ next ∷ cut) line parts = last_part-append (next ∷ cut) line parts
 
--- a beginning of what is left joins what is done
-pub n_more_done : (bytes done rest : List ℕ) (n : ℕ) → bytes ≡ done ++ rest → bytes ≡ (done ++ take n rest) ++ take (length rest - n) (drop n rest)
-n_more_done bytes done rest n split =
-    let back : take n rest ++ take (length rest - n) (drop n rest) ≡ rest = rw (take_rest rest n) (take-append-drop n rest) in
-    rw (append_assoc, back) split
-
--- a writer that holds a beginning of the bytes, and then no more or some more of them
-pub begun : (a b c : Option (List ℕ)) (bytes done rest : List ℕ) → bytes ≡ done ++ rest → Appends a b done → Keeps b c → (n : ℕ) × Appends a c (take n bytes)
-begun a b c bytes done rest e h k = (length done, subst (Appends a c) (sym (ap (λ l. take (length done) l) e ∙ take_at done rest _ refl)) (Appends-kept a b c done h k))
-
-pub begun_more : (a b c : Option (List ℕ)) (bytes done rest : List ℕ) (n : ℕ) → bytes ≡ done ++ rest → Appends a b done → Appends b c (take n rest) → (m : ℕ) × Appends a c (take m bytes)
+-- a writer that holds a beginning of the bytes, and then some more of them
+begun_more : (a b c : Option (List ℕ)) (bytes done rest : List ℕ) (n : ℕ) → bytes ≡ done ++ rest → Appends a b done → Appends b c (take n rest) → (m : ℕ) × Appends a c (take m bytes)
 begun_more a b c bytes done rest n e h k =
     (length done + n, subst (Appends a c) (sym (ap (λ l. take (length done + n) l) e ∙ take-append-add done rest n)) (Appends-trans a b c done (take n rest) h k))
 
@@ -147,18 +129,6 @@ pub begun_within : (a b c : Option (List ℕ)) (all done front more : List ℕ) 
 begun_within a b c all done front more e h (n, k) =
     let same : take (min n (length front)) (front ++ more) ≡ take n front = take-append-le (min n (length front)) front more (omega arith) ∙ take_min n front in
     begun_more a b c all done (front ++ more) (min n (length front)) e h (subst (Appends b c) (sym same) k)
-
--- a text and one byte more, written past the first bytes
-pub put_text : (bytes ys post : List ℕ) (len n y : ℕ) → len ≤ length bytes → n < length ys
-    → take (len + n + 1) (set (take len bytes ++ (ys ++ post)) (len + n) y) ≡ take len bytes ++ take n ys ++ y ∷ []
-put_text bytes ys post len n y fits room =
-    let front = take len bytes in
-    let size : length front ≡ len = omega (arith, length-take len bytes) in
-    let whole : length (front ++ (ys ++ post)) ≡ len + (length ys + length post) = omega (arith, length-append front (ys ++ post), length-append ys post) in
-    let at : take (len + n) (front ++ (ys ++ post)) ≡ front ++ take n (ys ++ post) =
-    ap (λ m. take (m + n) (front ++ (ys ++ post))) (sym size) ∙ take-append-add front (ys ++ post) n in
-    take_more_set (front ++ (ys ++ post)) (len + n) y (omega arith)
-    ∙ ap (λ l. l ++ y ∷ []) (at ∙ ap (λ l. front ++ l) (take-append-le n ys post (omega arith)))
 
 -- a fact of any error
 pub on_err_any : {E T : Type 0} (r : Result T E) (P : Type 0) → P → OnErr r P

@@ -8,10 +8,10 @@
 
 mod answer;
 mod arguments;
-mod carried;
 mod command;
 mod command_answers;
 mod date_text;
+mod decimal;
 mod digits;
 mod duration_text;
 mod fault;
@@ -36,12 +36,8 @@ pub use answer::{Answer, answer_by};
 pub use arguments::{CalendarDate, ClockTime, DateAndTime, MonthSpan};
 pub use command::{Command, command_of};
 pub use command_answers::CommandAnswers;
-pub use date_text::{put_calendar_date, put_week};
-pub use duration_text::put_duration;
 pub use fault::RunFault;
 pub use form_answers::{answer_form, run_form};
 pub use law::{cut_is_unique, lines_are_commands, numbers_are_texts, words_are_unique};
 pub use run::run_by;
-pub use set_text::{put_set, put_walk, put_weekday};
-pub use text::{put_i32, put_number, put_text, put_u32};
-pub use time_text::put_clock;
+pub use text::Text;
