@@ -1,9 +1,9 @@
 """The proleptic Gregorian calendar, durations and times of day by counting, in Python's whole numbers: what the checks hold the
 libraries and caltool to.
 
-A date is its day number: 1 January of year 1 is day 1. Years, months and days are counted from the leap rule and the month lengths
-alone; in the years 1 to 9999 Python's datetime answers in their place. A time of day is a second and a fraction, which is 10^9 or
-more in a leap second; durations are whole nanoseconds. Nothing here is taken from the sources that it is a check of.
+A date is its day number: 1 January of year 1 is day 1. Years, months and days are counted from the leap rule and the month
+lengths alone; in the years 1 to 9999 Python's datetime answers in their place. A time of day is a second and a fraction, which is
+10^9 or more in a leap second; durations are whole nanoseconds. Nothing here is taken from the sources that it is a check of.
 """
 import bisect
 import datetime
@@ -37,8 +37,12 @@ def days_before(year):
 FIRST_DAY, LAST_DAY = days_before(FIRST_YEAR) + 1, days_before(LAST_YEAR + 1)
 
 
+def is_date(number):
+    return FIRST_DAY <= number <= LAST_DAY
+
+
 def in_range(number):
-    return number if number is not None and FIRST_DAY <= number <= LAST_DAY else None
+    return number if number is not None and is_date(number) else None
 
 
 # ---- the names of a day

@@ -4,23 +4,24 @@
     checks/ends.py              compares each row of crates/chrono_calls/stdin with what is counted here
     checks/ends.py --missing    prints the rows that are wanted and do not stand there
 
-Each call of a row is read here a second time, plainly, in whole numbers over checks/counted.py. Wanted are, of each call: each end of
-each argument with the others in the middle of their types, and each choice of ends for all arguments at once. The ends are those of
-the machine's numbers, the longest durations, the first and the last date, midnight, the last second of the day and its leap second.
+Each call of a row is read here a second time, plainly, in whole numbers over checks/counted.py. Wanted are, of each call: each
+end of each argument with the others in the middle of their types, and each choice of ends for all arguments at once. The ends are
+those of the machine's numbers, the longest durations, the first and the last date, midnight, the last second of the day and its
+leap second.
 """
 import itertools
 import os
 import sys
 
 from counted import (DAY, FIRST_DAY, FIRST_YEAR, LAST_DAY, LAST_YEAR, LONGEST, NANOS, apart, day_in_year, day_of, day_of_month,
-                     day_of_week_date, first_of_week, in_range, is_leap, is_time, land, month_lengths, month_move, name_of, ordinal_of,
-                     week_of, weekday_of, years_between)
+                     day_of_week_date, first_of_week, in_range, is_date, is_leap, is_time, land, month_lengths, month_move,
+                     name_of, ordinal_of, week_of, weekday_of, years_between)
 
 TOP = os.path.dirname(os.path.dirname(os.path.abspath(__file__)))
 ROWS = os.path.join(TOP, "crates", "chrono_calls", "stdin")
 
 EPOCH = 719_163
-MONTHS = ["January", "February", "March", "April", "May", "June", "July", "August", "September", "October", "November", "December"]
+MONTHS = "January February March April May June July August September October November December".split()
 
 
 # ---- kinds of arguments
@@ -44,11 +45,9 @@ WEEKDAY, MONTH, SET = number(1, 7, 4), number(1, 12, 6), number(0, 127, 37)
 DATE = number(FIRST_DAY, LAST_DAY, 738_945)
 DURATION = Kind([divmod(-LONGEST, NANOS), divmod(LONGEST, NANOS)], (1, NANOS // 2), lambda secs, nanos: secs * NANOS + nanos)
 TIME = Kind([(0, 0), (86_399, NANOS - 1), (86_399, 2 * NANOS - 1)], (3661, 3 * NANOS // 2), lambda *it: it)
-MOMENT = Kind([(FIRST_DAY, 0, 0), (LAST_DAY, 86_399, NANOS - 1), (LAST_DAY, 86_399, 2 * NANOS - 1)], (738_945, 86_399, 3 * NANOS // 2),
-              lambda date, *time: (date, tuple(time)))
+MOMENT = Kind([(FIRST_DAY, 0, 0), (LAST_DAY, 86_399, NANOS - 1), (LAST_DAY, 86_399, 2 * NANOS - 1)],
+              (738_945, 86_399, 3 * NANOS // 2), lambda date, *time: (date, tuple(time)))
 STEPS = Kind([], ("nbl",))
-# (of a walk by days the rows at the ends are chosen one by one)
-ANY_DATE = Kind([], DATE.middle)
 
 
 # ---- answers
@@ -116,26 +115,25 @@ def set_walk(members, start, steps):
 
 
 def day_walk(start, steps):
-    """A cursor that gives each date up to the last, and then stands past it and does not come back; `next_back` steps it back."""
+    """A cursor that `next` gives and steps on, at last past all dates, and `next_back` gives and steps back, if to a date."""
 
     def step(cursor, it):
         if it in "ls":
-            return cursor, LAST_DAY + 1 - cursor if it == "l" else int(cursor == start)
-        if cursor > LAST_DAY or (it == "b" and cursor == FIRST_DAY):
-            return cursor, None
-        return cursor + (1 if it == "n" else -1), cursor
+            return cursor, LAST_DAY + 1 - cursor if it == "l" else cursor == start
+        moved = cursor + (1 if it == "n" else -1)
+        return (moved, cursor) if is_date(cursor) and (it == "n" or is_date(moved)) else (cursor, None)
 
     return walk(step, start, steps)
 
 
 def week_walk(start, steps):
-    """A cursor that gives a date only where there is one a week after it, and that `next_back` gives and steps back."""
+    """A cursor that both calls give and step by a week, if to a date."""
 
     def step(cursor, it):
         if it in "ls":
-            return cursor, (LAST_DAY - cursor) // 7 if it == "l" else int(cursor == start)
-        moved = in_range(cursor + (7 if it == "n" else -7))
-        return (cursor, None) if moved is None else (moved, cursor)
+            return cursor, (LAST_DAY - cursor) // 7 if it == "l" else cursor == start
+        moved = cursor + (7 if it == "n" else -7)
+        return (moved, cursor) if is_date(moved) else (cursor, None)
 
     return walk(step, start, steps)
 
@@ -347,8 +345,8 @@ DATES = {
     "cmp": ([DATE, DATE], order),
     "every_months": ([DATE, I32, U32], lambda it, months, times: month_move(it, months * times)),
     "first_on": ([DATE, SET], first_on),
-    "iter_days": ([ANY_DATE, STEPS], day_walk),
-    "iter_days_last": ([ANY_DATE], lambda it: LAST_DAY),
+    "iter_days": ([DATE, STEPS], day_walk),
+    "iter_days_last": ([DATE], lambda it: LAST_DAY),
     "iter_weeks": ([DATE, STEPS], week_walk),
     **{name: ([DATE], read) for name, read in READ.items()},
     "to_epoch_days": ([DATE], lambda it: it - EPOCH),
@@ -358,7 +356,7 @@ WEEKS = {
     "checked_first_day": ([DATE, WEEKDAY], lambda *it: in_range(first_of_week(*it))),
     "checked_last_day": ([DATE, WEEKDAY], lambda *it: in_range(first_of_week(*it) + 6)),
     "checked_days": ([DATE, WEEKDAY], lambda *it: (first_of_week(*it), first_of_week(*it) + 6)
-                     if in_range(first_of_week(*it)) and in_range(first_of_week(*it) + 6) else None),
+                     if is_date(first_of_week(*it)) and is_date(first_of_week(*it) + 6) else None),
     "eq": ([DATE, WEEKDAY] * 2, lambda *it: first_of_week(*it[:2]) == first_of_week(*it[2:])),
 }
 ISO_WEEKS = {"cmp": ([DATE, DATE], lambda it, other: order(week_of(it), week_of(other)))}
@@ -379,8 +377,8 @@ MOMENTS = {
     "time": ([MOMENT], lambda it: (*hour12(it[1]), *it[1])),
     **{name: ([MOMENT], lambda it, read=read: read(it[0])) for name, read in READ.items()},
 }
-OWNERS = {"Weekday": WEEKDAYS, "WeekdaySet": SETS, "Month": MONTHS_OF_YEAR, "Months": SPANS, "TimeDelta": DURATIONS, "NaiveTime": TIMES,
-          "NaiveDate": DATES, "NaiveWeek": WEEKS, "IsoWeek": ISO_WEEKS, "NaiveDateTime": MOMENTS}
+OWNERS = {"Weekday": WEEKDAYS, "WeekdaySet": SETS, "Month": MONTHS_OF_YEAR, "Months": SPANS, "TimeDelta": DURATIONS,
+          "NaiveTime": TIMES, "NaiveDate": DATES, "NaiveWeek": WEEKS, "IsoWeek": ISO_WEEKS, "NaiveDateTime": MOMENTS}
 CALLS = {f"{owner}.{name}": call for owner, calls in OWNERS.items() for name, call in calls.items()}
 
 
@@ -405,8 +403,6 @@ def answer(name, words):
 def wanted(name):
     """The words of the rows that a call has to have: at its ends."""
     kinds = CALLS[name][0]
-    if kinds and not any(kind.ends for kind in kinds):
-        return
     middles = [kind.middle for kind in kinds]
     for place, kind in enumerate(kinds):
         for end in kind.ends:
@@ -434,7 +430,8 @@ def main():
         return 0
     for it in missing:
         print(f"no row for {' '.join(it)}")
-    print(f"{len(rows)} rows of {len({it[0] for it in seen})} calls compared; {len(set(ends))} of them are at the ends of {len(CALLS)} calls")
+    calls = len({it[0] for it in seen})
+    print(f"{len(rows)} rows of {calls} calls compared; {len(set(ends))} of them are at the ends of {len(CALLS)} calls")
     print(f"{len(rows) - failed} passed, {failed + len(missing)} failed")
     return 1 if failed or missing else 0
 

@@ -3,11 +3,11 @@
 
     checks/fuzz.py [--lines N] [--seed N]      (200,000 lines from seed 1, if left out)
 
-The lines come of a grammar of near misses: numbers at the ends of their types and of the calendar, days that a month may not have,
-signs, zeros and spaces where they do not belong, numbers past every width, words cut or misspelt, a byte dropped, doubled or struck
-wrong, lines about as long as a line may be, bytes of any kind; and each byte in each place of two short lines. What they answer is
-counted (checks/counted.py); nothing is taken from the program's own sources. The first line answered otherwise is printed with
-its seed.
+The lines come of a grammar of near misses: numbers at the ends of their types and of the calendar, days that a month may not
+have, signs, zeros and spaces where they do not belong, numbers past every width, words cut or misspelt, a byte dropped, doubled
+or struck wrong, lines about as long as a line may be, bytes of any kind; and each byte in each place of two short lines. What they
+answer is counted (checks/counted.py); nothing is taken from the program's own sources. The first line answered otherwise is
+printed with its seed.
 """
 import argparse
 import os
@@ -17,8 +17,8 @@ import subprocess
 import sys
 
 from counted import (DAY, FIRST_DAY, FIRST_YEAR, LAST_DAY, LAST_YEAR, LONGEST, NANOS, apart, day_in_year, day_of, day_of_month,
-                     day_of_week_date, first_of_week, in_range, is_time, land, month_move, name_of, ordinal_of, week_of, weekday_of,
-                     years_between)
+                     day_of_week_date, first_of_week, in_range, is_time, land, month_move, name_of, ordinal_of, week_of,
+                     weekday_of, years_between)
 
 TOP = os.path.dirname(os.path.dirname(os.path.abspath(__file__)))
 CALTOOL = os.path.join(TOP, "crates", "caltool", "out", "caltool")
@@ -117,7 +117,8 @@ def months_on(year, month, day, count):
 def set_line(start, *days):
     walk = [(start - 1 + steps) % 7 for steps in range(7)]
     members = {day - 1 for day in days}
-    return " ".join([f"[{', '.join(WEEKDAYS[day] for day in sorted(members))}]"] + [WEEKDAYS[day] for day in walk if day in members])
+    listed = ", ".join(WEEKDAYS[day] for day in sorted(members))
+    return " ".join([f"[{listed}]"] + [WEEKDAYS[day] for day in walk if day in members])
 
 
 I32, U32, I64 = (-(2**31), 2**31 - 1), (0, 2**32 - 1), (-(2**63), 2**63 - 1)
@@ -163,8 +164,9 @@ def near(chance, *ends):
 
 
 def a_year(chance):
-    return chance.choice([near(chance, FIRST_YEAR, LAST_YEAR), near(chance, 0, 1, 9999, 10_000, -9999), chance.randint(1900, 2100),
-                          chance.randint(FIRST_YEAR, LAST_YEAR), 400 * chance.randint(-600, 600) + chance.choice([0, 100, 4])])
+    return chance.choice([near(chance, FIRST_YEAR, LAST_YEAR), near(chance, 0, 1, 9999, 10_000, -9999),
+                          chance.randint(1900, 2100), chance.randint(FIRST_YEAR, LAST_YEAR),
+                          400 * chance.randint(-600, 600) + chance.choice([0, 100, 4])])
 
 
 def a_number(chance, kind):
@@ -195,11 +197,11 @@ def numbers_of(chance, name):
     if name in ("move", "diff"):
         for begin in range(0, len(numbers) - 6, 7):
             if chance.random() < 0.9:
-                second = chance.choice([0, 58, 59, 59, 59, 59])
-                numbers[begin + 1 : begin + 6] = [chance.randint(1, 12), chance.randint(1, 28), chance.randrange(24), chance.randrange(60), second]
-                numbers[begin + 6] = a_fraction(chance)
+                clock = [chance.randrange(24), chance.randrange(60), chance.choice([0, 58, 59, 59, 59, 59])]
+                numbers[begin + 1 : begin + 7] = [chance.randint(1, 12), chance.randint(1, 28), *clock, a_fraction(chance)]
         if name == "move" and chance.random() < 0.8:
-            numbers[7:] = [chance.choice([chance.randint(-3, 3), chance.randint(-(10**14), 10**14), near(chance, 0, 86_400, -86_400)]), chance.randrange(NANOS)]
+            seconds = [chance.randint(-3, 3), chance.randint(-(10**14), 10**14), near(chance, 0, 86_400, -86_400)]
+            numbers[7:] = [chance.choice(seconds), chance.randrange(NANOS)]
     return numbers
 
 
@@ -273,8 +275,8 @@ def main():
             break
         passed += 1
     is_right = passed == len(right) == len(answers) and (ran.returncode, ran.stderr) == (0, b"")
-    kinds = {kind: sum(it == kind for it in right) for kind in ("none", "error")}
-    print(f"{len(lines)} lines compared from seed {asked.seed}, of which {kinds['none']} name nothing and {kinds['error']} are no command")
+    nothing, wrong = (sum(it == kind for it in right) for kind in ("none", "error"))
+    print(f"{len(lines)} lines compared from seed {asked.seed}, of which {nothing} name nothing and {wrong} are no command")
     print("1 passed, 0 failed" if is_right else "0 passed, 1 failed")
     return 0 if is_right else 1
 

@@ -21,10 +21,11 @@ pub enum Call {
     Flush,
 }
 
-/// The count of the calls of a reader and a writer, the last of them, and the one that failed.
+/// The counts of the calls of a reader and a writer and of the flushes among them, the last call, and the one that failed.
 #[derive(Drop)]
 pub struct Calls {
     made: Cell<u64>,
+    flushes: Cell<u64>,
     last: Cell<Option<Call>>,
     failed: Cell<Option<Call>>,
     fails_at: u64,
@@ -36,6 +37,7 @@ impl Calls {
     pub fn new(fails_at: u64, failure: Failure) -> Calls {
         Calls {
             made: Cell::new(0),
+            flushes: Cell::new(0),
             last: Cell::new(None),
             failed: Cell::new(None),
             fails_at,
@@ -46,6 +48,11 @@ impl Calls {
     /// The call that failed.
     pub fn failed(&self) -> Option<Call> {
         self.failed.get()
+    }
+
+    /// How many calls flushed.
+    pub fn flushes(&self) -> u64 {
+        self.flushes.get()
     }
 
     /// Whether the last call was this one.
@@ -148,6 +155,8 @@ impl Write for Taken<'_> {
     }
 
     fn flush(&mut self) -> io::Result<()> {
+        let flushes = self.calls.flushes();
+        self.calls.flushes.set(flushes.wrapping_add(1));
         self.calls.goes_on(Call::Flush)?;
         Ok(())
     }

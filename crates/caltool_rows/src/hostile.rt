@@ -3,7 +3,7 @@ ghost use Rattle.std.specs.Prelude.{◌<◌};
 
 use crate::failing::{Call, Calls, Failure, Given, Taken};
 use crate::runner::{Dates, Runner};
-use crate::tests::ROWS;
+use crate::tests::input;
 use crate::{Pieces, Sink};
 use caltool_dates::RunFault;
 use std::alloc::{AllocError, Global};
@@ -66,6 +66,7 @@ fn ends_well<A: Runner>(
         (Some(Call::Read), Failure::Error(_)) => {
             outcome == Err(RunFault::Read)
                 && calls.end_there()
+                && calls.flushes() == 0
                 && held == output::<A>(alloc, ended(read))?.as_slice()
         }
         (Some(Call::Write), _) | (Some(Call::Flush), Failure::Error(_)) => {
@@ -76,6 +77,7 @@ fn ends_well<A: Runner>(
         _ => {
             outcome == Ok(())
                 && calls.is_last(Call::Flush)
+                && calls.flushes() == 1
                 && held == output::<A>(alloc, read)?.as_slice()
         }
     })
@@ -100,20 +102,9 @@ fn each_failure_ends_well<A: Runner>(
     Ok(false)
 }
 
-// The lines of the table, with a newline between each two.
-fn rows(alloc: Global) -> Result<Vec<u8>, AllocError> {
-    let mut bytes = Vec::new(alloc);
-    for (line, _) in &ROWS {
-        bytes.extend_from_slice(line)?;
-        bytes.push(b'\n')?;
-    }
-    bytes.pop();
-    Ok(bytes)
-}
-
 #[test]
 fn each_call_fails_once(rt: HostRuntime) -> Result<(), Fail> {
-    let rows = rows(rt.alloc())?;
+    let rows = input(rt.alloc())?;
     let interrupted = Failure::Error(ErrorKind::Interrupted);
     for failure in [Failure::NoByte, interrupted] {
         assert!(rt;
@@ -210,7 +201,7 @@ fn is_alike_in_pieces<A: Runner>(alloc: Global, input: &[u8]) -> Result<bool, Al
 #[test]
 fn lines_of_any_kind_in_any_pieces(rt: HostRuntime) -> Result<(), Fail> {
     let generated = generated(rt.alloc(), 2000)?;
-    assert!(rt; is_alike_in_pieces::<Dates>(rt.alloc(), rows(rt.alloc())?.as_slice())?);
+    assert!(rt; is_alike_in_pieces::<Dates>(rt.alloc(), input(rt.alloc())?.as_slice())?);
     assert!(rt; is_alike_in_pieces::<Dates>(rt.alloc(), generated.as_slice())?);
     Ok(())
 }

@@ -110,3 +110,8 @@ two_same a b c d e f = cc
 -- the first two of four digits
 pub first_pair : (ds : List ℕ) (n : ℕ) → n < 10_000 → all_digits 4 n ≡ ds → two_digits (n / 100) ≡ get_or ds 0 0 ∷ get_or ds 1 0 ∷ []
 first_pair ds n below e = rw (← e) (two_same _ _ _ _ (omega arith) (omega arith))
+
+-- and of three
+pub first_of_three : (hundreds tens ones n : ℕ) → n < 1_000 → all_digits 3 n ≡ hundreds ∷ tens ∷ ones ∷ [] → two_digits (n / 10) ≡ hundreds ∷ tens ∷ []
+first_of_three hundreds tens ones n below e =
+    two_same _ _ _ _ (omega (arith, ap (λ (t : List ℕ). get_or t 0 0) e)) (omega (arith, ap (λ (t : List ℕ). get_or t 1 0) e))

@@ -67,3 +67,8 @@ behind_point digits text e =
 pub IsFractionText-some : (text : List ℕ) (n : ℕ) → 0 < length text → IsFractionText text n → IsPointText (46 ∷ take (length text - 1) (drop 1 text)) n
 IsFractionText-some text n some (inl is) = absurd (omega (arith, ap length is.0))
 IsFractionText-some text n some (inr is) = rw (sym (behind_point _ text is.written)) at is
+
+-- a fraction is below a second
+pub IsFractionText-below : (text : List ℕ) (n : ℕ) → IsFractionText text n → n < 1_000_000_000
+IsFractionText-below text n (inl is) = omega (arith, is.1)
+IsFractionText-below text n (inr is) = rw is.worth at (nanos_below is.places is.count is.some.1 is.below)

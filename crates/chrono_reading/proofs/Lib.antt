@@ -5,3 +5,4 @@ pub mod FractionLemmas
 pub mod TimeTextLemmas
 pub mod DateTimeLemmas
 pub mod DurationTextLemmas
+pub mod PrintedLemmas

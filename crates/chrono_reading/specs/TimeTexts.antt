@@ -18,6 +18,10 @@ pub record IsPointText (text : List ℕ) (nanos : ℕ) : Type 0 where
 abbrev pub IsFractionText : List ℕ → ℕ → Type 0
 IsFractionText text nanos = ((text ≡ []) × (nanos ≡ 0)) ⊎ IsPointText text nanos
 
+-- the texts write the same nanoseconds
+abbrev pub SameFraction : List ℕ → List ℕ → Type 0
+SameFraction text other = (nanos : ℕ) × IsFractionText text nanos × IsFractionText other nanos
+
 -- the time at which a clock shows these numbers; the second 60 is the leap second that follows 59
 abbrev pub time_shown : ℕ → ℕ → ℕ → ℕ → TimeOfDay
 time_shown hour minute second nanos =

@@ -20,6 +20,20 @@ pub(crate) fn two_digits(tens: u8, ones: u8) -> Option<u32>
     Some(10 * u32::from(tens) + u32::from(ones))
 }
 
+// The number that three digits write, if these bytes are digits.
+#[inline]
+pub(crate) fn three_digits(hundreds: u8, tens: u8, ones: u8) -> Option<u32>
+    ensures some { IfSome result (λ n. (n < 1_000) × (all_digits 3 n ≡ hundreds ∷ tens ∷ ones ∷ [])) }
+    ensures every { (n : ℕ) → n < 1_000 → all_digits 3 n ≡ hundreds ∷ tens ∷ ones ∷ [] → result ≡ Some n }
+{
+    let front = two_digits(hundreds, tens)?;
+    let last = ones.wrapping_sub(b'0');
+    if last > 9 {
+        return None;
+    }
+    Some(10 * front + u32::from(last))
+}
+
 // The number that four digits write, if these bytes are digits.
 #[inline]
 pub(crate) fn four_digits(digits: [u8; 4]) -> Option<u32>

@@ -12,11 +12,15 @@ mod duration;
 mod fraction;
 pub mod law;
 mod name;
+mod ordinal_date;
 mod time;
+mod week_date;
 mod year;
 
 pub use date::read_date;
 pub use date_time::read_date_time;
 pub use duration::read_duration;
 pub use name::{read_month, read_weekday};
+pub use ordinal_date::read_ordinal_date;
 pub use time::read_time;
+pub use week_date::read_week_date;
