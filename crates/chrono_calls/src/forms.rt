@@ -1,6 +1,6 @@
 //! The calls of a date over each stored form: by the form's own, and by those of [`forms`].
 
-use crate::words::{Words, are, count, is_number, is_order, signed, unsigned, weekday};
+use crate::words::{Words, are, count, is_order, signed, unsigned, weekday};
 use chrono_calendar::{DayForm, Steps, forms};
 
 /// Whether the call of that name has that answer over a form; `None` if a form has no such call, or its arguments are not
@@ -42,8 +42,10 @@ fn of_one<F: DayForm>(name: &str, own: F, words: &mut Words<'_>, answer: &str) -
         "checked_add_months" => forms::move_months(own, i64::from(unsigned(words)?)),
         "checked_sub_months" => forms::move_months(own, -i64::from(unsigned(words)?)),
         "years_since" => {
-            let years = forms::years_between(&own, &form(words)?);
-            return Some(is_number(answer, years.map(i64::from)));
+            return match forms::years_between(&own, &form(words)?) {
+                Some(years) => Some(are(answer, &[i64::from(years)])),
+                None => Some(answer == "none"),
+            };
         }
         "cmp" => return Some(is_order(answer, &own, &form::<F>(words)?)),
         "checked_first_day" => {
