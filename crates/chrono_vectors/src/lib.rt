@@ -15,6 +15,8 @@ mod date_time_texts;
 #[cfg(test)]
 mod dates;
 #[cfg(test)]
+mod ends;
+#[cfg(test)]
 mod naive_date;
 #[cfg(test)]
 mod naive_time;
