@@ -12,32 +12,26 @@ impl CommandAnswers for DateAnswers {
 
     ghost number = { λ n. n };
 
-    #[inline]
     fn from_ymd(year: i32, month: u32, day: u32) -> Option<NaiveDate> {
         NaiveDate::from_ymd_opt(year, month, day)
     }
 
-    #[inline]
     fn from_yo(year: i32, ordinal: u32) -> Option<NaiveDate> {
         NaiveDate::from_yo_opt(year, ordinal)
     }
 
-    #[inline]
     fn from_iso(year: i32, week: u32, weekday: Weekday) -> Option<NaiveDate> {
         NaiveDate::from_isoywd_opt(year, week, weekday)
     }
 
-    #[inline]
     fn from_day(day: i32) -> Option<NaiveDate> {
         NaiveDate::from_num_days_from_ce_opt(day)
     }
 
-    #[inline]
     fn nth_weekday(year: i32, month: u32, weekday: Weekday, nth: u8) -> Option<NaiveDate> {
         NaiveDate::from_weekday_of_month_opt(year, month, weekday, nth)
     }
 
-    #[inline]
     fn move_days(date: NaiveDate, count: i64) -> Option<NaiveDate> {
         let days = Days::new(count.unsigned_abs());
         if count < 0 {
@@ -47,7 +41,6 @@ impl CommandAnswers for DateAnswers {
         }
     }
 
-    #[inline]
     fn move_months(date: NaiveDate, span: MonthSpan) -> Option<NaiveDate> {
         match span {
             MonthSpan::Later(months) => date.checked_add_months(Months::new(months)),
@@ -55,7 +48,6 @@ impl CommandAnswers for DateAnswers {
         }
     }
 
-    #[inline]
     #[tactic(auto, unfolding(caltool_form::specs::Named::reach, chrono_datetime::specs::Moment::reach))]
     fn move_moment(
         date: NaiveDate,
@@ -66,18 +58,15 @@ impl CommandAnswers for DateAnswers {
         Some((moment.date(), moment.time()))
     }
 
-    #[inline]
     fn week(date: NaiveDate, start: Weekday) -> (Option<NaiveDate>, Option<NaiveDate>) {
         let week = date.week(start);
         (week.checked_first_day(), week.checked_last_day())
     }
 
-    #[inline]
     fn years_between(date: NaiveDate, base: NaiveDate) -> Option<u32> {
         date.years_since(base)
     }
 
-    #[inline]
     fn distance(
         date: NaiveDate,
         time: NaiveTime,
@@ -87,28 +76,23 @@ impl CommandAnswers for DateAnswers {
         NaiveDateTime::new(date, time).signed_duration_since(NaiveDateTime::new(base, base_time))
     }
 
-    #[inline]
     fn year_month_day(date: NaiveDate) -> (i32, u32, u32) {
         (date.year(), date.month(), date.day())
     }
 
-    #[inline]
     fn day(date: NaiveDate) -> i32 {
         date.num_days_from_ce()
     }
 
-    #[inline]
     fn weekday(date: NaiveDate) -> Weekday {
         date.weekday()
     }
 
-    #[inline]
     fn iso_name(date: NaiveDate) -> (i32, u32) {
         let week = date.iso_week();
         (week.year(), week.week())
     }
 
-    #[inline]
     fn ordinal(date: NaiveDate) -> u32 {
         date.ordinal()
     }

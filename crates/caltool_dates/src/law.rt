@@ -11,6 +11,7 @@ ghost use Rattle.chrono_datetime.specs.MomentText.{moment_text};
 #[tactic(auto, unfolding(caltool_form::specs::Named::reach, chrono_datetime::specs::Moment::reach))]
 pub fn answers_are_of_dates()
     ensures dates { (n : ℤ) → text_of_date n ≡ date_text n }
-    ensures moments { (separator : ℕ) (m : Moment) → text_of_moment separator m ≡ moment_text separator m }
+    ensures moments { (separator : ℕ) (m : Moment)
+        → text_of_moment separator m ≡ moment_text separator m }
     ensures moves { (m : Moment) (x : ℤ) → reached m x ≡ reach m x }
 {}

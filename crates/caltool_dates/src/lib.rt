@@ -13,8 +13,8 @@ mod law;
 pub use answers::DateAnswers;
 pub use caltool_form::{
     Answer, CalendarDate, ClockTime, Command, CommandAnswers, DateAndTime, MonthSpan, RunFault,
-    answer_form, answer_lines, command_of, cut_is_unique, lines_are_commands, numbers_are_texts,
-    run_form, words_are_unique,
+    Text, answer_by, answer_form, command_of, cut_is_unique, lines_are_commands, numbers_are_texts,
+    run_by, run_form, words_are_unique,
 };
 pub use law::answers_are_of_dates;
 use std::io::{Read, Write};
@@ -23,7 +23,7 @@ use std::io::{Read, Write};
 pub fn answer_line(line: &[u8]) -> Answer
     ensures { result ≡ answer_of line.now }
 {
-    caltool_form::answer_line::<DateAnswers>(line)
+    answer_by::<DateAnswers>(line)
 }
 
 /// Answers each line of the input by one line, until the input ends.
@@ -33,13 +33,16 @@ pub fn answer_line(line: &[u8]) -> Answer
 /// took nothing, or if flushing at the end failed. It repeats no failed call and takes no memory.
 pub fn run<R: Read, W: Write>(r: &mut R, w: &mut W) -> Result<(), RunFault>
     // The input was read to its end, and its whole output written.
-    ensures ok { OnOk result (AnsweredAll answer_of (R.remaining r.old) (R.remaining r.new) (W.contents w.old) (W.contents w.new)) }
+    ensures ok { OnOk result (AnsweredAll answer_of
+        (R.remaining r.old) (R.remaining r.new) (W.contents w.old) (W.contents w.new)) }
     // The lines that a newline ends among the bytes read are answered, and nothing else is written.
     ensures read { IsErrOf result RunFault.Read
-        → AnsweredEnded answer_of (R.remaining r.old) (R.remaining r.new) (W.contents w.old) (W.contents w.new) }
+        → AnsweredEnded answer_of
+        (R.remaining r.old) (R.remaining r.new) (W.contents w.old) (W.contents w.new) }
     // The writer got the output of the bytes read, or only its first part.
     ensures write { IsErrOf result RunFault.Write
-        → AnsweredPart answer_of (R.remaining r.old) (R.remaining r.new) (W.contents w.old) (W.contents w.new) }
+        → AnsweredPart answer_of
+        (R.remaining r.old) (R.remaining r.new) (W.contents w.old) (W.contents w.new) }
 {
-    answer_lines::<DateAnswers, R, W>(r, w)
+    run_by::<DateAnswers, R, W>(r, w)
 }

@@ -1,8 +1,10 @@
 -- The digits of a number, cut at any place.
-use Rattle.std.proofs.Common.{◌≡◌, ◌≢◌, ℕ, zero, suc, ◌+◌, ◌-◌, ◌*◌, ◌/◌, ◌%◌, ◌^◌, ◌<◌, ◌≤◌, List, [], ◌∷◌, ◌++◌, length, drop, refl, ap, sym, ◌∙◌, append_assoc, append-nil, length-append, arith}
-use Rattle.std.proofs.Math.Nat.{div-add-mod, mod-lt, one-le-pow, pow-succ', le-mul_of_pos_right, pow-le-pow_right}
-use Rattle.std.proofs.lemmas.Bool.{ne_eqb}
-use Rattle.std.proofs.lemmas.Nat.{pow-add, div_below, le-div}
+use Rattle.std.proofs.Common.{◌≡◌, ◌≢◌, ℕ, zero, suc, ◌+◌, ◌-◌, ◌*◌, ◌/◌, ◌%◌, ◌^◌, ◌<◌, ◌≤◌, List, [], ◌∷◌, ◌++◌, length, take, drop, nat_le, inl, inr, if◌then◌else◌, refl, ap, sym, ◌∙◌, append_assoc, append-nil, length-append, arith}
+use Rattle.std.proofs.Math.Nat.{div-add-mod, mod-lt, one-le-pow, pow-succ', le-mul_of_pos_right, pow-le-pow_right, mul-mod_left}
+use Rattle.std.proofs.Math.Seq.{take-append-add}
+use Rattle.std.proofs.lemmas.Bool.{cases_lt, ne_eqb}
+use Rattle.std.proofs.lemmas.Bool.Decides.{nat_tests}
+use Rattle.std.proofs.lemmas.Nat.{pow-add, mul-add-lt, mod-mul-add, div_below, le-div}
 use Rattle.std.proofs.lemmas.Fmt.{decimal_digit, decimal_step, length-decimal-le}
 use Rattle.std.specs.Fmt.{decimal}
 use Rattle.chrono_clock.specs.Text.{two_digits, all_digits, fraction_digits}
@@ -56,85 +58,111 @@ digits_cut before behind n few within =
     sym direct ∙ ap decimal whole ∙ by_parts ∙ ap (λ text. text ++ all_digits behind (n % 10 ^ behind)) first in
     ap (drop 1) (rw one at same)
 
--- how long the texts are
-
-length-all_digits : (places n : ℕ) → length (all_digits places n) ≡ places
-length-all_digits zero n = refl
-length-all_digits (suc places) n = omega (arith, length-all_digits places (n % 10 ^ places))
-
-length_cut : (places n : ℕ) → 10 ^ places ≤ n → n < 10 ^ 19 → length (decimal n) ≡ length (decimal (n / 10 ^ places)) + places
-length_cut places n low high =
-    omega (arith, ap length (decimal_cut places n low high), length-append (decimal (n / 10 ^ places)) (all_digits places (n % 10 ^ places)), length-all_digits places (n % 10 ^ places))
-
-pub at_most : (places n : ℕ) → 0 < places → n < 10 ^ places → n < 10 ^ 19 → length (decimal n) ≤ places
-at_most places n some small fits = length-decimal-le places n some small (omega arith)
-
 -- the numbers of places that are written together
 
 as_two : (n : ℕ) → all_digits 2 n ≡ two_digits n
 as_two n = let e : n % 10 / 1 ≡ n % 10 = omega arith in ap (λ d. (48 + n / 10) ∷ (48 + d) ∷ []) e
 
-pub digits_of_three : (n : ℕ) → n < 1_000 → all_digits 3 n ≡ (48 + n / 100) ∷ two_digits (n % 100)
-digits_of_three n small = ap (λ l. (48 + n / 100) ∷ l) (as_two (n % 100))
+pub three_places : (n : ℕ) → n < 1_000 → all_digits 3 n ≡ (48 + n / 100) ∷ two_digits (n % 100)
+three_places n small = ap (λ l. (48 + n / 100) ∷ l) (as_two (n % 100))
 
-pub digits_of_four : (n : ℕ) → n < 10_000 → all_digits 4 n ≡ two_digits (n / 100) ++ two_digits (n % 100)
-digits_of_four n small =
+pub four_places : (n : ℕ) → n < 10_000 → all_digits 4 n ≡ two_digits (n / 100) ++ two_digits (n % 100)
+four_places n small =
     digits_cut 2 2 n (omega arith) small ∙ ap (λ l. l ++ all_digits 2 (n % 100)) (as_two (n / 100)) ∙ ap (λ l. two_digits (n / 100) ++ l) (as_two (n % 100))
 
-pub digits_of_six : (n : ℕ) → n < 1_000_000 → all_digits 6 n ≡ two_digits (n / 10_000) ++ all_digits 4 (n % 10_000)
-digits_of_six n small = digits_cut 2 4 n (omega arith) small ∙ ap (λ l. l ++ all_digits 4 (n % 10_000)) (as_two (n / 10_000))
+pub six_places : (n : ℕ) → n < 1_000_000_000 → all_digits 6 (n / 1_000) ≡ all_digits 3 (n / 1_000_000) ++ all_digits 3 (n / 1_000 % 1_000)
+six_places n small =
+    let front : n / 1_000 / 1_000 ≡ n / 1_000_000 = omega arith in
+    digits_cut 3 3 (n / 1_000) (omega arith) (omega arith) ∙ ap (λ q. all_digits 3 q ++ all_digits 3 (n / 1_000 % 1_000)) front
 
-pub digits_of_nine : (n : ℕ) → n < 1_000_000_000 → all_digits 9 n ≡ all_digits 3 (n / 1_000_000) ++ all_digits 6 (n % 1_000_000)
-digits_of_nine n small = digits_cut 3 6 n (omega arith) small
+pub nine_places : (n : ℕ) → n < 1_000_000_000 → all_digits 9 n ≡ all_digits 3 (n / 1_000_000) ++ all_digits 3 (n / 1_000 % 1_000) ++ all_digits 3 (n % 1_000)
+nine_places n small =
+    let front = all_digits 3 (n / 1_000_000) in
+    let middle : n % 1_000_000 / 1_000 ≡ n / 1_000 % 1_000 = omega arith in
+    let last : n % 1_000_000 % 1_000 ≡ n % 1_000 = omega arith in
+    digits_cut 3 6 n (omega arith) small
+    ∙ ap (λ l. front ++ l) (digits_cut 3 3 (n % 1_000_000) (omega arith) (omega arith))
+    ∙ ap (λ q. front ++ all_digits 3 q ++ all_digits 3 (n % 1_000_000 % 1_000)) middle
+    ∙ ap (λ r. front ++ all_digits 3 (n / 1_000 % 1_000) ++ all_digits 3 r) last
 
-pub a_pair : (n : ℕ) → 10 ≤ n → n < 100 → decimal n ≡ two_digits n
-a_pair n low high = decimal_step n low (omega arith) ∙ ap (λ l. l ++ (48 + n % 10) ∷ []) (decimal_digit (n / 10) (omega arith))
+-- the digits of a short number, each of which is there from its unit on
 
-pub then_two : (n : ℕ) → 100 ≤ n → n < 10 ^ 19 → decimal n ≡ decimal (n / 100) ++ two_digits (n % 100)
-then_two n low high = decimal_cut 2 n low high ∙ ap (λ l. decimal (n / 100) ++ l) (as_two (n % 100))
+pub pair_text : (n : ℕ) → n < 100 → decimal n ≡ (if nat_le 10 n then (48 + n / 10) ∷ [] else []) ++ (48 + n % 10) ∷ []
+pair_text n small = grind (arith, nat_tests, decimal_digit, decimal_step)
 
-pub then_four : (n : ℕ) → 10_000 ≤ n → n < 10 ^ 19 → decimal n ≡ decimal (n / 10_000) ++ all_digits 4 (n % 10_000)
-then_four n low high = decimal_cut 4 n low high
+pub short_text : (n : ℕ) → n < 10_000
+    → decimal n ≡ (((if nat_le 1_000 n then (48 + n / 100 / 10) ∷ [] else []) ++ (if nat_le 100 n then (48 + n / 100 % 10) ∷ [] else [])) ++ (if nat_le 10 n then (48 + n % 100 / 10) ∷ [] else [])) ++ (48 + n % 100 % 10) ∷ []
+short_text n small = grind (arith, nat_tests, decimal_digit, decimal_step, append_assoc)
 
-pub then_six : (n : ℕ) → 1_000_000 ≤ n → n < 10 ^ 19 → decimal n ≡ decimal (n / 1_000_000) ++ all_digits 6 (n % 1_000_000)
-then_six n low high = decimal_cut 6 n low high
+pub six_digits : (n : ℕ) → n < 1_000_000 → all_digits 6 n ≡ two_digits (n / 10_000) ++ all_digits 4 (n % 10_000)
+six_digits n small = digits_cut 2 4 n (omega arith) small ∙ ap (λ l. l ++ all_digits 4 (n % 10_000)) (as_two (n / 10_000))
 
-pub grows_by_two : (n : ℕ) → 100 ≤ n → n < 10 ^ 19 → length (decimal n) ≡ length (decimal (n / 100)) + 2
-grows_by_two n low high = length_cut 2 n low high
+-- how long the texts are
 
-pub grows_by_four : (n : ℕ) → 10_000 ≤ n → n < 10 ^ 19 → length (decimal n) ≡ length (decimal (n / 10_000)) + 4
-grows_by_four n low high = length_cut 4 n low high
+pub at_most : (places n : ℕ) → 0 < places → n < 10 ^ places → n < 10 ^ 19 → length (decimal n) ≤ places
+at_most places n some small fits = length-decimal-le places n some small (omega arith)
 
-pub grows_by_six : (n : ℕ) → 1_000_000 ≤ n → n < 10 ^ 19 → length (decimal n) ≡ length (decimal (n / 1_000_000)) + 6
-grows_by_six n low high = length_cut 6 n low high
+-- the digits of a fraction, less the zeros at its end
 
-pub at_most_19 : (n : ℕ) → n < 10 ^ 19 → length (decimal n) ≤ 19
-at_most_19 n small = at_most 19 n (omega arith) small small
+nothing_left : (places : ℕ) → fraction_digits places 0 ≡ []
+nothing_left zero = refl
+nothing_left (suc places) = refl
 
-pub at_most_16 : (n : ℕ) → n < 10 ^ 16 → length (decimal n) ≤ 16
-at_most_16 n small = at_most 16 n (omega arith) small (omega arith)
+-- a number that is not 0, and zeros behind it
+at_least : (n ending front : ℕ) → n ≡ front * 10 ^ ending → front % 10 ≢ 0 → 10 ^ ending ≤ n
+at_least n ending front is some = omega (arith, is, le-mul_of_pos_right {m = front} (10 ^ ending) (omega arith))
 
-pub at_most_10 : (n : ℕ) → n < 2 ^ 32 → length (decimal n) ≤ 10
-at_most_10 n small = at_most 10 n (omega arith) (omega arith) (omega arith)
+pub few_zeros : (places n ending front : ℕ) → n ≡ front * 10 ^ ending → front % 10 ≢ 0 → n < 10 ^ places → ending < places
+few_zeros places n ending front is some within = elim (cases_lt ending places) as (λ _. ending < places) [
+  | inl few ↦ few
+  | inr many ↦ absurd (omega (arith, at_least n ending front is some, pow-le-pow_right {n = 10} (omega arith) many))
+]
 
--- a fraction's first digit, and the others
+-- the places behind the first
+behind_first : (places n ending front : ℕ) → n ≡ front * 10 ^ ending → ending < places
+    → (n % 10 ^ places ≡ front % 10 ^ (places - ending) * 10 ^ ending) × (front % 10 ^ (places - ending) % 10 ≡ front % 10)
+behind_first places n ending front is more =
+    let gap = places - ending in
+    let before = front / 10 ^ gap in
+    let rest = front % 10 ^ gap in
+    let (cut, small) = parts gap front in
+    let same : gap + ending ≡ places = omega arith in
+    let joined : 10 ^ places ≡ 10 ^ gap * 10 ^ ending = ap (λ k. 10 ^ k) (sym same) ∙ pow-add 10 gap ending in
+    let whole : n ≡ before * 10 ^ places + rest * 10 ^ ending = omega (arith, is, ap (λ f. f * 10 ^ ending) cut, ap (λ u. before * u) joined) in
+    let below : rest * 10 ^ ending < 10 ^ places = omega (arith, joined, mul-add-lt rest (10 ^ ending) 0 (10 ^ gap) small (one-le-pow ending 10 (omega arith))) in
+    let one_more : gap ≡ suc (gap - 1) = omega arith in
+    let tenfold : 10 ^ gap ≡ 10 * 10 ^ (gap - 1) = ap (λ k. 10 ^ k) one_more ∙ pow-succ' 10 (gap - 1) in
+    (ap (λ k. k % 10 ^ places) whole ∙ mod-mul-add before (10 ^ places) (rest * 10 ^ ending) below, omega (arith, cut, ap (λ u. before * u) tenfold))
 
-pub some_places : (places n : ℕ) → n ≢ 0 → n < 10 ^ places → 0 < places
-some_places zero n some small = absurd (omega arith)
-some_places (suc places) n some small = omega arith
+without_zeros : (places n ending front : ℕ) → n ≡ front * 10 ^ ending → front % 10 ≢ 0 → n < 10 ^ places → fraction_digits places n ≡ take (places - ending) (all_digits places n)
+without_zeros zero n ending front is some within =
+    absurd (omega (arith, at_least n ending front is some, one-le-pow ending 10 (omega arith)))
+without_zeros (suc places) n ending front is some within =
+    let digit = 48 + n / 10 ^ places in
+    let rest = n % 10 ^ places in
+    let not_zero : n ≢ 0 = omega (arith, at_least n ending front is some, one-le-pow ending 10 (omega arith)) in
+    rw (ne_eqb n 0 not_zero) (elim (cases_lt ending places) as (λ _. digit ∷ fraction_digits places rest ≡ take (suc places - ending) (digit ∷ all_digits places rest)) [
+      | inl more ↦
+          let (same, last) = behind_first places n ending front is more in
+          let e : suc places - ending ≡ suc (places - ending) = omega arith in
+          let below = mod-lt n (one-le-pow places 10 (omega arith)) in
+          rw e (ap (λ l. digit ∷ l) (without_zeros places rest ending (front % 10 ^ (places - ending)) same (omega (arith, last)) below))
+      | inr none ↦
+          let only : ending ≡ places = omega (arith, few_zeros (suc places) n ending front is some within) in
+          let e : suc places - ending ≡ 1 = omega arith in
+          let empty : rest ≡ 0 = ap (λ k. k % 10 ^ places) (is ∙ ap (λ k. front * 10 ^ k) only) ∙ mul-mod_left front (10 ^ places) in
+          rw e (ap (λ l. digit ∷ l) (ap (fraction_digits places) empty ∙ nothing_left places))
+    ])
 
-pub fraction_step : (places n : ℕ) → n ≢ 0 → n < 10 ^ places
-    → fraction_digits places n ≡ (48 + n / 10 ^ (places - 1)) ∷ fraction_digits (places - 1) (n % 10 ^ (places - 1))
-fraction_step zero n some small = absurd (omega arith)
-fraction_step (suc places) n some small = let e : suc places - 1 ≡ places = omega arith in rw (ne_eqb n 0 some, e) refl
+-- behind a text: nine digits, less the zeros at their end
+pub trimmed : (before : List ℕ) (n ending front : ℕ) → n ≡ front * 10 ^ ending → front % 10 ≢ 0 → n < 10 ^ 9
+    → take (length (before ++ all_digits 9 n) - ending) (before ++ all_digits 9 n) ≡ before ++ fraction_digits 9 n
+trimmed before n ending front is some within =
+    let few = few_zeros 9 n ending front is some within in
+    let size : length (before ++ all_digits 9 n) - ending ≡ length before + (9 - ending) = omega (arith, length-append before (all_digits 9 n)) in
+    rw size (take-append-add before (all_digits 9 n) (9 - ending) ∙ ap (λ l. before ++ l) (sym (without_zeros 9 n ending front is some within)))
 
--- a text put after the front, in two parts
-pub in_parts : (front first second whole : List ℕ) {after_first after_second : List ℕ} → after_second ≡ after_first ++ second → after_first ≡ front ++ first → whole ≡ first ++ second
-    → after_second ≡ front ++ whole
-in_parts front first second whole last middle is =
-    last ∙ ap (λ l. l ++ second) middle ∙ append_assoc front first second ∙ ap (λ l. front ++ l) (sym is)
+-- for the writers of digits, and of fractions
+pub ruleset places = (three_places, four_places)
 
--- for the writers of digits, and of numbers
-pub ruleset places = (digits_of_three, digits_of_four, digits_of_six, digits_of_nine)
-
-pub ruleset decimals = (decimal_digit, a_pair, then_two, grows_by_two, then_four, grows_by_four, then_six, grows_by_six, at_most_19, at_most_16, at_most_10)
+pub ruleset fractions = (six_places, nine_places)

@@ -1,9 +1,9 @@
 -- Lines that come in pieces, and writers that hold a beginning of a text.
-use Rattle.std.proofs.Common.{◌≡◌, ◌==◌, ℕ, zero, suc, ◌+◌, ◌-◌, ◌<◌, ◌≤◌, All, min, true, false, inl, inr, List, [], ◌∷◌, ◌++◌, length, take, set, length-append, refl, ap, sym, ◌∙◌, arith, subst, Option, codes, Result, Ok, Err, OnErr, IsErrOf}
+use Rattle.std.proofs.Common.{◌≡◌, ◌==◌, ℕ, zero, suc, ◌+◌, ◌-◌, ◌<◌, All, min, true, false, inl, inr, List, [], ◌∷◌, ◌++◌, length, take, refl, ap, sym, ◌∙◌, arith, subst, Option, codes, Result, Ok, Err, OnErr, IsErrOf}
 use Rattle.std.specs.List.{onto_first}
 use Rattle.std.specs.Option.{option_map_or}
 use Rattle.std.proofs.lemmas.Bool.{cases_lt, cases_eq, eq-eqb, ne_eqb, lt-ltb, cond-true}
-use Rattle.std.proofs.lemmas.List.{take_min, take_all, take-append-le, length-take, take_more_set}
+use Rattle.std.proofs.lemmas.List.{take_min, take_all, take-append-le, length-take}
 use Rattle.std.proofs.lemmas.List.Splits.{slice_split_none, slice_split_at, slice_split-cons_yes, slice_split-cons_no, length-slice_split}
 use Rattle.std.proofs.lemmas.Grind.{flat_map-append}
 use Rattle.std.proofs.Math.Seq.{take-append-add}
@@ -18,15 +18,6 @@ pub take-append : (n : ℕ) (xs ys : List ℕ) → take n (xs ++ ys) ≡ take n 
 take-append zero xs ys = let e : 0 - length xs ≡ 0 = omega arith in rw e refl
 take-append (suc n) [] ys = let e : suc n - 0 ≡ suc n = omega arith in rw e refl
 take-append (suc n) (x ∷ xs) ys = let e : suc n - suc (length xs) ≡ n - length xs = omega arith in rw e (ap (λ l. x ∷ l) (take-append n xs ys))
-
--- the kept front of a line grows with the line
-pub kept_more : (bytes line more : List ℕ) (len taken : ℕ) → take len bytes ≡ take 121 line → length bytes ≡ 121 → len ≤ 121
-    → taken ≡ min (length more) (121 - len) → take len bytes ++ take taken more ≡ take 121 (line ++ more)
-kept_more bytes line more len taken kept whole within is =
-    let same : 121 - len ≡ 121 - length line = omega (arith, ap length kept, length-take len bytes, length-take 121 line) in
-    let room : taken ≡ min (121 - length line) (length more) = omega arith in
-    let tail : take taken more ≡ take (121 - length line) more = ap (λ n. take n more) room ∙ take_min (121 - length line) more in
-    ap (λ l. l ++ take taken more) kept ∙ ap (λ l. take 121 line ++ l) tail ∙ sym (take-append 121 line more)
 
 -- what stands behind the first part
 
@@ -138,18 +129,6 @@ pub begun_within : (a b c : Option (List ℕ)) (all done front more : List ℕ) 
 begun_within a b c all done front more e h (n, k) =
     let same : take (min n (length front)) (front ++ more) ≡ take n front = take-append-le (min n (length front)) front more (omega arith) ∙ take_min n front in
     begun_more a b c all done (front ++ more) (min n (length front)) e h (subst (Appends b c) (sym same) k)
-
--- a text and one byte more, written past the first bytes
-pub put_text : (bytes ys post : List ℕ) (len n y : ℕ) → len ≤ length bytes → n < length ys
-    → take (len + n + 1) (set (take len bytes ++ (ys ++ post)) (len + n) y) ≡ take len bytes ++ take n ys ++ y ∷ []
-put_text bytes ys post len n y fits room =
-    let front = take len bytes in
-    let size : length front ≡ len = omega (arith, length-take len bytes) in
-    let whole : length (front ++ (ys ++ post)) ≡ len + (length ys + length post) = omega (arith, length-append front (ys ++ post), length-append ys post) in
-    let at : take (len + n) (front ++ (ys ++ post)) ≡ front ++ take n (ys ++ post) =
-    ap (λ m. take (m + n) (front ++ (ys ++ post))) (sym size) ∙ take-append-add front (ys ++ post) n in
-    take_more_set (front ++ (ys ++ post)) (len + n) y (omega arith)
-    ∙ ap (λ l. l ++ y ∷ []) (at ∙ ap (λ l. front ++ l) (take-append-le n ys post (omega arith)))
 
 -- a fact of any error
 pub on_err_any : {E T : Type 0} (r : Result T E) (P : Type 0) → P → OnErr r P

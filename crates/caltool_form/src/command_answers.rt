@@ -1,5 +1,5 @@
 //! What answers commands: how dates are found, moved and compared, and how their fields are read.
-ghost use Rattle.std.specs.Prelude.{◌≡◌, ℤ, pos, neg_ℤ, ◌+ℤ◌, ◌≤ℤ◌};
+ghost use Rattle.std.specs.Prelude.{◌≡◌, ◌≤◌, ◌+◌, ◌++◌, ℤ, pos, neg_ℤ, ◌+ℤ◌, ◌≤ℤ◌, length};
 ghost use Rattle.std.specs.Int.{IsInRange};
 ghost use Rattle.std.specs.Option.{option_map};
 ghost use Rattle.chrono_units.specs.Years.{IsYear};
@@ -8,14 +8,18 @@ ghost use Rattle.chrono_calendar.specs.Days.{IsCalendarName, date_of_day, date_o
 ghost use Rattle.chrono_calendar.specs.MonthMoves.{month_move};
 ghost use Rattle.chrono_calendar.specs.Weeks.{date_of_iso, date_of_nth_weekday, iso_week_of, iso_year_of, week_first_of, weekday_of};
 ghost use Rattle.chrono_calendar.specs.YearsBetween.{years_between as whole_years};
+ghost use Rattle.caltool_form.specs.Answers.{answer_to};
 ghost use Rattle.caltool_form.specs.Named.{months_of, reach};
 
 use crate::arguments::MonthSpan;
+use crate::command::Command;
+use crate::text::Text;
+use crate::write_answer::write_answer;
 use chrono_clock::{NaiveTime, TimeDelta};
 use chrono_units::Weekday;
 
-/// What answers commands. A type with it says how dates are found and read; the texts of the answers are written in one place, for
-/// whatever dates these are.
+/// What answers commands. A type with it says how dates are found, moved and read; the texts of the answers are written in one
+/// place, for whatever dates these are.
 pub trait CommandAnswers {
     /// A date.
     type Date: Copy;
@@ -57,12 +61,15 @@ pub trait CommandAnswers {
         time: NaiveTime,
         by: TimeDelta,
     ) -> Option<(Self::Date, NaiveTime)>
-        ensures { option_map (λ m. moment (number m.0) m.1) result ≡ reach (moment (number date) time) by };
+        ensures { option_map (λ m. moment (number m.0) m.1) result
+            ≡ reach (moment (number date) time) by };
 
     /// The first and the last day of the date's week, among the weeks that begin on `start`, each if it is a date.
     fn week(date: Self::Date, start: Weekday) -> (Option<Self::Date>, Option<Self::Date>)
-        ensures first { option_map number result.0 ≡ date_of_day (week_first_of (number date) start) }
-        ensures last { option_map number result.1 ≡ date_of_day (week_first_of (number date) start +ℤ pos 6) };
+        ensures first { option_map number result.0
+            ≡ date_of_day (week_first_of (number date) start) }
+        ensures last { option_map number result.1
+            ≡ date_of_day (week_first_of (number date) start +ℤ pos 6) };
 
     /// The whole years from `base` to the date; `None` if the date is before `base`.
     fn years_between(date: Self::Date, base: Self::Date) -> Option<u32>
@@ -75,7 +82,8 @@ pub trait CommandAnswers {
         base: Self::Date,
         base_time: NaiveTime,
     ) -> TimeDelta
-        ensures { result ≡ moment_distance (moment (number date) time) (moment (number base) base_time) };
+        ensures { result
+            ≡ moment_distance (moment (number date) time) (moment (number base) base_time) };
 
     /// The year, the month and the day of the month.
     fn year_month_day(date: Self::Date) -> (i32, u32, u32)
@@ -83,7 +91,8 @@ pub trait CommandAnswers {
         ensures month { result.1 ≡ month_of (number date) }
         ensures day { result.2 ≡ day_of (number date) }
         ensures in_range { IsYear (year_of (number date)) }
-        ensures exists { IsCalendarName (year_of (number date)) (month_of (number date)) (day_of (number date)) };
+        ensures exists { IsCalendarName (year_of (number date)) (month_of (number date))
+            (day_of (number date)) };
 
     /// The day number.
     fn day(date: Self::Date) -> i32
@@ -103,4 +112,13 @@ pub trait CommandAnswers {
     /// The day of the year.
     fn ordinal(date: Self::Date) -> u32
         ensures { result ≡ ordinal_of (number date) };
+
+    /// Puts the answer to a command, at most 63 bytes, behind the text: the same for whatever dates these are.
+    final fn write_answer<const N: usize>(command: Command, out: &mut Text<N>)
+        requires { length out.old + 63 ≤ N }
+        ensures text { out.new ≡ out.old ++ answer_to command }
+        ensures fits { length out.new ≤ length out.old + 63 }
+    {
+        write_answer::<Self, N>(command, out);
+    }
 }

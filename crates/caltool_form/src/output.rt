@@ -1,5 +1,5 @@
 //! The answers that wait to be written.
-ghost use Rattle.std.specs.Prelude.{◌≡◌, ◌+◌, ◌≤◌, ◌<◌, ◌++◌, ◌∷◌, ◌↔◌, ℕ, List, [], length, take, OnOk, OnErr, IfErr, IsTrue};
+ghost use Rattle.std.specs.Prelude.{◌≡◌, ◌+◌, ◌≤◌, ◌<◌, ◌++◌, ◌∷◌, ℕ, List, [], length, take, OnOk, OnErr, IfErr};
 ghost use Rattle.std.specs.Io.KnownBytes.{Appends};
 ghost use Rattle.caltool_form.specs.Marks.{mark_of_write};
 ghost use Rattle.caltool_form.specs.declared.watch.Mark.{Mark};
@@ -9,6 +9,7 @@ use crate::answer::write_line_answer;
 use crate::command_answers::CommandAnswers;
 use crate::fault::RunFault;
 use crate::numbers::Numbers;
+use crate::text::Text;
 use crate::watch::WatchedWriter;
 use std::io::Write;
 use std::marker::Model;
@@ -16,11 +17,13 @@ use std::marker::Model;
 // The most bytes that wait to be written.
 const ROOM: usize = 65536;
 
-// The bytes that wait to be written.
+// One byte more than the longest line that is read: of a longer one the rest does not matter.
+pub(crate) const KEPT: usize = 121;
+
+// The answers that wait to be written.
 #[derive(Drop)]
 pub(crate) struct Output {
-    bytes: [u8; ROOM],
-    len: usize,
+    text: Text<ROOM>,
     // Room for the numbers of the line that is answered.
     numbers: Numbers,
 }
@@ -28,9 +31,7 @@ pub(crate) struct Output {
 impl Model for Output {
     ghost Value = { List ℕ };
 
-    ghost view = { λ o. take o.len o.bytes };
-
-    ghost invariant = { λ o. (o.len ≤ 65536) × (length o.bytes ≡ 65536) };
+    ghost view = { λ o. o.text };
 }
 
 impl Output {
@@ -38,8 +39,7 @@ impl Output {
         ensures { result ≡ [] }
     {
         Output {
-            bytes: [0; ROOM],
-            len: 0,
+            text: Text::new(),
             numbers: Numbers::new(),
         }
     }
@@ -49,7 +49,24 @@ impl Output {
         requires { length self.old + 63 < 65536 }
         ensures { self.new ≡ self.old ++ answer_of line.now ++ 10 ∷ [] }
     {
-        self.len = add_answer::<A>(line, &mut self.numbers, &mut self.bytes, self.len);
+        write_line_answer::<A, ROOM>(line, &mut self.numbers, &mut self.text);
+        self.text.push(b'\n');
+    }
+
+    // Adds the answer to a line of which the first bytes were carried on, and its newline. Nothing is carried on.
+    #[tactic(auto, using(crate::proofs::Pieces::clipped))]
+    pub(crate) fn answer_carried<A: CommandAnswers>(&mut self, carried: &mut Text<KEPT>, end: &[u8])
+        requires { length self.old + 63 < 65536 }
+        ensures answer { self.new ≡ self.old ++ answer_of (carried.old ++ end.now) ++ 10 ∷ [] }
+        ensures nothing { carried.new ≡ [] }
+    {
+        if carried.is_empty() {
+            self.answer::<A>(end);
+            return;
+        }
+        carried.push_clipped(end);
+        self.answer::<A>(carried.as_bytes());
+        carried.clear();
     }
 
     // Makes room for an answer of at most 63 bytes and its newline.
@@ -66,7 +83,7 @@ impl Output {
         ensures mark { w.new.mark ≡ mark_of_write result }
         ensures fault { IfErr result (λ e. e ≡ RunFault.Write) }
     {
-        if self.has_room() {
+        if self.text.room() > 63 {
             return Ok(());
         }
         self.send(w)
@@ -82,33 +99,10 @@ impl Output {
         ensures mark { w.new.mark ≡ mark_of_write result }
         ensures fault { IfErr result (λ e. e ≡ RunFault.Write) }
     {
-        write_whole(w, &self.bytes[..self.len])?;
-        self.len = 0;
+        write_whole(w, self.text.as_bytes())?;
+        self.text.clear();
         Ok(())
     }
-
-    fn has_room(&self) -> bool
-        ensures { IsTrue result ↔ (length self.now + 63 < 65536) }
-    {
-        self.len + 63 < ROOM
-    }
-}
-
-// Puts an answer and a newline after the first `len` bytes, and gives the new length.
-fn add_answer<A: CommandAnswers>(
-    line: &[u8],
-    numbers: &mut Numbers,
-    bytes: &mut [u8],
-    len: usize,
-) -> usize
-    requires { len + 63 < length bytes.old }
-    ensures fits { result ≤ length bytes.old }
-    ensures text { take result bytes.new ≡ take len bytes.old ++ answer_of line.now ++ 10 ∷ [] }
-{
-    let n = write_line_answer::<A>(line, numbers, &mut bytes[len..]);
-    let end = len + n;
-    bytes[end] = b'\n';
-    end + 1
 }
 
 // Writes the bytes, by as many writes as it takes.

@@ -8,11 +8,11 @@ ghost use Rattle.caltool_form.specs.Marks.{mark_of_read, mark_of_write, mark_of_
 ghost use Rattle.caltool_form.specs.Runs.{AnsweredAll, AnsweredEnded, AnsweredPart};
 ghost use Rattle.caltool_form.specs.declared.watch.Mark.{Mark};
 
-use crate::carried::Carried;
 use crate::command_answers::CommandAnswers;
 use crate::fault::RunFault;
 use crate::newline::first_line;
-use crate::output::Output;
+use crate::output::{KEPT, Output};
+use crate::text::Text;
 use crate::watch::{WatchedReader, WatchedWriter};
 use std::io::{Read, Write};
 
@@ -22,18 +22,18 @@ const PIECE: usize = 65536;
 /// Answers each line of the input by one line, until the input ends: `A` answers each command, and
 /// any other line is answered `error`. What is answered is written before each read, so that a user who waits
 /// for an answer has it. No failed call is tried again, and no memory is taken.
-pub fn answer_lines<A: CommandAnswers, R: Read, W: Write>(
-    r: &mut R,
-    w: &mut W,
-) -> Result<(), RunFault>
+pub fn run_by<A: CommandAnswers, R: Read, W: Write>(r: &mut R, w: &mut W) -> Result<(), RunFault>
     // The input was read to its end, and its whole output written.
-    ensures ok { OnOk result (AnsweredAll answer_of (R.remaining r.old) (R.remaining r.new) (W.contents w.old) (W.contents w.new)) }
+    ensures ok { OnOk result (AnsweredAll answer_of
+        (R.remaining r.old) (R.remaining r.new) (W.contents w.old) (W.contents w.new)) }
     // The lines that a newline ends among the bytes read are answered, and nothing else is written.
     ensures read { IsErrOf result RunFault.Read
-        → AnsweredEnded answer_of (R.remaining r.old) (R.remaining r.new) (W.contents w.old) (W.contents w.new) }
+        → AnsweredEnded answer_of
+        (R.remaining r.old) (R.remaining r.new) (W.contents w.old) (W.contents w.new) }
     // The writer got a first part of the output of the bytes read, or all of it.
     ensures write { IsErrOf result RunFault.Write
-        → AnsweredPart answer_of (R.remaining r.old) (R.remaining r.new) (W.contents w.old) (W.contents w.new) }
+        → AnsweredPart answer_of
+        (R.remaining r.old) (R.remaining r.new) (W.contents w.old) (W.contents w.new) }
 {
     answer_watched::<A, R, W>(&mut WatchedReader::new(r), &mut WatchedWriter::new(w))
 }
@@ -63,7 +63,7 @@ fn answer_watched<A: CommandAnswers, R: Read, W: Write>(
     ensures write_cause { IsErrOf result RunFault.Write → w.new.mark ≡ Mark.Failed }
 {
     let mut piece = [0u8; PIECE];
-    let mut carried = Carried::new();
+    let mut carried = Text::new();
     let mut out = Output::new();
     while r.may_read() {
         let n = read_piece(r, &mut piece, &out, w)?;
@@ -99,7 +99,7 @@ fn read_piece<R: Read, W: Write>(
 // Answers the lines that end in this piece, and carries the rest on. Nothing waits before or after.
 fn answer_piece<A: CommandAnswers, W: Write>(
     piece: &[u8],
-    carried: &mut Carried,
+    carried: &mut Text<KEPT>,
     out: &mut Output,
     w: &mut WatchedWriter<'_, W>,
 ) -> Result<(), RunFault>
@@ -118,16 +118,16 @@ fn answer_piece<A: CommandAnswers, W: Write>(
     let mut rest = piece;
     while let Some((line, after)) = first_line(rest) {
         out.make_room(w)?;
-        carried.answer_with::<A>(line, out);
+        out.answer_carried::<A>(carried, line);
         rest = after;
     }
-    carried.push(rest);
+    carried.push_clipped(rest);
     out.send(w)
 }
 
 // Answers a last line that no newline ends, and flushes once.
 fn finish<A: CommandAnswers, R: Read, W: Write>(
-    carried: &mut Carried,
+    carried: &mut Text<KEPT>,
     out: &mut Output,
     r: &WatchedReader<'_, R>,
     w: &mut WatchedWriter<'_, W>,
@@ -149,7 +149,7 @@ fn finish<A: CommandAnswers, R: Read, W: Write>(
 
 // Answers a last line that no newline ends.
 fn answer_last<A: CommandAnswers, W: Write>(
-    carried: &mut Carried,
+    carried: &mut Text<KEPT>,
     out: &mut Output,
     w: &mut WatchedWriter<'_, W>,
 ) -> Result<(), RunFault>
@@ -166,6 +166,6 @@ fn answer_last<A: CommandAnswers, W: Write>(
     if carried.is_empty() {
         return Ok(());
     }
-    carried.answer_with::<A>(b"", out);
+    out.answer_carried::<A>(carried, b"");
     out.send(w)
 }

@@ -1,123 +1,110 @@
-//! Texts and numbers put one after another into a buffer.
-ghost use Rattle.std.specs.Prelude.{◌≡◌, ◌+◌, ◌^◌, ◌<◌, ◌≤◌, ◌++◌, length, take};
-ghost use Rattle.std.specs.Fmt.{decimal, signed_decimal};
+//! Bytes one after another, in a room of fixed size.
+ghost use Rattle.std.specs.Prelude.{◌≡◌, ◌+◌, ◌-◌, ◌<◌, ◌≤◌, ◌++◌, ◌∷◌, ◌↔◌, ℕ, List, [], IsTrue, length, take, if◌then◌else◌};
 
-use crate::digits::{put_four, put_six, put_two};
+use std::marker::Model;
 
-/// Puts a text after the first `at` bytes of `out`, and gives where it ends. Those bytes stay.
-pub fn put_text(out: &mut [u8], at: usize, text: &[u8]) -> usize
-    requires { at + length text.now ≤ length out.old }
-    ensures end { result ≡ at + length text.now }
-    ensures text { take result out.new ≡ take at out.old ++ text.now }
-{
-    let end = at + text.len();
-    out[at..end].copy_from_slice(text);
-    end
+/// At most `N` bytes: an answer, an unfinished line, or the answers that wait to be written.
+#[derive(Debug, Drop)]
+pub struct Text<const N: usize> {
+    bytes: [u8; N],
+    len: usize,
 }
 
-/// Puts a number in decimal, with a `-` if it is below 0, after the first `at` bytes of `out`, and
-/// gives where it ends: at most 20 bytes on. Those bytes stay.
-#[tactic(auto, using(crate::proofs::Decimals::decimals))]
-pub fn put_number(out: &mut [u8], at: usize, n: i64) -> usize
-    requires { at + 20 ≤ length out.old }
-    ensures end { result ≤ at + 20 }
-    ensures text { take result out.new ≡ take at out.old ++ signed_decimal n }
-{
-    if n < 0 {
-        out[at] = b'-';
-        return put_natural(out, at + 1, n.unsigned_abs());
-    }
-    put_natural(out, at, n as u64)
+impl<const N: usize> Model for Text<N> {
+    ghost Value = { List ℕ };
+
+    ghost view = { λ t. take t.len t.bytes };
+
+    ghost invariant = { λ t. (t.len ≤ N) × (length t.bytes ≡ N) };
 }
 
-/// Puts a number that fits an `i32` in decimal after the first `at` bytes of `out`, and gives where
-/// it ends: at most 11 bytes on. Those bytes stay.
-#[tactic(auto, using(crate::proofs::Decimals::decimals))]
-pub fn put_i32(out: &mut [u8], at: usize, n: i32) -> usize
-    requires { at + 11 ≤ length out.old }
-    ensures end { result ≤ at + 11 }
-    ensures text { take result out.new ≡ take at out.old ++ signed_decimal n }
-{
-    if n < 0 {
-        out[at] = b'-';
-        return put_u32(out, at + 1, n.unsigned_abs());
+impl<const N: usize> Text<N> {
+    /// No byte yet.
+    pub fn new() -> Text<N>
+        ensures { result ≡ [] }
+    {
+        Text {
+            bytes: [0; N],
+            len: 0,
+        }
     }
-    put_u32(out, at, n as u32)
-}
 
-/// Puts a number that fits a `u32` in decimal after the first `at` bytes of `out`, and gives where
-/// it ends: at most 10 bytes on. Those bytes stay.
-#[tactic(auto, using(crate::proofs::Decimals::decimals))]
-pub fn put_u32(out: &mut [u8], at: usize, n: u32) -> usize
-    requires { at + 10 ≤ length out.old }
-    ensures end { result ≤ at + 10 }
-    ensures text { take result out.new ≡ take at out.old ++ decimal n }
-{
-    if n < 1_000_000 {
-        return put_below_million(out, at, n);
+    /// The bytes, at most `N`.
+    pub fn as_bytes(&self) -> &[u8]
+        ensures value { result.now ≡ self.now }
+        ensures fits { length result.now ≤ N }
+    {
+        &self.bytes[..self.len]
     }
-    put_natural(out, at, u64::from(n))
-}
 
-// Puts a number of at most 19 digits in decimal after the first `at` bytes, and gives where it ends.
-#[tactic(auto, using(crate::proofs::Decimals::decimals))]
-pub(crate) fn put_natural(out: &mut [u8], at: usize, n: u64) -> usize
-    requires small { n < 10 ^ 19 }
-    requires room { at + length (decimal n) ≤ length out.old }
-    ensures end { result ≡ at + length (decimal n) }
-    ensures text { take result out.new ≡ take at out.old ++ decimal n }
-{
-    if n < 1_000_000 {
-        return put_below_million(out, at, n as u32);
+    pub(crate) fn is_empty(&self) -> bool
+        ensures { IsTrue result ↔ (self.now ≡ []) }
+    {
+        self.len == 0
     }
-    let end = put_natural(out, at, n / 1_000_000);
-    put_six(out, end, (n % 1_000_000) as u32)
-}
 
-// Puts a number of at most six digits in decimal, and gives where it ends.
-#[inline]
-#[tactic(auto, using(crate::proofs::Decimals::decimals))]
-fn put_below_million(out: &mut [u8], at: usize, n: u32) -> usize
-    requires small { n < 1_000_000 }
-    requires room { at + length (decimal n) ≤ length out.old }
-    ensures end { result ≡ at + length (decimal n) }
-    ensures text { take result out.new ≡ take at out.old ++ decimal n }
-{
-    if n < 10_000 {
-        return put_below_ten_thousand(out, at, n);
+    // How many bytes more there is room for.
+    pub(crate) fn room(&self) -> usize
+        ensures { length self.now + result ≡ N }
+    {
+        N - self.len
     }
-    let end = put_below_hundred(out, at, n / 10_000);
-    put_four(out, end, n % 10_000)
-}
 
-// Puts a number of at most four digits in decimal, and gives where it ends.
-#[inline]
-#[tactic(auto, using(crate::proofs::Decimals::decimals))]
-fn put_below_ten_thousand(out: &mut [u8], at: usize, n: u32) -> usize
-    requires small { n < 10_000 }
-    requires room { at + length (decimal n) ≤ length out.old }
-    ensures end { result ≡ at + length (decimal n) }
-    ensures text { take result out.new ≡ take at out.old ++ decimal n }
-{
-    if n < 100 {
-        return put_below_hundred(out, at, n);
+    pub(crate) fn clear(&mut self)
+        ensures { self.new ≡ [] }
+    {
+        self.len = 0;
     }
-    let end = put_below_hundred(out, at, n / 100);
-    put_two(out, end, n % 100)
-}
 
-// Puts a number of one digit or two, and gives where it ends.
-#[inline]
-#[tactic(auto, using(crate::proofs::Decimals::decimals))]
-fn put_below_hundred(out: &mut [u8], at: usize, n: u32) -> usize
-    requires small { n < 100 }
-    requires room { at + length (decimal n) ≤ length out.old }
-    ensures end { result ≡ at + length (decimal n) }
-    ensures text { take result out.new ≡ take at out.old ++ decimal n }
-{
-    if n >= 10 {
-        return put_two(out, at, n);
+    // Puts a byte at the end.
+    #[inline]
+    pub(crate) fn push(&mut self, byte: u8)
+        requires { length self.old < N }
+        ensures { self.new ≡ self.old ++ byte ∷ [] }
+    {
+        let at = self.len;
+        self.bytes[at] = byte;
+        self.len = at + 1;
     }
-    out[at] = b'0' + n as u8;
-    at + 1
+
+    // Puts a byte at the end if it is wanted, with no branch.
+    #[inline]
+    pub(crate) fn push_if(&mut self, wanted: bool, byte: u8)
+        requires { length self.old < N }
+        ensures { self.new ≡ self.old ++ (if wanted then byte ∷ [] else []) }
+    {
+        let at = self.len;
+        self.bytes[at] = byte;
+        self.len = at + usize::from(wanted);
+    }
+
+    /// Puts bytes at the end.
+    #[inline]
+    pub fn push_text(&mut self, text: &[u8])
+        requires { length self.old + length text.now ≤ N }
+        ensures { self.new ≡ self.old ++ text.now }
+    {
+        let at = self.len;
+        let end = at + text.len();
+        let bytes = &mut self.bytes[..];
+        bytes[at..end].copy_from_slice(text);
+        self.len = end;
+    }
+
+    // Drops so many bytes from the end.
+    #[inline]
+    pub(crate) fn shorten(&mut self, count: usize)
+        requires { count ≤ length self.old }
+        ensures { self.new ≡ take (length self.old - count) self.old }
+    {
+        self.len -= count;
+    }
+
+    // Puts as many of the bytes at the end as there is room for.
+    pub(crate) fn push_clipped(&mut self, more: &[u8])
+        ensures { self.new ≡ take N (self.old ++ more.now) }
+    {
+        let taken = more.len().min(self.room());
+        self.push_text(&more[..taken]);
+    }
 }

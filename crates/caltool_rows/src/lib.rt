@@ -13,6 +13,7 @@ mod run;
 #[cfg(test)]
 mod runner;
 mod shared;
+mod side_by_side;
 mod sink;
 #[cfg(test)]
 mod tests;
@@ -22,4 +23,5 @@ mod texts;
 pub use pieces::Pieces;
 pub use run::run_pieces;
 pub use shared::{Asker, Counter};
+pub use side_by_side::SideBySide;
 pub use sink::Sink;

@@ -1,7 +1,7 @@
 //! A run over memory.
 ghost use Rattle.std.specs.Prelude.{◌≡◌, ◌++◌, ℕ, List, [], OnOk, IsErrOf, take};
-ghost use Rattle.caltool_form.specs.Lines.{ended_lines};
-ghost use Rattle.caltool_form.specs.Answers.{answer_of, answers_of, output_of};
+ghost use Rattle.caltool_dates.specs.Lines.{ended_lines};
+ghost use Rattle.caltool_dates.specs.Answers.{answer_of, answers_of, output_of};
 
 use crate::pieces::Pieces;
 use crate::sink::Sink;

@@ -17,7 +17,7 @@ loop-line-preserved g c =
     record {
       answered =
           progress_more _ _ _ _ _ _ _ _ _ _ c.in-Some.line.now c.in-Some.after.now done _ c.loop-line.invariant.answered
-          c.in-Some.ensures.some c.in-Some.ensures.first wrote parts c.answer_with.ensures.nothing c.answer_with.ensures.answer;
+          c.in-Some.ensures.some c.in-Some.ensures.first wrote parts c.answer_carried.ensures.nothing c.answer_carried.ensures.answer;
       writable = search rules;
       same = search rules;
     }
@@ -28,7 +28,7 @@ returns-clause-ok g c = on_ok_weaker c.send.result (λ wrote.
 
 pub returns-clause-carries : goal.returns-clause-carries
 returns-clause-carries g c = on_ok_weaker c.send.result (λ wrote.
-    progress_left _ _ _ _ _ _ _ _ c.loop-line.invariant.answered c.in_default.ensures.none c.push.ensures) c.send.ensures.ok
+    progress_left _ _ _ _ _ _ _ _ c.loop-line.invariant.answered c.in_default.ensures.none c.push_clipped.ensures) c.send.ensures.ok
 
 pub returns-clause-err : goal.returns-clause-err
 returns-clause-err g c = on_err_weaker c.send.result (λ part.
