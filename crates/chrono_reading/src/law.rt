@@ -114,7 +114,8 @@ pub fn texts_have_one_week_date(text: &[u8])
 
 /// What `{}` writes for a time of day is a text of it, so it is read as that time, if a leap fraction stands at second 59.
 pub fn printed_times_are_read()
-    ensures { (t : TimeOfDay) → IsTime t → FractionFits (second_of t) t.fraction → IsTimeText (time_text t) t }
+    ensures { (t : TimeOfDay) → IsTime t → FractionFits (second_of t) t.fraction
+        → IsTimeText (time_text t) t }
 {}
 
 /// A text is that of at most one time of day.
@@ -134,8 +135,9 @@ pub fn texts_of_a_time_differ_in_its_fraction()
 /// What `{}` and `{:?}` write for a date-time, with a space and with a `T`, are texts of it, so they are read as that
 /// date-time, if a leap fraction stands at second 59.
 pub fn printed_date_times_are_read()
-    ensures { (m : Moment) (separator : ℕ) → IsDate m.date → IsTime m.time → FractionFits (second_of m.time) m.time.fraction
-        → IsSeparator separator → IsDateTimeText (moment_text separator m) m }
+    ensures { (m : Moment) (separator : ℕ) → IsDate m.date → IsTime m.time
+        → FractionFits (second_of m.time) m.time.fraction → IsSeparator separator
+        → IsDateTimeText (moment_text separator m) m }
 {
     printed_dates_are_read();
     printed_times_are_read();
