@@ -1,1 +1,11 @@
-pub mod Answers
+pub use Rattle.caltool_form.specs.Words
+pub use Rattle.caltool_form.specs.Numbers
+pub use Rattle.caltool_form.specs.Grammar
+pub use Rattle.caltool_form.specs.Commands
+pub use Rattle.caltool_form.specs.Lines
+pub use Rattle.caltool_form.specs.Named
+pub use Rattle.caltool_form.specs.Texts
+pub use Rattle.caltool_form.specs.Answers
+pub use Rattle.caltool_form.specs.Runs
+pub use Rattle.caltool_form.specs.Marks
+pub use Rattle.caltool_form.specs.Faults

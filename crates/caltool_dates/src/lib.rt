@@ -1,16 +1,22 @@
 //! `caltool` over the dates and date-times of `chrono_datetime`: the answer to each command, and the run over an input.
+//!
+//! It passes on the names of `caltool_form`, so that a user lists this crate alone.
 #![tactic(auto)]
 
 ghost use Rattle.std.specs.Prelude.{◌≡◌, OnOk, IsErrOf};
+ghost use Rattle.caltool_form.specs.Answers.{answer_of};
 ghost use Rattle.caltool_form.specs.Runs.{AnsweredAll, AnsweredEnded, AnsweredPart};
-ghost use Rattle.caltool_dates.specs.Answers.{answer_of};
 
 mod answers;
-mod named;
-mod texts;
+mod law;
 
 pub use answers::DateAnswers;
-pub use caltool_form::{Answer, RunFault};
+pub use caltool_form::{
+    Answer, CalendarDate, ClockTime, Command, CommandAnswers, DateAndTime, MonthSpan, RunFault,
+    answer_form, answer_lines, command_of, cut_is_unique, lines_are_commands, numbers_are_texts,
+    run_form, words_are_unique,
+};
+pub use law::answers_are_of_dates;
 use std::io::{Read, Write};
 
 /// The answer to one line, given without its newline: at most 63 bytes.
@@ -35,5 +41,5 @@ pub fn run<R: Read, W: Write>(r: &mut R, w: &mut W) -> Result<(), RunFault>
     ensures write { IsErrOf result RunFault.Write
         → AnsweredPart answer_of (R.remaining r.old) (R.remaining r.new) (W.contents w.old) (W.contents w.new) }
 {
-    caltool_form::answer_lines::<DateAnswers, R, W>(r, w)
+    answer_lines::<DateAnswers, R, W>(r, w)
 }

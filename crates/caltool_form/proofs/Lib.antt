@@ -10,5 +10,6 @@ pub mod Pieces
 pub mod Progress
 pub mod Cuts
 pub mod Decimals
-pub mod DigitCuts
 pub mod Walks
+pub mod Tests
+pub mod Moments

@@ -1,18 +1,17 @@
 -- Lines that come in pieces, and writers that hold a beginning of a text.
-use Rattle.std.proofs.Common.{◌≡◌, ◌==◌, ℕ, zero, suc, ◌+◌, ◌-◌, ◌<◌, ◌≤◌, All, min, true, false, inl, inr, List, [], ◌∷◌, ◌++◌, length, take, drop, set, length-append, refl, ap, sym, ◌∙◌, arith, append_assoc, take-append-drop, subst, Option, codes, Result, Ok, Err, OnErr, IsErrOf}
+use Rattle.std.proofs.Common.{◌≡◌, ◌==◌, ℕ, zero, suc, ◌+◌, ◌-◌, ◌<◌, ◌≤◌, All, min, true, false, inl, inr, List, [], ◌∷◌, ◌++◌, length, take, set, length-append, refl, ap, sym, ◌∙◌, arith, subst, Option, codes, Result, Ok, Err, OnErr, IsErrOf}
 use Rattle.std.specs.List.{onto_first}
 use Rattle.std.specs.Option.{option_map_or}
 use Rattle.std.proofs.lemmas.Bool.{cases_lt, cases_eq, eq-eqb, ne_eqb, lt-ltb, cond-true}
-use Rattle.std.proofs.lemmas.List.{take_min, take_all, take_at, take_rest, take-append-le, length-take, take_more_set}
+use Rattle.std.proofs.lemmas.List.{take_min, take_all, take-append-le, length-take, take_more_set}
 use Rattle.std.proofs.lemmas.List.Splits.{slice_split_none, slice_split_at, slice_split-cons_yes, slice_split-cons_no, length-slice_split}
 use Rattle.std.proofs.lemmas.Grind.{flat_map-append}
 use Rattle.std.proofs.Math.Seq.{take-append-add}
-use Rattle.std.proofs.KnownBytes.{Appends-trans, Appends-kept}
-use Rattle.std.specs.Io.KnownBytes.{Appends, Keeps}
+use Rattle.std.proofs.KnownBytes.{Appends-trans}
+use Rattle.std.specs.Io.KnownBytes.{Appends}
 use Rattle.caltool_form.specs.Lines.{pieces, but_last, last_part, ended_lines, rest_of, onto_front, pieces_after, last_line, IsPiece}
-use Rattle.caltool_form.specs.Answers.{answers_of, answer_of}
+use Rattle.caltool_form.specs.Answers.{answer_of, answer_to, answers_of}
 use Rattle.caltool_form.specs.Commands.{is_long, command_of}
-use Rattle.caltool_form.specs.declared.command.Command.{Command}
 
 -- a front of two lists
 pub take-append : (n : ℕ) (xs ys : List ℕ) → take n (xs ++ ys) ≡ take n xs ++ take (n - length xs) ys
@@ -116,25 +115,16 @@ last_part-append (part ∷ []) line [] = refl
 last_part-append (part ∷ []) line (next ∷ parts) = refl
 last_part-append (part ∷ next ∷ cut) line parts = last_part-append (next ∷ cut) line parts
 
--- a beginning of what is left joins what is done
-pub n_more_done : (bytes done rest : List ℕ) (n : ℕ) → bytes ≡ done ++ rest → bytes ≡ (done ++ take n rest) ++ take (length rest - n) (drop n rest)
-n_more_done bytes done rest n split =
-    let back : take n rest ++ take (length rest - n) (drop n rest) ≡ rest = rw (take_rest rest n) (take-append-drop n rest) in
-    rw (append_assoc, back) split
-
--- a writer that holds a beginning of the bytes, and then no more or some more of them
-pub begun : (a b c : Option (List ℕ)) (bytes done rest : List ℕ) → bytes ≡ done ++ rest → Appends a b done → Keeps b c → (n : ℕ) × Appends a c (take n bytes)
-begun a b c bytes done rest e h k = (length done, subst (Appends a c) (sym (ap (λ l. take (length done) l) e ∙ take_at done rest _ refl)) (Appends-kept a b c done h k))
-
-pub begun_more : (a b c : Option (List ℕ)) (bytes done rest : List ℕ) (n : ℕ) → bytes ≡ done ++ rest → Appends a b done → Appends b c (take n rest) → (m : ℕ) × Appends a c (take m bytes)
+-- a writer that holds a beginning of the bytes, and then some more of them
+begun_more : (a b c : Option (List ℕ)) (bytes done rest : List ℕ) (n : ℕ) → bytes ≡ done ++ rest → Appends a b done → Appends b c (take n rest) → (m : ℕ) × Appends a c (take m bytes)
 begun_more a b c bytes done rest n e h k =
     (length done + n, subst (Appends a c) (sym (ap (λ l. take (length done + n) l) e ∙ take-append-add done rest n)) (Appends-trans a b c done (take n rest) h k))
 
 -- of a line that is too long the first 121 bytes have its answer
-pub clipped : (answer_to : Command → List ℕ) (line : List ℕ) → answer_of answer_to (take 121 line) ≡ answer_of answer_to line
+pub clipped : (line : List ℕ) → answer_of (take 121 line) ≡ answer_of line
 unfolding answer_of command_of
-clipped answer_to line = elim (cases_lt (length line) 121) as (λ _. answer_of answer_to (take 121 line) ≡ answer_of answer_to line) [
-  | inl short ↦ ap (answer_of answer_to) (take_all 121 line (omega arith))
+clipped line = elim (cases_lt (length line) 121) as (λ _. answer_of (take 121 line) ≡ answer_of line) [
+  | inl short ↦ ap answer_of (take_all 121 line (omega arith))
   | inr long ↦
       let e : length (take 121 line) ≡ 121 = omega (arith, length-take 121 line) in
       let a : is_long (take 121 line) ≡ true = lt-ltb _ _ (omega arith) in
@@ -177,33 +167,32 @@ same_more a b more h =
     take-append 121 a more ∙ ap (λ l. l ++ take (121 - length a) more) h ∙ ap (λ n. take 121 b ++ take n more) room ∙ sym (take-append 121 b more)
 
 -- so what answers lines that are kept alike
-module _ (answer_to : Command → List ℕ) where
-  same_answer : (a b : List ℕ) → take 121 a ≡ take 121 b → answer_of answer_to a ≡ answer_of answer_to b
-  same_answer a b h = sym (clipped answer_to a) ∙ ap (answer_of answer_to) h ∙ clipped answer_to b
+same_answer : (a b : List ℕ) → take 121 a ≡ take 121 b → answer_of a ≡ answer_of b
+same_answer a b h = sym (clipped a) ∙ ap answer_of h ∙ clipped b
 
-  same_ended : (a b : List ℕ) (parts : List (List ℕ)) → take 121 a ≡ take 121 b
-      → answers_of (answer_of answer_to) (but_last (onto_front a parts)) ≡ answers_of (answer_of answer_to) (but_last (onto_front b parts))
-  same_ended a b [] h = refl
-  same_ended a b (part ∷ []) h = refl
-  same_ended a b (part ∷ next ∷ parts) h =
-      ap (λ l. (l ++ 10 ∷ []) ++ answers_of (answer_of answer_to) (but_last (next ∷ parts))) (same_answer (a ++ part) (b ++ part) (same_more a b part h))
+same_ended : (a b : List ℕ) (parts : List (List ℕ)) → take 121 a ≡ take 121 b
+    → answers_of answer_of (but_last (onto_front a parts)) ≡ answers_of answer_of (but_last (onto_front b parts))
+same_ended a b [] h = refl
+same_ended a b (part ∷ []) h = refl
+same_ended a b (part ∷ next ∷ parts) h =
+    ap (λ l. (l ++ 10 ∷ []) ++ answers_of answer_of (but_last (next ∷ parts))) (same_answer (a ++ part) (b ++ part) (same_more a b part h))
 
-  -- the answers of two texts, where the last line of the first is kept
-  pub ended_more : (kept bytes more : List ℕ) → take 121 kept ≡ take 121 (rest_of bytes)
-      → answers_of (answer_of answer_to) (ended_lines (bytes ++ more))
-      ≡ answers_of (answer_of answer_to) (ended_lines bytes) ++ answers_of (answer_of answer_to) (but_last (pieces_after kept more))
-  ended_more kept bytes more h =
-      ap (λ parts. answers_of (answer_of answer_to) (but_last parts)) (pieces-append bytes more)
-      ∙ ap (answers_of (answer_of answer_to)) (but_last-append (ended_lines bytes) (rest_of bytes) (pieces more))
-      ∙ flat_map-append _ (ended_lines bytes) (but_last (pieces_after (rest_of bytes) more))
-      ∙ ap (λ l. answers_of (answer_of answer_to) (ended_lines bytes) ++ l) (sym (same_ended kept (rest_of bytes) (pieces more) h))
+-- the answers of two texts, where the last line of the first is kept
+pub ended_more : (kept bytes more : List ℕ) → take 121 kept ≡ take 121 (rest_of bytes)
+    → answers_of answer_of (ended_lines (bytes ++ more))
+    ≡ answers_of answer_of (ended_lines bytes) ++ answers_of answer_of (but_last (pieces_after kept more))
+ended_more kept bytes more h =
+    ap (λ parts. answers_of answer_of (but_last parts)) (pieces-append bytes more)
+    ∙ ap (answers_of answer_of) (but_last-append (ended_lines bytes) (rest_of bytes) (pieces more))
+    ∙ flat_map-append _ (ended_lines bytes) (but_last (pieces_after (rest_of bytes) more))
+    ∙ ap (λ l. answers_of answer_of (ended_lines bytes) ++ l) (sym (same_ended kept (rest_of bytes) (pieces more) h))
 
-  pub same_last : (a b : List ℕ) → take 121 a ≡ take 121 b
-      → answers_of (answer_of answer_to) (last_line a) ≡ answers_of (answer_of answer_to) (last_line b)
-  same_last [] [] h = refl
-  same_last [] (y ∷ b) h = let e : 0 ≡ length (take 121 (y ∷ b)) = ap length h in absurd (omega (arith, e, length-take 121 (y ∷ b)))
-  same_last (x ∷ a) [] h = let e : length (take 121 (x ∷ a)) ≡ 0 = ap length h in absurd (omega (arith, e, length-take 121 (x ∷ a)))
-  same_last (x ∷ a) (y ∷ b) h = ap (λ l. (l ++ 10 ∷ []) ++ []) (same_answer (x ∷ a) (y ∷ b) h)
+pub same_last : (a b : List ℕ) → take 121 a ≡ take 121 b
+    → answers_of answer_of (last_line a) ≡ answers_of answer_of (last_line b)
+same_last [] [] h = refl
+same_last [] (y ∷ b) h = let e : 0 ≡ length (take 121 (y ∷ b)) = ap length h in absurd (omega (arith, e, length-take 121 (y ∷ b)))
+same_last (x ∷ a) [] h = let e : length (take 121 (x ∷ a)) ≡ 0 = ap length h in absurd (omega (arith, e, length-take 121 (x ∷ a)))
+same_last (x ∷ a) (y ∷ b) h = ap (λ l. (l ++ 10 ∷ []) ++ []) (same_answer (x ∷ a) (y ∷ b) h)
 
 same_left : (a b : List ℕ) (parts : List (List ℕ)) → take 121 a ≡ take 121 b → take 121 (last_part (onto_front a parts)) ≡ take 121 (last_part (onto_front b parts))
 same_left a b [] h = h

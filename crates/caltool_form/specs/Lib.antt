@@ -3,6 +3,7 @@ pub mod Numbers
 pub mod Grammar
 pub mod Commands
 pub mod Lines
+pub mod Named
 pub mod Texts
 pub mod Answers
 pub mod Runs

@@ -1,8 +1,24 @@
 -- The texts that answers are made of, beside those of chrono_units and chrono_clock.
-use Rattle.std.specs.Prelude.{◌≡◌, ℕ, List, [], ◌∷◌, ◌++◌, codes, refl}
+use Rattle.std.specs.Prelude.{◌≡◌, ℕ, List, [], ◌∷◌, ◌++◌, ℤ, Option, Some, None, codes, refl}
 use Rattle.chrono_units.specs.declared.weekday.Weekday.{Weekday}
 use Rattle.chrono_units.specs.declared.weekday.Weekday.TheVariants.{Mon, Thu, Sun}
 use Rattle.chrono_units.specs.WeekdayText.{weekday_text}
+use Rattle.chrono_clock.specs.Moment.{Moment}
+use Rattle.chrono_clock.specs.Text.{calendar_text, time_text}
+use Rattle.chrono_calendar.specs.Days.{year_of, month_of, day_of}
+
+-- a text that may not be there
+abbrev pub text_or_none : {A : Type 0} → (A → List ℕ) → Option A → List ℕ
+text_or_none text None = codes "none"
+text_or_none text (Some a) = text a
+
+-- the date n (ISO 8601 calendar date)
+abbrev pub date_text : ℤ → List ℕ
+date_text n = calendar_text (year_of n) (month_of n) (day_of n)
+
+-- a date, a character, and a time of day (ISO 8601 date and time of day, where the character is a `T`)
+abbrev pub moment_text : ℕ → Moment → List ℕ
+moment_text separator m = date_text m.date ++ separator ∷ [] ++ time_text m.time
 
 -- each day after a space
 abbrev pub spaced_days_text : List Weekday → List ℕ

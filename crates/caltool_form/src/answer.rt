@@ -1,24 +1,13 @@
 //! The answer to one line.
 ghost use Rattle.std.specs.Prelude.{◌≡◌, ◌≤◌, ℕ, List, length, take};
 ghost use Rattle.caltool_form.specs.Answers.{answer_of};
-ghost use Rattle.caltool_form.specs.declared.command.Command.{Command};
 
-use crate::command::{Command, read_command};
+use crate::command::read_command;
+use crate::command_answers::CommandAnswers;
 use crate::numbers::Numbers;
 use crate::text::put_text;
+use crate::write_answer::write_answer;
 use std::marker::Model;
-
-/// What answers a command.
-pub trait CommandAnswers {
-    /// The text of the answer to a command, without a newline.
-    ghost answer_to: { Command → List ℕ };
-
-    /// Writes the answer to the start of a buffer, and gives its length, at most 63 bytes.
-    fn write_answer(command: Command, out: &mut [u8]) -> usize
-        requires { 63 ≤ length out.old }
-        ensures fits { result ≤ 63 }
-        ensures text { take result out.new ≡ answer_to command };
-}
 
 // An answer has at most 63 bytes.
 const LONGEST_ANSWER: usize = 63;
@@ -51,7 +40,7 @@ impl Answer {
 /// The answer to one line, given without its newline: that of `A` to the line's command, and `error`
 /// for a line of more than 120 bytes and for one that is no command.
 pub fn answer_line<A: CommandAnswers>(line: &[u8]) -> Answer
-    ensures { result ≡ answer_of A.answer_to line.now }
+    ensures { result ≡ answer_of line.now }
 {
     let mut bytes = [0u8; LONGEST_ANSWER];
     let len = write_line_answer::<A>(line, &mut Numbers::new(), &mut bytes);
@@ -68,10 +57,10 @@ pub(crate) fn write_line_answer<A: CommandAnswers>(
 ) -> usize
     requires { 63 ≤ length out.old }
     ensures fits { result ≤ 63 }
-    ensures text { take result out.new ≡ answer_of A.answer_to line.now }
+    ensures text { take result out.new ≡ answer_of line.now }
 {
     match read_command(line, numbers) {
-        Some(command) => A::write_answer(command, out),
+        Some(command) => write_answer::<A>(command, out),
         None => put_text(out, 0, b"error"),
     }
 }

@@ -2,7 +2,7 @@
 ghost use Rattle.std.specs.Prelude.{◌≡◌, ◌+◌, ◌<◌, ◌≤◌, ◌++◌, ◌∷◌, ◌↔◌, ℕ, List, [], IsTrue, length, take};
 ghost use Rattle.caltool_form.specs.Answers.{answer_of};
 
-use crate::answer::CommandAnswers;
+use crate::command_answers::CommandAnswers;
 use crate::output::Output;
 use std::marker::Model;
 
@@ -51,7 +51,7 @@ impl Carried {
     #[tactic(auto, using(crate::proofs::Pieces::clipped))]
     pub(crate) fn answer_with<A: CommandAnswers>(&mut self, end: &[u8], out: &mut Output)
         requires { length out.old + 63 < 65536 }
-        ensures answer { out.new ≡ out.old ++ answer_of A.answer_to (self.old ++ end.now) ++ 10 ∷ [] }
+        ensures answer { out.new ≡ out.old ++ answer_of (self.old ++ end.now) ++ 10 ∷ [] }
         ensures nothing { self.new ≡ [] }
     {
         if self.is_empty() {

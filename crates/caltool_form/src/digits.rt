@@ -41,7 +41,7 @@ pub(crate) fn put_two(out: &mut [u8], at: usize, n: u32) -> usize
 
 // Puts three digits after the first `at` bytes, and gives where they end.
 #[inline]
-#[tactic(auto, using(crate::proofs::DigitCuts::splits))]
+#[tactic(auto, using(crate::proofs::Decimals::places))]
 pub(crate) fn put_three(out: &mut [u8], at: usize, n: u32) -> usize
     requires small { n < 1_000 }
     requires room { at + 3 ≤ length out.old }
@@ -54,7 +54,7 @@ pub(crate) fn put_three(out: &mut [u8], at: usize, n: u32) -> usize
 
 // Puts four digits after the first `at` bytes, and gives where they end.
 #[inline]
-#[tactic(auto, using(crate::proofs::DigitCuts::splits))]
+#[tactic(auto, using(crate::proofs::Decimals::places))]
 pub(crate) fn put_four(out: &mut [u8], at: usize, n: u32) -> usize
     requires small { n < 10_000 }
     requires room { at + 4 ≤ length out.old }
@@ -67,7 +67,7 @@ pub(crate) fn put_four(out: &mut [u8], at: usize, n: u32) -> usize
 
 // Puts six digits after the first `at` bytes, and gives where they end.
 #[inline]
-#[tactic(auto, using(crate::proofs::DigitCuts::splits))]
+#[tactic(auto, using(crate::proofs::Decimals::places))]
 pub(crate) fn put_six(out: &mut [u8], at: usize, n: u32) -> usize
     requires small { n < 1_000_000 }
     requires room { at + 6 ≤ length out.old }
@@ -80,7 +80,7 @@ pub(crate) fn put_six(out: &mut [u8], at: usize, n: u32) -> usize
 
 // Puts nine digits after the first `at` bytes, and gives where they end.
 #[inline]
-#[tactic(auto, using(crate::proofs::DigitCuts::splits))]
+#[tactic(auto, using(crate::proofs::Decimals::places))]
 pub(crate) fn put_nine(out: &mut [u8], at: usize, n: u32) -> usize
     requires small { n < 1_000_000_000 }
     requires room { at + 9 ≤ length out.old }

@@ -5,7 +5,8 @@ ghost use Rattle.caltool_form.specs.Marks.{mark_of_write};
 ghost use Rattle.caltool_form.specs.declared.watch.Mark.{Mark};
 ghost use Rattle.caltool_form.specs.Answers.{answer_of};
 
-use crate::answer::{CommandAnswers, write_line_answer};
+use crate::answer::write_line_answer;
+use crate::command_answers::CommandAnswers;
 use crate::fault::RunFault;
 use crate::numbers::Numbers;
 use crate::watch::WatchedWriter;
@@ -46,7 +47,7 @@ impl Output {
     // Adds the answer to a line, and its newline.
     pub(crate) fn answer<A: CommandAnswers>(&mut self, line: &[u8])
         requires { length self.old + 63 < 65536 }
-        ensures { self.new ≡ self.old ++ answer_of A.answer_to line.now ++ 10 ∷ [] }
+        ensures { self.new ≡ self.old ++ answer_of line.now ++ 10 ∷ [] }
     {
         self.len = add_answer::<A>(line, &mut self.numbers, &mut self.bytes, self.len);
     }
@@ -102,7 +103,7 @@ fn add_answer<A: CommandAnswers>(
 ) -> usize
     requires { len + 63 < length bytes.old }
     ensures fits { result ≤ length bytes.old }
-    ensures text { take result bytes.new ≡ take len bytes.old ++ answer_of A.answer_to line.now ++ 10 ∷ [] }
+    ensures text { take result bytes.new ≡ take len bytes.old ++ answer_of line.now ++ 10 ∷ [] }
 {
     let n = write_line_answer::<A>(line, numbers, &mut bytes[len..]);
     let end = len + n;
@@ -119,10 +120,10 @@ fn write_whole<W: Write>(w: &mut WatchedWriter<'_, W>, bytes: &[u8]) -> Result<(
     ensures mark { w.new.mark ≡ mark_of_write result }
     ensures fault { IfErr result (λ e. e ≡ RunFault.Write) }
 {
-    let mut rest = bytes;
-    while !rest.is_empty() {
-        let n = w.write(rest)?;
-        rest = &rest[n..];
+    let mut at = 0;
+    while at < bytes.len() {
+        let n = w.write(&bytes[at..])?;
+        at += n;
     }
     Ok(())
 }

@@ -8,8 +8,8 @@ ghost use Rattle.caltool_form.specs.Marks.{mark_of_read, mark_of_write, mark_of_
 ghost use Rattle.caltool_form.specs.Runs.{AnsweredAll, AnsweredEnded, AnsweredPart};
 ghost use Rattle.caltool_form.specs.declared.watch.Mark.{Mark};
 
-use crate::answer::CommandAnswers;
 use crate::carried::Carried;
+use crate::command_answers::CommandAnswers;
 use crate::fault::RunFault;
 use crate::newline::first_line;
 use crate::output::Output;
@@ -27,13 +27,13 @@ pub fn answer_lines<A: CommandAnswers, R: Read, W: Write>(
     w: &mut W,
 ) -> Result<(), RunFault>
     // The input was read to its end, and its whole output written.
-    ensures ok { OnOk result (AnsweredAll (answer_of A.answer_to) (R.remaining r.old) (R.remaining r.new) (W.contents w.old) (W.contents w.new)) }
+    ensures ok { OnOk result (AnsweredAll answer_of (R.remaining r.old) (R.remaining r.new) (W.contents w.old) (W.contents w.new)) }
     // The lines that a newline ends among the bytes read are answered, and nothing else is written.
     ensures read { IsErrOf result RunFault.Read
-        → AnsweredEnded (answer_of A.answer_to) (R.remaining r.old) (R.remaining r.new) (W.contents w.old) (W.contents w.new) }
+        → AnsweredEnded answer_of (R.remaining r.old) (R.remaining r.new) (W.contents w.old) (W.contents w.new) }
     // The writer got a first part of the output of the bytes read, or all of it.
     ensures write { IsErrOf result RunFault.Write
-        → AnsweredPart (answer_of A.answer_to) (R.remaining r.old) (R.remaining r.new) (W.contents w.old) (W.contents w.new) }
+        → AnsweredPart answer_of (R.remaining r.old) (R.remaining r.new) (W.contents w.old) (W.contents w.new) }
 {
     answer_watched::<A, R, W>(&mut WatchedReader::new(r), &mut WatchedWriter::new(w))
 }
@@ -48,11 +48,11 @@ fn answer_watched<A: CommandAnswers, R: Read, W: Write>(
     requires writer { w.old.mark ≡ Mark.Open }
     ensures same_reader { r.new.inner.ghost_name ≡ r.old.inner.ghost_name }
     ensures same_writer { w.new.inner.ghost_name ≡ w.old.inner.ghost_name }
-    ensures ok { OnOk result (AnsweredAll (answer_of A.answer_to)
+    ensures ok { OnOk result (AnsweredAll answer_of
         (R.remaining r.old.inner.now) (R.remaining r.new.inner.now) (W.contents w.old.inner.now) (W.contents w.new.inner.now)) }
-    ensures read { IsErrOf result RunFault.Read → AnsweredEnded (answer_of A.answer_to)
+    ensures read { IsErrOf result RunFault.Read → AnsweredEnded answer_of
         (R.remaining r.old.inner.now) (R.remaining r.new.inner.now) (W.contents w.old.inner.now) (W.contents w.new.inner.now) }
-    ensures write { IsErrOf result RunFault.Write → AnsweredPart (answer_of A.answer_to)
+    ensures write { IsErrOf result RunFault.Write → AnsweredPart answer_of
         (R.remaining r.old.inner.now) (R.remaining r.new.inner.now) (W.contents w.old.inner.now) (W.contents w.new.inner.now) }
     // Both ends were reached: the input was read to its end, and then the output flushed.
     ensures ended { OnOk result ((r.new.mark ≡ Mark.Ended) × (w.new.mark ≡ Mark.Ended)) }
@@ -107,11 +107,11 @@ fn answer_piece<A: CommandAnswers, W: Write>(
     requires writer { w.old.mark ≡ Mark.Open }
     ensures same { w.new.inner.ghost_name ≡ w.old.inner.ghost_name }
     ensures ok { OnOk result (Appends (W.contents w.old.inner.now) (W.contents w.new.inner.now)
-        (answers_of (answer_of A.answer_to) (but_last (pieces_after carried.old piece.now)))) }
+        (answers_of answer_of (but_last (pieces_after carried.old piece.now)))) }
     ensures carries { OnOk result (carried.new ≡ take 121 (last_part (pieces_after carried.old piece.now))) }
     ensures nothing { OnOk result (out.new ≡ []) }
     ensures err { OnErr result ((n : ℕ) × Appends (W.contents w.old.inner.now) (W.contents w.new.inner.now)
-        (take n (answers_of (answer_of A.answer_to) (but_last (pieces_after carried.old piece.now))))) }
+        (take n (answers_of answer_of (but_last (pieces_after carried.old piece.now))))) }
     ensures mark { w.new.mark ≡ mark_of_write result }
     ensures fault { IfErr result (λ e. e ≡ RunFault.Write) }
 {
@@ -137,9 +137,9 @@ fn finish<A: CommandAnswers, R: Read, W: Write>(
     requires writer { w.old.mark ≡ Mark.Open }
     ensures same { w.new.inner.ghost_name ≡ w.old.inner.ghost_name }
     ensures ok { OnOk result (Appends (W.contents w.old.inner.now) (W.contents w.new.inner.now)
-        (answers_of (answer_of A.answer_to) (last_line carried.old))) }
+        (answers_of answer_of (last_line carried.old))) }
     ensures err { OnErr result ((n : ℕ) × Appends (W.contents w.old.inner.now) (W.contents w.new.inner.now)
-        (take n (answers_of (answer_of A.answer_to) (last_line carried.old)))) }
+        (take n (answers_of answer_of (last_line carried.old)))) }
     ensures mark { w.new.mark ≡ mark_of_flush result }
     ensures fault { IfErr result (λ e. e ≡ RunFault.Write) }
 {
@@ -157,9 +157,9 @@ fn answer_last<A: CommandAnswers, W: Write>(
     requires writer { w.old.mark ≡ Mark.Open }
     ensures same { w.new.inner.ghost_name ≡ w.old.inner.ghost_name }
     ensures ok { OnOk result (Appends (W.contents w.old.inner.now) (W.contents w.new.inner.now)
-        (answers_of (answer_of A.answer_to) (last_line carried.old))) }
+        (answers_of answer_of (last_line carried.old))) }
     ensures err { OnErr result ((n : ℕ) × Appends (W.contents w.old.inner.now) (W.contents w.new.inner.now)
-        (take n (answers_of (answer_of A.answer_to) (last_line carried.old)))) }
+        (take n (answers_of answer_of (last_line carried.old)))) }
     ensures mark { w.new.mark ≡ mark_of_write result }
     ensures fault { IfErr result (λ e. e ≡ RunFault.Write) }
 {

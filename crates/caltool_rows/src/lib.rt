@@ -4,8 +4,14 @@
 
 #[cfg(test)]
 mod commands;
+#[cfg(test)]
+mod failing;
+#[cfg(test)]
+mod hostile;
 mod pieces;
 mod run;
+#[cfg(test)]
+mod runner;
 mod shared;
 mod sink;
 #[cfg(test)]

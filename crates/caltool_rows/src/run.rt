@@ -1,8 +1,7 @@
 //! A run over memory.
 ghost use Rattle.std.specs.Prelude.{◌≡◌, ◌++◌, ℕ, List, [], OnOk, IsErrOf, take};
-ghost use Rattle.caltool_form.specs.Answers.{answers_of};
 ghost use Rattle.caltool_form.specs.Lines.{ended_lines};
-ghost use Rattle.caltool_dates.specs.Answers.{answer_of, output_of};
+ghost use Rattle.caltool_form.specs.Answers.{answer_of, answers_of, output_of};
 
 use crate::pieces::Pieces;
 use crate::sink::Sink;
@@ -10,12 +9,12 @@ use caltool_dates::{RunFault, run};
 
 /// `run` over memory. Its clauses say in plain lists what those of `run` say of any reader and writer.
 pub fn run_pieces(r: &mut Pieces<'_>, w: &mut Sink) -> Result<(), RunFault>
-    ensures ok { OnOk result (w.new ≡ w.old ++ output_of r.old) }
+    ensures ok { OnOk result (w.new ≡ w.old ++ output_of answer_of r.old) }
     ensures all_read { OnOk result (r.new ≡ []) }
     ensures read { IsErrOf result RunFault.Read
         → (bytes : List ℕ) × (r.old ≡ bytes ++ r.new) × (w.new ≡ w.old ++ answers_of answer_of (ended_lines bytes)) }
     ensures write { IsErrOf result RunFault.Write
-        → (bytes : List ℕ) × (n : ℕ) × (r.old ≡ bytes ++ r.new) × (w.new ≡ w.old ++ take n (output_of bytes)) }
+        → (bytes : List ℕ) × (n : ℕ) × (r.old ≡ bytes ++ r.new) × (w.new ≡ w.old ++ take n (output_of answer_of bytes)) }
 {
     run(r, w)
 }

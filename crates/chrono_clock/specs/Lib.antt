@@ -4,3 +4,4 @@ pub mod StoredLemmas
 pub mod StoredDelta
 pub mod Text
 pub mod Time
+pub mod Moment

@@ -9,7 +9,8 @@ use Rattle.chrono_clock.proofs.TimeLemmas.{is_leap-plain}
 use Rattle.chrono_clock.proofs.DistanceLemmas.{land-distance, land-distance_days, distance-later, distance-earlier, distance-same}
 use Rattle.chrono_naive.specs.Days.{IsDate, date_of_day}
 use Rattle.chrono_naive.proofs.NamedDates.{date_of_day-Some}
-use Rattle.chrono_datetime.specs.Moment.{Moment, moment, reach, moment_of_landing, moment_distance, IsBefore, LeadsBack, SignTellsOrder}
+use Rattle.chrono_datetime.specs.Moment.{Moment, moment, reach, moment_distance, IsBefore, LeadsBack, SignTellsOrder}
+use Rattle.chrono_datetime.proofs.ReachLemmas.{moment_of_landing}
 
 -- the distance of two date-times that are known by their parts
 pub moment_distance-parts : (a b : Moment) (n k : ℤ) (s t : TimeOfDay) (d x r : ℤ) → moment n s ≡ a → moment k t ≡ b → r ≡ d +ℤ x → d ≡ units_of nanos_per_day (n -ℤ k) → x ≡ distance s t → r ≡ moment_distance a b
@@ -19,7 +20,7 @@ moment_distance-parts a b n k s t d x r e f sum days times =
 
 -- from b on, a landing whose day is that of a
 reach-at : (a b : Moment) (x day : ℤ) → IsDate a.date → land b.time x ≡ later day (landing_of a.time) → b.date +ℤ (day +ℤ pos 0) ≡ a.date → reach b x ≡ Some a
-unfolding reach moment_of_landing
+unfolding reach
 reach-at a b x day i e f =
     ap (moment_of_landing b.date) e ∙ ap (λ n. option_map (λ d. moment d a.time) (date_of_day n)) f ∙ ap (option_map (λ d. moment d a.time)) (date_of_day-Some a.date i)
 

@@ -10,7 +10,11 @@ use Rattle.chrono_clock.proofs.OrderLemmas.{land-forward, land-backward}
 use Rattle.chrono_clock.proofs.DistanceLemmas.{land-distance, distance-same}
 use Rattle.chrono_naive.specs.Days.{IsDate, date_of_day, is_date}
 use Rattle.chrono_naive.proofs.NamedDates.{date_of_day-None}
-use Rattle.chrono_datetime.specs.Moment.{Moment, moment, moment_on, reach, moment_of_landing, IsBefore, MovesAddUp}
+use Rattle.chrono_datetime.specs.Moment.{Moment, moment, moment_on, reach, IsBefore, MovesAddUp}
+
+-- the date-time at which a landing from the date n ends, if its day is a date
+abbrev pub moment_of_landing : ℤ → Landing → Option Moment
+moment_of_landing n l = moment_on (date_of_day (n +ℤ l.day)) l.time
 
 -- what was found is the date of the number, at the time
 option_map-cond : (b : Bool) (n : ℤ) (t : TimeOfDay) (e : Moment) → Some e ≡ option_map (λ d. moment d t) (cond b (Some n) None) → e ≡ moment n t
@@ -18,12 +22,11 @@ option_map-cond true n t e h = cc
 option_map-cond false n t e h = absurd cc
 
 pub reach-Some : (m e : Moment) (x : ℤ) → Some e ≡ reach m x → e ≡ moment (m.date +ℤ (land m.time x).day) (land m.time x).time
-unfolding reach moment_of_landing date_of_day
+unfolding reach date_of_day
 reach-Some m e x h = option_map-cond (is_date (m.date +ℤ (land m.time x).day)) _ _ e h
 
 -- a landing so many days later, from a date as many days earlier
 moment_of_landing-later : (n d : ℤ) (l : Landing) → moment_of_landing n (later d l) ≡ moment_of_landing (n +ℤ d) l
-unfolding moment_of_landing
 moment_of_landing-later n d l =
     let e : n +ℤ (d +ℤ l.day) ≡ (n +ℤ d) +ℤ l.day = omega (arith, ints) in
     ap (λ k. option_map (λ j. moment j l.time) (date_of_day k)) e
@@ -103,14 +106,14 @@ whole_units-days s day x e f = omega (arith, ints, e, f)
 
 -- the clock answers a time and the seconds of the days passed, and the date moves by a duration of these
 pub reach-parts : (o : Option ℤ) (m : Moment) (x s d : ℤ) (t : TimeOfDay) → t ≡ (land m.time x).time → s ≡ (land m.time x).day *ℤ pos 86_400 → d ≡ units_of nanos_per_second s → o ≡ date_of_day (m.date +ℤ whole_units nanos_per_day d) → moment_on o t ≡ reach m x
-unfolding reach moment_of_landing
+unfolding reach
 reach-parts o m x s d t e f g h =
     let landed = land m.time x in
     ap (moment_on o) e ∙ ap (λ p. moment_on p landed.time) (h ∙ ap (λ day. date_of_day (m.date +ℤ day)) (whole_units-days s landed.day d f g))
 
 -- where these seconds are no duration, the day is no date
 pub reach-None : (m : Moment) (x s : ℤ) → IsDate m.date → s ≡ (land m.time x).day *ℤ pos 86_400 → (IsDuration (units_of nanos_per_second s) → ⊥) → None ≡ reach m x
-unfolding reach moment_of_landing
+unfolding reach
 reach-None m x s i e too_far =
     let landed = land m.time x in
     let no_date = date_of_day-None (m.date +ℤ landed.day) (λ h. too_far (omega (arith, ints, e, i.0, i.1, h.0, h.1))) in

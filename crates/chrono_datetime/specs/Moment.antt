@@ -1,35 +1,21 @@
 -- Date-times: a date and a time of day, where a duration leads from one, and how far two are apart.
-use Rattle.std.specs.Prelude.{◌≡◌, ℤ, pos, ◌+ℤ◌, ◌-ℤ◌, ◌*ℤ◌, ◌<ℤ◌, ◌⊎◌, Option}
+use Rattle.std.specs.Prelude.{◌≡◌, ℤ, ◌+ℤ◌, ◌<ℤ◌, ◌⊎◌, Option}
 use Rattle.std.specs.Option.{option_map}
 use Rattle.std.specs.Ordering.{int_cmp, nat_cmp, on, then_cmp}
 use Rattle.std.specs.declared.cmp.Ordering.{Ordering}
-use Rattle.chrono_clock.specs.Duration.{nanos_per_day, IsDuration}
-use Rattle.chrono_clock.specs.Time.{TimeOfDay, Landing, IsPlain, IsLeap, IsEarlier, SameWay, land, distance}
+use Rattle.chrono_clock.specs.Duration.{IsDuration}
+use Rattle.chrono_clock.specs.Time.{TimeOfDay, IsPlain, IsLeap, IsEarlier, SameWay}
 use Rattle.chrono_naive.specs.Days.{date_of_day}
-
--- a date's number, and a time of day
-pub record Moment : Type 0 where
-  pub date : ℤ
-  pub time : TimeOfDay
-
-abbrev pub moment : ℤ → TimeOfDay → Moment
-moment n t = record { date = n; time = t }
+pub use Rattle.chrono_clock.specs.Moment.{Moment, moment, moved}
+unfoldable pub use Rattle.chrono_clock.specs.Moment.{moment_distance}
 
 -- the date-time at the time t of a date, if there is such a date
 abbrev pub moment_on : Option ℤ → TimeOfDay → Option Moment
 moment_on date t = option_map (λ n. moment n t) date
 
--- the date-time at which a landing from the date n ends, if its day is a date
-unfoldable pub moment_of_landing : ℤ → Landing → Option Moment
-moment_of_landing n l = moment_on (date_of_day (n +ℤ l.day)) l.time
-
 -- the date-time x nanoseconds on, on the line of the start's time, if its day is a date
 unfoldable pub reach : Moment → ℤ → Option Moment
-reach m x = moment_of_landing m.date (land m.time x)
-
--- how far a is from b: the days between their dates, and how far their times are apart
-unfoldable pub moment_distance : Moment → Moment → ℤ
-moment_distance a b = (a.date -ℤ b.date) *ℤ pos nanos_per_day +ℤ distance a.time b.time
+reach m x = moment_on (date_of_day (moved m x).date) (moved m x).time
 
 -- a comes before b: on an earlier date, or earlier on the same date
 abbrev pub IsBefore : Moment → Moment → Type 0

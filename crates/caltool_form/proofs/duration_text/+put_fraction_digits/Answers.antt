@@ -1,7 +1,7 @@
 use Rattle.std.proofs.Common.{◌<◌, ◌+◌, ◌-◌, ◌/◌, ◌^◌, ◌++◌, ◌∷◌, length, take, ap, sym, ◌∙◌, append_assoc, arith}
 use Rattle.std.proofs.lemmas.List.{take_more_set}
 use Rattle.chrono_clock.specs.Text.{fraction_digits}
-use Rattle.caltool_form.proofs.DigitCuts.{some_places, fraction_step}
+use Rattle.caltool_form.proofs.Decimals.{some_places, fraction_step}
 use Rattle.caltool_form.proofs.duration_text.+put_fraction_digits.Goals as goal
 
 pub returns-clause-text : goal.returns-clause-text

@@ -6,7 +6,7 @@ use Rattle.caltool_form.proofs.run.answer_piece.Given as goal
 
 abbrev pub invariant-loop-line : goal.invariant-loop-line
 invariant-loop-line g l = record {
-  answered : Progress g.A.CommandAnswers.answer_to (g.W.Write.contents l.fn.w.inner.now) (g.W.Write.contents l.w.inner.now) l.carried l.out l.fn.carried l.fn.piece l.rest;
+  answered : Progress (g.W.Write.contents l.fn.w.inner.now) (g.W.Write.contents l.w.inner.now) l.carried l.out l.fn.carried l.fn.piece l.rest;
   writable : l.w.mark ≡ Open;
   same : l.w.inner.ghost_name ≡ l.fn.w.inner.ghost_name;
 }

@@ -8,23 +8,23 @@ use Rattle.caltool_form.proofs.run.answer_watched.Goals as goal
 pub returns-then-n-eq0-clause-ok : goal.returns-then-n-eq0-clause-ok
 returns-then-n-eq0-clause-ok g c = on_ok_weaker c.finish.result (λ wrote.
     let read = c.in_ok-n.ensures.bytes in
-    ran_all g.A.CommandAnswers.answer_to _ _ _ _ _ _ _ (take c.in_ok-n.n c.read_piece.new.piece) c.loop-piece.invariant.ran read.0 (ap (λ n. take n c.read_piece.new.piece) c.if-n-eq0.true)
+    ran_all _ _ _ _ _ _ _ (take c.in_ok-n.n c.read_piece.new.piece) c.loop-piece.invariant.ran read.0 (ap (λ n. take n c.read_piece.new.piece) c.if-n-eq0.true)
     (read.1 c.if-n-eq0.true (omega arith)) wrote) c.finish.ensures.ok
 
 pub returns-then-n-eq0-clause-write : goal.returns-then-n-eq0-clause-write
 returns-then-n-eq0-clause-write g c = λ is.
-    ran_part_last g.A.CommandAnswers.answer_to _ _ _ _ _ _ _ (take c.in_ok-n.n c.read_piece.new.piece) c.loop-piece.invariant.ran c.in_ok-n.ensures.bytes.0 (ap (λ n. take n c.read_piece.new.piece) c.if-n-eq0.true)
+    ran_part_last _ _ _ _ _ _ _ (take c.in_ok-n.n c.read_piece.new.piece) c.loop-piece.invariant.ran c.in_ok-n.ensures.bytes.0 (ap (λ n. take n c.read_piece.new.piece) c.if-n-eq0.true)
     (from_err_of c.finish.result _ _ is c.finish.ensures.err)
 
 pub returns-in_err-answer_piece-clause-write : goal.returns-in_err-answer_piece-clause-write
 returns-in_err-answer_piece-clause-write g c = λ _.
-    ran_part g.A.CommandAnswers.answer_to _ _ _ _ _ _ _ (take c.in_ok-n.n c.read_piece.new.piece) c.loop-piece.invariant.ran c.in_ok-n.ensures.bytes.0 c.in_err-answer_piece.ensures.err
+    ran_part _ _ _ _ _ _ _ (take c.in_ok-n.n c.read_piece.new.piece) c.loop-piece.invariant.ran c.in_ok-n.ensures.bytes.0 c.in_err-answer_piece.ensures.err
 
 pub loop-piece-preserved : goal.loop-piece-preserved
 loop-piece-preserved g c = record {
   nothing = c.in_ok-answer_piece.ensures.nothing;
   ran =
-      ran_more g.A.CommandAnswers.answer_to _ _ _ _ _ _ _ _ (take c.in_ok-n.n c.read_piece.new.piece) c.loop-piece.invariant.ran c.in_ok-n.ensures.bytes.0
+      ran_more _ _ _ _ _ _ _ _ (take c.in_ok-n.n c.read_piece.new.piece) c.loop-piece.invariant.ran c.in_ok-n.ensures.bytes.0
       c.in_ok-answer_piece.ensures.ok c.in_ok-answer_piece.ensures.carries;
   reader = search rules;
   writer = search rules;

@@ -7,7 +7,7 @@ use Rattle.caltool_form.proofs.run.answer_watched.Given as goal
 abbrev pub invariant-loop-piece : goal.invariant-loop-piece
 invariant-loop-piece g l = record {
   nothing : l.out ≡ [];
-  ran : Ran g.A.CommandAnswers.answer_to (g.R.Read.remaining l.fn.r.inner.now) (g.R.Read.remaining l.r.inner.now) (g.W.Write.contents l.fn.w.inner.now) (g.W.Write.contents l.w.inner.now) l.carried;
+  ran : Ran (g.R.Read.remaining l.fn.r.inner.now) (g.R.Read.remaining l.r.inner.now) (g.W.Write.contents l.fn.w.inner.now) (g.W.Write.contents l.w.inner.now) l.carried;
   reader : l.r.mark ≡ Open;
   writer : l.w.mark ≡ Open;
   same_reader : l.r.inner.ghost_name ≡ l.fn.r.inner.ghost_name;

@@ -9,6 +9,6 @@ use Rattle.caltool_form.proofs.run.finish.Goals as goal
 
 pub returns-clause-err : goal.returns-clause-err
 returns-clause-err g c =
-    let text = answers_of (answer_of g.A.CommandAnswers.answer_to) (last_line c.args.carried.now) in
+    let text = answers_of answer_of (last_line c.args.carried.now) in
     on_err_any c.flush.result _
     (length text, subst (Appends _ _) (sym (take_all (length text) text (omega arith))) (Appends-kept _ _ _ _ c.in_ok-answer_last.ensures.ok c.flush.ensures.bytes))

@@ -1,6 +1,6 @@
 use Rattle.std.proofs.Common.{arith}
-use Rattle.caltool_form.proofs.Decimals.{in_parts, decimal_more}
+use Rattle.caltool_form.proofs.Decimals.{in_parts, then_two}
 use Rattle.caltool_form.proofs.text.put_below_ten_thousand.Goals as goal
 
 pub returns-clause-text : goal.returns-clause-text
-returns-clause-text c = in_parts _ _ _ _ c.put_two.ensures.text c.put_below_hundred-end.ensures.text (decimal_more c.args.n (omega arith) (omega arith))
+returns-clause-text c = in_parts _ _ _ _ c.put_two.ensures.text c.put_below_hundred-end.ensures.text (then_two c.args.n (omega arith) (omega arith))

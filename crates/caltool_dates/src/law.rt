@@ -1,0 +1,16 @@
+//! What the answers say of dates and date-times is what the public calls say.
+ghost use Rattle.std.specs.Prelude.{◌≡◌, ℕ, ℤ};
+ghost use Rattle.caltool_form.specs.Named.{reach as reached};
+ghost use Rattle.caltool_form.specs.Texts.{date_text as text_of_date, moment_text as text_of_moment};
+ghost use Rattle.chrono_datetime.specs.DateText.{date_text};
+ghost use Rattle.chrono_datetime.specs.Moment.{Moment, reach};
+ghost use Rattle.chrono_datetime.specs.MomentText.{moment_text};
+
+/// The dates and date-times of the answers have the texts that the public types print, and a duration leads where
+/// `NaiveDateTime::checked_add_signed` leads.
+#[tactic(auto, unfolding(caltool_form::specs::Named::reach, chrono_datetime::specs::Moment::reach))]
+pub fn answers_are_of_dates()
+    ensures dates { (n : ℤ) → text_of_date n ≡ date_text n }
+    ensures moments { (separator : ℕ) (m : Moment) → text_of_moment separator m ≡ moment_text separator m }
+    ensures moves { (m : Moment) (x : ℤ) → reached m x ≡ reach m x }
+{}

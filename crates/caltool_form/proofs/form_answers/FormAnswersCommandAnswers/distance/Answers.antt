@@ -1,0 +1,10 @@
+use Rattle.std.proofs.Common.{arith}
+use Rattle.chrono_calendar.proofs.Signed.{casts}
+use Rattle.caltool_form.proofs.Moments.{moment_distance-parts}
+use Rattle.caltool_form.proofs.form_answers.FormAnswersCommandAnswers.distance.Goals as goal
+
+pub returns : goal.returns
+returns g c =
+    moment_distance-parts (g.F.DayForm.number c.args.date) (g.F.DayForm.number c.args.base) c.days.result _ _ c.args.time c.args.base_time
+    (omega (arith, casts, c.days.ensures, c.from.ensures, c.day.ensures.value, c.from-2.ensures, c.day-2.ensures.value))
+    c.signed_duration_since.ensures.value c.add.ensures

@@ -1,0 +1,147 @@
+//! The answers over any stored form of dates, from the laws of [`DayForm`] alone.
+ghost use Rattle.std.specs.Prelude.{◌≡◌, IsErrOf, OnOk};
+ghost use Rattle.caltool_form.specs.Answers.{answer_of};
+ghost use Rattle.caltool_form.specs.Runs.{AnsweredAll, AnsweredEnded, AnsweredPart};
+
+use crate::answer::{Answer, answer_line};
+use crate::arguments::MonthSpan;
+use crate::command_answers::CommandAnswers;
+use crate::fault::RunFault;
+use crate::run::answer_lines;
+use chrono_calendar::{DayForm, Steps, forms};
+use chrono_clock::{NaiveTime, TimeDelta};
+use chrono_units::Weekday;
+use std::io::{Read, Write};
+use std::marker::PhantomData;
+
+// The seconds of a day.
+const SECS_PER_DAY: i64 = 86_400;
+
+// Answers by dates of the form `F`.
+pub(crate) struct FormAnswers<F: DayForm> {
+    form: PhantomData<F>,
+}
+
+impl<F: DayForm> CommandAnswers for FormAnswers<F> {
+    type Date = F;
+
+    ghost number = { F.number };
+
+    #[inline]
+    fn from_ymd(year: i32, month: u32, day: u32) -> Option<F> {
+        F::from_ymd(year, month, day)
+    }
+
+    #[inline]
+    fn from_yo(year: i32, ordinal: u32) -> Option<F> {
+        F::from_yo(year, ordinal)
+    }
+
+    #[inline]
+    fn from_iso(year: i32, week: u32, weekday: Weekday) -> Option<F> {
+        forms::from_iso(year, week, weekday)
+    }
+
+    #[inline]
+    fn from_day(day: i32) -> Option<F> {
+        F::from_day(day, &mut Steps::new())
+    }
+
+    #[inline]
+    fn nth_weekday(year: i32, month: u32, weekday: Weekday, nth: u8) -> Option<F> {
+        forms::nth_weekday(year, month, weekday, nth)
+    }
+
+    #[inline]
+    fn move_days(date: F, count: i64) -> Option<F> {
+        forms::move_days(date, count, &mut Steps::new())
+    }
+
+    #[inline]
+    fn move_months(date: F, span: MonthSpan) -> Option<F> {
+        let months = match span {
+            MonthSpan::Later(months) => i64::from(months),
+            MonthSpan::Earlier(months) => -i64::from(months),
+        };
+        forms::move_months(date, months)
+    }
+
+    #[inline]
+    fn move_moment(date: F, time: NaiveTime, by: TimeDelta) -> Option<(F, NaiveTime)> {
+        let (time, seconds) = time.overflowing_add_signed(by);
+        let date = forms::move_days(date, seconds / SECS_PER_DAY, &mut Steps::new())?;
+        Some((date, time))
+    }
+
+    #[inline]
+    fn week(date: F, start: Weekday) -> (Option<F>, Option<F>) {
+        let first = forms::week_first(&date, start);
+        (
+            F::from_day(first, &mut Steps::new()),
+            F::from_day(first + 6, &mut Steps::new()),
+        )
+    }
+
+    #[inline]
+    fn years_between(date: F, base: F) -> Option<u32> {
+        forms::years_between(&date, &base)
+    }
+
+    #[inline]
+    fn distance(date: F, time: NaiveTime, base: F, base_time: NaiveTime) -> TimeDelta {
+        let days = i64::from(date.day()) - i64::from(base.day());
+        TimeDelta::days(days) + time.signed_duration_since(base_time)
+    }
+
+    #[inline]
+    fn year_month_day(date: F) -> (i32, u32, u32) {
+        date.year_month_day()
+    }
+
+    #[inline]
+    fn day(date: F) -> i32 {
+        date.day()
+    }
+
+    #[inline]
+    fn weekday(date: F) -> Weekday {
+        date.weekday()
+    }
+
+    #[inline]
+    fn iso_name(date: F) -> (i32, u32) {
+        date.iso_name()
+    }
+
+    #[inline]
+    fn ordinal(date: F) -> u32 {
+        date.ordinal()
+    }
+}
+
+/// The answer to one line, given without its newline, over dates of the stored form `F`: at most 63 bytes, and the same for every
+/// form.
+pub fn answer_form<F: DayForm>(line: &[u8]) -> Answer
+    ensures { result ≡ answer_of line.now }
+{
+    answer_line::<FormAnswers<F>>(line)
+}
+
+/// Answers each line of the input by one line, until the input ends, over dates of the stored form `F`. No two forms answer
+/// differently.
+///
+/// `RunFault::Read` comes after a failed read, or after 2^64 - 1 reads that saw no end; by then
+/// each line that had its newline is answered. `RunFault::Write` comes after a write that failed or
+/// took nothing, or if flushing at the end failed. It repeats no failed call and takes no memory.
+pub fn run_form<F: DayForm, R: Read, W: Write>(r: &mut R, w: &mut W) -> Result<(), RunFault>
+    // The input was read to its end, and its whole output written.
+    ensures ok { OnOk result (AnsweredAll answer_of (R.remaining r.old) (R.remaining r.new) (W.contents w.old) (W.contents w.new)) }
+    // The lines that a newline ends among the bytes read are answered, and nothing else is written.
+    ensures read { IsErrOf result RunFault.Read
+        → AnsweredEnded answer_of (R.remaining r.old) (R.remaining r.new) (W.contents w.old) (W.contents w.new) }
+    // The writer got the output of the bytes read, or only its first part.
+    ensures write { IsErrOf result RunFault.Write
+        → AnsweredPart answer_of (R.remaining r.old) (R.remaining r.new) (W.contents w.old) (W.contents w.new) }
+{
+    answer_lines::<FormAnswers<F>, R, W>(r, w)
+}
