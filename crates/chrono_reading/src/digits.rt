@@ -43,9 +43,9 @@ pub(crate) fn four_digits(digits: [u8; 4]) -> Option<u32>
     ensures every { (n : ℕ) → n < 10_000 → all_digits 4 n ≡ digits → result ≡ Some n }
 {
     let [thousands, hundreds, tens, ones] = digits;
-    let centuries = two_digits(thousands, hundreds)?;
-    let years = two_digits(tens, ones)?;
-    Some(100 * centuries + years)
+    let front = two_digits(thousands, hundreds)?;
+    let back = two_digits(tens, ones)?;
+    Some(100 * front + back)
 }
 
 // What the bytes write, if they are digits.

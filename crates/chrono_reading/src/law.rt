@@ -1,5 +1,5 @@
-//! Laws of the texts that are read, each as the contract of a function: what is printed is read back, a text has one value,
-//! and two texts of one value differ only where its relation says so.
+//! Laws of the texts that are read, each as the contract of a function: what is printed is a text of its value, so that it is
+//! read back; a text has one value; a date has one text, and the texts of one time differ in its fraction alone.
 ghost use Rattle.std.specs.Prelude.{◌≡◌, ◌+◌, ◌++◌, ◌∷◌, [], ℕ, ℤ, List, drop, take};
 ghost use Rattle.chrono_datetime.specs.DateText.{date_text};
 ghost use Rattle.chrono_datetime.specs.Days.{IsDate, ordinal_of, year_of};
@@ -125,8 +125,8 @@ pub fn texts_have_one_time(text: &[u8])
     let _time = read_time(text);
 }
 
-/// Two texts of one time of day have the same hour, minute and second in their first eight bytes, and behind those two
-/// fractions of the same nanoseconds, which differ in zeros at the end alone.
+/// Two texts of one time of day have the same hour, minute and second in their first eight bytes, and behind those
+/// fractions of the same nanoseconds.
 pub fn texts_of_a_time_differ_in_its_fraction()
     ensures { (text other : List ℕ) (t : TimeOfDay) → IsTimeText text t → IsTimeText other t
         → (take 8 text ≡ take 8 other) × SameFraction (drop 8 text) (drop 8 other) }
