@@ -5,65 +5,119 @@
 
 It needs crates/chrono_sums/out/chrono_sums, which `rt run` leaves there, and librust-chrono-dev with cargo: benches/chrono_sums
 is its twin over that library.
-Both programs make each call COUNT times on the same pseudo-random arguments and print the sum of its answers, which has to be
-the same. They take turns in five rounds over all calls, and the best run counts, less that of `none`, which draws, looks up and
-adds without a call. No call waits for the answer of the one before, so what a processor does of a call beside the next drawing
-is not seen.
+
+A call of a date is made of a `NaiveDate`, as a user makes it, and of both stored forms, by their own calls and those of
+`chrono_calendar::forms` that a `NaiveDate` makes. One field alone stands beside the bare formula for it, which the twin has.
+All make each call on the same pseudo-random arguments and print the sum of the answers, which has to be the same before any
+is timed. They take turns in five rounds over all calls, and the best run counts, by processor time, less that of `none`, which draws,
+looks up and adds without a call. No call waits for the answer of the one before, so what a processor does of a call beside
+the next drawing is not seen.
 """
 import os
 import subprocess
 import sys
 import tempfile
-import time
 
 from lines import TOP, build_over_chrono
 
 CHRONO_SUMS = os.path.join(TOP, "crates", "chrono_sums", "out", "chrono_sums")
 ROUNDS = 5
-CALLS = [
-    "add_months",
-    "add_days",
+
+# Calls of each whose answers are compared before any is timed.
+COMPARED = 1_000_000
+
+# Calls of a date: one field of it, more than one, names and numbers, moves, and two dates.
+FIELDS = ["year", "ordinal", "month", "day", "weekday"]
+OF_DATES = [
+    *FIELDS,
+    "year_month_day",
     "iso_week",
-    "from_ymd",
     "to_days",
     "from_days",
-    "time_add",
-    "moment_add",
-    "moment_diff",
-    "duration_add",
+    "ymd_to_days",
+    "from_ymd",
+    "succ",
+    "add_few_days",
+    "add_days",
+    "add_months",
+    "diff",
+    "compare",
 ]
+OTHERS = ["time_add", "moment_add", "moment_diff", "duration_add"]
+NOTES = """
+`from_days` is read as year, month and day, `ymd_to_days` as a day number; `from_ymd`, `succ` and the moves as year and ordinal.
+`add_few_days` is by 1 to 30 days, `add_days` by up to 100,000, `add_months` by up to 1,200 months on or back."""
 
 
 def timed(program, call, count):
-    """The wall time of a run, and the sum that it printed."""
-    start = time.perf_counter()
-    ran = subprocess.run([program, call, str(count)], stdout=subprocess.PIPE, check=True)
-    return time.perf_counter() - start, ran.stdout
+    """The processor time of a run, and the sum that it printed."""
+    with subprocess.Popen([program, call, str(count)], stdout=subprocess.PIPE) as ran:
+        printed = ran.stdout.read()
+        _, status, used = os.wait4(ran.pid, 0)
+        ran.returncode = os.waitstatus_to_exitcode(status)
+    if ran.returncode:
+        sys.exit(f"{program} {call} ended with status {ran.returncode}")
+    return used.ru_utime + used.ru_stime, printed
 
 
-def best_times(programs, count):
-    """The least wall time of each program at each call, with all sums of a call the same."""
-    best, sums = {}, {}
+def compare_sums(runs):
+    """Ends the program unless all who make a call print the same sum."""
+    sums = {}
+    for call, who, program, words in runs:
+        _, printed = timed(program, words, COMPARED)
+        if sums.setdefault(call, printed) != printed:
+            sys.exit(f"{call}: the sums are not the same, so nothing was timed")
+
+
+def best_times(runs, count):
+    """The least time of each call by each who makes it."""
+    best = {}
     for _ in range(ROUNDS):
-        for call in ["none", *CALLS]:
-            for program in programs:
-                taken, printed = timed(program, call, count)
-                best[program, call] = min(taken, best.get((program, call), taken))
-                if sums.setdefault(call, printed) != printed:
-                    sys.exit(f"{call}: the sums are not the same")
+        for call, who, program, words in runs:
+            taken, _ = timed(program, words, count)
+            best[call, who] = min(taken, best.get((call, who), taken))
     return best
+
+
+def all_runs(ours, chrono):
+    """Each call, by whom it is made, in which program, and its name there."""
+    for call in ["none", *OF_DATES, *OTHERS]:
+        yield call, "ours", ours, call
+        yield call, "chrono", chrono, call
+        if call in OF_DATES:
+            yield call, "counted", ours, f"counted.{call}"
+            yield call, "packed", ours, f"packed.{call}"
+        if call in FIELDS:
+            yield call, "formula", chrono, f"formula.{call}"
+
+
+def row(best, call, count):
+    """The line of a call: nanoseconds of a call by each, and how often the time of another goes into ours."""
+
+    def of(who):
+        base = "chrono" if who in ("chrono", "formula") else "ours"
+        return (best[call, who] - best["none", base]) / count * 1e9 if (call, who) in best else None
+
+    def ratio(who, other):
+        return f"{of(who) / of(other):.2f}" if of(who) is not None and of(other) and of(other) >= 0.1 else ""
+
+    times = [f"{of(who):.2f}" if of(who) is not None else "" for who in ("chrono", "ours", "counted", "packed", "formula")]
+    ratios = [ratio("ours", "chrono"), ratio("counted", "chrono"), ratio("packed", "chrono"), ratio("ours", "formula")]
+    return f"| `{call}` | " + " | ".join(times + ratios) + " |"
 
 
 def main():
     count = int(sys.argv[1]) if len(sys.argv) > 1 else 20_000_000
     with tempfile.TemporaryDirectory() as folder:
-        programs = [CHRONO_SUMS, build_over_chrono(folder, "chrono_sums")]
-        best = best_times(programs, count)
-    print(f"{count} calls of each, in nanoseconds a call")
-    print(f"  {'':14} {'ours':>8} {'chrono':>8}   ours / chrono")
-    for call in CALLS:
-        ours, theirs = ((best[program, call] - best[program, "none"]) / count * 1e9 for program in programs)
-        print(f"  {call:14} {ours:8.2f} {theirs:8.2f}   {ours / theirs:8.2f}")
+        runs = list(all_runs(CHRONO_SUMS, build_over_chrono(folder, "chrono_sums")))
+        compare_sums(runs)
+        best = best_times(runs, count)
+    print(f"{count} calls of each, in nanoseconds a call, and times by those of chrono (the last column: of the bare formula)\n")
+    print("| Call | chrono | `NaiveDate` | `CountedForm` | `PackedForm` | formula | ours | counted | packed | by formula |")
+    print("|---|---|---|---|---|---|---|---|---|---|")
+    for call in [*OF_DATES, *OTHERS]:
+        print(row(best, call, count))
+    print(NOTES)
 
 
 if __name__ == "__main__":

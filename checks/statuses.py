@@ -1,10 +1,11 @@
 #!/usr/bin/env python3
-"""Holds caltool to its exit statuses, its two texts and its answers where reading or writing fails.
+"""Holds caltool to its exit statuses, its two texts and its answers where reading or writing fails, and over very long inputs.
 
     checks/statuses.py      (the programs that `rt ci` or `rt run` left in crates/caltool/out)
 
 Both builds are tried where both are there: LLVM's, and that of Rattle's own compiler, which `rt ci` alone leaves.
 """
+import itertools
 import os
 import subprocess
 import sys
@@ -16,13 +17,15 @@ LINE = b"ymd 2024 2 29\n"
 ANSWER = b"2024-02-29 738945 Thu 2024-W09 60\n"
 # More lines than any buffer holds.
 MANY = 20_000
+# Bytes of the longest inputs, and the kilobytes of data that the program may have while it answers them.
+LONG, ROOM = 10_000_000, 1000
 READ_FAULT, WRITE_FAULT = (1, b"read fault\n"), (2, b"write fault\n")
 DONE = (0, b"")
 
 
-def run(program, given, redirected="", **how):
-    """Runs the program under a shell's redirections; its status, what it wrote to standard error, and its answers."""
-    words = ["sh", "-c", f'exec "$0" {redirected}', program]
+def run(program, given, redirected="", limits="", **how):
+    """Runs the program under a shell's redirections and limits; its status, what it wrote to standard error, and its answers."""
+    words = ["sh", "-c", f'{limits} exec "$0" {redirected}', program]
     how = {"stdout": subprocess.PIPE, "stderr": subprocess.PIPE, "timeout": 60, **how}
     ran = subprocess.run(words, input=given, **how)
     return (ran.returncode, ran.stderr or b""), ran.stdout or b""
@@ -61,6 +64,26 @@ def cases(program, folder):
     yield "standard output closed", run(program, LINE, ">&-"), (WRITE_FAULT, b"")
     yield "standard error closed", run(program, LINE, "2>&-"), (DONE, ANSWER)
     yield "a directory as input and standard error closed", run(program, None, f"< {folder} 2>&-"), ((1, b""), b"")
+    if os.path.exists("/dev/full"):
+        yield "a full device and standard error closed", run(program, LINE, "> /dev/full 2>&-"), ((2, b""), b"")
+        yield "a full device and standard error on it", run(program, LINE, "> /dev/full 2>&1"), ((2, b""), b"")
+    yield "standard input not to be read", run(program, None, "0> /dev/null"), (READ_FAULT, b"")
+    yield "standard output not to be written", run(program, LINE, "1< /dev/null"), (WRITE_FAULT, b"")
+    yield "an input that ends inside a line", run(program, LINE + b"ymd 2024 2"), (DONE, ANSWER + b"error\n")
+
+
+def long_cases(program):
+    """The same for inputs of any length, over which the program takes no memory."""
+    for length in (119, 120, 121, 65_535, 65_536, 65_537):
+        line = b"ymd 2024 2 " + b"29".rjust(length - 11, b"0")
+        answer = ANSWER if length <= 120 else b"error\n"
+        yield f"a line of {length} bytes", run(program, line + b"\n" + LINE), (DONE, answer + ANSWER)
+        yield f"a last line of {length} bytes", run(program, LINE + line), (DONE, ANSWER + answer)
+    within = f"ulimit -d {ROOM} &&"
+    for byte in (b"\0", b" ", b"9", b"y", b"\r", b"\xff"):
+        yield f"no newline but {byte!r} alone", run(program, byte * LONG, limits=within), (DONE, b"error\n")
+    yield "newlines alone", run(program, b"\n" * LONG, limits=within), (DONE, b"error\n" * LONG)
+    yield "short lines", run(program, LINE * (LONG // len(LINE)), limits=within), (DONE, ANSWER * (LONG // len(LINE)))
 
 
 def main():
@@ -73,7 +96,7 @@ def main():
         print("not run: a full device, since there is no /dev/full")
     for program in found:
         with tempfile.TemporaryDirectory() as folder:
-            for what, did, has_to in cases(program, folder):
+            for what, did, has_to in itertools.chain(cases(program, folder), long_cases(program)):
                 is_right = did == has_to
                 passed, failed = passed + is_right, failed + (not is_right)
                 if not is_right:

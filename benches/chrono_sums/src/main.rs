@@ -3,6 +3,8 @@
 //! `chrono_sums CALL COUNT ..` makes each call so many times on the arguments that the other draws too, and prints the sum
 //! of its answers, which has to be the same.
 
+mod formulas;
+
 use chrono::{Datelike, Days, Duration, Months, NaiveDate, NaiveDateTime, NaiveTime, Timelike};
 use std::array;
 use std::env;
@@ -86,6 +88,10 @@ fn days(generator: &mut Generator) -> Days {
     Days::new(generator.below(100_001))
 }
 
+fn few_days(generator: &mut Generator) -> Days {
+    Days::new(1 + generator.below(30))
+}
+
 fn duration(generator: &mut Generator) -> Duration {
     let seconds = generator.below(2_000_000_001) as i64 - 1_000_000_000;
     let nanos = generator.below(1_000_000_000) as i64;
@@ -94,6 +100,10 @@ fn duration(generator: &mut Generator) -> Duration {
 
 fn of_year(year: i32, part: u32) -> u64 {
     (i64::from(year) * 512 + i64::from(part)) as u64
+}
+
+fn of_name(year: i32, month: u32, day: u32) -> u64 {
+    of_year(year, month * 32 + day)
 }
 
 fn of_date(date: Option<NaiveDate>) -> u64 {
@@ -141,8 +151,50 @@ fn nothing(mut generator: Generator, count: u64) -> u64 {
     })
 }
 
+/// What is read of one date.
+fn read(count: u64, answer: impl Fn(NaiveDate) -> u64) -> u64 {
+    let mut generator = Generator::new();
+    let dates = table(&mut generator, date);
+    sum(generator, count, |drawn| answer(dates[first(drawn)]))
+}
+
+/// What is found of two dates.
+fn of_two(count: u64, answer: impl Fn(NaiveDate, NaiveDate) -> u64) -> u64 {
+    let mut generator = Generator::new();
+    let dates = table(&mut generator, date);
+    sum(generator, count, |drawn| {
+        answer(dates[first(drawn)], dates[second(drawn)])
+    })
+}
+
+/// What is found of a day number.
+fn of_number(count: u64, answer: impl Fn(i32) -> u64) -> u64 {
+    let mut generator = Generator::new();
+    let days = table(&mut generator, day);
+    sum(generator, count, |drawn| answer(days[first(drawn)]))
+}
+
+fn from_ymd(count: u64, answer: impl Fn(NaiveDate) -> u64) -> u64 {
+    let mut generator = Generator::new();
+    let names = table(&mut generator, name);
+    sum(generator, count, |drawn| {
+        let (year, month, day) = names[first(drawn)];
+        NaiveDate::from_ymd_opt(year, month, day).map_or(0, &answer)
+    })
+}
+
+fn add_days(count: u64, pick: impl Fn(&mut Generator) -> Days) -> u64 {
+    let mut generator = Generator::new();
+    let dates = table(&mut generator, date);
+    let days = table(&mut generator, pick);
+    sum(generator, count, |drawn| {
+        of_date(dates[first(drawn)].checked_add_days(days[second(drawn)]))
+    })
+}
+
 /// Every second move goes back: the lowest binary digit of a drawn number alternates.
-fn add_months(mut generator: Generator, count: u64) -> u64 {
+fn add_months(count: u64) -> u64 {
+    let mut generator = Generator::new();
     let dates = table(&mut generator, date);
     let months = table(&mut generator, months);
     sum(generator, count, |drawn| {
@@ -152,46 +204,6 @@ fn add_months(mut generator: Generator, count: u64) -> u64 {
             date.checked_add_months(months)
         } else {
             date.checked_sub_months(months)
-        })
-    })
-}
-
-fn add_days(mut generator: Generator, count: u64) -> u64 {
-    let dates = table(&mut generator, date);
-    let days = table(&mut generator, days);
-    sum(generator, count, |drawn| {
-        of_date(dates[first(drawn)].checked_add_days(days[second(drawn)]))
-    })
-}
-
-fn iso_week(mut generator: Generator, count: u64) -> u64 {
-    let dates = table(&mut generator, date);
-    sum(generator, count, |drawn| {
-        let week = dates[first(drawn)].iso_week();
-        of_year(week.year(), week.week())
-    })
-}
-
-fn from_ymd(mut generator: Generator, count: u64) -> u64 {
-    let names = table(&mut generator, name);
-    sum(generator, count, |drawn| {
-        let (year, month, day) = names[first(drawn)];
-        of_date(NaiveDate::from_ymd_opt(year, month, day))
-    })
-}
-
-fn to_days(mut generator: Generator, count: u64) -> u64 {
-    let dates = table(&mut generator, date);
-    sum(generator, count, |drawn| {
-        i64::from(dates[first(drawn)].num_days_from_ce()) as u64
-    })
-}
-
-fn from_days(mut generator: Generator, count: u64) -> u64 {
-    let days = table(&mut generator, day);
-    sum(generator, count, |drawn| {
-        NaiveDate::from_num_days_from_ce_opt(days[first(drawn)]).map_or(0, |date| {
-            of_year(date.year(), date.month() * 32 + date.day())
         })
     })
 }
@@ -230,20 +242,63 @@ fn duration_add(mut generator: Generator, count: u64) -> u64 {
     })
 }
 
-fn call_named(name: &str) -> Option<fn(Generator, u64) -> u64> {
+/// The sum of the answers of a call of a date to so many drawn arguments.
+fn sum_of_dates(name: &str, count: u64) -> Option<u64> {
     Some(match name {
-        "none" => nothing,
-        "add_months" => add_months,
-        "add_days" => add_days,
-        "iso_week" => iso_week,
-        "from_ymd" => from_ymd,
-        "to_days" => to_days,
-        "from_days" => from_days,
-        "time_add" => time_add,
-        "moment_add" => moment_add,
-        "moment_diff" => moment_diff,
-        "duration_add" => duration_add,
+        "year" => read(count, |date| i64::from(date.year()) as u64),
+        "ordinal" => read(count, |date| u64::from(date.ordinal())),
+        "month" => read(count, |date| u64::from(date.month())),
+        "day" => read(count, |date| u64::from(date.day())),
+        "weekday" => read(count, |date| {
+            u64::from(date.weekday().num_days_from_monday())
+        }),
+        "year_month_day" => read(count, |date| of_name(date.year(), date.month(), date.day())),
+        "iso_week" => read(count, |date| {
+            let week = date.iso_week();
+            of_year(week.year(), week.week())
+        }),
+        "to_days" => read(count, |date| i64::from(date.num_days_from_ce()) as u64),
+        "succ" => read(count, |date| of_date(date.succ_opt())),
+        "from_days" => of_number(count, |days| {
+            NaiveDate::from_num_days_from_ce_opt(days)
+                .map_or(0, |date| of_name(date.year(), date.month(), date.day()))
+        }),
+        "from_ymd" => from_ymd(count, |date| of_date(Some(date))),
+        "ymd_to_days" => from_ymd(count, |date| i64::from(date.num_days_from_ce()) as u64),
+        "diff" => of_two(count, |a, b| a.signed_duration_since(b).num_days() as u64),
+        "compare" => of_two(count, |a, b| u64::from(a < b)),
+        "add_few_days" => add_days(count, few_days),
+        "add_days" => add_days(count, days),
+        "add_months" => add_months(count),
         _ => return None,
+    })
+}
+
+/// The same of a bare formula for one field of a day number: the least that its divisions cost.
+fn sum_of_formulas(name: &str, count: u64) -> Option<u64> {
+    Some(match name {
+        "year" => of_number(count, |days| i64::from(formulas::year(days)) as u64),
+        "ordinal" => of_number(count, |days| u64::from(formulas::ordinal(days))),
+        "month" => of_number(count, |days| u64::from(formulas::month_day(days).0)),
+        "day" => of_number(count, |days| u64::from(formulas::month_day(days).1)),
+        "weekday" => of_number(count, |days| u64::from(formulas::weekday(days))),
+        _ => return None,
+    })
+}
+
+/// The sum of the answers of the call with a name.
+fn sum_of_answers(name: &str, count: u64) -> Option<u64> {
+    let generator = Generator::new();
+    Some(match name {
+        "none" => nothing(generator, count),
+        "time_add" => time_add(generator, count),
+        "moment_add" => moment_add(generator, count),
+        "moment_diff" => moment_diff(generator, count),
+        "duration_add" => duration_add(generator, count),
+        _ => match name.split_once('.') {
+            Some(("formula", name)) => sum_of_formulas(name, count)?,
+            _ => sum_of_dates(name, count)?,
+        },
     })
 }
 
@@ -253,8 +308,7 @@ fn run(words: &[String]) -> Option<()> {
         let [name, count] = pair else {
             return None;
         };
-        let call = call_named(name)?;
-        println!("{}", call(Generator::new(), count.parse().ok()?));
+        println!("{}", sum_of_answers(name, count.parse().ok()?)?);
     }
     Some(())
 }

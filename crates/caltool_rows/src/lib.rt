@@ -4,8 +4,16 @@
 
 #[cfg(test)]
 mod commands;
+#[cfg(test)]
+mod failing;
+#[cfg(test)]
+mod forms;
+#[cfg(test)]
+mod hostile;
 mod pieces;
 mod run;
+#[cfg(test)]
+mod runner;
 mod shared;
 mod side_by_side;
 mod sink;

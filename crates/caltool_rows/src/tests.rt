@@ -1,15 +1,13 @@
-//! Lines and their answers, and a run over them in pieces and past failing calls.
-use crate::{Asker, Counter, Pieces, SideBySide, Sink};
-use caltool_dates::{RunFault, answer_form, answer_line, run, run_form};
-use chrono_calendar::DayForm;
-use chrono_stored::{CountedForm, PackedForm};
+//! Lines and their answers, and runs over lines that are few, long or many.
+use crate::{Asker, Counter, Pieces, Sink};
+use caltool_dates::{answer_line, run};
 use std::alloc::{AllocError, Global};
 use std::cell::Cell;
-use std::io::{ErrorKind, Read};
+use std::io::Read;
 use std::test::Fail;
 
-// Lines and their answers.
-const ROWS: [(&[u8], &[u8]); 100] = [
+/// Lines and their answers.
+pub const ROWS: [(&[u8], &[u8]); 100] = [
     (b"ymd 1900 2 29", b"none"),
     (b"ymd 2024 2 29", b"2024-02-29 738945 Thu 2024-W09 60"),
     (b"ymd 2024 12 30", b"2024-12-30 739250 Mon 2025-W01 365"),
@@ -160,14 +158,8 @@ const ROWS: [(&[u8], &[u8]); 100] = [
     (b"wom 2017 2 5 0", b"none"),
 ];
 
-const KINDS: [ErrorKind; 3] = [
-    ErrorKind::Interrupted,
-    ErrorKind::WouldBlock,
-    ErrorKind::Other,
-];
-
-// The lines, with a newline between each two.
-fn input(alloc: Global) -> Result<Vec<u8>, AllocError> {
+/// The lines, with a newline between each two.
+pub fn input(alloc: Global) -> Result<Vec<u8>, AllocError> {
     let mut bytes = Vec::new(alloc);
     for (index, (line, _)) in ROWS.iter().enumerate() {
         if index > 0 {
@@ -178,135 +170,11 @@ fn input(alloc: Global) -> Result<Vec<u8>, AllocError> {
     Ok(bytes)
 }
 
-// The answers of the first lines, each with a newline.
-fn answers(alloc: Global, count: usize) -> Result<Vec<u8>, AllocError> {
-    let mut bytes = Vec::new(alloc);
-    for (_, answer) in ROWS.iter().take(count) {
-        bytes.extend_from_slice(answer)?;
-        bytes.push(b'\n')?;
-    }
-    Ok(bytes)
-}
-
 #[test]
 fn answers_each_line(rt: HostRuntime) {
     for (line, answer) in &ROWS {
         assert_eq!(rt; answer_line(line).as_bytes(), *answer);
     }
-}
-
-// What a run over dates of a form writes, and the answers that the form gives line by line.
-fn runs_and_answers<F: DayForm>(input: &[u8], alloc: Global) -> Result<(Vec<u8>, Vec<u8>), Fail> {
-    let mut writer = Sink::new(Vec::new(alloc), 100000);
-    run_form::<F, _, _>(&mut Pieces::new(input, 120), &mut writer)?;
-    let mut answers = Vec::new(alloc);
-    for (line, _) in &ROWS {
-        answers.extend_from_slice(answer_form::<F>(line).as_bytes())?;
-        answers.push(b'\n')?;
-    }
-    let mut written = Vec::new(alloc);
-    written.extend_from_slice(writer.held())?;
-    Ok((written, answers))
-}
-
-#[test]
-fn every_form_answers_alike(rt: HostRuntime) -> Result<(), Fail> {
-    let input = input(rt.alloc())?;
-    let whole = answers(rt.alloc(), ROWS.len())?;
-    let of_forms = [
-        runs_and_answers::<CountedForm>(input.as_slice(), rt.alloc())?,
-        runs_and_answers::<PackedForm>(input.as_slice(), rt.alloc())?,
-        runs_and_answers::<SideBySide>(input.as_slice(), rt.alloc())?,
-    ];
-    for (written, answered) in &of_forms {
-        assert_eq!(rt; written.as_slice(), whole.as_slice());
-        assert_eq!(rt; answered.as_slice(), whole.as_slice());
-    }
-    Ok(())
-}
-
-#[test]
-fn answers_in_any_pieces(rt: HostRuntime) -> Result<(), Fail> {
-    let input = input(rt.alloc())?;
-    let whole = answers(rt.alloc(), ROWS.len())?;
-    for size in [1usize, 2, 7, 120, 121, 100000] {
-        assert!(rt; size > 0);
-        for taken in [1usize, 3, 100000] {
-            let mut reader = Pieces::new(input.as_slice(), size);
-            let mut writer = Sink::new(Vec::new(rt.alloc()), taken);
-            assert_eq!(rt; run(&mut reader, &mut writer), Ok(()), "at {size}");
-            assert_eq!(rt; writer.held(), whole.as_slice(), "at {size}");
-            assert_eq!(rt; writer.flushes(), 1);
-        }
-    }
-    Ok(())
-}
-
-#[test]
-fn a_failed_read_ends_the_run(rt: HostRuntime) -> Result<(), Fail> {
-    let input = input(rt.alloc())?;
-    for kind in KINDS {
-        let mut read = 0usize;
-        for call in 1u64..10000 {
-            let mut reader = Pieces::failing(input.as_slice(), 7, call, kind);
-            let mut writer = Sink::new(Vec::new(rt.alloc()), 100000);
-            let outcome = run(&mut reader, &mut writer);
-            if outcome == Ok(()) {
-                assert!(rt; read > input.len());
-                break;
-            }
-            let taken = read.min(input.len());
-            let ended = input.as_slice()[..taken]
-                .iter()
-                .filter(|byte| **byte == b'\n')
-                .count();
-            assert_eq!(rt; outcome, Err(RunFault::Read));
-            assert_eq!(rt; reader.calls(), call);
-            assert_eq!(rt; writer.flushes(), 0);
-            assert_eq!(rt;
-                writer.held(),
-                answers(rt.alloc(), ended)?.as_slice(),
-                "at {call}"
-            );
-            read = read.saturating_add(7);
-        }
-    }
-    Ok(())
-}
-
-// The writer takes a byte a call, so the call that fails says how many bytes are held.
-#[test]
-fn a_failed_write_ends_the_run(rt: HostRuntime) -> Result<(), Fail> {
-    let input = input(rt.alloc())?;
-    let whole = answers(rt.alloc(), ROWS.len())?;
-    for kind in KINDS {
-        for call in 1u64..10000 {
-            let mut reader = Pieces::new(input.as_slice(), 120);
-            let mut writer = Sink::failing(Vec::new(rt.alloc()), 1, call, kind);
-            let outcome = run(&mut reader, &mut writer);
-            assert!(rt; whole.as_slice().starts_with(writer.held()));
-            if outcome == Ok(()) {
-                // The run ended before the call that was to fail.
-                assert!(rt; writer.calls() < call);
-                assert_eq!(rt; writer.held(), whole.as_slice());
-                assert_eq!(rt; writer.flushes(), 1);
-                break;
-            }
-            assert_eq!(rt; outcome, Err(RunFault::Write));
-            assert_eq!(rt; writer.calls(), call);
-            assert_eq!(rt; writer.held().len() as u64, call - 1);
-        }
-    }
-    Ok(())
-}
-
-#[test]
-fn a_writer_that_takes_nothing(rt: HostRuntime) {
-    let mut reader = Pieces::new(b"day 1", 7);
-    let mut writer = Sink::new(Vec::new(rt.alloc()), 0);
-    assert_eq!(rt; run(&mut reader, &mut writer), Err(RunFault::Write));
-    assert_eq!(rt; writer.held(), b"".as_slice());
-    assert_eq!(rt; writer.calls(), 1);
 }
 
 #[test]

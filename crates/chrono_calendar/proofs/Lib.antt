@@ -22,3 +22,5 @@ pub mod MonthDays
 pub mod WeekDays
 pub mod WholeYears
 pub mod NthWeekdays
+pub mod FirstOn
+pub mod EveryMonths

@@ -92,7 +92,7 @@ back_in_month n e i target d h g =
     )
 
 -- the length of a day's month
-month_length_of-at : (n : ℤ) → month_length_of n ≡ length_at (month_index_of n)
+pub month_length_of-at : (n : ℤ) → month_length_of n ≡ length_at (month_index_of n)
 unfolding length_at
 month_length_of-at n =
     let parts = month_index-parts (year_of n) (month_of n) (month_of-range n) in

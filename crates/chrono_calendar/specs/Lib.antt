@@ -8,3 +8,4 @@ pub mod MonthMoves
 pub mod YearsBetween
 pub mod NameLaws
 pub mod MonthDay
+pub mod Recurrence

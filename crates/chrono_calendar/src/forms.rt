@@ -9,13 +9,14 @@ ghost use Rattle.chrono_units.specs.Years.{IsYear, month_length as length_of_mon
 ghost use Rattle.chrono_calendar.specs.Days.{date_of_day, days_before_year};
 ghost use Rattle.chrono_calendar.specs.Weeks.{IsFirstOfWeek, date_of_iso, date_of_nth_weekday, days_from_sunday_of, iso_week_of, iso_year_of, week_first_of, weekday_of};
 ghost use Rattle.chrono_calendar.specs.MonthMoves.{month_index, month_move, month_of_month_index, year_of_month_index};
+ghost use Rattle.chrono_calendar.specs.Recurrence.{date_every, date_on};
 ghost use Rattle.chrono_calendar.specs.YearsBetween.{years_between as whole_years};
 
 use crate::counted_years::days_counted_before;
 use crate::form::DayForm;
 use crate::steps::Steps;
-use chrono_units::Weekday;
 use chrono_units::year::{MAX_YEAR, MIN_YEAR, is_leap_year, month_length, year_length};
+use chrono_units::{Weekday, WeekdaySet};
 
 // The months of the library's years.
 const MONTHS: i64 = (MAX_YEAR - MIN_YEAR + 1) as i64 * 12;
@@ -80,6 +81,17 @@ pub fn move_months<F: DayForm>(f: F, k: i64) -> Option<F>
     let (year, month, day) = f.year_month_day();
     let (year, month) = month_after(year, month, k)?;
     F::from_ymd(year, month, day_within(year, month, day))
+}
+
+/// The date `k` times `i` months later, or earlier for a negative `k`, in one move: so a day that a shorter month clips comes back
+/// in a longer one. `None` if the year of that month is outside the range of years.
+///
+/// So from 31 January 2024 every month it is 29 February, and then 31 March.
+#[inline]
+pub fn every_months<F: DayForm>(f: F, k: i32, i: u32) -> Option<F>
+    ensures { option_map F.number result ≡ date_every (F.number f) k i }
+{
+    move_months(f, i64::from(k) * i64::from(i))
 }
 
 // The week of a Thursday, by its place in its year: a division by 7 as one product with 2^14 / 7, rounded up.
@@ -158,6 +170,19 @@ pub fn week_first<F: DayForm>(f: &F, start: Weekday) -> i32
     ensures in_range { IsFirstOfWeek result }
 {
     f.day() - f.weekday().days_since(start) as i32
+}
+
+/// The first date not before the date whose weekday is in the set: the date itself if its own is. `None` if the set is empty, or
+/// the day is past the last date.
+///
+/// So from 30 December 2024, a Monday, it is the 31st for Tuesday and Thursday.
+#[inline]
+pub fn first_on<F: DayForm>(f: F, set: WeekdaySet) -> Option<F>
+    ensures { option_map F.number result ≡ date_on (F.number f) set }
+{
+    let start = f.day();
+    let ahead = set.days_until(f.weekday())?;
+    F::from_day(start + ahead as i32, &mut Steps::new())
 }
 
 /// The day that is the `n`-th with a weekday in a month, counted from 1; `None` for a year or a

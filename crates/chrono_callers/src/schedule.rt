@@ -1,9 +1,14 @@
-//! Questions on date-times: deadlines and what is left until them.
-ghost use Rattle.std.specs.Prelude.{◌≡◌, pos};
+//! What comes when: deadlines and what is left until them, pay days and meetings.
+ghost use Rattle.std.specs.Prelude.{◌≡◌, pos, ◌<ℤ◌, ◌<◌, ℕ, min, IfSome, [], ◌∷◌};
+ghost use Rattle.chrono_datetime.specs.Days.{day_of, year_of, month_of};
+ghost use Rattle.chrono_datetime.specs.Years.{month_length};
 ghost use Rattle.chrono_datetime.specs.Duration.{nanos_per_second, units_of};
 ghost use Rattle.chrono_datetime.specs.Moment.{reach, moment_distance};
+ghost use Rattle.chrono_datetime.specs.Recurrence.{date_every, date_on};
+ghost use Rattle.chrono_datetime.specs.WeekdaySet.{set_of};
+ghost use Rattle.chrono_datetime.specs.declared.Weekday.TheVariants.{Tue, Thu};
 
-use chrono_datetime::{NaiveDateTime, TimeDelta};
+use chrono_datetime::{NaiveDate, NaiveDateTime, TimeDelta, Weekday, WeekdaySet};
 
 /// The date-time so many seconds after a start, if its date exists.
 pub fn deadline(start: NaiveDateTime, seconds: u32) -> Option<NaiveDateTime>
@@ -17,4 +22,22 @@ pub fn time_left(deadline: NaiveDateTime, now: NaiveDateTime) -> TimeDelta
     ensures { result ≡ moment_distance deadline now }
 {
     deadline.signed_duration_since(now)
+}
+
+/// The pay day so many months after the first, which was a 31st: the 31st, or the last day of a shorter month. Each later one that
+/// there is comes after it.
+pub fn pay_day(first: NaiveDate, months: u32) -> Option<NaiveDate>
+    ensures day { day_of first ≡ 31 → IfSome result (λ e.
+        day_of e ≡ min 31 (month_length (year_of e) (month_of e))) }
+    ensures later { IfSome result (λ e. (more : ℕ) → months < more →
+        IfSome (date_every first (pos 1) more) (λ f. e <ℤ f)) }
+{
+    first.every_months(1, months)
+}
+
+/// The next Tuesday or Thursday, which may be today.
+pub fn next_meeting(today: NaiveDate) -> Option<NaiveDate>
+    ensures { result ≡ date_on today (set_of (Tue ∷ Thu ∷ [])) }
+{
+    today.first_on(WeekdaySet::from_array([Weekday::Tue, Weekday::Thu]))
 }

@@ -1,6 +1,7 @@
 //! Calls of `NaiveDate`.
 
 use crate::date_walks::{is_walk_by_days, is_walk_by_weeks};
+use crate::sets::set;
 use crate::words::{
     Words, are, count, date, duration, is_date, is_date_time, is_duration, is_number, is_order,
     signed, time, unsigned, weekday,
@@ -54,6 +55,8 @@ fn of_one(name: &str, own: NaiveDate, words: &mut Words<'_>, answer: &str) -> Op
         "checked_sub_days" => own.checked_sub_days(Days::new(count(words)?)),
         "checked_add_months" => own.checked_add_months(Months::new(unsigned(words)?)),
         "checked_sub_months" => own.checked_sub_months(Months::new(unsigned(words)?)),
+        "every_months" => own.every_months(signed(words)?, unsigned(words)?),
+        "first_on" => own.first_on(set(words)?),
         "checked_add_signed" => own.checked_add_signed(duration(words)?),
         "checked_sub_signed" => own.checked_sub_signed(duration(words)?),
         "with_year"

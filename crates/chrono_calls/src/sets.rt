@@ -1,6 +1,6 @@
 //! Calls of `WeekdaySet`.
 
-use crate::words::{Words, are, is_next, is_order, is_weekday, left, unsigned, weekday};
+use crate::words::{Words, are, is_next, is_number, is_order, is_weekday, left, unsigned, weekday};
 use chrono_datetime::Weekday::{self, Fri, Mon, Sat, Sun, Thu, Tue, Wed};
 use chrono_datetime::WeekdaySet;
 
@@ -22,6 +22,7 @@ pub fn is_answered(name: &str, words: &mut Words<'_>, answer: &str) -> Option<bo
         "first" => is_weekday(answer, own.first()),
         "last" => is_weekday(answer, own.last()),
         "single_day" => is_weekday(answer, own.single_day()),
+        "days_until" => is_number(answer, days(own.days_until(weekday(words)?))),
         "contains" => are(answer, &[i64::from(own.contains(weekday(words)?))]),
         "insert" => {
             let mut grown = own;
@@ -60,8 +61,12 @@ const DIGITS: [(Weekday, u32); 7] = [
     (Sun, 64),
 ];
 
-// The set that the next word numbers.
-fn set(words: &mut Words<'_>) -> Option<WeekdaySet> {
+fn days(count: Option<u32>) -> Option<i64> {
+    Some(i64::from(count?))
+}
+
+/// The set that the next word numbers.
+pub fn set(words: &mut Words<'_>) -> Option<WeekdaySet> {
     let number = unsigned(words)?;
     let mut set = WeekdaySet::EMPTY;
     for (day, digit) in DIGITS.iter().copied() {

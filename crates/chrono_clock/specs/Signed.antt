@@ -1,6 +1,6 @@
 -- Signed numbers for `omega`. It reads a number z as `up z` less `down z`; std's set says how sums, products, bounds and
 -- casts do so, and this adds the division that rounds down.
-use Rattle.std.proofs.Common.{◌≡◌, ℕ, ◌+◌, ◌*◌, ◌<◌, ◌⊎◌, inl, inr, refl, arith, ℤ, pos, negsuc}
+use Rattle.std.proofs.Common.{◌≡◌, ℕ, ◌+◌, ◌*◌, ◌<◌, arith, ℤ, pos, negsuc}
 use Rattle.std.specs.Int.{int_div_euclid, int_rem_euclid}
 use borrow.Author.Differences.{up, down, ints}
 
@@ -8,10 +8,5 @@ use borrow.Author.Differences.{up, down, ints}
 pub floor_and_rest : (z : ℤ) (k : ℕ) → 0 < k → (up z + k * down (int_div_euclid z (pos k)) ≡ down z + k * up (int_div_euclid z (pos k)) + up (int_rem_euclid z (pos k))) × (down (int_rem_euclid z (pos k)) ≡ 0) × (up (int_rem_euclid z (pos k)) < k)
 floor_and_rest (pos n) k h = omega arith
 floor_and_rest (negsuc n) k h = omega arith
-
--- a number is on one side of 0: to be handed over where it is divided with its rest rounded towards zero
-pub one_side : (z : ℤ) → (down z ≡ 0) ⊎ (up z ≡ 0)
-one_side (pos n) = inl refl
-one_side (negsuc n) = inr refl
 
 pub ruleset signed = (ints, floor_and_rest)

@@ -73,7 +73,8 @@ impl NaiveTime {
     /// 59, and else up to 999.
     #[inline]
     pub fn from_hms_milli_opt(hour: u32, minute: u32, second: u32, milli: u32) -> Option<NaiveTime>
-        ensures { SomeIff result (IsClock hour minute second × FractionFits second (milli * 1_000_000))
+        ensures { SomeIff result
+            (IsClock hour minute second × FractionFits second (milli * 1_000_000))
             (time_at hour minute second (milli * 1_000_000)) }
     {
         NaiveTime::from_hms_nano_opt(hour, minute, second, milli.checked_mul(NANOS_PER_MILLI)?)
@@ -138,9 +139,12 @@ impl NaiveTime {
         ensures end { IsTime result.0 }
 
         // A second move ends where the one move by the sum ends.
-        ensures adds_up { (y : ℤ) → IsPlain self.now ⊎ SameWay rhs y → TimeMovesAddUp self.now rhs y }
-        ensures forward { pos 0 <ℤ rhs → IsEarlierLanding (landing_of self.now) (land self.now rhs) }
-        ensures backward { rhs <ℤ pos 0 → IsEarlierLanding (land self.now rhs) (landing_of self.now) }
+        ensures adds_up { (y : ℤ) → IsPlain self.now ⊎ SameWay rhs y →
+            TimeMovesAddUp self.now rhs y }
+        ensures forward { pos 0 <ℤ rhs →
+            IsEarlierLanding (landing_of self.now) (land self.now rhs) }
+        ensures backward { rhs <ℤ pos 0 →
+            IsEarlierLanding (land self.now rhs) (landing_of self.now) }
     {
         let (time, days) = self.landing(rhs);
         (time, days * SECS_PER_DAY as i64)
@@ -281,8 +285,10 @@ impl NaiveTime {
     #[inline(never)]
     fn moved_from_leap(&self, rhs: TimeDelta) -> (NaiveTime, i64)
         requires { IsLeap self.now }
-        ensures time { result.0 ≡ (leap_landing self.now.second (pos (place self.now) +ℤ rhs)).time }
-        ensures days { result.1 ≡ (leap_landing self.now.second (pos (place self.now) +ℤ rhs)).day }
+        ensures time { result.0
+            ≡ (leap_landing self.now.second (pos (place self.now) +ℤ rhs)).time }
+        ensures days { result.1
+            ≡ (leap_landing self.now.second (pos (place self.now) +ℤ rhs)).day }
         ensures near { unsigned_abs result.1 < 2 ^ 40 }
     {
         let (secs, nanos) = carried(

@@ -11,6 +11,7 @@ pub use Rattle.chrono_naive.specs.Order
 pub use Rattle.chrono_naive.specs.NameLaws
 pub use Rattle.chrono_naive.specs.MonthMoves
 pub use Rattle.chrono_naive.specs.YearsBetween
+pub use Rattle.chrono_naive.specs.Recurrence
 pub use Rattle.chrono_naive.specs.Fields
 pub use Rattle.chrono_naive.specs.DateLists
 pub use Rattle.chrono_naive.specs.DateText

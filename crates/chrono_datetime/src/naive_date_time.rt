@@ -16,6 +16,9 @@ use chrono_clock::{NaiveTime, TimeDelta};
 use chrono_naive::{Datelike, NaiveDate};
 use std::marker::Model;
 
+// The days from the first date to the last.
+const FARTHEST_DAYS: i32 = 191_491_528;
+
 /// The first date-time, [`NaiveDateTime::MIN`].
 pub const MIN_DATETIME: NaiveDateTime = NaiveDateTime::MIN;
 
@@ -100,7 +103,7 @@ impl NaiveDateTime {
         ensures earlier { IfSome result (λ e. (rhs <ℤ pos 0) ↔ IsBefore e self) }
     {
         // No date lies as far from another as the longest duration.
-        prove!(self.date.num_days_from_ce() <= 95_745_399);
+        prove!(self.date.num_days_from_ce() <= NaiveDate::MAX.num_days_from_ce());
         let (time, seconds) = self.time.overflowing_add_signed(rhs);
         let date = self
             .date
@@ -132,7 +135,7 @@ impl NaiveDateTime {
         ensures earlier { SignTellsOrder self rhs → (result <ℤ pos 0) ↔ IsBefore self rhs }
     {
         // Dates and times are not too far apart for a duration.
-        prove!(self.date.num_days_from_ce() - rhs.date.num_days_from_ce() <= 191_491_528);
+        prove!(self.date.num_days_from_ce() - rhs.date.num_days_from_ce() <= FARTHEST_DAYS);
         self.date.signed_duration_since(rhs.date) + self.time.signed_duration_since(rhs.time)
     }
 

@@ -1,11 +1,12 @@
 -- The lists of dates: their lengths, and what one step takes from them.
-use Rattle.std.proofs.Common.{◌≡◌, ℕ, zero, suc, ◌+◌, ◌*◌, ◌/◌, ◌<◌, ◌≤◌, List, [], ◌∷◌, length, refl, ap, arith, Option, Some, None, ℤ, pos, ◌+ℤ◌}
+use Rattle.std.proofs.Common.{◌≡◌, ℕ, zero, suc, ◌+◌, ◌*◌, ◌/◌, ◌<◌, ◌≤◌, List, [], ◌∷◌, length, refl, ap, ◌∙◌, arith, Option, Some, None, ℤ, pos, ◌+ℤ◌, ◌≤ℤ◌, FitsSigned, w32, to_z, of_z}
+use Rattle.std.proofs.lemmas.Int.{by_lt_z, to_z-of_z}
 use Rattle.std.specs.Bool.{⊤}
 use Rattle.std.specs.Option.{SomeIff, OnSome, IfNone}
 use Rattle.std.specs.Iterator.{MakesProgress, YieldsFirst, item_count}
-use Rattle.chrono_calendar.specs.Days.{IsDate}
-use Rattle.chrono_calendar.proofs.Signed.{signed}
-use Rattle.chrono_naive.specs.DateLists.{in_steps, days_left, days_from, weeks_from, days_of_week}
+use Rattle.chrono_calendar.specs.Days.{IsDate, date_of_day}
+use Rattle.chrono_calendar.proofs.Signed.{signed, casts}
+use Rattle.chrono_naive.specs.DateLists.{IsDayCursor, in_steps, past_last_date, dates_left, days_left, days_from, weeks_from, days_of_week}
 
 pub length-in_steps : (d n : ℕ) (first : ℤ) → length (in_steps d n first) ≡ n
 unfolding in_steps
@@ -32,13 +33,25 @@ none_left n d (suc k) low h past fits =
     mul_le_left : (k d : ℕ) → d ≤ suc k * d
     mul_le_left k d = grind arith
 
+-- what is read at a cursor, as a machine number, is the date of its number
+pub date_of_day-cursor : (o : Option ℤ) (a n : ℤ) → IsDayCursor a → a ≡ n → o ≡ date_of_day (to_z w32 (of_z w32 a)) → o ≡ date_of_day n
+date_of_day-cursor o a n h e f =
+    let fits : FitsSigned w32 a = omega (arith, casts, h.0, h.1) in
+    f ∙ ap date_of_day (to_z-of_z w32 a fits ∙ e)
+
+-- a cursor that is at no date is at the number after the last one
+pub IsDayCursor-ended : (n : ℤ) → IsDayCursor n → (IsDate n → ⊥) → n ≡ past_last_date
+IsDayCursor-ended n h ended =
+    let none_before : pos 95_745_400 ≤ℤ n = by_lt_z n (pos 95_745_400) (λ lt. absurd (ended (h.0, omega (arith, signed, lt)))) (λ ge. ge) in
+    omega (arith, signed, h.1, none_before)
+
 -- what a step of a cursor gives is the first of its list, and the rest is the list from where it then stands
-pub days_from-yields : (n next : ℤ) (o : Option ℤ) → IsDate n → SomeIff o (IsDate (n +ℤ pos 1)) n → OnSome o (next ≡ n +ℤ pos 1) → IfNone o (next ≡ n) → YieldsFirst days_from n o next
-days_from-yields n next None h past moved stays =
-    let none = in_steps-none 1 (days_left n) n (none_left n 1 (days_left n) (omega arith) h past (omega arith)) in
+pub days_from-yields : (n next : ℤ) (o : Option ℤ) → IsDayCursor n → SomeIff o (IsDate n) n → OnSome o (next ≡ n +ℤ pos 1) → IfNone o (next ≡ n) → YieldsFirst days_from n o next
+days_from-yields n next None h ended moved stays =
+    let none = in_steps-none 1 (dates_left n) n (omega (arith, signed, IsDayCursor-ended n h ended)) in
     (none, rw stays none)
 days_from-yields n next (Some x) h found moved stays =
-    rw found.1 (in_steps-some 1 (days_left n) (days_left next) n next (omega (arith, signed, found.0.1, moved)) moved)
+    rw found.1 (in_steps-some 1 (dates_left n) (dates_left next) n next (omega (arith, signed, found.0.1, moved)) moved)
 
 pub weeks_from-yields : (n next : ℤ) (o : Option ℤ) → IsDate n → SomeIff o (IsDate (n +ℤ pos 7)) n → OnSome o (next ≡ n +ℤ pos 7) → IfNone o (next ≡ n) → YieldsFirst weeks_from n o next
 weeks_from-yields n next None h past moved stays =

@@ -1,5 +1,5 @@
 -- Days in a row, and the lists that the iterators over dates run through.
-use Rattle.std.specs.Prelude.{◌≡◌, ℕ, zero, suc, ◌/◌, false, List, [], ◌∷◌, ℤ, pos, ◌+ℤ◌, ◌-ℤ◌, unsigned_abs}
+use Rattle.std.specs.Prelude.{◌≡◌, ℕ, zero, suc, ◌/◌, false, List, [], ◌∷◌, ℤ, pos, neg_ℤ, ◌+ℤ◌, ◌-ℤ◌, ◌≤ℤ◌, unsigned_abs}
 use Rattle.std.specs.declared.ops.RangeInclusive.{RangeInclusive}
 use Rattle.std.specs.Range.{range_inclusive_start, range_inclusive_end, range_inclusive_exhausted}
 
@@ -16,9 +16,21 @@ last_date = pos 95_745_399
 abbrev pub days_left : ℤ → ℕ
 days_left n = unsigned_abs (last_date -ℤ n)
 
--- n and the dates after it, day after day, up to the one before the last date
+-- the number after it, which no date has: where the dates end
+abbrev pub past_last_date : ℤ
+past_last_date = pos 95_745_400
+
+-- the dates from the day n to the last one, both counted; none from the number after the last date's
+abbrev pub dates_left : ℤ → ℕ
+dates_left n = unsigned_abs (past_last_date -ℤ n)
+
+-- a date's number, or the number after the last date's
+abbrev pub IsDayCursor : ℤ → Type 0
+IsDayCursor n = (neg_ℤ (pos 95_746_129) ≤ℤ n) × (n ≤ℤ past_last_date)
+
+-- n and the dates after it, day after day, up to the last date
 abbrev pub days_from : ℤ → List ℤ
-days_from n = in_steps 1 (days_left n) n
+days_from n = in_steps 1 (dates_left n) n
 
 -- n and the dates after it, week after week, as long as the week after is a date too
 abbrev pub weeks_from : ℤ → List ℤ

@@ -1,8 +1,7 @@
 -- What is read of a date besides its names.
-use Rattle.std.specs.Prelude.{◌≡◌, ℕ, ◌+◌, ◌-◌, ◌/◌, Bool, if◌then◌else◌, int_le, ℤ, pos, neg_ℤ, ◌-ℤ◌, ◌≤ℤ◌, unsigned_abs, refl}
+use Rattle.std.specs.Prelude.{ℕ, ◌+◌, ◌-◌, ◌/◌, Bool, if◌then◌else◌, int_le, ℤ, pos, neg_ℤ, ◌-ℤ◌, ◌≤ℤ◌, unsigned_abs}
 use Rattle.std.specs.Ordering.{int_cmp, nat_cmp, on, then_cmp}
 use Rattle.std.specs.declared.cmp.Ordering.{Ordering}
-use Rattle.std.specs.declared.cmp.Ordering.TheVariants.{Less, Greater}
 use Rattle.chrono_calendar.specs.Weeks.{iso_year_of, iso_week_of}
 
 -- the number of 1 January 1970, a Thursday
@@ -37,10 +36,3 @@ iso_year_and_week_of n = record { year = iso_year_of n; week = iso_week_of n }
 -- ISO weeks compared: by ISO year, and then by the week
 abbrev pub iso_week_cmp : IsoYearAndWeek → IsoYearAndWeek → Ordering
 iso_week_cmp = then_cmp (on (λ w. w.year) int_cmp) (on (λ w. w.week) nat_cmp)
-
--- week 1 of a later year comes after week 53, and in one year the later week comes after
-iso_week_cmp-later_year : iso_week_cmp (record { year = pos 2020; week = 53 }) (record { year = pos 2021; week = 1 }) ≡ Less
-iso_week_cmp-later_year = refl
-
-iso_week_cmp-later_week : iso_week_cmp (record { year = pos 2020; week = 53 }) (record { year = pos 2020; week = 52 }) ≡ Greater
-iso_week_cmp-later_week = refl

@@ -11,6 +11,7 @@ pub use Rattle.chrono_calendar.specs.Order
 pub use Rattle.chrono_calendar.specs.NameLaws
 pub use Rattle.chrono_calendar.specs.MonthMoves
 pub use Rattle.chrono_calendar.specs.YearsBetween
+pub use Rattle.chrono_calendar.specs.Recurrence
 pub mod Fields
 pub mod DateLists
 pub mod DateText

@@ -26,7 +26,7 @@ type Form = chrono_stored::CountedForm;
 const UNIX_EPOCH_DAY: i32 = 719_163;
 
 // The day number of the last date.
-const LAST_DAY: i32 = 95_745_399;
+pub(crate) const LAST_DAY: i32 = 95_745_399;
 
 /// The first date, [`NaiveDate::MIN`].
 pub const MIN_DATE: NaiveDate = NaiveDate::MIN;

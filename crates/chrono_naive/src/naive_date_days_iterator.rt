@@ -1,28 +1,39 @@
 //! `NaiveDateDaysIterator`: dates, day after day.
-ghost use Rattle.std.specs.Prelude.{◌≡◌, pos, ◌+ℤ◌, ◌-ℤ◌, length, OnSome, IfNone, Some, ⊤};
+//!
+//! Its order stands in `order`.
+ghost use Rattle.std.specs.Prelude.{◌≡◌, pos, ◌+ℤ◌, ◌-ℤ◌, length, OnSome, IfNone, Some, None, ⊤};
+ghost use Rattle.std.specs.Iterator.{IsFinite, MakesProgress, YieldsFirst, item_count, size};
 ghost use Rattle.std.specs.Option.{SomeIff};
-ghost use Rattle.std.specs.Iterator.{MakesProgress, YieldsFirst, item_count};
 ghost use Rattle.chrono_calendar.specs.Days.{IsDate};
-ghost use Rattle.chrono_naive.specs.DateLists.{days_from};
+ghost use Rattle.chrono_naive.specs.DateLists.{dates_left, days_from, past_last_date};
 
-use crate::naive_date::NaiveDate;
+mod order;
+
+use crate::naive_date::{LAST_DAY, NaiveDate};
 use std::iter::FusedIterator;
 use std::marker::Model;
 
-/// The dates from a date on, day after day. From [`NaiveDate::iter_days`].
+/// The dates from a date on, day after day, up to [`NaiveDate::MAX`]. From [`NaiveDate::iter_days`].
 ///
-/// Contracts see it as its cursor, the day number of the date that it would give next.
-#[derive(Clone, Copy, PartialEq, Eq, PartialOrd, Ord, Hash, Debug)]
+/// Once [`next`](Iterator::next) has given the last date the iterator is ended: it gives nothing more at either end, and
+/// stays so.
+///
+/// Contracts see it as its cursor, the day number of the date that it would give next, or the number after the last
+/// date's once it is ended. Iterators are equal, ordered and hashed as that number.
+#[derive(Clone, Copy, Eq, Hash, Debug)]
 pub struct NaiveDateDaysIterator {
-    cursor: NaiveDate,
+    cursor: i32,
 }
 
 impl Model for NaiveDateDaysIterator {
     ghost use Rattle.std.specs.Prelude.{ℤ};
+    ghost use Rattle.chrono_naive.specs.DateLists.{IsDayCursor};
 
     ghost Value = { ℤ };
 
     ghost view = { λ it. it.cursor };
+
+    ghost invariant = { λ it. IsDayCursor it.cursor };
 
     ghost inverse = { λ n. record { cursor = n } };
 }
@@ -30,23 +41,30 @@ impl Model for NaiveDateDaysIterator {
 impl NaiveDateDaysIterator {
     // The dates from that date on.
     #[inline]
-    pub(crate) fn new(cursor: NaiveDate) -> NaiveDateDaysIterator
-        ensures { result ≡ cursor }
+    pub(crate) fn new(start: NaiveDate) -> NaiveDateDaysIterator
+        ensures { result ≡ start }
     {
-        NaiveDateDaysIterator { cursor }
+        NaiveDateDaysIterator {
+            cursor: start.day_number(),
+        }
     }
 
     /// The date at the cursor, which then stands one day earlier; `None` if that would be before
-    /// [`NaiveDate::MIN`], with the cursor left where it is.
+    /// [`NaiveDate::MIN`], with the cursor left where it is, and `None` for an iterator that is ended.
     ///
     /// So it goes back from the date that the iterator would give next, and not from the end of its dates.
     #[inline]
     pub fn next_back(&mut self) -> Option<NaiveDate>
-        ensures date { SomeIff result (IsDate (self.old -ℤ pos 1)) self.old }
+        ensures date { SomeIff result (IsDate self.old × IsDate (self.old -ℤ pos 1)) self.old }
         ensures moved { OnSome result (self.new ≡ self.old -ℤ pos 1) }
         ensures refused { IfNone result (self.new ≡ self.old) }
+        // An ended iterator stays ended.
+        ensures ended { self.old ≡ past_last_date →
+            (result ≡ None) × (self.new ≡ past_last_date) }
     {
-        self.cursor.step(-1)
+        let date = NaiveDate::from_num_days_from_ce_opt(self.cursor)?;
+        self.cursor = date.pred_opt()?.day_number();
+        Some(date)
     }
 }
 
@@ -57,23 +75,28 @@ impl Iterator for NaiveDateDaysIterator {
 
     ghost remaining = { item_count days_from };
 
-    /// The date at the cursor, which then stands one day later; `None` if that would be past
-    /// [`NaiveDate::MAX`], with the cursor left where it is.
+    /// The date at the cursor, which then stands one day later; `None` once the last date was given.
     #[inline]
     fn next(&mut self) -> Option<NaiveDate>
         ensures steps { YieldsFirst days_from self.old result self.new }
         ensures goes { MakesProgress (λ _. ⊤) (item_count days_from) self.old result self.new }
-        ensures date { SomeIff result (IsDate (self.old +ℤ pos 1)) self.old }
+        ensures date { SomeIff result (IsDate self.old) self.old }
         ensures moved { OnSome result (self.new ≡ self.old +ℤ pos 1) }
-        ensures refused { IfNone result (self.new ≡ self.old) }
+        ensures refused { IfNone result (self.old ≡ past_last_date) }
+        // An ended iterator stays ended.
+        ensures ended { self.old ≡ past_last_date →
+            (result ≡ None) × (self.new ≡ past_last_date) }
     {
-        self.cursor.step(1)
+        let next = NaiveDate::from_num_days_from_ce_opt(self.cursor)?;
+        self.cursor += 1;
+        Some(next)
     }
 
     /// The number of dates that are left, exactly.
     #[inline]
     fn size_hint(&self) -> (usize, Option<usize>)
-        ensures { result ≡ (length (days_from self.now), Some (length (days_from self.now))) }
+        ensures list { result ≡ (length (days_from self.now), Some (length (days_from self.now))) }
+        ensures count { result ≡ (dates_left self.now, Some (dates_left self.now)) }
     {
         let left = self.len();
         (left, Some(left))
@@ -81,10 +104,14 @@ impl Iterator for NaiveDateDaysIterator {
 }
 
 impl ExactSizeIterator for NaiveDateDaysIterator {
-    /// The number of dates that are left.
+    /// The number of dates that are left: none of an ended iterator.
     #[inline]
-    fn len(&self) -> usize {
-        self.cursor.days_left() as usize
+    fn len(&self) -> usize
+        ensures finite { IsFinite (item_count days_from self.now) }
+        ensures value { result ≡ size (item_count days_from self.now) }
+        ensures count { result ≡ dates_left self.now }
+    {
+        (LAST_DAY + 1 - self.cursor) as usize
     }
 }
 

@@ -5,7 +5,7 @@ ghost use Rattle.std.specs.Iterator.{MakesProgress, YieldsFirst, item_count};
 ghost use Rattle.chrono_calendar.specs.Days.{IsDate};
 ghost use Rattle.chrono_naive.specs.DateLists.{weeks_from};
 
-use crate::naive_date::NaiveDate;
+use crate::naive_date::{LAST_DAY, NaiveDate};
 use std::iter::FusedIterator;
 use std::marker::Model;
 
@@ -36,6 +36,20 @@ impl NaiveDateWeeksIterator {
         NaiveDateWeeksIterator { cursor }
     }
 
+    // The date at the cursor, which then stands so many days later; `None` if that would be no date, with the cursor left
+    // where it is.
+    #[inline]
+    fn step(&mut self, days: i64) -> Option<NaiveDate>
+        ensures date { SomeIff result (IsDate (self.old +ℤ days)) self.old }
+        ensures moved { OnSome result (self.new ≡ self.old +ℤ days) }
+        ensures refused { IfNone result (self.new ≡ self.old) }
+        ensures in_range { IsDate self.old }
+    {
+        let date = self.cursor;
+        self.cursor = date.moved_by_days(days)?;
+        Some(date)
+    }
+
     /// The date at the cursor, which then stands one week earlier; `None` if that would be before
     /// [`NaiveDate::MIN`], with the cursor left where it is.
     ///
@@ -46,7 +60,7 @@ impl NaiveDateWeeksIterator {
         ensures moved { OnSome result (self.new ≡ self.old -ℤ pos 7) }
         ensures refused { IfNone result (self.new ≡ self.old) }
     {
-        self.cursor.step(-7)
+        self.step(-7)
     }
 }
 
@@ -67,7 +81,7 @@ impl Iterator for NaiveDateWeeksIterator {
         ensures moved { OnSome result (self.new ≡ self.old +ℤ pos 7) }
         ensures refused { IfNone result (self.new ≡ self.old) }
     {
-        self.cursor.step(7)
+        self.step(7)
     }
 
     /// The number of dates that are left, exactly.
@@ -84,7 +98,7 @@ impl ExactSizeIterator for NaiveDateWeeksIterator {
     /// The number of dates that are left.
     #[inline]
     fn len(&self) -> usize {
-        self.cursor.days_left() as usize / 7
+        (LAST_DAY - self.cursor.day_number()) as usize / 7
     }
 }
 

@@ -20,11 +20,11 @@ pub(crate) const LAST_DAY: i32 = 95_745_399;
 // The days of a cycle of 400 years.
 const DAYS_OF_CYCLE: u32 = 146_097;
 
-// The days of four years, of which the last is leap.
-const DAYS_OF_FOUR_YEARS: u32 = 1_461;
+// The quarters of a day in 365 1/4 days.
+const QUARTERS_OF_YEAR: u64 = 1_461;
 
-// 2^32 / 1461, rounded up.
-const PART_OF_FOUR_YEARS: u32 = 2_939_745;
+// 2^39 / 1461, rounded up.
+const PART_OF_QUARTER: u64 = 376_287_347;
 
 // The year that as many years are counted before.
 #[inline]
@@ -64,30 +64,39 @@ pub(crate) fn days_before_year(year: i32) -> i32
     days_to_year(year) as i32 - DAYS_TO_ONE
 }
 
-// The century of a day, and the place of the day there, all counted from 0.
+// The leap days that as many centuries lack: each hundredth year is common, but each four hundredth is not.
 #[inline]
-fn century(day: u32) -> (u32, u32)
-    requires { day < 200_000_000 }
-    ensures century { result.0 ≡ (4 * day + 3) / 146_097 }
-    ensures day { result.1 ≡ (4 * day + 3) % 146_097 / 4 }
+fn leap_days_left_out(centuries: u32) -> u32
+    requires { centuries < 6_000 }
+    ensures { result + centuries / 4 ≡ centuries }
 {
-    let quarters = 4 * day + 3;
-    (quarters / DAYS_OF_CYCLE, quarters % DAYS_OF_CYCLE / 4)
+    (3 * centuries + 3) / 4
 }
 
-// The year of a day of a century, and the place of the day there, all counted from 0.
-//
-// Division by 1461 quarters of a day is a product with 2^32 / 1461, rounded up: the product's upper
-// half is the quotient, and its lower half the remainder, as a part of 2^32.
+/// The last quarter of a day, where quarters of a day are counted from 0 and every fourth year is taken for leap: by the
+/// day and the whole centuries before it.
 #[inline]
-fn year_of_century(day: u32) -> (u32, u32)
-    requires { day ≤ 36_524 }
-    ensures year { result.0 ≡ (4 * day + 3) / 1461 }
-    ensures day { result.1 ≡ (4 * day + 3) % 1461 / 4 }
+pub(crate) fn last_quarter(day: u32, centuries: u32) -> u32
+    requires day { day < 200_000_000 }
+    requires centuries { centuries ≡ (4 * day + 3) / 146_097 }
+    ensures { result + 4 * (centuries / 4) ≡ 4 * (day + centuries) + 3 }
 {
-    let product = PART_OF_FOUR_YEARS as u64 * (4 * day + 3) as u64;
-    let part = (product & 0xffff_ffff) as u32;
-    ((product >> 32) as u32, part / PART_OF_FOUR_YEARS / 4)
+    4 * (day + leap_days_left_out(centuries)) + 3
+}
+
+/// The whole years of 365 1/4 days before a quarter of a day, and what part of its own year is past, in parts of which a
+/// year has 2^39.
+///
+/// Division by 1461 quarters is a product with 2^39 / 1461, rounded up: above its 39 lowest binary digits stands the
+/// quotient, and these are the remainder, in parts of a year, and less than a quarter more.
+#[inline]
+pub(crate) fn years_and_part(quarter: u32) -> (u32, u64)
+    requires { quarter < 1_000_000_000 }
+    ensures years { result.0 ≡ quarter / 1461 }
+    ensures part { result.1 ≡ 376_287_347 * (quarter % 1461) + 79 * (quarter / 1461) }
+{
+    let product = PART_OF_QUARTER * quarter as u64;
+    ((product >> 39) as u32, product % (1 << 39))
 }
 
 // The whole years before a day, and the place of the day in its own year, all counted from 0.
@@ -99,9 +108,9 @@ pub(crate) fn years_and_place(day: u32) -> (u32, u32)
     ensures in_year { let n = result.0 + 1 in
         day + n / 100 < 365 * n + n / 4 + n / 400 }
 {
-    let (centuries, day_of_century) = century(day);
-    let (years, place) = year_of_century(day_of_century);
-    (100 * centuries + years, place)
+    let centuries = (4 * day + 3) / DAYS_OF_CYCLE;
+    let (years, part) = years_and_part(last_quarter(day, centuries));
+    (years, ((QUARTERS_OF_YEAR * part) >> 41) as u32)
 }
 
 /// The year of a date's day number, and the place of the day there, from 1.

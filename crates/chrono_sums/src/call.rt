@@ -1,22 +1,12 @@
 //! The calls that can be asked for.
 
-/// A call of the calendar, by what it does.
+/// A call of the calendar.
 #[derive(Clone, Copy)]
 pub enum Call {
     /// No call: the generator, a look-up and the sum alone.
     Nothing,
-    /// `NaiveDate::checked_add_months` and `checked_sub_months`, each in half of the turns.
-    AddMonths,
-    /// `NaiveDate::checked_add_days`.
-    AddDays,
-    /// `Datelike::iso_week`.
-    IsoWeek,
-    /// `NaiveDate::from_ymd_opt`.
-    FromYmd,
-    /// `Datelike::num_days_from_ce`.
-    ToDays,
-    /// `NaiveDate::from_num_days_from_ce_opt`, and the year, month and day of the answer.
-    FromDays,
+    /// A call of a date.
+    OfDate(Kind, DateCall),
     /// `NaiveTime::overflowing_add_signed`.
     TimeAdd,
     /// `NaiveDateTime::checked_add_signed`.
@@ -27,20 +17,91 @@ pub enum Call {
     DurationAdd,
 }
 
-/// The call with a name.
+/// What a date is taken for.
+#[derive(Clone, Copy)]
+pub enum Kind {
+    /// A `NaiveDate`, as a user calls it.
+    Naive,
+    /// A `CountedForm`, by its own calls and by `chrono_calendar::forms`.
+    Counted,
+    /// A `PackedForm`, in the same way.
+    Packed,
+}
+
+/// A call of a date, by the name of the call of `NaiveDate`.
+#[derive(Clone, Copy)]
+pub enum DateCall {
+    /// `year`.
+    Year,
+    /// `ordinal`.
+    Ordinal,
+    /// `month`.
+    Month,
+    /// `day`.
+    Day,
+    /// `weekday`.
+    Weekday,
+    /// `year`, `month` and `day`.
+    YearMonthDay,
+    /// `iso_week`.
+    IsoWeek,
+    /// `num_days_from_ce`.
+    ToDays,
+    /// `from_num_days_from_ce_opt`, and the year, month and day of the answer.
+    FromDays,
+    /// `from_ymd_opt`, and the year and the ordinal of the answer.
+    FromYmd,
+    /// `from_ymd_opt`, and the day number of the answer.
+    YmdToDays,
+    /// `signed_duration_since`.
+    Diff,
+    /// `checked_add_days`, by 1 to 30 days.
+    AddFewDays,
+    /// `checked_add_days`, by up to 100,000 days.
+    AddDays,
+    /// `checked_add_months` and `checked_sub_months`, each in half of the turns.
+    AddMonths,
+    /// `succ_opt`.
+    Succ,
+    /// `<`.
+    Compare,
+}
+
+/// The call with a name: that of a date over a stored form has the form's name and a point before it.
 pub fn call_named(name: &str) -> Option<Call> {
     Some(match name {
         "none" => Call::Nothing,
-        "add_months" => Call::AddMonths,
-        "add_days" => Call::AddDays,
-        "iso_week" => Call::IsoWeek,
-        "from_ymd" => Call::FromYmd,
-        "to_days" => Call::ToDays,
-        "from_days" => Call::FromDays,
         "time_add" => Call::TimeAdd,
         "moment_add" => Call::MomentAdd,
         "moment_diff" => Call::MomentDiff,
         "duration_add" => Call::DurationAdd,
+        _ => match name.split_once('.') {
+            Some(("counted", name)) => Call::OfDate(Kind::Counted, date_call_named(name)?),
+            Some(("packed", name)) => Call::OfDate(Kind::Packed, date_call_named(name)?),
+            _ => Call::OfDate(Kind::Naive, date_call_named(name)?),
+        },
+    })
+}
+
+fn date_call_named(name: &str) -> Option<DateCall> {
+    Some(match name {
+        "year" => DateCall::Year,
+        "ordinal" => DateCall::Ordinal,
+        "month" => DateCall::Month,
+        "day" => DateCall::Day,
+        "weekday" => DateCall::Weekday,
+        "year_month_day" => DateCall::YearMonthDay,
+        "iso_week" => DateCall::IsoWeek,
+        "to_days" => DateCall::ToDays,
+        "from_days" => DateCall::FromDays,
+        "from_ymd" => DateCall::FromYmd,
+        "ymd_to_days" => DateCall::YmdToDays,
+        "diff" => DateCall::Diff,
+        "add_few_days" => DateCall::AddFewDays,
+        "add_days" => DateCall::AddDays,
+        "add_months" => DateCall::AddMonths,
+        "succ" => DateCall::Succ,
+        "compare" => DateCall::Compare,
         _ => return None,
     })
 }

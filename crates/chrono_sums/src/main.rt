@@ -5,8 +5,11 @@
 #![tactic(auto)]
 
 mod call;
+mod form_sums;
 mod generator;
+mod naive_sums;
 mod numbers;
+mod sum_of;
 mod sums;
 mod tables;
 

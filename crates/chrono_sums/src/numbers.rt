@@ -1,5 +1,5 @@
 //! Answers as single numbers, by what can be read of them at next to no cost.
-ghost use Rattle.std.specs.Prelude.{◌≡◌, ◌+◌, ◌*◌, ◌^◌, pos, ◌+ℤ◌, ◌*ℤ◌};
+ghost use Rattle.std.specs.Prelude.{◌≡◌, ◌+◌, ◌*◌, ◌^◌};
 ghost use Rattle.std.specs.Int.{cast_unsigned, w64};
 
 use chrono_datetime::{Datelike, NaiveDate, NaiveDateTime, NaiveTime, TimeDelta, Timelike};
@@ -14,16 +14,23 @@ pub fn of_signed(n: i64) -> u64
 
 /// A year and a part of it, modulo 2^64.
 #[inline]
-pub fn of_year(year: i32, part: u32) -> u64
-    ensures { result ≡ cast_unsigned w64 (year *ℤ pos 512 +ℤ pos part) }
-{
+pub fn of_year(year: i32, part: u32) -> u64 {
     of_signed(i64::from(year) * 512 + i64::from(part))
+}
+
+/// A year, a month and a day, modulo 2^64.
+#[inline]
+pub fn of_name(year: i32, month: u32, day: u32) -> u64 {
+    of_signed(i64::from(year) * 512 + i64::from(month) * 32 + i64::from(day))
 }
 
 /// The year and the ordinal of a date, or 0.
 #[inline]
 pub fn of_date(date: Option<NaiveDate>) -> u64 {
-    date.map_or(0, |date| of_year(date.year(), date.ordinal()))
+    match date {
+        Some(date) => of_year(date.year(), date.ordinal()),
+        None => 0,
+    }
 }
 
 /// The second of the day and the nanoseconds past it.
@@ -37,9 +44,10 @@ pub fn of_time(time: NaiveTime) -> u64
 /// A date and a time of it, or 0.
 #[inline]
 pub fn of_moment(moment: Option<NaiveDateTime>) -> u64 {
-    moment.map_or(0, |moment| {
-        of_date(Some(moment.date())).wrapping_add(of_time(moment.time()))
-    })
+    match moment {
+        Some(moment) => of_date(Some(moment.date())).wrapping_add(of_time(moment.time())),
+        None => 0,
+    }
 }
 
 /// The whole seconds and the nanoseconds past them.

@@ -5,7 +5,9 @@ ghost use Rattle.chrono_datetime.specs.Time.{IsPlain};
 ghost use Rattle.chrono_sums.specs.Drawn.{IsDrawnDay, IsDrawnName};
 
 use crate::generator::Generator;
-use chrono_datetime::{Days, Months, NaiveDate, NaiveDateTime, NaiveTime, TimeDelta};
+use chrono_calendar::{DayForm, Steps};
+use chrono_datetime::{NaiveDate, NaiveDateTime, NaiveTime, TimeDelta};
+use chrono_stored::{CountedForm, PackedForm};
 
 /// How many arguments a table has.
 pub const SIZE: usize = 1024;
@@ -51,10 +53,18 @@ pub fn day(generator: &mut Generator) -> i32
 }
 
 /// A date of those years.
-pub fn date(generator: &mut Generator) -> NaiveDate
-    ensures { IsDrawnDay result }
-{
-    NaiveDate::from_num_days_from_ce_opt(day(generator)).unwrap()
+pub fn date(generator: &mut Generator) -> NaiveDate {
+    NaiveDate::from_num_days_from_ce_opt(day(generator)).unwrap_or(NaiveDate::MIN)
+}
+
+/// The same, as a counted form.
+pub fn counted(generator: &mut Generator) -> CountedForm {
+    CountedForm::from_day(day(generator), &mut Steps::new()).unwrap_or(CountedForm::MIN)
+}
+
+/// The same, as a packed form.
+pub fn packed(generator: &mut Generator) -> PackedForm {
+    PackedForm::from_day(day(generator), &mut Steps::new()).unwrap_or(PackedForm::min_value())
 }
 
 /// A year of those, a month and a day from 1 to 31, which not every month has.
@@ -77,26 +87,30 @@ pub fn time(generator: &mut Generator) -> NaiveTime
 }
 
 /// A date of those years and a time in no leap second.
-pub fn moment(generator: &mut Generator) -> NaiveDateTime
-    ensures date { IsDrawnDay result.date }
-    ensures time { IsPlain result.time }
-{
+pub fn moment(generator: &mut Generator) -> NaiveDateTime {
     let date = date(generator);
     NaiveDateTime::new(date, time(generator))
 }
 
 /// At most 1,200 months, a hundred years.
-pub fn months(generator: &mut Generator) -> Months
+pub fn months(generator: &mut Generator) -> u32
     ensures { result < 1_201 }
 {
-    Months::new(generator.below(1_201) as u32)
+    generator.below(1_201) as u32
 }
 
 /// At most 100,000 days.
-pub fn days(generator: &mut Generator) -> Days
+pub fn days(generator: &mut Generator) -> u32
     ensures { result < 100_001 }
 {
-    Days::new(generator.below(100_001))
+    generator.below(100_001) as u32
+}
+
+/// One day to thirty.
+pub fn few_days(generator: &mut Generator) -> u32
+    ensures { result < 31 }
+{
+    1 + generator.below(30) as u32
 }
 
 /// About 1,000,000,000 seconds at most, forward or back, to the nanosecond.

@@ -1,5 +1,5 @@
 -- Values that the definitions must give.
-use Rattle.std.proofs.Common.{◌≡◌, refl, true, false, pos, neg_ℤ, [], ◌∷◌}
+use Rattle.std.proofs.Common.{◌≡◌, refl, true, false, pos, neg_ℤ, [], ◌∷◌, Some, None}
 use Rattle.std.specs.Prelude.{codes}
 use Rattle.std.specs.Ordering.{nat_cmp, on}
 use Rattle.std.specs.declared.cmp.Ordering.TheVariants.{Less, Greater}
@@ -8,7 +8,7 @@ use Rattle.chrono_units.specs.declared.month.Month.TheVariants.{January, Februar
 use Rattle.chrono_units.specs.Years.{is_leap_year, is_year, month_length, year_length}
 use Rattle.chrono_units.specs.Weekday.{days_from_sunday, number_from_monday, number_from_sunday, weekday_from_sunday, next_weekday, previous_weekday, days_since}
 use Rattle.chrono_units.specs.Month.{next_month, number_from_month, previous_month}
-use Rattle.chrono_units.specs.WeekdaySet.{set_of, set_number, all_days, no_days, single, difference, walk}
+use Rattle.chrono_units.specs.WeekdaySet.{set_of, set_number, all_days, no_days, single, difference, walk, days_until}
 use Rattle.chrono_units.specs.WeekdayText.{digit_text, set_digits_text, set_text}
 
 -- ---- the leap rule: every fourth year, of the centuries every fourth, below year 1 as above
@@ -166,6 +166,18 @@ walk_of_all = refl
 
 walk_of_none : walk no_days Tue ≡ []
 walk_of_none = refl
+
+from_saturday_to_tuesday : days_until (set_of (Tue ∷ Thu ∷ [])) Sat ≡ Some 3
+unfolding days_until
+from_saturday_to_tuesday = refl
+
+from_a_member : days_until (set_of (Tue ∷ Thu ∷ [])) Thu ≡ Some 0
+unfolding days_until
+from_a_member = refl
+
+to_no_day : days_until no_days Tue ≡ None
+unfolding days_until
+to_no_day = refl
 
 -- ---- texts of sets
 

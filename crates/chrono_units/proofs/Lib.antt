@@ -1,5 +1,6 @@
 pub mod EachSet
 mod KnownValues
+pub mod SetAhead
 pub mod SetDigitLemmas
 pub mod SetMembers
 pub mod SetPlaces

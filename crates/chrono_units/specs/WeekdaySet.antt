@@ -1,5 +1,5 @@
 -- Sets of weekdays, the numbers that order them, and their members in week order from a day.
-use Rattle.std.specs.Prelude.{ℕ, zero, suc, ◌+◌, ◌==◌, Bool, true, false, not, ◌&&◌, ◌||◌, if◌then◌else◌, List, [], ◌∷◌, filter, Option, Some, None, IsTrue}
+use Rattle.std.specs.Prelude.{ℕ, zero, suc, ◌+◌, ◌==◌, Bool, true, false, not, ◌&&◌, ◌||◌, if◌then◌else◌, List, [], ◌∷◌, filter, Option, Some, None, IsTrue, position}
 use Rattle.std.specs.List.{list_any}
 use Rattle.chrono_units.specs.declared.weekday.Weekday.{Weekday}
 use Rattle.chrono_units.specs.declared.weekday.Weekday.TheVariants.{Mon, Tue, Wed, Thu, Fri, Sat, Sun}
@@ -91,6 +91,15 @@ week_from start = days_in_row 7 start
 -- the members of the set in week order from start on, each once
 abbrev pub walk : DaySet → Weekday → List Weekday
 walk s start = filter (contains s) (week_from start)
+
+-- the day n days after d
+abbrev pub weekday_after : Weekday → ℕ → Weekday
+weekday_after d zero = d
+weekday_after d (suc n) = next_weekday (weekday_after d n)
+
+-- how many of the seven days from d on come before the first member of the set, if it has one: the days from d on to it
+unfoldable pub days_until : DaySet → Weekday → Option ℕ
+days_until s d = position (contains s) (week_from d)
 
 -- the first of a list of days
 abbrev pub first_day : List Weekday → Option Weekday

@@ -1,6 +1,6 @@
 //! Sets of weekdays, stored as seven binary digits.
 
-ghost use Rattle.std.specs.Prelude.{◌≡◌, ◌↔◌, ◌^◌, ◌<◌, ◌==◌, IsTrue, false, not, length, List};
+ghost use Rattle.std.specs.Prelude.{◌≡◌, ◌↔◌, ℕ, ◌^◌, ◌<◌, ◌==◌, IsTrue, false, not, length, List, IfSome};
 ghost use Rattle.std.specs.Cmp.{partial_order_from_own_ties};
 ghost use Rattle.std.specs.Cmp.Rules.{comparing, hashing};
 ghost use Rattle.std.specs.Hash as hash;
@@ -11,7 +11,7 @@ ghost use Rattle.std.proofs.Common.{rules};
 ghost use Rattle.chrono_units.specs.SetDigits.{set_at};
 ghost use Rattle.chrono_units.specs.Weekday.{days_from_monday};
 ghost use Rattle.chrono_units.specs.WeekdaySet as set;
-ghost use Rattle.chrono_units.specs.WeekdaySet.{set_number, walk};
+ghost use Rattle.chrono_units.specs.WeekdaySet.{set_number, walk, weekday_after};
 
 use crate::weekday::Weekday;
 use crate::weekday_set_iter::WeekdaySetIter;
@@ -200,6 +200,27 @@ impl WeekdaySet {
         ensures { result ≡ walk self start }
     {
         WeekdaySetIter::new(self, start)
+    }
+
+    /// The days from `from` on to the first member, 0 to 6: 0 if `from` is one. `None` exactly if the set is empty.
+    ///
+    /// From a Saturday it is three days to the first day of the set of Tuesday and Thursday.
+    #[inline]
+    pub fn days_until(self, from: Weekday) -> Option<u32>
+        ensures days { result ≡ set.days_until self from }
+        ensures none { (result ≡ None) ↔ (self ≡ set.no_days) }
+        ensures within { IfSome result (λ n. n < 7) }
+        // The day that many days on is a member, and none before it is.
+        ensures member { IfSome result (λ n. IsTrue (set.contains self (weekday_after from n))) }
+        ensures least { IfSome result (λ n. (k : ℕ) → k < n →
+            set.contains self (weekday_after from k) ≡ false) }
+    {
+        if self.is_empty() {
+            return None;
+        }
+        // Two weeks in a row, of which the first day is `from`.
+        let ahead = (u32::from(self.digits) * 0b1000_0001) >> from.num_days_from_monday();
+        Some(ahead.trailing_zeros())
     }
 
     /// Whether the day is in the set.

@@ -5,6 +5,7 @@ ghost use Rattle.chrono_calendar.specs.Days.{is_date};
 
 use chrono_calendar::{DayForm, Steps, forms};
 use chrono_stored::{CountedForm, PackedForm};
+use chrono_units::Weekday::{self, Fri, Mon, Sat, Sun, Thu, Tue, Wed};
 
 // Day numbers, each from the first up to the one before the last: two cycles of 400 years about year 0, a year at each end
 // of the range and past it, and the ends of an i32.
@@ -63,135 +64,138 @@ const MOVES: [i64; 15] = [
     i64::MAX,
 ];
 
-/// What a form reads of its date.
-#[derive(Clone, Copy, PartialEq, Eq)]
-struct Fields {
-    day: i32,
-    year: i32,
-    ordinal: u32,
-    month_day: (u32, u32),
-    year_ordinal: (i32, u32),
-    year_month_day: (i32, u32, u32),
-    is_leap: bool,
-    days_from_monday: u32,
-    iso_name: (i32, u32),
-    week_first: i32,
+const WEEK: [Weekday; 7] = [Mon, Tue, Wed, Thu, Fri, Sat, Sun];
+
+// Whether every call reads the same of both.
+fn read_alike(packed: PackedForm, counted: CountedForm) -> bool {
+    packed.day() == counted.day()
+        && packed.year() == counted.year()
+        && packed.ordinal() == counted.ordinal()
+        && packed.month_day() == counted.month_day()
+        && packed.year_ordinal() == counted.year_ordinal()
+        && packed.year_month_day() == counted.year_month_day()
+        && packed.is_leap() == counted.is_leap()
+        && packed.weekday() == counted.weekday()
+        && forms::iso_name(&packed) == forms::iso_name(&counted)
+        && weeks_begin_alike(packed, counted)
 }
 
-fn fields_of<F: DayForm>(form: Option<F>) -> Option<Fields> {
-    let form = form?;
-    Some(Fields {
-        day: form.day(),
-        year: form.year(),
-        ordinal: form.ordinal(),
-        month_day: form.month_day(),
-        year_ordinal: form.year_ordinal(),
-        year_month_day: form.year_month_day(),
-        is_leap: form.is_leap(),
-        days_from_monday: form.weekday().num_days_from_monday(),
-        iso_name: forms::iso_name(&form),
-        week_first: forms::week_first(&form, form.weekday().pred()),
-    })
-}
-
-fn of_day<F: DayForm>(days: i32) -> Option<Fields> {
-    fields_of(F::from_day(days, &mut Steps::new()))
-}
-
-fn moved<F: DayForm>(days: i32, k: i64) -> Option<(Option<Fields>, Option<Fields>)> {
-    let form = F::from_day(days, &mut Steps::new())?;
-    let by_days = forms::move_days(form, k, &mut Steps::new());
-    Some((fields_of(by_days), fields_of(forms::move_months(form, k))))
-}
-
-fn years_between<F: DayForm>(days: i32, base: i32) -> Option<u32> {
-    let form = F::from_day(days, &mut Steps::new())?;
-    let base = F::from_day(base, &mut Steps::new())?;
-    forms::years_between(&form, &base)
-}
-
-#[test]
-fn days_are_read_alike(rt: HostRuntime) {
-    for (first, last) in DAYS {
-        for days in first..last {
-            assert!(rt;
-                of_day::<PackedForm>(days) == of_day::<CountedForm>(days),
-                "day {days}"
-            );
-        }
-    }
-}
-
-#[test]
-fn names_are_taken_alike(rt: HostRuntime) {
-    for year in YEARS {
-        for month in 0..14u32 {
-            for day in 0..33u32 {
-                let packed = fields_of(PackedForm::from_ymd(year, month, day));
-                let counted = fields_of(CountedForm::from_ymd(year, month, day));
-                assert!(rt; packed == counted, "{year}-{month}-{day}");
-            }
-        }
-        for ordinal in 0..368u32 {
-            let packed = fields_of(PackedForm::from_yo(year, ordinal));
-            let counted = fields_of(CountedForm::from_yo(year, ordinal));
-            assert!(rt; packed == counted, "day {ordinal} of {year}");
-        }
-    }
-}
-
-#[test]
-fn weeks_are_taken_alike(rt: HostRuntime) {
-    let Some(form) = PackedForm::from_day(1, &mut Steps::new()) else {
-        return;
-    };
-    let mut weekday = form.weekday();
-    for _ in 0..7u32 {
-        for year in YEARS {
-            for week in 0..55u32 {
-                let packed: Option<PackedForm> = forms::from_iso(year, week, weekday);
-                let counted: Option<CountedForm> = forms::from_iso(year, week, weekday);
-                assert!(rt;
-                    fields_of(packed) == fields_of(counted),
-                    "week {week} of {year}"
-                );
-            }
-            for month in 0..14u32 {
-                for n in 0..7u8 {
-                    let packed: Option<PackedForm> = forms::nth_weekday(year, month, weekday, n);
-                    let counted: Option<CountedForm> = forms::nth_weekday(year, month, weekday, n);
-                    assert!(rt;
-                        fields_of(packed) == fields_of(counted),
-                        "{n} in {year}-{month}"
-                    );
-                }
-            }
-        }
-        weekday = weekday.succ();
-    }
-}
-
-fn moves_agree(days: i32) -> bool {
-    for k in MOVES {
-        if moved::<PackedForm>(days, k) != moved::<CountedForm>(days, k) {
-            return false;
-        }
-    }
-    for (base, _) in DAYS {
-        if years_between::<PackedForm>(days, base) != years_between::<CountedForm>(days, base) {
+// Whether the week that holds the date begins on the same day, whichever weekday is its first.
+fn weeks_begin_alike(packed: PackedForm, counted: CountedForm) -> bool {
+    for start in WEEK {
+        if forms::week_first(&packed, start) != forms::week_first(&counted, start) {
             return false;
         }
     }
     true
 }
 
+// Whether both are there or neither is, and every call reads the same of both.
+fn are_alike(packed: Option<PackedForm>, counted: Option<CountedForm>) -> bool {
+    match (packed, counted) {
+        (Some(packed), Some(counted)) => read_alike(packed, counted),
+        (None, None) => true,
+        _ => false,
+    }
+}
+
+// Whether the forms of two dates are moved alike, and have the same whole years from each first day.
+fn moved_alike(packed: PackedForm, counted: CountedForm) -> bool {
+    for k in MOVES {
+        let by_days = are_alike(
+            forms::move_days(packed, k, &mut Steps::new()),
+            forms::move_days(counted, k, &mut Steps::new()),
+        );
+        if !by_days
+            || !are_alike(
+                forms::move_months(packed, k),
+                forms::move_months(counted, k),
+            )
+        {
+            return false;
+        }
+    }
+    for (base, _) in DAYS {
+        let bases = (
+            PackedForm::from_day(base, &mut Steps::new()),
+            CountedForm::from_day(base, &mut Steps::new()),
+        );
+        if let (Some(of_packed), Some(of_counted)) = bases {
+            let years = forms::years_between(&packed, &of_packed);
+            if years != forms::years_between(&counted, &of_counted) {
+                return false;
+            }
+        }
+    }
+    true
+}
+
+// Whether both have that day, or neither has it, and every call reads the same of both; every thirteenth day is moved too.
+fn day_is_alike(days: i32) -> bool {
+    let packed = PackedForm::from_day(days, &mut Steps::new());
+    let counted = CountedForm::from_day(days, &mut Steps::new());
+    match (packed, counted) {
+        (Some(packed), Some(counted)) => {
+            read_alike(packed, counted) && (days % 13 != 0 || moved_alike(packed, counted))
+        }
+        (None, None) => true,
+        _ => false,
+    }
+}
+
 #[test]
-fn moves_are_made_alike(rt: HostRuntime) {
+fn days_are_read_and_moved_alike(rt: HostRuntime) {
     for (first, last) in DAYS {
         for days in first..last {
-            if days % 13 == 0 {
-                assert!(rt; moves_agree(days), "day {days}");
+            assert!(rt; day_is_alike(days), "day {days}");
+        }
+    }
+}
+
+// Whether both take the same calendar names and ordinal names of a year for the same dates.
+fn names_are_taken_alike(year: i32) -> bool {
+    for month in 0..14u32 {
+        for day in 0..33u32 {
+            let packed = PackedForm::from_ymd(year, month, day);
+            if !are_alike(packed, CountedForm::from_ymd(year, month, day)) {
+                return false;
             }
+        }
+    }
+    for ordinal in 0..368u32 {
+        let packed = PackedForm::from_yo(year, ordinal);
+        if !are_alike(packed, CountedForm::from_yo(year, ordinal)) {
+            return false;
+        }
+    }
+    true
+}
+
+// Whether both take the same weeks of a year, and weekdays of its months, for the same dates.
+fn weekdays_are_taken_alike(year: i32, weekday: Weekday) -> bool {
+    for week in 0..55u32 {
+        let counted = forms::from_iso(year, week, weekday);
+        if !are_alike(forms::from_iso(year, week, weekday), counted) {
+            return false;
+        }
+    }
+    for month in 0..14u32 {
+        for n in 0..7u8 {
+            let counted = forms::nth_weekday(year, month, weekday, n);
+            if !are_alike(forms::nth_weekday(year, month, weekday, n), counted) {
+                return false;
+            }
+        }
+    }
+    true
+}
+
+#[test]
+fn names_and_weeks_are_taken_alike(rt: HostRuntime) {
+    for year in YEARS {
+        assert!(rt; names_are_taken_alike(year), "in {year}");
+        for weekday in WEEK {
+            assert!(rt; weekdays_are_taken_alike(year, weekday), "in {year}");
         }
     }
 }

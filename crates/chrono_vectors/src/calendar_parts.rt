@@ -100,12 +100,6 @@ fn wrong_year_back() -> Option<i32> {
     None
 }
 
-#[test]
-fn counts_every_year(rt: HostRuntime) {
-    assert_eq!(rt; wrong_year_on(), None);
-    assert_eq!(rt; wrong_year_back(), None);
-}
-
 fn wrong_flags() -> Option<i32> {
     let mut year = -400i32;
     for flags in FROM_MINUS_400 {
@@ -117,13 +111,6 @@ fn wrong_flags() -> Option<i32> {
     None
 }
 
-#[test]
-fn flags_of_years(rt: HostRuntime) {
-    assert_eq!(rt; wrong_flags(), None);
-    assert_eq!(rt; YearFlags::from_year(i32::MIN).bits(), 7);
-    assert_eq!(rt; YearFlags::from_year(i32::MAX).bits(), 15);
-}
-
 fn wrong_length() -> Option<i32> {
     for (year, days) in LENGTHS {
         if YearFlags::from_year(year).ndays() != days {
@@ -131,11 +118,6 @@ fn wrong_length() -> Option<i32> {
         }
     }
     None
-}
-
-#[test]
-fn days_of_years(rt: HostRuntime) {
-    assert_eq!(rt; wrong_length(), None);
 }
 
 fn wrong_weeks() -> Option<u8> {
@@ -165,9 +147,20 @@ fn wrong_bits() -> Option<u8> {
 }
 
 #[test]
-fn the_fourteen_flags(rt: HostRuntime) {
-    assert_eq!(rt; wrong_weeks(), None);
-    assert_eq!(rt; wrong_bits(), None);
+fn years_have_their_flags(rt: HostRuntime) {
+    let wrong = (
+        wrong_year_on(),
+        wrong_year_back(),
+        wrong_flags(),
+        wrong_length(),
+    );
+    assert!(rt; wrong == (None, None, None, None));
+    assert!(rt; wrong_weeks().is_none() && wrong_bits().is_none());
+    let ends = (
+        YearFlags::from_year(i32::MIN).bits(),
+        YearFlags::from_year(i32::MAX).bits(),
+    );
+    assert!(rt; ends == (7, 15));
 }
 
 fn days_of(flags: u8, month: u32) -> u32 {
@@ -233,16 +226,6 @@ fn wrong_month(flags: YearFlags) -> Option<u32> {
     }
 }
 
-#[test]
-fn ordinals_of_the_real_days(rt: HostRuntime) {
-    for bits in FLAGS {
-        let Some(flags) = YearFlags::from_bits(bits) else {
-            panic!(rt; "no flags {bits}");
-        };
-        assert_eq!(rt; wrong_month(flags), None, "with the flags {bits}");
-    }
-}
-
 // Of the days and flags put into a month that is held.
 fn wrong_change(moved: &Mdf, month: u32, flags: YearFlags) -> Option<u32> {
     for day in 0u32..1_025 {
@@ -279,26 +262,6 @@ fn wrong_change_of_month(first: &Mdf, flags: YearFlags) -> Option<u32> {
     }
 }
 
-#[test]
-fn other_months_days_and_flags(rt: HostRuntime) {
-    let Some(other) = YearFlags::from_bits(1) else {
-        panic!(rt; "no flags 1");
-    };
-    let Some(first) = Mdf::new(1, 1, other) else {
-        panic!(rt; "no 1 January");
-    };
-    for bits in FLAGS {
-        let Some(flags) = YearFlags::from_bits(bits) else {
-            panic!(rt; "no flags {bits}");
-        };
-        assert_eq!(rt;
-            wrong_change_of_month(&first, flags),
-            None,
-            "with the flags {bits}"
-        );
-    }
-}
-
 // Of the days of a year, each by its ordinal; 367 if their number is not the year's.
 fn wrong_ordinal(flags: YearFlags) -> Option<u32> {
     let bits = flags.bits();
@@ -328,13 +291,25 @@ fn wrong_ordinal(flags: YearFlags) -> Option<u32> {
     }
 }
 
+// Whether all is right in years of these flags.
+fn is_right(first: &Mdf, bits: u8) -> bool {
+    match YearFlags::from_bits(bits) {
+        Some(flags) => {
+            wrong_month(flags).is_none()
+                && wrong_ordinal(flags).is_none()
+                && wrong_change_of_month(first, flags).is_none()
+        }
+        None => false,
+    }
+}
+
 #[test]
-fn months_and_days_of_ordinals(rt: HostRuntime) {
+fn months_and_days_are_those_of_ordinals(rt: HostRuntime) {
+    let Some(first) = YearFlags::from_bits(1).and_then(|flags| Mdf::new(1, 1, flags)) else {
+        panic!(rt; "no 1 January");
+    };
     for bits in FLAGS {
-        let Some(flags) = YearFlags::from_bits(bits) else {
-            panic!(rt; "no flags {bits}");
-        };
-        assert_eq!(rt; wrong_ordinal(flags), None, "with the flags {bits}");
+        assert!(rt; is_right(&first, bits), "with the flags {bits}");
     }
 }
 
@@ -349,8 +324,11 @@ fn wrong_day_of_cycle() -> Option<u32> {
 
 #[test]
 fn names_of_days(rt: HostRuntime) {
-    assert_eq!(rt; wrong_day_of_cycle(), None);
-    assert_eq!(rt; yo_to_cycle(0, 366, &mut Steps::new()), 365);
-    assert_eq!(rt; yo_to_cycle(1, 1, &mut Steps::new()), 366);
-    assert_eq!(rt; yo_to_cycle(399, 365, &mut Steps::new()), 146_096);
+    assert!(rt; wrong_day_of_cycle().is_none());
+    let days = (
+        yo_to_cycle(0, 366, &mut Steps::new()),
+        yo_to_cycle(1, 1, &mut Steps::new()),
+        yo_to_cycle(399, 365, &mut Steps::new()),
+    );
+    assert!(rt; days == (365, 366, 146_096));
 }

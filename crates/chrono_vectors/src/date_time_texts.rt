@@ -1,7 +1,7 @@
 //! The texts of date-times: known ones, in widths, and with formatters that refuse.
 
+use crate::written::{ByDebug, is_written_so};
 use chrono_datetime::{NaiveDate, NaiveDateTime, NaiveTime};
-use std::fmt::{self, Write};
 use std::process::Abort;
 use std::test::Fail;
 
@@ -66,84 +66,13 @@ fn made(rt: &impl Abort, date: (i32, u32, u32), time: (u32, u32)) -> NaiveDateTi
     NaiveDateTime::new(date, time.expect(rt, "a time of day"))
 }
 
-// A writer that refuses the call of this number, counted from 0, and takes each other one.
-#[derive(Drop)]
-struct RefusesOne {
-    refused: usize,
-    calls: usize,
-}
-
-impl Write for RefusesOne {
-    fn write_str(&mut self, _s: &str) -> fmt::Result {
-        let call = self.calls;
-        self.calls = call.saturating_add(1);
-        if call == self.refused {
-            return Err(fmt::Error);
-        }
-        Ok(())
-    }
-}
-
-// Whether an error is answered exactly where the writer refuses, however many of its calls the text takes.
-fn refusals_are_answered(date_time: &NaiveDateTime) -> bool {
-    let mut willing = RefusesOne {
-        refused: usize::MAX,
-        calls: 0,
-    };
-    if write!(willing, "{date_time}").is_err() {
-        return false;
-    }
-    for refused in 0..willing.calls {
-        let mut writer = RefusesOne { refused, calls: 0 };
-        if write!(writer, "{date_time}").is_ok() {
-            return false;
-        }
-        let mut writer = RefusesOne { refused, calls: 0 };
-        if write!(writer, "{date_time:?}").is_ok() {
-            return false;
-        }
-    }
-    willing.calls >= 3 && write!(willing, "{date_time:?}").is_ok()
-}
-
 #[test]
-fn date_times_are_written(rt: HostRuntime) -> Result<(), Fail> {
+fn date_times_are_written_in_every_style(rt: HostRuntime) -> Result<(), Fail> {
     for (date, time, shown, debugged) in TEXTS.iter().copied() {
-        let date_time = made(&rt, date, time);
-        let text = format!(in rt.alloc(); "{date_time}")?;
-        assert_eq!(rt; text.as_str(), shown);
-        let text = format!(in rt.alloc(); "{date_time:?}")?;
-        assert_eq!(rt; text.as_str(), debugged);
+        let value = made(&rt, date, time);
+        let is_shown = is_written_so(&rt, &value, shown)?;
+        let is_told = is_written_so(&rt, &ByDebug { value }, debugged)?;
+        assert!(rt; is_shown && is_told, "{shown}");
     }
     Ok(())
-}
-
-#[test]
-fn a_date_time_is_written_the_same_whatever_the_options(rt: HostRuntime) -> Result<(), Fail> {
-    for (date, time, shown, debugged) in TEXTS.iter().copied() {
-        let date_time = made(&rt, date, time);
-        let text = format!(in rt.alloc();
-            "{date_time:40}|{date_time:<40}|{date_time:*^40}|{date_time:x>40}|{date_time:+}|{date_time:040}|{date_time:.3}"
-        )?;
-        let expected = format!(in rt.alloc();
-            "{shown}|{shown}|{shown}|{shown}|{shown}|{shown}|{shown}"
-        )?;
-        assert_eq!(rt; text.as_str(), expected.as_str());
-        let text = format!(in rt.alloc();
-            "{date_time:40?}|{date_time:<40?}|{date_time:*^40?}|{date_time:x>40?}|{date_time:+?}|{date_time:040?}|{date_time:.3?}"
-        )?;
-        let expected = format!(in rt.alloc();
-            "{debugged}|{debugged}|{debugged}|{debugged}|{debugged}|{debugged}|{debugged}"
-        )?;
-        assert_eq!(rt; text.as_str(), expected.as_str());
-    }
-    Ok(())
-}
-
-#[test]
-fn errors_are_those_of_the_writer(rt: HostRuntime) {
-    for (date, time, _, _) in TEXTS.iter().copied() {
-        let date_time = made(&rt, date, time);
-        assert!(rt; refusals_are_answered(&date_time));
-    }
 }

@@ -15,6 +15,8 @@ mod date_time_texts;
 #[cfg(test)]
 mod dates;
 #[cfg(test)]
+mod ends;
+#[cfg(test)]
 mod naive_date;
 #[cfg(test)]
 mod naive_time;
@@ -25,10 +27,6 @@ mod time_delta;
 #[cfg(test)]
 mod weekday_set;
 #[cfg(test)]
-mod weekday_set_iter;
-#[cfg(test)]
-mod weekday_set_pairs;
-#[cfg(test)]
 mod weekday_texts;
 #[cfg(test)]
-mod weekday_writing;
+mod written;

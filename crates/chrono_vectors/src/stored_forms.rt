@@ -130,16 +130,17 @@ fn is_known<F: DayForm>(form: &F, number: i32, weekday: u32) -> bool {
         && again.is_some_and(|again| again == *form)
 }
 
-#[test]
-fn known_dates_are_stored_so(rt: HostRuntime) {
-    for (year, month, day, number, weekday, bits) in KNOWN {
-        let packed = PackedForm::from_ymd(year, month, day).expect(&rt, "a date");
-        let counted = CountedForm::from_ymd(year, month, day).expect(&rt, "a date");
-        let are_known = (
-            is_known(&packed, number, weekday),
-            is_known(&counted, number, weekday),
-        );
-        assert_eq!(rt; (are_known, packed.bits()), ((true, true), bits));
+// Whether both forms of a row are as it says.
+fn row_is_known((year, month, day, number, weekday, bits): (i32, u32, u32, i32, u32, i32)) -> bool {
+    let packed = PackedForm::from_ymd(year, month, day);
+    let counted = CountedForm::from_ymd(year, month, day);
+    match (packed, counted) {
+        (Some(packed), Some(counted)) => {
+            packed.bits() == bits
+                && is_known(&packed, number, weekday)
+                && is_known(&counted, number, weekday)
+        }
+        _ => false,
     }
 }
 
@@ -186,11 +187,6 @@ fn refuses_others<F: DayForm>() -> bool {
     true
 }
 
-#[test]
-fn other_names_are_no_dates(rt: HostRuntime) {
-    assert!(rt; refuses_others::<PackedForm>() && refuses_others::<CountedForm>());
-}
-
 /// Whether a date before year 0 comes between the ends and a date after them, and is equal and hashed alike by each of
 /// its names.
 fn is_ordered<F: DayForm>(first: F, last: F) -> bool {
@@ -209,16 +205,16 @@ fn is_ordered<F: DayForm>(first: F, last: F) -> bool {
 }
 
 #[test]
-fn the_ends_and_the_order(rt: HostRuntime) {
+fn known_dates_are_stored_so_and_other_names_are_no_dates(rt: HostRuntime) {
+    for row in KNOWN {
+        assert!(rt; row_is_known(row), "in {}", row.0);
+    }
+    assert!(rt; refuses_others::<PackedForm>() && refuses_others::<CountedForm>());
     let packed = (PackedForm::min_value(), PackedForm::max_value());
     let counted = (CountedForm::min_value(), CountedForm::max_value());
-    assert_eq!(rt;
-        (packed.0.bits(), packed.1.bits()),
-        (-2_147_475_430, 2_147_473_118)
-    );
-    assert_eq!(rt;
-        (counted.0.year_month_day(), counted.1.year_month_day()),
-        ((-262_143, 1, 1), (262_142, 12, 31))
-    );
     assert!(rt; is_ordered(packed.0, packed.1) && is_ordered(counted.0, counted.1));
+    let bits = (packed.0.bits(), packed.1.bits());
+    assert!(rt; bits == (-2_147_475_430, 2_147_473_118));
+    let names = (counted.0.year_month_day(), counted.1.year_month_day());
+    assert!(rt; names == ((-262_143, 1, 1), (262_142, 12, 31)));
 }

@@ -1,65 +1,56 @@
 //! The texts of weekdays, of sets of weekdays and of the refusal of a number.
 
 use crate::weekday_set::numbered;
+use crate::written::{ByDebug, errs_where_refused, is_written_so};
 use chrono_units::OutOfRange;
-use chrono_units::Weekday::{Fri, Mon, Sat, Sun, Thu, Tue, Wed};
+use chrono_units::Weekday::{self, Fri, Mon, Sat, Sun, Thu, Tue, Wed};
 use std::test::Fail;
 
-#[test]
-fn days_are_written_by_three_letters(rt: HostRuntime) -> Result<(), Fail> {
-    for (day, text) in [
-        (Mon, "Mon"),
-        (Tue, "Tue"),
-        (Wed, "Wed"),
-        (Thu, "Thu"),
-        (Fri, "Fri"),
-        (Sat, "Sat"),
-        (Sun, "Sun"),
-    ] {
-        let shown = format!(in rt.alloc(); "{day}")?;
-        assert_eq!(rt; shown.as_str(), text);
-    }
-    Ok(())
-}
+const DAYS: [(Weekday, &str); 7] = [
+    (Mon, "Mon"),
+    (Tue, "Tue"),
+    (Wed, "Wed"),
+    (Thu, "Thu"),
+    (Fri, "Fri"),
+    (Sat, "Sat"),
+    (Sun, "Sun"),
+];
 
 // A width, and Thursday in it: by itself, and standing left, in the middle and right with another fill.
-const IN_WIDTHS: [(usize, &str, &str, &str, &str); 10] = [
-    (0, "Thu", "Thu", "Thu", "Thu"),
-    (1, "Thu", "Thu", "Thu", "Thu"),
-    (2, "Thu", "Thu", "Thu", "Thu"),
-    (3, "Thu", "Thu", "Thu", "Thu"),
-    (4, "Thu ", "ThuZ", "Thu_", "xThu"),
-    (5, "Thu  ", "ThuZZ", "_Thu_", "xxThu"),
-    (6, "Thu   ", "ThuZZZ", "_Thu__", "xxxThu"),
-    (7, "Thu    ", "ThuZZZZ", "__Thu__", "xxxxThu"),
-    (8, "Thu     ", "ThuZZZZZ", "__Thu___", "xxxxxThu"),
-    (9, "Thu      ", "ThuZZZZZZ", "___Thu___", "xxxxxxThu"),
+const IN_WIDTHS: [(usize, &str); 10] = [
+    (0, "Thu|Thu|Thu|Thu"),
+    (1, "Thu|Thu|Thu|Thu"),
+    (2, "Thu|Thu|Thu|Thu"),
+    (3, "Thu|Thu|Thu|Thu"),
+    (4, "Thu |ThuZ|Thu_|xThu"),
+    (5, "Thu  |ThuZZ|_Thu_|xxThu"),
+    (6, "Thu   |ThuZZZ|_Thu__|xxxThu"),
+    (7, "Thu    |ThuZZZZ|__Thu__|xxxxThu"),
+    (8, "Thu     |ThuZZZZZ|__Thu___|xxxxxThu"),
+    (9, "Thu      |ThuZZZZZZ|___Thu___|xxxxxxThu"),
 ];
 
 #[test]
-fn a_day_is_filled_to_a_width(rt: HostRuntime) -> Result<(), Fail> {
-    for (width, plain, left, centre, right) in IN_WIDTHS.iter().copied() {
-        let day = Thu;
+fn days_are_written(rt: HostRuntime) -> Result<(), Fail> {
+    for (day, text) in DAYS.iter().copied() {
+        assert!(rt; errs_where_refused(&day, text), "{text}");
+    }
+    let day = Thu;
+    for (width, text) in IN_WIDTHS.iter().copied() {
         let shown = format!(in rt.alloc();
             "{day:width$}|{day:Z<width$}|{day:_^width$}|{day:x>width$}"
         )?;
-        let expected = format!(in rt.alloc(); "{plain}|{left}|{centre}|{right}")?;
-        assert_eq!(rt; shown.as_str(), expected.as_str());
+        assert_eq!(rt; shown.as_str(), text);
     }
-    Ok(())
-}
-
-#[test]
-fn a_day_stands_at_either_side_or_in_the_middle(rt: HostRuntime) -> Result<(), Fail> {
-    let day = Mon;
-    let shown = format!(in rt.alloc(); "{day:x>7}|{day:^7}|{day:Z<7}|{day:^8}")?;
-    assert_eq!(rt; shown.as_str(), "xxxxMon|  Mon  |MonZZZZ|  Mon   ");
+    let (day, other) = (Thu, Mon);
+    let shown = format!(in rt.alloc(); "{day:+}|{day:.2}|{day:*^9.2}|{other:^7}|{other:^8}")?;
+    assert_eq!(rt; shown.as_str(), "Thu|Th|***Th****|  Mon  |  Mon   ");
     Ok(())
 }
 
 // A set, and its two texts.
 #[rattlefmt::skip]
-const SETS: [(u8, &str, &str); 17] = [
+const SETS: [(u8, &str, &str); 19] = [
     (0, "[]", "WeekdaySet(0000000)"),
     (1, "[Mon]", "WeekdaySet(0000001)"),
     (2, "[Tue]", "WeekdaySet(0000010)"),
@@ -71,6 +62,8 @@ const SETS: [(u8, &str, &str); 17] = [
     (65, "[Mon, Sun]", "WeekdaySet(1000001)"),
     (73, "[Mon, Thu, Sun]", "WeekdaySet(1001001)"),
     (85, "[Mon, Wed, Fri, Sun]", "WeekdaySet(1010101)"),
+    (91, "[Mon, Tue, Thu, Fri, Sun]", "WeekdaySet(1011011)"),
+    (95, "[Mon, Tue, Wed, Thu, Fri, Sun]", "WeekdaySet(1011111)"),
     (96, "[Sat, Sun]", "WeekdaySet(1100000)"),
     (100, "[Wed, Sat, Sun]", "WeekdaySet(1100100)"),
     (112, "[Fri, Sat, Sun]", "WeekdaySet(1110000)"),
@@ -80,20 +73,27 @@ const SETS: [(u8, &str, &str); 17] = [
 ];
 
 #[test]
-fn sets_are_written(rt: HostRuntime) -> Result<(), Fail> {
+fn sets_are_written_in_every_style(rt: HostRuntime) -> Result<(), Fail> {
     for (number, display, debug) in SETS.iter().copied() {
         let set = numbered(number);
-        let shown = format!(in rt.alloc(); "{set}")?;
-        assert_eq!(rt; shown.as_str(), display);
-        let shown = format!(in rt.alloc(); "{set:?}")?;
-        assert_eq!(rt; shown.as_str(), debug);
+        let is_shown = is_written_so(&rt, &set, display)?;
+        let is_told = is_written_so(&rt, &ByDebug { value: set }, debug)?;
+        assert!(rt; is_shown && is_told, "{number}");
     }
+    let is_written = is_written_so(&rt, &OutOfRange::new(), "out of range")?;
+    assert!(rt; is_written);
     Ok(())
 }
 
 #[test]
-fn a_refusal_is_written(rt: HostRuntime) -> Result<(), Fail> {
-    let shown = format!(in rt.alloc(); "{}", OutOfRange::new())?;
-    assert_eq!(rt; shown.as_str(), "out of range");
+fn every_set_errs_where_it_is_refused(rt: HostRuntime) -> Result<(), Fail> {
+    for number in 0..128u8 {
+        let set = numbered(number);
+        let shown = format!(in rt.alloc(); "{set}")?;
+        let told = format!(in rt.alloc(); "{set:?}")?;
+        let is_shown = errs_where_refused(&set, shown.as_str());
+        let is_told = errs_where_refused(&ByDebug { value: set }, told.as_str());
+        assert!(rt; is_shown && is_told, "{number}");
+    }
     Ok(())
 }

@@ -1,13 +1,14 @@
 //! Moves of a date by days, by months and by durations, the difference of dates, and what is reached from a date: weeks and
 //! iterators.
-ghost use Rattle.std.specs.Prelude.{◌≡◌, ◌+◌, ◌≤◌, pos, neg_ℤ, ◌+ℤ◌, ◌-ℤ◌, ◌≤ℤ◌, ◌<ℤ◌, unsigned_abs, IsSome, OnSome, IfSome, IfNone, SomeIff, ◌↔◌};
+ghost use Rattle.std.specs.Prelude.{◌≡◌, ◌+◌, ◌≤◌, ℤ, pos, neg_ℤ, ◌+ℤ◌, ◌-ℤ◌, ◌*ℤ◌, ◌≤ℤ◌, ◌<ℤ◌, min, unsigned_abs, false, Some, IsSome, IfSome, IfNone, IsSomeAnd, IsTrue, ◌↔◌};
 ghost use Rattle.chrono_units.specs.Years.{IsYear};
+ghost use Rattle.chrono_units.specs.WeekdaySet.{DaySet, IsSubset, contains};
 ghost use Rattle.chrono_clock.specs.Duration.{nanos_per_day, units_of, whole_units};
-ghost use Rattle.chrono_calendar.specs.Days.{IsDate, date_of_day, year_of};
+ghost use Rattle.chrono_calendar.specs.Days.{IsDate, date_of_day, day_of, year_of};
 ghost use Rattle.chrono_calendar.specs.Weeks.{week_first_of, weekday_of};
-ghost use Rattle.chrono_calendar.specs.MonthMoves.{MonthMovesAddUp, ComesBack, KeepsOrder, month_move};
+ghost use Rattle.chrono_calendar.specs.MonthMoves.{MonthMovesAddUp, ComesBack, KeepsOrder, LaterMultiplesAreLater, month_index_of, month_length_of, month_move};
+ghost use Rattle.chrono_calendar.specs.Recurrence.{IsLastOfFebruary, IsLeapDay, date_every, date_on};
 ghost use Rattle.chrono_calendar.specs.YearsBetween.{years_between as whole_years};
-ghost use Rattle.chrono_naive.specs.DateLists.{days_left};
 
 use crate::days::Days;
 use crate::naive_date::{LAST_DAY, NaiveDate};
@@ -17,7 +18,7 @@ use crate::naive_week::NaiveWeek;
 use chrono_calendar::{DayForm, Steps, forms};
 use chrono_clock::TimeDelta;
 use chrono_units::year::is_year;
-use chrono_units::{Months, Weekday};
+use chrono_units::{Months, Weekday, WeekdaySet};
 
 impl NaiveDate {
     /// The date so many days later; `None` exactly if that is past [`MAX`](Self::MAX).
@@ -93,28 +94,6 @@ impl NaiveDate {
         })
     }
 
-    // Moves the date by so many days, and answers where it stood; `None` if the move would end at no date, and then the
-    // date stays.
-    #[inline]
-    pub(crate) fn step(&mut self, days: i64) -> Option<NaiveDate>
-        ensures date { SomeIff result (IsDate (self.old +ℤ days)) self.old }
-        ensures moved { OnSome result (self.new ≡ self.old +ℤ days) }
-        ensures refused { IfNone result (self.new ≡ self.old) }
-        ensures in_range { IsDate self.old }
-    {
-        let current = *self;
-        *self = current.moved_by_days(days)?;
-        Some(current)
-    }
-
-    // The days from this date to the last one.
-    #[inline]
-    pub(crate) fn days_left(self) -> u32
-        ensures { result ≡ days_left self }
-    {
-        (LAST_DAY - self.day_number()) as u32
-    }
-
     /// The same day so many months later, or the last day of that month if it is shorter; `None` exactly if the year of
     /// that month is past 262,142.
     ///
@@ -156,6 +135,30 @@ impl NaiveDate {
         prove!(is_year(self.form.year()));
         Some(NaiveDate {
             form: forms::move_months(self.form, months)?,
+        })
+    }
+
+    /// The same day `k` times `i` months later, or earlier for a negative `k`, or the last day of that month if it is shorter;
+    /// `None` exactly if that month's year is not from -262,143 to 262,142.
+    ///
+    /// It is one move from this date, and not `i` moves in a row: from 31 January 2024 every month, the dates are 29 February
+    /// and then 31 March.
+    #[inline]
+    pub fn every_months(self, k: i32, i: u32) -> Option<NaiveDate>
+        ensures date { result ≡ date_every self k i }
+        ensures start { i ≡ 0 → result ≡ Some self }
+        ensures month { IfSome result (λ e. month_index_of e ≡ month_index_of self +ℤ k *ℤ pos i) }
+        ensures day { IfSome result (λ e. day_of e ≡ min (day_of self) (month_length_of e)) }
+        // A higher multiple of a positive number of months comes to a later date, if to one.
+        ensures later { pos 0 <ℤ k → IfSome result (λ e. LaterMultiplesAreLater self k i e) }
+        // Whole years from a leap day end on the last day of February.
+        ensures leap_day { IsLeapDay self → (years : ℤ) → k ≡ pos 12 *ℤ years →
+            IfSome result (λ e. IsLastOfFebruary e) }
+    {
+        // The date is one, so no month away from it is the date itself.
+        prove!(self.day_number() <= LAST_DAY);
+        Some(NaiveDate {
+            form: forms::every_months(self.form, k, i)?,
         })
     }
 
@@ -225,7 +228,36 @@ impl NaiveDate {
         NaiveWeek::new(forms::week_first(&self.form, start))
     }
 
-    /// This date and those after it, day after day, up to the one before [`MAX`](Self::MAX).
+    /// The first date not before this one whose weekday is in the set: the date itself, if its own is. `None` exactly if no date
+    /// from this one to [`MAX`](Self::MAX) has such a weekday, so for every empty set.
+    ///
+    /// So from 30 December 2024, a Monday, the first Tuesday or Thursday is the 31st.
+    #[inline]
+    pub fn first_on(self, set: WeekdaySet) -> Option<NaiveDate>
+        ensures date { result ≡ date_on self set }
+        ensures member { IfSome result (λ e. IsTrue (contains set (weekday_of e))) }
+        // No date from this one to before the answer has such a weekday.
+        ensures least { IfSome result (λ e. (d : ℤ) → self ≤ℤ d → d <ℤ e →
+            contains set (weekday_of d) ≡ false) }
+        ensures none { IfNone result ((d : ℤ) → self ≤ℤ d → IsDate d →
+            contains set (weekday_of d) ≡ false) }
+        ensures not_before { IfSome result (λ e. self ≤ℤ e) }
+        ensures near { IfSome result (λ e. e <ℤ (self +ℤ pos 7)) }
+        ensures start { IsTrue (contains set (weekday_of self)) → result ≡ Some self }
+        // Asked again from the answer it is the answer.
+        ensures again { IfSome result (λ e. date_on e set ≡ Some e) }
+        // A larger set has a date that is not later.
+        ensures larger { IfSome result (λ e. (more : DaySet) → IsSubset set more →
+            IsSomeAnd (date_on self more) (λ f. f ≤ℤ e)) }
+    {
+        // No date is past the last.
+        prove!(self.day_number() <= LAST_DAY);
+        Some(NaiveDate {
+            form: forms::first_on(self.form, set)?,
+        })
+    }
+
+    /// This date and those after it, day after day, up to [`MAX`](Self::MAX).
     #[inline]
     pub fn iter_days(&self) -> NaiveDateDaysIterator
         ensures { result ≡ self.now }

@@ -2,7 +2,7 @@
 
 use crate::naive_time::at;
 use crate::time_delta::delta;
-use std::fmt::{self, Write};
+use crate::written::{ByDebug, is_written_so};
 use std::test::Fail;
 
 // A duration, in seconds rounded down and nanoseconds past them, and its text: no fraction, fractions that end in each
@@ -104,101 +104,21 @@ const TIMES: [(u32, u32, &str); 22] = [
 ];
 
 #[test]
-fn durations_are_written_in_every_shape(rt: HostRuntime) -> Result<(), Fail> {
+fn durations_are_written_in_every_style(rt: HostRuntime) -> Result<(), Fail> {
     for (secs, nanos, text) in DURATIONS.iter().copied() {
-        let duration = delta(&rt, secs, nanos);
-        let shown = format!(in rt.alloc(); "{duration}|{duration:40}|{duration:*^+40.3}")?;
-        let expected = format!(in rt.alloc(); "{text}|{text}|{text}")?;
-        assert_eq!(rt;
-            (shown.as_str(), fails_where_refused(&duration)),
-            (expected.as_str(), true)
-        );
+        let is_written = is_written_so(&rt, &delta(&rt, secs, nanos), text)?;
+        assert!(rt; is_written, "{text}");
     }
     Ok(())
 }
 
 #[test]
-fn times_are_written_in_every_shape(rt: HostRuntime) -> Result<(), Fail> {
+fn times_are_written_in_every_style(rt: HostRuntime) -> Result<(), Fail> {
     for (secs, nanos, text) in TIMES.iter().copied() {
-        let time = at(&rt, secs, nanos);
-        let shown = format!(in rt.alloc(); "{time}|{time:?}|{time:40}|{time:*^+40.3}")?;
-        let expected = format!(in rt.alloc(); "{text}|{text}|{text}|{text}")?;
-        assert_eq!(rt;
-            (shown.as_str(), fails_where_refused(&time)),
-            (expected.as_str(), true)
-        );
+        let value = at(&rt, secs, nanos);
+        let is_shown = is_written_so(&rt, &value, text)?;
+        let is_told = is_written_so(&rt, &ByDebug { value }, text)?;
+        assert!(rt; is_shown && is_told, "{text}");
     }
     Ok(())
-}
-
-// A width, a fill, an alignment, a sign, zeros and a precision change no text of these.
-#[test]
-fn styles_change_no_text(rt: HostRuntime) -> Result<(), Fail> {
-    let half = delta(&rt, 60, 500_000_000);
-    let shown = format!(in rt.alloc();
-        "{half:30}|{half:<30}|{half:*^30}|{half:x>30}|{half:+}|{half:030}|{half:.1}|{half:*^+30.1}"
-    )?;
-    let text = "PT60.5S";
-    let expected = format!(in rt.alloc();
-        "{text}|{text}|{text}|{text}|{text}|{text}|{text}|{text}"
-    )?;
-    assert_eq!(rt; shown.as_str(), expected.as_str());
-    let time = at(&rt, 86_399, 1_500_000_000);
-    let shown = format!(in rt.alloc();
-        "{time:30}|{time:<30}|{time:*^30}|{time:x>30}|{time:+}|{time:030}|{time:.1}|{time:*^+30.1}"
-    )?;
-    let debug = format!(in rt.alloc();
-        "{time:30?}|{time:<30?}|{time:*^30?}|{time:x>30?}|{time:+?}|{time:030?}|{time:.1?}|{time:*^+30.1?}"
-    )?;
-    let text = "23:59:60.500";
-    let expected = format!(in rt.alloc();
-        "{text}|{text}|{text}|{text}|{text}|{text}|{text}|{text}"
-    )?;
-    assert_eq!(rt; shown.as_str(), expected.as_str());
-    assert_eq!(rt; debug.as_str(), expected.as_str());
-    Ok(())
-}
-
-#[test]
-fn width_and_sign_change_no_text(rt: HostRuntime) -> Result<(), Fail> {
-    let half = delta(&rt, 0, 500_000_000);
-    let shown = format!(in rt.alloc(); "{half:>20}|{half:+}|{half:.1}")?;
-    assert_eq!(rt; shown.as_str(), "PT0.5S|PT0.5S|PT0.5S");
-    Ok(())
-}
-
-// A writer that takes so many pieces, and refuses those after them.
-#[derive(Drop)]
-struct Few {
-    pieces: usize,
-    refused: bool,
-}
-
-impl Write for Few {
-    fn write_str(&mut self, _piece: &str) -> fmt::Result {
-        if self.pieces == 0 {
-            self.refused = true;
-            return Err(fmt::Error);
-        }
-        self.pieces -= 1;
-        Ok(())
-    }
-}
-
-/// Whether writing the value fails exactly where the writer refuses a piece, whichever piece that is.
-pub fn fails_where_refused<T: fmt::Display>(value: &T) -> bool {
-    for pieces in 0..64 {
-        let mut few = Few {
-            pieces,
-            refused: false,
-        };
-        let failed = write!(few, "{value}").is_err();
-        if failed != few.refused {
-            return false;
-        }
-        if !failed {
-            return pieces > 0;
-        }
-    }
-    false
 }

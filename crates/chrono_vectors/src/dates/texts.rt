@@ -1,9 +1,8 @@
 //! The texts of dates and of ISO weeks: known values of each length, styles, and refusals.
-use crate::clock::texts::fails_where_refused;
-use chrono_naive::{Datelike, IsoWeek, NaiveDate};
-use std::alloc::AllocError;
-use std::fmt;
+use crate::written::{ByDebug, is_written_so};
+use chrono_naive::{Datelike, NaiveDate};
 use std::process::Abort;
+use std::test::Fail;
 
 // The year, the month and the day of a date, and its text: years of four, five and six digits, with and without a sign.
 #[rattlefmt::skip]
@@ -41,77 +40,28 @@ const WEEKS: [(i32, u32, u32, &str); 12] = [
     (262_142, 12, 31, "+262143-W01"),
 ];
 
-// What `{:?}` writes of a value, as a text of `{}`.
-#[derive(Drop)]
-struct ByDebug<T> {
-    value: T,
-}
-
-impl<T: fmt::Debug> fmt::Display for ByDebug<T> {
-    fn fmt<W: fmt::Write>(&self, f: &mut fmt::Formatter<W>) -> fmt::Result {
-        fmt::Debug::fmt(&self.value, f)
-    }
-}
-
 // The date of that name, which has to be one.
 fn date(rt: &impl Abort, year: i32, month: u32, day: u32) -> NaiveDate {
     NaiveDate::from_ymd_opt(year, month, day).expect(rt, "a date")
 }
 
-// The ISO week of the date of that name.
-fn week(rt: &impl Abort, year: i32, month: u32, day: u32) -> IsoWeek {
-    date(rt, year, month, day).iso_week()
-}
-
 #[test]
-fn dates_are_written_in_every_shape(rt: HostRuntime) -> Result<(), AllocError> {
+fn dates_are_written_in_every_style(rt: HostRuntime) -> Result<(), Fail> {
     for (year, month, day, text) in DATES.iter().copied() {
-        let date = date(&rt, year, month, day);
-        let shown = format!(in rt.alloc(); "{date}|{date:?}|{date:40}|{date:*^+40.3}")?;
-        let expected = format!(in rt.alloc(); "{text}|{text}|{text}|{text}")?;
-        assert_eq!(rt; shown.as_str(), expected.as_str());
-        assert!(rt; fails_where_refused(&date));
-        assert!(rt; fails_where_refused(&ByDebug { value: date }));
+        let value = date(&rt, year, month, day);
+        let is_shown = is_written_so(&rt, &value, text)?;
+        let is_told = is_written_so(&rt, &ByDebug { value }, text)?;
+        assert!(rt; is_shown && is_told, "{text}");
     }
     Ok(())
 }
 
 #[test]
-fn iso_weeks_are_written_in_every_shape(rt: HostRuntime) -> Result<(), AllocError> {
+fn iso_weeks_are_written_in_every_style(rt: HostRuntime) -> Result<(), Fail> {
     for (year, month, day, text) in WEEKS.iter().copied() {
-        let week = week(&rt, year, month, day);
-        let shown = format!(in rt.alloc(); "{week:?}|{week:40?}|{week:*^+40.3?}")?;
-        let expected = format!(in rt.alloc(); "{text}|{text}|{text}")?;
-        assert_eq!(rt; shown.as_str(), expected.as_str());
-        assert!(rt; fails_where_refused(&ByDebug { value: week }));
+        let value = date(&rt, year, month, day).iso_week();
+        let is_told = is_written_so(&rt, &ByDebug { value }, text)?;
+        assert!(rt; is_told, "{text}");
     }
-    Ok(())
-}
-
-// A width, a fill, an alignment, a sign, zeros and a precision change no text of these.
-#[test]
-fn styles_change_no_text(rt: HostRuntime) -> Result<(), AllocError> {
-    let date = date(&rt, -262_143, 1, 1);
-    let shown = format!(in rt.alloc();
-        "{date:40}|{date:<40}|{date:*^40}|{date:x>40}|{date:+}|{date:040}|{date:.3}|{date:*^+40.3}"
-    )?;
-    let debug = format!(in rt.alloc();
-        "{date:40?}|{date:<40?}|{date:*^40?}|{date:x>40?}|{date:+?}|{date:040?}|{date:.3?}|{date:*^+40.3?}"
-    )?;
-    let text = "-262143-01-01";
-    let expected = format!(in rt.alloc();
-        "{text}|{text}|{text}|{text}|{text}|{text}|{text}|{text}"
-    )?;
-    assert_eq!(rt; shown.as_str(), expected.as_str());
-    assert_eq!(rt; debug.as_str(), expected.as_str());
-    let week = date.iso_week();
-    let debug = format!(in rt.alloc();
-        "{week:40?}|{week:<40?}|{week:*^40?}|{week:x>40?}|{week:+?}|{week:040?}|{week:.3?}|{week:*^+40.3?}"
-    )?;
-    let text = "-262143-W01";
-    let expected = format!(in rt.alloc();
-        "{text}|{text}|{text}|{text}|{text}|{text}|{text}|{text}"
-    )?;
-    assert_eq!(rt; debug.as_str(), expected.as_str());
     Ok(())
 }

@@ -43,28 +43,6 @@ fn by_months(date: NaiveDate) -> Option<[i32; 2]> {
     Some([later.num_days_from_ce(), earlier.num_days_from_ce()])
 }
 
-#[test]
-fn days_and_durations_are_added_and_taken_away(rt: HostRuntime) {
-    let date = day(&rt, 738_945);
-    assert_eq!(rt;
-        [by_days(date), by_durations(date), in_place(date)],
-        [
-            Some([738_976, 738_885]),
-            Some([739_251, 738_946]),
-            Some([739_251, 739_252])
-        ]
-    );
-}
-
-#[test]
-fn months_are_added_and_taken_away(rt: HostRuntime) {
-    let march = NaiveDate::from_ymd_opt(2024, 3, 31).and_then(by_months);
-    assert_eq!(rt;
-        [march, by_months(NaiveDate::default())],
-        [Some([739_006, 738_945]), Some([719_194, 719_132])]
-    );
-}
-
 // About the epoch, by a day and by two, on and back.
 fn about_the_epoch() -> [i32; 6] {
     let (date, day) = (NaiveDate::default(), TimeDelta::days(1));
@@ -83,6 +61,12 @@ fn about_the_epoch() -> [i32; 6] {
 }
 
 #[test]
-fn the_epoch_is_moved(rt: HostRuntime) {
-    assert_eq!(rt; about_the_epoch(), [1, -1, 2, -2, 1, 0]);
+fn dates_are_moved(rt: HostRuntime) {
+    let date = day(&rt, 738_945);
+    assert!(rt; by_days(date) == Some([738_976, 738_885]));
+    assert!(rt; by_durations(date) == Some([739_251, 738_946]));
+    assert!(rt; in_place(date) == Some([739_251, 739_252]));
+    assert!(rt; by_months(day(&rt, 738_976)) == Some([739_006, 738_945]));
+    assert!(rt; by_months(NaiveDate::default()) == Some([719_194, 719_132]));
+    assert!(rt; about_the_epoch() == [1, -1, 2, -2, 1, 0]);
 }

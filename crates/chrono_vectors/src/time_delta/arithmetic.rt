@@ -14,21 +14,6 @@ fn combined() -> [TimeDelta; 6] {
     ]
 }
 
-#[test]
-fn operators_give_what_the_checked_calls_give(rt: HostRuntime) {
-    assert_eq!(rt;
-        combined(),
-        [
-            TimeDelta::days(1) + TimeDelta::seconds(3),
-            TimeDelta::seconds(863_000),
-            TimeDelta::seconds(-136_000),
-            TimeDelta::seconds(86_330) - TimeDelta::days(4),
-            TimeDelta::seconds(-3),
-            TimeDelta::nanoseconds(-1_333_333_333),
-        ]
-    );
-}
-
 // A duration changed in place step by step, with an hour less than the last.
 fn changed() -> [TimeDelta; 5] {
     let mut duration = TimeDelta::seconds(86_399);
@@ -49,15 +34,22 @@ fn changed() -> [TimeDelta; 5] {
 }
 
 #[test]
-fn operators_change_a_duration_in_place(rt: HostRuntime) {
-    assert_eq!(rt;
-        changed(),
-        [
-            TimeDelta::seconds(86_403),
-            TimeDelta::seconds(3),
-            TimeDelta::seconds(864_003),
-            TimeDelta::seconds(863_000),
-            TimeDelta::seconds(859_400),
-        ]
-    );
+fn operators_give_what_the_checked_calls_give(rt: HostRuntime) {
+    let expected = [
+        TimeDelta::days(1) + TimeDelta::seconds(3),
+        TimeDelta::seconds(863_000),
+        TimeDelta::seconds(-136_000),
+        TimeDelta::seconds(86_330) - TimeDelta::days(4),
+        TimeDelta::seconds(-3),
+        TimeDelta::nanoseconds(-1_333_333_333),
+    ];
+    assert!(rt; combined() == expected);
+    let expected = [
+        TimeDelta::seconds(86_403),
+        TimeDelta::seconds(3),
+        TimeDelta::seconds(864_003),
+        TimeDelta::seconds(863_000),
+        TimeDelta::seconds(859_400),
+    ];
+    assert!(rt; changed() == expected);
 }

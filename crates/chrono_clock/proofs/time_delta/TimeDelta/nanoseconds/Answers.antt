@@ -1,12 +1,13 @@
-use Rattle.std.proofs.Common.{arith}
-use Rattle.chrono_clock.specs.Signed.{signed, one_side}
+use Rattle.std.proofs.Common.{pos, arith}
+use Rattle.std.proofs.lemmas.Int.{quot-rem}
+use Rattle.chrono_clock.specs.Signed.{signed}
 use Rattle.chrono_clock.proofs.time_delta.TimeDelta.nanoseconds.Goals as goal
 
 pub from_signed-requires-clause-past_second : goal.from_signed-requires-clause-past_second
-from_signed-requires-clause-past_second c = omega (arith, signed, one_side c.args.nanos)
+from_signed-requires-clause-past_second c = omega (arith, signed, quot-rem c.args.nanos (pos 1_000_000_000))
 
 pub from_signed-requires-clause-in_range : goal.from_signed-requires-clause-in_range
-from_signed-requires-clause-in_range c = omega (arith, signed, one_side c.args.nanos)
+from_signed-requires-clause-in_range c = omega (arith, signed, quot-rem c.args.nanos (pos 1_000_000_000))
 
 pub returns : goal.returns
-returns c = omega (arith, signed, one_side c.args.nanos)
+returns c = omega (arith, signed, quot-rem c.args.nanos (pos 1_000_000_000))

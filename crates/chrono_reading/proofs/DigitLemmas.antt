@@ -1,0 +1,117 @@
+-- Digits and the numbers that they write: all the digits of a number of so many places, and numbers in decimal.
+use Rattle.std.proofs.Common.{inl, inr, ◌≡◌, ℕ, zero, suc, ◌+◌, ◌-◌, ◌*◌, ◌/◌, ◌%◌, ◌^◌, ◌<◌, ◌≤◌, List, [], ◌∷◌, length, get_or, arith, refl, sym, ap, ◌∙◌, lit<, take, length-take}
+use Rattle.std.specs.Fmt.{decimal}
+use Rattle.std.specs.Str.Parse.{AllDigits, digits_value}
+use Rattle.std.proofs.lemmas.Str.{digit_value_digit}
+use Rattle.std.proofs.lemmas.Str.Parse.{IsNumeralModel, digit_from_value, digits_value_short, numerals_by_value, numerals_by_weight, tells_digits}
+use Rattle.std.proofs.lemmas.Fmt.{decimal_digit, decimal_is_IsNumeral, decimal-digits_value, first_decimal, length-decimal-le}
+use Rattle.std.proofs.lemmas.Bool.{cases_lt}
+use Rattle.std.proofs.lemmas.Nat.{div-add-mod', div-mul-add, mod-mul-add, mul-add-lt, mod_below, div_below}
+use Rattle.std.proofs.Math.Nat.{pow-succ'}
+use Rattle.chrono_datetime.specs.Text.{two_digits, all_digits}
+use Rattle.chrono_reading.specs.Numerals.{HasDecimalForm}
+
+-- what digits write, each worth its own value times ten to the number of digits behind it
+abbrev worth : List ℕ → ℕ
+worth [] = 0
+worth (c ∷ cs) = (c - 48) * 10 ^ length cs + worth cs
+
+weighed : IsNumeralModel (AllDigits 10) worth
+weighed = numerals_by_weight _ tells_digits worth (record { empty = refl; more = λ c cs range. refl })
+
+valued : IsNumeralModel (AllDigits 10) (digits_value 10)
+valued = numerals_by_value _ tells_digits
+
+pub pow_pos : (k : ℕ) → 0 < 10 ^ k
+pow_pos zero = lit< tt
+pow_pos (suc k) = omega (arith, pow_pos k)
+
+-- digits are all those of what they write, a number of so many places
+from_digits : (ds : List ℕ) → AllDigits 10 ds → (worth ds < 10 ^ length ds) × (all_digits (length ds) (worth ds) ≡ ds)
+from_digits [] h = (lit< tt, refl)
+from_digits (c ∷ cs) h =
+    let rest = from_digits cs h.1 in
+    let unit : 10 ^ suc (length cs) ≡ 10 * 10 ^ length cs = pow-succ' 10 (length cs) in
+    let is = digit_from_value c h.0 in
+    let front : (48 + ((c - 48) * 10 ^ length cs + worth cs) / 10 ^ length cs) ≡ c = omega (arith, div-mul-add (c - 48) (10 ^ length cs) (worth cs) rest.0) in
+    let back : ((c - 48) * 10 ^ length cs + worth cs) % 10 ^ length cs ≡ worth cs = mod-mul-add (c - 48) (10 ^ length cs) (worth cs) rest.0 in (
+      omega (arith, mul-add-lt (c - 48) (10 ^ length cs) (worth cs) 10 (omega arith) rest.0),
+      rw (front, back) (ap (λ (t : List ℕ). c ∷ t) rest.1),
+    )
+
+-- the digits of a number of so many places are as many digits, and write it
+pub to_digits : (k n : ℕ) → n < 10 ^ k → (length (all_digits k n) ≡ k) × AllDigits 10 (all_digits k n) × (worth (all_digits k n) ≡ n)
+to_digits zero n h = (refl, tt, omega arith)
+to_digits (suc k) n h =
+    let unit : 10 ^ suc k ≡ 10 * 10 ^ k = pow-succ' 10 k in
+    let first : n / 10 ^ k < 10 = div_below n (10 ^ k) 10 (pow_pos k) (omega arith) in
+    let rest = to_digits k (n % 10 ^ k) (mod_below n (10 ^ k) (pow_pos k)) in
+    let plain : (48 + n / 10 ^ k - 48) ≡ n / 10 ^ k = omega arith in
+    let is = digit_value_digit (48 + n / 10 ^ k) (omega arith, omega arith) in (
+      ap suc rest.0,
+      (omega arith, rest.1),
+      rw (rest.0, rest.2, plain) (div-add-mod' n (10 ^ k)),
+    )
+
+-- what fewer than 18 digits write fits a machine word
+pub front_fits : (text : List ℕ) (i : ℕ) → AllDigits 10 (take i text) → i ≤ 17 → digits_value 10 (take i text) < 10 ^ 17
+front_fits text i all few = digits_value_short valued (take i text) 17 all (omega (arith, length-take i text))
+
+-- so numbers of so many places are read from their digits and no others
+pub all_digits-read : (ds : List ℕ) → AllDigits 10 ds → (digits_value 10 ds < 10 ^ length ds) × (all_digits (length ds) (digits_value 10 ds) ≡ ds)
+all_digits-read ds all = rw (weighed.same ds all) at (from_digits ds all)
+
+pub all_digits-written : (ds : List ℕ) (n : ℕ) → n < 10 ^ length ds → all_digits (length ds) n ≡ ds → AllDigits 10 ds × (digits_value 10 ds ≡ n)
+all_digits-written ds n below e =
+    let digits = to_digits (length ds) n below in
+    let all : AllDigits 10 ds = rw e at digits.1 in
+    (all, sym (weighed.same ds all) ∙ ap worth (sym e) ∙ digits.2)
+
+-- a number is below another, or not
+pub by_size : (m n : ℕ) → {P : Type 0} → (n < m → P) → (m ≤ n → P) → P
+by_size m n small large = elim (cases_lt n m) [ inl h ↦ small h | inr h ↦ large h ]
+
+by_length : (n : ℕ) → 0 < n → (1 < n → ⊥) → n ≡ 1
+by_length n some one = grind arith
+
+-- digits in the form of a decimal number are that of what they write
+pub decimal-read : (ds : List ℕ) → AllDigits 10 ds → HasDecimalForm ds → (digits_value 10 ds < 10 ^ 18) × (decimal (digits_value 10 ds) ≡ ds)
+decimal-read ds all form =
+    let below = digits_value_short valued ds 18 all form.few in
+    (below, decimal-digits_value valued ds all form.some (λ e. by_length (length ds) form.some (λ more. form.first more e)) (omega arith))
+
+-- no number of two digits or more begins with 0
+no_zero : (n : ℕ) → n < 10 ^ 18 → 1 < length (decimal n) → get_or (decimal n) 0 0 ≡ 48 → ⊥
+no_zero n below more e = by_size 10 n
+    (λ one. omega (arith, ap length (decimal_digit n one)))
+    (λ many. omega (arith, first_decimal n (omega arith) (omega arith)))
+
+pub decimal-written : (ds : List ℕ) (n : ℕ) → n < 10 ^ 18 → decimal n ≡ ds → HasDecimalForm ds × AllDigits 10 ds × (digits_value 10 ds ≡ n)
+decimal-written ds n below e =
+    let numeral = decimal_is_IsNumeral n (omega arith) in (
+      record {
+        some = rw e at numeral.0.0;
+        few = rw e at (length-decimal-le 18 n (lit< tt) below (omega arith));
+        first = λ more zero_first. no_zero n below (rw (← e) at more) (rw (← e) at zero_first);
+      },
+      rw e at numeral.0.1,
+      rw e at numeral.1,
+    )
+
+-- a number in few digits is small
+pub decimal_below : (n k : ℕ) → n < 10 ^ 18 → length (decimal n) ≤ k → n < 10 ^ k
+decimal_below n k below few =
+    let numeral = decimal_is_IsNumeral n (omega arith) in
+    rw numeral.1 at (digits_value_short valued (decimal n) k numeral.0.1 few)
+
+two_same : (a b c d : ℕ) → a ≡ c → b ≡ d → a ∷ b ∷ [] ≡ c ∷ d ∷ []
+two_same a b c d e f = cc
+
+-- the first two of four digits
+pub first_pair : (ds : List ℕ) (n : ℕ) → n < 10_000 → all_digits 4 n ≡ ds → two_digits (n / 100) ≡ get_or ds 0 0 ∷ get_or ds 1 0 ∷ []
+first_pair ds n below e = rw (← e) (two_same _ _ _ _ (omega arith) (omega arith))
+
+-- and of three
+pub first_of_three : (hundreds tens ones n : ℕ) → n < 1_000 → all_digits 3 n ≡ hundreds ∷ tens ∷ ones ∷ [] → two_digits (n / 10) ≡ hundreds ∷ tens ∷ []
+first_of_three hundreds tens ones n below e =
+    two_same _ _ _ _ (omega (arith, ap (λ (t : List ℕ). get_or t 0 0) e)) (omega (arith, ap (λ (t : List ℕ). get_or t 1 0) e))

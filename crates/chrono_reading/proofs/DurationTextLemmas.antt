@@ -1,0 +1,98 @@
+-- How the text of a duration falls into its parts.
+use Rattle.std.proofs.Common.{false, subst, Option, Some, None, ℤ, pos, negsuc, neg_ℤ, unsigned_abs, ◌≡◌, ◌≢◌, ℕ, ◌+◌, ◌*◌, ◌^◌, ◌<◌, ◌≤◌, List, ◌∷◌, ◌++◌, length, length-append, get_or, take, drop, codes, inl, inr, refl, sym, ap, ◌∙◌, arith}
+use Rattle.std.specs.Fmt.{decimal, sign_text}
+use Rattle.std.specs.Int.{is_negative}
+use Rattle.std.proofs.lemmas.Bool.Decides.{nat_tests}
+use Rattle.std.specs.Str.Parse.{AllDigits}
+use Rattle.std.proofs.lemmas.Fmt.{decimal_is_IsNumeral}
+use Rattle.std.proofs.lemmas.List.{get_or_append_left, get_or_at, take_at, drop_at}
+use Rattle.std.proofs.lemmas.Option.{same_Some, some_pair_parts}
+use Rattle.std.proofs.lemmas.Str.Parse.{digit_at}
+use Rattle.std.specs.Option.{SomeIff}
+use Rattle.chrono_datetime.specs.Duration.{longest, nanos_per_second}
+use Rattle.chrono_reading.specs.DurationTexts.{IsDurationText, IsSecondsText}
+use Rattle.chrono_reading.specs.TimeTexts.{IsFractionText}
+use Rattle.chrono_reading.proofs.DigitLemmas.{by_size}
+
+-- what stands behind the digits
+begins : (digits rest text : List ℕ) (n : ℕ) → digits ++ rest ≡ text → IsFractionText rest n → length digits < length text → get_or text (length digits) 0 ≡ 46
+begins digits rest text n e (inl is) more = absurd (omega (arith, ap length is.0, ap length e, length-append digits rest))
+begins digits rest text n e (inr is) more = ap (λ (t : List ℕ). get_or t (length digits) 0) (sym e) ∙ ap (λ (t : List ℕ). get_or (digits ++ t) (length digits) 0) (sym is.written) ∙ get_or_at digits 46 _ 0 (length digits) refl
+
+-- digits end where the first point stands, if what follows them is nothing or begins with a point
+pub point_between : (digits rest text : List ℕ) (n at : ℕ) → digits ++ rest ≡ text → AllDigits 10 digits → IsFractionText rest n
+    → at ≤ length text → ((k : ℕ) → k < at → get_or text k 0 ≢ 46) → (at < length text → get_or text at 0 ≡ 46) → at ≡ length digits
+point_between digits rest text n at e all fraction within first point =
+    let size : length text ≡ length digits + length rest = ap length (sym e) ∙ length-append digits rest in
+    by_size at (length digits)
+    (λ past. absurd (first (length digits) past (begins digits rest text n e fraction (omega arith))))
+    (λ not_past. by_size (length digits) at
+    (λ inside.
+    let digit = digit_at digits at all inside in
+    let same : get_or text at 0 ≡ get_or digits at 0 = ap (λ (t : List ℕ). get_or t at 0) (sym e) ∙ get_or_append_left digits rest 0 at inside in
+    absurd (omega (arith, point (omega arith))))
+    (λ reached. omega arith))
+
+-- the seconds in decimal and the fraction of a number are what stands before its point, and from there on
+pub seconds_cut : (number fraction : List ℕ) (seconds nanos at : ℕ) → number ≡ decimal seconds ++ fraction → seconds < 10 ^ 18 → IsFractionText fraction nanos
+    → at ≤ length number → ((k : ℕ) → k < at → get_or number k 0 ≢ 46) → (at < length number → get_or number at 0 ≡ 46)
+    → (decimal seconds ≡ take at number) × IsFractionText (drop at number) nanos
+seconds_cut number fraction seconds nanos at e small fraction_is within first point =
+    let numeral = decimal_is_IsNumeral seconds (omega arith) in
+    let here = point_between (decimal seconds) fraction number nanos at (sym e) numeral.0.1 fraction_is within first point in
+    let front : decimal seconds ≡ take at number = sym (take_at (decimal seconds) fraction at (sym here)) ∙ ap (take at) (sym e) in
+    let back : fraction ≡ drop at number = sym (drop_at (decimal seconds) fraction at (sym here)) ∙ ap (drop at) (sym e) in
+    (front, subst (λ (t : List ℕ). IsFractionText t nanos) back fraction_is)
+
+-- both numbers found
+pub both_found : (s t n k : ℕ) → Some s ≡ Some t → Some n ≡ Some k → ◌≡◌ {A = Option (ℕ × ℕ)} (Some (s, n)) (Some (t, k))
+both_found s t n k first second = rw (same_Some s t first, same_Some n k second) refl
+
+-- a duration has fewer seconds than that
+pub seconds_small : (text : List ℕ) (size : ℕ) (is : IsSecondsText text size) → size ≤ longest → is.seconds < 10 ^ 18
+seconds_small text size is within = omega (arith, is.names)
+
+by_given : (r : Option ℤ) (made size : ℕ) → made ≡ size → SomeIff r ((0 < made) × (made ≤ longest)) (pos made) → 0 < size → size ≤ longest → r ≡ Some (pos size)
+by_given (Some x) made size same given some within = ap Some (given.1 ∙ ap pos same)
+by_given None made size same given some within = absurd (given (omega arith, omega arith))
+
+-- and is found by them
+pub duration_found : (r : Option ℤ) (s t n k size : ℕ) → (let made = s * nanos_per_second + n in SomeIff r ((0 < made) × (made ≤ longest)) (pos made))
+    → ◌≡◌ {A = Option (ℕ × ℕ)} (Some (s, n)) (Some (t, k)) → t * nanos_per_second + k ≡ size → 0 < size → size ≤ longest → r ≡ Some (pos size)
+duration_found r s t n k size given found names some within =
+    let parts = some_pair_parts s t n k found in
+    let same : s * nanos_per_second + n ≡ size = rw (parts.0, parts.1) names in
+    by_given r (s * nanos_per_second + n) size same given some within
+
+-- a size, from 1 to that of the longest durations, and its text
+pub record IsSizeOf (text : List ℕ) (x : ℤ) : Type 0 where
+  pub some : 0 < unsigned_abs x
+  pub within : unsigned_abs x ≤ longest
+  pub written : IsSecondsText text (unsigned_abs x)
+
+first_p : (text : List ℕ) (size : ℕ) → IsSecondsText text size → get_or text 0 0 ≡ 80
+first_p text size is = ap (λ (t : List ℕ). get_or t 0 0) (sym is.written)
+
+not_negative : (n : ℕ) → is_negative (pos n) ≡ false
+not_negative n = grind (arith, nat_tests)
+
+-- behind a `-` stands the size of a negative duration
+pub minus_size : (text behind : List ℕ) (x : ℤ) → 45 ∷ behind ≡ text → IsDurationText text x → (x ≡ neg_ℤ (pos (unsigned_abs x))) × IsSizeOf behind x
+minus_size text behind x e (inl zero_is) = absurd (omega (arith, ap (λ (t : List ℕ). get_or t 0 0) (e ∙ zero_is.0)))
+minus_size text behind (pos n) e (inr is) =
+    let plain : is.size ≡ text = ap (λ b. sign_text b ++ is.size) (sym (not_negative n)) ∙ is.written in
+    absurd (omega (arith, first_p is.size n is.size_written, ap (λ (t : List ℕ). get_or t 0 0) (plain ∙ sym e)))
+minus_size text behind (negsuc n) e (inr is) =
+    let same : is.size ≡ behind = ap (drop 1) (is.written ∙ sym e) in
+    (refl, record { some = is.is_some; within = is.is_duration; written = rw same at is.size_written })
+
+-- with no `-` it is the size of one past zero
+pub plain_size : (text : List ℕ) (x : ℤ) → ((behind : List ℕ) → 45 ∷ behind ≢ text) → (text ≢ codes "P0D") → IsDurationText text x → (x ≡ pos (unsigned_abs x)) × IsSizeOf text x
+plain_size text x no_minus not_zero (inl zero_is) = absurd (not_zero zero_is.0)
+plain_size text (pos n) no_minus not_zero (inr is) =
+    let plain : is.size ≡ text = ap (λ b. sign_text b ++ is.size) (sym (not_negative n)) ∙ is.written in
+    (refl, record { some = is.is_some; within = is.is_duration; written = subst (λ (t : List ℕ). IsSecondsText t n) plain is.size_written })
+plain_size text (negsuc n) no_minus not_zero (inr is) = absurd (no_minus is.size is.written)
+
+pub negated : (made found x : ℤ) → made ≡ neg_ℤ found → Some found ≡ Some (pos (unsigned_abs x)) → x ≡ neg_ℤ (pos (unsigned_abs x)) → Some made ≡ Some x
+negated made found x is size same = ap Some (is ∙ ap neg_ℤ (same_Some found _ size) ∙ sym same)

@@ -1,0 +1,6 @@
+pub mod NameTexts
+pub mod Numerals
+pub mod DateTexts
+pub mod TimeTexts
+pub mod DateTimeTexts
+pub mod DurationTexts

@@ -1,0 +1,42 @@
+-- The texts of times of day.
+use Rattle.std.specs.Prelude.{◌≡◌, ◌==◌, ◌<◌, ◌≤◌, ◌+◌, ◌-◌, ◌*◌, ◌^◌, ◌⊎◌, ℕ, List, [], ◌∷◌, ◌++◌, if◌then◌else◌}
+use Rattle.std.specs.Int.{IsInRange}
+use Rattle.chrono_datetime.specs.Duration.{nanos_per_second}
+use Rattle.chrono_datetime.specs.Text.{two_digits, all_digits}
+use Rattle.chrono_datetime.specs.Time.{TimeOfDay, time_at}
+
+-- a point and one to nine digits, which count tenths, hundredths and so on of a second, and so nanoseconds
+pub record IsPointText (text : List ℕ) (nanos : ℕ) : Type 0 where
+  pub places : ℕ
+  pub count : ℕ
+  pub some : IsInRange 1 9 places
+  pub below : count < 10 ^ places
+  pub worth : count * 10 ^ (9 - places) ≡ nanos
+  pub written : 46 ∷ all_digits places count ≡ text
+
+-- a text of the nanoseconds past a second: nothing for none of them, or a point and digits
+abbrev pub IsFractionText : List ℕ → ℕ → Type 0
+IsFractionText text nanos = ((text ≡ []) × (nanos ≡ 0)) ⊎ IsPointText text nanos
+
+-- the texts write the same nanoseconds
+abbrev pub SameFraction : List ℕ → List ℕ → Type 0
+SameFraction text other = (nanos : ℕ) × IsFractionText text nanos × IsFractionText other nanos
+
+-- the time at which a clock shows these numbers; the second 60 is the leap second that follows 59
+abbrev pub time_shown : ℕ → ℕ → ℕ → ℕ → TimeOfDay
+time_shown hour minute second nanos =
+    if second == 60 then time_at hour minute 59 (nanos_per_second + nanos) else time_at hour minute second nanos
+
+-- a text of the time: the hour, the minute, the second and its fraction that a clock shows (ISO 8601 time of day)
+pub record IsTimeText (text : List ℕ) (t : TimeOfDay) : Type 0 where
+  pub hour : ℕ
+  pub minute : ℕ
+  pub second : ℕ
+  pub nanos : ℕ
+  pub fraction : List ℕ
+  pub hour_in_day : hour < 24
+  pub minute_in_hour : minute < 60
+  pub second_in_minute : second ≤ 60
+  pub names : time_shown hour minute second nanos ≡ t
+  pub fraction_written : IsFractionText fraction nanos
+  pub written : two_digits hour ++ 58 ∷ two_digits minute ++ 58 ∷ two_digits second ++ fraction ≡ text

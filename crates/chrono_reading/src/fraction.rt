@@ -1,0 +1,32 @@
+//! Fractions of a second.
+ghost use Rattle.std.specs.Prelude.{◌≡◌, ◌<◌, ◌∷◌, ℕ, Some, IfSome};
+ghost use Rattle.chrono_datetime.specs.Duration.{nanos_per_second};
+ghost use Rattle.chrono_reading.specs.TimeTexts.{IsFractionText, IsPointText};
+
+use crate::digits::all_digits;
+
+// The nanoseconds past a second that the text writes: none if it is empty, and else as a point and one to nine digits.
+#[inline]
+pub(crate) fn read_fraction(text: &[u8]) -> Option<u32>
+    ensures some { IfSome result (λ n. (n < nanos_per_second) × IsFractionText text.now n) }
+    ensures every { (n : ℕ) → IsFractionText text.now n → result ≡ Some n }
+{
+    match text {
+        [] => Some(0),
+        [b'.', digits @ ..] => read_places(digits),
+        _ => None,
+    }
+}
+
+// The nanoseconds that one to nine digits write behind a point.
+#[inline]
+fn read_places(digits: &[u8]) -> Option<u32>
+    ensures some { IfSome result (λ n. (n < nanos_per_second) × IsPointText (46 ∷ digits.now) n) }
+    ensures every { (n : ℕ) → IsPointText (46 ∷ digits.now) n → result ≡ Some n }
+{
+    if digits.is_empty() || digits.len() > 9 {
+        return None;
+    }
+    let count = all_digits(digits)?;
+    Some(count as u32 * 10u32.pow(9 - digits.len() as u32))
+}

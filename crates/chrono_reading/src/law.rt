@@ -1,0 +1,161 @@
+//! Laws of the texts that are read, each as the contract of a function: what is printed is read back, a text has one value,
+//! and two texts of one value differ only where its relation says so.
+ghost use Rattle.std.specs.Prelude.{◌≡◌, ◌+◌, ◌++◌, ◌∷◌, [], ℕ, ℤ, List, drop, take};
+ghost use Rattle.chrono_datetime.specs.DateText.{date_text};
+ghost use Rattle.chrono_datetime.specs.Days.{IsDate, ordinal_of, year_of};
+ghost use Rattle.chrono_datetime.specs.Duration.{IsDuration};
+ghost use Rattle.chrono_datetime.specs.Moment.{Moment};
+ghost use Rattle.chrono_datetime.specs.MomentText.{moment_text};
+ghost use Rattle.chrono_datetime.specs.Month.{month_name};
+ghost use Rattle.chrono_datetime.specs.Text.{all_digits, duration_text, time_text, week_text, year_text};
+ghost use Rattle.chrono_datetime.specs.Time.{FractionFits, IsTime, TimeOfDay, second_of};
+ghost use Rattle.chrono_datetime.specs.Weekday.{number_from_monday};
+ghost use Rattle.chrono_datetime.specs.Weeks.{iso_week_of, iso_year_of, weekday_of};
+ghost use Rattle.chrono_datetime.specs.WeekdayText.{weekday_text};
+ghost use Rattle.chrono_datetime.specs.declared.Month.{Month};
+ghost use Rattle.chrono_datetime.specs.declared.Weekday.{Weekday};
+ghost use Rattle.chrono_reading.specs.DateTimeTexts.{IsDateTimeText, IsSeparator};
+ghost use Rattle.chrono_reading.specs.DurationTexts.{IsDurationText};
+ghost use Rattle.chrono_reading.specs.TimeTexts.{IsTimeText, SameFraction};
+ghost use Rattle.chrono_reading.specs.DateTexts.{IsDateText, IsOrdinalDateText, IsWeekDateText};
+ghost use Rattle.chrono_reading.specs.NameTexts.{IsMonthText, IsWeekdayText};
+
+use crate::{
+    read_date, read_date_time, read_duration, read_month, read_ordinal_date, read_time,
+    read_week_date, read_weekday,
+};
+use chrono_datetime::law::{
+    dates_have_one_calendar_name, dates_have_one_iso_name, dates_have_one_ordinal_name,
+};
+use chrono_datetime::{Datelike, NaiveDate};
+
+/// What `{}` writes for a weekday is a text of it, so it is read as that weekday.
+pub fn printed_weekdays_are_read()
+    ensures { (d : Weekday) → IsWeekdayText (weekday_text d) d }
+{}
+
+/// The name of a month is a text of it, so it is read as that month.
+pub fn names_of_months_are_read()
+    ensures { (m : Month) → IsMonthText (month_name m) m }
+{}
+
+/// A text names at most one weekday.
+pub fn texts_have_one_weekday(text: &[u8])
+    ensures { (d e : Weekday) → IsWeekdayText text.now d → IsWeekdayText text.now e → d ≡ e }
+{
+    let _weekday = read_weekday(text);
+}
+
+/// A text names at most one month.
+pub fn texts_have_one_month(text: &[u8])
+    ensures { (m n : Month) → IsMonthText text.now m → IsMonthText text.now n → m ≡ n }
+{
+    let _month = read_month(text);
+}
+
+/// What `{}` writes for a date is a text of it, so it is read as that date.
+pub fn printed_dates_are_read()
+    ensures { (n : ℤ) → IsDate n → IsDateText (date_text n) n }
+{
+    dates_have_one_calendar_name();
+}
+
+/// A text is that of at most one date.
+pub fn texts_have_one_date(text: &[u8])
+    ensures { (n m : ℤ) → IsDateText text.now n → IsDateText text.now m → n ≡ m }
+{
+    let _date = read_date(text);
+}
+
+/// The one text of a date is what `{}` writes for it.
+pub fn dates_have_one_text(text: &[u8])
+    ensures { (n : ℤ) → IsDateText text.now n → IsDate n × (text.now ≡ date_text n) }
+{
+    if let Some(date) = read_date(text) {
+        let _number = date.num_days_from_ce();
+        dates_have_one_calendar_name();
+    }
+}
+
+/// A year and the place in it that name a date, the place in three digits behind a `-`, are read as that date.
+pub fn ordinal_names_are_read()
+    ensures { (n : ℤ) → IsDate n
+        → IsOrdinalDateText (year_text (year_of n) ++ 45 ∷ all_digits 3 (ordinal_of n)) n }
+{
+    dates_have_one_ordinal_name();
+}
+
+/// A text is the ordinal name of at most one date.
+pub fn texts_have_one_ordinal_date(text: &[u8])
+    ensures { (n m : ℤ) → IsOrdinalDateText text.now n → IsOrdinalDateText text.now m → n ≡ m }
+{
+    let _date = read_ordinal_date(text);
+}
+
+/// The ISO year and week that name a date, as `{:?}` writes them, and the number of its weekday behind a `-` are read as that
+/// date.
+pub fn week_names_are_read(date: NaiveDate)
+    ensures { IsWeekDateText (week_text (iso_year_of date) (iso_week_of date)
+        ++ 45 ∷ (48 + number_from_monday (weekday_of date)) ∷ []) date }
+{
+    let _number = date.num_days_from_ce();
+    let week = date.iso_week();
+    let _year = week.year();
+    let _week = week.week();
+    dates_have_one_iso_name();
+}
+
+/// A text is the week name of at most one date.
+pub fn texts_have_one_week_date(text: &[u8])
+    ensures { (n m : ℤ) → IsWeekDateText text.now n → IsWeekDateText text.now m → n ≡ m }
+{
+    let _date = read_week_date(text);
+}
+
+/// What `{}` writes for a time of day is a text of it, so it is read as that time, if a leap fraction stands at second 59.
+pub fn printed_times_are_read()
+    ensures { (t : TimeOfDay) → IsTime t → FractionFits (second_of t) t.fraction → IsTimeText (time_text t) t }
+{}
+
+/// A text is that of at most one time of day.
+pub fn texts_have_one_time(text: &[u8])
+    ensures { (t u : TimeOfDay) → IsTimeText text.now t → IsTimeText text.now u → t ≡ u }
+{
+    let _time = read_time(text);
+}
+
+/// Two texts of one time of day have the same hour, minute and second in their first eight bytes, and behind those two
+/// fractions of the same nanoseconds, which differ in zeros at the end alone.
+pub fn texts_of_a_time_differ_in_its_fraction()
+    ensures { (text other : List ℕ) (t : TimeOfDay) → IsTimeText text t → IsTimeText other t
+        → (take 8 text ≡ take 8 other) × SameFraction (drop 8 text) (drop 8 other) }
+{}
+
+/// What `{}` and `{:?}` write for a date-time, with a space and with a `T`, are texts of it, so they are read as that
+/// date-time, if a leap fraction stands at second 59.
+pub fn printed_date_times_are_read()
+    ensures { (m : Moment) (separator : ℕ) → IsDate m.date → IsTime m.time → FractionFits (second_of m.time) m.time.fraction
+        → IsSeparator separator → IsDateTimeText (moment_text separator m) m }
+{
+    printed_dates_are_read();
+    printed_times_are_read();
+}
+
+/// A text is that of at most one date-time.
+pub fn texts_have_one_date_time(text: &[u8])
+    ensures { (m n : Moment) → IsDateTimeText text.now m → IsDateTimeText text.now n → m ≡ n }
+{
+    let _date_time = read_date_time(text);
+}
+
+/// What `{}` writes for a duration is a text of it, so it is read as that duration.
+pub fn printed_durations_are_read()
+    ensures { (x : ℤ) → IsDuration x → IsDurationText (duration_text x) x }
+{}
+
+/// A text is that of at most one duration.
+pub fn texts_have_one_duration(text: &[u8])
+    ensures { (x y : ℤ) → IsDurationText text.now x → IsDurationText text.now y → x ≡ y }
+{
+    let _duration = read_duration(text);
+}
