@@ -2,10 +2,11 @@
 ghost use Rattle.std.specs.Prelude.{◌<◌};
 
 use crate::failing::{Call, Calls, Failure, Given, Taken};
-use crate::runner::{Counted, Dates, Packed, Runner};
+use crate::runner::{Dates, OfForm, Runner};
 use crate::tests::input;
 use crate::{Pieces, Sink};
 use caltool_dates::RunFault;
+use chrono_stored::{CountedForm, PackedForm};
 use std::alloc::{AllocError, Global};
 use std::io::ErrorKind;
 use std::test::Fail;
@@ -25,8 +26,8 @@ const KINDS: [ErrorKind; 42] = [
     ErrorKind::Other, ErrorKind::Uncategorized,
 ];
 
-// What the lines of the bytes are answered, each with a newline.
-fn output<A: Runner>(alloc: Global, bytes: &[u8]) -> Result<Vec<u8>, AllocError> {
+/// What the lines of the bytes are answered, each with a newline.
+pub fn output<A: Runner>(alloc: Global, bytes: &[u8]) -> Result<Vec<u8>, AllocError> {
     let mut output = Vec::new(alloc);
     if bytes.is_empty() {
         return Ok(output);
@@ -123,8 +124,8 @@ fn every_failure_ends_well<A: Runner>(alloc: Global) -> Result<bool, AllocError>
 #[test]
 fn each_call_fails_once(rt: HostRuntime) -> Result<(), Fail> {
     assert!(rt; every_failure_ends_well::<Dates>(rt.alloc())?);
-    assert!(rt; every_failure_ends_well::<Packed>(rt.alloc())?);
-    assert!(rt; every_failure_ends_well::<Counted>(rt.alloc())?);
+    assert!(rt; every_failure_ends_well::<OfForm<PackedForm>>(rt.alloc())?);
+    assert!(rt; every_failure_ends_well::<OfForm<CountedForm>>(rt.alloc())?);
     Ok(())
 }
 
@@ -171,8 +172,8 @@ const NUMBERS: [&[u8]; 40] = [
     b"2147483648", b"4294967296", b"1500000000", b"0000000000000000000002", b"\xff", b"",
 ];
 
-// So many lines of names and numbers, each with a newline.
-fn generated(alloc: Global, count: usize) -> Result<Vec<u8>, AllocError> {
+/// So many lines of names and numbers, each with a newline.
+pub fn generated(alloc: Global, count: usize) -> Result<Vec<u8>, AllocError> {
     let mut chance = Chance { state: 1 };
     let mut bytes = Vec::new(alloc);
     for _ in 0..count {
@@ -214,8 +215,8 @@ fn lines_of_any_kind_in_any_pieces(rt: HostRuntime) -> Result<(), Fail> {
     lines.extend_from_slice(generated(rt.alloc(), 2000)?.as_slice())?;
     let whole = output::<Dates>(rt.alloc(), lines.as_slice())?;
     assert!(rt; is_alike_in_pieces::<Dates>(rt.alloc(), lines.as_slice(), whole.as_slice())?);
-    assert!(rt; is_alike_in_pieces::<Packed>(rt.alloc(), lines.as_slice(), whole.as_slice())?);
-    assert!(rt; is_alike_in_pieces::<Counted>(rt.alloc(), lines.as_slice(), whole.as_slice())?);
+    assert!(rt; is_alike_in_pieces::<OfForm<PackedForm>>(rt.alloc(), lines.as_slice(), whole.as_slice())?);
+    assert!(rt; is_alike_in_pieces::<OfForm<CountedForm>>(rt.alloc(), lines.as_slice(), whole.as_slice())?);
     Ok(())
 }
 
@@ -242,7 +243,7 @@ fn are_answered_across_reads<A: Runner>(alloc: Global) -> Result<bool, AllocErro
 #[test]
 fn lines_about_the_end_of_a_read(rt: HostRuntime) -> Result<(), Fail> {
     assert!(rt; are_answered_across_reads::<Dates>(rt.alloc())?);
-    assert!(rt; are_answered_across_reads::<Packed>(rt.alloc())?);
+    assert!(rt; are_answered_across_reads::<OfForm<PackedForm>>(rt.alloc())?);
     Ok(())
 }
 

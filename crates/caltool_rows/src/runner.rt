@@ -1,8 +1,9 @@
 //! The runs that are tested alike.
 
-use caltool_form::{Answer, RunFault, answer_form, run_form};
-use chrono_stored::{CountedForm, PackedForm};
+use caltool_dates::{Answer, RunFault};
+use chrono_calendar::DayForm;
 use std::io::{Read, Write};
+use std::marker::PhantomData;
 
 /// A run, and the answer that it gives to one line.
 pub trait Runner {
@@ -26,28 +27,17 @@ impl Runner for Dates {
     }
 }
 
-/// `run_form` over dates stored packed.
-pub struct Packed;
-
-impl Runner for Packed {
-    fn answer(line: &[u8]) -> Answer {
-        answer_form::<PackedForm>(line)
-    }
-
-    fn run<R: Read, W: Write>(r: &mut R, w: &mut W) -> Result<(), RunFault> {
-        run_form::<PackedForm, R, W>(r, w)
-    }
+/// `run_form` over dates of a stored form.
+pub struct OfForm<F: DayForm> {
+    form: PhantomData<F>,
 }
 
-/// `run_form` over dates stored as their day numbers.
-pub struct Counted;
-
-impl Runner for Counted {
+impl<F: DayForm> Runner for OfForm<F> {
     fn answer(line: &[u8]) -> Answer {
-        answer_form::<CountedForm>(line)
+        caltool_dates::answer_form::<F>(line)
     }
 
     fn run<R: Read, W: Write>(r: &mut R, w: &mut W) -> Result<(), RunFault> {
-        run_form::<CountedForm, R, W>(r, w)
+        caltool_dates::run_form::<F, R, W>(r, w)
     }
 }
