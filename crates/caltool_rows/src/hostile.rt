@@ -215,8 +215,12 @@ fn lines_of_any_kind_in_any_pieces(rt: HostRuntime) -> Result<(), Fail> {
     lines.extend_from_slice(generated(rt.alloc(), 2000)?.as_slice())?;
     let whole = output::<Dates>(rt.alloc(), lines.as_slice())?;
     assert!(rt; is_alike_in_pieces::<Dates>(rt.alloc(), lines.as_slice(), whole.as_slice())?);
-    assert!(rt; is_alike_in_pieces::<OfForm<PackedForm>>(rt.alloc(), lines.as_slice(), whole.as_slice())?);
-    assert!(rt; is_alike_in_pieces::<OfForm<CountedForm>>(rt.alloc(), lines.as_slice(), whole.as_slice())?);
+    assert!(rt;
+        is_alike_in_pieces::<OfForm<PackedForm>>(rt.alloc(), lines.as_slice(), whole.as_slice())?
+    );
+    assert!(rt;
+        is_alike_in_pieces::<OfForm<CountedForm>>(rt.alloc(), lines.as_slice(), whole.as_slice())?
+    );
     Ok(())
 }
 
