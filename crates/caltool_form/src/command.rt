@@ -124,6 +124,6 @@ pub(crate) fn read_command(line: &[u8], numbers: &mut Numbers) -> Option<Command
     }
     let (word, rest) = split_name(line);
     let name = name_of(word)?;
-    numbers.read(rest)?;
+    numbers.read(rest, name.short_places())?;
     command_from(name, numbers.as_slice())
 }

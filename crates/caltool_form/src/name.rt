@@ -19,6 +19,21 @@ pub(crate) enum Name {
     Set,
 }
 
+impl Name {
+    // Which of the command's numbers are likely to have one digit or two: a bit for each, the first lowest.
+    pub(crate) fn short_places(self) -> u64 {
+        match self {
+            Name::Ymd | Name::Iwd | Name::Days | Name::Months => 0b110,
+            Name::Yo | Name::Day => 0,
+            Name::Wom | Name::Week => 0b1110,
+            Name::Move => 0b11_1110,
+            Name::Diff => 0b1_1111_0011_1110,
+            Name::Since => 0b11_0110,
+            Name::Set => u64::MAX,
+        }
+    }
+}
+
 // The command word that these bytes are, if they are one.
 #[tactic(auto, unfolding(crate::specs::Commands::name_of))]
 pub(crate) fn name_of(word: &[u8]) -> Option<Name>

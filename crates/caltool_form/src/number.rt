@@ -7,6 +7,9 @@ ghost use Rattle.caltool_form.specs.Numbers.{signed, to_i64, to_i32, to_u32, to_
 use crate::arguments::MonthSpan;
 use chrono_units::Weekday;
 
+// Every number of so many digits fits an `i64`.
+const ALWAYS_FIT: usize = 18;
+
 // With one digit more, a number of this size fits no `i64`.
 const NO_MORE_DIGITS: u64 = 1_000_000_000_000_000_000;
 
@@ -17,19 +20,46 @@ pub(crate) fn leading_digits(text: &[u8]) -> (u64, usize)
     ensures within { result.1 ≤ length text.now }
     ensures digits { AllDigits 10 (take result.1 text.now) }
     ensures value { result.0 ≡ digits_value 10 (take result.1 text.now) }
-    ensures end { result.1 < length text.now → IsInRange 48 57 (slice_index text.now result.1) → 10 ^ 18 ≤ result.0 }
+    ensures end { result.1 < length text.now → IsInRange 48 57 (slice_index text.now result.1)
+        → 10 ^ 18 ≤ result.0 }
 {
+    let most = text.len().min(ALWAYS_FIT);
     let mut size = 0u64;
     let mut len = 0;
-    while len < text.len() {
+    while len < most {
         let digit = text[len].wrapping_sub(b'0');
-        if digit > 9 || size >= NO_MORE_DIGITS {
+        if digit > 9 {
             return (size, len);
         }
         size = size * 10 + u64::from(digit);
         len += 1;
     }
-    (size, len)
+    further_digits(text, size, len)
+}
+
+// The same, where the first `start` bytes are digits, and `value` is what they write.
+fn further_digits(text: &[u8], value: u64, start: usize) -> (u64, usize)
+    requires within { start ≤ length text.now }
+    requires digits { AllDigits 10 (take start text.now) }
+    requires value { value ≡ digits_value 10 (take start text.now) }
+    requires small { value < 10 ^ 18 }
+    ensures within { result.1 ≤ length text.now }
+    ensures digits { AllDigits 10 (take result.1 text.now) }
+    ensures value { result.0 ≡ digits_value 10 (take result.1 text.now) }
+    ensures end { result.1 < length text.now → IsInRange 48 57 (slice_index text.now result.1)
+        → 10 ^ 18 ≤ result.0 }
+{
+    let mut total = value;
+    let mut len = start;
+    while len < text.len() {
+        let digit = text[len].wrapping_sub(b'0');
+        if digit > 9 || total >= NO_MORE_DIGITS {
+            return (total, len);
+        }
+        total = total * 10 + u64::from(digit);
+        len += 1;
+    }
+    (total, len)
 }
 
 // One digit or two at the front, if any stand there: their value, and their count. Of three or more it
@@ -67,15 +97,10 @@ pub(crate) fn few_digits(text: &[u8]) -> (u32, usize)
 pub(crate) fn signed(negative: bool, size: u64) -> Option<i64>
     ensures { result ≡ to_i64 (signed negative size) }
 {
-    if !negative {
-        if size < 1 << 63 {
-            Some(size as i64)
-        } else {
-            None
-        }
-    } else if size < 1 << 63 {
-        Some(-(size as i64))
-    } else if size == 1 << 63 {
+    if size < 1 << 63 {
+        let number = size as i64;
+        Some(if negative { -number } else { number })
+    } else if negative && size == 1 << 63 {
         Some(i64::MIN)
     } else {
         None
@@ -88,7 +113,11 @@ pub(crate) fn signed(negative: bool, size: u64) -> Option<i64>
 pub(crate) fn to_i32(n: i64) -> Option<i32>
     ensures { result ≡ to_i32 n }
 {
-    i32::try_from(n).ok()
+    if i64::from(i32::MIN) <= n && n <= i64::from(i32::MAX) {
+        Some(n as i32)
+    } else {
+        None
+    }
 }
 
 // The number, if it fits a `u32`.
@@ -97,7 +126,11 @@ pub(crate) fn to_i32(n: i64) -> Option<i32>
 pub(crate) fn to_u32(n: i64) -> Option<u32>
     ensures { result ≡ to_u32 n }
 {
-    u32::try_from(n).ok()
+    if 0 <= n && n <= i64::from(u32::MAX) {
+        Some(n as u32)
+    } else {
+        None
+    }
 }
 
 // The number, if it fits a `u8`.
@@ -106,7 +139,11 @@ pub(crate) fn to_u32(n: i64) -> Option<u32>
 pub(crate) fn to_u8(n: i64) -> Option<u8>
     ensures { result ≡ to_u8 n }
 {
-    u8::try_from(n).ok()
+    if 0 <= n && n <= i64::from(u8::MAX) {
+        Some(n as u8)
+    } else {
+        None
+    }
 }
 
 // The number of months, if its size fits a `u32`.

@@ -35,20 +35,20 @@ impl Numbers {
         }
     }
 
-    // Reads the numbers behind the first space of a text, in the place of those held.
-    pub(crate) fn read(&mut self, text: &[u8]) -> Option<()>
+    // Reads the numbers behind the first space of a text, in the place of those held. The bits of
+    // `short_places`, the lowest first, tell which of them are likely to have one digit or two.
+    pub(crate) fn read(&mut self, text: &[u8], short_places: u64) -> Option<()>
         requires space { EndsWord text.now }
         requires short { length text.now ≤ 120 }
         ensures { numbers_behind text.now ≡ option_map (λ _. self.new) result }
     {
         self.clear();
         let mut rest = text;
-        // The first is a year in most commands.
-        let mut likely_short = false;
+        let mut places = short_places;
         while !rest.is_empty() {
-            let (number, after) = next_number(&rest[1..], likely_short)?;
+            let (number, after) = next_number(&rest[1..], places & 1 == 1)?;
             self.push(number);
-            likely_short = true;
+            places >>= 1;
             rest = after;
         }
         Some(())

@@ -40,7 +40,8 @@ fn word_len(line: &[u8]) -> usize
 // to have one digit or two is tried as such first.
 #[inline(always)]
 pub(crate) fn next_number(text: &[u8], likely_short: bool) -> Option<(i64, &[u8])>
-    ensures some { IfSome result (λ read. numbers_of (words text.now) ≡ option_map (λ numbers. read.0 ∷ numbers) (numbers_behind read.1.now)) }
+    ensures some { IfSome result (λ read. numbers_of (words text.now)
+        ≡ option_map (λ numbers. read.0 ∷ numbers) (numbers_behind read.1.now)) }
     ensures none { IfNone result (numbers_of (words text.now) ≡ None) }
     ensures space { IfSome result (λ read. EndsWord read.1.now) }
     ensures shorter { IfSome result (λ read. length read.1.now < length text.now) }
@@ -56,7 +57,8 @@ pub(crate) fn next_number(text: &[u8], likely_short: bool) -> Option<(i64, &[u8]
 // The number that the first word writes, if it has one digit or two, and what follows that word.
 #[inline]
 fn short_number(text: &[u8]) -> Option<(u32, &[u8])>
-    ensures some { IfSome result (λ read. numbers_of (words text.now) ≡ option_map (λ numbers. pos read.0 ∷ numbers) (numbers_behind read.1.now)) }
+    ensures some { IfSome result (λ read. numbers_of (words text.now)
+        ≡ option_map (λ numbers. pos read.0 ∷ numbers) (numbers_behind read.1.now)) }
     ensures space { IfSome result (λ read. EndsWord read.1.now) }
     ensures shorter { IfSome result (λ read. length read.1.now < length text.now) }
 {
@@ -68,7 +70,8 @@ fn short_number(text: &[u8]) -> Option<(u32, &[u8])>
 // The number that the first word writes, if it fits an `i64`, and what follows that word.
 #[inline(always)]
 fn long_number(text: &[u8]) -> Option<(i64, &[u8])>
-    ensures some { IfSome result (λ read. numbers_of (words text.now) ≡ option_map (λ numbers. read.0 ∷ numbers) (numbers_behind read.1.now)) }
+    ensures some { IfSome result (λ read. numbers_of (words text.now)
+        ≡ option_map (λ numbers. read.0 ∷ numbers) (numbers_behind read.1.now)) }
     ensures none { IfNone result (numbers_of (words text.now) ≡ None) }
     ensures space { IfSome result (λ read. EndsWord read.1.now) }
     ensures shorter { IfSome result (λ read. length read.1.now < length text.now) }
@@ -84,7 +87,8 @@ fn long_number(text: &[u8]) -> Option<(i64, &[u8])>
 // Whether a `-` stands in front.
 #[inline]
 fn has_minus(text: &[u8]) -> bool
-    ensures { MatchBool result ((0 < length text.now) × (slice_index text.now 0 ≡ 45)) (0 < length text.now → slice_index text.now 0 ≢ 45) }
+    ensures { MatchBool result ((0 < length text.now) × (slice_index text.now 0 ≡ 45))
+        (0 < length text.now → slice_index text.now 0 ≢ 45) }
 {
     !text.is_empty() && text[0] == MINUS
 }

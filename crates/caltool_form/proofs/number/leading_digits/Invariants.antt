@@ -4,7 +4,7 @@ use Rattle.std.specs.Str.Parse.{AllDigits, digits_value}
 use Rattle.caltool_form.proofs.number.leading_digits.Given as goal
 
 abbrev pub invariant-loop-len : goal.invariant-loop-len
-invariant-loop-len l = (l.len ≤ length l.text) × AllDigits 10 (take l.len l.text) × (l.size ≡ digits_value 10 (take l.len l.text)) × (l.size < 10 ^ 19)
+invariant-loop-len l = (l.len ≤ l.most) × AllDigits 10 (take l.len l.text) × (l.size ≡ digits_value 10 (take l.len l.text))
 
 abbrev pub decreases-loop-len : goal.decreases-loop-len
-decreases-loop-len l = length l.text - l.len
+decreases-loop-len l = l.most - l.len
