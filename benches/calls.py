@@ -43,10 +43,12 @@ OF_DATES = [
     "diff",
     "compare",
 ]
-OTHERS = ["time_add", "moment_add", "moment_diff", "duration_add"]
+OTHERS = ["time_add", "moment_add", "moment_diff", "duration_add", "read_date"]
 NOTES = """
 `from_days` is read as year, month and day, `ymd_to_days` as a day number; `from_ymd`, `succ` and the moves as year and ordinal.
-`add_few_days` is by 1 to 30 days, `add_days` by up to 100,000, `add_months` by up to 1,200 months on or back."""
+`add_few_days` is by 1 to 30 days, `add_days` by up to 100,000, `add_months` by up to 1,200 months on or back.
+`read_date` reads a text such as `2024-02-29` as a day number; beside it stand the digits read by hand in Rust, unchecked, and
+chrono's `from_ymd_opt`."""
 
 
 def timed(program, call, count):

@@ -69,6 +69,11 @@ fn name(generator: &mut Generator) -> (i32, u32, u32) {
     (year, month, day)
 }
 
+fn text(generator: &mut Generator) -> [u8; 10] {
+    let text = date(generator).to_string();
+    text.as_bytes().try_into().unwrap()
+}
+
 fn time(generator: &mut Generator) -> NaiveTime {
     let second = generator.below(86_400) as u32;
     let nano = generator.below(1_000_000_000) as u32;
@@ -242,6 +247,20 @@ fn duration_add(mut generator: Generator, count: u64) -> u64 {
     })
 }
 
+/// The digits of a text `YYYY-MM-DD` read by hand, with no check of them or of what stands between.
+fn read_date(text: &[u8; 10]) -> Option<NaiveDate> {
+    let digit = |place: usize| u32::from(text[place] - b'0');
+    let pair = |place: usize| 10 * digit(place) + digit(place + 1);
+    NaiveDate::from_ymd_opt((100 * pair(0) + pair(2)) as i32, pair(5), pair(8))
+}
+
+fn read_dates(mut generator: Generator, count: u64) -> u64 {
+    let texts = table(&mut generator, text);
+    sum(generator, count, |drawn| {
+        read_date(&texts[first(drawn)]).map_or(0, |date| i64::from(date.num_days_from_ce()) as u64)
+    })
+}
+
 /// The sum of the answers of a call of a date to so many drawn arguments.
 fn sum_of_dates(name: &str, count: u64) -> Option<u64> {
     Some(match name {
@@ -295,6 +314,7 @@ fn sum_of_answers(name: &str, count: u64) -> Option<u64> {
         "moment_add" => moment_add(generator, count),
         "moment_diff" => moment_diff(generator, count),
         "duration_add" => duration_add(generator, count),
+        "read_date" => read_dates(generator, count),
         _ => match name.split_once('.') {
             Some(("formula", name)) => sum_of_formulas(name, count)?,
             _ => sum_of_dates(name, count)?,

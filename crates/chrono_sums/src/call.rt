@@ -15,6 +15,8 @@ pub enum Call {
     MomentDiff,
     /// `TimeDelta::checked_add`.
     DurationAdd,
+    /// `chrono_reading::read_date`, and the day number of the answer.
+    ReadDate,
 }
 
 /// What a date is taken for.
@@ -75,6 +77,7 @@ pub fn call_named(name: &str) -> Option<Call> {
         "moment_add" => Call::MomentAdd,
         "moment_diff" => Call::MomentDiff,
         "duration_add" => Call::DurationAdd,
+        "read_date" => Call::ReadDate,
         _ => match name.split_once('.') {
             Some(("counted", name)) => Call::OfDate(Kind::Counted, date_call_named(name)?),
             Some(("packed", name)) => Call::OfDate(Kind::Packed, date_call_named(name)?),

@@ -1,10 +1,14 @@
-//! The sums: which tables a call draws, and the sums of calls of times, date-times and durations.
+//! The sums: which tables a call draws, and the sums of calls of times, date-times, durations and texts.
 
 use crate::call::{Call, DateCall, Kind};
 use crate::generator::Generator;
 use crate::numbers::{of_duration, of_moment, of_signed, of_time};
-use crate::tables::{counted, date, day, duration, first, moment, packed, second, table, time};
+use crate::tables::{
+    counted, date, day, duration, first, moment, packed, second, table, text, time,
+};
 use crate::{form_sums, naive_sums, sum_of};
+use chrono_datetime::Datelike;
+use chrono_reading::read_date;
 
 /// The sum of the call's answers to so many drawn arguments, modulo 2^64.
 pub fn sum_of_answers(call: Call, count: u64) -> u64 {
@@ -16,6 +20,7 @@ pub fn sum_of_answers(call: Call, count: u64) -> u64 {
         Call::MomentAdd => moment_add(generator, count),
         Call::MomentDiff => moment_diff(generator, count),
         Call::DurationAdd => duration_add(generator, count),
+        Call::ReadDate => read_dates(generator, count),
     }
 }
 
@@ -76,5 +81,13 @@ fn duration_add(mut generator: Generator, count: u64) -> u64 {
             Some(sum) => of_signed(sum.num_milliseconds()),
             None => 0,
         }
+    })
+}
+
+fn read_dates(mut generator: Generator, count: u64) -> u64 {
+    let texts = table(&mut generator, text);
+    sum_of!(generator, count, drawn => match read_date(&texts[first(drawn)]) {
+        Some(date) => of_signed(i64::from(date.num_days_from_ce())),
+        None => 0,
     })
 }

@@ -1,12 +1,12 @@
 //! Tables of arguments, drawn before the calls are made.
-ghost use Rattle.std.specs.Prelude.{◌<◌, ◌*◌, unsigned_abs};
+ghost use Rattle.std.specs.Prelude.{◌≡◌, ◌<◌, ◌+◌, ◌*◌, ◌%◌, unsigned_abs};
 ghost use Rattle.chrono_datetime.specs.Duration.{nanos_per_second};
 ghost use Rattle.chrono_datetime.specs.Time.{IsPlain};
 ghost use Rattle.chrono_sums.specs.Drawn.{IsDrawnDay, IsDrawnName};
 
 use crate::generator::Generator;
 use chrono_calendar::{DayForm, Steps};
-use chrono_datetime::{NaiveDate, NaiveDateTime, NaiveTime, TimeDelta};
+use chrono_datetime::{Datelike, NaiveDate, NaiveDateTime, NaiveTime, TimeDelta};
 use chrono_stored::{CountedForm, PackedForm};
 
 /// How many arguments a table has.
@@ -75,6 +75,31 @@ pub fn name(generator: &mut Generator) -> (i32, u32, u32)
     let month = 1 + generator.below(12) as u32;
     let day = 1 + generator.below(31) as u32;
     (year, month, day)
+}
+
+/// The text of a date of those years, as in `2024-02-29`.
+pub fn text(generator: &mut Generator) -> [u8; 10] {
+    let date = date(generator);
+    let (year, month, day) = (date.year().unsigned_abs(), date.month(), date.day());
+    [
+        digit(year / 1_000),
+        digit(year / 100),
+        digit(year / 10),
+        digit(year),
+        b'-',
+        digit(month / 10),
+        digit(month),
+        b'-',
+        digit(day / 10),
+        digit(day),
+    ]
+}
+
+// The last digit of a number.
+fn digit(n: u32) -> u8
+    ensures { result ≡ 48 + n % 10 }
+{
+    b'0' + (n % 10) as u8
 }
 
 /// A time in no leap second.
