@@ -289,6 +289,8 @@ def main():
             break
         passed += 1
     is_right = passed == len(right) == len(answers) and (ran.returncode, ran.stderr) == (0, b"")
+    if not is_right:
+        print(f"{len(answers) - 1} answers to {len(lines)} lines, status {ran.returncode}, {ran.stderr!r} on standard error")
     nothing, wrong = (sum(it == kind for it in right) for kind in ("none", "error"))
     print(f"{len(lines)} lines compared from seed {asked.seed}, of which {nothing} name nothing and {wrong} are no command")
     print("1 passed, 0 failed" if is_right else "0 passed, 1 failed")

@@ -9,14 +9,17 @@ ghost use Rattle.caltool_form.specs.Lines.{IsCut, ended_lines, rest_of};
 /// bytes.
 pub fn cut_is_unique()
     ensures cut { (bytes : List ℕ) → IsCut bytes (ended_lines bytes) (rest_of bytes) }
-    ensures only_lines { (bytes : List ℕ) (cut : List (List ℕ)) (rest : List ℕ) → IsCut bytes cut rest → cut ≡ ended_lines bytes }
-    ensures only_rest { (bytes : List ℕ) (cut : List (List ℕ)) (rest : List ℕ) → IsCut bytes cut rest → rest ≡ rest_of bytes }
+    ensures only_lines { (bytes : List ℕ) (cut : List (List ℕ)) (rest : List ℕ)
+        → IsCut bytes cut rest → cut ≡ ended_lines bytes }
+    ensures only_rest { (bytes : List ℕ) (cut : List (List ℕ)) (rest : List ℕ)
+        → IsCut bytes cut rest → rest ≡ rest_of bytes }
 {}
 
 /// The words of a line are the only parts that single spaces join to it.
 pub fn words_are_unique()
     ensures joined { (line : List ℕ) → AreWords line (words line) }
-    ensures only { (line : List ℕ) (parts : List (List ℕ)) → AreWords line parts → parts ≡ words line }
+    ensures only { (line : List ℕ) (parts : List (List ℕ))
+        → AreWords line parts → parts ≡ words line }
 {}
 
 /// A number is read from exactly the texts that write it: an optional `-`, and one digit or more.
@@ -27,6 +30,8 @@ pub fn numbers_are_texts()
 
 /// A line holds a word and then whole numbers that fit an `i64`, each of them after one space.
 pub fn lines_are_commands()
-    ensures read { (line name : List ℕ) (numbers : List ℤ) → arguments_of line ≡ Some (name, numbers) → IsCommandLine line name numbers }
-    ensures written { (line name : List ℕ) (numbers : List ℤ) → IsCommandLine line name numbers → arguments_of line ≡ Some (name, numbers) }
+    ensures read { (line name : List ℕ) (numbers : List ℤ)
+        → arguments_of line ≡ Some (name, numbers) → IsCommandLine line name numbers }
+    ensures written { (line name : List ℕ) (numbers : List ℤ)
+        → IsCommandLine line name numbers → arguments_of line ≡ Some (name, numbers) }
 {}

@@ -76,10 +76,12 @@ impl Output {
     ) -> Result<(), RunFault>
         requires { w.old.mark ≡ Mark.Open }
         ensures same { w.new.inner.ghost_name ≡ w.old.inner.ghost_name }
-        ensures ok { OnOk result ((done : List ℕ) × Appends (W.contents w.old.inner.now) (W.contents w.new.inner.now) done
+        ensures ok { OnOk result ((done : List ℕ)
+            × Appends (W.contents w.old.inner.now) (W.contents w.new.inner.now) done
             × (self.old ≡ done ++ self.new)) }
         ensures room { OnOk result (length self.new + 63 < 65536) }
-        ensures err { OnErr result ((n : ℕ) × Appends (W.contents w.old.inner.now) (W.contents w.new.inner.now) (take n self.old)) }
+        ensures err { OnErr result ((n : ℕ)
+            × Appends (W.contents w.old.inner.now) (W.contents w.new.inner.now) (take n self.old)) }
         ensures mark { w.new.mark ≡ mark_of_write result }
         ensures fault { IfErr result (λ e. e ≡ RunFault.Write) }
     {
@@ -93,9 +95,11 @@ impl Output {
     pub(crate) fn send<W: Write>(&mut self, w: &mut WatchedWriter<'_, W>) -> Result<(), RunFault>
         requires { w.old.mark ≡ Mark.Open }
         ensures same { w.new.inner.ghost_name ≡ w.old.inner.ghost_name }
-        ensures ok { OnOk result (Appends (W.contents w.old.inner.now) (W.contents w.new.inner.now) self.old) }
+        ensures ok { OnOk result
+            (Appends (W.contents w.old.inner.now) (W.contents w.new.inner.now) self.old) }
         ensures nothing { OnOk result (self.new ≡ []) }
-        ensures err { OnErr result ((n : ℕ) × Appends (W.contents w.old.inner.now) (W.contents w.new.inner.now) (take n self.old)) }
+        ensures err { OnErr result ((n : ℕ)
+            × Appends (W.contents w.old.inner.now) (W.contents w.new.inner.now) (take n self.old)) }
         ensures mark { w.new.mark ≡ mark_of_write result }
         ensures fault { IfErr result (λ e. e ≡ RunFault.Write) }
     {
@@ -109,8 +113,10 @@ impl Output {
 fn write_whole<W: Write>(w: &mut WatchedWriter<'_, W>, bytes: &[u8]) -> Result<(), RunFault>
     requires { w.old.mark ≡ Mark.Open }
     ensures same { w.new.inner.ghost_name ≡ w.old.inner.ghost_name }
-    ensures ok { OnOk result (Appends (W.contents w.old.inner.now) (W.contents w.new.inner.now) bytes.now) }
-    ensures err { OnErr result ((n : ℕ) × Appends (W.contents w.old.inner.now) (W.contents w.new.inner.now) (take n bytes.now)) }
+    ensures ok { OnOk result
+        (Appends (W.contents w.old.inner.now) (W.contents w.new.inner.now) bytes.now) }
+    ensures err { OnErr result ((n : ℕ)
+        × Appends (W.contents w.old.inner.now) (W.contents w.new.inner.now) (take n bytes.now)) }
     ensures mark { w.new.mark ≡ mark_of_write result }
     ensures fault { IfErr result (λ e. e ≡ RunFault.Write) }
 {

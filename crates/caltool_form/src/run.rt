@@ -49,11 +49,14 @@ fn answer_watched<A: CommandAnswers, R: Read, W: Write>(
     ensures same_reader { r.new.inner.ghost_name ≡ r.old.inner.ghost_name }
     ensures same_writer { w.new.inner.ghost_name ≡ w.old.inner.ghost_name }
     ensures ok { OnOk result (AnsweredAll answer_of
-        (R.remaining r.old.inner.now) (R.remaining r.new.inner.now) (W.contents w.old.inner.now) (W.contents w.new.inner.now)) }
+        (R.remaining r.old.inner.now) (R.remaining r.new.inner.now)
+        (W.contents w.old.inner.now) (W.contents w.new.inner.now)) }
     ensures read { IsErrOf result RunFault.Read → AnsweredEnded answer_of
-        (R.remaining r.old.inner.now) (R.remaining r.new.inner.now) (W.contents w.old.inner.now) (W.contents w.new.inner.now) }
+        (R.remaining r.old.inner.now) (R.remaining r.new.inner.now)
+        (W.contents w.old.inner.now) (W.contents w.new.inner.now) }
     ensures write { IsErrOf result RunFault.Write → AnsweredPart answer_of
-        (R.remaining r.old.inner.now) (R.remaining r.new.inner.now) (W.contents w.old.inner.now) (W.contents w.new.inner.now) }
+        (R.remaining r.old.inner.now) (R.remaining r.new.inner.now)
+        (W.contents w.old.inner.now) (W.contents w.new.inner.now) }
     // Both ends were reached: the input was read to its end, and then the output flushed.
     ensures ended { OnOk result ((r.new.mark ≡ Mark.Ended) × (w.new.mark ≡ Mark.Ended)) }
     // A read failed, or the count of reads is at its end; no write failed, and there was no flush.
@@ -88,7 +91,8 @@ fn read_piece<R: Read, W: Write>(
     requires nothing_waits { out.now ≡ [] }
     ensures same { r.new.inner.ghost_name ≡ r.old.inner.ghost_name }
     ensures bound { ReadsAtMost result piece.new }
-    ensures bytes { ReadConsumes (R.remaining r.old.inner.now) (R.remaining r.new.inner.now) result piece.new }
+    ensures bytes { ReadConsumes
+        (R.remaining r.old.inner.now) (R.remaining r.new.inner.now) result piece.new }
     ensures mark { r.new.mark ≡ mark_of_read result }
     ensures reads { r.new.reads ≡ r.old.reads + 1 }
     ensures fault { IfErr result (λ e. e ≡ RunFault.Read) }
@@ -108,9 +112,11 @@ fn answer_piece<A: CommandAnswers, W: Write>(
     ensures same { w.new.inner.ghost_name ≡ w.old.inner.ghost_name }
     ensures ok { OnOk result (Appends (W.contents w.old.inner.now) (W.contents w.new.inner.now)
         (answers_of answer_of (but_last (pieces_after carried.old piece.now)))) }
-    ensures carries { OnOk result (carried.new ≡ take 121 (last_part (pieces_after carried.old piece.now))) }
+    ensures carries { OnOk result
+        (carried.new ≡ take 121 (last_part (pieces_after carried.old piece.now))) }
     ensures nothing { OnOk result (out.new ≡ []) }
-    ensures err { OnErr result ((n : ℕ) × Appends (W.contents w.old.inner.now) (W.contents w.new.inner.now)
+    ensures err { OnErr result ((n : ℕ)
+        × Appends (W.contents w.old.inner.now) (W.contents w.new.inner.now)
         (take n (answers_of answer_of (but_last (pieces_after carried.old piece.now))))) }
     ensures mark { w.new.mark ≡ mark_of_write result }
     ensures fault { IfErr result (λ e. e ≡ RunFault.Write) }
@@ -138,7 +144,8 @@ fn finish<A: CommandAnswers, R: Read, W: Write>(
     ensures same { w.new.inner.ghost_name ≡ w.old.inner.ghost_name }
     ensures ok { OnOk result (Appends (W.contents w.old.inner.now) (W.contents w.new.inner.now)
         (answers_of answer_of (last_line carried.old))) }
-    ensures err { OnErr result ((n : ℕ) × Appends (W.contents w.old.inner.now) (W.contents w.new.inner.now)
+    ensures err { OnErr result ((n : ℕ)
+        × Appends (W.contents w.old.inner.now) (W.contents w.new.inner.now)
         (take n (answers_of answer_of (last_line carried.old)))) }
     ensures mark { w.new.mark ≡ mark_of_flush result }
     ensures fault { IfErr result (λ e. e ≡ RunFault.Write) }
@@ -158,7 +165,8 @@ fn answer_last<A: CommandAnswers, W: Write>(
     ensures same { w.new.inner.ghost_name ≡ w.old.inner.ghost_name }
     ensures ok { OnOk result (Appends (W.contents w.old.inner.now) (W.contents w.new.inner.now)
         (answers_of answer_of (last_line carried.old))) }
-    ensures err { OnErr result ((n : ℕ) × Appends (W.contents w.old.inner.now) (W.contents w.new.inner.now)
+    ensures err { OnErr result ((n : ℕ)
+        × Appends (W.contents w.old.inner.now) (W.contents w.new.inner.now)
         (take n (answers_of answer_of (last_line carried.old)))) }
     ensures mark { w.new.mark ≡ mark_of_write result }
     ensures fault { IfErr result (λ e. e ≡ RunFault.Write) }

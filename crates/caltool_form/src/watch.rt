@@ -54,7 +54,8 @@ impl<'a, R: Read> WatchedReader<'a, R> {
         requires counted { self.old.reads < 2 ^ 64 - 1 }
         ensures same { self.new.inner.ghost_name ≡ self.old.inner.ghost_name }
         ensures bound { ReadsAtMost result piece.new }
-        ensures bytes { ReadConsumes (R.remaining self.old.inner.now) (R.remaining self.new.inner.now) result piece.new }
+        ensures bytes { ReadConsumes
+            (R.remaining self.old.inner.now) (R.remaining self.new.inner.now) result piece.new }
         ensures mark { self.new.mark ≡ mark_of_read result }
         ensures reads { self.new.reads ≡ self.old.reads + 1 }
         ensures fault { IfErr result (λ e. e ≡ RunFault.Read) }
@@ -100,7 +101,8 @@ impl<'a, W: Write> WatchedWriter<'a, W> {
         ensures same { self.new.inner.ghost_name ≡ self.old.inner.ghost_name }
         ensures some { IfOk result (λ n. 0 < n) }
         ensures bound { IfOk result (λ n. n ≤ length bytes.now) }
-        ensures bytes { WriteAppends (W.contents self.old.inner.now) (W.contents self.new.inner.now) result bytes.now }
+        ensures bytes { WriteAppends
+            (W.contents self.old.inner.now) (W.contents self.new.inner.now) result bytes.now }
         ensures mark { self.new.mark ≡ mark_of_write result }
         ensures fault { IfErr result (λ e. e ≡ RunFault.Write) }
     {

@@ -74,6 +74,7 @@ pub(crate) fn write_answer<A: CommandAnswers, const N: usize>(command: Command, 
 // ---- what a command asks for, of what it names
 
 // The date of a year, a month and a day.
+#[inline]
 #[tactic(auto, unfolding(crate::specs::Named::date_named))]
 fn date_named<A: CommandAnswers>(date: CalendarDate) -> Option<A::Date>
     ensures { option_map A.number result ≡ the_date date }
@@ -82,6 +83,7 @@ fn date_named<A: CommandAnswers>(date: CalendarDate) -> Option<A::Date>
 }
 
 // The date and the time of day of a date-time.
+#[inline]
 #[tactic(auto, unfolding(crate::specs::Named::moment_named))]
 fn moment_named<A: CommandAnswers>(named: DateAndTime) -> Option<(A::Date, NaiveTime)>
     ensures { option_map (λ m. moment (A.number m.0) m.1) result ≡ the_moment named }
@@ -126,7 +128,8 @@ fn moved_every<A: CommandAnswers>(date: CalendarDate, months: i32, times: u32) -
 // The whole years from the second date to the first.
 fn years_since<A: CommandAnswers>(date: CalendarDate, base: CalendarDate) -> Option<u32>
     ensures { result
-        ≡ option_and_then (λ n. option_and_then (λ m. years_between n m) (the_date base)) (the_date date) }
+        ≡ option_and_then (λ n. option_and_then (λ m. years_between n m) (the_date base))
+        (the_date date) }
 {
     A::years_between(date_named::<A>(date)?, date_named::<A>(base)?)
 }
@@ -315,7 +318,8 @@ fn push_day_and_weekday<A: CommandAnswers, const N: usize>(out: &mut Text<N>, da
 fn push_week_and_ordinal<A: CommandAnswers, const N: usize>(out: &mut Text<N>, date: A::Date)
     requires { length out.old + 32 ≤ N }
     ensures text { out.new
-        ≡ out.old ++ codes " " ++ week_text (iso_year_of (A.number date)) (iso_week_of (A.number date))
+        ≡ out.old
+        ++ codes " " ++ week_text (iso_year_of (A.number date)) (iso_week_of (A.number date))
         ++ codes " " ++ decimal (ordinal_of (A.number date)) }
     ensures fits { length out.new ≤ length out.old + 23 }
 {

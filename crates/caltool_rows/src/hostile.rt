@@ -2,10 +2,11 @@
 ghost use Rattle.std.specs.Prelude.{◌<◌};
 
 use crate::failing::{Call, Calls, Failure, Given, Taken};
-use crate::runner::{Dates, Runner};
+use crate::runner::{Dates, OfForm, Runner};
 use crate::tests::input;
 use crate::{Pieces, Sink};
 use caltool_dates::RunFault;
+use chrono_stored::{CountedForm, PackedForm};
 use std::alloc::{AllocError, Global};
 use std::io::ErrorKind;
 use std::test::Fail;
@@ -25,8 +26,8 @@ const KINDS: [ErrorKind; 42] = [
     ErrorKind::Other, ErrorKind::Uncategorized,
 ];
 
-// What the lines of the bytes are answered, each with a newline.
-fn output<A: Runner>(alloc: Global, bytes: &[u8]) -> Result<Vec<u8>, AllocError> {
+/// What the lines of the bytes are answered, each with a newline.
+pub fn output<A: Runner>(alloc: Global, bytes: &[u8]) -> Result<Vec<u8>, AllocError> {
     let mut output = Vec::new(alloc);
     if bytes.is_empty() {
         return Ok(output);
@@ -102,24 +103,29 @@ fn each_failure_ends_well<A: Runner>(
     Ok(false)
 }
 
-#[test]
-fn each_call_fails_once(rt: HostRuntime) -> Result<(), Fail> {
-    let rows = input(rt.alloc())?;
+// The same of every failure: of none given or taken and of an interruption over the rows, of each kind of error over a few lines.
+fn every_failure_ends_well<A: Runner>(alloc: Global) -> Result<bool, AllocError> {
+    let rows = input(alloc)?;
     let interrupted = Failure::Error(ErrorKind::Interrupted);
     for failure in [Failure::NoByte, interrupted] {
-        assert!(rt;
-            each_failure_ends_well::<Dates>(rt.alloc(), rows.as_slice(), failure)?,
-            "{failure:?}"
-        );
+        if !each_failure_ends_well::<A>(alloc, rows.as_slice(), failure)? {
+            return Ok(false);
+        }
     }
+    let few: &[u8] = b"ymd 1900 2 29\nymd 2024 2 29\n\nday 1";
     for kind in KINDS {
-        let failure = Failure::Error(kind);
-        let input: &[u8] = b"ymd 1900 2 29\nymd 2024 2 29\n\nday 1";
-        assert!(rt;
-            each_failure_ends_well::<Dates>(rt.alloc(), input, failure)?,
-            "{failure:?}"
-        );
+        if !each_failure_ends_well::<A>(alloc, few, Failure::Error(kind))? {
+            return Ok(false);
+        }
     }
+    Ok(true)
+}
+
+#[test]
+fn each_call_fails_once(rt: HostRuntime) -> Result<(), Fail> {
+    assert!(rt; every_failure_ends_well::<Dates>(rt.alloc())?);
+    assert!(rt; every_failure_ends_well::<OfForm<PackedForm>>(rt.alloc())?);
+    assert!(rt; every_failure_ends_well::<OfForm<CountedForm>>(rt.alloc())?);
     Ok(())
 }
 
@@ -166,8 +172,8 @@ const NUMBERS: [&[u8]; 40] = [
     b"2147483648", b"4294967296", b"1500000000", b"0000000000000000000002", b"\xff", b"",
 ];
 
-// So many lines of names and numbers, each with a newline.
-fn generated(alloc: Global, count: usize) -> Result<Vec<u8>, AllocError> {
+/// So many lines of names and numbers, each with a newline.
+pub fn generated(alloc: Global, count: usize) -> Result<Vec<u8>, AllocError> {
     let mut chance = Chance { state: 1 };
     let mut bytes = Vec::new(alloc);
     for _ in 0..count {
@@ -182,15 +188,18 @@ fn generated(alloc: Global, count: usize) -> Result<Vec<u8>, AllocError> {
     Ok(bytes)
 }
 
-// Whether a run over the input gives the same output in pieces of each length, read and written.
-fn is_alike_in_pieces<A: Runner>(alloc: Global, input: &[u8]) -> Result<bool, AllocError> {
-    let whole = output::<A>(alloc, input)?;
+// Whether a run over the input gives that output in pieces of each length, read and written.
+fn is_alike_in_pieces<A: Runner>(
+    alloc: Global,
+    input: &[u8],
+    whole: &[u8],
+) -> Result<bool, AllocError> {
     for size in [1usize, 2, 7, 16, 17, 120, 121, 100_000] {
         for taken in [1usize, 3, 64, 100_000] {
             let mut reader = Pieces::new(input, size.max(1));
             let mut writer = Sink::new(Vec::new(alloc), taken);
             let outcome = A::run(&mut reader, &mut writer);
-            if outcome != Ok(()) || writer.held() != whole.as_slice() || writer.flushes() != 1 {
+            if outcome != Ok(()) || writer.held() != whole || writer.flushes() != 1 {
                 return Ok(false);
             }
         }
@@ -198,11 +207,20 @@ fn is_alike_in_pieces<A: Runner>(alloc: Global, input: &[u8]) -> Result<bool, Al
     Ok(true)
 }
 
+// Each run gives the answers of `answer_line`, to the rows and to lines of any kind.
 #[test]
 fn lines_of_any_kind_in_any_pieces(rt: HostRuntime) -> Result<(), Fail> {
-    let generated = generated(rt.alloc(), 2000)?;
-    assert!(rt; is_alike_in_pieces::<Dates>(rt.alloc(), input(rt.alloc())?.as_slice())?);
-    assert!(rt; is_alike_in_pieces::<Dates>(rt.alloc(), generated.as_slice())?);
+    let mut lines = input(rt.alloc())?;
+    lines.push(b'\n')?;
+    lines.extend_from_slice(generated(rt.alloc(), 2000)?.as_slice())?;
+    let whole = output::<Dates>(rt.alloc(), lines.as_slice())?;
+    assert!(rt; is_alike_in_pieces::<Dates>(rt.alloc(), lines.as_slice(), whole.as_slice())?);
+    assert!(rt;
+        is_alike_in_pieces::<OfForm<PackedForm>>(rt.alloc(), lines.as_slice(), whole.as_slice())?
+    );
+    assert!(rt;
+        is_alike_in_pieces::<OfForm<CountedForm>>(rt.alloc(), lines.as_slice(), whole.as_slice())?
+    );
     Ok(())
 }
 
@@ -229,6 +247,7 @@ fn are_answered_across_reads<A: Runner>(alloc: Global) -> Result<bool, AllocErro
 #[test]
 fn lines_about_the_end_of_a_read(rt: HostRuntime) -> Result<(), Fail> {
     assert!(rt; are_answered_across_reads::<Dates>(rt.alloc())?);
+    assert!(rt; are_answered_across_reads::<OfForm<PackedForm>>(rt.alloc())?);
     Ok(())
 }
 

@@ -7,6 +7,8 @@ mod commands;
 #[cfg(test)]
 mod failing;
 #[cfg(test)]
+mod forms;
+#[cfg(test)]
 mod hostile;
 mod pieces;
 mod run;

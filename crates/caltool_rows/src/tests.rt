@@ -1,8 +1,6 @@
 //! Lines and their answers, and runs over lines that are few, long or many.
-use crate::{Asker, Counter, Pieces, SideBySide, Sink};
-use caltool_dates::{answer_form, answer_line, run, run_form};
-use chrono_calendar::DayForm;
-use chrono_stored::{CountedForm, PackedForm};
+use crate::{Asker, Counter, Pieces, Sink};
+use caltool_dates::{answer_line, run};
 use std::alloc::{AllocError, Global};
 use std::cell::Cell;
 use std::io::Read;
@@ -201,46 +199,6 @@ fn answers_each_line(rt: HostRuntime) {
     for (line, answer) in &ROWS {
         assert_eq!(rt; answer_line(line).as_bytes(), *answer);
     }
-}
-
-// Their answers, each ended by a newline.
-fn answers(alloc: Global) -> Result<Vec<u8>, AllocError> {
-    let mut bytes = Vec::new(alloc);
-    for (_, answer) in &ROWS {
-        bytes.extend_from_slice(answer)?;
-        bytes.push(b'\n')?;
-    }
-    Ok(bytes)
-}
-
-// What a run over dates of a form writes, and the answers that the form gives line by line.
-fn runs_and_answers<F: DayForm>(input: &[u8], alloc: Global) -> Result<(Vec<u8>, Vec<u8>), Fail> {
-    let mut writer = Sink::new(Vec::new(alloc), 100000);
-    run_form::<F, _, _>(&mut Pieces::new(input, 120), &mut writer)?;
-    let mut answers = Vec::new(alloc);
-    for (line, _) in &ROWS {
-        answers.extend_from_slice(answer_form::<F>(line).as_bytes())?;
-        answers.push(b'\n')?;
-    }
-    let mut written = Vec::new(alloc);
-    written.extend_from_slice(writer.held())?;
-    Ok((written, answers))
-}
-
-#[test]
-fn every_form_answers_alike(rt: HostRuntime) -> Result<(), Fail> {
-    let input = input(rt.alloc())?;
-    let whole = answers(rt.alloc())?;
-    let of_forms = [
-        runs_and_answers::<CountedForm>(input.as_slice(), rt.alloc())?,
-        runs_and_answers::<PackedForm>(input.as_slice(), rt.alloc())?,
-        runs_and_answers::<SideBySide>(input.as_slice(), rt.alloc())?,
-    ];
-    for (written, answered) in &of_forms {
-        assert_eq!(rt; written.as_slice(), whole.as_slice());
-        assert_eq!(rt; answered.as_slice(), whole.as_slice());
-    }
-    Ok(())
 }
 
 #[test]

@@ -9,7 +9,7 @@ use Rattle.chrono_units.specs.WeekdaySet.{DaySet, IsSubset, contains, no_days, w
 use Rattle.chrono_units.proofs.WeekdayCycle.{days_from_monday-weekday_from_monday}
 use Rattle.chrono_calendar.specs.Days.{IsDate, date_of_day}
 use Rattle.chrono_calendar.specs.Weeks.{weekday_of}
-use Rattle.chrono_calendar.specs.Recurrence.{first_of_days, date_on}
+use Rattle.chrono_calendar.specs.Recurrence.{first_of_days, past_last_date, dates_left, date_on}
 use Rattle.chrono_calendar.proofs.Signed.{signed}
 use Rattle.chrono_calendar.proofs.IsoWeeks.{days_from_monday-of, same_weekday}
 use Rattle.chrono_calendar.proofs.NamedDates.{date_of_day-Some, date_of_day-None}
@@ -109,34 +109,29 @@ first_of_days-nowhere set (suc k) n h d low high =
 
 -- ---- the first date on such a weekday
 
--- the days from a date to the last one
-left : ℤ → ℕ
-left n = unsigned_abs (pos 95_745_400 -ℤ n)
-
-end_of_dates : (n : ℤ) → IsDate n → n +ℤ pos (left n) ≡ pos 95_745_400
-unfolding left
+end_of_dates : (n : ℤ) → IsDate n → n +ℤ pos (dates_left n) ≡ past_last_date
 end_of_dates n h = omega (arith, signed, h.0, h.1)
 
 pub date_on-Some : (n : ℤ) (set : DaySet) (e : ℤ) → IsDate n → date_on n set ≡ Some e → IsFirstOn set n e × IsDate e
-unfolding date_on left
+unfolding date_on
 date_on-Some n set e h found =
-    let first = first_of_days-Some set (left n) n e found in
+    let first = first_of_days-Some set (dates_left n) n e found in
     (first.0, (omega (arith, signed, h.0, first.0.not_before), omega (arith, signed, first.1, end_of_dates n h)))
 
 pub date_on-found : (n : ℤ) (set : DaySet) (e : ℤ) → IsDate n → IsFirstOn set n e → IsDate e → date_on n set ≡ Some e
-unfolding date_on left
+unfolding date_on
 date_on-found n set e h first date =
-    first_of_days-found set (left n) n e first (omega (arith, signed, date.1, end_of_dates n h))
+    first_of_days-found set (dates_left n) n e first (omega (arith, signed, date.1, end_of_dates n h))
 
 pub date_on-None : (n : ℤ) (set : DaySet) → IsDate n → ((d : ℤ) → n ≤ℤ d → IsDate d → contains set (weekday_of d) ≡ false) → None ≡ date_on n set
-unfolding date_on left
+unfolding date_on
 date_on-None n set h none =
-    sym (first_of_days-None set (left n) n (λ d low high. none d low (omega (arith, signed, h.0, low), omega (arith, signed, high, end_of_dates n h))))
+    sym (first_of_days-None set (dates_left n) n (λ d low high. none d low (omega (arith, signed, h.0, low), omega (arith, signed, high, end_of_dates n h))))
 
 pub date_on-nowhere : (n : ℤ) (set : DaySet) → IsDate n → date_on n set ≡ None → (d : ℤ) → n ≤ℤ d → IsDate d → contains set (weekday_of d) ≡ false
-unfolding date_on left
+unfolding date_on
 date_on-nowhere n set h none d low date =
-    first_of_days-nowhere set (left n) n none d low (omega (arith, signed, date.1, end_of_dates n h))
+    first_of_days-nowhere set (dates_left n) n none d low (omega (arith, signed, date.1, end_of_dates n h))
 
 -- ---- as the code finds it
 
@@ -154,7 +149,7 @@ first_after n set k member least = record {
 pub date_of_day-on : (n : ℤ) (set : DaySet) (k : ℕ) → IsDate n → IsTrue (contains set (weekday_after (weekday_of n) k)) → ((j : ℕ) → j < k → contains set (weekday_after (weekday_of n) j) ≡ false) → date_of_day (n +ℤ pos k) ≡ date_on n set
 date_of_day-on n set k h member least =
     let first = first_after n set k member least in
-    by_lt_z (n +ℤ pos k) (pos 95_745_400)
+    by_lt_z (n +ℤ pos k) past_last_date
     (λ before.
     let date : IsDate (n +ℤ pos k) = (omega (arith, signed, h.0), omega (arith, signed, before)) in
     date_of_day-Some (n +ℤ pos k) date ∙ sym (date_on-found n set (n +ℤ pos k) h first date))

@@ -11,9 +11,17 @@ unfoldable pub first_of_days : DaySet → ℕ → ℤ → Option ℤ
 first_of_days set zero n = None
 first_of_days set (suc k) n = if contains set (weekday_of n) then Some n else first_of_days set k (n +ℤ pos 1)
 
--- the least date not before the date n whose weekday is in the set: the first of all days from n to the last date, if there is one
+-- the number after that of the last date, which no date has
+abbrev pub past_last_date : ℤ
+past_last_date = pos 95_745_400
+
+-- how many dates there are from the date n on, itself counted; none from the number after the last date's
+abbrev pub dates_left : ℤ → ℕ
+dates_left n = unsigned_abs (past_last_date -ℤ n)
+
+-- the least date not before the date n whose weekday is in the set: the first of all dates from n on, if there is one
 unfoldable pub date_on : ℤ → DaySet → Option ℤ
-date_on n set = first_of_days set (unsigned_abs (pos 95_745_400 -ℤ n)) n
+date_on n set = first_of_days set (dates_left n) n
 
 -- the i-th date of those that lie every k months from the date n: n itself moved by k times i months at once, if that is a date
 abbrev pub date_every : ℤ → ℤ → ℕ → Option ℤ

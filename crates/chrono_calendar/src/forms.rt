@@ -83,8 +83,8 @@ pub fn move_months<F: DayForm>(f: F, k: i64) -> Option<F>
     F::from_ymd(year, month, day_within(year, month, day))
 }
 
-/// The date `k` times `i` months later, or earlier for a negative `k`, in one move: so a day that a shorter month clips comes back
-/// in a longer one. `None` if the year of that month is outside the range of years.
+/// The date `k` times `i` months later, or earlier for a negative `k`, in one move: so a day that a shorter month clips
+/// comes back in a longer one. `None` if the year of that month is outside the range of years.
 ///
 /// So from 31 January 2024 every month it is 29 February, and then 31 March.
 #[inline]

@@ -24,8 +24,8 @@ pub fn time_left(deadline: NaiveDateTime, now: NaiveDateTime) -> TimeDelta
     deadline.signed_duration_since(now)
 }
 
-/// The pay day so many months after the first, which was a 31st: the 31st, or the last day of a shorter month. Each later one that
-/// there is comes after it.
+/// The pay day so many months after the first, which was a 31st: the 31st, or the last day of a shorter month. Each
+/// later one that there is comes after it.
 pub fn pay_day(first: NaiveDate, months: u32) -> Option<NaiveDate>
     ensures day { day_of first ≡ 31 → IfSome result (λ e.
         day_of e ≡ min 31 (month_length (year_of e) (month_of e))) }

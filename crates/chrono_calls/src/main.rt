@@ -5,13 +5,15 @@
 //! a duration is its seconds rounded down and the nanoseconds past them, a time of day its second and its fraction, a
 //! date its day number, a date-time all three, a weekday 1, Monday, to 7, a set of weekdays 0 to 127 by its binary
 //! digits, Monday's the lowest, a month 1 to 12; an order is -1, 0 or 1, and what is not there is `none`. Each line that
-//! is answered otherwise is printed with its number, and at the end their count.
+//! is answered otherwise is printed with its number, and at the end their count. A line of a date is asked of both stored
+//! forms too.
 #![tactic(auto)]
 
 mod date_times;
 mod date_walks;
 mod dates;
 mod durations;
+mod forms;
 mod months;
 mod sets;
 mod times;
@@ -19,6 +21,7 @@ mod weekdays;
 mod weeks;
 mod words;
 
+use chrono_stored::{CountedForm, PackedForm};
 use std::io::{self, BufRead, BufReader};
 
 fn main(rt: HostRuntime) -> io::Result<()> {
@@ -35,7 +38,7 @@ fn main(rt: HostRuntime) -> io::Result<()> {
     Ok(())
 }
 
-// Whether the call of the line has the answer that stands there, and takes all its arguments.
+// Whether the call of the line has the answer that stands there, by the public call and by both stored forms.
 fn is_answered(line: &str) -> bool {
     let Some((call, answer)) = line.split_once(" = ") else {
         return false;
@@ -57,5 +60,19 @@ fn is_answered(line: &str) -> bool {
         "Months" => months::is_answered_by_span(name, arguments, answer),
         _ => None,
     };
-    is_same == Some(true) && arguments.next().is_none()
+    is_same == Some(true)
+        && arguments.next().is_none()
+        && is_answered_by_forms(owner, name, call, answer)
+}
+
+// Whether both stored forms answer so, where they have the call.
+fn is_answered_by_forms(owner: &str, name: &str, call: &str, answer: &str) -> bool {
+    let ("NaiveDate" | "NaiveWeek", Some((_, arguments))) = (owner, call.split_once(' ')) else {
+        return true;
+    };
+    let words = &mut arguments.split_ascii_whitespace();
+    let packed = forms::is_answered::<PackedForm>(name, words, answer);
+    let words = &mut arguments.split_ascii_whitespace();
+    let counted = forms::is_answered::<CountedForm>(name, words, answer);
+    packed != Some(false) && counted == packed
 }

@@ -17,28 +17,21 @@ pub fn is_answered(name: &str, words: &mut Words<'_>, answer: &str) -> Option<bo
             answer,
             NaiveTime::from_hms_opt(unsigned(words)?, unsigned(words)?, unsigned(words)?),
         ),
-        "from_hms_milli_opt" => {
-            let (hour, minute, second) = (unsigned(words)?, unsigned(words)?, unsigned(words)?);
-            is_time(
-                answer,
-                NaiveTime::from_hms_milli_opt(hour, minute, second, unsigned(words)?),
-            )
-        }
-        "from_hms_micro_opt" => {
-            let (hour, minute, second) = (unsigned(words)?, unsigned(words)?, unsigned(words)?);
-            is_time(
-                answer,
-                NaiveTime::from_hms_micro_opt(hour, minute, second, unsigned(words)?),
-            )
-        }
-        "from_hms_nano_opt" => {
-            let (hour, minute, second) = (unsigned(words)?, unsigned(words)?, unsigned(words)?);
-            is_time(
-                answer,
-                NaiveTime::from_hms_nano_opt(hour, minute, second, unsigned(words)?),
-            )
+        "from_hms_milli_opt" | "from_hms_micro_opt" | "from_hms_nano_opt" => {
+            is_time(answer, with_fraction(name, words)?)
         }
         _ => return of_one(name, time(words)?, words, answer),
+    })
+}
+
+// The time of an hour, a minute, a second and a fraction, which the call of that name takes in its own unit.
+fn with_fraction(name: &str, words: &mut Words<'_>) -> Option<Option<NaiveTime>> {
+    let (hour, minute, second) = (unsigned(words)?, unsigned(words)?, unsigned(words)?);
+    let fraction = unsigned(words)?;
+    Some(match name {
+        "from_hms_milli_opt" => NaiveTime::from_hms_milli_opt(hour, minute, second, fraction),
+        "from_hms_micro_opt" => NaiveTime::from_hms_micro_opt(hour, minute, second, fraction),
+        _ => NaiveTime::from_hms_nano_opt(hour, minute, second, fraction),
     })
 }
 

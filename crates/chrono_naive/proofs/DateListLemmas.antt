@@ -5,8 +5,9 @@ use Rattle.std.specs.Bool.{⊤}
 use Rattle.std.specs.Option.{SomeIff, OnSome, IfNone}
 use Rattle.std.specs.Iterator.{MakesProgress, YieldsFirst, item_count}
 use Rattle.chrono_calendar.specs.Days.{IsDate, date_of_day}
+use Rattle.chrono_calendar.specs.Recurrence.{past_last_date, dates_left}
 use Rattle.chrono_calendar.proofs.Signed.{signed, casts}
-use Rattle.chrono_naive.specs.DateLists.{IsDayCursor, in_steps, past_last_date, dates_left, days_left, days_from, weeks_from, days_of_week}
+use Rattle.chrono_naive.specs.DateLists.{IsDayCursor, in_steps, days_left, days_from, weeks_from, days_of_week}
 
 pub length-in_steps : (d n : ℕ) (first : ℤ) → length (in_steps d n first) ≡ n
 unfolding in_steps

@@ -1,8 +1,9 @@
 -- Values that the definitions must give.
 use Rattle.std.proofs.Common.{◌≡◌, refl, pos, neg_ℤ, [], ◌∷◌}
 use Rattle.std.specs.declared.cmp.Ordering.TheVariants.{Less, Greater}
+use Rattle.chrono_calendar.specs.Recurrence.{dates_left}
 use Rattle.chrono_naive.specs.Fields.{iso_week_cmp}
-use Rattle.chrono_naive.specs.DateLists.{in_steps, dates_left, days_from, weeks_from}
+use Rattle.chrono_naive.specs.DateLists.{in_steps, days_from, weeks_from}
 
 -- ---- week 1 of a later year comes after week 53, and in one year the later week comes after
 

@@ -2,6 +2,7 @@
 use Rattle.std.specs.Prelude.{◌≡◌, ℕ, zero, suc, ◌/◌, false, List, [], ◌∷◌, ℤ, pos, neg_ℤ, ◌+ℤ◌, ◌-ℤ◌, ◌≤ℤ◌, unsigned_abs}
 use Rattle.std.specs.declared.ops.RangeInclusive.{RangeInclusive}
 use Rattle.std.specs.Range.{range_inclusive_start, range_inclusive_end, range_inclusive_exhausted}
+use Rattle.chrono_calendar.specs.Recurrence.{past_last_date, dates_left}
 
 -- n numbers in a row, the first of them first and each d more than the one before
 unfoldable pub in_steps : ℕ → ℕ → ℤ → List ℤ
@@ -15,14 +16,6 @@ last_date = pos 95_745_399
 -- the days from the date n to it
 abbrev pub days_left : ℤ → ℕ
 days_left n = unsigned_abs (last_date -ℤ n)
-
--- the number after it, which no date has: where the dates end
-abbrev pub past_last_date : ℤ
-past_last_date = pos 95_745_400
-
--- the dates from the day n to the last one, both counted; none from the number after the last date's
-abbrev pub dates_left : ℤ → ℕ
-dates_left n = unsigned_abs (past_last_date -ℤ n)
 
 -- a date's number, or the number after the last date's
 abbrev pub IsDayCursor : ℤ → Type 0

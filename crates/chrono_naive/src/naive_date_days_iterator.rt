@@ -5,7 +5,8 @@ ghost use Rattle.std.specs.Prelude.{◌≡◌, pos, ◌+ℤ◌, ◌-ℤ◌, leng
 ghost use Rattle.std.specs.Iterator.{IsFinite, MakesProgress, YieldsFirst, item_count, size};
 ghost use Rattle.std.specs.Option.{SomeIff};
 ghost use Rattle.chrono_calendar.specs.Days.{IsDate};
-ghost use Rattle.chrono_naive.specs.DateLists.{dates_left, days_from, past_last_date};
+ghost use Rattle.chrono_calendar.specs.Recurrence.{dates_left, past_last_date};
+ghost use Rattle.chrono_naive.specs.DateLists.{days_from};
 
 mod order;
 

@@ -25,9 +25,12 @@ pub fn read_date_time(text: &[u8]) -> Option<NaiveDateTime>
 // Where the first `T` or space stands.
 #[inline]
 fn separator_at(text: &[u8]) -> Option<usize>
-    ensures found { IfSome result (λ at. (at < length text.now) × IsSeparator (slice_index text.now at)) }
-    ensures first { IfSome result (λ at. (k : ℕ) → k < at → ¬ IsSeparator (slice_index text.now k)) }
-    ensures none { IfNone result ((k : ℕ) → k < length text.now → ¬ IsSeparator (slice_index text.now k)) }
+    ensures found { IfSome result (λ at.
+        (at < length text.now) × IsSeparator (slice_index text.now at)) }
+    ensures first { IfSome result (λ at.
+        (k : ℕ) → k < at → ¬ IsSeparator (slice_index text.now k)) }
+    ensures none { IfNone result
+        ((k : ℕ) → k < length text.now → ¬ IsSeparator (slice_index text.now k)) }
 {
     for (at, byte) in text.iter().enumerate() {
         if *byte == b'T' || *byte == b' ' {

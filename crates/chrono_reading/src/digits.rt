@@ -23,8 +23,10 @@ pub(crate) fn two_digits(tens: u8, ones: u8) -> Option<u32>
 // The number that three digits write, if these bytes are digits.
 #[inline]
 pub(crate) fn three_digits(hundreds: u8, tens: u8, ones: u8) -> Option<u32>
-    ensures some { IfSome result (λ n. (n < 1_000) × (all_digits 3 n ≡ hundreds ∷ tens ∷ ones ∷ [])) }
-    ensures every { (n : ℕ) → n < 1_000 → all_digits 3 n ≡ hundreds ∷ tens ∷ ones ∷ [] → result ≡ Some n }
+    ensures some { IfSome result (λ n.
+        (n < 1_000) × (all_digits 3 n ≡ hundreds ∷ tens ∷ ones ∷ [])) }
+    ensures every { (n : ℕ) → n < 1_000 → all_digits 3 n ≡ hundreds ∷ tens ∷ ones ∷ []
+        → result ≡ Some n }
 {
     let front = two_digits(hundreds, tens)?;
     let last = ones.wrapping_sub(b'0');
@@ -41,9 +43,9 @@ pub(crate) fn four_digits(digits: [u8; 4]) -> Option<u32>
     ensures every { (n : ℕ) → n < 10_000 → all_digits 4 n ≡ digits → result ≡ Some n }
 {
     let [thousands, hundreds, tens, ones] = digits;
-    let centuries = two_digits(thousands, hundreds)?;
-    let years = two_digits(tens, ones)?;
-    Some(100 * centuries + years)
+    let front = two_digits(thousands, hundreds)?;
+    let back = two_digits(tens, ones)?;
+    Some(100 * front + back)
 }
 
 // What the bytes write, if they are digits.
@@ -67,8 +69,10 @@ fn value(text: &[u8]) -> Option<u64>
 #[inline]
 pub(crate) fn all_digits(text: &[u8]) -> Option<u64>
     requires { length text.now ≤ 18 }
-    ensures some { IfSome result (λ n. (n < 10 ^ length text.now) × (all_digits (length text.now) n ≡ text.now)) }
-    ensures every { (n : ℕ) → n < 10 ^ length text.now → all_digits (length text.now) n ≡ text.now → result ≡ Some n }
+    ensures some { IfSome result (λ n.
+        (n < 10 ^ length text.now) × (all_digits (length text.now) n ≡ text.now)) }
+    ensures every { (n : ℕ) → n < 10 ^ length text.now → all_digits (length text.now) n ≡ text.now
+        → result ≡ Some n }
 {
     value(text)
 }

@@ -53,7 +53,8 @@ fn without_minus(text: &[u8]) -> Option<&[u8]>
 // The duration past zero that `PT`, seconds and `S` write.
 #[inline]
 fn read_size(text: &[u8]) -> Option<TimeDelta>
-    ensures some { IfSome result (λ x. (pos 0 <ℤ x) × IsDuration x × IsSecondsText text.now (unsigned_abs x)) }
+    ensures some { IfSome result (λ x.
+        (pos 0 <ℤ x) × IsDuration x × IsSecondsText text.now (unsigned_abs x)) }
     ensures every { (size : ℕ) → 0 < size → size ≤ longest → IsSecondsText text.now size
         → result ≡ Some (pos size) }
 {
@@ -79,8 +80,10 @@ fn duration_of(seconds: u64, nanos: u32) -> Option<TimeDelta>
 #[inline]
 fn read_seconds(text: &[u8]) -> Option<(u64, u32)>
     ensures small { IfSome result (λ read. (read.0 < 10 ^ 18) × (read.1 < nanos_per_second)) }
-    ensures some { IfSome result (λ read. IsSecondsText text.now (read.0 * nanos_per_second + read.1)) }
-    ensures every { (seconds nanos : ℕ) (fraction : List ℕ) → seconds < 10 ^ 18 → IsFractionText fraction nanos
+    ensures some { IfSome result (λ read.
+        IsSecondsText text.now (read.0 * nanos_per_second + read.1)) }
+    ensures every { (seconds nanos : ℕ) (fraction : List ℕ)
+        → seconds < 10 ^ 18 → IsFractionText fraction nanos
         → codes "PT" ++ decimal seconds ++ fraction ++ codes "S" ≡ text.now
         → result ≡ Some (seconds, nanos) }
 {

@@ -5,6 +5,9 @@ ghost use Rattle.chrono_reading.specs.TimeTexts.{IsFractionText, IsPointText};
 
 use crate::digits::all_digits;
 
+// A nanosecond stands in the last of these places behind the point.
+const MOST_PLACES: usize = 9;
+
 // The nanoseconds past a second that the text writes: none if it is empty, and else as a point and one to nine digits.
 #[inline]
 pub(crate) fn read_fraction(text: &[u8]) -> Option<u32>
@@ -24,9 +27,9 @@ fn read_places(digits: &[u8]) -> Option<u32>
     ensures some { IfSome result (λ n. (n < nanos_per_second) × IsPointText (46 ∷ digits.now) n) }
     ensures every { (n : ℕ) → IsPointText (46 ∷ digits.now) n → result ≡ Some n }
 {
-    if digits.is_empty() || digits.len() > 9 {
+    if digits.is_empty() || digits.len() > MOST_PLACES {
         return None;
     }
     let count = all_digits(digits)?;
-    Some(count as u32 * 10u32.pow(9 - digits.len() as u32))
+    Some(count as u32 * 10u32.pow((MOST_PLACES - digits.len()) as u32))
 }

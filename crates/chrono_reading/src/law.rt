@@ -1,5 +1,5 @@
-//! Laws of the texts that are read, each as the contract of a function: what is printed is read back, a text has one value,
-//! and two texts of one value differ only where its relation says so.
+//! Laws of the texts that are read, each as the contract of a function: what is printed is a text of its value, so that it is
+//! read back; a text has one value; a date has one text, and the texts of one time differ in its fraction alone.
 ghost use Rattle.std.specs.Prelude.{◌≡◌, ◌+◌, ◌++◌, ◌∷◌, [], ℕ, ℤ, List, drop, take};
 ghost use Rattle.chrono_datetime.specs.DateText.{date_text};
 ghost use Rattle.chrono_datetime.specs.Days.{IsDate, ordinal_of, year_of};
@@ -114,7 +114,8 @@ pub fn texts_have_one_week_date(text: &[u8])
 
 /// What `{}` writes for a time of day is a text of it, so it is read as that time, if a leap fraction stands at second 59.
 pub fn printed_times_are_read()
-    ensures { (t : TimeOfDay) → IsTime t → FractionFits (second_of t) t.fraction → IsTimeText (time_text t) t }
+    ensures { (t : TimeOfDay) → IsTime t → FractionFits (second_of t) t.fraction
+        → IsTimeText (time_text t) t }
 {}
 
 /// A text is that of at most one time of day.
@@ -124,8 +125,8 @@ pub fn texts_have_one_time(text: &[u8])
     let _time = read_time(text);
 }
 
-/// Two texts of one time of day have the same hour, minute and second in their first eight bytes, and behind those two
-/// fractions of the same nanoseconds, which differ in zeros at the end alone.
+/// Two texts of one time of day have the same hour, minute and second in their first eight bytes, and behind those
+/// fractions of the same nanoseconds.
 pub fn texts_of_a_time_differ_in_its_fraction()
     ensures { (text other : List ℕ) (t : TimeOfDay) → IsTimeText text t → IsTimeText other t
         → (take 8 text ≡ take 8 other) × SameFraction (drop 8 text) (drop 8 other) }
@@ -134,8 +135,9 @@ pub fn texts_of_a_time_differ_in_its_fraction()
 /// What `{}` and `{:?}` write for a date-time, with a space and with a `T`, are texts of it, so they are read as that
 /// date-time, if a leap fraction stands at second 59.
 pub fn printed_date_times_are_read()
-    ensures { (m : Moment) (separator : ℕ) → IsDate m.date → IsTime m.time → FractionFits (second_of m.time) m.time.fraction
-        → IsSeparator separator → IsDateTimeText (moment_text separator m) m }
+    ensures { (m : Moment) (separator : ℕ) → IsDate m.date → IsTime m.time
+        → FractionFits (second_of m.time) m.time.fraction → IsSeparator separator
+        → IsDateTimeText (moment_text separator m) m }
 {
     printed_dates_are_read();
     printed_times_are_read();

@@ -9,7 +9,8 @@ use crate::digits::{decimal, four_digits};
 #[inline]
 pub(crate) fn read_year(text: &[u8]) -> Option<i32>
     ensures some { IfSome result (λ y. (unsigned_abs y < 1_000_000) × (year_text y ≡ text.now)) }
-    ensures every { (y : ℤ) → unsigned_abs y < 1_000_000 → year_text y ≡ text.now → result ≡ Some y }
+    ensures every { (y : ℤ) → unsigned_abs y < 1_000_000 → year_text y ≡ text.now
+        → result ≡ Some y }
 {
     match text {
         [b'-', size @ ..] => year_before_0(year_size(size)?),

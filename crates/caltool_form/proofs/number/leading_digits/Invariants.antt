@@ -1,5 +1,5 @@
 -- The bytes so far are digits, and their value is `size`.
-use Rattle.std.proofs.Common.{◌≡◌, ◌<◌, ◌≤◌, ◌-◌, ◌^◌, length, take}
+use Rattle.std.proofs.Common.{◌≡◌, ◌≤◌, ◌-◌, take}
 use Rattle.std.specs.Str.Parse.{AllDigits, digits_value}
 use Rattle.caltool_form.proofs.number.leading_digits.Given as goal
 

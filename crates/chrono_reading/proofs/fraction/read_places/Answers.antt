@@ -3,7 +3,7 @@ use Rattle.std.proofs.lemmas.Grind.{common_steps}
 use Rattle.std.proofs.lemmas.Option.{same_Some}
 use Rattle.chrono_reading.proofs.FractionLemmas.{IsCount-point, IsPointText-count, nanos_below, nanos_same}
 use Rattle.chrono_reading.proofs.fraction.read_places.Goals as goal
-use Rattle.chrono_reading.proofs.fraction.read_places.Goals.{then-is_empty-via-then-is_empty, then-is_empty-via-else-is_empty+then-digits-gt9}
+use Rattle.chrono_reading.proofs.fraction.read_places.Goals.{then-is_empty-via-then-is_empty, then-is_empty-via-else-is_empty+then-digits-gt-MOST_PLACES}
 
 pub returns-then-is_empty-clause-every : goal.returns-then-is_empty-clause-every
 returns-then-is_empty-clause-every c = λ n is.
@@ -12,7 +12,7 @@ returns-then-is_empty-clause-every c = λ n is.
     let few = count.few in
     elim c.then-is_empty.branch [
       | then-is_empty-via-then-is_empty w ↦ grind (arith, common_steps)
-      | then-is_empty-via-else-is_empty+then-digits-gt9 w ↦ absurd (omega arith)
+      | then-is_empty-via-else-is_empty+then-digits-gt-MOST_PLACES w ↦ absurd (omega arith)
     ]
 
 pub returns-in_err-count-clause-every : goal.returns-in_err-count-clause-every

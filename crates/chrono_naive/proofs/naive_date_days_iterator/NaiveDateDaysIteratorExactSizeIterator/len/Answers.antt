@@ -1,6 +1,6 @@
 use Rattle.std.proofs.Common.{◌∙◌, sym, arith}
 use Rattle.chrono_calendar.proofs.Signed.{casts}
-use Rattle.chrono_naive.specs.DateLists.{dates_left}
+use Rattle.chrono_calendar.specs.Recurrence.{dates_left}
 use Rattle.chrono_naive.proofs.DateListLemmas.{length-in_steps}
 use Rattle.chrono_naive.proofs.naive_date_days_iterator.NaiveDateDaysIteratorExactSizeIterator.len.Goals as goal
 
