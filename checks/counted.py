@@ -116,6 +116,11 @@ def first_of_week(number, start):
     return number - (weekday_of(number) + 1 - start) % 7
 
 
+def first_on(number, members):
+    """The first date from a date on with a weekday of a set, whose lowest bit stands for Monday; or None."""
+    return next((it for it in range(number, min(number + 7, LAST_DAY + 1)) if members >> weekday_of(it) & 1), None)
+
+
 # ---- moves
 
 

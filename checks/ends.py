@@ -14,8 +14,8 @@ import os
 import sys
 
 from counted import (DAY, FIRST_DAY, FIRST_YEAR, LAST_DAY, LAST_YEAR, LONGEST, NANOS, apart, day_in_year, day_of, day_of_month,
-                     day_of_week_date, first_of_week, in_range, is_date, is_leap, is_time, land, month_lengths, month_move,
-                     name_of, ordinal_of, week_of, weekday_of, years_between)
+                     day_of_week_date, first_of_week, first_on, in_range, is_date, is_leap, is_time, land, month_lengths,
+                     month_move, name_of, ordinal_of, week_of, weekday_of, years_between)
 
 TOP = os.path.dirname(os.path.dirname(os.path.abspath(__file__)))
 ROWS = os.path.join(TOP, "crates", "chrono_calls", "stdin")
@@ -141,10 +141,6 @@ def week_walk(start, steps):
 def days_until(members, start):
     """The days from a weekday, counted from 1 for Monday, on to the first member of a set."""
     return next((it for it in range(7) if members >> ((start - 1 + it) % 7) & 1), None)
-
-
-def first_on(date, members):
-    return next((it for it in range(date, min(date + 7, LAST_DAY + 1)) if members >> weekday_of(it) & 1), None)
 
 
 def replaced(date, place, new):

@@ -17,7 +17,7 @@ import subprocess
 import sys
 
 from counted import (DAY, FIRST_DAY, FIRST_YEAR, LAST_DAY, LAST_YEAR, LONGEST, NANOS, apart, day_in_year, day_of, day_of_month,
-                     day_of_week_date, first_of_week, in_range, is_time, land, month_move, name_of, ordinal_of, week_of,
+                     day_of_week_date, first_of_week, first_on, in_range, is_time, land, month_move, name_of, ordinal_of, week_of,
                      weekday_of, years_between)
 
 TOP = os.path.dirname(os.path.dirname(os.path.abspath(__file__)))
@@ -114,6 +114,15 @@ def months_on(year, month, day, count):
     return None if number is None else month_move(number, count)
 
 
+def first_day_on(year, month, day, *weekdays):
+    number = day_of(year, month, day)
+    return None if number is None else first_on(number, sum({1 << (it - 1) for it in weekdays}))
+
+
+def every_months(year, month, day, count, times):
+    return months_on(year, month, day, count * times)
+
+
 def set_line(start, *days):
     walk = [(start - 1 + steps) % 7 for steps in range(7)]
     members = {day - 1 for day in days}
@@ -125,7 +134,7 @@ I32, U32, I64 = (-(2**31), 2**31 - 1), (0, 2**32 - 1), (-(2**63), 2**63 - 1)
 U8, MONTHS, WEEKDAY = (0, 255), (1 - 2**32, 2**32 - 1), (1, 7)
 DATE = [I32, U32, U32]
 MOMENT = DATE + [U32] * 4
-# Of each command: the types of its numbers, and its answer. The last type of `set` may come any number of times.
+# Of each command: the types of its numbers, and its answer. The last type of `set` and of `on` may come any number of times.
 COMMANDS = {
     "ymd": (DATE, lambda *it: date_line(day_of(*it))),
     "yo": ([I32, U32], lambda *it: date_line(day_in_year(*it))),
@@ -139,6 +148,8 @@ COMMANDS = {
     "diff": (MOMENT + MOMENT, distance),
     "since": (DATE + DATE, years_since),
     "set": ([WEEKDAY, WEEKDAY], set_line),
+    "on": (DATE + [WEEKDAY], lambda *it: date_line(first_day_on(*it))),
+    "every": (DATE + [I32, U32], lambda *it: date_line(every_months(*it))),
 }
 
 
@@ -149,8 +160,8 @@ def answer(line):
         return "error"
     types, answers = COMMANDS[name]
     numbers = [int(it) for it in words]
-    if name == "set":
-        types = types[:1] + types[1:] * (len(numbers) - 1)
+    if name in ("set", "on"):
+        types = types[:-1] + types[-1:] * (len(numbers) - len(types) + 1)
     if len(numbers) != len(types) or not all(low <= it <= high for it, (low, high) in zip(numbers, types)):
         return "error"
     return answers(*numbers)
@@ -189,11 +200,14 @@ def a_fraction(chance):
 
 def numbers_of(chance, name):
     types = COMMANDS[name][0]
-    if name == "set":
-        types = types[:1] + types[1:] * chance.randrange(9)
+    if name in ("set", "on"):
+        types = types[:-1] + types[-1:] * chance.randrange(9)
     numbers = [a_number(chance, it) for it in types]
     if name == "day" and chance.random() < 0.8:
         numbers = [chance.choice([near(chance, FIRST_DAY, LAST_DAY, 0, 3_652_059), chance.randint(FIRST_DAY, LAST_DAY)])]
+    if name == "every" and chance.random() < 0.9:
+        months = chance.choice([near(chance, 0, 12, -12, 2**16), near(chance, *I32)])
+        numbers[3:] = [min(max(months, I32[0]), I32[1]), chance.choice([chance.randrange(100), near(chance, 0, 2**16, U32[1])])]
     if name in ("move", "diff"):
         for begin in range(0, len(numbers) - 6, 7):
             if chance.random() < 0.9:

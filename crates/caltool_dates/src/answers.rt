@@ -1,7 +1,7 @@
 //! The answers to commands by dates, times of day and date-times: each by the public call that asks for it.
 use caltool_form::{CommandAnswers, MonthSpan};
 use chrono_datetime::{
-    Datelike, Days, Months, NaiveDate, NaiveDateTime, NaiveTime, TimeDelta, Weekday,
+    Datelike, Days, Months, NaiveDate, NaiveDateTime, NaiveTime, TimeDelta, Weekday, WeekdaySet,
 };
 
 /// Answers each command by dates, times of day and date-times.
@@ -65,6 +65,14 @@ impl CommandAnswers for DateAnswers {
 
     fn years_between(date: NaiveDate, base: NaiveDate) -> Option<u32> {
         date.years_since(base)
+    }
+
+    fn first_on(date: NaiveDate, days: WeekdaySet) -> Option<NaiveDate> {
+        date.first_on(days)
+    }
+
+    fn every_months(date: NaiveDate, months: i32, times: u32) -> Option<NaiveDate> {
+        date.every_months(months, times)
     }
 
     fn distance(

@@ -9,6 +9,7 @@ use Rattle.chrono_clock.specs.Moment.{moment_distance}
 use Rattle.chrono_clock.specs.Text.{week_text, duration_text}
 use Rattle.chrono_calendar.specs.Days.{date_of_day, date_of_yo, ordinal_of}
 use Rattle.chrono_calendar.specs.MonthMoves.{month_move}
+use Rattle.chrono_calendar.specs.Recurrence.{date_on, date_every}
 use Rattle.chrono_calendar.specs.Weeks.{weekday_of, iso_year_of, iso_week_of, date_of_iso, date_of_nth_weekday, week_first_of}
 use Rattle.chrono_calendar.specs.YearsBetween.{years_between}
 use Rattle.caltool_form.specs.Commands.{command_of}
@@ -16,7 +17,7 @@ use Rattle.caltool_form.specs.Lines.{lines}
 use Rattle.caltool_form.specs.Named.{date_named, moment_named, duration_named, months_of, reach}
 use Rattle.caltool_form.specs.Texts.{spaced_days_text, date_text, moment_text, text_or_none}
 use Rattle.caltool_form.specs.declared.command.Command.{Command}
-use Rattle.caltool_form.specs.declared.command.Command.TheVariants.{Ymd, Yo, Iwd, Day, Wom, Days, Months, Week, Move, Diff, Since, Set}
+use Rattle.caltool_form.specs.declared.command.Command.TheVariants.{Ymd, Yo, Iwd, Day, Wom, Days, Months, Week, Move, Diff, Since, Set, On, Every}
 
 -- the line of a date: the date, its day number, its weekday, its ISO week and its ordinal
 unfoldable pub names_of : ℤ → List ℕ
@@ -49,6 +50,8 @@ answer_to (Diff first second) =
 answer_to (Since date base) =
     text_or_none decimal (option_and_then (λ n. option_and_then (λ m. years_between n m) (date_named base)) (date_named date))
 answer_to (Set start days) = set_text days ++ spaced_days_text (walk days start)
+answer_to (On date days) = date_line (option_and_then (λ n. date_on n days) (date_named date))
+answer_to (Every date months times) = date_line (option_and_then (λ n. date_every n months times) (date_named date))
 
 -- the answer to a line, without its newline: to its command, if it is one
 unfoldable pub answer_of : List ℕ → List ℕ

@@ -10,7 +10,7 @@ use Rattle.caltool_form.specs.declared.arguments.CalendarDate.{CalendarDate}
 use Rattle.caltool_form.specs.declared.arguments.ClockTime.{ClockTime}
 use Rattle.caltool_form.specs.declared.arguments.DateAndTime.{DateAndTime}
 use Rattle.caltool_form.specs.declared.command.Command.{Command}
-use Rattle.caltool_form.specs.declared.command.Command.TheVariants.{Ymd, Yo, Iwd, Day, Wom, Days, Months, Week, Move, Diff, Since, Set}
+use Rattle.caltool_form.specs.declared.command.Command.TheVariants.{Ymd, Yo, Iwd, Day, Wom, Days, Months, Week, Move, Diff, Since, Set, On, Every}
 use Rattle.caltool_form.specs.declared.name.Name.{Name}
 use Rattle.caltool_form.specs.declared.name.Name.TheVariants as name
 
@@ -75,6 +75,10 @@ command_from name.Diff numbers =
 command_from name.Since numbers =
     Some (λ date base. Since date base) · calendar_date (take 3 numbers) · calendar_date (drop 3 numbers)
 command_from name.Set (start ∷ numbers) = Some (λ day days. Set day days) · to_weekday start · weekday_set numbers
+command_from name.On numbers = Some (λ date days. On date days) · calendar_date (take 3 numbers) · weekday_set (drop 3 numbers)
+command_from name.Every numbers =
+    Some (λ date months times. Every date months times)
+    · calendar_date (take 3 numbers) · option_and_then to_i32 (only (take 1 (drop 3 numbers))) · option_and_then to_u32 (only (drop 4 numbers))
 command_from _ _ = None
 
 -- the command word that these bytes are
@@ -92,6 +96,8 @@ name_of word =
     else if bytes_eq word (codes "diff") then Some name.Diff
     else if bytes_eq word (codes "since") then Some name.Since
     else if bytes_eq word (codes "set") then Some name.Set
+    else if bytes_eq word (codes "on") then Some name.On
+    else if bytes_eq word (codes "every") then Some name.Every
     else None
 
 -- the command of a word and numbers

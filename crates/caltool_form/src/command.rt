@@ -103,6 +103,22 @@ pub enum Command {
         /// The set of the weekdays after it; a weekday may stand there more than once.
         days: WeekdaySet,
     },
+    /// `on Y M D S ..`: the first date from a date on whose weekday is one of those given.
+    On {
+        /// The date that is looked at first.
+        date: CalendarDate,
+        /// The weekdays; there need be none, and one may stand there more than once.
+        days: WeekdaySet,
+    },
+    /// `every Y M D K I`: the date `K` times `I` months after a date, in one move.
+    Every {
+        /// The date that is moved.
+        date: CalendarDate,
+        /// How many months lie between one date and the next; below 0 they go back.
+        months: i32,
+        /// Which of the dates, from 0 for the date itself.
+        times: u32,
+    },
 }
 
 /// The command of a line, given without its newline. `None` if the line has more than 120 bytes, is no

@@ -6,6 +6,7 @@ ghost use Rattle.chrono_units.specs.Years.{IsYear};
 ghost use Rattle.chrono_clock.specs.Moment.{moment, moment_distance};
 ghost use Rattle.chrono_calendar.specs.Days.{IsCalendarName, date_of_day, date_of_ymd, date_of_yo, year_of, month_of, day_of, ordinal_of};
 ghost use Rattle.chrono_calendar.specs.MonthMoves.{month_move};
+ghost use Rattle.chrono_calendar.specs.Recurrence.{date_every, date_on};
 ghost use Rattle.chrono_calendar.specs.Weeks.{date_of_iso, date_of_nth_weekday, iso_week_of, iso_year_of, week_first_of, weekday_of};
 ghost use Rattle.chrono_calendar.specs.YearsBetween.{years_between as whole_years};
 ghost use Rattle.caltool_form.specs.Answers.{answer_to};
@@ -16,7 +17,7 @@ use crate::command::Command;
 use crate::text::Text;
 use crate::write_answer::write_answer;
 use chrono_clock::{NaiveTime, TimeDelta};
-use chrono_units::Weekday;
+use chrono_units::{Weekday, WeekdaySet};
 
 /// What answers commands. A type with it says how dates are found, moved and read; the texts of the answers are written in one
 /// place, for whatever dates these are.
@@ -74,6 +75,14 @@ pub trait CommandAnswers {
     /// The whole years from `base` to the date; `None` if the date is before `base`.
     fn years_between(date: Self::Date, base: Self::Date) -> Option<u32>
         ensures { result ≡ whole_years (number date) (number base) };
+
+    /// The first date from the date on whose weekday is in the set; `None` if the set is empty, or no such day is a date.
+    fn first_on(date: Self::Date, days: WeekdaySet) -> Option<Self::Date>
+        ensures { option_map number result ≡ date_on (number date) days };
+
+    /// The date `months` times `times` months on, moved there at once; `None` past the range of dates.
+    fn every_months(date: Self::Date, months: i32, times: u32) -> Option<Self::Date>
+        ensures { option_map number result ≡ date_every (number date) months times };
 
     /// How far a date and time of day are from another date and time.
     fn distance(

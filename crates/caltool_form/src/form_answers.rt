@@ -10,7 +10,7 @@ use crate::fault::RunFault;
 use crate::run::run_by;
 use chrono_calendar::{DayForm, Steps, forms};
 use chrono_clock::{NaiveTime, TimeDelta};
-use chrono_units::Weekday;
+use chrono_units::{Weekday, WeekdaySet};
 use std::io::{Read, Write};
 use std::marker::PhantomData;
 
@@ -75,6 +75,14 @@ impl<F: DayForm> CommandAnswers for FormAnswers<F> {
 
     fn years_between(date: F, base: F) -> Option<u32> {
         forms::years_between(&date, &base)
+    }
+
+    fn first_on(date: F, days: WeekdaySet) -> Option<F> {
+        forms::first_on(date, days)
+    }
+
+    fn every_months(date: F, months: i32, times: u32) -> Option<F> {
+        forms::every_months(date, months, times)
     }
 
     fn distance(date: F, time: NaiveTime, base: F, base_time: NaiveTime) -> TimeDelta {

@@ -17,6 +17,8 @@ pub(crate) enum Name {
     Diff,
     Since,
     Set,
+    On,
+    Every,
 }
 
 impl Name {
@@ -30,6 +32,8 @@ impl Name {
             Name::Diff => 0b1_1111_0011_1110,
             Name::Since => 0b11_0110,
             Name::Set => u64::MAX,
+            Name::On => u64::MAX - 1,
+            Name::Every => 0b1_1110,
         }
     }
 }
@@ -52,6 +56,8 @@ pub(crate) fn name_of(word: &[u8]) -> Option<Name>
         b"diff" => Some(Name::Diff),
         b"since" => Some(Name::Since),
         b"set" => Some(Name::Set),
+        b"on" => Some(Name::On),
+        b"every" => Some(Name::Every),
         _ => None,
     }
 }

@@ -27,6 +27,8 @@ pub(crate) fn command_from(name: Name, numbers: &[i64]) -> Option<Command>
         Name::Diff => diff(numbers),
         Name::Since => since(numbers),
         Name::Set => set(numbers),
+        Name::On => on(numbers),
+        Name::Every => every(numbers),
     }
 }
 
@@ -170,6 +172,32 @@ fn set(numbers: &[i64]) -> Option<Command>
     let start = to_weekday(*start)?;
     let days = weekday_set(days)?;
     Some(Command::Set { start, days })
+}
+
+#[tactic(auto, unfolding(crate::specs::Commands::command_from))]
+fn on(numbers: &[i64]) -> Option<Command>
+    ensures { result ≡ command_from Name.On numbers.now }
+{
+    let (date, days) = cut(numbers, 3);
+    let date = calendar_date(date)?;
+    let days = weekday_set(days)?;
+    Some(Command::On { date, days })
+}
+
+#[tactic(auto, unfolding(crate::specs::Commands::command_from))]
+fn every(numbers: &[i64]) -> Option<Command>
+    ensures { result ≡ command_from Name.Every numbers.now }
+{
+    let (date, steps) = cut(numbers, 3);
+    let (months, times) = cut(steps, 1);
+    let date = calendar_date(date)?;
+    let months = to_i32(only(months)?)?;
+    let times = to_u32(only(times)?)?;
+    Some(Command::Every {
+        date,
+        months,
+        times,
+    })
 }
 
 // The first numbers, and the others.

@@ -8,6 +8,7 @@ ghost use Rattle.chrono_clock.specs.Moment.{moment, moment_distance};
 ghost use Rattle.chrono_clock.specs.Text.{duration_text, time_text, week_text};
 ghost use Rattle.chrono_calendar.specs.Days.{date_of_day, ordinal_of};
 ghost use Rattle.chrono_calendar.specs.MonthMoves.{month_move};
+ghost use Rattle.chrono_calendar.specs.Recurrence.{date_every, date_on};
 ghost use Rattle.chrono_calendar.specs.Weeks.{iso_week_of, iso_year_of, week_first_of, weekday_of};
 ghost use Rattle.chrono_calendar.specs.YearsBetween.{years_between};
 ghost use Rattle.caltool_form.specs.Answers.{answer_to, date_line, names_of, week_line};
@@ -61,6 +62,12 @@ pub(crate) fn write_answer<A: CommandAnswers, const N: usize>(command: Command, 
         Command::Diff { first, second } => push_distance(out, difference::<A>(first, second)),
         Command::Since { date, base } => push_years(out, years_since::<A>(date, base)),
         Command::Set { start, days } => push_set_and_walk(out, days, start),
+        Command::On { date, days } => push_date_line::<A, N>(out, first_of_days::<A>(date, days)),
+        Command::Every {
+            date,
+            months,
+            times,
+        } => push_date_line::<A, N>(out, moved_every::<A>(date, months, times)),
     }
 }
 
@@ -100,6 +107,22 @@ fn moved_by_months<A: CommandAnswers>(date: CalendarDate, span: MonthSpan) -> Op
         ≡ option_and_then (λ n. month_move n (months_of span)) (the_date date) }
 {
     A::move_months(date_named::<A>(date)?, span)
+}
+
+// The first date from a date on with one of these weekdays.
+fn first_of_days<A: CommandAnswers>(date: CalendarDate, days: WeekdaySet) -> Option<A::Date>
+    ensures { option_map A.number result
+        ≡ option_and_then (λ n. date_on n days) (the_date date) }
+{
+    A::first_on(date_named::<A>(date)?, days)
+}
+
+// The date so many times so many months later, or earlier.
+fn moved_every<A: CommandAnswers>(date: CalendarDate, months: i32, times: u32) -> Option<A::Date>
+    ensures { option_map A.number result
+        ≡ option_and_then (λ n. date_every n months times) (the_date date) }
+{
+    A::every_months(date_named::<A>(date)?, months, times)
 }
 
 // The whole years from the second date to the first.

@@ -14,7 +14,8 @@ fn commands_of_lines(rt: HostRuntime) {
     let number = -95_746_129;
     let span = MonthSpan::Earlier(u32::MAX);
     let base = date;
-    let cases: [(&[u8], Command); 5] = [
+    let (months, times) = (i32::MIN, u32::MAX);
+    let cases: [(&[u8], Command); 7] = [
         (b"ymd -0004 02 29", Command::Ymd { date }),
         (b"day -95746129", Command::Day { number }),
         (
@@ -23,6 +24,15 @@ fn commands_of_lines(rt: HostRuntime) {
         ),
         (b"since -4 2 29 -4 2 29", Command::Since { date, base }),
         (b"set 3 1 4 7 4", Command::Set { start, days }),
+        (b"on -4 2 29 1 4 7 4", Command::On { date, days }),
+        (
+            b"every -4 2 29 -2147483648 4294967295",
+            Command::Every {
+                date,
+                months,
+                times,
+            },
+        ),
     ];
     for (line, wanted) in &cases {
         assert_eq!(rt; command_of(line), Some(*wanted));
@@ -31,7 +41,7 @@ fn commands_of_lines(rt: HostRuntime) {
 
 #[test]
 fn lines_that_are_no_command(rt: HostRuntime) {
-    let lines: [&[u8]; 24] = [
+    let lines: [&[u8]; 30] = [
         b"month 2024 1 1 1",
         b"Ymd 2024 1 1",
         b"ymd 2024 1",
@@ -56,6 +66,12 @@ fn lines_that_are_no_command(rt: HostRuntime) {
         b"set 1 0",
         b"set 1 2 ",
         b"set  1 2",
+        b"on 2024 12",
+        b"on 2024 12 30 0",
+        b"every 2024 1 31 1",
+        b"every 2024 1 31 -2147483649 1",
+        b"every 2024 1 31 1 4294967296",
+        b"every 2024 1 31 1 -1",
     ];
     for line in &lines {
         assert_eq!(rt; command_of(line), None);
