@@ -6,6 +6,7 @@ ghost use Rattle.chrono_calendar.specs.Days.{is_date};
 use chrono_calendar::{DayForm, Steps, forms};
 use chrono_stored::{CountedForm, PackedForm};
 use chrono_units::Weekday::{self, Fri, Mon, Sat, Sun, Thu, Tue, Wed};
+use chrono_units::WeekdaySet;
 
 // Day numbers, each from the first up to the one before the last: two cycles of 400 years about year 0, a year at each end
 // of the range and past it, and the ends of an i32.
@@ -130,13 +131,38 @@ fn moved_alike(packed: PackedForm, counted: CountedForm) -> bool {
     true
 }
 
+// Whether the first dates on a weekday, and the dates every so many months, are the same from both.
+fn recur_alike(packed: PackedForm, counted: CountedForm) -> bool {
+    for weekday in WEEK {
+        let set = WeekdaySet::single(weekday);
+        if !are_alike(forms::first_on(packed, set), forms::first_on(counted, set)) {
+            return false;
+        }
+    }
+    for (k, i) in [
+        (1, 1),
+        (-5, 13),
+        (12, 400),
+        (i32::MIN, 1),
+        (i32::MAX, u32::MAX),
+    ] {
+        let every_months = forms::every_months(counted, k, i);
+        if !are_alike(forms::every_months(packed, k, i), every_months) {
+            return false;
+        }
+    }
+    true
+}
+
 // Whether both have that day, or neither has it, and every call reads the same of both; every thirteenth day is moved too.
 fn day_is_alike(days: i32) -> bool {
     let packed = PackedForm::from_day(days, &mut Steps::new());
     let counted = CountedForm::from_day(days, &mut Steps::new());
     match (packed, counted) {
         (Some(packed), Some(counted)) => {
-            read_alike(packed, counted) && (days % 13 != 0 || moved_alike(packed, counted))
+            let are_moved = days % 13 != 0
+                || (moved_alike(packed, counted) && recur_alike(packed, counted));
+            are_moved && read_alike(packed, counted)
         }
         (None, None) => true,
         _ => false,
