@@ -251,6 +251,23 @@ fn lines_about_the_end_of_a_read(rt: HostRuntime) -> Result<(), Fail> {
     Ok(())
 }
 
+// All is read at once and a byte is taken at each write, so the write that fails says how many bytes are held.
+#[test]
+fn a_failed_write_leaves_the_bytes_before_it(rt: HostRuntime) {
+    let input: &[u8] = b"ymd 1900 2 29\nymd 2024 2 29\n\nday 1\n";
+    let mut room = [0u8; 128];
+    for call in 2u64..100 {
+        let calls = Calls::new(call, Failure::NoByte);
+        let mut reader = Given::new(input, 100, &calls);
+        let mut writer = Taken::new(&mut room, 1, &calls);
+        let outcome = Dates::run(&mut reader, &mut writer);
+        if calls.failed() == Some(Call::Write) {
+            assert_eq!(rt; outcome, Err(RunFault::Write));
+            assert_eq!(rt; writer.held().len() as u64 + 2, call, "at {call}");
+        }
+    }
+}
+
 // A run over memory of a fixed size asks for none, so that none can be refused to it.
 #[test]
 fn a_run_over_fixed_arrays(rt: HostRuntime) {
