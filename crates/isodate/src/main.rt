@@ -10,9 +10,9 @@ use names::{OrdinalName, WeekName};
 use std::io::{self, BufRead, BufReader};
 
 fn main(rt: HostRuntime) -> io::Result<()> {
-    for line in BufReader::new(rt.alloc(), rt.reader())?.lines(rt.alloc()) {
+    for line in BufReader::new(rt.alloc(), rt.reader())?.split(rt.alloc(), b'\n') {
         let line = line?;
-        let text = line.as_bytes();
+        let text = line.as_slice();
         if let Some(date) = read_date(text) {
             println!(rt;
                 "{} {} {}",
