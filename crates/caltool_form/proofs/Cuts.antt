@@ -4,7 +4,7 @@ use Rattle.std.specs.List.{flat_map, join_with_byte, AllByRecursion}
 use Rattle.std.proofs.lemmas.List.Splits.{join_with_byte-slice_split, slice_split_none, slice_split_at}
 use Rattle.caltool_form.specs.Lines.{pieces, but_last, last_part, ended_lines, rest_of, IsPiece, IsCut}
 use Rattle.caltool_form.proofs.Pieces.{some_pieces, no_newline}
-use Rattle.caltool_form.proofs.Parts.{plain_parts}
+use Rattle.caltool_command.proofs.Parts.{plain_parts}
 
 abbrev joined_of : List (List ℕ) → List ℕ → List ℕ
 joined_of cut rest = flat_map (λ line. line ++ 10 ∷ []) cut ++ rest

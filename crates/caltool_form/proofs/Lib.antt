@@ -1,15 +1,5 @@
-pub mod Splits
-pub mod Values
-pub mod Parts
-pub mod Types
-pub mod Reading
-pub mod Weekdays
-pub mod Commands
-pub mod Laws
 pub mod Pieces
 pub mod Progress
 pub mod Cuts
-pub mod Decimals
-pub mod Walks
 pub mod Tests
 pub mod Moments

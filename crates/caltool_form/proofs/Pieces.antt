@@ -11,7 +11,7 @@ use Rattle.std.proofs.KnownBytes.{Appends-trans}
 use Rattle.std.specs.Io.KnownBytes.{Appends}
 use Rattle.caltool_form.specs.Lines.{pieces, but_last, last_part, ended_lines, rest_of, onto_front, pieces_after, last_line, IsPiece}
 use Rattle.caltool_form.specs.Answers.{answer_of, answer_to, answers_of}
-use Rattle.caltool_form.specs.Commands.{is_long, command_of}
+use Rattle.caltool_command.specs.Commands.{is_long, command_of}
 
 -- a front of two lists
 pub take-append : (n : ℕ) (xs ys : List ℕ) → take n (xs ++ ys) ≡ take n xs ++ take (n - length xs) ys

@@ -5,7 +5,7 @@ use Rattle.std.proofs.lemmas.Bool.Decides.{nat_tests}
 use Rattle.std.specs.Option.{SomeIff}
 use Rattle.chrono_clock.specs.Duration.{IsDuration, longest, nanos_of, nanos_per_second}
 use Rattle.chrono_clock.specs.Time.{TimeOfDay, IsClock, FractionFits, time_at}
-use Rattle.caltool_form.specs.declared.arguments.ClockTime.{ClockTime}
+use Rattle.caltool_command.specs.declared.arguments.ClockTime.{ClockTime}
 use Rattle.caltool_form.specs.Named.{time_named, duration_named}
 
 -- an answer that exists exactly under a fact is the one that a test for the fact gives

@@ -12,12 +12,13 @@ use Rattle.chrono_calendar.specs.MonthMoves.{month_move}
 use Rattle.chrono_calendar.specs.Recurrence.{date_on, date_every}
 use Rattle.chrono_calendar.specs.Weeks.{weekday_of, iso_year_of, iso_week_of, date_of_iso, date_of_nth_weekday, week_first_of}
 use Rattle.chrono_calendar.specs.YearsBetween.{years_between}
-use Rattle.caltool_form.specs.Commands.{command_of}
+use Rattle.caltool_text.specs.SpacedDays.{spaced_days_text}
+use Rattle.caltool_command.specs.Commands.{command_of}
 use Rattle.caltool_form.specs.Lines.{lines}
 use Rattle.caltool_form.specs.Named.{date_named, moment_named, duration_named, months_of, reach}
-use Rattle.caltool_form.specs.Texts.{spaced_days_text, date_text, moment_text, text_or_none}
-use Rattle.caltool_form.specs.declared.command.Command.{Command}
-use Rattle.caltool_form.specs.declared.command.Command.TheVariants.{Ymd, Yo, Iwd, Day, Wom, Days, Months, Week, Move, Diff, Since, Set, On, Every}
+use Rattle.caltool_form.specs.Texts.{date_text, moment_text, text_or_none}
+use Rattle.caltool_command.specs.declared.command.Command.{Command}
+use Rattle.caltool_command.specs.declared.command.Command.TheVariants.{Ymd, Yo, Iwd, Day, Wom, Days, Months, Week, Move, Diff, Since, Set, On, Every}
 
 -- the line of a date: the date, its day number, its weekday, its ISO week and its ordinal
 unfoldable pub names_of : ℤ → List ℕ

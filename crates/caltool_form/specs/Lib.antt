@@ -1,7 +1,8 @@
-pub mod Words
-pub mod Numbers
-pub mod Grammar
-pub mod Commands
+pub use Rattle.caltool_text.specs.SpacedDays
+pub use Rattle.caltool_command.specs.Words
+pub use Rattle.caltool_command.specs.Numbers
+pub use Rattle.caltool_command.specs.Grammar
+pub use Rattle.caltool_command.specs.Commands
 pub mod Lines
 pub mod Named
 pub mod Texts

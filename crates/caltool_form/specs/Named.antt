@@ -5,11 +5,11 @@ use Rattle.chrono_clock.specs.Duration.{nanos_per_second, longest, nanos_of}
 use Rattle.chrono_clock.specs.Time.{TimeOfDay, time_at}
 use Rattle.chrono_clock.specs.Moment.{Moment, moment, moved}
 use Rattle.chrono_calendar.specs.Days.{date_of_day, date_of_ymd}
-use Rattle.caltool_form.specs.declared.arguments.CalendarDate.{CalendarDate}
-use Rattle.caltool_form.specs.declared.arguments.ClockTime.{ClockTime}
-use Rattle.caltool_form.specs.declared.arguments.DateAndTime.{DateAndTime}
-use Rattle.caltool_form.specs.declared.arguments.MonthSpan.{MonthSpan}
-use Rattle.caltool_form.specs.declared.arguments.MonthSpan.TheVariants.{Later, Earlier}
+use Rattle.caltool_command.specs.declared.arguments.CalendarDate.{CalendarDate}
+use Rattle.caltool_command.specs.declared.arguments.ClockTime.{ClockTime}
+use Rattle.caltool_command.specs.declared.arguments.DateAndTime.{DateAndTime}
+use Rattle.caltool_command.specs.declared.arguments.MonthSpan.{MonthSpan}
+use Rattle.caltool_command.specs.declared.arguments.MonthSpan.TheVariants.{Later, Earlier}
 
 -- the date of a year, a month and a day, if there is one
 unfoldable pub date_named : CalendarDate → Option ℤ

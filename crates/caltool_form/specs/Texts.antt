@@ -1,8 +1,5 @@
--- The texts that answers are made of, beside those of chrono_units and chrono_clock.
-use Rattle.std.specs.Prelude.{◌≡◌, ℕ, List, [], ◌∷◌, ◌++◌, ℤ, Option, Some, None, codes, refl}
-use Rattle.chrono_units.specs.declared.weekday.Weekday.{Weekday}
-use Rattle.chrono_units.specs.declared.weekday.Weekday.TheVariants.{Mon, Thu, Sun}
-use Rattle.chrono_units.specs.WeekdayText.{weekday_text}
+-- The texts that answers are made of, beside those of chrono_units, chrono_clock and caltool_text.
+use Rattle.std.specs.Prelude.{ℕ, List, [], ◌∷◌, ◌++◌, ℤ, Option, Some, None, codes}
 use Rattle.chrono_clock.specs.Moment.{Moment}
 use Rattle.chrono_clock.specs.Text.{calendar_text, time_text}
 use Rattle.chrono_calendar.specs.Days.{year_of, month_of, day_of}
@@ -19,15 +16,3 @@ date_text n = calendar_text (year_of n) (month_of n) (day_of n)
 -- a date, a character, and a time of day (ISO 8601 date and time of day, where the character is a `T`)
 abbrev pub moment_text : ℕ → Moment → List ℕ
 moment_text separator m = date_text m.date ++ separator ∷ [] ++ time_text m.time
-
--- each day after a space
-abbrev pub spaced_days_text : List Weekday → List ℕ
-spaced_days_text [] = []
-spaced_days_text (d ∷ ds) = 32 ∷ weekday_text d ++ spaced_days_text ds
-
--- known values
-spaced_days_text-three_days : spaced_days_text (Thu ∷ Sun ∷ Mon ∷ []) ≡ codes " Thu Sun Mon"
-spaced_days_text-three_days = refl
-
-spaced_days_text-no_days : spaced_days_text [] ≡ []
-spaced_days_text-no_days = refl

@@ -2,10 +2,9 @@
 ghost use Rattle.std.specs.Prelude.{◌≡◌, ◌≤◌, ◌+◌, ◌++◌, length};
 ghost use Rattle.caltool_form.specs.Answers.{answer_of};
 
-use crate::command::read_command;
 use crate::command_answers::CommandAnswers;
-use crate::numbers::Numbers;
-use crate::text::Text;
+use caltool_command::{Numbers, read_command};
+use caltool_text::Text;
 
 // An answer has at most 63 bytes.
 const LONGEST_ANSWER: usize = 63;

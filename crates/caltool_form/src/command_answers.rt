@@ -12,10 +12,9 @@ ghost use Rattle.chrono_calendar.specs.YearsBetween.{years_between as whole_year
 ghost use Rattle.caltool_form.specs.Answers.{answer_to};
 ghost use Rattle.caltool_form.specs.Named.{months_of, reach};
 
-use crate::arguments::MonthSpan;
-use crate::command::Command;
-use crate::text::Text;
 use crate::write_answer::write_answer;
+use caltool_command::{Command, MonthSpan};
+use caltool_text::Text;
 use chrono_clock::{NaiveTime, TimeDelta};
 use chrono_units::{Weekday, WeekdaySet};
 

@@ -4,10 +4,10 @@ ghost use Rattle.caltool_form.specs.Answers.{answer_of};
 ghost use Rattle.caltool_form.specs.Runs.{AnsweredAll, AnsweredEnded, AnsweredPart};
 
 use crate::answer::{Answer, answer_by};
-use crate::arguments::MonthSpan;
 use crate::command_answers::CommandAnswers;
 use crate::fault::RunFault;
 use crate::run::run_by;
+use caltool_command::MonthSpan;
 use chrono_calendar::{DayForm, Steps, forms};
 use chrono_clock::{NaiveTime, TimeDelta};
 use chrono_units::{Weekday, WeekdaySet};

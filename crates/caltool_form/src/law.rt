@@ -1,8 +1,5 @@
-//! What lines, words, numbers and commands are, each as a law that a caller can cite.
-ghost use Rattle.std.specs.Prelude.{◌≡◌, ℕ, ℤ, List, Some};
-ghost use Rattle.caltool_form.specs.Words.{words, AreWords};
-ghost use Rattle.caltool_form.specs.Numbers.{number_of, WritesNumber};
-ghost use Rattle.caltool_form.specs.Grammar.{arguments_of, IsCommandLine};
+//! What the lines of an input are, as a law that a caller can cite.
+ghost use Rattle.std.specs.Prelude.{◌≡◌, ℕ, List};
 ghost use Rattle.caltool_form.specs.Lines.{IsCut, ended_lines, rest_of};
 
 /// The lines that a newline ends, and what stands after the last newline, are the only cut of the
@@ -13,25 +10,4 @@ pub fn cut_is_unique()
         → IsCut bytes cut rest → cut ≡ ended_lines bytes }
     ensures only_rest { (bytes : List ℕ) (cut : List (List ℕ)) (rest : List ℕ)
         → IsCut bytes cut rest → rest ≡ rest_of bytes }
-{}
-
-/// The words of a line are the only parts that single spaces join to it.
-pub fn words_are_unique()
-    ensures joined { (line : List ℕ) → AreWords line (words line) }
-    ensures only { (line : List ℕ) (parts : List (List ℕ))
-        → AreWords line parts → parts ≡ words line }
-{}
-
-/// A number is read from exactly the texts that write it: an optional `-`, and one digit or more.
-pub fn numbers_are_texts()
-    ensures read { (text : List ℕ) (z : ℤ) → number_of text ≡ Some z → WritesNumber text z }
-    ensures written { (text : List ℕ) (z : ℤ) → WritesNumber text z → number_of text ≡ Some z }
-{}
-
-/// A line holds a word and then whole numbers that fit an `i64`, each of them after one space.
-pub fn lines_are_commands()
-    ensures read { (line name : List ℕ) (numbers : List ℤ)
-        → arguments_of line ≡ Some (name, numbers) → IsCommandLine line name numbers }
-    ensures written { (line name : List ℕ) (numbers : List ℤ)
-        → IsCommandLine line name numbers → arguments_of line ≡ Some (name, numbers) }
 {}

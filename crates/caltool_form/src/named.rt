@@ -2,7 +2,7 @@
 ghost use Rattle.std.specs.Prelude.{◌≡◌};
 ghost use Rattle.caltool_form.specs.Named.{time_named as the_time, duration_named as the_duration};
 
-use crate::arguments::ClockTime;
+use caltool_command::ClockTime;
 use chrono_clock::{NaiveTime, TimeDelta};
 
 // The time of an hour, a minute, a second and nanoseconds.

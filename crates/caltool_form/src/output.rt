@@ -8,9 +8,9 @@ ghost use Rattle.caltool_form.specs.Answers.{answer_of};
 use crate::answer::write_line_answer;
 use crate::command_answers::CommandAnswers;
 use crate::fault::RunFault;
-use crate::numbers::Numbers;
-use crate::text::Text;
 use crate::watch::WatchedWriter;
+use caltool_command::Numbers;
+use caltool_text::Text;
 use std::io::Write;
 use std::marker::Model;
 

@@ -12,8 +12,8 @@ use crate::command_answers::CommandAnswers;
 use crate::fault::RunFault;
 use crate::newline::first_line;
 use crate::output::{KEPT, Output};
-use crate::text::Text;
 use crate::watch::{WatchedReader, WatchedWriter};
+use caltool_text::Text;
 use std::io::{Read, Write};
 
 // The most bytes that one read gives.

@@ -11,15 +11,15 @@ ghost use Rattle.chrono_calendar.specs.MonthMoves.{month_move};
 ghost use Rattle.chrono_calendar.specs.Recurrence.{date_every, date_on};
 ghost use Rattle.chrono_calendar.specs.Weeks.{iso_week_of, iso_year_of, week_first_of, weekday_of};
 ghost use Rattle.chrono_calendar.specs.YearsBetween.{years_between};
+ghost use Rattle.caltool_text.specs.SpacedDays.{spaced_days_text};
 ghost use Rattle.caltool_form.specs.Answers.{answer_to, date_line, names_of, week_line};
 ghost use Rattle.caltool_form.specs.Named.{date_named as the_date, duration_named as the_duration, moment_named as the_moment, months_of, reach};
-ghost use Rattle.caltool_form.specs.Texts.{date_text, moment_text, spaced_days_text, text_or_none};
+ghost use Rattle.caltool_form.specs.Texts.{date_text, moment_text, text_or_none};
 
-use crate::arguments::{CalendarDate, DateAndTime, MonthSpan};
-use crate::command::Command;
 use crate::command_answers::CommandAnswers;
 use crate::named::{duration_named, time_named};
-use crate::text::Text;
+use caltool_command::{CalendarDate, Command, DateAndTime, MonthSpan};
+use caltool_text::Text;
 use chrono_clock::{NaiveTime, TimeDelta, Timelike};
 use chrono_units::{Weekday, WeekdaySet};
 

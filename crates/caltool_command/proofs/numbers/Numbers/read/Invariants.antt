@@ -1,0 +1,16 @@
+-- The numbers so far stand before those of the rest.
+use Rattle.std.proofs.Common.{◌≡◌, ◌+◌, ◌*◌, ◌≤◌, length}
+use Rattle.caltool_command.specs.Words.{EndsWord}
+use Rattle.caltool_command.specs.Grammar.{numbers_behind}
+use Rattle.caltool_command.proofs.Reading.{before}
+use Rattle.caltool_command.proofs.numbers.Numbers.read.Given as goal
+
+abbrev pub invariant-loop-rest : goal.invariant-loop-rest
+invariant-loop-rest l = record {
+  so_far : numbers_behind l.fn.text ≡ before l.self (numbers_behind l.rest);
+  ends : EndsWord l.rest;
+  room : 2 * length l.self + length l.rest ≤ 120;
+}
+
+abbrev pub decreases-loop-rest : goal.decreases-loop-rest
+decreases-loop-rest l = length l.rest

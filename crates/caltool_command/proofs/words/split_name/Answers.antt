@@ -1,0 +1,12 @@
+use Rattle.std.proofs.Common.{◌∷◌, drop, ap, sym, ◌∙◌}
+use Rattle.caltool_command.specs.Words.{words}
+use Rattle.caltool_command.proofs.Splits.{words_at, ends_at}
+use Rattle.caltool_command.proofs.words.split_name.Goals as goal
+
+pub returns-clause-words : goal.returns-clause-words
+returns-clause-words c =
+    let line = c.args.line.now in
+    let len = c.word_len-len.result in
+    words_at line len c.word_len-len.ensures.word (ends_at line len c.word_len-len.ensures.space)
+    ∙ ap (λ first. first ∷ drop 1 (words (drop len line))) (sym c.split_at.ensures.front)
+    ∙ ap (λ rest. c.split_at.result.0.now ∷ drop 1 (words rest)) (sym c.split_at.ensures.back)
