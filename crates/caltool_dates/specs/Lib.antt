@@ -1,3 +1,4 @@
+pub use Rattle.caltool_form.specs.SpacedDays
 pub use Rattle.caltool_form.specs.Words
 pub use Rattle.caltool_form.specs.Numbers
 pub use Rattle.caltool_form.specs.Grammar
