@@ -1,9 +1,10 @@
 //! What a line asks for.
 ghost use Rattle.std.specs.Prelude.{◌≡◌};
-ghost use Rattle.caltool_command.specs.Commands.{command_of};
+ghost use Rattle.std.specs.Option.{option_and_then};
+ghost use Rattle.caltool_command.specs.Commands.{command_from as the_command_from, command_of};
 
 use crate::arguments::{CalendarDate, DateAndTime, MonthSpan};
-use crate::name::name_of;
+use crate::name::{Name, name_of};
 use crate::numbers::Numbers;
 use crate::read::command_from;
 use crate::words::split_name;
@@ -131,9 +132,18 @@ pub fn command_of(line: &[u8]) -> Option<Command>
     read_command(line, &mut Numbers::new())
 }
 
-/// The command of a line, as [`command_of`] gives it. The line's numbers go into the given room.
-pub fn read_command(line: &[u8], numbers: &mut Numbers) -> Option<Command>
+// The command of a line, whose numbers go into the given room.
+fn read_command(line: &[u8], numbers: &mut Numbers) -> Option<Command>
     ensures { result ≡ command_of line.now }
+{
+    let name = read_line(line, numbers)?;
+    command_from(name, numbers.as_slice())
+}
+
+/// The name that a line begins with, if nothing but numbers follows it; these go into the given room. With them it makes the
+/// command of the line ([`command_from`]).
+pub fn read_line(line: &[u8], numbers: &mut Numbers) -> Option<Name>
+    ensures { command_of line.now ≡ option_and_then (λ name. the_command_from name numbers.new) result }
 {
     if line.len() > LONGEST_LINE {
         return None;
@@ -141,5 +151,5 @@ pub fn read_command(line: &[u8], numbers: &mut Numbers) -> Option<Command>
     let (word, rest) = split_name(line);
     let name = name_of(word)?;
     numbers.read(rest, name.short_places())?;
-    command_from(name, numbers.as_slice())
+    Some(name)
 }

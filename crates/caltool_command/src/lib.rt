@@ -1,7 +1,7 @@
 //! What a line asks `caltool` for: its words, the numbers that they write, and the [`Command`] of both.
 //!
-//! [`command_of`] reads a line of any bytes. A loop over many lines calls [`read_command`], with one room for the numbers of
-//! all of them.
+//! [`command_of`] reads a line of any bytes. A loop over many lines calls [`read_line`] and [`command_from`], with one room for the
+//! numbers of all of them.
 #![tactic(auto)]
 
 mod arguments;
@@ -14,6 +14,8 @@ mod read;
 mod words;
 
 pub use arguments::{CalendarDate, ClockTime, DateAndTime, MonthSpan};
-pub use command::{Command, command_of, read_command};
+pub use command::{Command, command_of, read_line};
 pub use law::{lines_are_commands, numbers_are_texts, words_are_unique};
+pub use name::Name;
 pub use numbers::Numbers;
+pub use read::command_from;

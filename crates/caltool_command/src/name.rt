@@ -2,22 +2,36 @@
 ghost use Rattle.std.specs.Prelude.{◌≡◌};
 ghost use Rattle.caltool_command.specs.Commands.{name_of};
 
-// A command word.
+/// A command word: what a line begins with.
 #[derive(Clone, Copy, Debug, PartialEq, Eq)]
-pub(crate) enum Name {
+pub enum Name {
+    /// `ymd`.
     Ymd,
+    /// `yo`.
     Yo,
+    /// `iwd`.
     Iwd,
+    /// `day`.
     Day,
+    /// `wom`.
     Wom,
+    /// `days`.
     Days,
+    /// `months`.
     Months,
+    /// `week`.
     Week,
+    /// `move`.
     Move,
+    /// `diff`.
     Diff,
+    /// `since`.
     Since,
+    /// `set`.
     Set,
+    /// `on`.
     On,
+    /// `every`.
     Every,
 }
 

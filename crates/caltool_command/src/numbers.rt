@@ -55,7 +55,8 @@ impl Numbers {
         Some(())
     }
 
-    pub(crate) fn as_slice(&self) -> &[i64]
+    /// The numbers, in the order in which the line has them.
+    pub fn as_slice(&self) -> &[i64]
         ensures { result.now ≡ self.now }
     {
         &self.items[..self.len]

@@ -10,8 +10,9 @@ use crate::name::Name;
 use crate::number::{to_i32, to_months, to_u8, to_u32, to_weekday};
 use chrono_units::WeekdaySet;
 
-// The command of this name and these numbers, if they are as many as it takes and each fits its type.
-pub(crate) fn command_from(name: Name, numbers: &[i64]) -> Option<Command>
+/// The command of this name and these numbers, if they are as many as it takes and each fits its type.
+#[inline(always)]
+pub fn command_from(name: Name, numbers: &[i64]) -> Option<Command>
     ensures { result ≡ command_from name numbers.now }
 {
     match name {

@@ -122,6 +122,7 @@ pub trait CommandAnswers {
         ensures { result ≡ ordinal_of (number date) };
 
     /// Puts the answer to a command, at most 63 bytes, behind the text: the same for whatever dates these are.
+    #[inline(always)]
     final fn write_answer<const N: usize>(command: Command, out: &mut Text<N>)
         requires { length out.old + 63 ≤ N }
         ensures text { out.new ≡ out.old ++ answer_to command }

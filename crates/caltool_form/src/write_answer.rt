@@ -24,6 +24,7 @@ use chrono_clock::{NaiveTime, TimeDelta, Timelike};
 use chrono_units::{Weekday, WeekdaySet};
 
 // Puts the answer to a command, at most 63 bytes, behind the text.
+#[inline(always)]
 #[tactic(auto, unfolding(crate::specs::Answers::answer_to))]
 pub(crate) fn write_answer<A: CommandAnswers, const N: usize>(command: Command, out: &mut Text<N>)
     requires { length out.old + 63 ≤ N }

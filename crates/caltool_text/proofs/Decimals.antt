@@ -1,13 +1,13 @@
 -- The digits of a number, cut at any place.
-use Rattle.std.proofs.Common.{◌≡◌, ◌≢◌, ℕ, zero, suc, ◌+◌, ◌-◌, ◌*◌, ◌/◌, ◌%◌, ◌^◌, ◌<◌, ◌≤◌, List, [], ◌∷◌, ◌++◌, length, take, drop, nat_le, inl, inr, if◌then◌else◌, refl, ap, sym, ◌∙◌, append_assoc, append-nil, length-append, arith}
+use Rattle.std.proofs.Common.{◌≡◌, ◌≢◌, ℕ, zero, suc, Bool, true, false, ◌+◌, ◌-◌, ◌*◌, ◌/◌, ◌%◌, ◌^◌, ◌<◌, ◌≤◌, List, [], ◌∷◌, ◌++◌, length, take, drop, nat_le, nat_lt, inl, inr, if◌then◌else◌, refl, ap, sym, ◌∙◌, append_assoc, append-nil, length-append, arith}
 use Rattle.std.proofs.Math.Nat.{div-add-mod, mod-lt, one-le-pow, pow-succ', le-mul_of_pos_right, pow-le-pow_right, mul-mod_left}
 use Rattle.std.proofs.Math.Seq.{take-append-add}
-use Rattle.std.proofs.lemmas.Bool.{cases_lt, ne_eqb}
+use Rattle.std.proofs.lemmas.Bool.{cases_lt, ne_eqb, lt-ltb, le-ltb, le-leb}
 use Rattle.std.proofs.lemmas.Bool.Decides.{nat_tests}
 use Rattle.std.proofs.lemmas.Nat.{pow-add, mul-add-lt, mod-mul-add, div_below, le-div}
 use Rattle.std.proofs.lemmas.Fmt.{decimal_digit, decimal_step, length-decimal-le}
 use Rattle.std.specs.Fmt.{decimal}
-use Rattle.chrono_clock.specs.Text.{two_digits, all_digits, fraction_digits}
+use Rattle.chrono_clock.specs.Text.{two_digits, all_digits, fraction_digits, year_digits}
 
 -- the parts of a number before and behind its last digits
 parts : (places n : ℕ) → (n ≡ n / 10 ^ places * 10 ^ places + n % 10 ^ places) × (n % 10 ^ places < 10 ^ places)
@@ -94,13 +94,50 @@ pub short_text : (n : ℕ) → n < 10_000
     → decimal n ≡ (((if nat_le 1_000 n then (48 + n / 100 / 10) ∷ [] else []) ++ (if nat_le 100 n then (48 + n / 100 % 10) ∷ [] else [])) ++ (if nat_le 10 n then (48 + n % 100 / 10) ∷ [] else [])) ++ (48 + n % 100 % 10) ∷ []
 short_text n small = grind (arith, nat_tests, decimal_digit, decimal_step, append_assoc)
 
-pub six_digits : (n : ℕ) → n < 1_000_000 → all_digits 6 n ≡ two_digits (n / 10_000) ++ all_digits 4 (n % 10_000)
-six_digits n small = digits_cut 2 4 n (omega arith) small ∙ ap (λ l. l ++ all_digits 4 (n % 10_000)) (as_two (n / 10_000))
+pub eight_digits : (n : ℕ) → n < 100_000_000 → all_digits 8 n ≡ all_digits 4 (n / 10_000) ++ all_digits 4 (n % 10_000)
+eight_digits n small = digits_cut 4 4 n (omega arith) small
+
+-- a short number in front of others, where 0 is nothing
+pub front_text : (n : ℕ) → n < 10_000
+    → (if nat_lt 0 n then decimal n else []) ≡ (((if nat_le 1_000 n then (48 + n / 100 / 10) ∷ [] else []) ++ (if nat_le 100 n then (48 + n / 100 % 10) ∷ [] else [])) ++ (if nat_le 10 n then (48 + n % 100 / 10) ∷ [] else [])) ++ (if nat_lt 0 n then (48 + n % 100 % 10) ∷ [] else [])
+front_text n small = elim (cases_lt 0 n) [
+  | inl some ↦ rw (lt-ltb 0 n some) (short_text n small)
+  | inr none ↦ let nothing : n ≡ 0 = omega arith in rw nothing refl
+]
+
+-- the last four digits of a number, or all that it has
+pub last_four_text : (n : ℕ)
+    → (if nat_lt n 10_000 then decimal n else all_digits 4 (n % 10_000)) ≡ (((if nat_le 1_000 n then (48 + n % 10_000 / 100 / 10) ∷ [] else []) ++ (if nat_le 100 n then (48 + n % 10_000 / 100 % 10) ∷ [] else [])) ++ (if nat_le 10 n then (48 + n % 10_000 % 100 / 10) ∷ [] else [])) ++ (48 + n % 10_000 % 100 % 10) ∷ []
+last_four_text n = elim (cases_lt n 10_000) [
+  | inl small ↦ let same : n % 10_000 ≡ n = omega arith in rw (same, lt-ltb n 10_000 small) (short_text n small)
+  | inr large ↦ rw (le-ltb n 10_000 large, four_places (n % 10_000) (omega arith), le-leb 1_000 n (omega arith), le-leb 100 n (omega arith), le-leb 10 n (omega arith)) refl
+]
+
+-- a number is its front and its last four digits
+pub by_fours : (n : ℕ) → n < 100_000_000
+    → decimal n ≡ (if nat_lt 0 (n / 10_000) then decimal (n / 10_000) else []) ++ (if nat_lt n 10_000 then decimal n else all_digits 4 (n % 10_000))
+by_fours n within = elim (cases_lt n 10_000) [
+  | inl small ↦ let none : n / 10_000 ≡ 0 = omega arith in rw (none, lt-ltb n 10_000 small) refl
+  | inr large ↦ rw (le-ltb n 10_000 large, lt-ltb 0 (n / 10_000) (omega arith)) (decimal_cut 4 n large (omega arith))
+]
+
+-- the size of a year
+pub year_by_fours : (n : ℕ) → n < 1_000_000
+    → year_digits n ≡ ((if nat_le 10 (n / 10_000) then (48 + n / 10_000 / 10) ∷ [] else []) ++ (if nat_lt 0 (n / 10_000) then (48 + n / 10_000 % 10) ∷ [] else [])) ++ all_digits 4 (n % 10_000)
+year_by_fours n within = elim (cases_lt n 10_000) [
+  | inl small ↦ let none : n / 10_000 ≡ 0 = omega arith in let same : n % 10_000 ≡ n = omega arith in rw (none, same, lt-ltb n 10_000 small) refl
+  | inr large ↦ rw (le-ltb n 10_000 large, lt-ltb 0 (n / 10_000) (omega arith), decimal_cut 4 n large (omega arith), pair_text (n / 10_000) (omega arith)) refl
+]
 
 -- how long the texts are
 
 pub at_most : (places n : ℕ) → 0 < places → n < 10 ^ places → n < 10 ^ 19 → length (decimal n) ≤ places
 at_most places n some small fits = length-decimal-le places n some small (omega arith)
+
+-- behind a text: a byte that is wanted or not
+pub one_at_most : (wanted : Bool) (byte : ℕ) (before after : List ℕ) → after ≡ before ++ (if wanted then byte ∷ [] else []) → length after ≤ length before + 1
+one_at_most true byte before after is = omega (arith, ap length is, length-append before (byte ∷ []))
+one_at_most false byte before after is = omega (arith, ap length is, length-append before [])
 
 -- the digits of a fraction, less the zeros at its end
 

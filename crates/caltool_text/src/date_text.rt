@@ -2,6 +2,7 @@
 ghost use Rattle.std.specs.Prelude.{◌≡◌, ◌+◌, ◌<◌, ◌≤◌, ◌++◌, length, unsigned_abs};
 ghost use Rattle.chrono_clock.specs.Text.{year_digits, year_text, calendar_text, week_text};
 
+use crate::digits::codes_of_two;
 use crate::text::Text;
 
 impl<const N: usize> Text<N> {
@@ -39,35 +40,32 @@ impl<const N: usize> Text<N> {
         self.push_two(week);
     }
 
-    // Puts a year: four digits from 0 to 9999, and else a sign and its size.
-    #[inline]
+    // Puts a year: four digits from 0 to 9999, and else a sign and its size. No branch is on how long it is,
+    // since processors guess that badly.
+    #[inline(always)]
     fn push_year(&mut self, year: i32)
         requires year { unsigned_abs year < 1_000_000 }
         requires room { length self.old + 7 ≤ N }
         ensures text { self.new ≡ self.old ++ year_text year }
         ensures fits { length self.new ≤ length self.old + 7 }
     {
-        if year < 0 {
-            self.push(b'-');
-            return self.push_year_digits(year.unsigned_abs());
-        }
-        if year < 10_000 {
-            return self.push_four(year as u32);
-        }
-        self.push(b'+');
-        self.push_year_digits(year as u32);
+        let sign = if year < 0 { b'-' } else { b'+' };
+        self.push_if((year < 0) | (year > 9_999), sign);
+        self.push_year_digits(year.unsigned_abs());
     }
 
     // Puts the size of a year in at least four digits.
+    #[inline(always)]
     fn push_year_digits(&mut self, size: u32)
         requires size { size < 1_000_000 }
         requires room { length self.old + 6 ≤ N }
         ensures text { self.new ≡ self.old ++ year_digits size }
         ensures fits { length self.new ≤ length self.old + 6 }
     {
-        if size < 10_000 {
-            return self.push_four(size);
-        }
-        self.push_below_million(size);
+        let front = size / 10_000;
+        let (tens, ones) = codes_of_two(front);
+        self.push_if(front >= 10, tens);
+        self.push_if(front > 0, ones);
+        self.push_four(size % 10_000);
     }
 }
