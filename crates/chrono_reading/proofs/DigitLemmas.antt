@@ -57,6 +57,10 @@ to_digits (suc k) n h =
 pub front_fits : (text : List ℕ) (i : ℕ) → AllDigits 10 (take i text) → i ≤ 17 → digits_value 10 (take i text) < 10 ^ 17
 front_fits text i all few = digits_value_short valued (take i text) 17 all (omega (arith, length-take i text))
 
+-- the digits of a number are its first one and those of the rest
+pub digits_more : (k d m : ℕ) → m < 10 ^ k → all_digits (suc k) (d * 10 ^ k + m) ≡ (48 + d) ∷ all_digits k m
+digits_more k d m below = rw (div-mul-add d (10 ^ k) m below, mod-mul-add d (10 ^ k) m below) refl
+
 -- so numbers of so many places are read from their digits and no others
 pub all_digits-read : (ds : List ℕ) → AllDigits 10 ds → (digits_value 10 ds < 10 ^ length ds) × (all_digits (length ds) (digits_value 10 ds) ≡ ds)
 all_digits-read ds all = rw (weighed.same ds all) at (from_digits ds all)

@@ -6,3 +6,4 @@ pub mod TimeTextLemmas
 pub mod DateTimeLemmas
 pub mod DurationTextLemmas
 pub mod PrintedLemmas
+pub mod NameLemmas

@@ -1,6 +1,6 @@
 //! Laws of the texts that are read, each as the contract of a function: what is printed is a text of its value, so that it is
 //! read back; a text has one value; a date has one text, and the texts of one time differ in its fraction alone.
-ghost use Rattle.std.specs.Prelude.{◌≡◌, ◌+◌, ◌++◌, ◌∷◌, [], ℕ, ℤ, List, drop, take};
+ghost use Rattle.std.specs.Prelude.{◌≡◌, ◌+◌, ◌++◌, ◌∷◌, ◌⊎◌, [], ℕ, ℤ, List};
 ghost use Rattle.chrono_datetime.specs.DateText.{date_text};
 ghost use Rattle.chrono_datetime.specs.Days.{IsDate, ordinal_of, year_of};
 ghost use Rattle.chrono_datetime.specs.Duration.{IsDuration};
@@ -14,11 +14,11 @@ ghost use Rattle.chrono_datetime.specs.Weeks.{iso_week_of, iso_year_of, weekday_
 ghost use Rattle.chrono_datetime.specs.WeekdayText.{weekday_text};
 ghost use Rattle.chrono_datetime.specs.declared.Month.{Month};
 ghost use Rattle.chrono_datetime.specs.declared.Weekday.{Weekday};
-ghost use Rattle.chrono_reading.specs.DateTimeTexts.{IsDateTimeText, IsSeparator};
-ghost use Rattle.chrono_reading.specs.DurationTexts.{IsDurationText};
-ghost use Rattle.chrono_reading.specs.TimeTexts.{IsTimeText, SameFraction};
+ghost use Rattle.chrono_reading.specs.DateTimeTexts.{IsDateTimeText, IsSeparator, SameDateTime};
+ghost use Rattle.chrono_reading.specs.DurationTexts.{IsDurationText, SameSeconds};
+ghost use Rattle.chrono_reading.specs.TimeTexts.{IsFractionText, IsTimeText, SameClock, SameFraction};
 ghost use Rattle.chrono_reading.specs.DateTexts.{IsDateText, IsOrdinalDateText, IsWeekDateText};
-ghost use Rattle.chrono_reading.specs.NameTexts.{IsMonthText, IsWeekdayText};
+ghost use Rattle.chrono_reading.specs.NameTexts.{IsMonthText, IsNameText, IsWeekdayText};
 
 use crate::{
     read_date, read_date_time, read_duration, read_month, read_ordinal_date, read_time,
@@ -52,6 +52,18 @@ pub fn texts_have_one_month(text: &[u8])
 {
     let _month = read_month(text);
 }
+
+/// Of two texts of one weekday one is the other or its first three letters, in letters of any case.
+pub fn texts_of_a_weekday_differ_in_case_and_length()
+    ensures { (text other : List ℕ) (d : Weekday) → IsWeekdayText text d → IsWeekdayText other d
+        → IsNameText text other ⊎ IsNameText other text }
+{}
+
+/// Of two texts of one month one is the other or its first three letters, in letters of any case.
+pub fn texts_of_a_month_differ_in_case_and_length()
+    ensures { (text other : List ℕ) (m : Month) → IsMonthText text m → IsMonthText other m
+        → IsNameText text other ⊎ IsNameText other text }
+{}
 
 /// What `{}` writes for a date is a text of it, so it is read as that date.
 pub fn printed_dates_are_read()
@@ -92,6 +104,17 @@ pub fn texts_have_one_ordinal_date(text: &[u8])
     let _date = read_ordinal_date(text);
 }
 
+/// The one ordinal name of a date is its year and its place in it, in three digits behind a `-`.
+pub fn dates_have_one_ordinal_text(text: &[u8])
+    ensures { (n : ℤ) → IsOrdinalDateText text.now n → IsDate n
+        × (text.now ≡ year_text (year_of n) ++ 45 ∷ all_digits 3 (ordinal_of n)) }
+{
+    if let Some(date) = read_ordinal_date(text) {
+        let _number = date.num_days_from_ce();
+        dates_have_one_ordinal_name();
+    }
+}
+
 /// The ISO year and week that name a date, as `{:?}` writes them, and the number of its weekday behind a `-` are read as that
 /// date.
 pub fn week_names_are_read(date: NaiveDate)
@@ -112,6 +135,18 @@ pub fn texts_have_one_week_date(text: &[u8])
     let _date = read_week_date(text);
 }
 
+/// The one week name of a date is its ISO year and week, as `{:?}` writes them, and the number of its weekday behind a `-`.
+pub fn dates_have_one_week_text(text: &[u8])
+    ensures { (n : ℤ) → IsWeekDateText text.now n → IsDate n
+        × (text.now ≡ week_text (iso_year_of n) (iso_week_of n)
+        ++ 45 ∷ (48 + number_from_monday (weekday_of n)) ∷ []) }
+{
+    if let Some(date) = read_week_date(text) {
+        let _number = date.num_days_from_ce();
+        dates_have_one_iso_name();
+    }
+}
+
 /// What `{}` writes for a time of day is a text of it, so it is read as that time, if a leap fraction stands at second 59.
 pub fn printed_times_are_read()
     ensures { (t : TimeOfDay) → IsTime t → FractionFits (second_of t) t.fraction
@@ -125,11 +160,17 @@ pub fn texts_have_one_time(text: &[u8])
     let _time = read_time(text);
 }
 
-/// Two texts of one time of day have the same hour, minute and second in their first eight bytes, and behind those
-/// fractions of the same nanoseconds.
-pub fn texts_of_a_time_differ_in_its_fraction()
+/// Two texts of one fraction of a second differ in zeros at the end of one of them alone.
+pub fn texts_of_a_fraction_differ_in_last_zeros()
+    ensures { (text other : List ℕ) (nanos : ℕ) → IsFractionText text nanos → IsFractionText other nanos
+        → SameFraction text other }
+{}
+
+/// Two texts of one time of day have the same hour, minute and second in their first eight bytes, and differ behind those in
+/// zeros at the end of the fraction alone.
+pub fn texts_of_a_time_differ_in_last_zeros()
     ensures { (text other : List ℕ) (t : TimeOfDay) → IsTimeText text t → IsTimeText other t
-        → (take 8 text ≡ take 8 other) × SameFraction (drop 8 text) (drop 8 other) }
+        → SameClock text other }
 {}
 
 /// What `{}` and `{:?}` write for a date-time, with a space and with a `T`, are texts of it, so they are read as that
@@ -150,6 +191,18 @@ pub fn texts_have_one_date_time(text: &[u8])
     let _date_time = read_date_time(text);
 }
 
+/// Two texts of one date-time have the same date, a `T` or a space each, and times that differ in zeros at the end of the
+/// fraction alone.
+pub fn texts_of_a_date_time_differ_in_separator_and_last_zeros(text: &[u8])
+    ensures { (other : List ℕ) (m : Moment) → IsDateTimeText text.now m → IsDateTimeText other m
+        → SameDateTime text.now other }
+{
+    if let Some(date_time) = read_date_time(text) {
+        let _number = date_time.date().num_days_from_ce();
+        dates_have_one_calendar_name();
+    }
+}
+
 /// What `{}` writes for a duration is a text of it, so it is read as that duration.
 pub fn printed_durations_are_read()
     ensures { (x : ℤ) → IsDuration x → IsDurationText (duration_text x) x }
@@ -161,3 +214,10 @@ pub fn texts_have_one_duration(text: &[u8])
 {
     let _duration = read_duration(text);
 }
+
+/// Two texts of one duration are the same, or have the same sign and whole seconds and differ in zeros at the end of the fraction
+/// alone.
+pub fn texts_of_a_duration_differ_in_last_zeros()
+    ensures { (text other : List ℕ) (x : ℤ) → IsDurationText text x → IsDurationText other x
+        → (text ≡ other) ⊎ SameSeconds text other }
+{}
