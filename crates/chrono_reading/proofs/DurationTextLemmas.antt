@@ -71,7 +71,7 @@ pub record IsSizeOf (text : List ℕ) (x : ℤ) : Type 0 where
   pub within : unsigned_abs x ≤ longest
   pub written : IsSecondsText text (unsigned_abs x)
 
-first_p : (text : List ℕ) (size : ℕ) → IsSecondsText text size → get_or text 0 0 ≡ 80
+pub first_p : (text : List ℕ) (size : ℕ) → IsSecondsText text size → get_or text 0 0 ≡ 80
 first_p text size is = ap (λ (t : List ℕ). get_or t 0 0) (sym is.written)
 
 not_negative : (n : ℕ) → is_negative (pos n) ≡ false

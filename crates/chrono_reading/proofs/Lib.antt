@@ -7,3 +7,4 @@ pub mod DateTimeLemmas
 pub mod DurationTextLemmas
 pub mod PrintedLemmas
 pub mod NameLemmas
+pub mod NearMisses

@@ -1,19 +1,21 @@
 //! Laws of the texts that are read, each as the contract of a function: what is printed is a text of its value, so that it is
 //! read back; a text has one value; a date has one text, and the texts of one time differ in its fraction alone.
-ghost use Rattle.std.specs.Prelude.{◌≡◌, ◌+◌, ◌++◌, ◌∷◌, ◌⊎◌, [], ℕ, ℤ, List};
+ghost use Rattle.std.specs.Prelude.{◌≡◌, ◌+◌, ◌++◌, ◌∷◌, ◌⊎◌, [], ℕ, ℤ, List, codes, neg_ℤ, pos};
 ghost use Rattle.chrono_datetime.specs.DateText.{date_text};
 ghost use Rattle.chrono_datetime.specs.Days.{IsDate, ordinal_of, year_of};
 ghost use Rattle.chrono_datetime.specs.Duration.{IsDuration};
-ghost use Rattle.chrono_datetime.specs.Moment.{Moment};
+ghost use Rattle.chrono_datetime.specs.Moment.{Moment, moment};
 ghost use Rattle.chrono_datetime.specs.MomentText.{moment_text};
 ghost use Rattle.chrono_datetime.specs.Month.{month_name};
 ghost use Rattle.chrono_datetime.specs.Text.{all_digits, duration_text, time_text, week_text, year_text};
-ghost use Rattle.chrono_datetime.specs.Time.{FractionFits, IsTime, TimeOfDay, second_of};
+ghost use Rattle.chrono_datetime.specs.Time.{FractionFits, IsTime, TimeOfDay, second_of, time_at};
 ghost use Rattle.chrono_datetime.specs.Weekday.{number_from_monday};
 ghost use Rattle.chrono_datetime.specs.Weeks.{iso_week_of, iso_year_of, weekday_of};
 ghost use Rattle.chrono_datetime.specs.WeekdayText.{weekday_text};
 ghost use Rattle.chrono_datetime.specs.declared.Month.{Month};
+ghost use Rattle.chrono_datetime.specs.declared.Month.TheVariants.{September};
 ghost use Rattle.chrono_datetime.specs.declared.Weekday.{Weekday};
+ghost use Rattle.chrono_datetime.specs.declared.Weekday.TheVariants.{Mon, Thu};
 ghost use Rattle.chrono_reading.specs.DateTimeTexts.{IsDateTimeText, IsSeparator, SameDateTime};
 ghost use Rattle.chrono_reading.specs.DurationTexts.{IsDurationText, SameSeconds};
 ghost use Rattle.chrono_reading.specs.TimeTexts.{IsFractionText, IsTimeText, SameClock, SameFraction};
@@ -25,7 +27,8 @@ use crate::{
     read_week_date, read_weekday,
 };
 use chrono_datetime::law::{
-    dates_have_one_calendar_name, dates_have_one_iso_name, dates_have_one_ordinal_name,
+    dates_have_one_calendar_name, dates_have_one_iso_name, dates_have_one_ordinal_name, known_days,
+    known_weeks,
 };
 use chrono_datetime::{Datelike, NaiveDate};
 
@@ -220,4 +223,71 @@ pub fn texts_have_one_duration(text: &[u8])
 pub fn texts_of_a_duration_differ_in_last_zeros()
     ensures { (text other : List ℕ) (x : ℤ) → IsDurationText text x → IsDurationText other x
         → (text ≡ other) ⊎ SameSeconds text other }
+{}
+
+/// Texts that are known to name a weekday or a month, and two that name none.
+pub fn known_texts_of_names()
+    ensures any_case { IsWeekdayText (codes "mON") Mon }
+    ensures whole { IsWeekdayText (codes "THURSDAY") Thu }
+    ensures month { IsMonthText (codes "sep") September }
+    ensures whole_month { IsMonthText (codes "SEPTEMBER") September }
+    ensures four_letters { (d : Weekday) → ¬ IsWeekdayText (codes "Tues") d }
+    ensures two_letters { (m : Month) → ¬ IsMonthText (codes "Ja") m }
+{}
+
+/// Texts of dates that are known: a leap day by calendar and by ordinal, a year of five digits, the day before the year 0, the
+/// first date and the last; the first Monday of 2025 by its weeks, and the last Sunday of 2020. A month of one digit, 29 February
+/// 1900 and a year 0 with a sign are in no text of a date.
+pub fn known_texts_of_dates()
+    ensures leap_day { IsDateText (codes "2024-02-29") (pos 738_945) }
+    ensures ordinal { IsOrdinalDateText (codes "2024-060") (pos 738_945) }
+    ensures five_digits { IsDateText (codes "+12345-01-01") (pos 4_508_554) }
+    ensures before_zero { IsDateText (codes "-0001-12-31") (neg_ℤ (pos 366)) }
+    ensures first { IsDateText (codes "-262143-01-01") (neg_ℤ (pos 95_746_129)) }
+    ensures last { IsOrdinalDateText (codes "+262142-365") (pos 95_745_399) }
+    ensures week_one { IsWeekDateText (codes "2025-W01-1") (pos 739_250) }
+    ensures week_53 { IsWeekDateText (codes "2020-W53-7") (pos 737_793) }
+    ensures one_digit { (n : ℤ) → ¬ IsDateText (codes "2024-2-29") n }
+    ensures no_leap_day { (n : ℤ) → ¬ IsDateText (codes "1900-02-29") n }
+    ensures signed_zero { (n : ℤ) → ¬ IsDateText (codes "-0000-01-01") n }
+{
+    known_days();
+    known_weeks();
+}
+
+/// Texts of times of day that are known: midnight with a fraction and without, and leap seconds at the end of a day and in
+/// its middle. An hour 24, a second 61, an hour of one digit and a point with no digit are in no text of a time.
+pub fn known_texts_of_times()
+    ensures midnight { IsTimeText (codes "00:00:00") (time_at 0 0 0 0) }
+    ensures zeros { IsTimeText (codes "00:00:00.000") (time_at 0 0 0 0) }
+    ensures leap { IsTimeText (codes "23:59:60") (time_at 23 59 59 1_000_000_000) }
+    ensures half_leap { IsTimeText (codes "23:59:60.5") (time_at 23 59 59 1_500_000_000) }
+    ensures any_minute { IsTimeText (codes "12:34:60") (time_at 12 34 59 1_000_000_000) }
+    ensures hour_24 { (t : TimeOfDay) → ¬ IsTimeText (codes "24:00:00") t }
+    ensures second_61 { (t : TimeOfDay) → ¬ IsTimeText (codes "23:59:61") t }
+    ensures one_digit { (t : TimeOfDay) → ¬ IsTimeText (codes "1:02:03") t }
+    ensures no_digit { (t : TimeOfDay) → ¬ IsTimeText (codes "01:02:03.") t }
+{}
+
+/// Texts of date-times that are known, of the leap second after a leap day: with a `T`, and with a space and a fraction.
+pub fn known_texts_of_date_times()
+    ensures with_t { IsDateTimeText (codes "2024-02-29T23:59:60")
+        (moment (pos 738_945) (time_at 23 59 59 1_000_000_000)) }
+    ensures with_space { IsDateTimeText (codes "2024-02-29 23:59:60.5")
+        (moment (pos 738_945) (time_at 23 59 59 1_500_000_000)) }
+{
+    known_texts_of_dates();
+    known_texts_of_times();
+}
+
+/// Texts of durations that are known: zero, a second and a half back, with a zero at the end and without. No text of a
+/// duration is in small letters, has a `+`, or writes zero in seconds.
+pub fn known_texts_of_durations()
+    ensures zero { IsDurationText (codes "P0D") (pos 0) }
+    ensures back { IsDurationText (codes "-PT1.5S") (neg_ℤ (pos 1_500_000_000)) }
+    ensures zeros { IsDurationText (codes "-PT1.50S") (neg_ℤ (pos 1_500_000_000)) }
+    ensures whole { IsDurationText (codes "PT86400S") (pos 86_400_000_000_000) }
+    ensures small_letters { (x : ℤ) → ¬ IsDurationText (codes "pt1s") x }
+    ensures plus { (x : ℤ) → ¬ IsDurationText (codes "+PT1S") x }
+    ensures zero_seconds { (x : ℤ) → ¬ IsDurationText (codes "PT0S") x }
 {}
