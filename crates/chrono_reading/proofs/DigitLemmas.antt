@@ -52,6 +52,10 @@ to_digits (suc k) n h =
       rw (rest.0, rest.2, plain) (div-add-mod' n (10 ^ k)),
     )
 
+-- and no other number of so many places has them
+pub all_digits-one : (k n m : ℕ) → n < 10 ^ k → m < 10 ^ k → all_digits k n ≡ all_digits k m → n ≡ m
+all_digits-one k n m below small e = sym (to_digits k n below).2 ∙ ap worth e ∙ (to_digits k m small).2
+
 -- what fewer than 18 digits write fits a machine word
 pub front_fits : (text : List ℕ) (i : ℕ) → AllDigits 10 (take i text) → i ≤ 17 → digits_value 10 (take i text) < 10 ^ 17
 front_fits text i all few = digits_value_short valued (take i text) 17 all (omega (arith, length-take i text))

@@ -1,8 +1,11 @@
--- The texts of one name.
-use Rattle.std.proofs.Common.{◌⊎◌, inl, inr, ℕ, List, take, sym, ap, ◌∙◌}
+-- The texts of weekdays and months.
+use Rattle.std.proofs.Common.{◌⊎◌, inl, inr, ℕ, List, take, refl, sym, ap, ◌∙◌}
 use Rattle.std.proofs.lemmas.List.{take-map}
 use Rattle.std.specs.Char.{to_ascii_lowercase}
-use Rattle.chrono_reading.specs.NameTexts.{IsNameText, SameLetters}
+use Rattle.chrono_datetime.specs.WeekdayText.{weekday_text}
+use Rattle.chrono_datetime.specs.declared.Weekday.{Weekday}
+use Rattle.chrono_datetime.specs.declared.Weekday.TheVariants.{Mon, Tue, Wed, Thu, Fri, Sat, Sun}
+use Rattle.chrono_reading.specs.NameTexts.{IsNameText, IsWeekdayText, SameLetters}
 
 -- the first three letters of texts with the same letters
 cut_same : (text name : List ℕ) → SameLetters text name → SameLetters (take 3 name) (take 3 text)
@@ -14,3 +17,13 @@ IsNameText-same text other name (inl is) (inl also) = inl (inl (is ∙ sym also)
 IsNameText-same text other name (inl is) (inr also) = inr (inr (also ∙ cut_same text name is))
 IsNameText-same text other name (inr is) (inl also) = inl (inr (is ∙ cut_same other name also))
 IsNameText-same text other name (inr is) (inr also) = inl (inl (is ∙ sym also))
+
+-- what is printed of a day are the first three letters of its name
+pub IsWeekdayText-printed : (d : Weekday) → IsWeekdayText (weekday_text d) d
+IsWeekdayText-printed Mon = inr refl
+IsWeekdayText-printed Tue = inr refl
+IsWeekdayText-printed Wed = inr refl
+IsWeekdayText-printed Thu = inr refl
+IsWeekdayText-printed Fri = inr refl
+IsWeekdayText-printed Sat = inr refl
+IsWeekdayText-printed Sun = inr refl

@@ -1,6 +1,7 @@
 //! Laws of the texts that are read, each as the contract of a function: what is printed is a text of its value, so that it is
-//! read back; a text has one value; a date has one text, and the texts of one time differ in its fraction alone.
-ghost use Rattle.std.specs.Prelude.{◌≡◌, ◌+◌, ◌++◌, ◌∷◌, ◌⊎◌, [], ℕ, ℤ, List, codes, neg_ℤ, pos};
+//! read back; a text has one value; and two texts of one value differ only where the grammar says so. Beside them stand texts
+//! that are known, and near misses.
+ghost use Rattle.std.specs.Prelude.{◌≡◌, ◌+◌, ◌++◌, ◌∷◌, ◌⊎◌, ◌↔◌, [], ℕ, ℤ, List, codes, neg_ℤ, pos};
 ghost use Rattle.chrono_datetime.specs.DateText.{date_text};
 ghost use Rattle.chrono_datetime.specs.Days.{IsDate, ordinal_of, year_of};
 ghost use Rattle.chrono_datetime.specs.Duration.{IsDuration};
@@ -163,10 +164,11 @@ pub fn texts_have_one_time(text: &[u8])
     let _time = read_time(text);
 }
 
-/// Two texts of one fraction of a second differ in zeros at the end of one of them alone.
+/// Texts of fractions of a second differ in zeros at the end of one of them alone, where a point and zeros are as nothing,
+/// exactly if they write the same nanoseconds.
 pub fn texts_of_a_fraction_differ_in_last_zeros()
-    ensures { (text other : List ℕ) (nanos : ℕ) → IsFractionText text nanos → IsFractionText other nanos
-        → SameFraction text other }
+    ensures { (text other : List ℕ) (n m : ℕ) → IsFractionText text n → IsFractionText other m
+        → SameFraction text other ↔ (n ≡ m) }
 {}
 
 /// Two texts of one time of day have the same hour, minute and second in their first eight bytes, and differ behind those in
