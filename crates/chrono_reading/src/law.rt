@@ -1,6 +1,6 @@
-//! Laws of the texts that are read, each as the contract of a function: what is printed is a text of its value, so that it is
-//! read back; a text has one value; and two texts of one value differ only where the grammar says so. Beside them stand texts
-//! that are known, and near misses.
+//! Laws of the texts that are read, each as the contract of a function: what is printed is a text of its value, so that it
+//! is read back; a text has one value; and two texts of one value differ only where the grammar says so. Beside them stand
+//! texts that are known, and near misses.
 ghost use Rattle.std.specs.Prelude.{◌≡◌, ◌+◌, ◌++◌, ◌∷◌, ◌⊎◌, ◌↔◌, [], ℕ, ℤ, List, codes, neg_ℤ, pos};
 ghost use Rattle.chrono_datetime.specs.DateText.{date_text};
 ghost use Rattle.chrono_datetime.specs.Days.{IsDate, ordinal_of, year_of};
@@ -171,8 +171,8 @@ pub fn texts_of_a_fraction_differ_in_last_zeros()
         → SameFraction text other ↔ (n ≡ m) }
 {}
 
-/// Two texts of one time of day have the same hour, minute and second in their first eight bytes, and differ behind those in
-/// zeros at the end of the fraction alone.
+/// Two texts of one time of day have the same hour, minute and second in their first eight bytes, and differ behind those
+/// in zeros at the end of the fraction alone.
 pub fn texts_of_a_time_differ_in_last_zeros()
     ensures { (text other : List ℕ) (t : TimeOfDay) → IsTimeText text t → IsTimeText other t
         → SameClock text other }
@@ -220,8 +220,8 @@ pub fn texts_have_one_duration(text: &[u8])
     let _duration = read_duration(text);
 }
 
-/// Two texts of one duration are the same, or have the same sign and whole seconds and differ in zeros at the end of the fraction
-/// alone.
+/// Two texts of one duration are the same, or have the same sign and whole seconds and differ in zeros at the end of the
+/// fraction alone.
 pub fn texts_of_a_duration_differ_in_last_zeros()
     ensures { (text other : List ℕ) (x : ℤ) → IsDurationText text x → IsDurationText other x
         → (text ≡ other) ⊎ SameSeconds text other }
@@ -237,9 +237,9 @@ pub fn known_texts_of_names()
     ensures two_letters { (m : Month) → ¬ IsMonthText (codes "Ja") m }
 {}
 
-/// Texts of dates that are known: a leap day by calendar and by ordinal, a year of five digits, the day before the year 0, the
-/// first date and the last; the first Monday of 2025 by its weeks, and the last Sunday of 2020. A month of one digit, 29 February
-/// 1900 and a year 0 with a sign are in no text of a date.
+/// Texts of dates that are known: a leap day by calendar and by ordinal, a year of five digits, the day before the year 0,
+/// the first date and the last; 30 December 2024 in week 1 of 2025, and 3 January 2021 in week 53 of 2020. A month of one
+/// digit, 29 February 1900 and a year 0 with a sign are in no text of a date.
 pub fn known_texts_of_dates()
     ensures leap_day { IsDateText (codes "2024-02-29") (pos 738_945) }
     ensures ordinal { IsOrdinalDateText (codes "2024-060") (pos 738_945) }
