@@ -1,10 +1,10 @@
 -- Values of the calendar, of its tables and of the weeks of years, so that a wrong rule does not check. Those that callers
--- may cite stand in `law.rt`: `known_days`, `known_weeks` and `known_moves`.
-use Rattle.std.proofs.Common.{◌≡◌, ℕ, true, false, pos, negsuc, List, [], ◌∷◌, map, Some, None, refl, arith}
+-- may cite stand in `law.rt`: `known_days`, `known_weeks`, `known_moves` and `known_recurrences`.
+use Rattle.std.proofs.Common.{◌≡◌, ℕ, true, false, pos, negsuc, List, [], ◌∷◌, map, Some, refl, arith}
 use Rattle.chrono_calendar.specs.Days.{days_of_years, days_before_year, days_of_months_in, month_of_ordinal, day_of_ordinal, day_number_of_yo, day_number_of_ymd}
-use Rattle.chrono_units.specs.declared.weekday.Weekday.TheVariants.{Mon, Tue, Thu}
-use Rattle.chrono_units.specs.WeekdaySet.{set_of, single}
-use Rattle.chrono_calendar.specs.Recurrence.{first_of_days, date_on}
+use Rattle.chrono_units.specs.declared.weekday.Weekday.TheVariants.{Tue, Thu}
+use Rattle.chrono_units.specs.WeekdaySet.{set_of}
+use Rattle.chrono_calendar.specs.Recurrence.{first_of_days}
 use Rattle.chrono_calendar.specs.Stored.{flags_of_year}
 use Rattle.chrono_calendar.specs.Flags.{weeks_of_iso_year}
 use Rattle.chrono_calendar.specs.Tables.{leap_years_before, ol_of, mdl_of, mdl_adjustment, ol_adjustment}
@@ -75,15 +75,7 @@ pub weeks_of_years : (weeks_of_iso_year (pos 2020) ≡ 53) × (weeks_of_iso_year
 unfolding flags_of_year days_before_year days_of_years
 weeks_of_years = (weeks_of_iso_year-flags (pos 2020) 1 refl, weeks_of_iso_year-flags (pos 2015) 10 refl, weeks_of_iso_year-flags (pos 2021) 11 refl)
 
--- from 30 December 2024, a Monday, Tuesday comes the day after; the last date is a Monday, and no Tuesday comes any more
+-- from 30 December 2024, a Monday, Tuesday comes the day after
 next_tuesday : first_of_days (set_of (Tue ∷ Thu ∷ [])) 7 (pos 739_250) ≡ Some (pos 739_251)
 unfolding first_of_days
 next_tuesday = refl
-
-last_monday : date_on (pos 95_745_399) (single Mon) ≡ Some (pos 95_745_399)
-unfolding date_on first_of_days
-last_monday = refl
-
-no_tuesday : date_on (pos 95_745_399) (single Tue) ≡ None
-unfolding date_on first_of_days
-no_tuesday = refl

@@ -1,11 +1,13 @@
 //! Laws of names, of weeks and of month moves, each as the contract of a function that does nothing.
 ghost use Rattle.std.specs.Prelude.{◌≡◌, ℕ, ℤ, Some, None, pos, neg_ℤ, ◌+ℤ◌, ◌*ℤ◌, ◌<ℤ◌};
 ghost use Rattle.std.specs.Ordering.{int_cmp};
-ghost use Rattle.chrono_units.specs.declared.weekday.Weekday.TheVariants.{Fri, Mon, Sun};
+ghost use Rattle.chrono_units.specs.declared.weekday.Weekday.TheVariants.{Fri, Mon, Sun, Tue};
+ghost use Rattle.chrono_units.specs.WeekdaySet.{single};
 ghost use Rattle.chrono_calendar.specs.Days.{IsDate, date_of_day, date_of_ymd, date_of_yo};
 ghost use Rattle.chrono_calendar.specs.MonthMoves.{MonthMovesAddUp, ComesBack, KeepsOrder, LaterMultiplesAreLater, month_move};
 ghost use Rattle.chrono_calendar.specs.NameLaws.{DatesAreDaysOfYears, DatesHaveOneCalendarName, DatesHaveOneIsoName, DatesHaveOneNumber, DatesHaveOneOrdinalName, WeeksHaveOneFirstDay, iso_cmp};
 ghost use Rattle.chrono_calendar.specs.Order.{calendar_cmp, ordinal_cmp};
+ghost use Rattle.chrono_calendar.specs.Recurrence.{date_every, date_on};
 ghost use Rattle.chrono_calendar.specs.Weeks.{date_of_iso, date_of_nth_weekday, iso_week_of, iso_year_of, week_first_of, weekday_of};
 ghost use Rattle.chrono_calendar.specs.YearsBetween.{years_between};
 
@@ -120,4 +122,18 @@ pub fn known_moves()
     ensures before { years_between (pos 1154) (pos 1155) ≡ None }
     ensures third_friday { date_of_nth_weekday (pos 1) 1 Fri 3 ≡ Some (pos 19) }
     ensures no_fifth_friday { date_of_nth_weekday (pos 1) 1 Fri 5 ≡ None }
+{}
+
+/// Dates at intervals that are known, each by its day number. Every month from 31 January of the year 4 lie 29 February and
+/// 31 March; every year from that leap day lies 28 February of the year 5, and four of them on the next leap day. The last
+/// date is a Monday: it is the first one from six days before it and from itself on, and no Tuesday comes after it.
+pub fn known_recurrences()
+    ensures first { date_every (pos 1126) (pos 1) 0 ≡ Some (pos 1126) }
+    ensures second { date_every (pos 1126) (pos 1) 1 ≡ Some (pos 1155) }
+    ensures third { date_every (pos 1126) (pos 1) 2 ≡ Some (pos 1186) }
+    ensures year_on { date_every (pos 1155) (pos 12) 1 ≡ Some (pos 1520) }
+    ensures leap_day { date_every (pos 1155) (pos 12) 4 ≡ Some (pos 2616) }
+    ensures monday { date_on (pos 95_745_393) (single Mon) ≡ Some (pos 95_745_399) }
+    ensures itself { date_on (pos 95_745_399) (single Mon) ≡ Some (pos 95_745_399) }
+    ensures no_tuesday { date_on (pos 95_745_399) (single Tue) ≡ None }
 {}

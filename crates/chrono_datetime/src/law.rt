@@ -13,8 +13,8 @@ pub use chrono_naive::law::{
     dates_have_one_calendar_name, dates_have_one_iso_name, dates_have_one_number,
     dates_have_one_ordinal_name, dates_have_texts_of_their_own, first_date,
     four_digit_years_have_ten_bytes, iso_names_are_in_order, known_date_texts, known_days,
-    known_moves, known_weeks, last_date, later_multiples_are_later, month_moves_add_up,
-    month_moves_come_back, month_moves_keep_order, month_moves_reach_dates,
+    known_moves, known_recurrences, known_weeks, last_date, later_multiples_are_later,
+    month_moves_add_up, month_moves_come_back, month_moves_keep_order, month_moves_reach_dates,
     ordinal_names_are_in_order, weeks_have_one_first_day,
 };
 pub use chrono_units::law::named_sets;

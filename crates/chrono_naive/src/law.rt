@@ -7,9 +7,9 @@ use crate::naive_date::{MAX_DATE, MIN_DATE, NaiveDate};
 pub use chrono_calendar::law::{
     calendar_names_are_in_order, dates_are_days_of_years, dates_have_one_calendar_name,
     dates_have_one_iso_name, dates_have_one_number, dates_have_one_ordinal_name,
-    iso_names_are_in_order, known_days, known_moves, known_weeks, later_multiples_are_later,
-    month_moves_add_up, month_moves_come_back, month_moves_keep_order, month_moves_reach_dates,
-    ordinal_names_are_in_order, weeks_have_one_first_day,
+    iso_names_are_in_order, known_days, known_moves, known_recurrences, known_weeks,
+    later_multiples_are_later, month_moves_add_up, month_moves_come_back, month_moves_keep_order,
+    month_moves_reach_dates, ordinal_names_are_in_order, weeks_have_one_first_day,
 };
 
 /// The text of a date in the years 0 to 9999 has ten bytes.

@@ -8,13 +8,13 @@ use Rattle.std.proofs.lemmas.Option.{cond_some, some_pair_parts}
 use Rattle.std.proofs.Common.{SFits, w32}
 use Rattle.std.specs.Int.{IsInRange}
 use Rattle.chrono_datetime.specs.Years.{is_year, month_length, year_length}
-use Rattle.chrono_datetime.specs.Days.{IsDate, year_of, month_of, day_of, date_of_ymd, date_of_yo, is_calendar_name, is_ordinal_name}
+use Rattle.chrono_datetime.specs.Days.{IsDate, year_of, month_of, day_of, ordinal_of, date_of_ymd, date_of_yo, is_calendar_name, is_ordinal_name}
 use Rattle.chrono_datetime.specs.declared.Weekday.{Weekday}
 use Rattle.chrono_datetime.specs.Fields.{IsIsoYear}
 use Rattle.chrono_datetime.specs.Weekday.{number_from_monday}
 use Rattle.chrono_datetime.specs.Weeks.{date_of_iso, iso_week_of, iso_year_of, weekday_of}
 use Rattle.chrono_datetime.specs.DateText.{date_text}
-use Rattle.chrono_datetime.specs.NameLaws.{DatesHaveOneCalendarName, DatesHaveOneIsoName}
+use Rattle.chrono_datetime.specs.NameLaws.{DatesHaveOneCalendarName, DatesHaveOneIsoName, DatesHaveOneOrdinalName}
 use Rattle.chrono_datetime.specs.Text.{all_digits, two_digits, year_text, calendar_text, week_text}
 use Rattle.chrono_reading.specs.DateTexts.{IsDateText, IsOrdinalDateText, IsWeekDateText}
 
@@ -76,6 +76,11 @@ date_text-only text n m same inside law is =
     let parts = (law n is.year is.month is.day within).0 is.names in
     (within, sym is.written ∙ calendar_text-same is.year (year_of n) is.month (month_of n) is.day (day_of n) parts.0 parts.1 parts.2)
 
+-- so two texts of a date are the same
+pub date_text-same : (text other : List ℕ) (n m : ℤ) → m ≡ n → IsDate m → DatesHaveOneCalendarName → IsDateText text n → IsDateText other n → text ≡ other
+date_text-same text other n m same inside law is also =
+    (date_text-only text n m same inside law is).1 ∙ sym (date_text-only other n m same inside law also).1
+
 -- ---- ordinal dates
 
 year_length-small : (y : ℤ) → year_length y ≤ 366
@@ -107,6 +112,16 @@ IsOrdinalDateText-found (Some n) text y o found written = record { year = y; ord
 
 pub found_by_ordinal : (r : Option ℤ) (y z : ℤ) (o p : ℕ) (n : ℤ) → r ≡ date_of_yo y o → Some y ≡ Some z → Some o ≡ Some p → date_of_yo z p ≡ Some n → r ≡ Some n
 found_by_ordinal r y z o p n found year ordinal names = cc
+
+ordinal_text-of : (y z : ℤ) (o p : ℕ) → y ≡ z → o ≡ p → year_text y ++ 45 ∷ all_digits 3 o ≡ year_text z ++ 45 ∷ all_digits 3 p
+ordinal_text-of y z o p year ordinal = rw (year, ordinal) refl
+
+pub ordinal_text-only : (text : List ℕ) (n m : ℤ) → m ≡ n → IsDate m → DatesHaveOneOrdinalName → IsOrdinalDateText text n
+    → IsDate n × (text ≡ year_text (year_of n) ++ 45 ∷ all_digits 3 (ordinal_of n))
+ordinal_text-only text n m same inside law is =
+    let within = rw same at inside in
+    let parts = (law n is.year is.ordinal within).0 is.names in
+    (within, sym is.written ∙ ordinal_text-of is.year (year_of n) is.ordinal (ordinal_of n) parts.0 parts.1)
 
 -- ---- week dates
 
@@ -153,3 +168,15 @@ IsWeekDateText-named n is range week law = record {
   names = (law n (iso_year_of n) (iso_week_of n) (weekday_of n) is).1 (refl, refl, refl);
   written = refl;
 }
+
+week_date_text-of : (y z : ℤ) (w v : ℕ) (d e : Weekday) → y ≡ z → w ≡ v → d ≡ e
+    → week_text y w ++ 45 ∷ (48 + number_from_monday d) ∷ [] ≡ week_text z v ++ 45 ∷ (48 + number_from_monday e) ∷ []
+week_date_text-of y z w v d e year week weekday = rw (year, week, weekday) refl
+
+-- and its only one
+pub week_date_text-only : (text : List ℕ) (n m : ℤ) → m ≡ n → IsDate m → DatesHaveOneIsoName → IsWeekDateText text n
+    → IsDate n × (text ≡ week_text (iso_year_of n) (iso_week_of n) ++ 45 ∷ (48 + number_from_monday (weekday_of n)) ∷ [])
+week_date_text-only text n m same inside law is =
+    let within = rw same at inside in
+    let parts = (law n is.year is.week is.weekday within).0 is.names in
+    (within, sym is.written ∙ week_date_text-of is.year (iso_year_of n) is.week (iso_week_of n) is.weekday (weekday_of n) parts.0 parts.1 parts.2)

@@ -6,15 +6,18 @@ use Rattle.std.specs.Str.Parse.{AllDigits}
 use Rattle.std.proofs.lemmas.Fmt.{decimal_is_IsNumeral}
 use Rattle.std.proofs.lemmas.List.{get_or_append_left, get_or_at, take_at, drop_at, drop-drop, take_rest}
 use Rattle.std.proofs.lemmas.Str.Parse.{digit_from_value}
+use Rattle.chrono_datetime.specs.Days.{IsDate}
+use Rattle.chrono_datetime.specs.NameLaws.{DatesHaveOneCalendarName}
 use Rattle.chrono_datetime.specs.Moment.{Moment, moment}
 use Rattle.chrono_datetime.specs.Time.{TimeOfDay}
 use Rattle.std.proofs.lemmas.Option.{same_Some}
 use Rattle.chrono_datetime.specs.Text.{all_digits, two_digits, year_digits, year_text}
 use Rattle.chrono_reading.specs.DateTexts.{IsDateText}
-use Rattle.chrono_reading.specs.DateTimeTexts.{IsSeparator, IsDateTimeText}
+use Rattle.chrono_reading.specs.DateTimeTexts.{IsSeparator, IsDateTimeText, SameDateTime}
 use Rattle.chrono_reading.specs.TimeTexts.{IsTimeText}
-use Rattle.chrono_reading.proofs.DateLemmas.{calendar_text-parts, date_of_ymd-small}
+use Rattle.chrono_reading.proofs.DateLemmas.{calendar_text-parts, date_of_ymd-small, date_text-same}
 use Rattle.chrono_reading.proofs.DigitLemmas.{by_size, to_digits}
+use Rattle.chrono_reading.proofs.TimeTextLemmas.{IsTimeText-same}
 
 -- no byte is a separator
 abbrev IsJoined : List ℕ → Type 0
@@ -116,3 +119,19 @@ IsDateTimeText-some text m is none =
 -- the date and the time make the date-time
 pub moment_found : (m : Moment) (made : Moment) (n : ℤ) (t : TimeOfDay) → made ≡ moment n t → Some n ≡ Some m.date → Some t ≡ Some m.time → Some made ≡ Some m
 moment_found m made n t is date time = rw (is, same_Some n m.date date, same_Some t m.time time) refl
+
+-- two texts of one date-time have the same date and show the same time
+pub IsDateTimeText-same : (text other : List ℕ) (m : Moment) (n : ℤ) → n ≡ m.date → IsDate n → DatesHaveOneCalendarName
+    → IsDateTimeText text m → IsDateTimeText other m → SameDateTime text other
+IsDateTimeText-same text other m n same inside law is also =
+    let date = date_text-same is.date also.date m.date n same inside law is.date_written also.date_written in record {
+      date = is.date;
+      separator = is.separator;
+      other_separator = also.separator;
+      time = is.time;
+      other_time = also.time;
+      between = (is.between, also.between);
+      same_time = IsTimeText-same is.time also.time m.time is.time_written also.time_written;
+      written = is.written;
+      other_written = ap (λ (t : List ℕ). t ++ also.separator ∷ also.time) date ∙ also.written;
+    }

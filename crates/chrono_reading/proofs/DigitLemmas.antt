@@ -1,5 +1,5 @@
 -- Digits and the numbers that they write: all the digits of a number of so many places, and numbers in decimal.
-use Rattle.std.proofs.Common.{inl, inr, ◌≡◌, ℕ, zero, suc, ◌+◌, ◌-◌, ◌*◌, ◌/◌, ◌%◌, ◌^◌, ◌<◌, ◌≤◌, List, [], ◌∷◌, length, get_or, arith, refl, sym, ap, ◌∙◌, lit<, take, length-take}
+use Rattle.std.proofs.Common.{inl, inr, ◌≡◌, ◌≢◌, ℕ, zero, suc, ◌+◌, ◌-◌, ◌*◌, ◌/◌, ◌%◌, ◌^◌, ◌<◌, ◌≤◌, List, [], ◌∷◌, length, get_or, arith, refl, sym, ap, ◌∙◌, lit<, take, length-take}
 use Rattle.std.specs.Fmt.{decimal}
 use Rattle.std.specs.Str.Parse.{AllDigits, digits_value}
 use Rattle.std.proofs.lemmas.Str.{digit_value_digit}
@@ -9,7 +9,6 @@ use Rattle.std.proofs.lemmas.Bool.{cases_lt}
 use Rattle.std.proofs.lemmas.Nat.{div-add-mod', div-mul-add, mod-mul-add, mul-add-lt, mod_below, div_below}
 use Rattle.std.proofs.Math.Nat.{pow-succ'}
 use Rattle.chrono_datetime.specs.Text.{two_digits, all_digits}
-use Rattle.chrono_reading.specs.Numerals.{HasDecimalForm}
 
 -- what digits write, each worth its own value times ten to the number of digits behind it
 abbrev worth : List ℕ → ℕ
@@ -53,9 +52,17 @@ to_digits (suc k) n h =
       rw (rest.0, rest.2, plain) (div-add-mod' n (10 ^ k)),
     )
 
+-- and no other number of so many places has them
+pub all_digits-one : (k n m : ℕ) → n < 10 ^ k → m < 10 ^ k → all_digits k n ≡ all_digits k m → n ≡ m
+all_digits-one k n m below small e = sym (to_digits k n below).2 ∙ ap worth e ∙ (to_digits k m small).2
+
 -- what fewer than 18 digits write fits a machine word
 pub front_fits : (text : List ℕ) (i : ℕ) → AllDigits 10 (take i text) → i ≤ 17 → digits_value 10 (take i text) < 10 ^ 17
 front_fits text i all few = digits_value_short valued (take i text) 17 all (omega (arith, length-take i text))
+
+-- the digits of a number are its first one and those of the rest
+pub digits_more : (k d m : ℕ) → m < 10 ^ k → all_digits (suc k) (d * 10 ^ k + m) ≡ (48 + d) ∷ all_digits k m
+digits_more k d m below = rw (div-mul-add d (10 ^ k) m below, mod-mul-add d (10 ^ k) m below) refl
 
 -- so numbers of so many places are read from their digits and no others
 pub all_digits-read : (ds : List ℕ) → AllDigits 10 ds → (digits_value 10 ds < 10 ^ length ds) × (all_digits (length ds) (digits_value 10 ds) ≡ ds)
@@ -74,11 +81,15 @@ by_size m n small large = elim (cases_lt n m) [ inl h ↦ small h | inr h ↦ la
 by_length : (n : ℕ) → 0 < n → (1 < n → ⊥) → n ≡ 1
 by_length n some one = grind arith
 
+-- there are 1 to 18 bytes, with no 0 in front of others
+abbrev pub HasDecimalForm : List ℕ → Type 0
+HasDecimalForm text = (0 < length text) × (length text ≤ 18) × (1 < length text → get_or text 0 0 ≢ 48)
+
 -- digits in the form of a decimal number are that of what they write
 pub decimal-read : (ds : List ℕ) → AllDigits 10 ds → HasDecimalForm ds → (digits_value 10 ds < 10 ^ 18) × (decimal (digits_value 10 ds) ≡ ds)
 decimal-read ds all form =
-    let below = digits_value_short valued ds 18 all form.few in
-    (below, decimal-digits_value valued ds all form.some (λ e. by_length (length ds) form.some (λ more. form.first more e)) (omega arith))
+    let below = digits_value_short valued ds 18 all form.1 in
+    (below, decimal-digits_value valued ds all form.0 (λ e. by_length (length ds) form.0 (λ more. form.2 more e)) (omega arith))
 
 -- no number of two digits or more begins with 0
 no_zero : (n : ℕ) → n < 10 ^ 18 → 1 < length (decimal n) → get_or (decimal n) 0 0 ≡ 48 → ⊥
@@ -89,11 +100,11 @@ no_zero n below more e = by_size 10 n
 pub decimal-written : (ds : List ℕ) (n : ℕ) → n < 10 ^ 18 → decimal n ≡ ds → HasDecimalForm ds × AllDigits 10 ds × (digits_value 10 ds ≡ n)
 decimal-written ds n below e =
     let numeral = decimal_is_IsNumeral n (omega arith) in (
-      record {
-        some = rw e at numeral.0.0;
-        few = rw e at (length-decimal-le 18 n (lit< tt) below (omega arith));
-        first = λ more zero_first. no_zero n below (rw (← e) at more) (rw (← e) at zero_first);
-      },
+      (
+        rw e at numeral.0.0,
+        rw e at (length-decimal-le 18 n (lit< tt) below (omega arith)),
+        λ more zero_first. no_zero n below (rw (← e) at more) (rw (← e) at zero_first),
+      ),
       rw e at numeral.0.1,
       rw e at numeral.1,
     )

@@ -1,5 +1,5 @@
 -- How the text of a duration falls into its parts.
-use Rattle.std.proofs.Common.{false, subst, Option, Some, None, ℤ, pos, negsuc, neg_ℤ, unsigned_abs, ◌≡◌, ◌≢◌, ℕ, ◌+◌, ◌*◌, ◌^◌, ◌<◌, ◌≤◌, List, ◌∷◌, ◌++◌, length, length-append, get_or, take, drop, codes, inl, inr, refl, sym, ap, ◌∙◌, arith}
+use Rattle.std.proofs.Common.{◌⊎◌, Bool, true, false, subst, Option, Some, None, ℤ, pos, negsuc, neg_ℤ, unsigned_abs, ◌≡◌, ◌≢◌, ℕ, ◌+◌, ◌*◌, ◌^◌, ◌<◌, ◌≤◌, List, ◌∷◌, ◌++◌, length, length-append, get_or, take, drop, codes, inl, inr, refl, sym, ap, ◌∙◌, arith}
 use Rattle.std.specs.Fmt.{decimal, sign_text}
 use Rattle.std.specs.Int.{is_negative}
 use Rattle.std.proofs.lemmas.Bool.Decides.{nat_tests}
@@ -10,9 +10,10 @@ use Rattle.std.proofs.lemmas.Option.{same_Some, some_pair_parts}
 use Rattle.std.proofs.lemmas.Str.Parse.{digit_at}
 use Rattle.std.specs.Option.{SomeIff}
 use Rattle.chrono_datetime.specs.Duration.{longest, nanos_per_second}
-use Rattle.chrono_reading.specs.DurationTexts.{IsDurationText, IsSecondsText}
+use Rattle.chrono_reading.specs.DurationTexts.{IsDurationText, IsSecondsText, SameSeconds}
 use Rattle.chrono_reading.specs.TimeTexts.{IsFractionText}
 use Rattle.chrono_reading.proofs.DigitLemmas.{by_size}
+use Rattle.chrono_reading.proofs.FractionLemmas.{IsFractionText-below, IsFractionText-same}
 
 -- what stands behind the digits
 begins : (digits rest text : List ℕ) (n : ℕ) → digits ++ rest ≡ text → IsFractionText rest n → length digits < length text → get_or text (length digits) 0 ≡ 46
@@ -70,7 +71,7 @@ pub record IsSizeOf (text : List ℕ) (x : ℤ) : Type 0 where
   pub within : unsigned_abs x ≤ longest
   pub written : IsSecondsText text (unsigned_abs x)
 
-first_p : (text : List ℕ) (size : ℕ) → IsSecondsText text size → get_or text 0 0 ≡ 80
+pub first_p : (text : List ℕ) (size : ℕ) → IsSecondsText text size → get_or text 0 0 ≡ 80
 first_p text size is = ap (λ (t : List ℕ). get_or t 0 0) (sym is.written)
 
 not_negative : (n : ℕ) → is_negative (pos n) ≡ false
@@ -96,3 +97,41 @@ plain_size text (negsuc n) no_minus not_zero (inr is) = absurd (no_minus is.size
 
 pub negated : (made found x : ℤ) → made ≡ neg_ℤ found → Some found ≡ Some (pos (unsigned_abs x)) → x ≡ neg_ℤ (pos (unsigned_abs x)) → Some made ≡ Some x
 negated made found x is size same = ap Some (is ∙ ap neg_ℤ (same_Some found _ size) ∙ sym same)
+
+-- ---- the texts of one duration
+
+-- a size has one number of whole seconds and one fraction
+parts_same : (text other : List ℕ) (size : ℕ) (is : IsSecondsText text size) (also : IsSecondsText other size) → (is.seconds ≡ also.seconds) × (is.nanos ≡ also.nanos)
+parts_same text other size is also =
+    let small = IsFractionText-below is.fraction is.nanos is.fraction_written in
+    let few = IsFractionText-below also.fraction also.nanos also.fraction_written in
+    (omega (arith, is.names, also.names), omega (arith, is.names, also.names))
+
+-- the sign, the whole seconds and the fraction of a text
+signed_seconds : (negative : Bool) (size text fraction : List ℕ) (s t : ℕ) → s ≡ t → codes "PT" ++ decimal s ++ fraction ++ codes "S" ≡ size → sign_text negative ++ size ≡ text
+    → sign_text negative ++ codes "PT" ++ decimal t ++ fraction ++ codes "S" ≡ text
+signed_seconds true size text fraction s t same inner outer = rw (← same) (ap (λ (u : List ℕ). 45 ∷ u) inner ∙ outer)
+signed_seconds false size text fraction s t same inner outer = rw (← same) (inner ∙ outer)
+
+not_zero : (x : ℤ) → x ≡ pos 0 → 0 < unsigned_abs x → ⊥
+not_zero x is some = omega (arith, ap unsigned_abs is)
+
+-- two texts of one duration are the same but for the zeros at the end of the fraction
+pub IsDurationText-same : (text other : List ℕ) (x : ℤ) → IsDurationText text x → IsDurationText other x → (text ≡ other) ⊎ SameSeconds text other
+IsDurationText-same text other x (inl is) (inl also) = inl (is.0 ∙ sym also.0)
+IsDurationText-same text other x (inl is) (inr also) = absurd (not_zero x is.1 also.is_some)
+IsDurationText-same text other x (inr is) (inl also) = absurd (not_zero x also.1 is.is_some)
+IsDurationText-same text other x (inr is) (inr also) =
+    let one = is.size_written in
+    let two = also.size_written in
+    let same = parts_same is.size also.size (unsigned_abs x) one two in
+    let fraction : IsFractionText one.fraction two.nanos = subst (λ n. IsFractionText one.fraction n) same.1 one.fraction_written in
+    inr (record {
+      negative = is_negative x;
+      seconds = two.seconds;
+      fraction = one.fraction;
+      other_fraction = two.fraction;
+      same_fraction = IsFractionText-same one.fraction two.fraction two.nanos fraction two.fraction_written;
+      written = signed_seconds (is_negative x) is.size text one.fraction one.seconds two.seconds same.0 one.written is.written;
+      other_written = signed_seconds (is_negative x) also.size other two.fraction two.seconds two.seconds refl two.written also.written;
+    })

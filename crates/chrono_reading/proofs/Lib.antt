@@ -6,3 +6,5 @@ pub mod TimeTextLemmas
 pub mod DateTimeLemmas
 pub mod DurationTextLemmas
 pub mod PrintedLemmas
+pub mod NameLemmas
+pub mod NearMisses

@@ -1,7 +1,7 @@
 -- What is printed is a text by its relation: fractions of a second, times and durations.
 use Rattle.std.proofs.Common.{nat_le, Bool, true, false, negsuc, ◌==◌, if◌then◌else◌, pow-add, ◌≡◌, ◌≢◌, ℕ, zero, suc, ◌+◌, ◌-◌, ◌*◌, ◌/◌, ◌%◌, ◌^◌, ◌<◌, ◌≤◌, ℤ, pos, unsigned_abs, codes, List, [], ◌∷◌, ◌++◌, inl, inr, refl, sym, ap, ◌∙◌, subst, arith}
 use Rattle.std.proofs.lemmas.Bool.{cases_eq}
-use Rattle.std.proofs.lemmas.Nat.{div-mul-add, mod-mul-add, mul-add-lt, mod_below, div_below, div-add-mod'}
+use Rattle.std.proofs.lemmas.Nat.{mul-add-lt, mod_below, div_below, div-add-mod'}
 use Rattle.std.proofs.Math.Nat.{pow-succ'}
 use Rattle.std.specs.Ordering.{int_eq}
 use Rattle.std.proofs.lemmas.Bool.Decides.{nat_tests}
@@ -13,7 +13,7 @@ use Rattle.chrono_datetime.specs.Text.{all_digits, duration_text, fraction_digit
 use Rattle.chrono_reading.specs.DurationTexts.{IsDurationText}
 use Rattle.chrono_datetime.specs.Time.{FractionFits, IsTime, TimeOfDay, hour_of, minute_of, second_of, time_at}
 use Rattle.chrono_reading.specs.TimeTexts.{IsFractionText, IsPointText, IsTimeText, time_shown}
-use Rattle.chrono_reading.proofs.DigitLemmas.{by_size, pow_pos}
+use Rattle.chrono_reading.proofs.DigitLemmas.{by_size, digits_more, pow_pos}
 
 -- a number is one value, or another
 by_zero : (n : ℕ) → {P : Type 0} → (n ≡ 0 → P) → (n ≢ 0 → P) → P
@@ -58,9 +58,6 @@ no_digits (suc p) = refl
 
 one_digit : (d : ℕ) → all_digits 1 d ≡ (48 + d) ∷ []
 one_digit d = let whole : d / 10 ^ 0 ≡ d = omega arith in ap (λ q. (48 + q) ∷ []) whole
-
-digits_more : (k d m : ℕ) → m < 10 ^ k → all_digits (suc k) (d * 10 ^ k + m) ≡ (48 + d) ∷ all_digits k m
-digits_more k d m below = rw (div-mul-add d (10 ^ k) m below, mod-mul-add d (10 ^ k) m below) refl
 
 below_more : (k d m : ℕ) → d < 10 → m < 10 ^ k → d * 10 ^ k + m < 10 ^ suc k
 below_more k d m digit below = omega (arith, pow-succ' 10 k, mul-add-lt d (10 ^ k) m 10 digit below)

@@ -4,10 +4,10 @@ use Rattle.std.specs.Option.{SomeIff}
 use Rattle.std.proofs.lemmas.Option.{same_Some}
 use Rattle.chrono_datetime.specs.Text.{two_digits}
 use Rattle.chrono_datetime.specs.Time.{TimeOfDay}
-use Rattle.chrono_reading.specs.TimeTexts.{IsFractionText, IsTimeText, SameFraction, time_shown}
+use Rattle.chrono_reading.specs.TimeTexts.{IsFractionText, IsTimeText, SameClock, time_shown}
 use Rattle.chrono_datetime.specs.Time.{time_at}
 use Rattle.chrono_reading.proofs.DigitLemmas.{by_size}
-use Rattle.chrono_reading.proofs.FractionLemmas.{IsFractionText-below}
+use Rattle.chrono_reading.proofs.FractionLemmas.{IsFractionText-below, IsFractionText-same}
 use Rattle.chrono_reading.proofs.PrintedLemmas.{shown_leap, shown_plain}
 
 -- the numbers of a clock, which take the first eight bytes
@@ -78,10 +78,10 @@ clock_same : (h k m l s j : ℕ) → h ≡ k → m ≡ l → s ≡ j → clock_s
 clock_same h k m l s j hour minute second = rw (hour, minute, second) refl
 
 -- two texts of one time show the same, up to the zeros at the end of the fraction
-pub IsTimeText-same : (text other : List ℕ) (t : TimeOfDay) → IsTimeText text t → IsTimeText other t
-    → (take 8 text ≡ take 8 other) × SameFraction (drop 8 text) (drop 8 other)
+pub IsTimeText-same : (text other : List ℕ) (t : TimeOfDay) → IsTimeText text t → IsTimeText other t → SameClock text other
 IsTimeText-same text other t is also =
-    let same = same_shown text other t is also in (
+    let same = same_shown text other t is also in
+    let fraction : IsFractionText (drop 8 text) also.nanos = subst (λ n. IsFractionText (drop 8 text) n) same.nanos (IsTimeText-fraction text (drop 8 text) t is refl) in (
       sym (IsTimeText-clock text t is) ∙ clock_same is.hour also.hour is.minute also.minute is.second also.second same.hour same.minute same.second ∙ IsTimeText-clock other t also,
-      (also.nanos, subst (λ n. IsFractionText (drop 8 text) n) same.nanos (IsTimeText-fraction text (drop 8 text) t is refl), IsTimeText-fraction other (drop 8 other) t also refl),
+      IsFractionText-same (drop 8 text) (drop 8 other) also.nanos fraction (IsTimeText-fraction other (drop 8 other) t also refl),
     )

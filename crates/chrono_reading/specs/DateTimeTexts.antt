@@ -2,7 +2,7 @@
 use Rattle.std.specs.Prelude.{◌≡◌, ◌⊎◌, ℕ, List, ◌∷◌, ◌++◌}
 use Rattle.chrono_datetime.specs.Moment.{Moment}
 use Rattle.chrono_reading.specs.DateTexts.{IsDateText}
-use Rattle.chrono_reading.specs.TimeTexts.{IsTimeText}
+use Rattle.chrono_reading.specs.TimeTexts.{IsTimeText, SameClock}
 
 -- what stands between a date and a time: a `T` or a space
 abbrev pub IsSeparator : ℕ → Type 0
@@ -17,3 +17,15 @@ pub record IsDateTimeText (text : List ℕ) (m : Moment) : Type 0 where
   pub between : IsSeparator separator
   pub time_written : IsTimeText time m.time
   pub written : date ++ separator ∷ time ≡ text
+
+-- the texts are of one date, and their times show the same; what stands between may differ
+pub record SameDateTime (text other : List ℕ) : Type 0 where
+  pub date : List ℕ
+  pub separator : ℕ
+  pub other_separator : ℕ
+  pub time : List ℕ
+  pub other_time : List ℕ
+  pub between : IsSeparator separator × IsSeparator other_separator
+  pub same_time : SameClock time other_time
+  pub written : date ++ separator ∷ time ≡ text
+  pub other_written : date ++ other_separator ∷ other_time ≡ other

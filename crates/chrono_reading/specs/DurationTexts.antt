@@ -1,9 +1,9 @@
 -- The texts of durations.
-use Rattle.std.specs.Prelude.{◌≡◌, ◌<◌, ◌+◌, ◌*◌, ◌⊎◌, ℕ, ℤ, pos, unsigned_abs, List, ◌++◌, codes}
+use Rattle.std.specs.Prelude.{◌≡◌, ◌<◌, ◌+◌, ◌*◌, ◌⊎◌, Bool, ℕ, ℤ, pos, unsigned_abs, List, ◌++◌, codes}
 use Rattle.std.specs.Fmt.{decimal, sign_text}
 use Rattle.std.specs.Int.{is_negative}
 use Rattle.chrono_datetime.specs.Duration.{IsDuration, nanos_per_second}
-use Rattle.chrono_reading.specs.TimeTexts.{IsFractionText}
+use Rattle.chrono_reading.specs.TimeTexts.{IsFractionText, SameFraction}
 
 -- a text of so many nanoseconds: `PT`, the whole seconds in decimal, the fraction and `S` (ISO 8601 duration)
 pub record IsSecondsText (text : List ℕ) (size : ℕ) : Type 0 where
@@ -25,3 +25,13 @@ pub record IsSignedText (text : List ℕ) (x : ℤ) : Type 0 where
 -- a text of the duration of x nanoseconds: `P0D` for zero, and else a signed text of its seconds
 abbrev pub IsDurationText : List ℕ → ℤ → Type 0
 IsDurationText text x = ((text ≡ codes "P0D") × (x ≡ pos 0)) ⊎ IsSignedText text x
+
+-- the texts have the same sign, the same whole seconds and the same fraction of a second
+pub record SameSeconds (text other : List ℕ) : Type 0 where
+  pub negative : Bool
+  pub seconds : ℕ
+  pub fraction : List ℕ
+  pub other_fraction : List ℕ
+  pub same_fraction : SameFraction fraction other_fraction
+  pub written : sign_text negative ++ codes "PT" ++ decimal seconds ++ fraction ++ codes "S" ≡ text
+  pub other_written : sign_text negative ++ codes "PT" ++ decimal seconds ++ other_fraction ++ codes "S" ≡ other

@@ -1,5 +1,4 @@
 pub mod NameTexts
-pub mod Numerals
 pub mod DateTexts
 pub mod TimeTexts
 pub mod DateTimeTexts

@@ -20,10 +20,6 @@ weekday_name Sun = codes "Sunday"
 abbrev pub SameLetters : List ℕ → List ℕ → Type 0
 SameLetters text name = map to_ascii_lowercase text ≡ map to_ascii_lowercase name
 
--- the first three letters of a text, in lower case
-abbrev pub first_letters : List ℕ → List ℕ
-first_letters text = take 3 (map to_ascii_lowercase text)
-
 -- the text is a name of three letters or more, or its first three letters
 abbrev pub IsNameText : List ℕ → List ℕ → Type 0
 IsNameText text name = SameLetters text name ⊎ SameLetters text (take 3 name)

@@ -1,5 +1,5 @@
 -- The texts of times of day.
-use Rattle.std.specs.Prelude.{◌≡◌, ◌==◌, ◌<◌, ◌≤◌, ◌+◌, ◌-◌, ◌*◌, ◌^◌, ◌⊎◌, ℕ, List, [], ◌∷◌, ◌++◌, if◌then◌else◌}
+use Rattle.std.specs.Prelude.{◌≡◌, ◌==◌, ◌<◌, ◌≤◌, ◌+◌, ◌-◌, ◌*◌, ◌^◌, ◌⊎◌, ℕ, List, [], ◌∷◌, ◌++◌, take, drop, replicate, if◌then◌else◌}
 use Rattle.std.specs.Int.{IsInRange}
 use Rattle.chrono_datetime.specs.Duration.{nanos_per_second}
 use Rattle.chrono_datetime.specs.Text.{two_digits, all_digits}
@@ -18,9 +18,18 @@ pub record IsPointText (text : List ℕ) (nanos : ℕ) : Type 0 where
 abbrev pub IsFractionText : List ℕ → ℕ → Type 0
 IsFractionText text nanos = ((text ≡ []) × (nanos ≡ 0)) ⊎ IsPointText text nanos
 
--- the texts write the same nanoseconds
+-- the longer text is the shorter with zeros behind it, and behind nothing with a point before them
+pub record HasMoreZeros (short long : List ℕ) : Type 0 where
+  pub zeros : ℕ
+  pub written : (short ++ replicate zeros 48 ≡ long) ⊎ ((short ≡ []) × (46 ∷ replicate zeros 48 ≡ long))
+
+-- the texts differ in zeros at the end of one of them alone
 abbrev pub SameFraction : List ℕ → List ℕ → Type 0
-SameFraction text other = (nanos : ℕ) × IsFractionText text nanos × IsFractionText other nanos
+SameFraction text other = HasMoreZeros text other ⊎ HasMoreZeros other text
+
+-- the texts show the same hour, minute and second in their first eight bytes, and behind those the same fraction
+abbrev pub SameClock : List ℕ → List ℕ → Type 0
+SameClock text other = (take 8 text ≡ take 8 other) × SameFraction (drop 8 text) (drop 8 other)
 
 -- the time at which a clock shows these numbers; the second 60 is the leap second that follows 59
 abbrev pub time_shown : ℕ → ℕ → ℕ → ℕ → TimeOfDay

@@ -1,9 +1,8 @@
 //! Numbers read from their digits.
-ghost use Rattle.std.specs.Prelude.{◌≡◌, ◌<◌, ◌≤◌, ◌^◌, ◌∷◌, [], ℕ, Some, IfSome, IsTrue, ◌↔◌, length};
+ghost use Rattle.std.specs.Prelude.{◌≡◌, ◌≢◌, ◌<◌, ◌≤◌, ◌^◌, ◌∷◌, [], ℕ, Some, IfSome, IsTrue, ◌↔◌, length, slice_index};
 ghost use Rattle.std.specs.Fmt.{decimal};
 ghost use Rattle.std.specs.Option.{SomeIff};
 ghost use Rattle.std.specs.Str.Parse.{AllDigits, digits_value};
-ghost use Rattle.chrono_reading.specs.Numerals.{HasDecimalForm};
 ghost use Rattle.chrono_datetime.specs.Text.{two_digits, all_digits};
 
 // The number that two digits write, if these bytes are digits.
@@ -92,7 +91,8 @@ pub(crate) fn decimal(text: &[u8]) -> Option<u64>
 // Whether there are 1 to 18 bytes, with no 0 in front of others.
 #[inline]
 fn has_decimal_form(text: &[u8]) -> bool
-    ensures { IsTrue result ↔ HasDecimalForm text.now }
+    ensures { IsTrue result ↔ ((0 < length text.now) × (length text.now ≤ 18)
+        × (1 < length text.now → slice_index text.now 0 ≢ 48)) }
 {
     match text {
         [] => false,

@@ -1,31 +1,35 @@
-//! Laws of the texts that are read, each as the contract of a function: what is printed is a text of its value, so that it is
-//! read back; a text has one value; a date has one text, and the texts of one time differ in its fraction alone.
-ghost use Rattle.std.specs.Prelude.{◌≡◌, ◌+◌, ◌++◌, ◌∷◌, [], ℕ, ℤ, List, drop, take};
+//! Laws of the texts that are read, each as the contract of a function: what is printed is a text of its value, so that it
+//! is read back; a text has one value; and two texts of one value differ only where the grammar says so. Beside them stand
+//! texts that are known, and near misses.
+ghost use Rattle.std.specs.Prelude.{◌≡◌, ◌+◌, ◌++◌, ◌∷◌, ◌⊎◌, ◌↔◌, [], ℕ, ℤ, List, codes, neg_ℤ, pos};
 ghost use Rattle.chrono_datetime.specs.DateText.{date_text};
 ghost use Rattle.chrono_datetime.specs.Days.{IsDate, ordinal_of, year_of};
 ghost use Rattle.chrono_datetime.specs.Duration.{IsDuration};
-ghost use Rattle.chrono_datetime.specs.Moment.{Moment};
+ghost use Rattle.chrono_datetime.specs.Moment.{Moment, moment};
 ghost use Rattle.chrono_datetime.specs.MomentText.{moment_text};
 ghost use Rattle.chrono_datetime.specs.Month.{month_name};
 ghost use Rattle.chrono_datetime.specs.Text.{all_digits, duration_text, time_text, week_text, year_text};
-ghost use Rattle.chrono_datetime.specs.Time.{FractionFits, IsTime, TimeOfDay, second_of};
+ghost use Rattle.chrono_datetime.specs.Time.{FractionFits, IsTime, TimeOfDay, second_of, time_at};
 ghost use Rattle.chrono_datetime.specs.Weekday.{number_from_monday};
 ghost use Rattle.chrono_datetime.specs.Weeks.{iso_week_of, iso_year_of, weekday_of};
 ghost use Rattle.chrono_datetime.specs.WeekdayText.{weekday_text};
 ghost use Rattle.chrono_datetime.specs.declared.Month.{Month};
+ghost use Rattle.chrono_datetime.specs.declared.Month.TheVariants.{September};
 ghost use Rattle.chrono_datetime.specs.declared.Weekday.{Weekday};
-ghost use Rattle.chrono_reading.specs.DateTimeTexts.{IsDateTimeText, IsSeparator};
-ghost use Rattle.chrono_reading.specs.DurationTexts.{IsDurationText};
-ghost use Rattle.chrono_reading.specs.TimeTexts.{IsTimeText, SameFraction};
+ghost use Rattle.chrono_datetime.specs.declared.Weekday.TheVariants.{Mon, Thu};
+ghost use Rattle.chrono_reading.specs.DateTimeTexts.{IsDateTimeText, IsSeparator, SameDateTime};
+ghost use Rattle.chrono_reading.specs.DurationTexts.{IsDurationText, SameSeconds};
+ghost use Rattle.chrono_reading.specs.TimeTexts.{IsFractionText, IsTimeText, SameClock, SameFraction};
 ghost use Rattle.chrono_reading.specs.DateTexts.{IsDateText, IsOrdinalDateText, IsWeekDateText};
-ghost use Rattle.chrono_reading.specs.NameTexts.{IsMonthText, IsWeekdayText};
+ghost use Rattle.chrono_reading.specs.NameTexts.{IsMonthText, IsNameText, IsWeekdayText};
 
 use crate::{
     read_date, read_date_time, read_duration, read_month, read_ordinal_date, read_time,
     read_week_date, read_weekday,
 };
 use chrono_datetime::law::{
-    dates_have_one_calendar_name, dates_have_one_iso_name, dates_have_one_ordinal_name,
+    dates_have_one_calendar_name, dates_have_one_iso_name, dates_have_one_ordinal_name, known_days,
+    known_weeks,
 };
 use chrono_datetime::{Datelike, NaiveDate};
 
@@ -52,6 +56,18 @@ pub fn texts_have_one_month(text: &[u8])
 {
     let _month = read_month(text);
 }
+
+/// Of two texts of one weekday one is the other or its first three letters, in letters of any case.
+pub fn texts_of_a_weekday_differ_in_case_and_length()
+    ensures { (text other : List ℕ) (d : Weekday) → IsWeekdayText text d → IsWeekdayText other d
+        → IsNameText text other ⊎ IsNameText other text }
+{}
+
+/// Of two texts of one month one is the other or its first three letters, in letters of any case.
+pub fn texts_of_a_month_differ_in_case_and_length()
+    ensures { (text other : List ℕ) (m : Month) → IsMonthText text m → IsMonthText other m
+        → IsNameText text other ⊎ IsNameText other text }
+{}
 
 /// What `{}` writes for a date is a text of it, so it is read as that date.
 pub fn printed_dates_are_read()
@@ -92,6 +108,17 @@ pub fn texts_have_one_ordinal_date(text: &[u8])
     let _date = read_ordinal_date(text);
 }
 
+/// The one ordinal name of a date is its year and its place in it, in three digits behind a `-`.
+pub fn dates_have_one_ordinal_text(text: &[u8])
+    ensures { (n : ℤ) → IsOrdinalDateText text.now n → IsDate n
+        × (text.now ≡ year_text (year_of n) ++ 45 ∷ all_digits 3 (ordinal_of n)) }
+{
+    if let Some(date) = read_ordinal_date(text) {
+        let _number = date.num_days_from_ce();
+        dates_have_one_ordinal_name();
+    }
+}
+
 /// The ISO year and week that name a date, as `{:?}` writes them, and the number of its weekday behind a `-` are read as that
 /// date.
 pub fn week_names_are_read(date: NaiveDate)
@@ -112,6 +139,18 @@ pub fn texts_have_one_week_date(text: &[u8])
     let _date = read_week_date(text);
 }
 
+/// The one week name of a date is its ISO year and week, as `{:?}` writes them, and the number of its weekday behind a `-`.
+pub fn dates_have_one_week_text(text: &[u8])
+    ensures { (n : ℤ) → IsWeekDateText text.now n → IsDate n
+        × (text.now ≡ week_text (iso_year_of n) (iso_week_of n)
+        ++ 45 ∷ (48 + number_from_monday (weekday_of n)) ∷ []) }
+{
+    if let Some(date) = read_week_date(text) {
+        let _number = date.num_days_from_ce();
+        dates_have_one_iso_name();
+    }
+}
+
 /// What `{}` writes for a time of day is a text of it, so it is read as that time, if a leap fraction stands at second 59.
 pub fn printed_times_are_read()
     ensures { (t : TimeOfDay) → IsTime t → FractionFits (second_of t) t.fraction
@@ -125,11 +164,18 @@ pub fn texts_have_one_time(text: &[u8])
     let _time = read_time(text);
 }
 
-/// Two texts of one time of day have the same hour, minute and second in their first eight bytes, and behind those
-/// fractions of the same nanoseconds.
-pub fn texts_of_a_time_differ_in_its_fraction()
+/// Texts of fractions of a second differ in zeros at the end of one of them alone, where a point and zeros are as nothing,
+/// exactly if they write the same nanoseconds.
+pub fn texts_of_a_fraction_differ_in_last_zeros()
+    ensures { (text other : List ℕ) (n m : ℕ) → IsFractionText text n → IsFractionText other m
+        → SameFraction text other ↔ (n ≡ m) }
+{}
+
+/// Two texts of one time of day have the same hour, minute and second in their first eight bytes, and differ behind those
+/// in zeros at the end of the fraction alone.
+pub fn texts_of_a_time_differ_in_last_zeros()
     ensures { (text other : List ℕ) (t : TimeOfDay) → IsTimeText text t → IsTimeText other t
-        → (take 8 text ≡ take 8 other) × SameFraction (drop 8 text) (drop 8 other) }
+        → SameClock text other }
 {}
 
 /// What `{}` and `{:?}` write for a date-time, with a space and with a `T`, are texts of it, so they are read as that
@@ -150,6 +196,18 @@ pub fn texts_have_one_date_time(text: &[u8])
     let _date_time = read_date_time(text);
 }
 
+/// Two texts of one date-time have the same date, a `T` or a space each, and times that differ in zeros at the end of the
+/// fraction alone.
+pub fn texts_of_a_date_time_differ_in_separator_and_last_zeros(text: &[u8])
+    ensures { (other : List ℕ) (m : Moment) → IsDateTimeText text.now m → IsDateTimeText other m
+        → SameDateTime text.now other }
+{
+    if let Some(date_time) = read_date_time(text) {
+        let _number = date_time.date().num_days_from_ce();
+        dates_have_one_calendar_name();
+    }
+}
+
 /// What `{}` writes for a duration is a text of it, so it is read as that duration.
 pub fn printed_durations_are_read()
     ensures { (x : ℤ) → IsDuration x → IsDurationText (duration_text x) x }
@@ -161,3 +219,77 @@ pub fn texts_have_one_duration(text: &[u8])
 {
     let _duration = read_duration(text);
 }
+
+/// Two texts of one duration are the same, or have the same sign and whole seconds and differ in zeros at the end of the
+/// fraction alone.
+pub fn texts_of_a_duration_differ_in_last_zeros()
+    ensures { (text other : List ℕ) (x : ℤ) → IsDurationText text x → IsDurationText other x
+        → (text ≡ other) ⊎ SameSeconds text other }
+{}
+
+/// Texts that are known to name a weekday or a month, and two that name none.
+pub fn known_texts_of_names()
+    ensures any_case { IsWeekdayText (codes "mON") Mon }
+    ensures whole { IsWeekdayText (codes "THURSDAY") Thu }
+    ensures month { IsMonthText (codes "sep") September }
+    ensures whole_month { IsMonthText (codes "SEPTEMBER") September }
+    ensures four_letters { (d : Weekday) → ¬ IsWeekdayText (codes "Tues") d }
+    ensures two_letters { (m : Month) → ¬ IsMonthText (codes "Ja") m }
+{}
+
+/// Texts of dates that are known: a leap day by calendar and by ordinal, a year of five digits, the day before the year 0,
+/// the first date and the last; 30 December 2024 in week 1 of 2025, and 3 January 2021 in week 53 of 2020. A month of one
+/// digit, 29 February 1900 and a year 0 with a sign are in no text of a date.
+pub fn known_texts_of_dates()
+    ensures leap_day { IsDateText (codes "2024-02-29") (pos 738_945) }
+    ensures ordinal { IsOrdinalDateText (codes "2024-060") (pos 738_945) }
+    ensures five_digits { IsDateText (codes "+12345-01-01") (pos 4_508_554) }
+    ensures before_zero { IsDateText (codes "-0001-12-31") (neg_ℤ (pos 366)) }
+    ensures first { IsDateText (codes "-262143-01-01") (neg_ℤ (pos 95_746_129)) }
+    ensures last { IsOrdinalDateText (codes "+262142-365") (pos 95_745_399) }
+    ensures week_one { IsWeekDateText (codes "2025-W01-1") (pos 739_250) }
+    ensures week_53 { IsWeekDateText (codes "2020-W53-7") (pos 737_793) }
+    ensures one_digit { (n : ℤ) → ¬ IsDateText (codes "2024-2-29") n }
+    ensures no_leap_day { (n : ℤ) → ¬ IsDateText (codes "1900-02-29") n }
+    ensures signed_zero { (n : ℤ) → ¬ IsDateText (codes "-0000-01-01") n }
+{
+    known_days();
+    known_weeks();
+}
+
+/// Texts of times of day that are known: midnight with a fraction and without, and leap seconds at the end of a day and in
+/// its middle. An hour 24, a second 61, an hour of one digit and a point with no digit are in no text of a time.
+pub fn known_texts_of_times()
+    ensures midnight { IsTimeText (codes "00:00:00") (time_at 0 0 0 0) }
+    ensures zeros { IsTimeText (codes "00:00:00.000") (time_at 0 0 0 0) }
+    ensures leap { IsTimeText (codes "23:59:60") (time_at 23 59 59 1_000_000_000) }
+    ensures half_leap { IsTimeText (codes "23:59:60.5") (time_at 23 59 59 1_500_000_000) }
+    ensures any_minute { IsTimeText (codes "12:34:60") (time_at 12 34 59 1_000_000_000) }
+    ensures hour_24 { (t : TimeOfDay) → ¬ IsTimeText (codes "24:00:00") t }
+    ensures second_61 { (t : TimeOfDay) → ¬ IsTimeText (codes "23:59:61") t }
+    ensures one_digit { (t : TimeOfDay) → ¬ IsTimeText (codes "1:02:03") t }
+    ensures no_digit { (t : TimeOfDay) → ¬ IsTimeText (codes "01:02:03.") t }
+{}
+
+/// Texts of date-times that are known, of the leap second after a leap day: with a `T`, and with a space and a fraction.
+pub fn known_texts_of_date_times()
+    ensures with_t { IsDateTimeText (codes "2024-02-29T23:59:60")
+        (moment (pos 738_945) (time_at 23 59 59 1_000_000_000)) }
+    ensures with_space { IsDateTimeText (codes "2024-02-29 23:59:60.5")
+        (moment (pos 738_945) (time_at 23 59 59 1_500_000_000)) }
+{
+    known_texts_of_dates();
+    known_texts_of_times();
+}
+
+/// Texts of durations that are known: zero, a second and a half back, with a zero at the end and without. No text of a
+/// duration is in small letters, has a `+`, or writes zero in seconds.
+pub fn known_texts_of_durations()
+    ensures zero { IsDurationText (codes "P0D") (pos 0) }
+    ensures back { IsDurationText (codes "-PT1.5S") (neg_ℤ (pos 1_500_000_000)) }
+    ensures zeros { IsDurationText (codes "-PT1.50S") (neg_ℤ (pos 1_500_000_000)) }
+    ensures whole { IsDurationText (codes "PT86400S") (pos 86_400_000_000_000) }
+    ensures small_letters { (x : ℤ) → ¬ IsDurationText (codes "pt1s") x }
+    ensures plus { (x : ℤ) → ¬ IsDurationText (codes "+PT1S") x }
+    ensures zero_seconds { (x : ℤ) → ¬ IsDurationText (codes "PT0S") x }
+{}

@@ -4,7 +4,7 @@ ghost use Rattle.std.specs.Char.{to_ascii_lowercase};
 ghost use Rattle.chrono_datetime.specs.Month.{month_name};
 ghost use Rattle.chrono_datetime.specs.declared.Month.{Month};
 ghost use Rattle.chrono_datetime.specs.declared.Weekday.{Weekday};
-ghost use Rattle.chrono_reading.specs.NameTexts.{IsMonthText, IsNameText, IsWeekdayText, first_letters, weekday_name};
+ghost use Rattle.chrono_reading.specs.NameTexts.{IsMonthText, IsNameText, IsWeekdayText, weekday_name};
 
 use chrono_datetime::{Month, Weekday};
 
@@ -42,7 +42,7 @@ pub fn read_month(text: &[u8]) -> Option<Month>
 
 // The first three letters of a text, in lower case.
 fn first_letters(text: &[u8]) -> Option<[u8; 3]>
-    ensures some { IfSome result (λ letters. letters ≡ first_letters text.now) }
+    ensures some { IfSome result (λ letters. letters ≡ take 3 (map to_ascii_lowercase text.now)) }
     ensures none { IfNone result (length text.now ≤ 2) }
 {
     if let [first, second, third, ..] = text {
@@ -81,7 +81,7 @@ fn weekday_name(weekday: Weekday) -> &'static [u8]
 
 // The weekday whose name begins with these small letters, if one does.
 fn weekday_of_letters(letters: [u8; 3]) -> Option<Weekday>
-    ensures { (d : Weekday) → letters ≡ first_letters (weekday_name d) → result ≡ Some d }
+    ensures { (d : Weekday) → letters ≡ take 3 (map to_ascii_lowercase (weekday_name d)) → result ≡ Some d }
 {
     match &letters {
         b"mon" => Some(Weekday::Mon),
@@ -97,7 +97,7 @@ fn weekday_of_letters(letters: [u8; 3]) -> Option<Weekday>
 
 // The month whose name begins with these small letters, if one does.
 fn month_of_letters(letters: [u8; 3]) -> Option<Month>
-    ensures { (m : Month) → letters ≡ first_letters (month_name m) → result ≡ Some m }
+    ensures { (m : Month) → letters ≡ take 3 (map to_ascii_lowercase (month_name m)) → result ≡ Some m }
 {
     match &letters {
         b"jan" => Some(Month::January),
