@@ -1,5 +1,5 @@
 -- A move by months, as the code makes it: from the months since the first of the library's to the date in the target month.
-use Rattle.std.proofs.Common.{Some, ◌≡◌, ℕ, ◌+◌, ◌/◌, ◌%◌, ◌<◌, ◌&&◌, min, None, refl, arith, ℤ, pos, neg_ℤ, ◌+ℤ◌, ◌≤ℤ◌, ◌<ℤ◌}
+use Rattle.std.proofs.Common.{Some, ◌≡◌, ℕ, ◌+◌, ◌/◌, ◌%◌, ◌<◌, ◌&&◌, min, None, refl, sym, ◌∙◌, arith, ℤ, pos, neg_ℤ, ◌+ℤ◌, ◌≤ℤ◌, ◌<ℤ◌}
 use Rattle.std.proofs.lemmas.Bool.{and_parts}
 use Rattle.std.specs.Cmp.Derive.{both_true}
 use Rattle.chrono_units.specs.Years.{is_leap_year, is_year, IsYear, month_length}
@@ -8,7 +8,7 @@ use Rattle.chrono_calendar.specs.MonthMoves.{year_of_month_index, month_of_month
 use Rattle.chrono_calendar.proofs.Signed.{signed}
 use Rattle.chrono_calendar.proofs.Months.{month_length_in-bounds}
 use Rattle.chrono_calendar.proofs.Dates.{is_year-fact, is_calendar_name-test}
-use Rattle.chrono_calendar.proofs.NamedDates.{None-cond, same_test}
+use Rattle.chrono_calendar.proofs.NamedDates.{None-cond, same_test, calendar_name-exists, date_of_ymd-name}
 use Rattle.chrono_calendar.proofs.MonthOrder.{month_of_month_index-bounds, day_at-exists}
 
 -- the year and the month of an index, from the months since the first of the library's
@@ -42,3 +42,10 @@ month_move-ymd n k y m d e f g =
     let test = is_calendar_name-test y m d exists in
     let same : (is_year y && is_calendar_name y m d) ≡ is_year y = same_test (is_year y && is_calendar_name y m d) (is_year y) (λ t. (and_parts (is_year y) (is_calendar_name y m d) t).0) (λ t. both_true t test) in
     rw (same, g, f, e) refl
+
+-- if the target month has that day, the move comes to it
+pub month_move-same_day : (n k y : ℤ) (m d : ℕ) (x : ℤ) → y ≡ year_of_month_index (month_index_of n +ℤ k) → m ≡ month_of_month_index (month_index_of n +ℤ k) → d ≡ day_of n → Some x ≡ date_of_ymd y m d → Some x ≡ month_move n k
+month_move-same_day n k y m d x e f g found =
+    let name = date_of_ymd-name x y m d (sym found) in
+    let exists : IsCalendarName y m d = rw (name.0, name.1, name.2) (calendar_name-exists x) in
+    found ∙ month_move-ymd n k y m d e f (omega (arith, g, exists.1.1))

@@ -58,15 +58,12 @@ fn month_after(year: i32, month: u32, k: i64) -> Option<(i32, u32)>
     Some(((target / 12) as i32 + MIN_YEAR, target % 12 + 1))
 }
 
-// The day of the month, or the month's last day if that is earlier. A day up to 28 is in every month.
+// The day of the month, or the month's last day if that is earlier.
 #[inline]
 fn day_within(year: i32, month: u32, day: u32) -> u32
     requires { IsInRange 1 12 month }
     ensures { result ≡ min day (length_of_month year month) }
 {
-    if day <= 28 {
-        return day;
-    }
     day.min(u32::from(month_length(is_leap_year(year), month)))
 }
 
@@ -80,6 +77,10 @@ pub fn move_months<F: DayForm>(f: F, k: i64) -> Option<F>
 {
     let (year, month, day) = f.year_month_day();
     let (year, month) = month_after(year, month, k)?;
+    // Few days come past the end of another month, so its length is seldom asked.
+    if let Some(date) = F::from_ymd(year, month, day) {
+        return Some(date);
+    }
     F::from_ymd(year, month, day_within(year, month, day))
 }
 

@@ -1,9 +1,10 @@
 -- A year read from March to February: which day of the calendar year stands where, and the linear formulas of its months.
-use Rattle.std.proofs.Common.{◌≡◌, ℕ, ◌+◌, ◌-◌, ◌*◌, ◌/◌, ◌%◌, ◌<◌, ◌≤◌, Bool, true, false, ◌&&◌, cond, nat_eq, nat_lt, refl, sym, arith, ℤ, pos, ◌+ℤ◌, ◌-ℤ◌}
+use Rattle.std.proofs.Common.{◌≡◌, ℕ, ◌+◌, ◌-◌, ◌*◌, ◌/◌, ◌%◌, ◌<◌, ◌≤◌, Bool, true, false, ◌&&◌, cond, nat_eq, nat_lt, refl, sym, arith, min, ℤ, pos, ◌+ℤ◌, ◌-ℤ◌}
+use Rattle.std.proofs.Math.Nat.{le-min}
 use Rattle.std.proofs.lemmas.Bool.{and_parts}
 use Rattle.std.proofs.lemmas.Bool.Decides.{nat_tests}
 use Rattle.std.specs.Int.{IsInRange}
-use Rattle.chrono_units.specs.Years.{is_leap_year}
+use Rattle.chrono_units.specs.Years.{is_leap_year, month_length_in, month_length, year_length}
 use Rattle.chrono_calendar.specs.Days.{days_before_year, days_of_months_in, month_of_ordinal, day_of_ordinal, IsOrdinalName, day_number_of_yo, day_number_of_ymd, year_of, month_of, day_of}
 use Rattle.chrono_calendar.proofs.Signed.{signed}
 use Rattle.chrono_calendar.proofs.Names.{year_of-number, ordinal_of-number}
@@ -110,10 +111,46 @@ month_start-january leap m h early =
     let here = rw back at (starts-told_at leap m h) in
     grind (arith, nat_tests)
 
+-- a month ends where the next one begins, or with its year
+abbrev tells_month_end : Bool → ℕ → Bool
+tells_month_end leap n =
+    let month = cond (nat_lt n 2) (n + 13) (n + 1) in
+    nat_eq (min ((979 * (month + 1) - 2919) / 32) (cond leap 366 365)) ((979 * month - 2919) / 32 + month_length_in leap (n + 1))
+
+ends-told : (leap : Bool) → passes_below (tells_month_end leap) 12 ≡ true
+unfolding passes_below
+ends-told true = refl
+ends-told false = refl
+
+ends-told_at : (leap : Bool) (m : ℕ) → IsInRange 1 12 m → tells_month_end leap (m - 1) ≡ true
+ends-told_at leap m h = passes_below-at (tells_month_end leap) 12 (ends-told leap) (m - 1) (omega arith)
+
+pub month_end-march : (leap : Bool) (m : ℕ) → IsInRange 1 12 m → 2 < m → min ((979 * (m + 1) - 2919) / 32) (cond leap 366 365) ≡ (979 * m - 2919) / 32 + month_length_in leap m
+month_end-march leap m h late =
+    let back : m - 1 + 1 ≡ m = omega arith in
+    let here = rw back at (ends-told_at leap m h) in
+    grind (arith, nat_tests)
+
+pub month_end-january : (leap : Bool) (m : ℕ) → IsInRange 1 12 m → m ≤ 2 → min ((979 * (m + 13) - 2919) / 32) (cond leap 366 365) ≡ (979 * (m + 12) - 2919) / 32 + month_length_in leap m
+month_end-january leap m h early =
+    let back : m - 1 + 1 ≡ m = omega arith in
+    let ahead : m - 1 + 13 ≡ m + 12 = omega arith in
+    let here = rw (back, ahead) at (ends-told_at leap m h) in
+    grind (arith, nat_tests)
+
+-- a place in the year from March, from 1, is that of a day of the month if it comes before the next month and the year's end
+pub day_of_month-from_march : (y : ℤ) (m d : ℕ) → IsInRange 1 12 m → 2 < m → (979 * m - 2919) / 32 + d ≤ (979 * (m + 1) - 2919) / 32 → (979 * m - 2919) / 32 + d ≤ year_length y → d ≤ month_length y m
+day_of_month-from_march y m d h late next end =
+    omega (arith, month_end-march (is_leap_year y) m h late, le-min next end)
+
+pub day_of_month-to_march : (y : ℤ) (m d : ℕ) → IsInRange 1 12 m → m ≤ 2 → (979 * (m + 12) - 2919) / 32 + d ≤ (979 * (m + 13) - 2919) / 32 → (979 * (m + 12) - 2919) / 32 + d ≤ year_length y → d ≤ month_length y m
+day_of_month-to_march y m d h early next end =
+    omega (arith, month_end-january (is_leap_year y) m h early, le-min next end)
+
 -- the number of a day of a month, by the days of the years that begin in March, and those of the months from there
-pub day_number-from_march : (y : ℤ) (m d s : ℕ) → IsInRange 1 12 m → 2 < m → pos s ≡ days_before_year (y +ℤ pos 1) +ℤ pos 95_839_632 → day_number_of_ymd y m d +ℤ pos 95_839_938 ≡ pos (s + (979 * m - 2919) / 32 + d)
-day_number-from_march y m d s h late days =
+pub day_number-from_march : (y : ℤ) (m d : ℕ) → IsInRange 1 12 m → 2 < m → day_number_of_ymd y m d +ℤ pos 306 ≡ days_before_year (y +ℤ pos 1) +ℤ pos ((979 * m - 2919) / 32 + d)
+day_number-from_march y m d h late =
     omega (arith, signed, days_before_year-next y (y +ℤ pos 1) refl, month_start-march (is_leap_year y) m h late)
 
-pub day_number-to_march : (y : ℤ) (m d s : ℕ) → IsInRange 1 12 m → m ≤ 2 → pos s ≡ days_before_year y +ℤ pos 95_839_632 → day_number_of_ymd y m d +ℤ pos 95_839_938 ≡ pos (s + (979 * (m + 12) - 2919) / 32 + d)
-day_number-to_march y m d s h early days = omega (arith, signed, month_start-january (is_leap_year y) m h early)
+pub day_number-to_march : (y : ℤ) (m d : ℕ) → IsInRange 1 12 m → m ≤ 2 → day_number_of_ymd y m d +ℤ pos 306 ≡ days_before_year y +ℤ pos ((979 * (m + 12) - 2919) / 32 + d)
+day_number-to_march y m d h early = omega (arith, signed, month_start-january (is_leap_year y) m h early)

@@ -10,7 +10,7 @@ use crate::march::{day_number, year_month_day};
 use crate::weekdays::days_after_monday;
 use chrono_calendar::{DayForm, Steps};
 use chrono_units::Weekday;
-use chrono_units::year::{is_leap_year, is_year, month_length, year_length};
+use chrono_units::year::{is_leap_year, is_year, year_length};
 use std::marker::Model;
 
 /// A date of the proleptic Gregorian calendar, stored as its day number, which is 1 on 1 January of
@@ -66,7 +66,7 @@ impl CountedForm {
         requires { IsYear year }
         ensures { SomeIff result (IsOrdinalName year ordinal) (day_number_of_yo year ordinal) }
     {
-        if ordinal < 1 || ordinal > year_length(year) {
+        if ordinal < 1 || (ordinal > 365 && ordinal > year_length(year)) {
             return None;
         }
         Some(CountedForm::at_ordinal(year, ordinal))
@@ -81,34 +81,6 @@ impl CountedForm {
     {
         CountedForm {
             days: days_before_year(year) + ordinal as i32,
-        }
-    }
-
-    // The date of a month and day of a year, or `None` if the year has no such day. A day up to 28 is
-    // in every month.
-    #[inline]
-    fn of_month(year: i32, month: u32, day: u32) -> Option<CountedForm>
-        requires { IsYear year }
-        ensures { SomeIff result (IsCalendarName year month day) (day_number_of_ymd year month day) }
-    {
-        if month < 1 || month > 12 {
-            return None;
-        }
-        if day < 1 || (day > 28 && day > u32::from(month_length(is_leap_year(year), month))) {
-            return None;
-        }
-        Some(CountedForm::at_month(year, month, day))
-    }
-
-    // The date of a calendar name.
-    #[inline]
-    fn at_month(year: i32, month: u32, day: u32) -> CountedForm
-        requires year { IsYear year }
-        requires exists { IsCalendarName year month day }
-        ensures { result ≡ day_number_of_ymd year month day }
-    {
-        CountedForm {
-            days: day_number(year, month, day),
         }
     }
 }
@@ -136,10 +108,8 @@ impl DayForm for CountedForm {
 
     #[inline]
     fn from_ymd(year: i32, month: u32, day: u32) -> Option<Self> {
-        if !is_year(year) {
-            return None;
-        }
-        CountedForm::of_month(year, month, day)
+        let days = day_number(year, month, day)?;
+        Some(CountedForm { days })
     }
 
     // The number is the date, so no step is taken.

@@ -6,13 +6,14 @@
 //! of a day, and another the days before a month. January and February are the months 13 and 14 of
 //! the year before.
 
-ghost use Rattle.std.specs.Prelude.{◌≡◌, ◌+◌, ◌-◌, ◌*◌, ◌/◌, ◌%◌, ◌<◌, ◌≤◌, pos, ◌+ℤ◌};
+ghost use Rattle.std.specs.Prelude.{◌≡◌, ◌+◌, ◌-◌, ◌*◌, ◌/◌, ◌%◌, ◌<◌, ◌≤◌, pos, ◌+ℤ◌, SomeIff};
 ghost use Rattle.std.specs.Int.{IsInRange};
 ghost use Rattle.chrono_units.specs.Years.{IsYear};
-ghost use Rattle.chrono_calendar.specs.Days.{IsDate, IsCalendarName, year_of, month_of, day_of, day_number_of_ymd};
+ghost use Rattle.chrono_calendar.specs.Days.{IsDate, IsCalendarName, year_of, month_of, day_of, days_before_year, day_number_of_ymd};
 
 use crate::conversion::{days_before_day, days_to_year, year_after, years_and_place};
 use chrono_calendar::counted_years::DAYS_TO_ONE;
+use chrono_units::year::{is_year, year_length};
 
 // The days from 1 March to 31 December, by which a year from March is ahead.
 const DAYS_FROM_MARCH: u32 = 306;
@@ -45,27 +46,48 @@ pub(crate) fn year_month_day(days: i32) -> (i32, u32, u32)
     }
 }
 
-// The days of a year from March before a month, from 3 to 14.
+// The days of a year from March before a month, from 3 to 14; for 15, those to the end of a February of 30 days.
 #[inline]
 fn days_before_month(month: u32) -> u32
-    requires { IsInRange 3 14 month }
+    requires { IsInRange 3 15 month }
     ensures { result ≡ (979 * month - 2919) / 32 }
 {
     (979 * month - 2_919) / 32
 }
 
-/// The day number of a day of a month.
+/// The day number of a day of a month, or `None` if the library has no such year, or the year has no such day.
+///
+/// A month ends where the next begins, and February where the year from March does, which is as long as the calendar
+/// year. Few days come past the first 365, so the leap rule is seldom asked.
 #[inline]
-pub(crate) fn day_number(year: i32, month: u32, day: u32) -> i32
-    requires year { IsYear year }
-    requires exists { IsCalendarName year month day }
-    ensures { result ≡ day_number_of_ymd year month day }
+pub(crate) fn day_number(year: i32, month: u32, day: u32) -> Option<i32>
+    ensures { SomeIff result (IsYear year × IsCalendarName year month day) (day_number_of_ymd year month day) }
 {
-    let (year, month) = if month > 2 {
-        (year + 1, month)
-    } else {
-        (year, month + 12)
-    };
-    let from_march = days_to_year(year) + days_before_month(month) + day;
-    from_march as i32 - (DAYS_TO_ONE + DAYS_FROM_MARCH as i32)
+    if month < 1 || month > 12 {
+        return None;
+    }
+    let from_march = if month > 2 { month } else { month + 12 };
+    let place = u64::from(days_before_month(from_march)) + u64::from(day);
+    if day < 1 || place > u64::from(days_before_month(from_march + 1)) {
+        return None;
+    }
+    if place > 365 && place > u64::from(year_length(year)) {
+        return None;
+    }
+    if !is_year(year) {
+        return None;
+    }
+    Some(day_number_at(year, month, place as u32))
+}
+
+// The day number of a place, from 1, in the year from March that a month of a year is in.
+#[inline]
+fn day_number_at(year: i32, month: u32, place: u32) -> i32
+    requires year { IsYear year }
+    requires place { place ≤ 366 }
+    ensures early { month ≤ 2 → result +ℤ pos 306 ≡ days_before_year year +ℤ pos place }
+    ensures late { 2 < month → result +ℤ pos 306 ≡ days_before_year (year +ℤ pos 1) +ℤ pos place }
+{
+    let years = if month > 2 { year + 1 } else { year };
+    (days_to_year(years) + place) as i32 - (DAYS_TO_ONE + DAYS_FROM_MARCH as i32)
 }

@@ -47,7 +47,7 @@ pub(crate) fn ordinal_of_month_day(leap: bool, month: u32, day: u32) -> Option<u
     if month < 1 || month > 12 {
         return None;
     }
-    if day < 1 || (day > 28 && day > u32::from(month_length(leap, month))) {
+    if day < 1 || day > u32::from(month_length(leap, month)) {
         return None;
     }
     Some(ordinal_in_year(leap, month, day))

@@ -48,9 +48,11 @@ pub fn month_length(leap: bool, month: u32) -> u8
     requires to_december { month ≤ 12 }
     ensures { result ≡ month_length_in leap month }
 {
-    match month {
-        2 => { if leap { 29 } else { 28 } }
-        4 | 6 | 9 | 11 => 30,
-        _ => 31,
+    // The months of 31 and of 30 days take turns, from January to July and again from August on.
+    let taking_turns = 30 + ((month + month / 8) % 2) as u8;
+    if month == 2 {
+        28 + u8::from(leap)
+    } else {
+        taking_turns
     }
 }

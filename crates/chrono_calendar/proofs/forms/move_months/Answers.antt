@@ -4,7 +4,7 @@ use Rattle.chrono_units.specs.Years.{IsYear}
 use Rattle.chrono_calendar.specs.MonthMoves.{month_index, month_index_of, year_of_month_index, month_of_month_index}
 use Rattle.chrono_calendar.specs.Days.{year_of, month_of}
 use Rattle.chrono_calendar.proofs.Signed.{casts}
-use Rattle.chrono_calendar.proofs.Moves.{month_move-None, month_move-ymd}
+use Rattle.chrono_calendar.proofs.Moves.{month_move-None, month_move-same_day, month_move-ymd}
 use Rattle.chrono_calendar.proofs.forms.move_months.Goals as goal
 
 -- the index of the target month as the code has it
@@ -20,6 +20,15 @@ returns-in_err-year g c =
 year_cast : (y z : ℤ) → y ≡ z → IsYear z → to_z w32 (of_z w32 y) ≡ z
 year_cast y z e h = omega (arith, casts)
 
+pub returns-in-Some : goal.returns-in-Some
+returns-in-Some g c =
+    let n = g.F.DayForm.number c.args.f in
+    let same = index n c.year_month_day-year.result.0 c.args.k c.year_month_day-year.result.1 c.ranges.k c.year_month_day-year.ensures.year c.year_month_day-year.ensures.in_range c.year_month_day-year.ensures.month in
+    let found = rw same at c.in_ok-year.ensures in
+    let year = year_cast c.in_ok-year.year (year_of_month_index (month_index_of n +ℤ c.args.k)) (ap (λ (p : ℤ × ℕ). p.0) found.1) found.0 in
+    let month : c.in_ok-year.month ≡ month_of_month_index (month_index_of n +ℤ c.args.k) = ap (λ (p : ℤ × ℕ). p.1) found.1 in
+    month_move-same_day n c.args.k _ _ _ _ year month c.year_month_day-year.ensures.day c.in-Some.ensures
+
 pub returns : goal.returns
 returns g c =
     let n = g.F.DayForm.number c.args.f in
@@ -27,4 +36,4 @@ returns g c =
     let found = rw same at c.in_ok-year.ensures in
     let year = year_cast c.in_ok-year.year (year_of_month_index (month_index_of n +ℤ c.args.k)) (ap (λ (p : ℤ × ℕ). p.0) found.1) found.0 in
     let month : c.in_ok-year.month ≡ month_of_month_index (month_index_of n +ℤ c.args.k) = ap (λ (p : ℤ × ℕ). p.1) found.1 in
-    c.from_ymd.ensures ∙ month_move-ymd n c.args.k _ _ _ year month (rw c.year_month_day-year.ensures.day at c.day_within.ensures)
+    c.from_ymd-2.ensures ∙ month_move-ymd n c.args.k _ _ _ year month (rw c.year_month_day-year.ensures.day at c.day_within.ensures)
