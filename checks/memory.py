@@ -1,12 +1,12 @@
 #!/usr/bin/env python3
-"""Refuses each request for memory in turn while values are printed into texts that grow: each gives the whole text or an error.
+"""Refuses requests for memory while values are printed into texts that grow: each gives the whole text or an error.
 
     checks/memory.py
 
 The tests below stand in a fresh repository beside copies of the libraries, and run unproved by `rt try --test --fail-alloc N`,
-which refuses the N-th request of each test, from N = 1 on until none is refused any more. Each text is printed once for each
-number of its bytes that there is room for at first, so that every write in it is the one that asks for more. A test passes if its
-text is whole, and is refused if it ends by the error of the allocator; anything else, a text cut short above all, fails the check.
+which refuses the N-th request of each test. Each text is printed once for each number of its bytes that there is room for at
+first, so that every write in it is once the one that asks for more and is refused. A test passes if its text is whole, and is
+refused if it ends by the error of the allocator; anything else, a text cut short above all, fails the check.
 That `caltool` itself takes no memory is tried in checks/statuses.py.
 """
 import os
@@ -20,8 +20,8 @@ from outside import below, listed_crates
 
 TOP = os.path.dirname(os.path.dirname(os.path.abspath(__file__)))
 USED = "chrono_datetime"
-# More requests than any of the tests makes.
-MOST = 10
+# The requests that are refused: for the room, for more where there is some room, and one that no test makes.
+FIRST, SECOND, NONE = 1, 2, 40
 HEAD = """//! Values printed into texts that grow.
 #![tactic(auto)]
 
@@ -85,21 +85,17 @@ def main():
     tests, passed, refused, failed = sum(len(text) for *_, text in TEXTS), 0, 0, 0
     with tempfile.TemporaryDirectory(prefix="memory-") as room:
         make_repository(room)
-        for request in range(1, MOST):
+        for request in (FIRST, SECOND, NONE):
             words = ["rt", "try", "--test", "--fail-alloc", str(request)]
             ran = subprocess.run(words, cwd=f"{room}/crates/printed", stdout=subprocess.PIPE, stderr=subprocess.STDOUT, text=True)
             told = TOLD.findall(ran.stdout)
             whole = sum(it[1] == "ok" for it in told)
             kept = sum(it[1] != "ok" and bool(REFUSED.match(it[2])) for it in told)
             passed, refused, failed = passed + whole + kept, refused + kept, failed + tests - whole - kept
-            if whole + kept != tests:
+            if whole + kept != tests or (kept == 0) != (request == NONE):
                 others = [f"{name}: {said}" for name, how, said in told if how != "ok" and not REFUSED.match(said)]
                 print(f"request {request} refused:\n{''.join(others)[:3000] or ran.stdout[-3000:]}")
-                break
-            if kept == 0:
-                break
-        else:
-            failed += 1
+                failed += whole + kept == tests
     print(f"{refused} requests for memory were refused in {tests} tests")
     print(f"{passed} passed, {failed} failed")
     return 1 if failed or not refused else 0
