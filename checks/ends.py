@@ -4,13 +4,15 @@
     checks/ends.py              compares each row of crates/chrono_calls/stdin with what is counted here
     checks/ends.py --missing    prints the rows that are wanted and do not stand there
 
-Each call of a row is read here a second time, plainly, in whole numbers over checks/counted.py. Wanted are, of each call: each
+Each call of a row is read here a second time, plainly, in whole numbers over checks/counted.py. A call that chrono_calls would
+make and that is not read here fails the check, as it would need no row. Wanted are, of each call: each
 end of each argument with the others in the middle of their types, and each choice of ends for all arguments at once. The ends are
 those of the machine's numbers, the longest durations, the first and the last date, midnight, the last second of the day and its
 leap second.
 """
 import itertools
 import os
+import re
 import sys
 
 from counted import (DAY, FIRST_DAY, FIRST_YEAR, LAST_DAY, LAST_YEAR, LONGEST, NANOS, apart, day_in_year, day_of, day_of_month,
@@ -18,7 +20,8 @@ from counted import (DAY, FIRST_DAY, FIRST_YEAR, LAST_DAY, LAST_YEAR, LONGEST, N
                      month_move, name_of, ordinal_of, week_of, weekday_of, years_between)
 
 TOP = os.path.dirname(os.path.dirname(os.path.abspath(__file__)))
-ROWS = os.path.join(TOP, "crates", "chrono_calls", "stdin")
+CRATE = os.path.join(TOP, "crates", "chrono_calls")
+ROWS = os.path.join(CRATE, "stdin")
 
 EPOCH = 719_163
 MONTHS = "January February March April May June July August September October November December".split()
@@ -376,6 +379,10 @@ MOMENTS = {
 OWNERS = {"Weekday": WEEKDAYS, "WeekdaySet": SETS, "Month": MONTHS_OF_YEAR, "Months": SPANS, "TimeDelta": DURATIONS,
           "NaiveTime": TIMES, "NaiveDate": DATES, "NaiveWeek": WEEKS, "IsoWeek": ISO_WEEKS, "NaiveDateTime": MOMENTS}
 CALLS = {f"{owner}.{name}": call for owner, calls in OWNERS.items() for name, call in calls.items()}
+# The modules of chrono_calls, with the types whose calls they make.
+MODULES = {"weekdays": ["Weekday"], "sets": ["WeekdaySet"], "months": ["Month", "Months"], "durations": ["TimeDelta"],
+           "times": ["NaiveTime"], "dates": ["NaiveDate"], "weeks": ["NaiveWeek", "IsoWeek"],
+           "date_times": ["NaiveDateTime"], "forms": ["NaiveDate", "NaiveWeek"]}
 
 
 # ---- rows
@@ -406,6 +413,14 @@ def wanted(name):
     yield from map(list, itertools.product(*(kind.ends or [kind.middle] for kind in kinds)))
 
 
+def unread():
+    """The calls that the modules of chrono_calls would make and that are not read here."""
+    for module, owners in MODULES.items():
+        with open(os.path.join(CRATE, "src", f"{module}.rt"), encoding="utf-8") as it:
+            made = re.findall(r'"(\w+)"\s*(?:=>|\||if\b)', it.read())
+        yield from (f"{module}: {it}" for it in dict.fromkeys(made) if all(it not in OWNERS[owner] for owner in owners))
+
+
 def main():
     with open(ROWS, encoding="utf-8") as it:
         rows = [line.split(" = ", 1) for line in it.read().splitlines()]
@@ -426,10 +441,13 @@ def main():
         return 0
     for it in missing:
         print(f"no row for {' '.join(it)}")
+    strange = list(unread())
+    for it in strange:
+        print(f"a call that is not read here, of the module {it}")
     calls = len({it[0] for it in seen})
     print(f"{len(rows)} rows of {calls} calls compared; {len(set(ends))} of them are at the ends of {len(CALLS)} calls")
-    print(f"{len(rows) - failed} passed, {failed + len(missing)} failed")
-    return 1 if failed or missing else 0
+    print(f"{len(rows) - failed} passed, {failed + len(missing) + len(strange)} failed")
+    return 1 if failed or missing or strange else 0
 
 
 if __name__ == "__main__":

@@ -1,11 +1,12 @@
 #!/usr/bin/env python3
-"""Refuses each request for memory in turn while values are printed into texts that grow: each gives the whole text or an error.
+"""Refuses requests for memory while values are printed into texts that grow: each gives the whole text or an error.
 
     checks/memory.py
 
 The tests below stand in a fresh repository beside copies of the libraries, and run unproved by `rt try --test --fail-alloc N`,
-which refuses the N-th request of each test, from N = 1 on until none is refused any more. A test passes if its text is whole, and
-is refused if it ends by the error of the allocator; anything else, a text cut short above all, fails the check.
+which refuses the N-th request of each test. Each text is printed once for each number of its bytes that there is room for at
+first, so that every write in it is once the one that asks for more and is refused. A test passes if its text is whole, and is
+refused if it ends by the error of the allocator; anything else, a text cut short above all, fails the check.
 That `caltool` itself takes no memory is tried in checks/statuses.py.
 """
 import os
@@ -19,27 +20,29 @@ from outside import below, listed_crates
 
 TOP = os.path.dirname(os.path.dirname(os.path.abspath(__file__)))
 USED = "chrono_datetime"
-# More requests than any of the tests makes.
-MOST = 40
+# The requests that are refused: for the room, for more where there is some room, and one that no test makes.
+FIRST, SECOND, NONE = 1, 2, 40
 HEAD = """//! Values printed into texts that grow.
 #![tactic(auto)]
 
 #[cfg(test)]
 mod tests {
     use chrono_datetime::{Datelike, NaiveDate, NaiveDateTime, NaiveTime, OutOfRange, TimeDelta, Weekday, WeekdaySet};
+    use std::fmt::Write;
     use std::test::Fail;
 """
 TEST = """
     #[test]
-    fn {name}(rt: HostRuntime) -> Result<(), Fail> {{
-        let text = format!(in rt.alloc(); "{form}", {values})?;
+    fn {name}_in_{room}(rt: HostRuntime) -> Result<(), Fail> {{
+        let mut text = String::with_capacity(rt.alloc(), {room})?;
+        write!(text, "{form}", {values})?;
         assert_eq!(rt; text.as_str(), "{text}");
         Ok(())
     }}
 """
-# Of each test: its name, the values that are printed, how, and the text.
+# Of each text: its name, the values that are printed, how, and what stands there then.
 TEXTS = [
-    ("weekdays", "Weekday::Mon, Weekday::Sun", "{} {:>40}", "Mon " + " " * 37 + "Sun"),
+    ("weekdays", "Weekday::Mon, Weekday::Sun", "{} {:>10}", "Mon " + " " * 7 + "Sun"),
     ("sets", "WeekdaySet::ALL, WeekdaySet::ALL", "{} {:?}", "[Mon, Tue, Wed, Thu, Fri, Sat, Sun] WeekdaySet(1111111)"),
     ("refusals", "OutOfRange::new(), OutOfRange::new()", "{} {}", "out of range out of range"),
     ("durations", "TimeDelta::MIN, TimeDelta::MAX", "{} {}", "-PT9223372036854775.807S PT9223372036854775.807S"),
@@ -67,7 +70,11 @@ def make_repository(room):
         it.write(f"printed: {USED}\n")
     with open(f"{room}/crates/printed/src/lib.rt", "w", encoding="utf-8") as it:
         it.write(HEAD)
-        it.writelines(TEST.format(name=name, values=values, form=form, text=text) for name, values, form, text in TEXTS)
+        it.writelines(
+            TEST.format(name=name, values=values, form=form, text=text, room=room)
+            for name, values, form, text in TEXTS
+            for room in range(len(text))
+        )
         it.write("}\n")
 
 
@@ -75,24 +82,21 @@ def main():
     if not shutil.which("rt"):
         print("not run: there is no rt, the Rattle kit's command\n0 passed, 1 failed")
         return 1
-    passed, refused, failed = 0, 0, 0
+    tests, passed, refused, failed = sum(len(text) for *_, text in TEXTS), 0, 0, 0
     with tempfile.TemporaryDirectory(prefix="memory-") as room:
         make_repository(room)
-        for request in range(1, MOST):
+        for request in (FIRST, SECOND, NONE):
             words = ["rt", "try", "--test", "--fail-alloc", str(request)]
             ran = subprocess.run(words, cwd=f"{room}/crates/printed", stdout=subprocess.PIPE, stderr=subprocess.STDOUT, text=True)
             told = TOLD.findall(ran.stdout)
             whole = sum(it[1] == "ok" for it in told)
             kept = sum(it[1] != "ok" and bool(REFUSED.match(it[2])) for it in told)
-            passed, refused, failed = passed + whole + kept, refused + kept, failed + len(TEXTS) - whole - kept
-            if whole + kept != len(TEXTS):
-                print(f"request {request} refused:\n{ran.stdout[-3000:]}")
-                break
-            if kept == 0:
-                break
-        else:
-            failed += 1
-    print(f"{refused} requests for memory were refused in {len(TEXTS)} tests")
+            passed, refused, failed = passed + whole + kept, refused + kept, failed + tests - whole - kept
+            if whole + kept != tests or (kept == 0) != (request == NONE):
+                others = [f"{name}: {said}" for name, how, said in told if how != "ok" and not REFUSED.match(said)]
+                print(f"request {request} refused:\n{''.join(others)[:3000] or ran.stdout[-3000:]}")
+                failed += whole + kept == tests
+    print(f"{refused} requests for memory were refused in {tests} tests")
     print(f"{passed} passed, {failed} failed")
     return 1 if failed or not refused else 0
 

@@ -7,6 +7,7 @@ Both builds are tried where both are there: LLVM's, and that of Rattle's own com
 """
 import itertools
 import os
+import select
 import subprocess
 import sys
 import tempfile
@@ -36,6 +37,9 @@ def of_broken_pipe(program):
     with subprocess.Popen([program], stdin=subprocess.PIPE, stdout=subprocess.PIPE, stderr=subprocess.PIPE) as ran:
         ran.stdin.write(LINE)
         ran.stdin.flush()
+        if not select.select([ran.stdout], [], [], 60)[0]:
+            ran.kill()
+            return (ran.wait(60), b"no answer before the next line"), b""
         first = ran.stdout.readline()
         ran.stdout.close()
         try:
@@ -59,6 +63,7 @@ def cases(program, folder):
     if os.path.exists("/dev/full"):
         yield "a full device", run(program, LINE, "> /dev/full"), (WRITE_FAULT, b"")
         yield "a full device and many lines", run(program, LINE * MANY, "> /dev/full"), (WRITE_FAULT, b"")
+        yield "a full device and a line without a newline", run(program, LINE[:-1], "> /dev/full"), (WRITE_FAULT, b"")
         yield "a full device and no input", run(program, b"", "> /dev/full"), (DONE, b"")
     yield "a pipe closed after the first answer", of_broken_pipe(program), (WRITE_FAULT, ANSWER)
     yield "standard output closed", run(program, LINE, ">&-"), (WRITE_FAULT, b"")
@@ -79,6 +84,9 @@ def long_cases(program):
         answer = ANSWER if length <= 120 else b"error\n"
         yield f"a line of {length} bytes", run(program, line + b"\n" + LINE), (DONE, answer + ANSWER)
         yield f"a last line of {length} bytes", run(program, LINE + line), (DONE, ANSWER + answer)
+    for length in (121, 65_536, 65_537):
+        line = (b"ymd 2024 2 " + b"29".rjust(109, b"0")).ljust(length, b"0")
+        yield f"a command of 120 bytes in a line of {length}", run(program, line + b"\n" + LINE), (DONE, b"error\n" + ANSWER)
     within = f"ulimit -d {ROOM} &&"
     for byte in (b"\0", b" ", b"9", b"y", b"\r", b"\xff"):
         yield f"no newline but {byte!r} alone", run(program, byte * LONG, limits=within), (DONE, b"error\n")
