@@ -57,15 +57,29 @@ def names_by_counting(number):
     return number, year, month, day, counted.ordinal_of(number), week, f"{year_text(year)}-{month:02}-{day:02}"
 
 
+def year_length(year):
+    return 366 if year % 4 == 0 and (year % 100 != 0 or year % 400 == 0) else 365
+
+
+def week_of(year, ordinal, weekday):
+    """The ISO week date: the week is that of its Thursday, whose year may be the one before or after."""
+    thursday = ordinal + 4 - weekday
+    if thursday < 1:
+        year, thursday = year - 1, thursday + year_length(year - 1)
+    elif thursday > year_length(year):
+        year, thursday = year + 1, thursday - year_length(year)
+    return year, (thursday - 1) // 7 + 1, weekday
+
+
 def walk(number, year, weekday):
-    """Number, year, month, day, ordinal and weekday of each day from 1 January of a year on, one after the other."""
+    """All that each day from 1 January of a year on is called, one after the other."""
     for year in itertools.count(year):
         ordinal = 0
-        is_leap = year % 4 == 0 and (year % 100 != 0 or year % 400 == 0)
-        for month, length in enumerate([31, 29 if is_leap else 28, 31, 30, 31, 30, 31, 31, 30, 31, 30, 31], 1):
+        for month, length in enumerate([31, year_length(year) - 337, 31, 30, 31, 30, 31, 31, 30, 31, 30, 31], 1):
             for day in range(1, length + 1):
                 ordinal += 1
-                yield number, year, month, day, ordinal, weekday
+                week = week_of(year, ordinal, weekday)
+                yield number, year, month, day, ordinal, week, f"{year_text(year)}-{month:02}-{day:02}"
                 number, weekday = number + 1, weekday % 7 + 1
 
 
@@ -78,14 +92,8 @@ def unlike_datetime(first):
 def unlike_walk(start):
     """The same of 400 years, walked from the first day of a year."""
     number, year = start
-    unlike = []
-    for days in itertools.islice(walk(number, year, counted.weekday_of(number) + 1), CYCLE):
-        date = Date.from_number(days[0])
-        if (date.number, date.year, date.month, date.day, date.ordinal, date.weekday) != days:
-            unlike.append(days)
-        if not same(names_by_counting(days[0])):
-            unlike.append(days)
-    return unlike, CYCLE
+    days = itertools.islice(walk(number, year, counted.weekday_of(number) + 1), CYCLE)
+    return [it for it in days if not same(it)], CYCLE
 
 
 def answer(call, *arguments):
@@ -111,8 +119,8 @@ class Days(unittest.TestCase):
     def test_days_beyond(self):
         years = (FIRST_YEAR, -200, LAST_YEAR - 399)
         self.compare(unlike_walk, [(counted.days_before(it) + 1, it) for it in years], 3 * CYCLE)
-        walked = [*itertools.islice(walk(FIRST_DAY, FIRST_YEAR, 4), CYCLE + 1)][-1]
-        self.assertEqual(walked[:2], (FIRST_DAY + CYCLE, FIRST_YEAR + 400))
+        after = next(itertools.islice(walk(FIRST_DAY, FIRST_YEAR, 4), CYCLE, None))
+        self.assertEqual(after, names_by_counting(FIRST_DAY + CYCLE))
 
     def test_ends(self):
         for number in (FIRST_DAY - 1, LAST_DAY + 1):

@@ -26,7 +26,7 @@ pub(crate) struct Moment {
 /// `calendar_duration`.
 #[repr(C)]
 #[derive(Clone, Copy, Debug, PartialEq, Eq, PartialOrd, Ord, Hash)]
-pub(crate) struct Length {
+pub(crate) struct Span {
     pub(crate) seconds: i64,
     pub(crate) nanos: u32,
 }
@@ -64,8 +64,8 @@ unsafe extern "C" {
     pub(crate) safe fn calendar_date_time_new(date: i32, second_of_day: u32, nanos: u32) -> Moment;
     pub(crate) safe fn calendar_date_time_date(moment: Moment) -> i32;
     pub(crate) safe fn calendar_date_time_second_of_day(moment: Moment) -> i32;
-    pub(crate) safe fn calendar_date_time_add(moment: Moment, by: Length) -> Moment;
-    pub(crate) safe fn calendar_date_time_since(moment: Moment, base: Moment) -> Length;
+    pub(crate) safe fn calendar_date_time_add(moment: Moment, by: Span) -> Moment;
+    pub(crate) safe fn calendar_date_time_since(moment: Moment, base: Moment) -> Span;
     pub(crate) fn calendar_write_date_time(moment: Moment, text: *mut u8, room: usize) -> i32;
     pub(crate) fn calendar_read_date_time(text: *const u8, length: usize) -> Moment;
 }

@@ -105,7 +105,7 @@ impl DateTime {
 
     /// The date-time so much later, or earlier for a negative duration; `None` beyond the calendar.
     pub fn checked_add(self, by: Duration) -> Option<DateTime> {
-        DateTime::found(calendar_date_time_add(self.moment, by.length))
+        DateTime::found(calendar_date_time_add(self.moment, by.span))
     }
 
     /// The date-time so much earlier, or later for a negative duration; `None` beyond the calendar.
@@ -121,7 +121,7 @@ impl Sub for DateTime {
 
     fn sub(self, base: DateTime) -> Duration {
         Duration {
-            length: calendar_date_time_since(self.moment, base.moment),
+            span: calendar_date_time_since(self.moment, base.moment),
         }
     }
 }

@@ -2,7 +2,7 @@
 
 use std::ops::Neg;
 
-use crate::calls::Length;
+use crate::calls::Span;
 
 /// The nanoseconds of a second.
 const NANOS: i128 = 1_000_000_000;
@@ -13,13 +13,13 @@ const LONGEST: i128 = i64::MAX as i128 * 1_000_000;
 /// A length of time in whole nanoseconds, forward or back, of at most 2^63 - 1 milliseconds.
 #[derive(Clone, Copy, Debug, PartialEq, Eq, PartialOrd, Ord, Hash)]
 pub struct Duration {
-    pub(crate) length: Length,
+    pub(crate) span: Span,
 }
 
 impl Duration {
     /// No time.
     pub const ZERO: Duration = Duration {
-        length: Length {
+        span: Span {
             seconds: 0,
             nanos: 0,
         },
@@ -32,18 +32,18 @@ impl Duration {
 
     /// So many nanoseconds; `None` if that is too long.
     pub fn from_nanoseconds(nanoseconds: i128) -> Option<Duration> {
-        let length = Length {
+        let span = Span {
             seconds: nanoseconds.div_euclid(NANOS) as i64,
             nanos: nanoseconds.rem_euclid(NANOS) as u32,
         };
         (-LONGEST..=LONGEST)
             .contains(&nanoseconds)
-            .then_some(Duration { length })
+            .then_some(Duration { span })
     }
 
     /// The whole duration in nanoseconds.
     pub fn nanoseconds(self) -> i128 {
-        i128::from(self.length.seconds) * NANOS + i128::from(self.length.nanos)
+        i128::from(self.span.seconds) * NANOS + i128::from(self.span.nanos)
     }
 
     /// The sum; `None` if it is too long.
@@ -57,11 +57,11 @@ impl Neg for Duration {
     type Output = Duration;
 
     fn neg(self) -> Duration {
-        let borrowed = u32::from(self.length.nanos > 0);
+        let borrowed = u32::from(self.span.nanos > 0);
         Duration {
-            length: Length {
-                seconds: -self.length.seconds - i64::from(borrowed),
-                nanos: borrowed * NANOS as u32 - self.length.nanos,
+            span: Span {
+                seconds: -self.span.seconds - i64::from(borrowed),
+                nanos: borrowed * NANOS as u32 - self.span.nanos,
             },
         }
     }
