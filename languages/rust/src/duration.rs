@@ -41,6 +41,16 @@ impl Duration {
             .then_some(Duration { span })
     }
 
+    /// The whole seconds, rounded down: -2 of -1.5 seconds.
+    pub const fn seconds(self) -> i64 {
+        self.span.seconds
+    }
+
+    /// The nanoseconds past the whole seconds, from 0 to 999,999,999.
+    pub const fn nanos(self) -> u32 {
+        self.span.nanos
+    }
+
     /// The whole duration in nanoseconds.
     pub fn nanoseconds(self) -> i128 {
         i128::from(self.span.seconds) * NANOS + i128::from(self.span.nanos)
