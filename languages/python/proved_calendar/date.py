@@ -1,15 +1,18 @@
 """Weekdays, dates, and what is asked of years and months."""
 from __future__ import annotations
 
-import ctypes
 from collections.abc import Iterable
+from ctypes import c_char
 from dataclasses import dataclass
 from enum import IntEnum
 
 from .library import FIRST, I32, I64, LAST, LIBRARY, NONE, U32, held
 
-# The longest texts of a date, such as `-262143-01-01`, have so many bytes.
-TEXT_ROOM = 13
+# The numbers of dates.
+DATES = range(FIRST, LAST + 1)
+
+# Room for the longest texts of a date, such as `-262143-01-01`.
+Room = c_char * 13
 
 
 class Weekday(IntEnum):
@@ -22,6 +25,10 @@ class Weekday(IntEnum):
     FRIDAY = 5
     SATURDAY = 6
     SUNDAY = 7
+
+
+# From Monday on.
+WEEKDAYS = tuple(Weekday)
 
 
 @dataclass(frozen=True, order=True, slots=True, init=False, repr=False)
@@ -47,7 +54,7 @@ class Date:
     @classmethod
     def from_number(cls, number: int) -> Date:
         """The date with a day number."""
-        return _named(held(number, range(FIRST, LAST + 1)), "")
+        return _named(held(number, DATES), "")
 
     @classmethod
     def from_ordinal(cls, year: int, ordinal: int) -> Date:
@@ -97,7 +104,7 @@ class Date:
     @property
     def weekday(self) -> Weekday:
         """The day of the week."""
-        return Weekday(LIBRARY.calendar_weekday(self.number))
+        return WEEKDAYS[LIBRARY.calendar_weekday(self.number) - 1]
 
     @property
     def iso_year(self) -> int:
@@ -111,9 +118,9 @@ class Date:
 
     def isoformat(self) -> str:
         """The date as `YYYY-MM-DD`; a year below 0 or above 9999 has a sign and at least four digits."""
-        text = ctypes.create_string_buffer(TEXT_ROOM)
-        length = LIBRARY.calendar_write_date(self.number, text, TEXT_ROOM)
-        return text.raw[:length].decode()
+        room = Room()
+        length = LIBRARY.calendar_write_date(self.number, room, len(room))
+        return room[:length].decode()
 
     def __str__(self) -> str:
         return self.isoformat()

@@ -1,7 +1,7 @@
 """Durations, and dates with a time of day."""
 from __future__ import annotations
 
-import ctypes
+from ctypes import c_char
 from dataclasses import dataclass
 from datetime import timedelta
 
@@ -11,11 +11,12 @@ from .library import I64, LIBRARY, NO_NANOS, NONE, U32, Moment, Span, held
 SECOND = 10**9
 MINUTE, HOUR, DAY = 60 * SECOND, 3_600 * SECOND, 86_400 * SECOND
 
-# The longest duration, either way, in nanoseconds.
+# The lengths of durations, in nanoseconds.
 LONGEST = (2**63 - 1) * 10**6
+LENGTHS = range(-LONGEST, LONGEST + 1)
 
-# The longest texts of a date-time, such as `-262143-01-01T00:00:00.000000001`, have so many bytes.
-TEXT_ROOM = 32
+# Room for the longest texts of a date-time, such as `-262143-01-01T00:00:00.000000001`.
+Room = c_char * 32
 
 
 @dataclass(frozen=True, order=True, slots=True, init=False)
@@ -27,7 +28,7 @@ class Duration:
     def __init__(self, *, days: int = 0, hours: int = 0, minutes: int = 0, seconds: int = 0, nanoseconds: int = 0) -> None:
         """The sum of its parts, a day being 24 hours; OverflowError if that is too long."""
         length = days * DAY + hours * HOUR + minutes * MINUTE + seconds * SECOND + nanoseconds
-        object.__setattr__(self, "nanoseconds", held(length, range(-LONGEST, LONGEST + 1), OverflowError))
+        object.__setattr__(self, "nanoseconds", held(length, LENGTHS, OverflowError))
 
     @classmethod
     def from_timedelta(cls, length: timedelta) -> Duration:
@@ -115,9 +116,9 @@ class DateTime:
 
     def isoformat(self) -> str:
         """The date-time as `YYYY-MM-DDTHH:MM:SS`, with three, six or nine digits of a fraction that is not 0."""
-        text = ctypes.create_string_buffer(TEXT_ROOM)
-        length = LIBRARY.calendar_write_date_time(self._moment(), text, TEXT_ROOM)
-        return text.raw[:length].decode()
+        room = Room()
+        length = LIBRARY.calendar_write_date_time(self._moment(), room, len(room))
+        return room[:length].decode()
 
     def __str__(self) -> str:
         return self.isoformat()
