@@ -37,8 +37,8 @@ CALLS = {
     "date_time_since": "Python Rust",
 }
 NOTES = """
-`number_to_name` is read as year, month and day, a call for each from C and Rust; `iso_week` as ISO year and week. Days are moved by up
-to 100,000, months by up to 1,200. From C a date is written and read by way of `struct tm`."""
+`number_to_name` is read as year, month and day, and `iso_week` as ISO year and week, with a call of ours for each. Dates are moved
+by up to 100,000 days or 1,200 months. C's library writes and reads a date by way of `struct tm`."""
 
 
 def build(folder):

@@ -36,6 +36,15 @@ TYPES = {
 # How a slice of Rattle crosses: its first byte, and how many bytes there are.
 SLICES = {"&[u8]": (("*const u8", "text"), ("usize", "length")), "&mut [u8]": (("*mut u8", "text"), ("usize", "room"))}
 
+# How a function is used, in the sources of a folder.
+USES = {
+    "calls of C's tests": ("c", r"\b{name}\("),
+    "calls of the Python package": ("python/proved_calendar", r"\bLIBRARY\.{name}\("),
+    "Python's tests": ("python", r"\bdef test_{short}\("),
+    "calls of the Rust crate": ("rust/src", r"(?<!fn ){name}\("),
+    "Rust's tests": ("rust/tests", r"#\[test\]\nfn {short}\(\)"),
+}
+
 
 class Results:
     """What passed and failed."""
@@ -168,14 +177,14 @@ def compare_symbols(results, header):
     compare(results, "symbols of the library", {it: "T" for it in header}, {name: kind for kind, name in symbols})
 
 
-def compare_tests(results, header):
-    """Whether each function has its test."""
-    tests = {"c/test.c": r"\b{}\(", "python/test_calls.py": r"\bdef test_{}\(", "rust/tests/calls.rs": r"#\[test\]\nfn {}\(\)"}
-    for path, pattern in tests.items():
-        text = read(f"{LANGUAGES}/{path}")
+def compare_uses(results, header):
+    """Whether each function is called by each wrapper, and has its test in each language."""
+    for language, (folder, pattern) in USES.items():
+        paths = [f"{LANGUAGES}/{folder}/{it}" for it in os.listdir(f"{LANGUAGES}/{folder}") if it.endswith((".c", ".py", ".rs"))]
+        text = "\n".join(read(it) for it in paths)
         for name in header:
-            short = name if path == "c/test.c" else name.removeprefix("calendar_")
-            results.count(re.search(pattern.format(short), text), f"{path} has no test of {name}")
+            used = pattern.format(name=name, short=name.removeprefix("calendar_"))
+            results.count(re.search(used, text), f"{language}: there is none for {name}")
 
 
 # ---- what is run
@@ -259,10 +268,10 @@ def main():
         print("there is no crates/calendar_c/out/libcalendar_c.a, and `rt lib` does not build it\n0 passed, 1 failed")
         return 1
     header = of_header()
-    results.count(len(header) > 0, "calendar.h declares no function")
+    results.count(0 < len(header) == read(HEADER).count(");\n"), "calendar.h has declarations that are not understood")
     compare_declarations(results, header)
     compare_symbols(results, header)
-    compare_tests(results, header)
+    compare_uses(results, header)
     compare_examples(results)
     compile_header(results)
     with tempfile.TemporaryDirectory(prefix="languages-") as room:
