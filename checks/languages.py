@@ -190,12 +190,12 @@ def compare_uses(results, header):
 # ---- what is run
 
 
-def run(results, words, counts, **how):
-    """Runs a test; the patterns say how it tells what passed and failed."""
+def run(results, what, words, counts, **how):
+    """Runs a test; the patterns say how it tells what passed and failed, by a number or, with none, one by one."""
     ran = subprocess.run(words, stdout=subprocess.PIPE, stderr=subprocess.STDOUT, text=True, errors="replace", **how)
-    passed, failed = (sum(map(int, re.findall(it, ran.stdout, re.M))) for it in counts)
+    passed, failed = (sum(int(number or 1) for number in re.findall(it, ran.stdout, re.M)) for it in counts)
     failed = failed or int(ran.returncode != 0 or not passed)
-    print(f"{os.path.basename(words[-1])}: {passed} passed, {failed} failed", flush=True)
+    print(f"{what}: {passed} passed, {failed} failed", flush=True)
     results.passed, results.failed = results.passed + passed, results.failed + failed
     if failed:
         print(ran.stdout[-4000:], flush=True)
@@ -227,7 +227,7 @@ def test_c(results, room):
         words = ["cc", "-std=c99", "-O2", *WARNINGS, f"-I{LANGUAGES}/c", source, LIBRARY, "-o", f"{room}/{program}"]
         built = subprocess.run(words, stderr=subprocess.PIPE, text=True)
         results.count(built.returncode == 0, built.stderr)
-    run(results, [f"{room}/test"], (r"(\d+) passed", r"(\d+) failed"))
+    run(results, "test.c", [f"{room}/test"], (r"(\d+) passed", r"(\d+) failed"))
     printed = subprocess.run([f"{room}/main"], stdout=subprocess.PIPE, text=True).stdout.strip()
     results.count(printed and f"prints `{printed}`" in read(f"{LANGUAGES}/c/README.md"), f"the example in C prints {printed}")
 
@@ -237,13 +237,13 @@ def test_python(results, room):
     whole = ["-Wl,--whole-archive", LIBRARY, "-Wl,--no-whole-archive"]
     subprocess.run(["cc", "-shared", "-o", shared, *whole], check=True)
     env = dict(os.environ, CALENDAR_LIBRARY=shared, PYTHONPATH=f"{LANGUAGES}/python", PYTHONDONTWRITEBYTECODE="1")
-    counts = (r"^Ran (\d+) tests? in", r"(?:failures|errors)=(\d+)")
+    counts = (r"\.\.\. ok()$", r"\.\.\. (?:FAIL|ERROR)()$")
     for name in ("test_calls.py", "test_days.py"):
-        run(results, [sys.executable, f"{LANGUAGES}/python/{name}"], counts, env=env)
+        run(results, name, [sys.executable, f"{LANGUAGES}/python/{name}", "-v"], counts, env=env)
     with open(f"{room}/example.txt", "w", encoding="utf-8") as it:
         it.write(example("python"))
     counts = (r"^(\d+) passed and", r"(\d+) failed\.")
-    run(results, [sys.executable, "-m", "doctest", "-v", f"{room}/example.txt"], counts, env=env)
+    run(results, "the example in Python", [sys.executable, "-m", "doctest", "-v", f"{room}/example.txt"], counts, env=env)
 
 
 def test_rust(results, room):
@@ -252,7 +252,7 @@ def test_rust(results, room):
         return
     env = dict(os.environ, CALENDAR_FOLDER=os.path.dirname(LIBRARY), CARGO_TARGET_DIR=f"{room}/target")
     words = ["cargo", "test", "--offline", "--locked", "--manifest-path", f"{LANGUAGES}/rust/Cargo.toml"]
-    run(results, words, (r"test result: .*? (\d+) passed", r"test result: .*? (\d+) failed"), env=env)
+    run(results, "cargo test", words, (r"test result: .*? (\d+) passed", r"test result: .*? (\d+) failed"), env=env)
 
 
 def compare_examples(results):

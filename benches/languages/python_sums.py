@@ -1,6 +1,6 @@
 #!/usr/bin/env python3
-"""Sums of the answers of proved_calendar and of datetime to the same calls: `python_sums.py CALL COUNT` makes a call so many times on
-pseudo-random arguments and prints the sum of its answers."""
+"""Sums of the answers of proved_calendar and of datetime to the same calls: `python_sums.py CALL COUNT` makes a call so many times
+on pseudo-random arguments and prints the sum of its answers."""
 import itertools
 import random
 import sys
