@@ -1,7 +1,10 @@
 #!/usr/bin/env python3
 """Holds the wrappers of languages/ to the static library of the calendar, and runs their tests.
 
-    checks/languages.py     (the library that `rt lib` leaves in crates/calendar_c/out; it is built where there is none)
+    checks/languages.py
+
+It takes the libcalendar_c.a that `rt lib` leaves in crates/calendar_c/out, if that is newer than all sources, and else builds one
+in a repository of its own over what is proved of the libraries below, as checks/outside.py does.
 
 Compared are names, results and parameters, each way: those of calendar.h with the exports of crates/calendar_c, with the symbols
 of the library, with the declarations of the Rust crate and with the prototypes of the Python package; and the fields of both
@@ -16,9 +19,10 @@ import subprocess
 import sys
 import tempfile
 
+from outside import below, copy_crates, listed_crates, take_proved, time_of
+
 TOP = os.path.dirname(os.path.dirname(os.path.abspath(__file__)))
 CRATE = f"{TOP}/crates/calendar_c"
-LIBRARY = f"{CRATE}/out/libcalendar_c.a"
 LANGUAGES = f"{TOP}/languages"
 HEADER = f"{LANGUAGES}/c/calendar.h"
 DECLARATIONS = f"{LANGUAGES}/rust/src/calls.rs"
@@ -167,12 +171,12 @@ def compare_declarations(results, header):
     compare(results, "structs of languages/python", fields, structs("python", PACKAGE))
 
 
-def compare_symbols(results, header):
+def compare_symbols(results, header, library):
     """The symbols that the library has for others, and that it wants of them: none."""
     if not shutil.which("nm"):
         print("not run: the symbols of the library, since there is no nm")
         return
-    listed = subprocess.run(["nm", "-g", LIBRARY], check=True, capture_output=True, text=True).stdout
+    listed = subprocess.run(["nm", "-g", library], check=True, capture_output=True, text=True).stdout
     symbols = re.findall(r"^[\da-f ]*([A-Za-z]) (\w+)$", listed, re.M)
     compare(results, "symbols of the library", {it: "T" for it in header}, {name: kind for kind, name in symbols})
 
@@ -180,14 +184,37 @@ def compare_symbols(results, header):
 def compare_uses(results, header):
     """Whether each function is called by each wrapper, and has its test in each language."""
     for language, (folder, pattern) in USES.items():
-        paths = [f"{LANGUAGES}/{folder}/{it}" for it in os.listdir(f"{LANGUAGES}/{folder}") if it.endswith((".c", ".py", ".rs"))]
-        text = "\n".join(read(it) for it in paths)
+        names = [it for it in os.listdir(f"{LANGUAGES}/{folder}") if it.endswith((".c", ".py", ".rs"))]
+        text = "\n".join(read(f"{LANGUAGES}/{folder}/{it}") for it in names)
         for name in header:
             used = pattern.format(name=name, short=name.removeprefix("calendar_"))
             results.count(re.search(used, text), f"{language}: there is none for {name}")
 
 
-# ---- what is run
+# ---- what is built and run
+
+
+def find_library(room):
+    """The static library: that which is here, if it is newer than what it is made from, or one built in a repository of its own."""
+    crates = listed_crates()
+    line = next(it for it in crates if it.split()[0] == "calendar_c")
+    *libraries, _ = below(line, crates)
+    parts = [f"{TOP}/crates/{name}/{part}" for name in (*libraries, "calendar_c") for part in ("src", "specs", "proofs")]
+    here = f"{CRATE}/out/libcalendar_c.a"
+    if os.path.exists(here) and os.path.getmtime(here) > time_of(parts, max):
+        return here
+    if not shutil.which("rt"):
+        return None
+    copy_crates(room, [*libraries, "calendar_c"])
+    with open(f"{room}/crates.txt", "w", encoding="utf-8") as it:
+        it.writelines(f"{name}: {' '.join(crates[name])}\n" for name in (*libraries, line))
+    if not take_proved(room, libraries):
+        print("nothing kept serves: the libraries are proved first", flush=True)
+    ran = subprocess.run(["rt", "lib"], cwd=f"{room}/crates/calendar_c", stdout=subprocess.PIPE, stderr=subprocess.STDOUT)
+    if ran.returncode:
+        print(ran.stdout.decode(errors="replace")[-3000:], flush=True)
+        return None
+    return f"{room}/crates/calendar_c/out/libcalendar_c.a"
 
 
 def run(results, what, words, counts, **how):
@@ -219,23 +246,31 @@ def compile_header(results):
             results.count(ran.returncode == 0, f"{' '.join(words)}: {ran.stderr}")
 
 
-def test_c(results, room):
+def built(results, words):
+    """Builds by the C compiler; whether that went well."""
+    ran = subprocess.run(["cc", *words], stderr=subprocess.PIPE, text=True)
+    results.count(ran.returncode == 0, f"cc {' '.join(words)}: {ran.stderr}")
+    return ran.returncode == 0
+
+
+def test_c(results, room, library):
     """The test of C, and the example with the line that its README says it prints."""
+    flags = ["-std=c99", "-O2", *WARNINGS, f"-I{LANGUAGES}/c"]
+    if built(results, [*flags, f"{LANGUAGES}/c/test.c", library, "-o", f"{room}/test"]):
+        run(results, "test.c", [f"{room}/test"], (r"(\d+) passed", r"(\d+) failed"))
     with open(f"{room}/main.c", "w", encoding="utf-8") as it:
         it.write(example("c"))
-    for source, program in ((f"{LANGUAGES}/c/test.c", "test"), (f"{room}/main.c", "main")):
-        words = ["cc", "-std=c99", "-O2", *WARNINGS, f"-I{LANGUAGES}/c", source, LIBRARY, "-o", f"{room}/{program}"]
-        built = subprocess.run(words, stderr=subprocess.PIPE, text=True)
-        results.count(built.returncode == 0, built.stderr)
-    run(results, "test.c", [f"{room}/test"], (r"(\d+) passed", r"(\d+) failed"))
-    printed = subprocess.run([f"{room}/main"], stdout=subprocess.PIPE, text=True).stdout.strip()
-    results.count(printed and f"prints `{printed}`" in read(f"{LANGUAGES}/c/README.md"), f"the example in C prints {printed}")
+    if built(results, [*flags, f"{room}/main.c", library, "-o", f"{room}/main"]):
+        printed = subprocess.run([f"{room}/main"], stdout=subprocess.PIPE, text=True).stdout
+        is_told = f"the program prints `{printed.strip()}`:" in read(f"{LANGUAGES}/c/README.md")
+        results.count(is_told, f"the example in C prints {printed}")
 
 
-def test_python(results, room):
+def test_python(results, room, library):
+    """The tests of Python, and the example of its README."""
     shared = f"{room}/libcalendar.so"
-    whole = ["-Wl,--whole-archive", LIBRARY, "-Wl,--no-whole-archive"]
-    subprocess.run(["cc", "-shared", "-o", shared, *whole], check=True)
+    if not built(results, ["-shared", "-o", shared, "-Wl,--whole-archive", library, "-Wl,--no-whole-archive"]):
+        return
     env = dict(os.environ, CALENDAR_LIBRARY=shared, PYTHONPATH=f"{LANGUAGES}/python", PYTHONDONTWRITEBYTECODE="1")
     counts = (r"\.\.\. ok()$", r"\.\.\. (?:FAIL|ERROR)()$")
     for name in ("test_calls.py", "test_days.py"):
@@ -246,11 +281,12 @@ def test_python(results, room):
     run(results, "the example in Python", [sys.executable, "-m", "doctest", "-v", f"{room}/example.txt"], counts, env=env)
 
 
-def test_rust(results, room):
+def test_rust(results, room, library):
+    """The tests of Rust, and the example of its README, which is the crate's documentation."""
     if not shutil.which("cargo"):
         print("not run: the tests in Rust, since there is no cargo")
         return
-    env = dict(os.environ, CALENDAR_FOLDER=os.path.dirname(LIBRARY), CARGO_TARGET_DIR=f"{room}/target")
+    env = dict(os.environ, CALENDAR_FOLDER=os.path.dirname(library), CARGO_TARGET_DIR=f"{room}/target")
     words = ["cargo", "test", "--offline", "--locked", "--manifest-path", f"{LANGUAGES}/rust/Cargo.toml"]
     run(results, "cargo test", words, (r"test result: .*? (\d+) passed", r"test result: .*? (\d+) failed"), env=env)
 
@@ -262,25 +298,31 @@ def compare_examples(results):
         results.count(lines in re.sub(r"^    ", "", example(language), flags=re.M), f"README.md: other lines of {language}")
 
 
-def main():
-    results = Results()
-    if not os.path.exists(LIBRARY) and subprocess.run(["rt", "lib"], cwd=CRATE).returncode:
-        print("there is no crates/calendar_c/out/libcalendar_c.a, and `rt lib` does not build it\n0 passed, 1 failed")
-        return 1
+def compare_sources(results):
+    """What is compared without the library; the functions of the header."""
     header = of_header()
     results.count(0 < len(header) == read(HEADER).count(");\n"), "calendar.h has declarations that are not understood")
     compare_declarations(results, header)
-    compare_symbols(results, header)
     compare_uses(results, header)
     compare_examples(results)
     compile_header(results)
+    return header
+
+
+def main():
+    results = Results()
+    header = compare_sources(results)
     with tempfile.TemporaryDirectory(prefix="languages-") as room:
-        if shutil.which("cc"):
-            test_c(results, room)
-            test_python(results, room)
-        else:
+        library = find_library(room)
+        results.count(library, "there is no libcalendar_c.a, and `rt lib` does not build it")
+        if library:
+            compare_symbols(results, header, library)
+            test_rust(results, room, library)
+        if library and shutil.which("cc"):
+            test_c(results, room, library)
+            test_python(results, room, library)
+        elif library:
             print("not run: the tests in C and Python, since there is no C compiler")
-        test_rust(results, room)
     print(f"{results.passed} passed, {results.failed} failed")
     return 1 if results.failed else 0
 
