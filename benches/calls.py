@@ -62,11 +62,11 @@ def timed(program, call, count):
     return used.ru_utime + used.ru_stime, printed
 
 
-def compare_sums(runs):
+def compare_sums(runs, count=COMPARED):
     """Ends the program unless all who make a call print the same sum."""
     sums = {}
     for call, who, program, words in runs:
-        _, printed = timed(program, words, COMPARED)
+        _, printed = timed(program, words, count)
         if sums.setdefault(call, printed) != printed:
             sys.exit(f"{call}: the sums are not the same, so nothing was timed")
 

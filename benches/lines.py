@@ -82,14 +82,14 @@ def debian_registry():
 
 
 def build_over_chrono(folder, name):
-    """Builds a program of this folder over Debian's chrono; where it then lies."""
+    """Builds a program over Debian's chrono, in the folder of its name below this one; where it then lies."""
     target = os.path.join(folder, "target")
     env = dict(os.environ, CARGO_TARGET_DIR=target)
     command = ["cargo", "build", "--release", "--offline", "--quiet"]
     command += ["--config", 'source.crates-io.replace-with="debian"']
     command += ["--config", f'source.debian.directory="{debian_registry()}"']
     subprocess.run(command, cwd=os.path.join(TOP, "benches", name), env=env, check=True)
-    return os.path.join(target, "release", name)
+    return os.path.join(target, "release", os.path.basename(name))
 
 
 def sum_of_answers(program, path):

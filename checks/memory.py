@@ -16,7 +16,7 @@ import subprocess
 import sys
 import tempfile
 
-from outside import below, listed_crates
+from outside import below, copy_crates, listed_crates
 
 TOP = os.path.dirname(os.path.dirname(os.path.abspath(__file__)))
 USED = "chrono_datetime"
@@ -60,10 +60,7 @@ REFUSED = re.compile(r"    error: Alloc(Error|Failed)")
 def make_repository(room):
     crates = listed_crates()
     libraries = below(USED, crates)
-    for name in libraries:
-        for part in ("src", "specs", "proofs"):
-            if os.path.isdir(f"{TOP}/crates/{name}/{part}"):
-                shutil.copytree(f"{TOP}/crates/{name}/{part}", f"{room}/crates/{name}/{part}")
+    copy_crates(room, libraries)
     os.makedirs(f"{room}/crates/printed/src")
     with open(f"{room}/crates.txt", "w", encoding="utf-8") as it:
         it.writelines(f"{name}: {' '.join(crates[name])}\n" for name in libraries)

@@ -45,14 +45,19 @@ def below(name, crates):
     return [*found, name]
 
 
+def copy_crates(room, names):
+    """Copies the sources of some crates into a repository."""
+    for name in names:
+        for part in ("src", "specs", "proofs"):
+            if os.path.isdir(f"{TOP}/crates/{name}/{part}"):
+                shutil.copytree(f"{TOP}/crates/{name}/{part}", f"{room}/crates/{name}/{part}")
+
+
 def make_repository(room):
     """Writes the repository; the names of its libraries and of its callers."""
     crates, files = listed_crates(), quoted_files()
     libraries = below(USED, crates)
-    for name in libraries:
-        for part in ("src", "specs", "proofs"):
-            if os.path.isdir(f"{TOP}/crates/{name}/{part}"):
-                shutil.copytree(f"{TOP}/crates/{name}/{part}", f"{room}/crates/{name}/{part}")
+    copy_crates(room, libraries)
     own = files.pop("crates.txt", "")
     with open(f"{room}/crates.txt", "w", encoding="utf-8") as it:
         it.writelines(f"{name}: {' '.join(crates[name])}\n" for name in libraries)

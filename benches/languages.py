@@ -1,0 +1,91 @@
+#!/usr/bin/env python3
+"""Measures calls of the calendar from C, Python and Rust, each beside that language's own, in one run, as ratios.
+
+    benches/languages.py [COUNT]        (20 million from C and Rust if left out, and a hundredth of them from Python)
+
+Beside C's stand the calls `timegm`, `gmtime_r`, `strftime` and `strptime` of its library, beside Python's its `datetime`, and
+beside Rust's chrono. It needs crates/calendar_c/out/libcalendar_c.a, which `rt lib` leaves there, a C compiler, and
+librust-chrono-dev with cargo. C and Rust are linked with the library itself, without optimisation across the call; Python calls
+a shared object of it by ctypes, and most of what a call takes there is ctypes and the making of an object.
+
+The programs of benches/languages make each call on the same pseudo-random arguments, from the 400 years from 1800 on, and print
+the sum of the answers, which has to be the same before any is timed. They take turns in five rounds over all calls, and the best
+run counts, by processor time, less that of `none`, which draws, looks up and adds without a call.
+"""
+import os
+import subprocess
+import sys
+import tempfile
+
+from calls import COMPARED, best_times, compare_sums
+from lines import TOP, build_over_chrono
+
+LIBRARY = os.path.join(TOP, "crates", "calendar_c", "out", "libcalendar_c.a")
+SOURCES = os.path.join(TOP, "benches", "languages")
+
+# What each language is timed beside, and with how many calls fewer.
+LANGUAGES = {"C": ("libc", 1), "Python": ("datetime", 100), "Rust": ("chrono", 1)}
+CALLS = {
+    "name_to_number": "C Python Rust",
+    "number_to_name": "C Python Rust",
+    "iso_week": "Python Rust",
+    "add_days": "Python Rust",
+    "add_months": "Rust",
+    "write_date": "C Python Rust",
+    "read_date": "C Python Rust",
+    "date_time_add": "Python Rust",
+    "date_time_since": "Python Rust",
+}
+NOTES = """
+`number_to_name` is read as year, month and day, and `iso_week` as ISO year and week, with a call of ours for each. Dates are moved
+by up to 100,000 days or 1,200 months. C's library writes and reads a date by way of `struct tm`."""
+
+
+def build(folder):
+    """The programs of the languages; Python's finds the shared object by the environment."""
+    compiler = ["cc", "-std=c99", "-O2", f"-I{os.path.join(TOP, 'languages', 'c')}"]
+    subprocess.run([*compiler, f"{SOURCES}/c_sums.c", LIBRARY, "-o", f"{folder}/c_sums"], check=True)
+    whole = ["-Wl,--whole-archive", LIBRARY, "-Wl,--no-whole-archive"]
+    subprocess.run(["cc", "-shared", "-o", f"{folder}/libcalendar.so", *whole], check=True)
+    os.environ["CALENDAR_LIBRARY"] = f"{folder}/libcalendar.so"
+    os.environ["PYTHONPATH"] = os.path.join(TOP, "languages", "python")
+    rust = build_over_chrono(folder, os.path.join("languages", "rust_sums"))
+    return {"C": f"{folder}/c_sums", "Python": f"{SOURCES}/python_sums.py", "Rust": rust}
+
+
+def runs_of(language, program):
+    """Each call, by whom it is made, in which program, and its name there."""
+    yield "none", "none", program, "none"
+    for call, languages in CALLS.items():
+        if language in languages.split():
+            for who in ("ours", "theirs"):
+                yield call, who, program, f"{who}.{call}"
+
+
+def cells(best, call, count):
+    """Of a call from a language: the nanoseconds of theirs and of ours, and how often the time of theirs goes into ours."""
+    if (call, "ours") not in best:
+        return ["", "", ""]
+    ours, theirs = ((best[call, who] - best["none", "none"]) / count * 1e9 for who in ("ours", "theirs"))
+    return [f"{theirs:.1f}", f"{ours:.1f}", f"{ours / theirs:.2f}"]
+
+
+def main():
+    count = int(sys.argv[1]) if len(sys.argv) > 1 else 20_000_000
+    tables = {}
+    with tempfile.TemporaryDirectory() as folder:
+        for language, program in build(folder).items():
+            runs, fewer = list(runs_of(language, program)), LANGUAGES[language][1]
+            compare_sums(runs, COMPARED // fewer)
+            tables[language] = best_times(runs, count // fewer)
+    print("Nanoseconds a call, and how often the time of a language's own calendar goes into ours\n")
+    heads = [f"{own} | from {language} | ratio" for language, (own, _) in LANGUAGES.items()]
+    print(f"| Call | {' | '.join(heads)} |\n|---{'|---' * 9}|")
+    for call in CALLS:
+        row = [it for name, best in tables.items() for it in cells(best, call, count // LANGUAGES[name][1])]
+        print(f"| `{call}` | {' | '.join(row)} |")
+    print(NOTES)
+
+
+if __name__ == "__main__":
+    main()

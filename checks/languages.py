@@ -1,0 +1,331 @@
+#!/usr/bin/env python3
+"""Holds the wrappers of languages/ to the static library of the calendar, and runs their tests.
+
+    checks/languages.py
+
+It takes the libcalendar_c.a that `rt lib` leaves in crates/calendar_c/out, if that is newer than all sources, and else builds one
+in a repository of its own over what is proved of the libraries below, as checks/outside.py does.
+
+Compared are names, results and parameters, each way: those of calendar.h with the exports of crates/calendar_c, with the symbols
+of the library, with the declarations of the Rust crate and with the prototypes of the Python package; and the fields of both
+structs. The header is then compiled, alone, by each compiler that is found, and the tests of C, Python and Rust are built in a
+temporary folder and run: each export has to be called in C's, and to have a test of its name in the other two. The examples of
+their READMEs are run too, and the lines of README.md for each language have to stand in them.
+"""
+import os
+import re
+import shutil
+import subprocess
+import sys
+import tempfile
+
+from outside import below, copy_crates, listed_crates, take_proved, time_of
+
+TOP = os.path.dirname(os.path.dirname(os.path.abspath(__file__)))
+CRATE = f"{TOP}/crates/calendar_c"
+LANGUAGES = f"{TOP}/languages"
+HEADER = f"{LANGUAGES}/c/calendar.h"
+DECLARATIONS = f"{LANGUAGES}/rust/src/calls.rs"
+PACKAGE = f"{LANGUAGES}/python/proved_calendar/library.py"
+WARNINGS = ["-Wall", "-Wextra", "-pedantic", "-Werror"]
+
+# The names of types, in Rust's words and the header's for structs.
+TYPES = {
+    "int32_t": "i32", "int64_t": "i64", "uint8_t": "u8", "uint32_t": "u32", "size_t": "usize",
+    "uint8_t *": "*mut u8", "const uint8_t *": "*const u8",
+    "c_int32": "i32", "c_int64": "i64", "c_uint8": "u8", "c_uint32": "u32", "c_size_t": "usize", "c_bool": "bool",
+    "Moment": "calendar_date_time", "Span": "calendar_duration",
+    "CalendarDateTime": "calendar_date_time", "CalendarDuration": "calendar_duration",
+}
+# How a slice of Rattle crosses: its first byte, and how many bytes there are.
+SLICES = {"&[u8]": (("*const u8", "text"), ("usize", "length")), "&mut [u8]": (("*mut u8", "text"), ("usize", "room"))}
+
+# How a function is used, in the sources of a folder.
+USES = {
+    "calls of C's tests": ("c", r"\b{name}\("),
+    "calls of the Python package": ("python/proved_calendar", r"\bLIBRARY\.{name}\("),
+    "Python's tests": ("python", r"\bdef test_{short}\("),
+    "calls of the Rust crate": ("rust/src", r"(?<!fn ){name}\("),
+    "Rust's tests": ("rust/tests", r"#\[test\]\nfn {short}\(\)"),
+}
+
+
+class Results:
+    """What passed and failed."""
+
+    def __init__(self):
+        self.passed, self.failed = 0, 0
+
+    def count(self, is_right, what):
+        """Counts a fact, and tells of it if it does not hold."""
+        if is_right:
+            self.passed += 1
+        else:
+            self.failed += 1
+            print(f"FAILED: {what}", flush=True)
+
+
+def read(path):
+    with open(path, encoding="utf-8") as it:
+        return it.read()
+
+
+def plain(name):
+    """A type by its common name."""
+    name = re.sub(r"\s+", " ", name.strip())
+    return TYPES.get(name, name)
+
+
+# ---- what is declared: the result of each function, and type and name of its parameters
+
+
+def of_header():
+    """The functions of calendar.h."""
+    text = re.sub(r"/\*.*?\*/", "", read(HEADER), flags=re.S)
+    found = {}
+    for result, name, listed in re.findall(r"^(\w+)\s+(calendar_\w+)\(([^)]*)\);", text, re.M):
+        split = [re.fullmatch(r"(.*?[\s*])(\w+)", it.strip(), re.S).groups() for it in listed.split(",")]
+        found[name] = plain(result), [(plain(kind), name) for kind, name in split]
+    return found
+
+
+def of_rust(declared):
+    """Functions as name, parameters and result, in the words of Rust or Rattle; a slice is a pointer and a length."""
+    found = {}
+    for name, listed, result in declared:
+        parameters = []
+        for it in filter(None, (it.strip() for it in listed.split(","))):
+            parameter, _, kind = it.partition(":")
+            parameters += SLICES.get(kind.strip(), [(plain(kind), parameter.strip())])
+        found[name] = plain(result), parameters
+    return found
+
+
+def sources(folder):
+    """The sources of a crate of Rattle."""
+    return [f"{at}/{name}" for at, _, names in os.walk(folder) for name in names if name.endswith(".rt")]
+
+
+def of_rattle():
+    """The functions that crates/calendar_c exports."""
+    head = r"#\[unsafe\(no_mangle\)\]\s+pub (?:unsafe )?extern \"C\" fn (\w+)\(([^)]*)\) -> (\w+)"
+    return of_rust(it for path in sources(CRATE) for it in re.findall(head, read(path)))
+
+
+def of_crate():
+    """The functions that the Rust crate declares."""
+    return of_rust(re.findall(r"\bfn (calendar_\w+)\(([^)]*)\) -> (\w+);", read(DECLARATIONS)))
+
+
+def of_package():
+    """The functions of the Python package; ctypes names no parameter, and knows no const."""
+    found = {}
+    for name, listed in re.findall(r"^    \"(calendar_\w+)\": \(([\w, ]+)\),$", read(PACKAGE), re.M):
+        result, *rest = (plain(it) for it in listed.split(","))
+        found[name] = result, rest
+    return found
+
+
+def without_names(functions):
+    """The same functions as ctypes has them."""
+    pointers = {"*mut u8": "c_char_p", "*const u8": "c_char_p"}
+    return {name: (result, [pointers.get(it, it) for it, _ in rest]) for name, (result, rest) in functions.items()}
+
+
+# How each language writes a struct, and a field of it.
+STRUCTS = {
+    "c": (r"typedef struct \{(?P<fields>.*?)\} (?P<name>\w+);", r"(?P<kind>\w+) (?P<name>\w+);"),
+    "rust": (
+        r"#\[repr\(C\)\][^{]*?\bstruct (?P<name>\w+) \{(?P<fields>.*?)\n\}",
+        r"(?m)^    (?:pub(?:\(crate\))? )?(?P<name>\w+): (?P<kind>\w+),$",
+    ),
+    "python": (r"class (?P<name>\w+)\(ctypes\.Structure\):(?P<fields>.*?)\]", r"\(\"(?P<name>\w+)\", (?P<kind>\w+)\)"),
+}
+
+
+def structs(language, *paths):
+    """The fields of each struct."""
+    of_struct, of_field = STRUCTS[language]
+    text = re.sub(r"/\*.*?\*/", "", "\n".join(read(it) for it in paths), flags=re.S)
+    return {
+        plain(struct["name"]): [(plain(it["kind"]), it["name"]) for it in re.finditer(of_field, struct["fields"])]
+        for struct in re.finditer(of_struct, text, re.S)
+    }
+
+
+def compare(results, what, wanted, found):
+    """Compares by name, each way."""
+    for name in sorted(set(wanted) | set(found)):
+        one, other = wanted.get(name), found.get(name)
+        results.count(one == other, f"{what}: {name} is {other}, and in calendar.h {one}")
+
+
+def compare_declarations(results, header):
+    compare(results, "exports of crates/calendar_c", header, of_rattle())
+    compare(results, "declarations of languages/rust", header, of_crate())
+    compare(results, "prototypes of languages/python", without_names(header), of_package())
+    fields = structs("c", HEADER)
+    results.count(len(fields) == 2, f"calendar.h has the structs {sorted(fields)}")
+    compare(results, "structs of crates/calendar_c", fields, structs("rust", *sources(CRATE)))
+    compare(results, "structs of languages/rust", fields, structs("rust", DECLARATIONS))
+    compare(results, "structs of languages/python", fields, structs("python", PACKAGE))
+
+
+def compare_symbols(results, header, library):
+    """The symbols that the library has for others, and that it wants of them: none."""
+    if not shutil.which("nm"):
+        print("not run: the symbols of the library, since there is no nm")
+        return
+    listed = subprocess.run(["nm", "-g", library], check=True, capture_output=True, text=True).stdout
+    symbols = re.findall(r"^[\da-f ]*([A-Za-z]) (\w+)$", listed, re.M)
+    compare(results, "symbols of the library", {it: "T" for it in header}, {name: kind for kind, name in symbols})
+
+
+def compare_uses(results, header):
+    """Whether each function is called by each wrapper, and has its test in each language."""
+    for language, (folder, pattern) in USES.items():
+        names = [it for it in os.listdir(f"{LANGUAGES}/{folder}") if it.endswith((".c", ".py", ".rs"))]
+        text = "\n".join(read(f"{LANGUAGES}/{folder}/{it}") for it in names)
+        for name in header:
+            used = pattern.format(name=name, short=name.removeprefix("calendar_"))
+            results.count(re.search(used, text), f"{language}: there is none for {name}")
+
+
+# ---- what is built and run
+
+
+def find_library(room):
+    """The static library: that which is here, if it is newer than what it is made from, or one built in a repository of its own."""
+    crates = listed_crates()
+    line = next(it for it in crates if it.split()[0] == "calendar_c")
+    *libraries, _ = below(line, crates)
+    parts = [f"{TOP}/crates/{name}/{part}" for name in (*libraries, "calendar_c") for part in ("src", "specs", "proofs")]
+    here = f"{CRATE}/out/libcalendar_c.a"
+    if os.path.exists(here) and os.path.getmtime(here) > time_of(parts, max):
+        return here
+    if not shutil.which("rt"):
+        return None
+    copy_crates(room, [*libraries, "calendar_c"])
+    with open(f"{room}/crates.txt", "w", encoding="utf-8") as it:
+        it.writelines(f"{name}: {' '.join(crates[name])}\n" for name in (*libraries, line))
+    if not take_proved(room, libraries):
+        print("nothing kept serves: the libraries are proved first", flush=True)
+    ran = subprocess.run(["rt", "lib"], cwd=f"{room}/crates/calendar_c", stdout=subprocess.PIPE, stderr=subprocess.STDOUT)
+    if ran.returncode:
+        print(ran.stdout.decode(errors="replace")[-3000:], flush=True)
+        return None
+    return f"{room}/crates/calendar_c/out/libcalendar_c.a"
+
+
+def run(results, what, words, counts, **how):
+    """Runs a test; the patterns say how it tells what passed and failed, by a number or, with none, one by one."""
+    ran = subprocess.run(words, stdout=subprocess.PIPE, stderr=subprocess.STDOUT, text=True, errors="replace", **how)
+    passed, failed = (sum(int(number or 1) for number in re.findall(it, ran.stdout, re.M)) for it in counts)
+    failed = failed or int(ran.returncode != 0 or not passed)
+    print(f"{what}: {passed} passed, {failed} failed", flush=True)
+    results.passed, results.failed = results.passed + passed, results.failed + failed
+    if failed:
+        print(ran.stdout[-4000:], flush=True)
+
+
+def example(language):
+    """The example of a README."""
+    return re.search(rf"^```{language}\n(.*?)^```$", read(f"{LANGUAGES}/{language}/README.md"), re.M | re.S)[1]
+
+
+def compile_header(results):
+    """The header is C of each of its years, and C++."""
+    kinds = {"gcc": ["c99", "c17"], "clang": ["c99", "c17"], "g++": ["c++11", "c++17"], "clang++": ["c++11", "c++17"]}
+    for compiler, years in kinds.items():
+        if not shutil.which(compiler):
+            print(f"not run: the header by {compiler}, since there is none")
+            continue
+        for year in years:
+            words = [compiler, f"-std={year}", *WARNINGS, "-fsyntax-only", "-x", "c++" if "++" in compiler else "c", HEADER]
+            ran = subprocess.run(words, stderr=subprocess.PIPE, text=True)
+            results.count(ran.returncode == 0, f"{' '.join(words)}: {ran.stderr}")
+
+
+def built(results, words):
+    """Builds by the C compiler; whether that went well."""
+    ran = subprocess.run(["cc", *words], stderr=subprocess.PIPE, text=True)
+    results.count(ran.returncode == 0, f"cc {' '.join(words)}: {ran.stderr}")
+    return ran.returncode == 0
+
+
+def test_c(results, room, library):
+    """The test of C, and the example with the line that its README says it prints."""
+    flags = ["-std=c99", "-O2", *WARNINGS, f"-I{LANGUAGES}/c"]
+    if built(results, [*flags, f"{LANGUAGES}/c/test.c", library, "-o", f"{room}/test"]):
+        run(results, "test.c", [f"{room}/test"], (r"(\d+) passed", r"(\d+) failed"))
+    with open(f"{room}/main.c", "w", encoding="utf-8") as it:
+        it.write(example("c"))
+    if built(results, [*flags, f"{room}/main.c", library, "-o", f"{room}/main"]):
+        printed = subprocess.run([f"{room}/main"], stdout=subprocess.PIPE, text=True).stdout
+        is_told = f"the program prints `{printed.strip()}`:" in read(f"{LANGUAGES}/c/README.md")
+        results.count(is_told, f"the example in C prints {printed}")
+
+
+def test_python(results, room, library):
+    """The tests of Python, and the example of its README."""
+    shared = f"{room}/libcalendar.so"
+    if not built(results, ["-shared", "-o", shared, "-Wl,--whole-archive", library, "-Wl,--no-whole-archive"]):
+        return
+    env = dict(os.environ, CALENDAR_LIBRARY=shared, PYTHONPATH=f"{LANGUAGES}/python", PYTHONDONTWRITEBYTECODE="1")
+    counts = (r"\.\.\. ok()$", r"\.\.\. (?:FAIL|ERROR)()$")
+    for name in ("test_calls.py", "test_days.py"):
+        run(results, name, [sys.executable, f"{LANGUAGES}/python/{name}", "-v"], counts, env=env)
+    with open(f"{room}/example.txt", "w", encoding="utf-8") as it:
+        it.write(example("python"))
+    counts = (r"^(\d+) passed and", r"(\d+) failed\.")
+    run(results, "the example in Python", [sys.executable, "-m", "doctest", "-v", f"{room}/example.txt"], counts, env=env)
+
+
+def test_rust(results, room, library):
+    """The tests of Rust, and the example of its README, which is the crate's documentation."""
+    if not shutil.which("cargo"):
+        print("not run: the tests in Rust, since there is no cargo")
+        return
+    env = dict(os.environ, CALENDAR_FOLDER=os.path.dirname(library), CARGO_TARGET_DIR=f"{room}/target")
+    words = ["cargo", "test", "--offline", "--locked", "--manifest-path", f"{LANGUAGES}/rust/Cargo.toml"]
+    run(results, "cargo test", words, (r"test result: .*? (\d+) passed", r"test result: .*? (\d+) failed"), env=env)
+
+
+def compare_examples(results):
+    """The lines of README.md for each language stand in the example of that language."""
+    section = read(f"{TOP}/README.md").partition("## From other languages")[2].partition("\n## ")[0]
+    for language, lines in re.findall(r"^```(\w+)\n(.*?)^```$", section, re.M | re.S):
+        results.count(lines in re.sub(r"^    ", "", example(language), flags=re.M), f"README.md: other lines of {language}")
+
+
+def compare_sources(results):
+    """What is compared without the library; the functions of the header."""
+    header = of_header()
+    results.count(0 < len(header) == read(HEADER).count(");\n"), "calendar.h has declarations that are not understood")
+    compare_declarations(results, header)
+    compare_uses(results, header)
+    compare_examples(results)
+    compile_header(results)
+    return header
+
+
+def main():
+    results = Results()
+    header = compare_sources(results)
+    with tempfile.TemporaryDirectory(prefix="languages-") as room:
+        library = find_library(room)
+        results.count(library, "there is no libcalendar_c.a, and `rt lib` does not build it")
+        if library:
+            compare_symbols(results, header, library)
+            test_rust(results, room, library)
+        if library and shutil.which("cc"):
+            test_c(results, room, library)
+            test_python(results, room, library)
+        elif library:
+            print("not run: the tests in C and Python, since there is no C compiler")
+    print(f"{results.passed} passed, {results.failed} failed")
+    return 1 if results.failed else 0
+
+
+if __name__ == "__main__":
+    sys.exit(main())

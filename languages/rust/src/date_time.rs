@@ -1,0 +1,153 @@
+//! Dates with a time of day.
+
+use std::fmt;
+use std::ops::Sub;
+use std::str::{from_utf8, FromStr};
+
+use crate::calls::*;
+use crate::{Date, Duration, ParseError};
+
+/// The nanoseconds of a second.
+const NANOS: u32 = 1_000_000_000;
+
+/// The longest texts of a date-time, such as `-262143-01-01T00:00:00.000000001`, have so many bytes.
+const TEXT_ROOM: usize = 32;
+
+/// A date with a time of day, to the nanosecond, in no time zone.
+///
+/// The time may lie in a leap second, the second 60 of a minute. From there a move goes on a line that holds this leap second
+/// and no other. Date-times are compared by date, then by time of day. Printed is the date's text, `T` and `HH:MM:SS`, with
+/// three, six or nine digits of a fraction that is not 0; a text that is read may have a space for the `T`, and any number of
+/// digits from one to nine.
+#[derive(Clone, Copy, PartialEq, Eq, PartialOrd, Ord, Hash)]
+pub struct DateTime {
+    moment: Moment,
+}
+
+impl DateTime {
+    /// The date-time that a function of the library answers.
+    fn found(moment: Moment) -> Option<DateTime> {
+        (moment.nanos != NO_NANOS).then_some(DateTime { moment })
+    }
+
+    /// The date-time at a second of a date, from 0 to 86,399, and so many nanoseconds past it. From 1,000,000,000 on they lie
+    /// in the leap second that follows the last second of a minute; `None` if there is no such time.
+    pub fn new(date: Date, second_of_day: u32, nanos: u32) -> Option<DateTime> {
+        DateTime::found(calendar_date_time_new(date.number(), second_of_day, nanos))
+    }
+
+    /// The same by what a clock shows, 60 being the leap second that follows 59.
+    pub(crate) fn from_clock(
+        date: Date,
+        hour: u32,
+        minute: u32,
+        second: u32,
+        nanosecond: u32,
+    ) -> Option<DateTime> {
+        if hour >= 24 || minute >= 60 || second > 60 || nanosecond >= NANOS {
+            return None;
+        }
+        let leap = second / 60;
+        DateTime::new(
+            date,
+            3_600 * hour + 60 * minute + second - leap,
+            nanosecond + leap * NANOS,
+        )
+    }
+
+    /// The date-time with these seconds since 1970-01-01T00:00:00, leap seconds not counted, and nanoseconds past them, of
+    /// which 1,000,000,000 and more lie in the leap second that follows; `None` if there is none.
+    pub fn from_seconds(seconds: i64, nanos: u32) -> Option<DateTime> {
+        let moment = Moment { seconds, nanos };
+        (calendar_date_time_date(moment) != NONE).then_some(DateTime { moment })
+    }
+
+    /// The seconds since 1970-01-01T00:00:00, leap seconds not counted.
+    pub const fn seconds(self) -> i64 {
+        self.moment.seconds
+    }
+
+    /// The nanoseconds past the seconds; 1,000,000,000 and more lie in the leap second that follows.
+    pub const fn nanos(self) -> u32 {
+        self.moment.nanos
+    }
+
+    /// The date.
+    pub fn date(self) -> Date {
+        let number = calendar_date_time_date(self.moment);
+        Date::from_number(number).expect("a date-time has a date")
+    }
+
+    /// The second of the day, from 0 to 86,399; of a leap second that before it.
+    pub fn second_of_day(self) -> u32 {
+        calendar_date_time_second_of_day(self.moment) as u32
+    }
+
+    /// The hour, from 0 to 23.
+    pub fn hour(self) -> u32 {
+        self.second_of_day() / 3_600
+    }
+
+    /// The minute, from 0 to 59.
+    pub fn minute(self) -> u32 {
+        self.second_of_day() / 60 % 60
+    }
+
+    /// The second, from 0 to 59; 60 in a leap second.
+    pub fn second(self) -> u32 {
+        self.second_of_day() % 60 + self.nanos() / NANOS
+    }
+
+    /// The nanoseconds past the second that a clock shows, from 0 to 999,999,999.
+    pub fn nanosecond(self) -> u32 {
+        self.nanos() % NANOS
+    }
+
+    /// The date-time so much later, or earlier for a negative duration; `None` beyond the calendar.
+    pub fn checked_add(self, by: Duration) -> Option<DateTime> {
+        DateTime::found(calendar_date_time_add(self.moment, by.span))
+    }
+
+    /// The date-time so much earlier, or later for a negative duration; `None` beyond the calendar.
+    pub fn checked_sub(self, by: Duration) -> Option<DateTime> {
+        self.checked_add(-by)
+    }
+}
+
+/// How far the left date-time is from the right one. A leap second counts if one of them is in it and has the smaller second
+/// of the day.
+impl Sub for DateTime {
+    type Output = Duration;
+
+    fn sub(self, base: DateTime) -> Duration {
+        Duration {
+            span: calendar_date_time_since(self.moment, base.moment),
+        }
+    }
+}
+
+impl fmt::Display for DateTime {
+    fn fmt(&self, f: &mut fmt::Formatter<'_>) -> fmt::Result {
+        let mut room = [0; TEXT_ROOM];
+        // SAFETY: so many bytes lie in the array.
+        let length = unsafe { calendar_write_date_time(self.moment, room.as_mut_ptr(), TEXT_ROOM) };
+        f.pad(from_utf8(&room[..length as usize]).map_err(|_| fmt::Error)?)
+    }
+}
+
+impl fmt::Debug for DateTime {
+    fn fmt(&self, f: &mut fmt::Formatter<'_>) -> fmt::Result {
+        fmt::Display::fmt(self, f)
+    }
+}
+
+impl FromStr for DateTime {
+    type Err = ParseError;
+
+    /// The date-time with this text.
+    fn from_str(text: &str) -> Result<DateTime, ParseError> {
+        // SAFETY: so many bytes lie in the text.
+        let moment = unsafe { calendar_read_date_time(text.as_ptr(), text.len()) };
+        DateTime::found(moment).ok_or(ParseError { kind: "date-time" })
+    }
+}
