@@ -1,0 +1,55 @@
+//! Weeks, and the days that have one of some weekdays.
+ghost use Rattle.std.specs.Prelude.{◌≡◌};
+ghost use Rattle.std.specs.Option.{option_and_then};
+ghost use Rattle.chrono_units.specs.SetDigits.{set_at};
+ghost use Rattle.chrono_units.specs.WeekdaySet.{days_until};
+ghost use Rattle.chrono_datetime.specs.Days.{date_of_day};
+ghost use Rattle.chrono_datetime.specs.Weeks.{week_first_of};
+ghost use Rattle.chrono_datetime.specs.Recurrence.{date_on};
+ghost use Rattle.calendar_c.specs.Answers.{count_or_none, or_none};
+ghost use Rattle.calendar_c.specs.Arguments.{weekday_numbered};
+
+use crate::answers::{NONE, number_or_none};
+use crate::arguments::{date_of, set_of, weekday_of};
+
+/// The first day of the week that holds the date and begins on the weekday `start`.
+#[unsafe(no_mangle)]
+pub extern "C" fn calendar_week_first_day(date: i32, start: u32) -> i32
+    ensures { result
+        ≡ or_none (option_and_then (λ n. option_and_then (λ d. date_of_day (week_first_of n d)) (weekday_numbered start)) (date_of_day date)) }
+{
+    let Some(date) = date_of(date) else {
+        return NONE;
+    };
+    match weekday_of(start) {
+        Some(start) => number_or_none(date.week(start).checked_first_day()),
+        None => NONE,
+    }
+}
+
+/// The first date from this one on, itself counted, whose weekday is in the set.
+#[unsafe(no_mangle)]
+pub extern "C" fn calendar_first_on(date: i32, weekdays: u8) -> i32
+    ensures { result
+        ≡ or_none (option_and_then (λ n. date_on n (set_at weekdays)) (date_of_day date)) }
+{
+    match date_of(date) {
+        Some(date) => number_or_none(date.first_on(set_of(weekdays))),
+        None => NONE,
+    }
+}
+
+/// The days from a weekday on to the first one in the set, from 0 to 6; none if the set is empty.
+#[unsafe(no_mangle)]
+pub extern "C" fn calendar_days_until(weekdays: u8, from: u32) -> i32
+    ensures { result
+        ≡ count_or_none (option_and_then (days_until (set_at weekdays)) (weekday_numbered from)) }
+{
+    let Some(from) = weekday_of(from) else {
+        return NONE;
+    };
+    match set_of(weekdays).days_until(from) {
+        Some(days) => days as i32,
+        None => NONE,
+    }
+}
