@@ -271,12 +271,14 @@ pub fn known_texts_of_times()
     ensures no_digit { (t : TimeOfDay) → ¬ IsTimeText (codes "01:02:03.") t }
 {}
 
-/// Texts of date-times that are known, of the leap second after a leap day: with a `T`, and with a space and a fraction.
+/// Texts of date-times that are known, of the leap second after a leap day: with a `T`, and with a space and a fraction. With a
+/// small `t` it is the text of none.
 pub fn known_texts_of_date_times()
     ensures with_t { IsDateTimeText (codes "2024-02-29T23:59:60")
         (moment (pos 738_945) (time_at 23 59 59 1_000_000_000)) }
     ensures with_space { IsDateTimeText (codes "2024-02-29 23:59:60.5")
         (moment (pos 738_945) (time_at 23 59 59 1_500_000_000)) }
+    ensures small_t { (m : Moment) → ¬ IsDateTimeText (codes "2024-02-29t23:59:60") m }
 {
     known_texts_of_dates();
     known_texts_of_times();
