@@ -124,9 +124,9 @@ pub fn known_moves()
     ensures no_fifth_friday { date_of_nth_weekday (pos 1) 1 Fri 5 ≡ None }
 {}
 
-/// Dates at intervals that are known, each by its day number. Every month from 31 January of the year 4 lie 29 February and
-/// 31 March; every year from that leap day lies 28 February of the year 5, and four of them on the next leap day. The last
-/// date is a Monday: it is the first one from six days before it and from itself on, and no Tuesday comes after it.
+/// Dates at intervals that are known, each by its day number. From 31 January of the year 4 by one month lie 29 February and
+/// 31 March; from that leap day by twelve, first 28 February and fourth the next leap day. The last date is a Monday: it is
+/// the first one from six days before it and from itself on, and no Tuesday comes any more.
 pub fn known_recurrences()
     ensures first { date_every (pos 1126) (pos 1) 0 ≡ Some (pos 1126) }
     ensures second { date_every (pos 1126) (pos 1) 1 ≡ Some (pos 1155) }

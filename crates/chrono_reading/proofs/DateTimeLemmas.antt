@@ -1,8 +1,10 @@
 -- Where the date of a date-time ends: no text of a date has a `T` or a space in it.
-use Rattle.std.proofs.Common.{subst, ◌-◌, ◌≡◌, ℕ, zero, suc, ◌+◌, ◌<◌, ◌≤◌, List, [], ◌∷◌, ◌++◌, length, get_or, take, drop, ℤ, pos, negsuc, unsigned_abs, inl, inr, Some, refl, sym, ap, ◌∙◌, arith, length-append}
+use Rattle.std.proofs.Common.{subst, codes, Bool, true, not, ◌&&◌, ◌==◌, ◌≢◌, ◌-◌, ◌≡◌, ℕ, zero, suc, ◌+◌, ◌<◌, ◌≤◌, List, [], ◌∷◌, ◌++◌, length, get_or, take, drop, ℤ, pos, negsuc, unsigned_abs, inl, inr, Some, refl, sym, ap, ◌∙◌, arith, length-append}
 use Rattle.std.specs.Fmt.{decimal}
 use Rattle.std.specs.List.{AllByRecursion}
 use Rattle.std.specs.Str.Parse.{AllDigits}
+use Rattle.std.proofs.lemmas.Bool.{and_parts}
+use Rattle.std.proofs.lemmas.Bool.Decides.{nat_tests}
 use Rattle.std.proofs.lemmas.Fmt.{decimal_is_IsNumeral}
 use Rattle.std.proofs.lemmas.List.{get_or_append_left, get_or_at, take_at, drop_at, drop-drop, take_rest}
 use Rattle.std.proofs.lemmas.Str.Parse.{digit_from_value}
@@ -115,6 +117,30 @@ pub IsDateTimeText-some : (text : List ℕ) (m : Moment) → IsDateTimeText text
 IsDateTimeText-some text m is none =
     none (length is.date) (length_between is.date is.time text is.separator is.written)
     (rw (sym (at_between is.date is.time text is.separator is.written)) at is.between)
+
+-- whether no byte is a separator
+is_joined : List ℕ → Bool
+is_joined [] = true
+is_joined (c ∷ cs) = (not (c == 84) && not (c == 32)) && is_joined cs
+
+not_separator : (c : ℕ) → not (c == 84) ≡ true → not (c == 32) ≡ true → ¬ IsSeparator c
+not_separator c t space (inl e) = let no : c ≢ 84 = grind (arith, nat_tests) in no e
+not_separator c t space (inr e) = let no : c ≢ 32 = grind (arith, nat_tests) in no e
+
+IsJoined-tested : (text : List ℕ) → is_joined text ≡ true → IsJoined text
+unfolding is_joined
+IsJoined-tested [] e = tt
+IsJoined-tested (c ∷ cs) e =
+    let parts = and_parts (not (c == 84) && not (c == 32)) (is_joined cs) e in
+    let tests = and_parts (not (c == 84)) (not (c == 32)) parts.0 in
+    (not_separator c tests.0 tests.1, IsJoined-tested cs parts.1)
+
+-- with none there is no date-time
+pub small_t : (m : Moment) → ¬ IsDateTimeText (codes "2024-02-29t23:59:60") m
+unfolding is_joined
+small_t m is =
+    let all = IsJoined-tested (codes "2024-02-29t23:59:60") refl in
+    IsDateTimeText-some (codes "2024-02-29t23:59:60") m is (λ k below. IsJoined-at (codes "2024-02-29t23:59:60") k all below)
 
 -- the date and the time make the date-time
 pub moment_found : (m : Moment) (made : Moment) (n : ℤ) (t : TimeOfDay) → made ≡ moment n t → Some n ≡ Some m.date → Some t ≡ Some m.time → Some made ≡ Some m

@@ -271,19 +271,21 @@ pub fn known_texts_of_times()
     ensures no_digit { (t : TimeOfDay) → ¬ IsTimeText (codes "01:02:03.") t }
 {}
 
-/// Texts of date-times that are known, of the leap second after a leap day: with a `T`, and with a space and a fraction.
+/// Texts of date-times that are known, of the leap second after a leap day: with a `T`, and with a space and a fraction. With
+/// a small `t` it is a text of none.
 pub fn known_texts_of_date_times()
     ensures with_t { IsDateTimeText (codes "2024-02-29T23:59:60")
         (moment (pos 738_945) (time_at 23 59 59 1_000_000_000)) }
     ensures with_space { IsDateTimeText (codes "2024-02-29 23:59:60.5")
         (moment (pos 738_945) (time_at 23 59 59 1_500_000_000)) }
+    ensures small_t { (m : Moment) → ¬ IsDateTimeText (codes "2024-02-29t23:59:60") m }
 {
     known_texts_of_dates();
     known_texts_of_times();
 }
 
-/// Texts of durations that are known: zero, a second and a half back, with a zero at the end and without. No text of a
-/// duration is in small letters, has a `+`, or writes zero in seconds.
+/// Texts of durations that are known: zero, a second and a half back with a zero at the end and without, and a day. No text
+/// of a duration is in small letters, has a `+`, or writes zero in seconds.
 pub fn known_texts_of_durations()
     ensures zero { IsDurationText (codes "P0D") (pos 0) }
     ensures back { IsDurationText (codes "-PT1.5S") (neg_ℤ (pos 1_500_000_000)) }

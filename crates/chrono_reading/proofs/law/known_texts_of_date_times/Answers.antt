@@ -1,4 +1,5 @@
 use Rattle.std.proofs.Common.{codes, inl, inr, refl}
+use Rattle.chrono_reading.proofs.DateTimeLemmas.{small_t}
 use Rattle.chrono_reading.proofs.law.known_texts_of_date_times.Goals as goal
 
 pub returns-clause-with_t : goal.returns-clause-with_t
@@ -22,3 +23,6 @@ returns-clause-with_space c = record {
   time_written = c.known_texts_of_times.ensures.half_leap;
   written = refl;
 }
+
+pub returns-clause-small_t : goal.returns-clause-small_t
+returns-clause-small_t c = small_t
