@@ -1,8 +1,9 @@
 -- The linear formulas of months tell what counting does.
-use Rattle.std.proofs.Common.{◌≡◌, ℕ, ◌+◌, ◌-◌, ◌*◌, ◌/◌, ◌%◌, Bool, true, false, ◌&&◌, cond, nat_eq, nat_lt, refl, arith}
+use Rattle.std.proofs.Common.{◌≡◌, ℕ, suc, ◌+◌, ◌-◌, ◌*◌, ◌/◌, ◌%◌, ◌≤◌, Bool, true, false, ◌&&◌, cond, nat_eq, nat_lt, refl, arith}
 use Rattle.std.proofs.lemmas.Bool.{and_parts}
 use Rattle.std.proofs.lemmas.Bool.Decides.{nat_tests}
 use Rattle.std.specs.Int.{IsInRange}
+use Rattle.chrono_units.specs.Years.{month_length_in}
 use Rattle.chrono_calendar.specs.Days.{days_of_months_in, month_of_ordinal, day_of_ordinal}
 use Rattle.chrono_calendar.proofs.Tests.{passes_below, passes_below-at}
 
@@ -33,14 +34,26 @@ abbrev tells_start : Bool → ℕ → Bool
 tells_start leap n =
     nat_eq ((489 * (n + 1) - 480) / 16) (days_of_months_in leap n + cond (nat_lt 1 n) (cond leap 1 2) 0)
 
-starts_told : (leap : Bool) → passes_below (tells_start leap) 12 ≡ true
+starts_told : (leap : Bool) → passes_below (tells_start leap) 13 ≡ true
 unfolding passes_below days_of_months_in
 starts_told true = refl
 starts_told false = refl
 
-pub days_of_months_in-told : (leap : Bool) (m : ℕ) → IsInRange 1 12 m → (489 * m - 480) / 16 ≡ days_of_months_in leap (m - 1) + cond (nat_lt 2 m) (cond leap 1 2) 0
+pub days_of_months_in-told : (leap : Bool) (m : ℕ) → IsInRange 1 13 m → (489 * m - 480) / 16 ≡ days_of_months_in leap (m - 1) + cond (nat_lt 2 m) (cond leap 1 2) 0
 days_of_months_in-told leap m h =
     let back : m - 1 + 1 ≡ m = omega arith in
-    let passed = passes_below-at (tells_start leap) 12 (starts_told leap) (m - 1) (omega arith) in
+    let passed = passes_below-at (tells_start leap) 13 (starts_told leap) (m - 1) (omega arith) in
     let here = rw back at passed in
     grind (arith, nat_tests)
+
+-- a month ends where the next one begins
+begins_after : (leap : Bool) (n : ℕ) → days_of_months_in leap (suc n) ≡ days_of_months_in leap n + month_length_in leap (suc n)
+unfolding days_of_months_in
+begins_after leap n = refl
+
+pub days_of_months_in-next : (leap : Bool) (m : ℕ) → 1 ≤ m → days_of_months_in leap (m + 1 - 1) ≡ days_of_months_in leap (m - 1) + month_length_in leap m
+days_of_months_in-next leap m h =
+    let back : suc (m - 1) ≡ m = omega arith in
+    let ahead : m + 1 - 1 ≡ m = omega arith in
+    let next = rw back at (begins_after leap (m - 1)) in
+    rw ahead next

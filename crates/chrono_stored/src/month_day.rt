@@ -8,8 +8,6 @@ ghost use Rattle.std.specs.Int.{IsInRange};
 ghost use Rattle.chrono_units.specs.Years.{month_length_in};
 ghost use Rattle.chrono_calendar.specs.Days.{month_of_ordinal, day_of_ordinal, days_of_months_in};
 
-use chrono_units::year::month_length;
-
 // The days that a February of 30 days has more than that of a leap year or of a common year.
 #[inline]
 fn missing_days(leap: bool) -> u32
@@ -36,8 +34,22 @@ pub(crate) fn month_day(leap: bool, ordinal: u32) -> (u32, u32)
     (scaled / 2048, scaled % 2048 / 67 + 1)
 }
 
+// The days of a leap year or of a common year before a month, from 1; for 13, those of the whole year.
+#[inline]
+fn days_before_month(leap: bool, month: u32) -> u32
+    requires { IsInRange 1 13 month }
+    ensures { result ≡ days_of_months_in leap (month - 1) }
+{
+    let even = (489 * month - 480) / 16;
+    if month > 2 {
+        even - missing_days(leap)
+    } else {
+        even
+    }
+}
+
 /// The place in a leap year or in a common year of a day of a month, all counted from 1, or `None`
-/// if such years have no such day. A day up to 28 is in every month.
+/// if such years have no such day. A month ends where the next one begins.
 #[inline]
 pub(crate) fn ordinal_of_month_day(leap: bool, month: u32, day: u32) -> Option<u32>
     ensures { SomeIff result
@@ -47,23 +59,9 @@ pub(crate) fn ordinal_of_month_day(leap: bool, month: u32, day: u32) -> Option<u
     if month < 1 || month > 12 {
         return None;
     }
-    if day < 1 || day > u32::from(month_length(leap, month)) {
+    let place = u64::from(days_before_month(leap, month)) + u64::from(day);
+    if day < 1 || place > u64::from(days_before_month(leap, month + 1)) {
         return None;
     }
-    Some(ordinal_in_year(leap, month, day))
-}
-
-// The place in such a year of a day that it has.
-#[inline]
-fn ordinal_in_year(leap: bool, month: u32, day: u32) -> u32
-    requires month { IsInRange 1 12 month }
-    requires day { IsInRange 1 (month_length_in leap month) day }
-    ensures { result ≡ days_of_months_in leap (month - 1) + day }
-{
-    let even = (489 * month - 480) / 16 + day;
-    if month > 2 {
-        even - missing_days(leap)
-    } else {
-        even
-    }
+    Some(place as u32)
 }
