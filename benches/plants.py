@@ -24,7 +24,7 @@ from gate import copy_of_head, load_rt
 
 TOP = os.path.dirname(os.path.dirname(os.path.abspath(__file__)))
 # Of an edit that took away a name which a proof file cites: refused, but not for what it means.
-FOR_A_NAME = "refused, as it must be (only because a proof file names"
+FOR_A_NAME = re.compile(r"refused, as it must be \(only because a proof file names|proofs/\S+: error: `[^`]*`: (`goal\.|record `)")
 
 
 def put_in_place(folder, with_edits):
@@ -62,7 +62,7 @@ def try_crate(copy, name, count):
     told = re.split(r"^(?:rt: )?(?=must-fail )", printed, flags=re.M)[1:]
     refused = [it for it in told if ": refused, as it must be" in it]
     said = [it.rstrip() for it in told if it not in refused]
-    said += [it.rstrip() for it in refused if FOR_A_NAME in it]
+    said += [it.rstrip() for it in refused if FOR_A_NAME.search(it)]
     if len(refused) < count and not said or status and len(refused) == count:
         said.append(f"{name}: rt must-fail ended with status {status}: {printed[-600:]}")
     return len(refused) if not status else min(len(refused), count - 1), used, said
