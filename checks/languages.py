@@ -195,7 +195,7 @@ def compare_uses(results, header):
 
 
 def find_library(room):
-    """The static library: that which is here, if it is newer than what it is made from, or one built in a repository of its own."""
+    """The static library: the one here, if it is newer than what it is made from, or one built in a repository of its own."""
     crates = listed_crates()
     line = next(it for it in crates if it.split()[0] == "calendar_c")
     *libraries, _ = below(line, crates)

@@ -5,6 +5,7 @@ from collections.abc import Iterable
 from ctypes import c_char
 from dataclasses import dataclass
 from enum import IntEnum
+from typing import overload
 
 from .library import FIRST, I32, I64, LAST, LIBRARY, NONE, U32, held
 
@@ -136,7 +137,13 @@ class Date:
 
     __radd__ = __add__
 
-    def __sub__(self, other: int | Date) -> Date | int:
+    @overload
+    def __sub__(self, other: Date) -> int: ...
+
+    @overload
+    def __sub__(self, other: int) -> Date: ...
+
+    def __sub__(self, other):
         """The date so many days earlier, or the days from another date to this one."""
         if isinstance(other, Date):
             return self.number - other.number
