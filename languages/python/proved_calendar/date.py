@@ -55,7 +55,7 @@ class Date:
     @classmethod
     def from_number(cls, number: int) -> Date:
         """The date with a day number."""
-        return _named(held(number, DATES), "")
+        return _date(held(number, DATES))
 
     @classmethod
     def from_ordinal(cls, year: int, ordinal: int) -> Date:
