@@ -38,7 +38,8 @@ CALLS = {
 }
 NOTES = """
 `number_to_name` is read as year, month and day, and `iso_week` as ISO year and week, with a call of ours for each. Dates are moved
-by up to 100,000 days or 1,200 months. C's library writes and reads a date by way of `struct tm`."""
+by up to 100,000 days or 1,200 months. C's library writes and reads a date by way of `struct tm`. What `date_time_add` reaches is read
+from Rust as day number and second of the day."""
 
 
 def build(folder):

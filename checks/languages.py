@@ -172,13 +172,14 @@ def compare_declarations(results, header):
 
 
 def compare_symbols(results, header, library):
-    """The symbols that the library has for others, and that it wants of them: none."""
+    """The symbols that the library has for others, and wants of them: none but what compilers take for granted."""
     if not shutil.which("nm"):
         print("not run: the symbols of the library, since there is no nm")
         return
     listed = subprocess.run(["nm", "-g", library], check=True, capture_output=True, text=True).stdout
-    symbols = re.findall(r"^[\da-f ]*([A-Za-z]) (\w+)$", listed, re.M)
-    compare(results, "symbols of the library", {it: "T" for it in header}, {name: kind for kind, name in symbols})
+    symbols = {name: kind for kind, name in re.findall(r"^[\da-f ]*([A-Za-z]) (\w+)$", listed, re.M)}
+    wanted = {it: "U" for it in ("memcpy", "memmove", "memset", "memcmp") if it in symbols}
+    compare(results, "symbols of the library", {**wanted, **{it: "T" for it in header}}, symbols)
 
 
 def compare_uses(results, header):
@@ -195,7 +196,7 @@ def compare_uses(results, header):
 
 
 def find_library(room):
-    """The static library: that which is here, if it is newer than what it is made from, or one built in a repository of its own."""
+    """The static library: the one here, if it is newer than what it is made from, or one built in a repository of its own."""
     crates = listed_crates()
     line = next(it for it in crates if it.split()[0] == "calendar_c")
     *libraries, _ = below(line, crates)

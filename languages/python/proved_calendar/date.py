@@ -5,6 +5,7 @@ from collections.abc import Iterable
 from ctypes import c_char
 from dataclasses import dataclass
 from enum import IntEnum
+from typing import overload
 
 from .library import FIRST, I32, I64, LAST, LIBRARY, NONE, U32, held
 
@@ -54,7 +55,7 @@ class Date:
     @classmethod
     def from_number(cls, number: int) -> Date:
         """The date with a day number."""
-        return _named(held(number, DATES), "")
+        return _date(held(number, DATES))
 
     @classmethod
     def from_ordinal(cls, year: int, ordinal: int) -> Date:
@@ -136,7 +137,13 @@ class Date:
 
     __radd__ = __add__
 
-    def __sub__(self, other: int | Date) -> Date | int:
+    @overload
+    def __sub__(self, other: Date) -> int: ...
+
+    @overload
+    def __sub__(self, other: int) -> Date: ...
+
+    def __sub__(self, other):
         """The date so many days earlier, or the days from another date to this one."""
         if isinstance(other, Date):
             return self.number - other.number

@@ -4,6 +4,7 @@ from __future__ import annotations
 from ctypes import c_char
 from dataclasses import dataclass
 from datetime import timedelta
+from typing import overload
 
 from .date import Date
 from .library import I64, LIBRARY, NO_NANOS, NONE, U32, Moment, Span, held
@@ -139,7 +140,13 @@ class DateTime:
 
     __radd__ = __add__
 
-    def __sub__(self, other: DateTime | Duration | timedelta) -> Duration | DateTime:
+    @overload
+    def __sub__(self, other: DateTime) -> Duration: ...
+
+    @overload
+    def __sub__(self, other: Duration | timedelta) -> DateTime: ...
+
+    def __sub__(self, other):
         """How far this date-time is from another, or the date-time so much earlier."""
         if isinstance(other, DateTime):
             span = LIBRARY.calendar_date_time_since(self._moment(), other._moment())
