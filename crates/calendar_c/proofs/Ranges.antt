@@ -1,19 +1,17 @@
 -- What lies too far for a machine word is no date, and how many years dates are apart.
-use Rattle.std.proofs.Common.{◌≡◌, ℕ, ◌+◌, ◌-◌, ◌<◌, ◌≤◌, ◌^◌, inl, inr, ◌==◌, ◌&&◌, nat_le, Bool, true, false, cond, Option, Some, None, refl, ap, sym, ◌∙◌, arith, ℤ, pos, ◌+ℤ◌, ◌-ℤ◌, int_lt, length, slice_get, unsigned_abs, FitsSigned, w32, w64}
+use Rattle.std.proofs.Common.{◌≡◌, ℕ, ◌-◌, ◌<◌, ◌≤◌, ◌==◌, ◌&&◌, nat_le, Bool, true, false, cond, Option, Some, None, refl, arith, ℤ, ◌-ℤ◌, int_lt, length, slice_get, unsigned_abs, FitsSigned, w32}
 use Rattle.std.proofs.lemmas.Option.{slice_get_past}
 use Rattle.std.proofs.lemmas.List.Sums.{length-filter, count_by-le-length}
 use Rattle.std.proofs.lemmas.List.FromFn.{length-range_with_len}
 use Rattle.std.specs.List.{range_with_len}
-use Rattle.std.specs.Option.{option_map}
 use Rattle.chrono_units.specs.declared.weekday.Weekday.{Weekday}
 use Rattle.chrono_units.specs.Weekday.{days_from_sunday}
 use Rattle.chrono_units.specs.Years.{is_leap_year, is_year, month_length}
-use Rattle.chrono_calendar.specs.Days.{IsDate, date_of_day, year_of, month_of, day_of, day_number_of_ymd}
+use Rattle.chrono_calendar.specs.Days.{IsDate, year_of, month_of, day_of, day_number_of_ymd}
 use Rattle.chrono_calendar.specs.Weeks.{days_from_sunday_of, days_with_weekday, date_of_nth_weekday}
-use Rattle.chrono_calendar.specs.MonthMoves.{month_index_of, month_move}
+use Rattle.chrono_calendar.specs.MonthMoves.{month_move}
 use Rattle.chrono_calendar.specs.YearsBetween.{years_between, is_earlier_in_year}
 use Rattle.chrono_calendar.proofs.Signed.{signed, casts}
-use Rattle.chrono_calendar.proofs.NamedDates.{date_of_day-None}
 use Rattle.chrono_calendar.proofs.Moves.{month_move-None}
 use Rattle.chrono_calendar.proofs.MonthOrder.{month_of-range}
 use Rattle.chrono_calendar.proofs.MonthMoveLaws.{year_of-range}

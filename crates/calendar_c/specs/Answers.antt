@@ -1,6 +1,5 @@
 -- What stands in a number of C for an answer, and for that there is none.
 use Rattle.std.specs.Prelude.{ℕ, ℤ, pos, neg_ℤ, Option, Some, None}
-use Rattle.std.specs.Option.{option_map}
 
 -- the least i32, which is no date, stands for none
 abbrev pub none_number : ℤ

@@ -1,2 +1,4 @@
 pub mod Answers
 pub mod Arguments
+pub mod DateTimes
+pub mod Texts

@@ -8,7 +8,11 @@
 
 mod answers;
 mod arguments;
+mod date_time_numbers;
+mod date_times;
 mod fields;
 mod moves;
 mod names;
+mod text_bytes;
+mod texts;
 mod weekdays;

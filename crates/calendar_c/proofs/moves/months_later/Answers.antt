@@ -1,4 +1,4 @@
-use Rattle.std.proofs.Common.{◌≡◌, ℤ, pos, ◌*ℤ◌, ap, ◌∙◌, arith}
+use Rattle.std.proofs.Common.{ap, ◌∙◌, arith}
 use Rattle.chrono_calendar.specs.MonthMoves.{month_move}
 use Rattle.chrono_calendar.proofs.Signed.{casts}
 use Rattle.calendar_c.proofs.Ranges.{month_move-far}

@@ -1,0 +1,60 @@
+-- Which numbers name a date-time or a duration: from the tests of the definitions to facts and back.
+use Rattle.std.proofs.Common.{◌≡◌, ℕ, ◌%◌, ◌<◌, ◌&&◌, nat_lt, nat_le, Bool, true, false, cond, Option, Some, None, refl, ap, arith, ℤ, unsigned_abs}
+use Rattle.std.proofs.lemmas.Bool.Decides.{nat_tests}
+use Rattle.std.specs.Option.{SomeIff}
+use Rattle.chrono_clock.specs.Duration.{IsDuration, longest, nanos_of}
+use Rattle.chrono_clock.specs.Time.{FractionFits}
+use Rattle.chrono_calendar.specs.Days.{IsDate, date_of_day}
+use Rattle.chrono_calendar.proofs.Dates.{by_test}
+use Rattle.chrono_datetime.specs.Moment.{Moment, moment, moment_on}
+use Rattle.chrono_calendar.proofs.NamedDates.{date_of_day-None}
+use Rattle.calendar_c.specs.DateTimes.{day_of_seconds, duration_named, is_time_named, moment_at, moment_named, second_of_seconds}
+use Rattle.calendar_c.specs.declared.date_time_numbers.CalendarDateTime.{CalendarDateTime}
+use Rattle.calendar_c.specs.declared.date_time_numbers.CalendarDuration.{CalendarDuration}
+
+-- a second of the day and a fraction that the library has
+abbrev IsTimeNamed : ℕ → ℕ → Type 0
+IsTimeNamed second nanos = (second < 86_400) × FractionFits (second % 60) nanos
+
+is_time_named-test : (second nanos : ℕ) → IsTimeNamed second nanos → is_time_named second nanos ≡ true
+is_time_named-test second nanos h = grind (arith, nat_tests)
+
+is_time_named-fact : (second nanos : ℕ) → is_time_named second nanos ≡ true → IsTimeNamed second nanos
+is_time_named-fact second nanos t = grind (arith, nat_tests)
+
+-- a time and a date that are there
+pub moment_at-Some : (day n : ℤ) (second nanos : ℕ) → IsTimeNamed second nanos → Some n ≡ date_of_day day → Some (moment n (record { second = second; fraction = nanos })) ≡ moment_at day second nanos
+unfolding moment_at
+moment_at-Some day n second nanos h e = rw (is_time_named-test second nanos h, ← e) refl
+
+none_unless : (b : Bool) (o : Option Moment) → (b ≡ true → None ≡ o) → None ≡ cond b o None
+none_unless true o h = h refl
+none_unless false o h = refl
+
+-- no time, or no date
+pub moment_at-no_time : (day : ℤ) (second nanos : ℕ) → (IsTimeNamed second nanos → ⊥) → None ≡ moment_at day second nanos
+unfolding moment_at
+moment_at-no_time day second nanos h =
+    none_unless (is_time_named second nanos) (moment_on (date_of_day day) (record { second = second; fraction = nanos }))
+    (λ t. absurd (h (is_time_named-fact second nanos t)))
+
+pub moment_at-no_date : (day : ℤ) (second nanos : ℕ) → None ≡ date_of_day day → None ≡ moment_at day second nanos
+unfolding moment_at
+moment_at-no_date day second nanos e =
+    none_unless (is_time_named second nanos) (moment_on (date_of_day day) (record { second = second; fraction = nanos }))
+    (λ t. ap (λ (o : Option ℤ). moment_on o (record { second = second; fraction = nanos })) e)
+
+pub duration_named-SomeIff : (o : Option ℤ) (a : CalendarDuration) → SomeIff o ((a.nanos < 1_000_000_000) × IsDuration (nanos_of a.seconds a.nanos)) (nanos_of a.seconds a.nanos) → o ≡ duration_named a
+unfolding duration_named
+duration_named-SomeIff o a h =
+    by_test (nat_lt a.nanos 1_000_000_000 && nat_le (unsigned_abs (nanos_of a.seconds a.nanos)) longest) o (nanos_of a.seconds a.nanos) ((a.nanos < 1_000_000_000) × IsDuration (nanos_of a.seconds a.nanos))
+    (λ t. grind (arith, nat_tests, t)) (λ f. grind (arith, nat_tests, f)) h
+
+-- the day and the second of so many seconds since 1970, as they are found
+pub moment_named-parts : (a : CalendarDateTime) (day : ℤ) (second nanos : ℕ) → day ≡ day_of_seconds a.seconds → second ≡ second_of_seconds a.seconds → nanos ≡ a.nanos → moment_at day second nanos ≡ moment_named a
+unfolding moment_named
+moment_named-parts a day second nanos e f g = rw (e, f, g) refl
+
+pub moment_named-no_date : (a : CalendarDateTime) → (IsDate (day_of_seconds a.seconds) → ⊥) → None ≡ moment_named a
+unfolding moment_named
+moment_named-no_date a h = moment_at-no_date (day_of_seconds a.seconds) (second_of_seconds a.seconds) a.nanos (date_of_day-None (day_of_seconds a.seconds) h)

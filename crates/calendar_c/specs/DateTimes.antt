@@ -1,0 +1,53 @@
+-- Date-times and durations by the two numbers that stand for them in C.
+use Rattle.std.specs.Prelude.{ℕ, ◌%◌, ◌==◌, ◌&&◌, ◌||◌, Bool, nat_lt, nat_le, if◌then◌else◌, ℤ, pos, ◌+ℤ◌, ◌-ℤ◌, ◌*ℤ◌, unsigned_abs, Option, Some, None}
+use Rattle.std.specs.Int.{int_div_euclid, int_rem_euclid}
+use Rattle.chrono_clock.specs.Duration.{floor_secs, longest, nanos_of, nanos_per_second, past_floor}
+use Rattle.chrono_datetime.specs.Days.{date_of_day}
+use Rattle.chrono_datetime.specs.Fields.{unix_epoch_day}
+use Rattle.chrono_datetime.specs.Moment.{Moment, moment_on}
+use Rattle.calendar_c.specs.declared.date_time_numbers.CalendarDateTime.{CalendarDateTime}
+use Rattle.calendar_c.specs.declared.date_time_numbers.CalendarDuration.{CalendarDuration}
+
+-- a second of the day, and nanoseconds past it: a second and more of them lie in the leap second after the last of a minute
+abbrev pub is_time_named : ℕ → ℕ → Bool
+is_time_named second nanos =
+    nat_lt second 86_400 && (nat_lt nanos 1_000_000_000 || (nat_lt nanos 2_000_000_000 && (second % 60 == 59)))
+
+-- the date-time at a second of a day and so many nanoseconds past it, if there is one
+unfoldable pub moment_at : ℤ → ℕ → ℕ → Option Moment
+moment_at day second nanos =
+    if is_time_named second nanos then moment_on (date_of_day day) (record { second = second; fraction = nanos }) else None
+
+-- the day of so many seconds since 1970, and the second of it
+abbrev pub day_of_seconds : ℤ → ℤ
+day_of_seconds s = int_div_euclid s (pos 86_400) +ℤ unix_epoch_day
+
+abbrev pub second_of_seconds : ℤ → ℕ
+second_of_seconds s = unsigned_abs (int_rem_euclid s (pos 86_400))
+
+-- the date-time of so many seconds since 1970 and nanoseconds past them, if there is one
+unfoldable pub moment_named : CalendarDateTime → Option Moment
+moment_named a = moment_at (day_of_seconds a.seconds) (second_of_seconds a.seconds) a.nanos
+
+-- the two numbers of a date-time
+abbrev pub numbers_of : Moment → CalendarDateTime
+numbers_of m = record {
+  seconds = (m.date -ℤ unix_epoch_day) *ℤ pos 86_400 +ℤ pos m.time.second;
+  nanos = m.time.fraction;
+}
+
+-- those that stand for a date-time, if there is one
+abbrev pub numbers_or_none : Option Moment → CalendarDateTime
+numbers_or_none (Some m) = numbers_of m
+numbers_or_none None = record { seconds = pos 0; nanos = 4_294_967_295 }
+
+-- the duration of so many seconds and nanoseconds past them, if there is one
+unfoldable pub duration_named : CalendarDuration → Option ℤ
+duration_named a =
+    let x = nanos_of a.seconds a.nanos in
+    if nat_lt a.nanos nanos_per_second && nat_le (unsigned_abs x) longest then Some x else None
+
+-- the two numbers that stand for a duration, if there is one
+abbrev pub duration_or_none : Option ℤ → CalendarDuration
+duration_or_none (Some x) = record { seconds = floor_secs x; nanos = past_floor x }
+duration_or_none None = record { seconds = pos 0; nanos = 4_294_967_295 }

@@ -1,0 +1,138 @@
+//! Date-times and durations as the two numbers that stand for them.
+ghost use Rattle.std.specs.Prelude.{◌≡◌};
+ghost use Rattle.chrono_clock.specs.Duration.{floor_secs, past_floor};
+ghost use Rattle.calendar_c.specs.DateTimes.{duration_named, duration_or_none, moment_at, moment_named, numbers_of, numbers_or_none};
+
+use crate::arguments::date_of;
+use chrono_datetime::{NaiveDateTime, NaiveTime, TimeDelta, Timelike};
+
+const SECS_PER_DAY: i32 = 86_400;
+
+const NANOS_PER_SEC: i32 = 1_000_000_000;
+
+// The day number of the first date.
+const FIRST_DAY: i32 = -95_746_129;
+
+// The seconds from 1970 to the first second of the first date, and to the last of the last date.
+const FIRST_SECOND: i64 = -8_334_601_228_800;
+
+const LAST_SECOND: i64 = 8_210_266_876_799;
+
+// The nanoseconds that stand for no date-time and no duration.
+const NO_NANOS: u32 = u32::MAX;
+
+/// A date-time with no time zone: the seconds since 1970-01-01T00:00:00, of which every day has 86,400, and the nanoseconds
+/// past them.
+///
+/// 1,000,000,000 nanoseconds and more lie in the leap second that follows the second, the last of its minute.
+#[repr(C)]
+#[derive(Clone, Copy)]
+pub struct CalendarDateTime {
+    /// The seconds, rounded down.
+    pub seconds: i64,
+    /// The nanoseconds past them, below 2,000,000,000.
+    pub nanos: u32,
+}
+
+/// A duration: whole seconds, rounded down, and the nanoseconds past them.
+#[repr(C)]
+#[derive(Clone, Copy)]
+pub struct CalendarDuration {
+    /// The seconds, rounded down.
+    pub seconds: i64,
+    /// The nanoseconds past them, below 1,000,000,000.
+    pub nanos: u32,
+}
+
+// The date-time at a second of a day and so many nanoseconds past it.
+#[inline]
+pub(crate) fn date_time_at(day: i32, second: u32, nanos: u32) -> Option<NaiveDateTime>
+    ensures { result ≡ moment_at day second nanos }
+{
+    let time = NaiveTime::from_num_seconds_from_midnight_opt(second, nanos)?;
+    let date = date_of(day)?;
+    Some(NaiveDateTime::new(date, time))
+}
+
+// The date-time for which the numbers stand.
+#[inline]
+pub(crate) fn date_time_of(moment: CalendarDateTime) -> Option<NaiveDateTime>
+    ensures { result ≡ moment_named moment }
+{
+    if moment.seconds < FIRST_SECOND || moment.seconds > LAST_SECOND {
+        return None;
+    }
+    let past_first = (moment.seconds - FIRST_SECOND) as u64;
+    let day = FIRST_DAY + (past_first / SECS_PER_DAY as u64) as i32;
+    let second = (past_first % SECS_PER_DAY as u64) as u32;
+    date_time_at(day, second, moment.nanos)
+}
+
+// The numbers of a date-time.
+#[inline]
+fn numbers_of(date_time: NaiveDateTime) -> CalendarDateTime
+    ensures { result ≡ numbers_of date_time }
+{
+    let day = i64::from(date_time.date().to_epoch_days());
+    let second = i64::from(date_time.time().num_seconds_from_midnight());
+    CalendarDateTime {
+        seconds: day * i64::from(SECS_PER_DAY) + second,
+        nanos: date_time.time().nanosecond(),
+    }
+}
+
+// The numbers of a date-time, if there is one.
+#[inline]
+pub(crate) fn numbers_or_none(date_time: Option<NaiveDateTime>) -> CalendarDateTime
+    ensures { result ≡ numbers_or_none date_time }
+{
+    match date_time {
+        Some(date_time) => numbers_of(date_time),
+        None => CalendarDateTime {
+            seconds: 0,
+            nanos: NO_NANOS,
+        },
+    }
+}
+
+// The duration for which the numbers stand.
+#[inline]
+pub(crate) fn duration_of(duration: CalendarDuration) -> Option<TimeDelta>
+    ensures { result ≡ duration_named duration }
+{
+    TimeDelta::new(duration.seconds, duration.nanos)
+}
+
+// The numbers of a duration.
+#[inline]
+fn duration_numbers(duration: TimeDelta) -> CalendarDuration
+    ensures { result ≡ record { seconds = floor_secs duration; nanos = past_floor duration } }
+{
+    let seconds = duration.num_seconds();
+    let nanos = duration.subsec_nanos();
+    if nanos < 0 {
+        CalendarDuration {
+            seconds: seconds - 1,
+            nanos: (nanos + NANOS_PER_SEC) as u32,
+        }
+    } else {
+        CalendarDuration {
+            seconds,
+            nanos: nanos as u32,
+        }
+    }
+}
+
+// The numbers of a duration, if there is one.
+#[inline]
+pub(crate) fn duration_or_none(duration: Option<TimeDelta>) -> CalendarDuration
+    ensures { result ≡ duration_or_none duration }
+{
+    match duration {
+        Some(duration) => duration_numbers(duration),
+        None => CalendarDuration {
+            seconds: 0,
+            nanos: NO_NANOS,
+        },
+    }
+}

@@ -1,0 +1,88 @@
+//! The texts of dates and date-times, written into the caller's bytes and read.
+ghost use Rattle.std.specs.Prelude.{◌≡◌, ◌≢◌, ◌⊎◌, ◌+◌, ◌++◌, ◌<◌, ℤ, None, Some, length};
+ghost use Rattle.std.specs.Option.{option_map};
+ghost use Rattle.chrono_datetime.specs.Days.{IsDate, date_of_day};
+ghost use Rattle.chrono_datetime.specs.DateText.{date_text};
+ghost use Rattle.chrono_datetime.specs.Moment.{Moment};
+ghost use Rattle.chrono_datetime.specs.MomentText.{moment_text};
+ghost use Rattle.chrono_reading.specs.DateTexts.{IsDateText};
+ghost use Rattle.chrono_reading.specs.DateTimeTexts.{IsDateTimeText};
+ghost use Rattle.calendar_c.specs.Answers.{count_or_none, none_number};
+ghost use Rattle.calendar_c.specs.DateTimes.{moment_named, numbers_of, numbers_or_none};
+ghost use Rattle.calendar_c.specs.Texts.{length_of, overwritten, text_within};
+
+use crate::answers::{NONE, number_or_none};
+use crate::arguments::date_of;
+use crate::date_time_numbers::{CalendarDateTime, date_time_of, numbers_or_none};
+use crate::text_bytes::{date_bytes, time_bytes};
+use chrono_reading::{read_date, read_date_time};
+
+/// Writes the date as `2024-02-29` over the first bytes, if they are enough, and answers how many it took; a year before 0 or
+/// after 9999 has its sign.
+#[unsafe(no_mangle)]
+pub extern "C" fn calendar_write_date(date: i32, text: &mut [u8]) -> i32
+    ensures length { result ≡ count_or_none
+        (length_of (text_within (length text.old) (option_map date_text (date_of_day date)))) }
+    ensures bytes { text.new
+        ≡ overwritten (text_within (length text.old) (option_map date_text (date_of_day date))) text.old }
+{
+    let Some(date) = date_of(date) else {
+        return NONE;
+    };
+    let (bytes, length) = date_bytes(date);
+    write_parts(text, &bytes[..length], &[])
+}
+
+/// The date whose text the bytes are, as [`calendar_write_date`] writes it.
+#[unsafe(no_mangle)]
+pub extern "C" fn calendar_read_date(text: &[u8]) -> i32
+    ensures read { result ≢ none_number → IsDateText text.now result }
+    ensures every { (n : ℤ) → IsDateText text.now n → result ≡ n }
+{
+    number_or_none(read_date(text))
+}
+
+/// Writes the date-time as `2024-02-29T23:59:60.500` over the first bytes, if they are enough, and answers how many it took.
+#[unsafe(no_mangle)]
+pub extern "C" fn calendar_write_date_time(moment: CalendarDateTime, text: &mut [u8]) -> i32
+    ensures length { result ≡ count_or_none
+        (length_of (text_within (length text.old) (option_map (moment_text 84) (moment_named moment)))) }
+    ensures bytes { text.new
+        ≡ overwritten (text_within (length text.old) (option_map (moment_text 84) (moment_named moment))) text.old }
+{
+    let Some(moment) = date_time_of(moment) else {
+        return NONE;
+    };
+    let (date, date_length) = date_bytes(moment.date());
+    let (time, time_length) = time_bytes(moment.time());
+    write_parts(text, &date[..date_length], &time[..time_length])
+}
+
+/// The date-time whose text the bytes are: as [`calendar_write_date_time`] writes it, with a `T` or a space, and a fraction of
+/// one to nine digits.
+#[unsafe(no_mangle)]
+pub extern "C" fn calendar_read_date_time(text: &[u8]) -> CalendarDateTime
+    ensures read { (result ≡ numbers_or_none None) ⊎ ((m : Moment) × (result ≡ numbers_of m) × IsDateTimeText text.now m) }
+    ensures every { (m : Moment) → IsDateTimeText text.now m → result ≡ numbers_of m }
+{
+    numbers_or_none(read_date_time(text))
+}
+
+// Writes two parts one behind the other over the first bytes, if they are enough, and answers how many they took.
+#[inline]
+fn write_parts(text: &mut [u8], front: &[u8], back: &[u8]) -> i32
+    requires { length front.now + length back.now < 100 }
+    ensures length { result ≡ count_or_none
+        (length_of (text_within (length text.old) (Some (front.now ++ back.now)))) }
+    ensures bytes { text.new
+        ≡ overwritten (text_within (length text.old) (Some (front.now ++ back.now))) text.old }
+{
+    let between = front.len();
+    let end = between + back.len();
+    if text.len() < end {
+        return NONE;
+    }
+    text[..between].copy_from_slice(front);
+    text[between..end].copy_from_slice(back);
+    end as i32
+}
