@@ -109,7 +109,8 @@ int32_t calendar_add_months(int32_t date, int64_t months);
  * February and then 31 March. A negative number of months leads back. */
 int32_t calendar_every_months(int32_t start, int32_t months, uint32_t index);
 
-/* The whole years from base to date; none if date comes before base. From 29 February they are whole on 1 March. */
+/* The whole years from base to date; none if date comes before base. From 29 February they are whole on 1 March of a common
+ * year, and on 29 February of a leap year. */
 int32_t calendar_years_since(int32_t date, int32_t base);
 
 /* The first day of the week that holds the date and begins on the weekday start; none if it is before CALENDAR_MIN. */

@@ -1,14 +1,15 @@
 -- Which numbers name a date-time or a duration: from the tests of the definitions to facts and back.
-use Rattle.std.proofs.Common.{◌≡◌, ℕ, ◌%◌, ◌<◌, ◌&&◌, nat_lt, nat_le, Bool, true, false, cond, Option, Some, None, refl, ap, arith, ℤ, unsigned_abs}
+use Rattle.std.proofs.Common.{sym, ◌≡◌, ℕ, ◌%◌, ◌<◌, ◌&&◌, nat_lt, nat_le, Bool, true, false, cond, Option, Some, None, refl, ap, arith, ℤ, unsigned_abs}
 use Rattle.std.proofs.lemmas.Bool.Decides.{nat_tests}
 use Rattle.std.specs.Option.{SomeIff}
 use Rattle.chrono_clock.specs.Duration.{IsDuration, longest, nanos_of}
-use Rattle.chrono_clock.specs.Time.{FractionFits}
+use Rattle.chrono_clock.specs.Time.{FractionFits, TimeOfDay}
 use Rattle.chrono_calendar.specs.Days.{IsDate, date_of_day}
 use Rattle.chrono_calendar.proofs.Dates.{by_test}
 use Rattle.chrono_datetime.specs.Moment.{Moment, moment, moment_on}
-use Rattle.chrono_calendar.proofs.NamedDates.{date_of_day-None}
-use Rattle.calendar_c.specs.DateTimes.{day_of_seconds, duration_named, is_time_named, moment_at, moment_named, second_of_seconds}
+use Rattle.chrono_calendar.proofs.NamedDates.{date_of_day-None, date_of_day-number}
+use Rattle.chrono_calendar.proofs.Signed.{signed}
+use Rattle.calendar_c.specs.DateTimes.{day_of_seconds, duration_named, is_time_named, moment_at, moment_named, numbers_of, numbers_or_none, second_of_seconds}
 use Rattle.calendar_c.specs.declared.date_time_numbers.CalendarDateTime.{CalendarDateTime}
 use Rattle.calendar_c.specs.declared.date_time_numbers.CalendarDuration.{CalendarDuration}
 
@@ -58,3 +59,27 @@ moment_named-parts a day second nanos e f g = rw (e, f, g) refl
 pub moment_named-no_date : (a : CalendarDateTime) → (IsDate (day_of_seconds a.seconds) → ⊥) → None ≡ moment_named a
 unfolding moment_named
 moment_named-no_date a h = moment_at-no_date (day_of_seconds a.seconds) (second_of_seconds a.seconds) a.nanos (date_of_day-None (day_of_seconds a.seconds) h)
+
+-- a date and a time that are there, by their tests
+found : (b : Bool) (o : Option ℤ) (t : TimeOfDay) (m : Moment) → Some m ≡ cond b (moment_on o t) None → (b ≡ true) × (Some m.date ≡ o) × (t ≡ m.time)
+found true (Some n) t m e = (refl, cc, cc)
+found true None t m e = absurd cc
+found false o t m e = absurd cc
+
+-- the numbers of what is found stand for it again
+again : (day : ℤ) (second nanos : ℕ) (m : Moment) → Some m ≡ moment_at day second nanos → moment_named (numbers_of m) ≡ moment_at day second nanos
+unfolding moment_named moment_at
+again day second nanos m e =
+    let is = found (is_time_named second nanos) (date_of_day day) (record { second = second; fraction = nanos }) m e in
+    let date = date_of_day-number m.date day (sym is.1) in
+    let time = is_time_named-fact second nanos is.0 in
+    let seconds : second ≡ m.time.second = ap (λ (t : TimeOfDay). t.second) is.2 in
+    let fraction : nanos ≡ m.time.fraction = ap (λ (t : TimeOfDay). t.fraction) is.2 in
+    let of_day : day_of_seconds (numbers_of m).seconds ≡ day = omega (arith, signed, seconds, time.0, date.1) in
+    let of_second : second_of_seconds (numbers_of m).seconds ≡ second = omega (arith, signed, seconds, time.0, date.1) in
+    rw (of_day, of_second, ← fraction) refl
+
+pub moment_named-again : (o : Option Moment) (day : ℤ) (second nanos : ℕ) → o ≡ moment_at day second nanos → moment_named (numbers_or_none o) ≡ moment_at day second nanos
+unfolding moment_named moment_at
+moment_named-again (Some m) day second nanos e = again day second nanos m e
+moment_named-again None day second nanos e = e

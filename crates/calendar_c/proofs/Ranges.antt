@@ -1,5 +1,5 @@
 -- What lies too far for a machine word is no date, and how many years dates are apart.
-use Rattle.std.proofs.Common.{◌≡◌, ℕ, ◌-◌, ◌<◌, ◌≤◌, ◌==◌, ◌&&◌, nat_le, Bool, true, false, cond, Option, Some, None, refl, arith, ℤ, ◌-ℤ◌, int_lt, length, slice_get, unsigned_abs, FitsSigned, w32}
+use Rattle.std.proofs.Common.{◌≡◌, ◌↔◌, IsSome, ℕ, ◌-◌, ◌<◌, ◌≤◌, ◌==◌, ◌&&◌, nat_le, Bool, true, false, cond, Option, Some, None, refl, arith, ℤ, ◌-ℤ◌, int_lt, length, slice_get, unsigned_abs, FitsSigned, w32}
 use Rattle.std.proofs.lemmas.Option.{slice_get_past}
 use Rattle.std.proofs.lemmas.List.Sums.{length-filter, count_by-le-length}
 use Rattle.std.proofs.lemmas.List.FromFn.{length-range_with_len}
@@ -16,6 +16,7 @@ use Rattle.chrono_calendar.proofs.Moves.{month_move-None}
 use Rattle.chrono_calendar.proofs.MonthOrder.{month_of-range}
 use Rattle.chrono_calendar.proofs.MonthMoveLaws.{year_of-range}
 use Rattle.chrono_calendar.proofs.Months.{month_length_in-bounds}
+use Rattle.calendar_c.specs.Answers.{none_number}
 
 -- no move by so many months stays within the library's years
 pub month_move-far : (n k : ℤ) → IsDate n → (FitsSigned w32 k → ⊥) → None ≡ month_move n k
@@ -66,3 +67,8 @@ unfolding date_of_nth_weekday no_day
 date_of_nth_weekday-far y m n d far =
     let past : slice_get (days_with_weekday y m d) (n - 1) ≡ None = slice_get_past (days_with_weekday y m d) (n - 1) (grind (arith, far, days_with_weekday-few y m d)) in
     rw past (nothing (is_year y && (nat_le 1 m && nat_le m 12) && nat_le 1 n))
+
+-- the number that stands for none is no date
+pub none_number-exists : (o : Option ℤ) → None ≡ o → IsDate none_number ↔ IsSome o
+none_number-exists None e = ((λ h. absurd (omega (arith, signed, h.0))), (λ s. cc))
+none_number-exists (Some n) e = absurd cc

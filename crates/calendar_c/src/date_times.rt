@@ -19,7 +19,9 @@ pub extern "C" fn calendar_date_time_new(
     second_of_day: u32,
     nanos: u32,
 ) -> CalendarDateTime
-    ensures { result ≡ numbers_or_none (moment_at date second_of_day nanos) }
+    ensures numbers { result ≡ numbers_or_none (moment_at date second_of_day nanos) }
+    // The numbers that are answered stand for that date-time again, and for none if there is none.
+    ensures named { moment_named result ≡ moment_at date second_of_day nanos }
 {
     numbers_or_none(date_time_at(date, second_of_day, nanos))
 }

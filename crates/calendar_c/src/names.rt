@@ -1,7 +1,7 @@
 //! Dates by their names.
-ghost use Rattle.std.specs.Prelude.{◌≡◌};
+ghost use Rattle.std.specs.Prelude.{◌≡◌, ◌↔◌, IsSome};
 ghost use Rattle.std.specs.Option.{option_and_then};
-ghost use Rattle.chrono_datetime.specs.Days.{date_of_yo, date_of_ymd};
+ghost use Rattle.chrono_datetime.specs.Days.{IsDate, date_of_yo, date_of_ymd};
 ghost use Rattle.chrono_datetime.specs.Weeks.{date_of_iso, date_of_nth_weekday};
 ghost use Rattle.calendar_c.specs.Answers.{or_none};
 ghost use Rattle.calendar_c.specs.Arguments.{weekday_numbered};
@@ -13,7 +13,9 @@ use chrono_datetime::NaiveDate;
 /// The date of a year, a month from 1 to 12 and a day of the month from 1 (ISO 8601 calendar date).
 #[unsafe(no_mangle)]
 pub extern "C" fn calendar_from_ymd(year: i32, month: u32, day: u32) -> i32
-    ensures { result ≡ or_none (date_of_ymd year month day) }
+    ensures number { result ≡ or_none (date_of_ymd year month day) }
+    // None is no date, so the answer tells whether there is one.
+    ensures exists { IsDate result ↔ IsSome (date_of_ymd year month day) }
 {
     number_or_none(NaiveDate::from_ymd_opt(year, month, day))
 }
@@ -21,7 +23,8 @@ pub extern "C" fn calendar_from_ymd(year: i32, month: u32, day: u32) -> i32
 /// The date of a year and a day of it from 1 (ISO 8601 ordinal date).
 #[unsafe(no_mangle)]
 pub extern "C" fn calendar_from_yo(year: i32, ordinal: u32) -> i32
-    ensures { result ≡ or_none (date_of_yo year ordinal) }
+    ensures number { result ≡ or_none (date_of_yo year ordinal) }
+    ensures exists { IsDate result ↔ IsSome (date_of_yo year ordinal) }
 {
     number_or_none(NaiveDate::from_yo_opt(year, ordinal))
 }
@@ -29,8 +32,10 @@ pub extern "C" fn calendar_from_yo(year: i32, ordinal: u32) -> i32
 /// The date of an ISO year, a week of it from 1 and a weekday (ISO 8601 week date).
 #[unsafe(no_mangle)]
 pub extern "C" fn calendar_from_isoywd(year: i32, week: u32, weekday: u32) -> i32
-    ensures { result
+    ensures number { result
         ≡ or_none (option_and_then (date_of_iso year week) (weekday_numbered weekday)) }
+    ensures exists { IsDate result
+        ↔ IsSome (option_and_then (date_of_iso year week) (weekday_numbered weekday)) }
 {
     let Some(weekday) = weekday_of(weekday) else {
         return NONE;
@@ -41,8 +46,10 @@ pub extern "C" fn calendar_from_isoywd(year: i32, week: u32, weekday: u32) -> i3
 /// The `n`-th day of a month that has the weekday, counted from 1.
 #[unsafe(no_mangle)]
 pub extern "C" fn calendar_from_weekday_of_month(year: i32, month: u32, weekday: u32, n: u32) -> i32
-    ensures { result
-        ≡ or_none (option_and_then (λ d. date_of_nth_weekday year month d n) (weekday_numbered weekday)) }
+    ensures number { result ≡ or_none
+        (option_and_then (λ d. date_of_nth_weekday year month d n) (weekday_numbered weekday)) }
+    ensures exists { IsDate result ↔ IsSome
+        (option_and_then (λ d. date_of_nth_weekday year month d n) (weekday_numbered weekday)) }
 {
     let Some(weekday) = weekday_of(weekday) else {
         return NONE;

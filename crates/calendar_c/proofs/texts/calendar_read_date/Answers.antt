@@ -6,4 +6,4 @@ use Rattle.calendar_c.proofs.texts.calendar_read_date.Goals as goal
 pub returns-clause-every : goal.returns-clause-every
 returns-clause-every c =
     let fits : FitsSigned w32 c.number_or_none.result = search rules in
-    λ n h. to_z-of_z w32 c.number_or_none.result fits ∙ c.number_or_none.ensures ∙ ap or_none (c.read_date.ensures.every n h)
+    λ n h. to_z-of_z w32 c.number_or_none.result fits ∙ c.number_or_none.ensures.number ∙ ap or_none (c.read_date.ensures.every n h)
