@@ -13,3 +13,4 @@ pub mod Decimals
 pub mod Walks
 pub mod Tests
 pub mod Moments
+pub mod Lanes

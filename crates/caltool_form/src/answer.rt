@@ -6,6 +6,7 @@ ghost use Rattle.caltool_form.specs.Commands.{command_from as the_command_from};
 
 use crate::command::{Command, read_line};
 use crate::command_answers::CommandAnswers;
+use crate::line::Line;
 use crate::name::Name;
 use crate::numbers::Numbers;
 use crate::read::command_from;
@@ -23,14 +24,14 @@ pub fn answer_by<A: CommandAnswers>(line: &[u8]) -> Answer
     ensures { result ≡ answer_of line.now }
 {
     let mut answer = Text::new();
-    write_line_answer::<A, LONGEST_ANSWER>(line, &mut Numbers::new(), &mut answer);
+    write_line_answer::<A, LONGEST_ANSWER>(&Line::whole(line), &mut Numbers::new(), &mut answer);
     answer
 }
 
 // Puts the answer to a line behind the text. The line's numbers go into the given room.
 #[tactic(auto, unfolding(crate::specs::Answers::answer_of))]
 pub(crate) fn write_line_answer<A: CommandAnswers, const N: usize>(
-    line: &[u8],
+    line: &Line<'_>,
     numbers: &mut Numbers,
     out: &mut Text<N>,
 )

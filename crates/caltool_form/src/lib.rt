@@ -17,6 +17,7 @@ mod duration_text;
 mod fault;
 mod form_answers;
 mod law;
+mod line;
 mod name;
 mod named;
 mod newline;

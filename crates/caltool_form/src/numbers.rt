@@ -4,6 +4,7 @@ ghost use Rattle.std.specs.Option.{option_map};
 ghost use Rattle.caltool_form.specs.Words.{EndsWord};
 ghost use Rattle.caltool_form.specs.Grammar.{numbers_behind};
 
+use crate::line::Line;
 use crate::words::next_number;
 use std::marker::Model;
 
@@ -37,16 +38,16 @@ impl Numbers {
 
     // Reads the numbers behind the first space of a text, in the place of those held. The bits of
     // `short_places`, the lowest first, tell which of them are likely to have one digit or two.
-    pub(crate) fn read(&mut self, text: &[u8], short_places: u64) -> Option<()>
-        requires space { EndsWord text.now }
-        requires short { length text.now ≤ 120 }
-        ensures { numbers_behind text.now ≡ option_map (λ _. self.new) result }
+    pub(crate) fn read(&mut self, text: Line<'_>, short_places: u64) -> Option<()>
+        requires space { EndsWord text }
+        requires short { length text ≤ 120 }
+        ensures { numbers_behind text.entry ≡ option_map (λ _. self.new) result }
     {
         self.clear();
         let mut rest = text;
         let mut places = short_places;
         while !rest.is_empty() {
-            let (number, after) = next_number(&rest[1..], places & 1 == 1)?;
+            let (number, after) = next_number(&rest.skip(1), places & 1 == 1)?;
             self.push(number);
             places >>= 1;
             rest = after;

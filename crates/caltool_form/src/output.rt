@@ -8,6 +8,7 @@ ghost use Rattle.caltool_form.specs.Answers.{answer_of};
 use crate::answer::write_line_answer;
 use crate::command_answers::CommandAnswers;
 use crate::fault::RunFault;
+use crate::line::Line;
 use crate::numbers::Numbers;
 use crate::text::Text;
 use crate::watch::WatchedWriter;
@@ -45,7 +46,7 @@ impl Output {
     }
 
     // Adds the answer to a line, and its newline.
-    pub(crate) fn answer<A: CommandAnswers>(&mut self, line: &[u8])
+    pub(crate) fn answer<A: CommandAnswers>(&mut self, line: &Line<'_>)
         requires { length self.old + 63 < 65536 }
         ensures { self.new ≡ self.old ++ answer_of line.now ++ 10 ∷ [] }
     {
@@ -55,7 +56,11 @@ impl Output {
 
     // Adds the answer to a line of which the first bytes were carried on, and its newline. Nothing is carried on.
     #[tactic(auto, using(crate::proofs::Pieces::clipped))]
-    pub(crate) fn answer_carried<A: CommandAnswers>(&mut self, carried: &mut Text<KEPT>, end: &[u8])
+    pub(crate) fn answer_carried<A: CommandAnswers>(
+        &mut self,
+        carried: &mut Text<KEPT>,
+        end: &Line<'_>,
+    )
         requires { length self.old + 63 < 65536 }
         ensures answer { self.new ≡ self.old ++ answer_of (carried.old ++ end.now) ++ 10 ∷ [] }
         ensures nothing { carried.new ≡ [] }
@@ -64,8 +69,8 @@ impl Output {
             self.answer::<A>(end);
             return;
         }
-        carried.push_clipped(end);
-        self.answer::<A>(carried.as_bytes());
+        carried.push_clipped(end.as_slice());
+        self.answer::<A>(&Line::whole(carried.as_bytes()));
         carried.clear();
     }
 
