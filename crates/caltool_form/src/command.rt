@@ -150,6 +150,6 @@ pub(crate) fn read_line(line: &Line<'_>, numbers: &mut Numbers) -> Option<Name>
     }
     let (word, rest) = split_name(line);
     let name = name_of(word)?;
-    numbers.read(rest, name.short_places())?;
+    numbers.read(rest, name.ways())?;
     Some(name)
 }

@@ -32,13 +32,16 @@ const WEIGHTS: [u32; 16] = [
 // How many there are is a guess that a processor often gets wrong. So eight digits or fewer are read with no branch
 // on their count: each byte has a weight, which is 0 behind the last digit.
 #[inline]
-pub(crate) fn digits_in_front(text: &Line<'_>) -> (u64, usize)
+pub(crate) fn digits_in_front(text: &Line<'_>, digit_by_digit: bool) -> (u64, usize)
     ensures within { result.1 ≤ length text.now }
     ensures digits { AllDigits 10 (take result.1 text.now) }
     ensures value { result.0 ≡ digits_value 10 (take result.1 text.now) }
     ensures end { result.1 < length text.now → IsInRange 48 57 (slice_index text.now result.1)
         → 10 ^ 18 ≤ result.0 }
 {
+    if digit_by_digit {
+        return leading_digits(text.as_slice());
+    }
     let bytes = text.with_following();
     if bytes.len() >= LANES {
         let len = digits_in_lanes(bytes).min(text.len());

@@ -36,20 +36,20 @@ impl Numbers {
         }
     }
 
-    // Reads the numbers behind the first space of a text, in the place of those held. The bits of
-    // `short_places`, the lowest first, tell which of them are likely to have one digit or two.
-    pub(crate) fn read(&mut self, text: Line<'_>, short_places: u64) -> Option<()>
+    // Reads the numbers behind the first space of a text, in the place of those held. The bits of `ways`, two for each number
+    // and the lowest first, tell how it is best read; what is read does not depend on them.
+    pub(crate) fn read(&mut self, text: Line<'_>, ways: u64) -> Option<()>
         requires space { EndsWord text }
         requires short { length text ≤ 120 }
         ensures { numbers_behind text.entry ≡ option_map (λ _. self.new) result }
     {
         self.clear();
         let mut rest = text;
-        let mut places = short_places;
+        let mut ways = ways;
         while !rest.is_empty() {
-            let (number, after) = next_number(&rest.skip(1), places & 1 == 1)?;
+            let (number, after) = next_number(&rest.skip(1), ways)?;
             self.push(number);
-            places >>= 1;
+            ways >>= 2;
             rest = after;
         }
         Some(())

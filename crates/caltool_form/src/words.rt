@@ -12,6 +12,12 @@ const SPACE: u8 = b' ';
 
 const MINUS: u8 = b'-';
 
+// The bit of a number that is likely to have one digit or two.
+const LIKELY_SHORT: u64 = 1;
+
+// The bit of a number to be read digit by digit, where it is not read as a short one.
+const DIGIT_BY_DIGIT: u64 = 2;
+
 // The first word of a line, and what follows it.
 pub(crate) fn split_name<'a>(line: &Line<'a>) -> (&'a [u8], Line<'a>)
     ensures words { words line.now ≡ result.0.now ∷ drop 1 (words result.1) }
@@ -39,22 +45,22 @@ fn word_len(line: &[u8]) -> usize
     line.len()
 }
 
-// The number that the first word writes, if it fits an `i64`, and what follows that word. One that is likely
-// to have one digit or two is tried as such first.
+// The number that the first word writes, if it fits an `i64`, and what follows that word. The two lowest bits of `ways`
+// tell how it is best read: one that is likely to have one digit or two is tried as such first.
 #[inline(always)]
-pub(crate) fn next_number<'a>(text: &Line<'a>, likely_short: bool) -> Option<(i64, Line<'a>)>
+pub(crate) fn next_number<'a>(text: &Line<'a>, ways: u64) -> Option<(i64, Line<'a>)>
     ensures some { IfSome result (λ read. numbers_of (words text.now)
         ≡ option_map (λ numbers. read.0 ∷ numbers) (numbers_behind read.1)) }
     ensures none { IfNone result (numbers_of (words text.now) ≡ None) }
     ensures space { IfSome result (λ read. EndsWord read.1) }
     ensures shorter { IfSome result (λ read. length read.1 < length text.now) }
 {
-    if likely_short {
+    if ways & LIKELY_SHORT != 0 {
         if let Some((number, rest)) = short_number(text) {
             return Some((i64::from(number), rest));
         }
     }
-    long_number(text)
+    long_number(text, ways & DIGIT_BY_DIGIT != 0)
 }
 
 // The number that the first word writes, if it has one digit or two, and what follows that word.
@@ -72,7 +78,7 @@ fn short_number<'a>(text: &Line<'a>) -> Option<(u32, Line<'a>)>
 
 // The number that the first word writes, if it fits an `i64`, and what follows that word.
 #[inline(always)]
-fn long_number<'a>(text: &Line<'a>) -> Option<(i64, Line<'a>)>
+fn long_number<'a>(text: &Line<'a>, digit_by_digit: bool) -> Option<(i64, Line<'a>)>
     ensures some { IfSome result (λ read. numbers_of (words text.now)
         ≡ option_map (λ numbers. read.0 ∷ numbers) (numbers_behind read.1)) }
     ensures none { IfNone result (numbers_of (words text.now) ≡ None) }
@@ -81,7 +87,7 @@ fn long_number<'a>(text: &Line<'a>) -> Option<(i64, Line<'a>)>
 {
     let negative = has_minus(text);
     let digits = text.skip(usize::from(negative));
-    let (size, len) = digits_in_front(&digits);
+    let (size, len) = digits_in_front(&digits, digit_by_digit);
     let rest = after_digits(&digits, len)?;
     let number = signed(negative, size)?;
     Some((number, rest))
