@@ -6,3 +6,4 @@ pub mod Reading
 pub mod Weekdays
 pub mod Commands
 pub mod Laws
+pub mod Lanes

@@ -4,6 +4,7 @@ ghost use Rattle.std.specs.Option.{option_and_then};
 ghost use Rattle.caltool_command.specs.Commands.{command_from as the_command_from, command_of};
 
 use crate::arguments::{CalendarDate, DateAndTime, MonthSpan};
+use crate::line::Line;
 use crate::name::{Name, name_of};
 use crate::numbers::Numbers;
 use crate::read::command_from;
@@ -129,11 +130,11 @@ pub enum Command {
 pub fn command_of(line: &[u8]) -> Option<Command>
     ensures { result ≡ command_of line.now }
 {
-    read_command(line, &mut Numbers::new())
+    read_command(&Line::whole(line), &mut Numbers::new())
 }
 
 // The command of a line, whose numbers go into the given room.
-fn read_command(line: &[u8], numbers: &mut Numbers) -> Option<Command>
+fn read_command(line: &Line<'_>, numbers: &mut Numbers) -> Option<Command>
     ensures { result ≡ command_of line.now }
 {
     let name = read_line(line, numbers)?;
@@ -142,7 +143,7 @@ fn read_command(line: &[u8], numbers: &mut Numbers) -> Option<Command>
 
 /// The name that a line begins with, if nothing but numbers follows it; these go into the given room. With them it makes the
 /// command of the line ([`command_from`]).
-pub fn read_line(line: &[u8], numbers: &mut Numbers) -> Option<Name>
+pub fn read_line(line: &Line<'_>, numbers: &mut Numbers) -> Option<Name>
     ensures { command_of line.now ≡ option_and_then (λ name. the_command_from name numbers.new) result }
 {
     if line.len() > LONGEST_LINE {
@@ -150,6 +151,6 @@ pub fn read_line(line: &[u8], numbers: &mut Numbers) -> Option<Name>
     }
     let (word, rest) = split_name(line);
     let name = name_of(word)?;
-    numbers.read(rest, name.short_places())?;
+    numbers.read(rest, name.ways())?;
     Some(name)
 }

@@ -7,6 +7,7 @@
 mod arguments;
 mod command;
 mod law;
+mod line;
 mod name;
 mod number;
 mod numbers;
@@ -16,6 +17,7 @@ mod words;
 pub use arguments::{CalendarDate, ClockTime, DateAndTime, MonthSpan};
 pub use command::{Command, command_of, read_line};
 pub use law::{lines_are_commands, numbers_are_texts, words_are_unique};
+pub use line::Line;
 pub use name::Name;
 pub use numbers::Numbers;
 pub use read::command_from;

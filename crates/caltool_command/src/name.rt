@@ -36,18 +36,20 @@ pub enum Name {
 }
 
 impl Name {
-    // Which of the command's numbers are likely to have one digit or two: a bit for each, the first lowest.
-    pub(crate) fn short_places(self) -> u64 {
+    // How the command's numbers are best read, two bits for each, the first lowest: 1 for a number that is likely to have
+    // one digit or two, 2 for one to be read digit by digit, since no other's place waits for its end, and 0 for any other.
+    pub(crate) fn ways(self) -> u64 {
         match self {
-            Name::Ymd | Name::Iwd | Name::Days | Name::Months => 0b110,
-            Name::Yo | Name::Day => 0,
-            Name::Wom | Name::Week => 0b1110,
-            Name::Move => 0b11_1110,
-            Name::Diff => 0b1_1111_0011_1110,
-            Name::Since => 0b11_0110,
-            Name::Set => u64::MAX,
-            Name::On => u64::MAX - 1,
-            Name::Every => 0b1_1110,
+            Name::Ymd | Name::Iwd | Name::Days | Name::Months => 0b01_01_00,
+            Name::Yo => 0b10_00,
+            Name::Day => 0,
+            Name::Wom | Name::Week => 0b01_01_01_00,
+            Name::Move => 0b01_01_01_01_01_00,
+            Name::Diff => 0b01_01_01_01_01_00_00_01_01_01_01_01_00,
+            Name::Since => 0b01_01_00_01_01_00,
+            Name::Set => 0x5555_5555_5555_5555,
+            Name::On => 0x5555_5555_5555_5554,
+            Name::Every => 0b01_01_01_01_00,
         }
     }
 }

@@ -1,11 +1,13 @@
 //! The reading of whole numbers.
-ghost use Rattle.std.specs.Prelude.{◌≡◌, ◌^◌, ◌<◌, ◌≤◌, length, take, slice_index};
+ghost use Rattle.std.specs.Prelude.{◌≡◌, ◌-◌, ◌*◌, ◌^◌, ◌<◌, ◌≤◌, ℕ, length, take, slice_index};
 ghost use Rattle.std.specs.Int.{IsInRange};
 ghost use Rattle.std.specs.Str.Parse.{AllDigits, digits_value};
 ghost use Rattle.caltool_command.specs.Numbers.{signed, to_i64, to_i32, to_u32, to_u8, to_months, to_weekday};
 
 use crate::arguments::MonthSpan;
+use crate::line::Line;
 use chrono_units::Weekday;
+use std::simd::prelude::*;
 
 // Every number of so many digits fits an `i64`.
 const ALWAYS_FIT: usize = 18;
@@ -13,10 +15,132 @@ const ALWAYS_FIT: usize = 18;
 // With one digit more, a number of this size fits no `i64`.
 const NO_MORE_DIGITS: u64 = 1_000_000_000_000_000_000;
 
+// How many bytes are looked at together.
+const LANES: usize = 16;
+
+// As many digits are worth no more than fits a `u32`.
+const FEW: usize = 8;
+
+// Powers of ten, the last of them 1, and zeros.
+const WEIGHTS: [u32; 16] = [
+    10_000_000, 1_000_000, 100_000, 10_000, 1_000, 100, 10, 1, 0, 0, 0, 0, 0, 0, 0, 0,
+];
+
 // Digits at the front: their value, and their count. They are all that stand there, unless one more
 // would make a number that fits no `i64`.
+//
+// How many there are is a guess that a processor often gets wrong. So eight digits or fewer are read with no branch
+// on their count: each byte has a weight, which is 0 behind the last digit.
 #[inline]
-pub(crate) fn leading_digits(text: &[u8]) -> (u64, usize)
+pub(crate) fn digits_in_front(text: &Line<'_>, digit_by_digit: bool) -> (u64, usize)
+    ensures within { result.1 ≤ length text.now }
+    ensures digits { AllDigits 10 (take result.1 text.now) }
+    ensures value { result.0 ≡ digits_value 10 (take result.1 text.now) }
+    ensures end { result.1 < length text.now → IsInRange 48 57 (slice_index text.now result.1)
+        → 10 ^ 18 ≤ result.0 }
+{
+    if digit_by_digit {
+        return leading_digits(text.as_slice());
+    }
+    let bytes = text.with_following();
+    if bytes.len() >= LANES {
+        let len = digits_in_lanes(bytes).min(text.len());
+        if len <= FEW {
+            return (u64::from(few_digits_value(bytes, len)), len);
+        }
+    }
+    leading_digits(text.as_slice())
+}
+
+// How many of the first 16 bytes are digits, up to the first that is none.
+#[inline]
+fn digits_in_lanes(bytes: &[u8]) -> usize
+    requires { 16 ≤ length bytes.now }
+    ensures within { result ≤ 16 }
+    ensures digits { (k : ℕ) → k < result → IsInRange 48 57 (slice_index bytes.now k) }
+    ensures end { result < 16 → ¬ (IsInRange 48 57 (slice_index bytes.now result)) }
+{
+    lanes_before_low(bytes).min(lanes_before_high(bytes))
+}
+
+// How many of the first 16 bytes come before the first that is below the digits: all, if there is none.
+#[inline]
+fn lanes_before_low(bytes: &[u8]) -> usize
+    requires { 16 ≤ length bytes.now }
+    ensures within { result ≤ 16 }
+    ensures before { (k : ℕ) → k < result → 48 ≤ slice_index bytes.now k }
+    ensures here { result < 16 → slice_index bytes.now result < 48 }
+{
+    let lows = u8x16::from_slice(bytes)
+        .simd_lt(u8x16::splat(b'0'))
+        .to_bitmask();
+    if lows == 0 {
+        LANES
+    } else {
+        lows.trailing_zeros() as usize
+    }
+}
+
+// How many of the first 16 bytes come before the first that is above the digits: all, if there is none.
+#[inline]
+fn lanes_before_high(bytes: &[u8]) -> usize
+    requires { 16 ≤ length bytes.now }
+    ensures within { result ≤ 16 }
+    ensures before { (k : ℕ) → k < result → slice_index bytes.now k ≤ 57 }
+    ensures here { result < 16 → 57 < slice_index bytes.now result }
+{
+    let highs = u8x16::splat(b'9')
+        .simd_lt(u8x16::from_slice(bytes))
+        .to_bitmask();
+    if highs == 0 {
+        LANES
+    } else {
+        highs.trailing_zeros() as usize
+    }
+}
+
+// What the first `len` bytes are worth, which are digits.
+#[inline]
+fn few_digits_value(bytes: &[u8], len: usize) -> u32
+    requires room { 8 ≤ length bytes.now }
+    requires few { len ≤ 8 }
+    requires digits { AllDigits 10 (take len bytes.now) }
+    ensures { result ≡ digits_value 10 (take len bytes.now) }
+{
+    share(bytes[0], len, 0)
+        + share(bytes[1], len, 1)
+        + share(bytes[2], len, 2)
+        + share(bytes[3], len, 3)
+        + share(bytes[4], len, 4)
+        + share(bytes[5], len, 5)
+        + share(bytes[6], len, 6)
+        + share(bytes[7], len, 7)
+}
+
+// What the byte at a place adds to the value of so many digits: nothing behind the last of them.
+#[inline(always)]
+fn share(byte: u8, len: usize, place: usize) -> u32
+    requires few { len ≤ 8 }
+    requires place { place < 8 }
+    ensures inside { place < len → 48 ≤ byte → result ≡ (byte - 48) * 10 ^ (len - 1 - place) }
+    ensures behind { len ≤ place → result ≡ 0 }
+    ensures small { result < 256 * 10 ^ (7 - place) }
+{
+    WEIGHTS[FEW - len + place] * digit(byte)
+}
+
+// What a byte is worth as a digit, if it is one.
+#[inline(always)]
+fn digit(byte: u8) -> u32
+    ensures value { 48 ≤ byte → result ≡ byte - 48 }
+    ensures small { result < 256 }
+{
+    u32::from(byte.wrapping_sub(b'0'))
+}
+
+// The same, digit by digit.
+#[inline]
+fn leading_digits(text: &[u8]) -> (u64, usize)
     ensures within { result.1 ≤ length text.now }
     ensures digits { AllDigits 10 (take result.1 text.now) }
     ensures value { result.0 ≡ digits_value 10 (take result.1 text.now) }
@@ -68,7 +192,7 @@ fn further_digits(text: &[u8], value: u64, start: usize) -> (u64, usize)
 // Whether there is a second one is a guess that a processor often gets wrong. So the test is joined by
 // `&` and both answers are plain values, which compile to no branch.
 #[inline]
-pub(crate) fn few_digits(text: &[u8]) -> (u32, usize)
+pub(crate) fn few_digits(text: &Line<'_>) -> (u32, usize)
     ensures within { result.1 ≤ length text.now }
     ensures digits { AllDigits 10 (take result.1 text.now) }
     ensures value { result.0 ≡ digits_value 10 (take result.1 text.now) }
@@ -77,13 +201,13 @@ pub(crate) fn few_digits(text: &[u8]) -> (u32, usize)
     if text.is_empty() {
         return (0, 0);
     }
-    let tens = text[0].wrapping_sub(b'0');
+    let tens = text.byte(0).wrapping_sub(b'0');
     if tens > 9 {
         return (0, 0);
     }
     // The place of the second byte, or of the first again where there is no second.
     let second = usize::from(text.len() > 1);
-    let ones = text[second].wrapping_sub(b'0');
+    let ones = text.byte(second).wrapping_sub(b'0');
     if (second == 1) & (ones <= 9) {
         (10 * u32::from(tens) + u32::from(ones), 2)
     } else {

@@ -4,6 +4,7 @@ ghost use Rattle.std.specs.Option.{option_map};
 ghost use Rattle.caltool_command.specs.Words.{EndsWord};
 ghost use Rattle.caltool_command.specs.Grammar.{numbers_behind};
 
+use crate::line::Line;
 use crate::words::next_number;
 use std::marker::Model;
 
@@ -36,26 +37,26 @@ impl Numbers {
         }
     }
 
-    // Reads the numbers behind the first space of a text, in the place of those held. The bits of
-    // `short_places`, the lowest first, tell which of them are likely to have one digit or two.
-    pub(crate) fn read(&mut self, text: &[u8], short_places: u64) -> Option<()>
-        requires space { EndsWord text.now }
-        requires short { length text.now ≤ 120 }
-        ensures { numbers_behind text.now ≡ option_map (λ _. self.new) result }
+    // Reads the numbers behind the first space of a text, in the place of those held. The bits of `ways`, two for each number
+    // and the lowest first, tell how it is best read; what is read does not depend on them.
+    pub(crate) fn read(&mut self, text: Line<'_>, ways: u64) -> Option<()>
+        requires space { EndsWord text }
+        requires short { length text ≤ 120 }
+        ensures { numbers_behind text.entry ≡ option_map (λ _. self.new) result }
     {
         self.clear();
         let mut rest = text;
-        let mut places = short_places;
+        let mut ways = ways;
         while !rest.is_empty() {
-            let (number, after) = next_number(&rest[1..], places & 1 == 1)?;
+            let (number, after) = next_number(&rest.skip(1), ways)?;
             self.push(number);
-            places >>= 1;
+            ways >>= 2;
             rest = after;
         }
         Some(())
     }
 
-    /// The numbers, in the order in which the line has them.
+    /// The numbers, in the order of the line.
     pub fn as_slice(&self) -> &[i64]
         ensures { result.now ≡ self.now }
     {

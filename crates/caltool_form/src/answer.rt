@@ -5,7 +5,7 @@ ghost use Rattle.caltool_form.specs.Answers.{answer_of, answer_to};
 ghost use Rattle.caltool_command.specs.Commands.{command_from as the_command_from};
 
 use crate::command_answers::CommandAnswers;
-use caltool_command::{Command, Name, Numbers, command_from, read_line};
+use caltool_command::{Command, Line, Name, Numbers, command_from, read_line};
 use caltool_text::Text;
 
 // An answer has at most 63 bytes.
@@ -20,14 +20,14 @@ pub fn answer_by<A: CommandAnswers>(line: &[u8]) -> Answer
     ensures { result ≡ answer_of line.now }
 {
     let mut answer = Text::new();
-    write_line_answer::<A, LONGEST_ANSWER>(line, &mut Numbers::new(), &mut answer);
+    write_line_answer::<A, LONGEST_ANSWER>(&Line::whole(line), &mut Numbers::new(), &mut answer);
     answer
 }
 
 // Puts the answer to a line behind the text. The line's numbers go into the given room.
 #[tactic(auto, unfolding(crate::specs::Answers::answer_of))]
 pub(crate) fn write_line_answer<A: CommandAnswers, const N: usize>(
-    line: &[u8],
+    line: &Line<'_>,
     numbers: &mut Numbers,
     out: &mut Text<N>,
 )

@@ -2,6 +2,7 @@
 ghost use Rattle.std.specs.Prelude.{◌≡◌, ◌≢◌, ◌+◌, ◌<◌, ◌≤◌, ◌∷◌, ◌++◌, ℕ, take, length, slice_index, IfSome, IfNone};
 ghost use Rattle.caltool_form.specs.Lines.{IsPiece};
 
+use caltool_command::Line;
 use std::simd::prelude::*;
 
 const NEWLINE: u8 = b'\n';
@@ -11,16 +12,16 @@ const LANES: usize = 16;
 
 // The bytes before the first newline, and those after it.
 #[inline]
-pub(crate) fn first_line(bytes: &[u8]) -> Option<(&[u8], &[u8])>
-    ensures some { IfSome result (λ parts. bytes.now ≡ parts.0.now ++ 10 ∷ parts.1.now) }
-    ensures first { IfSome result (λ parts. IsPiece parts.0.now) }
+pub(crate) fn first_line(bytes: &[u8]) -> Option<(Line<'_>, &[u8])>
+    ensures some { IfSome result (λ parts. bytes.now ≡ parts.0 ++ 10 ∷ parts.1.now) }
+    ensures first { IfSome result (λ parts. IsPiece parts.0) }
     ensures none { IfNone result (IsPiece bytes.now) }
 {
     let at = newline_at(bytes);
     if at == bytes.len() {
         return None;
     }
-    Some((&bytes[..at], &bytes[at + 1..]))
+    Some((Line::new(bytes, at), &bytes[at + 1..]))
 }
 
 // The index of the first newline, or the length where there is none.

@@ -9,7 +9,7 @@ use crate::answer::write_line_answer;
 use crate::command_answers::CommandAnswers;
 use crate::fault::RunFault;
 use crate::watch::WatchedWriter;
-use caltool_command::Numbers;
+use caltool_command::{Line, Numbers};
 use caltool_text::Text;
 use std::io::Write;
 use std::marker::Model;
@@ -45,7 +45,7 @@ impl Output {
     }
 
     // Adds the answer to a line, and its newline.
-    pub(crate) fn answer<A: CommandAnswers>(&mut self, line: &[u8])
+    pub(crate) fn answer<A: CommandAnswers>(&mut self, line: &Line<'_>)
         requires { length self.old + 63 < 65536 }
         ensures { self.new ≡ self.old ++ answer_of line.now ++ 10 ∷ [] }
     {
@@ -55,7 +55,11 @@ impl Output {
 
     // Adds the answer to a line of which the first bytes were carried on, and its newline. Nothing is carried on.
     #[tactic(auto, using(crate::proofs::Pieces::clipped))]
-    pub(crate) fn answer_carried<A: CommandAnswers>(&mut self, carried: &mut Text<KEPT>, end: &[u8])
+    pub(crate) fn answer_carried<A: CommandAnswers>(
+        &mut self,
+        carried: &mut Text<KEPT>,
+        end: &Line<'_>,
+    )
         requires { length self.old + 63 < 65536 }
         ensures answer { self.new ≡ self.old ++ answer_of (carried.old ++ end.now) ++ 10 ∷ [] }
         ensures nothing { carried.new ≡ [] }
@@ -64,8 +68,8 @@ impl Output {
             self.answer::<A>(end);
             return;
         }
-        carried.push_clipped(end);
-        self.answer::<A>(carried.as_bytes());
+        carried.push_clipped(end.as_slice());
+        self.answer::<A>(&Line::whole(carried.as_bytes()));
         carried.clear();
     }
 

@@ -13,6 +13,7 @@ use crate::fault::RunFault;
 use crate::newline::first_line;
 use crate::output::{KEPT, Output};
 use crate::watch::{WatchedReader, WatchedWriter};
+use caltool_command::Line;
 use caltool_text::Text;
 use std::io::{Read, Write};
 
@@ -124,7 +125,7 @@ fn answer_piece<A: CommandAnswers, W: Write>(
     let mut rest = piece;
     while let Some((line, after)) = first_line(rest) {
         out.make_room(w)?;
-        out.answer_carried::<A>(carried, line);
+        out.answer_carried::<A>(carried, &line);
         rest = after;
     }
     carried.push_clipped(rest);
@@ -174,6 +175,6 @@ fn answer_last<A: CommandAnswers, W: Write>(
     if carried.is_empty() {
         return Ok(());
     }
-    out.answer_carried::<A>(carried, b"");
+    out.answer_carried::<A>(carried, &Line::whole(b""));
     out.send(w)
 }

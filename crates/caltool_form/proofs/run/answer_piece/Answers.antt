@@ -16,7 +16,7 @@ loop-line-preserved g c =
     let (done, wrote, parts) = c.in_ok-make_room.ensures.ok in
     record {
       answered =
-          progress_more _ _ _ _ _ _ _ _ _ _ c.in-Some.line.now c.in-Some.after.now done _ c.loop-line.invariant.answered
+          progress_more _ _ _ _ _ _ _ _ _ _ c.in-Some.line c.in-Some.after.now done _ c.loop-line.invariant.answered
           c.in-Some.ensures.some c.in-Some.ensures.first wrote parts c.answer_carried.ensures.nothing c.answer_carried.ensures.answer;
       writable = search rules;
       same = search rules;
