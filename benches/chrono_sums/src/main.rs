@@ -3,44 +3,13 @@
 //! `chrono_sums CALL COUNT ..` makes each call so many times on the arguments that the other draws too, and prints the sum
 //! of its answers, which has to be the same.
 
+mod arguments;
 mod formulas;
 
+use arguments::{day, table, Generator, SIZE};
 use chrono::{Datelike, Days, Duration, Months, NaiveDate, NaiveDateTime, NaiveTime, Timelike};
-use std::array;
 use std::env;
 use std::process::ExitCode;
-
-/// How many arguments a table has.
-const SIZE: usize = 1024;
-
-/// The day number of 1 January 1800.
-const FIRST_DAY: i32 = 657_072;
-
-/// The days of the 400 years from then on.
-const DAYS: u64 = 146_097;
-
-/// A linear congruential generator modulo 2^64, with the numbers of Knuth's MMIX.
-struct Generator {
-    state: u64,
-}
-
-impl Generator {
-    fn new() -> Generator {
-        Generator { state: 1 }
-    }
-
-    fn draw(&mut self) -> u64 {
-        self.state = self
-            .state
-            .wrapping_mul(6_364_136_223_846_793_005)
-            .wrapping_add(1_442_695_040_888_963_407);
-        self.state
-    }
-
-    fn below(&mut self, bound: u64) -> u64 {
-        (self.draw() >> 32) % bound
-    }
-}
 
 fn first(drawn: u64) -> usize {
     (drawn >> 54) as usize
@@ -48,14 +17,6 @@ fn first(drawn: u64) -> usize {
 
 fn second(drawn: u64) -> usize {
     (drawn >> 44) as usize % SIZE
-}
-
-fn table<T>(generator: &mut Generator, pick: impl Fn(&mut Generator) -> T) -> [T; SIZE] {
-    array::from_fn(|_| pick(generator))
-}
-
-fn day(generator: &mut Generator) -> i32 {
-    FIRST_DAY + generator.below(DAYS) as i32
 }
 
 fn date(generator: &mut Generator) -> NaiveDate {

@@ -1,49 +1,16 @@
 //! Sums of the answers of `proved_calendar` and of chrono to the same calls: `rust_sums CALL COUNT` makes a call so many times on
 //! pseudo-random arguments and prints the sum of its answers.
 
-use std::array;
+#[path = "../../../chrono_sums/src/arguments.rs"]
+mod arguments;
+
 use std::env;
 use std::fmt::{Display, Write};
 use std::process::ExitCode;
 
+use arguments::{day, table, Generator, SIZE};
 use chrono::{Datelike, Days, Months, NaiveDate, NaiveDateTime, Timelike};
 use proved_calendar::{Date, DateTime, Duration};
-
-/// How many arguments a table has.
-const SIZE: usize = 1024;
-
-/// The day number of 1 January 1800.
-const FIRST_DAY: i32 = 657_072;
-
-/// The days of the 400 years from then on.
-const DAYS: u64 = 146_097;
-
-/// A linear congruential generator modulo 2^64, with the numbers of Knuth's MMIX.
-struct Generator {
-    state: u64,
-}
-
-impl Generator {
-    fn draw(&mut self) -> u64 {
-        self.state = self
-            .state
-            .wrapping_mul(6_364_136_223_846_793_005)
-            .wrapping_add(1_442_695_040_888_963_407);
-        self.state
-    }
-
-    fn below(&mut self, bound: u64) -> u64 {
-        (self.draw() >> 32) % bound
-    }
-}
-
-fn table<T>(generator: &mut Generator, pick: impl Fn(&mut Generator) -> T) -> [T; SIZE] {
-    array::from_fn(|_| pick(generator))
-}
-
-fn day(generator: &mut Generator) -> i32 {
-    FIRST_DAY + generator.below(DAYS) as i32
-}
 
 fn name(generator: &mut Generator) -> (i32, u32, u32) {
     let year = 1_800 + generator.below(400) as i32;
@@ -226,7 +193,7 @@ fn sum_of_answers(call: &str, count: u64) -> Option<u64> {
         sum_of_their_moments,
     ]
     .into_iter()
-    .find_map(|sum_of| sum_of(call, Generator { state: 1 }, count))
+    .find_map(|sum_of| sum_of(call, Generator::new(), count))
 }
 
 fn main() -> ExitCode {
