@@ -171,6 +171,15 @@ def compare_declarations(results, header):
     compare(results, "structs of languages/python", fields, structs("python", PACKAGE))
 
 
+def compare_safety(results, header):
+    """The Rust crate calls a function safe exactly if it takes no pointer."""
+    safe = set(re.findall(r"\bsafe fn (calendar_\w+)\(", read(DECLARATIONS)))
+    for name, (_, parameters) in header.items():
+        takes_pointer = any(kind.startswith("*") for kind, _ in parameters)
+        what = "is safe, and takes a pointer" if takes_pointer else "is not safe, and takes no pointer"
+        results.count((name in safe) != takes_pointer, f"declarations of languages/rust: {name} {what}")
+
+
 def compare_symbols(results, header, library):
     """The symbols that the library has for others, and wants of them: none but what compilers take for granted."""
     if not shutil.which("nm"):
@@ -293,9 +302,12 @@ def test_rust(results, room, library):
 
 
 def compare_examples(results):
-    """The lines of README.md for each language stand in the example of that language."""
-    section = read(f"{TOP}/README.md").partition("## From other languages")[2].partition("\n## ")[0]
-    for language, lines in re.findall(r"^```(\w+)\n(.*?)^```$", section, re.M | re.S):
+    """README.md has lines for each language, which stand in the example of that language."""
+    section = read(f"{TOP}/README.md").partition("\n## From other languages\n")[2].partition("\n## ")[0]
+    quoted = re.findall(r"^```(\w+)\n(.*?)^```$", section, re.M | re.S)
+    shown = sorted(language for language, _ in quoted)
+    results.count(shown == ["c", "python", "rust"], f"README.md, From other languages: there are lines of {shown}")
+    for language, lines in quoted:
         results.count(lines in re.sub(r"^    ", "", example(language), flags=re.M), f"README.md: other lines of {language}")
 
 
@@ -304,6 +316,7 @@ def compare_sources(results):
     header = of_header()
     results.count(0 < len(header) == read(HEADER).count(");\n"), "calendar.h has declarations that are not understood")
     compare_declarations(results, header)
+    compare_safety(results, header)
     compare_uses(results, header)
     compare_examples(results)
     compile_header(results)
