@@ -87,7 +87,7 @@ def held(value: SupportsIndex, numbers: range, error: type[Exception] = ValueErr
 def instance(value: object, kind: type[T]) -> T:
     """The value itself; TypeError if it is not of that type."""
     if not isinstance(value, kind):
-        raise TypeError(f"a {kind.__name__} is wanted, not a {type(value).__name__}")
+        raise TypeError(f"{kind.__name__} is wanted, not {type(value).__name__}")
     return value
 
 
