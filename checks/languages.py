@@ -3,8 +3,9 @@
 
     checks/languages.py
 
-It takes the libcalendar_c.a that `rt lib` leaves in crates/calendar_c/out, if that is newer than all sources, and else builds one
-in a repository of its own over what is proved of the libraries below, as checks/outside.py does.
+It takes the libcalendar_c.a that `rt lib` leaves in crates/calendar_c/out, if that is newer than all sources. Else it runs `rt lib`
+there, if the libraries below are built, and after `rt ci`, which builds none for other commands, in a repository of its own over
+what is proved of them, as checks/outside.py does.
 
 Compared are names, results and parameters, each way: those of calendar.h with the exports of crates/calendar_c, with the symbols
 of the library, with the declarations of the Rust crate and with the prototypes of the Python package; and the fields of both
@@ -19,7 +20,7 @@ import subprocess
 import sys
 import tempfile
 
-from outside import below, copy_crates, listed_crates, take_proved, time_of
+from outside import below, copy_crates, listed_crates, load_rt, take_proved, time_of
 
 TOP = os.path.dirname(os.path.dirname(os.path.abspath(__file__)))
 CRATE = f"{TOP}/crates/calendar_c"
@@ -171,6 +172,15 @@ def compare_declarations(results, header):
     compare(results, "structs of languages/python", fields, structs("python", PACKAGE))
 
 
+def compare_safety(results, header):
+    """The Rust crate calls a function safe exactly if it takes no pointer."""
+    safe = set(re.findall(r"\bsafe fn (calendar_\w+)\(", read(DECLARATIONS)))
+    for name, (_, parameters) in header.items():
+        takes_pointer = any(kind.startswith("*") for kind, _ in parameters)
+        what = "is safe, and takes a pointer" if takes_pointer else "is not safe, and takes no pointer"
+        results.count((name in safe) != takes_pointer, f"declarations of languages/rust: {name} {what}")
+
+
 def compare_symbols(results, header, library):
     """The symbols that the library has for others, and wants of them: none but what compilers take for granted."""
     if not shutil.which("nm"):
@@ -195,27 +205,40 @@ def compare_uses(results, header):
 # ---- what is built and run
 
 
-def find_library(room):
-    """The static library: the one here, if it is newer than what it is made from, or one built in a repository of its own."""
-    crates = listed_crates()
-    line = next(it for it in crates if it.split()[0] == "calendar_c")
-    *libraries, _ = below(line, crates)
+def is_newer(library, libraries):
+    """Whether the static library is newer than what it is made from."""
     parts = [f"{TOP}/crates/{name}/{part}" for name in (*libraries, "calendar_c") for part in ("src", "specs", "proofs")]
-    here = f"{CRATE}/out/libcalendar_c.a"
-    if os.path.exists(here) and os.path.getmtime(here) > time_of(parts, max):
-        return here
-    if not shutil.which("rt"):
-        return None
+    return os.path.exists(library) and os.path.getmtime(library) > time_of(parts, max)
+
+
+def make_repository(room, libraries, crates):
+    """Writes a repository of the libraries and of calendar_c, with what is proved of them."""
     copy_crates(room, [*libraries, "calendar_c"])
+    line = next(it for it in crates if it.split()[0] == "calendar_c")
     with open(f"{room}/crates.txt", "w", encoding="utf-8") as it:
         it.writelines(f"{name}: {' '.join(crates[name])}\n" for name in (*libraries, line))
     if not take_proved(room, libraries):
         print("nothing kept serves: the libraries are proved first", flush=True)
-    ran = subprocess.run(["rt", "lib"], cwd=f"{room}/crates/calendar_c", stdout=subprocess.PIPE, stderr=subprocess.STDOUT)
+
+
+def find_library(room):
+    """The static library: the one here, if it is newer than what it is made from, or else one that is built now."""
+    crates = listed_crates()
+    *libraries, _ = below(next(it for it in crates if it.split()[0] == "calendar_c"), crates)
+    here = "crates/calendar_c/out/libcalendar_c.a"
+    if is_newer(f"{TOP}/{here}", libraries):
+        return f"{TOP}/{here}"
+    if not shutil.which("rt"):
+        return None
+    built = {it.name for it in load_rt().rtlib.crates_below(TOP) if it.is_built()}
+    top = TOP if built.issuperset(libraries) else room
+    if top == room:
+        make_repository(room, libraries, crates)
+    ran = subprocess.run(["rt", "lib"], cwd=f"{top}/crates/calendar_c", stdout=subprocess.PIPE, stderr=subprocess.STDOUT)
     if ran.returncode:
         print(ran.stdout.decode(errors="replace")[-3000:], flush=True)
         return None
-    return f"{room}/crates/calendar_c/out/libcalendar_c.a"
+    return f"{top}/{here}"
 
 
 def run(results, what, words, counts, **how):
@@ -293,9 +316,12 @@ def test_rust(results, room, library):
 
 
 def compare_examples(results):
-    """The lines of README.md for each language stand in the example of that language."""
-    section = read(f"{TOP}/README.md").partition("## From other languages")[2].partition("\n## ")[0]
-    for language, lines in re.findall(r"^```(\w+)\n(.*?)^```$", section, re.M | re.S):
+    """README.md has lines for each language, which stand in the example of that language."""
+    section = read(f"{TOP}/README.md").partition("\n## From other languages\n")[2].partition("\n## ")[0]
+    quoted = re.findall(r"^```(\w+)\n(.*?)^```$", section, re.M | re.S)
+    shown = sorted(language for language, _ in quoted)
+    results.count(shown == ["c", "python", "rust"], f"README.md, From other languages: there are lines of {shown}")
+    for language, lines in quoted:
         results.count(lines in re.sub(r"^    ", "", example(language), flags=re.M), f"README.md: other lines of {language}")
 
 
@@ -304,6 +330,7 @@ def compare_sources(results):
     header = of_header()
     results.count(0 < len(header) == read(HEADER).count(");\n"), "calendar.h has declarations that are not understood")
     compare_declarations(results, header)
+    compare_safety(results, header)
     compare_uses(results, header)
     compare_examples(results)
     compile_header(results)

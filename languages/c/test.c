@@ -270,21 +270,39 @@ static void weeks_and_sets(void)
     IS(calendar_days_until(127, UINT32_MAX), NONE);
 }
 
-/* A date is written in so much room as this text, with the bytes behind it left as they were, or not at all in less. */
+/* Bytes that a text is written into, before that and wherever it is not written. */
+#define ROOM 40
+#define UNWRITTEN '#'
+
+/* Whether the bytes hold a text, perhaps an empty one, and behind it none was written. */
+static bool holds(const uint8_t room[ROOM], const char *text)
+{
+    size_t size = strlen(text);
+    for (size_t i = size; i < ROOM; i++) {
+        if (room[i] != UNWRITTEN) {
+            return false;
+        }
+    }
+    return memcmp(room, text, size) == 0;
+}
+
+/* A date is written in so much room as this text, or in more, with the bytes behind it left as they were; in less not at all. */
 static void writes_date(int line, int32_t date, const char *text)
 {
-    uint8_t room[16];
+    uint8_t room[ROOM];
     int32_t size = (int32_t)strlen(text);
-    memset(room, '#', sizeof room);
-    count(calendar_write_date(date, room, (size_t)size - 1) == NONE && room[0] == '#', line, "calendar_write_date: no room");
-    count(calendar_write_date(date, room, (size_t)size) == size, line, "calendar_write_date");
-    count(memcmp(room, text, (size_t)size) == 0 && room[size] == '#', line, text);
+    memset(room, UNWRITTEN, ROOM);
+    count(calendar_write_date(date, room, (size_t)size - 1) == NONE && holds(room, ""), line, "calendar_write_date: no room");
+    count(calendar_write_date(date, room, (size_t)size) == size && holds(room, text), line, text);
+    memset(room, UNWRITTEN, ROOM);
+    count(calendar_write_date(date, room, ROOM) == size && holds(room, text), line, text);
     count(read_date(text) == date, line, "calendar_read_date");
 }
 
 static void texts_of_dates(void)
 {
-    uint8_t room[16] = {'#'};
+    uint8_t room[ROOM];
+    memset(room, UNWRITTEN, ROOM);
     writes_date(__LINE__, 738945, "2024-02-29");
     writes_date(__LINE__, 1, "0001-01-01");
     writes_date(__LINE__, 0, "0000-12-31");
@@ -293,11 +311,10 @@ static void texts_of_dates(void)
     writes_date(__LINE__, 3652060, "+10000-01-01");
     writes_date(__LINE__, CALENDAR_MIN, "-262143-01-01");
     writes_date(__LINE__, CALENDAR_MAX, "+262142-12-31");
-    IS(calendar_write_date(738945, room, sizeof room), 10);
-    IS(calendar_write_date(738945, room, SIZE_MAX), 10);
     IS(calendar_write_date(738945, room, 0), NONE);
-    IS(calendar_write_date(NONE, room, sizeof room), NONE);
-    IS(calendar_write_date(CALENDAR_MAX + 1, room, sizeof room), NONE);
+    IS(calendar_write_date(NONE, room, ROOM), NONE);
+    IS(calendar_write_date(CALENDAR_MAX + 1, room, ROOM), NONE);
+    IS(holds(room, ""), true);
     IS(calendar_read_date((const uint8_t *)"2024-02-29x", 10), 738945);
     IS(calendar_read_date((const uint8_t *)"2024-02-29\0", 11), NONE);
 }
@@ -385,28 +402,31 @@ static void distances_of_date_times(void)
     IS_LENGTH(calendar_date_time_since(moment(last, 0), moment(last, 1500000000)), -2, 500000000);
     IS_LENGTH(calendar_date_time_since(moment(last - 60, 1500000000), moment(last - 59, 0)), -1, 500000000);
     IS_LENGTH(calendar_date_time_since(moment(last - 58, 0), moment(last - 60, 1500000000)), 1, 500000000);
+    IS_LENGTH(calendar_date_time_since(moment(last + 1, 0), moment(last, 1500000000)), -1, 500000000);
     IS_LENGTH(calendar_date_time_since(moment(8210266876799, 0), moment(-8334601228800, 0)), 16544868105599, 0);
     NO_LENGTH(calendar_date_time_since(moment(0, CALENDAR_NO_NANOS), moment(0, 0)));
     NO_LENGTH(calendar_date_time_since(moment(0, 0), moment(0, 1000000000)));
     NO_LENGTH(calendar_date_time_since(moment(INT64_MAX, 0), moment(INT64_MIN, 0)));
 }
 
-/* A date-time is written in so much room as this text, and not in less. */
+/* A date-time is written in so much room as this text, or in more, and not in less. */
 static void writes_date_time(int line, calendar_date_time written, const char *text)
 {
-    uint8_t room[40];
+    uint8_t room[ROOM];
     int32_t size = (int32_t)strlen(text);
-    memset(room, '#', sizeof room);
-    count(calendar_write_date_time(written, room, (size_t)size - 1) == NONE && room[0] == '#', line,
+    memset(room, UNWRITTEN, ROOM);
+    count(calendar_write_date_time(written, room, (size_t)size - 1) == NONE && holds(room, ""), line,
           "calendar_write_date_time: no room");
-    count(calendar_write_date_time(written, room, (size_t)size) == size, line, "calendar_write_date_time");
-    count(memcmp(room, text, (size_t)size) == 0 && room[size] == '#', line, text);
+    count(calendar_write_date_time(written, room, (size_t)size) == size && holds(room, text), line, text);
+    memset(room, UNWRITTEN, ROOM);
+    count(calendar_write_date_time(written, room, ROOM) == size && holds(room, text), line, text);
     count(same_moment(read_date_time(text), written.seconds, written.nanos), line, "calendar_read_date_time");
 }
 
 static void texts_of_date_times(void)
 {
-    uint8_t room[40] = {'#'};
+    uint8_t room[ROOM];
+    memset(room, UNWRITTEN, ROOM);
     writes_date_time(__LINE__, moment(0, 0), "1970-01-01T00:00:00");
     writes_date_time(__LINE__, moment(-1, 500000000), "1969-12-31T23:59:59.500");
     writes_date_time(__LINE__, moment(0, 1000), "1970-01-01T00:00:00.000001");
@@ -417,8 +437,9 @@ static void texts_of_date_times(void)
     writes_date_time(__LINE__, moment(8210266876799, 999999999), "+262142-12-31T23:59:59.999999999");
     IS_MOMENT(read_date_time("2024-02-29 12:00:00.25"), 1709208000, 250000000);
     IS(calendar_write_date_time(moment(0, 0), room, 0), NONE);
-    IS(calendar_write_date_time(moment(0, CALENDAR_NO_NANOS), room, sizeof room), NONE);
-    IS(calendar_write_date_time(moment(INT64_MAX, 0), room, sizeof room), NONE);
+    IS(calendar_write_date_time(moment(0, CALENDAR_NO_NANOS), room, ROOM), NONE);
+    IS(calendar_write_date_time(moment(INT64_MAX, 0), room, ROOM), NONE);
+    IS(holds(room, ""), true);
     NO_MOMENT(calendar_read_date_time((const uint8_t *)"1970-01-01T00:00:00\0", 20));
 }
 

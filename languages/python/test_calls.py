@@ -5,6 +5,7 @@ import copy
 import pickle
 import unittest
 from dataclasses import FrozenInstanceError
+from datetime import date as python_date
 from datetime import timedelta
 
 from proved_calendar import Date, DateTime, Duration, Weekday, days_in_month, days_until, is_leap_year
@@ -12,9 +13,19 @@ from proved_calendar import Date, DateTime, Duration, Weekday, days_in_month, da
 MON, TUE, WED, THU, FRI, SAT, SUN = Weekday
 FIRST, LAST = Date(-262143, 1, 1), Date(262142, 12, 31)
 LEAP_DAY = Date(2024, 2, 29)
-# Ends of C's whole numbers, and past them.
-LARGE = (2**31 - 1, 2**31, 2**32 - 1, 2**32, 2**63 - 1, 2**63, 2**64)
-SMALL = (-(2**31), -(2**31) - 1, -(2**63), -(2**63) - 1)
+# Ends of C's whole numbers, past them, and past those that Python writes.
+LARGE = (2**31 - 1, 2**31, 2**32 - 1, 2**32, 2**63 - 1, 2**63, 2**64, 10**5_000)
+SMALL = (-(2**31), -(2**31) - 1, -(2**63), -(2**63) - 1, -(10**5_000))
+
+
+class Number:
+    """A whole number of a type of its own, as those of other libraries."""
+
+    def __init__(self, number):
+        self.number = number
+
+    def __index__(self):
+        return self.number
 
 
 class Answers(unittest.TestCase):
@@ -174,9 +185,17 @@ class Moves(Answers):
         self.assertEqual(LEAP_DAY.every_months(-12, 1), Date(2023, 2, 28))
         self.beyond(LEAP_DAY.every_months, 2**31 - 1, 2**32 - 1)
         self.beyond(LEAP_DAY.every_months, -(2**31), 2**32 - 1)
-        self.beyond(LEAP_DAY.every_months, 2**31, 1)
-        self.none(LEAP_DAY.every_months, 1, -1)
-        self.none(LEAP_DAY.every_months, 1, 2**32)
+        for number in LARGE:
+            # (2^32 is 0 in its last 32 bits)
+            self.beyond(LEAP_DAY.every_months, number, 1)
+            self.beyond(LEAP_DAY.every_months, -number, 1)
+            self.beyond(LEAP_DAY.every_months, 1, number)
+            self.assertEqual(LEAP_DAY.every_months(number, 0), LEAP_DAY)
+            self.assertEqual(LEAP_DAY.every_months(-number, 0), LEAP_DAY)
+            self.assertEqual(LEAP_DAY.every_months(0, number), LEAP_DAY)
+        for number in (-1, *SMALL):
+            self.none(LEAP_DAY.every_months, 1, number)
+            self.none(LEAP_DAY.every_months, 0, number)
 
     def test_years_since(self):
         born = Date(2000, 2, 29)
@@ -224,6 +243,7 @@ class Texts(Answers):
         "2024/02/29", "2024-02-2:", "24-02-29", "+2024-02-29", "-0000-01-01", "02024-02-29", "10000-01-01", "+262143-01-01",
         "-262144-12-31",
         "-4294965272-02-29", "2024-13-29", "20240229", "2024-060", "2024-W09-4", "2024-02-29\0", "٢٠٢٤-02-29", "\ud800",
+        "2024-02-29\udc80",
     ]
     MOMENTS = {
         (0, 0): "1970-01-01T00:00:00", (-1, 500_000_000): "1969-12-31T23:59:59.500", (0, 1_000): "1970-01-01T00:00:00.000001",
@@ -234,7 +254,7 @@ class Texts(Answers):
     NO_MOMENTS = [
         "", "2024-02-29", "2024-02-29T", "2024-02-29T12:00", "2024-02-29t12:00:00", "2024-02-29T24:00:00", "2024-02-29T12:60:00",
         "2024-02-29T12:00:61", "2024-02-29T12:00:00.", "2024-02-29T12:00:00.1234567890", "2024-02-29T12:00:00Z",
-        "2024-02-30T12:00:00", "2024-02-29T12:00:00\0", "+262143-01-01T00:00:00",
+        "2024-02-30T12:00:00", "2024-02-29T12:00:00\0", "+262143-01-01T00:00:00", "2024-02-29T12:00:00\udc80",
     ]
 
     def test_write_date(self):
@@ -329,7 +349,7 @@ class DateTimes(Answers):
             (self.at(1), self.at(0, 1), 999_999_999), (self.at(0), self.at(1, 500_000_000), -1_500_000_000),
             (inside, self.at(0), 1_500_000_000), (self.at(0), inside, -1_500_000_000), (self.at(2), self.at(0), 2_000_000_000),
             (self.at(-60, 1_500_000_000), self.at(-59), -500_000_000), (self.at(-58), self.at(-60, 1_500_000_000), 1_500_000_000),
-            (DateTime(LAST, 23, 59, 59), DateTime(FIRST), 16544868105599 * 10**9),
+            (DateTime(LAST, 23, 59, 59), DateTime(FIRST), 16544868105599 * 10**9), (self.at(1), inside, -500_000_000),
         ]:
             self.assertEqual(moment - base, Duration(nanoseconds=nanoseconds))
 
@@ -356,9 +376,46 @@ class Python(Answers):
             lambda: LEAP_DAY < 738946, lambda: is_leap_year(2024.0), lambda: DateTime(LEAP_DAY) + 1,
             lambda: DateTime(LEAP_DAY) - 1,
             lambda: DateTime(LEAP_DAY, 1.5), lambda: Duration(seconds=1) + 1, lambda: Duration(seconds=1) - 1,
-            lambda: LEAP_DAY.add_months(1.5), lambda: 1 - LEAP_DAY,
+            lambda: LEAP_DAY.add_months(1.5), lambda: 1 - LEAP_DAY, lambda: LEAP_DAY.every_months(0.0, 1),
+            lambda: LEAP_DAY.every_months(1, 0.0), lambda: LEAP_DAY.years_since(5), lambda: LEAP_DAY.years_since(DateTime(LEAP_DAY)),
+            lambda: LEAP_DAY.week_first_day(1.0), lambda: LEAP_DAY.week_first_day("1"), lambda: LEAP_DAY.first_on([1.0]),
+            lambda: days_until([1.0], 1), lambda: days_until([1], 1.0), lambda: Date.fromisoformat(b"2024-02-29"),
+            lambda: Date.fromisoformat(None), lambda: DateTime.fromisoformat(b"2024-02-29T12:00:00"),
+            lambda: DateTime.fromisoformat(None), lambda: DateTime(python_date(2024, 2, 29)), lambda: DateTime(738945),
+            lambda: Duration.from_timedelta(1),
         ]:
             self.assertRaises(TypeError, call)
+        for part in ("days", "hours", "minutes", "seconds", "nanoseconds"):
+            # (a text or a list times the nanoseconds of a part would take a gigabyte, or more than there is)
+            for value in ("1", [0], 1.0, None):
+                with self.assertRaises(TypeError, msg=(part, value)):
+                    Duration(**{part: value})
+
+    def test_other_whole_numbers(self):
+        self.assertEqual(Date(Number(2024), Number(2), Number(29)), LEAP_DAY)
+        self.assertEqual(DateTime(LEAP_DAY, *map(Number, (23, 59, 60, 1))), DateTime(LEAP_DAY, 23, 59, 60, 1))
+        self.assertEqual(DateTime(LEAP_DAY, *map(Number, (1, 2, 3))), DateTime(LEAP_DAY, 1, 2, 3))
+        for part in ("days", "hours", "minutes", "seconds", "nanoseconds"):
+            self.assertEqual(Duration(**{part: Number(2)}), Duration(**{part: 2}))
+        self.assertEqual(LEAP_DAY.every_months(Number(12), Number(4)), Date(2028, 2, 29))
+        self.assertEqual(LEAP_DAY.week_first_day(Number(5)), LEAP_DAY.week_first_day(FRI))
+        self.assertEqual(LEAP_DAY.first_on([Number(3), 3]), LEAP_DAY.first_on([WED]))
+
+    def test_ends(self):
+        self.assertEqual((Date.MIN, Date.MAX), (FIRST, LAST))
+        self.assertEqual(copy.copy(Date.MIN), FIRST)
+
+    def test_patterns(self):
+        match LEAP_DAY:
+            case Date(year, month, 29):
+                self.assertEqual((year, month), (2024, 2))
+            case _:
+                self.fail("the pattern of a date")
+        match DateTime(LEAP_DAY, 23, 59, 60, 1):
+            case DateTime(Date(2024), hour, minute, second, nanosecond):
+                self.assertEqual((hour, minute, second, nanosecond), (23, 59, 60, 1))
+            case _:
+                self.fail("the pattern of a date-time")
 
     def test_durations(self):
         self.assertEqual(Duration(days=1, hours=-24, minutes=1, seconds=-60, nanoseconds=5), Duration(nanoseconds=5))

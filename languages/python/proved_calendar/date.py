@@ -5,9 +5,10 @@ from collections.abc import Iterable
 from ctypes import c_char
 from dataclasses import dataclass
 from enum import IntEnum
-from typing import overload
+from operator import index as whole
+from typing import ClassVar, SupportsIndex, final, overload
 
-from .library import FIRST, I32, I64, LAST, LIBRARY, NONE, U32, held
+from .library import FIRST, I32, I64, LAST, LIBRARY, NONE, U32, held, instance
 
 # The numbers of dates.
 DATES = range(FIRST, LAST + 1)
@@ -32,18 +33,28 @@ class Weekday(IntEnum):
 WEEKDAYS = tuple(Weekday)
 
 
-@dataclass(frozen=True, order=True, slots=True, init=False, repr=False)
+@final
+@dataclass(frozen=True, order=True, slots=True, init=False, repr=False, match_args=False)
 class Date:
     """A date of the proleptic Gregorian calendar, from 1 January of year -262143 to 31 December of year 262142.
 
     The year before year 1 is year 0 (ISO 8601). A date is one number, by which it is compared and hashed; its text is
     `YYYY-MM-DD`. In the years 1 to 9999 number, names and text are those of `datetime.date`.
 
-    Where there is no such date a name raises ValueError, and a move OverflowError.
+    Where there is no such date a name raises ValueError, and a move OverflowError. A pattern takes a date apart as its name:
+    `case Date(2024, month, day)`.
     """
 
     number: int
     """The day number: 1 for 1 January of year 1, as in `datetime.date.toordinal`."""
+
+    MIN: ClassVar[Date]
+    """The first date, 1 January of year -262143."""
+
+    MAX: ClassVar[Date]
+    """The last date, 31 December of year 262142."""
+
+    __match_args__ = ("year", "month", "day")
 
     def __init__(self, year: int, month: int, day: int) -> None:
         """The date of a year, a month from 1 to 12 and a day of it (ISO 8601 calendar date)."""
@@ -79,7 +90,7 @@ class Date:
     @classmethod
     def fromisoformat(cls, text: str) -> Date:
         """The date with a text, exactly as `isoformat` writes it."""
-        written = text.encode()
+        written = instance(text, str).encode()
         return _named(LIBRARY.calendar_read_date(written, len(written)), f"{text!r} is no text of a date")
 
     @property
@@ -154,20 +165,28 @@ class Date:
         return _reached(LIBRARY.calendar_add_months(self.number, held(months, I64, OverflowError)))
 
     def every_months(self, months: int, index: int) -> Date:
-        """The date `index * months` months later in one move, so that a 31st comes back after a shorter month."""
-        length = held(months, I32, OverflowError)
-        return _reached(LIBRARY.calendar_every_months(self.number, length, held(index, U32)))
+        """The date `index * months` months later in one move, so that a 31st comes back after a shorter month.
+
+        The index is not negative, or ValueError is raised. If either number is 0 the date stays, however large the other is.
+        """
+        length, count = whole(months), whole(index)
+        if count < 0:
+            raise ValueError("the index is negative")
+        if length * count == 0:
+            length = count = 0
+        numbers = held(length, I32, OverflowError), held(count, U32, OverflowError)
+        return _reached(LIBRARY.calendar_every_months(self.number, *numbers))
 
     def years_since(self, base: Date) -> int:
         """The whole years from a date that is not later; those of an age. ValueError if it is later."""
-        years = LIBRARY.calendar_years_since(self.number, base.number)
+        years = LIBRARY.calendar_years_since(self.number, instance(base, Date).number)
         if years == NONE:
             raise ValueError(f"{base} is later than {self}")
         return years
 
     def week_first_day(self, start: int = Weekday.MONDAY) -> Date:
         """The first day of the date's week, where weeks begin on that weekday."""
-        return _reached(LIBRARY.calendar_week_first_day(self.number, Weekday(start)))
+        return _reached(LIBRARY.calendar_week_first_day(self.number, _weekday(start)))
 
     def first_on(self, weekdays: Iterable[int]) -> Date:
         """The first date from this one on that is one of the weekdays; ValueError if there is none of them."""
@@ -192,15 +211,20 @@ def days_in_month(year: int, month: int) -> int:
 
 def days_until(weekdays: Iterable[int], start: int) -> int:
     """The days from a weekday forward to the first of some weekdays, 0 to 6; ValueError if there is none of them."""
-    days = LIBRARY.calendar_days_until(_members(weekdays), Weekday(start))
+    days = LIBRARY.calendar_days_until(_members(weekdays), _weekday(start))
     if days == NONE:
         raise ValueError("no weekday is given")
     return days
 
 
+def _weekday(number: SupportsIndex) -> Weekday:
+    """The weekday with a whole number, as `operator.index` has it; ValueError if there is none."""
+    return Weekday(whole(number))
+
+
 def _members(weekdays: Iterable[int]) -> int:
     """A set of weekdays as its bits, from 1 for Monday to 64 for Sunday."""
-    return sum(1 << Weekday(it) - 1 for it in set(weekdays))
+    return sum(1 << it - 1 for it in {_weekday(it) for it in weekdays})
 
 
 def _date(number: int) -> Date:
@@ -222,3 +246,6 @@ def _reached(number: int) -> Date:
     if number == NONE:
         raise OverflowError("the date lies beyond the calendar")
     return _date(number)
+
+
+Date.MIN, Date.MAX = _date(FIRST), _date(LAST)

@@ -4,10 +4,11 @@ from __future__ import annotations
 from ctypes import c_char
 from dataclasses import dataclass
 from datetime import timedelta
-from typing import overload
+from operator import index
+from typing import final, overload
 
 from .date import Date
-from .library import I64, LIBRARY, NO_NANOS, NONE, U32, Moment, Span, held
+from .library import I64, LIBRARY, NO_NANOS, NONE, U32, Moment, Span, held, instance
 
 SECOND = 10**9
 MINUTE, HOUR, DAY = 60 * SECOND, 3_600 * SECOND, 86_400 * SECOND
@@ -20,7 +21,8 @@ LENGTHS = range(-LONGEST, LONGEST + 1)
 Room = c_char * 32
 
 
-@dataclass(frozen=True, order=True, slots=True, init=False)
+@final
+@dataclass(frozen=True, order=True, slots=True, init=False, match_args=False)
 class Duration:
     """A length of time in whole nanoseconds, forward or back, of at most 2^63 - 1 milliseconds."""
 
@@ -28,13 +30,15 @@ class Duration:
 
     def __init__(self, *, days: int = 0, hours: int = 0, minutes: int = 0, seconds: int = 0, nanoseconds: int = 0) -> None:
         """The sum of its parts, a day being 24 hours; OverflowError if that is too long."""
-        length = days * DAY + hours * HOUR + minutes * MINUTE + seconds * SECOND + nanoseconds
+        parts = (days, DAY), (hours, HOUR), (minutes, MINUTE), (seconds, SECOND), (nanoseconds, 1)
+        length = sum(index(count) * unit for count, unit in parts)
         object.__setattr__(self, "nanoseconds", held(length, LENGTHS, OverflowError))
 
     @classmethod
     def from_timedelta(cls, length: timedelta) -> Duration:
         """The length that Python's own type has."""
-        return cls(days=length.days, seconds=length.seconds, nanoseconds=1_000 * length.microseconds)
+        days = instance(length, timedelta).days
+        return cls(days=days, seconds=length.seconds, nanoseconds=1_000 * length.microseconds)
 
     def __add__(self, other: Duration) -> Duration:
         if not isinstance(other, Duration):
@@ -48,7 +52,8 @@ class Duration:
         return Duration(nanoseconds=-self.nanoseconds)
 
 
-@dataclass(frozen=True, order=True, slots=True, init=False, repr=False)
+@final
+@dataclass(frozen=True, order=True, slots=True, init=False, repr=False, match_args=False)
 class DateTime:
     """A date with a time of day, to the nanosecond, in no time zone.
 
@@ -61,12 +66,15 @@ class DateTime:
     nanos: int
     """The nanoseconds past them; 1,000,000,000 and more lie in the leap second that follows."""
 
+    __match_args__ = ("date", "hour", "minute", "second", "nanosecond")
+
     def __init__(self, date: Date, hour: int = 0, minute: int = 0, second: int = 0, nanosecond: int = 0) -> None:
         """The date at that time, where the second 60 is a leap second; ValueError if a clock does not show it."""
-        minutes = 60 * held(hour, range(24)) + held(minute, range(60))
-        is_leap = held(second, range(61)) == 60
+        number, minutes = instance(date, Date).number, 60 * held(hour, range(24)) + held(minute, range(60))
+        shown = held(second, range(61))
+        is_leap = shown == 60
         nanos = held(nanosecond, range(SECOND)) + SECOND * is_leap
-        self._take(LIBRARY.calendar_date_time_new(date.number, 60 * minutes + second - is_leap, nanos))
+        self._take(LIBRARY.calendar_date_time_new(number, 60 * minutes + shown - is_leap, nanos))
 
     @classmethod
     def from_seconds(cls, seconds: int, nanos: int = 0) -> DateTime:
@@ -79,7 +87,7 @@ class DateTime:
     @classmethod
     def fromisoformat(cls, text: str) -> DateTime:
         """The date-time with a text: that of a date, `T` or a space, `HH:MM:SS`, and perhaps a point and up to nine digits."""
-        written = text.encode()
+        written = instance(text, str).encode()
         moment = LIBRARY.calendar_read_date_time(written, len(written))
         if moment.nanos == NO_NANOS:
             raise ValueError(f"{text!r} is no text of a date-time")
@@ -147,7 +155,12 @@ class DateTime:
     def __sub__(self, other: Duration | timedelta) -> DateTime: ...
 
     def __sub__(self, other):
-        """How far this date-time is from another, or the date-time so much earlier."""
+        """How far this date-time is from another, or the date-time so much earlier.
+
+        A leap second counts if one of the two is in it and has the smaller second of the day. So the sign of the difference
+        tells the order of two times of one date, but not always of two dates: 2017-01-01T00:00:00 is -0.5 seconds from
+        2016-12-31T23:59:60.5, which is before it.
+        """
         if isinstance(other, DateTime):
             span = LIBRARY.calendar_date_time_since(self._moment(), other._moment())
             return Duration(seconds=span.seconds, nanoseconds=span.nanos)

@@ -6,7 +6,9 @@ import ctypes
 import os
 from ctypes import POINTER, c_bool, c_char_p, c_int32, c_int64, c_size_t, c_uint8, c_uint32
 from operator import index
-from typing import SupportsIndex
+from typing import SupportsIndex, TypeVar
+
+T = TypeVar("T")
 
 # The types of parameters, as the numbers that they hold.
 I32, I64 = range(-(2**31), 2**31), range(-(2**63), 2**63)
@@ -77,8 +79,16 @@ def held(value: SupportsIndex, numbers: range, error: type[Exception] = ValueErr
     """The whole number that a value stands for, as `operator.index` has it; an error if it is none of those numbers."""
     number = index(value)
     if number not in numbers:
-        raise error(f"{number} is not from {numbers[0]} to {numbers[-1]}")
+        # (the number itself may have more digits than Python writes)
+        raise error(f"the number is not from {numbers[0]} to {numbers[-1]}")
     return number
+
+
+def instance(value: object, kind: type[T]) -> T:
+    """The value itself; TypeError if it is not of that type."""
+    if not isinstance(value, kind):
+        raise TypeError(f"{kind.__name__} is wanted, not {type(value).__name__}")
+    return value
 
 
 LIBRARY = load(os.environ.get("CALENDAR_LIBRARY") or os.path.join(os.path.dirname(__file__), "libcalendar.so"))

@@ -115,7 +115,8 @@ impl DateTime {
 }
 
 /// How far the left date-time is from the right one. A leap second counts if one of them is in it and has the smaller second
-/// of the day.
+/// of the day. So the sign of the difference tells the order of two times of one date, but not always of two dates:
+/// 2017-01-01T00:00:00 is -0.5 seconds from 2016-12-31T23:59:60.5, which is before it.
 impl Sub for DateTime {
     type Output = Duration;
 

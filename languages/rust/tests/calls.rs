@@ -459,6 +459,7 @@ fn date_time_second_of_day() {
         [0, 60, 0, 0],
         [0, 0, 61, 0],
         [0, 0, 0, 1_000_000_000],
+        [0, 0, 59, 1_000_000_000],
         [0, 0, 60, 1_000_000_000],
         [u32::MAX; 4],
     ] {
@@ -515,6 +516,7 @@ fn date_time_since() {
             moment(LAST_SECOND - 60, 1_500_000_000),
             1_500_000_000,
         ),
+        (moment(LAST_SECOND + 1, 0), inside, -500_000_000),
         (
             moment(8_210_266_876_799, 0),
             moment(-8_334_601_228_800, 0),
@@ -546,6 +548,10 @@ fn write_date_time() {
     for (seconds, nanos, text) in DATE_TIME_TEXTS {
         assert_eq!(moment(seconds, nanos).to_string(), text);
         assert_eq!(format!("{:?}", moment(seconds, nanos)), text);
+        assert_eq!(
+            format!("{:>35}", moment(seconds, nanos)),
+            format!("{text:>35}")
+        );
     }
 }
 
