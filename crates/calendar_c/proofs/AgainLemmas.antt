@@ -1,12 +1,16 @@
 -- The numbers of what a move reaches, a text writes and a distance is stand for it again.
 use Rattle.std.proofs.Common.{◌≡◌, ◌⊎◌, ℕ, ◌+◌, ◌*◌, ◌<◌, ◌≤◌, ◌==◌, ◌&&◌, nat_lt, nat_le, Bool, true, false, cond, List, Option, Some, None, refl, sym, subst, arith, ℤ, pos, ◌+ℤ◌, ◌-ℤ◌, ◌*ℤ◌, unsigned_abs}
+use Rattle.std.proofs.lemmas.Bool.{and_parts}
 use Rattle.std.proofs.lemmas.Bool.Decides.{nat_tests}
+use Rattle.std.proofs.lemmas.Option.{cond_some}
 use Rattle.std.specs.Option.{option_and_then, option_map}
 use Rattle.chrono_clock.specs.Duration.{IsDuration, floor_secs, longest, nanos_of, past_floor}
 use Rattle.chrono_clock.specs.Time.{Landing, TimeOfDay, distance, is_leap, land, leap_landing, place, plain_landing, time_at}
 use Rattle.chrono_clock.proofs.TimeLemmas.{by_leap, by_parts, land-leap, land-plain, leap_landing-before, leap_landing-inside, leap_landing-past}
-use Rattle.chrono_calendar.specs.Days.{IsDate, date_of_day}
-use Rattle.chrono_calendar.proofs.NamedDates.{date_of_day-number}
+use Rattle.chrono_units.specs.Years.{IsYear, is_year}
+use Rattle.chrono_calendar.specs.Days.{IsDate, date_of_day, date_of_ymd, day_number_of_ymd, is_calendar_name}
+use Rattle.chrono_calendar.proofs.Dates.{is_year-fact}
+use Rattle.chrono_calendar.proofs.NamedDates.{IsDate-year, date_of_day-number, date_of_ymd-name}
 use Rattle.chrono_calendar.proofs.Signed.{signed}
 use Rattle.chrono_datetime.specs.Moment.{Moment, moment_distance, reach}
 use Rattle.chrono_reading.specs.DateTimeTexts.{IsDateTimeText}
@@ -52,6 +56,32 @@ pub moved-again : (a : CalendarDateTime) (start : Option Moment) (by : Option �
 moved-again a None by e = moment_named-none None refl
 moved-again a (Some m) None e = moment_named-none None refl
 moved-again a (Some m) (Some x) e = reach-again (reach m x) m x (moment_named-facts a m e).1 refl
+
+-- ---- texts
+
+-- a named day of a year that has dates is a date
+IsDate-named : (n y : ℤ) (m d : ℕ) → date_of_ymd y m d ≡ Some n → IsDate n
+unfolding date_of_ymd
+IsDate-named n y m d e =
+    let is = cond_some (is_year y && is_calendar_name y m d) (day_number_of_ymd y m d) n e in
+    IsDate-year n (subst IsYear (date_of_ymd-name n y m d e).0 (is_year-fact y (and_parts (is_year y) (is_calendar_name y m d) is.0).0))
+
+either_named : (b : Bool) (t u : TimeOfDay) → IsNamed t → (b ≡ false → IsNamed u) → IsNamed (cond b t u)
+either_named true t u f g = f
+either_named false t u f g = g refl
+
+IsNamed-shown : (text : List ℕ) (t : TimeOfDay) → IsTimeText text t → IsNamed t
+IsNamed-shown text t h =
+    let below = IsFractionText-below h.fraction h.nanos h.fraction_written in
+    subst IsNamed h.names (either_named (h.second == 60) (time_at h.hour h.minute 59 (1_000_000_000 + h.nanos)) (time_at h.hour h.minute h.second h.nanos)
+    (omega (arith, h.hour_in_day, h.minute_in_hour), (omega (arith, below), λ _. omega arith))
+    (λ plain.
+    let second : h.second < 60 = grind (arith, nat_tests, plain, h.second_in_minute) in
+    (omega (arith, h.hour_in_day, h.minute_in_hour, second), (omega (arith, below), λ leap. absurd (omega (arith, below, leap))))))
+
+pub text-again : (text : List ℕ) (m : Moment) → IsDateTimeText text m → moment_named (numbers_of m) ≡ Some m
+text-again text m h =
+    numbers_of-again m (IsDate-named m.date h.date_written.year h.date_written.month h.date_written.day h.date_written.names) (IsNamed-shown h.time m.time h.time_written)
 
 -- ---- distances
 
