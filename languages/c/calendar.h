@@ -4,8 +4,8 @@
  * before year 1. Dates are compared, and the days between two of them counted, as the numbers that they are.
  *
  * Every function answers for all arguments of its types. CALENDAR_NONE is answered where there is no such date, field or
- * text, so also for each argument that has to be a date and is none. No function takes memory, keeps anything between
- * calls or reads anything but its arguments, so any number of threads may call them at once.
+ * text, so also for each argument that has to be a date, a weekday or a date-time and is none. No function takes memory,
+ * keeps anything between calls or reads anything but its arguments, so any number of threads may call them at once.
  *
  * Weekdays count from 1 for Monday to 7 for Sunday (ISO 8601). A set of weekdays is a number with one binary digit for each:
  * 1 for Monday, 2 for Tuesday, 4, 8, 16, 32, and 64 for Sunday; its highest digit counts for nothing.
@@ -39,14 +39,16 @@ extern "C" {
 
 /* A date-time with no time zone: the seconds since 1970-01-01T00:00:00, of which every day has 86,400, and the nanoseconds
  * past them, 0 to 999,999,999. From 1,000,000,000 to 1,999,999,999 they lie in the leap second that follows the second,
- * which has to be the last of its minute. Any other pair of numbers, or one whose day is no date, is no date-time. */
+ * which has to be the last of its minute. Any other pair of numbers, or one whose day is no date, is no date-time. A pair is
+ * one exactly if calendar_date_time_date does not answer CALENDAR_NONE for it. */
 typedef struct {
     int64_t seconds;
     uint32_t nanos;
 } calendar_date_time;
 
-/* A duration: whole seconds, rounded down, and 0 to 999,999,999 nanoseconds more, so -1.5 seconds are -2 and 500,000,000.
- * Its size is at most INT64_MAX milliseconds. Any other pair of numbers is no duration. */
+/* A duration: whole seconds, rounded down, and 0 to 999,999,999 nanoseconds more, so 1.5 seconds are 1 and 500,000,000, and
+ * -1.5 seconds are -2 and 500,000,000. The other way it has -seconds and 0 if its nanos are 0, and else -seconds - 1 and
+ * 1,000,000,000 - nanos. Its size is at most INT64_MAX milliseconds. Any other pair of numbers is no duration. */
 typedef struct {
     int64_t seconds;
     uint32_t nanos;
@@ -116,7 +118,8 @@ int32_t calendar_years_since(int32_t date, int32_t base);
 /* The first day of the week that holds the date and begins on the weekday start; none if it is before CALENDAR_MIN. */
 int32_t calendar_week_first_day(int32_t date, uint32_t start);
 
-/* The first date from this one on, itself counted, whose weekday is in the set. */
+/* The first date from this one on, itself counted, whose weekday is in the set; none if the set is empty, or if there is no
+ * such day up to CALENDAR_MAX. */
 int32_t calendar_first_on(int32_t date, uint8_t weekdays);
 
 /* The days from a weekday on to the first one in the set, 0 to 6; none if the set is empty. */
@@ -142,12 +145,14 @@ int32_t calendar_date_time_date(calendar_date_time moment);
 /* The second of the day of a date-time, from 0 to 86,399. */
 int32_t calendar_date_time_second_of_day(calendar_date_time moment);
 
-/* The date-time that lies so much later, or earlier for a negative duration. From inside a leap second the move counts the
- * rest of that second, and no other leap second. */
+/* The date-time that lies so much later, or earlier for a negative duration; none if its day is no date. From inside a leap
+ * second the move counts what is left of that second, or for a move back what has passed of it, and no other leap second. */
 calendar_date_time calendar_date_time_add(calendar_date_time moment, calendar_duration by);
 
 /* How far moment is from base: 86,400 seconds for each day between their dates, and how far their times of day are apart. A
- * leap second counts if one of the two times is in it and has the smaller second of the day. */
+ * leap second counts if one of the two times is in it and has the smaller second of the day. So where the dates differ and
+ * one of the two is in a leap second, the sign may not tell which comes first, and the move may not lead back:
+ * 2017-01-01T00:00:00 is -0.5 seconds from 2016-12-31T23:59:60.5, and so much on from there it is 23:59:60. */
 calendar_duration calendar_date_time_since(calendar_date_time moment, calendar_date_time base);
 
 /* Writes the date-time as 2024-02-29T23:59:60.500, and answers how many bytes that took: 19 to 32. The fraction has three,

@@ -1,5 +1,5 @@
 -- Which numbers name a date-time or a duration: from the tests of the definitions to facts and back.
-use Rattle.std.proofs.Common.{sym, ◌≡◌, ℕ, ◌%◌, ◌<◌, ◌&&◌, nat_lt, nat_le, Bool, true, false, cond, Option, Some, None, refl, ap, arith, ℤ, unsigned_abs}
+use Rattle.std.proofs.Common.{sym, subst, ◌∙◌, ◌≡◌, ℕ, ◌%◌, ◌<◌, ◌&&◌, nat_lt, nat_le, Bool, true, false, cond, Option, Some, None, refl, ap, arith, ℤ, unsigned_abs}
 use Rattle.std.proofs.lemmas.Bool.Decides.{nat_tests}
 use Rattle.std.specs.Option.{SomeIff}
 use Rattle.chrono_clock.specs.Duration.{IsDuration, longest, nanos_of}
@@ -7,14 +7,14 @@ use Rattle.chrono_clock.specs.Time.{FractionFits, TimeOfDay}
 use Rattle.chrono_calendar.specs.Days.{IsDate, date_of_day}
 use Rattle.chrono_calendar.proofs.Dates.{by_test}
 use Rattle.chrono_datetime.specs.Moment.{Moment, moment, moment_on}
-use Rattle.chrono_calendar.proofs.NamedDates.{date_of_day-None, date_of_day-number}
+use Rattle.chrono_calendar.proofs.NamedDates.{date_of_day-None, date_of_day-Some, date_of_day-number}
 use Rattle.chrono_calendar.proofs.Signed.{signed}
 use Rattle.calendar_c.specs.DateTimes.{day_of_seconds, duration_named, is_time_named, moment_at, moment_named, numbers_of, numbers_or_none, second_of_seconds}
 use Rattle.calendar_c.specs.declared.date_time_numbers.CalendarDateTime.{CalendarDateTime}
 use Rattle.calendar_c.specs.declared.date_time_numbers.CalendarDuration.{CalendarDuration}
 
 -- a second of the day and a fraction that the library has
-abbrev IsTimeNamed : ℕ → ℕ → Type 0
+abbrev pub IsTimeNamed : ℕ → ℕ → Type 0
 IsTimeNamed second nanos = (second < 86_400) × FractionFits (second % 60) nanos
 
 is_time_named-test : (second nanos : ℕ) → IsTimeNamed second nanos → is_time_named second nanos ≡ true
@@ -61,7 +61,7 @@ unfolding moment_named
 moment_named-no_date a h = moment_at-no_date (day_of_seconds a.seconds) (second_of_seconds a.seconds) a.nanos (date_of_day-None (day_of_seconds a.seconds) h)
 
 -- a date and a time that are there, by their tests
-found : (b : Bool) (o : Option ℤ) (t : TimeOfDay) (m : Moment) → Some m ≡ cond b (moment_on o t) None → (b ≡ true) × (Some m.date ≡ o) × (t ≡ m.time)
+pub found : (b : Bool) (o : Option ℤ) (t : TimeOfDay) (m : Moment) → Some m ≡ cond b (moment_on o t) None → (b ≡ true) × (Some m.date ≡ o) × (t ≡ m.time)
 found true (Some n) t m e = (refl, cc, cc)
 found true None t m e = absurd cc
 found false o t m e = absurd cc
@@ -78,6 +78,25 @@ again day second nanos m e =
     let of_day : day_of_seconds (numbers_of m).seconds ≡ day = omega (arith, signed, seconds, time.0, date.1) in
     let of_second : second_of_seconds (numbers_of m).seconds ≡ second = omega (arith, signed, seconds, time.0, date.1) in
     rw (of_day, of_second, ← fraction) refl
+
+-- what numbers name is on a date, at a time that is named
+pub moment_named-facts : (a : CalendarDateTime) (m : Moment) → Some m ≡ moment_named a → IsDate m.date × IsTimeNamed m.time.second m.time.fraction
+unfolding moment_named moment_at
+moment_named-facts a m e =
+    let is = found (is_time_named (second_of_seconds a.seconds) a.nanos) (date_of_day (day_of_seconds a.seconds)) (record { second = second_of_seconds a.seconds; fraction = a.nanos }) m e in
+    let time = is_time_named-fact (second_of_seconds a.seconds) a.nanos is.0 in
+    ((date_of_day-number m.date (day_of_seconds a.seconds) (sym is.1)).0, subst (λ (t : TimeOfDay). IsTimeNamed t.second t.fraction) is.2 time)
+
+-- and the numbers of any such date-time name it
+pub numbers_of-again : (m : Moment) → IsDate m.date → IsTimeNamed m.time.second m.time.fraction → moment_named (numbers_of m) ≡ Some m
+numbers_of-again m date time =
+    let e = moment_at-Some m.date m.date m.time.second m.time.fraction time (sym (date_of_day-Some m.date date)) in
+    again m.date m.time.second m.time.fraction m e ∙ sym e
+
+pub moment_named-none : (o : Option Moment) → o ≡ None → moment_named (numbers_or_none o) ≡ o
+unfolding moment_named moment_at
+moment_named-none None e = refl
+moment_named-none (Some m) e = absurd cc
 
 pub moment_named-again : (o : Option Moment) (day : ℤ) (second nanos : ℕ) → o ≡ moment_at day second nanos → moment_named (numbers_or_none o) ≡ moment_at day second nanos
 unfolding moment_named moment_at

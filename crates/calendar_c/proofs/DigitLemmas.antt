@@ -2,8 +2,7 @@
 use Rattle.std.proofs.Common.{◌≡◌, ℕ, ◌+◌, ◌/◌, ◌%◌, ◌^◌, ◌<◌, ◌≤◌, List, ◌∷◌, ◌++◌, length, refl, ap, sym, ◌∙◌, arith}
 use Rattle.std.specs.Fmt.{decimal}
 use Rattle.chrono_datetime.specs.Text.{all_digits, subsecond_text, year_digits}
-use Rattle.chrono_reading.specs.Numerals.{HasDecimalForm}
-use Rattle.chrono_reading.proofs.DigitLemmas.{all_digits-written, decimal-read}
+use Rattle.chrono_reading.proofs.DigitLemmas.{HasDecimalForm, all_digits-written, decimal-read}
 
 cons3 : (a b c d e f : ℕ) (xs ys : List ℕ) → a ≡ d → b ≡ e → c ≡ f → xs ≡ ys → a ∷ b ∷ c ∷ xs ≡ d ∷ e ∷ f ∷ ys
 cons3 a b c d e f xs ys p q r s = cc
@@ -43,7 +42,7 @@ pub year_digits-five : (n : ℕ) → 10_000 ≤ n → n < 100_000 → year_digit
 year_digits-five n low high =
     let is : year_digits n ≡ decimal n = grind arith in
     let first : (48 + n / 10_000) ≡ 48 + n / 10_000 % 10 = omega arith in
-    is ∙ decimal_digits (all_digits 5 n) n high refl (record { some = omega arith; few = omega arith; first = λ _ e. omega (arith, e) })
+    is ∙ decimal_digits (all_digits 5 n) n high refl (omega arith, omega arith, λ _ e. omega (arith, e))
     ∙ ap (λ (k : ℕ). k ∷ all_digits 4 (n % 10_000)) first
 
 pub year_digits-six : (n : ℕ) → 100_000 ≤ n → n < 1_000_000 → year_digits n ≡ (48 + n / 10_000 / 10) ∷ (48 + n / 10_000 % 10) ∷ all_digits 4 (n % 10_000)
@@ -52,7 +51,7 @@ year_digits-six n low high =
     let first : (48 + n / 100_000) ≡ 48 + n / 10_000 / 10 = omega arith in
     let second : (48 + n % 100_000 / 10_000) ≡ 48 + n / 10_000 % 10 = omega arith in
     let rest : n % 100_000 % 10_000 ≡ n % 10_000 = omega arith in
-    is ∙ decimal_digits (all_digits 6 n) n high refl (record { some = omega arith; few = omega arith; first = λ _ e. omega (arith, e) })
+    is ∙ decimal_digits (all_digits 6 n) n high refl (omega arith, omega arith, λ _ e. omega (arith, e))
     ∙ ap (λ (k : ℕ). k ∷ (48 + n % 100_000 / 10_000) ∷ all_digits 4 (n % 100_000 % 10_000)) first
     ∙ ap (λ (k : ℕ). (48 + n / 10_000 / 10) ∷ k ∷ all_digits 4 (n % 100_000 % 10_000)) second
     ∙ ap (λ (k : ℕ). (48 + n / 10_000 / 10) ∷ (48 + n / 10_000 % 10) ∷ all_digits 4 k) rest

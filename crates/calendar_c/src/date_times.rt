@@ -54,8 +54,10 @@ pub extern "C" fn calendar_date_time_add(
     moment: CalendarDateTime,
     by: CalendarDuration,
 ) -> CalendarDateTime
-    ensures { result ≡ numbers_or_none
+    ensures numbers { result ≡ numbers_or_none
         (option_and_then (λ m. option_and_then (reach m) (duration_named by)) (moment_named moment)) }
+    ensures named { moment_named result
+        ≡ option_and_then (λ m. option_and_then (reach m) (duration_named by)) (moment_named moment) }
 {
     numbers_or_none(moved(moment, by))
 }
@@ -66,8 +68,10 @@ pub extern "C" fn calendar_date_time_since(
     moment: CalendarDateTime,
     base: CalendarDateTime,
 ) -> CalendarDuration
-    ensures { result ≡ duration_or_none
+    ensures numbers { result ≡ duration_or_none
         (option_and_then (λ m. option_map (moment_distance m) (moment_named base)) (moment_named moment)) }
+    ensures named { duration_named result
+        ≡ option_and_then (λ m. option_map (moment_distance m) (moment_named base)) (moment_named moment) }
 {
     duration_or_none(distance(moment, base))
 }

@@ -64,6 +64,7 @@ pub extern "C" fn calendar_write_date_time(moment: CalendarDateTime, text: &mut 
 pub extern "C" fn calendar_read_date_time(text: &[u8]) -> CalendarDateTime
     ensures read { (result ≡ numbers_or_none None) ⊎ ((m : Moment) × (result ≡ numbers_of m) × IsDateTimeText text.now m) }
     ensures every { (m : Moment) → IsDateTimeText text.now m → result ≡ numbers_of m }
+    ensures named { (m : Moment) → IsDateTimeText text.now m → moment_named result ≡ Some m }
 {
     numbers_or_none(read_date_time(text))
 }
