@@ -1,5 +1,5 @@
 -- The numbers of what a move reaches, a text writes and a distance is stand for it again.
-use Rattle.std.proofs.Common.{◌≡◌, ◌⊎◌, ℕ, ◌+◌, ◌*◌, ◌<◌, ◌≤◌, ◌==◌, ◌&&◌, nat_lt, nat_le, Bool, true, false, cond, List, Option, Some, None, refl, sym, subst, arith, ℤ, pos, ◌+ℤ◌, ◌-ℤ◌, ◌*ℤ◌, unsigned_abs}
+use Rattle.std.proofs.Common.{◌≡◌, ℕ, ◌+◌, ◌<◌, ◌≤◌, ◌==◌, ◌&&◌, nat_lt, nat_le, Bool, true, false, cond, List, Option, Some, None, refl, sym, subst, arith, ℤ, pos, ◌+ℤ◌, ◌-ℤ◌, unsigned_abs}
 use Rattle.std.proofs.lemmas.Bool.{and_parts}
 use Rattle.std.proofs.lemmas.Bool.Decides.{nat_tests}
 use Rattle.std.proofs.lemmas.Option.{cond_some}
@@ -14,7 +14,7 @@ use Rattle.chrono_calendar.proofs.NamedDates.{IsDate-year, date_of_day-number, d
 use Rattle.chrono_calendar.proofs.Signed.{signed}
 use Rattle.chrono_datetime.specs.Moment.{Moment, moment_distance, reach}
 use Rattle.chrono_reading.specs.DateTimeTexts.{IsDateTimeText}
-use Rattle.chrono_reading.specs.TimeTexts.{IsTimeText, time_shown}
+use Rattle.chrono_reading.specs.TimeTexts.{IsTimeText}
 use Rattle.chrono_reading.proofs.FractionLemmas.{IsFractionText-below}
 use Rattle.calendar_c.specs.DateTimes.{duration_named, duration_or_none, moment_named, numbers_of, numbers_or_none}
 use Rattle.calendar_c.specs.declared.date_time_numbers.CalendarDateTime.{CalendarDateTime}

@@ -1,5 +1,5 @@
 //! The texts of dates and date-times, written into the caller's bytes and read.
-ghost use Rattle.std.specs.Prelude.{◌≡◌, ◌≢◌, ◌⊎◌, ◌+◌, ◌++◌, ◌<◌, ℤ, None, Some, length};
+ghost use Rattle.std.specs.Prelude.{◌≡◌, ◌≢◌, ◌⊎◌, ◌+◌, ◌++◌, ◌<◌, ◌≤◌, ℤ, pos, None, Some, length};
 ghost use Rattle.std.specs.Option.{option_map};
 ghost use Rattle.chrono_datetime.specs.Days.{IsDate, date_of_day};
 ghost use Rattle.chrono_datetime.specs.DateText.{date_text};
@@ -23,6 +23,7 @@ use chrono_reading::{read_date, read_date_time};
 pub extern "C" fn calendar_write_date(date: i32, text: &mut [u8]) -> i32
     ensures length { result ≡ count_or_none
         (length_of (text_within (length text.old) (option_map date_text (date_of_day date)))) }
+    ensures enough { IsDate date → 13 ≤ length text.old → result ≡ pos (length (date_text date)) }
     ensures bytes { text.new
         ≡ overwritten (text_within (length text.old) (option_map date_text (date_of_day date))) text.old }
 {
@@ -47,6 +48,8 @@ pub extern "C" fn calendar_read_date(text: &[u8]) -> i32
 pub extern "C" fn calendar_write_date_time(moment: CalendarDateTime, text: &mut [u8]) -> i32
     ensures length { result ≡ count_or_none
         (length_of (text_within (length text.old) (option_map (moment_text 84) (moment_named moment)))) }
+    ensures enough { (m : Moment) → moment_named moment ≡ Some m → 32 ≤ length text.old
+        → result ≡ pos (length (moment_text 84 m)) }
     ensures bytes { text.new
         ≡ overwritten (text_within (length text.old) (option_map (moment_text 84) (moment_named moment))) text.old }
 {
