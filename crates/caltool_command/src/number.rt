@@ -60,42 +60,14 @@ fn digits_in_lanes(bytes: &[u8]) -> usize
     ensures digits { (k : ℕ) → k < result → IsInRange 48 57 (slice_index bytes.now k) }
     ensures end { result < 16 → ¬ (IsInRange 48 57 (slice_index bytes.now result)) }
 {
-    lanes_before_low(bytes).min(lanes_before_high(bytes))
-}
-
-// How many of the first 16 bytes come before the first that is below the digits: all, if there is none.
-#[inline]
-fn lanes_before_low(bytes: &[u8]) -> usize
-    requires { 16 ≤ length bytes.now }
-    ensures within { result ≤ 16 }
-    ensures before { (k : ℕ) → k < result → 48 ≤ slice_index bytes.now k }
-    ensures here { result < 16 → slice_index bytes.now result < 48 }
-{
-    let lows = u8x16::from_slice(bytes)
-        .simd_lt(u8x16::splat(b'0'))
+    // Counted from the byte behind `9`, and on from 0 after 255, the ten digits come last.
+    let others = (u8x16::from_slice(bytes) - u8x16::splat(b'9' + 1))
+        .simd_lt(u8x16::splat(u8::MAX - 9))
         .to_bitmask();
-    if lows == 0 {
+    if others == 0 {
         LANES
     } else {
-        lows.trailing_zeros() as usize
-    }
-}
-
-// How many of the first 16 bytes come before the first that is above the digits: all, if there is none.
-#[inline]
-fn lanes_before_high(bytes: &[u8]) -> usize
-    requires { 16 ≤ length bytes.now }
-    ensures within { result ≤ 16 }
-    ensures before { (k : ℕ) → k < result → slice_index bytes.now k ≤ 57 }
-    ensures here { result < 16 → 57 < slice_index bytes.now result }
-{
-    let highs = u8x16::splat(b'9')
-        .simd_lt(u8x16::from_slice(bytes))
-        .to_bitmask();
-    if highs == 0 {
-        LANES
-    } else {
-        highs.trailing_zeros() as usize
+        others.trailing_zeros() as usize
     }
 }
 
