@@ -234,7 +234,9 @@ def find_library(room):
     top = TOP if built.issuperset(libraries) else room
     if top == room:
         make_repository(room, libraries, crates)
-    ran = subprocess.run(["rt", "lib"], cwd=f"{top}/crates/calendar_c", stdout=subprocess.PIPE, stderr=subprocess.STDOUT)
+    # (each job more loads all libraries once more, which takes as long as the proofs)
+    words = ["rt", "lib", "--jobs", "1"]
+    ran = subprocess.run(words, cwd=f"{top}/crates/calendar_c", stdout=subprocess.PIPE, stderr=subprocess.STDOUT)
     if ran.returncode:
         print(ran.stdout.decode(errors="replace")[-3000:], flush=True)
         return None
