@@ -9,7 +9,7 @@ is its twin over that library.
 A call of a date is made of a `NaiveDate`, as a user makes it, and of both stored forms, by their own calls and those of
 `chrono_calendar::forms` that a `NaiveDate` makes. One field alone stands beside the bare formula for it, which the twin has.
 All make each call on the same pseudo-random arguments and print the sum of the answers, which has to be the same before any is
-timed. They take turns in five rounds over all calls, and the best run counts, by processor time, less that of `none`, which
+timed. They take turns in 21 rounds over all calls, and the best run counts, by processor time, less that of `none`, which
 draws, looks up and adds without a call. No call waits for the answer of the one before, so what a processor does of a call
 beside the next drawing is not seen.
 """
@@ -21,7 +21,7 @@ import tempfile
 from lines import TOP, build_over_chrono
 
 CHRONO_SUMS = os.path.join(TOP, "crates", "chrono_sums", "out", "chrono_sums")
-ROUNDS = 5
+ROUNDS = 21
 
 # Calls of each whose answers are compared before any is timed.
 COMPARED = 1_000_000

@@ -9,7 +9,7 @@ librust-chrono-dev with cargo. C and Rust are linked with the library itself, wi
 a shared object of it by ctypes, and most of what a call takes there is ctypes and the making of an object.
 
 The programs of benches/languages make each call on the same pseudo-random arguments, from the 400 years from 1800 on, and print
-the sum of the answers, which has to be the same before any is timed. They take turns in five rounds over all calls, and the best
+the sum of the answers, which has to be the same before any is timed. They take turns in 21 rounds over all calls, and the best
 run counts, by processor time, less that of `none`, which draws, looks up and adds without a call.
 """
 import os

@@ -1,12 +1,12 @@
 #!/usr/bin/env python3
 """Measures caltool beside two Rust programs over chrono, command by command and mixed, in one run, as ratios.
 
-    benches/lines.py [LINES]        (300,000 of each command and a million mixed, if left out)
+    benches/lines.py [LINES]        (100,000 of each command and 333,333 mixed, if left out)
 
 benches/chrono_tuned reads and writes bytes by hand through buffers of 64 KiB, benches/chrono_lines is the plainest good program.
 All three answer each file before any is timed, and their answers have to be the same, byte for byte. Years have one to six digits
 and both signs, times all nine digits of their fraction, counts up to eighteen digits.
-The programs then take turns in seven rounds, from a file to /dev/null, and the best run of each counts, by processor time: the
+The programs then take turns in 31 rounds, from a file to /dev/null, and the best run of each counts, by processor time: the
 table says how often caltool's time goes into that of the other program.
 
 It needs crates/caltool/out/caltool, which `rt run` and `rt ci` leave there, and Debian's librust-chrono-dev with cargo; with
@@ -23,7 +23,7 @@ import tempfile
 
 TOP = os.path.dirname(os.path.dirname(os.path.abspath(__file__)))
 CALTOOL = os.path.join(TOP, "crates", "caltool", "out", "caltool")
-ROUNDS = 7
+ROUNDS = 31
 
 
 def a_year(chance):
@@ -138,7 +138,7 @@ def compare_conversions(folder, count):
 
 
 def main():
-    count = int(sys.argv[1]) if len(sys.argv) > 1 else 300_000
+    count = int(sys.argv[1]) if len(sys.argv) > 1 else 100_000
     chance = random.Random(1)
     with tempfile.TemporaryDirectory() as folder:
         programs = [CALTOOL, *(build_over_chrono(folder, name) for name in ("chrono_tuned", "chrono_lines"))]
