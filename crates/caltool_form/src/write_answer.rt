@@ -328,7 +328,7 @@ fn push_week_and_ordinal<A: CommandAnswers, const N: usize>(out: &mut Text<N>, d
     out.push_text(b" ");
     out.push_week(year, week);
     out.push_text(b" ");
-    out.push_u32(A::ordinal(date));
+    out.push_short_u32(A::ordinal(date));
 }
 
 // A date and a time of day with a `T` between.

@@ -195,9 +195,12 @@ impl NaiveTime {
         ensures same { self ≡ rhs → result ≡ pos 0 }
         ensures earlier { IsEarlier self rhs → result <ℤ pos 0 }
     {
-        let here = self.place_beside(&rhs);
-        let there = rhs.place_beside(&self);
-        TimeDelta::nanoseconds(here as i64 - there as i64)
+        let here = self.second_beside(&rhs);
+        let there = rhs.second_beside(&self);
+        TimeDelta::from_few_secs(
+            here as i64 - (there + 2) as i64,
+            self.frac + 2 * NANOS_PER_SEC - rhs.frac,
+        )
     }
 
     // The second of the day.
@@ -251,19 +254,14 @@ impl NaiveTime {
         self.frac >= NANOS_PER_SEC
     }
 
-    // The place of this time, past the other's leap second if that comes first.
+    // The second of the day, past the other's leap second if that comes first.
     #[inline]
-    fn place_beside(&self, other: &NaiveTime) -> u64
-        ensures value { result ≡ place_beside self.now other.now }
-        ensures bound { result < 2 ^ 47 }
+    fn second_beside(&self, other: &NaiveTime) -> u32
+        ensures value { result * nanos_per_second + self.now.fraction ≡ place_beside self.now other.now }
+        ensures bound { result ≤ 86_400 }
         ensures time { IsTime self.now }
     {
-        let place = self.secs as u64 * NANOS_PER_SEC as u64 + self.frac as u64;
-        if other.frac >= NANOS_PER_SEC && other.secs < self.secs {
-            place + NANOS_PER_SEC as u64
-        } else {
-            place
-        }
+        self.secs + (other.frac >= NANOS_PER_SEC && other.secs < self.secs) as u32
     }
 
     // The landing of a plain start.

@@ -2,7 +2,7 @@
 //!
 //! Durations are made of units and read in units in `units`, added, multiplied and divided in `ops`, compared in
 //! `order`, summed in `sum` and written in `text`.
-ghost use Rattle.std.specs.Prelude.{◌≡◌, ℕ, ℤ, pos, ◌<◌, ◌^◌, neg_ℤ, unsigned_abs, IsTrue, ◌↔◌};
+ghost use Rattle.std.specs.Prelude.{◌≡◌, ℕ, ℤ, pos, ◌<◌, ◌^◌, ◌+ℤ◌, ◌*ℤ◌, neg_ℤ, unsigned_abs, IsTrue, ◌↔◌};
 ghost use Rattle.std.specs.Option.{SomeIff};
 ghost use Rattle.chrono_clock.specs.Duration.{IsDuration, longest, nanos_per_second, nanos_of, floor_secs, past_floor};
 
@@ -130,6 +130,18 @@ impl TimeDelta {
             Some(TimeDelta { secs, nanos })
         } else {
             None
+        }
+    }
+
+    // The duration of few seconds, and of nanoseconds past them, of which there may be whole seconds.
+    #[inline]
+    pub(crate) fn from_few_secs(secs: i64, nanos: u32) -> TimeDelta
+        requires { unsigned_abs secs < 2 ^ 40 }
+        ensures { result ≡ secs *ℤ pos nanos_per_second +ℤ pos nanos }
+    {
+        TimeDelta {
+            secs: secs + (nanos / NANOS_PER_SEC) as i64,
+            nanos: nanos % NANOS_PER_SEC,
         }
     }
 
