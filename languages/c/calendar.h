@@ -4,8 +4,9 @@
  * before year 1. Dates are compared, and the days between two of them counted, as the numbers that they are.
  *
  * Every function answers for all arguments of its types. CALENDAR_NONE is answered where there is no such date, field or
- * text, so also for each argument that has to be a date, a weekday or a date-time and is none. No function takes memory,
- * keeps anything between calls or reads anything but its arguments, so any number of threads may call them at once.
+ * text, so also for each argument that has to be a date, a weekday or a date-time and is none. A function that answers a
+ * date-time or a duration answers 0 seconds and CALENDAR_NO_NANOS there. No function takes memory, keeps anything between
+ * calls or reads anything but its arguments, so any number of threads may call them at once.
  *
  * Weekdays count from 1 for Monday to 7 for Sunday (ISO 8601). A set of weekdays is a number with one binary digit for each:
  * 1 for Monday, 2 for Tuesday, 4, 8, 16, 32, and 64 for Sunday; its highest digit counts for nothing.
@@ -128,7 +129,8 @@ int32_t calendar_days_until(uint8_t weekdays, uint32_t from);
 /* ---- texts of dates */
 
 /* Writes the date as 2024-02-29, a year before 0 or after 9999 with its sign, and answers how many bytes that took: 10 to 13.
- * The other bytes stay as they were. If there is no such date, or room is less than its text takes, nothing is written. */
+ * The other bytes stay as they were. If there is no such date, or room is less than its text takes, nothing is written, and
+ * CALENDAR_NONE answered. */
 int32_t calendar_write_date(int32_t date, uint8_t *text, size_t room);
 
 /* The date whose text these bytes are, as calendar_write_date writes it; none for any other bytes. */
@@ -136,7 +138,8 @@ int32_t calendar_read_date(const uint8_t *text, size_t length);
 
 /* ---- date-times */
 
-/* The date-time at a second of a date, from 0 to 86,399, and so many nanoseconds past it. */
+/* The date-time at a second of a date, from 0 to 86,399, and so many nanoseconds past it: 0 to 999,999,999, and in a leap
+ * second, which follows the last second of a minute, up to 1,999,999,999. */
 calendar_date_time calendar_date_time_new(int32_t date, uint32_t second_of_day, uint32_t nanos);
 
 /* The date of a date-time. */
@@ -157,7 +160,7 @@ calendar_duration calendar_date_time_since(calendar_date_time moment, calendar_d
 
 /* Writes the date-time as 2024-02-29T23:59:60.500, and answers how many bytes that took: 19 to 32. The fraction has three,
  * six or nine digits, the fewest that hold it, or is left out if it is 0. The other bytes stay as they were. If there is no
- * such date-time, or room is less than its text takes, nothing is written. */
+ * such date-time, or room is less than its text takes, nothing is written, and CALENDAR_NONE answered. */
 int32_t calendar_write_date_time(calendar_date_time moment, uint8_t *text, size_t room);
 
 /* The date-time whose text these bytes are: a date's text, a T or a space, and hour, minute and second with colons between,

@@ -15,6 +15,7 @@ numbers_of (text ∷ texts) =
 abbrev pub numbers_behind : List ℕ → Option (List ℤ)
 numbers_behind text = numbers_of (drop 1 (words text))
 
+-- the first of the words, and the numbers that the others write
 abbrev pub arguments_from : List (List ℕ) → Option (List ℕ × List ℤ)
 arguments_from [] = None
 arguments_from (name ∷ texts) = option_map (λ numbers. (name, numbers)) (numbers_of texts)

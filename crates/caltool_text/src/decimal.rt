@@ -26,7 +26,7 @@ impl<const N: usize> Text<N> {
         self.push_natural(u64::from(n));
     }
 
-    /// Puts a number in decimal, faster if it has at most four digits, as a day of a year has. There is room for 19 bytes.
+    /// Puts a number in decimal, faster if it has at most four digits, such as a day of a year. There is room for 19 bytes.
     pub fn push_short_u32(&mut self, n: u32)
         requires { length self.old + 19 ≤ N }
         ensures text { self.new ≡ self.old ++ decimal n }

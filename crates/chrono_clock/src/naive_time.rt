@@ -197,6 +197,7 @@ impl NaiveTime {
     {
         let here = self.second_beside(&rhs);
         let there = rhs.second_beside(&self);
+        // Two seconds are lent to the fractions, each of which is below two.
         TimeDelta::from_few_secs(
             here as i64 - (there + 2) as i64,
             self.frac + 2 * NANOS_PER_SEC - rhs.frac,

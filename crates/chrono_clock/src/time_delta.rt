@@ -133,7 +133,7 @@ impl TimeDelta {
         }
     }
 
-    // The duration of few seconds, and of nanoseconds past them, of which there may be whole seconds.
+    // The duration of fewer than 2^40 seconds, either way, and of nanoseconds past them, up to four seconds of these.
     #[inline]
     pub(crate) fn from_few_secs(secs: i64, nanos: u32) -> TimeDelta
         requires { unsigned_abs secs < 2 ^ 40 }

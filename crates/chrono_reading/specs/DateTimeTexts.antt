@@ -18,7 +18,7 @@ pub record IsDateTimeText (text : List ℕ) (m : Moment) : Type 0 where
   pub time_written : IsTimeText time m.time
   pub written : date ++ separator ∷ time ≡ text
 
--- the texts are of one date, and their times show the same; what stands between may differ
+-- the same bytes, then a `T` or a space in each, then times that show the same
 pub record SameDateTime (text other : List ℕ) : Type 0 where
   pub date : List ℕ
   pub separator : ℕ
