@@ -3,7 +3,7 @@
 
     benches/calls.py [COUNT]        (20 million if left out)
 
-It needs crates/chrono_sums/out/chrono_sums, which `rt run` leaves there, and librust-chrono-dev with cargo: benches/chrono_sums
+It needs crates/chrono_timed/out/chrono_timed, which `rt run` leaves there, and librust-chrono-dev with cargo: benches/chrono_timed
 is its twin over that library.
 
 A call of a date is made of a `NaiveDate`, as a user makes it, and of both stored forms, by their own calls and those of
@@ -20,7 +20,7 @@ import tempfile
 
 from lines import TOP, build_over_chrono
 
-CHRONO_SUMS = os.path.join(TOP, "crates", "chrono_sums", "out", "chrono_sums")
+CHRONO_SUMS = os.path.join(TOP, "crates", "chrono_timed", "out", "chrono_timed")
 ROUNDS = 21
 
 # Calls of each whose answers are compared before any is timed.
@@ -111,7 +111,7 @@ def row(best, call, count):
 def main():
     count = int(sys.argv[1]) if len(sys.argv) > 1 else 20_000_000
     with tempfile.TemporaryDirectory() as folder:
-        runs = list(all_runs(CHRONO_SUMS, build_over_chrono(folder, "chrono_sums")))
+        runs = list(all_runs(CHRONO_SUMS, build_over_chrono(folder, "chrono_timed")))
         compare_sums(runs)
         best = best_times(runs, count)
     print(f"{count} calls of each, in nanoseconds a call, and times by those of chrono (the last column: of the bare formula)\n")

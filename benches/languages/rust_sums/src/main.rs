@@ -1,7 +1,7 @@
 //! Sums of the answers of `proved_calendar` and of chrono to the same calls: `rust_sums CALL COUNT` makes a call so many times on
 //! pseudo-random arguments and prints the sum of its answers.
 
-#[path = "../../../chrono_sums/src/arguments.rs"]
+#[path = "../../../chrono_timed/src/arguments.rs"]
 mod arguments;
 
 use std::env;

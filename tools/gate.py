@@ -1,0 +1,177 @@
+#!/usr/bin/env python3
+"""Measures the gate: the processor seconds of each command that `rt ci` runs, on a copy of what is committed.
+
+  tools/gate.py                  the whole gate: a table by crate (proof, tests, edits, programs), the slowest edits by name
+  tools/gate.py --no-edits       the same without the must-fail edits
+  tools/gate.py --functions NAME the check of one crate from nothing, as time passes from function to function
+
+Processor time says what a run costs whatever else the machine does; the wall time is of this machine and this run.
+A copy is made below $TMPDIR, so nothing of the work tree is read but its commits, and nothing in it is written.
+"""
+import argparse
+import collections
+import importlib.machinery
+import importlib.util
+import json
+import os
+import re
+import shutil
+import subprocess
+import sys
+import tempfile
+import threading
+import time
+
+WATCH = """import json, os, resource, subprocess, sys, time
+began = time.time()
+status = subprocess.call([{rattle!r}, *sys.argv[1:]])
+used = resource.getrusage(resource.RUSAGE_CHILDREN)
+line = dict(words=sys.argv[1:], folder=os.getcwd(), label=os.environ.get("GATE_LABEL", ""), status=status,
+            processor=used.ru_utime + used.ru_stime, wall=time.time() - began, peak=used.ru_maxrss)
+with open({log!r}, "a") as it:
+    it.write(json.dumps(line) + "\\n")
+sys.exit(status)
+"""
+
+
+def load_rt():
+    """Returns the kit's own command as a module."""
+    path = os.path.realpath(shutil.which("rt"))
+    loader = importlib.machinery.SourceFileLoader("rt", path)
+    made = importlib.util.module_from_spec(importlib.util.spec_from_loader("rt", loader))
+    loader.exec_module(made)
+    return made
+
+
+class Labelled:
+    """The module subprocess, whose runs tell the watched command which edit they try."""
+
+    def __init__(self):
+        self.of_thread = threading.local()
+
+    def __getattr__(self, name):
+        return getattr(subprocess, name)
+
+    def run(self, words, **how):
+        label = getattr(self.of_thread, "label", "")
+        return subprocess.run(words, **{**how, "env": {**(how.get("env") or os.environ), "GATE_LABEL": label}})
+
+
+def watch(rt, room):
+    """Has each call of the prover write what it used, and returns the file that it writes to."""
+    log, watched = f"{room}/log", f"{room}/watched"
+    with open(watched, "w") as it:
+        it.write(f"#!{sys.executable} -IS\n" + WATCH.format(rattle=rt.rtlib.RATTLE, log=log))
+    os.chmod(watched, 0o755)
+    open(log, "w").close()
+    rt.rtlib.RATTLE, rt.subprocess, tried = watched, Labelled(), rt.must_fail
+
+    def must_fail(crate, edit, flags, kept=None):
+        rt.subprocess.of_thread.label = f"{crate.name}/{os.path.basename(edit)}"
+        try:
+            return tried(crate, edit, flags, kept)
+        finally:
+            rt.subprocess.of_thread.label = ""
+
+    rt.must_fail = must_fail
+    return log
+
+
+def part_of(line):
+    """Returns the crate and the part of the gate that a call of the prover belongs to."""
+    words = line["words"]
+    name = words[words.index("--crate-name") + 1] if "--crate-name" in words else ""
+    if "rt-edit-" in line["folder"]:
+        return name, "edits"
+    if words[0] not in ("check", "build") or not name:
+        return "", "rest"
+    if "--test" in words:
+        return name, "tests"
+    return name, "programs" if "--crate-checked" in words else "proof"
+
+
+def print_table(lines):
+    sums, edits, names = collections.Counter(), collections.Counter(), []
+    for it in lines:
+        name, part = part_of(it)
+        sums[name, part] += it["processor"]
+        names += [name] if name and name not in names else []
+        if it["label"]:
+            edits[it["label"]] += it["processor"]
+    parts = ["proof", "tests", "edits", "programs"]
+    print("| Crate | Proof | Tests | Edits | Number of edits | Programs | Whole |\n|---|---|---|---|---|---|---|")
+    for name in [*names, "all"]:
+        of = {part: sum(v for (n, p), v in sums.items() if p == part and name in (n, "all")) for part in parts}
+        number = sum(1 for it in edits if name in (it.partition("/")[0], "all"))
+        print(f"| {name} | {of['proof']:.0f} | {of['tests']:.0f} | {of['edits']:.0f} | {number} | {of['programs']:.0f} | {sum(of.values()):.0f} |")
+    print("\nThe slowest edits, in processor seconds (the first of a crate proves the crate):")
+    for label, used in edits.most_common(40):
+        print(f"  {used:6.1f}  {label}")
+
+
+def copy_of_head(room):
+    copy = f"{room}/copy"
+    os.mkdir(copy)
+    made = subprocess.run(["git", "archive", "HEAD"], check=True, stdout=subprocess.PIPE)
+    subprocess.run(["tar", "x", "-C", copy], input=made.stdout, check=True)
+    subprocess.run(["git", "init", "-q", copy], check=True)
+    return copy
+
+
+def measure_gate(rt, room, with_edits, keep):
+    copy, log = copy_of_head(room), watch(rt, room)
+    if not with_edits:
+        for name in os.listdir(f"{copy}/crates"):
+            shutil.rmtree(f"{copy}/crates/{name}/must-fail", ignore_errors=True)
+    os.chdir(copy)
+    began = time.time()
+    status = rt.ci()
+    with open(log) as it:
+        lines = [json.loads(line) for line in it]
+    print(f"\nThe gate ended with status {status} after {(time.time() - began) / 60:.1f} minutes on {rt.processors()} processors.\n")
+    print_table(lines)
+    if keep:
+        shutil.copyfile(log, keep)
+    return status
+
+
+def measure_functions(room, name):
+    """Prints what passed between the ends of two functions' checks, the longest first, on one processor."""
+    copy = copy_of_head(room)
+    folder = f"{copy}/crates/{name}"
+    # (builds the libraries below; nothing of the crate itself is proved)
+    subprocess.run(["rt", "check", "--only", ""], cwd=folder, stdout=subprocess.DEVNULL)
+    shutil.rmtree(f"{folder}/out", ignore_errors=True)
+    began = last = time.time()
+    spans = []
+    with subprocess.Popen(["rt", "check", "--jobs", "1"], cwd=folder, stdout=subprocess.PIPE, text=True) as ran:
+        for line in ran.stdout:
+            found = re.match(r"checked (\S+), ", line)
+            if found:
+                spans.append((time.time() - last, found[1]))
+                last = time.time()
+    for span, function in sorted(spans, reverse=True)[:40]:
+        print(f"{span:7.1f}  {function}")
+    print(f"{time.time() - began:7.1f}  in all")
+    return ran.returncode
+
+
+def main():
+    words = argparse.ArgumentParser(description=__doc__, formatter_class=argparse.RawDescriptionHelpFormatter)
+    words.add_argument("--no-edits", action="store_true")
+    words.add_argument("--functions", metavar="NAME")
+    words.add_argument("--log", metavar="FILE", help="keeps the line of each call of the prover")
+    words.add_argument("--at", metavar="FOLDER", help="makes the copy in that folder, which must not exist yet and stays")
+    said = words.parse_args()
+    keep = os.path.abspath(said.log) if said.log else None
+    if said.at:
+        os.makedirs(said.at)
+        return measure_gate(load_rt(), os.path.abspath(said.at), not said.no_edits, keep)
+    with tempfile.TemporaryDirectory(prefix="gate-") as room:
+        if said.functions:
+            return measure_functions(room, said.functions)
+        return measure_gate(load_rt(), room, not said.no_edits, keep)
+
+
+if __name__ == "__main__":
+    sys.exit(main())
