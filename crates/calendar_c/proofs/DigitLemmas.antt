@@ -1,7 +1,7 @@
 -- The digits of numbers, in groups of two, three and four.
 use Rattle.std.proofs.Common.{◌≡◌, ℕ, ◌+◌, ◌/◌, ◌%◌, ◌^◌, ◌<◌, ◌≤◌, List, ◌∷◌, ◌++◌, length, refl, ap, sym, ◌∙◌, arith}
 use Rattle.std.specs.Fmt.{decimal}
-use Rattle.chrono_datetime.specs.Text.{all_digits, subsecond_text, year_digits}
+use Rattle.chrono_text.specs.Text.{all_digits, subsecond_text, year_digits}
 use Rattle.chrono_reading.proofs.DigitLemmas.{HasDecimalForm, all_digits-written, decimal-read}
 
 cons3 : (a b c d e f : ℕ) (xs ys : List ℕ) → a ≡ d → b ≡ e → c ≡ f → xs ≡ ys → a ∷ b ∷ c ∷ xs ≡ d ∷ e ∷ f ∷ ys

@@ -2,9 +2,10 @@
 use Rattle.std.proofs.Common.{◌≡◌, ℕ, ◌+◌, ◌≤◌, ◌==◌, ◌%◌, ◌-◌, ◌/◌, nat_le, Bool, true, false, cond, List, [], ◌∷◌, ◌++◌, length, Option, Some, None, refl, arith, ap, ◌∙◌, length-append, ℤ, pos}
 use Rattle.std.proofs.lemmas.Bool.Decides.{nat_tests}
 use Rattle.std.specs.Option.{option_map}
-use Rattle.chrono_clock.specs.Text.{all_digits, subsecond_text, time_text, two_digits}
+use Rattle.chrono_text.specs.Text.{all_digits, subsecond_text, two_digits}
+use Rattle.chrono_clock.specs.TimeText.{time_text}
 use Rattle.chrono_clock.specs.Time.{TimeOfDay, second_of}
-use Rattle.chrono_clock.proofs.TextLemmas.{length-calendar_text, length-year_text-le}
+use Rattle.chrono_text.proofs.TextLemmas.{length-calendar_text, length-year_text-le}
 use Rattle.chrono_calendar.specs.Days.{IsDate, date_of_day, day_of, month_of, year_of}
 use Rattle.chrono_calendar.proofs.MonthMoveLaws.{year_of-range}
 use Rattle.chrono_calendar.proofs.NamedDates.{date_of_day-Some}

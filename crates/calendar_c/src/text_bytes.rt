@@ -1,6 +1,7 @@
 //! The bytes of texts, in arrays that hold the longest of them, with how many of them count.
 ghost use Rattle.std.specs.Prelude.{◌≡◌, ◌∷◌, ◌++◌, ◌<◌, ◌≤◌, take};
-ghost use Rattle.chrono_clock.specs.Text.{all_digits, subsecond_text, time_text, two_digits, year_digits};
+ghost use Rattle.chrono_text.specs.Text.{all_digits, subsecond_text, two_digits, year_digits};
+ghost use Rattle.chrono_clock.specs.TimeText.{time_text};
 ghost use Rattle.chrono_datetime.specs.DateText.{date_text};
 
 use chrono_datetime::{Datelike, NaiveDate, NaiveTime, Timelike};

@@ -6,13 +6,13 @@ use Rattle.std.specs.Option.{option_map, option_map_or, option_and_then}
 use Rattle.chrono_units.specs.WeekdaySet.{walk}
 use Rattle.chrono_units.specs.WeekdayText.{weekday_text, set_text}
 use Rattle.chrono_clock.specs.Moment.{moment_distance}
-use Rattle.chrono_clock.specs.Text.{week_text, duration_text}
+use Rattle.chrono_text.specs.Text.{week_text, duration_text}
 use Rattle.chrono_calendar.specs.Days.{date_of_day, date_of_yo, ordinal_of}
 use Rattle.chrono_calendar.specs.MonthMoves.{month_move}
 use Rattle.chrono_calendar.specs.Recurrence.{date_on, date_every}
 use Rattle.chrono_calendar.specs.Weeks.{weekday_of, iso_year_of, iso_week_of, date_of_iso, date_of_nth_weekday, week_first_of}
 use Rattle.chrono_calendar.specs.YearsBetween.{years_between}
-use Rattle.caltool_text.specs.SpacedDays.{spaced_days_text}
+use Rattle.caltool_form.specs.SpacedDays.{spaced_days_text}
 use Rattle.caltool_command.specs.Commands.{command_of}
 use Rattle.caltool_form.specs.Lines.{lines}
 use Rattle.caltool_form.specs.Named.{date_named, moment_named, duration_named, months_of, reach}

@@ -1,7 +1,8 @@
--- The texts that answers are made of, beside those of chrono_units, chrono_clock and caltool_text.
+-- The texts that answers are made of, beside those of chrono_units, chrono_clock and chrono_text.
 use Rattle.std.specs.Prelude.{ℕ, List, [], ◌∷◌, ◌++◌, ℤ, Option, Some, None, codes}
 use Rattle.chrono_clock.specs.Moment.{Moment}
-use Rattle.chrono_clock.specs.Text.{calendar_text, time_text}
+use Rattle.chrono_text.specs.Text.{calendar_text}
+use Rattle.chrono_clock.specs.TimeText.{time_text}
 use Rattle.chrono_calendar.specs.Days.{year_of, month_of, day_of}
 
 -- a text that may not be there

@@ -6,7 +6,7 @@ ghost use Rattle.caltool_command.specs.Commands.{command_from as the_command_fro
 
 use crate::command_answers::CommandAnswers;
 use caltool_command::{Command, Line, Name, Numbers, command_from, read_line};
-use caltool_text::Text;
+use chrono_text::Text;
 
 // An answer has at most 63 bytes.
 const LONGEST_ANSWER: usize = 63;

@@ -14,7 +14,7 @@ ghost use Rattle.caltool_form.specs.Named.{months_of, reach};
 
 use crate::write_answer::write_answer;
 use caltool_command::{Command, MonthSpan};
-use caltool_text::Text;
+use chrono_text::Text;
 use chrono_clock::{NaiveTime, TimeDelta};
 use chrono_units::{Weekday, WeekdaySet};
 

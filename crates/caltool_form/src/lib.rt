@@ -4,7 +4,7 @@
 //! What answers a command is a type with [`CommandAnswers`], and whatever it is, the answers are the
 //! same. [`answer_form`] and [`run_form`] answer over any stored form of dates.
 //!
-//! It passes on the names of `caltool_command`, which reads a line, and of `caltool_text`, which writes.
+//! It passes on the names of `caltool_command`, which reads a line, and of `chrono_text`, which writes.
 #![tactic(auto)]
 
 mod answer;
@@ -24,7 +24,7 @@ pub use caltool_command::{
     CalendarDate, ClockTime, Command, DateAndTime, MonthSpan, command_of, lines_are_commands,
     numbers_are_texts, words_are_unique,
 };
-pub use caltool_text::Text;
+pub use chrono_text::Text;
 pub use command_answers::CommandAnswers;
 pub use fault::RunFault;
 pub use form_answers::{answer_form, run_form};

@@ -10,7 +10,7 @@ use crate::command_answers::CommandAnswers;
 use crate::fault::RunFault;
 use crate::watch::WatchedWriter;
 use caltool_command::{Line, Numbers};
-use caltool_text::Text;
+use chrono_text::Text;
 use std::io::Write;
 use std::marker::Model;
 

@@ -14,7 +14,7 @@ use crate::newline::first_line;
 use crate::output::{KEPT, Output};
 use crate::watch::{WatchedReader, WatchedWriter};
 use caltool_command::Line;
-use caltool_text::Text;
+use chrono_text::Text;
 use std::io::{Read, Write};
 
 // The most bytes that one read gives.

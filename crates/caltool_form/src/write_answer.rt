@@ -5,13 +5,14 @@ ghost use Rattle.std.specs.Option.{option_map, option_and_then};
 ghost use Rattle.chrono_units.specs.WeekdaySet.{walk};
 ghost use Rattle.chrono_units.specs.WeekdayText.{weekday_text, set_text};
 ghost use Rattle.chrono_clock.specs.Moment.{moment, moment_distance};
-ghost use Rattle.chrono_clock.specs.Text.{duration_text, time_text, week_text};
+ghost use Rattle.chrono_text.specs.Text.{duration_text, week_text};
+ghost use Rattle.chrono_clock.specs.TimeText.{time_text};
 ghost use Rattle.chrono_calendar.specs.Days.{date_of_day, ordinal_of};
 ghost use Rattle.chrono_calendar.specs.MonthMoves.{month_move};
 ghost use Rattle.chrono_calendar.specs.Recurrence.{date_every, date_on};
 ghost use Rattle.chrono_calendar.specs.Weeks.{iso_week_of, iso_year_of, week_first_of, weekday_of};
 ghost use Rattle.chrono_calendar.specs.YearsBetween.{years_between};
-ghost use Rattle.caltool_text.specs.SpacedDays.{spaced_days_text};
+ghost use Rattle.caltool_form.specs.SpacedDays.{spaced_days_text};
 ghost use Rattle.caltool_form.specs.Answers.{answer_to, date_line, names_of, week_line};
 ghost use Rattle.caltool_form.specs.Named.{date_named as the_date, duration_named as the_duration, moment_named as the_moment, months_of, reach};
 ghost use Rattle.caltool_form.specs.Texts.{date_text, moment_text, text_or_none};
@@ -19,7 +20,7 @@ ghost use Rattle.caltool_form.specs.Texts.{date_text, moment_text, text_or_none}
 use crate::command_answers::CommandAnswers;
 use crate::named::{duration_named, time_named};
 use caltool_command::{CalendarDate, Command, DateAndTime, MonthSpan};
-use caltool_text::Text;
+use chrono_text::Text;
 use chrono_clock::{NaiveTime, TimeDelta, Timelike};
 use chrono_units::{Weekday, WeekdaySet};
 

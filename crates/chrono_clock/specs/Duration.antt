@@ -1,6 +1,7 @@
 -- Durations: whole numbers of nanoseconds, read in other units, divided, summed and stored.
 use Rattle.std.specs.Prelude.{List, fold, take, length, ◌≡◌, ℕ, ◌*◌, ◌-◌, ◌^◌, ◌≤◌, ℤ, pos, neg_ℤ, ◌+ℤ◌, ◌*ℤ◌, unsigned_abs, int_div, int_rem, refl}
 use Rattle.std.specs.Int.{int_div_euclid, int_rem_euclid}
+pub use Rattle.chrono_text.specs.Text.{nanos_per_second}
 
 -- the nanoseconds of each unit
 abbrev pub nanos_per_week : ℕ
@@ -14,9 +15,6 @@ nanos_per_hour = 3_600_000_000_000
 
 abbrev pub nanos_per_minute : ℕ
 nanos_per_minute = 60_000_000_000
-
-abbrev pub nanos_per_second : ℕ
-nanos_per_second = 1_000_000_000
 
 abbrev pub nanos_per_milli : ℕ
 nanos_per_milli = 1_000_000

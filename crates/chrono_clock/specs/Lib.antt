@@ -2,6 +2,6 @@ pub mod Signed
 pub mod Duration
 pub mod StoredLemmas
 pub mod StoredDelta
-pub mod Text
+pub mod TimeText
 pub mod Time
 pub mod Moment

@@ -4,7 +4,7 @@
 ghost use Rattle.std.specs.Prelude.{◌≡◌, ◌<◌, ◌≤◌, ◌-◌, ◌/◌, ◌%◌, ◌^◌, ℤ, pos, ◌≤ℤ◌, ◌++◌};
 ghost use Rattle.std.specs.Fmt.{WritesOnOk};
 ghost use Rattle.chrono_clock.specs.Duration.{nanos_per_second};
-ghost use Rattle.chrono_clock.specs.Text.{two_digits, all_digits, year_digits, year_text, calendar_text, week_text, subsecond_text, clock_text};
+ghost use Rattle.chrono_text.specs.Text.{two_digits, all_digits, year_digits, year_text, calendar_text, week_text, subsecond_text, clock_text};
 
 use crate::lengths::{NANOS_PER_MICRO, NANOS_PER_MILLI, NANOS_PER_SEC};
 use std::fmt;

@@ -3,7 +3,8 @@ pub use Rattle.chrono_units.specs.Weekday
 pub use Rattle.chrono_units.specs.Month
 pub use Rattle.chrono_units.specs.WeekdaySet
 pub use Rattle.chrono_clock.specs.Duration
-pub use Rattle.chrono_clock.specs.Text
+pub use Rattle.chrono_text.specs.Text
+pub use Rattle.chrono_clock.specs.TimeText
 pub use Rattle.chrono_clock.specs.Time
 pub use Rattle.chrono_naive.specs.Days
 pub use Rattle.chrono_naive.specs.Weeks

@@ -1,6 +1,6 @@
 -- The texts of date-times, as lists of ASCII codes.
 use Rattle.std.specs.Prelude.{ℕ, List, [], ◌∷◌, ◌++◌}
-use Rattle.chrono_clock.specs.Text.{time_text}
+use Rattle.chrono_clock.specs.TimeText.{time_text}
 use Rattle.chrono_naive.specs.DateText.{date_text}
 use Rattle.chrono_datetime.specs.Moment.{Moment}
 

@@ -2,8 +2,8 @@
 use Rattle.std.proofs.Common.{◌≡◌, ℕ, ◌<◌, ◌≤◌, ℤ, pos, negsuc, ◌≤ℤ◌, Some, length, unsigned_abs, arith, sym, ◌∙◌}
 use Rattle.std.proofs.lemmas.Int.{ints}
 use Rattle.chrono_units.specs.Years.{IsYear, is_leap_year}
-use Rattle.chrono_clock.specs.Text.{year_text, calendar_text}
-use Rattle.chrono_clock.proofs.TextLemmas.{calendar_text_injective, length-calendar_text, length-year_text-four, length-year_text-le}
+use Rattle.chrono_text.specs.Text.{year_text, calendar_text}
+use Rattle.chrono_text.proofs.TextLemmas.{calendar_text_injective, length-calendar_text, length-year_text-four, length-year_text-le}
 use Rattle.chrono_calendar.specs.Days.{IsDate, date_of_ymd, day_number_of_ymd, year_of, month_of, day_of}
 use Rattle.chrono_calendar.proofs.Months.{month_length_in-bounds}
 use Rattle.chrono_calendar.proofs.MonthMoveLaws.{year_of-range}

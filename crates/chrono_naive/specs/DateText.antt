@@ -1,6 +1,6 @@
 -- The texts of dates and of ISO weeks, as lists of ASCII codes.
 use Rattle.std.specs.Prelude.{ℕ, List, ℤ}
-use Rattle.chrono_clock.specs.Text.{calendar_text, week_text}
+use Rattle.chrono_text.specs.Text.{calendar_text, week_text}
 use Rattle.chrono_calendar.specs.Days.{year_of, month_of, day_of}
 use Rattle.chrono_naive.specs.Fields.{IsoYearAndWeek}
 

@@ -4,7 +4,8 @@ pub use Rattle.chrono_units.specs.Month
 pub use Rattle.chrono_units.specs.WeekdaySet
 pub use Rattle.chrono_clock.specs.Duration
 pub use Rattle.chrono_clock.specs.Time
-pub use Rattle.chrono_clock.specs.Text
+pub use Rattle.chrono_text.specs.Text
+pub use Rattle.chrono_clock.specs.TimeText
 pub use Rattle.chrono_calendar.specs.Days
 pub use Rattle.chrono_calendar.specs.Weeks
 pub use Rattle.chrono_calendar.specs.Order

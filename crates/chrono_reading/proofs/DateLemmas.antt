@@ -15,7 +15,7 @@ use Rattle.chrono_datetime.specs.Weekday.{number_from_monday}
 use Rattle.chrono_datetime.specs.Weeks.{date_of_iso, iso_week_of, iso_year_of, weekday_of}
 use Rattle.chrono_datetime.specs.DateText.{date_text}
 use Rattle.chrono_datetime.specs.NameLaws.{DatesHaveOneCalendarName, DatesHaveOneIsoName, DatesHaveOneOrdinalName}
-use Rattle.chrono_datetime.specs.Text.{all_digits, two_digits, year_text, calendar_text, week_text}
+use Rattle.chrono_text.specs.Text.{all_digits, two_digits, year_text, calendar_text, week_text}
 use Rattle.chrono_reading.specs.DateTexts.{IsDateText, IsOrdinalDateText, IsWeekDateText}
 
 -- a text ends in so many bytes

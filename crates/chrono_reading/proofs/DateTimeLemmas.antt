@@ -13,7 +13,7 @@ use Rattle.chrono_datetime.specs.NameLaws.{DatesHaveOneCalendarName}
 use Rattle.chrono_datetime.specs.Moment.{Moment, moment}
 use Rattle.chrono_datetime.specs.Time.{TimeOfDay}
 use Rattle.std.proofs.lemmas.Option.{same_Some}
-use Rattle.chrono_datetime.specs.Text.{all_digits, two_digits, year_digits, year_text}
+use Rattle.chrono_text.specs.Text.{all_digits, two_digits, year_digits, year_text}
 use Rattle.chrono_reading.specs.DateTexts.{IsDateText}
 use Rattle.chrono_reading.specs.DateTimeTexts.{IsSeparator, IsDateTimeText, SameDateTime}
 use Rattle.chrono_reading.specs.TimeTexts.{IsTimeText}

@@ -8,7 +8,7 @@ use Rattle.std.proofs.lemmas.Fmt.{decimal_digit, decimal_is_IsNumeral, decimal-d
 use Rattle.std.proofs.lemmas.Bool.{cases_lt}
 use Rattle.std.proofs.lemmas.Nat.{div-add-mod', div-mul-add, mod-mul-add, mul-add-lt, mod_below, div_below}
 use Rattle.std.proofs.Math.Nat.{pow-succ'}
-use Rattle.chrono_datetime.specs.Text.{two_digits, all_digits}
+use Rattle.chrono_text.specs.Text.{two_digits, all_digits}
 
 -- what digits write, each worth its own value times ten to the number of digits behind it
 abbrev worth : List ℕ → ℕ

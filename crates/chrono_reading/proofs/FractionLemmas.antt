@@ -3,7 +3,7 @@ use Rattle.std.proofs.Common.{◌↔◌, ◌⊎◌, get_or, length-append, inl, 
 use Rattle.std.proofs.Math.Nat.{eq_of_mul-eq-mul_right, mul-lt-mul_of_pos_right}
 use Rattle.std.proofs.lemmas.Nat.{div-add-mod', mod_below}
 use Rattle.std.proofs.lemmas.List.{append-nil, length-replicate, take_all}
-use Rattle.chrono_datetime.specs.Text.{all_digits}
+use Rattle.chrono_text.specs.Text.{all_digits}
 use Rattle.chrono_reading.specs.TimeTexts.{HasMoreZeros, IsFractionText, IsPointText, SameFraction}
 use Rattle.chrono_reading.proofs.DigitLemmas.{all_digits-one, by_size, digits_more, pow_pos}
 

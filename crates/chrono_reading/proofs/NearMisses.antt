@@ -12,7 +12,7 @@ use Rattle.chrono_datetime.specs.declared.Month.{Month}
 use Rattle.chrono_datetime.specs.declared.Weekday.{Weekday}
 use Rattle.chrono_datetime.specs.declared.Weekday.TheVariants.{Mon, Tue, Wed, Thu, Fri, Sat, Sun}
 use Rattle.chrono_datetime.specs.declared.Month.TheVariants.{January, February, March, April, May, June, July, August, September, October, November, December}
-use Rattle.chrono_datetime.specs.Text.{all_digits, year_digits, year_text}
+use Rattle.chrono_text.specs.Text.{all_digits, year_digits, year_text}
 use Rattle.chrono_datetime.specs.Time.{TimeOfDay}
 use Rattle.chrono_reading.specs.DateTexts.{IsDateText}
 use Rattle.chrono_reading.specs.DurationTexts.{IsDurationText, IsSecondsText}

@@ -9,7 +9,8 @@ use Rattle.std.proofs.lemmas.Int.{ints}
 use Rattle.std.specs.Fmt.{decimal, sign_text}
 use Rattle.std.specs.Int.{is_negative}
 use Rattle.chrono_datetime.specs.Duration.{IsDuration, nanos_per_second}
-use Rattle.chrono_datetime.specs.Text.{all_digits, duration_text, fraction_digits, fraction_text, subsecond_text, time_text, two_digits}
+use Rattle.chrono_text.specs.Text.{all_digits, duration_text, fraction_digits, fraction_text, subsecond_text, two_digits}
+use Rattle.chrono_datetime.specs.TimeText.{time_text}
 use Rattle.chrono_reading.specs.DurationTexts.{IsDurationText}
 use Rattle.chrono_datetime.specs.Time.{FractionFits, IsTime, TimeOfDay, hour_of, minute_of, second_of, time_at}
 use Rattle.chrono_reading.specs.TimeTexts.{IsFractionText, IsPointText, IsTimeText, time_shown}

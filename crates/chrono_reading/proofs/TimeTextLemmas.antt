@@ -2,7 +2,7 @@
 use Rattle.std.proofs.Common.{◌+◌, ◌*◌, refl, subst, ◌≡◌, ℕ, ◌<◌, ◌≤◌, List, ◌∷◌, ◌++◌, take, drop, Option, Some, None, sym, ap, ◌∙◌, arith}
 use Rattle.std.specs.Option.{SomeIff}
 use Rattle.std.proofs.lemmas.Option.{same_Some}
-use Rattle.chrono_datetime.specs.Text.{two_digits}
+use Rattle.chrono_text.specs.Text.{two_digits}
 use Rattle.chrono_datetime.specs.Time.{TimeOfDay}
 use Rattle.chrono_reading.specs.TimeTexts.{IsFractionText, IsTimeText, SameClock, time_shown}
 use Rattle.chrono_datetime.specs.Time.{time_at}

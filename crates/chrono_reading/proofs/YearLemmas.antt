@@ -1,7 +1,7 @@
 -- How the texts of years are told apart.
 use Rattle.std.proofs.Common.{◌≡◌, ℕ, ◌<◌, List, length, arith, sym, ap, ◌∙◌}
 use Rattle.std.specs.Fmt.{decimal}
-use Rattle.chrono_datetime.specs.Text.{all_digits, year_digits}
+use Rattle.chrono_text.specs.Text.{all_digits, year_digits}
 use Rattle.chrono_reading.proofs.DigitLemmas.{by_size, decimal_below}
 
 -- a size of four digits is below 10,000

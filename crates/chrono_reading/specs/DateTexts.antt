@@ -4,7 +4,7 @@ use Rattle.std.specs.Int.{IsInRange}
 use Rattle.chrono_datetime.specs.declared.Weekday.{Weekday}
 use Rattle.chrono_datetime.specs.Days.{date_of_ymd, date_of_yo}
 use Rattle.chrono_datetime.specs.Fields.{IsIsoYear}
-use Rattle.chrono_datetime.specs.Text.{all_digits, calendar_text, week_text, year_text}
+use Rattle.chrono_text.specs.Text.{all_digits, calendar_text, week_text, year_text}
 use Rattle.chrono_datetime.specs.Weekday.{number_from_monday}
 use Rattle.chrono_datetime.specs.Weeks.{date_of_iso}
 

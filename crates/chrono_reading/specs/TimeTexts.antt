@@ -2,7 +2,7 @@
 use Rattle.std.specs.Prelude.{◌≡◌, ◌==◌, ◌<◌, ◌≤◌, ◌+◌, ◌-◌, ◌*◌, ◌^◌, ◌⊎◌, ℕ, List, [], ◌∷◌, ◌++◌, take, drop, replicate, if◌then◌else◌}
 use Rattle.std.specs.Int.{IsInRange}
 use Rattle.chrono_datetime.specs.Duration.{nanos_per_second}
-use Rattle.chrono_datetime.specs.Text.{two_digits, all_digits}
+use Rattle.chrono_text.specs.Text.{two_digits, all_digits}
 use Rattle.chrono_datetime.specs.Time.{TimeOfDay, time_at}
 
 -- a point and one to nine digits, which count tenths, hundredths and so on of a second, and so nanoseconds

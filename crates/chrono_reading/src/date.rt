@@ -1,6 +1,6 @@
 //! Dates.
 ghost use Rattle.std.specs.Prelude.{◌≡◌, ◌<◌, ◌∷◌, ◌++◌, ℕ, ℤ, Some, IfSome};
-ghost use Rattle.chrono_datetime.specs.Text.{two_digits};
+ghost use Rattle.chrono_text.specs.Text.{two_digits};
 ghost use Rattle.chrono_reading.specs.DateTexts.{IsDateText};
 
 use crate::digits::two_digits;

@@ -3,7 +3,7 @@ ghost use Rattle.std.specs.Prelude.{◌≡◌, ◌≢◌, ◌<◌, ◌≤◌, �
 ghost use Rattle.std.specs.Fmt.{decimal};
 ghost use Rattle.std.specs.Option.{SomeIff};
 ghost use Rattle.std.specs.Str.Parse.{AllDigits, digits_value};
-ghost use Rattle.chrono_datetime.specs.Text.{two_digits, all_digits};
+ghost use Rattle.chrono_text.specs.Text.{two_digits, all_digits};
 
 // The number that two digits write, if these bytes are digits.
 #[inline]

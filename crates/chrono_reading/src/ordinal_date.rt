@@ -1,6 +1,6 @@
 //! Ordinal dates.
 ghost use Rattle.std.specs.Prelude.{◌≡◌, ◌<◌, ◌∷◌, ℕ, ℤ, Some, IfSome};
-ghost use Rattle.chrono_datetime.specs.Text.{all_digits};
+ghost use Rattle.chrono_text.specs.Text.{all_digits};
 ghost use Rattle.chrono_reading.specs.DateTexts.{IsOrdinalDateText};
 
 use crate::digits::three_digits;

@@ -2,7 +2,7 @@
 ghost use Rattle.std.specs.Prelude.{◌≡◌, ◌<◌, ◌≤◌, ◌∷◌, ◌++◌, ℕ, Some, IfSome};
 ghost use Rattle.std.specs.Option.{SomeIff};
 ghost use Rattle.chrono_datetime.specs.Duration.{nanos_per_second};
-ghost use Rattle.chrono_datetime.specs.Text.{two_digits};
+ghost use Rattle.chrono_text.specs.Text.{two_digits};
 ghost use Rattle.chrono_datetime.specs.Time.{TimeOfDay};
 ghost use Rattle.chrono_reading.specs.TimeTexts.{IsTimeText, time_shown};
 

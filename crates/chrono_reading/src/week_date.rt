@@ -2,7 +2,7 @@
 ghost use Rattle.std.specs.Prelude.{◌≡◌, ◌+◌, ◌∷◌, ◌++◌, [], ℕ, ℤ, Some, IfSome};
 ghost use Rattle.std.specs.Int.{IsInRange};
 ghost use Rattle.chrono_datetime.specs.Fields.{IsIsoYear};
-ghost use Rattle.chrono_datetime.specs.Text.{two_digits, year_text};
+ghost use Rattle.chrono_text.specs.Text.{two_digits, year_text};
 ghost use Rattle.chrono_datetime.specs.Weekday.{number_from_monday};
 ghost use Rattle.chrono_datetime.specs.declared.Weekday.{Weekday};
 ghost use Rattle.chrono_reading.specs.DateTexts.{IsWeekDateText};

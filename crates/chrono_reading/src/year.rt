@@ -1,7 +1,7 @@
 //! Years.
 ghost use Rattle.std.specs.Prelude.{◌≡◌, ◌<◌, ◌≤◌, ℕ, ℤ, pos, neg_ℤ, Some, IfSome, unsigned_abs};
 ghost use Rattle.std.specs.Option.{SomeIff};
-ghost use Rattle.chrono_datetime.specs.Text.{year_digits, year_text};
+ghost use Rattle.chrono_text.specs.Text.{year_digits, year_text};
 
 use crate::digits::{decimal, four_digits};
 

@@ -1,6 +1,6 @@
 //! The text of a time of day.
 ghost use Rattle.std.specs.Prelude.{Some};
-ghost use Rattle.chrono_clock.specs.Text.{time_text};
+ghost use Rattle.chrono_clock.specs.TimeText.{time_text};
 
 use crate::text::write_clock;
 use crate::{NaiveTime, Timelike};

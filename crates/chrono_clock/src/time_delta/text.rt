@@ -3,7 +3,7 @@ ghost use Rattle.std.specs.Prelude.{◌≡◌, ℕ, ◌<◌, ◌≤◌, ◌-◌,
 ghost use Rattle.std.specs.Fmt.{WritesOnOk, sign_text};
 ghost use Rattle.std.specs.Int.{is_negative};
 ghost use Rattle.chrono_clock.specs.Duration.{nanos_per_second};
-ghost use Rattle.chrono_clock.specs.Text.{fraction_digits, fraction_text, duration_text};
+ghost use Rattle.chrono_text.specs.Text.{fraction_digits, fraction_text, duration_text};
 
 use crate::TimeDelta;
 use crate::text::first_digit;

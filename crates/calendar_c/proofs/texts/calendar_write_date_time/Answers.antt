@@ -1,7 +1,7 @@
 use Rattle.std.proofs.Common.{◌≡◌, ℕ, ℤ, List, [], ◌∷◌, ◌++◌, length, Option, Some, ap, sym, ◌∙◌, append_assoc, FitsSigned, rules, w32}
 use Rattle.std.proofs.lemmas.Int.{to_z-of_z}
 use Rattle.std.specs.Option.{option_map}
-use Rattle.chrono_clock.specs.Text.{time_text}
+use Rattle.chrono_clock.specs.TimeText.{time_text}
 use Rattle.chrono_clock.specs.Time.{TimeOfDay}
 use Rattle.chrono_datetime.specs.DateText.{date_text}
 use Rattle.chrono_datetime.specs.Moment.{Moment}

@@ -1,6 +1,6 @@
 use Rattle.std.proofs.Common.{refl, ap, ℤ, to_z-of_z}
 use Rattle.std.proofs.lemmas.Grind.{put_two}
-use Rattle.chrono_clock.specs.Text.{calendar_text}
+use Rattle.chrono_text.specs.Text.{calendar_text}
 use Rattle.chrono_clock.proofs.text.write_calendar_date.Goals as goal
 
 -- the three numbers and the dashes between them, one after the other

@@ -1,6 +1,6 @@
 use Rattle.std.proofs.Common.{refl, ap, ℤ, to_z-of_z}
 use Rattle.std.proofs.lemmas.Grind.{put_two}
-use Rattle.chrono_clock.specs.Text.{week_text}
+use Rattle.chrono_text.specs.Text.{week_text}
 use Rattle.chrono_clock.proofs.text.write_week.Goals as goal
 
 -- the year, the letter and the week, one after the other

@@ -1,5 +1,5 @@
 use Rattle.std.proofs.Common.{pos, ap, [], ◌∷◌, ◌++◌, refl}
-use Rattle.chrono_clock.specs.Text.{time_text}
+use Rattle.chrono_clock.specs.TimeText.{time_text}
 use Rattle.chrono_clock.specs.Time.{time_at}
 use Rattle.chrono_naive.specs.Days.{days_of_years, days_before_year, days_of_months_in, date_of_ymd}
 use Rattle.chrono_naive.proofs.DateTextLemmas.{date_text-named}

@@ -1,6 +1,6 @@
 use Rattle.std.proofs.Common.{append_assoc}
 use Rattle.chrono_datetime.specs.DateText.{date_text}
-use Rattle.chrono_datetime.specs.Text.{time_text}
+use Rattle.chrono_datetime.specs.TimeText.{time_text}
 use Rattle.chrono_reading.proofs.law.printed_date_times_are_read.Goals as goal
 
 pub returns : goal.returns

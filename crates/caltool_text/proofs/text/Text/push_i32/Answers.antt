@@ -1,8 +1,0 @@
-use Rattle.std.proofs.Common.{length, length-append, ap, arith}
-use Rattle.caltool_text.proofs.Decimals.{at_most, one_at_most}
-use Rattle.caltool_text.proofs.text.Text.push_i32.Goals as goal
-
-pub returns-clause-fits : goal.returns-clause-fits
-returns-clause-fits g c =
-    let digits = simp length-append at (ap length c.push_natural.ensures) in
-    omega (arith, digits, one_at_most _ _ _ _ c.push_if.ensures, at_most 10 c.from.result (omega arith) (omega arith) (omega arith))

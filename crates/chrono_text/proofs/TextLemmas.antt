@@ -1,0 +1,116 @@
+-- Lemmas on the texts of numbers: how long they are, and that different numbers have different texts.
+use Rattle.std.proofs.Common.{◌≡◌, ℕ, suc, ◌+◌, ◌/◌, ◌%◌, ◌^◌, ◌<◌, ◌≤◌, ℤ, pos, negsuc, List, [], ◌∷◌, ◌++◌, length, length-append, take, drop, unsigned_abs, arith, refl, sym, ap, ◌∙◌}
+use Rattle.std.specs.Prelude.{get_or}
+use Rattle.std.proofs.Common.{inl, inr}
+use Rattle.std.proofs.lemmas.Bool.{cases_lt}
+use Rattle.std.specs.Str.Parse.{digits_value}
+use Rattle.std.proofs.Math.Seq.{take-append_seam, drop-append_seam}
+use Rattle.std.proofs.lemmas.Str.{digit_value_digit}
+use Rattle.std.proofs.lemmas.Fmt.{decimal_is_IsNumeral, length-decimal-le}
+use Rattle.chrono_text.specs.Text.{two_digits, all_digits, year_digits, year_text, calendar_text}
+
+-- one number is at least another, or less
+by_order : {P : Type 0} (m n : ℕ) → (m ≤ n → P) → (n < m → P) → P
+by_order m n f g = elim (cases_lt n m) [ inl less ↦ g less | inr least ↦ f least ]
+
+-- ---- lists
+
+-- two texts with ends of one length are the same in both parts
+pub same_parts : (xs ys s t : List ℕ) → length s ≡ length t → xs ++ s ≡ ys ++ t → (xs ≡ ys) × (s ≡ t)
+same_parts xs ys s t l e =
+    let cut : length xs ≡ length ys = omega (arith, l, length-append xs s, length-append ys t, ap (λ (c : List ℕ). length c) e) in (
+      sym (take-append_seam xs s) ∙ ap (λ (c : List ℕ). take (length xs) c) e ∙ ap (λ n. take n (ys ++ t)) cut ∙ take-append_seam ys t,
+      sym (drop-append_seam xs s) ∙ ap (λ (c : List ℕ). drop (length xs) c) e ∙ ap (λ n. drop n (ys ++ t)) cut ∙ drop-append_seam ys t,
+    )
+
+-- ---- digits
+
+-- four digits give back their number
+four_digits-value : (n : ℕ) → n < 10_000 → digits_value 10 (all_digits 4 n) ≡ n
+four_digits-value n h = omega (
+  arith,
+  digit_value_digit (48 + n / 1_000) (omega arith, omega arith),
+  digit_value_digit (48 + n % 1_000 / 100) (omega arith, omega arith),
+  digit_value_digit (48 + n % 1_000 % 100 / 10) (omega arith, omega arith),
+  digit_value_digit (48 + n % 1_000 % 100 % 10 / 1) (omega arith, omega arith),
+)
+
+-- numbers below 100 with the same two digits are the same
+two_digits_injective : (n m : ℕ) → n < 100 → m < 100 → two_digits n ≡ two_digits m → n ≡ m
+two_digits_injective n m h k e = omega (arith, ap (λ (c : List ℕ). get_or c 0 0) e, ap (λ (c : List ℕ). get_or c 1 0) e)
+
+-- ---- years
+
+-- the digits of a year's size give back that size
+year_digits-value : (n : ℕ) → n < 2 ^ 64 → digits_value 10 (year_digits n) ≡ n
+year_digits-value n h = by_order 10_000 n
+    (λ high. grind (arith, (decimal_is_IsNumeral n h).1))
+    (λ low. grind (arith, four_digits-value n low))
+
+-- so different sizes have different digits
+year_digits_injective : (n m : ℕ) → n < 2 ^ 64 → m < 2 ^ 64 → year_digits n ≡ year_digits m → n ≡ m
+year_digits_injective n m h k e = sym (year_digits-value n h) ∙ ap (λ (c : List ℕ). digits_value 10 c) e ∙ year_digits-value m k
+
+-- the kinds of years from 0 up
+year_text-four : (n : ℕ) → n < 10_000 → year_text (pos n) ≡ all_digits 4 n
+year_text-four n h = grind arith
+
+year_text-more : (n : ℕ) → 10_000 ≤ n → year_text (pos n) ≡ 43 ∷ year_digits n
+year_text-more n h = grind arith
+
+-- different years have different texts
+year_text_injective : (y z : ℤ) → unsigned_abs y < 2 ^ 64 → unsigned_abs z < 2 ^ 64 → year_text y ≡ year_text z → y ≡ z
+year_text_injective (negsuc n) (negsuc m) h k e = ap negsuc (omega (arith, year_digits_injective (suc n) (suc m) h k (ap (λ (c : List ℕ). drop 1 c) e)))
+year_text_injective (negsuc n) (pos m) h k e = by_order 10_000 m
+    (λ high. absurd (omega (arith, ap (λ (c : List ℕ). get_or c 0 0) (e ∙ year_text-more m high))))
+    (λ low. absurd (omega (arith, ap (λ (c : List ℕ). get_or c 0 0) (e ∙ year_text-four m low))))
+year_text_injective (pos n) (negsuc m) h k e = by_order 10_000 n
+    (λ high. absurd (omega (arith, ap (λ (c : List ℕ). get_or c 0 0) (sym (year_text-more n high) ∙ e))))
+    (λ low. absurd (omega (arith, ap (λ (c : List ℕ). get_or c 0 0) (sym (year_text-four n low) ∙ e))))
+year_text_injective (pos n) (pos m) h k e = by_order 10_000 n
+    (λ high. by_order 10_000 m
+    (λ also. ap pos (year_digits_injective n m h k (ap (λ (c : List ℕ). drop 1 c) (sym (year_text-more n high) ∙ e ∙ year_text-more m also))))
+    (λ low. absurd (omega (arith, ap (λ (c : List ℕ). get_or c 0 0) (sym (year_text-more n high) ∙ e ∙ year_text-four m low)))))
+    (λ low. by_order 10_000 m
+    (λ high. absurd (omega (arith, ap (λ (c : List ℕ). get_or c 0 0) (sym (year_text-four n low) ∙ e ∙ year_text-more m high))))
+    (λ also. ap pos (sym (four_digits-value n low) ∙ ap (λ (c : List ℕ). digits_value 10 c) (sym (year_text-four n low) ∙ e ∙ year_text-four m also) ∙ four_digits-value m also)))
+
+-- ---- dates
+
+-- what stands after the year
+abbrev calendar_tail : ℕ → ℕ → List ℕ
+calendar_tail m d = 45 ∷ (48 + m / 10) ∷ (48 + m % 10) ∷ 45 ∷ two_digits d
+
+calendar_tail-after : (xs : List ℕ) (m d : ℕ) → xs ++ 45 ∷ [] ++ two_digits m ++ 45 ∷ [] ++ two_digits d ≡ xs ++ calendar_tail m d
+calendar_tail-after [] m d = refl
+calendar_tail-after (x ∷ xs) m d = ap (λ (c : List ℕ). x ∷ c) (calendar_tail-after xs m d)
+
+calendar_text-parts : (y : ℤ) (m d : ℕ) → calendar_text y m d ≡ year_text y ++ calendar_tail m d
+calendar_text-parts y m d = calendar_tail-after (year_text y) m d
+
+-- different calendar names have different texts
+pub calendar_text_injective : (y z : ℤ) (m n d k : ℕ) → unsigned_abs y < 2 ^ 64 → unsigned_abs z < 2 ^ 64 → m < 100 → n < 100 → d < 100 → k < 100 → calendar_text y m d ≡ calendar_text z n k → (y ≡ z) × (m ≡ n) × (d ≡ k)
+calendar_text_injective y z m n d k small also hm hn hd hk e =
+    let parts = same_parts (year_text y) (year_text z) (calendar_tail m d) (calendar_tail n k) refl (sym (calendar_text-parts y m d) ∙ e ∙ calendar_text-parts z n k) in (
+      year_text_injective y z small also parts.0,
+      two_digits_injective m n hm hn (ap (λ (c : List ℕ). take 2 (drop 1 c)) parts.1),
+      two_digits_injective d k hd hk (ap (λ (c : List ℕ). drop 4 c) parts.1),
+    )
+
+-- how long the texts are
+pub length-year_text-four : (n : ℕ) → n < 10_000 → length (year_text (pos n)) ≡ 4
+length-year_text-four n h = rw (year_text-four n h) refl
+
+length-year_digits : (n : ℕ) → n < 1_000_000 → length (year_digits n) ≤ 6
+length-year_digits n h = by_order 10_000 n
+    (λ high. grind (arith, length-decimal-le 6 n (omega arith) h (omega arith)))
+    (λ low. grind arith)
+
+pub length-year_text-le : (y : ℤ) → unsigned_abs y < 1_000_000 → length (year_text y) ≤ 7
+length-year_text-le (negsuc n) h = omega (arith, length-year_digits (suc n) h)
+length-year_text-le (pos n) h = by_order 10_000 n
+    (λ high. rw (year_text-more n high) (omega (arith, length-year_digits n h)))
+    (λ low. omega (arith, length-year_text-four n low))
+
+pub length-calendar_text : (y : ℤ) (m d : ℕ) → length (calendar_text y m d) ≡ length (year_text y) + 6
+length-calendar_text y m d = rw (calendar_text-parts y m d) (length-append (year_text y) (calendar_tail m d))

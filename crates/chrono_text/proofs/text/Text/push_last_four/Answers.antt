@@ -1,0 +1,9 @@
+use Rattle.std.proofs.Common.{append_assoc, refl}
+use Rattle.chrono_text.proofs.Decimals.{last_four_text}
+use Rattle.chrono_text.proofs.text.Text.push_last_four.Goals as goal
+
+pub returns-clause-text : goal.returns-clause-text
+returns-clause-text g c =
+    let front = c.codes_of_two-thousands.ensures in
+    let back = c.codes_of_two-tens.ensures in
+    rw (c.push.ensures, c.push_if-3.ensures, c.push_if-2.ensures, c.push_if.ensures, front.tens, front.ones, back.tens, back.ones, last_four_text c.args.n) (simp append_assoc refl)

@@ -1,0 +1,6 @@
+use Rattle.std.proofs.Common.{length, length-append, ap, arith}
+use Rattle.chrono_text.proofs.Decimals.{at_most}
+use Rattle.chrono_text.proofs.text.Text.push_u32.Goals as goal
+
+pub returns-clause-fits : goal.returns-clause-fits
+returns-clause-fits g c = omega (arith, simp length-append at (ap length c.push_natural.ensures), at_most 10 c.from.result (omega arith) (omega arith) (omega arith))
