@@ -13,6 +13,5 @@ mod date_times;
 mod fields;
 mod moves;
 mod names;
-mod text_bytes;
 mod texts;
 mod weekdays;

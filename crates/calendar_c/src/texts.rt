@@ -1,5 +1,5 @@
 //! The texts of dates and date-times, written into the caller's bytes and read.
-ghost use Rattle.std.specs.Prelude.{◌≡◌, ◌≢◌, ◌⊎◌, ◌+◌, ◌++◌, ◌<◌, ◌≤◌, ℤ, pos, None, Some, length};
+ghost use Rattle.std.specs.Prelude.{◌≡◌, ◌≢◌, ◌⊎◌, ◌<◌, ◌≤◌, ℤ, pos, None, Some, length};
 ghost use Rattle.std.specs.Option.{option_map};
 ghost use Rattle.chrono_datetime.specs.Days.{IsDate, date_of_day};
 ghost use Rattle.chrono_datetime.specs.DateText.{date_text};
@@ -14,8 +14,14 @@ ghost use Rattle.calendar_c.specs.Texts.{length_of, overwritten, text_within};
 use crate::answers::{NONE, number_or_none};
 use crate::arguments::date_of;
 use crate::date_time_numbers::{CalendarDateTime, date_time_of, numbers_or_none};
-use crate::text_bytes::{date_bytes, time_bytes};
 use chrono_reading::{read_date, read_date_time};
+use chrono_text::Text;
+
+// How many bytes the longest date has.
+const LONGEST_DATE: usize = 13;
+
+// How many bytes the longest date-time has.
+const LONGEST_DATE_TIME: usize = 32;
 
 /// Writes the date as `2024-02-29` over the first bytes, if they are enough, and answers how many it took; a year before 0 or
 /// after 9999 has its sign.
@@ -30,8 +36,9 @@ pub extern "C" fn calendar_write_date(date: i32, text: &mut [u8]) -> i32
     let Some(date) = date_of(date) else {
         return NONE;
     };
-    let (bytes, length) = date_bytes(date);
-    write_parts(text, &bytes[..length], &[])
+    let mut written = Text::<LONGEST_DATE>::new();
+    date.put_into(&mut written);
+    write_over(text, written.as_bytes())
 }
 
 /// The date whose text the bytes are, as [`calendar_write_date`] writes it.
@@ -56,9 +63,9 @@ pub extern "C" fn calendar_write_date_time(moment: CalendarDateTime, text: &mut 
     let Some(moment) = date_time_of(moment) else {
         return NONE;
     };
-    let (date, date_length) = date_bytes(moment.date());
-    let (time, time_length) = time_bytes(moment.time());
-    write_parts(text, &date[..date_length], &time[..time_length])
+    let mut written = Text::<LONGEST_DATE_TIME>::new();
+    moment.put_into(&mut written, b'T');
+    write_over(text, written.as_bytes())
 }
 
 /// The date-time whose text the bytes are: as [`calendar_write_date_time`] writes it, with a `T` or a space, and a fraction of
@@ -72,21 +79,17 @@ pub extern "C" fn calendar_read_date_time(text: &[u8]) -> CalendarDateTime
     numbers_or_none(read_date_time(text))
 }
 
-// Writes two parts one behind the other over the first bytes, if they are enough, and answers how many they took.
+// Writes a text over the first bytes, if they are enough, and answers how many it took.
 #[inline]
-fn write_parts(text: &mut [u8], front: &[u8], back: &[u8]) -> i32
-    requires { length front.now + length back.now < 100 }
-    ensures length { result ≡ count_or_none
-        (length_of (text_within (length text.old) (Some (front.now ++ back.now)))) }
-    ensures bytes { text.new
-        ≡ overwritten (text_within (length text.old) (Some (front.now ++ back.now))) text.old }
+fn write_over(bytes: &mut [u8], text: &[u8]) -> i32
+    requires { length text.now < 100 }
+    ensures length { result ≡ count_or_none (length_of (text_within (length bytes.old) (Some text.now))) }
+    ensures bytes { bytes.new ≡ overwritten (text_within (length bytes.old) (Some text.now)) bytes.old }
 {
-    let between = front.len();
-    let end = between + back.len();
-    if text.len() < end {
+    let end = text.len();
+    if bytes.len() < end {
         return NONE;
     }
-    text[..between].copy_from_slice(front);
-    text[between..end].copy_from_slice(back);
+    bytes[..end].copy_from_slice(text);
     end as i32
 }

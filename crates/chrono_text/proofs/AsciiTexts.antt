@@ -1,5 +1,5 @@
 -- Every byte of the texts is ASCII, so that they may be handed on as strings.
-use Rattle.std.proofs.Common.{◌≡◌, ℕ, zero, suc, ◌+◌, ◌-◌, ◌*◌, ◌/◌, ◌%◌, ◌==◌, ◌^◌, ◌<◌, ℤ, pos, negsuc, Bool, true, false, List, [], ◌∷◌, ◌++◌, nat_le, nat_lt, unsigned_abs, if◌then◌else◌, arith, refl}
+use Rattle.std.proofs.Common.{◌≡◌, ℕ, zero, suc, ◌+◌, ◌-◌, ◌*◌, ◌/◌, ◌%◌, ◌==◌, ◌^◌, ◌<◌, ℤ, pos, negsuc, Bool, true, false, List, [], ◌∷◌, ◌++◌, nat_le, nat_lt, unsigned_abs, if◌then◌else◌, arith, refl, sym, ap, subst, ◌∙◌}
 use Rattle.std.specs.Prelude.{codes}
 use Rattle.std.specs.Str.{IsAscii}
 use Rattle.std.specs.Fmt.{decimal, sign_text}
@@ -11,7 +11,11 @@ use Rattle.std.proofs.lemmas.Nat.{div_below}
 use Rattle.std.proofs.lemmas.Str.{IsAscii-append}
 use Rattle.std.proofs.lemmas.Str.Ascii.{IsAscii-nil, IsAscii-cons}
 use Rattle.chrono_text.proofs.TextLemmas.{by_order, year_text-four, year_text-more}
-use Rattle.chrono_text.specs.Text.{nanos_per_second, two_digits, all_digits, fraction_digits, fraction_text, subsecond_text, year_digits, year_text, calendar_text, week_text, clock_text, seconds_text, duration_text}
+use Rattle.chrono_text.specs.Text.{nanos_per_second, two_digits, all_digits, fraction_digits, fraction_text, subsecond_text, year_digits, year_text, calendar_text, ordinal_text, week_text, week_date_text, clock_text, seconds_text, duration_text}
+
+-- a text put behind nothing
+pub IsAscii-put : (old new text : List ℕ) → new ≡ old ++ text → old ≡ [] → IsAscii text → IsAscii new
+IsAscii-put old new text put none h = subst IsAscii (sym (put ∙ ap (λ front. front ++ text) none)) h
 
 -- one of two texts
 either : (b : Bool) (xs ys : List ℕ) → (b ≡ true → IsAscii xs) → (b ≡ false → IsAscii ys) → IsAscii (if b then xs else ys)
@@ -71,6 +75,14 @@ IsAscii-week_text y w h k =
     let year = IsAscii-append (year_text y) (codes "-W") (IsAscii-year_text y h) letter in
     IsAscii-append (year_text y ++ codes "-W") (two_digits w) year (IsAscii-two_digits w k)
 
+pub IsAscii-ordinal_text : (y : ℤ) (o : ℕ) → unsigned_abs y < 2 ^ 64 → o < 1_000 → IsAscii (ordinal_text y o)
+IsAscii-ordinal_text y o h k =
+    IsAscii-append (year_text y ++ codes "-") (all_digits 3 o) (behind_with (year_text y) 45 (omega arith) (IsAscii-year_text y h)) (IsAscii-all_digits 3 o k)
+
+pub IsAscii-week_date_text : (y : ℤ) (w d : ℕ) → unsigned_abs y < 2 ^ 64 → w < 100 → d < 10 → IsAscii (week_date_text y w d)
+IsAscii-week_date_text y w d h k l =
+    behind_with (week_text y w ++ codes "-") (48 + d) (omega (arith, l)) (behind_with (week_text y w) 45 (omega arith) (IsAscii-week_text y w h k))
+
 -- ---- times of day
 
 IsAscii-subsecond_text : (n : ℕ) → n < 1_000_000_000 → IsAscii (subsecond_text n)
@@ -105,7 +117,7 @@ IsAscii-fraction_text n h =
     either (n == 0) [] (46 ∷ fraction_digits 9 n) (λ _. IsAscii-nil)
     (λ _. IsAscii-cons 46 (fraction_digits 9 n) (omega arith) (IsAscii-fraction_digits 9 n h))
 
-IsAscii-seconds_text : (negative : Bool) (seconds nanos : ℕ) → seconds < 2 ^ 64 → nanos < 1_000_000_000 → IsAscii (seconds_text negative seconds nanos)
+pub IsAscii-seconds_text : (negative : Bool) (seconds nanos : ℕ) → seconds < 2 ^ 64 → nanos < 1_000_000_000 → IsAscii (seconds_text negative seconds nanos)
 IsAscii-seconds_text negative seconds nanos h k =
     let name = IsAscii-cons 80 (84 ∷ []) (omega arith) (IsAscii-cons 84 [] (omega arith) IsAscii-nil) in
     let front = IsAscii-append (sign_text negative) (codes "PT") (IsAscii-sign_text negative) name in

@@ -1,5 +1,6 @@
 //! Years, dates and weeks as ISO 8601 writes them.
 ghost use Rattle.std.specs.Prelude.{◌≡◌, ◌+◌, ◌<◌, ◌≤◌, ◌++◌, length, unsigned_abs};
+ghost use Rattle.std.specs.Str.{IsAscii};
 ghost use Rattle.chrono_text.specs.Text.{year_digits, year_text, calendar_text, ordinal_text, week_text, week_date_text};
 
 use crate::digits::codes_of_two;
@@ -15,6 +16,7 @@ impl<const N: usize> Text<N> {
         requires day { day < 100 }
         requires room { length self.old + 13 ≤ N }
         ensures text { self.new ≡ self.old ++ calendar_text year month day }
+        ensures ascii { IsAscii (calendar_text year month day) }
         ensures fits { length self.new ≤ length self.old + 13 }
     {
         self.push_year(year);
@@ -32,6 +34,7 @@ impl<const N: usize> Text<N> {
         requires ordinal { ordinal < 1_000 }
         requires room { length self.old + 11 ≤ N }
         ensures text { self.new ≡ self.old ++ ordinal_text year ordinal }
+        ensures ascii { IsAscii (ordinal_text year ordinal) }
         ensures fits { length self.new ≤ length self.old + 11 }
     {
         self.push_year(year);
@@ -48,6 +51,7 @@ impl<const N: usize> Text<N> {
         requires weekday { weekday < 10 }
         requires room { length self.old + 13 ≤ N }
         ensures text { self.new ≡ self.old ++ week_date_text year week weekday }
+        ensures ascii { IsAscii (week_date_text year week weekday) }
         ensures fits { length self.new ≤ length self.old + 13 }
     {
         self.push_week(year, week);
@@ -63,6 +67,7 @@ impl<const N: usize> Text<N> {
         requires week { week < 100 }
         requires room { length self.old + 11 ≤ N }
         ensures text { self.new ≡ self.old ++ week_text year week }
+        ensures ascii { IsAscii (week_text year week) }
         ensures fits { length self.new ≤ length self.old + 11 }
     {
         self.push_year(year);

@@ -1,5 +1,6 @@
 //! Durations as ISO 8601 writes them.
 ghost use Rattle.std.specs.Prelude.{◌≡◌, ◌≢◌, ◌+◌, ◌*◌, ◌%◌, ◌^◌, ◌<◌, ◌≤◌, ◌++◌, ℕ, length};
+ghost use Rattle.std.specs.Str.{IsAscii};
 ghost use Rattle.chrono_text.specs.Text.{nanos_per_second, fraction_text, seconds_text};
 
 use crate::text::Text;
@@ -15,6 +16,7 @@ impl<const N: usize> Text<N> {
         requires nanos { nanos < nanos_per_second }
         requires room { length self.old + 33 ≤ N }
         ensures text { self.new ≡ self.old ++ seconds_text negative seconds nanos }
+        ensures ascii { IsAscii (seconds_text negative seconds nanos) }
         ensures fits { length self.new ≤ length self.old + 30 }
     {
         self.push_if(negative, b'-');

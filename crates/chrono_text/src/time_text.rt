@@ -1,5 +1,6 @@
 //! Times of day as ISO 8601 writes them.
 ghost use Rattle.std.specs.Prelude.{◌≡◌, ◌+◌, ◌<◌, ◌≤◌, ◌++◌, length};
+ghost use Rattle.std.specs.Str.{IsAscii};
 ghost use Rattle.chrono_text.specs.Text.{subsecond_text, clock_text};
 
 use crate::text::Text;
@@ -26,6 +27,7 @@ impl<const N: usize> Text<N> {
         requires fraction { fraction < 2_000_000_000 }
         requires room { length self.old + 18 ≤ N }
         ensures text { self.new ≡ self.old ++ clock_text hour minute second fraction }
+        ensures ascii { IsAscii (clock_text hour minute second fraction) }
         ensures fits { length self.new ≤ length self.old + 18 }
     {
         self.push_two(hour);

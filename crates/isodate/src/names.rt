@@ -1,7 +1,11 @@
 //! The names of a date besides its calendar name, as they are printed.
 
 use chrono_datetime::{Datelike, NaiveDate};
+use chrono_text::Text;
 use std::fmt;
+
+// How many bytes the longest name has.
+const LONGEST: usize = 13;
 
 /// A date by its ISO year, its week and its weekday (ISO 8601 week date), as `2024-W09-4`.
 #[derive(Clone, Copy)]
@@ -9,8 +13,11 @@ pub struct WeekName(pub NaiveDate);
 
 impl fmt::Display for WeekName {
     fn fmt<W: fmt::Write>(&self, f: &mut fmt::Formatter<W>) -> fmt::Result {
+        let week = self.0.iso_week();
         let weekday = self.0.weekday().number_from_monday();
-        write!(f, "{:?}-{}", self.0.iso_week(), weekday)
+        let mut text = Text::<LONGEST>::new();
+        text.push_week_date(week.year(), week.week(), weekday);
+        text.print(f)
     }
 }
 
@@ -20,12 +27,8 @@ pub struct OrdinalName(pub NaiveDate);
 
 impl fmt::Display for OrdinalName {
     fn fmt<W: fmt::Write>(&self, f: &mut fmt::Formatter<W>) -> fmt::Result {
-        let year = self.0.year();
-        let ordinal = self.0.ordinal();
-        if 0 <= year && year <= 9999 {
-            write!(f, "{year:04}-{ordinal:03}")
-        } else {
-            write!(f, "{year:+05}-{ordinal:03}")
-        }
+        let mut text = Text::<LONGEST>::new();
+        text.push_ordinal_date(self.0.year(), self.0.ordinal());
+        text.print(f)
     }
 }

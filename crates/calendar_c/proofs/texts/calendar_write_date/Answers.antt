@@ -1,12 +1,29 @@
-use Rattle.std.proofs.Common.{◌≡◌, ◌∙◌, length, FitsSigned, rules, w32}
+use Rattle.std.proofs.Common.{◌≡◌, ◌∙◌, ◌++◌, ap, [], List, ℕ, ℤ, Option, Some, length, arith, FitsSigned, rules, w32}
 use Rattle.std.proofs.lemmas.Int.{to_z-of_z}
 use Rattle.std.specs.Option.{option_map}
-use Rattle.chrono_calendar.specs.Days.{date_of_day}
+use Rattle.chrono_calendar.proofs.NamedDates.{date_of_day-Some}
 use Rattle.chrono_datetime.specs.DateText.{date_text}
 use Rattle.calendar_c.specs.Answers.{count_or_none}
-use Rattle.calendar_c.specs.Texts.{length_of, text_within}
-use Rattle.calendar_c.proofs.LengthLemmas.{date_text-enough, no_date}
+use Rattle.calendar_c.specs.Texts.{length_of, overwritten, text_within}
+use Rattle.calendar_c.proofs.LengthLemmas.{enough, no_date, the_date}
 use Rattle.calendar_c.proofs.texts.calendar_write_date.Goals as goal
+
+-- the bytes that were put are the text of the date that was found
+put : (o : Option ℤ) (n : ℤ) (bytes text start : List ℕ) → Some n ≡ o → bytes ≡ text → text ≡ start ++ date_text n → start ≡ [] → Some bytes ≡ option_map date_text o
+put o n bytes text start e f g h = rw (← e) (ap Some (f ∙ g ∙ ap (λ s. s ++ date_text n) h))
+
+pub returns-clause-length : goal.returns-clause-length
+returns-clause-length c =
+    let fits : FitsSigned w32 c.write_over.result = search rules in
+    let date = rw (to_z-of_z w32 c.args.date c.ranges.date) at c.in-Some.ensures.date in
+    to_z-of_z w32 c.write_over.result fits ∙ c.write_over.ensures.length
+    ∙ ap (λ (o : Option (List ℕ)). count_or_none (length_of (text_within (length c.args.text.now) o))) (put _ _ _ _ _ date c.as_bytes.ensures.value c.put_into.ensures.text c.new-written.ensures)
+
+pub returns-clause-bytes : goal.returns-clause-bytes
+returns-clause-bytes c =
+    let date = rw (to_z-of_z w32 c.args.date c.ranges.date) at c.in-Some.ensures.date in
+    c.write_over.ensures.bytes
+    ∙ ap (λ (o : Option (List ℕ)). overwritten (text_within (length c.args.text.now) o) c.args.text.now) (put _ _ _ _ _ date c.as_bytes.ensures.value c.put_into.ensures.text c.new-written.ensures)
 
 pub returns-in_default-clause-enough : goal.returns-in_default-clause-enough
 returns-in_default-clause-enough c =
@@ -14,6 +31,10 @@ returns-in_default-clause-enough c =
 
 pub returns-clause-enough : goal.returns-clause-enough
 returns-clause-enough c =
-    let fits : FitsSigned w32 c.write_parts.result = search rules in
-    let is : c.write_parts.result ≡ count_or_none (length_of (text_within (length c.args.text.now) (option_map date_text (date_of_day c.args.date)))) = search rules in
-    λ date room. to_z-of_z w32 c.write_parts.result fits ∙ is ∙ date_text-enough c.args.date (length c.args.text.now) date room
+    let fits : FitsSigned w32 c.write_over.result = search rules in
+    let found = rw (to_z-of_z w32 c.args.date c.ranges.date) at c.in-Some.ensures.date in
+    let written : c.as_bytes.result.now ≡ date_text c.in-Some.date =
+    c.as_bytes.ensures.value ∙ c.put_into.ensures.text ∙ ap (λ s. s ++ date_text c.in-Some.date) c.new-written.ensures in
+    λ date room.
+    to_z-of_z w32 c.write_over.result fits ∙ c.write_over.ensures.length
+    ∙ enough c.as_bytes.result.now (date_text c.args.date) (length c.args.text.now) (written ∙ ap date_text (the_date _ _ _ found (date_of_day-Some c.args.date date))) (omega (arith, room, c.as_bytes.ensures.fits))

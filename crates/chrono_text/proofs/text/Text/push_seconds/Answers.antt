@@ -1,5 +1,6 @@
 use Rattle.std.proofs.Common.{length, length-append, ap, rules, arith}
 use Rattle.chrono_text.proofs.Decimals.{at_most, one_at_most}
+use Rattle.chrono_text.proofs.AsciiTexts.{IsAscii-seconds_text}
 use Rattle.chrono_text.proofs.text.Text.push_seconds.Goals as goal
 
 pub push_natural-requires : goal.push_natural-requires
@@ -30,3 +31,6 @@ returns-clause-fits g c =
     let digits = simp length-append at (ap length c.push_natural.ensures) in
     let short = at_most 16 c.args.seconds (omega arith) c.requires.seconds (omega (arith, c.requires.seconds)) in
     omega (arith, sign, name, digits, short, c.push_fraction.ensures.fits, simp length-append at (ap length c.push.ensures))
+
+pub returns-clause-ascii : goal.returns-clause-ascii
+returns-clause-ascii g c = IsAscii-seconds_text c.args.negative c.args.seconds c.args.nanos (omega (arith, c.requires.seconds)) c.requires.nanos
