@@ -1,166 +1,21 @@
-//! The answer to a command, put behind a text.
-ghost use Rattle.std.specs.Prelude.{◌≡◌, ◌≤◌, ◌+◌, ◌+ℤ◌, ◌++◌, length, codes, Option, ℤ};
+//! The texts of what commands ask for, each put behind a text, and `none` where there is nothing to write.
+ghost use Rattle.std.specs.Prelude.{◌≡◌, ◌≤◌, ◌+◌, ◌++◌, length, codes};
 ghost use Rattle.std.specs.Fmt.{decimal, signed_decimal};
-ghost use Rattle.std.specs.Option.{option_map, option_and_then};
+ghost use Rattle.std.specs.Option.{option_map};
 ghost use Rattle.chrono_units.specs.WeekdaySet.{walk};
 ghost use Rattle.chrono_units.specs.WeekdayText.{weekday_text, set_text};
-ghost use Rattle.chrono_clock.specs.Moment.{moment, moment_distance};
+ghost use Rattle.chrono_clock.specs.Moment.{moment};
 ghost use Rattle.chrono_clock.specs.Text.{duration_text, time_text, week_text};
-ghost use Rattle.chrono_calendar.specs.Days.{date_of_day, ordinal_of};
-ghost use Rattle.chrono_calendar.specs.MonthMoves.{month_move};
-ghost use Rattle.chrono_calendar.specs.Recurrence.{date_every, date_on};
+ghost use Rattle.chrono_calendar.specs.Days.{ordinal_of};
 ghost use Rattle.chrono_calendar.specs.Weeks.{iso_week_of, iso_year_of, week_first_of, weekday_of};
-ghost use Rattle.chrono_calendar.specs.YearsBetween.{years_between};
 ghost use Rattle.caltool_text.specs.SpacedDays.{spaced_days_text};
-ghost use Rattle.caltool_form.specs.Answers.{answer_to, date_line, names_of, week_line};
-ghost use Rattle.caltool_form.specs.Named.{date_named as the_date, duration_named as the_duration, moment_named as the_moment, months_of, reach};
+ghost use Rattle.caltool_form.specs.Answers.{date_line, names_of, week_line};
 ghost use Rattle.caltool_form.specs.Texts.{date_text, moment_text, text_or_none};
 
 use crate::command_answers::CommandAnswers;
-use crate::named::{duration_named, time_named};
-use caltool_command::{CalendarDate, Command, DateAndTime, MonthSpan};
 use caltool_text::Text;
 use chrono_clock::{NaiveTime, TimeDelta, Timelike};
 use chrono_units::{Weekday, WeekdaySet};
-
-// Puts the answer to a command, at most 63 bytes, behind the text.
-#[inline(always)]
-#[tactic(auto, unfolding(crate::specs::Answers::answer_to))]
-pub(crate) fn write_answer<A: CommandAnswers, const N: usize>(command: Command, out: &mut Text<N>)
-    requires { length out.old + 63 ≤ N }
-    ensures text { out.new ≡ out.old ++ answer_to command }
-    ensures fits { length out.new ≤ length out.old + 63 }
-{
-    match command {
-        Command::Ymd { date } => push_date_line::<A, N>(out, date_named::<A>(date)),
-        Command::Yo { year, ordinal } => push_date_line::<A, N>(out, A::from_yo(year, ordinal)),
-        Command::Iwd {
-            year,
-            week,
-            weekday,
-        } => push_date_line::<A, N>(out, A::from_iso(year, week, weekday)),
-        Command::Day { number } => push_date_line::<A, N>(out, A::from_day(number)),
-        Command::Wom {
-            year,
-            month,
-            weekday,
-            nth,
-        } => push_date_line::<A, N>(out, A::nth_weekday(year, month, weekday, nth)),
-        Command::Days { date, count } => push_date_line::<A, N>(
-            out,
-            moved_by_days::<A>(date, count),
-        ),
-        Command::Months { date, span } => push_date_line::<A, N>(
-            out,
-            moved_by_months::<A>(date, span),
-        ),
-        Command::Week { date, start } => push_week_line::<A, N>(out, date_named::<A>(date), start),
-        Command::Move {
-            from,
-            seconds,
-            nanoseconds,
-        } => push_moment::<A, N>(out, moved::<A>(from, seconds, nanoseconds)),
-        Command::Diff { first, second } => push_distance(out, difference::<A>(first, second)),
-        Command::Since { date, base } => push_years(out, years_since::<A>(date, base)),
-        Command::Set { start, days } => push_set_and_walk(out, days, start),
-        Command::On { date, days } => push_date_line::<A, N>(out, first_of_days::<A>(date, days)),
-        Command::Every {
-            date,
-            months,
-            times,
-        } => push_date_line::<A, N>(out, moved_every::<A>(date, months, times)),
-    }
-}
-
-// ---- what a command asks for, of what it names
-
-// The date of a year, a month and a day.
-#[inline]
-#[tactic(auto, unfolding(crate::specs::Named::date_named))]
-fn date_named<A: CommandAnswers>(date: CalendarDate) -> Option<A::Date>
-    ensures { option_map A.number result ≡ the_date date }
-{
-    A::from_ymd(date.year, date.month, date.day)
-}
-
-// The date and the time of day of a date-time.
-#[inline]
-#[tactic(auto, unfolding(crate::specs::Named::moment_named))]
-fn moment_named<A: CommandAnswers>(named: DateAndTime) -> Option<(A::Date, NaiveTime)>
-    ensures { option_map (λ m. moment (A.number m.0) m.1) result ≡ the_moment named }
-{
-    let date = date_named::<A>(named.date)?;
-    let time = time_named(named.time)?;
-    Some((date, time))
-}
-
-// The date so many days later, or earlier where the count is negative.
-fn moved_by_days<A: CommandAnswers>(date: CalendarDate, count: i64) -> Option<A::Date>
-    ensures { option_map A.number result
-        ≡ option_and_then (λ n. date_of_day (n +ℤ count)) (the_date date) }
-{
-    A::move_days(date_named::<A>(date)?, count)
-}
-
-// The date so many months later, or earlier.
-fn moved_by_months<A: CommandAnswers>(date: CalendarDate, span: MonthSpan) -> Option<A::Date>
-    ensures { option_map A.number result
-        ≡ option_and_then (λ n. month_move n (months_of span)) (the_date date) }
-{
-    A::move_months(date_named::<A>(date)?, span)
-}
-
-// The first date from a date on with one of these weekdays.
-fn first_of_days<A: CommandAnswers>(date: CalendarDate, days: WeekdaySet) -> Option<A::Date>
-    ensures { option_map A.number result
-        ≡ option_and_then (λ n. date_on n days) (the_date date) }
-{
-    A::first_on(date_named::<A>(date)?, days)
-}
-
-// The date so many times so many months later, or earlier.
-fn moved_every<A: CommandAnswers>(date: CalendarDate, months: i32, times: u32) -> Option<A::Date>
-    ensures { option_map A.number result
-        ≡ option_and_then (λ n. date_every n months times) (the_date date) }
-{
-    A::every_months(date_named::<A>(date)?, months, times)
-}
-
-// The whole years from the second date to the first.
-fn years_since<A: CommandAnswers>(date: CalendarDate, base: CalendarDate) -> Option<u32>
-    ensures { result
-        ≡ option_and_then (λ n. option_and_then (λ m. years_between n m) (the_date base))
-        (the_date date) }
-{
-    A::years_between(date_named::<A>(date)?, date_named::<A>(base)?)
-}
-
-// The date-time a duration later.
-fn moved<A: CommandAnswers>(
-    from: DateAndTime,
-    seconds: i64,
-    nanoseconds: u32,
-) -> Option<(A::Date, NaiveTime)>
-    ensures { option_map (λ m. moment (A.number m.0) m.1) result
-        ≡ option_and_then (λ m. option_and_then (λ x. reach m x) (the_duration seconds nanoseconds))
-        (the_moment from) }
-{
-    let (date, time) = moment_named::<A>(from)?;
-    A::move_moment(date, time, duration_named(seconds, nanoseconds)?)
-}
-
-// How far the first date-time is from the second.
-fn difference<A: CommandAnswers>(first: DateAndTime, second: DateAndTime) -> Option<TimeDelta>
-    ensures { result
-        ≡ option_and_then (λ a. option_map (λ b. moment_distance a b) (the_moment second))
-        (the_moment first) }
-{
-    let (date, time) = moment_named::<A>(first)?;
-    let (base, base_time) = moment_named::<A>(second)?;
-    Some(A::distance(date, time, base, base_time))
-}
-
-// ---- answers put behind a text, each of them `none` where there is nothing to write
 
 // What stands for a value that does not exist.
 fn push_none<const N: usize>(out: &mut Text<N>)
@@ -172,7 +27,10 @@ fn push_none<const N: usize>(out: &mut Text<N>)
 }
 
 // A date with all its names.
-fn push_date_line<A: CommandAnswers, const N: usize>(out: &mut Text<N>, date: Option<A::Date>)
+pub(crate) fn push_date_line<A: CommandAnswers, const N: usize>(
+    out: &mut Text<N>,
+    date: Option<A::Date>,
+)
     requires { length out.old + 63 ≤ N }
     ensures text { out.new ≡ out.old ++ date_line (option_map A.number date) }
     ensures fits { length out.new ≤ length out.old + 63 }
@@ -184,7 +42,7 @@ fn push_date_line<A: CommandAnswers, const N: usize>(out: &mut Text<N>, date: Op
 }
 
 // The first and the last day of the date's week from the start on.
-fn push_week_line<A: CommandAnswers, const N: usize>(
+pub(crate) fn push_week_line<A: CommandAnswers, const N: usize>(
     out: &mut Text<N>,
     date: Option<A::Date>,
     start: Weekday,
@@ -229,7 +87,7 @@ fn push_date_or_none<A: CommandAnswers, const N: usize>(out: &mut Text<N>, date:
 }
 
 // A date-time in one word.
-fn push_moment<A: CommandAnswers, const N: usize>(
+pub(crate) fn push_moment<A: CommandAnswers, const N: usize>(
     out: &mut Text<N>,
     reached: Option<(A::Date, NaiveTime)>,
 )
@@ -245,7 +103,7 @@ fn push_moment<A: CommandAnswers, const N: usize>(
 }
 
 // A duration.
-fn push_distance<const N: usize>(out: &mut Text<N>, distance: Option<TimeDelta>)
+pub(crate) fn push_distance<const N: usize>(out: &mut Text<N>, distance: Option<TimeDelta>)
     requires { length out.old + 63 ≤ N }
     ensures text { out.new ≡ out.old ++ text_or_none duration_text distance }
     ensures fits { length out.new ≤ length out.old + 63 }
@@ -257,7 +115,7 @@ fn push_distance<const N: usize>(out: &mut Text<N>, distance: Option<TimeDelta>)
 }
 
 // A number of years.
-fn push_years<const N: usize>(out: &mut Text<N>, years: Option<u32>)
+pub(crate) fn push_years<const N: usize>(out: &mut Text<N>, years: Option<u32>)
     requires { length out.old + 63 ≤ N }
     ensures text { out.new ≡ out.old ++ text_or_none decimal years }
     ensures fits { length out.new ≤ length out.old + 63 }
@@ -269,7 +127,7 @@ fn push_years<const N: usize>(out: &mut Text<N>, years: Option<u32>)
 }
 
 // A set, and its days in week order from the start.
-fn push_set_and_walk<const N: usize>(out: &mut Text<N>, days: WeekdaySet, start: Weekday)
+pub(crate) fn push_set_and_walk<const N: usize>(out: &mut Text<N>, days: WeekdaySet, start: Weekday)
     requires { length out.old + 63 ≤ N }
     ensures text { out.new ≡ out.old ++ (set_text days ++ spaced_days_text (walk days start)) }
     ensures fits { length out.new ≤ length out.old + 63 }
