@@ -1,4 +1,4 @@
-pub use Rattle.caltool_form.specs.SpacedDays
+pub mod SpacedDays
 pub use Rattle.caltool_command.specs.Words
 pub use Rattle.caltool_command.specs.Numbers
 pub use Rattle.caltool_command.specs.Grammar

@@ -1,5 +1,5 @@
 //! What answers commands: how dates are found, moved and compared, and how their fields are read.
-ghost use Rattle.std.specs.Prelude.{◌≡◌, ◌≤◌, ◌+◌, ◌++◌, ℤ, pos, neg_ℤ, ◌+ℤ◌, ◌≤ℤ◌, length};
+ghost use Rattle.std.specs.Prelude.{◌≡◌, ℤ, pos, neg_ℤ, ◌+ℤ◌, ◌≤ℤ◌};
 ghost use Rattle.std.specs.Int.{IsInRange};
 ghost use Rattle.std.specs.Option.{option_map};
 ghost use Rattle.chrono_units.specs.Years.{IsYear};
@@ -9,12 +9,9 @@ ghost use Rattle.chrono_calendar.specs.MonthMoves.{month_move};
 ghost use Rattle.chrono_calendar.specs.Recurrence.{date_every, date_on};
 ghost use Rattle.chrono_calendar.specs.Weeks.{date_of_iso, date_of_nth_weekday, iso_week_of, iso_year_of, week_first_of, weekday_of};
 ghost use Rattle.chrono_calendar.specs.YearsBetween.{years_between as whole_years};
-ghost use Rattle.caltool_form.specs.Answers.{answer_to};
 ghost use Rattle.caltool_form.specs.Named.{months_of, reach};
 
-use crate::write_answer::write_answer;
-use caltool_command::{Command, MonthSpan};
-use chrono_text::Text;
+use caltool_command::MonthSpan;
 use chrono_clock::{NaiveTime, TimeDelta};
 use chrono_units::{Weekday, WeekdaySet};
 
@@ -120,14 +117,4 @@ pub trait CommandAnswers {
     /// The day of the year.
     fn ordinal(date: Self::Date) -> u32
         ensures { result ≡ ordinal_of (number date) };
-
-    /// Puts the answer to a command, at most 63 bytes, behind the text: the same for whatever dates these are.
-    #[inline(always)]
-    final fn write_answer<const N: usize>(command: Command, out: &mut Text<N>)
-        requires { length out.old + 63 ≤ N }
-        ensures text { out.new ≡ out.old ++ answer_to command }
-        ensures fits { length out.new ≤ length out.old + 63 }
-    {
-        write_answer::<Self, N>(command, out);
-    }
 }

@@ -8,6 +8,7 @@
 #![tactic(auto)]
 
 mod answer;
+mod asked;
 mod command_answers;
 mod fault;
 mod form_answers;
@@ -16,8 +17,8 @@ mod named;
 mod newline;
 mod output;
 mod run;
+mod texts;
 mod watch;
-mod write_answer;
 
 pub use answer::{Answer, answer_by};
 pub use caltool_command::{

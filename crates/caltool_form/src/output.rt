@@ -5,7 +5,7 @@ ghost use Rattle.caltool_form.specs.Marks.{mark_of_write};
 ghost use Rattle.caltool_form.specs.declared.watch.Mark.{Mark};
 ghost use Rattle.caltool_form.specs.Answers.{answer_of};
 
-use crate::answer::write_line_answer;
+use crate::answer::read_and_answer;
 use crate::command_answers::CommandAnswers;
 use crate::fault::RunFault;
 use crate::watch::WatchedWriter;
@@ -49,7 +49,7 @@ impl Output {
         requires { length self.old + 63 < 65536 }
         ensures { self.new ≡ self.old ++ answer_of line.now ++ 10 ∷ [] }
     {
-        write_line_answer::<A, ROOM>(line, &mut self.numbers, &mut self.text);
+        read_and_answer::<A, ROOM>(&mut self.text, line, &mut self.numbers);
         self.text.push(b'\n');
     }
 

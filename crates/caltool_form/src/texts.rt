@@ -1,0 +1,228 @@
+//! The texts of what commands ask for, each put behind a text, and `none` where there is nothing to write.
+ghost use Rattle.std.specs.Prelude.{◌≡◌, ◌≤◌, ◌+◌, ◌*◌, ◌++◌, length, codes};
+ghost use Rattle.std.specs.Fmt.{decimal, signed_decimal};
+ghost use Rattle.std.specs.Option.{option_map};
+ghost use Rattle.chrono_units.specs.WeekdaySet.{walk};
+ghost use Rattle.chrono_units.specs.WeekdayText.{weekday_text, set_text};
+ghost use Rattle.chrono_clock.specs.Moment.{moment};
+ghost use Rattle.chrono_text.specs.Text.{duration_text, week_text};
+ghost use Rattle.chrono_clock.specs.TimeText.{time_text};
+ghost use Rattle.chrono_calendar.specs.Days.{ordinal_of};
+ghost use Rattle.chrono_calendar.specs.Weeks.{iso_week_of, iso_year_of, week_first_of, weekday_of};
+ghost use Rattle.caltool_form.specs.SpacedDays.{spaced_days_text};
+ghost use Rattle.caltool_form.specs.Answers.{date_line, names_of, week_line};
+ghost use Rattle.caltool_form.specs.Texts.{date_text, moment_text, text_or_none};
+
+use crate::command_answers::CommandAnswers;
+use chrono_clock::{NaiveTime, TimeDelta, Timelike};
+use chrono_text::Text;
+use chrono_units::{Weekday, WeekdaySet, WeekdaySetIter};
+
+// What stands for a value that does not exist.
+fn push_none<const N: usize>(out: &mut Text<N>)
+    requires { length out.old + 13 ≤ N }
+    ensures text { out.new ≡ out.old ++ codes "none" }
+    ensures fits { length out.new ≤ length out.old + 13 }
+{
+    out.push_text(b"none");
+}
+
+// A date with all its names.
+pub(crate) fn push_date_line<A: CommandAnswers, const N: usize>(
+    out: &mut Text<N>,
+    date: Option<A::Date>,
+)
+    requires { length out.old + 63 ≤ N }
+    ensures text { out.new ≡ out.old ++ date_line (option_map A.number date) }
+    ensures fits { length out.new ≤ length out.old + 63 }
+{
+    match date {
+        None => push_none(out),
+        Some(date) => push_names::<A, N>(out, date),
+    }
+}
+
+// The first and the last day of the date's week from the start on.
+pub(crate) fn push_week_line<A: CommandAnswers, const N: usize>(
+    out: &mut Text<N>,
+    date: Option<A::Date>,
+    start: Weekday,
+)
+    requires { length out.old + 63 ≤ N }
+    ensures text { out.new ≡ out.old
+        ++ text_or_none (λ n. week_line (week_first_of n start)) (option_map A.number date) }
+    ensures fits { length out.new ≤ length out.old + 63 }
+{
+    match date {
+        None => push_none(out),
+        Some(date) => push_week_days::<A, N>(out, date, start),
+    }
+}
+
+#[tactic(auto, unfolding(crate::specs::Answers::week_line))]
+fn push_week_days<A: CommandAnswers, const N: usize>(
+    out: &mut Text<N>,
+    date: A::Date,
+    start: Weekday,
+)
+    requires { length out.old + 63 ≤ N }
+    ensures text { out.new ≡ out.old ++ week_line (week_first_of (A.number date) start) }
+    ensures fits { length out.new ≤ length out.old + 63 }
+{
+    let (first, last) = A::week(date, start);
+    push_date_or_none::<A, N>(out, first);
+    out.push_text(b" ");
+    push_date_or_none::<A, N>(out, last);
+}
+
+// A date, or `none`.
+fn push_date_or_none<A: CommandAnswers, const N: usize>(out: &mut Text<N>, date: Option<A::Date>)
+    requires { length out.old + 15 ≤ N }
+    ensures text { out.new ≡ out.old ++ text_or_none date_text (option_map A.number date) }
+    ensures fits { length out.new ≤ length out.old + 13 }
+{
+    match date {
+        None => push_none(out),
+        Some(date) => push_date::<A, N>(out, date),
+    }
+}
+
+// A date-time in one word.
+pub(crate) fn push_moment<A: CommandAnswers, const N: usize>(
+    out: &mut Text<N>,
+    reached: Option<(A::Date, NaiveTime)>,
+)
+    requires { length out.old + 63 ≤ N }
+    ensures text { out.new ≡ out.old
+        ++ text_or_none (moment_text 84) (option_map (λ m. moment (A.number m.0) m.1) reached) }
+    ensures fits { length out.new ≤ length out.old + 63 }
+{
+    match reached {
+        None => push_none(out),
+        Some((date, time)) => push_date_and_time::<A, N>(out, date, time),
+    }
+}
+
+// A duration.
+pub(crate) fn push_distance<const N: usize>(out: &mut Text<N>, distance: Option<TimeDelta>)
+    requires { length out.old + 63 ≤ N }
+    ensures text { out.new ≡ out.old ++ text_or_none duration_text distance }
+    ensures fits { length out.new ≤ length out.old + 63 }
+{
+    match distance {
+        None => push_none(out),
+        Some(distance) => distance.put_into(out),
+    }
+}
+
+// A number of years.
+pub(crate) fn push_years<const N: usize>(out: &mut Text<N>, years: Option<u32>)
+    requires { length out.old + 63 ≤ N }
+    ensures text { out.new ≡ out.old ++ text_or_none decimal years }
+    ensures fits { length out.new ≤ length out.old + 63 }
+{
+    match years {
+        None => push_none(out),
+        Some(years) => out.push_u32(years),
+    }
+}
+
+// A set, and its days in week order from the start.
+#[tactic(auto, using(chrono_units::proofs::WalkLengths::walks))]
+pub(crate) fn push_set_and_walk<const N: usize>(out: &mut Text<N>, days: WeekdaySet, start: Weekday)
+    requires { length out.old + 63 ≤ N }
+    ensures text { out.new ≡ out.old ++ (set_text days ++ spaced_days_text (walk days start)) }
+    ensures fits { length out.new ≤ length out.old + 63 }
+{
+    days.put_into(out);
+    push_spaced_days(out, days.iter(start));
+}
+
+// Days, each after a space.
+fn push_spaced_days<const N: usize>(out: &mut Text<N>, mut days: WeekdaySetIter)
+    requires { length out.old + 4 * length days ≤ N }
+    ensures text { out.new ≡ out.old ++ spaced_days_text days }
+    ensures fits { length out.new ≤ length out.old + 4 * length days }
+{
+    while let Some(day) = days.next() {
+        out.push(b' ');
+        day.put_into(out);
+    }
+}
+
+// ---- the texts of dates
+
+// A date.
+fn push_date<A: CommandAnswers, const N: usize>(out: &mut Text<N>, date: A::Date)
+    requires { length out.old + 15 ≤ N }
+    ensures text { out.new ≡ out.old ++ date_text (A.number date) }
+    ensures fits { length out.new ≤ length out.old + 13 }
+{
+    let (year, month, day) = A::year_month_day(date);
+    out.push_calendar_date(year, month, day);
+}
+
+// A date with all its names.
+#[tactic(auto, unfolding(crate::specs::Answers::names_of))]
+fn push_names<A: CommandAnswers, const N: usize>(out: &mut Text<N>, date: A::Date)
+    requires { length out.old + 63 ≤ N }
+    ensures text { out.new ≡ out.old ++ names_of (A.number date) }
+    ensures fits { length out.new ≤ length out.old + 63 }
+{
+    push_date::<A, N>(out, date);
+    push_day_and_weekday::<A, N>(out, date);
+    push_week_and_ordinal::<A, N>(out, date);
+}
+
+// The day number and the weekday, each after a space.
+fn push_day_and_weekday<A: CommandAnswers, const N: usize>(out: &mut Text<N>, date: A::Date)
+    requires { length out.old + 21 ≤ N }
+    ensures text { out.new ≡ out.old ++ codes " " ++ signed_decimal (A.number date) ++ codes " "
+        ++ weekday_text (weekday_of (A.number date)) }
+    ensures fits { length out.new ≤ length out.old + 16 }
+{
+    out.push_text(b" ");
+    out.push_i32(A::day(date));
+    out.push_text(b" ");
+    A::weekday(date).put_into(out);
+}
+
+// The ISO week and the ordinal, each after a space.
+fn push_week_and_ordinal<A: CommandAnswers, const N: usize>(out: &mut Text<N>, date: A::Date)
+    requires { length out.old + 32 ≤ N }
+    ensures text { out.new
+        ≡ out.old
+        ++ codes " " ++ week_text (iso_year_of (A.number date)) (iso_week_of (A.number date))
+        ++ codes " " ++ decimal (ordinal_of (A.number date)) }
+    ensures fits { length out.new ≤ length out.old + 23 }
+{
+    let (year, week) = A::iso_name(date);
+    out.push_text(b" ");
+    out.push_week(year, week);
+    out.push_text(b" ");
+    out.push_short_u32(A::ordinal(date));
+}
+
+// A date and a time of day with a `T` between.
+fn push_date_and_time<A: CommandAnswers, const N: usize>(
+    out: &mut Text<N>,
+    date: A::Date,
+    time: NaiveTime,
+)
+    requires { length out.old + 63 ≤ N }
+    ensures text { out.new ≡ out.old ++ moment_text 84 (moment (A.number date) time) }
+    ensures fits { length out.new ≤ length out.old + 63 }
+{
+    push_date::<A, N>(out, date);
+    out.push_text(b"T");
+    push_time(out, time);
+}
+
+// A time of day.
+fn push_time<const N: usize>(out: &mut Text<N>, time: NaiveTime)
+    requires { length out.old + 18 ≤ N }
+    ensures text { out.new ≡ out.old ++ time_text time }
+    ensures fits { length out.new ≤ length out.old + 18 }
+{
+    out.push_clock(time.hour(), time.minute(), time.second(), time.nanosecond());
+}
