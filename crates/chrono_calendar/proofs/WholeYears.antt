@@ -15,7 +15,7 @@ use Rattle.chrono_calendar.proofs.NamedDates.{calendar_name-exists}
 use Rattle.chrono_calendar.proofs.MonthOrder.{before_month, day_at-exists, earlier_month}
 
 -- the order of days in a year by one number
-pub is_earlier_in_year-code : (m d p q : ℕ) → d < 32 → q < 32 → nat_lt (m * 32 + d) (p * 32 + q) ≡ is_earlier_in_year m d p q
+is_earlier_in_year-code : (m d p q : ℕ) → d < 32 → q < 32 → nat_lt (m * 32 + d) (p * 32 + q) ≡ is_earlier_in_year m d p q
 is_earlier_in_year-code m d p q h k = grind (arith, nat_tests)
 
 -- what the order in the year says of the two days
