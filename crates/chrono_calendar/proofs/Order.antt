@@ -88,12 +88,12 @@ named_in_year n = month_of_ordinal-exists (is_leap_year (year_of n)) (ordinal_of
 beside : (n m : ℤ) → year_of n ≡ year_of m → IsMonthAndDay (is_leap_year (year_of n)) (month_of m) (day_of m) (ordinal_of m)
 beside n m e = with_flag (is_leap_year (year_of n)) (is_leap_year (year_of m)) (month_of m) (day_of m) (ordinal_of m) (ap is_leap_year e) (named_in_year m)
 
-earlier_month : (n m : ℤ) → year_of n ≡ year_of m → month_of n < month_of m → n <ℤ m
+pub earlier_month : (n m : ℤ) → year_of n ≡ year_of m → month_of n < month_of m → n <ℤ m
 earlier_month n m e lt =
     (same_year n m e).0 (earlier_by_month (is_leap_year (year_of n)) (month_of n) (day_of n) (ordinal_of n) (month_of m) (day_of m) (ordinal_of m) (named_in_year n) (beside n m e) lt)
 
 -- days of one month lie as their places there
-same_month : (n m : ℤ) → year_of n ≡ year_of m → month_of n ≡ month_of m → (day_of n < day_of m → n <ℤ m) × (day_of n ≡ day_of m → n ≡ m)
+pub same_month : (n m : ℤ) → year_of n ≡ year_of m → month_of n ≡ month_of m → (day_of n < day_of m → n <ℤ m) × (day_of n ≡ day_of m → n ≡ m)
 same_month n m e f =
     let within = within_month (is_leap_year (year_of n)) (month_of n) (day_of n) (ordinal_of n) (month_of m) (day_of m) (ordinal_of m) (named_in_year n) (beside n m e) f in
     (λ lt. (same_year n m e).0 (within.0 lt), λ eq. (same_year n m e).1 (within.1 eq))
