@@ -4,14 +4,12 @@ ghost use Rattle.chrono_clock.specs.Duration.{floor_secs, past_floor};
 ghost use Rattle.calendar_c.specs.DateTimes.{duration_named, duration_or_none, moment_at, moment_named, numbers_of, numbers_or_none};
 
 use crate::arguments::date_of;
+use chrono_calendar::ends::FIRST_DAY;
 use chrono_datetime::{NaiveDateTime, NaiveTime, TimeDelta, Timelike};
 
 const SECS_PER_DAY: i32 = 86_400;
 
 const NANOS_PER_SEC: i32 = 1_000_000_000;
-
-// The day number of the first date.
-const FIRST_DAY: i32 = -95_746_129;
 
 // The seconds from 1970 to the first second of the first date, and to the last of the last date.
 const FIRST_SECOND: i64 = -8_334_601_228_800;

@@ -1,21 +1,18 @@
 -- Cycles of 400 years: whole cycles on, years begin whole cycles of days later and repeat.
-use Rattle.std.proofs.Common.{◌≡◌, ℕ, zero, suc, ◌+◌, ◌*◌, ◌%◌, ◌<◌, ◌≤◌, inl, inr, refl, ap, arith, ℤ, pos, ◌+ℤ◌, ◌*ℤ◌}
+use Rattle.std.proofs.Common.{◌≡◌, ◌+◌, ◌*◌, ◌%◌, ◌≤◌, refl, ap, arith, ℤ, pos, ◌+ℤ◌, ◌*ℤ◌}
 use Rattle.std.specs.Int.{int_div_euclid, int_rem_euclid}
-use Rattle.std.proofs.lemmas.Bool.{cases_order}
 use Rattle.std.proofs.lemmas.Bool.Decides.{nat_tests}
 use Rattle.chrono_units.specs.Years.{year_length}
-use Rattle.chrono_calendar.specs.Days.{days_before_year, days_of_years}
+use Rattle.chrono_calendar.specs.Days.{days_before_year}
 use Rattle.chrono_calendar.specs.Weeks.{days_from_sunday_of}
-use Rattle.chrono_calendar.specs.Stored.{flags_of_year}
-use Rattle.chrono_calendar.specs.Flags.{IsYearFlags}
-use Rattle.chrono_calendar.specs.Tables.{leap_years_before}
+use Rattle.chrono_calendar.specs.Flags.{flags_of_year, IsYearFlags}
 use Rattle.chrono_calendar.proofs.Signed.{signed}
 use Rattle.chrono_calendar.proofs.Years.{leap_day, year_length-leap_day, days_before_year-next, days_before_year-closed}
 
-pub days_before_year-shift : (c : ℤ) (y base : ℤ) → y ≡ c *ℤ pos 400 +ℤ base → days_before_year y ≡ days_before_year base +ℤ c *ℤ pos 146_097
+days_before_year-shift : (c : ℤ) (y base : ℤ) → y ≡ c *ℤ pos 400 +ℤ base → days_before_year y ≡ days_before_year base +ℤ c *ℤ pos 146_097
 days_before_year-shift c y base e = omega (arith, signed, days_before_year-closed y, days_before_year-closed base)
 
-pub year_length-shift : (c : ℤ) (y base : ℤ) → y ≡ c *ℤ pos 400 +ℤ base → year_length y ≡ year_length base
+year_length-shift : (c : ℤ) (y base : ℤ) → y ≡ c *ℤ pos 400 +ℤ base → year_length y ≡ year_length base
 year_length-shift c y base e =
     omega (arith, signed, days_before_year-shift c y base e, days_before_year-shift c (y +ℤ pos 1) (base +ℤ pos 1) (omega (arith, signed)), days_before_year-next y (y +ℤ pos 1) refl, days_before_year-next base (base +ℤ pos 1) refl)
 
@@ -24,7 +21,7 @@ weekday-shift : (c a b : ℤ) → a ≡ b +ℤ c *ℤ pos 146_097 → days_from_
 weekday-shift c a b e = omega (arith, signed)
 
 -- the two parts of a year's flags
-pub flags_of_year-parts : (y : ℤ) → flags_of_year y + 8 * leap_day y ≡ 9 + (days_from_sunday_of (days_before_year y) + 5) % 7
+flags_of_year-parts : (y : ℤ) → flags_of_year y + 8 * leap_day y ≡ 9 + (days_from_sunday_of (days_before_year y) + 5) % 7
 unfolding flags_of_year
 flags_of_year-parts y = grind arith
 
@@ -45,29 +42,3 @@ flags_of_year-in_range y = (omega (arith, flags_of_year-parts y, leap_day-bound 
   where
     leap_day-bound : (y : ℤ) → leap_day y ≤ 1
     leap_day-bound y = grind (arith, nat_tests)
-
-pub leap_years_before-suc : (n : ℕ) → leap_years_before (suc n) ≡ leap_years_before n + leap_day (pos n)
-unfolding leap_years_before
-leap_years_before-suc n = grind arith
-
--- the days before a year from 0 on, counted from year 0
-pub days_before_year-natural : (n : ℕ) → days_before_year (pos n) +ℤ pos 366 ≡ pos (365 * n + leap_years_before n)
-days_before_year-natural zero = unfold days_before_year days_of_years leap_years_before in refl
-days_before_year-natural (suc n) =
-    omega (arith, signed, days_before_year-natural n, leap_years_before-suc n, days_before_year-next (pos n) (pos (suc n)) (omega (arith, signed)), year_length-leap_day (pos n))
-
-pub leap_years_before-positive : (n : ℕ) → 0 < leap_years_before n → 1 ≤ n
-leap_years_before-positive zero h = let none : leap_years_before 0 ≡ 0 = unfold leap_years_before in refl in absurd (omega arith)
-leap_years_before-positive (suc n) h = omega arith
-
-leap_years_before-cycle : leap_years_before 400 ≡ 97
-unfolding leap_years_before
-leap_years_before-cycle = refl
-
--- a year of the cycle that has as many days left as leap years before it is not the year 400
-pub leap_years_before-inside : (n rest : ℕ) → 365 * n + rest < 146_097 → leap_years_before n ≤ rest → n < 400
-leap_years_before-inside n rest h k =
-    elim (cases_order n 400) [
-      | inl same ↦ absurd (omega (arith, ap leap_years_before same, leap_years_before-cycle))
-      | inr apart ↦ elim apart [ inl lt ↦ lt | inr gt ↦ absurd (omega arith) ]
-    ]

@@ -23,7 +23,7 @@ weekday_of-next : (n m : ℤ) → m ≡ n +ℤ pos 1 → weekday_of m ≡ next_w
 weekday_of-next n m e =
     same_weekday m (next_weekday (weekday_of n)) (omega (arith, signed, days_from_monday-of n, days_from_monday-next (weekday_of n)))
 
-pub weekday_of-after : (n m : ℤ) (k : ℕ) → m ≡ n +ℤ pos k → weekday_of m ≡ weekday_after (weekday_of n) k
+weekday_of-after : (n m : ℤ) (k : ℕ) → m ≡ n +ℤ pos k → weekday_of m ≡ weekday_after (weekday_of n) k
 weekday_of-after n m zero e = let same : m ≡ n = omega (arith, signed) in ap weekday_of same
 weekday_of-after n m (suc k) e =
     weekday_of-next (n +ℤ pos k) m (omega (arith, signed)) ∙ ap next_weekday (weekday_of-after n (n +ℤ pos k) k refl)
@@ -35,7 +35,7 @@ weekday_of-week n m e = same_weekday m (weekday_of n) (omega (arith, signed, day
 -- ---- a walk over days finds the first of them that has such a weekday
 
 -- the day e, from n on, has such a weekday, and no day before it
-pub record IsFirstOn (set : DaySet) (n e : ℤ) : Type 0 where
+record IsFirstOn (set : DaySet) (n e : ℤ) : Type 0 where
   pub not_before : n ≤ℤ e
   pub member : contains set (weekday_of e) ≡ true
   pub least : (d : ℤ) → n ≤ℤ d → d <ℤ e → contains set (weekday_of d) ≡ false
@@ -62,7 +62,7 @@ some_first set k n e false is found later =
       omega (arith, signed, rest.1),
     )
 
-pub first_of_days-Some : (set : DaySet) (k : ℕ) (n e : ℤ) → first_of_days set k n ≡ Some e → IsFirstOn set n e × (e <ℤ (n +ℤ pos k))
+first_of_days-Some : (set : DaySet) (k : ℕ) (n e : ℤ) → first_of_days set k n ≡ Some e → IsFirstOn set n e × (e <ℤ (n +ℤ pos k))
 unfolding first_of_days
 first_of_days-Some set zero n e h = absurd cc
 first_of_days-Some set (suc k) n e h = some_first set k n e (contains set (weekday_of n)) refl h (first_of_days-Some set k (n +ℤ pos 1) e)
@@ -76,7 +76,7 @@ first_found set k n e false is h later =
     by_lt_z n e (λ lt. later (record { not_before = omega (arith, signed, lt); member = h.member; least = λ d low high. h.least d (omega (arith, signed, low)) high }))
     (λ ge. let same : e ≡ n = omega (arith, signed, h.not_before, ge) in absurd (false≢true (sym is ∙ sym (ap (λ d. contains set (weekday_of d)) same) ∙ h.member)))
 
-pub first_of_days-found : (set : DaySet) (k : ℕ) (n e : ℤ) → IsFirstOn set n e → e <ℤ (n +ℤ pos k) → first_of_days set k n ≡ Some e
+first_of_days-found : (set : DaySet) (k : ℕ) (n e : ℤ) → IsFirstOn set n e → e <ℤ (n +ℤ pos k) → first_of_days set k n ≡ Some e
 unfolding first_of_days
 first_of_days-found set zero n e h within = absurd (omega (arith, signed, h.not_before, within))
 first_of_days-found set (suc k) n e h within =
@@ -87,7 +87,7 @@ no_first : (set : DaySet) (k : ℕ) (n : ℤ) (b : Bool) → contains set (weekd
 no_first set k n true is h later = absurd (false≢true (sym h))
 no_first set k n false is h later = later
 
-pub first_of_days-None : (set : DaySet) (k : ℕ) (n : ℤ) → ((d : ℤ) → n ≤ℤ d → d <ℤ (n +ℤ pos k) → contains set (weekday_of d) ≡ false) → first_of_days set k n ≡ None
+first_of_days-None : (set : DaySet) (k : ℕ) (n : ℤ) → ((d : ℤ) → n ≤ℤ d → d <ℤ (n +ℤ pos k) → contains set (weekday_of d) ≡ false) → first_of_days set k n ≡ None
 unfolding first_of_days
 first_of_days-None set zero n h = refl
 first_of_days-None set (suc k) n h =
@@ -95,7 +95,7 @@ first_of_days-None set (suc k) n h =
     (first_of_days-None set k (n +ℤ pos 1) (λ d low high. h d (omega (arith, signed, low)) (omega (arith, signed, high))))
 
 -- and where there is none, none of them has one
-pub first_of_days-nowhere : (set : DaySet) (k : ℕ) (n : ℤ) → first_of_days set k n ≡ None → (d : ℤ) → n ≤ℤ d → d <ℤ (n +ℤ pos k) → contains set (weekday_of d) ≡ false
+first_of_days-nowhere : (set : DaySet) (k : ℕ) (n : ℤ) → first_of_days set k n ≡ None → (d : ℤ) → n ≤ℤ d → d <ℤ (n +ℤ pos k) → contains set (weekday_of d) ≡ false
 unfolding first_of_days
 first_of_days-nowhere set zero n h d low high = absurd (omega (arith, signed, low, high))
 first_of_days-nowhere set (suc k) n h d low high =
@@ -112,23 +112,23 @@ first_of_days-nowhere set (suc k) n h d low high =
 end_of_dates : (n : ℤ) → IsDate n → n +ℤ pos (dates_left n) ≡ past_last_date
 end_of_dates n h = omega (arith, signed, h.0, h.1)
 
-pub date_on-Some : (n : ℤ) (set : DaySet) (e : ℤ) → IsDate n → date_on n set ≡ Some e → IsFirstOn set n e × IsDate e
+date_on-Some : (n : ℤ) (set : DaySet) (e : ℤ) → IsDate n → date_on n set ≡ Some e → IsFirstOn set n e × IsDate e
 unfolding date_on
 date_on-Some n set e h found =
     let first = first_of_days-Some set (dates_left n) n e found in
     (first.0, (omega (arith, signed, h.0, first.0.not_before), omega (arith, signed, first.1, end_of_dates n h)))
 
-pub date_on-found : (n : ℤ) (set : DaySet) (e : ℤ) → IsDate n → IsFirstOn set n e → IsDate e → date_on n set ≡ Some e
+date_on-found : (n : ℤ) (set : DaySet) (e : ℤ) → IsDate n → IsFirstOn set n e → IsDate e → date_on n set ≡ Some e
 unfolding date_on
 date_on-found n set e h first date =
     first_of_days-found set (dates_left n) n e first (omega (arith, signed, date.1, end_of_dates n h))
 
-pub date_on-None : (n : ℤ) (set : DaySet) → IsDate n → ((d : ℤ) → n ≤ℤ d → IsDate d → contains set (weekday_of d) ≡ false) → None ≡ date_on n set
+date_on-None : (n : ℤ) (set : DaySet) → IsDate n → ((d : ℤ) → n ≤ℤ d → IsDate d → contains set (weekday_of d) ≡ false) → None ≡ date_on n set
 unfolding date_on
 date_on-None n set h none =
     sym (first_of_days-None set (dates_left n) n (λ d low high. none d low (omega (arith, signed, h.0, low), omega (arith, signed, high, end_of_dates n h))))
 
-pub date_on-nowhere : (n : ℤ) (set : DaySet) → IsDate n → date_on n set ≡ None → (d : ℤ) → n ≤ℤ d → IsDate d → contains set (weekday_of d) ≡ false
+date_on-nowhere : (n : ℤ) (set : DaySet) → IsDate n → date_on n set ≡ None → (d : ℤ) → n ≤ℤ d → IsDate d → contains set (weekday_of d) ≡ false
 unfolding date_on
 date_on-nowhere n set h none d low date =
     first_of_days-nowhere set (dates_left n) n none d low (omega (arith, signed, date.1, end_of_dates n h))

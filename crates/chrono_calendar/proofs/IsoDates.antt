@@ -22,17 +22,17 @@ use Rattle.chrono_calendar.proofs.IsoWeeks.{days_from_monday-of, iso_weekday_of-
 fourth_of_january : (y : ℤ) → days_from_monday (weekday_of (days_before_year y +ℤ pos 4)) ≡ before_monday y
 fourth_of_january y = omega (arith, signed, days_from_monday-of (days_before_year y +ℤ pos 4))
 
-pub day_number_of_iso-place : (y : ℤ) (w : ℕ) (d : Weekday) → day_number_of_iso y w (number_from_monday d) ≡ days_before_year y +ℤ pos (7 * w + days_from_monday d) -ℤ pos (before_monday y + 3)
+day_number_of_iso-place : (y : ℤ) (w : ℕ) (d : Weekday) → day_number_of_iso y w (number_from_monday d) ≡ days_before_year y +ℤ pos (7 * w + days_from_monday d) -ℤ pos (before_monday y + 3)
 day_number_of_iso-place y w d =
     omega (arith, signed, iso_weekday_of-monday (days_before_year y +ℤ pos 4), fourth_of_january y)
 
 -- that day has the weekday, and its Thursday lies as many weeks on
-pub weekday_of-iso : (n y : ℤ) (w : ℕ) (d : Weekday) → n ≡ days_before_year y +ℤ pos (7 * w + days_from_monday d) -ℤ pos (before_monday y + 3) → weekday_of n ≡ d
+weekday_of-iso : (n y : ℤ) (w : ℕ) (d : Weekday) → n ≡ days_before_year y +ℤ pos (7 * w + days_from_monday d) -ℤ pos (before_monday y + 3) → weekday_of n ≡ d
 weekday_of-iso n y w d e =
     let bound = days_from_monday-lt d in
     same_weekday n d (omega (arith, signed))
 
-pub thursday_of-iso : (n y : ℤ) (w : ℕ) (d : Weekday) → n ≡ days_before_year y +ℤ pos (7 * w + days_from_monday d) -ℤ pos (before_monday y + 3) → thursday_of_week n ≡ days_before_year y +ℤ pos (7 * w) -ℤ pos (before_monday y)
+thursday_of-iso : (n y : ℤ) (w : ℕ) (d : Weekday) → n ≡ days_before_year y +ℤ pos (7 * w + days_from_monday d) -ℤ pos (before_monday y + 3) → thursday_of_week n ≡ days_before_year y +ℤ pos (7 * w) -ℤ pos (before_monday y)
 thursday_of-iso n y w d e =
     omega (arith, signed, thursday_of_week-monday n, ap days_from_monday (weekday_of-iso n y w d e))
 
@@ -65,7 +65,7 @@ date_of_iso-named y w d first last =
     rw same refl
 
 -- no date where the day that would be named has another name
-pub date_of_iso-None : (y : ℤ) (w : ℕ) (d : Weekday) → (let n = day_number_of_iso y w (number_from_monday d) in IsDate n → iso_year_of n ≡ y → iso_week_of n ≡ w → ⊥) → None ≡ date_of_iso y w d
+date_of_iso-None : (y : ℤ) (w : ℕ) (d : Weekday) → (let n = day_number_of_iso y w (number_from_monday d) in IsDate n → iso_year_of n ≡ y → iso_week_of n ≡ w → ⊥) → None ≡ date_of_iso y w d
 unfolding date_of_iso
 date_of_iso-None y w d h =
     let n = day_number_of_iso y w (number_from_monday d) in
@@ -104,12 +104,12 @@ thursday-place n =
     let named = ordinal_name_of-number (thursday_of_week n) in
     omega (arith, signed, named.number, named.exists, thursdays n)
 
-pub iso_week_of-bounds : (n : ℤ) → (1 ≤ iso_week_of n) × (7 * iso_week_of n ≤ year_length (iso_year_of n) + before_monday (iso_year_of n))
+iso_week_of-bounds : (n : ℤ) → (1 ≤ iso_week_of n) × (7 * iso_week_of n ≤ year_length (iso_year_of n) + before_monday (iso_year_of n))
 iso_week_of-bounds n =
     let named = ordinal_name_of-number (thursday_of_week n) in
     (omega arith, omega (arith, signed, named.number, named.exists, thursday-place n))
 
-pub day_number_of_iso-name : (n : ℤ) → day_number_of_iso (iso_year_of n) (iso_week_of n) (number_from_monday (weekday_of n)) ≡ n
+day_number_of_iso-name : (n : ℤ) → day_number_of_iso (iso_year_of n) (iso_week_of n) (number_from_monday (weekday_of n)) ≡ n
 day_number_of_iso-name n =
     omega (arith, signed, day_number_of_iso-place (iso_year_of n) (iso_week_of n) (weekday_of n), thursday-place n, thursday_of_week-monday n)
 
@@ -130,7 +130,7 @@ date_of_iso-name n y w d e =
     rw (← found.1) (sym name.0, sym name.1, sym weekday)
 
 -- the date that a week that the year has gives, by its ordinal name
-pub date_of_iso-yo : (y z : ℤ) (w o : ℕ) (d : Weekday) → 1 ≤ w → 7 * w ≤ year_length y + before_monday y → day_number_of_yo z o ≡ days_before_year y +ℤ pos (7 * w + days_from_monday d) -ℤ pos (before_monday y + 3) → IsOrdinalName z o → date_of_yo z o ≡ date_of_iso y w d
+date_of_iso-yo : (y z : ℤ) (w o : ℕ) (d : Weekday) → 1 ≤ w → 7 * w ≤ year_length y + before_monday y → day_number_of_yo z o ≡ days_before_year y +ℤ pos (7 * w + days_from_monday d) -ℤ pos (before_monday y + 3) → IsOrdinalName z o → date_of_yo z o ≡ date_of_iso y w d
 date_of_iso-yo y z w o d first last e h =
     date_of_yo-day (day_number_of_iso y w (number_from_monday d)) z o (e ∙ sym (day_number_of_iso-place y w d)) h ∙ sym (date_of_iso-named y w d first last)
 

@@ -16,7 +16,7 @@ use Rattle.chrono_calendar.proofs.Tests.{passes_below, passes_below-at}
 use Rattle.chrono_calendar.proofs.Years.{days_before_year-next, days_before_year-closed}
 use Rattle.chrono_calendar.proofs.Names.{ordinal_name_of-number, year_of-number, ordinal_of-number, days_before_year-later, year_length_bounds}
 
-pub weekday_from_sunday-days : (d : Weekday) → weekday_from_sunday ((days_from_monday d + 1) % 7) ≡ d
+weekday_from_sunday-days : (d : Weekday) → weekday_from_sunday ((days_from_monday d + 1) % 7) ≡ d
 weekday_from_sunday-days Mon = refl
 weekday_from_sunday-days Tue = refl
 weekday_from_sunday-days Wed = refl
@@ -30,7 +30,7 @@ weekdays_tested : passes_below (λ k. nat_eq (days_from_monday (weekday_from_sun
 unfolding passes_below
 weekdays_tested = refl
 
-pub days_from_monday-weekday : (k : ℕ) → k < 7 → days_from_monday (weekday_from_sunday k) ≡ (k + 6) % 7
+days_from_monday-weekday : (k : ℕ) → k < 7 → days_from_monday (weekday_from_sunday k) ≡ (k + 6) % 7
 days_from_monday-weekday k h =
     eqb-true (days_from_monday (weekday_from_sunday k)) ((k + 6) % 7) (passes_below-at (λ j. nat_eq (days_from_monday (weekday_from_sunday j)) ((j + 6) % 7)) 7 weekdays_tested k h)
 
@@ -106,7 +106,7 @@ iso_year_of-range n h =
     later_year y lt = by_lt_z (pos 262_144) y (λ more. omega (arith, signed, days_before_year-later (pos 262_144) y more, last_years.1)) (λ le. let same : y ≡ pos 262_144 = omega (arith, signed) in rw same (omega (arith, signed, last_years.1)))
 
 -- the quotients that the leap years before a year are counted by, from the years since a common multiple of 400
-pub leap_quotients : (y : ℤ) (p : ℕ) → pos p ≡ y +ℤ pos 262_399 → (int_div_euclid (y -ℤ pos 1) (pos 4) ≡ pos (p / 4) -ℤ pos 65_600) × (int_div_euclid (y -ℤ pos 1) (pos 100) ≡ pos (p / 100) -ℤ pos 2_624) × (int_div_euclid (y -ℤ pos 1) (pos 400) ≡ pos (p / 400) -ℤ pos 656)
+leap_quotients : (y : ℤ) (p : ℕ) → pos p ≡ y +ℤ pos 262_399 → (int_div_euclid (y -ℤ pos 1) (pos 4) ≡ pos (p / 4) -ℤ pos 65_600) × (int_div_euclid (y -ℤ pos 1) (pos 100) ≡ pos (p / 100) -ℤ pos 2_624) × (int_div_euclid (y -ℤ pos 1) (pos 400) ≡ pos (p / 400) -ℤ pos 656)
 leap_quotients y p e = (omega (arith, signed), omega (arith, signed), omega (arith, signed))
 
 -- the days before the year, counted from the first day of those years

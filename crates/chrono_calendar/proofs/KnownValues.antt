@@ -1,31 +1,29 @@
--- Values of the calendar, of its tables and of the weeks of years, so that a wrong rule does not check. Those that callers
+-- Values of the calendar, of the flags and of the weeks of years, so that a wrong rule does not check. Those that callers
 -- may cite stand in `law.rt`: `known_days`, `known_weeks`, `known_moves` and `known_recurrences`.
-use Rattle.std.proofs.Common.{◌≡◌, ℕ, true, false, pos, negsuc, List, [], ◌∷◌, map, Some, refl, arith}
-use Rattle.chrono_calendar.specs.Days.{days_of_years, days_before_year, days_of_months_in, month_of_ordinal, day_of_ordinal, day_number_of_yo, day_number_of_ymd}
+use Rattle.std.proofs.Common.{◌≡◌, pos, negsuc, [], ◌∷◌, map, Some, refl, arith}
+use Rattle.chrono_calendar.specs.Days.{days_of_years, days_before_year, days_of_months_in, day_number_of_yo, day_number_of_ymd}
 use Rattle.chrono_units.specs.declared.weekday.Weekday.TheVariants.{Tue, Thu}
 use Rattle.chrono_units.specs.WeekdaySet.{set_of}
 use Rattle.chrono_calendar.specs.Recurrence.{first_of_days}
-use Rattle.chrono_calendar.specs.Stored.{flags_of_year}
-use Rattle.chrono_calendar.specs.Flags.{weeks_of_iso_year}
-use Rattle.chrono_calendar.specs.Tables.{leap_years_before, ol_of, mdl_of, mdl_adjustment, ol_adjustment}
+use Rattle.chrono_calendar.specs.Flags.{flags_of_year, weeks_of_iso_year}
 use Rattle.chrono_calendar.proofs.Signed.{signed}
 use Rattle.chrono_calendar.proofs.Years.{days_before_year-closed}
 use Rattle.chrono_calendar.proofs.Weeks.{weeks_of_iso_year-flags}
 
-pub first_day : day_number_of_ymd (pos 1) 1 1 ≡ pos 1
+first_day : day_number_of_ymd (pos 1) 1 1 ≡ pos 1
 unfolding days_before_year days_of_years days_of_months_in
 first_day = refl
 
-pub last_of_zero : day_number_of_ymd (pos 0) 12 31 ≡ pos 0
+last_of_zero : day_number_of_ymd (pos 0) 12 31 ≡ pos 0
 unfolding days_before_year days_of_years days_of_months_in
 last_of_zero = refl
 
-pub before_zero : day_number_of_ymd (negsuc 3) 2 29 ≡ negsuc 1766
+before_zero : day_number_of_ymd (negsuc 3) 2 29 ≡ negsuc 1766
 unfolding days_before_year days_of_years days_of_months_in
 before_zero = refl
 
 -- 30 December 2024 has the number that `known_weeks` of `law.rt` names
-pub days_2024 : day_number_of_ymd (pos 2024) 12 30 ≡ pos 739_250
+days_2024 : day_number_of_ymd (pos 2024) 12 30 ≡ pos 739_250
 unfolding days_before_year days_of_years days_of_months_in
 days_2024 = refl
 
@@ -36,42 +34,16 @@ first_number = omega (arith, signed, days_before_year-closed (negsuc 262_142))
 pub last_number : day_number_of_yo (pos 262_142) 365 ≡ pos 95_745_399
 last_number = omega (arith, signed, days_before_year-closed (pos 262_142))
 
-pub flags : map (λ y. flags_of_year (pos y)) (0 ∷ 1 ∷ 2 ∷ 3 ∷ 4 ∷ 100 ∷ 200 ∷ 300 ∷ 399 ∷ []) ≡ 4 ∷ 14 ∷ 15 ∷ 9 ∷ 2 ∷ 11 ∷ 9 ∷ 14 ∷ 11 ∷ []
+flags : map (λ y. flags_of_year (pos y)) (0 ∷ 1 ∷ 2 ∷ 3 ∷ 4 ∷ 100 ∷ 200 ∷ 300 ∷ 399 ∷ []) ≡ 4 ∷ 14 ∷ 15 ∷ 9 ∷ 2 ∷ 11 ∷ 9 ∷ 14 ∷ 11 ∷ []
 unfolding flags_of_year days_before_year days_of_years
 flags = refl
 
-pub flags_before_zero : flags_of_year (negsuc 399) ≡ 4
+flags_before_zero : flags_of_year (negsuc 399) ≡ 4
 unfolding flags_of_year days_before_year days_of_years
 flags_before_zero = refl
 
-pub leap_years : map leap_years_before (0 ∷ 1 ∷ 4 ∷ 5 ∷ 100 ∷ 104 ∷ 105 ∷ 200 ∷ 300 ∷ 400 ∷ []) ≡ 0 ∷ 1 ∷ 1 ∷ 2 ∷ 25 ∷ 25 ∷ 26 ∷ 49 ∷ 73 ∷ 97 ∷ []
-unfolding leap_years_before
-leap_years = refl
-
--- the months of a leap year and of a common year
-abbrev months : List ℕ
-months = 1 ∷ 2 ∷ 3 ∷ 4 ∷ 5 ∷ 6 ∷ 7 ∷ 8 ∷ 9 ∷ 10 ∷ 11 ∷ 12 ∷ []
-
-pub adjustments_leap : map (λ m. mdl_adjustment (mdl_of true m 28)) months ≡ 64 ∷ 66 ∷ 72 ∷ 74 ∷ 78 ∷ 80 ∷ 84 ∷ 86 ∷ 88 ∷ 92 ∷ 94 ∷ 98 ∷ []
-unfolding mdl_adjustment days_of_months_in
-adjustments_leap = refl
-
-pub adjustments_common : map (λ m. mdl_adjustment (mdl_of false m 28)) months ≡ 64 ∷ 66 ∷ 74 ∷ 76 ∷ 80 ∷ 82 ∷ 86 ∷ 88 ∷ 90 ∷ 94 ∷ 96 ∷ 100 ∷ []
-unfolding mdl_adjustment days_of_months_in
-adjustments_common = refl
-
--- 29 February stands in a leap year alone, and there is no 31 April
-pub no_such_day : (mdl_adjustment (mdl_of true 2 29) ≡ 66) × (mdl_adjustment (mdl_of false 2 29) ≡ 0) × (mdl_adjustment (mdl_of true 4 31) ≡ 0)
-unfolding mdl_adjustment days_of_months_in
-no_such_day = (refl, refl, refl)
-
--- the last days, and the first entries, which no day has
-pub last_ordinals : (ol_adjustment (ol_of true 366) ≡ 98) × (ol_adjustment (ol_of false 365) ≡ 100) × (ol_adjustment 0 ≡ 0) × (ol_adjustment 1 ≡ 0)
-unfolding ol_adjustment month_of_ordinal day_of_ordinal days_of_months_in
-last_ordinals = (refl, refl, refl, refl)
-
 -- 2020 and 2015 have 53 weeks, 2021 has 52
-pub weeks_of_years : (weeks_of_iso_year (pos 2020) ≡ 53) × (weeks_of_iso_year (pos 2015) ≡ 53) × (weeks_of_iso_year (pos 2021) ≡ 52)
+weeks_of_years : (weeks_of_iso_year (pos 2020) ≡ 53) × (weeks_of_iso_year (pos 2015) ≡ 53) × (weeks_of_iso_year (pos 2021) ≡ 52)
 unfolding flags_of_year days_before_year days_of_years
 weeks_of_years = (weeks_of_iso_year-flags (pos 2020) 1 refl, weeks_of_iso_year-flags (pos 2015) 10 refl, weeks_of_iso_year-flags (pos 2021) 11 refl)
 

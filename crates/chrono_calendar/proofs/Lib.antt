@@ -1,26 +1,27 @@
+-- Lemmas that other crates cite stand in these modules.
 pub mod Signed
 pub mod Years
 pub mod Names
 pub mod Tests
+pub mod Entries
 pub mod Months
 pub mod KnownValues
 pub mod Order
-mod GhostWalks
 pub mod Dates
-mod Entries
-pub mod Cycles
-pub mod Weeks
-pub mod Refusals
 pub mod NamedDates
+pub mod Weeks
 pub mod IsoWeeks
 pub mod IsoDates
 pub mod IsoOrder
 pub mod MonthOrder
 pub mod MonthMoveLaws
 pub mod Moves
-pub mod MonthDays
-pub mod WeekDays
-pub mod WholeYears
-pub mod NthWeekdays
 pub mod FirstOn
 pub mod EveryMonths
+-- The rest serve this crate's own proofs alone.
+mod Cycles
+mod GhostWalks
+mod NthWeekdays
+mod Refusals
+mod WeekDays
+mod WholeYears

@@ -33,7 +33,7 @@ pub month_of_month_index-bounds : (i : ℤ) → IsInRange 1 12 (month_of_month_i
 month_of_month_index-bounds i = (omega (arith, signed), omega (arith, signed))
 
 -- an index is made of its year and its month
-pub month_index-whole : (i : ℤ) → month_index (year_of_month_index i) (month_of_month_index i) ≡ i
+month_index-whole : (i : ℤ) → month_index (year_of_month_index i) (month_of_month_index i) ≡ i
 month_index-whole i = omega (arith, signed)
 
 -- the days of the months before one and its own are those of the months up to it
@@ -66,7 +66,7 @@ before_month-new_year i j y a b c d =
     rw (a, b, c, d) (omega (arith, signed, last, none, whole, days_before_year-next y (y +ℤ pos 1) refl))
 
 -- the next month begins where this one ends
-pub before_month-next : (i j : ℤ) → j ≡ i +ℤ pos 1 → before_month j ≡ before_month i +ℤ pos (length_at i)
+before_month-next : (i j : ℤ) → j ≡ i +ℤ pos 1 → before_month j ≡ before_month i +ℤ pos (length_at i)
 before_month-next i j e =
     elim (cases_order (month_of_month_index i) 12) [
       | inl same ↦ before_month-new_year i j (year_of_month_index i) refl same (omega (arith, signed)) (omega (arith, signed))
@@ -82,7 +82,7 @@ before_month-steps i j zero e = omega (arith, signed, before_month-next i j e)
 before_month-steps i j (suc k) e =
     omega (arith, signed, before_month-steps i (i +ℤ pos (suc k)) k refl, before_month-next (i +ℤ pos (suc k)) j (omega (arith, signed)))
 
-pub before_month-later : (i j : ℤ) → i <ℤ j → (before_month i +ℤ pos (length_at i)) ≤ℤ before_month j
+before_month-later : (i j : ℤ) → i <ℤ j → (before_month i +ℤ pos (length_at i)) ≤ℤ before_month j
 before_month-later i j h = before_month-steps i j (up j + down i - (down j + up i + 1)) (omega (arith, signed))
 
 -- the day n lies in its month, at its day of the month

@@ -35,14 +35,14 @@ ordinal_within leap m d h k =
     (omega arith, omega arith)
 
 -- the day d of the month m of such a year is its o-th day, as a test
-abbrev pub is_month_and_day : Bool → ℕ → ℕ → ℕ → Bool
+abbrev is_month_and_day : Bool → ℕ → ℕ → ℕ → Bool
 is_month_and_day leap m d o =
     nat_le 1 m && nat_le m 12 && nat_le 1 d && nat_le d (month_length_in leap m) && nat_eq (days_of_months_in leap (m - 1) + d) o
 
 parts : (a b c d e : Bool) → (a && b && c && d && e) ≡ true → (a ≡ true) × (b ≡ true) × (c ≡ true) × (d ≡ true) × (e ≡ true)
 parts a b c d e h = grind arith
 
-pub IsMonthAndDay-tested : (leap : Bool) (m d o : ℕ) → is_month_and_day leap m d o ≡ true → IsMonthAndDay leap m d o
+IsMonthAndDay-tested : (leap : Bool) (m d o : ℕ) → is_month_and_day leap m d o ≡ true → IsMonthAndDay leap m d o
 IsMonthAndDay-tested leap m d o h =
     let p = parts (nat_le 1 m) (nat_le m 12) (nat_le 1 d) (nat_le d (month_length_in leap m)) (nat_eq (days_of_months_in leap (m - 1) + d) o) h in
     record {

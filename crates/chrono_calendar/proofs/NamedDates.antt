@@ -26,10 +26,10 @@ date_of_yo-day n y o e h =
     rw (same, e) refl
 
 -- and so is the day with a calendar name
-pub IsCalendarName-ordinal : (y : ℤ) (m d : ℕ) → IsCalendarName y m d → IsOrdinalName y (ordinal_of_ymd y m d)
+IsCalendarName-ordinal : (y : ℤ) (m d : ℕ) → IsCalendarName y m d → IsOrdinalName y (ordinal_of_ymd y m d)
 IsCalendarName-ordinal y m d h = ordinal_within (is_leap_year y) m d h.0 h.1
 
-pub date_of_ymd-day : (n y : ℤ) (m d : ℕ) → day_number_of_ymd y m d ≡ n → IsCalendarName y m d → date_of_ymd y m d ≡ date_of_day n
+date_of_ymd-day : (n y : ℤ) (m d : ℕ) → day_number_of_ymd y m d ≡ n → IsCalendarName y m d → date_of_ymd y m d ≡ date_of_day n
 unfolding date_of_ymd date_of_day
 date_of_ymd-day n y m d e h =
     let inside = IsCalendarName-ordinal y m d h in

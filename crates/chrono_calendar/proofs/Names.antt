@@ -40,7 +40,7 @@ same_parts : (y z : ℤ) (o p : ℕ) → y ≡ z → o ≡ p → (let a : Ordina
 same_parts y z o p e f = cc
 
 -- a number has one ordinal name at most
-pub one_name : (n : ℤ) (a b : OrdinalName) → HasOrdinalName n a → HasOrdinalName n b → a ≡ b
+one_name : (n : ℤ) (a b : OrdinalName) → HasOrdinalName n a → HasOrdinalName n b → a ≡ b
 one_name n a b h k =
     let numbers : day_number_of_yo a.year a.ordinal ≡ day_number_of_yo b.year b.ordinal = sym h.number ∙ k.number in
     let years : a.year ≡ b.year = same_year a.year b.year a.ordinal b.ordinal h.exists k.exists numbers in
@@ -94,7 +94,7 @@ ordinal_name_of-number (pos n) = days_after_zero-number n
 ordinal_name_of-number (negsuc n) = days_before_zero-number (suc n)
 
 -- and the name of a name's number is that name
-pub ordinal_name_of-day_number : (a : OrdinalName) → IsOrdinalName a.year a.ordinal → ordinal_name_of (day_number_of_yo a.year a.ordinal) ≡ a
+ordinal_name_of-day_number : (a : OrdinalName) → IsOrdinalName a.year a.ordinal → ordinal_name_of (day_number_of_yo a.year a.ordinal) ≡ a
 ordinal_name_of-day_number a h =
     one_name (day_number_of_yo a.year a.ordinal) (ordinal_name_of (day_number_of_yo a.year a.ordinal)) a (ordinal_name_of-number (day_number_of_yo a.year a.ordinal)) (record { exists = h; number = refl })
 

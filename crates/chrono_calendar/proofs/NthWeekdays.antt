@@ -85,7 +85,7 @@ days_found-in : (s f l len i : ℕ) → 28 + l ≡ len → s < 7 → f < 7 → l
 days_found-in s f l len i e a b c = rw (← e) (days_found-at s f l i a b c)
 
 -- the n-th of them
-pub days_with_weekday-at : (y : ℤ) (m i : ℕ) (d : Weekday) → slice_get (days_with_weekday y m d) i ≡ cond (nat_le (nth_day (weekday_before_month y m) (days_from_monday d) i) (month_length y m)) (Some (nth_day (weekday_before_month y m) (days_from_monday d) i)) None
+days_with_weekday-at : (y : ℤ) (m i : ℕ) (d : Weekday) → slice_get (days_with_weekday y m d) i ≡ cond (nat_le (nth_day (weekday_before_month y m) (days_from_monday d) i) (month_length y m)) (Some (nth_day (weekday_before_month y m) (days_from_monday d) i)) None
 days_with_weekday-at y m i d =
     let low = month_length_in-bounds (is_leap_year y) m in
     ap (λ (l : List ℕ). slice_get l i) (days_with_weekday-found y m d)

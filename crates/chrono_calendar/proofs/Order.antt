@@ -23,7 +23,7 @@ unfolding passes_below days_of_months_in ends_before
 ends_before-tested true = refl
 ends_before-tested false = refl
 
-pub month_ends : (leap : Bool) (m k : ℕ) → m < k → k < 12 → days_of_months_in leap m + month_length_in leap (m + 1) ≤ days_of_months_in leap k
+month_ends : (leap : Bool) (m k : ℕ) → m < k → k < 12 → days_of_months_in leap m + month_length_in leap (m + 1) ≤ days_of_months_in leap k
 unfolding ends_before
 month_ends leap m k h l =
     let passed = passes_below-at (λ j. ends_before leap m j) 12 (passes_below-at (λ i. passes_below (λ j. ends_before leap i j) 12) 12 (ends_before-tested leap) m (omega arith)) k l in
@@ -81,19 +81,19 @@ ordinal_cmp-numbers n m =
     (λ e. ranked_by _ _ _ _ _ _ (nat_cmp (ordinal_of n) (ordinal_of m)) (ranked (ordinal_of n) (ordinal_of m) (nat_cmp (ordinal_of n) (ordinal_of m)) refl) (same_year n m e).0 (same_year n m e).1 (same_year m n (sym e)).0))
 
 -- the month and the day of the month of a day, in its year
-pub named_in_year : (n : ℤ) → IsMonthAndDay (is_leap_year (year_of n)) (month_of n) (day_of n) (ordinal_of n)
+named_in_year : (n : ℤ) → IsMonthAndDay (is_leap_year (year_of n)) (month_of n) (day_of n) (ordinal_of n)
 named_in_year n = month_of_ordinal-exists (is_leap_year (year_of n)) (ordinal_of n) (ordinal_name_of-number n).exists
 
 -- two days of one year, each with its month and its day there
 beside : (n m : ℤ) → year_of n ≡ year_of m → IsMonthAndDay (is_leap_year (year_of n)) (month_of m) (day_of m) (ordinal_of m)
 beside n m e = with_flag (is_leap_year (year_of n)) (is_leap_year (year_of m)) (month_of m) (day_of m) (ordinal_of m) (ap is_leap_year e) (named_in_year m)
 
-earlier_month : (n m : ℤ) → year_of n ≡ year_of m → month_of n < month_of m → n <ℤ m
+pub earlier_month : (n m : ℤ) → year_of n ≡ year_of m → month_of n < month_of m → n <ℤ m
 earlier_month n m e lt =
     (same_year n m e).0 (earlier_by_month (is_leap_year (year_of n)) (month_of n) (day_of n) (ordinal_of n) (month_of m) (day_of m) (ordinal_of m) (named_in_year n) (beside n m e) lt)
 
 -- days of one month lie as their places there
-same_month : (n m : ℤ) → year_of n ≡ year_of m → month_of n ≡ month_of m → (day_of n < day_of m → n <ℤ m) × (day_of n ≡ day_of m → n ≡ m)
+pub same_month : (n m : ℤ) → year_of n ≡ year_of m → month_of n ≡ month_of m → (day_of n < day_of m → n <ℤ m) × (day_of n ≡ day_of m → n ≡ m)
 same_month n m e f =
     let within = within_month (is_leap_year (year_of n)) (month_of n) (day_of n) (ordinal_of n) (month_of m) (day_of m) (ordinal_of m) (named_in_year n) (beside n m e) f in
     (λ lt. (same_year n m e).0 (within.0 lt), λ eq. (same_year n m e).1 (within.1 eq))

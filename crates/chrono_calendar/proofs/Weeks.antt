@@ -6,15 +6,14 @@ use Rattle.std.proofs.lemmas.Int.{ints}
 use Rattle.chrono_units.specs.Years.{is_leap_year, year_length}
 use Rattle.chrono_calendar.specs.Days.{days_before_year, days_of_months_in, IsOrdinalName, day_number_of_yo, day_number_of_ymd}
 use Rattle.chrono_calendar.specs.Weeks.{days_from_sunday_of, iso_weekday_of, thursday_of_week, iso_year_of, iso_week_of}
-use Rattle.chrono_calendar.specs.Stored.{flags_of_year}
-use Rattle.chrono_calendar.specs.Flags.{weeks_of_iso_year, week_counted_in}
+use Rattle.chrono_calendar.specs.Flags.{flags_of_year, weeks_of_iso_year, week_counted_in}
 use Rattle.chrono_calendar.proofs.Signed.{signed}
 use Rattle.chrono_calendar.proofs.Years.{days_before_year-next}
 use Rattle.chrono_calendar.proofs.Names.{year_of-number, ordinal_of-number, year_length_bounds}
 use Rattle.chrono_calendar.proofs.IsoWeeks.{days_from_sunday_of-bound}
 
 -- the digits of the flags that name a weekday, and what is added to an ordinal to count weeks
-abbrev pub weekday_digits : ℤ → ℕ
+abbrev weekday_digits : ℤ → ℕ
 weekday_digits y = (days_from_sunday_of (days_before_year y) + 5) % 7 + 1
 
 abbrev pub week_delta : ℤ → ℕ
@@ -34,14 +33,14 @@ weeks : (w i o d : ℕ) → w < 7 → 1 ≤ i → i ≤ 7 → i % 7 ≡ (w + o) 
 weeks w i o d h low high e c = grind arith
 
 -- with the delta of its year an ordinal gives the week that its Thursday has, counted in that year
-pub week_of_ordinal : (y : ℤ) (o : ℕ) → (o + week_delta y) / 7 ≡ (o + 10 - iso_weekday_of (day_number_of_yo y o)) / 7
+week_of_ordinal : (y : ℤ) (o : ℕ) → (o + week_delta y) / 7 ≡ (o + 10 - iso_weekday_of (day_number_of_yo y o)) / 7
 week_of_ordinal y o =
     let n = day_number_of_yo y o in
     let p = parts_of (days_from_sunday_of n) (days_from_sunday_of-bound n) in
     weeks (days_from_sunday_of (days_before_year y)) (iso_weekday_of n) o (week_delta y) (days_from_sunday_of-bound (days_before_year y)) p.0 p.1 (p.2 ∙ weekday-in_year y o) (week_delta-parts (days_from_sunday_of (days_before_year y)) (days_from_sunday_of-bound (days_before_year y)))
 
 -- where the Thursday lies in the year, that is its ISO week
-pub iso_week_of-inside : (y : ℤ) (o t : ℕ) → t + iso_weekday_of (day_number_of_yo y o) ≡ o + 4 → IsOrdinalName y t → (iso_year_of (day_number_of_yo y o) ≡ y) × (iso_week_of (day_number_of_yo y o) ≡ (o + week_delta y) / 7)
+iso_week_of-inside : (y : ℤ) (o t : ℕ) → t + iso_weekday_of (day_number_of_yo y o) ≡ o + 4 → IsOrdinalName y t → (iso_year_of (day_number_of_yo y o) ≡ y) × (iso_week_of (day_number_of_yo y o) ≡ (o + week_delta y) / 7)
 iso_week_of-inside y o t e h =
     let n = day_number_of_yo y o in
     let found : day_number_of_yo y t ≡ thursday_of_week n = omega (arith, signed) in
@@ -68,7 +67,7 @@ december_28 : (y : ℤ) → day_number_of_ymd y 12 28 ≡ day_number_of_yo y (ye
 december_28 y = ap (λ o. day_number_of_yo y o) (fourth_last (is_leap_year y))
 
 -- its week is the last
-pub weeks_of_iso_year-delta : (y : ℤ) → weeks_of_iso_year y ≡ (year_length y - 3 + week_delta y) / 7
+weeks_of_iso_year-delta : (y : ℤ) → weeks_of_iso_year y ≡ (year_length y - 3 + week_delta y) / 7
 unfolding weeks_of_iso_year
 weeks_of_iso_year-delta y =
     let n = day_number_of_yo y (year_length y - 3) in
@@ -135,7 +134,7 @@ week_counted_in-delta y o h =
     ]
 
 -- the flags are 8 in a common year and the digits of the weekday
-pub flags_of_year-digits : (y : ℤ) → flags_of_year y ≡ cond (is_leap_year y) 0 8 + weekday_digits y
+flags_of_year-digits : (y : ℤ) → flags_of_year y ≡ cond (is_leap_year y) 0 8 + weekday_digits y
 unfolding flags_of_year
 flags_of_year-digits y = refl
 

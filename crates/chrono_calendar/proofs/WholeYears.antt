@@ -1,32 +1,20 @@
 -- The whole years between two days, from the years and the order of the days in them.
-use Rattle.std.proofs.Common.{◌≡◌, ℕ, ◌+◌, ◌-◌, ◌*◌, ◌<◌, ◌≤◌, inl, inr, Bool, true, false, cond, nat_lt, Some, None, refl, ap, arith, ℤ, pos, ◌-ℤ◌, ◌≤ℤ◌, ◌<ℤ◌, unsigned_abs, int_lt}
+use Rattle.std.proofs.Common.{◌≡◌, ℕ, ◌+◌, ◌-◌, ◌*◌, ◌<◌, ◌≤◌, inl, inr, Bool, true, false, cond, nat_lt, Some, None, refl, sym, ap, arith, ℤ, pos, ◌-ℤ◌, ◌≤ℤ◌, ◌<ℤ◌, unsigned_abs, int_lt}
 use mir.Val.{bool_byte}
 use Rattle.std.proofs.lemmas.Bool.Decides.{nat_tests}
 use Rattle.std.proofs.lemmas.Bool.{cases_order, ltb-true}
 use Rattle.std.proofs.lemmas.Int.{ints, by_lt_z}
 use Rattle.chrono_units.specs.Years.{is_leap_year}
 use Rattle.chrono_calendar.specs.Days.{year_of, month_of, day_of}
-use Rattle.chrono_calendar.specs.MonthMoves.{month_index_of}
 use Rattle.chrono_calendar.specs.YearsBetween.{is_earlier_in_year, years_between}
 use Rattle.chrono_calendar.proofs.Signed.{signed}
 use Rattle.chrono_calendar.proofs.Months.{month_length_in-bounds}
-use Rattle.chrono_calendar.proofs.Order.{earlier_year}
+use Rattle.chrono_calendar.proofs.Order.{earlier_year, earlier_month, same_month}
 use Rattle.chrono_calendar.proofs.NamedDates.{calendar_name-exists}
-use Rattle.chrono_calendar.proofs.MonthOrder.{before_month, day_at-exists, earlier_month}
 
 -- the order of days in a year by one number
-pub is_earlier_in_year-code : (m d p q : ℕ) → d < 32 → q < 32 → nat_lt (m * 32 + d) (p * 32 + q) ≡ is_earlier_in_year m d p q
+is_earlier_in_year-code : (m d p q : ℕ) → d < 32 → q < 32 → nat_lt (m * 32 + d) (p * 32 + q) ≡ is_earlier_in_year m d p q
 is_earlier_in_year-code m d p q h k = grind (arith, nat_tests)
-
--- what the order in the year says of the two days
-before_in_month : (n base : ℤ) → month_index_of n ≡ month_index_of base → day_of n < day_of base → n <ℤ base
-before_in_month n base e h = omega (arith, signed, ap before_month e, (day_at-exists n).number, (day_at-exists base).number)
-
-not_before_in_month : (n base : ℤ) → month_index_of n ≡ month_index_of base → day_of base ≤ day_of n → base ≤ℤ n
-not_before_in_month n base e h = omega (arith, signed, ap before_month e, (day_at-exists n).number, (day_at-exists base).number)
-
-before_by_month : (n base : ℤ) → month_index_of n <ℤ month_index_of base → n <ℤ base
-before_by_month n base h = earlier_month n base (month_index_of n) (month_index_of base) (day_of n) (day_of base) (day_at-exists n) (day_at-exists base) h
 
 -- the number that the order is read from
 abbrev pub place : ℤ → ℕ
@@ -40,20 +28,22 @@ place_bounds n =
 before_place : (n base : ℤ) → year_of n ≡ year_of base → place n < place base → n <ℤ base
 before_place n base e h =
     elim (cases_order (month_of n) (month_of base)) [
-      | inl same ↦ before_in_month n base (omega (arith, signed)) (omega arith)
+      | inl same ↦ (same_month n base e same).0 (omega arith)
       | inr apart ↦ elim apart [
-        | inl lt ↦ before_by_month n base (omega (arith, signed, place_bounds n, place_bounds base))
+        | inl lt ↦ earlier_month n base e lt
         | inr gt ↦ absurd (omega (arith, place_bounds n, place_bounds base))
       ]
     ]
 
 not_before_place : (n base : ℤ) → year_of n ≡ year_of base → place base ≤ place n → base ≤ℤ n
 not_before_place n base e h =
-    elim (cases_order (month_of n) (month_of base)) [
-      | inl same ↦ not_before_in_month n base (omega (arith, signed)) (omega arith)
+    elim (cases_order (place base) (place n)) [
+      | inl same ↦
+          let month : month_of base ≡ month_of n = omega (arith, same, place_bounds n, place_bounds base) in
+          omega (arith, signed, (same_month base n (sym e) month).1 (omega (arith, same, month)))
       | inr apart ↦ elim apart [
-        | inl lt ↦ absurd (omega (arith, place_bounds n, place_bounds base))
-        | inr gt ↦ omega (arith, signed, before_by_month base n (omega (arith, signed, place_bounds n, place_bounds base)))
+        | inl lt ↦ omega (arith, signed, before_place base n (sym e) lt)
+        | inr gt ↦ absurd (omega arith)
       ]
     ]
 

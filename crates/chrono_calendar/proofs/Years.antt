@@ -12,7 +12,7 @@ abbrev pub leap_day : ℤ → ℕ
 leap_day y = year_length y - 365
 
 -- the leap years among the years 1 to p, and for a negative p those of p + 1 to 0, negative
-abbrev pub leap_years_to : ℤ → ℤ
+abbrev leap_years_to : ℤ → ℤ
 leap_years_to p = int_div_euclid p (pos 4) -ℤ int_div_euclid p (pos 100) +ℤ int_div_euclid p (pos 400)
 
 -- the days from 1 January of year 1 to the end of the year p
@@ -50,7 +50,7 @@ leap_day-multiples : (y : ℤ) → leap_day y + multiple 100 y ≡ multiple 4 y 
 leap_day-multiples y = grind (arith, nat_tests)
 
 -- a year more has the days of that year more
-pub days_to_year-next : (p q : ℤ) → q ≡ p +ℤ pos 1 → days_to_year q ≡ days_to_year p +ℤ pos (year_length q)
+days_to_year-next : (p q : ℤ) → q ≡ p +ℤ pos 1 → days_to_year q ≡ days_to_year p +ℤ pos (year_length q)
 unfolding days_to_year
 days_to_year-next p q e =
     omega (arith, signed, fourths-next p q e, hundredths-next p q e, four_hundredths-next p q e, leap_day-multiples q, year_length-leap_day q)

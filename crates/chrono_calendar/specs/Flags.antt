@@ -1,9 +1,14 @@
 -- The numbers that store the flags of a year, and what the flags say of its weeks.
-use Rattle.std.specs.Prelude.{◌≢◌, ℕ, ◌+◌, ℤ, if◌then◌else◌, int_lt}
+use Rattle.std.specs.Prelude.{◌≢◌, ℕ, ◌+◌, ◌%◌, ℤ, if◌then◌else◌, int_lt}
 use Rattle.std.specs.Int.{IsInRange}
 use Rattle.std.specs.Ordering.{int_eq}
-use Rattle.chrono_calendar.specs.Days.{day_number_of_yo, day_number_of_ymd}
-use Rattle.chrono_calendar.specs.Weeks.{iso_year_of, iso_week_of}
+use Rattle.chrono_units.specs.Years.{is_leap_year}
+use Rattle.chrono_calendar.specs.Days.{days_before_year, day_number_of_yo, day_number_of_ymd}
+use Rattle.chrono_calendar.specs.Weeks.{days_from_sunday_of, iso_year_of, iso_week_of}
+
+-- the flags of the year y: 8 in a common year, and from 1 for Tuesday to 7 for Monday the weekday of the last day before it
+unfoldable pub flags_of_year : ℤ → ℕ
+flags_of_year y = (if is_leap_year y then 0 else 8) + ((days_from_sunday_of (days_before_year y) + 5) % 7 + 1)
 
 -- the number stores the flags of a year: 1 to 7 those of a leap year, 9 to 15 those of a common year
 abbrev pub IsYearFlags : ℕ → Type 0

@@ -1,11 +1,8 @@
 pub mod Days
 pub mod Weeks
-pub mod Stored
 pub mod Order
 pub mod Flags
-pub mod Tables
 pub mod MonthMoves
 pub mod YearsBetween
 pub mod NameLaws
-pub mod MonthDay
 pub mod Recurrence

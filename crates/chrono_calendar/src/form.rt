@@ -7,7 +7,7 @@ ghost use Rattle.chrono_units.specs.Years.{is_leap_year, IsYear};
 ghost use Rattle.chrono_calendar.specs.Days.{IsDate, is_date, IsOrdinalName, IsCalendarName, date_of_day, date_of_yo, date_of_ymd, year_of, ordinal_of, month_of, day_of};
 ghost use Rattle.chrono_calendar.specs.Weeks.{iso_week_of, iso_year_of, weekday_of};
 
-use crate::forms::week_of_thursday;
+use crate::iso_week::week_of_thursday;
 use crate::steps::Steps;
 use chrono_units::Weekday;
 use chrono_units::year::year_length;

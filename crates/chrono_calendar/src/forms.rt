@@ -2,7 +2,7 @@
 //!
 //! Each function reads a form, computes with plain numbers, and asks the form for the date that it found. An answer is
 //! `None` exactly where the definition names no date.
-ghost use Rattle.std.specs.Prelude.{◌≡◌, pos, neg_ℤ, ◌+◌, ◌-◌, ◌/◌, ◌≤◌, ◌+ℤ◌, ◌≤ℤ◌, ◌<ℤ◌, min, SomeIff, IfSome};
+ghost use Rattle.std.specs.Prelude.{◌≡◌, pos, neg_ℤ, ◌+◌, ◌≤◌, ◌+ℤ◌, ◌≤ℤ◌, ◌<ℤ◌, min, SomeIff, IfSome};
 ghost use Rattle.std.specs.Int.{IsInRange};
 ghost use Rattle.std.specs.Option.{option_map};
 ghost use Rattle.chrono_units.specs.Years.{IsYear, month_length as length_of_month};
@@ -93,15 +93,6 @@ pub fn every_months<F: DayForm>(f: F, k: i32, i: u32) -> Option<F>
     ensures { option_map F.number result ≡ date_every (F.number f) k i }
 {
     move_months(f, i64::from(k) * i64::from(i))
-}
-
-// The week of a Thursday, by its place in its year: a division by 7 as one product with 2^14 / 7, rounded up.
-#[inline]
-pub(crate) fn week_of_thursday(place: u32) -> u32
-    requires { IsInRange 1 366 place }
-    ensures { result ≡ (place - 1) / 7 + 1 }
-{
-    ((place + 6) * 2_341) >> 14
 }
 
 /// The ISO year and the week in it, from 1 to 53 (ISO 8601 week date): those of the Thursday of the date's week.

@@ -11,6 +11,8 @@ ghost use Rattle.chrono_calendar.specs.Recurrence.{date_every, date_on};
 ghost use Rattle.chrono_calendar.specs.Weeks.{date_of_iso, date_of_nth_weekday, iso_week_of, iso_year_of, week_first_of, weekday_of};
 ghost use Rattle.chrono_calendar.specs.YearsBetween.{years_between};
 
+use crate::ends::{FIRST_DAY, LAST_DAY};
+
 /// The number of a date gives that date, and no other number does.
 pub fn dates_have_one_number()
     ensures { DatesHaveOneNumber }
@@ -90,6 +92,8 @@ pub fn known_days()
     ensures epoch { date_of_ymd (pos 1970) 1 1 ≡ Some (pos 719_163) }
     ensures first { date_of_ymd (neg_ℤ (pos 262_143)) 1 1 ≡ Some (neg_ℤ (pos 95_746_129)) }
     ensures last { date_of_yo (pos 262_142) 365 ≡ Some (pos 95_745_399) }
+    ensures first_day { FIRST_DAY ≡ neg_ℤ (pos 95_746_129) }
+    ensures last_day { LAST_DAY ≡ pos 95_745_399 }
     ensures past_last { date_of_day (pos 95_745_400) ≡ None }
     ensures monday { weekday_of (pos 1) ≡ Mon }
 {}

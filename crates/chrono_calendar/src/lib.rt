@@ -1,22 +1,19 @@
-//! The calendar as whole numbers: what a stored date means, with the tables and the cycles of the calendar.
+//! The calendar as whole numbers: what a day's number means, the trait of the stored forms of a date and the arithmetic of dates
+//! over any of them, and the laws of both.
 //!
-//! A date over a form reads the year's flags alone. [`Mdf`] and the two calls on cycles are parts that chrono has inside; they are
-//! offered and proved beside it.
+//! Two more parts serve those forms: the flags of a year, which come from a table, and the counter of steps.
 #![tactic(auto)]
 
 pub mod counted_years;
-mod cycle;
+pub mod ends;
 mod form;
 pub mod forms;
+mod iso_week;
 pub mod law;
-mod mdf;
 mod steps;
-mod tables;
 mod tally;
 mod year_flags;
 
-pub use cycle::{cycle_to_yo, yo_to_cycle};
 pub use form::DayForm;
-pub use mdf::Mdf;
 pub use steps::Steps;
 pub use year_flags::YearFlags;

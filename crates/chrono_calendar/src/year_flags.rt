@@ -3,11 +3,12 @@ ghost use Rattle.std.specs.Prelude.{◌≡◌, ℕ, ◌+◌, ◌/◌, ◌<◌, S
 ghost use Rattle.std.specs.Int.{IsInRange, int_rem_euclid};
 ghost use Rattle.chrono_units.specs.Years.{year_length};
 ghost use Rattle.chrono_calendar.specs.Days.{IsOrdinalName};
-ghost use Rattle.chrono_calendar.specs.Stored.{flags_of_year};
-ghost use Rattle.chrono_calendar.specs.Flags.{IsYearFlags, weeks_of_iso_year, week_counted_in};
+ghost use Rattle.chrono_calendar.specs.Flags.{flags_of_year, IsYearFlags, weeks_of_iso_year, week_counted_in};
+
+mod table;
 
 use crate::steps::Steps;
-use crate::tables::year_flags::year_to_flags;
+use crate::year_flags::table::year_to_flags;
 use std::marker::Model;
 
 /// The flags of a year, a number of four binary digits.

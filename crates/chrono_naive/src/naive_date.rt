@@ -25,9 +25,6 @@ type Form = chrono_stored::CountedForm;
 // The day number of 1 January 1970.
 const UNIX_EPOCH_DAY: i32 = 719_163;
 
-// The day number of the last date.
-pub(crate) const LAST_DAY: i32 = 95_745_399;
-
 /// The first date, [`NaiveDate::MIN`].
 pub const MIN_DATE: NaiveDate = NaiveDate::MIN;
 

@@ -10,7 +10,8 @@ ghost use Rattle.chrono_naive.specs.DateLists.{days_from};
 
 mod order;
 
-use crate::naive_date::{LAST_DAY, NaiveDate};
+use crate::naive_date::NaiveDate;
+use chrono_calendar::ends::LAST_DAY;
 use std::iter::FusedIterator;
 use std::marker::Model;
 

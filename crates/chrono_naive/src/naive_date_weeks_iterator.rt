@@ -5,7 +5,8 @@ ghost use Rattle.std.specs.Iterator.{MakesProgress, YieldsFirst, item_count};
 ghost use Rattle.chrono_calendar.specs.Days.{IsDate};
 ghost use Rattle.chrono_naive.specs.DateLists.{weeks_from};
 
-use crate::naive_date::{LAST_DAY, NaiveDate};
+use crate::naive_date::NaiveDate;
+use chrono_calendar::ends::LAST_DAY;
 use std::iter::FusedIterator;
 use std::marker::Model;
 

@@ -1,7 +1,8 @@
 -- The stored numbers of the first and of the last date, which a use of `PackedForm::MIN` or `PackedForm::MAX` cites.
 use Rattle.std.proofs.Common.{◌≡◌, refl, arith, pos, negsuc}
 use Rattle.chrono_calendar.specs.Days.{day_number_of_yo}
-use Rattle.chrono_calendar.specs.Stored.{flags_of_year, packed_name, packed_year, packed_ordinal, IsPackedName}
+use Rattle.chrono_calendar.specs.Flags.{flags_of_year}
+use Rattle.chrono_stored.specs.PackedName.{packed_name, packed_year, packed_ordinal, IsPackedName}
 use Rattle.chrono_calendar.proofs.Signed.{signed}
 use Rattle.chrono_calendar.proofs.Years.{days_before_year-closed}
 use Rattle.chrono_stored.proofs.PackedNames.{IsPackedName-made}

@@ -13,7 +13,7 @@ use Rattle.chrono_calendar.proofs.Years.{days_before_year-next}
 use Rattle.chrono_stored.proofs.DayNumbers.{ordinal_name-counted}
 
 -- the days of January and February
-abbrev pub days_to_march : Bool → ℕ
+abbrev days_to_march : Bool → ℕ
 days_to_march leap = cond leap 60 59
 
 -- the place from 1 March of the day that n days of the year precede, and what is to be taken from its month
@@ -40,12 +40,12 @@ told-at leap n h =
     (grind (arith, nat_tests, p.0), grind (arith, nat_tests, p.1))
 
 -- from March to December: the day d after 1 March, in the calendar year that March stands in
-pub month_from_march : (leap : Bool) (d : ℕ) → d < 306 → ((2141 * d + 197_913) / 65_536 ≡ month_of_ordinal leap (d + days_to_march leap + 1)) × ((2141 * d + 197_913) % 65_536 / 2141 + 1 ≡ day_of_ordinal leap (d + days_to_march leap + 1))
+month_from_march : (leap : Bool) (d : ℕ) → d < 306 → ((2141 * d + 197_913) / 65_536 ≡ month_of_ordinal leap (d + days_to_march leap + 1)) × ((2141 * d + 197_913) % 65_536 / 2141 + 1 ≡ day_of_ordinal leap (d + days_to_march leap + 1))
 month_from_march true d h = let told = told-at true (d + 60) (omega arith) in (grind (arith, nat_tests, told.0), grind (arith, nat_tests, told.1))
 month_from_march false d h = let told = told-at false (d + 59) (omega arith) in (grind (arith, nat_tests, told.0), grind (arith, nat_tests, told.1))
 
 -- January and February: of the calendar year after
-pub month_to_march : (leap : Bool) (d : ℕ) → 306 ≤ d → d < 306 + days_to_march leap → ((2141 * d + 197_913) / 65_536 ≡ month_of_ordinal leap (d - 306 + 1) + 12) × ((2141 * d + 197_913) % 65_536 / 2141 + 1 ≡ day_of_ordinal leap (d - 306 + 1))
+month_to_march : (leap : Bool) (d : ℕ) → 306 ≤ d → d < 306 + days_to_march leap → ((2141 * d + 197_913) / 65_536 ≡ month_of_ordinal leap (d - 306 + 1) + 12) × ((2141 * d + 197_913) % 65_536 / 2141 + 1 ≡ day_of_ordinal leap (d - 306 + 1))
 month_to_march true d h k = let told = told-at true (d - 306) (omega arith) in (grind (arith, nat_tests, told.0), grind (arith, nat_tests, told.1))
 month_to_march false d h k = let told = told-at false (d - 306) (omega arith) in (grind (arith, nat_tests, told.0), grind (arith, nat_tests, told.1))
 
@@ -125,13 +125,13 @@ ends-told false = refl
 ends-told_at : (leap : Bool) (m : ℕ) → IsInRange 1 12 m → tells_month_end leap (m - 1) ≡ true
 ends-told_at leap m h = passes_below-at (tells_month_end leap) 12 (ends-told leap) (m - 1) (omega arith)
 
-pub month_end-march : (leap : Bool) (m : ℕ) → IsInRange 1 12 m → 2 < m → min ((979 * (m + 1) - 2919) / 32) (cond leap 366 365) ≡ (979 * m - 2919) / 32 + month_length_in leap m
+month_end-march : (leap : Bool) (m : ℕ) → IsInRange 1 12 m → 2 < m → min ((979 * (m + 1) - 2919) / 32) (cond leap 366 365) ≡ (979 * m - 2919) / 32 + month_length_in leap m
 month_end-march leap m h late =
     let back : m - 1 + 1 ≡ m = omega arith in
     let here = rw back at (ends-told_at leap m h) in
     grind (arith, nat_tests)
 
-pub month_end-january : (leap : Bool) (m : ℕ) → IsInRange 1 12 m → m ≤ 2 → min ((979 * (m + 13) - 2919) / 32) (cond leap 366 365) ≡ (979 * (m + 12) - 2919) / 32 + month_length_in leap m
+month_end-january : (leap : Bool) (m : ℕ) → IsInRange 1 12 m → m ≤ 2 → min ((979 * (m + 13) - 2919) / 32) (cond leap 366 365) ≡ (979 * (m + 12) - 2919) / 32 + month_length_in leap m
 month_end-january leap m h early =
     let back : m - 1 + 1 ≡ m = omega arith in
     let ahead : m - 1 + 13 ≡ m + 12 = omega arith in

@@ -1,8 +1,9 @@
-pub mod DayNumbers
-pub mod MonthDay
-pub mod PackedNames
-pub mod Ends
-pub mod PackedOrder
-pub mod YearAnswers
-pub mod FromMarch
-pub mod WeekRemainders
+-- All serve this crate's own proofs alone.
+mod DayNumbers
+mod MonthDay
+mod PackedNames
+mod Ends
+mod PackedOrder
+mod YearAnswers
+mod FromMarch
+mod WeekRemainders

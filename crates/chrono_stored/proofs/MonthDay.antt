@@ -8,7 +8,7 @@ use Rattle.chrono_calendar.specs.Days.{days_of_months_in, month_of_ordinal, day_
 use Rattle.chrono_calendar.proofs.Tests.{passes_below, passes_below-at}
 
 -- the day from 0, where February has 30 days
-abbrev pub even_day : Bool → ℕ → ℕ
+abbrev even_day : Bool → ℕ → ℕ
 even_day leap o = cond (nat_lt (61 - cond leap 1 2) o) (o - 1 + cond leap 1 2) (o - 1)
 
 abbrev tells_month_day : Bool → ℕ → Bool

@@ -5,7 +5,8 @@ use Rattle.chrono_units.specs.Years.{IsYear, is_leap_year}
 use Rattle.chrono_units.specs.Weekday.{weekday_from_monday, weekday_from_sunday}
 use Rattle.chrono_calendar.specs.Days.{days_before_year, IsOrdinalName, day_number_of_yo, year_of, ordinal_of}
 use Rattle.chrono_calendar.specs.Weeks.{days_from_sunday_of}
-use Rattle.chrono_calendar.specs.Stored.{flags_of_year, packed_name, packed_year, packed_ordinal, IsPackedName}
+use Rattle.chrono_calendar.specs.Flags.{flags_of_year}
+use Rattle.chrono_stored.specs.PackedName.{packed_name, packed_year, packed_ordinal, IsPackedName}
 use Rattle.chrono_calendar.proofs.Signed.{signed}
 use Rattle.chrono_stored.proofs.WeekRemainders.{weekdays_agree}
 use Rattle.chrono_calendar.proofs.Names.{year_length_bounds, year_of-number, ordinal_of-number}
@@ -31,7 +32,7 @@ IsPackedName-made y o h k = record {
 }
 
 -- a stored number is an i32
-pub IsPackedName-fits : (z : ℤ) → IsPackedName z → FitsSigned w32 z
+IsPackedName-fits : (z : ℤ) → IsPackedName z → FitsSigned w32 z
 IsPackedName-fits z h =
     omega (arith, signed, h.year, h.exists, h.flags, year_length_bounds (packed_year z), flags_of_year_bounds (packed_year z))
 

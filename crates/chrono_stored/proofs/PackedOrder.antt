@@ -6,7 +6,8 @@ use Rattle.std.proofs.lemmas.Int.{by_lt_z, to_z-of_z}
 use Rattle.std.specs.Cmp.{int_cmp_is}
 use Rattle.std.specs.Ordering.{int_eq}
 use Rattle.chrono_calendar.specs.Days.{days_before_year, day_number_of_yo, year_of, ordinal_of}
-use Rattle.chrono_calendar.specs.Stored.{flags_of_year, packed_name, packed_year, packed_ordinal}
+use Rattle.chrono_calendar.specs.Flags.{flags_of_year}
+use Rattle.chrono_stored.specs.PackedName.{packed_name, packed_year, packed_ordinal}
 use Rattle.chrono_calendar.proofs.Signed.{signed}
 use Rattle.chrono_calendar.proofs.Names.{ordinal_name_of-number, year_length_bounds}
 use Rattle.chrono_calendar.proofs.Order.{ranked_by, earlier_year}

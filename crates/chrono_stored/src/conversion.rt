@@ -11,12 +11,6 @@ ghost use Rattle.chrono_calendar.specs.Days.{IsDate, days_before_year as days_be
 
 use chrono_calendar::counted_years::{DAYS_TO_ONE, YEARS_TO_ONE, days_counted_before};
 
-/// The day number of the first date, -262143-01-01.
-pub(crate) const FIRST_DAY: i32 = -95_746_129;
-
-/// The day number of the last date, +262142-12-31.
-pub(crate) const LAST_DAY: i32 = 95_745_399;
-
 // The days of a cycle of 400 years.
 const DAYS_OF_CYCLE: u32 = 146_097;
 

@@ -4,10 +4,11 @@ ghost use Rattle.std.specs.Prelude.{◌≡◌, ◌≤◌, SomeIff, pos, neg_ℤ}
 ghost use Rattle.chrono_units.specs.Years.{IsYear};
 ghost use Rattle.chrono_calendar.specs.Days.{IsOrdinalName, IsCalendarName, date_of_day, day_number_of_yo, day_number_of_ymd};
 
-use crate::conversion::{FIRST_DAY, LAST_DAY, days_before_day, days_before_year, year_and_ordinal};
+use crate::conversion::{days_before_day, days_before_year, year_and_ordinal};
 use crate::iso_week::iso_year_and_week;
 use crate::march::{day_number, year_month_day};
 use crate::weekdays::days_after_monday;
+use chrono_calendar::ends::{FIRST_DAY, LAST_DAY};
 use chrono_calendar::{DayForm, Steps};
 use chrono_units::Weekday;
 use chrono_units::year::{is_leap_year, is_year, year_length};

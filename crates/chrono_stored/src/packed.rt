@@ -3,11 +3,13 @@
 ghost use Rattle.std.specs.Prelude.{◌≡◌, SomeIff, pos, neg_ℤ};
 ghost use Rattle.chrono_units.specs.Years.{IsYear};
 ghost use Rattle.chrono_calendar.specs.Days.{IsOrdinalName, IsCalendarName, day_number_of_yo, day_number_of_ymd, year_of, ordinal_of};
-ghost use Rattle.chrono_calendar.specs.Stored.{flags_of_year, packed_name};
+ghost use Rattle.chrono_calendar.specs.Flags.{flags_of_year};
+ghost use Rattle.chrono_stored.specs.PackedName.{packed_name};
 
-use crate::conversion::{FIRST_DAY, LAST_DAY, days_before_year, year_and_ordinal};
+use crate::conversion::{days_before_year, year_and_ordinal};
 use crate::month_day::{month_day, ordinal_of_month_day};
 use crate::packing::{flags_in, is_leap_by, ordinal_in, packed_number, weekday_by, year_in};
+use chrono_calendar::ends::{FIRST_DAY, LAST_DAY};
 use chrono_calendar::{DayForm, Steps, YearFlags};
 use chrono_units::Weekday;
 use chrono_units::year::is_year;
@@ -30,7 +32,7 @@ impl Model for PackedForm {
     ghost use Rattle.std.specs.Prelude.{ℤ};
     ghost use Rattle.std.proofs.Common.{◌∙◌, ap, sym};
     ghost use Rattle.chrono_calendar.specs.Days.{day_number_of_yo, year_of, ordinal_of};
-    ghost use Rattle.chrono_calendar.specs.Stored.{IsPackedName, packed_name, packed_year, packed_ordinal};
+    ghost use Rattle.chrono_stored.specs.PackedName.{IsPackedName, packed_name, packed_year, packed_ordinal};
     ghost use Rattle.chrono_calendar.proofs.Names.{fields_from_number};
 
     ghost Value = { ℤ };
@@ -184,7 +186,7 @@ impl Hash for PackedForm {
     ghost use Rattle.std.proofs.Common.{rules};
     ghost use Rattle.std.specs.Cmp.Rules.{hashing};
     ghost use Rattle.chrono_calendar.specs.Days.{year_of, ordinal_of};
-    ghost use Rattle.chrono_calendar.specs.Stored.{packed_name};
+    ghost use Rattle.chrono_stored.specs.PackedName.{packed_name};
 
     ghost hash_input = { λ n. fed.i32 (packed_name (year_of n) (ordinal_of n)) };
 

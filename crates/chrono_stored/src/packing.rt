@@ -5,7 +5,7 @@ ghost use Rattle.std.specs.Prelude.{◌≡◌, ◌+◌, ◌*◌, ◌%◌, ◌≤
 ghost use Rattle.std.specs.Int.{int_rem_euclid};
 ghost use Rattle.chrono_units.specs.Years.{IsYear};
 ghost use Rattle.chrono_units.specs.Weekday.{weekday_from_monday};
-ghost use Rattle.chrono_calendar.specs.Stored.{packed_year, packed_ordinal};
+ghost use Rattle.chrono_stored.specs.PackedName.{packed_year, packed_ordinal};
 
 use crate::weekdays::days_after_monday;
 use chrono_units::Weekday;

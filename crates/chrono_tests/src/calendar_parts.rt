@@ -3,7 +3,8 @@
 //!
 //! A function below names the first year, day or row that is wrong, if there is one.
 
-use chrono_calendar::{Mdf, Steps, YearFlags, cycle_to_yo, yo_to_cycle};
+use chrono_calendar::{Steps, YearFlags};
+use chrono_internals::{Mdf, cycle_to_yo, yo_to_cycle};
 
 // The numbers of the flags that years have.
 const FLAGS: [u8; 14] = [1, 2, 3, 4, 5, 6, 7, 9, 10, 11, 12, 13, 14, 15];

@@ -4,7 +4,8 @@ ghost use Rattle.chrono_calendar.specs.Days.{IsDate, date_of_day};
 
 use crate::datelike::Datelike;
 use crate::iso_week::IsoWeek;
-use crate::naive_date::{LAST_DAY, NaiveDate};
+use crate::naive_date::NaiveDate;
+use chrono_calendar::ends::LAST_DAY;
 use chrono_calendar::{DayForm, forms};
 use chrono_units::Weekday;
 

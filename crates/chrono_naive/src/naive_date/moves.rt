@@ -11,10 +11,11 @@ ghost use Rattle.chrono_calendar.specs.Recurrence.{IsLastOfFebruary, IsLeapDay, 
 ghost use Rattle.chrono_calendar.specs.YearsBetween.{years_between as whole_years};
 
 use crate::days::Days;
-use crate::naive_date::{LAST_DAY, NaiveDate};
+use crate::naive_date::NaiveDate;
 use crate::naive_date_days_iterator::NaiveDateDaysIterator;
 use crate::naive_date_weeks_iterator::NaiveDateWeeksIterator;
 use crate::naive_week::NaiveWeek;
+use chrono_calendar::ends::LAST_DAY;
 use chrono_calendar::{DayForm, Steps, forms};
 use chrono_clock::TimeDelta;
 use chrono_units::year::is_year;

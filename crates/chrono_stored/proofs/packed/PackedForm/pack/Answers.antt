@@ -1,5 +1,5 @@
 use Rattle.std.proofs.Common.{◌≡◌, arith, of_z, to_z, w32}
-use Rattle.chrono_calendar.specs.Stored.{packed_name}
+use Rattle.chrono_stored.specs.PackedName.{packed_name}
 use Rattle.chrono_calendar.proofs.Signed.{casts}
 use Rattle.chrono_stored.proofs.PackedNames.{IsPackedName-made, packed_name-year, packed_name-ordinal}
 use Rattle.chrono_stored.proofs.packed.PackedForm.pack.Goals as goal

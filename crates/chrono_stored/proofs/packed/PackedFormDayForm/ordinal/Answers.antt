@@ -1,6 +1,6 @@
 use Rattle.std.proofs.Common.{◌∙◌, ap, w32}
 use Rattle.std.proofs.lemmas.Int.{to_z-of_z}
-use Rattle.chrono_calendar.specs.Stored.{packed_ordinal}
+use Rattle.chrono_stored.specs.PackedName.{packed_ordinal}
 use Rattle.chrono_stored.proofs.PackedNames.{IsPackedName-stored}
 use Rattle.chrono_stored.proofs.packed.PackedFormDayForm.ordinal.Goals as goal
 

@@ -3,7 +3,7 @@ use Rattle.std.proofs.lemmas.Int.{to_z-of_z}
 use Rattle.std.specs.Int.{int_rem_euclid}
 use Rattle.chrono_units.specs.Weekday.{weekday_from_monday}
 use Rattle.chrono_calendar.specs.Days.{year_of, ordinal_of}
-use Rattle.chrono_calendar.specs.Stored.{packed_ordinal}
+use Rattle.chrono_stored.specs.PackedName.{packed_ordinal}
 use Rattle.chrono_calendar.specs.Weeks.{weekday_of}
 use Rattle.chrono_calendar.proofs.Names.{ordinal_name_of-number}
 use Rattle.chrono_stored.proofs.PackedNames.{IsPackedName-stored, flags-read, weekday-flags}

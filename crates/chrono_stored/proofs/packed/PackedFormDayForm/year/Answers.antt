@@ -1,6 +1,6 @@
 use Rattle.std.proofs.Common.{◌∙◌, ap, w32, rules}
 use Rattle.std.proofs.lemmas.Int.{to_z-of_z}
-use Rattle.chrono_calendar.specs.Stored.{packed_year}
+use Rattle.chrono_stored.specs.PackedName.{packed_year}
 use Rattle.chrono_stored.proofs.PackedNames.{IsPackedName-stored}
 use Rattle.chrono_stored.proofs.packed.PackedFormDayForm.year.Goals as goal
 

@@ -1,6 +1,0 @@
-//! The tables of the calendar: each has a module of its own, where a single function reads it.
-
-pub(crate) mod mdl_to_ol;
-pub(crate) mod ol_to_mdl;
-pub(crate) mod year_deltas;
-pub(crate) mod year_flags;

@@ -1,0 +1,2 @@
+pub mod MonthDay
+pub mod Tables
