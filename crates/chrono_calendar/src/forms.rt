@@ -39,7 +39,7 @@ pub fn move_days<F: DayForm>(f: F, k: i64, steps: &mut Steps) -> Option<F>
 
 // The year and the month that lie `k` months after a month, if the library has that year.
 #[inline]
-fn month_after(year: i32, month: u32, k: i64) -> Option<(i32, u32)>
+pub(crate) fn month_after(year: i32, month: u32, k: i64) -> Option<(i32, u32)>
     requires year { IsYear year }
     requires month { IsInRange 1 12 month }
     ensures { let i = month_index year month +ℤ k in
@@ -60,7 +60,7 @@ fn month_after(year: i32, month: u32, k: i64) -> Option<(i32, u32)>
 
 // The day of the month, or the month's last day if that is earlier.
 #[inline]
-fn day_within(year: i32, month: u32, day: u32) -> u32
+pub(crate) fn day_within(year: i32, month: u32, day: u32) -> u32
     requires { IsInRange 1 12 month }
     ensures { result ≡ min day (length_of_month year month) }
 {
@@ -75,13 +75,7 @@ fn day_within(year: i32, month: u32, day: u32) -> u32
 pub fn move_months<F: DayForm>(f: F, k: i64) -> Option<F>
     ensures { option_map F.number result ≡ month_move (F.number f) k }
 {
-    let (year, month, day) = f.year_month_day();
-    let (year, month) = month_after(year, month, k)?;
-    // Few days come past the end of another month, so its length is seldom asked.
-    if let Some(date) = F::from_ymd(year, month, day) {
-        return Some(date);
-    }
-    F::from_ymd(year, month, day_within(year, month, day))
+    f.move_months(k)
 }
 
 /// The date `k` times `i` months later, or earlier for a negative `k`, in one move: so a day that a shorter month clips
