@@ -5,4 +5,5 @@ pub mod Ends
 pub mod PackedOrder
 pub mod YearAnswers
 pub mod FromMarch
+pub mod MonthsFromMarch
 pub mod WeekRemainders
