@@ -8,11 +8,11 @@ pub const YEARS_TO_ONE: i32 = 262_400;
 /// The days of those years, which are whole weeks.
 pub const DAYS_TO_ONE: i32 = 95_839_632;
 
-/// The days from 1 January of the year -262,399 to 1 January of a year from -262,143 to 262,143.
+/// The days from 1 January of the year -262,399 to 1 January of a year from -262,143 to 262,144.
 #[inline]
 pub fn days_counted_before(year: i32) -> u32
     requires low { neg_ℤ (pos 262_143) ≤ℤ year }
-    requires high { year ≤ℤ pos 262_143 }
+    requires high { year ≤ℤ pos 262_144 }
     ensures { pos result ≡ days_before_year year +ℤ pos 95_839_632 }
 {
     let years = (year - 1 + YEARS_TO_ONE) as u32;

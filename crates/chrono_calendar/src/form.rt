@@ -6,8 +6,10 @@ ghost use Rattle.std.specs.Ordering.{int_cmp};
 ghost use Rattle.chrono_units.specs.Years.{is_leap_year, IsYear};
 ghost use Rattle.chrono_calendar.specs.Days.{IsDate, is_date, IsOrdinalName, IsCalendarName, date_of_day, date_of_yo, date_of_ymd, year_of, ordinal_of, month_of, day_of};
 ghost use Rattle.chrono_calendar.specs.Weeks.{iso_week_of, iso_year_of, weekday_of};
+ghost use Rattle.chrono_calendar.specs.MonthMoves.{month_move};
 
 use crate::iso_week::week_of_thursday;
+use crate::month_index::{day_within, month_after};
 use crate::steps::Steps;
 use chrono_units::Weekday;
 use chrono_units::year::year_length;
@@ -111,6 +113,21 @@ pub trait DayForm: Copy + Ord + Hash {
             return (year + 1, 1);
         }
         (year, week_of_thursday(thursday))
+    }
+
+    /// The date `k` months later, or earlier for a negative `k`: on the same day of the month, or on the month's last day if
+    /// that is earlier. `None` if the year of that month is not from -262,143 to 262,142.
+    #[inline]
+    fn move_months(self, k: i64) -> Option<Self>
+        ensures { option_map number result ≡ month_move (number self) k }
+    {
+        let (year, month, day) = self.year_month_day();
+        let (year, month) = month_after(year, month, k)?;
+        // Few days come past the end of another month, so its length is seldom asked.
+        if let Some(date) = Self::from_ymd(year, month, day) {
+            return Some(date);
+        }
+        Self::from_ymd(year, month, day_within(year, month, day))
     }
 
     /// The weekday.

@@ -2,24 +2,20 @@
 //!
 //! Each function reads a form, computes with plain numbers, and asks the form for the date that it found. An answer is
 //! `None` exactly where the definition names no date.
-ghost use Rattle.std.specs.Prelude.{◌≡◌, pos, neg_ℤ, ◌+◌, ◌≤◌, ◌+ℤ◌, ◌≤ℤ◌, ◌<ℤ◌, min, SomeIff, IfSome};
+ghost use Rattle.std.specs.Prelude.{◌≡◌, pos, neg_ℤ, ◌+◌, ◌≤◌, ◌+ℤ◌, ◌≤ℤ◌, ◌<ℤ◌, IfSome};
 ghost use Rattle.std.specs.Int.{IsInRange};
 ghost use Rattle.std.specs.Option.{option_map};
-ghost use Rattle.chrono_units.specs.Years.{IsYear, month_length as length_of_month};
 ghost use Rattle.chrono_calendar.specs.Days.{date_of_day, days_before_year};
 ghost use Rattle.chrono_calendar.specs.Weeks.{IsFirstOfWeek, date_of_iso, date_of_nth_weekday, days_from_sunday_of, iso_week_of, iso_year_of, week_first_of, weekday_of};
-ghost use Rattle.chrono_calendar.specs.MonthMoves.{month_index, month_move, month_of_month_index, year_of_month_index};
+ghost use Rattle.chrono_calendar.specs.MonthMoves.{month_move};
 ghost use Rattle.chrono_calendar.specs.Recurrence.{date_every, date_on};
 ghost use Rattle.chrono_calendar.specs.YearsBetween.{years_between as whole_years};
 
 use crate::counted_years::days_counted_before;
 use crate::form::DayForm;
 use crate::steps::Steps;
-use chrono_units::year::{MAX_YEAR, MIN_YEAR, is_leap_year, month_length, year_length};
+use chrono_units::year::{MAX_YEAR, MIN_YEAR, year_length};
 use chrono_units::{Weekday, WeekdaySet};
-
-// The months of the library's years.
-const MONTHS: i64 = (MAX_YEAR - MIN_YEAR + 1) as i64 * 12;
 
 /// The date `k` days later, or earlier for a negative `k`; `None` if that day is outside the range of dates.
 /// So 28 February 2023 moved by one day is 1 March 2023.
@@ -37,36 +33,6 @@ pub fn move_days<F: DayForm>(f: F, k: i64, steps: &mut Steps) -> Option<F>
     F::from_day(day, steps)
 }
 
-// The year and the month that lie `k` months after a month, if the library has that year.
-#[inline]
-fn month_after(year: i32, month: u32, k: i64) -> Option<(i32, u32)>
-    requires year { IsYear year }
-    requires month { IsInRange 1 12 month }
-    ensures { let i = month_index year month +ℤ k in
-        SomeIff result (IsYear (year_of_month_index i))
-        (record { 0 = year_of_month_index i; 1 = month_of_month_index i }) }
-{
-    let from = (year - MIN_YEAR) as u32 * 12 + (month - 1);
-    let moved = i64::from(from).checked_add(k)?;
-    if moved < 0 {
-        return None;
-    }
-    if moved >= MONTHS {
-        return None;
-    }
-    let target = moved as u32;
-    Some(((target / 12) as i32 + MIN_YEAR, target % 12 + 1))
-}
-
-// The day of the month, or the month's last day if that is earlier.
-#[inline]
-fn day_within(year: i32, month: u32, day: u32) -> u32
-    requires { IsInRange 1 12 month }
-    ensures { result ≡ min day (length_of_month year month) }
-{
-    day.min(u32::from(month_length(is_leap_year(year), month)))
-}
-
 /// The date `k` months later, or earlier for a negative `k`: on the same day of the month, or on the month's last day if
 /// that is earlier. `None` if the year of that month is outside the range of years.
 ///
@@ -75,13 +41,7 @@ fn day_within(year: i32, month: u32, day: u32) -> u32
 pub fn move_months<F: DayForm>(f: F, k: i64) -> Option<F>
     ensures { option_map F.number result ≡ month_move (F.number f) k }
 {
-    let (year, month, day) = f.year_month_day();
-    let (year, month) = month_after(year, month, k)?;
-    // Few days come past the end of another month, so its length is seldom asked.
-    if let Some(date) = F::from_ymd(year, month, day) {
-        return Some(date);
-    }
-    F::from_ymd(year, month, day_within(year, month, day))
+    f.move_months(k)
 }
 
 /// The date `k` times `i` months later, or earlier for a negative `k`, in one move: so a day that a shorter month clips

@@ -10,6 +10,7 @@ mod form;
 pub mod forms;
 mod iso_week;
 pub mod law;
+mod month_index;
 mod steps;
 mod tally;
 mod year_flags;

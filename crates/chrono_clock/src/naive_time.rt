@@ -150,13 +150,26 @@ impl NaiveTime {
         (time, days * SECS_PER_DAY as i64)
     }
 
-    // The time that a duration leads to, and the whole days that it passes, negative for days back.
+    /// The time that a duration leads to, and the whole days that it passes, negative for days back.
+    ///
+    /// It is the move of [`overflowing_add_signed`](Self::overflowing_add_signed), counted in days: five seconds after
+    /// 23:59:58 it is 00:00:03, one day on, and five seconds before 00:00:03 it is 23:59:58, one day back.
     #[inline]
-    pub(crate) fn landing(&self, rhs: TimeDelta) -> (NaiveTime, i64)
+    pub fn landing(&self, rhs: TimeDelta) -> (NaiveTime, i64)
         ensures time { result.0 ≡ (land self.now rhs).time }
         ensures days { result.1 ≡ (land self.now rhs).day }
         ensures start { IsTime self.now }
+        ensures end { IsTime result.0 }
+        // No duration is as long as 2^40 days.
         ensures near { unsigned_abs result.1 < 2 ^ 40 }
+
+        // A second move ends where the one move by the sum ends.
+        ensures adds_up { (y : ℤ) → IsPlain self.now ⊎ SameWay rhs y →
+            TimeMovesAddUp self.now rhs y }
+        ensures forward { pos 0 <ℤ rhs →
+            IsEarlierLanding (landing_of self.now) (land self.now rhs) }
+        ensures backward { rhs <ℤ pos 0 →
+            IsEarlierLanding (land self.now rhs) (landing_of self.now) }
     {
         if self.is_leap() {
             self.moved_from_leap(rhs)

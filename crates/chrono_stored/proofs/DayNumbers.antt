@@ -14,6 +14,6 @@ ordinal_name-counted days y n p d start years place in_year =
     let next = days_before_year-next y (y +ℤ pos 1) refl in
     ((omega arith, omega (arith, signed, before, after, next)), omega (arith, signed, before))
 
--- the days before a year of the range, or before the year after its last
-pub days_before_year-range : (y : ℤ) (days : ℕ) → neg_ℤ (pos 262_143) ≤ℤ y → y ≤ℤ pos 262_143 → pos days ≡ days_before_year y +ℤ pos 95_839_632 → days < 192_000_000
+-- the days before a year of the range, or before one of the two years after its last
+pub days_before_year-range : (y : ℤ) (days : ℕ) → neg_ℤ (pos 262_143) ≤ℤ y → y ≤ℤ pos 262_144 → pos days ≡ days_before_year y +ℤ pos 95_839_632 → days < 192_000_000
 days_before_year-range y days low high e = omega (arith, signed, days_before_year-closed y)

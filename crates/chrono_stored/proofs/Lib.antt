@@ -6,4 +6,5 @@ mod Ends
 mod PackedOrder
 mod YearAnswers
 mod FromMarch
+mod MonthsFromMarch
 mod WeekRemainders

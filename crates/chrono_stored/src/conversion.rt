@@ -38,11 +38,11 @@ pub(crate) fn days_before_day(day: i32) -> u32
     (day - 1 + DAYS_TO_ONE) as u32
 }
 
-// The days that are counted before 1 January of a year of the range, or of the year after its last.
+// The days that are counted before 1 January of a year of the range, or of one of the two years after its last.
 #[inline]
 pub(crate) fn days_to_year(year: i32) -> u32
     requires low { neg_ℤ (pos 262_143) ≤ℤ year }
-    requires high { year ≤ℤ pos 262_143 }
+    requires high { year ≤ℤ pos 262_144 }
     ensures value { pos result ≡ days_before year +ℤ pos 95_839_632 }
     ensures in_range { result < 192_000_000 }
 {

@@ -6,7 +6,7 @@ ghost use Rattle.chrono_calendar.specs.Days.{IsOrdinalName, IsCalendarName, date
 
 use crate::conversion::{days_before_day, days_before_year, year_and_ordinal};
 use crate::iso_week::iso_year_and_week;
-use crate::march::{day_number, year_month_day};
+use crate::march::{day_number, day_number_within, months_and_day, months_later, year_month_day};
 use crate::weekdays::days_after_monday;
 use chrono_calendar::ends::{FIRST_DAY, LAST_DAY};
 use chrono_calendar::{DayForm, Steps};
@@ -160,6 +160,15 @@ impl DayForm for CountedForm {
     #[inline]
     fn is_leap(&self) -> bool {
         is_leap_year(self.year())
+    }
+
+    #[inline]
+    fn move_months(self, k: i64) -> Option<Self> {
+        let (months, day) = months_and_day(self.days);
+        let target = months_later(months, k)?;
+        Some(CountedForm {
+            days: day_number_within(target, day),
+        })
     }
 
     #[inline]

@@ -6,10 +6,11 @@
 //! of a day, and another the days before a month. January and February are the months 13 and 14 of
 //! the year before.
 
-ghost use Rattle.std.specs.Prelude.{◌≡◌, ◌+◌, ◌-◌, ◌*◌, ◌/◌, ◌%◌, ◌<◌, ◌≤◌, pos, ◌+ℤ◌, SomeIff};
+ghost use Rattle.std.specs.Prelude.{◌≡◌, ◌+◌, ◌-◌, ◌*◌, ◌/◌, ◌%◌, ◌<◌, ◌≤◌, pos, ◌+ℤ◌, ◌-ℤ◌, unsigned_abs, SomeIff};
 ghost use Rattle.std.specs.Int.{IsInRange};
 ghost use Rattle.chrono_units.specs.Years.{IsYear};
 ghost use Rattle.chrono_calendar.specs.Days.{IsDate, IsCalendarName, year_of, month_of, day_of, days_before_year, day_number_of_ymd};
+ghost use Rattle.chrono_calendar.specs.MonthMoves.{day_number_in_month, month_index_of, year_of_month_index};
 
 use crate::conversion::{days_before_day, days_to_year, year_after, years_and_place};
 use chrono_calendar::counted_years::DAYS_TO_ONE;
@@ -17,6 +18,12 @@ use chrono_units::year::{is_year, year_length};
 
 // The days from 1 March to 31 December, by which a year from March is ahead.
 const DAYS_FROM_MARCH: u32 = 306;
+
+// The months from March of the year -262,400 to the first month of the library, January of the year -262,143, and to the
+// last, December of the year 262,142.
+const FIRST_MONTH: i64 = 3_082;
+
+const LAST_MONTH: i64 = 6_294_513;
 
 // The month of a day of a year from March, from 3 to 14, and the place of the day there, from 1.
 #[inline]
@@ -53,6 +60,54 @@ fn days_before_month(month: u32) -> u32
     ensures { result ≡ (979 * month - 2919) / 32 }
 {
     (979 * month - 2_919) / 32
+}
+
+/// The months from March of the year -262,400 to the month of a date's day number, and the day of that month.
+#[inline]
+pub(crate) fn months_and_day(days: i32) -> (u32, u32)
+    requires { IsDate days }
+    ensures months { pos result.0 ≡ month_index_of days +ℤ pos 3_148_798 }
+    ensures day { result.1 ≡ day_of days }
+    ensures day_in_range { IsInRange 1 31 result.1 }
+{
+    let (years, place) = years_and_place(days_before_day(days) + DAYS_FROM_MARCH);
+    let (month, day) = month_from_march(place);
+    (years * 12 + month - 3, day)
+}
+
+/// So many months more, or fewer for a negative number, if that is a month of the library.
+#[inline]
+pub(crate) fn months_later(months: u32, k: i64) -> Option<u32>
+    ensures { SomeIff result (IsYear (year_of_month_index (pos months +ℤ k -ℤ pos 3_148_798)))
+        (unsigned_abs (pos months +ℤ k)) }
+{
+    let moved = i64::from(months).checked_add(k)?;
+    if moved < FIRST_MONTH || moved > LAST_MONTH {
+        return None;
+    }
+    Some(moved as u32)
+}
+
+/// The day number of a day of the month that so many months from March of the year -262,400 precede, or of the month's last
+/// day if that is earlier.
+///
+/// The month ends where the next begins, and February where the year from March does. Both are asked at once, with no branch
+/// on what they answer.
+#[inline]
+pub(crate) fn day_number_within(months: u32, day: u32) -> i32
+    requires year { IsYear (year_of_month_index (pos months -ℤ pos 3_148_798)) }
+    requires day { IsInRange 1 31 day }
+    ensures value { result ≡ day_number_in_month (pos months -ℤ pos 3_148_798) day }
+    ensures in_range { IsDate result }
+{
+    let year = year_after(months / 12);
+    let month = months % 12 + 3;
+    let start = days_to_year(year);
+    let length = days_to_year(year + 1) - start;
+    let place = (days_before_month(month) + day)
+        .min(days_before_month(month + 1))
+        .min(length);
+    (start + place) as i32 - (DAYS_TO_ONE + DAYS_FROM_MARCH as i32)
 }
 
 /// The day number of a day of a month, or `None` if the library has no such year, or the year has no such day.

@@ -1,10 +1,11 @@
 //! Durations made of whole units, and read in whole units.
-ghost use Rattle.std.specs.Prelude.{◌≡◌, ℕ, ℤ, pos, ◌<◌, ◌<ℤ◌, ◌+ℤ◌, ◌*ℤ◌, FitsSigned, unsigned_abs};
+ghost use Rattle.std.specs.Prelude.{◌≡◌, ℕ, ℤ, pos, ◌<◌, ◌<ℤ◌, ◌+ℤ◌, ◌*ℤ◌, FitsSigned, unsigned_abs, IsTrue, ◌↔◌};
 ghost use Rattle.std.specs.Int.{w64};
 ghost use Rattle.std.specs.Option.{SomeIff};
 ghost use Rattle.chrono_clock.specs.Duration.{IsDuration, nanos_per_week, nanos_per_day, nanos_per_hour, nanos_per_minute, nanos_per_second, nanos_per_milli, nanos_per_micro, units_of, whole_units, past_seconds};
 
 use crate::TimeDelta;
+use crate::carry::carried;
 use crate::lengths::{
     NANOS_PER_MICRO, NANOS_PER_MILLI, NANOS_PER_SEC, SECS_PER_DAY, SECS_PER_HOUR, SECS_PER_MINUTE,
 };
@@ -193,11 +194,7 @@ impl TimeDelta {
         ensures value { result ≡ whole_units nanos_per_second self.now }
         ensures in_range { IsDuration self.now }
     {
-        if self.secs < 0 && self.nanos > 0 {
-            self.secs + 1
-        } else {
-            self.secs
-        }
+        self.secs + self.has_negative_rest() as i64
     }
 
     /// The whole milliseconds of the duration, rounded towards zero.
@@ -246,11 +243,16 @@ impl TimeDelta {
     pub fn subsec_nanos(&self) -> i32
         ensures { result ≡ past_seconds self.now }
     {
-        if self.secs < 0 && self.nanos > 0 {
-            self.nanos as i32 - NANOS_PER_SEC as i32
-        } else {
-            self.nanos as i32
-        }
+        self.nanos as i32 - self.has_negative_rest() as i32 * NANOS_PER_SEC as i32
+    }
+
+    // Whether the part past the whole seconds is negative: these are then one more than the seconds rounded down. No branch
+    // rests on a sign here or in what asks, as processors guess signs badly.
+    #[inline]
+    fn has_negative_rest(&self) -> bool
+        ensures { IsTrue result ↔ (past_seconds self.now <ℤ pos 0) }
+    {
+        (self.secs < 0) & (self.nanos > 0)
     }
 }
 
@@ -271,15 +273,7 @@ fn from_signed(secs: i64, nanos: i32) -> TimeDelta
     requires in_range { IsDuration (secs *ℤ pos nanos_per_second +ℤ nanos) }
     ensures { result ≡ secs *ℤ pos nanos_per_second +ℤ nanos }
 {
-    if nanos < 0 {
-        TimeDelta {
-            secs: secs - 1,
-            nanos: (nanos + NANOS_PER_SEC as i32) as u32,
-        }
-    } else {
-        TimeDelta {
-            secs,
-            nanos: nanos as u32,
-        }
-    }
+    // A second is lent to the nanoseconds, and carried back unless they were negative.
+    let (secs, nanos) = carried(secs - 1, (nanos + NANOS_PER_SEC as i32) as u32);
+    TimeDelta { secs, nanos }
 }

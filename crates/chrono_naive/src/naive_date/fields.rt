@@ -1,6 +1,7 @@
 //! The fields of a date, read and replaced.
 ghost use Rattle.std.specs.Prelude.{◌≡◌, Some};
-ghost use Rattle.chrono_calendar.specs.Days.{IsDate, date_of_day};
+ghost use Rattle.chrono_units.specs.Years.{IsYear};
+ghost use Rattle.chrono_calendar.specs.Days.{IsDate, IsCalendarName, date_of_day, date_of_ymd, year_of, month_of, day_of};
 
 use crate::datelike::Datelike;
 use crate::iso_week::IsoWeek;
@@ -8,6 +9,26 @@ use crate::naive_date::NaiveDate;
 use chrono_calendar::ends::LAST_DAY;
 use chrono_calendar::{DayForm, forms};
 use chrono_units::Weekday;
+
+impl NaiveDate {
+    /// The year, the month, from 1 for January, and the day of the month, from 1: what [`Datelike`] reads one by one, by one
+    /// reading of the date.
+    ///
+    /// So 29 February 2024 gives `(2024, 2, 29)`.
+    #[inline]
+    pub fn year_month_day(&self) -> (i32, u32, u32)
+        ensures year { result.0 ≡ year_of self.now }
+        ensures month { result.1 ≡ month_of self.now }
+        ensures day { result.2 ≡ day_of self.now }
+        ensures in_range { IsYear result.0 }
+        ensures exists { IsCalendarName result.0 result.1 result.2 }
+        // The three name the date again.
+        ensures names { date_of_ymd result.0 result.1 result.2 ≡ Some self.now }
+    {
+        prove!(self.day_number() <= LAST_DAY);
+        self.form.year_month_day()
+    }
+}
 
 impl Datelike for NaiveDate {
     ghost use Rattle.std.specs.Prelude.{[]};
@@ -67,13 +88,14 @@ impl Datelike for NaiveDate {
 
     #[inline]
     fn with_year(&self, year: i32) -> Option<NaiveDate> {
-        let (month, day) = self.form.month_day();
+        let (_, month, day) = self.year_month_day();
         NaiveDate::from_ymd_opt(year, month, day)
     }
 
     #[inline]
     fn with_month(&self, month: u32) -> Option<NaiveDate> {
-        NaiveDate::from_ymd_opt(self.year(), month, self.day())
+        let (year, _, day) = self.year_month_day();
+        NaiveDate::from_ymd_opt(year, month, day)
     }
 
     #[inline]
@@ -83,7 +105,8 @@ impl Datelike for NaiveDate {
 
     #[inline]
     fn with_day(&self, day: u32) -> Option<NaiveDate> {
-        NaiveDate::from_ymd_opt(self.year(), self.month(), day)
+        let (year, month, _) = self.year_month_day();
+        NaiveDate::from_ymd_opt(year, month, day)
     }
 
     #[inline]

@@ -22,6 +22,21 @@ use chrono_units::year::is_year;
 use chrono_units::{Months, Weekday, WeekdaySet};
 
 impl NaiveDate {
+    /// The date so many days later, or earlier for a negative number; `None` exactly if that is past [`MAX`](Self::MAX) or
+    /// before [`MIN`](Self::MIN).
+    ///
+    /// So 28 February 2024 moved by 2 is 1 March, and 1 January 2024 moved by -1 is 31 December 2023.
+    #[inline]
+    pub fn moved_by_days(self, days: i64) -> Option<NaiveDate>
+        ensures date { result ≡ date_of_day (self +ℤ days) }
+        ensures exists { IsSome result ↔ IsDate (self +ℤ days) }
+        // As many days back, the answer is the date again.
+        ensures back { IfSome result (λ e. e -ℤ days ≡ self) }
+        ensures in_range { IsDate self }
+    {
+        self.moved_by_days_counted(days, &mut Steps::new())
+    }
+
     /// The date so many days later; `None` exactly if that is past [`MAX`](Self::MAX).
     #[inline]
     pub fn checked_add_days(self, days: Days) -> Option<NaiveDate>
@@ -71,16 +86,7 @@ impl NaiveDate {
         self.moved_by_days(-1)
     }
 
-    // The date so many days later, or earlier for a negative number.
-    #[inline]
-    pub(crate) fn moved_by_days(self, days: i64) -> Option<NaiveDate>
-        ensures date { result ≡ date_of_day (self +ℤ days) }
-        ensures in_range { IsDate self }
-    {
-        self.moved_by_days_counted(days, &mut Steps::new())
-    }
-
-    // The same, with the steps counted.
+    // The date so many days later, or earlier for a negative number, with the steps counted.
     #[inline]
     fn moved_by_days_counted(self, days: i64, steps: &mut Steps) -> Option<NaiveDate>
         ensures date { result ≡ date_of_day (self +ℤ days) }
@@ -92,6 +98,27 @@ impl NaiveDate {
         prove!(self.day_number() <= LAST_DAY);
         Some(NaiveDate {
             form: forms::move_days(self.form, days, steps)?,
+        })
+    }
+
+    /// The same day so many months later, or earlier for a negative number, or the last day of that month if it is shorter;
+    /// `None` exactly if the year of that month is not from -262,143 to 262,142.
+    ///
+    /// So 31 January 2024 moved by 1 is 29 February, and 31 March 2024 moved by -13 is 28 February 2023.
+    #[inline]
+    pub fn moved_by_months(self, months: i64) -> Option<NaiveDate>
+        ensures date { result ≡ month_move self months }
+        // No later date comes to lie before the answer by the same move.
+        ensures order { IfSome result (λ e. KeepsOrder self months e) }
+        // Moved the other way, the answer comes to the date again, or one to three days before it in its month.
+        ensures back { IfSome result (λ e. ComesBack self (neg_ℤ months) e) }
+        // A second move ends in the month of one move by the sum, and not later.
+        ensures sum { IfSome result (λ e. MonthMovesAddUp self months e) }
+        ensures in_range { IsYear (year_of self) }
+    {
+        prove!(is_year(self.form.year()));
+        Some(NaiveDate {
+            form: forms::move_months(self.form, months)?,
         })
     }
 
@@ -127,18 +154,6 @@ impl NaiveDate {
         self.moved_by_months(-i64::from(months.as_u32()))
     }
 
-    // The same day so many months later, or earlier for a negative number.
-    #[inline]
-    fn moved_by_months(self, months: i64) -> Option<NaiveDate>
-        ensures date { result ≡ month_move self months }
-        ensures in_range { IsYear (year_of self) }
-    {
-        prove!(is_year(self.form.year()));
-        Some(NaiveDate {
-            form: forms::move_months(self.form, months)?,
-        })
-    }
-
     /// The same day `k` times `i` months later, or earlier for a negative `k`, or the last day of that month if it is shorter;
     /// `None` exactly if that month's year is not from -262,143 to 262,142.
     ///
@@ -156,11 +171,7 @@ impl NaiveDate {
         ensures leap_day { IsLeapDay self → (years : ℤ) → k ≡ pos 12 *ℤ years →
             IfSome result (λ e. IsLastOfFebruary e) }
     {
-        // The date is one, so no month away from it is the date itself.
-        prove!(self.day_number() <= LAST_DAY);
-        Some(NaiveDate {
-            form: forms::every_months(self.form, k, i)?,
-        })
+        self.moved_by_months(i64::from(k) * i64::from(i))
     }
 
     /// The date later by the whole days of the duration, earlier if it is negative; `None` exactly if that is past

@@ -2,7 +2,7 @@ use Rattle.std.proofs.Common.{◌≡◌, ℕ, ℤ, pos, neg_ℤ, refl, ◌/◌, 
 use Rattle.chrono_calendar.specs.MonthMoves.{month_index, year_of_month_index}
 use Rattle.chrono_calendar.proofs.Signed.{casts}
 use Rattle.chrono_calendar.proofs.Moves.{month_index-shifted, year_of_month_index-range, year_of_month_index-below, year_of_month_index-above}
-use Rattle.chrono_calendar.proofs.forms.month_after.Goals as goal
+use Rattle.chrono_calendar.proofs.month_index.month_after.Goals as goal
 
 -- the months since the first of the library's
 abbrev target : goal.Else-moved-ge-MONTHS → ℕ
