@@ -1,0 +1,9 @@
+//! What the texts of numbers are, as laws that a caller can cite.
+ghost use Rattle.std.specs.Prelude.{◌≡◌, ℕ, ℤ, List, Some};
+ghost use Rattle.chrono_text.specs.Numbers.{number_of, WritesNumber};
+
+/// A number is read from exactly the texts that write it: an optional `-`, and one digit or more.
+pub fn numbers_are_texts()
+    ensures read { (text : List ℕ) (z : ℤ) → number_of text ≡ Some z → WritesNumber text z }
+    ensures written { (text : List ℕ) (z : ℤ) → WritesNumber text z → number_of text ≡ Some z }
+{}
