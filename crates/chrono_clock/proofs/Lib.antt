@@ -1,6 +1,5 @@
 pub mod DurationLemmas
 pub mod SumLemmas
-pub mod TextLemmas
 pub mod TimeLemmas
 pub mod LandingLemmas
 pub mod DistanceLemmas

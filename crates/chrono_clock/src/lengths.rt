@@ -1,13 +1,6 @@
 //! How long the units of time are, each in a smaller one.
 
-/// The nanoseconds of a second.
-pub(crate) const NANOS_PER_SEC: u32 = 1_000_000_000;
-
-/// The nanoseconds of a millisecond.
-pub(crate) const NANOS_PER_MILLI: u32 = 1_000_000;
-
-/// The nanoseconds of a microsecond.
-pub(crate) const NANOS_PER_MICRO: u32 = 1_000;
+pub(crate) use chrono_text::{NANOS_PER_MICRO, NANOS_PER_MILLI, NANOS_PER_SEC};
 
 /// The seconds of a minute.
 pub(crate) const SECS_PER_MINUTE: u32 = 60;

@@ -9,7 +9,6 @@ mod carry;
 pub mod law;
 mod lengths;
 mod naive_time;
-pub mod text;
 mod time_delta;
 mod timelike;
 

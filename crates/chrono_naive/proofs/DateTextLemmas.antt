@@ -1,5 +1,5 @@
 -- Lemmas on the texts of dates.
-use Rattle.std.proofs.Common.{◌≡◌, ℕ, ◌<◌, ◌≤◌, ℤ, pos, negsuc, ◌≤ℤ◌, Some, length, unsigned_abs, arith, sym, ◌∙◌}
+use Rattle.std.proofs.Common.{◌≡◌, ℕ, ◌^◌, ◌<◌, ◌≤◌, ℤ, pos, negsuc, ◌≤ℤ◌, Some, length, unsigned_abs, arith, sym, ◌∙◌}
 use Rattle.std.proofs.lemmas.Int.{ints}
 use Rattle.chrono_units.specs.Years.{IsYear, is_leap_year}
 use Rattle.chrono_text.specs.Text.{year_text, calendar_text}
@@ -8,7 +8,11 @@ use Rattle.chrono_calendar.specs.Days.{IsDate, date_of_ymd, day_number_of_ymd, y
 use Rattle.chrono_calendar.proofs.Months.{month_length_in-bounds}
 use Rattle.chrono_calendar.proofs.MonthMoveLaws.{year_of-range}
 use Rattle.chrono_calendar.proofs.NamedDates.{calendar_name-exists, date_of_ymd-name, number-calendar_name}
-use Rattle.chrono_naive.specs.DateText.{date_text}
+use Rattle.chrono_text.proofs.AsciiTexts.{IsAscii-calendar_text, IsAscii-week_text}
+use Rattle.chrono_naive.specs.DateText.{date_text, iso_week_text}
+use Rattle.chrono_naive.specs.Fields.{IsIsoYear, IsoYearAndWeek}
+use Rattle.std.specs.Int.{IsInRange}
+use Rattle.std.specs.Str.{IsAscii}
 
 -- a date with a calendar name has that name's text
 pub date_text-named : (n y : ℤ) (m d : ℕ) → date_of_ymd y m d ≡ Some n → date_text n ≡ calendar_text y m d
@@ -20,6 +24,10 @@ date_text-named n y m d e =
 year_size : (y : ℤ) → IsYear y → unsigned_abs y < 1_000_000
 year_size (pos n) h = omega (arith, ints, h.1)
 year_size (negsuc n) h = omega (arith, ints, h.0)
+
+iso_year_size : (y : ℤ) → IsIsoYear y → unsigned_abs y < 2 ^ 64
+iso_year_size (pos n) h = omega (arith, ints, h.1)
+iso_year_size (negsuc n) h = omega (arith, ints, h.0)
 
 month_of-small : (n : ℤ) → month_of n < 100
 month_of-small n = omega (arith, (calendar_name-exists n).0.1)
@@ -37,6 +45,14 @@ date_text_injective n m first second e =
     (month_of-small n) (month_of-small m) (day_of-small n) (day_of-small m) e
     in
     sym (number-calendar_name n) ∙ (λ i. day_number_of_ymd (names.0 i) (names.1 i) (names.2 i)) ∙ number-calendar_name m
+
+-- every byte of the texts is ASCII
+pub IsAscii-date_text : (n : ℤ) → IsYear (year_of n) → IsAscii (date_text n)
+IsAscii-date_text n h =
+    IsAscii-calendar_text (year_of n) (month_of n) (day_of n) (omega (arith, year_size (year_of n) h)) (month_of-small n) (day_of-small n)
+
+pub IsAscii-iso_week_text : (w : IsoYearAndWeek) → IsIsoYear w.year → IsInRange 1 53 w.week → IsAscii (iso_week_text w)
+IsAscii-iso_week_text w h k = IsAscii-week_text w.year w.week (iso_year_size w.year h) (omega (arith, k.1))
 
 -- how long a date's text is
 four_digits : (y : ℤ) → pos 0 ≤ℤ y → y ≤ℤ pos 9_999 → length (year_text y) ≡ 4

@@ -37,10 +37,10 @@ year_digits_injective : (n m : ℕ) → n < 2 ^ 64 → m < 2 ^ 64 → year_digit
 year_digits_injective n m h k e = sym (year_digits-value n h) ∙ ap (λ (c : List ℕ). digits_value 10 c) e ∙ year_digits-value m k
 
 -- the kinds of years from 0 up
-year_text-four : (n : ℕ) → n < 10_000 → year_text (pos n) ≡ all_digits 4 n
+pub year_text-four : (n : ℕ) → n < 10_000 → year_text (pos n) ≡ all_digits 4 n
 year_text-four n h = grind arith
 
-year_text-more : (n : ℕ) → 10_000 ≤ n → year_text (pos n) ≡ 43 ∷ year_digits n
+pub year_text-more : (n : ℕ) → 10_000 ≤ n → year_text (pos n) ≡ 43 ∷ year_digits n
 year_text-more n h = grind arith
 
 -- different years have different texts

@@ -6,4 +6,5 @@ pub mod SetMembers
 pub mod SetPlaces
 pub mod SetWalks
 pub mod WeekdayCycle
-pub mod Writing
+pub mod WalkLengths
+pub mod SetTexts

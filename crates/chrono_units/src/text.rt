@@ -1,12 +1,30 @@
 //! The texts of weekdays and of sets of weekdays.
-ghost use Rattle.std.specs.Prelude.{◌≡◌, List, Some, [], ◌∷◌};
+ghost use Rattle.std.specs.Prelude.{◌≡◌, ◌+◌, ◌-◌, ◌*◌, ◌<◌, ◌≤◌, ◌++◌, Some, length};
 ghost use Rattle.std.specs.Fmt.{WritesOnOk, WritesStyledOnOk, padded};
-ghost use Rattle.chrono_units.specs.WeekdayText.{weekday_text, further_days_text, days_text, set_text, digit_text, set_digits_text};
+ghost use Rattle.chrono_units.specs.WeekdayText.{weekday_text, days_text, set_text, digit_text, set_digits_text};
 
 use crate::weekday::Weekday;
 use crate::weekday_set::WeekdaySet;
 use crate::weekday_set_iter::WeekdaySetIter;
+use chrono_text::Text;
 use std::fmt;
+
+// How many bytes the text of a set has at most: that of the full one.
+const LONGEST_SET: usize = 35;
+
+// How many bytes the digits of a set have, with its type's name and parentheses.
+const SET_DIGITS: usize = 19;
+
+impl Weekday {
+    /// Puts the English name of the day in three letters behind a text. There is room for 3 bytes.
+    #[inline]
+    pub fn put_into<const N: usize>(self, text: &mut Text<N>)
+        requires { length text.old + 3 ≤ N }
+        ensures { text.new ≡ text.old ++ weekday_text self }
+    {
+        text.push_text(short_name(self).as_bytes());
+    }
+}
 
 impl fmt::Display for Weekday {
     ghost output = { λ d. Some (weekday_text d) };
@@ -35,6 +53,36 @@ fn short_name(day: Weekday) -> &'static str
     }
 }
 
+impl WeekdaySet {
+    /// Puts the members from Monday on in brackets, as `[Mon, Thu]`, behind a text. There is room for 35 bytes.
+    #[tactic(auto, using(crate::proofs::WalkLengths::walks))]
+    pub fn put_into<const N: usize>(self, text: &mut Text<N>)
+        requires { length text.old + 35 ≤ N }
+        ensures text { text.new ≡ text.old ++ set_text self }
+        ensures fits { length text.new ≤ length text.old + 35 }
+    {
+        text.push(b'[');
+        put_days(text, self.iter(Weekday::Mon));
+        text.push(b']');
+    }
+
+    // Puts a digit for each day, 1 for a member, from Sunday down to Monday, with the type's name round them.
+    fn put_digits<const N: usize>(self, text: &mut Text<N>)
+        requires { length text.old + 19 ≤ N }
+        ensures { text.new ≡ text.old ++ set_digits_text self }
+    {
+        text.push_text(b"WeekdaySet(");
+        put_digit(text, self.contains(Weekday::Sun));
+        put_digit(text, self.contains(Weekday::Sat));
+        put_digit(text, self.contains(Weekday::Fri));
+        put_digit(text, self.contains(Weekday::Thu));
+        put_digit(text, self.contains(Weekday::Wed));
+        put_digit(text, self.contains(Weekday::Tue));
+        put_digit(text, self.contains(Weekday::Mon));
+        text.push(b')');
+    }
+}
+
 impl fmt::Display for WeekdaySet {
     ghost output = { λ s. Some (set_text s) };
 
@@ -42,9 +90,9 @@ impl fmt::Display for WeekdaySet {
 
     /// Writes the days from Monday on in brackets, as `[Mon, Thu]`, whatever width or precision is asked for.
     fn fmt<W: fmt::Write>(&self, f: &mut fmt::Formatter<W>) -> fmt::Result {
-        f.write_str("[")?;
-        write_days(f, self.iter(Weekday::Mon))?;
-        f.write_str("]")
+        let mut text = Text::<LONGEST_SET>::new();
+        self.put_into(&mut text);
+        text.print(f)
     }
 }
 
@@ -59,62 +107,37 @@ impl fmt::Debug for WeekdaySet {
         ensures styled { WritesStyledOnOk W.write_str_gives f.old result
             (set_digits_text self.now) f.new }
     {
-        f.write_str("WeekdaySet(")?;
-        write_digit(f, self.contains(Weekday::Sun))?;
-        write_digit(f, self.contains(Weekday::Sat))?;
-        write_digit(f, self.contains(Weekday::Fri))?;
-        write_digit(f, self.contains(Weekday::Thu))?;
-        write_digit(f, self.contains(Weekday::Wed))?;
-        write_digit(f, self.contains(Weekday::Tue))?;
-        write_digit(f, self.contains(Weekday::Mon))?;
-        f.write_str(")")
+        let mut text = Text::<SET_DIGITS>::new();
+        self.put_digits(&mut text);
+        text.print(f)
     }
 }
 
-// The name of the day in three letters, with no width, fill or precision.
-fn write_name<W: fmt::Write>(f: &mut fmt::Formatter<W>, day: Weekday) -> fmt::Result
-    ensures { WritesStyledOnOk W.write_str_gives f.old result (weekday_text day) f.new }
-{
-    f.write_str(short_name(day))
-}
-
-// 1 for a member, else 0.
-fn write_digit<W: fmt::Write>(f: &mut fmt::Formatter<W>, member: bool) -> fmt::Result
-    ensures { WritesStyledOnOk W.write_str_gives f.old result (digit_text member) f.new }
+// Puts 1 for a member, else 0.
+#[inline]
+fn put_digit<const N: usize>(text: &mut Text<N>, member: bool)
+    requires { length text.old < N }
+    ensures text { text.new ≡ text.old ++ digit_text member }
+    ensures longer { length text.new ≡ length text.old + 1 }
 {
     if member {
-        f.write_str("1")
+        text.push(b'1');
     } else {
-        f.write_str("0")
+        text.push(b'0');
     }
 }
 
-// The days with a comma and a space between each two.
-fn write_days<W: fmt::Write>(f: &mut fmt::Formatter<W>, mut days: WeekdaySetIter) -> fmt::Result
-    ensures { WritesStyledOnOk W.write_str_gives f.old result (days_text days) f.new }
+// Puts the days with a comma and a space between each two.
+fn put_days<const N: usize>(text: &mut Text<N>, mut days: WeekdaySetIter)
+    requires { length text.old + (5 * length days - 2) ≤ N }
+    ensures text { text.new ≡ text.old ++ days_text days }
+    ensures fits { length text.new ≤ length text.old + (5 * length days - 2) }
 {
-    match days.next() {
-        None => Ok(()),
-        Some(day) => {
-            write_name(f, day)?;
-            write_further_days(f, days)
-        }
-    }
-}
-
-// The days, each after a comma and a space.
-fn write_further_days<W: fmt::Write>(
-    f: &mut fmt::Formatter<W>,
-    mut days: WeekdaySetIter,
-) -> fmt::Result
-    ensures { WritesStyledOnOk W.write_str_gives f.old result (further_days_text days) f.new }
-{
-    match days.next() {
-        None => Ok(()),
-        Some(day) => {
-            f.write_str(", ")?;
-            write_name(f, day)?;
-            write_further_days(f, days)
+    if let Some(first) = days.next() {
+        first.put_into(text);
+        while let Some(day) = days.next() {
+            text.push_text(b", ");
+            day.put_into(text);
         }
     }
 }

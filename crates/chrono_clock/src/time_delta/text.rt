@@ -1,34 +1,39 @@
 //! The text of a duration.
-ghost use Rattle.std.specs.Prelude.{◌≡◌, ℕ, ◌<◌, ◌≤◌, ◌-◌, ◌/◌, ◌%◌, ◌^◌, Some, unsigned_abs};
-ghost use Rattle.std.specs.Fmt.{WritesOnOk, sign_text};
+ghost use Rattle.std.specs.Prelude.{◌≡◌, ◌+◌, ◌<◌, ◌≤◌, ◌/◌, ◌%◌, ◌^◌, ◌++◌, Some, length, unsigned_abs};
 ghost use Rattle.std.specs.Int.{is_negative};
-ghost use Rattle.chrono_clock.specs.Duration.{nanos_per_second};
-ghost use Rattle.chrono_text.specs.Text.{fraction_digits, fraction_text, duration_text};
+ghost use Rattle.std.specs.Str.{IsAscii};
+ghost use Rattle.chrono_text.specs.Text.{nanos_per_second, duration_text};
 
 use crate::TimeDelta;
-use crate::text::first_digit;
+use chrono_text::Text;
 use std::fmt;
 
-impl fmt::Display for TimeDelta {
-    ghost output = { λ x. Some (duration_text x) };
-
-    fn fmt<W: fmt::Write>(&self, f: &mut fmt::Formatter<W>) -> fmt::Result {
-        if self.is_zero() {
-            return f.write_str("P0D");
-        }
-        let (negative, secs, nanos) = self.sign_and_size();
-        write_sign(f, negative)?;
-        write!(f, "PT{secs}")?;
-        write_fraction(f, nanos)?;
-        f.write_str("S")
-    }
-}
+// The room that the text of a duration takes while it is put.
+const ROOM: usize = 33;
 
 impl TimeDelta {
+    /// Puts the duration in seconds (ISO 8601 duration), as `-PT0.5S`, or `P0D` for zero, behind a text. There is room for 33
+    /// bytes, and at most 30 are put.
+    #[inline]
+    pub fn put_into<const N: usize>(&self, text: &mut Text<N>)
+        requires { length text.old + 33 ≤ N }
+        ensures text { text.new ≡ text.old ++ duration_text self.now }
+        ensures ascii { IsAscii (duration_text self.now) }
+        ensures fits { length text.new ≤ length text.old + 30 }
+    {
+        if self.is_zero() {
+            return text.push_text(b"P0D");
+        }
+        let (negative, secs, nanos) = self.sign_and_size();
+        text.push_seconds(negative, secs, nanos);
+    }
+
     // Whether the duration is negative, the whole seconds of its size and the nanoseconds past them.
+    #[inline]
     fn sign_and_size(&self) -> (bool, u64, u32)
         ensures negative { result.0 ≡ is_negative self.now }
         ensures secs { result.1 ≡ unsigned_abs self.now / nanos_per_second }
+        ensures small { result.1 < 10 ^ 16 }
         ensures nanos { result.2 ≡ unsigned_abs self.now % nanos_per_second }
     {
         let size = self.abs();
@@ -36,39 +41,15 @@ impl TimeDelta {
     }
 }
 
-// A `-`, or nothing.
-fn write_sign<W: fmt::Write>(f: &mut fmt::Formatter<W>, negative: bool) -> fmt::Result
-    ensures { WritesOnOk W.write_str_gives f.old result (sign_text negative) f.new }
-{
-    if negative { f.write_str("-") } else { Ok(()) }
-}
+impl fmt::Display for TimeDelta {
+    ghost output = { λ x. Some (duration_text x) };
 
-// A point and the digits of the fraction, or nothing.
-fn write_fraction<W: fmt::Write>(f: &mut fmt::Formatter<W>, nanos: u32) -> fmt::Result
-    requires { nanos < nanos_per_second }
-    ensures { WritesOnOk W.write_str_gives f.old result (fraction_text nanos) f.new }
-{
-    if nanos == 0 {
-        return Ok(());
-    }
-    f.write_str(".")?;
-    write_fraction_digits(f, 9, nanos)
-}
+    ghost styled_output = { λ x _. Some (duration_text x) };
 
-// The digits of a fraction of so many places, up to the last that is not 0.
-fn write_fraction_digits<W: fmt::Write>(
-    f: &mut fmt::Formatter<W>,
-    places: u32,
-    fraction: u32,
-) -> fmt::Result
-    requires few { places ≤ 9 }
-    requires within { fraction < 10 ^ places }
-    ensures { WritesOnOk W.write_str_gives f.old result (fraction_digits places fraction) f.new }
-{
-    if fraction == 0 {
-        return Ok(());
+    /// Writes the duration in seconds (ISO 8601 duration), whatever width, fill or precision is asked for.
+    fn fmt<W: fmt::Write>(&self, f: &mut fmt::Formatter<W>) -> fmt::Result {
+        let mut text = Text::<ROOM>::new();
+        self.put_into(&mut text);
+        text.print(f)
     }
-    let (digit, rest) = first_digit(places, fraction);
-    f.write_char((b'0' + digit) as char)?;
-    write_fraction_digits(f, places - 1, rest)
 }

@@ -1,20 +1,44 @@
 //! The texts of a date-time.
-ghost use Rattle.std.specs.Prelude.{Some};
+ghost use Rattle.std.specs.Prelude.{◌≡◌, ◌+◌, ◌<◌, ◌≤◌, ◌++◌, Some, length};
+ghost use Rattle.std.specs.Fmt.{WritesOnOk, WritesStyledOnOk};
+ghost use Rattle.std.specs.Str.{IsAscii};
 ghost use Rattle.chrono_datetime.specs.MomentText.{moment_text};
 
 use crate::NaiveDateTime;
+use chrono_text::Text;
 use std::fmt;
+
+// How many bytes the longest date, a character and the longest time have.
+const LONGEST: usize = 32;
+
+impl NaiveDateTime {
+    /// Puts the date, a character and the time of day, as `2024-02-29T23:59:60.500` (ISO 8601 date and time of day, where the
+    /// character is a `T`), behind a text. There is room for 32 bytes.
+    #[inline]
+    pub fn put_into<const N: usize>(&self, text: &mut Text<N>, separator: u8)
+        requires { length text.old + 32 ≤ N }
+        ensures text { text.new ≡ text.old ++ moment_text separator self.now }
+        ensures ascii { separator < 128 → IsAscii (moment_text separator self.now) }
+        ensures fits { length text.new ≤ length text.old + 32 }
+    {
+        self.date().put_into(text);
+        text.push(separator);
+        self.time().put_into(text);
+    }
+}
 
 impl fmt::Display for NaiveDateTime {
     ghost output = { λ m. Some (moment_text 32 m) };
+
+    ghost styled_output = { λ m _. Some (moment_text 32 m) };
 
     /// Writes the date, a space and the time of day, as `2024-02-29 23:59:60.500`.
     ///
     /// A width, a fill, an alignment, a sign or a precision makes no difference.
     fn fmt<W: fmt::Write>(&self, f: &mut fmt::Formatter<W>) -> fmt::Result {
-        fmt::Display::fmt(&self.date, f)?;
-        f.write_str(" ")?;
-        fmt::Display::fmt(&self.time, f)
+        let mut text = Text::<LONGEST>::new();
+        self.put_into(&mut text, b' ');
+        text.print(f)
     }
 }
 
@@ -24,9 +48,12 @@ impl fmt::Debug for NaiveDateTime {
     /// Writes the date, `T` and the time of day (ISO 8601 date and time of day), as `2024-02-29T23:59:60.500`.
     ///
     /// A width, a fill, an alignment, a sign or a precision makes no difference.
-    fn fmt<W: fmt::Write>(&self, f: &mut fmt::Formatter<W>) -> fmt::Result {
-        fmt::Display::fmt(&self.date, f)?;
-        f.write_str("T")?;
-        fmt::Display::fmt(&self.time, f)
+    fn fmt<W: fmt::Write>(&self, f: &mut fmt::Formatter<W>) -> fmt::Result
+        ensures writes { WritesOnOk W.write_str_gives f.old result (moment_text 84 self.now) f.new }
+        ensures styled { WritesStyledOnOk W.write_str_gives f.old result (moment_text 84 self.now) f.new }
+    {
+        let mut text = Text::<LONGEST>::new();
+        self.put_into(&mut text, b'T');
+        text.print(f)
     }
 }

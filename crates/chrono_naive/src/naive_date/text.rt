@@ -1,20 +1,42 @@
 //! The text of a date.
-ghost use Rattle.std.specs.Prelude.{Some};
+ghost use Rattle.std.specs.Prelude.{◌≡◌, ◌+◌, ◌≤◌, ◌++◌, Some, length};
+ghost use Rattle.std.specs.Fmt.{WritesOnOk, WritesStyledOnOk};
+ghost use Rattle.std.specs.Str.{IsAscii};
 ghost use Rattle.chrono_naive.specs.DateText.{date_text};
 
 use crate::datelike::Datelike;
 use crate::naive_date::NaiveDate;
-use chrono_clock::text::write_calendar_date;
+use chrono_text::Text;
 use std::fmt;
+
+// How many bytes a date whose year has a sign and six digits has.
+const LONGEST: usize = 13;
+
+impl NaiveDate {
+    /// Puts the calendar name (ISO 8601 calendar date), as `2024-02-29`, behind a text. There is room for 13 bytes.
+    #[inline]
+    pub fn put_into<const N: usize>(&self, text: &mut Text<N>)
+        requires { length text.old + 13 ≤ N }
+        ensures text { text.new ≡ text.old ++ date_text self.now }
+        ensures ascii { IsAscii (date_text self.now) }
+        ensures fits { length text.new ≤ length text.old + 13 }
+    {
+        text.push_calendar_date(self.year(), self.month(), self.day());
+    }
+}
 
 impl fmt::Display for NaiveDate {
     ghost output = { λ n. Some (date_text n) };
+
+    ghost styled_output = { λ n _. Some (date_text n) };
 
     /// Writes the calendar name (ISO 8601 calendar date), as `2024-02-29`; a year before 0 or after 9999 has its sign.
     ///
     /// A width, a fill, an alignment, a sign or a precision makes no difference.
     fn fmt<W: fmt::Write>(&self, f: &mut fmt::Formatter<W>) -> fmt::Result {
-        write_calendar_date(f, self.year(), self.month(), self.day())
+        let mut text = Text::<LONGEST>::new();
+        self.put_into(&mut text);
+        text.print(f)
     }
 }
 
@@ -22,7 +44,10 @@ impl fmt::Debug for NaiveDate {
     ghost debug_output = { λ n. Some (date_text n) };
 
     /// Writes what `{}` writes.
-    fn fmt<W: fmt::Write>(&self, f: &mut fmt::Formatter<W>) -> fmt::Result {
+    fn fmt<W: fmt::Write>(&self, f: &mut fmt::Formatter<W>) -> fmt::Result
+        ensures writes { WritesOnOk W.write_str_gives f.old result (date_text self.now) f.new }
+        ensures styled { WritesStyledOnOk W.write_str_gives f.old result (date_text self.now) f.new }
+    {
         fmt::Display::fmt(self, f)
     }
 }
