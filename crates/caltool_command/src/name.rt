@@ -38,8 +38,8 @@ pub enum Name {
 }
 
 impl Name {
-    // How each of the command's numbers is best read; the last of them tells it for all that follow, too. A year may have up to
-    // six digits and a fraction nine, while a month or a weekday has one or two. What is read behind an ordinal is nothing.
+    // How each of the command's numbers is best read; the last way is that of all further ones, too. A month, an hour or a weekday
+    // has one digit or two; a year, a fraction or a count may have more. An ordinal ends its line, so no other number waits for it.
     pub(crate) fn ways(self) -> &'static [Way]
         ensures { 0 < length result.now }
     {
@@ -52,7 +52,8 @@ impl Name {
             Name::Days | Name::Months => &[InLanes, Short, Short, InLanes],
             Name::Move => &[InLanes, Short, Short, Short, Short, Short, InLanes],
             Name::Diff => &[
-                InLanes, Short, Short, Short, Short, Short, InLanes, InLanes, Short, Short, Short, Short, Short, InLanes,
+                InLanes, Short, Short, Short, Short, Short, InLanes, InLanes, Short, Short, Short,
+                Short, Short, InLanes,
             ],
             Name::Since => &[InLanes, Short, Short, InLanes, Short],
             Name::Set => &[Short],
