@@ -7,7 +7,7 @@ use Rattle.caltool_command.specs.Words.{words}
 use Rattle.caltool_command.specs.Grammar.{arguments_from, arguments_of, numbers_behind}
 use Rattle.chrono_units.specs.declared.weekday.Weekday.{Weekday}
 use Rattle.chrono_units.specs.WeekdaySet.{DaySet}
-use Rattle.caltool_command.specs.Numbers.{to_weekday}
+use Rattle.caltool_command.specs.Types.{to_weekday}
 use Rattle.caltool_command.specs.Commands.{is_long, weekday_set, name_of, command_from, command_named, command_of}
 use Rattle.caltool_command.specs.declared.command.Command.TheVariants.{Set}
 use Rattle.caltool_command.specs.declared.name.Name.{Name}

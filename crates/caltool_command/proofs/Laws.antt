@@ -1,19 +1,14 @@
--- The laws of words, numbers and lines.
-use Rattle.std.proofs.Common.{◌≡◌, ◌==◌, ◌<◌, ℕ, Bool, true, false, cond, inl, inr, List, [], ◌∷◌, ◌++◌, length, refl, ap, sym, ◌∙◌, subst, arith, append-nil, ℤ, pos, neg_ℤ, FitsSigned, Option, Some, None}
-use Rattle.std.specs.Int.{IsInRange, w64}
+-- The laws of words and lines.
+use Rattle.std.proofs.Common.{◌≡◌, ◌==◌, ◌<◌, ℕ, inl, inr, List, [], ◌∷◌, ◌++◌, length, refl, ap, sym, ◌∙◌, subst, arith, append-nil, ℤ, Option, Some, None}
 use Rattle.std.specs.List.{join_with_byte, AllByRecursion}
 use Rattle.std.specs.Option.{option_map, option_and_then}
-use Rattle.std.specs.Str.{all_ascii_digits}
-use Rattle.std.proofs.lemmas.Bool.{cases_eq, eq-eqb, ne_eqb}
-use Rattle.std.proofs.lemmas.Str.Parse.{tells_all_ascii_digits}
 use Rattle.std.proofs.lemmas.List.Splits.{join_with_byte-slice_split, length-slice_split, slice_split_none, slice_split_at}
-use Rattle.std.proofs.lemmas.List.Elements.{All-cons, All-nil}
+use Rattle.chrono_text.specs.Numbers.{WritesNumber, i64_of}
+use Rattle.chrono_text.proofs.NumberLemmas.{i64_of-read, i64_of-written, mapped}
 use Rattle.caltool_command.specs.Words.{words, IsWord, AreWords}
-use Rattle.caltool_command.specs.Numbers.{value_of, natural_of, number_of, signed, to_i64, AreDigits, WritesNumber}
 use Rattle.caltool_command.specs.Grammar.{numbers_of, arguments_from, arguments_of, WritesNumbers, IsCommandLine}
-use Rattle.caltool_command.proofs.Splits.{NotSpace, no_space}
+use Rattle.caltool_command.proofs.Splits.{no_space, word_of_number}
 use Rattle.caltool_command.proofs.Parts.{plain_parts}
-use Rattle.caltool_command.proofs.Types.{i64_read, i64_written}
 
 -- words
 
@@ -28,64 +23,6 @@ words_of_joined (x ∷ y ∷ parts) some plain =
 
 pub only_words : (line : List ℕ) (parts : List (List ℕ)) → AreWords line parts → parts ≡ words line
 only_words line parts h = sym (words_of_joined parts h.some h.plain) ∙ ap words h.joined
-
--- numbers
-
-digits_from_test : (xs : List ℕ) → all_ascii_digits xs ≡ true → AllByRecursion (IsInRange 48 57) xs
-digits_from_test [] e = tt
-digits_from_test (x ∷ xs) e = let k = tells_all_ascii_digits.parts x xs e in (k.0, digits_from_test xs k.1)
-
-test_from_digits : (xs : List ℕ) → AllByRecursion (IsInRange 48 57) xs → all_ascii_digits xs ≡ true
-test_from_digits [] h = refl
-test_from_digits (x ∷ xs) h = tells_all_ascii_digits.more x xs h.0 (test_from_digits xs h.1)
-
-kept_natural : (b : Bool) (m n : ℕ) → cond b (Some m) None ≡ Some n → (b ≡ true) × (n ≡ m)
-kept_natural true m n h = (refl, cc)
-kept_natural false m n h = let wrong : ⊥ = cc in absurd wrong
-
-natural_read : (text : List ℕ) (n : ℕ) → natural_of text ≡ Some n → AreDigits text × (n ≡ value_of text)
-unfolding natural_of
-natural_read [] n h = let wrong : ⊥ = cc in absurd wrong
-natural_read (x ∷ xs) n h =
-    let k = kept_natural (all_ascii_digits (x ∷ xs)) (value_of (x ∷ xs)) n h in
-    (record { some = omega arith; digits = digits_from_test (x ∷ xs) k.0 }, k.1)
-
-natural_written : (text : List ℕ) → AreDigits text → natural_of text ≡ Some (value_of text)
-unfolding natural_of
-natural_written [] h = absurd (omega (arith, h.some))
-natural_written (x ∷ xs) h = rw (test_from_digits (x ∷ xs) h.digits) refl
-
-mapped : {A B : Type 0} (f : A → B) (o : Option A) (b : B) → option_map f o ≡ Some b → (a : A) × (o ≡ Some a) × (b ≡ f a)
-mapped f None b h = let wrong : ⊥ = cc in absurd wrong
-mapped f (Some a) b h = (a, refl, cc)
-
-pub number_read : (text : List ℕ) (z : ℤ) → number_of text ≡ Some z → WritesNumber text z
-unfolding number_of
-number_read [] z h = let wrong : ⊥ = cc in absurd wrong
-number_read (x ∷ xs) z h = elim (cases_eq x 45) as (λ _. WritesNumber (x ∷ xs) z) [
-  | inl is ↦
-      let h' = rw (eq-eqb x 45 is) at h in
-      let (n, e, same) = mapped (signed true) (natural_of xs) z h' in
-      let (digits, value) = natural_read xs n e in
-      inr (xs, ap (λ y. y ∷ xs) is, digits, same ∙ ap (λ m. neg_ℤ (pos m)) value)
-  | inr ne ↦
-      let h' = rw (ne_eqb x 45 ne) at h in
-      let (n, e, same) = mapped (signed false) (natural_of (x ∷ xs)) z h' in
-      let (digits, value) = natural_read (x ∷ xs) n e in
-      inl (digits, same ∙ ap pos value)
-]
-
-plain_number : (text : List ℕ) → AreDigits text → number_of text ≡ Some (pos (value_of text))
-unfolding number_of
-plain_number [] h = absurd (omega (arith, h.some))
-plain_number (x ∷ xs) h =
-    let test : (x == 45) ≡ false = ne_eqb x 45 (λ e. omega (arith, h.digits.0)) in
-    rw test (ap (option_map (signed false)) (natural_written (x ∷ xs) h))
-
-pub number_written : (text : List ℕ) (z : ℤ) → WritesNumber text z → number_of text ≡ Some z
-unfolding number_of
-number_written text z (inl (digits, is)) = plain_number text digits ∙ ap Some (sym is)
-number_written text z (inr (xs, cut, digits, is)) = ap number_of cut ∙ ap (option_map (signed true)) (natural_written xs digits) ∙ ap Some (sym is)
 
 -- lines
 
@@ -105,17 +42,13 @@ one_more texts (Some n) numbers h =
     let (ns, e, same) = mapped (λ ns. n ∷ ns) (numbers_of texts) numbers h in
     (n, ns, refl, e, same)
 
-fitting : (text : List ℕ) (o : Option ℤ) (n : ℤ) → number_of text ≡ o → option_and_then to_i64 o ≡ Some n → WritesNumber text n × FitsSigned w64 n
-fitting text None n is h = let wrong : ⊥ = cc in absurd wrong
-fitting text (Some z) n is h = let (same, fits) = i64_read z n h in (number_read text n (is ∙ ap Some same), fits)
-
 numbers_read : (texts : List (List ℕ)) (numbers : List ℤ) → numbers_of texts ≡ Some numbers → WritesNumbers (spaced texts) numbers
 unfolding numbers_of
 numbers_read [] [] h = refl
 numbers_read [] (z ∷ zs) h = let wrong : ⊥ = cc in absurd wrong
 numbers_read (text ∷ texts) numbers h =
-    let (n, ns, one, others, same) = one_more texts (option_and_then to_i64 (number_of text)) numbers h in
-    let (writes, fits) = fitting text (number_of text) n refl one in
+    let (n, ns, one, others, same) = one_more texts (i64_of text) numbers h in
+    let (writes, fits) = i64_of-read text n one in
     subst (WritesNumbers (spaced (text ∷ texts))) (sym same) (text, spaced texts, refl, writes, fits, numbers_read texts ns others)
 
 pub line_read : (line name : List ℕ) (numbers : List ℤ) → arguments_of line ≡ Some (name, numbers) → IsCommandLine line name numbers
@@ -135,14 +68,6 @@ line_read line name numbers h = from (words line) (words_are line) h
           written = numbers_read texts numbers (some ∙ ap Some are);
         }
 
-word_of_range : (xs : List ℕ) → AllByRecursion (IsInRange 48 57) xs → IsWord xs
-word_of_range [] h = All-nil NotSpace
-word_of_range (x ∷ xs) h = All-cons NotSpace x xs (λ e. omega (arith, h.0)) (word_of_range xs h.1)
-
-word_of_number : (text : List ℕ) (z : ℤ) → WritesNumber text z → IsWord text
-word_of_number text z (inl (digits, is)) = word_of_range text digits.digits
-word_of_number text z (inr (xs, cut, digits, is)) = subst IsWord (sym cut) (All-cons NotSpace 45 xs (λ e. omega (arith, e)) (word_of_range xs digits.digits))
-
 -- the texts of numbers
 record Texts (rest : List ℕ) (numbers : List ℤ) : Type 0 where
   texts : List (List ℕ)
@@ -158,7 +83,7 @@ texts_of rest (z ∷ zs) (text, others, cut, one, fits, more) =
     record {
       texts = text ∷ t.texts;
       cut = cut ∙ ap (λ l. 32 ∷ text ++ l) t.cut;
-      read = ap (option_and_then (λ n. option_map (λ ns. n ∷ ns) (numbers_of t.texts))) (ap (option_and_then to_i64) (number_written text z one) ∙ i64_written z fits) ∙ ap (option_map (λ ns. z ∷ ns)) t.read;
+      read = ap (option_and_then (λ n. option_map (λ ns. n ∷ ns) (numbers_of t.texts))) (i64_of-written text z one fits) ∙ ap (option_map (λ ns. z ∷ ns)) t.read;
       plain = (word_of_number text z one, t.plain);
     }
 

@@ -1,12 +1,12 @@
 -- The first word of a text.
-use Rattle.std.proofs.Common.{◌≡◌, ◌≢◌, ◌==◌, ◌<◌, ℕ, All, true, false, List, [], ◌∷◌, ◌++◌, length, get_or, take, drop, ap, sym, ◌∙◌, append-nil, arith, take-append-drop, length-drop}
+use Rattle.std.proofs.Common.{◌≡◌, ◌≢◌, ◌==◌, ◌<◌, ℤ, ℕ, suc, All, true, false, inl, inr, List, [], ◌∷◌, ◌++◌, length, get_or, take, drop, ap, sym, subst, ◌∙◌, append-nil, arith, take-append-drop, length-drop}
 use Rattle.std.proofs.lemmas.Grind.{common_steps}
-use Rattle.std.specs.List.{onto_first}
-use Rattle.std.specs.Str.Parse.{AllDigits}
-use Rattle.std.proofs.lemmas.Bool.{eq-eqb, ne_eqb}
-use Rattle.std.proofs.lemmas.Str.Parse.{digit_from_value}
-use Rattle.std.proofs.lemmas.List.Splits.{slice_split_none, slice_split_at, slice_split-cons_yes, slice_split-cons_no}
-use Rattle.std.proofs.lemmas.List.Elements.{All-cons, All-nil, All-head, All-tail}
+use Rattle.std.specs.Int.{IsInRange}
+use Rattle.std.specs.List.{AllByRecursion}
+use Rattle.std.proofs.lemmas.Bool.{cases_eq, eq-eqb, ne_eqb}
+use Rattle.std.proofs.lemmas.List.Splits.{slice_split_none, slice_split_at, slice_split-cons_yes}
+use Rattle.std.proofs.lemmas.List.Elements.{All-cons, All-nil}
+use Rattle.chrono_text.specs.Numbers.{StandsBefore, WritesNumber}
 use Rattle.caltool_command.specs.Words.{words, IsWord, EndsWord}
 
 abbrev pub NotSpace : ℕ → Type 0
@@ -27,33 +27,34 @@ words_front xs (y ∷ ys) plain ends =
 pub words_at : (text : List ℕ) (len : ℕ) → IsWord (take len text) → EndsWord (drop len text) → words text ≡ take len text ∷ drop 1 (words (drop len text))
 words_at text len plain ends = ap words (sym (take-append-drop len text)) ∙ words_front (take len text) (drop len text) plain ends
 
--- a first word that goes on with another byte
-pub record GoesOn (text xs : List ℕ) (y : ℕ) : Type 0 where
-  pub more : List ℕ
-  pub others : List (List ℕ)
-  pub split : words text ≡ (xs ++ y ∷ more) ∷ others
+-- a number has no space in it
+word_of_range : (xs : List ℕ) → AllByRecursion (IsInRange 48 57) xs → IsWord xs
+word_of_range [] h = All-nil NotSpace
+word_of_range (x ∷ xs) h = All-cons NotSpace x xs (λ e. omega (arith, h.0)) (word_of_range xs h.1)
 
-started : (y : ℕ) (ys : List ℕ) (parts : List (List ℕ)) → words (y ∷ ys) ≡ onto_first y parts → GoesOn (y ∷ ys) [] y
-started y ys [] e = record { more = []; others = []; split = e }
-started y ys (part ∷ parts) e = record { more = part; others = parts; split = e }
-
-pub words_go_on : (xs : List ℕ) (y : ℕ) (ys : List ℕ) → IsWord xs → y ≢ 32 → GoesOn (xs ++ y ∷ ys) xs y
-words_go_on [] y ys plain ne = started y ys (words ys) (slice_split-cons_no (λ x. x == 32) y ys (ne_eqb y 32 ne))
-words_go_on (x ∷ xs) y ys plain ne =
-    let rest = words_go_on xs y ys (All-tail NotSpace x xs plain) ne in
-    record {
-      more = rest.more;
-      others = rest.others;
-      split = slice_split-cons_no (λ z. z == 32) x (xs ++ y ∷ ys) (ne_eqb x 32 (All-head NotSpace x xs plain)) ∙ ap (onto_first x) rest.split;
-    }
-
--- digits have no space among them
-pub word_of_digits : (xs : List ℕ) → AllDigits 10 xs → IsWord xs
-word_of_digits [] h = All-nil NotSpace
-word_of_digits (x ∷ xs) h =
-    let range = digit_from_value x h.0 in
-    All-cons NotSpace x xs (λ e. omega (arith, range.0)) (word_of_digits xs h.1)
+pub word_of_number : (text : List ℕ) (z : ℤ) → WritesNumber text z → IsWord text
+word_of_number text z (inl (digits, is)) = word_of_range text digits.digits
+word_of_number text z (inr (xs, cut, digits, is)) = subst IsWord (sym cut) (All-cons NotSpace 45 xs (λ e. omega (arith, e)) (word_of_range xs digits.digits))
 
 -- a space or the end at a length
 pub ends_at : (text : List ℕ) (len : ℕ) → (len < length text → get_or text len 0 ≡ 32) → EndsWord (drop len text)
 ends_at text len h = λ more. let within : len < length text = omega (arith, length-drop len text) in grind (arith, common_steps, h within)
+
+-- where the first word of a text ends
+pub record FirstWord (text : List ℕ) : Type 0 where
+  pub len : ℕ
+  pub stands : StandsBefore 32 text len
+  pub plain : IsWord (take len text)
+
+pub first_word : (text : List ℕ) → FirstWord text
+first_word [] = record { len = 0; stands = record { within = omega arith; stops = λ less. omega (arith, less) }; plain = All-nil NotSpace }
+first_word (x ∷ xs) = elim (cases_eq x 32) as (λ _. FirstWord (x ∷ xs)) [
+  | inl is ↦ record { len = 0; stands = record { within = omega arith; stops = λ less. is }; plain = All-nil NotSpace }
+  | inr ne ↦
+      let rest = first_word xs in
+      record {
+        len = suc rest.len;
+        stands = record { within = omega (arith, rest.stands.within); stops = λ less. rest.stands.stops (omega arith) };
+        plain = All-cons NotSpace x (take rest.len xs) ne rest.plain;
+      }
+]

@@ -1,7 +1,7 @@
 -- Numbers as weekdays, in two parts.
 use Rattle.std.proofs.Common.{◌≡◌, ◌<◌, ℕ, suc, ℤ, pos, List, [], ◌∷◌, ◌++◌, length, get_or, take, drop, Option, Some, None, refl, ap, sym, ◌∙◌, take-append-drop, drop-cons}
 use Rattle.chrono_units.specs.declared.weekday.Weekday.{Weekday}
-use Rattle.caltool_command.specs.Numbers.{to_weekday}
+use Rattle.caltool_command.specs.Types.{to_weekday}
 use Rattle.caltool_command.specs.Commands.{◌·◌, weekdays}
 
 -- the days of both parts

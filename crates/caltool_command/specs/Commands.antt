@@ -4,7 +4,8 @@ use Rattle.std.specs.Str.{bytes_eq}
 use Rattle.std.specs.Option.{option_map, option_and_then}
 use Rattle.chrono_units.specs.declared.weekday.Weekday.{Weekday}
 use Rattle.chrono_units.specs.WeekdaySet.{DaySet, set_of}
-use Rattle.caltool_command.specs.Numbers.{to_i64, to_i32, to_u32, to_u8, to_months, to_weekday}
+use Rattle.chrono_text.specs.Numbers.{to_i64, to_i32, to_u32, to_u8}
+use Rattle.caltool_command.specs.Types.{to_months, to_weekday}
 use Rattle.caltool_command.specs.Grammar.{arguments_of}
 use Rattle.caltool_command.specs.declared.arguments.CalendarDate.{CalendarDate}
 use Rattle.caltool_command.specs.declared.arguments.ClockTime.{ClockTime}

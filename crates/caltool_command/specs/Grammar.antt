@@ -3,13 +3,13 @@ use Rattle.std.specs.Prelude.{◌≡◌, ℕ, ℤ, FitsSigned, List, [], ◌∷�
 use Rattle.std.specs.Int.{w64}
 use Rattle.std.specs.Option.{option_map, option_and_then}
 use Rattle.caltool_command.specs.Words.{words, IsWord}
-use Rattle.caltool_command.specs.Numbers.{number_of, WritesNumber, to_i64}
+use Rattle.chrono_text.specs.Numbers.{WritesNumber, i64_of}
 
 -- the numbers that these texts write, each of them an `i64`, as every command's numbers are
 unfoldable pub numbers_of : List (List ℕ) → Option (List ℤ)
 numbers_of [] = Some []
 numbers_of (text ∷ texts) =
-    option_and_then (λ number. option_map (λ numbers. number ∷ numbers) (numbers_of texts)) (option_and_then to_i64 (number_of text))
+    option_and_then (λ number. option_map (λ numbers. number ∷ numbers) (numbers_of texts)) (i64_of text)
 
 -- the numbers behind the first space of a text
 abbrev pub numbers_behind : List ℕ → Option (List ℤ)

@@ -1,4 +1,5 @@
+pub use Rattle.chrono_text.specs.Numbers
 pub mod Words
-pub mod Numbers
+pub mod Types
 pub mod Grammar
 pub mod Commands

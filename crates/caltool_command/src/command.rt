@@ -4,11 +4,11 @@ ghost use Rattle.std.specs.Option.{option_and_then};
 ghost use Rattle.caltool_command.specs.Commands.{command_from as the_command_from, command_of};
 
 use crate::arguments::{CalendarDate, DateAndTime, MonthSpan};
-use crate::line::Line;
 use crate::name::{Name, name_of};
 use crate::numbers::Numbers;
 use crate::read::command_from;
 use crate::words::split_name;
+use chrono_text::Line;
 use chrono_units::{Weekday, WeekdaySet};
 
 // A longer line asks for nothing.

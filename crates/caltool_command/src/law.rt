@@ -1,7 +1,6 @@
-//! What words, numbers and command lines are, each as a law that a caller can cite.
+//! What words and command lines are, each as a law that a caller can cite.
 ghost use Rattle.std.specs.Prelude.{◌≡◌, ℕ, ℤ, List, Some};
 ghost use Rattle.caltool_command.specs.Words.{words, AreWords};
-ghost use Rattle.caltool_command.specs.Numbers.{number_of, WritesNumber};
 ghost use Rattle.caltool_command.specs.Grammar.{arguments_of, IsCommandLine};
 
 /// The words of a line are the only parts that single spaces join to it.
@@ -9,12 +8,6 @@ pub fn words_are_unique()
     ensures joined { (line : List ℕ) → AreWords line (words line) }
     ensures only { (line : List ℕ) (parts : List (List ℕ))
         → AreWords line parts → parts ≡ words line }
-{}
-
-/// A number is read from exactly the texts that write it: an optional `-`, and one digit or more.
-pub fn numbers_are_texts()
-    ensures read { (text : List ℕ) (z : ℤ) → number_of text ≡ Some z → WritesNumber text z }
-    ensures written { (text : List ℕ) (z : ℤ) → WritesNumber text z → number_of text ≡ Some z }
 {}
 
 /// A line holds a word and then whole numbers that fit an `i64`, each of them after one space.

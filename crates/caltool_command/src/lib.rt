@@ -7,17 +7,17 @@
 mod arguments;
 mod command;
 mod law;
-mod line;
 mod name;
-mod number;
 mod numbers;
 mod read;
+mod types;
 mod words;
 
 pub use arguments::{CalendarDate, ClockTime, DateAndTime, MonthSpan};
+pub use chrono_text::Line;
+pub use chrono_text::law::numbers_are_texts;
 pub use command::{Command, command_of, read_line};
-pub use law::{lines_are_commands, numbers_are_texts, words_are_unique};
-pub use line::Line;
+pub use law::{lines_are_commands, words_are_unique};
 pub use name::Name;
 pub use numbers::Numbers;
 pub use read::command_from;

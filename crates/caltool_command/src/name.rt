@@ -1,6 +1,8 @@
 //! The command words.
-ghost use Rattle.std.specs.Prelude.{◌≡◌};
+ghost use Rattle.std.specs.Prelude.{◌≡◌, ◌<◌, length};
 ghost use Rattle.caltool_command.specs.Commands.{name_of};
+
+use chrono_text::Way::{self, DigitByDigit, InLanes, Short};
 
 /// A command word: what a line begins with.
 #[derive(Clone, Copy, Debug, PartialEq, Eq)]
@@ -36,20 +38,25 @@ pub enum Name {
 }
 
 impl Name {
-    // How the command's numbers are best read, two bits for each, the first lowest: 1 for a number that is likely to have
-    // one digit or two, 2 for one to be read digit by digit, since no other's place waits for its end, and 0 for any other.
-    pub(crate) fn ways(self) -> u64 {
+    // How each of the command's numbers is best read; the last way is that of all further ones, too. A month, an hour or a weekday
+    // has one digit or two; a year, a fraction or a count may have more. An ordinal ends its line, so no other number waits for it.
+    pub(crate) fn ways(self) -> &'static [Way]
+        ensures { 0 < length result.now }
+    {
         match self {
-            Name::Ymd | Name::Iwd | Name::Days | Name::Months => 0b01_01_00,
-            Name::Yo => 0b10_00,
-            Name::Day => 0,
-            Name::Wom | Name::Week => 0b01_01_01_00,
-            Name::Move => 0b01_01_01_01_01_00,
-            Name::Diff => 0b01_01_01_01_01_00_00_01_01_01_01_01_00,
-            Name::Since => 0b01_01_00_01_01_00,
-            Name::Set => 0x5555_5555_5555_5555,
-            Name::On => 0x5555_5555_5555_5554,
-            Name::Every => 0b01_01_01_01_00,
+            Name::Ymd | Name::Iwd | Name::Wom | Name::Week | Name::On | Name::Every => {
+                &[InLanes, Short]
+            }
+            Name::Yo => &[InLanes, DigitByDigit],
+            Name::Day => &[InLanes],
+            Name::Days | Name::Months => &[InLanes, Short, Short, InLanes],
+            Name::Move => &[InLanes, Short, Short, Short, Short, Short, InLanes],
+            Name::Diff => &[
+                InLanes, Short, Short, Short, Short, Short, InLanes, InLanes, Short, Short, Short,
+                Short, Short, InLanes,
+            ],
+            Name::Since => &[InLanes, Short, Short, InLanes, Short],
+            Name::Set => &[Short],
         }
     }
 }

@@ -1,13 +1,13 @@
 //! The commands that names and numbers ask for.
 ghost use Rattle.std.specs.Prelude.{◌≡◌, take, drop};
 ghost use Rattle.std.specs.Option.{option_and_then};
-ghost use Rattle.caltool_command.specs.Numbers.{to_i64};
+ghost use Rattle.chrono_text.specs.Numbers.{to_i64};
 ghost use Rattle.caltool_command.specs.Commands.{command_from, only, calendar_date, clock_time, date_and_time, weekday_set};
 
 use crate::arguments::{CalendarDate, ClockTime, DateAndTime};
 use crate::command::Command;
 use crate::name::Name;
-use crate::number::{to_i32, to_months, to_u8, to_u32, to_weekday};
+use crate::types::{to_i32, to_months, to_u8, to_u32, to_weekday};
 use chrono_units::WeekdaySet;
 
 /// The command of this name and these numbers, if they are as many as it takes and each fits its type.
@@ -263,7 +263,7 @@ fn only(numbers: &[i64]) -> Option<i64>
 }
 
 // A single number, which fits an `i64` as all do.
-#[tactic(auto, using(crate::proofs::Types::i64_written))]
+#[tactic(auto, using(chrono_text::proofs::Types::i64_written))]
 fn only_i64(numbers: &[i64]) -> Option<i64>
     ensures { result ≡ option_and_then to_i64 (only numbers.now) }
 {

@@ -18,7 +18,7 @@ use Rattle.chrono_reading.specs.DateTexts.{IsDateText}
 use Rattle.chrono_reading.specs.DateTimeTexts.{IsSeparator, IsDateTimeText, SameDateTime}
 use Rattle.chrono_reading.specs.TimeTexts.{IsTimeText}
 use Rattle.chrono_reading.proofs.DateLemmas.{calendar_text-parts, date_of_ymd-small, date_text-same}
-use Rattle.chrono_reading.proofs.DigitLemmas.{by_size, to_digits}
+use Rattle.chrono_text.proofs.DigitLemmas.{by_size, to_digits}
 use Rattle.chrono_reading.proofs.TimeTextLemmas.{IsTimeText-same}
 
 -- no byte is a separator

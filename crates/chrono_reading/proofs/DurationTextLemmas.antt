@@ -11,9 +11,9 @@ use Rattle.std.proofs.lemmas.Str.Parse.{digit_at}
 use Rattle.std.specs.Option.{SomeIff}
 use Rattle.chrono_datetime.specs.Duration.{longest, nanos_per_second}
 use Rattle.chrono_reading.specs.DurationTexts.{IsDurationText, IsSecondsText, SameSeconds}
-use Rattle.chrono_reading.specs.TimeTexts.{IsFractionText}
-use Rattle.chrono_reading.proofs.DigitLemmas.{by_size}
-use Rattle.chrono_reading.proofs.FractionLemmas.{IsFractionText-below, IsFractionText-same}
+use Rattle.chrono_text.specs.Fractions.{IsFractionText}
+use Rattle.chrono_text.proofs.DigitLemmas.{by_size}
+use Rattle.chrono_text.proofs.FractionLemmas.{IsFractionText-below, IsFractionText-same}
 
 -- what stands behind the digits
 begins : (digits rest text : List ℕ) (n : ℕ) → digits ++ rest ≡ text → IsFractionText rest n → length digits < length text → get_or text (length digits) 0 ≡ 46

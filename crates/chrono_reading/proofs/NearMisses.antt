@@ -17,12 +17,13 @@ use Rattle.chrono_datetime.specs.Time.{TimeOfDay}
 use Rattle.chrono_reading.specs.DateTexts.{IsDateText}
 use Rattle.chrono_reading.specs.DurationTexts.{IsDurationText, IsSecondsText}
 use Rattle.chrono_reading.specs.NameTexts.{IsNameText, weekday_name}
-use Rattle.chrono_reading.specs.TimeTexts.{IsFractionText, IsTimeText}
+use Rattle.chrono_text.specs.Fractions.{IsFractionText}
+use Rattle.chrono_reading.specs.TimeTexts.{IsTimeText}
 use Rattle.chrono_reading.proofs.DateLemmas.{calendar_text-split, date_of_ymd-small}
-use Rattle.chrono_reading.proofs.DigitLemmas.{by_size}
+use Rattle.chrono_text.proofs.DigitLemmas.{by_size}
 use Rattle.chrono_reading.proofs.DurationTextLemmas.{first_p, seconds_small}
-use Rattle.chrono_reading.proofs.FractionLemmas.{length-all_digits}
-use Rattle.chrono_reading.proofs.YearLemmas.{four_digit_size}
+use Rattle.chrono_text.proofs.FractionLemmas.{length-all_digits}
+use Rattle.chrono_text.proofs.TextLemmas.{four_digit_size}
 
 -- the byte of a text at a place
 abbrev byte : ℕ → List ℕ → ℕ

@@ -13,8 +13,9 @@ use Rattle.chrono_text.specs.Text.{all_digits, duration_text, fraction_digits, f
 use Rattle.chrono_datetime.specs.TimeText.{time_text}
 use Rattle.chrono_reading.specs.DurationTexts.{IsDurationText}
 use Rattle.chrono_datetime.specs.Time.{FractionFits, IsTime, TimeOfDay, hour_of, minute_of, second_of, time_at}
-use Rattle.chrono_reading.specs.TimeTexts.{IsFractionText, IsPointText, IsTimeText, time_shown}
-use Rattle.chrono_reading.proofs.DigitLemmas.{by_size, digits_more, pow_pos}
+use Rattle.chrono_text.specs.Fractions.{IsFractionText, IsPointText}
+use Rattle.chrono_reading.specs.TimeTexts.{IsTimeText, time_shown}
+use Rattle.chrono_text.proofs.DigitLemmas.{by_size, digits_more, pow_pos}
 
 -- a number is one value, or another
 by_zero : (n : ℕ) → {P : Type 0} → (n ≡ 0 → P) → (n ≢ 0 → P) → P

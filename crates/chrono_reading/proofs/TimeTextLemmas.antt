@@ -4,10 +4,11 @@ use Rattle.std.specs.Option.{SomeIff}
 use Rattle.std.proofs.lemmas.Option.{same_Some}
 use Rattle.chrono_text.specs.Text.{two_digits}
 use Rattle.chrono_datetime.specs.Time.{TimeOfDay}
-use Rattle.chrono_reading.specs.TimeTexts.{IsFractionText, IsTimeText, SameClock, time_shown}
+use Rattle.chrono_text.specs.Fractions.{IsFractionText}
+use Rattle.chrono_reading.specs.TimeTexts.{IsTimeText, SameClock, time_shown}
 use Rattle.chrono_datetime.specs.Time.{time_at}
-use Rattle.chrono_reading.proofs.DigitLemmas.{by_size}
-use Rattle.chrono_reading.proofs.FractionLemmas.{IsFractionText-below, IsFractionText-same}
+use Rattle.chrono_text.proofs.DigitLemmas.{by_size}
+use Rattle.chrono_text.proofs.FractionLemmas.{IsFractionText-below, IsFractionText-same}
 use Rattle.chrono_reading.proofs.PrintedLemmas.{shown_leap, shown_plain}
 
 -- the numbers of a clock, which take the first eight bytes

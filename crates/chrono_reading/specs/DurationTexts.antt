@@ -3,7 +3,7 @@ use Rattle.std.specs.Prelude.{◌≡◌, ◌<◌, ◌+◌, ◌*◌, ◌⊎◌, B
 use Rattle.std.specs.Fmt.{decimal, sign_text}
 use Rattle.std.specs.Int.{is_negative}
 use Rattle.chrono_datetime.specs.Duration.{IsDuration, nanos_per_second}
-use Rattle.chrono_reading.specs.TimeTexts.{IsFractionText, SameFraction}
+use Rattle.chrono_text.specs.Fractions.{IsFractionText, SameFraction}
 
 -- a text of so many nanoseconds: `PT`, the whole seconds in decimal, the fraction and `S` (ISO 8601 duration)
 pub record IsSecondsText (text : List ℕ) (size : ℕ) : Type 0 where

@@ -3,9 +3,8 @@ ghost use Rattle.std.specs.Prelude.{◌≡◌, ◌<◌, ◌∷◌, ◌++◌, ℕ
 ghost use Rattle.chrono_text.specs.Text.{two_digits};
 ghost use Rattle.chrono_reading.specs.DateTexts.{IsDateText};
 
-use crate::digits::two_digits;
-use crate::year::read_year;
 use chrono_datetime::NaiveDate;
+use chrono_text::{read_two, read_year};
 
 /// The date whose calendar name the text is (ISO 8601 calendar date), as `2024-02-29`: the year as it is printed, `-`, the
 /// month and `-` and the day of the month in two digits each. A year from 0 to 9999 has four digits and no sign; any other
@@ -31,8 +30,8 @@ fn month_and_day(text: [u8; 6]) -> Option<(u32, u32)>
         → result ≡ Some (m, d) }
 {
     if let [b'-', month_tens, month_ones, b'-', day_tens, day_ones] = text {
-        let month = two_digits(month_tens, month_ones)?;
-        let day = two_digits(day_tens, day_ones)?;
+        let month = read_two(month_tens, month_ones)?;
+        let day = read_two(day_tens, day_ones)?;
         Some((month, day))
     } else {
         None

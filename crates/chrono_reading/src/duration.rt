@@ -4,11 +4,10 @@ ghost use Rattle.std.specs.Fmt.{decimal};
 ghost use Rattle.std.specs.Option.{SomeIff};
 ghost use Rattle.chrono_datetime.specs.Duration.{IsDuration, longest, nanos_per_second};
 ghost use Rattle.chrono_reading.specs.DurationTexts.{IsDurationText, IsSecondsText};
-ghost use Rattle.chrono_reading.specs.TimeTexts.{IsFractionText};
+ghost use Rattle.chrono_text.specs.Fractions.{IsFractionText};
 
-use crate::digits::decimal;
-use crate::fraction::read_fraction;
 use chrono_datetime::TimeDelta;
+use chrono_text::{read_decimal, read_fraction};
 
 /// The duration that the text writes in seconds (ISO 8601 duration), as `PT0.042S` or `-PT86400S`: `P0D` for zero, and else
 /// a `-` if it is negative, `PT`, the whole seconds with no 0 in front of others, nothing or a point and one to nine digits,
@@ -89,7 +88,7 @@ fn read_seconds(text: &[u8]) -> Option<(u64, u32)>
 {
     let number = between_pt_and_s(text)?;
     let (seconds, fraction) = number.split_at(point_at(number));
-    Some((decimal(seconds)?, read_fraction(fraction)?))
+    Some((read_decimal(seconds)?, read_fraction(fraction)?))
 }
 
 // What stands between `PT` and `S`.

@@ -20,7 +20,7 @@ ghost use Rattle.chrono_datetime.specs.declared.Weekday.{Weekday};
 ghost use Rattle.chrono_datetime.specs.declared.Weekday.TheVariants.{Mon, Thu};
 ghost use Rattle.chrono_reading.specs.DateTimeTexts.{IsDateTimeText, IsSeparator, SameDateTime};
 ghost use Rattle.chrono_reading.specs.DurationTexts.{IsDurationText, SameSeconds};
-ghost use Rattle.chrono_reading.specs.TimeTexts.{IsFractionText, IsTimeText, SameClock, SameFraction};
+ghost use Rattle.chrono_reading.specs.TimeTexts.{IsTimeText, SameClock};
 ghost use Rattle.chrono_reading.specs.DateTexts.{IsDateText, IsOrdinalDateText, IsWeekDateText};
 ghost use Rattle.chrono_reading.specs.NameTexts.{IsMonthText, IsNameText, IsWeekdayText};
 
@@ -33,6 +33,7 @@ use chrono_datetime::law::{
     known_weeks,
 };
 use chrono_datetime::{Datelike, NaiveDate};
+pub use chrono_text::law::texts_of_a_fraction_differ_in_last_zeros;
 
 /// What `{}` writes for a weekday is a text of it, so it is read as that weekday.
 pub fn printed_weekdays_are_read()
@@ -164,13 +165,6 @@ pub fn texts_have_one_time(text: &[u8])
 {
     let _time = read_time(text);
 }
-
-/// Texts of fractions of a second differ in zeros at the end of one of them alone, where a point and zeros are as nothing,
-/// exactly if they write the same nanoseconds.
-pub fn texts_of_a_fraction_differ_in_last_zeros()
-    ensures { (text other : List ℕ) (n m : ℕ) → IsFractionText text n → IsFractionText other m
-        → SameFraction text other ↔ (n ≡ m) }
-{}
 
 /// Two texts of one time of day have the same hour, minute and second in their first eight bytes, and differ behind those
 /// in zeros at the end of the fraction alone.

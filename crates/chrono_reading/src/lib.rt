@@ -7,15 +7,12 @@
 
 mod date;
 mod date_time;
-mod digits;
 mod duration;
-mod fraction;
 pub mod law;
 mod name;
 mod ordinal_date;
 mod time;
 mod week_date;
-mod year;
 
 pub use date::read_date;
 pub use date_time::read_date_time;

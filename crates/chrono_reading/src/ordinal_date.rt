@@ -3,9 +3,8 @@ ghost use Rattle.std.specs.Prelude.{◌≡◌, ◌<◌, ◌∷◌, ℕ, ℤ, Som
 ghost use Rattle.chrono_text.specs.Text.{all_digits};
 ghost use Rattle.chrono_reading.specs.DateTexts.{IsOrdinalDateText};
 
-use crate::digits::three_digits;
-use crate::year::read_year;
 use chrono_datetime::NaiveDate;
+use chrono_text::{read_three, read_year};
 
 /// The date whose ordinal name the text is (ISO 8601 ordinal date), as `2024-060`: the year as
 /// [`read_date`](crate::read_date) takes it, `-`, and the ordinal in three digits.
@@ -30,7 +29,7 @@ fn read_ordinal(text: [u8; 4]) -> Option<u32>
         → result ≡ Some ordinal }
 {
     if let [b'-', hundreds, tens, ones] = text {
-        three_digits(hundreds, tens, ones)
+        read_three(hundreds, tens, ones)
     } else {
         None
     }

@@ -6,9 +6,8 @@ ghost use Rattle.chrono_text.specs.Text.{two_digits};
 ghost use Rattle.chrono_datetime.specs.Time.{TimeOfDay};
 ghost use Rattle.chrono_reading.specs.TimeTexts.{IsTimeText, time_shown};
 
-use crate::digits::two_digits;
-use crate::fraction::read_fraction;
 use chrono_datetime::NaiveTime;
+use chrono_text::{read_fraction, read_two};
 
 const NANOS_PER_SEC: u32 = 1_000_000_000;
 
@@ -50,9 +49,9 @@ fn read_clock(text: [u8; 8]) -> Option<(u32, u32, u32)>
         second_ones,
     ] = text
     {
-        let hour = two_digits(hour_tens, hour_ones)?;
-        let minute = two_digits(minute_tens, minute_ones)?;
-        let second = two_digits(second_tens, second_ones)?;
+        let hour = read_two(hour_tens, hour_ones)?;
+        let minute = read_two(minute_tens, minute_ones)?;
+        let second = read_two(second_tens, second_ones)?;
         Some((hour, minute, second))
     } else {
         None

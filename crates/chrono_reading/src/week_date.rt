@@ -7,9 +7,8 @@ ghost use Rattle.chrono_datetime.specs.Weekday.{number_from_monday};
 ghost use Rattle.chrono_datetime.specs.declared.Weekday.{Weekday};
 ghost use Rattle.chrono_reading.specs.DateTexts.{IsWeekDateText};
 
-use crate::digits::two_digits;
-use crate::year::read_year;
 use chrono_datetime::{NaiveDate, Weekday};
+use chrono_text::{read_two, read_year};
 
 // No ISO year has more weeks.
 const MOST_WEEKS: u32 = 53;
@@ -57,7 +56,7 @@ fn week_and_weekday(text: [u8; 6]) -> Option<(u32, Weekday)>
         → result ≡ Some (week, weekday) }
 {
     if let [b'-', b'W', tens, ones, b'-', number] = text {
-        let week = two_digits(tens, ones)?;
+        let week = read_two(tens, ones)?;
         let weekday = weekday_of(number)?;
         if week == 0 || week > MOST_WEEKS {
             return None;

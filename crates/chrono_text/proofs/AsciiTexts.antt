@@ -10,7 +10,8 @@ use Rattle.std.proofs.lemmas.Fmt.{IsAscii-decimal}
 use Rattle.std.proofs.lemmas.Nat.{div_below}
 use Rattle.std.proofs.lemmas.Str.{IsAscii-append}
 use Rattle.std.proofs.lemmas.Str.Ascii.{IsAscii-nil, IsAscii-cons}
-use Rattle.chrono_text.proofs.TextLemmas.{by_order, year_text-four, year_text-more}
+use Rattle.chrono_text.proofs.DigitLemmas.{by_size}
+use Rattle.chrono_text.proofs.TextLemmas.{year_text-four, year_text-more}
 use Rattle.chrono_text.specs.Text.{nanos_per_second, two_digits, all_digits, fraction_digits, fraction_text, subsecond_text, year_digits, year_text, calendar_text, ordinal_text, week_text, week_date_text, clock_text, seconds_text, duration_text}
 
 -- a text put behind nothing
@@ -58,9 +59,9 @@ IsAscii-year_digits n h =
 IsAscii-year_text : (y : ℤ) → unsigned_abs y < 2 ^ 64 → IsAscii (year_text y)
 IsAscii-year_text (negsuc n) h = IsAscii-cons 45 (year_digits (suc n)) (omega arith) (IsAscii-year_digits (suc n) h)
 IsAscii-year_text (pos n) h =
-    by_order 10_000 n
-    (λ high. rw (year_text-more n high) (IsAscii-cons 43 (year_digits n) (omega arith) (IsAscii-year_digits n h)))
+    by_size 10_000 n
     (λ low. rw (year_text-four n low) (IsAscii-all_digits 4 n low))
+    (λ high. rw (year_text-more n high) (IsAscii-cons 43 (year_digits n) (omega arith) (IsAscii-year_digits n h)))
 
 pub IsAscii-calendar_text : (y : ℤ) (m d : ℕ) → unsigned_abs y < 2 ^ 64 → m < 100 → d < 100 → IsAscii (calendar_text y m d)
 IsAscii-calendar_text y m d h k l =

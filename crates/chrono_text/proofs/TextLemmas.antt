@@ -1,17 +1,12 @@
 -- Lemmas on the texts of numbers: how long they are, and that different numbers have different texts.
 use Rattle.std.proofs.Common.{◌≡◌, ℕ, suc, ◌+◌, ◌/◌, ◌%◌, ◌^◌, ◌<◌, ◌≤◌, ℤ, pos, negsuc, List, [], ◌∷◌, ◌++◌, length, length-append, take, drop, unsigned_abs, arith, refl, sym, ap, ◌∙◌}
 use Rattle.std.specs.Prelude.{get_or}
-use Rattle.std.proofs.Common.{inl, inr}
-use Rattle.std.proofs.lemmas.Bool.{cases_lt}
 use Rattle.std.specs.Str.Parse.{digits_value}
 use Rattle.std.proofs.Math.Seq.{take-append_seam, drop-append_seam}
-use Rattle.std.proofs.lemmas.Str.{digit_value_digit}
 use Rattle.std.proofs.lemmas.Fmt.{decimal_is_IsNumeral, length-decimal-le}
+use Rattle.std.specs.Fmt.{decimal}
 use Rattle.chrono_text.specs.Text.{two_digits, all_digits, year_digits, year_text, calendar_text}
-
--- one number is at least another, or less
-pub by_order : {P : Type 0} (m n : ℕ) → (m ≤ n → P) → (n < m → P) → P
-by_order m n f g = elim (cases_lt n m) [ inl less ↦ g less | inr least ↦ f least ]
+use Rattle.chrono_text.proofs.DigitLemmas.{all_digits-one, all_digits-value, by_size, decimal_below}
 
 -- ---- lists
 
@@ -25,16 +20,6 @@ same_parts xs ys s t l e =
 
 -- ---- digits
 
--- four digits give back their number
-four_digits-value : (n : ℕ) → n < 10_000 → digits_value 10 (all_digits 4 n) ≡ n
-four_digits-value n h = omega (
-  arith,
-  digit_value_digit (48 + n / 1_000) (omega arith, omega arith),
-  digit_value_digit (48 + n % 1_000 / 100) (omega arith, omega arith),
-  digit_value_digit (48 + n % 1_000 % 100 / 10) (omega arith, omega arith),
-  digit_value_digit (48 + n % 1_000 % 100 % 10 / 1) (omega arith, omega arith),
-)
-
 -- numbers below 100 with the same two digits are the same
 two_digits_injective : (n m : ℕ) → n < 100 → m < 100 → two_digits n ≡ two_digits m → n ≡ m
 two_digits_injective n m h k e = omega (arith, ap (λ (c : List ℕ). get_or c 0 0) e, ap (λ (c : List ℕ). get_or c 1 0) e)
@@ -43,9 +28,9 @@ two_digits_injective n m h k e = omega (arith, ap (λ (c : List ℕ). get_or c 0
 
 -- the digits of a year's size give back that size
 year_digits-value : (n : ℕ) → n < 2 ^ 64 → digits_value 10 (year_digits n) ≡ n
-year_digits-value n h = by_order 10_000 n
+year_digits-value n h = by_size 10_000 n
+    (λ low. grind (arith, all_digits-value 4 n low))
     (λ high. grind (arith, (decimal_is_IsNumeral n h).1))
-    (λ low. grind (arith, four_digits-value n low))
 
 -- so different sizes have different digits
 year_digits_injective : (n m : ℕ) → n < 2 ^ 64 → m < 2 ^ 64 → year_digits n ≡ year_digits m → n ≡ m
@@ -61,19 +46,28 @@ year_text-more n h = grind arith
 -- different years have different texts
 year_text_injective : (y z : ℤ) → unsigned_abs y < 2 ^ 64 → unsigned_abs z < 2 ^ 64 → year_text y ≡ year_text z → y ≡ z
 year_text_injective (negsuc n) (negsuc m) h k e = ap negsuc (omega (arith, year_digits_injective (suc n) (suc m) h k (ap (λ (c : List ℕ). drop 1 c) e)))
-year_text_injective (negsuc n) (pos m) h k e = by_order 10_000 m
-    (λ high. absurd (omega (arith, ap (λ (c : List ℕ). get_or c 0 0) (e ∙ year_text-more m high))))
+year_text_injective (negsuc n) (pos m) h k e = by_size 10_000 m
     (λ low. absurd (omega (arith, ap (λ (c : List ℕ). get_or c 0 0) (e ∙ year_text-four m low))))
-year_text_injective (pos n) (negsuc m) h k e = by_order 10_000 n
-    (λ high. absurd (omega (arith, ap (λ (c : List ℕ). get_or c 0 0) (sym (year_text-more n high) ∙ e))))
+    (λ high. absurd (omega (arith, ap (λ (c : List ℕ). get_or c 0 0) (e ∙ year_text-more m high))))
+year_text_injective (pos n) (negsuc m) h k e = by_size 10_000 n
     (λ low. absurd (omega (arith, ap (λ (c : List ℕ). get_or c 0 0) (sym (year_text-four n low) ∙ e))))
-year_text_injective (pos n) (pos m) h k e = by_order 10_000 n
-    (λ high. by_order 10_000 m
-    (λ also. ap pos (year_digits_injective n m h k (ap (λ (c : List ℕ). drop 1 c) (sym (year_text-more n high) ∙ e ∙ year_text-more m also))))
-    (λ low. absurd (omega (arith, ap (λ (c : List ℕ). get_or c 0 0) (sym (year_text-more n high) ∙ e ∙ year_text-four m low)))))
-    (λ low. by_order 10_000 m
-    (λ high. absurd (omega (arith, ap (λ (c : List ℕ). get_or c 0 0) (sym (year_text-four n low) ∙ e ∙ year_text-more m high))))
-    (λ also. ap pos (sym (four_digits-value n low) ∙ ap (λ (c : List ℕ). digits_value 10 c) (sym (year_text-four n low) ∙ e ∙ year_text-four m also) ∙ four_digits-value m also)))
+    (λ high. absurd (omega (arith, ap (λ (c : List ℕ). get_or c 0 0) (sym (year_text-more n high) ∙ e))))
+year_text_injective (pos n) (pos m) h k e = by_size 10_000 n
+    (λ low. by_size 10_000 m
+    (λ also. ap pos (all_digits-one 4 n m low also (sym (year_text-four n low) ∙ e ∙ year_text-four m also)))
+    (λ high. absurd (omega (arith, ap (λ (c : List ℕ). get_or c 0 0) (sym (year_text-four n low) ∙ e ∙ year_text-more m high)))))
+    (λ high. by_size 10_000 m
+    (λ low. absurd (omega (arith, ap (λ (c : List ℕ). get_or c 0 0) (sym (year_text-more n high) ∙ e ∙ year_text-four m low))))
+    (λ also. ap pos (year_digits_injective n m h k (ap (λ (c : List ℕ). drop 1 c) (sym (year_text-more n high) ∙ e ∙ year_text-more m also)))))
+
+-- a size of four digits is below 10,000
+pub four_digit_size : (text : List ℕ) (n : ℕ) → n < 1_000_000 → year_digits n ≡ text → length text ≡ 4 → (n < 10_000) × (all_digits 4 n ≡ text)
+four_digit_size text n below e four = by_size 10_000 n
+    (λ small. (small, grind arith))
+    (λ large.
+    let is : year_digits n ≡ decimal n = grind arith in
+    let few : length (decimal n) ≡ 4 = ap length (sym is ∙ e) ∙ four in
+    absurd (omega (arith, decimal_below n 4 (omega arith) (omega arith))))
 
 -- ---- dates
 
@@ -102,15 +96,15 @@ pub length-year_text-four : (n : ℕ) → n < 10_000 → length (year_text (pos 
 length-year_text-four n h = rw (year_text-four n h) refl
 
 length-year_digits : (n : ℕ) → n < 1_000_000 → length (year_digits n) ≤ 6
-length-year_digits n h = by_order 10_000 n
-    (λ high. grind (arith, length-decimal-le 6 n (omega arith) h (omega arith)))
+length-year_digits n h = by_size 10_000 n
     (λ low. grind arith)
+    (λ high. grind (arith, length-decimal-le 6 n (omega arith) h (omega arith)))
 
 pub length-year_text-le : (y : ℤ) → unsigned_abs y < 1_000_000 → length (year_text y) ≤ 7
 length-year_text-le (negsuc n) h = omega (arith, length-year_digits (suc n) h)
-length-year_text-le (pos n) h = by_order 10_000 n
-    (λ high. rw (year_text-more n high) (omega (arith, length-year_digits n h)))
+length-year_text-le (pos n) h = by_size 10_000 n
     (λ low. omega (arith, length-year_text-four n low))
+    (λ high. rw (year_text-more n high) (omega (arith, length-year_digits n h)))
 
 pub length-calendar_text : (y : ℤ) (m d : ℕ) → length (calendar_text y m d) ≡ length (year_text y) + 6
 length-calendar_text y m d = rw (calendar_text-parts y m d) (length-append (year_text y) (calendar_tail m d))

@@ -1,6 +1,6 @@
 use Rattle.std.proofs.Common.{◌∙◌, get_or, pos, ap, sym, arith, to_z-of_z, SFits, w64, rules}
 use Rattle.std.proofs.lemmas.List.{take_rest}
-use Rattle.caltool_command.specs.Numbers.{to_weekday}
+use Rattle.caltool_command.specs.Types.{to_weekday}
 use Rattle.caltool_command.specs.Commands.{weekday_set}
 use Rattle.caltool_command.proofs.Commands.{set_named}
 use Rattle.caltool_command.proofs.read.set.Goals as goal

@@ -3,7 +3,7 @@ use Rattle.std.specs.Option.{option_map}
 use Rattle.std.proofs.lemmas.List.{take_more, take_all}
 use Rattle.chrono_units.specs.WeekdaySet.{set_of, single, union}
 use Rattle.chrono_units.proofs.SetMembers.{set_of-push}
-use Rattle.caltool_command.specs.Numbers.{to_weekday}
+use Rattle.caltool_command.specs.Types.{to_weekday}
 use Rattle.caltool_command.specs.Commands.{weekdays, weekday_set}
 use Rattle.caltool_command.proofs.Weekdays.{weekdays-push, weekdays-fails}
 use Rattle.caltool_command.proofs.read.weekday_set.Goals as goal

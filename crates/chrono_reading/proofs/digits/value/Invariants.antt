@@ -1,7 +1,0 @@
--- The bytes so far are digits, and `value` is what they write.
-use Rattle.std.proofs.Common.{◌≡◌, take}
-use Rattle.std.specs.Str.Parse.{AllDigits, digits_value}
-use Rattle.chrono_reading.proofs.digits.value.Given as goal
-
-abbrev pub invariant-loop-byte : goal.invariant-loop-byte
-invariant-loop-byte l = AllDigits 10 (take l.byte-index l.text) × (l.value ≡ digits_value 10 (take l.byte-index l.text))

@@ -1,0 +1,18 @@
+//! The reading of digits, of whole numbers, of fractions and of years.
+
+mod decimal;
+mod digit;
+mod fraction;
+mod front;
+mod lanes;
+mod number;
+mod places;
+mod way;
+mod year;
+
+pub use decimal::read_decimal;
+pub use fraction::read_fraction;
+pub use number::read_number;
+pub use places::{read_four, read_three, read_two};
+pub use way::Way;
+pub use year::read_year;

@@ -1,0 +1,30 @@
+//! Numbers read as they are printed.
+ghost use Rattle.std.specs.Prelude.{◌≡◌, ◌≢◌, ◌<◌, ◌≤◌, ◌^◌, ℕ, Some, IfSome, IsTrue, ◌↔◌, length, slice_index};
+ghost use Rattle.std.specs.Fmt.{decimal};
+
+use crate::read::places::value_of_all;
+
+/// The number that the text writes in decimal with no 0 in front, if it has at most 18 digits.
+#[inline]
+pub fn read_decimal(text: &[u8]) -> Option<u64>
+    ensures some { IfSome result (λ n. (n < 10 ^ 18) × (decimal n ≡ text.now)) }
+    ensures every { (n : ℕ) → n < 10 ^ 18 → decimal n ≡ text.now → result ≡ Some n }
+{
+    if !has_decimal_form(text) {
+        return None;
+    }
+    value_of_all(text)
+}
+
+// Whether there are 1 to 18 bytes, with no 0 in front of others.
+#[inline]
+fn has_decimal_form(text: &[u8]) -> bool
+    ensures { IsTrue result ↔ ((0 < length text.now) × (length text.now ≤ 18)
+        × (1 < length text.now → slice_index text.now 0 ≢ 48)) }
+{
+    match text {
+        [] => false,
+        [_] => true,
+        [first, ..] => *first != b'0' && text.len() <= 18,
+    }
+}

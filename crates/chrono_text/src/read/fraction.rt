@@ -1,0 +1,35 @@
+//! Fractions of a second.
+ghost use Rattle.std.specs.Prelude.{◌≡◌, ◌<◌, ◌∷◌, ℕ, Some, IfSome};
+ghost use Rattle.chrono_text.specs.Text.{nanos_per_second};
+ghost use Rattle.chrono_text.specs.Fractions.{IsFractionText, IsPointText};
+
+use crate::read::places::read_all;
+
+// A nanosecond stands in the last of these places behind the point.
+const MOST_PLACES: usize = 9;
+
+/// The nanoseconds past a second that the text writes: none if it is empty, and else as a point and one to nine digits.
+#[inline]
+pub fn read_fraction(text: &[u8]) -> Option<u32>
+    ensures some { IfSome result (λ n. (n < nanos_per_second) × IsFractionText text.now n) }
+    ensures every { (n : ℕ) → IsFractionText text.now n → result ≡ Some n }
+{
+    match text {
+        [] => Some(0),
+        [b'.', digits @ ..] => read_places(digits),
+        _ => None,
+    }
+}
+
+// The nanoseconds that one to nine digits write behind a point.
+#[inline]
+fn read_places(digits: &[u8]) -> Option<u32>
+    ensures some { IfSome result (λ n. (n < nanos_per_second) × IsPointText (46 ∷ digits.now) n) }
+    ensures every { (n : ℕ) → IsPointText (46 ∷ digits.now) n → result ≡ Some n }
+{
+    if digits.is_empty() || digits.len() > MOST_PLACES {
+        return None;
+    }
+    let count = read_all(digits)?;
+    Some(count as u32 * 10u32.pow((MOST_PLACES - digits.len()) as u32))
+}

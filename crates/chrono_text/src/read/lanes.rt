@@ -1,0 +1,68 @@
+//! Digits read together.
+ghost use Rattle.std.specs.Prelude.{◌≡◌, ◌-◌, ◌*◌, ◌^◌, ◌<◌, ◌≤◌, ℕ, length, take, slice_index};
+ghost use Rattle.std.specs.Int.{IsInRange};
+ghost use Rattle.std.specs.Str.Parse.{AllDigits, digits_value};
+
+use crate::read::digit::digit;
+use std::simd::prelude::*;
+
+// How many bytes are looked at together.
+pub(crate) const LANES: usize = 16;
+
+// As many digits are worth no more than fits a `u32`.
+pub(crate) const FEW: usize = 8;
+
+// Powers of ten, the last of them 1, and zeros.
+const WEIGHTS: [u32; 16] = [
+    10_000_000, 1_000_000, 100_000, 10_000, 1_000, 100, 10, 1, 0, 0, 0, 0, 0, 0, 0, 0,
+];
+
+// How many of the first 16 bytes are digits, up to the first that is none.
+#[inline]
+pub(crate) fn digits_in_lanes(bytes: &[u8]) -> usize
+    requires { 16 ≤ length bytes.now }
+    ensures within { result ≤ 16 }
+    ensures digits { (k : ℕ) → k < result → IsInRange 48 57 (slice_index bytes.now k) }
+    ensures end { result < 16 → ¬ (IsInRange 48 57 (slice_index bytes.now result)) }
+{
+    // Counted from the byte behind `9`, and on from 0 after 255, the ten digits come last.
+    let others = (u8x16::from_slice(bytes) - u8x16::splat(b'9' + 1))
+        .simd_lt(u8x16::splat(u8::MAX - 9))
+        .to_bitmask();
+    if others == 0 {
+        LANES
+    } else {
+        others.trailing_zeros() as usize
+    }
+}
+
+// What the first `len` bytes are worth, which are digits, with no branch on how many they are: each byte has a weight,
+// which is 0 behind the last of them.
+#[inline]
+pub(crate) fn few_digits_value(bytes: &[u8], len: usize) -> u32
+    requires room { 8 ≤ length bytes.now }
+    requires few { len ≤ 8 }
+    requires digits { AllDigits 10 (take len bytes.now) }
+    ensures { result ≡ digits_value 10 (take len bytes.now) }
+{
+    share(bytes[0], len, 0)
+        + share(bytes[1], len, 1)
+        + share(bytes[2], len, 2)
+        + share(bytes[3], len, 3)
+        + share(bytes[4], len, 4)
+        + share(bytes[5], len, 5)
+        + share(bytes[6], len, 6)
+        + share(bytes[7], len, 7)
+}
+
+// What the byte at a place adds to the value of so many digits: nothing behind the last of them.
+#[inline(always)]
+fn share(byte: u8, len: usize, place: usize) -> u32
+    requires few { len ≤ 8 }
+    requires place { place < 8 }
+    ensures inside { place < len → 48 ≤ byte → result ≡ (byte - 48) * 10 ^ (len - 1 - place) }
+    ensures behind { len ≤ place → result ≡ 0 }
+    ensures small { result < 256 * 10 ^ (7 - place) }
+{
+    WEIGHTS[FEW - len + place] * u32::from(digit(byte))
+}

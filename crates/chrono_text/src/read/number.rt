@@ -1,0 +1,102 @@
+//! Whole numbers with a sign.
+ghost use Rattle.std.specs.Prelude.{◌≡◌, ◌≢◌, ◌<◌, ◌≤◌, ◌↔◌, ℕ, Some, None, IfSome, IfNone, IsTrue, length, take, slice_index};
+ghost use Rattle.std.specs.Bool.{MatchBool};
+ghost use Rattle.std.specs.Int.{IsInRange};
+ghost use Rattle.std.specs.Str.Parse.{AllDigits, digits_value};
+ghost use Rattle.chrono_text.specs.Numbers.{StandsBefore, i64_of, signed, to_i64};
+
+use crate::line::Line;
+use crate::read::front::{digits_in_front, few_digits};
+use crate::read::way::Way;
+
+const MINUS: u8 = b'-';
+
+/// The whole number that stands in front of a text, before the byte `stop` or the end, if it fits an `i64`, and how many bytes
+/// it takes: an optional `-` and one digit or more. `stop` is no digit.
+///
+/// Example: of `-42 7`, before a space, the number is -42, which takes 3 bytes.
+#[inline(always)]
+pub fn read_number(text: &Line<'_>, stop: u8, way: Way) -> Option<(i64, usize)>
+    requires { ¬ (IsInRange 48 57 stop) }
+    ensures number { IfSome result (λ read. i64_of (take read.1 text.now) ≡ Some read.0) }
+    ensures end { IfSome result (λ read. StandsBefore stop text.now read.1) }
+    ensures none { IfNone result ((len : ℕ) → StandsBefore stop text.now len
+        → i64_of (take len text.now) ≡ None) }
+{
+    if let Way::Short = way {
+        if let Some((number, len)) = short_number(text, stop) {
+            return Some((i64::from(number), len));
+        }
+    }
+    long_number(text, stop, way)
+}
+
+// The same, if it has one digit or two and no sign.
+#[inline]
+fn short_number(text: &Line<'_>, stop: u8) -> Option<(u32, usize)>
+    ensures some { IfSome result (λ read. 0 < read.1) }
+    ensures digits { IfSome result (λ read. AllDigits 10 (take read.1 text.now)) }
+    ensures value { IfSome result (λ read. read.0 ≡ digits_value 10 (take read.1 text.now)) }
+    ensures small { IfSome result (λ read. read.0 < 100) }
+    ensures end { IfSome result (λ read. StandsBefore stop text.now read.1) }
+{
+    let (size, len) = few_digits(text);
+    if len == 0 || !stands_before(text, len, stop) {
+        return None;
+    }
+    Some((size, len))
+}
+
+// The same, of any length.
+#[inline(always)]
+fn long_number(text: &Line<'_>, stop: u8, way: Way) -> Option<(i64, usize)>
+    requires { ¬ (IsInRange 48 57 stop) }
+    ensures number { IfSome result (λ read. i64_of (take read.1 text.now) ≡ Some read.0) }
+    ensures end { IfSome result (λ read. StandsBefore stop text.now read.1) }
+    ensures none { IfNone result ((len : ℕ) → StandsBefore stop text.now len
+        → i64_of (take len text.now) ≡ None) }
+{
+    let negative = has_minus(text);
+    let sign = usize::from(negative);
+    let digits = text.skip(sign);
+    let (size, len) = digits_in_front(&digits, way);
+    if len == 0 || !stands_before(&digits, len, stop) {
+        return None;
+    }
+    let number = signed(negative, size)?;
+    Some((number, sign + len))
+}
+
+// Whether a `-` stands in front.
+#[inline]
+fn has_minus(text: &Line<'_>) -> bool
+    ensures { MatchBool result ((0 < length text.now) × (slice_index text.now 0 ≡ 45))
+        (0 < length text.now → slice_index text.now 0 ≢ 45) }
+{
+    !text.is_empty() && text.byte(0) == MINUS
+}
+
+// Whether the first `len` bytes are all, or `stop` stands behind them.
+#[inline]
+fn stands_before(text: &Line<'_>, len: usize, stop: u8) -> bool
+    requires { len ≤ length text.now }
+    ensures { IsTrue result ↔ StandsBefore stop text.now len }
+{
+    len == text.len() || text.byte(len) == stop
+}
+
+// The number of this sign and size, if it fits an `i64`.
+#[inline]
+#[tactic(auto, unfolding(crate::specs::Numbers::to_i64))]
+fn signed(negative: bool, size: u64) -> Option<i64>
+    ensures { result ≡ to_i64 (signed negative size) }
+{
+    if size < 1 << 63 {
+        let number = size as i64;
+        Some(if negative { -number } else { number })
+    } else if negative && size == 1 << 63 {
+        Some(i64::MIN)
+    } else {
+        None
+    }
+}
