@@ -1,7 +1,7 @@
-//! The calendar as whole numbers: what a day's number means, the trait of the stored forms of a date and the arithmetic of dates
-//! over any of them, and the laws of both.
+//! The calendar as whole numbers: what a day's number means, the trait of the stored forms of a date, the arithmetic of dates over
+//! any of them, and the laws of names, weeks and month moves.
 //!
-//! Two more parts serve those forms: the flags of a year, which come from a table, and the counter of steps.
+//! Beside these stand the flags of a year, which come from a table, and the counter of steps.
 #![tactic(auto)]
 
 pub mod counted_years;
