@@ -1,6 +1,8 @@
-pub mod Splits
+-- Lemmas that other crates cite stand in these modules.
 pub mod Parts
-pub mod Reading
-pub mod Weekdays
-pub mod Commands
-pub mod Laws
+-- The rest serve this crate's own proofs alone.
+mod Splits
+mod Reading
+mod Weekdays
+mod Commands
+mod Laws

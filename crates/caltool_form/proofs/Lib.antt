@@ -1,5 +1,6 @@
-pub mod Pieces
-pub mod Progress
-pub mod Cuts
-pub mod Tests
-pub mod Moments
+-- All serve this crate's own proofs alone.
+mod Pieces
+mod Progress
+mod Cuts
+mod Tests
+mod Moments

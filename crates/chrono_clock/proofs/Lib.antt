@@ -1,6 +1,8 @@
-pub mod DurationLemmas
-pub mod SumLemmas
+-- Lemmas that other crates cite stand in these modules.
 pub mod TimeLemmas
 pub mod LandingLemmas
 pub mod DistanceLemmas
 pub mod OrderLemmas
+-- The rest serve this crate's own proofs alone.
+mod DurationLemmas
+mod SumLemmas

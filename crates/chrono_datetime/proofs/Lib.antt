@@ -1,2 +1,3 @@
-pub mod ReachLemmas
-pub mod DifferenceLemmas
+-- All serve this crate's own proofs alone.
+mod ReachLemmas
+mod DifferenceLemmas

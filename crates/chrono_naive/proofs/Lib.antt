@@ -1,5 +1,7 @@
+-- Lemmas that other crates cite stand in these modules.
 pub use Rattle.chrono_calendar.proofs.NamedDates
+pub mod DateTextLemmas
+-- The rest serve this crate's own proofs alone.
 mod DayMoves
 mod DateListLemmas
-pub mod DateTextLemmas
 mod KnownValues

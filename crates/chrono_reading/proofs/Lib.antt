@@ -1,7 +1,8 @@
-pub mod DateLemmas
-pub mod TimeTextLemmas
-pub mod DateTimeLemmas
-pub mod DurationTextLemmas
-pub mod PrintedLemmas
-pub mod NameLemmas
-pub mod NearMisses
+-- All serve this crate's own proofs alone.
+mod DateLemmas
+mod TimeTextLemmas
+mod DateTimeLemmas
+mod DurationTextLemmas
+mod PrintedLemmas
+mod NameLemmas
+mod NearMisses

@@ -1,8 +1,10 @@
+-- Lemmas that other crates cite stand in these modules.
 pub mod DigitLemmas
-pub mod Decimals
 pub mod TextLemmas
 pub mod AsciiTexts
 pub mod FractionLemmas
 pub mod Types
 pub mod NumberLemmas
-pub mod LaneLemmas
+-- The rest serve this crate's own proofs alone.
+mod Decimals
+mod LaneLemmas

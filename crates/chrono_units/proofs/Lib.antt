@@ -1,10 +1,12 @@
-pub mod EachSet
-mod KnownValues
-pub mod SetAhead
-pub mod SetDigitLemmas
+-- Lemmas that other crates cite stand in these modules.
 pub mod SetMembers
-pub mod SetPlaces
-pub mod SetWalks
 pub mod WeekdayCycle
 pub mod WalkLengths
-pub mod SetTexts
+-- The rest serve this crate's own proofs alone.
+mod EachSet
+mod KnownValues
+mod SetAhead
+mod SetDigitLemmas
+mod SetPlaces
+mod SetWalks
+mod SetTexts
