@@ -1,4 +1,4 @@
-use Rattle.std.proofs.Common.{◌≡◌, ◌∙◌, sym, rules, None, ℤ, to_z, of_z, w32}
+use Rattle.std.proofs.Common.{◌≡◌, ◌∙◌, rules, None, to_z, of_z, w32}
 use Rattle.std.proofs.lemmas.Int.{to_z-of_z}
 use Rattle.chrono_units.specs.Years.{IsYear, is_leap_year}
 use Rattle.chrono_calendar.specs.Days.{day_number_of_ymd, ordinal_of_ymd, IsCalendarName}
