@@ -1,5 +1,5 @@
 -- What lies too far for a machine word is no date, and how many years dates are apart.
-use Rattle.std.proofs.Common.{◌≡◌, ◌↔◌, IsSome, ℕ, ◌-◌, ◌<◌, ◌≤◌, ◌==◌, ◌&&◌, nat_le, Bool, true, false, cond, Option, Some, None, refl, arith, ℤ, ◌-ℤ◌, int_lt, length, slice_get, unsigned_abs, FitsSigned, w32}
+use Rattle.std.proofs.Common.{◌≡◌, ◌↔◌, IsSome, ℕ, ◌-◌, ◌<◌, ◌≤◌, ◌==◌, ◌&&◌, nat_le, Bool, true, false, cond, Option, Some, None, refl, arith, ℤ, ◌-ℤ◌, int_lt, length, slice_get, unsigned_abs}
 use Rattle.std.proofs.lemmas.Option.{slice_get_past}
 use Rattle.std.proofs.lemmas.List.Sums.{length-filter, count_by-le-length}
 use Rattle.std.proofs.lemmas.List.FromFn.{length-range_with_len}
@@ -9,21 +9,11 @@ use Rattle.chrono_units.specs.Weekday.{days_from_sunday}
 use Rattle.chrono_units.specs.Years.{is_leap_year, is_year, month_length}
 use Rattle.chrono_calendar.specs.Days.{IsDate, year_of, month_of, day_of, day_number_of_ymd}
 use Rattle.chrono_calendar.specs.Weeks.{days_from_sunday_of, days_with_weekday, date_of_nth_weekday}
-use Rattle.chrono_calendar.specs.MonthMoves.{month_move}
 use Rattle.chrono_calendar.specs.YearsBetween.{years_between, is_earlier_in_year}
-use Rattle.chrono_calendar.proofs.Signed.{signed, casts}
-use Rattle.chrono_calendar.proofs.Moves.{month_move-None}
-use Rattle.chrono_calendar.proofs.MonthOrder.{month_of-range}
+use Rattle.chrono_calendar.proofs.Signed.{signed}
 use Rattle.chrono_calendar.proofs.MonthMoveLaws.{year_of-range}
 use Rattle.chrono_calendar.proofs.Months.{month_length_in-bounds}
 use Rattle.calendar_c.specs.Answers.{none_number}
-
--- no move by so many months stays within the library's years
-pub month_move-far : (n k : ℤ) → IsDate n → (FitsSigned w32 k → ⊥) → None ≡ month_move n k
-month_move-far n k h far =
-    let year = year_of-range n h in
-    let month = month_of-range n in
-    month_move-None n k (λ target. far (omega (arith, casts, year.0, year.1, month.0, month.1, target.0, target.1)))
 
 some_of_test : (b : Bool) (x k : ℕ) → Some k ≡ cond b None (Some x) → k ≡ x
 some_of_test true x k e = cc

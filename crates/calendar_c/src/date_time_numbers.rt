@@ -5,11 +5,9 @@ ghost use Rattle.calendar_c.specs.DateTimes.{duration_named, duration_or_none, m
 
 use crate::arguments::date_of;
 use chrono_calendar::ends::FIRST_DAY;
+use chrono_clock::SECS_PER_DAY;
 use chrono_datetime::{NaiveDateTime, NaiveTime, TimeDelta, Timelike};
-
-const SECS_PER_DAY: i32 = 86_400;
-
-const NANOS_PER_SEC: i32 = 1_000_000_000;
+use chrono_text::NANOS_PER_SEC;
 
 // The seconds from 1970 to the first second of the first date, and to the last of the last date.
 const FIRST_SECOND: i64 = -8_334_601_228_800;
@@ -111,7 +109,7 @@ fn duration_numbers(duration: TimeDelta) -> CalendarDuration
     if nanos < 0 {
         CalendarDuration {
             seconds: seconds - 1,
-            nanos: (nanos + NANOS_PER_SEC) as u32,
+            nanos: (nanos + NANOS_PER_SEC as i32) as u32,
         }
     } else {
         CalendarDuration {

@@ -1,7 +1,7 @@
 //! Moves of dates, and how far dates are apart.
 ghost use Rattle.std.specs.Prelude.{◌≡◌, ◌+ℤ◌};
 ghost use Rattle.std.specs.Option.{option_and_then};
-ghost use Rattle.chrono_datetime.specs.Days.{IsDate, date_of_day};
+ghost use Rattle.chrono_datetime.specs.Days.{date_of_day};
 ghost use Rattle.chrono_datetime.specs.MonthMoves.{month_move};
 ghost use Rattle.chrono_datetime.specs.Recurrence.{date_every};
 ghost use Rattle.chrono_datetime.specs.YearsBetween.{years_between};
@@ -9,7 +9,6 @@ ghost use Rattle.calendar_c.specs.Answers.{count_or_none, or_none};
 
 use crate::answers::{NONE, number_or_none};
 use crate::arguments::date_of;
-use chrono_datetime::{Datelike, NaiveDate};
 
 /// The date so many days later, or earlier for a negative number.
 #[unsafe(no_mangle)]
@@ -18,7 +17,7 @@ pub extern "C" fn calendar_add_days(date: i32, days: i64) -> i32
         ≡ or_none (option_and_then (λ n. date_of_day (n +ℤ days)) (date_of_day date)) }
 {
     match date_of(date) {
-        Some(date) => number_or_none(days_later(date, days)),
+        Some(date) => number_or_none(date.moved_by_days(days)),
         None => NONE,
     }
 }
@@ -30,7 +29,7 @@ pub extern "C" fn calendar_add_months(date: i32, months: i64) -> i32
         ≡ or_none (option_and_then (λ n. month_move n months) (date_of_day date)) }
 {
     match date_of(date) {
-        Some(date) => number_or_none(months_later(date, months)),
+        Some(date) => number_or_none(date.moved_by_months(months)),
         None => NONE,
     }
 }
@@ -63,28 +62,4 @@ pub extern "C" fn calendar_years_since(date: i32, base: i32) -> i32
         Some(years) => years as i32,
         None => NONE,
     }
-}
-
-// The date so many days later, by its number.
-#[inline]
-fn days_later(date: NaiveDate, days: i64) -> Option<NaiveDate>
-    ensures { result ≡ date_of_day (date +ℤ days) }
-{
-    let number = i64::from(date.num_days_from_ce()).checked_add(days)?;
-    let Ok(number) = i32::try_from(number) else {
-        return None;
-    };
-    NaiveDate::from_num_days_from_ce_opt(number)
-}
-
-// The same day so many months later: no month is farther from another than an i32 counts.
-#[inline]
-fn months_later(date: NaiveDate, months: i64) -> Option<NaiveDate>
-    requires { IsDate date }
-    ensures { result ≡ month_move date months }
-{
-    let Ok(months) = i32::try_from(months) else {
-        return None;
-    };
-    date.every_months(months, 1)
 }

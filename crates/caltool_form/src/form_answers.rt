@@ -14,9 +14,6 @@ use chrono_units::{Weekday, WeekdaySet};
 use std::io::{Read, Write};
 use std::marker::PhantomData;
 
-// The seconds of a day.
-const SECS_PER_DAY: i64 = 86_400;
-
 // Answers by dates of the form `F`.
 pub(crate) struct FormAnswers<F: DayForm> {
     form: PhantomData<F>,
@@ -60,8 +57,8 @@ impl<F: DayForm> CommandAnswers for FormAnswers<F> {
     }
 
     fn move_moment(date: F, time: NaiveTime, by: TimeDelta) -> Option<(F, NaiveTime)> {
-        let (time, seconds) = time.overflowing_add_signed(by);
-        let date = forms::move_days(date, seconds / SECS_PER_DAY, &mut Steps::new())?;
+        let (time, days) = time.landing(by);
+        let date = forms::move_days(date, days, &mut Steps::new())?;
         Some((date, time))
     }
 

@@ -9,4 +9,4 @@ pub(crate) const SECS_PER_MINUTE: u32 = 60;
 pub(crate) const SECS_PER_HOUR: u32 = 3_600;
 
 /// The seconds of a day without leap seconds.
-pub(crate) const SECS_PER_DAY: u32 = 86_400;
+pub const SECS_PER_DAY: u32 = 86_400;

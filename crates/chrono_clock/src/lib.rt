@@ -12,6 +12,7 @@ mod naive_time;
 mod time_delta;
 mod timelike;
 
+pub use lengths::SECS_PER_DAY;
 pub use naive_time::NaiveTime;
 pub use time_delta::TimeDelta;
 pub use timelike::Timelike;

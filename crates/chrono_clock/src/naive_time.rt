@@ -294,7 +294,7 @@ impl NaiveTime {
     }
 
     // The landing of a leap start, counted from the start of its leap second.
-    #[inline(never)]
+    #[inline]
     fn moved_from_leap(&self, rhs: TimeDelta) -> (NaiveTime, i64)
         requires { IsLeap self.now }
         ensures time { result.0

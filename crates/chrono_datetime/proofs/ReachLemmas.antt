@@ -1,15 +1,13 @@
 -- Moves of date-times, from those of times of day.
-use Rattle.std.proofs.Common.{◌≡◌, inl, inr, ⊎_elim, ℤ, pos, ◌+ℤ◌, ◌*ℤ◌, ◌<ℤ◌, Bool, true, false, cond, Option, Some, None, arith, refl, sym, ap, ◌∙◌, subst, ◌↔◌, IfSome}
+use Rattle.std.proofs.Common.{◌≡◌, inl, inr, ⊎_elim, ℤ, pos, ◌+ℤ◌, ◌<ℤ◌, Bool, true, false, cond, Option, Some, None, arith, refl, sym, ap, ◌∙◌, subst, ◌↔◌, IfSome}
 use Rattle.std.proofs.lemmas.Int.{by_lt_z, ints}
 use Rattle.std.specs.Option.{option_map}
-use Rattle.chrono_clock.specs.Duration.{nanos_per_day, nanos_per_second, IsDuration, units_of, whole_units}
 use Rattle.chrono_clock.specs.Time.{TimeOfDay, Landing, IsTime, IsEarlier, IsEarlierLanding, landing_of, land, later}
 use Rattle.chrono_clock.proofs.TimeLemmas.{by_leap}
 use Rattle.chrono_clock.proofs.LandingLemmas.{TimeMovesAddUp-land}
 use Rattle.chrono_clock.proofs.OrderLemmas.{land-forward, land-backward}
 use Rattle.chrono_clock.proofs.DistanceLemmas.{land-distance, distance-same}
-use Rattle.chrono_naive.specs.Days.{IsDate, date_of_day, is_date}
-use Rattle.chrono_naive.proofs.NamedDates.{date_of_day-None}
+use Rattle.chrono_naive.specs.Days.{date_of_day, is_date}
 use Rattle.chrono_datetime.specs.Moment.{Moment, moment, moment_on, reach, IsBefore, MovesAddUp}
 
 -- the date-time at which a landing from the date n ends, if its day is a date
@@ -100,24 +98,12 @@ pub IfSome-reach : (o : Option Moment) (m : Moment) (x : ℤ) → IsTime m.time 
 IfSome-reach None m x i h = (tt, tt, tt)
 IfSome-reach (Some e) m x i h = (MovesAddUp-reach m e x i h, reach-later m e x i h, reach-earlier m e x i h)
 
--- the seconds of so many whole days are a duration of as many days
-whole_units-days : (s day x : ℤ) → s ≡ day *ℤ pos 86_400 → x ≡ units_of nanos_per_second s → whole_units nanos_per_day x ≡ day
-whole_units-days s day x e f = omega (arith, ints, e, f)
-
--- the clock answers a time and the seconds of the days passed, and the date moves by a duration of these
-pub reach-parts : (o : Option ℤ) (m : Moment) (x s d : ℤ) (t : TimeOfDay) → t ≡ (land m.time x).time → s ≡ (land m.time x).day *ℤ pos 86_400 → d ≡ units_of nanos_per_second s → o ≡ date_of_day (m.date +ℤ whole_units nanos_per_day d) → moment_on o t ≡ reach m x
+-- the clock answers a time and the days that are passed, and the date moves by these
+pub reach-parts : (o : Option ℤ) (m : Moment) (x days : ℤ) (t : TimeOfDay) → t ≡ (land m.time x).time → days ≡ (land m.time x).day → o ≡ date_of_day (m.date +ℤ days) → moment_on o t ≡ reach m x
 unfolding reach
-reach-parts o m x s d t e f g h =
+reach-parts o m x days t e f h =
     let landed = land m.time x in
-    ap (moment_on o) e ∙ ap (λ p. moment_on p landed.time) (h ∙ ap (λ day. date_of_day (m.date +ℤ day)) (whole_units-days s landed.day d f g))
-
--- where these seconds are no duration, the day is no date
-pub reach-None : (m : Moment) (x s : ℤ) → IsDate m.date → s ≡ (land m.time x).day *ℤ pos 86_400 → (IsDuration (units_of nanos_per_second s) → ⊥) → None ≡ reach m x
-unfolding reach
-reach-None m x s i e too_far =
-    let landed = land m.time x in
-    let no_date = date_of_day-None (m.date +ℤ landed.day) (λ h. too_far (omega (arith, ints, e, i.0, i.1, h.0, h.1))) in
-    ap (λ p. moment_on p landed.time) no_date
+    ap (moment_on o) e ∙ ap (λ p. moment_on p landed.time) (h ∙ ap (λ day. date_of_day (m.date +ℤ day)) f)
 
 -- the same for a date-time that is known by another name
 pub reach-along : (o : Option Moment) (m k : Moment) (x : ℤ) → m ≡ k → IsTime m.time → o ≡ reach m x → IsTime k.time × (o ≡ reach k x)

@@ -102,12 +102,8 @@ impl NaiveDateTime {
         ensures later { IfSome result (λ e. (pos 0 <ℤ rhs) ↔ IsBefore self e) }
         ensures earlier { IfSome result (λ e. (rhs <ℤ pos 0) ↔ IsBefore e self) }
     {
-        // No date lies as far from another as the longest duration.
-        prove!(self.date.num_days_from_ce() <= NaiveDate::MAX.num_days_from_ce());
-        let (time, seconds) = self.time.overflowing_add_signed(rhs);
-        let date = self
-            .date
-            .checked_add_signed(TimeDelta::try_seconds(seconds)?)?;
+        let (time, days) = self.time.landing(rhs);
+        let date = self.date.moved_by_days(days)?;
         Some(NaiveDateTime { date, time })
     }
 

@@ -7,9 +7,7 @@ ghost use Rattle.chrono_datetime.specs.Time.{TimeOfDay};
 ghost use Rattle.chrono_reading.specs.TimeTexts.{IsTimeText, time_shown};
 
 use chrono_datetime::NaiveTime;
-use chrono_text::{read_fraction, read_two};
-
-const NANOS_PER_SEC: u32 = 1_000_000_000;
+use chrono_text::{NANOS_PER_SEC, read_fraction, read_two};
 
 // The second that a clock shows in a leap second.
 const LEAP_SECOND: u32 = 60;

@@ -1,4 +1,4 @@
-use Rattle.std.proofs.Common.{◌≡◌, ℕ, ◌/◌, ◌+◌, ◌^◌, ◌<◌, arith, refl, sym, subst, pos, ◌+ℤ◌, ◌-ℤ◌, ℤ, w32, to_z, of_z}
+use Rattle.std.proofs.Common.{◌≡◌, ℕ, ◌/◌, ◌^◌, ◌<◌, arith, refl, sym, subst, pos, ◌+ℤ◌, ◌-ℤ◌, ℤ, w32, to_z, of_z}
 use Rattle.chrono_calendar.specs.Days.{IsDate, days_before_year}
 use Rattle.chrono_calendar.proofs.Signed.{casts}
 use Rattle.chrono_calendar.proofs.Years.{days_before_year-next}

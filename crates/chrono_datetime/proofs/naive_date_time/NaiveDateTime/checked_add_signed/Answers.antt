@@ -1,31 +1,22 @@
-use Rattle.std.proofs.Common.{rules, ◌∙◌, ap, subst, ℤ, None, Some, FitsSigned, w64, to_z-of_z}
-use Rattle.chrono_naive.specs.Days.{IsDate}
+use Rattle.std.proofs.Common.{rules, ◌∙◌, ap, None, Some, FitsSigned, w64, to_z-of_z}
 use Rattle.chrono_datetime.specs.Moment.{Moment, moment, reach}
-use Rattle.chrono_datetime.proofs.ReachLemmas.{IfSome-reach, reach-along, reach-parts, reach-None}
+use Rattle.chrono_datetime.proofs.ReachLemmas.{IfSome-reach, reach-along, reach-parts}
 use Rattle.chrono_datetime.proofs.naive_date_time.NaiveDateTime.checked_add_signed.Goals as goal
-
-pub returns-in_err-try_seconds-clause-value : goal.returns-in_err-try_seconds-clause-value
-returns-in_err-try_seconds-clause-value c =
-    let fits : FitsSigned w64 c.overflowing_add_signed-time.result.1 = search rules in
-    let start = moment c.self.inside.date c.self.inside.time in
-    let seconds = to_z-of_z fits ∙ c.overflowing_add_signed-time.ensures.seconds in
-    let nowhere = reach-None start c.args.rhs _ (subst (λ (n : ℤ). IsDate n) c.num_days_from_ce.ensures.value c.num_days_from_ce.ensures.in_range) seconds c.in_err-try_seconds.ensures in
-    c.from_residual.ensures ∙ nowhere ∙ ap (λ (m : Moment). reach m c.args.rhs) c.self.view_is
 
 pub returns-in_err-date-clause-value : goal.returns-in_err-date-clause-value
 returns-in_err-date-clause-value c =
-    let fits : FitsSigned w64 c.overflowing_add_signed-time.result.1 = search rules in
+    let fits : FitsSigned w64 c.landing-time.result.1 = search rules in
     let start = moment c.self.inside.date c.self.inside.time in
-    let seconds = to_z-of_z fits ∙ c.overflowing_add_signed-time.ensures.seconds in
-    let nowhere = reach-parts None start c.args.rhs _ _ _ c.overflowing_add_signed-time.ensures.time seconds c.in_ok-try_seconds.ensures.1 c.in_err-date.ensures.date in
-    c.from_residual-in_err-date.ensures ∙ nowhere ∙ ap (λ (m : Moment). reach m c.args.rhs) c.self.view_is
+    let date = rw (to_z-of_z fits) at c.in_err-date.ensures.date in
+    let nowhere = reach-parts None start c.args.rhs c.landing-time.result.1 c.landing-time.result.0 c.landing-time.ensures.time c.landing-time.ensures.days date in
+    c.from_residual.ensures ∙ nowhere ∙ ap (λ (m : Moment). reach m c.args.rhs) c.self.view_is
 
 pub returns : goal.returns
 returns c =
-    let fits : FitsSigned w64 c.overflowing_add_signed-time.result.1 = search rules in
+    let fits : FitsSigned w64 c.landing-time.result.1 = search rules in
     let start = moment c.self.inside.date c.self.inside.time in
-    let seconds = to_z-of_z fits ∙ c.overflowing_add_signed-time.ensures.seconds in
-    let landed = reach-parts (Some c.in_ok-date.date) start c.args.rhs _ _ _ c.overflowing_add_signed-time.ensures.time seconds c.in_ok-try_seconds.ensures.1 c.in_ok-date.ensures.date in
-    let reached = reach-along (Some (moment c.in_ok-date.date c.overflowing_add_signed-time.result.0)) start c.args.self c.args.rhs c.self.view_is c.overflowing_add_signed-time.ensures.start landed in
-    let laws = IfSome-reach (Some (moment c.in_ok-date.date c.overflowing_add_signed-time.result.0)) c.args.self c.args.rhs reached.0 reached.1 in
+    let date = rw (to_z-of_z fits) at c.in_ok-date.ensures.date in
+    let landed = reach-parts (Some c.in_ok-date.date) start c.args.rhs c.landing-time.result.1 c.landing-time.result.0 c.landing-time.ensures.time c.landing-time.ensures.days date in
+    let reached = reach-along (Some (moment c.in_ok-date.date c.landing-time.result.0)) start c.args.self c.args.rhs c.self.view_is c.landing-time.ensures.start landed in
+    let laws = IfSome-reach (Some (moment c.in_ok-date.date c.landing-time.result.0)) c.args.self c.args.rhs reached.0 reached.1 in
     record { value = reached.1; adds_up = laws.0; later = laws.1; earlier = laws.2 }
