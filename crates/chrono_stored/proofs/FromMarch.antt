@@ -125,13 +125,13 @@ ends-told false = refl
 ends-told_at : (leap : Bool) (m : ℕ) → IsInRange 1 12 m → tells_month_end leap (m - 1) ≡ true
 ends-told_at leap m h = passes_below-at (tells_month_end leap) 12 (ends-told leap) (m - 1) (omega arith)
 
-month_end-march : (leap : Bool) (m : ℕ) → IsInRange 1 12 m → 2 < m → min ((979 * (m + 1) - 2919) / 32) (cond leap 366 365) ≡ (979 * m - 2919) / 32 + month_length_in leap m
+pub month_end-march : (leap : Bool) (m : ℕ) → IsInRange 1 12 m → 2 < m → min ((979 * (m + 1) - 2919) / 32) (cond leap 366 365) ≡ (979 * m - 2919) / 32 + month_length_in leap m
 month_end-march leap m h late =
     let back : m - 1 + 1 ≡ m = omega arith in
     let here = rw back at (ends-told_at leap m h) in
     grind (arith, nat_tests)
 
-month_end-january : (leap : Bool) (m : ℕ) → IsInRange 1 12 m → m ≤ 2 → min ((979 * (m + 13) - 2919) / 32) (cond leap 366 365) ≡ (979 * (m + 12) - 2919) / 32 + month_length_in leap m
+pub month_end-january : (leap : Bool) (m : ℕ) → IsInRange 1 12 m → m ≤ 2 → min ((979 * (m + 13) - 2919) / 32) (cond leap 366 365) ≡ (979 * (m + 12) - 2919) / 32 + month_length_in leap m
 month_end-january leap m h early =
     let back : m - 1 + 1 ≡ m = omega arith in
     let ahead : m - 1 + 13 ≡ m + 12 = omega arith in

@@ -4,7 +4,6 @@ ghost use Rattle.std.specs.Fmt.{WritesOnOk, WritesStyledOnOk};
 ghost use Rattle.std.specs.Str.{IsAscii};
 ghost use Rattle.chrono_naive.specs.DateText.{date_text};
 
-use crate::datelike::Datelike;
 use crate::naive_date::NaiveDate;
 use chrono_text::Text;
 use std::fmt;
@@ -21,7 +20,8 @@ impl NaiveDate {
         ensures ascii { IsAscii (date_text self.now) }
         ensures fits { length text.new ≤ length text.old + 13 }
     {
-        text.push_calendar_date(self.year(), self.month(), self.day());
+        let (year, month, day) = self.year_month_day();
+        text.push_calendar_date(year, month, day);
     }
 }
 
