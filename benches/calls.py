@@ -43,10 +43,22 @@ OF_DATES = [
     "diff",
     "compare",
 ]
-OTHERS = ["time_add", "moment_add", "moment_diff", "duration_add", "read_date"]
+OTHERS = [
+    "time_add",
+    "moment_add",
+    "far_moment_add",
+    "far_add_months",
+    "moment_diff",
+    "duration_add",
+    "new_num_seconds",
+    "read_date",
+]
 NOTES = """
 `from_days` is read as year, month and day, `ymd_to_days` as a day number; `from_ymd`, `succ` and the moves as year and ordinal.
-`add_few_days` is by 1 to 30 days, `add_days` by up to 100,000, `add_months` by up to 1,200 months on or back.
+`add_few_days` is by 1 to 30 days, `add_days` by up to 100,000, `add_months` by up to 1,200 months on or back. All these dates are of the
+years 1800 to 2199; those of `far_add_months` and `far_moment_add` are of all years. Durations are up to 1,000,000,000 seconds on or back,
+with nanoseconds. Beside `new_num_seconds` stand later versions' `TimeDelta::new` and `num_seconds`, written by hand: chrono 0.4.23 has no
+`new`.
 `read_date` reads a text such as `2024-02-29` as a day number; beside it stand the digits read by hand in Rust, unchecked, and
 chrono's `from_ymd_opt`."""
 

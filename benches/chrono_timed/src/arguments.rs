@@ -11,6 +11,10 @@ const FIRST_DAY: i32 = 657_072;
 /// The days of the 400 years from then on.
 const DAYS: u64 = 146_097;
 
+/// The number of a day of the year -262,017, and how many days there are from then on to the year 262,018.
+const FAR_FIRST_DAY: i32 = -95_700_000;
+const FAR_DAYS: u64 = 191_400_000;
+
 /// A linear congruential generator modulo 2^64, with the numbers of Knuth's MMIX.
 pub struct Generator {
     state: u64,
@@ -42,4 +46,9 @@ pub fn table<T>(generator: &mut Generator, pick: impl Fn(&mut Generator) -> T) -
 /// A day of 400 years.
 pub fn day(generator: &mut Generator) -> i32 {
     FIRST_DAY + generator.below(DAYS) as i32
+}
+
+/// A day of any year more than a hundred years from the ends of the calendar.
+pub fn far_day(generator: &mut Generator) -> i32 {
+    FAR_FIRST_DAY + generator.below(FAR_DAYS) as i32
 }

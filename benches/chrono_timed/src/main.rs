@@ -6,7 +6,7 @@
 mod arguments;
 mod formulas;
 
-use arguments::{day, table, Generator, SIZE};
+use arguments::{day, far_day, table, Generator, SIZE};
 use chrono::{Datelike, Days, Duration, Months, NaiveDate, NaiveDateTime, NaiveTime, Timelike};
 use std::env;
 use std::process::ExitCode;
@@ -46,6 +46,15 @@ fn moment(generator: &mut Generator) -> NaiveDateTime {
     NaiveDateTime::new(date, time(generator))
 }
 
+fn far_date(generator: &mut Generator) -> NaiveDate {
+    NaiveDate::from_num_days_from_ce_opt(far_day(generator)).unwrap()
+}
+
+fn far_moment(generator: &mut Generator) -> NaiveDateTime {
+    let date = far_date(generator);
+    NaiveDateTime::new(date, time(generator))
+}
+
 fn months(generator: &mut Generator) -> Months {
     Months::new(generator.below(1_201) as u32)
 }
@@ -62,6 +71,11 @@ fn duration(generator: &mut Generator) -> Duration {
     let seconds = generator.below(2_000_000_001) as i64 - 1_000_000_000;
     let nanos = generator.below(1_000_000_000) as i64;
     Duration::seconds(seconds) + Duration::nanoseconds(nanos)
+}
+
+fn seconds_and_nanos(generator: &mut Generator) -> (i64, u32) {
+    let seconds = generator.below(2_000_000_001) as i64 - 1_000_000_000;
+    (seconds, generator.below(1_000_000_000) as u32)
 }
 
 fn of_year(year: i32, part: u32) -> u64 {
@@ -159,9 +173,9 @@ fn add_days(count: u64, pick: impl Fn(&mut Generator) -> Days) -> u64 {
 }
 
 /// Every second move goes back: the lowest binary digit of a drawn number alternates.
-fn add_months(count: u64) -> u64 {
+fn add_months(count: u64, pick: impl Fn(&mut Generator) -> NaiveDate) -> u64 {
     let mut generator = Generator::new();
-    let dates = table(&mut generator, date);
+    let dates = table(&mut generator, pick);
     let months = table(&mut generator, months);
     sum(generator, count, |drawn| {
         let date = dates[first(drawn)];
@@ -183,8 +197,9 @@ fn time_add(mut generator: Generator, count: u64) -> u64 {
     })
 }
 
-fn moment_add(mut generator: Generator, count: u64) -> u64 {
-    let moments = table(&mut generator, moment);
+fn moment_add(count: u64, pick: impl Fn(&mut Generator) -> NaiveDateTime) -> u64 {
+    let mut generator = Generator::new();
+    let moments = table(&mut generator, pick);
     let durations = table(&mut generator, duration);
     sum(generator, count, |drawn| {
         of_moment(moments[first(drawn)].checked_add_signed(durations[second(drawn)]))
@@ -205,6 +220,32 @@ fn duration_add(mut generator: Generator, count: u64) -> u64 {
         durations[first(drawn)]
             .checked_add(&durations[second(drawn)])
             .map_or(0, |sum| sum.num_milliseconds() as u64)
+    })
+}
+
+/// A duration of so many seconds, rounded down, and nanoseconds past them, and its whole seconds, rounded towards zero, by
+/// hand: the `TimeDelta::new` and `num_seconds` of later versions, as chrono 0.4.23 has no `new`.
+fn new_and_whole_seconds(seconds: i64, nanos: u32) -> Option<i64> {
+    let (last, nanos_of_last) = (i64::MAX / 1_000, (i64::MAX % 1_000) as u32 * 1_000_000);
+    let (first, nanos_of_first) = (-last - 1, 1_000_000_000 - nanos_of_last);
+    if seconds < first || seconds > last || nanos >= 1_000_000_000 {
+        return None;
+    }
+    if (seconds == last && nanos > nanos_of_last) || (seconds == first && nanos < nanos_of_first) {
+        return None;
+    }
+    Some(if seconds < 0 && nanos > 0 {
+        seconds + 1
+    } else {
+        seconds
+    })
+}
+
+fn new_num_seconds(mut generator: Generator, count: u64) -> u64 {
+    let parts = table(&mut generator, seconds_and_nanos);
+    sum(generator, count, |drawn| {
+        let (seconds, nanos) = parts[first(drawn)];
+        new_and_whole_seconds(seconds, nanos).map_or(0, |whole| whole as u64)
     })
 }
 
@@ -249,7 +290,7 @@ fn sum_of_dates(name: &str, count: u64) -> Option<u64> {
         "compare" => of_two(count, |a, b| u64::from(a < b)),
         "add_few_days" => add_days(count, few_days),
         "add_days" => add_days(count, days),
-        "add_months" => add_months(count),
+        "add_months" => add_months(count, date),
         _ => return None,
     })
 }
@@ -272,9 +313,12 @@ fn sum_of_answers(name: &str, count: u64) -> Option<u64> {
     Some(match name {
         "none" => nothing(generator, count),
         "time_add" => time_add(generator, count),
-        "moment_add" => moment_add(generator, count),
+        "moment_add" => moment_add(count, moment),
+        "far_moment_add" => moment_add(count, far_moment),
+        "far_add_months" => add_months(count, far_date),
         "moment_diff" => moment_diff(generator, count),
         "duration_add" => duration_add(generator, count),
+        "new_num_seconds" => new_num_seconds(generator, count),
         "read_date" => read_dates(generator, count),
         _ => match name.split_once('.') {
             Some(("formula", name)) => sum_of_formulas(name, count)?,

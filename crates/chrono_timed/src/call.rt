@@ -11,10 +11,16 @@ pub enum Call {
     TimeAdd,
     /// `NaiveDateTime::checked_add_signed`.
     MomentAdd,
+    /// The same, from date-times of all years.
+    FarMomentAdd,
+    /// `NaiveDate::checked_add_months` and `checked_sub_months`, each in half of the turns, from dates of all years.
+    FarAddMonths,
     /// `NaiveDateTime::signed_duration_since`.
     MomentDiff,
     /// `TimeDelta::checked_add`.
     DurationAdd,
+    /// `TimeDelta::new`, and `num_seconds` of the answer.
+    NewNumSeconds,
     /// `chrono_reading::read_date`, and the day number of the answer.
     ReadDate,
 }
@@ -75,8 +81,11 @@ pub fn call_named(name: &str) -> Option<Call> {
         "none" => Call::Nothing,
         "time_add" => Call::TimeAdd,
         "moment_add" => Call::MomentAdd,
+        "far_moment_add" => Call::FarMomentAdd,
+        "far_add_months" => Call::FarAddMonths,
         "moment_diff" => Call::MomentDiff,
         "duration_add" => Call::DurationAdd,
+        "new_num_seconds" => Call::NewNumSeconds,
         "read_date" => Call::ReadDate,
         _ => match name.split_once('.') {
             Some(("counted", name)) => Call::OfDate(Kind::Counted, date_call_named(name)?),

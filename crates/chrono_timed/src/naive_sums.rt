@@ -116,8 +116,8 @@ fn add_days(dates: &[NaiveDate; SIZE], mut generator: Generator, count: u64) -> 
     })
 }
 
-// Every second move goes back: the lowest binary digit of a drawn number alternates.
-fn add_months(dates: &[NaiveDate; SIZE], mut generator: Generator, count: u64) -> u64 {
+/// Moves by months, of which every second goes back: the lowest binary digit of a drawn number alternates.
+pub fn add_months(dates: &[NaiveDate; SIZE], mut generator: Generator, count: u64) -> u64 {
     let months = table(&mut generator, months);
     sum_of!(generator, count, drawn => {
         let date = dates[first(drawn)];

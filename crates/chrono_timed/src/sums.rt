@@ -4,10 +4,11 @@ use crate::call::{Call, DateCall, Kind};
 use crate::generator::Generator;
 use crate::numbers::{of_duration, of_moment, of_signed, of_time};
 use crate::tables::{
-    counted, date, day, duration, first, moment, packed, second, table, text, time,
+    counted, date, day, duration, far_date, far_moment, first, moment, packed, second,
+    seconds_and_nanos, table, text, time,
 };
 use crate::{form_sums, naive_sums, sum_of};
-use chrono_datetime::Datelike;
+use chrono_datetime::{Datelike, TimeDelta};
 use chrono_reading::read_date;
 
 /// The sum of the call's answers to so many drawn arguments, modulo 2^64.
@@ -18,8 +19,11 @@ pub fn sum_of_answers(call: Call, count: u64) -> u64 {
         Call::OfDate(kind, call) => of_dates(kind, call, generator, count),
         Call::TimeAdd => time_add(generator, count),
         Call::MomentAdd => moment_add(generator, count),
+        Call::FarMomentAdd => far_moment_add(generator, count),
+        Call::FarAddMonths => far_add_months(generator, count),
         Call::MomentDiff => moment_diff(generator, count),
         Call::DurationAdd => duration_add(generator, count),
+        Call::NewNumSeconds => new_num_seconds(generator, count),
         Call::ReadDate => read_dates(generator, count),
     }
 }
@@ -65,6 +69,19 @@ fn moment_add(mut generator: Generator, count: u64) -> u64 {
     })
 }
 
+fn far_moment_add(mut generator: Generator, count: u64) -> u64 {
+    let moments = table(&mut generator, far_moment);
+    let durations = table(&mut generator, duration);
+    sum_of!(generator, count, drawn => {
+        of_moment(moments[first(drawn)].checked_add_signed(durations[second(drawn)]))
+    })
+}
+
+fn far_add_months(mut generator: Generator, count: u64) -> u64 {
+    let dates = table(&mut generator, far_date);
+    naive_sums::add_months(&dates, generator, count)
+}
+
 fn moment_diff(mut generator: Generator, count: u64) -> u64 {
     let moments = table(&mut generator, moment);
     sum_of!(generator, count, drawn => {
@@ -79,6 +96,17 @@ fn duration_add(mut generator: Generator, count: u64) -> u64 {
         let (duration, other) = (durations[first(drawn)], durations[second(drawn)]);
         match duration.checked_add(&other) {
             Some(sum) => of_signed(sum.num_milliseconds()),
+            None => 0,
+        }
+    })
+}
+
+fn new_num_seconds(mut generator: Generator, count: u64) -> u64 {
+    let parts = table(&mut generator, seconds_and_nanos);
+    sum_of!(generator, count, drawn => {
+        let (seconds, nanos) = parts[first(drawn)];
+        match TimeDelta::new(seconds, nanos) {
+            Some(duration) => of_signed(duration.num_seconds()),
             None => 0,
         }
     })

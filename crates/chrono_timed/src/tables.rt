@@ -18,6 +18,11 @@ const FIRST_DAY: i32 = 657_072;
 // The days of the 400 years from then on.
 const DAYS: u64 = 146_097;
 
+// The number of a day of the year -262,017, and how many days there are from then on to the year 262,018.
+const FAR_FIRST_DAY: i32 = -95_700_000;
+
+const FAR_DAYS: u64 = 191_400_000;
+
 /// The place in a table that the ten highest binary digits of a drawn number name.
 #[inline]
 pub fn first(drawn: u64) -> usize
@@ -117,6 +122,18 @@ pub fn moment(generator: &mut Generator) -> NaiveDateTime {
     NaiveDateTime::new(date, time(generator))
 }
 
+/// A date of any year more than a hundred years from the ends of the calendar.
+pub fn far_date(generator: &mut Generator) -> NaiveDate {
+    let day = FAR_FIRST_DAY + generator.below(FAR_DAYS) as i32;
+    NaiveDate::from_num_days_from_ce_opt(day).unwrap_or(NaiveDate::MIN)
+}
+
+/// Such a date and a time in no leap second.
+pub fn far_moment(generator: &mut Generator) -> NaiveDateTime {
+    let date = far_date(generator);
+    NaiveDateTime::new(date, time(generator))
+}
+
 /// At most 1,200 months, a hundred years.
 pub fn months(generator: &mut Generator) -> u32
     ensures { result < 1_201 }
@@ -145,4 +162,12 @@ pub fn duration(generator: &mut Generator) -> TimeDelta
     let seconds = generator.below(2_000_000_001) as i64 - 1_000_000_000;
     let nanos = generator.below(1_000_000_000) as i64;
     TimeDelta::seconds(seconds) + TimeDelta::nanoseconds(nanos)
+}
+
+/// At most 1,000,000,000 seconds, forward or back, and nanoseconds past them.
+pub fn seconds_and_nanos(generator: &mut Generator) -> (i64, u32)
+    ensures { result.1 < nanos_per_second }
+{
+    let seconds = generator.below(2_000_000_001) as i64 - 1_000_000_000;
+    (seconds, generator.below(1_000_000_000) as u32)
 }
