@@ -51,6 +51,9 @@ OTHERS = [
     "moment_diff",
     "duration_add",
     "new_num_seconds",
+    "print_date",
+    "print_moment",
+    "print_duration",
     "read_date",
 ]
 NOTES = """
@@ -59,6 +62,8 @@ NOTES = """
 years 1800 to 2199; those of `far_add_months` and `far_moment_add` are of all years. Durations are up to 1,000,000,000 seconds on or back,
 with nanoseconds. Beside `new_num_seconds` stand later versions' `TimeDelta::new` and `num_seconds`, written by hand: chrono 0.4.23 has no
 `new`.
+The three that print write dates and date-times of all years, and these durations, into an array of bytes; chrono 0.4.23 prints
+durations otherwise, so the text of later versions stands beside ours, written by hand in pieces as those write it.
 `read_date` reads a text such as `2024-02-29` as a day number; beside it stand the digits read by hand in Rust, unchecked, and
 chrono's `from_ymd_opt`."""
 

@@ -5,11 +5,13 @@
 
 mod arguments;
 mod formulas;
+mod written;
 
 use arguments::{day, far_day, table, Generator, SIZE};
 use chrono::{Datelike, Days, Duration, Months, NaiveDate, NaiveDateTime, NaiveTime, Timelike};
 use std::env;
 use std::process::ExitCode;
+use written::{LaterDuration, Written};
 
 fn first(drawn: u64) -> usize {
     (drawn >> 54) as usize
@@ -249,6 +251,16 @@ fn new_num_seconds(mut generator: Generator, count: u64) -> u64 {
     })
 }
 
+/// What is read of values printed into an array.
+fn print<T: Copy + std::fmt::Display>(count: u64, pick: impl Fn(&mut Generator) -> T) -> u64 {
+    let mut generator = Generator::new();
+    let values = table(&mut generator, pick);
+    let written = std::cell::RefCell::new(Written::new());
+    sum(generator, count, |drawn| {
+        written.borrow_mut().of(values[first(drawn)])
+    })
+}
+
 /// The digits of a text `YYYY-MM-DD` read by hand, with no check of them or of what stands between.
 fn read_date(text: &[u8; 10]) -> Option<NaiveDate> {
     let digit = |place: usize| u32::from(text[place] - b'0');
@@ -319,6 +331,9 @@ fn sum_of_answers(name: &str, count: u64) -> Option<u64> {
         "moment_diff" => moment_diff(generator, count),
         "duration_add" => duration_add(generator, count),
         "new_num_seconds" => new_num_seconds(generator, count),
+        "print_date" => print(count, far_date),
+        "print_moment" => print(count, far_moment),
+        "print_duration" => print(count, |generator| LaterDuration::new(duration(generator))),
         "read_date" => read_dates(generator, count),
         _ => match name.split_once('.') {
             Some(("formula", name)) => sum_of_formulas(name, count)?,

@@ -21,6 +21,12 @@ pub enum Call {
     DurationAdd,
     /// `TimeDelta::new`, and `num_seconds` of the answer.
     NewNumSeconds,
+    /// `Display` of a date of all years, into an array.
+    PrintDate,
+    /// `Display` of a date-time of all years, into an array.
+    PrintMoment,
+    /// `Display` of a duration, into an array.
+    PrintDuration,
     /// `chrono_reading::read_date`, and the day number of the answer.
     ReadDate,
 }
@@ -86,6 +92,9 @@ pub fn call_named(name: &str) -> Option<Call> {
         "moment_diff" => Call::MomentDiff,
         "duration_add" => Call::DurationAdd,
         "new_num_seconds" => Call::NewNumSeconds,
+        "print_date" => Call::PrintDate,
+        "print_moment" => Call::PrintMoment,
+        "print_duration" => Call::PrintDuration,
         "read_date" => Call::ReadDate,
         _ => match name.split_once('.') {
             Some(("counted", name)) => Call::OfDate(Kind::Counted, date_call_named(name)?),

@@ -12,6 +12,7 @@ mod numbers;
 mod sum_of;
 mod sums;
 mod tables;
+mod written;
 
 use call::{Call, call_named};
 use std::env::{self, Env};

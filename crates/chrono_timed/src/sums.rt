@@ -7,6 +7,7 @@ use crate::tables::{
     counted, date, day, duration, far_date, far_moment, first, moment, packed, second,
     seconds_and_nanos, table, text, time,
 };
+use crate::written::Written;
 use crate::{form_sums, naive_sums, sum_of};
 use chrono_datetime::{Datelike, TimeDelta};
 use chrono_reading::read_date;
@@ -24,6 +25,9 @@ pub fn sum_of_answers(call: Call, count: u64) -> u64 {
         Call::MomentDiff => moment_diff(generator, count),
         Call::DurationAdd => duration_add(generator, count),
         Call::NewNumSeconds => new_num_seconds(generator, count),
+        Call::PrintDate => print_dates(generator, count),
+        Call::PrintMoment => print_moments(generator, count),
+        Call::PrintDuration => print_durations(generator, count),
         Call::ReadDate => read_dates(generator, count),
     }
 }
@@ -110,6 +114,24 @@ fn new_num_seconds(mut generator: Generator, count: u64) -> u64 {
             None => 0,
         }
     })
+}
+
+fn print_dates(mut generator: Generator, count: u64) -> u64 {
+    let dates = table(&mut generator, far_date);
+    let mut written = Written::new();
+    sum_of!(generator, count, drawn => written.of(dates[first(drawn)]))
+}
+
+fn print_moments(mut generator: Generator, count: u64) -> u64 {
+    let moments = table(&mut generator, far_moment);
+    let mut written = Written::new();
+    sum_of!(generator, count, drawn => written.of(moments[first(drawn)]))
+}
+
+fn print_durations(mut generator: Generator, count: u64) -> u64 {
+    let durations = table(&mut generator, duration);
+    let mut written = Written::new();
+    sum_of!(generator, count, drawn => written.of(durations[first(drawn)]))
 }
 
 fn read_dates(mut generator: Generator, count: u64) -> u64 {
