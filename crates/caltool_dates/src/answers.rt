@@ -1,7 +1,7 @@
 //! The answers to commands by dates, times of day and date-times: each by the public call that asks for it.
 use caltool_form::{CommandAnswers, MonthSpan};
 use chrono_datetime::{
-    Datelike, Days, Months, NaiveDate, NaiveDateTime, NaiveTime, TimeDelta, Weekday, WeekdaySet,
+    Datelike, NaiveDate, NaiveDateTime, NaiveTime, TimeDelta, Weekday, WeekdaySet,
 };
 
 /// Answers each command by dates, times of day and date-times.
@@ -33,19 +33,14 @@ impl CommandAnswers for DateAnswers {
     }
 
     fn move_days(date: NaiveDate, count: i64) -> Option<NaiveDate> {
-        let days = Days::new(count.unsigned_abs());
-        if count < 0 {
-            date.checked_sub_days(days)
-        } else {
-            date.checked_add_days(days)
-        }
+        date.moved_by_days(count)
     }
 
     fn move_months(date: NaiveDate, span: MonthSpan) -> Option<NaiveDate> {
-        match span {
-            MonthSpan::Later(months) => date.checked_add_months(Months::new(months)),
-            MonthSpan::Earlier(months) => date.checked_sub_months(Months::new(months)),
-        }
+        date.moved_by_months(match span {
+            MonthSpan::Later(months) => i64::from(months),
+            MonthSpan::Earlier(months) => -i64::from(months),
+        })
     }
 
     #[tactic(auto, unfolding(caltool_form::specs::Named::reach, chrono_datetime::specs::Moment::reach))]
@@ -85,7 +80,7 @@ impl CommandAnswers for DateAnswers {
     }
 
     fn year_month_day(date: NaiveDate) -> (i32, u32, u32) {
-        (date.year(), date.month(), date.day())
+        date.year_month_day()
     }
 
     fn day(date: NaiveDate) -> i32 {
