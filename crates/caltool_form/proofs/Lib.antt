@@ -3,3 +3,4 @@ pub mod Progress
 pub mod Cuts
 pub mod Tests
 pub mod Moments
+pub mod DayNames
