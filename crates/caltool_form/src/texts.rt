@@ -59,7 +59,7 @@ pub(crate) fn push_week_line<A: CommandAnswers, const N: usize>(
     }
 }
 
-#[tactic(auto, unfolding(crate::specs::Answers::week_line))]
+// These two days, each of them `none` where it is no date.
 fn push_week_days<A: CommandAnswers, const N: usize>(
     out: &mut Text<N>,
     date: A::Date,
@@ -163,7 +163,6 @@ fn push_date<A: CommandAnswers, const N: usize>(out: &mut Text<N>, date: A::Date
 }
 
 // A date with all its names.
-#[tactic(auto, unfolding(crate::specs::Answers::names_of))]
 fn push_names<A: CommandAnswers, const N: usize>(out: &mut Text<N>, date: A::Date)
     requires { length out.old + 63 ≤ N }
     ensures text { out.new ≡ out.old ++ names_of (A.number date) }
