@@ -15,7 +15,7 @@ use Rattle.chrono_calendar.proofs.Signed.{signed}
 use Rattle.chrono_datetime.specs.Moment.{Moment, moment_distance, reach}
 use Rattle.chrono_reading.specs.DateTimeTexts.{IsDateTimeText}
 use Rattle.chrono_reading.specs.TimeTexts.{IsTimeText}
-use Rattle.chrono_reading.proofs.FractionLemmas.{IsFractionText-below}
+use Rattle.chrono_text.proofs.FractionLemmas.{IsFractionText-below}
 use Rattle.calendar_c.specs.DateTimes.{duration_named, duration_or_none, moment_named, numbers_of, numbers_or_none}
 use Rattle.calendar_c.specs.declared.date_time_numbers.CalendarDateTime.{CalendarDateTime}
 use Rattle.calendar_c.proofs.DateTimeLemmas.{IsTimeNamed, found, moment_named-facts, moment_named-none, numbers_of-again}

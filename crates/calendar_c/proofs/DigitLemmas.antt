@@ -2,7 +2,7 @@
 use Rattle.std.proofs.Common.{◌≡◌, ℕ, ◌+◌, ◌/◌, ◌%◌, ◌^◌, ◌<◌, ◌≤◌, List, ◌∷◌, ◌++◌, length, refl, ap, sym, ◌∙◌, arith}
 use Rattle.std.specs.Fmt.{decimal}
 use Rattle.chrono_text.specs.Text.{all_digits, subsecond_text, year_digits}
-use Rattle.chrono_reading.proofs.DigitLemmas.{HasDecimalForm, all_digits-written, decimal-read}
+use Rattle.chrono_text.proofs.DigitLemmas.{HasDecimalForm, all_digits-written, decimal-read}
 
 cons3 : (a b c d e f : ℕ) (xs ys : List ℕ) → a ≡ d → b ≡ e → c ≡ f → xs ≡ ys → a ∷ b ∷ c ∷ xs ≡ d ∷ e ∷ f ∷ ys
 cons3 a b c d e f xs ys p q r s = cc
