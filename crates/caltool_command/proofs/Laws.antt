@@ -1,9 +1,9 @@
 -- The laws of words and lines.
-use Rattle.std.proofs.Common.{◌≡◌, ◌==◌, ◌<◌, ℕ, inl, inr, List, [], ◌∷◌, ◌++◌, length, refl, ap, sym, ◌∙◌, subst, arith, append-nil, ℤ, Option, Some, None}
+use Rattle.std.proofs.Common.{◌≡◌, ◌==◌, ◌<◌, ℕ, List, [], ◌∷◌, ◌++◌, length, refl, ap, sym, ◌∙◌, subst, arith, append-nil, ℤ, Option, Some, None}
 use Rattle.std.specs.List.{join_with_byte, AllByRecursion}
 use Rattle.std.specs.Option.{option_map, option_and_then}
 use Rattle.std.proofs.lemmas.List.Splits.{join_with_byte-slice_split, length-slice_split, slice_split_none, slice_split_at}
-use Rattle.chrono_text.specs.Numbers.{WritesNumber, i64_of}
+use Rattle.chrono_text.specs.Numbers.{i64_of}
 use Rattle.chrono_text.proofs.NumberLemmas.{i64_of-read, i64_of-written, mapped}
 use Rattle.caltool_command.specs.Words.{words, IsWord, AreWords}
 use Rattle.caltool_command.specs.Grammar.{numbers_of, arguments_from, arguments_of, WritesNumbers, IsCommandLine}

@@ -1,5 +1,5 @@
 -- Numbers as months and as weekdays.
-use Rattle.std.specs.Prelude.{ℕ, ◌+◌, ◌-◌, ◌^◌, ℤ, pos, negsuc, unsigned_abs, Option}
+use Rattle.std.specs.Prelude.{◌+◌, ◌-◌, ◌^◌, ℤ, pos, negsuc, unsigned_abs, Option}
 use Rattle.std.specs.Option.{option_map}
 use Rattle.chrono_text.specs.Numbers.{within}
 use Rattle.chrono_units.specs.declared.weekday.Weekday.{Weekday}

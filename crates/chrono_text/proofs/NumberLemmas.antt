@@ -1,5 +1,5 @@
 -- The whole numbers that texts write, and where they stand in a text.
-use Rattle.std.proofs.Common.{◌≡◌, ◌≢◌, ◌==◌, ◌<◌, ◌≤◌, ◌+◌, ◌-◌, ◌^◌, min, ℕ, zero, suc, Bool, true, false, cond, inl, inr, ◌⊎◌, List, [], ◌∷◌, ◌++◌, length, get_or, take, drop, refl, ap, sym, ◌∙◌, subst, arith, ℤ, pos, negsuc, neg_ℤ, int_le, FitsSigned, Option, Some, None, take-append-drop, drop-cons, length-take}
+use Rattle.std.proofs.Common.{◌≡◌, ◌≢◌, ◌==◌, ◌<◌, ◌≤◌, ◌+◌, ◌-◌, ◌^◌, min, ℕ, zero, suc, Bool, true, false, cond, inl, inr, List, [], ◌∷◌, ◌++◌, length, get_or, take, drop, refl, ap, sym, ◌∙◌, subst, arith, ℤ, pos, negsuc, neg_ℤ, int_le, FitsSigned, Option, Some, None, take-append-drop, drop-cons, length-take}
 use mir.Val.{bool_byte}
 use Rattle.std.specs.Bool.{MatchBool}
 use Rattle.std.specs.Int.{IsInRange, w64}

@@ -1,4 +1,4 @@
-use Rattle.std.proofs.Common.{◌+◌, ◌∙◌, Some, ap, sym, arith, to_z-of_z, SFits, w64, rules}
+use Rattle.std.proofs.Common.{◌∙◌, Some, ap, sym, arith, to_z-of_z, SFits, w64, rules}
 use Rattle.chrono_text.proofs.NumberLemmas.{has_sign, no_number, number_first, saturated, stands_first}
 use Rattle.chrono_text.proofs.read.number.long_number.Goals as goal
 use Rattle.chrono_text.proofs.read.number.long_number.Goals.{then-len-eq0-via-then-len-eq0, then-len-eq0-via-else-len-eq0+then-not-stands_before}

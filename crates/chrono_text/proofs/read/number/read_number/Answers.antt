@@ -1,4 +1,4 @@
-use Rattle.std.proofs.Common.{◌∙◌, Some, ap, sym, arith, to_z-of_z, SFits, w64, rules}
+use Rattle.std.proofs.Common.{◌∙◌, Some, ap, sym, to_z-of_z, SFits, w64, rules}
 use Rattle.chrono_text.proofs.NumberLemmas.{small_first}
 use Rattle.chrono_text.proofs.read.number.read_number.Goals as goal
 
