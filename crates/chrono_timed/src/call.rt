@@ -55,7 +55,7 @@ pub enum DateCall {
     Day,
     /// `weekday`.
     Weekday,
-    /// `year`, `month` and `day`.
+    /// `year_month_day`.
     YearMonthDay,
     /// `iso_week`.
     IsoWeek,

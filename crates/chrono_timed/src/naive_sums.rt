@@ -43,8 +43,8 @@ fn of_field(
             u64::from(dates[first(drawn)].weekday().num_days_from_monday())
         }),
         DateCall::YearMonthDay => sum_of!(generator, count, drawn => {
-            let date = dates[first(drawn)];
-            of_name(date.year(), date.month(), date.day())
+            let (year, month, day) = dates[first(drawn)].year_month_day();
+            of_name(year, month, day)
         }),
         _ => of_number(dates, call, generator, count),
     }
