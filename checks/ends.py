@@ -179,6 +179,11 @@ def hour12(time):
     return hour >= 12, hour % 12 or 12
 
 
+def landing(time, nanos):
+    days, *reached = land(*time, nanos)
+    return *reached, days
+
+
 def moved_time(time, nanos, sign=1):
     days, *reached = land(*time, sign * nanos)
     return *reached, sign * days * 86_400
@@ -286,6 +291,7 @@ TIMES = {
     "fields": ([TIME], lambda it: (it[0] // 3600, it[0] // 60 % 60, it[0] % 60, it[1])),
     "hour12": ([TIME], hour12),
     **{name: ([TIME] + kinds, change) for name, (kinds, change) in OF_CLOCK.items()},
+    "landing": ([TIME, DURATION], landing),
     "overflowing_add_signed": ([TIME, DURATION], moved_time),
     "overflowing_sub_signed": ([TIME, DURATION], lambda it, by: moved_time(it, by, -1)),
     "signed_duration_since": ([TIME, TIME], lambda it, other: length(apart(it, other))),
@@ -331,6 +337,8 @@ DATES = {
     "succ_opt": ([DATE], lambda it: in_range(it + 1)),
     "pred_opt": ([DATE], lambda it: in_range(it - 1)),
     **{name: ([DATE] + kinds, change) for name, (kinds, change) in {**MOVED, **REPLACED}.items()},
+    "moved_by_days": ([DATE, I64], lambda it, days: in_range(it + days)),
+    "moved_by_months": ([DATE, I64], month_move),
     "checked_add_signed": ([DATE, DURATION], lambda it, by: in_range(it + quotient(by, DAY))),
     "checked_sub_signed": ([DATE, DURATION], lambda it, by: in_range(it - quotient(by, DAY))),
     "and_time": ([DATE, TIME], moment),

@@ -4,7 +4,7 @@ use crate::date_walks::{is_walk_by_days, is_walk_by_weeks};
 use crate::sets::set;
 use crate::words::{
     Words, are, count, date, duration, is_date, is_date_time, is_duration, is_number, is_order,
-    signed, time, unsigned, weekday,
+    signed, time, unsigned, weekday, whole,
 };
 use chrono_datetime::{
     AndTime, Datelike, Days, MAX_DATE, MIN_DATE, Months, NaiveDate, NaiveDateTime,
@@ -55,6 +55,8 @@ fn of_one(name: &str, own: NaiveDate, words: &mut Words<'_>, answer: &str) -> Op
         "checked_sub_days" => own.checked_sub_days(Days::new(count(words)?)),
         "checked_add_months" => own.checked_add_months(Months::new(unsigned(words)?)),
         "checked_sub_months" => own.checked_sub_months(Months::new(unsigned(words)?)),
+        "moved_by_days" => own.moved_by_days(whole(words)?),
+        "moved_by_months" => own.moved_by_months(whole(words)?),
         "every_months" => own.every_months(signed(words)?, unsigned(words)?),
         "first_on" => own.first_on(set(words)?),
         "checked_add_signed" => own.checked_add_signed(duration(words)?),
@@ -144,6 +146,11 @@ fn read(name: &str, own: NaiveDate, answer: &str) -> Option<bool> {
         "num_days_from_ce" => are(answer, &[i64::from(own.num_days_from_ce())]),
         "to_epoch_days" => are(answer, &[i64::from(own.to_epoch_days())]),
         "leap_year" => are(answer, &[i64::from(own.leap_year())]),
+        "year_month_day" => {
+            let (year, month, day) = own.year_month_day();
+            are(answer, &[i64::from(year), i64::from(month), i64::from(day)])
+                && read_any(name, &own, answer)?
+        }
         _ => return read_any(name, &own, answer),
     })
 }

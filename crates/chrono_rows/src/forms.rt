@@ -1,6 +1,6 @@
 //! The calls of a date over each stored form: by the form's own, and by those of [`forms`].
 
-use crate::words::{Words, are, count, is_order, signed, unsigned, weekday};
+use crate::words::{Words, are, count, is_order, signed, unsigned, weekday, whole};
 use chrono_calendar::{DayForm, Steps, forms};
 
 /// Whether the call of that name has that answer over a form; `None` if a form has no such call, or its arguments are not
@@ -41,6 +41,8 @@ fn of_one<F: DayForm>(name: &str, own: F, words: &mut Words<'_>, answer: &str) -
         "checked_sub_days" => moved_by(own, days(words)?.wrapping_neg()),
         "checked_add_months" => forms::move_months(own, i64::from(unsigned(words)?)),
         "checked_sub_months" => forms::move_months(own, -i64::from(unsigned(words)?)),
+        "moved_by_days" => moved_by(own, whole(words)?),
+        "moved_by_months" => forms::move_months(own, whole(words)?),
         "years_since" => {
             return match forms::years_between(&own, &form(words)?) {
                 Some(years) => Some(are(answer, &[i64::from(years)])),

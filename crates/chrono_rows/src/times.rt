@@ -53,6 +53,11 @@ fn of_one(name: &str, own: NaiveTime, words: &mut Words<'_>, answer: &str) -> Op
         "with_minute" => is_time(answer, own.with_minute(unsigned(words)?)),
         "with_second" => is_time(answer, own.with_second(unsigned(words)?)),
         "with_nanosecond" => is_time(answer, own.with_nanosecond(unsigned(words)?)),
+        "landing" => {
+            let (time, days) = own.landing(duration(words)?);
+            let second = i64::from(time.num_seconds_from_midnight());
+            are(answer, &[second, i64::from(time.nanosecond()), days])
+        }
         "overflowing_add_signed" => {
             let by = duration(words)?;
             let mut moved = own;
