@@ -1,6 +1,7 @@
 pub mod SpacedDays
 pub use Rattle.caltool_command.specs.Words
 pub use Rattle.caltool_command.specs.Numbers
+pub use Rattle.caltool_command.specs.Types
 pub use Rattle.caltool_command.specs.Grammar
 pub use Rattle.caltool_command.specs.Commands
 pub mod Lines
