@@ -6,157 +6,116 @@ use std::cell::Cell;
 use std::io::Read;
 use std::test::Fail;
 
-/// Lines and their answers.
-pub const ROWS: [(&[u8], &[u8]); 100] = [
-    (b"ymd 1900 2 29", b"none"),
-    (b"ymd 2024 2 29", b"2024-02-29 738945 Thu 2024-W09 60"),
-    (b"ymd 2024 12 30", b"2024-12-30 739250 Mon 2025-W01 365"),
-    (b"ymd 0 12 31", b"0000-12-31 0 Sun 0000-W52 366"),
-    (b"ymd -1 12 31", b"-0001-12-31 -366 Fri -0001-W52 365"),
-    (
-        b"ymd -262143 1 1",
-        b"-262143-01-01 -95746129 Thu -262143-W01 1",
-    ),
-    (
-        b"ymd 262142 12 31",
-        b"+262142-12-31 95745399 Mon +262143-W01 365",
-    ),
-    (b"ymd 10000 1 1", b"+10000-01-01 3652060 Sat 9999-W52 1"),
-    (b"ymd 262143 1 1", b"none"),
-    (b"ymd -262144 12 31", b"none"),
-    (b"ymd -2147483648 1 1", b"none"),
-    (b"ymd 2147483647 12 31", b"none"),
-    (b"ymd 2147483648 1 1", b"error"),
-    (b"ymd 2024 4294967295 1", b"none"),
-    (b"ymd 2024 4294967296 1", b"error"),
-    (b"ymd 2024 -1 1", b"error"),
-    (b"ymd 2024 -0 1", b"none"),
-    (b"ymd 2024 2", b"error"),
-    (b"ymd 2024 2 29 1", b"error"),
-    (
-        b"ymd 2024 2 0000000000000000000000000000000000000000000000000000000000000000000000000000000000000000000000000000000000029",
-        b"2024-02-29 738945 Thu 2024-W09 60",
-    ),
-    (
-        b"ymd 2024 2 00000000000000000000000000000000000000000000000000000000000000000000000000000000000000000000000000000000000029",
-        b"error",
-    ),
-    (b"ymd 2024 02 029", b"2024-02-29 738945 Thu 2024-W09 60"),
-    (b"", b"error"),
-    (b" ", b"error"),
-    (b"\x00", b"error"),
-    (b"\xff", b"error"),
-    (b"ymd 2024 2 29\r", b"error"),
-    (b"ymd 2024\t2 29", b"error"),
-    (b"ymd 2024 2 29\x00", b"error"),
-    (b"ymd 2024 2 29\xff", b"error"),
-    (b"ymd - 2 29", b"error"),
-    (b"ymd --1 2 29", b"error"),
-    (b"ymd 2024 2 2a", b"error"),
-    (b"ymd 2024 2 29-", b"error"),
-    (b"ymd2024 2 29", b"error"),
-    (b"month 1", b"error"),
-    (b"ymd", b"error"),
-    (b"ymd ", b"error"),
-    (b" ymd 2024 2 29", b"error"),
-    (b"ymd 18446744073709551617 1 1", b"error"),
-    (b"ymd 2024 36893488147419103233 1", b"error"),
-    (b"ymd 2024 2 29 ", b"error"),
-    (b"ymd  2024 2 29", b"error"),
-    (b"ymd +2024 2 29", b"error"),
-    (b"YMD 2024 2 29", b"error"),
-    (b"yo 2024 366", b"2024-12-31 739251 Tue 2025-W01 366"),
-    (b"yo 2023 366", b"none"),
-    (b"yo 2023 0", b"none"),
-    (
-        b"iwd 262143 1 1",
-        b"+262142-12-31 95745399 Mon +262143-W01 365",
-    ),
-    (b"iwd 262143 1 2", b"none"),
-    (b"iwd -2147483648 1 1", b"none"),
-    (b"iwd 2147483647 52 7", b"none"),
-    (b"iwd 2020 53 7", b"2021-01-03 737793 Sun 2020-W53 3"),
-    (b"iwd 2024 53 1", b"none"),
-    (b"iwd 2024 0 1", b"none"),
-    (b"iwd 2024 1 0", b"error"),
-    (b"iwd 2024 1 8", b"error"),
-    (
-        b"day -95746129",
-        b"-262143-01-01 -95746129 Thu -262143-W01 1",
-    ),
-    (b"day -95746130", b"none"),
-    (
-        b"day 95745399",
-        b"+262142-12-31 95745399 Mon +262143-W01 365",
-    ),
-    (b"day 95745400", b"none"),
-    (b"day 0", b"0000-12-31 0 Sun 0000-W52 366"),
-    (b"day 719163", b"1970-01-01 719163 Thu 1970-W01 1"),
-    (b"day 99999999999999999999", b"error"),
-    (b"days 2024 12 31 1", b"2025-01-01 739252 Wed 2025-W01 1"),
-    (b"days 262142 12 31 1", b"none"),
-    (b"days 2024 1 1 -9223372036854775808", b"none"),
-    (b"days 2024 1 1 9223372036854775808", b"error"),
-    (b"days 2025 1 1 -1", b"2024-12-31 739251 Tue 2025-W01 366"),
-    (b"days 2023 2 29 0", b"none"),
-    (b"days 1 1 1 -1", b"0000-12-31 0 Sun 0000-W52 366"),
-    (b"months 2023 1 31 1", b"2023-02-28 738579 Tue 2023-W09 59"),
-    (b"months 2024 3 31 -1", b"2024-02-29 738945 Thu 2024-W09 60"),
-    (b"months 2024 1 1 4294967295", b"none"),
-    (b"months 2024 1 1 4294967296", b"error"),
-    (b"months 2024 1 1 -4294967295", b"none"),
-    (b"months 2024 1 1 -4294967296", b"error"),
-    (
-        b"move 2015 6 30 23 59 59 1500000000 1 0",
-        b"2015-07-01T00:00:00.500",
-    ),
-    (
-        b"move 2015 6 30 23 59 59 1500000000 0 300000000",
-        b"2015-06-30T23:59:60.800",
-    ),
-    (
-        b"move 2015 6 30 23 59 59 1500000000 -1 300000000",
-        b"2015-06-30T23:59:59.800",
-    ),
-    (
-        b"move 2015 6 30 23 59 59 1500000000 0 500000000",
-        b"2015-07-01T00:00:00",
-    ),
-    (
-        b"move 262142 12 31 23 59 59 1500000000 0 499999999",
-        b"+262142-12-31T23:59:60.999999999",
-    ),
-    (
-        b"move 262142 12 31 23 59 59 1500000000 0 500000000",
-        b"none",
-    ),
-    (
-        b"move 2015 7 1 0 0 0 500000000 -1 0",
-        b"2015-06-30T23:59:59.500",
-    ),
-    (
-        b"diff 2015 7 1 1 0 0 0 2015 6 30 23 59 59 1500000000",
-        b"PT3599.5S",
-    ),
-    (b"week 262142 12 31 1", b"+262142-12-31 none"),
-    (b"week -262143 1 1 1", b"none -262143-01-04"),
-    (b"week 2022 5 18 4", b"2022-05-12 2022-05-18"),
-    (b"week 2022 5 18 1", b"2022-05-16 2022-05-22"),
-    (b"week 2023 2 29 1", b"none"),
-    (b"since 2021 2 28 2020 2 29", b"0"),
-    (b"since 2021 3 1 2020 2 29", b"1"),
-    (b"since 2020 2 28 2020 2 29", b"none"),
-    (b"set 3 1 4 7", b"[Mon, Thu, Sun] Thu Sun Mon"),
-    (
-        b"set 1 1 2 3 4 5 6 7",
-        b"[Mon, Tue, Wed, Thu, Fri, Sat, Sun] Mon Tue Wed Thu Fri Sat Sun",
-    ),
-    (b"set 1", b"[]"),
-    (b"set 8 1", b"error"),
-    (b"wom 2017 3 5 2", b"2017-03-10 736398 Fri 2017-W10 69"),
-    (b"wom 2017 2 5 5", b"none"),
-    (b"wom 2017 2 5 0", b"none"),
-];
+// Lines and their answers, a row each: the line, `=`, the answer. One literal is proved faster than two hundred.
+#[rattlefmt::skip]
+const ROWS: &[u8] = b"ymd 1900 2 29=none
+ymd 2024 2 29=2024-02-29 738945 Thu 2024-W09 60
+ymd 2024 12 30=2024-12-30 739250 Mon 2025-W01 365
+ymd 0 12 31=0000-12-31 0 Sun 0000-W52 366
+ymd -1 12 31=-0001-12-31 -366 Fri -0001-W52 365
+ymd -262143 1 1=-262143-01-01 -95746129 Thu -262143-W01 1
+ymd 262142 12 31=+262142-12-31 95745399 Mon +262143-W01 365
+ymd 10000 1 1=+10000-01-01 3652060 Sat 9999-W52 1
+ymd 262143 1 1=none
+ymd -262144 12 31=none
+ymd -2147483648 1 1=none
+ymd 2147483647 12 31=none
+ymd 2147483648 1 1=error
+ymd 2024 4294967295 1=none
+ymd 2024 4294967296 1=error
+ymd 2024 -1 1=error
+ymd 2024 -0 1=none
+ymd 2024 2=error
+ymd 2024 2 29 1=error
+ymd 2024 2 0000000000000000000000000000000000000000000000000000000000000000000000000000000000000000000000000000000000029=2024-02-29 738945 Thu 2024-W09 60
+ymd 2024 2 00000000000000000000000000000000000000000000000000000000000000000000000000000000000000000000000000000000000029=error
+ymd 2024 02 029=2024-02-29 738945 Thu 2024-W09 60
+=error
+ =error
+\x00=error
+\xff=error
+ymd 2024 2 29\r=error
+ymd 2024\t2 29=error
+ymd 2024 2 29\x00=error
+ymd 2024 2 29\xff=error
+ymd - 2 29=error
+ymd --1 2 29=error
+ymd 2024 2 2a=error
+ymd 2024 2 29-=error
+ymd2024 2 29=error
+month 1=error
+ymd=error
+ymd =error
+ ymd 2024 2 29=error
+ymd 18446744073709551617 1 1=error
+ymd 2024 36893488147419103233 1=error
+ymd 2024 2 29 =error
+ymd  2024 2 29=error
+ymd +2024 2 29=error
+YMD 2024 2 29=error
+yo 2024 366=2024-12-31 739251 Tue 2025-W01 366
+yo 2023 366=none
+yo 2023 0=none
+iwd 262143 1 1=+262142-12-31 95745399 Mon +262143-W01 365
+iwd 262143 1 2=none
+iwd -2147483648 1 1=none
+iwd 2147483647 52 7=none
+iwd 2020 53 7=2021-01-03 737793 Sun 2020-W53 3
+iwd 2024 53 1=none
+iwd 2024 0 1=none
+iwd 2024 1 0=error
+iwd 2024 1 8=error
+day -95746129=-262143-01-01 -95746129 Thu -262143-W01 1
+day -95746130=none
+day 95745399=+262142-12-31 95745399 Mon +262143-W01 365
+day 95745400=none
+day 0=0000-12-31 0 Sun 0000-W52 366
+day 719163=1970-01-01 719163 Thu 1970-W01 1
+day 99999999999999999999=error
+days 2024 12 31 1=2025-01-01 739252 Wed 2025-W01 1
+days 262142 12 31 1=none
+days 2024 1 1 -9223372036854775808=none
+days 2024 1 1 9223372036854775808=error
+days 2025 1 1 -1=2024-12-31 739251 Tue 2025-W01 366
+days 2023 2 29 0=none
+days 1 1 1 -1=0000-12-31 0 Sun 0000-W52 366
+months 2023 1 31 1=2023-02-28 738579 Tue 2023-W09 59
+months 2024 3 31 -1=2024-02-29 738945 Thu 2024-W09 60
+months 2024 1 1 4294967295=none
+months 2024 1 1 4294967296=error
+months 2024 1 1 -4294967295=none
+months 2024 1 1 -4294967296=error
+move 2015 6 30 23 59 59 1500000000 1 0=2015-07-01T00:00:00.500
+move 2015 6 30 23 59 59 1500000000 0 300000000=2015-06-30T23:59:60.800
+move 2015 6 30 23 59 59 1500000000 -1 300000000=2015-06-30T23:59:59.800
+move 2015 6 30 23 59 59 1500000000 0 500000000=2015-07-01T00:00:00
+move 262142 12 31 23 59 59 1500000000 0 499999999=+262142-12-31T23:59:60.999999999
+move 262142 12 31 23 59 59 1500000000 0 500000000=none
+move 2015 7 1 0 0 0 500000000 -1 0=2015-06-30T23:59:59.500
+diff 2015 7 1 1 0 0 0 2015 6 30 23 59 59 1500000000=PT3599.5S
+week 262142 12 31 1=+262142-12-31 none
+week -262143 1 1 1=none -262143-01-04
+week 2022 5 18 4=2022-05-12 2022-05-18
+week 2022 5 18 1=2022-05-16 2022-05-22
+week 2023 2 29 1=none
+since 2021 2 28 2020 2 29=0
+since 2021 3 1 2020 2 29=1
+since 2020 2 28 2020 2 29=none
+set 3 1 4 7=[Mon, Thu, Sun] Thu Sun Mon
+set 1 1 2 3 4 5 6 7=[Mon, Tue, Wed, Thu, Fri, Sat, Sun] Mon Tue Wed Thu Fri Sat Sun
+set 1=[]
+set 8 1=error
+wom 2017 3 5 2=2017-03-10 736398 Fri 2017-W10 69
+wom 2017 2 5 5=none
+wom 2017 2 5 0=none";
+
+// The line and the answer of a row.
+fn line_and_answer(row: &[u8]) -> (&[u8], &[u8]) {
+    let mut parts = row.split(|byte| *byte == b'=');
+    let line = parts.next().unwrap_or(&[]);
+    let answer = parts.next().unwrap_or(&[]);
+    (line, answer)
+}
 
 // Lines of recurrence, by weekday and by month, and their answers.
 const RECURRENCE: [(&[u8], &[u8]); 15] = [
@@ -189,19 +148,20 @@ const RECURRENCE: [(&[u8], &[u8]); 15] = [
 /// The lines, with a newline between each two.
 pub fn input(alloc: Global) -> Result<Vec<u8>, AllocError> {
     let mut bytes = Vec::new(alloc);
-    for (index, (line, _)) in ROWS.iter().enumerate() {
+    for (index, row) in ROWS.split(|byte| *byte == b'\n').enumerate() {
         if index > 0 {
             bytes.push(b'\n')?;
         }
-        bytes.extend_from_slice(line)?;
+        bytes.extend_from_slice(line_and_answer(row).0)?;
     }
     Ok(bytes)
 }
 
 #[test]
 fn answers_each_line(rt: HostRuntime) {
-    for (line, answer) in &ROWS {
-        assert_eq!(rt; answer_line(line).as_bytes(), *answer);
+    for row in ROWS.split(|byte| *byte == b'\n') {
+        let (line, answer) = line_and_answer(row);
+        assert_eq!(rt; answer_line(line).as_bytes(), answer);
     }
 }
 
@@ -221,7 +181,7 @@ fn each_line_is_answered_before_the_next_read(rt: HostRuntime) -> Result<(), Fai
         let mut writer = Counter::new(&answered);
         assert_eq!(rt; run(&mut reader, &mut writer), Ok(()));
         assert!(rt; !reader.is_early(), "at {size}");
-        assert_eq!(rt; answered.get(), ROWS.len());
+        assert_eq!(rt; answered.get(), 100);
     }
     Ok(())
 }
