@@ -1,18 +1,7 @@
 //! What a line asks for.
-ghost use Rattle.std.specs.Prelude.{◌≡◌};
-ghost use Rattle.std.specs.Option.{option_and_then};
-ghost use Rattle.caltool_command.specs.Commands.{command_from as the_command_from, command_of};
 
 use crate::arguments::{CalendarDate, DateAndTime, MonthSpan};
-use crate::name::{Name, name_of};
-use crate::numbers::Numbers;
-use crate::read::command_from;
-use crate::words::split_name;
-use chrono_text::Line;
 use chrono_units::{Weekday, WeekdaySet};
-
-// A longer line asks for nothing.
-const LONGEST_LINE: usize = 120;
 
 /// What a line asks for: a command word and its numbers.
 #[derive(Clone, Copy, Debug, PartialEq, Eq)]
@@ -121,36 +110,4 @@ pub enum Command {
         /// Which of the dates, from 0 for the date itself.
         times: u32,
     },
-}
-
-/// The command of a line, given without its newline. `None` if the line has more than 120 bytes, is no
-/// command word with as many numbers as it takes, each within its type, or has a space too many or too few.
-///
-/// Example: `day 719163` asks for `Day { number: 719163 }`.
-pub fn command_of(line: &[u8]) -> Option<Command>
-    ensures { result ≡ command_of line.now }
-{
-    read_command(&Line::whole(line), &mut Numbers::new())
-}
-
-// The command of a line, whose numbers go into the given room.
-fn read_command(line: &Line<'_>, numbers: &mut Numbers) -> Option<Command>
-    ensures { result ≡ command_of line.now }
-{
-    let name = read_line(line, numbers)?;
-    command_from(name, numbers.as_slice())
-}
-
-/// The name that a line begins with, if nothing but numbers follows it; these go into the given room. With them it makes the
-/// command of the line ([`command_from`]).
-pub fn read_line(line: &Line<'_>, numbers: &mut Numbers) -> Option<Name>
-    ensures { command_of line.now ≡ option_and_then (λ name. the_command_from name numbers.new) result }
-{
-    if line.len() > LONGEST_LINE {
-        return None;
-    }
-    let (word, rest) = split_name(line);
-    let name = name_of(word)?;
-    numbers.read(rest, name.ways())?;
-    Some(name)
 }

@@ -6,6 +6,7 @@
 
 mod arguments;
 mod command;
+mod command_line;
 mod law;
 mod name;
 mod numbers;
@@ -16,7 +17,8 @@ mod words;
 pub use arguments::{CalendarDate, ClockTime, DateAndTime, MonthSpan};
 pub use chrono_text::Line;
 pub use chrono_text::law::numbers_are_texts;
-pub use command::{Command, command_of, read_line};
+pub use command::Command;
+pub use command_line::{command_of, read_line};
 pub use law::{lines_are_commands, words_are_unique};
 pub use name::Name;
 pub use numbers::Numbers;

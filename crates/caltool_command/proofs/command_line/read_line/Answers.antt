@@ -2,7 +2,7 @@ use Rattle.std.proofs.Common.{ap, sym, ◌∙◌, arith}
 use Rattle.std.specs.Option.{option_and_then}
 use Rattle.caltool_command.specs.Commands.{command_from}
 use Rattle.caltool_command.proofs.Commands.{command_of-long, command_of-some, command_of-no_name, command_of-no_numbers}
-use Rattle.caltool_command.proofs.command.read_line.Goals as goal
+use Rattle.caltool_command.proofs.command_line.read_line.Goals as goal
 
 pub returns-then-len-gt-LONGEST_LINE : goal.returns-then-len-gt-LONGEST_LINE
 returns-then-len-gt-LONGEST_LINE c = command_of-long c.args.line.now (omega arith)
