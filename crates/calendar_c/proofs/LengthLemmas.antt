@@ -1,8 +1,6 @@
 -- A text that fits is written whole.
 use Rattle.std.proofs.Common.{◌≡◌, ℕ, ◌≤◌, nat_le, true, List, length, Option, Some, None, arith, ap, ℤ, pos}
 use Rattle.std.proofs.lemmas.Bool.Decides.{nat_tests}
-use Rattle.chrono_calendar.specs.Days.{IsDate, date_of_day}
-use Rattle.chrono_calendar.proofs.NamedDates.{date_of_day-Some}
 use Rattle.chrono_datetime.specs.Moment.{Moment}
 use Rattle.calendar_c.specs.Answers.{count_or_none}
 use Rattle.calendar_c.specs.Texts.{length_of, text_within}
@@ -11,13 +9,6 @@ pub enough : (written text : List ℕ) (room : ℕ) → written ≡ text → len
 enough written text room e h =
     let test : nat_le (length written) room ≡ true = grind (arith, nat_tests, h) in
     rw test (ap (λ (t : List ℕ). pos (length t)) e)
-
-unclear : (o : Option ℤ) (n : ℤ) → None ≡ o → o ≡ Some n → ⊥
-unclear None n e f = absurd cc
-unclear (Some m) n e f = absurd cc
-
-pub no_date : (n : ℤ) → None ≡ date_of_day n → IsDate n → ⊥
-no_date n e h = unclear (date_of_day n) n e (date_of_day-Some n h)
 
 -- a date is the one that its number names
 pub the_date : (o : Option ℤ) (n m : ℤ) → Some m ≡ o → o ≡ Some n → m ≡ n

@@ -4,7 +4,7 @@
 //! What answers a command is a type with [`CommandAnswers`], and whatever it is, the answers are the
 //! same. [`answer_form`] and [`run_form`] answer over any stored form of dates.
 //!
-//! It passes on the names of `caltool_command`, which reads a line, and of `chrono_text`, which writes.
+//! It passes on the names of `caltool_command`, which reads a line, and `Text` of `chrono_text`, which holds what is written.
 #![tactic(auto)]
 
 mod answer;

@@ -43,6 +43,9 @@ pub date_of_day-Some : (n : ℤ) → IsDate n → date_of_day n ≡ Some n
 unfolding date_of_day
 date_of_day-Some n h = rw (is_date-test n h) refl
 
+pub none-date_of_day : (n : ℤ) → None ≡ date_of_day n → IsDate n → ⊥
+none-date_of_day n h date = let found = date_of_day-Some n date in cc
+
 -- a number that gives a date is that date's
 pub date_of_day-number : (n m : ℤ) → date_of_day m ≡ Some n → IsDate n × (m ≡ n)
 unfolding date_of_day

@@ -116,7 +116,7 @@ pub trait DayForm: Copy + Ord + Hash {
     }
 
     /// The date `k` months later, or earlier for a negative `k`: on the same day of the month, or on the month's last day if
-    /// that is earlier. `None` if the year of that month is not from -262,143 to 262,142.
+    /// that is earlier. `None` exactly if the year of that month is not from -262,143 to 262,142.
     #[inline]
     fn move_months(self, k: i64) -> Option<Self>
         ensures { option_map number result ≡ month_move (number self) k }

@@ -150,7 +150,7 @@ impl NaiveTime {
         (time, days * SECS_PER_DAY as i64)
     }
 
-    /// The time that a duration leads to, and the whole days that it passes, negative for days back.
+    /// The time that a duration leads to, and the whole days that it passes, negative for days back and fewer than 2^40.
     ///
     /// It is the move of [`overflowing_add_signed`](Self::overflowing_add_signed), counted in days: five seconds after
     /// 23:59:58 it is 00:00:03, one day on, and five seconds before 00:00:03 it is 23:59:58, one day back.

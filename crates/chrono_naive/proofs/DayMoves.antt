@@ -5,7 +5,7 @@ use Rattle.std.proofs.Math.IntN.{neg_ℤ-neg_ℤ}
 use Rattle.chrono_clock.specs.Duration.{nanos_per_day, whole_units}
 use Rattle.chrono_calendar.specs.Days.{IsDate, is_date, date_of_day}
 use Rattle.chrono_calendar.proofs.Dates.{is_date-fact, date_of_day-SomeIff}
-use Rattle.chrono_calendar.proofs.NamedDates.{date_of_day-Some}
+pub use Rattle.chrono_calendar.proofs.NamedDates.{none-date_of_day}
 use Rattle.chrono_calendar.proofs.Signed.{signed}
 
 if_tested : (b : Bool) (n e : ℤ) → Some e ≡ cond b (Some n) None → (b ≡ true) × (e ≡ n)
@@ -16,9 +16,6 @@ if_tested false n e h = (cc, cc)
 pub some-date_of_day : (n e : ℤ) → Some e ≡ date_of_day n → IsDate n × (e ≡ n)
 unfolding date_of_day
 some-date_of_day n e h = let found = if_tested (is_date n) n e h in (is_date-fact n found.0, found.1)
-
-pub none-date_of_day : (n : ℤ) → None ≡ date_of_day n → IsDate n → ⊥
-none-date_of_day n h date = let found = date_of_day-Some n date in cc
 
 -- so there is an answer exactly if the number is a date's
 pub IsSome-date_of_day : (o : Option ℤ) (n : ℤ) → o ≡ date_of_day n → IsSome o ↔ IsDate n

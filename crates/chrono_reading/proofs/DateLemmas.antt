@@ -140,9 +140,6 @@ pub week_date_text-joined : (text : List ℕ) (y : ℤ) (w : ℕ) (d : Weekday) 
     → week_text y w ++ 45 ∷ (48 + number_from_monday d) ∷ [] ≡ text
 week_date_text-joined text y w d k front end = week_date_text-parts y w d ∙ joined (year_text y) (week_tail w d) text k front end
 
-pub iso_year-small : (y : ℤ) → IsIsoYear y → unsigned_abs y < 1_000_000
-iso_year-small y h = grind (arith, ints, h.0, h.1)
-
 pub found_by_week : (r : Option ℤ) (y z : ℤ) (w v : ℕ) (d e : Weekday) (n : ℤ) → r ≡ date_of_iso y w d → Some y ≡ Some z
     → ◌≡◌ {A = Option (ℕ × Weekday)} (Some (w, d)) (Some (v, e)) → date_of_iso z v e ≡ Some n → r ≡ Some n
 found_by_week r y z w v d e n found year tail names = let parts = some_pair_parts w v d e tail in cc

@@ -9,8 +9,8 @@ use crate::time_text::{NANOS_PER_MICRO, NANOS_PER_MILLI};
 impl<const N: usize> Text<N> {
     /// Puts a duration of so many seconds and nanoseconds past them (ISO 8601 duration), as `-PT0.5S`.
     ///
-    /// The seconds have at most 16 digits, the nanoseconds are below 1,000,000,000, and there is room for 30 bytes. Seconds and
-    /// nanoseconds of 0 are put as `PT0S`.
+    /// The seconds have at most 16 digits, the nanoseconds are below 1,000,000,000, and there is room for 33 bytes, of which at
+    /// most 30 are put. Seconds and nanoseconds of 0 are put as `PT0S`.
     pub fn push_seconds(&mut self, negative: bool, seconds: u64, nanos: u32)
         requires seconds { seconds < 10 ^ 16 }
         requires nanos { nanos < nanos_per_second }

@@ -1,5 +1,5 @@
-//! Numbers as texts, and back: the room of bytes that all texts are put into, [`Text`], with one writer of each text of ISO 8601, and
-//! one reader of digits, of whole numbers, of fractions and of years.
+//! Numbers as texts, and back: the room of bytes that all texts are put into, [`Text`], with one writer of each text of ISO 8601 that is
+//! printed here, and one reader of digits, of whole numbers, of fractions and of years.
 //!
 //! Here are numbers and bytes alone. What a year, a month or a weekday is, the crates above know; they put the texts of their values
 //! together by these writers, and take them apart by these readers.

@@ -82,7 +82,7 @@ pub fn name(generator: &mut Generator) -> (i32, u32, u32)
     (year, month, day)
 }
 
-/// The text of a date of those years, as in `2024-02-29`.
+/// The text of a date of those years, as in `2024-02-29`, put together by hand: reading is timed on texts that no writer made.
 pub fn text(generator: &mut Generator) -> [u8; 10] {
     let date = date(generator);
     let (year, month, day) = (date.year().unsigned_abs(), date.month(), date.day());

@@ -55,7 +55,6 @@ fn short_name(day: Weekday) -> &'static str
 
 impl WeekdaySet {
     /// Puts the members from Monday on in brackets, as `[Mon, Thu]`, behind a text. There is room for 35 bytes.
-    #[tactic(auto, using(crate::proofs::WalkLengths::walks))]
     pub fn put_into<const N: usize>(self, text: &mut Text<N>)
         requires { length text.old + 35 ≤ N }
         ensures text { text.new ≡ text.old ++ set_text self }

@@ -12,7 +12,8 @@ use std::fmt;
 const LONGEST: usize = 18;
 
 impl NaiveTime {
-    /// Puts the time as ISO 8601 writes it, as `23:59:60.500`, behind a text. There is room for 18 bytes.
+    /// Puts the time as ISO 8601 writes it, with none, 3, 6 or 9 digits of its fraction, as `23:59:60.500`, behind a text. A leap
+    /// second shows as one second more. There is room for 18 bytes.
     #[inline]
     pub fn put_into<const N: usize>(&self, text: &mut Text<N>)
         requires { length text.old + 18 ≤ N }

@@ -12,8 +12,8 @@ use std::fmt;
 const LONGEST: usize = 32;
 
 impl NaiveDateTime {
-    /// Puts the date, a character and the time of day, as `2024-02-29T23:59:60.500` (ISO 8601 date and time of day, where the
-    /// character is a `T`), behind a text. There is room for 32 bytes.
+    /// Puts the date, the separator and the time of day, as `2024-02-29T23:59:60.500` (ISO 8601 date and time of day, where the
+    /// separator is a `T`), behind a text. There is room for 32 bytes; they are ASCII if the separator is.
     #[inline]
     pub fn put_into<const N: usize>(&self, text: &mut Text<N>, separator: u8)
         requires { length text.old + 32 ≤ N }

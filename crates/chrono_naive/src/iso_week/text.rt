@@ -12,8 +12,8 @@ use std::fmt;
 const LONGEST: usize = 11;
 
 impl IsoWeek {
-    /// Puts the ISO year, `-W` and the week (ISO 8601 week date, without its day), as `2025-W01`, behind a text. There is room for
-    /// 11 bytes.
+    /// Puts the ISO year, `-W` and the week (ISO 8601 week date, without its day), as `2025-W01`, behind a text; a year
+    /// before 0 or after 9999 has its sign. There is room for 11 bytes.
     #[inline]
     pub fn put_into<const N: usize>(&self, text: &mut Text<N>)
         requires { length text.old + 11 ≤ N }

@@ -12,7 +12,8 @@ use std::fmt;
 const LONGEST: usize = 13;
 
 impl NaiveDate {
-    /// Puts the calendar name (ISO 8601 calendar date), as `2024-02-29`, behind a text. There is room for 13 bytes.
+    /// Puts the calendar name (ISO 8601 calendar date), as `2024-02-29`, behind a text; a year before 0 or after 9999 has its
+    /// sign. There is room for 13 bytes.
     #[inline]
     pub fn put_into<const N: usize>(&self, text: &mut Text<N>)
         requires { length text.old + 13 ≤ N }

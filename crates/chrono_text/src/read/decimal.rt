@@ -4,7 +4,7 @@ ghost use Rattle.std.specs.Fmt.{decimal};
 
 use crate::read::places::value_of_all;
 
-/// The number that the text writes in decimal with no 0 in front, if it has at most 18 digits.
+/// The number below 10^18 that the text writes in decimal, with no 0 in front of others; `None` exactly if there is none.
 #[inline]
 pub fn read_decimal(text: &[u8]) -> Option<u64>
     ensures some { IfSome result (λ n. (n < 10 ^ 18) × (decimal n ≡ text.now)) }

@@ -12,7 +12,7 @@ use crate::read::way::Way;
 const MINUS: u8 = b'-';
 
 /// The whole number that stands in front of a text, before the byte `stop` or the end, if it fits an `i64`, and how many bytes
-/// it takes: an optional `-` and one digit or more. `stop` is no digit.
+/// it takes: an optional `-` and one digit or more. `stop` is no digit. `None` exactly if none stands there or it does not fit.
 ///
 /// Example: of `-42 7`, before a space, the number is -42, which takes 3 bytes.
 #[inline(always)]

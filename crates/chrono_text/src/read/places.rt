@@ -7,7 +7,7 @@ ghost use Rattle.chrono_text.specs.Text.{two_digits, all_digits};
 use crate::read::digit::digit;
 use crate::read::front::leading_digits;
 
-/// The number that two digits write, if these bytes are digits.
+/// The number below 100 that two digits write; `None` exactly if one of the bytes is no digit.
 #[inline]
 pub fn read_two(tens: u8, ones: u8) -> Option<u32>
     ensures some { IfSome result (λ n. (n < 100) × (two_digits n ≡ tens ∷ ones ∷ [])) }
@@ -21,7 +21,7 @@ pub fn read_two(tens: u8, ones: u8) -> Option<u32>
     Some(10 * u32::from(tens) + u32::from(ones))
 }
 
-/// The number that three digits write, if these bytes are digits.
+/// The number below 1,000 that three digits write; `None` exactly if one of the bytes is no digit.
 #[inline]
 pub fn read_three(hundreds: u8, tens: u8, ones: u8) -> Option<u32>
     ensures some { IfSome result (λ n.
@@ -37,7 +37,7 @@ pub fn read_three(hundreds: u8, tens: u8, ones: u8) -> Option<u32>
     Some(10 * front + u32::from(last))
 }
 
-/// The number that four digits write, if these bytes are digits.
+/// The number below 10,000 that four digits write; `None` exactly if one of the bytes is no digit.
 #[inline]
 pub fn read_four(digits: [u8; 4]) -> Option<u32>
     ensures some { IfSome result (λ n. (n < 10_000) × (all_digits 4 n ≡ digits)) }

@@ -6,7 +6,7 @@ ghost use Rattle.chrono_text.specs.Text.{year_digits, year_text};
 use crate::read::decimal::read_decimal;
 use crate::read::places::read_four;
 
-/// The year that the text writes as it is printed, if it has at most six digits: four from 0 to 9999, and else a sign and at least
+/// The year that the text writes as it is printed (ISO 8601, with a sign where it is expanded), if it has at most six digits: four from 0 to 9999, and else a sign and at least
 /// four, with no 0 in front of five or six.
 #[inline]
 pub fn read_year(text: &[u8]) -> Option<i32>

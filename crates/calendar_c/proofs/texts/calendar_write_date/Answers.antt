@@ -1,11 +1,11 @@
 use Rattle.std.proofs.Common.{◌≡◌, ◌∙◌, ◌++◌, ap, [], List, ℕ, ℤ, Option, Some, length, arith, FitsSigned, rules, w32}
 use Rattle.std.proofs.lemmas.Int.{to_z-of_z}
 use Rattle.std.specs.Option.{option_map}
-use Rattle.chrono_calendar.proofs.NamedDates.{date_of_day-Some}
+use Rattle.chrono_calendar.proofs.NamedDates.{date_of_day-Some, none-date_of_day}
 use Rattle.chrono_datetime.specs.DateText.{date_text}
 use Rattle.calendar_c.specs.Answers.{count_or_none}
 use Rattle.calendar_c.specs.Texts.{length_of, overwritten, text_within}
-use Rattle.calendar_c.proofs.LengthLemmas.{enough, no_date, the_date}
+use Rattle.calendar_c.proofs.LengthLemmas.{enough, the_date}
 use Rattle.calendar_c.proofs.texts.calendar_write_date.Goals as goal
 
 -- the bytes that were put are the text of the date that was found
@@ -27,7 +27,7 @@ returns-clause-bytes c =
 
 pub returns-in_default-clause-enough : goal.returns-in_default-clause-enough
 returns-in_default-clause-enough c =
-    λ date _. absurd (no_date c.args.date (rw (to_z-of_z w32 c.args.date c.ranges.date) at c.in_default.ensures.date) date)
+    λ date _. absurd (none-date_of_day c.args.date (rw (to_z-of_z w32 c.args.date c.ranges.date) at c.in_default.ensures.date) date)
 
 pub returns-clause-enough : goal.returns-clause-enough
 returns-clause-enough c =
