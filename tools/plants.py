@@ -6,7 +6,11 @@ A file of edits holds those of one source module: a line `file: src/PATH`, and t
 
   tools/plants.py [NAME ..]      the crates of these names, or all
   tools/plants.py --all ..       the edits of must-fail/ with them
+  tools/plants.py --twins ..     the twins of both, which have to be proved
   tools/plants.py --jobs N ..    N crates side by side; each takes one processor and 1 to 3 GB
+
+A twin is a right body in the shape of a wrong one: a line `same: TEXT` behind a line `new: TEXT`, put in the same place. Where it is proved,
+the wrong body is refused for what it means, and not for its shape.
 
 To be run before a release, and in a crate whenever one of its contracts changes. It works on a copy of what is committed,
 below $TMPDIR, in which the plants stand where the kit's own `rt must-fail` looks for edits. A crate is built in the copy before
@@ -74,6 +78,42 @@ def run(words, folder):
         return ran.returncode, out.read(), used.ru_utime + used.ru_stime
 
 
+def twin_of(edit):
+    """The edit with each `same:` text in place of the `new:` text above it, or nothing if it has none."""
+    lines = []
+    for line in edit.splitlines():
+        if line.startswith("same: "):
+            lines[-1] = f"new: {line.removeprefix('same: ')}"
+        else:
+            lines.append(line)
+    return "\n".join(lines) if "\nsame: " in edit else None
+
+
+def twins_in(folder):
+    """The twins of the edits that stand in must-fail/ of a crate of the copy, by name."""
+    edits, found = f"{folder}/must-fail", {}
+    for name in sorted(os.listdir(edits)) if os.path.isdir(edits) else []:
+        with open(f"{edits}/{name}", encoding="utf-8") as it:
+            twin = twin_of(it.read())
+        if twin:
+            found[name.removesuffix(".edit")] = twin
+    return found
+
+
+def try_twins(rt, crate, twins):
+    """Checks a crate with each twin; how many were proved, and what is to be said of the others."""
+    flags, said = ["--jobs", "1"], []
+    with tempfile.TemporaryDirectory(prefix="twins-") as kept:
+        rt.checked(crate, {}, flags, kept)
+        for name, twin in twins.items():
+            texts, why = rt.edited(twin, crate.folder)
+            ran = None if why else rt.checked(crate, texts, flags, kept)
+            if why or ran.returncode:
+                errors = why or next((it for it in ran.stdout.splitlines() if ": error" in it), ran.stdout[-300:])
+                said.append(f"twin {crate.name}/{name}: NOT PROVED: {errors}")
+    return len(twins) - len(said), said
+
+
 def try_crate(copy, name, count):
     """Tries the edits of a crate; how many were refused, the processor seconds, and what is to be said."""
     status, printed, used = run(["rt", "must-fail", name], copy)
@@ -86,30 +126,32 @@ def try_crate(copy, name, count):
     return len(refused) if not status else min(len(refused), count - 1), used, said
 
 
-def main():
-    words = argparse.ArgumentParser(description=__doc__, formatter_class=argparse.RawDescriptionHelpFormatter)
-    words.add_argument("names", nargs="*", metavar="NAME")
-    words.add_argument("--all", action="store_true")
-    words.add_argument("--jobs", type=int, default=1, metavar="N")
-    asked = words.parse_args()
-    os.chdir(TOP)
-    with tempfile.TemporaryDirectory(prefix="plants-") as room:
-        copy = copy_of_head(room)
-        crates = {it.name: it for it in load_rt().rtlib.crates_below(copy)}
-        lost = [it for it in asked.names if it not in crates]
-        if lost:
-            sys.exit(f"crates.txt has no crate {lost[0]}")
-        tried = {it: put_in_place(f"{copy}/crates/{it}", asked.all) for it in asked.names or crates}
-        tried = {name: count for name, count in tried.items() if count}
-        for name in crates:
-            take_built(copy, name)
-        # The libraries first, one after another: crates that are tried side by side share them.
-        for name in tried:
-            status, printed, _ = run(["rt", "lib" if not crates[name].is_program else "check"], f"{copy}/crates/{name}")
-            if status:
-                sys.exit(f"{name} is not proved, so no edit of it was tried: {printed[-600:]}")
-        with concurrent.futures.ThreadPoolExecutor(max(asked.jobs, 1)) as pool:
-            found = dict(zip(tried, pool.map(lambda it: try_crate(copy, *it), tried.items())))
+def build(copy, crates, names):
+    """Builds the crates in the copy, one after another, since those that are tried side by side share their libraries."""
+    for name in crates:
+        take_built(copy, name)
+    for name in names:
+        status, printed, _ = run(["rt", "lib" if not crates[name].is_program else "check"], f"{copy}/crates/{name}")
+        if status:
+            sys.exit(f"{name} is not proved, so no edit of it was tried: {printed[-600:]}")
+
+
+def try_all_twins(rt, crates, twins, jobs):
+    """Tries the twins of all crates; the exit status."""
+    with concurrent.futures.ThreadPoolExecutor(jobs) as pool:
+        found = list(pool.map(lambda it: try_twins(rt, crates[it], twins[it]), twins))
+    for _, said in found:
+        for text in said:
+            print(text)
+    proved, count = sum(it for it, _ in found), sum(map(len, twins.values()))
+    print(f"{proved} twins proved, {count - proved} not")
+    return 1 if proved < count else 0
+
+
+def try_all_edits(copy, tried, jobs):
+    """Tries the edits of all crates; the exit status."""
+    with concurrent.futures.ThreadPoolExecutor(jobs) as pool:
+        found = dict(zip(tried, pool.map(lambda it: try_crate(copy, *it), tried.items())))
     for _, _, said in found.values():
         for text in said:
             print(text)
@@ -118,6 +160,31 @@ def main():
     refused, used = (sum(it[part] for it in found.values()) for part in (0, 1))
     print(f"{refused} passed, {sum(tried.values()) - refused} failed, {used:.0f} processor seconds")
     return 1 if refused < sum(tried.values()) else 0
+
+
+def main():
+    words = argparse.ArgumentParser(description=__doc__, formatter_class=argparse.RawDescriptionHelpFormatter)
+    words.add_argument("names", nargs="*", metavar="NAME")
+    words.add_argument("--all", action="store_true")
+    words.add_argument("--twins", action="store_true")
+    words.add_argument("--jobs", type=int, default=1, metavar="N")
+    asked = words.parse_args()
+    os.chdir(TOP)
+    rt, jobs = load_rt(), max(asked.jobs, 1)
+    with tempfile.TemporaryDirectory(prefix="plants-") as room:
+        copy = copy_of_head(room)
+        crates = {it.name: it for it in rt.rtlib.crates_below(copy)}
+        lost = [it for it in asked.names if it not in crates]
+        if lost:
+            sys.exit(f"crates.txt has no crate {lost[0]}")
+        tried = {it: put_in_place(f"{copy}/crates/{it}", asked.all or asked.twins) for it in asked.names or crates}
+        tried = {name: count for name, count in tried.items() if count}
+        if asked.twins:
+            twins = {name: found for name in tried if (found := twins_in(f"{copy}/crates/{name}"))}
+            build(copy, crates, twins)
+            return try_all_twins(rt, crates, twins, jobs)
+        build(copy, crates, tried)
+        return try_all_edits(copy, tried, jobs)
 
 
 if __name__ == "__main__":

@@ -12,6 +12,7 @@ mod name;
 mod numbers;
 mod read;
 mod types;
+mod ways;
 mod words;
 
 pub use arguments::{CalendarDate, ClockTime, DateAndTime, MonthSpan};

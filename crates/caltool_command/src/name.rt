@@ -1,8 +1,9 @@
 //! The command words.
-ghost use Rattle.std.specs.Prelude.{◌≡◌, ◌<◌, length};
+ghost use Rattle.std.specs.Prelude.{◌≡◌};
 ghost use Rattle.caltool_command.specs.Commands.{name_of};
 
-use chrono_text::Way::{self, DigitByDigit, InLanes, Short};
+use crate::ways::Ways;
+use chrono_text::Way::{DigitByDigit, InLanes, Short};
 
 /// A command word: what a line begins with.
 #[derive(Clone, Copy, Debug, PartialEq, Eq)]
@@ -40,23 +41,22 @@ pub enum Name {
 impl Name {
     // How each of the command's numbers is best read; the last way is that of all further ones, too. A month, an hour or a weekday
     // has one digit or two; a year, a fraction or a count may have more. An ordinal ends its line, so no other number waits for it.
-    pub(crate) fn ways(self) -> &'static [Way]
-        ensures { 0 < length result.now }
-    {
+    #[inline]
+    pub(crate) fn ways(self) -> Ways {
         match self {
             Name::Ymd | Name::Iwd | Name::Wom | Name::Week | Name::On | Name::Every => {
-                &[InLanes, Short]
+                Ways::of(&[InLanes, Short])
             }
-            Name::Yo => &[InLanes, DigitByDigit],
-            Name::Day => &[InLanes],
-            Name::Days | Name::Months => &[InLanes, Short, Short, InLanes],
-            Name::Move => &[InLanes, Short, Short, Short, Short, Short, InLanes],
-            Name::Diff => &[
+            Name::Yo => Ways::of(&[InLanes, DigitByDigit]),
+            Name::Day => Ways::of(&[InLanes]),
+            Name::Days | Name::Months => Ways::of(&[InLanes, Short, Short, InLanes]),
+            Name::Move => Ways::of(&[InLanes, Short, Short, Short, Short, Short, InLanes]),
+            Name::Diff => Ways::of(&[
                 InLanes, Short, Short, Short, Short, Short, InLanes, InLanes, Short, Short, Short,
                 Short, Short, InLanes,
-            ],
-            Name::Since => &[InLanes, Short, Short, InLanes, Short],
-            Name::Set => &[Short],
+            ]),
+            Name::Since => Ways::of(&[InLanes, Short, Short, InLanes, Short]),
+            Name::Set => Ways::of(&[Short]),
         }
     }
 }

@@ -4,8 +4,9 @@ ghost use Rattle.std.specs.Option.{option_map};
 ghost use Rattle.caltool_command.specs.Words.{EndsWord};
 ghost use Rattle.caltool_command.specs.Grammar.{numbers_behind};
 
+use crate::ways::Ways;
 use crate::words::next_number;
-use chrono_text::{Line, Way};
+use chrono_text::Line;
 use std::marker::Model;
 
 // No line of 120 bytes has more numbers.
@@ -37,20 +38,17 @@ impl Numbers {
         }
     }
 
-    // Reads the numbers behind the first space of a text, in the place of those held. Each of `ways` tells how a number is
-    // best read, and the last of them is for all others too.
-    pub(crate) fn read(&mut self, text: Line<'_>, ways: &[Way]) -> Option<()>
-        requires some { 0 < length ways.now }
+    // Reads the numbers behind the first space of a text, in the place of those held. What is read does not depend on `ways`.
+    pub(crate) fn read(&mut self, text: Line<'_>, ways: Ways) -> Option<()>
         requires space { EndsWord text }
         requires short { length text ≤ 120 }
         ensures { numbers_behind text.entry ≡ option_map (λ _. self.new) result }
     {
         self.clear();
-        let last = ways.len() - 1;
         let mut rest = text;
+        let mut ways = ways;
         while !rest.is_empty() {
-            let way = ways[self.len.min(last)];
-            let (number, after) = next_number(&rest.skip(1), way)?;
+            let (number, after) = next_number(&rest.skip(1), ways.next())?;
             self.push(number);
             rest = after;
         }

@@ -1,13 +1,15 @@
 //! Tables of arguments, drawn before the calls are made.
-ghost use Rattle.std.specs.Prelude.{◌≡◌, ◌<◌, ◌+◌, ◌*◌, ◌%◌, unsigned_abs};
+ghost use Rattle.std.specs.Prelude.{◌≡◌, ◌<◌, ◌*◌, unsigned_abs};
 ghost use Rattle.chrono_datetime.specs.Duration.{nanos_per_second};
 ghost use Rattle.chrono_datetime.specs.Time.{IsPlain};
 ghost use Rattle.chrono_timed.specs.Drawn.{IsDrawnDay, IsDrawnName};
 
 use crate::generator::Generator;
 use chrono_calendar::{DayForm, Steps};
+use chrono_clock::SECS_PER_DAY;
 use chrono_datetime::{Datelike, NaiveDate, NaiveDateTime, NaiveTime, TimeDelta};
 use chrono_stored::{CountedForm, PackedForm};
+use chrono_text::{NANOS_PER_SEC, Text};
 
 /// How many arguments a table has.
 pub const SIZE: usize = 1024;
@@ -22,6 +24,11 @@ const DAYS: u64 = 146_097;
 const FAR_FIRST_DAY: i32 = -95_700_000;
 
 const FAR_DAYS: u64 = 191_400_000;
+
+// How many bytes the text of a date of the years 0 to 9999 has, and that of any date at most.
+const TEXT: usize = 10;
+
+const LONGEST_TEXT: usize = 13;
 
 /// The place in a table that the ten highest binary digits of a drawn number name.
 #[inline]
@@ -82,37 +89,19 @@ pub fn name(generator: &mut Generator) -> (i32, u32, u32)
     (year, month, day)
 }
 
-/// The text of a date of those years, as in `2024-02-29`, put together by hand: reading is timed on texts that no writer made.
-pub fn text(generator: &mut Generator) -> [u8; 10] {
-    let date = date(generator);
-    let (year, month, day) = (date.year().unsigned_abs(), date.month(), date.day());
-    [
-        digit(year / 1_000),
-        digit(year / 100),
-        digit(year / 10),
-        digit(year),
-        b'-',
-        digit(month / 10),
-        digit(month),
-        b'-',
-        digit(day / 10),
-        digit(day),
-    ]
-}
-
-// The last digit of a number.
-fn digit(n: u32) -> u8
-    ensures { result ≡ 48 + n % 10 }
-{
-    b'0' + (n % 10) as u8
+/// The text of a date of those years, as in `2024-02-29`.
+pub fn text(generator: &mut Generator) -> [u8; TEXT] {
+    let mut text = Text::<LONGEST_TEXT>::new();
+    date(generator).put_into(&mut text);
+    *text.as_bytes().first_chunk().unwrap_or(&[0; TEXT])
 }
 
 /// A time in no leap second.
 pub fn time(generator: &mut Generator) -> NaiveTime
     ensures { IsPlain result }
 {
-    let second = generator.below(86_400) as u32;
-    let nano = generator.below(1_000_000_000) as u32;
+    let second = generator.below(u64::from(SECS_PER_DAY)) as u32;
+    let nano = generator.below(u64::from(NANOS_PER_SEC)) as u32;
     NaiveTime::from_num_seconds_from_midnight_opt(second, nano).unwrap()
 }
 
@@ -160,7 +149,7 @@ pub fn duration(generator: &mut Generator) -> TimeDelta
     ensures { unsigned_abs result < 1_000_000_001 * nanos_per_second }
 {
     let seconds = generator.below(2_000_000_001) as i64 - 1_000_000_000;
-    let nanos = generator.below(1_000_000_000) as i64;
+    let nanos = generator.below(u64::from(NANOS_PER_SEC)) as i64;
     TimeDelta::seconds(seconds) + TimeDelta::nanoseconds(nanos)
 }
 
@@ -169,5 +158,5 @@ pub fn seconds_and_nanos(generator: &mut Generator) -> (i64, u32)
     ensures { result.1 < nanos_per_second }
 {
     let seconds = generator.below(2_000_000_001) as i64 - 1_000_000_000;
-    (seconds, generator.below(1_000_000_000) as u32)
+    (seconds, generator.below(u64::from(NANOS_PER_SEC)) as u32)
 }
