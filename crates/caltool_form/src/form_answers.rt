@@ -8,7 +8,7 @@ use crate::command_answers::CommandAnswers;
 use crate::fault::RunFault;
 use crate::run::run_by;
 use caltool_command::MonthSpan;
-use chrono_calendar::{DayForm, Steps, forms};
+use chrono_calendar::{DayForm, forms};
 use chrono_clock::{NaiveTime, TimeDelta};
 use chrono_units::{Weekday, WeekdaySet};
 use std::io::{Read, Write};
@@ -37,7 +37,7 @@ impl<F: DayForm> CommandAnswers for FormAnswers<F> {
     }
 
     fn from_day(day: i32) -> Option<F> {
-        F::from_day(day, &mut Steps::new())
+        forms::from_day(day)
     }
 
     fn nth_weekday(year: i32, month: u32, weekday: Weekday, nth: u8) -> Option<F> {
@@ -45,7 +45,7 @@ impl<F: DayForm> CommandAnswers for FormAnswers<F> {
     }
 
     fn move_days(date: F, count: i64) -> Option<F> {
-        forms::move_days(date, count, &mut Steps::new())
+        forms::days_later(date, count)
     }
 
     fn move_months(date: F, span: MonthSpan) -> Option<F> {
@@ -58,16 +58,13 @@ impl<F: DayForm> CommandAnswers for FormAnswers<F> {
 
     fn move_moment(date: F, time: NaiveTime, by: TimeDelta) -> Option<(F, NaiveTime)> {
         let (time, days) = time.landing(by);
-        let date = forms::move_days(date, days, &mut Steps::new())?;
+        let date = forms::days_later(date, days)?;
         Some((date, time))
     }
 
     fn week(date: F, start: Weekday) -> (Option<F>, Option<F>) {
         let first = forms::week_first(&date, start);
-        (
-            F::from_day(first, &mut Steps::new()),
-            F::from_day(first + 6, &mut Steps::new()),
-        )
+        (forms::from_day(first), forms::from_day(first + 6))
     }
 
     fn years_between(date: F, base: F) -> Option<u32> {

@@ -17,6 +17,28 @@ use crate::steps::Steps;
 use chrono_units::year::{MAX_YEAR, MIN_YEAR, year_length};
 use chrono_units::{Weekday, WeekdaySet};
 
+/// The date with a day number, as [`DayForm::from_day`] gives it, with no counter.
+#[inline]
+pub fn from_day<F: DayForm>(days: i32) -> Option<F>
+    ensures { option_map F.number result ≡ date_of_day days }
+{
+    let mut steps = Steps::new();
+    let date = F::from_day(days, &mut steps);
+    steps.end();
+    date
+}
+
+/// The date `k` days later, or earlier for a negative `k`, as [`move_days`] gives it, with no counter.
+#[inline]
+pub fn days_later<F: DayForm>(f: F, k: i64) -> Option<F>
+    ensures { option_map F.number result ≡ date_of_day (F.number f +ℤ k) }
+{
+    let mut steps = Steps::new();
+    let date = move_days(f, k, &mut steps);
+    steps.end();
+    date
+}
+
 /// The date `k` days later, or earlier for a negative `k`; `None` if that day is outside the range of dates.
 /// So 28 February 2023 moved by one day is 1 March 2023.
 ///
@@ -134,7 +156,7 @@ pub fn first_on<F: DayForm>(f: F, set: WeekdaySet) -> Option<F>
 {
     let start = f.day();
     let ahead = set.days_until(f.weekday())?;
-    F::from_day(start + ahead as i32, &mut Steps::new())
+    from_day(start + ahead as i32)
 }
 
 /// The day that is the `n`-th with a weekday in a month, counted from 1; `None` for a year or a

@@ -5,7 +5,8 @@ use crate::tally::Tally;
 use std::marker::Model;
 
 /// How many steps were taken. It takes no bytes, and only proofs see the number.
-#[derive(Drop)]
+///
+/// It is not `Drop`: whoever begins a counter has to [`end`](Steps::end) it, so that none is thrown away or written over.
 pub struct Steps {
     tally: Tally,
 }
@@ -33,6 +34,12 @@ impl Steps {
         ensures { self.new ≡ self.old + 1 }
     {
         self.tally = Tally::after(&self.tally);
+    }
+
+    /// Ends the counter, whose number nobody asks for any more.
+    #[inline]
+    pub fn end(self) {
+        let Steps { tally: _ } = self;
     }
 }
 

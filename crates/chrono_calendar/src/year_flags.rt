@@ -43,7 +43,10 @@ impl YearFlags {
         ensures value { result ≡ flags_of_year year }
         ensures in_range { IsYearFlags result }
     {
-        YearFlags::from_year_counted(year, &mut Steps::new())
+        let mut steps = Steps::new();
+        let flags = YearFlags::from_year_counted(year, &mut steps);
+        steps.end();
+        flags
     }
 
     /// The flags of a year, in one step.

@@ -60,7 +60,9 @@ impl Mdf {
         requires length { ol % 2 ≡ flags / 8 }
         ensures { result ≡ month_day_of_ordinal (ol / 2) flags }
     {
-        let mdl = ol + u32::from(ol_to_mdl(ol, &mut Steps::new()));
+        let mut steps = Steps::new();
+        let mdl = ol + u32::from(ol_to_mdl(ol, &mut steps));
+        steps.end();
         Mdf {
             bits: (mdl << 3) + u32::from(flags.bits() % 8),
         }
@@ -139,7 +141,9 @@ impl Mdf {
             (ordinal_of_month_day self.now * 16 + self.now.flags) }
         ensures flags { IsYearFlags self.now.flags }
     {
-        let above = u32::from(mdl_to_ol(self.bits >> 3, &mut Steps::new()));
+        let mut steps = Steps::new();
+        let above = u32::from(mdl_to_ol(self.bits >> 3, &mut steps));
+        steps.end();
         if above == 0 {
             return None;
         }

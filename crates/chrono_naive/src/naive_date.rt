@@ -123,14 +123,19 @@ impl NaiveDate {
     pub fn from_num_days_from_ce_opt(days: i32) -> Option<NaiveDate>
         ensures { result ≡ date_of_day days }
     {
-        NaiveDate::from_num_days_from_ce_counted(days, &mut Steps::new())
+        let mut steps = Steps::new();
+        let date = NaiveDate::from_num_days_from_ce_counted(days, &mut steps);
+        steps.end();
+        date
     }
 
     /// The date with a day number, as [`from_num_days_from_ce_opt`](Self::from_num_days_from_ce_opt) gives it, with its
-    /// steps counted: at most three, whether there is such a date or not.
+    /// steps counted: none, so at most three, whether there is such a date or not.
     #[inline]
     pub fn from_num_days_from_ce_counted(days: i32, steps: &mut Steps) -> Option<NaiveDate>
         ensures date { result ≡ date_of_day days }
+        // No step is taken: what is stored is found without a table.
+        ensures taken { steps.new ≡ steps.old }
         ensures kept { steps.old ≤ steps.new }
         ensures cost { steps.new ≤ steps.old + 3 }
     {

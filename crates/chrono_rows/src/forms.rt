@@ -1,7 +1,7 @@
 //! The calls of a date over each stored form: by the form's own, and by those of [`forms`].
 
 use crate::words::{Words, are, count, is_order, signed, unsigned, weekday, whole};
-use chrono_calendar::{DayForm, Steps, forms};
+use chrono_calendar::{DayForm, forms};
 
 /// Whether the call of that name has that answer over a form; `None` if a form has no such call, or its arguments are not
 /// right.
@@ -10,7 +10,7 @@ pub fn is_answered<F: DayForm>(name: &str, words: &mut Words<'_>, answer: &str) 
         "from_ymd_opt" => F::from_ymd(signed(words)?, unsigned(words)?, unsigned(words)?),
         "from_yo_opt" => F::from_yo(signed(words)?, unsigned(words)?),
         "from_isoywd_opt" => forms::from_iso(signed(words)?, unsigned(words)?, weekday(words)?),
-        "from_num_days_from_ce_opt" => F::from_day(signed(words)?, &mut Steps::new()),
+        "from_num_days_from_ce_opt" => forms::from_day(signed(words)?),
         "from_weekday_of_month_opt" => {
             let (year, month, day) = (signed(words)?, unsigned(words)?, weekday(words)?);
             forms::nth_weekday(year, month, day, u8::try_from(unsigned(words)?).ok()?)
@@ -22,7 +22,7 @@ pub fn is_answered<F: DayForm>(name: &str, words: &mut Words<'_>, answer: &str) 
 
 // The form of the day number of the next word.
 fn form<F: DayForm>(words: &mut Words<'_>) -> Option<F> {
-    F::from_day(signed(words)?, &mut Steps::new())
+    forms::from_day(signed(words)?)
 }
 
 // Whether the answer is the day number of that form, or `none` where there is none.
@@ -52,7 +52,7 @@ fn of_one<F: DayForm>(name: &str, own: F, words: &mut Words<'_>, answer: &str) -
         "cmp" => return Some(is_order(answer, &own, &form::<F>(words)?)),
         "checked_first_day" => {
             let first = forms::week_first(&own, weekday(words)?);
-            F::from_day(first, &mut Steps::new())
+            forms::from_day(first)
         }
         _ => return read(name, own, answer),
     };
@@ -60,7 +60,7 @@ fn of_one<F: DayForm>(name: &str, own: F, words: &mut Words<'_>, answer: &str) -
 }
 
 fn moved_by<F: DayForm>(own: F, days: i64) -> Option<F> {
-    forms::move_days(own, days, &mut Steps::new())
+    forms::days_later(own, days)
 }
 
 // The count of days of the next word, or one past every date if it does not fit.

@@ -104,8 +104,8 @@ fn are_alike(packed: Option<PackedForm>, counted: Option<CountedForm>) -> bool {
 fn moved_alike(packed: PackedForm, counted: CountedForm) -> bool {
     for k in MOVES {
         let by_days = are_alike(
-            forms::move_days(packed, k, &mut Steps::new()),
-            forms::move_days(counted, k, &mut Steps::new()),
+            forms::days_later(packed, k),
+            forms::days_later(counted, k),
         );
         if !by_days
             || !are_alike(
@@ -117,10 +117,8 @@ fn moved_alike(packed: PackedForm, counted: CountedForm) -> bool {
         }
     }
     for (base, _) in DAYS {
-        let bases = (
-            PackedForm::from_day(base, &mut Steps::new()),
-            CountedForm::from_day(base, &mut Steps::new()),
-        );
+        let bases: (Option<PackedForm>, Option<CountedForm>) =
+            (forms::from_day(base), forms::from_day(base));
         if let (Some(of_packed), Some(of_counted)) = bases {
             let years = forms::years_between(&packed, &of_packed);
             if years != forms::years_between(&counted, &of_counted) {
@@ -156,8 +154,8 @@ fn recur_alike(packed: PackedForm, counted: CountedForm) -> bool {
 
 // Whether both have that day, or neither has it, and every call reads the same of both; every thirteenth day is moved too.
 fn day_is_alike(days: i32) -> bool {
-    let packed = PackedForm::from_day(days, &mut Steps::new());
-    let counted = CountedForm::from_day(days, &mut Steps::new());
+    let packed = forms::from_day::<PackedForm>(days);
+    let counted = forms::from_day::<CountedForm>(days);
     match (packed, counted) {
         (Some(packed), Some(counted)) => {
             let are_moved = days % 13 != 0
@@ -250,4 +248,5 @@ fn steps_are_counted(rt: HostRuntime) {
     assert!(rt; moved_in_one_step(last, 1, &mut steps).is_none());
     assert!(rt; packed_in_one_step(95_745_399, &mut steps) == Some(PackedForm::max_value()));
     assert!(rt; packed_in_one_step(95_745_400, &mut steps).is_none());
+    steps.end();
 }

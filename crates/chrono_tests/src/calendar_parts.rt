@@ -314,9 +314,9 @@ fn months_and_days_are_those_of_ordinals(rt: HostRuntime) {
     }
 }
 
-fn wrong_day_of_cycle() -> Option<u32> {
+fn wrong_day_of_cycle(steps: &mut Steps) -> Option<u32> {
     for (day, name) in CYCLE {
-        if day >= 146_097 || cycle_to_yo(day, &mut Steps::new()) != name {
+        if day >= 146_097 || cycle_to_yo(day, steps) != name {
             return Some(day);
         }
     }
@@ -325,11 +325,13 @@ fn wrong_day_of_cycle() -> Option<u32> {
 
 #[test]
 fn names_of_days(rt: HostRuntime) {
-    assert!(rt; wrong_day_of_cycle().is_none());
+    let mut steps = Steps::new();
+    assert!(rt; wrong_day_of_cycle(&mut steps).is_none());
     let days = (
-        yo_to_cycle(0, 366, &mut Steps::new()),
-        yo_to_cycle(1, 1, &mut Steps::new()),
-        yo_to_cycle(399, 365, &mut Steps::new()),
+        yo_to_cycle(0, 366, &mut steps),
+        yo_to_cycle(1, 1, &mut steps),
+        yo_to_cycle(399, 365, &mut steps),
     );
+    steps.end();
     assert!(rt; days == (365, 366, 146_096));
 }

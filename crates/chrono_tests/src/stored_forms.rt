@@ -1,7 +1,7 @@
 //! Both stored forms of a date against names that are known from outside, and against a walk over every month of
 //! the range.
 
-use chrono_calendar::{DayForm, Steps};
+use chrono_calendar::{DayForm, forms};
 use chrono_stored::{CountedForm, PackedForm};
 use std::hash::{DefaultHasher, Hash, Hasher};
 
@@ -53,7 +53,7 @@ fn length(year: i32, month: u32) -> u8 {
 
 /// Whether a form of any kind gives a day number the names of the walk, and these the number.
 fn agrees<F: DayForm>(days: i32, walk: &Walk) -> bool {
-    let Some(form) = F::from_day(days, &mut Steps::new()) else {
+    let Some(form) = forms::from_day::<F>(days) else {
         return false;
     };
     let names = (form.year(), form.month_day(), form.ordinal());
@@ -124,7 +124,7 @@ const KNOWN: [(i32, u32, u32, i32, u32, i32); 9] = [
 
 // Whether the form has that day number and that weekday, and is the one of the number.
 fn is_known<F: DayForm>(form: &F, number: i32, weekday: u32) -> bool {
-    let again = F::from_day(number, &mut Steps::new());
+    let again = forms::from_day::<F>(number);
     form.day() == number
         && form.weekday().num_days_from_monday() == weekday
         && again.is_some_and(|again| again == *form)
@@ -180,7 +180,7 @@ fn refuses_others<F: DayForm>() -> bool {
         }
     }
     for days in [-95_746_130, 95_745_400, i32::MIN, i32::MAX] {
-        if F::from_day(days, &mut Steps::new()).is_some() {
+        if forms::from_day::<F>(days).is_some() {
             return false;
         }
     }

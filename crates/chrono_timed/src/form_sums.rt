@@ -5,7 +5,7 @@ use crate::generator::Generator;
 use crate::numbers::{of_name, of_signed, of_year};
 use crate::sum_of;
 use crate::tables::{SIZE, day, days, few_days, first, months, name, second, table};
-use chrono_calendar::{DayForm, Steps, forms};
+use chrono_calendar::{DayForm, forms};
 
 /// The sum of the call's answers to so many drawn arguments, modulo 2^64.
 pub fn sum_of_answers<F: DayForm>(
@@ -82,7 +82,7 @@ fn of_number<F: DayForm>(
         DateCall::Compare =>
             sum_of!(generator, count, drawn => u64::from(dates[first(drawn)] < dates[second(drawn)])),
         _ => sum_of!(generator, count, drawn => {
-            of_form(forms::move_days(dates[first(drawn)], 1, &mut Steps::new()))
+            of_form(forms::days_later(dates[first(drawn)], 1))
         }),
     }
 }
@@ -90,7 +90,7 @@ fn of_number<F: DayForm>(
 fn from_days<F: DayForm>(count: u64) -> u64 {
     let mut generator = Generator::new();
     let days = table(&mut generator, day);
-    sum_of!(generator, count, drawn => match F::from_day(days[first(drawn)], &mut Steps::new()) {
+    sum_of!(generator, count, drawn => match forms::from_day::<F>(days[first(drawn)]) {
         Some(form) => {
             let (year, month, day) = form.year_month_day();
             of_name(year, month, day)
@@ -123,14 +123,14 @@ fn ymd_to_days<F: DayForm>(count: u64) -> u64 {
 fn add_few_days<F: DayForm>(dates: &[F; SIZE], mut generator: Generator, count: u64) -> u64 {
     let days = table(&mut generator, few_days);
     sum_of!(generator, count, drawn => {
-        of_form(forms::move_days(dates[first(drawn)], i64::from(days[second(drawn)]), &mut Steps::new()))
+        of_form(forms::days_later(dates[first(drawn)], i64::from(days[second(drawn)])))
     })
 }
 
 fn add_days<F: DayForm>(dates: &[F; SIZE], mut generator: Generator, count: u64) -> u64 {
     let days = table(&mut generator, days);
     sum_of!(generator, count, drawn => {
-        of_form(forms::move_days(dates[first(drawn)], i64::from(days[second(drawn)]), &mut Steps::new()))
+        of_form(forms::days_later(dates[first(drawn)], i64::from(days[second(drawn)])))
     })
 }
 

@@ -5,7 +5,7 @@ ghost use Rattle.chrono_datetime.specs.Time.{IsPlain};
 ghost use Rattle.chrono_timed.specs.Drawn.{IsDrawnDay, IsDrawnName};
 
 use crate::generator::Generator;
-use chrono_calendar::{DayForm, Steps};
+use chrono_calendar::forms;
 use chrono_clock::SECS_PER_DAY;
 use chrono_datetime::{Datelike, NaiveDate, NaiveDateTime, NaiveTime, TimeDelta};
 use chrono_stored::{CountedForm, PackedForm};
@@ -71,12 +71,12 @@ pub fn date(generator: &mut Generator) -> NaiveDate {
 
 /// The same, as a counted form.
 pub fn counted(generator: &mut Generator) -> CountedForm {
-    CountedForm::from_day(day(generator), &mut Steps::new()).unwrap_or(CountedForm::MIN)
+    forms::from_day(day(generator)).unwrap_or(CountedForm::MIN)
 }
 
 /// The same, as a packed form.
 pub fn packed(generator: &mut Generator) -> PackedForm {
-    PackedForm::from_day(day(generator), &mut Steps::new()).unwrap_or(PackedForm::min_value())
+    forms::from_day(day(generator)).unwrap_or(PackedForm::min_value())
 }
 
 /// A year of those, a month and a day from 1 to 31, which not every month has.

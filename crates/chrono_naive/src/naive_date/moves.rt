@@ -34,7 +34,10 @@ impl NaiveDate {
         ensures back { IfSome result (λ e. e -ℤ days ≡ self) }
         ensures in_range { IsDate self }
     {
-        self.moved_by_days_counted(days, &mut Steps::new())
+        let mut steps = Steps::new();
+        let date = self.moved_by_days_counted(days, &mut steps);
+        steps.end();
+        date
     }
 
     /// The date so many days later; `None` exactly if that is past [`MAX`](Self::MAX).
@@ -45,14 +48,18 @@ impl NaiveDate {
         // As many days less, the answer is the date again.
         ensures back { IfSome result (λ e. e -ℤ pos days ≡ self) }
     {
-        self.checked_add_days_counted(days, &mut Steps::new())
+        let mut steps = Steps::new();
+        let date = self.checked_add_days_counted(days, &mut steps);
+        steps.end();
+        date
     }
 
-    /// The date so many days later, as [`checked_add_days`](Self::checked_add_days) gives it, with its steps counted: at
-    /// most four, whether there is such a date or not.
+    /// The date so many days later, as [`checked_add_days`](Self::checked_add_days) gives it, with its steps counted:
+    /// one, so at most four, whether there is such a date or not.
     #[inline]
     pub fn checked_add_days_counted(self, days: Days, steps: &mut Steps) -> Option<NaiveDate>
         ensures date { result ≡ date_of_day (self +ℤ pos days) }
+        ensures taken { steps.new ≡ steps.old + 1 }
         ensures kept { steps.old ≤ steps.new }
         ensures cost { steps.new ≤ steps.old + 4 }
     {
@@ -91,6 +98,7 @@ impl NaiveDate {
     fn moved_by_days_counted(self, days: i64, steps: &mut Steps) -> Option<NaiveDate>
         ensures date { result ≡ date_of_day (self +ℤ days) }
         ensures in_range { IsDate self }
+        ensures taken { steps.new ≡ steps.old + 1 }
         ensures kept { steps.old ≤ steps.new }
         ensures cost { steps.new ≤ steps.old + 4 }
     {

@@ -16,6 +16,7 @@ fn counted_calls_and_laws_name_dates(rt: HostRuntime) {
     let none = NaiveDate::from_num_days_from_ce_counted(95_745_400, &mut steps);
     assert!(rt; none.is_none());
     let moved = day(&rt, 739_251).checked_add_days_counted(Days::new(1), &mut steps);
+    steps.end();
     assert!(rt; moved == Some(day(&rt, 739_252)));
     assert!(rt; law::first_date() == (first, first) && law::last_date() == (last, last));
 }

@@ -14,5 +14,5 @@ returns g c =
     let n = g.F.DayForm.number c.args.f in
     let ahead = c.in_ok-ahead.ahead in
     let day : to_z w32 (of_z w32 (to_z w32 (of_z w32 c.day-start.result) +ℤ to_z w32 ahead)) ≡ n +ℤ pos ahead = omega (arith, casts, c.day-start.ensures.value, c.day-start.ensures.in_range, c.in_ok-ahead.ensures.within) in
-    c.from_day.ensures.date ∙ ap date_of_day day
+    c.from_day.ensures ∙ ap date_of_day day
     ∙ date_of_day-on n c.args.set ahead c.day-start.ensures.in_range (rw c.weekday.ensures at c.in_ok-ahead.ensures.member) (rw c.weekday.ensures at c.in_ok-ahead.ensures.least)
