@@ -8,8 +8,8 @@ use Rattle.chrono_calendar.specs.MonthMoves.{month_index_of, year_of_month_index
 use Rattle.chrono_calendar.specs.Recurrence.{date_every, IsLeapDay, IsLastOfFebruary}
 use Rattle.chrono_calendar.proofs.Signed.{signed}
 use Rattle.chrono_calendar.proofs.Dates.{is_year-test}
-use Rattle.chrono_calendar.proofs.MonthOrder.{length_at, before_month, month_index-parts, month_of-range, day_at-exists, day_at-unique, day_at-moved}
-use Rattle.chrono_calendar.proofs.MonthMoveLaws.{month_move-is, month_move-at, month_length_of-at, month_move-LaterMultiplesAreLater, year_of-range}
+use Rattle.chrono_calendar.proofs.MonthOrder.{length_at, before_month, month_index-parts, month_of-range, day_at-exists, day_at-moved}
+use Rattle.chrono_calendar.proofs.MonthMoveLaws.{month_move-parts, month_move-LaterMultiplesAreLater, year_of-range}
 
 -- a move by no months stands still
 same_month : (n i : ℤ) → IsDate n → i ≡ month_index_of n → cond (is_year (year_of_month_index i)) (Some (day_number_in_month i (day_of n))) None ≡ Some n
@@ -24,16 +24,11 @@ pub date_every-start : (n k : ℤ) (i : ℕ) → IsDate n → i ≡ 0 → date_e
 unfolding month_move
 date_every-start n k i h e = same_month n (month_index_of n +ℤ k *ℤ pos i) h (ap (λ j. month_index_of n +ℤ k *ℤ pos j) e ∙ omega (arith, signed))
 
--- the month and the day of the month that a move comes to
-date_every-parts : (n k : ℤ) (i : ℕ) (e : ℤ) → date_every n k i ≡ Some e → (month_index_of e ≡ month_index_of n +ℤ k *ℤ pos i) × (day_of e ≡ min (day_of n) (month_length_of e))
-date_every-parts n k i e h =
-    let place = day_at-unique e _ _ (month_move-at n (k *ℤ pos i) e (month_move-is n (k *ℤ pos i) e h)) in
-    (place.0, place.1 ∙ ap (min (day_of n)) (ap length_at (sym place.0) ∙ sym (month_length_of-at e)))
-
+-- the month and the day of the month that it comes to
 pub if_every : (o : Option ℤ) (n k : ℤ) (i : ℕ) → o ≡ date_every n k i → IfSome o (λ e. month_index_of e ≡ month_index_of n +ℤ k *ℤ pos i) × IfSome o (λ e. day_of e ≡ min (day_of n) (month_length_of e)) × (pos 0 <ℤ k → IfSome o (LaterMultiplesAreLater n k i))
 if_every None n k i h = (tt, tt, λ _. tt)
 if_every (Some e) n k i h =
-    let parts = date_every-parts n k i e (sym h) in
+    let parts = month_move-parts n (k *ℤ pos i) e (sym h) in
     (parts.0, parts.1, λ up. month_move-LaterMultiplesAreLater n k i e up (sym h))
 
 -- twelve times a number of months is that number of years
@@ -55,7 +50,7 @@ in_february n e years february moved =
 
 date_every-leap_day : (n k : ℤ) (i : ℕ) (e years : ℤ) → IsLeapDay n → k ≡ pos 12 *ℤ years → date_every n k i ≡ Some e → IsLastOfFebruary e
 date_every-leap_day n k i e years leap whole h =
-    let parts = date_every-parts n k i e h in
+    let parts = month_move-parts n (k *ℤ pos i) e h in
     let months : k *ℤ pos i ≡ pos 12 *ℤ (years *ℤ pos i) = ap (λ m. m *ℤ pos i) whole ∙ twelve_times years i in
     let february = in_february n e (years *ℤ pos i) leap.0 (parts.0 ∙ ap (λ m. month_index_of n +ℤ m) months) in
     (february, parts.1 ∙ rw (leap.1, february) (last_of_february (is_leap_year (year_of e))))

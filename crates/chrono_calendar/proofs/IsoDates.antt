@@ -22,7 +22,7 @@ use Rattle.chrono_calendar.proofs.IsoWeeks.{days_from_monday-of, iso_weekday_of-
 fourth_of_january : (y : ℤ) → days_from_monday (weekday_of (days_before_year y +ℤ pos 4)) ≡ before_monday y
 fourth_of_january y = omega (arith, signed, days_from_monday-of (days_before_year y +ℤ pos 4))
 
-day_number_of_iso-place : (y : ℤ) (w : ℕ) (d : Weekday) → day_number_of_iso y w (number_from_monday d) ≡ days_before_year y +ℤ pos (7 * w + days_from_monday d) -ℤ pos (before_monday y + 3)
+pub day_number_of_iso-place : (y : ℤ) (w : ℕ) (d : Weekday) → day_number_of_iso y w (number_from_monday d) ≡ days_before_year y +ℤ pos (7 * w + days_from_monday d) -ℤ pos (before_monday y + 3)
 day_number_of_iso-place y w d =
     omega (arith, signed, iso_weekday_of-monday (days_before_year y +ℤ pos 4), fourth_of_january y)
 
@@ -104,7 +104,7 @@ thursday-place n =
     let named = ordinal_name_of-number (thursday_of_week n) in
     omega (arith, signed, named.number, named.exists, thursdays n)
 
-iso_week_of-bounds : (n : ℤ) → (1 ≤ iso_week_of n) × (7 * iso_week_of n ≤ year_length (iso_year_of n) + before_monday (iso_year_of n))
+pub iso_week_of-bounds : (n : ℤ) → (1 ≤ iso_week_of n) × (7 * iso_week_of n ≤ year_length (iso_year_of n) + before_monday (iso_year_of n))
 iso_week_of-bounds n =
     let named = ordinal_name_of-number (thursday_of_week n) in
     (omega arith, omega (arith, signed, named.number, named.exists, thursday-place n))

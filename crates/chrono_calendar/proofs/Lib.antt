@@ -18,6 +18,8 @@ pub mod MonthMoveLaws
 pub mod Moves
 pub mod FirstOn
 pub mod EveryMonths
+pub mod GivenNames
+pub mod GivenWeekdays
 -- The rest serve this crate's own proofs alone.
 mod Cycles
 mod GhostWalks

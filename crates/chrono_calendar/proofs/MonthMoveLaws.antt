@@ -1,5 +1,5 @@
 -- The laws of month moves.
-use Rattle.std.proofs.Common.{◌≡◌, ℕ, zero, suc, ◌*◌, ◌<◌, ◌≤◌, inl, inr, min, Bool, true, false, cond, Option, Some, None, IfSome, IsSomeAnd, refl, sym, ap, subst, ◌∙◌, arith, ℤ, pos, negsuc, ◌+ℤ◌, ◌-ℤ◌, ◌*ℤ◌, ◌≤ℤ◌, ◌<ℤ◌}
+use Rattle.std.proofs.Common.{◌≡◌, ℕ, zero, suc, ◌*◌, ◌<◌, ◌≤◌, inl, inr, min, Bool, true, false, cond, Option, Some, None, IsSome, ◌↔◌, IfSome, IsSomeAnd, refl, sym, ap, subst, ◌∙◌, arith, ℤ, pos, negsuc, ◌+ℤ◌, ◌-ℤ◌, ◌*ℤ◌, ◌≤ℤ◌, ◌<ℤ◌}
 use Rattle.std.proofs.lemmas.Option.{cond_some}
 use Rattle.std.proofs.Math.Nat.{mul-lt-mul_of_pos_left}
 use Rattle.chrono_units.specs.Years.{is_year, IsYear}
@@ -8,6 +8,7 @@ use Rattle.chrono_calendar.specs.MonthMoves.{year_of_month_index, month_of_month
 use Rattle.chrono_calendar.proofs.Signed.{signed}
 use Rattle.chrono_calendar.proofs.Names.{ordinal_name_of-number, year_in_range, day_number_in_range}
 use Rattle.chrono_calendar.proofs.Dates.{is_year-fact, is_year-test}
+use Rattle.chrono_calendar.proofs.GivenNames.{exists_if}
 use Rattle.chrono_calendar.proofs.MonthOrder.{length_at, length_at-bounds, before_month, month_index-parts, IsDayAt, day_at-exists, month_of-range, day_at-unique, days_in_order, earlier_month, day_at-moved}
 
 -- what a move that exists comes to
@@ -165,3 +166,20 @@ month_move-LaterMultiplesAreLater n k i e h m =
 pub if_moved : (o : Option ℤ) (n k l : ℤ) → k +ℤ l ≡ pos 0 → IsYear (year_of n) → o ≡ month_move n k → IfSome o (KeepsOrder n k) × IfSome o (ComesBack n l) × IfSome o (MonthMovesAddUp n k)
 if_moved None n k l z y h = (tt, tt, tt)
 if_moved (Some e) n k l z y h = (month_move-KeepsOrder n k e (sym h), month_move-ComesBack n k l e z y (sym h), month_move-MonthMovesAddUp n k e (sym h))
+
+-- the month and the day of the month that a move comes to, and the years to which there is one
+pub month_move-parts : (n k e : ℤ) → month_move n k ≡ Some e → (month_index_of e ≡ month_index_of n +ℤ k) × (day_of e ≡ min (day_of n) (month_length_of e))
+month_move-parts n k e h =
+    let place = day_at-unique e _ _ (month_move-at n k e (month_move-is n k e h)) in
+    (place.0, place.1 ∙ ap (min (day_of n)) (ap length_at (sym place.0) ∙ sym (month_length_of-at e)))
+
+pub month_move-exists : (o : Option ℤ) (n k : ℤ) → o ≡ month_move n k → IsSome o ↔ IsYear (year_of_month_index (month_index_of n +ℤ k))
+unfolding month_move
+month_move-exists o n k h =
+    let year = year_of_month_index (month_index_of n +ℤ k) in
+    let tested = exists_if (is_year year) o (day_number_in_month (month_index_of n +ℤ k) (day_of n)) h in
+    ((λ some. is_year-fact year (tested.0 some)), (λ range. tested.1 (is_year-test year range)))
+
+pub if_month : (o : Option ℤ) (n k : ℤ) → o ≡ month_move n k → IfSome o (λ e. month_index_of e ≡ month_index_of n +ℤ k) × IfSome o (λ e. day_of e ≡ min (day_of n) (month_length_of e))
+if_month None n k h = (tt, tt)
+if_month (Some e) n k h = month_move-parts n k e (sym h)

@@ -19,10 +19,10 @@ use Rattle.chrono_calendar.proofs.NamedDates.{None-cond}
 use Rattle.chrono_calendar.proofs.IsoWeeks.{days_from_monday-of, days_from_sunday_of-bound}
 
 -- the weekday of the last day before the month m of the year y
-abbrev weekday_before_month : ℤ → ℕ → ℕ
+abbrev pub weekday_before_month : ℤ → ℕ → ℕ
 weekday_before_month y m = days_from_sunday_of (days_before_year y +ℤ pos (days_of_months y (m - 1)))
 
-weekday_in_month : (y : ℤ) (m d : ℕ) → days_from_sunday_of (day_number_of_ymd y m d) ≡ (weekday_before_month y m + d) % 7
+pub weekday_in_month : (y : ℤ) (m d : ℕ) → days_from_sunday_of (day_number_of_ymd y m d) ≡ (weekday_before_month y m + d) % 7
 weekday_in_month y m d = omega (arith, signed)
 
 -- the days with a weekday, by numbers alone: s is the weekday before the month, f that sought, counted from Monday, and l the month's days past 28
@@ -30,10 +30,10 @@ abbrev days_found : ℕ → ℕ → ℕ → List ℕ
 days_found s f l = filter (λ d. nat_eq ((s + d) % 7) ((f + 1) % 7)) (range_with_len 1 (28 + l))
 
 -- the days from the first of the month to the first of them
-abbrev days_ahead : ℕ → ℕ → ℕ
+abbrev pub days_ahead : ℕ → ℕ → ℕ
 days_ahead s f = (f + 7 - s) % 7
 
-abbrev nth_day : ℕ → ℕ → ℕ → ℕ
+abbrev pub nth_day : ℕ → ℕ → ℕ → ℕ
 nth_day s f i = i * 7 + days_ahead s f + 1
 
 abbrev found_at : ℕ → ℕ → ℕ → ℕ → Bool
@@ -85,7 +85,7 @@ days_found-in : (s f l len i : ℕ) → 28 + l ≡ len → s < 7 → f < 7 → l
 days_found-in s f l len i e a b c = rw (← e) (days_found-at s f l i a b c)
 
 -- the n-th of them
-days_with_weekday-at : (y : ℤ) (m i : ℕ) (d : Weekday) → slice_get (days_with_weekday y m d) i ≡ cond (nat_le (nth_day (weekday_before_month y m) (days_from_monday d) i) (month_length y m)) (Some (nth_day (weekday_before_month y m) (days_from_monday d) i)) None
+pub days_with_weekday-at : (y : ℤ) (m i : ℕ) (d : Weekday) → slice_get (days_with_weekday y m d) i ≡ cond (nat_le (nth_day (weekday_before_month y m) (days_from_monday d) i) (month_length y m)) (Some (nth_day (weekday_before_month y m) (days_from_monday d) i)) None
 days_with_weekday-at y m i d =
     let low = month_length_in-bounds (is_leap_year y) m in
     ap (λ (l : List ℕ). slice_get l i) (days_with_weekday-found y m d)
@@ -109,7 +109,7 @@ date_of_nth_weekday-no_month y m n d h =
     let test : (is_year y && is_calendar_name y m 1) ≡ true = rw (both.0, both.1, inside) refl in
     let some = rw test at h in cc)
 
-mapped : (b : Bool) (g : ℕ → ℤ) (x : ℕ) → option_map g (cond b (Some x) None) ≡ cond b (Some (g x)) None
+pub mapped : (b : Bool) (g : ℕ → ℤ) (x : ℕ) → option_map g (cond b (Some x) None) ≡ cond b (Some (g x)) None
 mapped true g x = refl
 mapped false g x = refl
 

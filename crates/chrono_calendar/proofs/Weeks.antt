@@ -10,7 +10,7 @@ use Rattle.chrono_calendar.specs.Flags.{flags_of_year, weeks_of_iso_year, week_c
 use Rattle.chrono_calendar.proofs.Signed.{signed}
 use Rattle.chrono_calendar.proofs.Years.{days_before_year-next}
 use Rattle.chrono_calendar.proofs.Names.{year_of-number, ordinal_of-number, year_length_bounds}
-use Rattle.chrono_calendar.proofs.IsoWeeks.{days_from_sunday_of-bound}
+use Rattle.chrono_calendar.proofs.IsoWeeks.{before_monday, days_from_sunday_of-bound}
 
 -- the digits of the flags that name a weekday, and what is added to an ordinal to count weeks
 abbrev weekday_digits : ℤ → ℕ
@@ -74,6 +74,15 @@ weeks_of_iso_year-delta y =
     let w = iso_weekday_of-bounds n in
     let l = year_length_bounds y in
     rw (december_28 y) ((iso_week_of-inside y (year_length y - 3) (year_length y + 1 - iso_weekday_of n) (omega arith) (omega arith, omega arith)).1)
+
+-- so the year has the weeks that begin from its first Monday on and have their Thursday in it
+week_delta-monday : (w : ℕ) → w < 7 → (let d = (w + 5) % 7 + 1 in d + cond (nat_lt d 3) 7 0 ≡ (w + 3) % 7 + 3)
+week_delta-monday w h = grind (arith, nat_tests)
+
+pub weeks_of_iso_year-length : (y : ℤ) → weeks_of_iso_year y ≡ (year_length y + before_monday y) / 7
+weeks_of_iso_year-length y =
+    let delta = week_delta-monday (days_from_sunday_of (days_before_year y)) (days_from_sunday_of-bound (days_before_year y)) in
+    omega (arith, weeks_of_iso_year-delta y, delta, year_length_bounds y)
 
 -- a day whose Thursday lies before the year is of the ISO year before
 iso_year_of-before : (y : ℤ) (o : ℕ) → IsOrdinalName y o → o + 4 ≤ iso_weekday_of (day_number_of_yo y o) → iso_year_of (day_number_of_yo y o) ≡ y -ℤ pos 1

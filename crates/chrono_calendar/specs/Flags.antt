@@ -18,6 +18,10 @@ IsYearFlags n = IsInRange 1 15 n × (n ≢ 8)
 unfoldable pub weeks_of_iso_year : ℤ → ℕ
 weeks_of_iso_year y = iso_week_of (day_number_of_ymd y 12 28)
 
+-- the ISO year y has a w-th week
+abbrev pub IsIsoWeek : ℤ → ℕ → Type 0
+IsIsoWeek y w = IsInRange 1 (weeks_of_iso_year y) w
+
 -- the ISO week of the o-th day of the year y, counted in that year:
 -- 0 for a day of the ISO year before, and one more than the weeks for a day of the next
 unfoldable pub week_counted_in : ℤ → ℕ → ℕ

@@ -8,6 +8,7 @@ pub use Rattle.chrono_clock.specs.TimeText
 pub use Rattle.chrono_clock.specs.Time
 pub use Rattle.chrono_naive.specs.Days
 pub use Rattle.chrono_naive.specs.Weeks
+pub use Rattle.chrono_naive.specs.Flags
 pub use Rattle.chrono_naive.specs.Order
 pub use Rattle.chrono_naive.specs.NameLaws
 pub use Rattle.chrono_naive.specs.MonthMoves

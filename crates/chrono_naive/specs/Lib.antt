@@ -8,6 +8,7 @@ pub use Rattle.chrono_text.specs.Text
 pub use Rattle.chrono_clock.specs.TimeText
 pub use Rattle.chrono_calendar.specs.Days
 pub use Rattle.chrono_calendar.specs.Weeks
+pub use Rattle.chrono_calendar.specs.Flags
 pub use Rattle.chrono_calendar.specs.Order
 pub use Rattle.chrono_calendar.specs.NameLaws
 pub use Rattle.chrono_calendar.specs.MonthMoves

@@ -1,10 +1,11 @@
 //! `Datelike`: what can be asked of everything that has a date in it.
-ghost use Rattle.std.specs.Prelude.{◌≡◌, ℤ, ◌+◌, List, Some, IfSome};
+ghost use Rattle.std.specs.Prelude.{◌≡◌, ◌↔◌, ℤ, ◌+◌, ◌≤◌, ◌<◌, List, Some, IsSome, IfSome};
 ghost use Rattle.std.specs.Int.{IsInRange};
 ghost use Rattle.std.specs.Option.{option_map};
-ghost use Rattle.chrono_units.specs.Years.{IsYear, month_length};
+ghost use Rattle.chrono_units.specs.Years.{IsYear, month_length, year_length};
 ghost use Rattle.chrono_calendar.specs.Days.{IsDate, IsOrdinalName, IsCalendarName, date_of_day, date_of_yo, date_of_ymd, year_of, ordinal_of, month_of, day_of};
 ghost use Rattle.chrono_calendar.specs.Weeks.{date_of_iso, iso_week_of, iso_year_of, weekday_of};
+ghost use Rattle.chrono_calendar.specs.MonthMoves.{month_length_of};
 ghost use Rattle.chrono_naive.specs.Fields.{is_common_era, iso_year_and_week_of, quarter_of_month, year_of_era};
 
 use crate::iso_week::IsoWeek;
@@ -102,41 +103,70 @@ pub trait Datelike: Sized {
     fn with_year(&self, year: i32) -> Option<Self>
         ensures date { option_map number result
             ≡ date_of_ymd year (month_of (number self.now)) (day_of (number self.now)) }
+        ensures exists { IsSome result
+            ↔ (IsYear year × (day_of (number self.now) ≤ month_length year (month_of (number self.now)))) }
+        ensures year { IfSome result (λ d. year_of (number d) ≡ year) }
+        ensures month { IfSome result (λ d. month_of (number d) ≡ month_of (number self.now)) }
+        ensures day { IfSome result (λ d. day_of (number d) ≡ day_of (number self.now)) }
         ensures kept { IfSome result (λ d. rest d ≡ rest self.now) };
 
     /// The same day in another month of the year; `None` exactly if that is no date, so for the 31st in April.
     fn with_month(&self, month: u32) -> Option<Self>
         ensures date { option_map number result
             ≡ date_of_ymd (year_of (number self.now)) month (day_of (number self.now)) }
+        ensures exists { IsSome result
+            ↔ (IsInRange 1 12 month × (day_of (number self.now) ≤ month_length (year_of (number self.now)) month)) }
+        ensures year { IfSome result (λ d. year_of (number d) ≡ year_of (number self.now)) }
+        ensures month { IfSome result (λ d. month_of (number d) ≡ month) }
+        ensures day { IfSome result (λ d. day_of (number d) ≡ day_of (number self.now)) }
         ensures kept { IfSome result (λ d. rest d ≡ rest self.now) };
 
     /// The same day in another month of the year, counted from 0; `None` exactly if that is no date.
     fn with_month0(&self, month0: u32) -> Option<Self>
         ensures date { option_map number result
             ≡ date_of_ymd (year_of (number self.now)) (month0 + 1) (day_of (number self.now)) }
+        ensures exists { IsSome result
+            ↔ ((month0 < 12) × (day_of (number self.now) ≤ month_length (year_of (number self.now)) (month0 + 1))) }
+        ensures year { IfSome result (λ d. year_of (number d) ≡ year_of (number self.now)) }
+        ensures month { IfSome result (λ d. month_of (number d) ≡ month0 + 1) }
+        ensures day { IfSome result (λ d. day_of (number d) ≡ day_of (number self.now)) }
         ensures kept { IfSome result (λ d. rest d ≡ rest self.now) };
 
     /// Another day of the month; `None` exactly if the month has no such day.
     fn with_day(&self, day: u32) -> Option<Self>
         ensures date { option_map number result
             ≡ date_of_ymd (year_of (number self.now)) (month_of (number self.now)) day }
+        ensures exists { IsSome result ↔ IsInRange 1 (month_length_of (number self.now)) day }
+        ensures year { IfSome result (λ d. year_of (number d) ≡ year_of (number self.now)) }
+        ensures month { IfSome result (λ d. month_of (number d) ≡ month_of (number self.now)) }
+        ensures day { IfSome result (λ d. day_of (number d) ≡ day) }
         ensures kept { IfSome result (λ d. rest d ≡ rest self.now) };
 
     /// Another day of the month, counted from 0; `None` exactly if the month has no such day.
     fn with_day0(&self, day0: u32) -> Option<Self>
         ensures date { option_map number result
             ≡ date_of_ymd (year_of (number self.now)) (month_of (number self.now)) (day0 + 1) }
+        ensures exists { IsSome result ↔ (day0 < month_length_of (number self.now)) }
+        ensures year { IfSome result (λ d. year_of (number d) ≡ year_of (number self.now)) }
+        ensures month { IfSome result (λ d. month_of (number d) ≡ month_of (number self.now)) }
+        ensures day { IfSome result (λ d. day_of (number d) ≡ day0 + 1) }
         ensures kept { IfSome result (λ d. rest d ≡ rest self.now) };
 
     /// Another day of the year; `None` exactly if the year has no such day.
     fn with_ordinal(&self, ordinal: u32) -> Option<Self>
         ensures date { option_map number result ≡ date_of_yo (year_of (number self.now)) ordinal }
+        ensures exists { IsSome result ↔ IsOrdinalName (year_of (number self.now)) ordinal }
+        ensures year { IfSome result (λ d. year_of (number d) ≡ year_of (number self.now)) }
+        ensures ordinal { IfSome result (λ d. ordinal_of (number d) ≡ ordinal) }
         ensures kept { IfSome result (λ d. rest d ≡ rest self.now) };
 
     /// Another day of the year, counted from 0; `None` exactly if the year has no such day.
     fn with_ordinal0(&self, ordinal0: u32) -> Option<Self>
         ensures date { option_map number result
             ≡ date_of_yo (year_of (number self.now)) (ordinal0 + 1) }
+        ensures exists { IsSome result ↔ (ordinal0 < year_length (year_of (number self.now))) }
+        ensures year { IfSome result (λ d. year_of (number d) ≡ year_of (number self.now)) }
+        ensures ordinal { IfSome result (λ d. ordinal_of (number d) ≡ ordinal0 + 1) }
         ensures kept { IfSome result (λ d. rest d ≡ rest self.now) };
 
     /// The day number: 1 for 1 January of year 1, 0 for the day before, 719,163 for 1 January 1970.

@@ -3,10 +3,13 @@
 //! This file has the type, its ends, and how a date is named and numbered. Its fields stand in `fields`, its
 //! order in `order`, its moves, differences, weeks and iterators in `moves`, its operators in `ops`, and its
 //! printed text in `text`.
-ghost use Rattle.std.specs.Prelude.{◌≡◌, ◌+◌, ◌≤◌, ◌+ℤ◌, ◌-ℤ◌};
-ghost use Rattle.chrono_units.specs.Years.{is_leap_year};
-ghost use Rattle.chrono_calendar.specs.Days.{IsDate, date_of_day, date_of_yo, date_of_ymd, year_of};
-ghost use Rattle.chrono_calendar.specs.Weeks.{date_of_iso, date_of_nth_weekday};
+ghost use Rattle.std.specs.Prelude.{◌≡◌, ◌↔◌, ◌+◌, ◌-◌, ◌*◌, ◌≤◌, ◌<◌, pos, neg_ℤ, ◌+ℤ◌, ◌-ℤ◌, ◌<ℤ◌, length, IsSome, IfSome};
+ghost use Rattle.std.specs.Int.{IsInRange};
+ghost use Rattle.chrono_units.specs.Years.{IsYear, is_leap_year};
+ghost use Rattle.chrono_units.specs.Weekday.{number_from_monday};
+ghost use Rattle.chrono_calendar.specs.Days.{IsDate, IsCalendarName, IsOrdinalName, date_of_day, date_of_yo, date_of_ymd, year_of, ordinal_of, month_of, day_of};
+ghost use Rattle.chrono_calendar.specs.Weeks.{date_of_iso, date_of_nth_weekday, day_number_of_iso, days_with_weekday, iso_year_of, iso_week_of, weekday_of};
+ghost use Rattle.chrono_calendar.specs.Flags.{IsIsoWeek, weeks_of_iso_year};
 ghost use Rattle.chrono_naive.specs.Fields.{unix_epoch_day};
 
 mod fields;
@@ -64,7 +67,12 @@ impl NaiveDate {
     /// So `from_ymd_opt(2024, 2, 29)` is a date, and `from_ymd_opt(1900, 2, 29)` is `None`.
     #[inline]
     pub fn from_ymd_opt(year: i32, month: u32, day: u32) -> Option<NaiveDate>
-        ensures { result ≡ date_of_ymd year month day }
+        ensures date { result ≡ date_of_ymd year month day }
+        ensures exists { IsSome result ↔ (IsYear year × IsCalendarName year month day) }
+        // The date has that name.
+        ensures year { IfSome result (λ e. year_of e ≡ year) }
+        ensures month { IfSome result (λ e. month_of e ≡ month) }
+        ensures day { IfSome result (λ e. day_of e ≡ day) }
     {
         Some(NaiveDate {
             form: Form::from_ymd(year, month, day)?,
@@ -77,7 +85,11 @@ impl NaiveDate {
     /// So `from_yo_opt(2024, 366)` is 31 December 2024, and `from_yo_opt(2023, 366)` is `None`.
     #[inline]
     pub fn from_yo_opt(year: i32, ordinal: u32) -> Option<NaiveDate>
-        ensures { result ≡ date_of_yo year ordinal }
+        ensures date { result ≡ date_of_yo year ordinal }
+        ensures exists { IsSome result ↔ (IsYear year × IsOrdinalName year ordinal) }
+        // The date has that name.
+        ensures year { IfSome result (λ e. year_of e ≡ year) }
+        ensures ordinal { IfSome result (λ e. ordinal_of e ≡ ordinal) }
     {
         Some(NaiveDate {
             form: Form::from_yo(year, ordinal)?,
@@ -91,7 +103,17 @@ impl NaiveDate {
     /// `from_isoywd_opt(2020, 53, Weekday::Sun)` is 3 January 2021.
     #[inline]
     pub fn from_isoywd_opt(year: i32, week: u32, weekday: Weekday) -> Option<NaiveDate>
-        ensures { result ≡ date_of_iso year week weekday }
+        ensures date { result ≡ date_of_iso year week weekday }
+        ensures exists { IsSome result ↔ (IsIsoWeek year week
+            × IsDate (day_number_of_iso year week (number_from_monday weekday))) }
+        // Of all ISO years but the first and the last that dates have, each day is a date.
+        ensures inside { neg_ℤ (pos 262_143) <ℤ year → year <ℤ pos 262_143 → IsIsoWeek year week →
+            IsSome result }
+        ensures weeks { IsInRange 52 53 (weeks_of_iso_year year) }
+        // The date has that name.
+        ensures year { IfSome result (λ e. iso_year_of e ≡ year) }
+        ensures week { IfSome result (λ e. iso_week_of e ≡ week) }
+        ensures weekday { IfSome result (λ e. weekday_of e ≡ weekday) }
     {
         Some(NaiveDate {
             form: forms::from_iso(year, week, weekday)?,
@@ -110,7 +132,17 @@ impl NaiveDate {
         weekday: Weekday,
         n: u8,
     ) -> Option<NaiveDate>
-        ensures { result ≡ date_of_nth_weekday year month weekday n }
+        ensures date { result ≡ date_of_nth_weekday year month weekday n }
+        ensures exists { IsSome result ↔ (IsYear year × IsInRange 1 12 month
+            × IsInRange 1 (length (days_with_weekday year month weekday)) n) }
+        // Each month has four days with each weekday.
+        ensures first_four { IsYear year → IsInRange 1 12 month → IsInRange 1 4 n → IsSome result }
+        ensures year { IfSome result (λ e. year_of e ≡ year) }
+        ensures month { IfSome result (λ e. month_of e ≡ month) }
+        ensures weekday { IfSome result (λ e. weekday_of e ≡ weekday) }
+        // It is one of the n-th seven days of the month.
+        ensures after { IfSome result (λ e. 7 * (n - 1) < day_of e) }
+        ensures up_to { IfSome result (λ e. day_of e ≤ 7 * n) }
     {
         Some(NaiveDate {
             form: forms::nth_weekday(year, month, weekday, n)?,

@@ -1,7 +1,8 @@
 //! Moves by calendar months and days: they move the date and keep the time of day.
-ghost use Rattle.std.specs.Prelude.{◌≡◌, ◌↔◌, pos, neg_ℤ, ◌+ℤ◌, ◌-ℤ◌, IfSome, IsSome};
-ghost use Rattle.chrono_naive.specs.Days.{IsDate, date_of_day};
-ghost use Rattle.chrono_naive.specs.MonthMoves.{MonthMovesAddUp, ComesBack, KeepsOrder, month_move};
+ghost use Rattle.std.specs.Prelude.{◌≡◌, ◌↔◌, min, pos, neg_ℤ, ◌+ℤ◌, ◌-ℤ◌, IfSome, IsSome};
+ghost use Rattle.chrono_naive.specs.Years.{IsYear};
+ghost use Rattle.chrono_naive.specs.Days.{IsDate, date_of_day, day_of};
+ghost use Rattle.chrono_naive.specs.MonthMoves.{MonthMovesAddUp, ComesBack, KeepsOrder, month_index_of, month_length_of, month_move, year_of_month_index};
 ghost use Rattle.chrono_datetime.specs.Moment.{moment_on};
 
 use crate::NaiveDateTime;
@@ -16,6 +17,10 @@ impl NaiveDateTime {
     pub fn checked_add_months(self, rhs: Months) -> Option<NaiveDateTime>
         ensures value { result ≡ moment_on (month_move self.date (pos rhs)) self.time }
         ensures exists { IsSome result ↔ IsSome (month_move self.date (pos rhs)) }
+        ensures in_years { IsSome result
+            ↔ IsYear (year_of_month_index (month_index_of self.date +ℤ pos rhs)) }
+        ensures month { IfSome result (λ e. month_index_of e.date ≡ month_index_of self.date +ℤ pos rhs) }
+        ensures day { IfSome result (λ e. day_of e.date ≡ min (day_of self.date) (month_length_of e.date)) }
         // No later date comes to lie before the answer's by the same move.
         ensures order { IfSome result (λ e. KeepsOrder self.date (pos rhs) e.date) }
         // Moved back, the answer's date comes to the date again, or to one to three days before it in its month.
@@ -32,6 +37,10 @@ impl NaiveDateTime {
     pub fn checked_sub_months(self, rhs: Months) -> Option<NaiveDateTime>
         ensures value { result ≡ moment_on (month_move self.date (neg_ℤ (pos rhs))) self.time }
         ensures exists { IsSome result ↔ IsSome (month_move self.date (neg_ℤ (pos rhs))) }
+        ensures in_years { IsSome result
+            ↔ IsYear (year_of_month_index (month_index_of self.date -ℤ pos rhs)) }
+        ensures month { IfSome result (λ e. month_index_of e.date ≡ month_index_of self.date -ℤ pos rhs) }
+        ensures day { IfSome result (λ e. day_of e.date ≡ min (day_of self.date) (month_length_of e.date)) }
         // No later date comes to lie before the answer's by the same move.
         ensures order { IfSome result (λ e. KeepsOrder self.date (neg_ℤ (pos rhs)) e.date) }
         // Moved on again, the answer's date comes to the date again, or to one to three days before it in its month.

@@ -6,7 +6,7 @@ ghost use Rattle.chrono_units.specs.WeekdaySet.{DaySet, IsSubset, contains};
 ghost use Rattle.chrono_clock.specs.Duration.{nanos_per_day, units_of, whole_units};
 ghost use Rattle.chrono_calendar.specs.Days.{IsDate, date_of_day, day_of, year_of};
 ghost use Rattle.chrono_calendar.specs.Weeks.{week_first_of, weekday_of};
-ghost use Rattle.chrono_calendar.specs.MonthMoves.{MonthMovesAddUp, ComesBack, KeepsOrder, LaterMultiplesAreLater, month_index_of, month_length_of, month_move};
+ghost use Rattle.chrono_calendar.specs.MonthMoves.{MonthMovesAddUp, ComesBack, KeepsOrder, LaterMultiplesAreLater, month_index_of, month_length_of, month_move, year_of_month_index};
 ghost use Rattle.chrono_calendar.specs.Recurrence.{IsLastOfFebruary, IsLeapDay, date_every, date_on};
 ghost use Rattle.chrono_calendar.specs.YearsBetween.{years_between as whole_years};
 
@@ -116,6 +116,10 @@ impl NaiveDate {
     #[inline]
     pub fn moved_by_months(self, months: i64) -> Option<NaiveDate>
         ensures date { result ≡ month_move self months }
+        ensures exists { IsSome result
+            ↔ IsYear (year_of_month_index (month_index_of self +ℤ months)) }
+        ensures month { IfSome result (λ e. month_index_of e ≡ month_index_of self +ℤ months) }
+        ensures day { IfSome result (λ e. day_of e ≡ min (day_of self) (month_length_of e)) }
         // No later date comes to lie before the answer by the same move.
         ensures order { IfSome result (λ e. KeepsOrder self months e) }
         // Moved the other way, the answer comes to the date again, or one to three days before it in its month.
@@ -137,6 +141,10 @@ impl NaiveDate {
     #[inline]
     pub fn checked_add_months(self, months: Months) -> Option<NaiveDate>
         ensures date { result ≡ month_move self (pos months) }
+        ensures exists { IsSome result
+            ↔ IsYear (year_of_month_index (month_index_of self +ℤ pos months)) }
+        ensures month { IfSome result (λ e. month_index_of e ≡ month_index_of self +ℤ pos months) }
+        ensures day { IfSome result (λ e. day_of e ≡ min (day_of self) (month_length_of e)) }
         // No later date comes to lie before the answer by the same move.
         ensures order { IfSome result (λ e. KeepsOrder self (pos months) e) }
         // Moved back, the answer comes to the date again, or one to three days before it in its month.
@@ -152,6 +160,10 @@ impl NaiveDate {
     #[inline]
     pub fn checked_sub_months(self, months: Months) -> Option<NaiveDate>
         ensures date { result ≡ month_move self (neg_ℤ (pos months)) }
+        ensures exists { IsSome result
+            ↔ IsYear (year_of_month_index (month_index_of self -ℤ pos months)) }
+        ensures month { IfSome result (λ e. month_index_of e ≡ month_index_of self -ℤ pos months) }
+        ensures day { IfSome result (λ e. day_of e ≡ min (day_of self) (month_length_of e)) }
         // No later date comes to lie before the answer by the same move.
         ensures order { IfSome result (λ e. KeepsOrder self (neg_ℤ (pos months)) e) }
         // Moved on again, the answer comes to the date again, or one to three days before it in its month.
@@ -171,6 +183,8 @@ impl NaiveDate {
     pub fn every_months(self, k: i32, i: u32) -> Option<NaiveDate>
         ensures date { result ≡ date_every self k i }
         ensures start { i ≡ 0 → result ≡ Some self }
+        ensures exists { IsSome result
+            ↔ IsYear (year_of_month_index (month_index_of self +ℤ k *ℤ pos i)) }
         ensures month { IfSome result (λ e. month_index_of e ≡ month_index_of self +ℤ k *ℤ pos i) }
         ensures day { IfSome result (λ e. day_of e ≡ min (day_of self) (month_length_of e)) }
         // A higher multiple of a positive number of months comes to a later date, if to one.

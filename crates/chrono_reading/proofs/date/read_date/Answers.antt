@@ -21,7 +21,7 @@ pub returns-clause-read : goal.returns-clause-read
 returns-clause-read c =
     let year = c.in_ok-year.year in
     let fits = year_fits year c.in_ok-year.ensures.some.0 in
-    let found = simp to_z-of_z at c.from_ymd_opt.ensures in
+    let found = simp to_z-of_z at c.from_ymd_opt.ensures.date in
     let month = c.in_ok-month.month in
     let day = c.in_ok-month.day in
     IsDateText-found _ _ year month day found
@@ -34,5 +34,5 @@ returns-clause-every c = λ n is.
     let tail = c.in_ok-month.ensures.every is.month is.day small.1 small.2 (parts.1 ∙ sym c.in_ok-front.ensures.cases.1) in
     let year = c.in_ok-year.ensures.every is.year small.0 (parts.0 ∙ sym c.in_ok-front.ensures.cases.0) in
     let fits = year_fits c.in_ok-year.year c.in_ok-year.ensures.some.0 in
-    let found = simp to_z-of_z at c.from_ymd_opt.ensures in
+    let found = simp to_z-of_z at c.from_ymd_opt.ensures.date in
     found_by_name _ c.in_ok-year.year is.year c.in_ok-month.month is.month c.in_ok-month.day is.day n found year tail is.names

@@ -21,7 +21,7 @@ pub returns-clause-read : goal.returns-clause-read
 returns-clause-read c =
     let year = c.in_ok-year.year in
     let fits = year_fits year c.in_ok-year.ensures.some.0 in
-    let found = simp to_z-of_z at c.from_yo_opt.ensures in
+    let found = simp to_z-of_z at c.from_yo_opt.ensures.date in
     let ordinal = c.in_ok-ordinal.ordinal in
     IsOrdinalDateText-found _ _ year ordinal found
     (ordinal_text-joined _ year ordinal _ (c.in_ok-year.ensures.some.1 ∙ c.in_ok-front.ensures.cases.0) (c.in_ok-ordinal.ensures.some ∙ c.in_ok-front.ensures.cases.1))
@@ -33,5 +33,5 @@ returns-clause-every c = λ n is.
     let tail = c.in_ok-ordinal.ensures.every is.ordinal small.1 (parts.1 ∙ sym c.in_ok-front.ensures.cases.1) in
     let year = c.in_ok-year.ensures.every is.year small.0 (parts.0 ∙ sym c.in_ok-front.ensures.cases.0) in
     let fits = year_fits c.in_ok-year.year c.in_ok-year.ensures.some.0 in
-    let found = simp to_z-of_z at c.from_yo_opt.ensures in
+    let found = simp to_z-of_z at c.from_yo_opt.ensures.date in
     found_by_ordinal _ c.in_ok-year.year is.year c.in_ok-ordinal.ordinal is.ordinal n found year tail is.names

@@ -21,7 +21,7 @@ returns-clause-read c =
     let week = c.in_ok-week.week in
     let weekday = c.in_ok-week.weekday in
     let fits = iso_year_fits year c.in_ok-year.ensures.some.0 in
-    let found = simp to_z-of_z at c.from_isoywd_opt.ensures in
+    let found = simp to_z-of_z at c.from_isoywd_opt.ensures.date in
     IsWeekDateText-found _ _ year week weekday found c.in_ok-year.ensures.some.0 c.in_ok-week.ensures.range
     (week_date_text-joined _ year week weekday _ (c.in_ok-year.ensures.some.1 ∙ c.in_ok-front.ensures.cases.0) (c.in_ok-week.ensures.some ∙ c.in_ok-front.ensures.cases.1))
 
@@ -31,5 +31,5 @@ returns-clause-every c = λ n is.
     let tail = c.in_ok-week.ensures.every is.week is.weekday is.week_in_year (parts.1 ∙ sym c.in_ok-front.ensures.cases.1) in
     let year = c.in_ok-year.ensures.every is.year is.year_in_range (parts.0 ∙ sym c.in_ok-front.ensures.cases.0) in
     let fits = iso_year_fits c.in_ok-year.year c.in_ok-year.ensures.some.0 in
-    let found = simp to_z-of_z at c.from_isoywd_opt.ensures in
+    let found = simp to_z-of_z at c.from_isoywd_opt.ensures.date in
     found_by_week _ c.in_ok-year.year is.year c.in_ok-week.week is.week c.in_ok-week.weekday is.weekday n found year tail is.names

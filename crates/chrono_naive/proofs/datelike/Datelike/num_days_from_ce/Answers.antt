@@ -8,7 +8,7 @@ use Rattle.chrono_naive.proofs.datelike.Datelike.num_days_from_ce.Goals as goal
 named : (g : _) (c : goal.After-from_yo_opt g) → c.from_yo_opt.result ≡ Some (g.Self.Datelike.number c.args.self.now)
 named g c =
     let fits : FitsSigned w32 c.year.result = omega (arith, casts, c.year.ensures.in_range) in
-    c.from_yo_opt.ensures ∙ rw (to_z-of_z w32 c.year.result fits, c.year.ensures.value) c.ordinal.ensures.names
+    c.from_yo_opt.ensures.date ∙ rw (to_z-of_z w32 c.year.result fits, c.year.ensures.value) c.ordinal.ensures.names
 
 pub unwrap-requires : goal.unwrap-requires
 unwrap-requires g c = rw (named g c) refl

@@ -1,6 +1,6 @@
 use Rattle.std.proofs.Common.{◌≡◌, pos, neg_ℤ, to_z, of_z, ◌-ℤ◌, w64, arith, ap, ◌∙◌}
 use Rattle.chrono_calendar.specs.MonthMoves.{month_move}
-use Rattle.chrono_calendar.proofs.MonthMoveLaws.{if_moved}
+use Rattle.chrono_calendar.proofs.MonthMoveLaws.{if_month, if_moved, month_move-exists}
 use Rattle.chrono_calendar.proofs.Signed.{casts}
 use Rattle.chrono_naive.proofs.naive_date.NaiveDate.checked_sub_months.Goals as goal
 
@@ -12,4 +12,12 @@ moved c =
 pub returns : goal.returns
 returns c =
     let laws = if_moved c.moved_by_months.result c.args.self (neg_ℤ (pos c.args.months)) (pos c.args.months) (omega (arith, casts)) c.moved_by_months.ensures.in_range (moved c) in
-    record { date = moved c; order = laws.0; back = laws.1; sum = laws.2 }
+    record {
+      date = moved c;
+      exists = month_move-exists c.moved_by_months.result c.args.self (neg_ℤ (pos c.args.months)) (moved c);
+      month = (if_month c.moved_by_months.result c.args.self (neg_ℤ (pos c.args.months)) (moved c)).0;
+      day = (if_month c.moved_by_months.result c.args.self (neg_ℤ (pos c.args.months)) (moved c)).1;
+      order = laws.0;
+      back = laws.1;
+      sum = laws.2;
+    }

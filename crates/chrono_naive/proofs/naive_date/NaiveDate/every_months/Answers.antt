@@ -3,6 +3,7 @@ use Rattle.std.proofs.lemmas.Int.{to_z-of_z, fits_signed_mul}
 use Rattle.chrono_calendar.specs.MonthMoves.{month_move}
 use Rattle.chrono_calendar.proofs.Signed.{casts}
 use Rattle.chrono_calendar.proofs.EveryMonths.{date_every-start, if_every, if_leap_day}
+use Rattle.chrono_calendar.proofs.MonthMoveLaws.{month_move-exists}
 use Rattle.chrono_calendar.proofs.NamedDates.{IsDate-year}
 use Rattle.chrono_naive.proofs.naive_date.NaiveDate.every_months.Goals as goal
 
@@ -18,6 +19,9 @@ pub returns-clause-date : goal.returns-clause-date
 returns-clause-date c =
     c.moved_by_months.ensures.date
     ∙ ap (month_move c.args.self) (months c.args.k c.from.result c.from-2.result c.args.i c.ranges.k (omega (arith, c.ranges.i)) c.from.ensures c.from-2.ensures)
+
+pub returns-clause-exists : goal.returns-clause-exists
+returns-clause-exists c = month_move-exists c.moved_by_months.result c.args.self (c.args.k *ℤ pos c.args.i) (returns-clause-date c)
 
 pub returns-clause-start : goal.returns-clause-start
 returns-clause-start c =
