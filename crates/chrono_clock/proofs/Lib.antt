@@ -3,6 +3,7 @@ pub mod TimeLemmas
 pub mod LandingLemmas
 pub mod DistanceLemmas
 pub mod OrderLemmas
+pub mod MomentLemmas
 -- The rest serve this crate's own proofs alone.
 mod DurationLemmas
 mod SumLemmas

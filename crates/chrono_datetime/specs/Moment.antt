@@ -4,10 +4,15 @@ use Rattle.std.specs.Option.{option_map}
 use Rattle.std.specs.Ordering.{int_cmp, nat_cmp, on, then_cmp}
 use Rattle.std.specs.declared.cmp.Ordering.{Ordering}
 use Rattle.chrono_clock.specs.Duration.{IsDuration}
-use Rattle.chrono_clock.specs.Time.{TimeOfDay, IsPlain, IsLeap, IsEarlier, SameWay}
-use Rattle.chrono_naive.specs.Days.{date_of_day}
+use Rattle.chrono_clock.specs.Time.{TimeOfDay, IsTime, IsPlain, IsLeap, IsEarlier, SameWay}
+use Rattle.chrono_naive.specs.Days.{IsDate, date_of_day}
 pub use Rattle.chrono_clock.specs.Moment.{Moment, moment, moved}
 unfoldable pub use Rattle.chrono_clock.specs.Moment.{moment_distance}
+
+-- a date-time that the library has: its date is one of the dates, and its time is a time of day
+pub record IsMoment (m : Moment) : Type 0 where
+  pub date : IsDate m.date
+  pub time : IsTime m.time
 
 -- the date-time at the time t of a date, if there is such a date
 abbrev pub moment_on : Option ℤ → TimeOfDay → Option Moment

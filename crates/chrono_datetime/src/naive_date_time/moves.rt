@@ -16,6 +16,7 @@ impl NaiveDateTime {
     pub fn checked_add_months(self, rhs: Months) -> Option<NaiveDateTime>
         ensures value { result ≡ moment_on (month_move self.date (pos rhs)) self.time }
         ensures exists { IsSome result ↔ IsSome (month_move self.date (pos rhs)) }
+        ensures time { IfSome result (λ e. e.time ≡ self.time) }
         // No later date comes to lie before the answer's by the same move.
         ensures order { IfSome result (λ e. KeepsOrder self.date (pos rhs) e.date) }
         // Moved back, the answer's date comes to the date again, or to one to three days before it in its month.
@@ -32,6 +33,7 @@ impl NaiveDateTime {
     pub fn checked_sub_months(self, rhs: Months) -> Option<NaiveDateTime>
         ensures value { result ≡ moment_on (month_move self.date (neg_ℤ (pos rhs))) self.time }
         ensures exists { IsSome result ↔ IsSome (month_move self.date (neg_ℤ (pos rhs))) }
+        ensures time { IfSome result (λ e. e.time ≡ self.time) }
         // No later date comes to lie before the answer's by the same move.
         ensures order { IfSome result (λ e. KeepsOrder self.date (neg_ℤ (pos rhs)) e.date) }
         // Moved on again, the answer's date comes to the date again, or to one to three days before it in its month.
@@ -48,6 +50,8 @@ impl NaiveDateTime {
     pub fn checked_add_days(self, days: Days) -> Option<NaiveDateTime>
         ensures value { result ≡ moment_on (date_of_day (self.date +ℤ pos days)) self.time }
         ensures exists { IsSome result ↔ IsDate (self.date +ℤ pos days) }
+        ensures date { IfSome result (λ e. e.date ≡ self.date +ℤ pos days) }
+        ensures time { IfSome result (λ e. e.time ≡ self.time) }
         // As many days less, the answer's date is the date again.
         ensures back { IfSome result (λ e. e.date -ℤ pos days ≡ self.date) }
     {
@@ -60,6 +64,8 @@ impl NaiveDateTime {
     pub fn checked_sub_days(self, days: Days) -> Option<NaiveDateTime>
         ensures value { result ≡ moment_on (date_of_day (self.date -ℤ pos days)) self.time }
         ensures exists { IsSome result ↔ IsDate (self.date -ℤ pos days) }
+        ensures date { IfSome result (λ e. e.date ≡ self.date -ℤ pos days) }
+        ensures time { IfSome result (λ e. e.time ≡ self.time) }
         // As many days more, the answer's date is the date again.
         ensures back { IfSome result (λ e. e.date +ℤ pos days ≡ self.date) }
     {
