@@ -3,7 +3,6 @@ use Rattle.std.proofs.Common.{◌≡◌, ◌⊎◌, inl, inr, ⊎_elim, ◌↔�
 use Rattle.std.proofs.lemmas.Bool.{cases_order}
 use Rattle.std.proofs.lemmas.Int.{by_lt_z, ints}
 use Rattle.std.specs.Option.{option_map}
-use Rattle.chrono_clock.specs.Duration.{nanos_per_day, units_of}
 use Rattle.chrono_clock.specs.Time.{TimeOfDay, IsTime, IsPlain, IsEarlier, landing_of, land, later, place, distance}
 use Rattle.chrono_clock.proofs.TimeLemmas.{is_leap-plain}
 use Rattle.chrono_clock.proofs.DistanceLemmas.{land-distance, land-distance_days, distance-later, distance-earlier, distance-same}
@@ -12,12 +11,6 @@ use Rattle.chrono_naive.specs.Days.{IsDate, date_of_day}
 use Rattle.chrono_naive.proofs.NamedDates.{date_of_day-Some}
 use Rattle.chrono_datetime.specs.Moment.{Moment, moment, reach, moment_distance, IsBefore, LeadsBack, SignTellsOrder}
 use Rattle.chrono_datetime.proofs.ReachLemmas.{moment_of_landing}
-
--- the distance of two date-times that are known by their parts
-pub moment_distance-parts : (a b : Moment) (n k : ℤ) (s t : TimeOfDay) (d x r : ℤ) → moment n s ≡ a → moment k t ≡ b → r ≡ d +ℤ x → d ≡ units_of nanos_per_day (n -ℤ k) → x ≡ distance s t → r ≡ moment_distance a b
-unfolding moment_distance
-moment_distance-parts a b n k s t d x r e f sum days times =
-    sum ∙ ap (λ y. y +ℤ x) days ∙ ap (λ y. units_of nanos_per_day (n -ℤ k) +ℤ y) times ∙ ap (λ m. moment_distance m (moment k t)) e ∙ ap (moment_distance a) f
 
 -- from b on, a landing whose day is that of a
 reach-at : (a b : Moment) (x day : ℤ) → IsDate a.date → land b.time x ≡ later day (landing_of a.time) → b.date +ℤ (day +ℤ pos 0) ≡ a.date → reach b x ≡ Some a

@@ -110,13 +110,6 @@ IfSome-moved (Some e) m x h =
       subst (λ (k : Moment). IsPlain m.time ⊎ (k.date ≡ m.date) → moment_distance k m ≡ x) (sym end) (moment_distance-moved m x),
     )
 
--- the clock answers a time and the days that are passed, and the date moves by these
-pub reach-parts : (o : Option ℤ) (m : Moment) (x days : ℤ) (t : TimeOfDay) → t ≡ (land m.time x).time → days ≡ (land m.time x).day → o ≡ date_of_day (m.date +ℤ days) → moment_on o t ≡ reach m x
-unfolding reach
-reach-parts o m x days t e f h =
-    let landed = land m.time x in
-    ap (moment_on o) e ∙ ap (λ p. moment_on p landed.time) (h ∙ ap (λ day. date_of_day (m.date +ℤ day)) f)
-
--- the same for a date-time that is known by another name
+-- what is reached, from a start that is known by another name
 pub reach-along : (o : Option Moment) (m k : Moment) (x : ℤ) → m ≡ k → IsTime m.time → o ≡ reach m x → IsTime k.time × (o ≡ reach k x)
 reach-along o m k x e i h = let P : Moment → Type 0 = λ j. IsTime j.time × (o ≡ reach j x) in subst P e (i, h)
