@@ -4,7 +4,7 @@ use Rattle.std.proofs.lemmas.Bool.{and_parts}
 use Rattle.std.proofs.lemmas.Bool.Decides.{nat_tests}
 use Rattle.std.proofs.lemmas.Option.{cond_some}
 use Rattle.std.specs.Option.{option_and_then, option_map}
-use Rattle.chrono_clock.specs.Duration.{IsDuration, floor_secs, longest, nanos_of, past_floor}
+use Rattle.chrono_clock.specs.Duration.{IsDuration, duration_named as duration_of_parts, floor_secs, longest, nanos_of, past_floor}
 use Rattle.chrono_clock.specs.Time.{Landing, TimeOfDay, distance, is_leap, land, leap_landing, place, plain_landing, time_at}
 use Rattle.chrono_clock.proofs.TimeLemmas.{by_leap, by_parts, land-leap, land-plain, leap_landing-before, leap_landing-inside, leap_landing-past}
 use Rattle.chrono_units.specs.Years.{IsYear, is_year}
@@ -96,14 +96,14 @@ IsDuration-moment_distance m n d e t u =
     omega (arith, signed, d.0, d.1, e.0, e.1, t.0, t.1.0, u.0, u.1.0, few (is_leap n.time && nat_lt n.time.second m.time.second), few (is_leap m.time && nat_lt m.time.second n.time.second))
 
 duration_named-again : (x : ℤ) → IsDuration x → duration_named (duration_or_none (Some x)) ≡ Some x
-unfolding duration_named
+unfolding duration_named duration_of_parts
 duration_named-again x h =
     let is : nanos_of (floor_secs x) (past_floor x) ≡ x = omega (arith, signed) in
     let test : (nat_lt (past_floor x) 1_000_000_000 && nat_le (unsigned_abs x) longest) ≡ true = grind (arith, nat_tests) in
     rw (is, test) refl
 
 duration_named-none : (o : Option ℤ) → o ≡ None → duration_named (duration_or_none o) ≡ o
-unfolding duration_named
+unfolding duration_named duration_of_parts
 duration_named-none None e = refl
 duration_named-none (Some x) e = absurd cc
 

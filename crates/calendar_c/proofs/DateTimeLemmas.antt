@@ -1,17 +1,13 @@
--- Which numbers name a date-time or a duration: from the tests of the definitions to facts and back.
-use Rattle.std.proofs.Common.{sym, subst, ◌∙◌, ◌≡◌, ℕ, ◌%◌, ◌<◌, ◌&&◌, nat_lt, nat_le, Bool, true, false, cond, Option, Some, None, refl, ap, arith, ℤ, unsigned_abs}
+-- Which numbers name a date-time: from the tests of the definitions to facts and back.
+use Rattle.std.proofs.Common.{sym, subst, ◌∙◌, ◌≡◌, ℕ, ◌%◌, ◌<◌, Bool, true, false, cond, Option, Some, None, refl, ap, arith, ℤ}
 use Rattle.std.proofs.lemmas.Bool.Decides.{nat_tests}
-use Rattle.std.specs.Option.{SomeIff}
-use Rattle.chrono_clock.specs.Duration.{IsDuration, longest, nanos_of}
 use Rattle.chrono_clock.specs.Time.{FractionFits, TimeOfDay}
 use Rattle.chrono_calendar.specs.Days.{IsDate, date_of_day}
-use Rattle.chrono_calendar.proofs.Dates.{by_test}
 use Rattle.chrono_datetime.specs.Moment.{Moment, moment, moment_on}
 use Rattle.chrono_calendar.proofs.NamedDates.{date_of_day-None, date_of_day-Some, date_of_day-number}
 use Rattle.chrono_calendar.proofs.Signed.{signed}
-use Rattle.calendar_c.specs.DateTimes.{day_of_seconds, duration_named, is_time_named, moment_at, moment_named, numbers_of, numbers_or_none, second_of_seconds}
+use Rattle.calendar_c.specs.DateTimes.{day_of_seconds, is_time_named, moment_at, moment_named, numbers_of, numbers_or_none, second_of_seconds}
 use Rattle.calendar_c.specs.declared.date_time_numbers.CalendarDateTime.{CalendarDateTime}
-use Rattle.calendar_c.specs.declared.date_time_numbers.CalendarDuration.{CalendarDuration}
 
 -- a second of the day and a fraction that the library has
 abbrev pub IsTimeNamed : ℕ → ℕ → Type 0
@@ -44,12 +40,6 @@ unfolding moment_at
 moment_at-no_date day second nanos e =
     none_unless (is_time_named second nanos) (moment_on (date_of_day day) (record { second = second; fraction = nanos }))
     (λ t. ap (λ (o : Option ℤ). moment_on o (record { second = second; fraction = nanos })) e)
-
-pub duration_named-SomeIff : (o : Option ℤ) (a : CalendarDuration) → SomeIff o ((a.nanos < 1_000_000_000) × IsDuration (nanos_of a.seconds a.nanos)) (nanos_of a.seconds a.nanos) → o ≡ duration_named a
-unfolding duration_named
-duration_named-SomeIff o a h =
-    by_test (nat_lt a.nanos 1_000_000_000 && nat_le (unsigned_abs (nanos_of a.seconds a.nanos)) longest) o (nanos_of a.seconds a.nanos) ((a.nanos < 1_000_000_000) × IsDuration (nanos_of a.seconds a.nanos))
-    (λ t. grind (arith, nat_tests, t)) (λ f. grind (arith, nat_tests, f)) h
 
 -- the day and the second of so many seconds since 1970, as they are found
 pub moment_named-parts : (a : CalendarDateTime) (day : ℤ) (second nanos : ℕ) → day ≡ day_of_seconds a.seconds → second ≡ second_of_seconds a.seconds → nanos ≡ a.nanos → moment_at day second nanos ≡ moment_named a

@@ -1,7 +1,7 @@
 -- Date-times and durations by the two numbers that stand for them in C.
-use Rattle.std.specs.Prelude.{ℕ, ◌%◌, ◌==◌, ◌&&◌, ◌||◌, Bool, nat_lt, nat_le, if◌then◌else◌, ℤ, pos, ◌+ℤ◌, ◌-ℤ◌, ◌*ℤ◌, unsigned_abs, Option, Some, None}
+use Rattle.std.specs.Prelude.{ℕ, ◌%◌, ◌==◌, ◌&&◌, ◌||◌, Bool, nat_lt, if◌then◌else◌, ℤ, pos, ◌+ℤ◌, ◌-ℤ◌, ◌*ℤ◌, unsigned_abs, Option, Some, None}
 use Rattle.std.specs.Int.{int_div_euclid, int_rem_euclid}
-use Rattle.chrono_clock.specs.Duration.{floor_secs, longest, nanos_of, nanos_per_second, past_floor}
+use Rattle.chrono_clock.specs.Duration.{duration_named as duration_of_parts, floor_secs, past_floor}
 use Rattle.chrono_datetime.specs.Days.{date_of_day}
 use Rattle.chrono_datetime.specs.Fields.{unix_epoch_day}
 use Rattle.chrono_datetime.specs.Moment.{Moment, moment_on}
@@ -43,9 +43,7 @@ numbers_or_none None = record { seconds = pos 0; nanos = 4_294_967_295 }
 
 -- the duration of so many seconds and nanoseconds past them, if there is one
 unfoldable pub duration_named : CalendarDuration → Option ℤ
-duration_named a =
-    let x = nanos_of a.seconds a.nanos in
-    if nat_lt a.nanos nanos_per_second && nat_le (unsigned_abs x) longest then Some x else None
+duration_named a = duration_of_parts a.seconds a.nanos
 
 -- the two numbers that stand for a duration, if there is one
 abbrev pub duration_or_none : Option ℤ → CalendarDuration

@@ -3,5 +3,4 @@ mod Pieces
 mod Progress
 mod Cuts
 mod Tests
-mod Moments
 mod DayNames

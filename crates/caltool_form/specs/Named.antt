@@ -1,15 +1,16 @@
 -- What the numbers of a command name: a date, a time of day, a date-time, a duration, a number of months.
-use Rattle.std.specs.Prelude.{ℕ, ◌==◌, nat_lt, nat_le, ◌&&◌, ◌||◌, if◌then◌else◌, ℤ, pos, neg_ℤ, unsigned_abs, Option, Some, None}
+use Rattle.std.specs.Prelude.{◌==◌, nat_lt, ◌&&◌, ◌||◌, if◌then◌else◌, ℤ, pos, neg_ℤ, Option, Some, None}
 use Rattle.std.specs.Option.{option_map, option_and_then}
-use Rattle.chrono_clock.specs.Duration.{nanos_per_second, longest, nanos_of}
+use Rattle.chrono_clock.specs.Duration.{nanos_per_second}
 use Rattle.chrono_clock.specs.Time.{TimeOfDay, time_at}
-use Rattle.chrono_clock.specs.Moment.{Moment, moment, moved}
+use Rattle.chrono_clock.specs.Moment.{Moment, moment, reach_by}
 use Rattle.chrono_calendar.specs.Days.{date_of_day, date_of_ymd}
 use Rattle.caltool_command.specs.declared.arguments.CalendarDate.{CalendarDate}
 use Rattle.caltool_command.specs.declared.arguments.ClockTime.{ClockTime}
 use Rattle.caltool_command.specs.declared.arguments.DateAndTime.{DateAndTime}
 use Rattle.caltool_command.specs.declared.arguments.MonthSpan.{MonthSpan}
 use Rattle.caltool_command.specs.declared.arguments.MonthSpan.TheVariants.{Later, Earlier}
+unfoldable pub use Rattle.chrono_clock.specs.Duration.{duration_named}
 
 -- the date of a year, a month and a day, if there is one
 unfoldable pub date_named : CalendarDate → Option ℤ
@@ -31,12 +32,6 @@ abbrev pub months_of : MonthSpan → ℤ
 months_of (Later n) = pos n
 months_of (Earlier n) = neg_ℤ (pos n)
 
--- the duration of seconds and nanoseconds, if there is one
-unfoldable pub duration_named : ℤ → ℕ → Option ℤ
-duration_named seconds nanoseconds =
-    if nat_lt nanoseconds nanos_per_second && nat_le (unsigned_abs (nanos_of seconds nanoseconds)) longest
-    then Some (nanos_of seconds nanoseconds) else None
-
 -- the date-time x nanoseconds on, if its day is a date
 unfoldable pub reach : Moment → ℤ → Option Moment
-reach m x = option_map (λ n. moment n (moved m x).time) (date_of_day (moved m x).date)
+reach m x = reach_by date_of_day m x

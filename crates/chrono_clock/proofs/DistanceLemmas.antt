@@ -1,9 +1,10 @@
 -- Lemmas on distances of times: the move back, and the order.
-use Rattle.std.proofs.Common.{◌≡◌, ℕ, ◌+◌, ◌*◌, ◌/◌, ◌%◌, ◌<◌, ◌≤◌, ◌⊎◌, ⊎_elim, true, false, ℤ, pos, ◌+ℤ◌, ◌-ℤ◌, ◌*ℤ◌, ◌<ℤ◌, ◌≤ℤ◌, arith, refl, sym, ap, ◌∙◌, unsigned_abs, nat_lt}
+use Rattle.std.proofs.Common.{◌≡◌, ℕ, ◌+◌, ◌*◌, ◌/◌, ◌%◌, ◌<◌, ◌≤◌, ◌⊎◌, ⊎_elim, true, false, ℤ, pos, neg_ℤ, ◌+ℤ◌, ◌-ℤ◌, ◌*ℤ◌, ◌<ℤ◌, ◌≤ℤ◌, arith, refl, sym, ap, subst, ◌∙◌, unsigned_abs, nat_lt}
+use Rattle.chrono_clock.specs.Duration.{nanos_per_day, units_of}
 use Rattle.chrono_clock.specs.Time.{TimeOfDay, Landing, IsTime, IsLeap, IsPlain, IsEarlier, landing_of, later, place, place_beside, plain_landing, leap_landing, land, distance}
 use Rattle.chrono_clock.specs.Signed.{signed}
-use Rattle.chrono_clock.proofs.TimeLemmas.{by_order, by_leap, is_leap-plain, is_leap-leap, land-plain, land-leap, leap_landing-before, leap_landing-inside, leap_landing-past}
-use Rattle.chrono_clock.proofs.LandingLemmas.{plain_landing-shift}
+use Rattle.chrono_clock.proofs.TimeLemmas.{by_order, by_leap, by_parts, is_leap-plain, is_leap-leap, land-plain, land-leap, leap_landing-before, leap_landing-inside, leap_landing-past}
+use Rattle.chrono_clock.proofs.LandingLemmas.{IsPlain-plain_landing, place-plain_landing, plain_landing-shift}
 
 -- ---- places beside another time
 
@@ -111,3 +112,67 @@ unfolding distance
 distance-same a b e =
     let zero_apart : (n : ℕ) → pos n -ℤ pos n ≡ pos 0 = λ n. omega (arith, signed) in
     ap (distance a) (sym e) ∙ zero_apart (place_beside a a)
+
+-- ---- how far a landing is from its start
+
+abbrev IsMoveAway : TimeOfDay → ℤ → Landing → Type 0
+IsMoveAway t x l = units_of nanos_per_day l.day +ℤ distance l.time t ≡ x
+
+-- from the places of both, where the line of the move holds k nanoseconds that the day lacks
+move_of_places : (d x q : ℤ) (k m n p r : ℕ) → pos r +ℤ d *ℤ pos 86_400_000_000_000 ≡ q → q +ℤ pos k ≡ pos p +ℤ x → m + p ≡ n + r + k → d *ℤ pos 86_400_000_000_000 +ℤ (pos m -ℤ pos n) ≡ x
+move_of_places d x q k m n p r e f g = omega (arith, signed)
+
+-- a landing on the plain line, which lies k nanoseconds further as seen from its start
+plain_away : (t : TimeOfDay) (x q : ℤ) (k : ℕ) → q +ℤ pos k ≡ pos (place t) +ℤ x → place_beside (plain_landing q).time t ≡ place (plain_landing q).time + k → IsMoveAway t x (plain_landing q)
+unfolding distance
+plain_away t x q k e f =
+    let u = (plain_landing q).time in
+    move_of_places (plain_landing q).day x q k (place_beside u t) (place_beside t u) (place t) (place u)
+    (place-plain_landing q) e (omega (arith, f, beside-plain t u (IsPlain-plain_landing q)))
+
+land-away_plain : (t : TimeOfDay) (x : ℤ) → IsPlain t → IsMoveAway t x (land t x)
+land-away_plain t x h =
+    let q = pos (place t) +ℤ x in
+    let u = (plain_landing q).time in
+    subst (IsMoveAway t x) (sym (land-plain t x h)) (plain_away t x q 0 (omega (arith, signed)) (omega (arith, beside-plain u t h)))
+
+-- a landing in the leap second of its start
+inside_away : (t : TimeOfDay) (x : ℤ) → IsLeap t → pos ((t.second + 1) * 1_000_000_000) ≤ℤ (pos (place t) +ℤ x)
+    → IsMoveAway t x (record { day = pos 0; time = record { second = t.second; fraction = unsigned_abs ((pos (place t) +ℤ x) -ℤ pos (t.second * 1_000_000_000)) } })
+unfolding distance
+inside_away t x h low =
+    let f = unsigned_abs ((pos (place t) +ℤ x) -ℤ pos (t.second * 1_000_000_000)) in
+    let u : TimeOfDay = record { second = t.second; fraction = f } in
+    let reached : pos (place u) +ℤ pos 0 *ℤ pos 86_400_000_000_000 ≡ pos (place t) +ℤ x = omega (arith, signed) in
+    move_of_places (pos 0) x (pos (place t) +ℤ x) 0 (place_beside u t) (place_beside t u) (place t) (place u)
+    reached (omega (arith, signed)) (omega (arith, beside-not_before u t (omega arith), beside-not_before t u (omega arith)))
+
+-- from a leap start, on the start's own day
+land-away_leap : (t : TimeOfDay) (x : ℤ) → IsLeap t → (land t x).day ≡ pos 0 → IsMoveAway t x (land t x)
+land-away_leap t x h =
+    let p = pos (place t) +ℤ x in
+    let P : Landing → Type 0 = λ l. l.day ≡ pos 0 → IsMoveAway t x l in
+    subst P (sym (land-leap t x h))
+    (by_parts p t.second
+    (λ before. subst P (sym (leap_landing-before t.second p before))
+    (λ same_day.
+    let u = (plain_landing p).time in
+    let not_later : u.second ≤ t.second = omega (arith, signed, place-plain_landing p) in
+    plain_away t x p 0 (omega (arith, signed)) (omega (arith, beside-not_before u t not_later))))
+    (λ low high. subst P (sym (leap_landing-inside t.second p low high)) (λ same_day. inside_away t x h low))
+    (λ past. subst P (sym (leap_landing-past t.second p past))
+    (λ same_day.
+    let q = p -ℤ pos 1_000_000_000 in
+    let u = (plain_landing q).time in
+    let later_second : t.second < u.second = omega (arith, signed, place-plain_landing q) in
+    plain_away t x q 1_000_000_000 (omega (arith, signed)) (beside-leap_before u t h later_second))))
+
+-- a landing is as far from its start as the move was long, from a plain start or on the start's own day
+pub land-away : (t : TimeOfDay) (x : ℤ) → IsPlain t ⊎ ((land t x).day ≡ pos 0) → units_of nanos_per_day (land t x).day +ℤ distance (land t x).time t ≡ x
+land-away t x way =
+    ⊎_elim (land-away_plain t x) (λ same_day. by_leap t (land-away_plain t x) (λ leap. land-away_leap t x leap same_day)) way
+
+-- the other way round a distance has the other sign
+pub distance-turned : (a b : TimeOfDay) → distance a b ≡ neg_ℤ (distance b a)
+unfolding distance
+distance-turned a b = omega (arith, signed)

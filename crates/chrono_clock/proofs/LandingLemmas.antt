@@ -27,8 +27,12 @@ plain_landing-shift q k =
 pub place-plain_landing : (q : ℤ) → pos (place (plain_landing q).time) +ℤ (plain_landing q).day *ℤ pos 86_400_000_000_000 ≡ q
 place-plain_landing q = omega (arith, signed)
 
-IsPlain-plain_landing : (q : ℤ) → IsPlain (plain_landing q).time
+pub IsPlain-plain_landing : (q : ℤ) → IsPlain (plain_landing q).time
 IsPlain-plain_landing q = omega arith
+
+-- a move from a plain time ends in no leap second
+pub IsPlain-land : (t : TimeOfDay) (x : ℤ) → IsPlain t → IsPlain (land t x).time
+IsPlain-land t x h = rw (land-plain t x h) (IsPlain-plain_landing (pos (place t) +ℤ x))
 
 -- a move on from a plain point
 land-plain_landing : (q y : ℤ) → plain_landing (q +ℤ y) ≡ later (plain_landing q).day (land (plain_landing q).time y)

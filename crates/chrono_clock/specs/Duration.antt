@@ -1,5 +1,5 @@
 -- Durations: whole numbers of nanoseconds, read in other units, divided, summed and stored.
-use Rattle.std.specs.Prelude.{List, fold, take, length, ◌≡◌, ℕ, ◌*◌, ◌-◌, ◌^◌, ◌≤◌, ℤ, pos, neg_ℤ, ◌+ℤ◌, ◌*ℤ◌, unsigned_abs, int_div, int_rem, refl}
+use Rattle.std.specs.Prelude.{List, fold, take, length, ◌≡◌, ℕ, ◌*◌, ◌-◌, ◌^◌, ◌≤◌, ◌&&◌, nat_lt, nat_le, if◌then◌else◌, ℤ, pos, neg_ℤ, ◌+ℤ◌, ◌*ℤ◌, unsigned_abs, int_div, int_rem, Option, Some, None, refl}
 use Rattle.std.specs.Int.{int_div_euclid, int_rem_euclid}
 pub use Rattle.chrono_text.specs.Text.{nanos_per_second}
 
@@ -41,6 +41,11 @@ units_of unit count = count *ℤ pos unit
 -- so many seconds and the nanoseconds past them, in nanoseconds
 abbrev pub nanos_of : ℤ → ℕ → ℤ
 nanos_of secs nanos = secs *ℤ pos nanos_per_second +ℤ pos nanos
+
+-- the duration of so many seconds and nanoseconds past them, if there is one
+unfoldable pub duration_named : ℤ → ℕ → Option ℤ
+duration_named secs nanos =
+    if nat_lt nanos nanos_per_second && nat_le (unsigned_abs (nanos_of secs nanos)) longest then Some (nanos_of secs nanos) else None
 
 -- a duration in whole units, rounded towards zero
 abbrev pub whole_units : ℕ → ℤ → ℤ

@@ -137,6 +137,8 @@ impl NaiveTime {
         ensures seconds { result.1 ≡ (land self.now rhs).day *ℤ pos 86_400 }
         ensures start { IsTime self.now }
         ensures end { IsTime result.0 }
+        // From a time in no leap second it leads to one in none.
+        ensures plain { IsPlain self.now → IsPlain result.0 }
 
         // A second move ends where the one move by the sum ends.
         ensures adds_up { (y : ℤ) → IsPlain self.now ⊎ SameWay rhs y →
@@ -162,6 +164,8 @@ impl NaiveTime {
         ensures end { IsTime result.0 }
         // No duration is as long as 2^40 days.
         ensures near { unsigned_abs result.1 < 2 ^ 40 }
+        // From a time in no leap second it leads to one in none.
+        ensures plain { IsPlain self.now → IsPlain result.0 }
 
         // A second move ends where the one move by the sum ends.
         ensures adds_up { (y : ℤ) → IsPlain self.now ⊎ SameWay rhs y →
@@ -186,6 +190,8 @@ impl NaiveTime {
     pub fn overflowing_sub_signed(&self, rhs: TimeDelta) -> (NaiveTime, i64)
         ensures time { result.0 ≡ (land self.now (neg_ℤ rhs)).time }
         ensures seconds { result.1 ≡ neg_ℤ ((land self.now (neg_ℤ rhs)).day *ℤ pos 86_400) }
+        // From a time in no leap second it leads to one in none.
+        ensures plain { IsPlain self.now → IsPlain result.0 }
     {
         let (time, seconds) = self.overflowing_add_signed(-rhs);
         (time, -seconds)
@@ -207,6 +213,8 @@ impl NaiveTime {
         ensures later { IsEarlier rhs self → pos 0 <ℤ result }
         ensures same { self ≡ rhs → result ≡ pos 0 }
         ensures earlier { IsEarlier self rhs → result <ℤ pos 0 }
+        // From this time to `rhs` it is as far, with the other sign.
+        ensures turned { result ≡ neg_ℤ (distance rhs self) }
     {
         let here = self.second_beside(&rhs);
         let there = rhs.second_beside(&self);

@@ -1,22 +1,16 @@
 -- Differences of date-times, from those of times of day.
-use Rattle.std.proofs.Common.{◌≡◌, ◌⊎◌, inl, inr, ⊎_elim, ◌↔◌, ℕ, ℤ, pos, ◌+ℤ◌, ◌-ℤ◌, ◌<ℤ◌, Some, arith, sym, ap, ◌∙◌}
+use Rattle.std.proofs.Common.{◌≡◌, ◌⊎◌, inl, inr, ⊎_elim, ◌↔◌, ℕ, ℤ, pos, neg_ℤ, ◌+ℤ◌, ◌-ℤ◌, ◌<ℤ◌, Option, Some, None, IfSome, arith, sym, ap, ◌∙◌}
 use Rattle.std.proofs.lemmas.Bool.{cases_order}
 use Rattle.std.proofs.lemmas.Int.{by_lt_z, ints}
 use Rattle.std.specs.Option.{option_map}
-use Rattle.chrono_clock.specs.Duration.{nanos_per_day, units_of}
 use Rattle.chrono_clock.specs.Time.{TimeOfDay, IsTime, IsPlain, IsEarlier, landing_of, land, later, place, distance}
 use Rattle.chrono_clock.proofs.TimeLemmas.{is_leap-plain}
 use Rattle.chrono_clock.proofs.DistanceLemmas.{land-distance, land-distance_days, distance-later, distance-earlier, distance-same}
+use Rattle.chrono_clock.proofs.MomentLemmas.{moment_distance-turned}
 use Rattle.chrono_naive.specs.Days.{IsDate, date_of_day}
 use Rattle.chrono_naive.proofs.NamedDates.{date_of_day-Some}
 use Rattle.chrono_datetime.specs.Moment.{Moment, moment, reach, moment_distance, IsBefore, LeadsBack, SignTellsOrder}
 use Rattle.chrono_datetime.proofs.ReachLemmas.{moment_of_landing}
-
--- the distance of two date-times that are known by their parts
-pub moment_distance-parts : (a b : Moment) (n k : ℤ) (s t : TimeOfDay) (d x r : ℤ) → moment n s ≡ a → moment k t ≡ b → r ≡ d +ℤ x → d ≡ units_of nanos_per_day (n -ℤ k) → x ≡ distance s t → r ≡ moment_distance a b
-unfolding moment_distance
-moment_distance-parts a b n k s t d x r e f sum days times =
-    sum ∙ ap (λ y. y +ℤ x) days ∙ ap (λ y. units_of nanos_per_day (n -ℤ k) +ℤ y) times ∙ ap (λ m. moment_distance m (moment k t)) e ∙ ap (moment_distance a) f
 
 -- from b on, a landing whose day is that of a
 reach-at : (a b : Moment) (x day : ℤ) → IsDate a.date → land b.time x ≡ later day (landing_of a.time) → b.date +ℤ (day +ℤ pos 0) ≡ a.date → reach b x ≡ Some a
@@ -35,6 +29,11 @@ reach-moment_distance a b d i j way =
     ⊎_elim (λ plain. reach-at a b _ (a.date -ℤ b.date) d (land-distance_days a.time b.time (a.date -ℤ b.date) i j plain.0 plain.1) (omega (arith, ints)))
     (λ one. ap (reach b) (moment_distance-one_date a b one.0) ∙ reach-at a b _ (pos 0) d (land-distance a.time b.time i j one.1) (omega (arith, ints, one.0)))
     way
+
+-- a move back by x ends where x leads to the start again
+pub IfSome-turned : (o : Option Moment) (m : Moment) (x : ℤ) → IfSome o (λ e. IsPlain m.time ⊎ (e.date ≡ m.date) → moment_distance e m ≡ neg_ℤ x) → IfSome o (λ e. IsPlain m.time ⊎ (e.date ≡ m.date) → moment_distance m e ≡ x)
+IfSome-turned None m x h = tt
+IfSome-turned (Some e) m x h = λ way. omega (arith, ints, moment_distance-turned m e, h way)
 
 -- ---- the sign of a distance is the order
 

@@ -1,14 +1,15 @@
 -- Moves of date-times, from those of times of day.
-use Rattle.std.proofs.Common.{◌≡◌, inl, inr, ⊎_elim, ℤ, pos, ◌+ℤ◌, ◌<ℤ◌, Bool, true, false, cond, Option, Some, None, arith, refl, sym, ap, ◌∙◌, subst, ◌↔◌, IfSome}
+use Rattle.std.proofs.Common.{◌≡◌, ◌⊎◌, inl, inr, ⊎_elim, ℤ, pos, ◌+ℤ◌, ◌<ℤ◌, Bool, true, false, cond, Option, Some, None, arith, refl, sym, ap, ◌∙◌, subst, ◌↔◌, IfSome}
 use Rattle.std.proofs.lemmas.Int.{by_lt_z, ints}
 use Rattle.std.specs.Option.{option_map}
-use Rattle.chrono_clock.specs.Time.{TimeOfDay, Landing, IsTime, IsEarlier, IsEarlierLanding, landing_of, land, later}
+use Rattle.chrono_clock.specs.Time.{TimeOfDay, Landing, IsTime, IsPlain, IsEarlier, IsEarlierLanding, landing_of, land, later}
 use Rattle.chrono_clock.proofs.TimeLemmas.{by_leap}
-use Rattle.chrono_clock.proofs.LandingLemmas.{TimeMovesAddUp-land}
+use Rattle.chrono_clock.proofs.LandingLemmas.{IsPlain-land, TimeMovesAddUp-land}
 use Rattle.chrono_clock.proofs.OrderLemmas.{land-forward, land-backward}
 use Rattle.chrono_clock.proofs.DistanceLemmas.{land-distance, distance-same}
+use Rattle.chrono_clock.proofs.MomentLemmas.{moment_distance-moved}
 use Rattle.chrono_naive.specs.Days.{date_of_day, is_date}
-use Rattle.chrono_datetime.specs.Moment.{Moment, moment, moment_on, reach, IsBefore, MovesAddUp}
+use Rattle.chrono_datetime.specs.Moment.{Moment, moment, moment_on, moved, moment_distance, reach, IsBefore, MovesAddUp}
 
 -- the date-time at which a landing from the date n ends, if its day is a date
 abbrev pub moment_of_landing : ℤ → Landing → Option Moment
@@ -98,13 +99,17 @@ pub IfSome-reach : (o : Option Moment) (m : Moment) (x : ℤ) → IsTime m.time 
 IfSome-reach None m x i h = (tt, tt, tt)
 IfSome-reach (Some e) m x i h = (MovesAddUp-reach m e x i h, reach-later m e x i h, reach-earlier m e x i h)
 
--- the clock answers a time and the days that are passed, and the date moves by these
-pub reach-parts : (o : Option ℤ) (m : Moment) (x days : ℤ) (t : TimeOfDay) → t ≡ (land m.time x).time → days ≡ (land m.time x).day → o ≡ date_of_day (m.date +ℤ days) → moment_on o t ≡ reach m x
-unfolding reach
-reach-parts o m x days t e f h =
-    let landed = land m.time x in
-    ap (moment_on o) e ∙ ap (λ p. moment_on p landed.time) (h ∙ ap (λ day. date_of_day (m.date +ℤ day)) f)
+-- and what is known of its end: where it lies, whether it is plain, and how far it is from the start
+pub IfSome-moved : (o : Option Moment) (m : Moment) (x : ℤ) → o ≡ reach m x
+    → IfSome o (λ e. e ≡ moved m x) × (IsPlain m.time → IfSome o (λ e. IsPlain e.time)) × IfSome o (λ e. IsPlain m.time ⊎ (e.date ≡ m.date) → moment_distance e m ≡ x)
+IfSome-moved None m x h = (tt, λ _. tt, tt)
+IfSome-moved (Some e) m x h =
+    let end = reach-Some m e x h in (
+      end,
+      λ plain. subst (λ (k : Moment). IsPlain k.time) (sym end) (IsPlain-land m.time x plain),
+      subst (λ (k : Moment). IsPlain m.time ⊎ (k.date ≡ m.date) → moment_distance k m ≡ x) (sym end) (moment_distance-moved m x),
+    )
 
--- the same for a date-time that is known by another name
+-- what is reached, from a start that is known by another name
 pub reach-along : (o : Option Moment) (m k : Moment) (x : ℤ) → m ≡ k → IsTime m.time → o ≡ reach m x → IsTime k.time × (o ≡ reach k x)
 reach-along o m k x e i h = let P : Moment → Type 0 = λ j. IsTime j.time × (o ≡ reach j x) in subst P e (i, h)

@@ -1,21 +1,22 @@
 -- Date-times: a date and a time of day, where a duration leads from one, and how far two are apart.
 use Rattle.std.specs.Prelude.{◌≡◌, ℤ, ◌+ℤ◌, ◌<ℤ◌, ◌⊎◌, Option}
-use Rattle.std.specs.Option.{option_map}
 use Rattle.std.specs.Ordering.{int_cmp, nat_cmp, on, then_cmp}
 use Rattle.std.specs.declared.cmp.Ordering.{Ordering}
 use Rattle.chrono_clock.specs.Duration.{IsDuration}
-use Rattle.chrono_clock.specs.Time.{TimeOfDay, IsPlain, IsLeap, IsEarlier, SameWay}
-use Rattle.chrono_naive.specs.Days.{date_of_day}
-pub use Rattle.chrono_clock.specs.Moment.{Moment, moment, moved}
+use Rattle.chrono_clock.specs.Time.{IsTime, IsPlain, IsLeap, IsEarlier, SameWay}
+use Rattle.chrono_clock.specs.Moment.{reach_by}
+use Rattle.chrono_naive.specs.Days.{IsDate, date_of_day}
+pub use Rattle.chrono_clock.specs.Moment.{Moment, moment, moment_on, moved}
 unfoldable pub use Rattle.chrono_clock.specs.Moment.{moment_distance}
 
--- the date-time at the time t of a date, if there is such a date
-abbrev pub moment_on : Option ℤ → TimeOfDay → Option Moment
-moment_on date t = option_map (λ n. moment n t) date
+-- a date-time that the library has: its date is one of the dates, and its time is a time of day
+pub record IsMoment (m : Moment) : Type 0 where
+  pub date : IsDate m.date
+  pub time : IsTime m.time
 
 -- the date-time x nanoseconds on, on the line of the start's time, if its day is a date
 unfoldable pub reach : Moment → ℤ → Option Moment
-reach m x = moment_on (date_of_day (moved m x).date) (moved m x).time
+reach m x = reach_by date_of_day m x
 
 -- a comes before b: on an earlier date, or earlier on the same date
 abbrev pub IsBefore : Moment → Moment → Type 0

@@ -2,9 +2,9 @@
 //!
 //! Its order stands in `order`, its fields in `fields`, its moves by months and days in `moves`, its operators in `ops`,
 //! and its printed texts in `text`.
-ghost use Rattle.std.specs.Prelude.{◌≡◌, pos, neg_ℤ, ◌<ℤ◌, ◌↔◌, IfSome, Some};
-ghost use Rattle.chrono_clock.specs.Time.{time_at};
-ghost use Rattle.chrono_datetime.specs.Moment.{moment, reach, moment_distance, IsBefore, MovesAddUp, LeadsBack, SignTellsOrder};
+ghost use Rattle.std.specs.Prelude.{◌≡◌, pos, neg_ℤ, ◌<ℤ◌, ◌↔◌, ◌⊎◌, IfSome, Some};
+ghost use Rattle.chrono_clock.specs.Time.{IsPlain, time_at};
+ghost use Rattle.chrono_datetime.specs.Moment.{IsMoment, moment, moved, reach, moment_distance, IsBefore, MovesAddUp, LeadsBack, SignTellsOrder};
 
 mod fields;
 mod moves;
@@ -96,7 +96,15 @@ impl NaiveDateTime {
     #[inline]
     pub fn checked_add_signed(self, rhs: TimeDelta) -> Option<NaiveDateTime>
         ensures value { result ≡ reach self rhs }
+        ensures moved { IfSome result (λ e. e ≡ moved self rhs) }
+        ensures start { IsMoment self }
+        ensures end { IfSome result IsMoment }
+        // From a start in no leap second it leads to an end in none.
+        ensures plain { IsPlain self.time → IfSome result (λ e. IsPlain e.time) }
 
+        // The end is as far from the start as the duration is long, if the start is in no leap second or both have one date.
+        ensures distance { IfSome result (λ e. IsPlain self.time ⊎ (e.date ≡ self.date) →
+            moment_distance e self ≡ rhs) }
         // A second move ends where the one move by the sum ends.
         ensures adds_up { IfSome result (λ e. MovesAddUp self rhs e) }
         ensures later { IfSome result (λ e. (pos 0 <ℤ rhs) ↔ IsBefore self e) }
@@ -112,7 +120,16 @@ impl NaiveDateTime {
     /// of [`MIN`](Self::MIN), or for a negative duration past that of [`MAX`](Self::MAX).
     #[inline]
     pub fn checked_sub_signed(self, rhs: TimeDelta) -> Option<NaiveDateTime>
-        ensures { result ≡ reach self (neg_ℤ rhs) }
+        ensures value { result ≡ reach self (neg_ℤ rhs) }
+        ensures moved { IfSome result (λ e. e ≡ moved self (neg_ℤ rhs)) }
+        ensures start { IsMoment self }
+        ensures end { IfSome result IsMoment }
+        // From a start in no leap second it leads to an end in none.
+        ensures plain { IsPlain self.time → IfSome result (λ e. IsPlain e.time) }
+
+        // The start is as far from the end as the duration is long, if the start is in no leap second or both have one date.
+        ensures distance { IfSome result (λ e. IsPlain self.time ⊎ (e.date ≡ self.date) →
+            moment_distance self e ≡ rhs) }
     {
         self.checked_add_signed(-rhs)
     }
@@ -123,7 +140,10 @@ impl NaiveDateTime {
     #[inline]
     pub fn signed_duration_since(self, rhs: NaiveDateTime) -> TimeDelta
         ensures value { result ≡ moment_distance self rhs }
+        ensures moments { IsMoment self × IsMoment rhs }
 
+        // From this date-time to `rhs` it is as far, with the other sign.
+        ensures turned { result ≡ neg_ℤ (moment_distance rhs self) }
         // A move from `rhs` by the answer ends here.
         ensures back { LeadsBack self rhs → reach rhs result ≡ Some self }
         ensures later { SignTellsOrder self rhs → (pos 0 <ℤ result) ↔ IsBefore rhs self }

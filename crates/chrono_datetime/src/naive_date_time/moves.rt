@@ -21,6 +21,7 @@ impl NaiveDateTime {
             ↔ IsYear (year_of_month_index (month_index_of self.date +ℤ pos rhs)) }
         ensures month { IfSome result (λ e. month_index_of e.date ≡ month_index_of self.date +ℤ pos rhs) }
         ensures day { IfSome result (λ e. day_of e.date ≡ min (day_of self.date) (month_length_of e.date)) }
+        ensures time { IfSome result (λ e. e.time ≡ self.time) }
         // No later date comes to lie before the answer's by the same move.
         ensures order { IfSome result (λ e. KeepsOrder self.date (pos rhs) e.date) }
         // Moved back, the answer's date comes to the date again, or to one to three days before it in its month.
@@ -41,6 +42,7 @@ impl NaiveDateTime {
             ↔ IsYear (year_of_month_index (month_index_of self.date -ℤ pos rhs)) }
         ensures month { IfSome result (λ e. month_index_of e.date ≡ month_index_of self.date -ℤ pos rhs) }
         ensures day { IfSome result (λ e. day_of e.date ≡ min (day_of self.date) (month_length_of e.date)) }
+        ensures time { IfSome result (λ e. e.time ≡ self.time) }
         // No later date comes to lie before the answer's by the same move.
         ensures order { IfSome result (λ e. KeepsOrder self.date (neg_ℤ (pos rhs)) e.date) }
         // Moved on again, the answer's date comes to the date again, or to one to three days before it in its month.
@@ -57,6 +59,8 @@ impl NaiveDateTime {
     pub fn checked_add_days(self, days: Days) -> Option<NaiveDateTime>
         ensures value { result ≡ moment_on (date_of_day (self.date +ℤ pos days)) self.time }
         ensures exists { IsSome result ↔ IsDate (self.date +ℤ pos days) }
+        ensures date { IfSome result (λ e. e.date ≡ self.date +ℤ pos days) }
+        ensures time { IfSome result (λ e. e.time ≡ self.time) }
         // As many days less, the answer's date is the date again.
         ensures back { IfSome result (λ e. e.date -ℤ pos days ≡ self.date) }
     {
@@ -69,6 +73,8 @@ impl NaiveDateTime {
     pub fn checked_sub_days(self, days: Days) -> Option<NaiveDateTime>
         ensures value { result ≡ moment_on (date_of_day (self.date -ℤ pos days)) self.time }
         ensures exists { IsSome result ↔ IsDate (self.date -ℤ pos days) }
+        ensures date { IfSome result (λ e. e.date ≡ self.date -ℤ pos days) }
+        ensures time { IfSome result (λ e. e.time ≡ self.time) }
         // As many days more, the answer's date is the date again.
         ensures back { IfSome result (λ e. e.date +ℤ pos days ≡ self.date) }
     {

@@ -1,6 +1,6 @@
 use Rattle.std.proofs.Common.{w64}
 use Rattle.std.proofs.lemmas.Int.{to_z-of_z}
-use Rattle.caltool_form.proofs.Tests.{duration_named-SomeIff}
+use Rattle.chrono_clock.proofs.NamedDurations.{duration_named-SomeIff}
 use Rattle.caltool_form.proofs.named.duration_named.Goals as goal
 
 pub returns : goal.returns

@@ -1,6 +1,6 @@
 use Rattle.std.proofs.Common.{arith}
 use Rattle.std.proofs.lemmas.Int.{ints}
-use Rattle.caltool_form.proofs.Moments.{moment_distance-parts}
+use Rattle.chrono_clock.proofs.MomentLemmas.{moment_distance-parts}
 use Rattle.caltool_form.proofs.form_answers.FormAnswersCommandAnswers.distance.Goals as goal
 
 pub returns : goal.returns

@@ -1,6 +1,6 @@
-use Rattle.std.proofs.Common.{sym, ap, ◌∙◌}
-use Rattle.chrono_clock.specs.Time.{Landing}
-use Rattle.chrono_clock.proofs.LandingLemmas.{TimeMovesAddUp-land}
+use Rattle.std.proofs.Common.{sym, ap, subst, ◌∙◌}
+use Rattle.chrono_clock.specs.Time.{IsPlain, Landing, TimeOfDay}
+use Rattle.chrono_clock.proofs.LandingLemmas.{IsPlain-land, TimeMovesAddUp-land}
 use Rattle.chrono_clock.proofs.OrderLemmas.{land-forward, land-backward}
 use Rattle.chrono_clock.proofs.TimeLemmas.{land-plain, land-leap, IsPlain-is_leap, IsLeap-is_leap}
 use Rattle.chrono_clock.proofs.naive_time.NaiveTime.landing.Goals as goal
@@ -25,6 +25,9 @@ returns-else-is_leap-clause-days c =
     let plain = IsPlain-is_leap c.args.self.now (sym c.is_leap.ensures.leap ∙ c.if-is_leap.false) in
     c.moved_plainly.ensures.days ∙ ap (λ (l : Landing). l.day) (sym (land-plain c.args.self.now c.args.rhs plain))
 
+pub returns-then-is_leap-clause-plain : goal.returns-then-is_leap-clause-plain
+returns-then-is_leap-clause-plain c = λ plain. let P : TimeOfDay → Type 0 = IsPlain in subst P (sym (returns-then-is_leap-clause-time c)) (IsPlain-land c.args.self.now c.args.rhs plain)
+
 pub returns-then-is_leap-clause-adds_up : goal.returns-then-is_leap-clause-adds_up
 returns-then-is_leap-clause-adds_up c = λ y w. TimeMovesAddUp-land c.args.self.now c.args.rhs y c.is_leap.ensures.time w
 
@@ -33,6 +36,9 @@ returns-then-is_leap-clause-forward c = land-forward c.args.self.now c.args.rhs 
 
 pub returns-then-is_leap-clause-backward : goal.returns-then-is_leap-clause-backward
 returns-then-is_leap-clause-backward c = land-backward c.args.self.now c.args.rhs c.is_leap.ensures.time
+
+pub returns-else-is_leap-clause-plain : goal.returns-else-is_leap-clause-plain
+returns-else-is_leap-clause-plain c = λ plain. let P : TimeOfDay → Type 0 = IsPlain in subst P (sym (returns-else-is_leap-clause-time c)) (IsPlain-land c.args.self.now c.args.rhs plain)
 
 pub returns-else-is_leap-clause-adds_up : goal.returns-else-is_leap-clause-adds_up
 returns-else-is_leap-clause-adds_up c = λ y w. TimeMovesAddUp-land c.args.self.now c.args.rhs y c.is_leap.ensures.time w
