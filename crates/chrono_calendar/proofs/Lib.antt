@@ -17,11 +17,16 @@ pub mod MonthOrder
 pub mod MonthMoveLaws
 pub mod Moves
 pub mod FirstOn
+pub mod FirstWhere
+pub mod CountWhere
+pub mod MonthDays
 pub mod EveryMonths
 -- The rest serve this crate's own proofs alone.
 mod Cycles
 mod GhostWalks
+mod IsoMondays
 mod NthWeekdays
 mod Refusals
+mod Rising
 mod WeekDays
 mod WholeYears
