@@ -25,7 +25,7 @@ unfolding month_move
 date_every-start n k i h e = same_month n (month_index_of n +ℤ k *ℤ pos i) h (ap (λ j. month_index_of n +ℤ k *ℤ pos j) e ∙ omega (arith, signed))
 
 -- the month and the day of the month that a move comes to
-date_every-parts : (n k : ℤ) (i : ℕ) (e : ℤ) → date_every n k i ≡ Some e → (month_index_of e ≡ month_index_of n +ℤ k *ℤ pos i) × (day_of e ≡ min (day_of n) (month_length_of e))
+pub date_every-parts : (n k : ℤ) (i : ℕ) (e : ℤ) → date_every n k i ≡ Some e → (month_index_of e ≡ month_index_of n +ℤ k *ℤ pos i) × (day_of e ≡ min (day_of n) (month_length_of e))
 date_every-parts n k i e h =
     let place = day_at-unique e _ _ (month_move-at n (k *ℤ pos i) e (month_move-is n (k *ℤ pos i) e h)) in
     (place.0, place.1 ∙ ap (min (day_of n)) (ap length_at (sym place.0) ∙ sym (month_length_of-at e)))

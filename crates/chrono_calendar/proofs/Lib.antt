@@ -22,6 +22,7 @@ pub mod CountWhere
 pub mod MonthDays
 pub mod EveryMonths
 -- The rest serve this crate's own proofs alone.
+mod Birthdays
 mod Cycles
 mod GhostWalks
 mod IsoMondays

@@ -6,14 +6,14 @@ ghost use Rattle.std.specs.Ordering.{int_cmp};
 ghost use Rattle.chrono_units.specs.declared.weekday.Weekday.TheVariants.{Fri, Mon, Sun, Tue};
 ghost use Rattle.chrono_units.specs.Weekday.{days_since, next_weekday, previous_weekday};
 ghost use Rattle.chrono_units.specs.WeekdaySet.{DaySet, single, walk, weekday_after};
-ghost use Rattle.chrono_units.specs.Years.{year_length};
+ghost use Rattle.chrono_units.specs.Years.{is_leap_year, year_length};
 ghost use Rattle.chrono_calendar.specs.Days.{IsCalendarName, IsDate, IsOrdinalName, date_of_day, date_of_ymd, date_of_yo, day_number_of_ymd, day_number_of_yo, day_of, month_of, ordinal_of, year_of};
 ghost use Rattle.chrono_calendar.specs.MonthMoves.{InSameMonth, MonthMovesAddUp, ComesBack, KeepsOrder, LaterMultiplesAreLater, month_first_of, month_index_of, month_last_of, month_length_of, month_move};
 ghost use Rattle.chrono_calendar.specs.NameLaws.{DatesAreDaysOfYears, DatesHaveOneCalendarName, DatesHaveOneIsoName, DatesHaveOneNumber, DatesHaveOneOrdinalName, WeeksHaveOneFirstDay, iso_cmp};
 ghost use Rattle.chrono_calendar.specs.Order.{calendar_cmp, ordinal_cmp};
-ghost use Rattle.chrono_calendar.specs.Recurrence.{IsFirstWhere, IsWeekly, NoneWhere, count_where, date_every, date_on, first_where, is_on, past_last_date};
+ghost use Rattle.chrono_calendar.specs.Recurrence.{IsFirstWhere, IsLeapDay, IsWeekly, NoneWhere, count_where, date_every, date_on, first_where, is_on, past_last_date};
 ghost use Rattle.chrono_calendar.specs.Weeks.{date_of_iso, date_of_nth_weekday, iso_week_of, iso_year_of, week_first_of, weekday_of};
-ghost use Rattle.chrono_calendar.specs.YearsBetween.{years_between};
+ghost use Rattle.chrono_calendar.specs.YearsBetween.{birthday, years_between};
 
 use crate::ends::{FIRST_DAY, LAST_DAY};
 
@@ -212,6 +212,21 @@ pub fn iso_weeks_begin_on_monday()
     ensures week { (n : ℤ) → iso_week_of (week_first_of n Mon) ≡ iso_week_of n }
     ensures same { (n m : ℤ) → ((iso_year_of n ≡ iso_year_of m) × (iso_week_of n ≡ iso_week_of m))
         ↔ (week_first_of n Mon ≡ week_first_of m Mon) }
+{}
+
+/// The whole years between two days are as many as birthdays of the first have come, of which the 0th is the day itself. A
+/// birthday is where a move by whole years ends, and that of 29 February the day after it, 1 March, in a common year. Call
+/// it where an age is asked for or a day on which it grows.
+pub fn whole_years_are_birthdays()
+    ensures come { (n base : ℤ) (k : ℕ) → (years_between n base ≡ Some k)
+        ↔ ((birthday base k ≤ℤ n) × (n <ℤ birthday base (k + 1))) }
+    ensures before { (n base : ℤ) → (years_between n base ≡ None) ↔ (n <ℤ base) }
+    ensures start { (base : ℤ) → birthday base 0 ≡ base }
+    ensures moved { (base : ℤ) (k : ℕ) (e : ℤ) → date_every base (pos 12) k ≡ Some e →
+        (IsLeapDay base → is_leap_year (year_of e) ≡ true) → birthday base k ≡ e }
+    ensures first_of_march { (base : ℤ) (k : ℕ) (e : ℤ) →
+        date_every base (pos 12) k ≡ Some e → IsLeapDay base → is_leap_year (year_of e) ≡ false →
+        birthday base k ≡ e +ℤ pos 1 }
 {}
 
 /// Days that are known: 1 January 1970, the first and the last date, and 1 January of year 1, a Monday.
