@@ -13,21 +13,21 @@ pub mod Weeks
 pub mod IsoWeeks
 pub mod IsoDates
 pub mod IsoOrder
+pub mod IsoMondays
+pub mod WeekDays
+pub mod Cycles
 pub mod MonthOrder
 pub mod MonthMoveLaws
+pub mod MonthDays
 pub mod Moves
 pub mod FirstOn
 pub mod FirstWhere
 pub mod CountWhere
-pub mod MonthDays
 pub mod EveryMonths
+pub mod Birthdays
+pub mod Rising
 -- The rest serve this crate's own proofs alone.
-mod Birthdays
-mod Cycles
 mod GhostWalks
-mod IsoMondays
 mod NthWeekdays
 mod Refusals
-mod Rising
-mod WeekDays
 mod WholeYears

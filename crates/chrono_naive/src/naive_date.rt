@@ -1,8 +1,8 @@
 //! `NaiveDate`: a date with no time zone.
 //!
 //! This file has the type, its ends, and how a date is named and numbered. Its fields stand in `fields`, its
-//! order in `order`, its moves, differences, weeks and iterators in `moves`, its operators in `ops`, and its
-//! printed text in `text`.
+//! order in `order`, its moves, differences, weeks and iterators in `moves`, the ends of its month in `months`, its
+//! operators in `ops`, and its printed text in `text`.
 ghost use Rattle.std.specs.Prelude.{◌≡◌, ◌+◌, ◌≤◌, ◌+ℤ◌, ◌-ℤ◌};
 ghost use Rattle.chrono_units.specs.Years.{is_leap_year};
 ghost use Rattle.chrono_calendar.specs.Days.{IsDate, date_of_day, date_of_yo, date_of_ymd, year_of};
@@ -10,6 +10,7 @@ ghost use Rattle.chrono_calendar.specs.Weeks.{date_of_iso, date_of_nth_weekday};
 ghost use Rattle.chrono_naive.specs.Fields.{unix_epoch_day};
 
 mod fields;
+mod months;
 mod moves;
 mod ops;
 mod order;

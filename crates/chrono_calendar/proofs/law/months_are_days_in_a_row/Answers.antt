@@ -1,6 +1,6 @@
 use Rattle.std.proofs.Common.{refl, arith, pos, ◌+ℤ◌, ◌-ℤ◌}
 use Rattle.chrono_calendar.specs.MonthMoves.{month_last_of}
-use Rattle.chrono_calendar.proofs.MonthDays.{month-days, later_in_month, earlier_in_month, month_first_of-is, month_last_of-is, month-next}
+use Rattle.chrono_calendar.proofs.MonthDays.{in_month-IsDate, month-days, later_in_month, earlier_in_month, month_first_of-is, month_last_of-is, month-next}
 use Rattle.chrono_calendar.proofs.law.months_are_days_in_a_row.Goals as goal
 
 pub returns-clause-days : goal.returns-clause-days
@@ -23,3 +23,6 @@ returns-clause-next_month c = λ n. (month-next n (month_last_of n +ℤ pos 1) r
 
 pub returns-clause-next_first : goal.returns-clause-next_first
 returns-clause-next_first c = λ n. (month-next n (month_last_of n +ℤ pos 1) refl).1
+
+pub returns-clause-dates : goal.returns-clause-dates
+returns-clause-dates c = in_month-IsDate
