@@ -1,13 +1,15 @@
--- Cycles of 400 years: whole cycles on, years begin whole cycles of days later and repeat.
-use Rattle.std.proofs.Common.{◌≡◌, ◌+◌, ◌*◌, ◌%◌, ◌≤◌, refl, ap, arith, ℤ, pos, ◌+ℤ◌, ◌*ℤ◌}
+-- Cycles of 400 years: whole cycles on, years begin whole cycles of days later and repeat, and so do the names of days.
+use Rattle.std.proofs.Common.{◌≡◌, ℕ, ◌+◌, ◌*◌, ◌%◌, ◌≤◌, Bool, true, false, cond, refl, ap, ◌∙◌, arith, ℤ, pos, ◌+ℤ◌, ◌*ℤ◌}
 use Rattle.std.specs.Int.{int_div_euclid, int_rem_euclid}
 use Rattle.std.proofs.lemmas.Bool.Decides.{nat_tests}
-use Rattle.chrono_units.specs.Years.{year_length}
-use Rattle.chrono_calendar.specs.Days.{days_before_year}
-use Rattle.chrono_calendar.specs.Weeks.{days_from_sunday_of}
+use Rattle.chrono_units.specs.Years.{is_leap_year, year_length}
+use Rattle.chrono_calendar.specs.Days.{days_before_year, IsOrdinalName, day_number_of_yo, month_of_ordinal, day_of_ordinal, year_of, ordinal_of, month_of, day_of}
+use Rattle.chrono_calendar.specs.Weeks.{days_from_sunday_of, thursday_of_week, iso_year_of, iso_week_of}
 use Rattle.chrono_calendar.specs.Flags.{flags_of_year, IsYearFlags}
 use Rattle.chrono_calendar.proofs.Signed.{signed}
 use Rattle.chrono_calendar.proofs.Years.{leap_day, year_length-leap_day, days_before_year-next, days_before_year-closed}
+use Rattle.chrono_calendar.proofs.Names.{ordinal_name_of-number, year_of-number, ordinal_of-number}
+use Rattle.chrono_calendar.proofs.IsoWeeks.{days_from_monday-of, thursday_of_week-monday}
 
 days_before_year-shift : (c : ℤ) (y base : ℤ) → y ≡ c *ℤ pos 400 +ℤ base → days_before_year y ≡ days_before_year base +ℤ c *ℤ pos 146_097
 days_before_year-shift c y base e = omega (arith, signed, days_before_year-closed y, days_before_year-closed base)
@@ -42,3 +44,40 @@ flags_of_year-in_range y = (omega (arith, flags_of_year-parts y, leap_day-bound 
   where
     leap_day-bound : (y : ℤ) → leap_day y ≤ 1
     leap_day-bound y = grind (arith, nat_tests)
+
+-- ---- the names of the day 400 years on
+
+pub ordinal_name-again : (n m : ℤ) → m ≡ n +ℤ pos 146_097 → (year_of m ≡ year_of n +ℤ pos 400) × (ordinal_of m ≡ ordinal_of n)
+ordinal_name-again n m e =
+    let named = ordinal_name_of-number n in
+    let y = year_of n in
+    let later : ℤ = y +ℤ pos 400 in
+    let cycle : later ≡ pos 1 *ℤ pos 400 +ℤ y = omega (arith, signed) in
+    let number : day_number_of_yo later (ordinal_of n) ≡ m = omega (arith, signed, named.number, days_before_year-shift (pos 1) later y cycle) in
+    let exists : IsOrdinalName later (ordinal_of n) = (named.exists.0, omega (arith, named.exists.1, year_length-shift (pos 1) later y cycle)) in
+    (year_of-number m later (ordinal_of n) number exists, ordinal_of-number m later (ordinal_of n) number exists)
+
+-- years with so many days are leap, or not, alike
+abbrev length_in : Bool → ℕ
+length_in leap = cond leap 366 365
+
+same_kind : (a b : Bool) → length_in a ≡ length_in b → a ≡ b
+same_kind true true e = refl
+same_kind true false e = absurd (omega (arith, e))
+same_kind false true e = absurd (omega (arith, e))
+same_kind false false e = refl
+
+pub calendar_name-again : (n m : ℤ) → m ≡ n +ℤ pos 146_097 → (month_of m ≡ month_of n) × (day_of m ≡ day_of n)
+calendar_name-again n m e =
+    let again = ordinal_name-again n m e in
+    let lengths = year_length-shift (pos 1) (year_of m) (year_of n) (omega (arith, signed, again.0)) in
+    let kind = same_kind (is_leap_year (year_of m)) (is_leap_year (year_of n)) lengths in (
+      ap (λ l. month_of_ordinal l (ordinal_of m)) kind ∙ ap (month_of_ordinal (is_leap_year (year_of n))) again.1,
+      ap (λ l. day_of_ordinal l (ordinal_of m)) kind ∙ ap (day_of_ordinal (is_leap_year (year_of n))) again.1,
+    )
+
+pub iso_name-again : (n m : ℤ) → m ≡ n +ℤ pos 146_097 → (iso_year_of m ≡ iso_year_of n +ℤ pos 400) × (iso_week_of m ≡ iso_week_of n)
+iso_name-again n m e =
+    let later : thursday_of_week m ≡ thursday_of_week n +ℤ pos 146_097 = omega (arith, signed, thursday_of_week-monday n, thursday_of_week-monday m, days_from_monday-of n, days_from_monday-of m) in
+    let again = ordinal_name-again (thursday_of_week n) (thursday_of_week m) later in
+    (again.0, omega (arith, again.1))

@@ -4,7 +4,7 @@ use Rattle.std.proofs.Common.{◌≡◌, pos, negsuc, [], ◌∷◌, map, Some, 
 use Rattle.chrono_calendar.specs.Days.{days_of_years, days_before_year, days_of_months_in, day_number_of_yo, day_number_of_ymd}
 use Rattle.chrono_units.specs.declared.weekday.Weekday.TheVariants.{Tue, Thu}
 use Rattle.chrono_units.specs.WeekdaySet.{set_of}
-use Rattle.chrono_calendar.specs.Recurrence.{first_of_days}
+use Rattle.chrono_calendar.specs.Recurrence.{first_of_days, is_on}
 use Rattle.chrono_calendar.specs.Flags.{flags_of_year, weeks_of_iso_year}
 use Rattle.chrono_calendar.proofs.Signed.{signed}
 use Rattle.chrono_calendar.proofs.Years.{days_before_year-closed}
@@ -48,6 +48,6 @@ unfolding flags_of_year days_before_year days_of_years
 weeks_of_years = (weeks_of_iso_year-flags (pos 2020) 1 refl, weeks_of_iso_year-flags (pos 2015) 10 refl, weeks_of_iso_year-flags (pos 2021) 11 refl)
 
 -- from 30 December 2024, a Monday, Tuesday comes the day after
-next_tuesday : first_of_days (set_of (Tue ∷ Thu ∷ [])) 7 (pos 739_250) ≡ Some (pos 739_251)
+next_tuesday : first_of_days (is_on (set_of (Tue ∷ Thu ∷ []))) 7 (pos 739_250) ≡ Some (pos 739_251)
 unfolding first_of_days
 next_tuesday = refl

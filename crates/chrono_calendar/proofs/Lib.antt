@@ -13,17 +13,23 @@ pub mod Weeks
 pub mod IsoWeeks
 pub mod IsoDates
 pub mod IsoOrder
+pub mod IsoMondays
+pub mod WeekDays
+pub mod Cycles
 pub mod MonthOrder
 pub mod MonthMoveLaws
+pub mod MonthDays
 pub mod Moves
 pub mod FirstOn
+pub mod FirstWhere
+pub mod CountWhere
 pub mod EveryMonths
 pub mod GivenNames
 pub mod GivenWeekdays
+pub mod Birthdays
+pub mod Rising
 -- The rest serve this crate's own proofs alone.
-mod Cycles
 mod GhostWalks
 mod NthWeekdays
 mod Refusals
-mod WeekDays
 mod WholeYears

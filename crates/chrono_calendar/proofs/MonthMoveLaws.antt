@@ -73,7 +73,7 @@ month_move-KeepsOrder n k e h =
     (rw moved.day (in_order n later (month_index_of n) (month_index_of later) k (day_of n) (day_of later) (day_at-exists n) (day_at-exists later) le))
 
 -- days whose months have one index are in the same month
-in_same_month : (n m i : ℤ) → month_index_of n ≡ i → month_index_of m ≡ i → InSameMonth n m
+pub in_same_month : (n m i : ℤ) → month_index_of n ≡ i → month_index_of m ≡ i → InSameMonth n m
 in_same_month n m i e f =
     let a = month_index-parts (year_of n) (month_of n) (month_of-range n) in
     let b = month_index-parts (year_of m) (month_of m) (month_of-range m) in

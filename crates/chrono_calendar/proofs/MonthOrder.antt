@@ -66,7 +66,7 @@ before_month-new_year i j y a b c d =
     rw (a, b, c, d) (omega (arith, signed, last, none, whole, days_before_year-next y (y +ℤ pos 1) refl))
 
 -- the next month begins where this one ends
-before_month-next : (i j : ℤ) → j ≡ i +ℤ pos 1 → before_month j ≡ before_month i +ℤ pos (length_at i)
+pub before_month-next : (i j : ℤ) → j ≡ i +ℤ pos 1 → before_month j ≡ before_month i +ℤ pos (length_at i)
 before_month-next i j e =
     elim (cases_order (month_of_month_index i) 12) [
       | inl same ↦ before_month-new_year i j (year_of_month_index i) refl same (omega (arith, signed)) (omega (arith, signed))

@@ -26,7 +26,7 @@ date_of_yo-day n y o e h =
     rw (same, e) refl
 
 -- and so is the day with a calendar name
-IsCalendarName-ordinal : (y : ℤ) (m d : ℕ) → IsCalendarName y m d → IsOrdinalName y (ordinal_of_ymd y m d)
+pub IsCalendarName-ordinal : (y : ℤ) (m d : ℕ) → IsCalendarName y m d → IsOrdinalName y (ordinal_of_ymd y m d)
 IsCalendarName-ordinal y m d h = ordinal_within (is_leap_year y) m d h.0 h.1
 
 date_of_ymd-day : (n y : ℤ) (m d : ℕ) → day_number_of_ymd y m d ≡ n → IsCalendarName y m d → date_of_ymd y m d ≡ date_of_day n
@@ -100,6 +100,17 @@ date_of_ymd-name n y m d e =
     let ordinal = ordinal_of-number n y (ordinal_of_ymd y m d) found.1 inside in
     let divided = month_of_ordinal-unique (is_leap_year y) m d (ordinal_of_ymd y m d) (record { month = exists.0; day = exists.1; ordinal = refl }) in
     (sym year, rw (year, ordinal) (sym divided.0), rw (year, ordinal) (sym divided.1))
+
+-- a name that the calendar has is that of the day with its number
+pub calendar_name-number : (y : ℤ) (m d : ℕ) → IsCalendarName y m d → let n = day_number_of_ymd y m d in (year_of n ≡ y) × (month_of n ≡ m) × (day_of n ≡ d)
+calendar_name-number y m d h =
+    let n = day_number_of_ymd y m d in
+    let o = ordinal_of_ymd y m d in
+    let inside = IsCalendarName-ordinal y m d h in
+    let year = year_of-number n y o refl inside in
+    let ordinal = ordinal_of-number n y o refl inside in
+    let divided = month_of_ordinal-unique (is_leap_year y) m d o (record { month = h.0; day = h.1; ordinal = refl }) in
+    (year, rw (year, ordinal) divided.0, rw (year, ordinal) divided.1)
 
 -- a day whose year is one of the library's is a date
 pub IsDate-year : (n : ℤ) → IsYear (year_of n) → IsDate n

@@ -23,7 +23,7 @@ unfolding passes_below days_of_months_in ends_before
 ends_before-tested true = refl
 ends_before-tested false = refl
 
-month_ends : (leap : Bool) (m k : ℕ) → m < k → k < 12 → days_of_months_in leap m + month_length_in leap (m + 1) ≤ days_of_months_in leap k
+pub month_ends : (leap : Bool) (m k : ℕ) → m < k → k < 12 → days_of_months_in leap m + month_length_in leap (m + 1) ≤ days_of_months_in leap k
 unfolding ends_before
 month_ends leap m k h l =
     let passed = passes_below-at (λ j. ends_before leap m j) 12 (passes_below-at (λ i. passes_below (λ j. ends_before leap i j) 12) 12 (ends_before-tested leap) m (omega arith)) k l in

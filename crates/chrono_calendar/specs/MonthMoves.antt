@@ -31,6 +31,13 @@ month_index_of n = month_index (year_of n) (month_of n)
 abbrev pub month_length_of : ℤ → ℕ
 month_length_of n = month_length (year_of n) (month_of n)
 
+-- the first day of that month, and the last
+abbrev pub month_first_of : ℤ → ℤ
+month_first_of n = n -ℤ pos (day_of n - 1)
+
+abbrev pub month_last_of : ℤ → ℤ
+month_last_of n = n +ℤ pos (month_length_of n - day_of n)
+
 -- the day that the day n comes to when it is moved by k months: its day of the month in the month that is k months later,
 -- or the last day of that month if it is shorter; none if the library does not have the year of that month
 unfoldable pub month_move : ℤ → ℤ → Option ℤ

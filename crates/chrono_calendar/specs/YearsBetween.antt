@@ -1,6 +1,6 @@
--- The whole years from one day to another.
-use Rattle.std.specs.Prelude.{ℕ, ◌-◌, Bool, ◌&&◌, ◌||◌, ◌==◌, nat_lt, int_lt, if◌then◌else◌, ℤ, ◌-ℤ◌, unsigned_abs, Option, Some, None}
-use Rattle.chrono_calendar.specs.Days.{year_of, month_of, day_of}
+-- The whole years from one day to another, and the birthdays that they are counted by.
+use Rattle.std.specs.Prelude.{ℕ, ◌-◌, Bool, ◌&&◌, ◌||◌, ◌==◌, nat_lt, int_lt, if◌then◌else◌, ℤ, pos, ◌+ℤ◌, ◌-ℤ◌, unsigned_abs, Option, Some, None}
+use Rattle.chrono_calendar.specs.Days.{day_number_of_ymd, year_of, month_of, day_of}
 
 -- in a year the day d of the month m comes before the day q of the month p
 abbrev pub is_earlier_in_year : ℕ → ℕ → ℕ → ℕ → Bool
@@ -14,3 +14,8 @@ years_between n base =
     if int_lt n base then None
     else Some (
     if is_earlier_in_year (month_of n) (day_of n) (month_of base) (day_of base) then years - 1 else years)
+
+-- k years after the day base, the day that stands as far behind the beginning of its month: of 29 February that is 1 March in a
+-- common year
+abbrev pub birthday : ℤ → ℕ → ℤ
+birthday base k = day_number_of_ymd (year_of base +ℤ pos k) (month_of base) (day_of base)

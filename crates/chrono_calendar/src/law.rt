@@ -1,15 +1,19 @@
-//! Laws of names, of weeks and of month moves, each as the contract of a function that does nothing.
-ghost use Rattle.std.specs.Prelude.{◌≡◌, ℕ, ℤ, Some, None, pos, neg_ℤ, ◌+ℤ◌, ◌*ℤ◌, ◌<ℤ◌};
+//! Laws of names, of weekdays, weeks and months, of month moves, and of days that pass a test, each as the contract of a
+//! function that does nothing: behind a call of it its clauses are known.
+ghost use Rattle.std.specs.Prelude.{◌≡◌, ◌↔◌, ◌<◌, ◌≤◌, ◌+◌, ◌*◌, ◌%◌, ℕ, Bool, true, false, if◌then◌else◌, ℤ, Some, None, pos, neg_ℤ, ◌+ℤ◌, ◌-ℤ◌, ◌*ℤ◌, ◌<ℤ◌, ◌≤ℤ◌, length};
+ghost use Rattle.std.specs.Int.{IsInRange};
 ghost use Rattle.std.specs.Ordering.{int_cmp};
 ghost use Rattle.chrono_units.specs.declared.weekday.Weekday.TheVariants.{Fri, Mon, Sun, Tue};
-ghost use Rattle.chrono_units.specs.WeekdaySet.{single};
-ghost use Rattle.chrono_calendar.specs.Days.{IsDate, date_of_day, date_of_ymd, date_of_yo};
-ghost use Rattle.chrono_calendar.specs.MonthMoves.{MonthMovesAddUp, ComesBack, KeepsOrder, LaterMultiplesAreLater, month_move};
+ghost use Rattle.chrono_units.specs.Weekday.{days_since, next_weekday, previous_weekday};
+ghost use Rattle.chrono_units.specs.WeekdaySet.{DaySet, single, walk, weekday_after};
+ghost use Rattle.chrono_units.specs.Years.{is_leap_year, year_length};
+ghost use Rattle.chrono_calendar.specs.Days.{IsCalendarName, IsDate, IsOrdinalName, date_of_day, date_of_ymd, date_of_yo, day_number_of_ymd, day_number_of_yo, day_of, month_of, ordinal_of, year_of};
+ghost use Rattle.chrono_calendar.specs.MonthMoves.{InSameMonth, MonthMovesAddUp, ComesBack, KeepsOrder, LaterMultiplesAreLater, month_first_of, month_index_of, month_last_of, month_length_of, month_move};
 ghost use Rattle.chrono_calendar.specs.NameLaws.{DatesAreDaysOfYears, DatesHaveOneCalendarName, DatesHaveOneIsoName, DatesHaveOneNumber, DatesHaveOneOrdinalName, WeeksHaveOneFirstDay, iso_cmp};
 ghost use Rattle.chrono_calendar.specs.Order.{calendar_cmp, ordinal_cmp};
-ghost use Rattle.chrono_calendar.specs.Recurrence.{date_every, date_on};
+ghost use Rattle.chrono_calendar.specs.Recurrence.{IsFirstWhere, IsLeapDay, IsWeekly, NoneWhere, count_where, date_every, date_on, first_where, is_on, past_last_date};
 ghost use Rattle.chrono_calendar.specs.Weeks.{date_of_iso, date_of_nth_weekday, iso_week_of, iso_year_of, week_first_of, weekday_of};
-ghost use Rattle.chrono_calendar.specs.YearsBetween.{years_between};
+ghost use Rattle.chrono_calendar.specs.YearsBetween.{birthday, years_between};
 
 use crate::ends::{FIRST_DAY, LAST_DAY};
 
@@ -85,6 +89,145 @@ pub fn month_moves_add_up()
 pub fn later_multiples_are_later()
     ensures { (n k : ℤ) (i : ℕ) (e : ℤ) → pos 0 <ℤ k → month_move n (k *ℤ pos i) ≡ Some e →
         LaterMultiplesAreLater n k i e }
+{}
+
+/// The weekday of a day some days on lies as many days on in the cycle of seven. Call it where days are walked and a weekday
+/// is stepped beside them, or where a day is whole weeks from another.
+pub fn weekdays_follow()
+    ensures after { (n : ℤ) (k : ℕ) →
+        weekday_of (n +ℤ pos k) ≡ weekday_after (weekday_of n) k }
+    ensures next { (n : ℤ) → weekday_of (n +ℤ pos 1) ≡ next_weekday (weekday_of n) }
+    ensures previous { (n : ℤ) → weekday_of (n -ℤ pos 1) ≡ previous_weekday (weekday_of n) }
+    ensures weeks_later { (n : ℤ) (w : ℕ) → weekday_of (n +ℤ pos (7 * w)) ≡ weekday_of n }
+    ensures since { (n : ℤ) (k : ℕ) →
+        days_since (weekday_of (n +ℤ pos k)) (weekday_of n) ≡ k % 7 }
+{}
+
+/// The days of a month are those from its first to its last, and the day after them is the first of the next month. Call it
+/// where a month is passed over at once, or where its days are counted.
+pub fn months_are_days_in_a_row()
+    ensures days { (n d : ℤ) →
+        InSameMonth d n ↔ ((month_first_of n ≤ℤ d) × (d ≤ℤ month_last_of n)) }
+    ensures later { (n : ℤ) (k : ℕ) → day_of n + k ≤ month_length_of n →
+        day_of (n +ℤ pos k) ≡ day_of n + k }
+    ensures earlier { (n : ℤ) (k : ℕ) → k < day_of n →
+        day_of (n -ℤ pos k) + k ≡ day_of n }
+    ensures first { (n : ℤ) → day_of (month_first_of n) ≡ 1 }
+    ensures last { (n : ℤ) → day_of (month_last_of n) ≡ month_length_of n }
+    ensures next_month { (n : ℤ) →
+        month_index_of (month_last_of n +ℤ pos 1) ≡ month_index_of n +ℤ pos 1 }
+    ensures next_first { (n : ℤ) → day_of (month_last_of n +ℤ pos 1) ≡ 1 }
+    ensures dates { (n d : ℤ) → IsDate n → InSameMonth d n → IsDate d }
+{}
+
+/// A later day is in no earlier year, month or ISO year. Call it where a walk over days ends at a year or at a month.
+pub fn years_and_months_rise()
+    ensures year { (n m : ℤ) → n ≤ℤ m → year_of n ≤ℤ year_of m }
+    ensures month { (n m : ℤ) → n ≤ℤ m → month_index_of n ≤ℤ month_index_of m }
+    ensures iso_year { (n m : ℤ) → n ≤ℤ m → iso_year_of n ≤ℤ iso_year_of m }
+{}
+
+/// Each day, also one that is no date, has a month from 1 to 12, a day that its month has, an ordinal that its year has and
+/// a week from 1 to 53, and its names name it. Call it where a field is an index, or where a day need not be a date.
+pub fn days_have_names()
+    ensures month { (n : ℤ) → IsInRange 1 12 (month_of n) }
+    ensures day { (n : ℤ) → IsInRange 1 (month_length_of n) (day_of n) }
+    ensures ordinal { (n : ℤ) → IsInRange 1 (year_length (year_of n)) (ordinal_of n) }
+    ensures week { (n : ℤ) → IsInRange 1 53 (iso_week_of n) }
+    ensures by_calendar { (n : ℤ) →
+        day_number_of_ymd (year_of n) (month_of n) (day_of n) ≡ n }
+    ensures by_ordinal { (n : ℤ) → day_number_of_yo (year_of n) (ordinal_of n) ≡ n }
+{}
+
+/// A name that the calendar has, in any year, is that of the day with its number. Call it where the number of a day is
+/// worked out from a name that is none of a date read.
+pub fn names_have_days()
+    ensures year { (y : ℤ) (m d : ℕ) → IsCalendarName y m d →
+        year_of (day_number_of_ymd y m d) ≡ y }
+    ensures month { (y : ℤ) (m d : ℕ) → IsCalendarName y m d →
+        month_of (day_number_of_ymd y m d) ≡ m }
+    ensures day { (y : ℤ) (m d : ℕ) → IsCalendarName y m d →
+        day_of (day_number_of_ymd y m d) ≡ d }
+    ensures year_of_ordinal { (y : ℤ) (o : ℕ) → IsOrdinalName y o →
+        year_of (day_number_of_yo y o) ≡ y }
+    ensures ordinal { (y : ℤ) (o : ℕ) → IsOrdinalName y o →
+        ordinal_of (day_number_of_yo y o) ≡ o }
+{}
+
+/// A count of days that pass a test grows by at most one a day, and the counts of two stretches add up. Call it where days
+/// are counted in a loop, or by parts.
+pub fn counts_add_up()
+    ensures next { (p : ℤ → Bool) (k : ℕ) (n : ℤ) →
+        count_where p (k + 1) n ≡ count_where p k n + (if p (n +ℤ pos k) then 1 else 0) }
+    ensures sum { (p : ℤ → Bool) (j k : ℕ) (n : ℤ) →
+        count_where p (j + k) n ≡ count_where p j n + count_where p k (n +ℤ pos j) }
+    ensures at_most { (p : ℤ → Bool) (k : ℕ) (n : ℤ) → count_where p k n ≤ k }
+    ensures none { (p : ℤ → Bool) (k : ℕ) (n : ℤ) →
+        ((d : ℤ) → n ≤ℤ d → d <ℤ (n +ℤ pos k) → p d ≡ false) → count_where p k n ≡ 0 }
+    ensures all { (p : ℤ → Bool) (k : ℕ) (n : ℤ) →
+        ((d : ℤ) → n ≤ℤ d → d <ℤ (n +ℤ pos k) → p d ≡ true) → count_where p k n ≡ k }
+    ensures same { (p q : ℤ → Bool) (k : ℕ) (n : ℤ) →
+        ((d : ℤ) → n ≤ℤ d → d <ℤ (n +ℤ pos k) → p d ≡ q d) →
+        count_where p k n ≡ count_where q k n }
+{}
+
+/// A test that says the same a week later passes as often in every week. A test of weekdays is one, and passes in a week as
+/// often as its set has members. Call it where whole weeks are counted at once.
+pub fn weekly_counts_come_again()
+    ensures weeks { (p : ℤ → Bool) → IsWeekly p → (w r : ℕ) (n : ℤ) →
+        count_where p (7 * w + r) n ≡ w * count_where p 7 n + count_where p r n }
+    ensures any_week { (p : ℤ → Bool) → IsWeekly p → (n m : ℤ) →
+        count_where p 7 m ≡ count_where p 7 n }
+    ensures weekdays { (set : DaySet) → IsWeekly (is_on set) }
+    ensures members { (set : DaySet) (n : ℤ) → count_where (is_on set) 7 n ≡ length (walk set Mon) }
+{}
+
+/// `first_where` is the least date from a date on that passes a test, and is none exactly where none of them does; `date_on`
+/// is that of a set's weekdays. Call it where a search over days is to be said by one word.
+pub fn first_where_is_least()
+    ensures found { (p : ℤ → Bool) (n e : ℤ) → IsDate n →
+        (first_where p n ≡ Some e) ↔ (IsFirstWhere p n e × IsDate e) }
+    ensures none { (p : ℤ → Bool) (n : ℤ) → IsDate n →
+        (first_where p n ≡ None) ↔ NoneWhere p n }
+    ensures past_last { (p : ℤ → Bool) → first_where p past_last_date ≡ None }
+    ensures weekdays { (n : ℤ) (set : DaySet) → date_on n set ≡ first_where (is_on set) n }
+{}
+
+/// The calendar comes again after 146,097 days: 400 years on, and whole weeks. Call it where a rule is tried over one such
+/// cycle to say what it does in all.
+pub fn calendar_comes_again()
+    ensures year { (n : ℤ) → year_of (n +ℤ pos 146_097) ≡ year_of n +ℤ pos 400 }
+    ensures month { (n : ℤ) → month_of (n +ℤ pos 146_097) ≡ month_of n }
+    ensures day { (n : ℤ) → day_of (n +ℤ pos 146_097) ≡ day_of n }
+    ensures ordinal { (n : ℤ) → ordinal_of (n +ℤ pos 146_097) ≡ ordinal_of n }
+    ensures weekday { (n : ℤ) → weekday_of (n +ℤ pos 146_097) ≡ weekday_of n }
+    ensures iso_year { (n : ℤ) → iso_year_of (n +ℤ pos 146_097) ≡ iso_year_of n +ℤ pos 400 }
+    ensures iso_week { (n : ℤ) → iso_week_of (n +ℤ pos 146_097) ≡ iso_week_of n }
+{}
+
+/// The ISO week of a day is that of its Monday, and two days are in one week of one ISO year exactly if they have one
+/// Monday. Call it where days are put together by ISO week.
+pub fn iso_weeks_begin_on_monday()
+    ensures weekday { (n : ℤ) → weekday_of (week_first_of n Mon) ≡ Mon }
+    ensures year { (n : ℤ) → iso_year_of (week_first_of n Mon) ≡ iso_year_of n }
+    ensures week { (n : ℤ) → iso_week_of (week_first_of n Mon) ≡ iso_week_of n }
+    ensures same { (n m : ℤ) → ((iso_year_of n ≡ iso_year_of m) × (iso_week_of n ≡ iso_week_of m))
+        ↔ (week_first_of n Mon ≡ week_first_of m Mon) }
+{}
+
+/// The whole years between two days are as many as birthdays of the first have come, of which the 0th is the day itself. A
+/// birthday is where a move by whole years ends, and that of 29 February the day after it, 1 March, in a common year. Call
+/// it where an age is asked for or a day on which it grows.
+pub fn whole_years_are_birthdays()
+    ensures come { (n base : ℤ) (k : ℕ) → (years_between n base ≡ Some k)
+        ↔ ((birthday base k ≤ℤ n) × (n <ℤ birthday base (k + 1))) }
+    ensures before { (n base : ℤ) → (years_between n base ≡ None) ↔ (n <ℤ base) }
+    ensures start { (base : ℤ) → birthday base 0 ≡ base }
+    ensures moved { (base : ℤ) (k : ℕ) (e : ℤ) → date_every base (pos 12) k ≡ Some e →
+        (IsLeapDay base → is_leap_year (year_of e) ≡ true) → birthday base k ≡ e }
+    ensures first_of_march { (base : ℤ) (k : ℕ) (e : ℤ) →
+        date_every base (pos 12) k ≡ Some e → IsLeapDay base → is_leap_year (year_of e) ≡ false →
+        birthday base k ≡ e +ℤ pos 1 }
 {}
 
 /// Days that are known: 1 January 1970, the first and the last date, and 1 January of year 1, a Monday.

@@ -1,3 +1,17 @@
--- All serve this crate's own proofs alone.
+-- Lemmas that crates above cite: of signed numbers for `omega`, of names, weekdays, weeks and months, and of days that pass a test.
+pub use Rattle.chrono_units.proofs.WeekdayCycle
+pub use Rattle.chrono_naive.proofs.Signed
+pub use Rattle.chrono_naive.proofs.NamedDates
+pub use Rattle.chrono_naive.proofs.WeekDays
+pub use Rattle.chrono_naive.proofs.IsoWeeks
+pub use Rattle.chrono_naive.proofs.IsoMondays
+pub use Rattle.chrono_naive.proofs.MonthDays
+pub use Rattle.chrono_naive.proofs.MonthOrder
+pub use Rattle.chrono_naive.proofs.Rising
+pub use Rattle.chrono_naive.proofs.Cycles
+pub use Rattle.chrono_naive.proofs.FirstWhere
+pub use Rattle.chrono_naive.proofs.CountWhere
+pub use Rattle.chrono_naive.proofs.Birthdays
+-- The rest serve this crate's own proofs alone.
 mod ReachLemmas
 mod DifferenceLemmas

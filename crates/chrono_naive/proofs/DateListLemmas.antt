@@ -1,12 +1,14 @@
 -- The lists of dates: their lengths, and what one step takes from them.
-use Rattle.std.proofs.Common.{◌≡◌, ℕ, zero, suc, ◌+◌, ◌*◌, ◌/◌, ◌<◌, ◌≤◌, List, [], ◌∷◌, length, refl, ap, ◌∙◌, arith, Option, Some, None, ℤ, pos, ◌+ℤ◌, ◌≤ℤ◌, FitsSigned, w32, to_z, of_z}
+use Rattle.std.proofs.Common.{◌≡◌, ℕ, zero, suc, ◌+◌, ◌*◌, ◌/◌, ◌<◌, ◌≤◌, List, [], ◌∷◌, length, slice_get, refl, sym, ap, ◌∙◌, arith, Option, Some, None, ℤ, pos, ◌+ℤ◌, ◌≤ℤ◌, FitsSigned, w32, to_z, of_z}
 use Rattle.std.proofs.lemmas.Int.{by_lt_z, to_z-of_z}
+use Rattle.std.proofs.lemmas.Option.{slice_get_past}
 use Rattle.std.specs.Bool.{⊤}
 use Rattle.std.specs.Option.{SomeIff, OnSome, IfNone}
 use Rattle.std.specs.Iterator.{MakesProgress, YieldsFirst, item_count}
 use Rattle.chrono_calendar.specs.Days.{IsDate, date_of_day}
 use Rattle.chrono_calendar.specs.Recurrence.{past_last_date, dates_left}
 use Rattle.chrono_calendar.proofs.Signed.{signed, casts}
+use Rattle.chrono_calendar.proofs.NamedDates.{date_of_day-Some, date_of_day-None}
 use Rattle.chrono_naive.specs.DateLists.{IsDayCursor, in_steps, days_left, days_from, weeks_from, days_of_week}
 
 pub length-in_steps : (d n : ℕ) (first : ℤ) → length (in_steps d n first) ≡ n
@@ -23,6 +25,41 @@ in_steps-some : (d n m : ℕ) (first next : ℤ) → n ≡ m + 1 → next ≡ fi
 unfolding in_steps
 in_steps-some d zero m first next e f = absurd (omega arith)
 in_steps-some d (suc n) m first next e f = let same : n ≡ m = omega arith in rw (same, f) refl
+
+-- the k-th of them is so many steps on, and there is none past the last
+in_steps-at : (d n k : ℕ) (first : ℤ) → k < n → slice_get (in_steps d n first) k ≡ Some (first +ℤ pos (d * k))
+unfolding in_steps
+in_steps-at d zero k first h = absurd (omega arith)
+in_steps-at d (suc n) zero first h = ap Some (omega (arith, signed))
+in_steps-at d (suc n) (suc k) first h =
+    let more : d * suc k ≡ d + d * k = one_more d k in
+    in_steps-at d n k (first +ℤ pos d) (omega arith) ∙ ap Some (omega (arith, signed, more))
+  where
+    one_more : (d k : ℕ) → d * suc k ≡ d + d * k
+    one_more d k = grind arith
+
+in_steps-past : (d n k : ℕ) (first : ℤ) → n ≤ k → slice_get (in_steps d n first) k ≡ None
+in_steps-past d n k first h = slice_get_past (in_steps d n first) k (omega (arith, length-in_steps d n first))
+
+pub days_from-at : (n : ℤ) (k : ℕ) → IsDayCursor n → slice_get (days_from n) k ≡ date_of_day (n +ℤ pos k)
+days_from-at n k h =
+    by_lt_z (n +ℤ pos k) past_last_date
+    (λ before.
+    let within = in_steps-at 1 (dates_left n) k n (omega (arith, signed, before)) in
+    let place : n +ℤ pos (1 * k) ≡ n +ℤ pos k = omega (arith, signed) in
+    within ∙ ap Some place ∙ sym (date_of_day-Some (n +ℤ pos k) (omega (arith, signed, h.0), omega (arith, signed, before))))
+    (λ past.
+    in_steps-past 1 (dates_left n) k n (omega (arith, signed, h.1, past))
+    ∙ date_of_day-None (n +ℤ pos k) (λ date. omega (arith, signed, date.1, past)))
+
+pub weeks_from-at : (n : ℤ) (k : ℕ) → IsDate (n +ℤ pos (7 * k + 7)) → slice_get (weeks_from n) k ≡ Some (n +ℤ pos (7 * k))
+weeks_from-at n k after = in_steps-at 7 (days_left n / 7) k n (omega (arith, signed, after.1))
+
+pub weeks_from-past : (n : ℤ) (k : ℕ) → IsDate n → (IsDate (n +ℤ pos (7 * k + 7)) → ⊥) → slice_get (weeks_from n) k ≡ None
+weeks_from-past n k h past =
+    let beyond : past_last_date ≤ℤ (n +ℤ pos (7 * k + 7)) =
+    by_lt_z (n +ℤ pos (7 * k + 7)) past_last_date (λ lt. absurd (past (omega (arith, signed, h.0), omega (arith, signed, lt)))) (λ ge. ge) in
+    in_steps-past 7 (days_left n / 7) k n (omega (arith, signed, h.1, beyond))
 
 -- where the next day of the list would be no date, no date is left
 none_left : (n : ℤ) (d k : ℕ) → 1 ≤ d → IsDate n → (IsDate (n +ℤ pos d) → ⊥) → k * d ≤ days_left n → k ≡ 0

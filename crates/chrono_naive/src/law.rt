@@ -1,15 +1,20 @@
-//! The ends of the dates, and laws of their names, weeks, month moves and texts, each as the contract of a function.
-ghost use Rattle.std.specs.Prelude.{◌≡◌, ◌≤◌, ◌≤ℤ◌, ℤ, pos, neg_ℤ, length, codes};
-ghost use Rattle.chrono_calendar.specs.Days.{IsDate, year_of};
+//! The ends of the dates, and laws of their names, weeks, month moves, lists and texts, each as the contract of a function.
+ghost use Rattle.std.specs.Prelude.{◌≡◌, ◌≤◌, ◌+◌, ◌*◌, ◌/◌, ◌≤ℤ◌, ◌+ℤ◌, ℕ, ℤ, Some, None, pos, neg_ℤ, length, slice_get, codes};
+ghost use Rattle.chrono_calendar.specs.Days.{IsDate, date_of_day, year_of};
+ghost use Rattle.chrono_calendar.specs.Recurrence.{dates_left};
+ghost use Rattle.chrono_naive.specs.DateLists.{IsDayCursor, days_from, days_left, weeks_from};
 ghost use Rattle.chrono_naive.specs.DateText.{date_text};
 
 use crate::naive_date::{MAX_DATE, MIN_DATE, NaiveDate};
 pub use chrono_calendar::law::{
-    calendar_names_are_in_order, dates_are_days_of_years, dates_have_one_calendar_name,
-    dates_have_one_iso_name, dates_have_one_number, dates_have_one_ordinal_name,
-    iso_names_are_in_order, known_days, known_moves, known_recurrences, known_weeks,
+    calendar_comes_again, calendar_names_are_in_order, counts_add_up, dates_are_days_of_years,
+    dates_have_one_calendar_name, dates_have_one_iso_name, dates_have_one_number,
+    dates_have_one_ordinal_name, days_have_names, first_where_is_least, iso_names_are_in_order,
+    iso_weeks_begin_on_monday, known_days, known_moves, known_recurrences, known_weeks,
     later_multiples_are_later, month_moves_add_up, month_moves_come_back, month_moves_keep_order,
-    month_moves_reach_dates, ordinal_names_are_in_order, weeks_have_one_first_day,
+    month_moves_reach_dates, months_are_days_in_a_row, names_have_days, ordinal_names_are_in_order,
+    weekdays_follow, weekly_counts_come_again, weeks_have_one_first_day, whole_years_are_birthdays,
+    years_and_months_rise,
 };
 
 /// The text of a date in the years 0 to 9999 has ten bytes.
@@ -42,6 +47,20 @@ pub fn last_date() -> (NaiveDate, NaiveDate)
 {
     (NaiveDate::MAX, MAX_DATE)
 }
+
+/// The `k`-th date of the days from one on is the day `k` days on, if that is a date, and the `k`-th of the weeks is the day
+/// `7 * k` days on, if a date lies a week after it. Call it where an iterator's items are said by their place, or are
+/// counted.
+pub fn dates_lie_in_steps()
+    ensures day { (n : ℤ) (k : ℕ) → IsDayCursor n →
+        slice_get (days_from n) k ≡ date_of_day (n +ℤ pos k) }
+    ensures days { (n : ℤ) → length (days_from n) ≡ dates_left n }
+    ensures week { (n : ℤ) (k : ℕ) → IsDate (n +ℤ pos (7 * k + 7)) →
+        slice_get (weeks_from n) k ≡ Some (n +ℤ pos (7 * k)) }
+    ensures no_week { (n : ℤ) (k : ℕ) → IsDate n → (IsDate (n +ℤ pos (7 * k + 7)) → ⊥) →
+        slice_get (weeks_from n) k ≡ None }
+    ensures weeks { (n : ℤ) → length (weeks_from n) ≡ days_left n / 7 }
+{}
 
 /// Texts that are known: a date of four digits, the first day of year 0 and the day before, and both ends.
 pub fn known_date_texts()

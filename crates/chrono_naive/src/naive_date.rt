@@ -1,8 +1,8 @@
 //! `NaiveDate`: a date with no time zone.
 //!
 //! This file has the type, its ends, and how a date is named and numbered. Its fields stand in `fields`, its
-//! order in `order`, its moves, differences, weeks and iterators in `moves`, its operators in `ops`, and its
-//! printed text in `text`.
+//! order in `order`, its moves, differences, weeks and iterators in `moves`, the ends of its month in `months`, its
+//! operators in `ops`, and its printed text in `text`.
 ghost use Rattle.std.specs.Prelude.{◌≡◌, ◌↔◌, ◌+◌, ◌-◌, ◌*◌, ◌≤◌, ◌<◌, pos, neg_ℤ, ◌+ℤ◌, ◌-ℤ◌, ◌<ℤ◌, length, IsSome, IfSome};
 ghost use Rattle.std.specs.Int.{IsInRange};
 ghost use Rattle.chrono_units.specs.Years.{IsYear, is_leap_year};
@@ -13,6 +13,7 @@ ghost use Rattle.chrono_calendar.specs.Flags.{IsIsoWeek, weeks_of_iso_year};
 ghost use Rattle.chrono_naive.specs.Fields.{unix_epoch_day};
 
 mod fields;
+mod months;
 mod moves;
 mod ops;
 mod order;

@@ -1,0 +1,15 @@
+use Rattle.std.proofs.Common.{refl, ◌+◌, ◌*◌}
+use Rattle.chrono_calendar.proofs.CountWhere.{any_week, count_where-monday, count_where-weeks, is_on-weekly}
+use Rattle.chrono_calendar.proofs.law.weekly_counts_come_again.Goals as goal
+
+pub returns-clause-weeks : goal.returns-clause-weeks
+returns-clause-weeks c = λ p weekly w r n. count_where-weeks p weekly w r (7 * w + r) n refl
+
+pub returns-clause-any_week : goal.returns-clause-any_week
+returns-clause-any_week c = any_week
+
+pub returns-clause-weekdays : goal.returns-clause-weekdays
+returns-clause-weekdays c = is_on-weekly
+
+pub returns-clause-members : goal.returns-clause-members
+returns-clause-members c = count_where-monday

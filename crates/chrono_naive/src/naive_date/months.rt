@@ -1,0 +1,63 @@
+//! The first and the last day of a date's month, and the first of the next month.
+ghost use Rattle.std.specs.Prelude.{◌≡◌, ◌↔◌, pos, ◌+ℤ◌, ◌≤ℤ◌, ◌<ℤ◌, Some, None, IfSome};
+ghost use Rattle.chrono_calendar.specs.Days.{IsDate, date_of_day, date_of_ymd, day_of, month_of, year_of};
+ghost use Rattle.chrono_calendar.specs.MonthMoves.{InSameMonth, month_first_of, month_index_of, month_last_of, month_length_of};
+
+use crate::naive_date::NaiveDate;
+use chrono_units::year::{is_leap_year, month_length};
+
+impl NaiveDate {
+    /// The first day of the month that the date lies in.
+    ///
+    /// So of 29 February 2024 it is 1 February.
+    #[inline]
+    pub fn first_day_of_month(&self) -> NaiveDate
+        ensures first { result ≡ month_first_of self.now }
+        // It is named by the year, the month and 1.
+        ensures name { date_of_ymd (year_of self.now) (month_of self.now) 1 ≡ Some result }
+        ensures month { InSameMonth result self.now }
+        ensures day { day_of result ≡ 1 }
+        ensures not_after { result ≤ℤ self.now }
+        ensures in_range { IsDate result }
+    {
+        let (_, _, day) = self.year_month_day();
+        self.moved_by_days(1 - i64::from(day)).unwrap()
+    }
+
+    /// The last day of the month that the date lies in.
+    ///
+    /// So of 1 February 2024 it is the 29th.
+    #[inline]
+    pub fn last_day_of_month(&self) -> NaiveDate
+        ensures last { result ≡ month_last_of self.now }
+        // It is named by the year, the month and the month's length.
+        ensures name { date_of_ymd (year_of self.now) (month_of self.now)
+            (month_length_of self.now) ≡ Some result }
+        ensures month { InSameMonth result self.now }
+        ensures day { day_of result ≡ month_length_of self.now }
+        ensures not_before { self.now ≤ℤ result }
+        ensures in_range { IsDate result }
+    {
+        let (year, month, day) = self.year_month_day();
+        let length = month_length(is_leap_year(year), month);
+        self.moved_by_days(i64::from(length) - i64::from(day))
+            .unwrap()
+    }
+
+    /// The first day of the month after the one that the date lies in; `None` exactly in December of the year 262,142.
+    ///
+    /// So of 31 January 2024 it is 1 February.
+    #[inline]
+    pub fn first_of_next_month(&self) -> Option<NaiveDate>
+        ensures date { result ≡ date_of_day (month_last_of self.now +ℤ pos 1) }
+        ensures none { (result ≡ None)
+            ↔ ((year_of self.now ≡ pos 262_142) × (month_of self.now ≡ 12)) }
+        ensures month { IfSome result (λ e.
+            month_index_of e ≡ month_index_of self.now +ℤ pos 1) }
+        ensures day { IfSome result (λ e. day_of e ≡ 1) }
+        ensures later { IfSome result (λ e. self.now <ℤ e) }
+        ensures in_range { IfSome result (λ e. IsDate e) }
+    {
+        self.last_day_of_month().moved_by_days(1)
+    }
+}
