@@ -3,7 +3,7 @@
 //! This file has the type, its ends, and how a date is named and numbered. Its fields stand in `fields`, its
 //! order in `order`, its moves, differences, weeks and iterators in `moves`, its operators in `ops`, and its
 //! printed text in `text`.
-ghost use Rattle.std.specs.Prelude.{◌≡◌, ◌+◌, ◌≤◌, ◌+ℤ◌, ◌-ℤ◌};
+ghost use Rattle.std.specs.Prelude.{◌≡◌, ◌+◌, ◌≤◌, ◌+ℤ◌, ◌-ℤ◌, IsSome, IfSome, ◌↔◌};
 ghost use Rattle.chrono_units.specs.Years.{is_leap_year};
 ghost use Rattle.chrono_calendar.specs.Days.{IsDate, date_of_day, date_of_yo, date_of_ymd, year_of};
 ghost use Rattle.chrono_calendar.specs.Weeks.{date_of_iso, date_of_nth_weekday};
@@ -121,7 +121,9 @@ impl NaiveDate {
     /// -95,746,129 to 95,745,399.
     #[inline]
     pub fn from_num_days_from_ce_opt(days: i32) -> Option<NaiveDate>
-        ensures { result ≡ date_of_day days }
+        ensures date { result ≡ date_of_day days }
+        ensures exists { IsSome result ↔ IsDate days }
+        ensures number { IfSome result (λ e. e ≡ days) }
     {
         NaiveDate::from_num_days_from_ce_counted(days, &mut Steps::new())
     }
@@ -143,7 +145,11 @@ impl NaiveDate {
     /// is not from -96,465,292 to 95,026,236.
     #[inline]
     pub fn from_epoch_days(days: i32) -> Option<NaiveDate>
-        ensures { result ≡ date_of_day (days +ℤ unix_epoch_day) }
+        ensures date { result ≡ date_of_day (days +ℤ unix_epoch_day) }
+        ensures exists { IsSome result ↔ IsDate (days +ℤ unix_epoch_day) }
+        ensures number { IfSome result (λ e. e ≡ days +ℤ unix_epoch_day) }
+        // The days from 1 January 1970 to the answer are the number again.
+        ensures back { IfSome result (λ e. e -ℤ unix_epoch_day ≡ days) }
     {
         NaiveDate::from_num_days_from_ce_opt(days.checked_add(UNIX_EPOCH_DAY)?)
     }

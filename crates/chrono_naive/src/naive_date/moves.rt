@@ -30,6 +30,7 @@ impl NaiveDate {
     pub fn moved_by_days(self, days: i64) -> Option<NaiveDate>
         ensures date { result ≡ date_of_day (self +ℤ days) }
         ensures exists { IsSome result ↔ IsDate (self +ℤ days) }
+        ensures moved { IfSome result (λ e. e ≡ self +ℤ days) }
         // As many days back, the answer is the date again.
         ensures back { IfSome result (λ e. e -ℤ days ≡ self) }
         ensures in_range { IsDate self }
@@ -73,7 +74,11 @@ impl NaiveDate {
     /// The next date; `None` exactly for [`MAX`](Self::MAX).
     #[inline]
     pub fn succ_opt(&self) -> Option<NaiveDate>
-        ensures { result ≡ date_of_day (self.now +ℤ pos 1) }
+        ensures date { result ≡ date_of_day (self.now +ℤ pos 1) }
+        ensures exists { IsSome result ↔ IsDate (self.now +ℤ pos 1) }
+        ensures moved { IfSome result (λ e. e ≡ self.now +ℤ pos 1) }
+        // A day back, the answer is the date again.
+        ensures back { IfSome result (λ e. e -ℤ pos 1 ≡ self.now) }
     {
         self.moved_by_days(1)
     }
@@ -81,7 +86,11 @@ impl NaiveDate {
     /// The date before; `None` exactly for [`MIN`](Self::MIN).
     #[inline]
     pub fn pred_opt(&self) -> Option<NaiveDate>
-        ensures { result ≡ date_of_day (self.now -ℤ pos 1) }
+        ensures date { result ≡ date_of_day (self.now -ℤ pos 1) }
+        ensures exists { IsSome result ↔ IsDate (self.now -ℤ pos 1) }
+        ensures moved { IfSome result (λ e. e ≡ self.now -ℤ pos 1) }
+        // A day on, the answer is the date again.
+        ensures back { IfSome result (λ e. e +ℤ pos 1 ≡ self.now) }
     {
         self.moved_by_days(-1)
     }
@@ -182,6 +191,7 @@ impl NaiveDate {
     pub fn checked_add_signed(self, rhs: TimeDelta) -> Option<NaiveDate>
         ensures date { result ≡ date_of_day (self +ℤ whole_units nanos_per_day rhs) }
         ensures exists { IsSome result ↔ IsDate (self +ℤ whole_units nanos_per_day rhs) }
+        ensures moved { IfSome result (λ e. e ≡ self +ℤ whole_units nanos_per_day rhs) }
     {
         self.moved_by_days(rhs.num_days())
     }
@@ -195,6 +205,7 @@ impl NaiveDate {
     pub fn checked_sub_signed(self, rhs: TimeDelta) -> Option<NaiveDate>
         ensures date { result ≡ date_of_day (self -ℤ whole_units nanos_per_day rhs) }
         ensures exists { IsSome result ↔ IsDate (self -ℤ whole_units nanos_per_day rhs) }
+        ensures moved { IfSome result (λ e. e ≡ self -ℤ whole_units nanos_per_day rhs) }
         // The duration the other way leads to the same date.
         ensures turned { result ≡ date_of_day (self +ℤ whole_units nanos_per_day (neg_ℤ rhs)) }
     {
