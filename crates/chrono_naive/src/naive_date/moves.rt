@@ -1,14 +1,15 @@
 //! Moves of a date by days, by months and by durations, the difference of dates, and what is reached from a date: weeks and
 //! iterators.
-ghost use Rattle.std.specs.Prelude.{◌≡◌, ◌+◌, ◌≤◌, ℤ, pos, neg_ℤ, ◌+ℤ◌, ◌-ℤ◌, ◌*ℤ◌, ◌≤ℤ◌, ◌<ℤ◌, min, unsigned_abs, false, Some, IsSome, IfSome, IfNone, IsSomeAnd, IsTrue, ◌↔◌};
+ghost use Rattle.std.specs.Prelude.{◌≡◌, ◌+◌, ◌≤◌, ℤ, pos, neg_ℤ, ◌+ℤ◌, ◌-ℤ◌, ◌*ℤ◌, ◌≤ℤ◌, ◌<ℤ◌, length, min, unsigned_abs, false, Some, IsSome, IfSome, IfNone, IsSomeAnd, IsTrue, ◌↔◌};
 ghost use Rattle.chrono_units.specs.Years.{IsYear};
 ghost use Rattle.chrono_units.specs.WeekdaySet.{DaySet, IsSubset, contains};
 ghost use Rattle.chrono_clock.specs.Duration.{nanos_per_day, units_of, whole_units};
 ghost use Rattle.chrono_calendar.specs.Days.{IsDate, date_of_day, day_of, year_of};
 ghost use Rattle.chrono_calendar.specs.Weeks.{week_first_of, weekday_of};
 ghost use Rattle.chrono_calendar.specs.MonthMoves.{MonthMovesAddUp, ComesBack, KeepsOrder, LaterMultiplesAreLater, month_index_of, month_length_of, month_move};
-ghost use Rattle.chrono_calendar.specs.Recurrence.{IsLastOfFebruary, IsLeapDay, date_every, date_on};
+ghost use Rattle.chrono_calendar.specs.Recurrence.{IsLastOfFebruary, IsLeapDay, date_every, date_on, dates_left};
 ghost use Rattle.chrono_calendar.specs.YearsBetween.{years_between as whole_years};
+ghost use Rattle.chrono_naive.specs.DateLists.{days_from, weeks_from};
 
 use crate::days::Days;
 use crate::naive_date::NaiveDate;
@@ -283,16 +284,25 @@ impl NaiveDate {
     /// This date and those after it, day after day, up to [`MAX`](Self::MAX).
     #[inline]
     pub fn iter_days(&self) -> NaiveDateDaysIterator
-        ensures { result ≡ self.now }
+        ensures start { result ≡ self.now }
+        ensures count { length (days_from self.now) ≡ dates_left self.now }
+        // There are no more dates than that in all.
+        ensures few { length (days_from self.now) ≤ 191_491_529 }
     {
+        // No date is before the first or past the last.
+        prove!(self.day_number() <= LAST_DAY);
         NaiveDateDaysIterator::new(*self)
     }
 
     /// This date and those after it, week after week, as long as the week after is a date too.
     #[inline]
     pub fn iter_weeks(&self) -> NaiveDateWeeksIterator
-        ensures { result ≡ self.now }
+        ensures start { result ≡ self.now }
+        // There are no more whole weeks than that in all.
+        ensures few { length (weeks_from self.now) ≤ 27_355_932 }
     {
+        // No date is before the first or past the last.
+        prove!(self.day_number() <= LAST_DAY);
         NaiveDateWeeksIterator::new(*self)
     }
 }

@@ -1,0 +1,5 @@
+use Rattle.chrono_naive.proofs.DateListLemmas.{weeks_from-few}
+use Rattle.chrono_naive.proofs.naive_date.NaiveDate.iter_weeks.Goals as goal
+
+pub returns-clause-few : goal.returns-clause-few
+returns-clause-few c = weeks_from-few c.args.self.now (rw c.day_number.ensures.value at c.day_number.ensures.in_range)
