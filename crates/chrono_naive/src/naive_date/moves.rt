@@ -1,6 +1,8 @@
 //! Moves of a date by days, by months and by durations, the difference of dates, and what is reached from a date: weeks and
 //! iterators.
 ghost use Rattle.std.specs.Prelude.{◌≡◌, ◌+◌, ◌≤◌, ℤ, pos, neg_ℤ, ◌+ℤ◌, ◌-ℤ◌, ◌*ℤ◌, ◌≤ℤ◌, ◌<ℤ◌, length, min, unsigned_abs, false, Some, IsSome, IfSome, IfNone, IsSomeAnd, IsTrue, ◌↔◌};
+ghost use Rattle.std.specs.Iterator.{YieldsFirst};
+ghost use Rattle.std.specs.Iterator.Runs.{YieldsInOrder};
 ghost use Rattle.chrono_units.specs.Years.{IsYear};
 ghost use Rattle.chrono_units.specs.WeekdaySet.{DaySet, IsSubset, contains};
 ghost use Rattle.chrono_clock.specs.Duration.{nanos_per_day, units_of, whole_units};
@@ -288,6 +290,8 @@ impl NaiveDate {
         ensures count { length (days_from self.now) ≡ dates_left self.now }
         // There are no more dates than that in all.
         ensures few { length (days_from self.now) ≤ 191_491_529 }
+        // Any calls of `next` give the list's dates in order: what chains of iterators are proved by.
+        ensures runs { YieldsInOrder (YieldsFirst days_from) days_from }
     {
         // No date is before the first or past the last.
         prove!(self.day_number() <= LAST_DAY);
@@ -300,6 +304,8 @@ impl NaiveDate {
         ensures start { result ≡ self.now }
         // There are no more whole weeks than that in all.
         ensures few { length (weeks_from self.now) ≤ 27_355_932 }
+        // Any calls of `next` give the list's dates in order: what chains of iterators are proved by.
+        ensures runs { YieldsInOrder (YieldsFirst weeks_from) weeks_from }
     {
         // No date is before the first or past the last.
         prove!(self.day_number() <= LAST_DAY);
