@@ -11,10 +11,26 @@ use Rattle.chrono_calendar.proofs.Signed.{signed, casts}
 use Rattle.chrono_calendar.proofs.NamedDates.{date_of_day-Some, date_of_day-None}
 use Rattle.chrono_naive.specs.DateLists.{IsDayCursor, in_steps, days_left, days_from, weeks_from, days_of_week}
 
-pub length-in_steps : (d n : ℕ) (first : ℤ) → length (in_steps d n first) ≡ n
+length-in_steps : (d n : ℕ) (first : ℤ) → length (in_steps d n first) ≡ n
 unfolding in_steps
 length-in_steps d zero first = refl
 length-in_steps d (suc n) first = ap suc (length-in_steps d n (first +ℤ pos d))
+
+-- as many dates are left as the lists are long
+pub length-days_from : (n : ℤ) → length (days_from n) ≡ dates_left n
+unfolding days_from
+length-days_from n = length-in_steps 1 (dates_left n) n
+
+pub length-weeks_from : (n : ℤ) → length (weeks_from n) ≡ days_left n / 7
+unfolding weeks_from
+length-weeks_from n = length-in_steps 7 (days_left n / 7) n
+
+-- which is never more than all dates, or all whole weeks
+pub days_from-few : (n : ℤ) → IsDate n → length (days_from n) ≤ 191_491_529
+days_from-few n h = omega (arith, signed, length-days_from n, h.0, h.1)
+
+pub weeks_from-few : (n : ℤ) → IsDate n → length (weeks_from n) ≤ 27_355_932
+weeks_from-few n h = omega (arith, signed, length-weeks_from n, h.0, h.1)
 
 in_steps-none : (d n : ℕ) (first : ℤ) → n ≡ 0 → in_steps d n first ≡ []
 unfolding in_steps
@@ -85,6 +101,7 @@ IsDayCursor-ended n h ended =
 
 -- what a step of a cursor gives is the first of its list, and the rest is the list from where it then stands
 pub days_from-yields : (n next : ℤ) (o : Option ℤ) → IsDayCursor n → SomeIff o (IsDate n) n → OnSome o (next ≡ n +ℤ pos 1) → IfNone o (next ≡ n) → YieldsFirst days_from n o next
+unfolding days_from
 days_from-yields n next None h ended moved stays =
     let none = in_steps-none 1 (dates_left n) n (omega (arith, signed, IsDayCursor-ended n h ended)) in
     (none, rw stays none)
@@ -92,6 +109,7 @@ days_from-yields n next (Some x) h found moved stays =
     rw found.1 (in_steps-some 1 (dates_left n) (dates_left next) n next (omega (arith, signed, found.0.1, moved)) moved)
 
 pub weeks_from-yields : (n next : ℤ) (o : Option ℤ) → IsDate n → SomeIff o (IsDate (n +ℤ pos 7)) n → OnSome o (next ≡ n +ℤ pos 7) → IfNone o (next ≡ n) → YieldsFirst weeks_from n o next
+unfolding weeks_from
 weeks_from-yields n next None h past moved stays =
     let none = in_steps-none 7 (days_left n / 7) n (none_left n 7 (days_left n / 7) (omega arith) h past (omega arith)) in
     (none, rw stays none)

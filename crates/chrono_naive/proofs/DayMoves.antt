@@ -22,6 +22,11 @@ pub IsSome-date_of_day : (o : Option ℤ) (n : ℤ) → o ≡ date_of_day n → 
 IsSome-date_of_day None n h = ((λ e. cc), (λ date. absurd (none-date_of_day n h date)))
 IsSome-date_of_day (Some e) n h = ((λ _. (some-date_of_day n e h).0), (λ _. refl))
 
+-- and the answer has that number
+pub IfSome-date_of_day : (o : Option ℤ) (n : ℤ) → o ≡ date_of_day n → IfSome o (λ e. e ≡ n)
+IfSome-date_of_day None n h = tt
+IfSome-date_of_day (Some e) n h = (some-date_of_day n e h).1
+
 -- two numbers that are one where either is a date's
 alike : (o : Option ℤ) (a b : ℤ) → o ≡ date_of_day a → (IsDate a → a ≡ b) → (IsDate b → a ≡ b) → SomeIff o (IsDate b) b
 alike None a b h f g = λ date. none-date_of_day a h (rw (g date) date)

@@ -16,20 +16,20 @@ later_week = refl
 -- ---- the last date ends the days, and the weeks end a week before it
 
 last_two_days : days_from (pos 95_745_398) ≡ pos 95_745_398 ∷ pos 95_745_399 ∷ []
-unfolding in_steps
+unfolding in_steps days_from
 last_two_days = refl
 
 no_day_past_the_last : days_from (pos 95_745_400) ≡ []
-unfolding in_steps
+unfolding in_steps days_from
 no_day_past_the_last = refl
 
 all_days : dates_left (neg_ℤ (pos 95_746_129)) ≡ 191_491_529
 all_days = refl
 
 last_week : weeks_from (pos 95_745_392) ≡ pos 95_745_392 ∷ []
-unfolding in_steps
+unfolding in_steps weeks_from
 last_week = refl
 
 no_week_past_it : weeks_from (pos 95_745_393) ≡ []
-unfolding in_steps
+unfolding in_steps weeks_from
 no_week_past_it = refl

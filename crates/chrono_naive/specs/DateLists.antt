@@ -22,11 +22,11 @@ abbrev pub IsDayCursor : ℤ → Type 0
 IsDayCursor n = (neg_ℤ (pos 95_746_129) ≤ℤ n) × (n ≤ℤ past_last_date)
 
 -- n and the dates after it, day after day, up to the last date
-abbrev pub days_from : ℤ → List ℤ
+unfoldable pub days_from : ℤ → List ℤ
 days_from n = in_steps 1 (dates_left n) n
 
 -- n and the dates after it, week after week, as long as the week after is a date too
-abbrev pub weeks_from : ℤ → List ℤ
+unfoldable pub weeks_from : ℤ → List ℤ
 weeks_from n = in_steps 7 (days_left n / 7) n
 
 -- the seven days of the week that begins with the day first

@@ -154,7 +154,9 @@ impl NaiveDate {
     /// -95,746,129 to 95,745,399.
     #[inline]
     pub fn from_num_days_from_ce_opt(days: i32) -> Option<NaiveDate>
-        ensures { result ≡ date_of_day days }
+        ensures date { result ≡ date_of_day days }
+        ensures exists { IsSome result ↔ IsDate days }
+        ensures number { IfSome result (λ e. e ≡ days) }
     {
         let mut steps = Steps::new();
         let date = NaiveDate::from_num_days_from_ce_counted(days, &mut steps);
@@ -181,7 +183,11 @@ impl NaiveDate {
     /// is not from -96,465,292 to 95,026,236.
     #[inline]
     pub fn from_epoch_days(days: i32) -> Option<NaiveDate>
-        ensures { result ≡ date_of_day (days +ℤ unix_epoch_day) }
+        ensures date { result ≡ date_of_day (days +ℤ unix_epoch_day) }
+        ensures exists { IsSome result ↔ IsDate (days +ℤ unix_epoch_day) }
+        ensures number { IfSome result (λ e. e ≡ days +ℤ unix_epoch_day) }
+        // The days from 1 January 1970 to the answer are the number again.
+        ensures back { IfSome result (λ e. e -ℤ unix_epoch_day ≡ days) }
     {
         NaiveDate::from_num_days_from_ce_opt(days.checked_add(UNIX_EPOCH_DAY)?)
     }

@@ -1,8 +1,8 @@
 //! `NaiveDateDaysIterator`: dates, day after day.
 //!
 //! Its order stands in `order`.
-ghost use Rattle.std.specs.Prelude.{◌≡◌, pos, ◌+ℤ◌, ◌-ℤ◌, length, OnSome, IfNone, Some, None, ⊤};
-ghost use Rattle.std.specs.Iterator.{IsFinite, MakesProgress, YieldsFirst, item_count, size};
+ghost use Rattle.std.specs.Prelude.{◌≡◌, pos, ◌+ℤ◌, ◌-ℤ◌, length, OnSome, IfNone, Some, None};
+ghost use Rattle.std.specs.Iterator.{IsFinite, YieldsFirst, item_count, size};
 ghost use Rattle.std.specs.Option.{SomeIff};
 ghost use Rattle.chrono_calendar.specs.Days.{IsDate};
 ghost use Rattle.chrono_calendar.specs.Recurrence.{dates_left, past_last_date};
@@ -51,6 +51,24 @@ impl NaiveDateDaysIterator {
         }
     }
 
+    /// The date at the cursor, which then stands one day later; `None` once the last date was given.
+    ///
+    /// It is [`next`](Iterator::next), which says to a loop which list of dates is left; this says which date comes.
+    #[inline]
+    pub fn step(&mut self) -> Option<NaiveDate>
+        ensures date { SomeIff result (IsDate self.old) self.old }
+        ensures moved { OnSome result (self.new ≡ self.old +ℤ pos 1) }
+        ensures refused { IfNone result (self.old ≡ past_last_date) }
+        // An ended iterator stays ended.
+        ensures ended { self.old ≡ past_last_date →
+            (result ≡ None) × (self.new ≡ past_last_date) }
+        ensures steps { YieldsFirst days_from self.old result self.new }
+    {
+        let next = NaiveDate::from_num_days_from_ce_opt(self.cursor)?;
+        self.cursor += 1;
+        Some(next)
+    }
+
     /// The date at the cursor, which then stands one day earlier; `None` if that would be before
     /// [`NaiveDate::MIN`], with the cursor left where it is, and `None` for an iterator that is ended.
     ///
@@ -79,19 +97,8 @@ impl Iterator for NaiveDateDaysIterator {
 
     /// The date at the cursor, which then stands one day later; `None` once the last date was given.
     #[inline]
-    fn next(&mut self) -> Option<NaiveDate>
-        ensures steps { YieldsFirst days_from self.old result self.new }
-        ensures goes { MakesProgress (λ _. ⊤) (item_count days_from) self.old result self.new }
-        ensures date { SomeIff result (IsDate self.old) self.old }
-        ensures moved { OnSome result (self.new ≡ self.old +ℤ pos 1) }
-        ensures refused { IfNone result (self.old ≡ past_last_date) }
-        // An ended iterator stays ended.
-        ensures ended { self.old ≡ past_last_date →
-            (result ≡ None) × (self.new ≡ past_last_date) }
-    {
-        let next = NaiveDate::from_num_days_from_ce_opt(self.cursor)?;
-        self.cursor += 1;
-        Some(next)
+    fn next(&mut self) -> Option<NaiveDate> {
+        self.step()
     }
 
     /// The number of dates that are left, exactly.

@@ -1,7 +1,7 @@
 //! `NaiveDateWeeksIterator`: dates, week after week.
-ghost use Rattle.std.specs.Prelude.{◌≡◌, pos, ◌+ℤ◌, ◌-ℤ◌, length, OnSome, IfNone, Some, ⊤};
+ghost use Rattle.std.specs.Prelude.{◌≡◌, pos, ◌+ℤ◌, ◌-ℤ◌, length, OnSome, IfNone, Some};
 ghost use Rattle.std.specs.Option.{SomeIff};
-ghost use Rattle.std.specs.Iterator.{MakesProgress, YieldsFirst, item_count};
+ghost use Rattle.std.specs.Iterator.{YieldsFirst, item_count};
 ghost use Rattle.chrono_calendar.specs.Days.{IsDate};
 ghost use Rattle.chrono_naive.specs.DateLists.{weeks_from};
 
@@ -40,7 +40,7 @@ impl NaiveDateWeeksIterator {
     // The date at the cursor, which then stands so many days later; `None` if that would be no date, with the cursor left
     // where it is.
     #[inline]
-    fn step(&mut self, days: i64) -> Option<NaiveDate>
+    fn move_by(&mut self, days: i64) -> Option<NaiveDate>
         ensures date { SomeIff result (IsDate (self.old +ℤ days)) self.old }
         ensures moved { OnSome result (self.new ≡ self.old +ℤ days) }
         ensures refused { IfNone result (self.new ≡ self.old) }
@@ -49,6 +49,20 @@ impl NaiveDateWeeksIterator {
         let date = self.cursor;
         self.cursor = date.moved_by_days(days)?;
         Some(date)
+    }
+
+    /// The date at the cursor, which then stands one week later; `None` if that would be past
+    /// [`NaiveDate::MAX`], with the cursor left where it is.
+    ///
+    /// It is [`next`](Iterator::next), which says to a loop which list of dates is left; this says which date comes.
+    #[inline]
+    pub fn step(&mut self) -> Option<NaiveDate>
+        ensures date { SomeIff result (IsDate (self.old +ℤ pos 7)) self.old }
+        ensures moved { OnSome result (self.new ≡ self.old +ℤ pos 7) }
+        ensures refused { IfNone result (self.new ≡ self.old) }
+        ensures steps { YieldsFirst weeks_from self.old result self.new }
+    {
+        self.move_by(7)
     }
 
     /// The date at the cursor, which then stands one week earlier; `None` if that would be before
@@ -61,7 +75,7 @@ impl NaiveDateWeeksIterator {
         ensures moved { OnSome result (self.new ≡ self.old -ℤ pos 7) }
         ensures refused { IfNone result (self.new ≡ self.old) }
     {
-        self.step(-7)
+        self.move_by(-7)
     }
 }
 
@@ -75,14 +89,8 @@ impl Iterator for NaiveDateWeeksIterator {
     /// The date at the cursor, which then stands one week later; `None` if that would be past
     /// [`NaiveDate::MAX`], with the cursor left where it is.
     #[inline]
-    fn next(&mut self) -> Option<NaiveDate>
-        ensures steps { YieldsFirst weeks_from self.old result self.new }
-        ensures goes { MakesProgress (λ _. ⊤) (item_count weeks_from) self.old result self.new }
-        ensures date { SomeIff result (IsDate (self.old +ℤ pos 7)) self.old }
-        ensures moved { OnSome result (self.new ≡ self.old +ℤ pos 7) }
-        ensures refused { IfNone result (self.new ≡ self.old) }
-    {
-        self.step(7)
+    fn next(&mut self) -> Option<NaiveDate> {
+        self.step()
     }
 
     /// The number of dates that are left, exactly.

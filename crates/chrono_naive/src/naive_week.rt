@@ -56,6 +56,7 @@ impl NaiveWeek {
     pub fn checked_first_day(&self) -> Option<NaiveDate>
         ensures date { result ≡ date_of_day self.now }
         ensures exists { IsSome result ↔ IsDate self.now }
+        ensures first { IfSome result (λ e. e ≡ self.now) }
     {
         NaiveDate::from_num_days_from_ce_opt(self.first)
     }
@@ -74,6 +75,7 @@ impl NaiveWeek {
     pub fn checked_last_day(&self) -> Option<NaiveDate>
         ensures date { result ≡ date_of_day (self.now +ℤ pos 6) }
         ensures exists { IsSome result ↔ IsDate (self.now +ℤ pos 6) }
+        ensures last { IfSome result (λ e. e ≡ self.now +ℤ pos 6) }
     {
         NaiveDate::from_num_days_from_ce_opt(self.first + 6)
     }

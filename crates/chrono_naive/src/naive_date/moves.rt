@@ -1,14 +1,17 @@
 //! Moves of a date by days, by months and by durations, the difference of dates, and what is reached from a date: weeks and
 //! iterators.
-ghost use Rattle.std.specs.Prelude.{◌≡◌, ◌+◌, ◌≤◌, ℤ, pos, neg_ℤ, ◌+ℤ◌, ◌-ℤ◌, ◌*ℤ◌, ◌≤ℤ◌, ◌<ℤ◌, min, unsigned_abs, false, Some, IsSome, IfSome, IfNone, IsSomeAnd, IsTrue, ◌↔◌};
+ghost use Rattle.std.specs.Prelude.{◌≡◌, ◌+◌, ◌≤◌, ℤ, pos, neg_ℤ, ◌+ℤ◌, ◌-ℤ◌, ◌*ℤ◌, ◌≤ℤ◌, ◌<ℤ◌, length, min, unsigned_abs, false, Some, IsSome, IfSome, IfNone, IsSomeAnd, IsTrue, ◌↔◌};
+ghost use Rattle.std.specs.Iterator.{YieldsFirst};
+ghost use Rattle.std.specs.Iterator.Runs.{YieldsInOrder};
 ghost use Rattle.chrono_units.specs.Years.{IsYear};
 ghost use Rattle.chrono_units.specs.WeekdaySet.{DaySet, IsSubset, contains};
 ghost use Rattle.chrono_clock.specs.Duration.{nanos_per_day, units_of, whole_units};
 ghost use Rattle.chrono_calendar.specs.Days.{IsDate, date_of_day, day_of, year_of};
 ghost use Rattle.chrono_calendar.specs.Weeks.{week_first_of, weekday_of};
 ghost use Rattle.chrono_calendar.specs.MonthMoves.{MonthMovesAddUp, ComesBack, KeepsOrder, LaterMultiplesAreLater, month_index_of, month_length_of, month_move, year_of_month_index};
-ghost use Rattle.chrono_calendar.specs.Recurrence.{IsLastOfFebruary, IsLeapDay, date_every, date_on};
+ghost use Rattle.chrono_calendar.specs.Recurrence.{IsLastOfFebruary, IsLeapDay, date_every, date_on, dates_left};
 ghost use Rattle.chrono_calendar.specs.YearsBetween.{years_between as whole_years};
+ghost use Rattle.chrono_naive.specs.DateLists.{days_from, weeks_from};
 
 use crate::days::Days;
 use crate::naive_date::NaiveDate;
@@ -30,6 +33,7 @@ impl NaiveDate {
     pub fn moved_by_days(self, days: i64) -> Option<NaiveDate>
         ensures date { result ≡ date_of_day (self +ℤ days) }
         ensures exists { IsSome result ↔ IsDate (self +ℤ days) }
+        ensures moved { IfSome result (λ e. e ≡ self +ℤ days) }
         // As many days back, the answer is the date again.
         ensures back { IfSome result (λ e. e -ℤ days ≡ self) }
         ensures in_range { IsDate self }
@@ -80,7 +84,11 @@ impl NaiveDate {
     /// The next date; `None` exactly for [`MAX`](Self::MAX).
     #[inline]
     pub fn succ_opt(&self) -> Option<NaiveDate>
-        ensures { result ≡ date_of_day (self.now +ℤ pos 1) }
+        ensures date { result ≡ date_of_day (self.now +ℤ pos 1) }
+        ensures exists { IsSome result ↔ IsDate (self.now +ℤ pos 1) }
+        ensures moved { IfSome result (λ e. e ≡ self.now +ℤ pos 1) }
+        // A day back, the answer is the date again.
+        ensures back { IfSome result (λ e. e -ℤ pos 1 ≡ self.now) }
     {
         self.moved_by_days(1)
     }
@@ -88,7 +96,11 @@ impl NaiveDate {
     /// The date before; `None` exactly for [`MIN`](Self::MIN).
     #[inline]
     pub fn pred_opt(&self) -> Option<NaiveDate>
-        ensures { result ≡ date_of_day (self.now -ℤ pos 1) }
+        ensures date { result ≡ date_of_day (self.now -ℤ pos 1) }
+        ensures exists { IsSome result ↔ IsDate (self.now -ℤ pos 1) }
+        ensures moved { IfSome result (λ e. e ≡ self.now -ℤ pos 1) }
+        // A day on, the answer is the date again.
+        ensures back { IfSome result (λ e. e +ℤ pos 1 ≡ self.now) }
     {
         self.moved_by_days(-1)
     }
@@ -204,6 +216,7 @@ impl NaiveDate {
     pub fn checked_add_signed(self, rhs: TimeDelta) -> Option<NaiveDate>
         ensures date { result ≡ date_of_day (self +ℤ whole_units nanos_per_day rhs) }
         ensures exists { IsSome result ↔ IsDate (self +ℤ whole_units nanos_per_day rhs) }
+        ensures moved { IfSome result (λ e. e ≡ self +ℤ whole_units nanos_per_day rhs) }
     {
         self.moved_by_days(rhs.num_days())
     }
@@ -217,6 +230,7 @@ impl NaiveDate {
     pub fn checked_sub_signed(self, rhs: TimeDelta) -> Option<NaiveDate>
         ensures date { result ≡ date_of_day (self -ℤ whole_units nanos_per_day rhs) }
         ensures exists { IsSome result ↔ IsDate (self -ℤ whole_units nanos_per_day rhs) }
+        ensures moved { IfSome result (λ e. e ≡ self -ℤ whole_units nanos_per_day rhs) }
         // The duration the other way leads to the same date.
         ensures turned { result ≡ date_of_day (self +ℤ whole_units nanos_per_day (neg_ℤ rhs)) }
     {
@@ -294,16 +308,29 @@ impl NaiveDate {
     /// This date and those after it, day after day, up to [`MAX`](Self::MAX).
     #[inline]
     pub fn iter_days(&self) -> NaiveDateDaysIterator
-        ensures { result ≡ self.now }
+        ensures start { result ≡ self.now }
+        ensures count { length (days_from self.now) ≡ dates_left self.now }
+        // There are no more dates than that in all.
+        ensures few { length (days_from self.now) ≤ 191_491_529 }
+        // Any calls of `next` give the list's dates in order: what chains of iterators are proved by.
+        ensures runs { YieldsInOrder (YieldsFirst days_from) days_from }
     {
+        // No date is before the first or past the last.
+        prove!(self.day_number() <= LAST_DAY);
         NaiveDateDaysIterator::new(*self)
     }
 
     /// This date and those after it, week after week, as long as the week after is a date too.
     #[inline]
     pub fn iter_weeks(&self) -> NaiveDateWeeksIterator
-        ensures { result ≡ self.now }
+        ensures start { result ≡ self.now }
+        // There are no more whole weeks than that in all.
+        ensures few { length (weeks_from self.now) ≤ 27_355_932 }
+        // Any calls of `next` give the list's dates in order: what chains of iterators are proved by.
+        ensures runs { YieldsInOrder (YieldsFirst weeks_from) weeks_from }
     {
+        // No date is before the first or past the last.
+        prove!(self.day_number() <= LAST_DAY);
         NaiveDateWeeksIterator::new(*self)
     }
 }

@@ -12,23 +12,23 @@ read a n d h e f = some-date_of_day n d (date_of_day-cursor (Some d) a n h e f)
 
 pub returns-in_err-date-clause-date : goal.returns-in_err-date-clause-date
 returns-in_err-date-clause-date c =
-    rw c.from_residual.ensures (λ h. none-date_of_day c.args.self.now (sym c.in_err-date.was ∙ date_of_day-cursor _ c.self.inside.cursor c.args.self.now c.self.invariant c.self.view_is c.from_num_days_from_ce_opt.ensures) h.0)
+    rw c.from_residual.ensures (λ h. none-date_of_day c.args.self.now (sym c.in_err-date.was ∙ date_of_day-cursor _ c.self.inside.cursor c.args.self.now c.self.invariant c.self.view_is c.from_num_days_from_ce_opt.ensures.date) h.0)
 
 pub returns-in_err-pred_opt-clause-date : goal.returns-in_err-pred_opt-clause-date
 returns-in_err-pred_opt-clause-date c =
-    let found = read c.self.inside.cursor c.args.self.now c.in_ok-date.date c.self.invariant c.self.view_is (sym c.in_ok-date.was ∙ c.from_num_days_from_ce_opt.ensures) in
-    rw c.from_residual-in_err-pred_opt.ensures (λ h. none-date_of_day (c.args.self.now -ℤ pos 1) (sym c.in_err-pred_opt.was ∙ c.pred_opt.ensures ∙ ap (λ n. date_of_day (n -ℤ pos 1)) found.1) h.1)
+    let found = read c.self.inside.cursor c.args.self.now c.in_ok-date.date c.self.invariant c.self.view_is (sym c.in_ok-date.was ∙ c.from_num_days_from_ce_opt.ensures.date) in
+    rw c.from_residual-in_err-pred_opt.ensures (λ h. none-date_of_day (c.args.self.now -ℤ pos 1) (sym c.in_err-pred_opt.was ∙ c.pred_opt.ensures.date ∙ ap (λ n. date_of_day (n -ℤ pos 1)) found.1) h.1)
 
 pub returns-clause-date : goal.returns-clause-date
 returns-clause-date c =
-    let found = read c.self.inside.cursor c.args.self.now c.in_ok-date.date c.self.invariant c.self.view_is (sym c.in_ok-date.was ∙ c.from_num_days_from_ce_opt.ensures) in
-    let before = some-date_of_day (c.args.self.now -ℤ pos 1) c.in_ok-pred_opt.field-0 (sym c.in_ok-pred_opt.was ∙ c.pred_opt.ensures ∙ ap (λ n. date_of_day (n -ℤ pos 1)) found.1) in
+    let found = read c.self.inside.cursor c.args.self.now c.in_ok-date.date c.self.invariant c.self.view_is (sym c.in_ok-date.was ∙ c.from_num_days_from_ce_opt.ensures.date) in
+    let before = some-date_of_day (c.args.self.now -ℤ pos 1) c.in_ok-pred_opt.field-0 (sym c.in_ok-pred_opt.was ∙ c.pred_opt.ensures.date ∙ ap (λ n. date_of_day (n -ℤ pos 1)) found.1) in
     ((found.0, before.0), found.1)
 
 pub returns-clause-moved : goal.returns-clause-moved
 returns-clause-moved c =
-    let found = read c.self.inside.cursor c.args.self.now c.in_ok-date.date c.self.invariant c.self.view_is (sym c.in_ok-date.was ∙ c.from_num_days_from_ce_opt.ensures) in
-    let before = some-date_of_day (c.args.self.now -ℤ pos 1) c.in_ok-pred_opt.field-0 (sym c.in_ok-pred_opt.was ∙ c.pred_opt.ensures ∙ ap (λ n. date_of_day (n -ℤ pos 1)) found.1) in
+    let found = read c.self.inside.cursor c.args.self.now c.in_ok-date.date c.self.invariant c.self.view_is (sym c.in_ok-date.was ∙ c.from_num_days_from_ce_opt.ensures.date) in
+    let before = some-date_of_day (c.args.self.now -ℤ pos 1) c.in_ok-pred_opt.field-0 (sym c.in_ok-pred_opt.was ∙ c.pred_opt.ensures.date ∙ ap (λ n. date_of_day (n -ℤ pos 1)) found.1) in
     omega (arith, casts, c.day_number-self-inside.ensures.value, c.day_number-self-inside.ensures.in_range, before.1)
 
 pub returns-clause-ended : goal.returns-clause-ended
