@@ -3,7 +3,7 @@ ghost use Rattle.std.specs.Prelude.{◌≡◌, ℕ, ℤ, Some, None, pos, neg_�
 ghost use Rattle.std.specs.Ordering.{int_cmp};
 ghost use Rattle.chrono_units.specs.declared.weekday.Weekday.TheVariants.{Fri, Mon, Sun, Tue};
 ghost use Rattle.chrono_units.specs.WeekdaySet.{single};
-ghost use Rattle.chrono_calendar.specs.Days.{IsDate, date_of_day, date_of_ymd, date_of_yo};
+ghost use Rattle.chrono_calendar.specs.Days.{IsDate, date_of_day, date_of_ymd, date_of_yo, day_of, month_of, ordinal_of, year_of};
 ghost use Rattle.chrono_calendar.specs.MonthMoves.{MonthMovesAddUp, ComesBack, KeepsOrder, LaterMultiplesAreLater, month_move};
 ghost use Rattle.chrono_calendar.specs.NameLaws.{DatesAreDaysOfYears, DatesHaveOneCalendarName, DatesHaveOneIsoName, DatesHaveOneNumber, DatesHaveOneOrdinalName, WeeksHaveOneFirstDay, iso_cmp};
 ghost use Rattle.chrono_calendar.specs.Order.{calendar_cmp, ordinal_cmp};
@@ -87,7 +87,8 @@ pub fn later_multiples_are_later()
         LaterMultiplesAreLater n k i e }
 {}
 
-/// Days that are known: 1 January 1970, the first and the last date, and 1 January of year 1, a Monday.
+/// Days that are known: 1 January 1970, the first and the last date, and 1 January of year 1, a Monday; and the name of day
+/// 739,250, which is 30 December 2024, the 365th day of its year.
 pub fn known_days()
     ensures epoch { date_of_ymd (pos 1970) 1 1 ≡ Some (pos 719_163) }
     ensures first { date_of_ymd (neg_ℤ (pos 262_143)) 1 1 ≡ Some (neg_ℤ (pos 95_746_129)) }
@@ -96,6 +97,10 @@ pub fn known_days()
     ensures last_day { LAST_DAY ≡ pos 95_745_399 }
     ensures past_last { date_of_day (pos 95_745_400) ≡ None }
     ensures monday { weekday_of (pos 1) ≡ Mon }
+    ensures year { year_of (pos 739_250) ≡ pos 2024 }
+    ensures month { month_of (pos 739_250) ≡ 12 }
+    ensures day { day_of (pos 739_250) ≡ 30 }
+    ensures ordinal { ordinal_of (pos 739_250) ≡ 365 }
 {}
 
 /// Weeks that are known: Monday, 30 December 2024 is in week 1 of 2025, and Sunday, 3 January 2021 in week 53 of 2020;
