@@ -8,10 +8,11 @@ there, if the libraries below are built, and after `rt ci`, which builds none fo
 what is proved of them, as checks/outside.py does.
 
 Compared are names, results and parameters, each way: those of calendar.h with the exports of crates/calendar_c, with the symbols
-of the library, with the declarations of the Rust crate and with the prototypes of the Python package; and the fields of both
-structs. The header is then compiled, alone, by each compiler that is found, and the tests of C, Python and Rust are built in a
-temporary folder and run: each export has to be called in C's, and to have a test of its name in the other two. The examples of
-their READMEs are run too, and the lines of README.md for each language have to stand in them.
+of the library, with the declarations of the Rust crate and with the prototypes of the Python package; the fields of both structs;
+and the processors that texts and header name, with one another and with the library's instructions. The header is then compiled,
+alone, by each compiler that is found, and the tests of C, Python and Rust are built in a temporary folder and run: each export has
+to be called in C's, and to have a test of its name in the other two. The examples of their READMEs are run too, and the lines of
+README.md for each language have to stand in them.
 """
 import os
 import re
@@ -48,6 +49,21 @@ USES = {
     "Python's tests": ("python", r"\bdef test_{short}\("),
     "calls of the Rust crate": ("rust/src", r"(?<!fn ){name}\("),
     "Rust's tests": ("rust/tests", r"#\[test\]\nfn {short}\(\)"),
+}
+
+# The texts that tell for which processors the library is: each names one level of x86-64, and all the same.
+PLACES = ("README.md", "languages/c/calendar.h", "languages/c/README.md", "languages/python/README.md", "languages/rust/README.md")
+LEVEL = r"x86-64(?:-v\d)?"
+
+# The instructions that each level has beyond those below it: SSE3 to SSE4.2 with the bit counts; AVX, whose names begin with a v,
+# and both families of BMI.
+INSTRUCTIONS = {
+    "x86-64-v2": r"addsubp[sd]|h(?:add|sub)p[sd]|lddqu|mov(?:d|sh|sl)dup|pabs[bwd]|palignr|ph(?:add|sub)\w+|pmaddubsw|pmulhrsw"
+    r"|pshufb|psign[bwd]|p?blend\w+|dpp[sd]|(?:extract|insert)ps|movntdqa|mpsadbw|packusdw|pcmp(?:eq|gt)q|p(?:extr|insr)[bdq]"
+    r"|phminposuw|p(?:max|min)(?:s[bd]|u[wd])|pmov[sz]x\w+|pmul(?:dq|ld)|ptest|round[ps][sd]|pcmp[ei]str[im]|crc32\w?|popcnt\w?"
+    r"|cmpxchg16b",
+    "x86-64-v3": r"v\w+|andn\w?|bextr\w?|bls(?:i|msk|r)\w?|bzhi\w?|mulx\w?|p(?:dep|ext)[lq]?|rorx\w?|s(?:ar|hl|hr)x\w?|lzcnt\w?"
+    r"|movbe\w?",
 }
 
 
@@ -192,6 +208,33 @@ def compare_symbols(results, header, library):
     compare(results, "symbols of the library", {**wanted, **{it: "T" for it in header}}, symbols)
 
 
+def level_of_header():
+    """The level of x86-64 that calendar.h names."""
+    return re.search(LEVEL, read(HEADER))[0]
+
+
+def compare_processors(results):
+    """What the texts say of processors: each of those above names the level of the header, and no other text another."""
+    folders = ("", "docs", *(f"languages/{it}" for it in os.listdir(LANGUAGES)))
+    others = (os.path.join(it, name) for it in folders for name in os.listdir(f"{TOP}/{it}") if name.endswith(".md"))
+    for place in sorted({*PLACES, *others}):
+        named = set(re.findall(LEVEL, read(f"{TOP}/{place}")))
+        wanted = {level_of_header()} if named or place in PLACES else set()
+        results.count(named == wanted, f"{place} names the processors {sorted(named)}, and calendar.h {level_of_header()}")
+
+
+def compare_instructions(results, library):
+    """The highest level of which the library has an instruction is that of the header."""
+    if not shutil.which("objdump"):
+        print("not run: the instructions of the library, since there is no objdump")
+        return
+    listed = subprocess.run(["objdump", "-d", "--no-show-raw-insn", library], check=True, capture_output=True, text=True).stdout
+    used = set(re.findall(r"^ +[\da-f]+:\t(\w+)", listed, re.M))
+    needed = [level for level, names in INSTRUCTIONS.items() if any(re.fullmatch(names, it) for it in used)]
+    level = max(needed, default="x86-64")
+    results.count(used and level == level_of_header(), f"the library is for {level}, and calendar.h says {level_of_header()}")
+
+
 def compare_uses(results, header):
     """Whether each function is called by each wrapper, and has its test in each language."""
     for language, (folder, pattern) in USES.items():
@@ -334,6 +377,7 @@ def compare_sources(results):
     compare_declarations(results, header)
     compare_safety(results, header)
     compare_uses(results, header)
+    compare_processors(results)
     compare_examples(results)
     compile_header(results)
     return header
@@ -347,6 +391,7 @@ def main():
         results.count(library, "there is no libcalendar_c.a, and `rt lib` does not build it")
         if library:
             compare_symbols(results, header, library)
+            compare_instructions(results, library)
             test_rust(results, room, library)
         if library and shutil.which("cc"):
             test_c(results, room, library)

@@ -8,6 +8,8 @@ Both builds are tried where both are there: LLVM's, and that of Rattle's own com
 import itertools
 import os
 import select
+import socket
+import struct
 import subprocess
 import sys
 import tempfile
@@ -16,6 +18,9 @@ TOP = os.path.dirname(os.path.dirname(os.path.abspath(__file__)))
 PROGRAMS = [os.path.join(TOP, "crates", "caltool", "out", name) for name in ("caltool", "caltool.by-rattle")]
 LINE = b"ymd 2024 2 29\n"
 ANSWER = b"2024-02-29 738945 Thu 2024-W09 60\n"
+# A line whose answer takes 64 bytes with its newline, so that 1,024 of them fill the 65,536 bytes that wait for one write.
+SET = b"set 1 1 2 3 4 5 6 7\n"
+SET_ANSWER = b"[Mon, Tue, Wed, Thu, Fri, Sat, Sun] Mon Tue Wed Thu Fri Sat Sun\n"
 # More lines than any buffer holds.
 MANY = 20_000
 # Bytes of the longest inputs, and the kilobytes of data that the program may have while it answers them.
@@ -32,15 +37,20 @@ def run(program, given, redirected="", limits="", **how):
     return (ran.returncode, ran.stderr or b""), ran.stdout or b""
 
 
+def first_answer(ran):
+    """The first line that a program writes; a program that writes none for a minute is ended."""
+    if select.select([ran.stdout], [], [], 60)[0]:
+        return ran.stdout.readline()
+    ran.kill()
+    return b""
+
+
 def of_broken_pipe(program):
     """The status where the reader of the answers goes away after the first of them."""
     with subprocess.Popen([program], stdin=subprocess.PIPE, stdout=subprocess.PIPE, stderr=subprocess.PIPE) as ran:
         ran.stdin.write(LINE)
         ran.stdin.flush()
-        if not select.select([ran.stdout], [], [], 60)[0]:
-            ran.kill()
-            return (ran.wait(60), b"no answer before the next line"), b""
-        first = ran.stdout.readline()
+        first = first_answer(ran)
         ran.stdout.close()
         try:
             ran.stdin.write(LINE * MANY)
@@ -50,6 +60,37 @@ def of_broken_pipe(program):
         said = ran.stderr.read()
         ran.stdin = None
         return (ran.wait(60), said), first
+
+
+def connection():
+    """The two ends of a connection on this host, or none where it lets no one make one."""
+    try:
+        with socket.create_server(("127.0.0.1", 0)) as server:
+            giver = socket.create_connection(server.getsockname(), 60)
+            return giver, server.accept()[0]
+    except OSError:
+        return None
+
+
+def of_reset(program, giver, taken):
+    """The status where the input is a connection that is reset inside its second line; after the fault a read finds an end."""
+    with subprocess.Popen([program], stdin=taken, stdout=subprocess.PIPE, stderr=subprocess.PIPE) as ran:
+        giver.sendall(LINE + LINE[:-1])
+        first = first_answer(ran)
+        giver.setsockopt(socket.SOL_SOCKET, socket.SO_LINGER, struct.pack("ii", 1, 0))
+        giver.close()
+        taken.close()
+        rest, said = ran.communicate(timeout=60)
+        return (ran.returncode, said), first + rest
+
+
+def full_cases(program, folder):
+    """Answers that fill what waits for one write up to its last byte, or nearly; of a file each read gives all that it may."""
+    for count in (1023, 1024, 1025, 2048, 10_000):
+        path = os.path.join(folder, "sets")
+        with open(path, "wb") as sets:
+            sets.write(SET * count)
+        yield f"{count} answers of 64 bytes", run(program, None, f"< {path}"), (DONE, SET_ANSWER * count)
 
 
 def cases(program, folder):
@@ -66,6 +107,11 @@ def cases(program, folder):
         yield "a full device and a line without a newline", run(program, LINE[:-1], "> /dev/full"), (WRITE_FAULT, b"")
         yield "a full device and no input", run(program, b"", "> /dev/full"), (DONE, b"")
     yield "a pipe closed after the first answer", of_broken_pipe(program), (WRITE_FAULT, ANSWER)
+    ends = connection()
+    if ends:
+        yield "a connection reset after the first answer", of_reset(program, *ends), (READ_FAULT, ANSWER)
+    else:
+        print("not run: an input that is reset, since no connection can be made on this host")
     yield "standard output closed", run(program, LINE, ">&-"), (WRITE_FAULT, b"")
     yield "standard error closed", run(program, LINE, "2>&-"), (DONE, ANSWER)
     yield "a directory as input and standard error closed", run(program, None, f"< {folder} 2>&-"), ((1, b""), b"")
@@ -104,7 +150,7 @@ def main():
         print("not run: a full device, since there is no /dev/full")
     for program in found:
         with tempfile.TemporaryDirectory() as folder:
-            for what, did, has_to in itertools.chain(cases(program, folder), long_cases(program)):
+            for what, did, has_to in itertools.chain(cases(program, folder), full_cases(program, folder), long_cases(program)):
                 is_right = did == has_to
                 passed, failed = passed + is_right, failed + (not is_right)
                 if not is_right:

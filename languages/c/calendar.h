@@ -11,6 +11,9 @@
  * Weekdays count from 1 for Monday to 7 for Sunday (ISO 8601). A set of weekdays is a number with one binary digit for each:
  * 1 for Monday, 2 for Tuesday, 4, 8, 16, 32, and 64 for Sunday; its highest digit counts for nothing.
  *
+ * The library is machine code for Linux on processors of the level x86-64-v2 or above, which have SSE4.2. On an older one a
+ * call may end the program.
+ *
  * Texts are ASCII with no zero byte at their end. A text is passed as a pointer and a number of bytes: the pointer is not
  * null, even for no bytes, and so many bytes lie at it.
  */

@@ -270,6 +270,21 @@ static void weeks_and_sets(void)
     IS(calendar_days_until(127, UINT32_MAX), NONE);
 }
 
+/* How far it is from each weekday to each, as the only one of a set, and the first date that has it. */
+static void sets_of_one(void)
+{
+    for (int32_t from = 1; from <= 7; from++) {
+        for (int32_t to = 1; to <= 7; to++) {
+            int32_t days = (to + 7 - from) % 7;
+            uint8_t weekdays = (uint8_t)(1 << (to - 1));
+            IS(calendar_days_until(weekdays, (uint32_t)from), days);
+            IS(calendar_days_until(128 | weekdays, (uint32_t)from), days);
+            /* day 1 is a Monday */
+            IS(calendar_first_on(from, weekdays), from + days);
+        }
+    }
+}
+
 /* Bytes that a text is written into, before that and wherever it is not written. */
 #define ROOM 40
 #define UNWRITTEN '#'
@@ -365,7 +380,9 @@ static void parts_of_date_times(void)
 
     IS(calendar_date_time_second_of_day(moment(0, 0)), 0);
     IS(calendar_date_time_second_of_day(moment(-1, 0)), 86399);
+    IS(calendar_date_time_second_of_day(moment(1483228799, 1000000000)), 86399);
     IS(calendar_date_time_second_of_day(moment(1483228799, 1500000000)), 86399);
+    IS(calendar_date_time_second_of_day(moment(1483228799, 1999999999)), 86399);
     IS(calendar_date_time_second_of_day(moment(3661, 1)), 3661);
     IS(calendar_date_time_second_of_day(moment(60, 1000000000)), NONE);
     IS(calendar_date_time_second_of_day(moment(8210266876800, 0)), NONE);
@@ -468,6 +485,7 @@ int main(void)
     moves_by_months();
     whole_years();
     weeks_and_sets();
+    sets_of_one();
     texts_of_dates();
     near_misses_of_dates();
     new_date_times();

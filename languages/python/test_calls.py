@@ -163,8 +163,9 @@ class Moves(Answers):
         self.beyond(LAST.__add__, 1)
         self.beyond(FIRST.__sub__, 1)
         for number in LARGE + SMALL:
-            self.beyond(LEAP_DAY.__add__, number)
-            self.beyond(LEAP_DAY.__sub__, number)
+            for value in (number, Number(number)):
+                self.beyond(LEAP_DAY.__add__, value)
+                self.beyond(LEAP_DAY.__sub__, value)
 
     def test_add_months(self):
         for start, months, end in [
@@ -227,6 +228,12 @@ class Moves(Answers):
     def test_days_until(self):
         for weekdays, start, days in [([THU], THU, 0), ([WED], THU, 6), ({MON, SUN}, THU, 3), ([MON], SUN, 1), (Weekday, TUE, 0)]:
             self.assertEqual(days_until(weekdays, start), days)
+        for start in range(1, 8):
+            for weekday in range(1, 8):
+                days = (weekday - start) % 7
+                self.assertEqual(days_until([weekday], start), days)
+                # (day 1 is a Monday)
+                self.assertEqual(Date.from_number(start).first_on([weekday]).number, start + days)
         self.none(days_until, [], MON)
         self.none(days_until, [0], MON)
         self.none(days_until, [MON], 0)
@@ -324,6 +331,9 @@ class DateTimes(Answers):
         for fields, clock in {
             (0, 0): (0, 0, 0, 0, 0), (-1, 7): (86399, 23, 59, 59, 7), (3661, 1): (3661, 1, 1, 1, 1),
             (self.LAST_SECOND, 1_500_000_000): (86399, 23, 59, 60, 500_000_000),
+            (self.LAST_SECOND, 1_000_000_000): (86399, 23, 59, 60, 0),
+            (self.LAST_SECOND, 1_999_999_999): (86399, 23, 59, 60, 999_999_999),
+            (self.LAST_SECOND, 999_999_999): (86399, 23, 59, 59, 999_999_999),
         }.items():
             moment = DateTime.from_seconds(*fields)
             self.assertEqual((moment.second_of_day, moment.hour, moment.minute, moment.second, moment.nanosecond), clock)
@@ -373,6 +383,10 @@ class Python(Answers):
     def test_other_types(self):
         for call in [
             lambda: Date(2024.0, 2, 29), lambda: Date("2024", 2, 29), lambda: LEAP_DAY + 1.5, lambda: LEAP_DAY - "1",
+            lambda: LEAP_DAY + 1.0, lambda: 1.0 + LEAP_DAY, lambda: LEAP_DAY - 1.0, lambda: LEAP_DAY + "1",
+            lambda: LEAP_DAY - None,
+            lambda: LEAP_DAY + timedelta(1), lambda: timedelta(1) + LEAP_DAY, lambda: LEAP_DAY - timedelta(1),
+            lambda: LEAP_DAY + LEAP_DAY, lambda: LEAP_DAY + Duration(days=1), lambda: LEAP_DAY + int,
             lambda: LEAP_DAY < 738946, lambda: is_leap_year(2024.0), lambda: DateTime(LEAP_DAY) + 1,
             lambda: DateTime(LEAP_DAY) - 1,
             lambda: DateTime(LEAP_DAY, 1.5), lambda: Duration(seconds=1) + 1, lambda: Duration(seconds=1) - 1,
@@ -400,6 +414,10 @@ class Python(Answers):
         self.assertEqual(LEAP_DAY.every_months(Number(12), Number(4)), Date(2028, 2, 29))
         self.assertEqual(LEAP_DAY.week_first_day(Number(5)), LEAP_DAY.week_first_day(FRI))
         self.assertEqual(LEAP_DAY.first_on([Number(3), 3]), LEAP_DAY.first_on([WED]))
+        for days, end in {Number(2): LEAP_DAY + 2, Number(-60): LEAP_DAY - 60, True: LEAP_DAY + 1, WED: LEAP_DAY + 3}.items():
+            self.assertEqual(LEAP_DAY + days, end)
+            self.assertEqual(days + LEAP_DAY, end)
+            self.assertEqual(end - days, LEAP_DAY)
 
     def test_ends(self):
         self.assertEqual((Date.MIN, Date.MAX), (FIRST, LAST))

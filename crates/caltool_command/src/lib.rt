@@ -20,7 +20,7 @@ pub use chrono_text::Line;
 pub use chrono_text::law::numbers_are_texts;
 pub use command::Command;
 pub use command_line::{command_of, read_line};
-pub use law::{lines_are_commands, words_are_unique};
+pub use law::{known_commands, known_errors, lines_are_commands, words_are_unique};
 pub use name::Name;
 pub use numbers::Numbers;
 pub use read::command_from;

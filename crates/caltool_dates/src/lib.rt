@@ -13,8 +13,9 @@ mod law;
 pub use answers::DateAnswers;
 pub use caltool_form::{
     Answer, CalendarDate, ClockTime, Command, CommandAnswers, DateAndTime, MonthSpan, RunFault,
-    Text, answer_by, answer_form, command_of, cut_is_unique, lines_are_commands, numbers_are_texts,
-    run_by, run_form, words_are_unique,
+    Text, answer_by, answer_form, command_of, cut_is_unique, known_answers, known_commands,
+    known_errors, known_outputs, lines_are_commands, numbers_are_texts, run_by, run_form,
+    words_are_unique,
 };
 pub use law::answers_are_of_dates;
 use std::io::{Read, Write};

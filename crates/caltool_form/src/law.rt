@@ -1,5 +1,6 @@
-//! What the lines of an input are, as a law that a caller can cite.
-ghost use Rattle.std.specs.Prelude.{◌≡◌, ℕ, List};
+//! What the lines of an input are, and answers that are known, as laws that a caller can cite.
+ghost use Rattle.std.specs.Prelude.{◌≡◌, ◌++◌, ◌∷◌, [], ℕ, List, codes, replicate};
+ghost use Rattle.caltool_form.specs.Answers.{answer_of, output_of};
 ghost use Rattle.caltool_form.specs.Lines.{IsCut, ended_lines, rest_of};
 
 /// The lines that a newline ends, and what stands after the last newline, are the only cut of the
@@ -10,4 +11,38 @@ pub fn cut_is_unique()
         → IsCut bytes cut rest → cut ≡ ended_lines bytes }
     ensures only_rest { (bytes : List ℕ) (cut : List (List ℕ)) (rest : List ℕ)
         → IsCut bytes cut rest → rest ≡ rest_of bytes }
+{}
+
+/// Answers that are known, one of each command: days at the ends of years and of ISO weeks, a leap day, a week about the day 0, the
+/// end of a leap second; then a date that there is not, and two lines that are no command, of which one is too long by a byte.
+pub fn known_answers()
+    ensures ymd { answer_of (codes "ymd 2 12 31") ≡ codes "0002-12-31 730 Tue 0003-W01 365" }
+    ensures yo { answer_of (codes "yo 4 366") ≡ codes "0004-12-31 1461 Fri 0004-W53 366" }
+    ensures iwd { answer_of (codes "iwd 4 53 7") ≡ codes "0005-01-02 1463 Sun 0004-W53 2" }
+    ensures day { answer_of (codes "day -366") ≡ codes "-0001-12-31 -366 Fri -0001-W52 365" }
+    ensures wom { answer_of (codes "wom 1 2 3 4") ≡ codes "0001-02-28 59 Wed 0001-W09 59" }
+    ensures days { answer_of (codes "days 1 3 1 -60") ≡ codes "0000-12-31 0 Sun 0000-W52 366" }
+    ensures months { answer_of (codes "months 3 12 31 2")
+        ≡ codes "0004-02-29 1155 Sun 0004-W09 60" }
+    ensures week { answer_of (codes "week 1 1 1 7") ≡ codes "0000-12-31 0001-01-06" }
+    ensures moved { answer_of (codes "move 1 12 31 23 59 59 1250000000 0 750000000")
+        ≡ codes "0002-01-01T00:00:00" }
+    ensures diff { answer_of (codes "diff 1 1 1 0 0 0 0 1 1 2 0 0 1 500001000")
+        ≡ codes "-PT86401.500001S" }
+    ensures since { answer_of (codes "since 5 2 28 4 2 29") ≡ codes "0" }
+    ensures set { answer_of (codes "set 6 2 5 7") ≡ codes "[Tue, Fri, Sun] Sun Tue Fri" }
+    ensures on { answer_of (codes "on 1 1 6 2 7") ≡ codes "0001-01-07 7 Sun 0001-W01 7" }
+    ensures every { answer_of (codes "every 1 1 31 1 2") ≡ codes "0001-03-31 90 Sat 0001-W13 90" }
+    ensures none { answer_of (codes "ymd 1 2 29") ≡ codes "none" }
+    ensures error { answer_of (codes "yo 4") ≡ codes "error" }
+    ensures too_long { answer_of (codes "day " ++ replicate 116 48 ++ codes "5") ≡ codes "error" }
+{}
+
+/// Outputs that are known: of nothing nothing; of a line that nothing ends, of an empty line, and of two, each answered.
+pub fn known_outputs()
+    ensures nothing { output_of answer_of [] ≡ [] }
+    ensures unended { output_of answer_of (codes "set 7 7") ≡ codes "[Sun] Sun" ++ 10 ∷ [] }
+    ensures empty { output_of answer_of (10 ∷ []) ≡ codes "error" ++ 10 ∷ [] }
+    ensures two { output_of answer_of (codes "set 7 7" ++ 10 ∷ codes "set 1" ++ 10 ∷ [])
+        ≡ codes "[Sun] Sun" ++ 10 ∷ codes "[]" ++ 10 ∷ [] }
 {}

@@ -22,12 +22,12 @@ mod watch;
 
 pub use answer::{Answer, answer_by};
 pub use caltool_command::{
-    CalendarDate, ClockTime, Command, DateAndTime, MonthSpan, command_of, lines_are_commands,
-    numbers_are_texts, words_are_unique,
+    CalendarDate, ClockTime, Command, DateAndTime, MonthSpan, command_of, known_commands,
+    known_errors, lines_are_commands, numbers_are_texts, words_are_unique,
 };
 pub use chrono_text::Text;
 pub use command_answers::CommandAnswers;
 pub use fault::RunFault;
 pub use form_answers::{answer_form, run_form};
-pub use law::cut_is_unique;
+pub use law::{cut_is_unique, known_answers, known_outputs};
 pub use run::run_by;

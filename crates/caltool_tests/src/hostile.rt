@@ -112,7 +112,7 @@ fn every_failure_ends_well<A: Runner>(alloc: Global) -> Result<bool, AllocError>
             return Ok(false);
         }
     }
-    let few: &[u8] = b"ymd 1900 2 29\nymd 2024 2 29\n\nday 1";
+    let few: &[u8] = b"ymd 1900 2 29\non 2024 2 29 1\n\nevery 2024 1 31 1 1\nday 1";
     for kind in KINDS {
         if !each_failure_ends_well::<A>(alloc, few, Failure::Error(kind))? {
             return Ok(false);
@@ -149,7 +149,7 @@ impl Chance {
     }
 }
 
-const NAMES: [(&[u8], usize); 13] = [
+const NAMES: [(&[u8], usize); 15] = [
     (b"ymd", 3),
     (b"yo", 2),
     (b"iwd", 3),
@@ -162,6 +162,8 @@ const NAMES: [(&[u8], usize); 13] = [
     (b"diff", 14),
     (b"since", 6),
     (b"set", 5),
+    (b"on", 5),
+    (b"every", 5),
     (b"", 2),
 ];
 
@@ -177,7 +179,7 @@ pub fn generated(alloc: Global, count: usize) -> Result<Vec<u8>, AllocError> {
     let mut chance = Chance { state: 1 };
     let mut bytes = Vec::new(alloc);
     for _ in 0..count {
-        let (name, numbers) = NAMES[chance.below(13)];
+        let (name, numbers) = NAMES[chance.below(15)];
         bytes.extend_from_slice(name)?;
         for _ in 0..numbers {
             bytes.push(b' ')?;

@@ -145,9 +145,13 @@ const RECURRENCE: [(&[u8], &[u8]); 15] = [
     (b"every 2023 2 29 1 1", b"none"),
 ];
 
-/// The lines, with a newline between each two.
+/// The lines, those of recurrence first, with a newline between each two.
 pub fn input(alloc: Global) -> Result<Vec<u8>, AllocError> {
     let mut bytes = Vec::new(alloc);
+    for (line, _) in &RECURRENCE {
+        bytes.extend_from_slice(line)?;
+        bytes.push(b'\n')?;
+    }
     for (index, row) in ROWS.split(|byte| *byte == b'\n').enumerate() {
         if index > 0 {
             bytes.push(b'\n')?;
@@ -181,7 +185,7 @@ fn each_line_is_answered_before_the_next_read(rt: HostRuntime) -> Result<(), Fai
         let mut writer = Counter::new(&answered);
         assert_eq!(rt; run(&mut reader, &mut writer), Ok(()));
         assert!(rt; !reader.is_early(), "at {size}");
-        assert_eq!(rt; answered.get(), 100);
+        assert_eq!(rt; answered.get(), 115);
     }
     Ok(())
 }
@@ -276,5 +280,32 @@ fn more_answers_than_the_buffer_holds(rt: HostRuntime) -> Result<(), Fail> {
     assert!(rt; writer.held() == wanted.as_slice());
     assert_eq!(rt; writer.calls(), 3);
     assert_eq!(rt; reader.calls(), 2);
+    Ok(())
+}
+
+// The answer to this line takes 64 bytes with its newline, so 1,024 of them fill the buffer to its last byte, which one write takes.
+#[test]
+fn answers_that_fill_the_buffer(rt: HostRuntime) -> Result<(), Fail> {
+    let line: &[u8] = b"set 1 1 2 3 4 5 6 7\n";
+    let answer: &[u8] = b"[Mon, Tue, Wed, Thu, Fri, Sat, Sun] Mon Tue Wed Thu Fri Sat Sun\n";
+    for (count, calls) in [
+        (1023usize, 2u64),
+        (1024, 2),
+        (1025, 3),
+        (2048, 3),
+        (2049, 4),
+    ] {
+        let mut input = Vec::new(rt.alloc());
+        let mut wanted = Vec::new(rt.alloc());
+        for _ in 0..count {
+            input.extend_from_slice(line)?;
+            wanted.extend_from_slice(answer)?;
+        }
+        let mut reader = Pieces::new(input.as_slice(), 100000);
+        let mut writer = Sink::new(Vec::new(rt.alloc()), 200000);
+        assert_eq!(rt; run(&mut reader, &mut writer), Ok(()), "at {count}");
+        assert!(rt; writer.held() == wanted.as_slice(), "at {count}");
+        assert_eq!(rt; writer.calls(), calls, "at {count}");
+    }
     Ok(())
 }

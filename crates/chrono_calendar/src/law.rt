@@ -239,6 +239,10 @@ pub fn known_days()
     ensures last_day { LAST_DAY ≡ pos 95_745_399 }
     ensures past_last { date_of_day (pos 95_745_400) ≡ None }
     ensures monday { weekday_of (pos 1) ≡ Mon }
+    ensures year { year_of (pos 739_250) ≡ pos 2024 }
+    ensures month { month_of (pos 739_250) ≡ 12 }
+    ensures day { day_of (pos 739_250) ≡ 30 }
+    ensures ordinal { ordinal_of (pos 739_250) ≡ 365 }
 {}
 
 /// Weeks that are known: Monday, 30 December 2024 is in week 1 of 2025, and Sunday, 3 January 2021 in week 53 of 2020;

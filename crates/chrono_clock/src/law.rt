@@ -1,8 +1,11 @@
-//! The ends of the day, each as the contract of a function.
-ghost use Rattle.std.specs.Prelude.{◌≡◌};
+//! The ends of the day and of durations, and texts of times that are known, each as the contract of a function.
+ghost use Rattle.std.specs.Prelude.{◌≡◌, pos, neg_ℤ, codes};
+ghost use Rattle.chrono_text.specs.Text.{duration_text};
+ghost use Rattle.chrono_clock.specs.Duration.{longest};
 ghost use Rattle.chrono_clock.specs.Time.{time_at};
+ghost use Rattle.chrono_clock.specs.TimeText.{time_text};
 
-use crate::NaiveTime;
+use crate::{NaiveTime, TimeDelta};
 
 /// [`NaiveTime::MIN`], which is midnight.
 pub fn first_time() -> NaiveTime
@@ -17,3 +20,25 @@ pub fn last_time() -> NaiveTime
 {
     NaiveTime::MAX
 }
+
+/// [`TimeDelta::MIN`], which is `i64::MAX` milliseconds back, and its text.
+pub fn least_duration() -> TimeDelta
+    ensures value { result ≡ neg_ℤ (pos longest) }
+    ensures text { duration_text result ≡ codes "-PT9223372036854775.807S" }
+{
+    TimeDelta::MIN
+}
+
+/// [`TimeDelta::MAX`], which is `i64::MAX` milliseconds, and its text.
+pub fn greatest_duration() -> TimeDelta
+    ensures value { result ≡ pos longest }
+    ensures text { duration_text result ≡ codes "PT9223372036854775.807S" }
+{
+    TimeDelta::MAX
+}
+
+/// Texts of times of day that are known: with a fraction of six digits, and with one of three in a leap second.
+pub fn known_time_texts()
+    ensures six_digits { time_text (time_at 13 4 56 500_001_000) ≡ codes "13:04:56.500001" }
+    ensures leap { time_text (time_at 23 59 59 1_042_000_000) ≡ codes "23:59:60.042" }
+{}

@@ -7,7 +7,9 @@ ghost use Rattle.chrono_datetime.specs.Moment.{moment, moment_cmp, moment_distan
 ghost use Rattle.chrono_datetime.specs.MomentText.{moment_text};
 
 use crate::naive_date_time::{MAX_DATETIME, MIN_DATETIME, NaiveDateTime};
-pub use chrono_clock::law::{first_time, last_time};
+pub use chrono_clock::law::{
+    first_time, greatest_duration, known_time_texts, last_time, least_duration,
+};
 pub use chrono_naive::law::{
     calendar_comes_again, calendar_names_are_in_order, counts_add_up, dates_are_days_of_years,
     dates_have_at_most_thirteen_bytes, dates_have_one_calendar_name, dates_have_one_iso_name,

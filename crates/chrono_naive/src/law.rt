@@ -62,9 +62,10 @@ pub fn dates_lie_in_steps()
     ensures weeks { (n : ℤ) → length (weeks_from n) ≡ days_left n / 7 }
 {}
 
-/// Texts that are known: a date of four digits, the first day of year 0 and the day before, and both ends.
+/// Texts that are known: of two dates with years of four digits, the first day of year 0 and the day before, and both ends.
 pub fn known_date_texts()
     ensures plain { date_text (pos 735_438) ≡ codes "2014-07-24" }
+    ensures day_739250 { date_text (pos 739_250) ≡ codes "2024-12-30" }
     ensures year_zero { date_text (neg_ℤ (pos 365)) ≡ codes "0000-01-01" }
     ensures before_zero { date_text (neg_ℤ (pos 366)) ≡ codes "-0001-12-31" }
     ensures first { date_text (neg_ℤ (pos 95_746_129)) ≡ codes "-262143-01-01" }

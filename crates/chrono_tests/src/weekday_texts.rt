@@ -43,8 +43,10 @@ fn days_are_written(rt: HostRuntime) -> Result<(), Fail> {
         assert_eq!(rt; shown.as_str(), text);
     }
     let (day, other) = (Thu, Mon);
-    let shown = format!(in rt.alloc(); "{day:+}|{day:.2}|{day:*^9.2}|{other:^7}|{other:^8}")?;
-    assert_eq!(rt; shown.as_str(), "Thu|Th|***Th****|  Mon  |  Mon   ");
+    let shown = format!(in rt.alloc();
+        "{day:+}|{day:#}|{day:.2}|{day:.0}|{day:*^9.2}|{other:^7}|{other:^8}"
+    )?;
+    assert_eq!(rt; shown.as_str(), "Thu|Thu|Th||***Th****|  Mon  |  Mon   ");
     Ok(())
 }
 

@@ -63,14 +63,16 @@ pub fn errs_where_refused<T: Display>(value: &T, text: &str) -> bool {
     false
 }
 
-/// The same, and that the text stays whatever is asked for: a width, a fill, a side, a sign, zeros and a precision.
+/// The same, and that the text stays whatever is asked for: a width, a fill, a side, a sign, zeros, a precision, even of 0, and
+/// the other form.
 pub fn is_written_so<T: Display>(
     rt: &HostRuntime,
     value: &T,
     text: &str,
 ) -> Result<bool, AllocError> {
     let shown = format!(in rt.alloc();
-        "{value}|{value:40}|{value:<40}|{value:*^40}|{value:x>40}|{value:+}|{value:040}|{value:.1}|{value:*^+40.3}"
+        "{value}|{value:40}|{value:<40}|{value:*^40}|{value:x>40}|{value:+}|{value:040}|{value:.1}|{value:*^+40.3}|\
+         {value:#}|{value:.0}|{value:#040}|{value:#.0}|{value:x>+#40.0}"
     )?;
     for part in shown.as_str().split('|') {
         if part != text {

@@ -1,7 +1,8 @@
 //! What the texts of numbers are, as laws that a caller can cite.
-ghost use Rattle.std.specs.Prelude.{◌≡◌, ◌↔◌, ℕ, ℤ, List, Some};
+ghost use Rattle.std.specs.Prelude.{◌≡◌, ◌↔◌, ℕ, ℤ, List, Some, pos, neg_ℤ, codes};
 ghost use Rattle.chrono_text.specs.Fractions.{IsFractionText, SameFraction};
 ghost use Rattle.chrono_text.specs.Numbers.{number_of, WritesNumber};
+ghost use Rattle.chrono_text.specs.Text.{clock_text, duration_text};
 
 /// A number is read from exactly the texts that write it: an optional `-`, and one digit or more.
 pub fn numbers_are_texts()
@@ -14,4 +15,15 @@ pub fn numbers_are_texts()
 pub fn texts_of_a_fraction_differ_in_last_zeros()
     ensures { (text other : List ℕ) (n m : ℕ) → IsFractionText text n → IsFractionText other m
         → SameFraction text other ↔ (n ≡ m) }
+{}
+
+/// Texts that are known: of 42 milliseconds, of 0.500001 s on and back, and of the longest duration back, which is of `i64::MAX`
+/// milliseconds; and of a time of day whose fraction has six digits.
+pub fn known_texts()
+    ensures milliseconds { duration_text (pos 42_000_000) ≡ codes "PT0.042S" }
+    ensures microseconds { duration_text (pos 500_001_000) ≡ codes "PT0.500001S" }
+    ensures back { duration_text (neg_ℤ (pos 500_001_000)) ≡ codes "-PT0.500001S" }
+    ensures longest_back { duration_text (neg_ℤ (pos 9_223_372_036_854_775_807_000_000))
+        ≡ codes "-PT9223372036854775.807S" }
+    ensures six_digits { clock_text 13 4 56 500_001_000 ≡ codes "13:04:56.500001" }
 {}

@@ -140,9 +140,9 @@ class Date:
     def __repr__(self) -> str:
         return f"Date({self.year}, {self.month}, {self.day})"
 
-    def __add__(self, days: int) -> Date:
+    def __add__(self, days: SupportsIndex) -> Date:
         """The date so many days later, or earlier if they are negative."""
-        if not isinstance(days, int):
+        if not hasattr(days, "__index__"):
             return NotImplemented
         return _reached(LIBRARY.calendar_add_days(self.number, held(days, I64, OverflowError)))
 
@@ -152,13 +152,13 @@ class Date:
     def __sub__(self, other: Date) -> int: ...
 
     @overload
-    def __sub__(self, other: int) -> Date: ...
+    def __sub__(self, other: SupportsIndex) -> Date: ...
 
     def __sub__(self, other):
         """The date so many days earlier, or the days from another date to this one."""
         if isinstance(other, Date):
             return self.number - other.number
-        return self + -other if isinstance(other, int) else NotImplemented
+        return self + -whole(other) if hasattr(other, "__index__") else NotImplemented
 
     def add_months(self, months: int) -> Date:
         """The same day so many months later, or earlier if they are negative; the last day of a month that is too short."""

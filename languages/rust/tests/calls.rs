@@ -435,6 +435,14 @@ fn date_time_second_of_day() {
             86_399,
             [23, 59, 60, 500_000_000],
         ),
+        (LAST_SECOND, 1_000_000_000, 86_399, [23, 59, 60, 0]),
+        (
+            LAST_SECOND,
+            1_999_999_999,
+            86_399,
+            [23, 59, 60, 999_999_999],
+        ),
+        (LAST_SECOND, 999_999_999, 86_399, [23, 59, 59, 999_999_999]),
     ] {
         let shown = moment(seconds, nanos);
         assert_eq!(shown.second_of_day(), second_of_day);
@@ -611,6 +619,12 @@ fn weekdays() {
             !WeekdaySet::from_iter(Weekday::ALL.into_iter().filter(|&it| it != weekday))
                 .contains(weekday)
         );
+        for other in Weekday::ALL {
+            assert_eq!(
+                WeekdaySet::from([other]).contains(weekday),
+                other == weekday
+            );
+        }
     }
     for number in [0, 8, u32::MAX] {
         assert_eq!(Weekday::from_number(number), None);

@@ -9,6 +9,10 @@ pub returns-clause-plain : goal.returns-clause-plain
 unfolding date_of_ymd days_before_year days_of_years days_of_months_in
 returns-clause-plain c = date_text-named (pos 735_438) (pos 2014) 7 24 refl
 
+pub returns-clause-day_739250 : goal.returns-clause-day_739250
+unfolding date_of_ymd days_before_year days_of_years days_of_months_in
+returns-clause-day_739250 c = date_text-named (pos 739_250) (pos 2024) 12 30 refl
+
 pub returns-clause-year_zero : goal.returns-clause-year_zero
 unfolding date_of_ymd days_before_year days_of_years days_of_months_in
 returns-clause-year_zero c = date_text-named (negsuc 364) (pos 0) 1 1 refl
