@@ -4,4 +4,3 @@ mod Progress
 mod Cuts
 mod Tests
 mod Moments
-mod DayNames
