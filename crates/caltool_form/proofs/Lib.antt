@@ -3,4 +3,3 @@ mod Pieces
 mod Progress
 mod Cuts
 mod Tests
-mod DayNames

@@ -128,7 +128,6 @@ pub(crate) fn push_years<const N: usize>(out: &mut Text<N>, years: Option<u32>)
 }
 
 // A set, and its days in week order from the start.
-#[tactic(auto, using(chrono_units::proofs::WalkLengths::walks))]
 pub(crate) fn push_set_and_walk<const N: usize>(out: &mut Text<N>, days: WeekdaySet, start: Weekday)
     requires { length out.old + 63 ≤ N }
     ensures text { out.new ≡ out.old ++ (set_text days ++ spaced_days_text (walk days start)) }

@@ -16,6 +16,3 @@ seven_days Sun = refl
 
 pub length-walk-le : (set : DaySet) (start : Weekday) → length (walk set start) ≤ 7
 length-walk-le set start = omega (arith, length-filter (contains set) (week_from start), count_by-le-length (contains set) (week_from start), seven_days start)
-
--- for the writers of sets
-pub ruleset walks = (length-walk-le)

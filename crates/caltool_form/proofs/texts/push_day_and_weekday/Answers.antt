@@ -1,5 +1,5 @@
 use Rattle.std.proofs.Common.{ℕ, length, length-append, ap, arith, rules}
-use Rattle.caltool_form.proofs.DayNames.{length-weekday_text}
+use Rattle.chrono_units.proofs.DayNames.{length-weekday_text}
 use Rattle.caltool_form.proofs.texts.push_day_and_weekday.Goals as goal
 
 pub push_i32-requires : goal.push_i32-requires

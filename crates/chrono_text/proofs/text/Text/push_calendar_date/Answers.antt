@@ -1,6 +1,25 @@
-use Rattle.std.proofs.Common.{arith}
+use Rattle.std.proofs.Common.{ℕ, length, length-append, append_assoc, ap, refl, rules, arith, w32}
+use Rattle.std.proofs.lemmas.Int.{to_z-of_z}
 use Rattle.chrono_text.proofs.AsciiTexts.{IsAscii-calendar_text}
 use Rattle.chrono_text.proofs.text.Text.push_calendar_date.Goals as goal
 
+pub push-requires : goal.push-requires
+push-requires g c = (search rules, omega (arith, c.push_year.ensures.fits))
+
+pub push_two-requires : goal.push_two-requires
+push_two-requires g c = (search rules, (omega arith, omega (arith, length-append {A = ℕ}, c.push_year.ensures.fits, ap length c.push.ensures)))
+
+pub push-requires-2 : goal.push-requires-2
+push-requires-2 g c = (search rules, omega (arith, length-append {A = ℕ}, c.push_year.ensures.fits, ap length c.push.ensures, ap length c.push_two.ensures))
+
+pub push_two-requires-2 : goal.push_two-requires-2
+push_two-requires-2 g c = (search rules, (omega arith, omega (arith, length-append {A = ℕ}, c.push_year.ensures.fits, ap length c.push.ensures, ap length c.push_two.ensures, ap length c.push-2.ensures)))
+
+pub returns-clause-text : goal.returns-clause-text
+returns-clause-text g c = rw (c.push_two-2.ensures, c.push-2.ensures, c.push_two.ensures, c.push.ensures, c.push_year.ensures.text, to_z-of_z w32 c.args.year c.ranges.year) (simp append_assoc refl)
+
 pub returns-clause-ascii : goal.returns-clause-ascii
 returns-clause-ascii g c = IsAscii-calendar_text c.args.year c.args.month c.args.day (omega (arith, c.requires.year)) c.requires.month c.requires.day
+
+pub returns-clause-fits : goal.returns-clause-fits
+returns-clause-fits g c = omega (arith, length-append {A = ℕ}, c.push_year.ensures.fits, ap length c.push.ensures, ap length c.push_two.ensures, ap length c.push-2.ensures, ap length c.push_two-2.ensures)

@@ -1,4 +1,4 @@
-use Rattle.std.proofs.Common.{◌≡◌, ◌-◌, ◌++◌, ◌∷◌, [], length, take, append_assoc, length-append, ap, ◌∙◌, refl, rules, arith}
+use Rattle.std.proofs.Common.{ℕ, ◌≡◌, ◌-◌, ◌++◌, ◌∷◌, [], length, take, append_assoc, length-append, ap, ◌∙◌, refl, rules, arith}
 use Rattle.std.proofs.lemmas.Bool.{ne_eqb}
 use Rattle.chrono_text.specs.Text.{all_digits}
 use Rattle.chrono_text.proofs.Decimals.{nine_places, few_zeros, trimmed}
@@ -8,10 +8,7 @@ pub shorten-requires : goal.shorten-requires
 shorten-requires g c =
     let (front, is, some) = c.zeros_behind.ensures.zeros in
     let few = few_zeros 9 c.args.nanos c.zeros_behind.result front is some c.requires.nanos in
-    let first = simp length-append at (ap length c.push_three.ensures) in
-    let second = simp length-append at (ap length c.push_three-2.ensures) in
-    let third = simp length-append at (ap length c.push_three-3.ensures) in
-    (search rules, omega (arith, few, first, second, third))
+    (search rules, omega (arith, length-append {A = ℕ}, few, ap length c.push_three.ensures, ap length c.push_three-2.ensures, ap length c.push_three-3.ensures))
 
 pub returns-clause-text : goal.returns-clause-text
 returns-clause-text g c =
@@ -25,3 +22,12 @@ returns-clause-text g c =
     ∙ ap (λ l. take (length l - zeros) l) whole
     ∙ trimmed before n zeros front is some c.requires.nanos
     ∙ rw (ne_eqb n 0 c.if-nanos-eq0.false) (simp append_assoc refl)
+
+pub push_three-requires : goal.push_three-requires
+push_three-requires g c = (search rules, (omega arith, omega (arith, length-append {A = ℕ}, ap length c.push.ensures)))
+
+pub push_three-requires-2 : goal.push_three-requires-2
+push_three-requires-2 g c = (search rules, (omega arith, omega (arith, length-append {A = ℕ}, ap length c.push.ensures, ap length c.push_three.ensures)))
+
+pub push_three-requires-3 : goal.push_three-requires-3
+push_three-requires-3 g c = (search rules, (omega arith, omega (arith, length-append {A = ℕ}, ap length c.push.ensures, ap length c.push_three.ensures, ap length c.push_three-2.ensures)))
