@@ -22,7 +22,10 @@ impl Weekday {
         requires { length text.old + 3 ≤ N }
         ensures { text.new ≡ text.old ++ weekday_text self }
     {
-        text.push_text(short_name(self).as_bytes());
+        let name = short_name(self).as_bytes();
+        text.push(name[0]);
+        text.push(name[1]);
+        text.push(name[2]);
     }
 }
 

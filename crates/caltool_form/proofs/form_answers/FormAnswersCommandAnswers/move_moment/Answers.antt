@@ -12,11 +12,11 @@ unfolding reach
 returns-in_err-date g c =
     let start = g.F.DayForm.number c.args.date in
     ap (option_map (λ m. moment (g.F.DayForm.number m.0) m.1)) c.from_residual.ensures
-    ∙ reach_by-parts date_of_day None (moment start c.args.time) c.args.by _ _ c.landing-time.ensures.time (omega (arith, ints, c.landing-time.ensures.days)) c.in_err-date.ensures.date
+    ∙ reach_by-parts date_of_day None (moment start c.args.time) c.args.by _ _ c.landing-time.ensures.time (omega (arith, ints, c.landing-time.ensures.days)) c.in_err-date.ensures
 
 pub returns : goal.returns
 unfolding reach
 returns g c =
     let start = g.F.DayForm.number c.args.date in
     let date = g.F.DayForm.number c.in_ok-date.date in
-    reach_by-parts date_of_day (Some date) (moment start c.args.time) c.args.by _ _ c.landing-time.ensures.time (omega (arith, ints, c.landing-time.ensures.days)) c.in_ok-date.ensures.date
+    reach_by-parts date_of_day (Some date) (moment start c.args.time) c.args.by _ _ c.landing-time.ensures.time (omega (arith, ints, c.landing-time.ensures.days)) c.in_ok-date.ensures
