@@ -1,8 +1,9 @@
 //! Small functions as a user of the calendar would write them, each proved from the public contracts of
 //! `chrono_datetime` alone.
 //!
-//! `calendar` has questions on dates and `schedule` questions on date-times; `names` reads a date, names it again and makes dates from names;
-//! `guards` asks a checked call before it writes an operator; and `ends` compares with constants.
+//! `calendar` has questions on dates and `schedule` questions on date-times; `names` reads a date, names it again, and makes dates
+//! of names; `guards` asks a checked call before it writes an operator, and `values` takes what a checked call answers; `ends`
+//! compares with constants; and `walks` goes over dates day after day and week after week.
 #![tactic(auto)]
 
 pub mod calendar;
@@ -10,3 +11,5 @@ pub mod ends;
 pub mod guards;
 pub mod names;
 pub mod schedule;
+pub mod values;
+pub mod walks;
