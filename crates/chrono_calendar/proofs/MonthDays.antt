@@ -1,5 +1,5 @@
 -- The days of a month lie in a row, from its first to its last.
-use Rattle.std.proofs.Common.{◌≡◌, ◌↔◌, ℕ, Option, Some, None, IfSome, ◌+◌, ◌-◌, ◌<◌, ◌≤◌, refl, sym, ◌∙◌, ap, arith, ℤ, pos, ◌+ℤ◌, ◌-ℤ◌, ◌≤ℤ◌, unsigned_abs}
+use Rattle.std.proofs.Common.{◌≡◌, ◌↔◌, ℕ, Option, Some, None, IfSome, IfNone, ◌+◌, ◌-◌, ◌<◌, ◌≤◌, refl, sym, ◌∙◌, ap, arith, ℤ, pos, neg_ℤ, ◌+ℤ◌, ◌-ℤ◌, ◌≤ℤ◌, ◌<ℤ◌, unsigned_abs}
 use Rattle.std.proofs.lemmas.Int.{by_lt_z}
 use Rattle.chrono_calendar.specs.Days.{IsDate, date_of_day, date_of_ymd, year_of, month_of, day_of}
 use Rattle.chrono_calendar.specs.MonthMoves.{InSameMonth, month_first_of, month_index_of, month_last_of, month_length_of}
@@ -77,6 +77,18 @@ month-next n m e =
       last = omega (arith, length_at-bounds next);
     })
 
+-- and before its first day the last of the month before
+pub month-previous : (n m : ℤ) → m ≡ month_first_of n -ℤ pos 1 → (month_index_of m ≡ month_index_of n -ℤ pos 1) × (day_of m ≡ month_length_of m)
+month-previous n m e =
+    let here = day_at-exists n in
+    let before : ℤ = month_index_of n -ℤ pos 1 in
+    let found = day_at-unique m before (length_at before) (record {
+      number = omega (arith, signed, here.number, here.first, before_month-next before (month_index_of n) (omega (arith, signed)));
+      first = omega (arith, length_at-bounds before);
+      last = omega arith;
+    }) in
+    (found.0, found.1 ∙ ap length_at (sym found.0) ∙ sym (month_length_of-at m))
+
 -- ---- the months of dates
 
 -- a month has dates alone, or none
@@ -99,6 +111,22 @@ past_last_month n m e year month date =
     let next = month-next n m e in
     omega (arith, signed, year, month, next.0, month_of-range m, (year_of-range m date).1)
 
+-- and the first month January of the first
+pub first_month : (n m : ℤ) → IsDate n → m ≡ month_first_of n -ℤ pos 1 → (IsDate m → ⊥) → (year_of n ≡ neg_ℤ (pos 262_143)) × (month_of n ≡ 1)
+first_month n m h e past =
+    let previous = month-previous n m e in
+    let year = year_of-range n h in
+    let before : year_of m ≤ℤ neg_ℤ (pos 262_144) =
+    by_lt_z (neg_ℤ (pos 262_144)) (year_of m)
+    (λ lt. absurd (past (IsDate-year m (omega (arith, signed, lt), omega (arith, signed, year.1, previous.0, month_of-range n, month_of-range m)))))
+    (λ ge. ge) in
+    (omega (arith, signed, before, year.0, previous.0, month_of-range n, month_of-range m), omega (arith, signed, before, year.0, previous.0, month_of-range n, month_of-range m))
+
+pub before_first_month : (n m : ℤ) → m ≡ month_first_of n -ℤ pos 1 → year_of n ≡ neg_ℤ (pos 262_143) → month_of n ≡ 1 → IsDate m → ⊥
+before_first_month n m e year month date =
+    let previous = month-previous n m e in
+    omega (arith, signed, year, month, previous.0, month_of-range m, (year_of-range m date).0)
+
 -- the first and the last day of a date's month are named so
 same_name : (y z : ℤ) (m p d q : ℕ) → y ≡ z → m ≡ p → d ≡ q → date_of_ymd z p q ≡ date_of_ymd y m d
 same_name y z m p d q e f g = cc
@@ -114,11 +142,17 @@ date_of_month_first n h = date_of_day_in_month n (month_first_of n) 1 h (month_f
 pub date_of_month_last : (n : ℤ) → IsDate n → date_of_ymd (year_of n) (month_of n) (month_length_of n) ≡ Some (month_last_of n)
 date_of_month_last n h = date_of_day_in_month n (month_last_of n) (month_length_of n) h (month_last_of-is n)
 
--- an answer that is the first day of the next month
-pub if_next_month : (o : Option ℤ) (n : ℤ) → o ≡ date_of_day (month_last_of n +ℤ pos 1) → IfSome o (λ e. month_index_of e ≡ month_index_of n +ℤ pos 1) × IfSome o (λ e. day_of e ≡ 1)
-if_next_month None n h = (tt, tt)
-if_next_month (Some e) n h = month-next n e (sym (date_of_day-number e (month_last_of n +ℤ pos 1) (sym h)).1)
+-- ---- the month after that of a date, and the month before
 
+-- an answer that is the first day of the next month
+pub if_next_month : (o : Option ℤ) (n : ℤ) → o ≡ date_of_day (month_last_of n +ℤ pos 1) → IfSome o (λ e. e ≡ month_last_of n +ℤ pos 1) × IfSome o (λ e. month_index_of e ≡ month_index_of n +ℤ pos 1) × IfSome o (λ e. day_of e ≡ 1) × IfSome o (λ e. (d : ℤ) → n ≤ℤ d → d <ℤ e → InSameMonth d n)
+if_next_month None n h = (tt, tt, tt, tt)
+if_next_month (Some e) n h =
+    let number = sym (date_of_day-number e (month_last_of n +ℤ pos 1) (sym h)).1 in
+    let next = month-next n e number in
+    (number, next.0, next.1, λ d low high. (month-days n d).1 (omega (arith, signed, low), omega (arith, signed, high, number)))
+
+-- and none: the month is the last, and each date from n on lies in it
 pub no_next_month : (o : Option ℤ) (n : ℤ) → IsDate (month_last_of n) → o ≡ date_of_day (month_last_of n +ℤ pos 1) → (o ≡ None) ↔ ((year_of n ≡ pos 262_142) × (month_of n ≡ 12))
 no_next_month o n last_date h =
     let m : ℤ = month_last_of n +ℤ pos 1 in
@@ -127,3 +161,34 @@ no_next_month o n last_date h =
       λ none. last_month n m date refl (none-date_of_day m (sym none ∙ h)),
       λ last. h ∙ sym (date_of_day-None m (past_last_month n m refl last.0 last.1)),
     )
+
+pub if_last_month : (o : Option ℤ) (n : ℤ) → IsDate (month_last_of n) → o ≡ date_of_day (month_last_of n +ℤ pos 1) → IfNone o ((d : ℤ) → n ≤ℤ d → IsDate d → InSameMonth d n)
+if_last_month (Some e) n last h = tt
+if_last_month None n last h = λ d low date.
+    by_lt_z (month_last_of n) d
+    (λ lt. absurd (none-date_of_day (month_last_of n +ℤ pos 1) h (omega (arith, signed, last.0), omega (arith, signed, lt, date.1))))
+    (λ ge. (month-days n d).1 (omega (arith, signed, low), ge))
+
+-- the same for the last day of the month before
+pub if_previous_month : (o : Option ℤ) (n : ℤ) → o ≡ date_of_day (month_first_of n -ℤ pos 1) → IfSome o (λ e. e ≡ month_first_of n -ℤ pos 1) × IfSome o (λ e. month_index_of e ≡ month_index_of n -ℤ pos 1) × IfSome o (λ e. day_of e ≡ month_length_of e) × IfSome o (λ e. (d : ℤ) → e <ℤ d → d ≤ℤ n → InSameMonth d n)
+if_previous_month None n h = (tt, tt, tt, tt)
+if_previous_month (Some e) n h =
+    let number = sym (date_of_day-number e (month_first_of n -ℤ pos 1) (sym h)).1 in
+    let previous = month-previous n e number in
+    (number, previous.0, previous.1, λ d low high. (month-days n d).1 (omega (arith, signed, low, number), omega (arith, signed, high)))
+
+pub no_previous_month : (o : Option ℤ) (n : ℤ) → IsDate (month_first_of n) → o ≡ date_of_day (month_first_of n -ℤ pos 1) → (o ≡ None) ↔ ((year_of n ≡ neg_ℤ (pos 262_143)) × (month_of n ≡ 1))
+no_previous_month o n first_date h =
+    let m : ℤ = month_first_of n -ℤ pos 1 in
+    let same = (month_first_of-is n).month in
+    let date = in_month-IsDate (month_first_of n) n first_date (sym same.0, sym same.1) in (
+      λ none. first_month n m date refl (none-date_of_day m (sym none ∙ h)),
+      λ first. h ∙ sym (date_of_day-None m (before_first_month n m refl first.0 first.1)),
+    )
+
+pub if_first_month : (o : Option ℤ) (n : ℤ) → IsDate (month_first_of n) → o ≡ date_of_day (month_first_of n -ℤ pos 1) → IfNone o ((d : ℤ) → d ≤ℤ n → IsDate d → InSameMonth d n)
+if_first_month (Some e) n first h = tt
+if_first_month None n first h = λ d high date.
+    by_lt_z d (month_first_of n)
+    (λ lt. absurd (none-date_of_day (month_first_of n -ℤ pos 1) h (omega (arith, signed, lt, date.0), omega (arith, signed, first.1))))
+    (λ ge. (month-days n d).1 (ge, omega (arith, signed, high)))

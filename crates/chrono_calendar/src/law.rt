@@ -117,6 +117,8 @@ pub fn months_are_days_in_a_row()
     ensures next_month { (n : ℤ) →
         month_index_of (month_last_of n +ℤ pos 1) ≡ month_index_of n +ℤ pos 1 }
     ensures next_first { (n : ℤ) → day_of (month_last_of n +ℤ pos 1) ≡ 1 }
+    ensures month_before { (n : ℤ) →
+        month_index_of (month_first_of n -ℤ pos 1) ≡ month_index_of n -ℤ pos 1 }
     ensures dates { (n d : ℤ) → IsDate n → InSameMonth d n → IsDate d }
 {}
 

@@ -1,5 +1,5 @@
-//! The first and the last day of a date's month, and the first of the next month.
-ghost use Rattle.std.specs.Prelude.{◌≡◌, ◌↔◌, pos, ◌+ℤ◌, ◌≤ℤ◌, ◌<ℤ◌, Some, None, IfSome};
+//! The first and the last day of a date's month, the first of the next month and the last of the one before.
+ghost use Rattle.std.specs.Prelude.{◌≡◌, ◌↔◌, ℤ, pos, neg_ℤ, ◌+ℤ◌, ◌-ℤ◌, ◌≤ℤ◌, ◌<ℤ◌, Some, None, IfSome, IfNone};
 ghost use Rattle.chrono_calendar.specs.Days.{IsDate, date_of_day, date_of_ymd, day_of, month_of, year_of};
 ghost use Rattle.chrono_calendar.specs.MonthMoves.{InSameMonth, month_first_of, month_index_of, month_last_of, month_length_of};
 
@@ -50,14 +50,45 @@ impl NaiveDate {
     #[inline]
     pub fn first_of_next_month(&self) -> Option<NaiveDate>
         ensures date { result ≡ date_of_day (month_last_of self.now +ℤ pos 1) }
-        ensures none { (result ≡ None)
-            ↔ ((year_of self.now ≡ pos 262_142) × (month_of self.now ≡ 12)) }
+        ensures number { IfSome result (λ e. e ≡ month_last_of self.now +ℤ pos 1) }
         ensures month { IfSome result (λ e.
             month_index_of e ≡ month_index_of self.now +ℤ pos 1) }
         ensures day { IfSome result (λ e. day_of e ≡ 1) }
         ensures later { IfSome result (λ e. self.now <ℤ e) }
         ensures in_range { IfSome result (λ e. IsDate e) }
+        // From the date to the day before the answer all lie in the date's month.
+        ensures within { IfSome result (λ e. (d : ℤ) → self.now ≤ℤ d → d <ℤ e →
+            InSameMonth d self.now) }
+        ensures none { (result ≡ None)
+            ↔ ((year_of self.now ≡ pos 262_142) × (month_of self.now ≡ 12)) }
+        // Then no later date lies in another month.
+        ensures last { IfNone result ((d : ℤ) → self.now ≤ℤ d → IsDate d →
+            InSameMonth d self.now) }
     {
         self.last_day_of_month().moved_by_days(1)
+    }
+
+    /// The last day of the month before the one that the date lies in; `None` exactly in January of the year -262,143.
+    ///
+    /// So of 1 March 2024 it is 29 February.
+    #[inline]
+    pub fn last_of_previous_month(&self) -> Option<NaiveDate>
+        ensures date { result ≡ date_of_day (month_first_of self.now -ℤ pos 1) }
+        ensures number { IfSome result (λ e. e ≡ month_first_of self.now -ℤ pos 1) }
+        ensures month { IfSome result (λ e.
+            month_index_of e ≡ month_index_of self.now -ℤ pos 1) }
+        ensures day { IfSome result (λ e. day_of e ≡ month_length_of e) }
+        ensures earlier { IfSome result (λ e. e <ℤ self.now) }
+        ensures in_range { IfSome result (λ e. IsDate e) }
+        // From the day after the answer to the date all lie in the date's month.
+        ensures within { IfSome result (λ e. (d : ℤ) → e <ℤ d → d ≤ℤ self.now →
+            InSameMonth d self.now) }
+        ensures none { (result ≡ None)
+            ↔ ((year_of self.now ≡ neg_ℤ (pos 262_143)) × (month_of self.now ≡ 1)) }
+        // Then no earlier date lies in another month.
+        ensures first { IfNone result ((d : ℤ) → d ≤ℤ self.now → IsDate d →
+            InSameMonth d self.now) }
+    {
+        self.first_day_of_month().moved_by_days(-1)
     }
 }

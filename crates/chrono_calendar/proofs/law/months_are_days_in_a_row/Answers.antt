@@ -1,6 +1,6 @@
 use Rattle.std.proofs.Common.{refl, arith, pos, ◌+ℤ◌, ◌-ℤ◌}
-use Rattle.chrono_calendar.specs.MonthMoves.{month_last_of}
-use Rattle.chrono_calendar.proofs.MonthDays.{in_month-IsDate, month-days, later_in_month, earlier_in_month, month_first_of-is, month_last_of-is, month-next}
+use Rattle.chrono_calendar.specs.MonthMoves.{month_first_of, month_last_of}
+use Rattle.chrono_calendar.proofs.MonthDays.{month-previous, in_month-IsDate, month-days, later_in_month, earlier_in_month, month_first_of-is, month_last_of-is, month-next}
 use Rattle.chrono_calendar.proofs.law.months_are_days_in_a_row.Goals as goal
 
 pub returns-clause-days : goal.returns-clause-days
@@ -26,3 +26,6 @@ returns-clause-next_first c = λ n. (month-next n (month_last_of n +ℤ pos 1) r
 
 pub returns-clause-dates : goal.returns-clause-dates
 returns-clause-dates c = in_month-IsDate
+
+pub returns-clause-month_before : goal.returns-clause-month_before
+returns-clause-month_before c = λ n. (month-previous n (month_first_of n -ℤ pos 1) refl).0
