@@ -2,7 +2,7 @@ use Rattle.std.proofs.Common.{◌≡◌, ℕ, ◌+◌, ◌*◌, ◌-◌, ◌<◌
 use Rattle.std.proofs.lemmas.Int.{to_z-of_z}
 use Rattle.chrono_clock.specs.Time.{TimeOfDay, distance, land}
 use Rattle.chrono_clock.specs.Signed.{signed}
-use Rattle.chrono_clock.proofs.DistanceLemmas.{distance-turned, land-distance}
+use Rattle.chrono_clock.proofs.DistanceLemmas.{land-distance, distance-later, distance-earlier, distance-same, distance-turned}
 use Rattle.chrono_clock.proofs.naive_time.NaiveTime.signed_duration_since.Goals as goal
 
 -- what lies between two places, from their seconds and fractions with two seconds lent to the fractions
@@ -26,3 +26,12 @@ returns-clause-back c = λ w. ap (land c.args.rhs) (returns-clause-value c) ∙ 
 
 pub returns-clause-turned : goal.returns-clause-turned
 returns-clause-turned c = returns-clause-value c ∙ distance-turned c.args.self c.args.rhs
+
+pub returns-clause-later : goal.returns-clause-later
+returns-clause-later c = λ h. rw (returns-clause-value c) (distance-later c.args.self c.args.rhs c.second_beside-here.ensures.time c.second_beside-there.ensures.time h)
+
+pub returns-clause-same : goal.returns-clause-same
+returns-clause-same c = λ h. returns-clause-value c ∙ distance-same c.args.self c.args.rhs h
+
+pub returns-clause-earlier : goal.returns-clause-earlier
+returns-clause-earlier c = λ h. rw (returns-clause-value c) (distance-earlier c.args.self c.args.rhs c.second_beside-here.ensures.time c.second_beside-there.ensures.time h)
