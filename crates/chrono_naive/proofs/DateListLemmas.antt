@@ -11,7 +11,7 @@ use Rattle.chrono_calendar.proofs.Signed.{signed, casts}
 use Rattle.chrono_calendar.proofs.NamedDates.{date_of_day-Some, date_of_day-None}
 use Rattle.chrono_naive.specs.DateLists.{IsDayCursor, in_steps, days_left, days_from, weeks_from, days_of_week}
 
-length-in_steps : (d n : ℕ) (first : ℤ) → length (in_steps d n first) ≡ n
+pub length-in_steps : (d n : ℕ) (first : ℤ) → length (in_steps d n first) ≡ n
 unfolding in_steps
 length-in_steps d zero first = refl
 length-in_steps d (suc n) first = ap suc (length-in_steps d n (first +ℤ pos d))
