@@ -107,22 +107,23 @@ count_where-weeks p weekly (suc w) r i n e =
     omega (arith, count_where-sum p 7 (7 * w + r) i n next (omega arith) refl, count_where-week p weekly (7 * w + r) n next refl, rest)
 
 -- a test of weekdays is weekly
-pub is_on-weekly : (set : DaySet) → IsWeekly (is_on set)
-is_on-weekly set = λ d. ap (contains set) (weekday_of-week d (d +ℤ pos 7) refl)
+pub weekdays-weekly : (q : Weekday → Bool) → IsWeekly (λ d. q (weekday_of d))
+weekdays-weekly q = λ d. ap q (weekday_of-week d (d +ℤ pos 7) refl)
 
--- the days of a row that are on a set, by their weekdays
-length-filter_first : (b : Bool) (set : DaySet) (k : ℕ) (d e : Weekday) → contains set d ≡ b → length (filter (contains set) (d ∷ days_in_row k e)) ≡ one_if b + length (filter (contains set) (days_in_row k e))
-length-filter_first true set k d e h = rw h (omega arith)
-length-filter_first false set k d e h = rw h (omega arith)
+-- the days of a row that pass it, by their weekdays
+length-filter_first : (b : Bool) (q : Weekday → Bool) (k : ℕ) (d e : Weekday) → q d ≡ b → length (filter q (d ∷ days_in_row k e)) ≡ one_if b + length (filter q (days_in_row k e))
+length-filter_first true q k d e h = rw h (omega arith)
+length-filter_first false q k d e h = rw h (omega arith)
 
-count_where-row : (set : DaySet) (k : ℕ) (n : ℤ) (d : Weekday) → weekday_of n ≡ d → count_where (is_on set) k n ≡ length (filter (contains set) (days_in_row k d))
-count_where-row set zero n d e = count_where-no_days (is_on set) n
-count_where-row set (suc k) n d e =
+pub count_where-row : (q : Weekday → Bool) (k : ℕ) (n : ℤ) (d : Weekday) → weekday_of n ≡ d → count_where (λ m. q (weekday_of m)) k n ≡ length (filter q (days_in_row k d))
+count_where-row q zero n d e = count_where-no_days (λ m. q (weekday_of m)) n
+count_where-row q (suc k) n d e =
     let next : ℤ = n +ℤ pos 1 in
-    let rest = count_where-row set k next (next_weekday d) (weekday_of-next n next refl ∙ ap next_weekday e) in
-    let here : contains set d ≡ contains set (weekday_of n) = ap (contains set) (sym e) in
-    omega (arith, count_where-first (is_on set) k n next refl, rest, length-filter_first (contains set (weekday_of n)) set k d (next_weekday d) here)
+    let rest = count_where-row q k next (next_weekday d) (weekday_of-next n next refl ∙ ap next_weekday e) in
+    let here : q d ≡ q (weekday_of n) = ap q (sym e) in
+    omega (arith, count_where-first (λ m. q (weekday_of m)) k n next refl, rest, length-filter_first (q (weekday_of n)) q k d (next_weekday d) here)
 
--- so a week has as many of them as the set has members: day 1 is a Monday
+-- so a week has as many days on a set as the set has members: day 1 is a Monday
 pub count_where-monday : (set : DaySet) (n : ℤ) → count_where (is_on set) 7 n ≡ length (walk set Mon)
-count_where-monday set n = any_week (is_on set) (is_on-weekly set) (pos 1) n ∙ count_where-row set 7 (pos 1) Mon refl
+count_where-monday set n =
+    any_week (is_on set) (weekdays-weekly (contains set)) (pos 1) n ∙ count_where-row (contains set) 7 (pos 1) Mon refl

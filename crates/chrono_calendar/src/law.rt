@@ -1,11 +1,12 @@
 //! Laws of names, of weekdays, weeks and months, of month moves, and of days that pass a test, each as the contract of a
 //! function that does nothing: behind a call of it its clauses are known.
-ghost use Rattle.std.specs.Prelude.{◌≡◌, ◌↔◌, ◌<◌, ◌≤◌, ◌+◌, ◌*◌, ◌%◌, ℕ, Bool, true, false, if◌then◌else◌, ℤ, Some, None, pos, neg_ℤ, ◌+ℤ◌, ◌-ℤ◌, ◌*ℤ◌, ◌<ℤ◌, ◌≤ℤ◌, length};
+ghost use Rattle.std.specs.Prelude.{◌≡◌, ◌↔◌, ◌<◌, ◌≤◌, ◌+◌, ◌*◌, ◌%◌, ℕ, Bool, true, false, if◌then◌else◌, ℤ, Some, None, pos, neg_ℤ, ◌+ℤ◌, ◌-ℤ◌, ◌*ℤ◌, ◌<ℤ◌, ◌≤ℤ◌, filter, length};
 ghost use Rattle.std.specs.Int.{IsInRange};
 ghost use Rattle.std.specs.Ordering.{int_cmp};
+ghost use Rattle.chrono_units.specs.declared.weekday.Weekday.{Weekday};
 ghost use Rattle.chrono_units.specs.declared.weekday.Weekday.TheVariants.{Fri, Mon, Sun, Tue};
 ghost use Rattle.chrono_units.specs.Weekday.{days_since, next_weekday, previous_weekday};
-ghost use Rattle.chrono_units.specs.WeekdaySet.{DaySet, single, walk, weekday_after};
+ghost use Rattle.chrono_units.specs.WeekdaySet.{DaySet, days_in_row, single, walk, weekday_after};
 ghost use Rattle.chrono_units.specs.Years.{is_leap_year, year_length};
 ghost use Rattle.chrono_calendar.specs.Days.{IsCalendarName, IsDate, IsOrdinalName, date_of_day, date_of_ymd, date_of_yo, day_number_of_ymd, day_number_of_yo, day_of, month_of, ordinal_of, year_of};
 ghost use Rattle.chrono_calendar.specs.MonthMoves.{InSameMonth, MonthMovesAddUp, ComesBack, KeepsOrder, LaterMultiplesAreLater, month_first_of, month_index_of, month_last_of, month_length_of, month_move};
@@ -180,7 +181,9 @@ pub fn weekly_counts_come_again()
         count_where p (7 * w + r) n ≡ w * count_where p 7 n + count_where p r n }
     ensures any_week { (p : ℤ → Bool) → IsWeekly p → (n m : ℤ) →
         count_where p 7 m ≡ count_where p 7 n }
-    ensures weekdays { (set : DaySet) → IsWeekly (is_on set) }
+    ensures weekdays { (q : Weekday → Bool) → IsWeekly (λ d. q (weekday_of d)) }
+    ensures row { (q : Weekday → Bool) (k : ℕ) (n : ℤ) →
+        count_where (λ d. q (weekday_of d)) k n ≡ length (filter q (days_in_row k (weekday_of n))) }
     ensures members { (set : DaySet) (n : ℤ) → count_where (is_on set) 7 n ≡ length (walk set Mon) }
 {}
 
