@@ -2,9 +2,10 @@
 //!
 //! Its order stands in `order`, its fields in `fields`, its moves by months and days in `moves`, its operators in `ops`,
 //! and its printed texts in `text`.
-ghost use Rattle.std.specs.Prelude.{◌≡◌, pos, neg_ℤ, ◌<ℤ◌, ◌↔◌, IfSome, Some};
+ghost use Rattle.std.specs.Prelude.{◌≡◌, pos, neg_ℤ, ◌<ℤ◌, ◌↔◌, IfSome, IsSome, Some};
 ghost use Rattle.chrono_clock.specs.Time.{time_at};
-ghost use Rattle.chrono_datetime.specs.Moment.{moment, reach, moment_distance, IsBefore, MovesAddUp, LeadsBack, SignTellsOrder};
+ghost use Rattle.chrono_naive.specs.Days.{IsDate};
+ghost use Rattle.chrono_datetime.specs.Moment.{moment, moved, reach, moment_distance, IsBefore, MovesAddUp, LeadsBack, SignTellsOrder};
 
 mod fields;
 mod moves;
@@ -96,6 +97,8 @@ impl NaiveDateTime {
     #[inline]
     pub fn checked_add_signed(self, rhs: TimeDelta) -> Option<NaiveDateTime>
         ensures value { result ≡ reach self rhs }
+        ensures exists { IsSome result ↔ IsDate (moved self rhs).date }
+        ensures reached { IfSome result (λ e. e ≡ moved self rhs) }
 
         // A second move ends where the one move by the sum ends.
         ensures adds_up { IfSome result (λ e. MovesAddUp self rhs e) }
@@ -112,7 +115,9 @@ impl NaiveDateTime {
     /// of [`MIN`](Self::MIN), or for a negative duration past that of [`MAX`](Self::MAX).
     #[inline]
     pub fn checked_sub_signed(self, rhs: TimeDelta) -> Option<NaiveDateTime>
-        ensures { result ≡ reach self (neg_ℤ rhs) }
+        ensures value { result ≡ reach self (neg_ℤ rhs) }
+        ensures exists { IsSome result ↔ IsDate (moved self (neg_ℤ rhs)).date }
+        ensures reached { IfSome result (λ e. e ≡ moved self (neg_ℤ rhs)) }
     {
         self.checked_add_signed(-rhs)
     }

@@ -1,7 +1,7 @@
 use Rattle.std.proofs.Common.{rules, ◌≡◌, ◌∙◌, ◌+ℤ◌, ap, None, Some}
 use Rattle.chrono_naive.specs.Days.{date_of_day}
 use Rattle.chrono_datetime.specs.Moment.{Moment, moment, reach}
-use Rattle.chrono_datetime.proofs.ReachLemmas.{IfSome-reach, reach-along, reach-parts}
+use Rattle.chrono_datetime.proofs.ReachLemmas.{IfSome-reach, if_reached, reach-along, reach-parts}
 use Rattle.chrono_datetime.proofs.naive_date_time.NaiveDateTime.checked_add_signed.Goals as goal
 
 pub returns-in_err-date-clause-value : goal.returns-in_err-date-clause-value
@@ -11,6 +11,9 @@ returns-in_err-date-clause-value c =
     let nowhere = reach-parts None start c.args.rhs c.landing-time.result.1 c.landing-time.result.0 c.landing-time.ensures.time c.landing-time.ensures.days date in
     c.from_residual.ensures ∙ nowhere ∙ ap (λ (m : Moment). reach m c.args.rhs) c.self.view_is
 
+pub returns-in_err-date-clause-exists : goal.returns-in_err-date-clause-exists
+returns-in_err-date-clause-exists c = (if_reached _ c.args.self c.args.rhs (returns-in_err-date-clause-value c)).0
+
 pub returns : goal.returns
 returns c =
     let start = moment c.self.inside.date c.self.inside.time in
@@ -18,4 +21,5 @@ returns c =
     let landed = reach-parts (Some c.in_ok-date.date) start c.args.rhs c.landing-time.result.1 c.landing-time.result.0 c.landing-time.ensures.time c.landing-time.ensures.days date in
     let reached = reach-along (Some (moment c.in_ok-date.date c.landing-time.result.0)) start c.args.self c.args.rhs c.self.view_is c.landing-time.ensures.start landed in
     let laws = IfSome-reach (Some (moment c.in_ok-date.date c.landing-time.result.0)) c.args.self c.args.rhs reached.0 reached.1 in
-    record { value = reached.1; adds_up = laws.0; later = laws.1; earlier = laws.2 }
+    let answer = if_reached (Some (moment c.in_ok-date.date c.landing-time.result.0)) c.args.self c.args.rhs reached.1 in
+    record { value = reached.1; exists = answer.0; reached = answer.1; adds_up = laws.0; later = laws.1; earlier = laws.2 }
