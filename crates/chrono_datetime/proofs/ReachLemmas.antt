@@ -1,5 +1,5 @@
 -- Moves of date-times, from those of times of day.
-use Rattle.std.proofs.Common.{◌≡◌, ◌⊎◌, inl, inr, ⊎_elim, ℤ, pos, ◌+ℤ◌, ◌<ℤ◌, Bool, true, false, cond, Option, Some, None, arith, refl, sym, ap, ◌∙◌, subst, ◌↔◌, IfSome}
+use Rattle.std.proofs.Common.{◌≡◌, ◌⊎◌, inl, inr, ⊎_elim, ℤ, pos, ◌+ℤ◌, ◌<ℤ◌, Bool, true, false, cond, Option, Some, None, arith, refl, sym, ap, ◌∙◌, subst, ◌↔◌, IfSome, IsSome}
 use Rattle.std.proofs.lemmas.Int.{by_lt_z, ints}
 use Rattle.std.specs.Option.{option_map}
 use Rattle.chrono_clock.specs.Time.{TimeOfDay, Landing, IsTime, IsPlain, IsEarlier, IsEarlierLanding, landing_of, land, later}
@@ -8,7 +8,8 @@ use Rattle.chrono_clock.proofs.LandingLemmas.{IsPlain-land, TimeMovesAddUp-land}
 use Rattle.chrono_clock.proofs.OrderLemmas.{land-forward, land-backward}
 use Rattle.chrono_clock.proofs.DistanceLemmas.{land-distance, distance-same}
 use Rattle.chrono_clock.proofs.MomentLemmas.{moment_distance-moved}
-use Rattle.chrono_naive.specs.Days.{date_of_day, is_date}
+use Rattle.chrono_naive.specs.Days.{IsDate, date_of_day, is_date}
+use Rattle.chrono_naive.proofs.NamedDates.{date_of_day-Some, date_of_day-number}
 use Rattle.chrono_datetime.specs.Moment.{Moment, moment, moment_on, moved, moment_distance, reach, IsBefore, MovesAddUp}
 
 -- the date-time at which a landing from the date n ends, if its day is a date
@@ -29,6 +30,17 @@ moment_of_landing-later : (n d : ℤ) (l : Landing) → moment_of_landing n (lat
 moment_of_landing-later n d l =
     let e : n +ℤ (d +ℤ l.day) ≡ (n +ℤ d) +ℤ l.day = omega (arith, ints) in
     ap (λ k. option_map (λ j. moment j l.time) (date_of_day k)) e
+
+-- what was found is so for a number that is a date's
+IsDate-option_map : (o : Option ℤ) (n : ℤ) (t : TimeOfDay) (e : Moment) → o ≡ date_of_day n → Some e ≡ option_map (λ d. moment d t) o → IsDate n
+IsDate-option_map None n t e h k = absurd cc
+IsDate-option_map (Some d) n t e h k = let found = date_of_day-number d n (sym h) in rw found.1 found.0
+
+-- so there is an end exactly if its day is a date
+pub reach-exists : (o : Option Moment) (m : Moment) (x : ℤ) → o ≡ reach m x → IsSome o ↔ IsDate (moved m x).date
+unfolding reach
+reach-exists None m x h = ((λ e. cc), (λ date. absurd (let found = date_of_day-Some (moved m x).date date in cc)))
+reach-exists (Some e) m x h = ((λ _. IsDate-option_map (date_of_day (moved m x).date) (moved m x).date (moved m x).time e refl h), (λ _. refl))
 
 pub MovesAddUp-reach : (m e : Moment) (x : ℤ) → IsTime m.time → Some e ≡ reach m x → MovesAddUp m x e
 unfolding reach

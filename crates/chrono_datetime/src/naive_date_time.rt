@@ -2,8 +2,9 @@
 //!
 //! Its order stands in `order`, its fields in `fields`, its moves by months and days in `moves`, its operators in `ops`,
 //! and its printed texts in `text`.
-ghost use Rattle.std.specs.Prelude.{◌≡◌, pos, neg_ℤ, ◌<ℤ◌, ◌↔◌, ◌⊎◌, IfSome, Some};
+ghost use Rattle.std.specs.Prelude.{◌≡◌, pos, neg_ℤ, ◌<ℤ◌, ◌↔◌, ◌⊎◌, IfSome, IsSome, Some};
 ghost use Rattle.chrono_clock.specs.Time.{IsPlain, time_at};
+ghost use Rattle.chrono_naive.specs.Days.{IsDate};
 ghost use Rattle.chrono_datetime.specs.Moment.{IsMoment, moment, moved, reach, moment_distance, IsBefore, MovesAddUp, LeadsBack, SignTellsOrder};
 
 mod fields;
@@ -96,12 +97,12 @@ impl NaiveDateTime {
     #[inline]
     pub fn checked_add_signed(self, rhs: TimeDelta) -> Option<NaiveDateTime>
         ensures value { result ≡ reach self rhs }
+        ensures exists { IsSome result ↔ IsDate (moved self rhs).date }
         ensures moved { IfSome result (λ e. e ≡ moved self rhs) }
         ensures start { IsMoment self }
         ensures end { IfSome result IsMoment }
         // From a start in no leap second it leads to an end in none.
         ensures plain { IsPlain self.time → IfSome result (λ e. IsPlain e.time) }
-
         // The end is as far from the start as the duration is long, if the start is in no leap second or both have one date.
         ensures distance { IfSome result (λ e. IsPlain self.time ⊎ (e.date ≡ self.date) →
             moment_distance e self ≡ rhs) }
@@ -121,12 +122,12 @@ impl NaiveDateTime {
     #[inline]
     pub fn checked_sub_signed(self, rhs: TimeDelta) -> Option<NaiveDateTime>
         ensures value { result ≡ reach self (neg_ℤ rhs) }
+        ensures exists { IsSome result ↔ IsDate (moved self (neg_ℤ rhs)).date }
         ensures moved { IfSome result (λ e. e ≡ moved self (neg_ℤ rhs)) }
         ensures start { IsMoment self }
         ensures end { IfSome result IsMoment }
         // From a start in no leap second it leads to an end in none.
         ensures plain { IsPlain self.time → IfSome result (λ e. IsPlain e.time) }
-
         // The start is as far from the end as the duration is long, if the start is in no leap second or both have one date.
         ensures distance { IfSome result (λ e. IsPlain self.time ⊎ (e.date ≡ self.date) →
             moment_distance self e ≡ rhs) }

@@ -3,7 +3,7 @@ ghost use Rattle.std.specs.Prelude.{◌≡◌, pos, ◌+ℤ◌, ◌-ℤ◌};
 ghost use Rattle.chrono_datetime.specs.Days.{IsDate};
 ghost use Rattle.chrono_datetime.specs.Duration.{nanos_per_day, whole_units};
 ghost use Rattle.chrono_datetime.specs.Fields.{unix_epoch_day};
-ghost use Rattle.chrono_datetime.specs.Moment.{moment};
+ghost use Rattle.chrono_datetime.specs.Moment.{moment, moved};
 
 use chrono_datetime::{Days, NaiveDate, NaiveDateTime, NaiveWeek, TimeDelta};
 
@@ -125,6 +125,17 @@ pub fn same_time_due(start: NaiveDateTime, days: Days) -> NaiveDateTime
 {
     if let Some(later) = start.checked_add_days(days) {
         return later;
+    }
+    start
+}
+
+/// The date-time where a duration leads, or the start where its day is no date.
+pub fn led_to(start: NaiveDateTime, by: TimeDelta) -> NaiveDateTime
+    ensures reached { IsDate (moved start by).date → result ≡ moved start by }
+    ensures kept { ¬ IsDate (moved start by).date → result ≡ start }
+{
+    if let Some(end) = start.checked_add_signed(by) {
+        return end;
     }
     start
 }

@@ -3,7 +3,7 @@ use Rattle.chrono_clock.proofs.MomentLemmas.{reach_by-parts}
 use Rattle.chrono_naive.specs.Days.{date_of_day}
 use Rattle.chrono_naive.proofs.NamedDates.{date_of_day-number}
 use Rattle.chrono_datetime.specs.Moment.{IsMoment, Moment, moment, reach}
-use Rattle.chrono_datetime.proofs.ReachLemmas.{IfSome-moved, IfSome-reach, reach-along}
+use Rattle.chrono_datetime.proofs.ReachLemmas.{IfSome-moved, IfSome-reach, reach-along, reach-exists}
 use Rattle.chrono_datetime.proofs.naive_date_time.NaiveDateTime.checked_add_signed.Goals as goal
 
 pub returns-in_err-date-clause-value : goal.returns-in_err-date-clause-value
@@ -20,6 +20,9 @@ returns-in_err-date-clause-start c =
     let start : IsMoment (moment c.self.inside.date c.self.inside.time) = record { date = c.in_err-date.ensures.in_range; time = c.landing-time.ensures.start } in
     subst P c.self.view_is start
 
+pub returns-in_err-date-clause-exists : goal.returns-in_err-date-clause-exists
+returns-in_err-date-clause-exists c = reach-exists _ c.args.self c.args.rhs (returns-in_err-date-clause-value c)
+
 pub returns : goal.returns
 unfolding reach
 returns c =
@@ -34,6 +37,7 @@ returns c =
     let known = IfSome-moved (Some (moment c.in_ok-date.date c.landing-time.result.0)) c.args.self c.args.rhs reached.1 in
     record {
       value = reached.1;
+      exists = reach-exists (Some (moment c.in_ok-date.date c.landing-time.result.0)) c.args.self c.args.rhs reached.1;
       moved = known.0;
       start = subst P c.self.view_is here;
       end = end;
