@@ -11,7 +11,7 @@ use Rattle.chrono_calendar.proofs.Signed.{signed, casts}
 use Rattle.chrono_calendar.proofs.NamedDates.{date_of_day-Some, date_of_day-None}
 use Rattle.chrono_naive.specs.DateLists.{IsDayCursor, in_steps, days_left, days_from, weeks_from, days_of_week}
 
-pub length-in_steps : (d n : ℕ) (first : ℤ) → length (in_steps d n first) ≡ n
+length-in_steps : (d n : ℕ) (first : ℤ) → length (in_steps d n first) ≡ n
 unfolding in_steps
 length-in_steps d zero first = refl
 length-in_steps d (suc n) first = ap suc (length-in_steps d n (first +ℤ pos d))
@@ -58,6 +58,7 @@ in_steps-past : (d n k : ℕ) (first : ℤ) → n ≤ k → slice_get (in_steps 
 in_steps-past d n k first h = slice_get_past (in_steps d n first) k (omega (arith, length-in_steps d n first))
 
 pub days_from-at : (n : ℤ) (k : ℕ) → IsDayCursor n → slice_get (days_from n) k ≡ date_of_day (n +ℤ pos k)
+unfolding days_from
 days_from-at n k h =
     by_lt_z (n +ℤ pos k) past_last_date
     (λ before.
@@ -69,9 +70,11 @@ days_from-at n k h =
     ∙ date_of_day-None (n +ℤ pos k) (λ date. omega (arith, signed, date.1, past)))
 
 pub weeks_from-at : (n : ℤ) (k : ℕ) → IsDate (n +ℤ pos (7 * k + 7)) → slice_get (weeks_from n) k ≡ Some (n +ℤ pos (7 * k))
+unfolding weeks_from
 weeks_from-at n k after = in_steps-at 7 (days_left n / 7) k n (omega (arith, signed, after.1))
 
 pub weeks_from-past : (n : ℤ) (k : ℕ) → IsDate n → (IsDate (n +ℤ pos (7 * k + 7)) → ⊥) → slice_get (weeks_from n) k ≡ None
+unfolding weeks_from
 weeks_from-past n k h past =
     let beyond : past_last_date ≤ℤ (n +ℤ pos (7 * k + 7)) =
     by_lt_z (n +ℤ pos (7 * k + 7)) past_last_date (λ lt. absurd (past (omega (arith, signed, h.0), omega (arith, signed, lt)))) (λ ge. ge) in
