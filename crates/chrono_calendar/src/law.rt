@@ -12,7 +12,7 @@ ghost use Rattle.chrono_calendar.specs.Days.{IsCalendarName, IsDate, IsOrdinalNa
 ghost use Rattle.chrono_calendar.specs.MonthMoves.{InSameMonth, MonthMovesAddUp, ComesBack, KeepsOrder, LaterMultiplesAreLater, month_first_of, month_index_of, month_last_of, month_length_of, month_move};
 ghost use Rattle.chrono_calendar.specs.NameLaws.{DatesAreDaysOfYears, DatesHaveOneCalendarName, DatesHaveOneIsoName, DatesHaveOneNumber, DatesHaveOneOrdinalName, WeeksHaveOneFirstDay, iso_cmp};
 ghost use Rattle.chrono_calendar.specs.Order.{calendar_cmp, ordinal_cmp};
-ghost use Rattle.chrono_calendar.specs.Recurrence.{IsFirstWhere, IsLeapDay, IsWeekly, NoneWhere, count_where, date_every, date_on, first_where, is_on, past_last_date};
+ghost use Rattle.chrono_calendar.specs.Recurrence.{IsFirstWhere, IsLeapDay, IsWeekly, NoneWhere, count_where, date_every, date_on, dates_before, dates_left, first_date, first_where, is_on, past_last_date};
 ghost use Rattle.chrono_calendar.specs.Weeks.{date_of_iso, date_of_nth_weekday, iso_week_of, iso_year_of, week_first_of, weekday_of};
 ghost use Rattle.chrono_calendar.specs.YearsBetween.{birthday, years_between};
 
@@ -196,6 +196,15 @@ pub fn first_where_is_least()
         (first_where p n ≡ None) ↔ NoneWhere p n }
     ensures past_last { (p : ℤ → Bool) → first_where p past_last_date ≡ None }
     ensures weekdays { (n : ℤ) (set : DaySet) → date_on n set ≡ first_where (is_on set) n }
+{}
+
+/// The dates before one and those from it on are 191,491,529 in all, and a step of a day on or back takes one from those
+/// that lie ahead. Call it where a loop over dates has to come to an end.
+pub fn dates_are_counted()
+    ensures all { (n : ℤ) → IsDate n → dates_before n + dates_left n ≡ 191_491_529 }
+    ensures on { (n : ℤ) → IsDate n → dates_left (n +ℤ pos 1) + 1 ≡ dates_left n }
+    ensures back { (n : ℤ) → IsDate n → first_date <ℤ n →
+        dates_before (n -ℤ pos 1) + 1 ≡ dates_before n }
 {}
 
 /// The calendar comes again after 146,097 days: 400 years on, and whole weeks. Call it where a rule is tried over one such
