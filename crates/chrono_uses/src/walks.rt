@@ -63,6 +63,18 @@ pub fn dates_from(date: NaiveDate) -> usize
     date.iter_days().count()
 }
 
+/// How many whole weeks there are from a date on, walked through.
+pub fn weeks_walked(date: NaiveDate) -> u32
+    ensures { result ≡ length (weeks_from date) }
+{
+    let mut weeks = 0;
+    let mut dates = date.iter_weeks();
+    while let Some(_) = dates.next() {
+        weeks += 1;
+    }
+    weeks
+}
+
 /// How many whole weeks there are from a date on.
 pub fn weeks_left(date: NaiveDate) -> usize
     ensures { result ≡ length (weeks_from date) }
