@@ -5,7 +5,6 @@ use Rattle.std.proofs.lemmas.Int.{by_lt_z}
 use Rattle.std.proofs.lemmas.Option.{cond_some}
 use Rattle.std.specs.Cmp.Derive.{both_true}
 use Rattle.std.specs.Int.{IsInRange}
-use Rattle.std.specs.Option.{option_map}
 use Rattle.chrono_units.specs.Years.{IsYear, is_year, year_length}
 use Rattle.chrono_units.specs.declared.weekday.Weekday.{Weekday}
 use Rattle.chrono_units.specs.Weekday.{number_from_monday}
@@ -29,9 +28,9 @@ exists_if true None v h = cc
 exists_if false (Some e) v h = cc
 exists_if false None v h = ((λ e. cc), (λ e. cc))
 
--- ---- a calendar name
+-- ---- a calendar name: there is a date exactly if the library has the year and the calendar the name, and it has that name
 
-pub exists_ymd : (o : Option ℤ) (y : ℤ) (m d : ℕ) → o ≡ date_of_ymd y m d → IsSome o ↔ (IsYear y × IsCalendarName y m d)
+exists_ymd : (o : Option ℤ) (y : ℤ) (m d : ℕ) → o ≡ date_of_ymd y m d → IsSome o ↔ (IsYear y × IsCalendarName y m d)
 unfolding date_of_ymd
 exists_ymd o y m d h =
     let tested = exists_if (is_year y && is_calendar_name y m d) o (day_number_of_ymd y m d) h in (
@@ -41,17 +40,15 @@ exists_ymd o y m d h =
       λ name. tested.1 (both_true (is_year-test y name.0) (is_calendar_name-test y m d name.1)),
     )
 
--- an answer with a date of that name in it exists exactly if the library has the year and the calendar the name, and has
--- that year, month and day
-pub given_ymd : {A : Type 0} (number : A → ℤ) (o : Option A) (y : ℤ) (m d : ℕ) → option_map number o ≡ date_of_ymd y m d → (IsSome o ↔ (IsYear y × IsCalendarName y m d)) × IfSome o (λ e. year_of (number e) ≡ y) × IfSome o (λ e. month_of (number e) ≡ m) × IfSome o (λ e. day_of (number e) ≡ d)
-given_ymd number None y m d h = (exists_ymd None y m d h, tt, tt, tt)
-given_ymd number (Some e) y m d h =
-    let name = date_of_ymd-name (number e) y m d (sym h) in
-    (exists_ymd (Some (number e)) y m d h, sym name.0, sym name.1, sym name.2)
+pub given_ymd : (o : Option ℤ) (y : ℤ) (m d : ℕ) → o ≡ date_of_ymd y m d → (IsSome o ↔ (IsYear y × IsCalendarName y m d)) × IfSome o (λ e. year_of e ≡ y) × IfSome o (λ e. month_of e ≡ m) × IfSome o (λ e. day_of e ≡ d)
+given_ymd None y m d h = (exists_ymd None y m d h, tt, tt, tt)
+given_ymd (Some e) y m d h =
+    let name = date_of_ymd-name e y m d (sym h) in
+    (exists_ymd (Some e) y m d h, sym name.0, sym name.1, sym name.2)
 
--- ---- an ordinal name
+-- ---- an ordinal name: the same
 
-pub exists_yo : (r : Option ℤ) (y : ℤ) (o : ℕ) → r ≡ date_of_yo y o → IsSome r ↔ (IsYear y × IsOrdinalName y o)
+exists_yo : (r : Option ℤ) (y : ℤ) (o : ℕ) → r ≡ date_of_yo y o → IsSome r ↔ (IsYear y × IsOrdinalName y o)
 unfolding date_of_yo
 exists_yo r y o h =
     let tested = exists_if (is_year y && is_ordinal_name y o) r (day_number_of_yo y o) h in (
@@ -61,13 +58,13 @@ exists_yo r y o h =
       λ name. tested.1 (both_true (is_year-test y name.0) (is_ordinal_name-test y o name.1)),
     )
 
-pub given_yo : {A : Type 0} (number : A → ℤ) (r : Option A) (y : ℤ) (o : ℕ) → option_map number r ≡ date_of_yo y o → (IsSome r ↔ (IsYear y × IsOrdinalName y o)) × IfSome r (λ e. year_of (number e) ≡ y) × IfSome r (λ e. ordinal_of (number e) ≡ o)
-given_yo number None y o h = (exists_yo None y o h, tt, tt)
-given_yo number (Some e) y o h =
-    let name = date_of_yo-name (number e) y o (sym h) in
-    (exists_yo (Some (number e)) y o h, sym name.0, sym name.1)
+pub given_yo : (r : Option ℤ) (y : ℤ) (o : ℕ) → r ≡ date_of_yo y o → (IsSome r ↔ (IsYear y × IsOrdinalName y o)) × IfSome r (λ e. year_of e ≡ y) × IfSome r (λ e. ordinal_of e ≡ o)
+given_yo None y o h = (exists_yo None y o h, tt, tt)
+given_yo (Some e) y o h =
+    let name = date_of_yo-name e y o (sym h) in
+    (exists_yo (Some e) y o h, sym name.0, sym name.1)
 
--- ---- an ISO name
+-- ---- an ISO name: there is a date exactly if the ISO year has the week and the day is a date, and it has that name
 
 date_of_iso-date : (n y : ℤ) (w : ℕ) (d : Weekday) → date_of_iso y w d ≡ Some n → IsDate (day_number_of_iso y w (number_from_monday d))
 unfolding date_of_iso
@@ -76,7 +73,7 @@ date_of_iso-date n y w d e =
     let found = cond_some (is_date m && is_iso_name y w (number_from_monday d) m) m n e in
     is_date-fact m (and_parts (is_date m) (is_iso_name y w (number_from_monday d) m) found.0).0
 
--- the weeks of a year, and those of the year by the days from their first Monday on
+-- the week of a day is one of its ISO year, and the Thursday of each of these lies in the year
 week_exists : (n y : ℤ) (w : ℕ) → y ≡ iso_year_of n → w ≡ iso_week_of n → IsIsoWeek y w
 week_exists n y w e f =
     let bounds = iso_week_of-bounds n in
@@ -100,7 +97,7 @@ weeks_of_iso_year-range y =
     let length = weeks_of_iso_year-length y in
     (omega (arith, length, year_length_bounds y), omega (arith, length, year_length_bounds y, before_monday-bound y))
 
--- all days of an ISO year are dates, but for some of the first such year and of the last
+-- the days before a year past the first, and those of the last year
 not_before : (y : ℤ) → neg_ℤ (pos 262_143) <ℤ y → neg_ℤ (pos 95_746_000) ≤ℤ days_before_year y
 not_before y h = omega (arith, signed, days_before_year-closed y)
 
@@ -114,6 +111,7 @@ in_last_year y w d e within =
     let common : year_length y ≡ 365 = ap year_length e in
     omega (arith, signed, day_number_of_iso-place y w d, days_from_monday-lt d, before, sunday, common, within)
 
+-- so all days of an ISO year are dates, but for some of the first such year and of the last
 pub iso_days_inside : (y : ℤ) (w : ℕ) (d : Weekday) → neg_ℤ (pos 262_143) <ℤ y → y <ℤ pos 262_143 → IsIsoWeek y w → IsDate (day_number_of_iso y w (number_from_monday d))
 iso_days_inside y w d low high h =
     let place = day_number_of_iso-place y w d in

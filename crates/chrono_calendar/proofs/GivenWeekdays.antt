@@ -36,7 +36,7 @@ date_of_nth_weekday-tested y m n d =
     rw (days_with_weekday-at y m (n - 1) d, mapped (nat_le k (month_length y m)) (λ p. day_number_of_ymd y m p) k)
     (both_tests (is_year y && (nat_le 1 m && nat_le m 12) && nat_le 1 n) (nat_le k (month_length y m)) (day_number_of_ymd y m k))
 
--- how many days of the month have the weekday
+-- the library has the year, which has the month, and n days there have the weekday
 abbrev pub IsNthName : ℤ → ℕ → Weekday → ℕ → Type 0
 IsNthName y m d n = IsYear y × IsInRange 1 12 m × IsInRange 1 (length (days_with_weekday y m d)) n
 
@@ -51,6 +51,7 @@ is_nth_name-fact y m n d t =
     let first : 1 ≤ n = grind (arith, nat_tests, two.1) in
     (is_year-fact y one.0, (grind (arith, nat_tests, one.1), grind (arith, nat_tests, one.1)), (first, omega (arith, within, first)))
 
+-- an answer by a test that is a value was tested
 known_some : {A : Type 0} (b : Bool) (v x : A) → Some x ≡ cond b (Some v) None → b ≡ true
 known_some true v x e = refl
 known_some false v x e = cc
@@ -83,6 +84,7 @@ nth_weekday-exists o y m n d h =
     let tested = exists_if (is_nth_name y m d n) o (day_number_of_ymd y m (nth_in_month y m d n)) (h ∙ date_of_nth_weekday-tested y m n d) in
     ((λ some. is_nth_name-fact y m n d (tested.0 some)), (λ name. tested.1 (is_nth_name-test y m n d name)))
 
+-- there is a date exactly if n is one of those days, and it lies in the n-th seven days of the month
 pub given_nth_weekday : (o : Option ℤ) (y : ℤ) (m n : ℕ) (d : Weekday) → o ≡ date_of_nth_weekday y m d n → (IsSome o ↔ IsNthName y m d n) × IfSome o (λ e. year_of e ≡ y) × IfSome o (λ e. month_of e ≡ m) × IfSome o (λ e. weekday_of e ≡ d) × IfSome o (λ e. (7 * (n - 1) < day_of e) × (day_of e ≤ 7 * n))
 given_nth_weekday None y m n d h = (nth_weekday-exists None y m n d h, tt, tt, tt, tt)
 given_nth_weekday (Some e) y m n d h =

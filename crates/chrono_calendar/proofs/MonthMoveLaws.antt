@@ -167,12 +167,13 @@ pub if_moved : (o : Option ℤ) (n k l : ℤ) → k +ℤ l ≡ pos 0 → IsYear 
 if_moved None n k l z y h = (tt, tt, tt)
 if_moved (Some e) n k l z y h = (month_move-KeepsOrder n k e (sym h), month_move-ComesBack n k l e z y (sym h), month_move-MonthMovesAddUp n k e (sym h))
 
--- the month and the day of the month that a move comes to, and the years to which there is one
+-- the month and the day of the month that a move comes to
 pub month_move-parts : (n k e : ℤ) → month_move n k ≡ Some e → (month_index_of e ≡ month_index_of n +ℤ k) × (day_of e ≡ min (day_of n) (month_length_of e))
 month_move-parts n k e h =
     let place = day_at-unique e _ _ (month_move-at n k e (month_move-is n k e h)) in
     (place.0, place.1 ∙ ap (min (day_of n)) (ap length_at (sym place.0) ∙ sym (month_length_of-at e)))
 
+-- there is one exactly if the library has the year of that month
 pub month_move-exists : (o : Option ℤ) (n k : ℤ) → o ≡ month_move n k → IsSome o ↔ IsYear (year_of_month_index (month_index_of n +ℤ k))
 unfolding month_move
 month_move-exists o n k h =
@@ -180,6 +181,7 @@ month_move-exists o n k h =
     let tested = exists_if (is_year year) o (day_number_in_month (month_index_of n +ℤ k) (day_of n)) h in
     ((λ some. is_year-fact year (tested.0 some)), (λ range. tested.1 (is_year-test year range)))
 
+-- the same of an answer that is the move
 pub if_month : (o : Option ℤ) (n k : ℤ) → o ≡ month_move n k → IfSome o (λ e. month_index_of e ≡ month_index_of n +ℤ k) × IfSome o (λ e. day_of e ≡ min (day_of n) (month_length_of e))
 if_month None n k h = (tt, tt)
 if_month (Some e) n k h = month_move-parts n k e (sym h)
