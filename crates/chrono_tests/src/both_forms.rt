@@ -103,10 +103,7 @@ fn are_alike(packed: Option<PackedForm>, counted: Option<CountedForm>) -> bool {
 // Whether the forms of two dates are moved alike, and have the same whole years from each first day.
 fn moved_alike(packed: PackedForm, counted: CountedForm) -> bool {
     for k in MOVES {
-        let by_days = are_alike(
-            forms::days_later(packed, k),
-            forms::days_later(counted, k),
-        );
+        let by_days = are_alike(forms::days_later(packed, k), forms::days_later(counted, k));
         if !by_days
             || !are_alike(
                 forms::move_months(packed, k),
@@ -117,8 +114,10 @@ fn moved_alike(packed: PackedForm, counted: CountedForm) -> bool {
         }
     }
     for (base, _) in DAYS {
-        let bases: (Option<PackedForm>, Option<CountedForm>) =
-            (forms::from_day(base), forms::from_day(base));
+        let bases: (Option<PackedForm>, Option<CountedForm>) = (
+            forms::from_day(base),
+            forms::from_day(base),
+        );
         if let (Some(of_packed), Some(of_counted)) = bases {
             let years = forms::years_between(&packed, &of_packed);
             if years != forms::years_between(&counted, &of_counted) {
