@@ -1,6 +1,5 @@
-use Rattle.std.proofs.Common.{ℕ, length, length-append, append_assoc, ap, refl, ◌∙◌, ◌++◌, arith, rules}
+use Rattle.std.proofs.Common.{ℕ, length, length-append, append_assoc, ap, refl, arith, rules}
 use Rattle.chrono_units.specs.declared.weekday.Weekday.TheVariants.{Mon}
-use Rattle.chrono_units.specs.WeekdayText.{days_text}
 use Rattle.chrono_units.proofs.WalkLengths.{length-walk-le}
 use Rattle.chrono_units.proofs.weekday_set.WeekdaySet.put_into.Goals as goal
 
