@@ -131,7 +131,8 @@ pub fn years_and_months_rise()
 {}
 
 /// Each day, also one that is no date, has a month from 1 to 12, a day that its month has, an ordinal that its year has and
-/// a week from 1 to 53, and its names name it. Call it where a field is an index, or where a day need not be a date.
+/// a week from 1 to 53, and its calendar name and its ordinal name are those of its number. Call it where a field is an index,
+/// or where a day need not be a date.
 pub fn days_have_names()
     ensures month { (n : ℤ) → IsInRange 1 12 (month_of n) }
     ensures day { (n : ℤ) → IsInRange 1 (month_length_of n) (day_of n) }
@@ -229,9 +230,9 @@ pub fn iso_weeks_begin_on_monday()
         ↔ (week_first_of n Mon ≡ week_first_of m Mon) }
 {}
 
-/// The whole years between two days are as many as birthdays of the first have come, of which the 0th is the day itself. A
-/// birthday is where a move by whole years ends, and that of 29 February the day after it, 1 March, in a common year. Call
-/// it where an age is asked for or a day on which it grows.
+/// From a day to a later one there are k whole years exactly if the k-th birthday of the first has come and the next has not;
+/// the 0th is the day itself. A birthday is where a move by whole years ends, and that of 29 February the day after it,
+/// 1 March, in a common year. Call it where an age is asked for or a day on which it grows.
 pub fn whole_years_are_birthdays()
     ensures come { (n base : ℤ) (k : ℕ) → (years_between n base ≡ Some k)
         ↔ ((birthday base k ≤ℤ n) × (n <ℤ birthday base (k + 1))) }
@@ -244,7 +245,8 @@ pub fn whole_years_are_birthdays()
         birthday base k ≡ e +ℤ pos 1 }
 {}
 
-/// Days that are known: 1 January 1970, the first and the last date, and 1 January of year 1, a Monday.
+/// Days that are known: 1 January 1970, the first and the last date, 1 January of year 1, a Monday, and 30 December 2024, the
+/// 365th day of its year, which is day 739,250.
 pub fn known_days()
     ensures epoch { date_of_ymd (pos 1970) 1 1 ≡ Some (pos 719_163) }
     ensures first { date_of_ymd (neg_ℤ (pos 262_143)) 1 1 ≡ Some (neg_ℤ (pos 95_746_129)) }

@@ -48,9 +48,9 @@ pub fn last_date() -> (NaiveDate, NaiveDate)
     (NaiveDate::MAX, MAX_DATE)
 }
 
-/// The `k`-th date of the days from one on is the day `k` days on, if that is a date, and the `k`-th of the weeks is the day
-/// `7 * k` days on, if a date lies a week after it. Call it where an iterator's items are said by their place, or are
-/// counted.
+/// Counted from 0, the `k`-th date of the days from one on is the day `k` days on, if that is a date, and the `k`-th of the
+/// weeks is the day `7 * k` days on, if a date lies a week after it. Call it where an iterator's items are said by their
+/// place, or are counted.
 pub fn dates_lie_in_steps()
     ensures day { (n : ℤ) (k : ℕ) → IsDayCursor n →
         slice_get (days_from n) k ≡ date_of_day (n +ℤ pos k) }
