@@ -3,7 +3,7 @@
 
     checks/rules.py
 
-  tables     no array stands outside the modules `table` and `tables`; one of theirs is private, and the only function beside it
+  tables     no array stands outside the modules `table` and `tables` but in what writes a text; one of theirs is private, and the only function beside it
              reads it once, behind a tick
   counted    a function that takes `Steps` has no loop and no match of thirteen cases or more; nor has what it calls without handing
              its counter on, and nothing there begins a counter
@@ -122,7 +122,7 @@ def tables(code):
         beside = [it for it in code.counted if it.path == path]
         if not is_of_tables(path):
             yield from (f"{path}: the array {name}" for _, name in arrays)
-            yield from (f"{path}: an array in {it.name}" for it in beside if "[" in it.body)
+            yield from (f"{path}: an array in {it.name}" for it in beside if "[" in it.body and "&mut Text<" not in it.head)
             continue
         if len(arrays) > 1 or len(arrays) != len(beside):
             yield f"{path}: not one table and one function"
