@@ -11,7 +11,7 @@ pub use chrono_clock::law::{
     first_time, greatest_duration, known_time_texts, last_time, least_duration,
 };
 pub use chrono_naive::law::{
-    calendar_comes_again, calendar_names_are_in_order, counts_add_up, dates_are_counted,
+    calendar_comes_again, calendar_names_are_in_order, counts_add_up, counts_between_days, dates_are_counted,
     dates_are_days_of_years, dates_have_at_most_thirteen_bytes, dates_have_one_calendar_name,
     dates_have_one_iso_name, dates_have_one_number, dates_have_one_ordinal_name,
     dates_have_texts_of_their_own, dates_lie_in_steps, days_have_names, first_date,

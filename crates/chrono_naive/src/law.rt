@@ -7,7 +7,7 @@ ghost use Rattle.chrono_naive.specs.DateText.{date_text};
 
 use crate::naive_date::{MAX_DATE, MIN_DATE, NaiveDate};
 pub use chrono_calendar::law::{
-    calendar_comes_again, calendar_names_are_in_order, counts_add_up, dates_are_counted,
+    calendar_comes_again, calendar_names_are_in_order, counts_add_up, counts_between_days, dates_are_counted,
     dates_are_days_of_years, dates_have_one_calendar_name, dates_have_one_iso_name,
     dates_have_one_number, dates_have_one_ordinal_name, days_have_names, first_where_is_least,
     iso_names_are_in_order, iso_weeks_begin_on_monday, known_days, known_moves, known_recurrences,
