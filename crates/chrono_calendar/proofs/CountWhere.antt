@@ -23,7 +23,7 @@ count_where-first : (p : ℤ → Bool) (k : ℕ) (n m : ℤ) → m ≡ n +ℤ po
 unfolding count_where
 count_where-first p k n m e = ap (λ d. one_if (p n) + count_where p k d) (sym e)
 
-count_where-no_days : (p : ℤ → Bool) (n : ℤ) → count_where p 0 n ≡ 0
+pub count_where-no_days : (p : ℤ → Bool) (n : ℤ) → count_where p 0 n ≡ 0
 unfolding count_where
 count_where-no_days p n = refl
 

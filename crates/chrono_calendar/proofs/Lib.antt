@@ -23,6 +23,7 @@ pub mod Moves
 pub mod FirstOn
 pub mod FirstWhere
 pub mod CountWhere
+pub mod CountBetween
 pub mod EveryMonths
 pub mod GivenNames
 pub mod GivenWeekdays

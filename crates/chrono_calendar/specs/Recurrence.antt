@@ -1,5 +1,5 @@
 -- Recurrence: the days that pass a test, the first date on given weekdays, and the dates that lie every so many months from one.
-use Rattle.std.specs.Prelude.{◌≡◌, ℕ, zero, suc, ◌+◌, Bool, true, false, if◌then◌else◌, ℤ, pos, neg_ℤ, ◌+ℤ◌, ◌-ℤ◌, ◌*ℤ◌, ◌≤ℤ◌, ◌<ℤ◌, unsigned_abs, Option, Some, None}
+use Rattle.std.specs.Prelude.{◌≡◌, ℕ, zero, suc, ◌+◌, Bool, true, false, if◌then◌else◌, ℤ, pos, neg_ℤ, ◌+ℤ◌, ◌-ℤ◌, ◌*ℤ◌, ◌≤ℤ◌, ◌<ℤ◌, int_le, unsigned_abs, Option, Some, None}
 use Rattle.chrono_units.specs.Years.{is_leap_year}
 use Rattle.chrono_units.specs.WeekdaySet.{DaySet, contains}
 use Rattle.chrono_calendar.specs.Days.{IsDate, year_of, month_of, day_of}
@@ -26,6 +26,14 @@ dates_left n = unsigned_abs (past_last_date -ℤ n)
 unfoldable pub count_where : (ℤ → Bool) → ℕ → ℤ → ℕ
 count_where p zero n = 0
 count_where p (suc k) n = (if p n then 1 else 0) + count_where p k (n +ℤ pos 1)
+
+-- how many days there are from a to before b; none if b is not after a
+abbrev pub days_between : ℤ → ℤ → ℕ
+days_between a b = if int_le a b then unsigned_abs (b -ℤ a) else 0
+
+-- how many of the days from a to before b pass the test; none if b is not after a
+unfoldable pub count_between : (ℤ → Bool) → ℤ → ℤ → ℕ
+count_between p a b = count_where p (days_between a b) a
 
 -- the first of the k days from n on that passes the test
 unfoldable pub first_of_days : (ℤ → Bool) → ℕ → ℤ → Option ℤ

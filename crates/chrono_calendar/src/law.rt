@@ -12,7 +12,7 @@ ghost use Rattle.chrono_calendar.specs.Days.{IsCalendarName, IsDate, IsOrdinalNa
 ghost use Rattle.chrono_calendar.specs.MonthMoves.{InSameMonth, MonthMovesAddUp, ComesBack, KeepsOrder, LaterMultiplesAreLater, month_first_of, month_index_of, month_last_of, month_length_of, month_move};
 ghost use Rattle.chrono_calendar.specs.NameLaws.{DatesAreDaysOfYears, DatesHaveOneCalendarName, DatesHaveOneIsoName, DatesHaveOneNumber, DatesHaveOneOrdinalName, WeeksHaveOneFirstDay, iso_cmp};
 ghost use Rattle.chrono_calendar.specs.Order.{calendar_cmp, ordinal_cmp};
-ghost use Rattle.chrono_calendar.specs.Recurrence.{IsFirstWhere, IsLeapDay, IsWeekly, NoneWhere, count_where, date_every, date_on, dates_before, dates_left, first_date, first_where, is_on, past_last_date};
+ghost use Rattle.chrono_calendar.specs.Recurrence.{IsFirstWhere, IsLeapDay, IsWeekly, NoneWhere, count_between, count_where, date_every, date_on, dates_before, dates_left, first_date, first_where, is_on, past_last_date};
 ghost use Rattle.chrono_calendar.specs.Weeks.{date_of_iso, date_of_nth_weekday, iso_week_of, iso_year_of, week_first_of, weekday_of};
 ghost use Rattle.chrono_calendar.specs.YearsBetween.{birthday, years_between};
 
@@ -173,6 +173,26 @@ pub fn counts_add_up()
     ensures same { (p q : ℤ → Bool) (k : ℕ) (n : ℤ) →
         ((d : ℤ) → n ≤ℤ d → d <ℤ (n +ℤ pos k) → p d ≡ q d) →
         count_where p k n ≡ count_where q k n }
+{}
+
+/// A count of the days from one to before another that pass a test is that of the two stretches on either side of a day
+/// between, and is one of as many days in a row. Call it where days between two dates are counted, also by a loop that goes
+/// from one to the other.
+pub fn counts_between_days()
+    ensures is_count_where { (p : ℤ → Bool) (n : ℤ) (k : ℕ) →
+        count_between p n (n +ℤ pos k) ≡ count_where p k n }
+    ensures empty { (p : ℤ → Bool) (a b : ℤ) → b ≤ℤ a → count_between p a b ≡ 0 }
+    ensures sum { (p : ℤ → Bool) (a b c : ℤ) → a ≤ℤ b → b ≤ℤ c →
+        count_between p a c ≡ count_between p a b + count_between p b c }
+    ensures next { (p : ℤ → Bool) (a b : ℤ) → a ≤ℤ b →
+        count_between p a (b +ℤ pos 1) ≡ count_between p a b + (if p b then 1 else 0) }
+    ensures first { (p : ℤ → Bool) (a b : ℤ) → a <ℤ b →
+        count_between p a b ≡ (if p a then 1 else 0) + count_between p (a +ℤ pos 1) b }
+    ensures at_most { (p : ℤ → Bool) (a b : ℤ) → a ≤ℤ b → pos (count_between p a b) ≤ℤ (b -ℤ a) }
+    ensures none { (p : ℤ → Bool) (a b : ℤ) →
+        ((d : ℤ) → a ≤ℤ d → d <ℤ b → p d ≡ false) → count_between p a b ≡ 0 }
+    ensures same { (p q : ℤ → Bool) (a b : ℤ) → ((d : ℤ) → a ≤ℤ d → d <ℤ b → p d ≡ q d) →
+        count_between p a b ≡ count_between q a b }
 {}
 
 /// A test that says the same a week later passes as often in every week. A test of weekdays is one, and passes in a week as

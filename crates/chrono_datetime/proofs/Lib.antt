@@ -11,6 +11,7 @@ pub use Rattle.chrono_naive.proofs.Rising
 pub use Rattle.chrono_naive.proofs.Cycles
 pub use Rattle.chrono_naive.proofs.FirstWhere
 pub use Rattle.chrono_naive.proofs.CountWhere
+pub use Rattle.chrono_naive.proofs.CountBetween
 pub use Rattle.chrono_naive.proofs.Birthdays
 -- The rest serve this crate's own proofs alone.
 mod ReachLemmas

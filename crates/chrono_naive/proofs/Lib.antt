@@ -10,6 +10,7 @@ pub use Rattle.chrono_calendar.proofs.Rising
 pub use Rattle.chrono_calendar.proofs.Cycles
 pub use Rattle.chrono_calendar.proofs.FirstWhere
 pub use Rattle.chrono_calendar.proofs.CountWhere
+pub use Rattle.chrono_calendar.proofs.CountBetween
 pub use Rattle.chrono_calendar.proofs.Birthdays
 pub mod DateTextLemmas
 -- The rest serve this crate's own proofs alone.

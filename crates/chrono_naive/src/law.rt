@@ -7,14 +7,15 @@ ghost use Rattle.chrono_naive.specs.DateText.{date_text};
 
 use crate::naive_date::{MAX_DATE, MIN_DATE, NaiveDate};
 pub use chrono_calendar::law::{
-    calendar_comes_again, calendar_names_are_in_order, counts_add_up, dates_are_counted,
-    dates_are_days_of_years, dates_have_one_calendar_name, dates_have_one_iso_name,
-    dates_have_one_number, dates_have_one_ordinal_name, days_have_names, first_where_is_least,
-    iso_names_are_in_order, iso_weeks_begin_on_monday, known_days, known_moves, known_recurrences,
-    known_weeks, later_multiples_are_later, month_moves_add_up, month_moves_come_back,
-    month_moves_keep_order, month_moves_reach_dates, months_are_days_in_a_row, names_have_days,
-    ordinal_names_are_in_order, weekdays_follow, weekly_counts_come_again,
-    weeks_have_one_first_day, whole_years_are_birthdays, years_and_months_rise,
+    calendar_comes_again, calendar_names_are_in_order, counts_add_up, counts_between_days,
+    dates_are_counted, dates_are_days_of_years, dates_have_one_calendar_name,
+    dates_have_one_iso_name, dates_have_one_number, dates_have_one_ordinal_name, days_have_names,
+    first_where_is_least, iso_names_are_in_order, iso_weeks_begin_on_monday, known_days,
+    known_moves, known_recurrences, known_weeks, later_multiples_are_later, month_moves_add_up,
+    month_moves_come_back, month_moves_keep_order, month_moves_reach_dates,
+    months_are_days_in_a_row, names_have_days, ordinal_names_are_in_order, weekdays_follow,
+    weekly_counts_come_again, weeks_have_one_first_day, whole_years_are_birthdays,
+    years_and_months_rise,
 };
 
 /// The text of a date in the years 0 to 9999 has ten bytes.

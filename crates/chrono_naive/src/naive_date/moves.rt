@@ -89,6 +89,7 @@ impl NaiveDate {
         ensures moved { IfSome result (λ e. e ≡ self.now +ℤ pos 1) }
         // A day back, the answer is the date again.
         ensures back { IfSome result (λ e. e -ℤ pos 1 ≡ self.now) }
+        ensures in_range { IfSome result (λ e. IsDate e) }
     {
         self.moved_by_days(1)
     }
@@ -101,6 +102,7 @@ impl NaiveDate {
         ensures moved { IfSome result (λ e. e ≡ self.now -ℤ pos 1) }
         // A day on, the answer is the date again.
         ensures back { IfSome result (λ e. e +ℤ pos 1 ≡ self.now) }
+        ensures in_range { IfSome result (λ e. IsDate e) }
     {
         self.moved_by_days(-1)
     }
