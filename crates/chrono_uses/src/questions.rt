@@ -51,8 +51,8 @@ pub fn next_weekday(date: NaiveDate) -> Option<NaiveDate>
     ]))
 }
 
-/// How many Mondays there are from a date on, to before another that is not earlier: as many as whole weeks end by then, of
-/// weeks that begin with the day after the first Monday.
+/// How many Mondays there are from a date on, to before another that is not earlier: one for each week, or part of a week, from
+/// the first of them on.
 pub fn mondays_between(from: NaiveDate, to: NaiveDate) -> u32
     ensures { from ≤ℤ to →
         result ≡ count_where (is_on (single Mon)) (unsigned_abs (to -ℤ from)) from }
