@@ -14,7 +14,7 @@ use chrono_datetime::{Datelike, Days, NaiveDate, Weekday, WeekdaySet, law};
 
 /// The third Friday of a month, when options expire; `None` exactly if the library does not have the month.
 pub fn expiry(year: i32, month: u32) -> Option<NaiveDate>
-    ensures exists { IsYear year → IsInRange 1 12 month → IsSome result }
+    ensures exists { IsSome result ↔ (IsYear year × IsInRange 1 12 month) }
     ensures weekday { IfSome result (λ e. weekday_of e ≡ Fri) }
     ensures month { IfSome result (λ e. month_of e ≡ month) }
     ensures day { IfSome result (λ e. IsInRange 15 21 (day_of e)) }
@@ -22,7 +22,7 @@ pub fn expiry(year: i32, month: u32) -> Option<NaiveDate>
     NaiveDate::from_weekday_of_month_opt(year, month, Weekday::Fri, 3)
 }
 
-/// The same day by another way: a fortnight after the first Friday on or after the first of the month.
+/// A third Friday by another way: a fortnight after the first Friday on or after the first of the month.
 pub fn expiry_by_steps(year: i32, month: u32) -> Option<NaiveDate>
     ensures weekday { IfSome result (λ e. weekday_of e ≡ Fri) }
     ensures day { IfSome result (λ e. IsInRange 15 21 (day_of e)) }
