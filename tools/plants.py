@@ -138,6 +138,7 @@ def build(copy, crates, names):
 
 def try_all_twins(rt, crates, twins, jobs):
     """Tries the twins of all crates; the exit status."""
+    rt.rtlib.guarded()  # sets a signal's handler at its first call, which only the main thread may do
     with concurrent.futures.ThreadPoolExecutor(jobs) as pool:
         found = list(pool.map(lambda it: try_twins(rt, crates[it], twins[it]), twins))
     for _, said in found:

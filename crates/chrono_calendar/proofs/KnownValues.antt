@@ -1,11 +1,13 @@
 -- Values of the calendar, of the flags and of the weeks of years, so that a wrong rule does not check. Those that callers
 -- may cite stand in `law.rt`: `known_days`, `known_weeks`, `known_moves` and `known_recurrences`.
 use Rattle.std.proofs.Common.{◌≡◌, pos, negsuc, [], ◌∷◌, map, Some, refl, arith}
-use Rattle.chrono_calendar.specs.Days.{days_of_years, days_before_year, days_of_months_in, day_number_of_yo, day_number_of_ymd}
-use Rattle.chrono_units.specs.declared.weekday.Weekday.TheVariants.{Tue, Thu}
-use Rattle.chrono_units.specs.WeekdaySet.{set_of}
-use Rattle.chrono_calendar.specs.Recurrence.{first_of_days, is_on}
+use Rattle.chrono_calendar.specs.Days.{days_of_years, days_before_year, days_of_months_in, day_number_of_yo, day_number_of_ymd, ordinal_name_of, days_after_zero, days_before_zero, month_of_ordinal, day_of_ordinal}
+use Rattle.chrono_units.specs.declared.weekday.Weekday.TheVariants.{Mon, Tue, Thu, Fri}
+use Rattle.chrono_units.specs.WeekdaySet.{set_of, single}
+use Rattle.chrono_calendar.specs.Recurrence.{count_where, first_of_days, is_on}
 use Rattle.chrono_calendar.specs.Flags.{flags_of_year, weeks_of_iso_year}
+use Rattle.chrono_calendar.specs.Weeks.{date_of_iso, iso_week_of}
+use Rattle.chrono_calendar.specs.YearsBetween.{years_between}
 use Rattle.chrono_calendar.proofs.Signed.{signed}
 use Rattle.chrono_calendar.proofs.Years.{days_before_year-closed}
 use Rattle.chrono_calendar.proofs.Weeks.{weeks_of_iso_year-flags}
@@ -51,3 +53,23 @@ weeks_of_years = (weeks_of_iso_year-flags (pos 2020) 1 refl, weeks_of_iso_year-f
 next_tuesday : first_of_days (is_on (set_of (Tue ∷ Thu ∷ []))) 7 (pos 739_250) ≡ Some (pos 739_251)
 unfolding first_of_days
 next_tuesday = refl
+
+-- January of the year 1 has four Fridays
+fridays_of_january : count_where (is_on (single Fri)) 31 (pos 1) ≡ 4
+unfolding count_where
+fridays_of_january = refl
+
+-- Monday, 4 January of the year -1 is in its first week, whose Thursday is the seventh day of the year
+first_week_of_minus_one : iso_week_of (negsuc 726) ≡ 1
+unfolding ordinal_name_of days_before_zero
+first_week_of_minus_one = refl
+
+-- 1 January of the year 5 is a Saturday, so the first week begins on Monday, 3 January
+first_week_of_five : date_of_iso (pos 5) 1 Mon ≡ Some (pos 1464)
+unfolding date_of_iso days_before_year days_of_years ordinal_name_of days_after_zero
+first_week_of_five = refl
+
+-- from 29 February of the year 4 to that of the year 8 it is four whole years
+leap_day_to_leap_day : years_between (pos 2616) (pos 1155) ≡ Some 4
+unfolding years_between ordinal_name_of days_after_zero month_of_ordinal day_of_ordinal days_of_months_in
+leap_day_to_leap_day = refl

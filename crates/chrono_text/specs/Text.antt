@@ -106,6 +106,9 @@ calendar_text-first : calendar_text (neg_ℤ (pos 262_143)) 1 1 ≡ codes "-2621
 unfolding digits
 calendar_text-first = refl
 
+calendar_text-leap_day : calendar_text (pos 2_024) 2 29 ≡ codes "2024-02-29"
+calendar_text-leap_day = refl
+
 ordinal_text-leap_day : ordinal_text (pos 2_024) 60 ≡ codes "2024-060"
 ordinal_text-leap_day = refl
 
