@@ -10,7 +10,7 @@
   words      docs/DEFINITIONS.md tells the words that the other documents name of the libraries' specs, each in the part of its crate
   shut       CALLING.md lists the words that the check does not look into: those of the specs up to chrono_datetime, and no others
   calls      docs/CALLS.md names, in the part of its crate, what each library makes public
-  modules    docs/ARCHITECTURE.md has a row for each crate, in which the modules of a library are named
+  modules    docs/ARCHITECTURE.md has a row for each crate, in which the modules of all but tests are named
 
 ABSENT and NO_FILES list what is rightly not in the tree; a line there that no document needs is a fault too. Each check is then tried on
 the faults of PLANTED, in copies of the texts, and has to find each. What a sentence claims of the names in it no script can read.
@@ -24,12 +24,13 @@ import tempfile
 
 sys.path.insert(0, os.path.dirname(os.path.abspath(__file__)))
 import ends  # noqa: E402
+import memory  # noqa: E402
 import outside  # noqa: E402
 import rules  # noqa: E402
 import statuses  # noqa: E402
 
 TOP = os.path.dirname(os.path.dirname(os.path.abspath(__file__)))
-# Folders with nothing of the tree's own.
+# Folders with nothing of the tree's own, beside which a caller from Python may build a shared object.
 LEFT_OUT = (".git", "out", "target", "__pycache__")
 # The comments of each kind of source.
 COMMENTS = {".rt": r"//[^\n]*", ".rs": r"//[^\n]*", ".antt": r"--[^\n]*", ".c": r"//[^\n]*|/\*.*?\*/", ".h": r"//[^\n]*|/\*.*?\*/",
@@ -37,7 +38,7 @@ COMMENTS = {".rt": r"//[^\n]*", ".rs": r"//[^\n]*", ".antt": r"--[^\n]*", ".c": 
 # Names that no source declares, by the reason.
 ABSENT = {
     "of Rust and its std": """Box Clone Copy Default Display DoubleEndedIterator Drop Eq FromIterator FromPrimitive FromStr Hash
-        IntoIterator Ok Result Some String Sum TryFrom Vec bool collect for format if mod requires self str unsafe unwrap""",
+        IntoIterator Ok Result Some String Sum TryFrom Vec bool collect fmt::Write for format if mod requires self str unsafe unwrap""",
     "of the kit: its words, its tactics and its std": """SomeIff agree_below agree_below_at grind ints num_traits omega refl subst
         unfoldable view_is write_str_gives""",
     "of Python": "OverflowError PYTHONPATH True TypeError ValueError datetime",
@@ -49,7 +50,7 @@ ABSENT = {
         from_isoywd from_num_days_from_ce from_weekday_of_month from_hms from_hms_milli from_hms_micro from_hms_nano
         from_num_seconds_from_midnight and_hms and_hms_milli and_hms_micro and_hms_nano NaiveDate::succ NaiveDate::pred""",
     "files and modules of chrono": "traits naive internals isoweek",
-    "gone, as the changelog says": "answer_lines push_weekday Text::push_weekday push_set push_duration",
+    "gone, as the changelog says": "caltool_form::answer_line answer_lines push_weekday Text::push_weekday push_set push_duration",
     "what the kit prints of itself": "rattle-kit logic dac8208d650f15bf",
     "words of the shell and of a line": "cd move",
     "texts and digits of a text": "P0D PT YYYY-MM-DD YYYY-DDD YYYY-Www-D hh mm ss",
@@ -67,12 +68,10 @@ NO_FILES = {
 # The crates of which docs/CALLS.md lists what is public, each under a heading that names it.
 LISTED = """chrono_text chrono_units chrono_clock chrono_calendar chrono_internals chrono_stored chrono_naive chrono_datetime
     caltool_command caltool_form caltool_dates chrono_reading calendar_c""".split()
-# The documents whose words docs/DEFINITIONS.md tells.
-WITH_WORDS = ("CALLING.md", "docs/CALLS.md", "docs/PROMISES.md", "docs/DECISIONS.md", "docs/ARCHITECTURE.md", "docs/DIFFERENCES.md")
 # Traits whose calls docs/CALLS.md says together.
 SAID_TOGETHER = ("DayForm", "CommandAnswers")
-# Modules whose parts docs/ARCHITECTURE.md does not name: those of a date-time are like those of a date, and those of the tables one each.
-NOT_TAKEN_APART = ("naive_date_time", "tables")
+# Crates of tests, and modules, whose parts docs/ARCHITECTURE.md does not name: those of a date-time are like those of a date.
+NOT_TAKEN_APART = ("chrono_tests", "chrono_rows", "caltool_tests", "naive_date_time", "tables")
 
 NAME = re.compile(r"[A-Za-z_]\w*(?:-[A-Za-z]\w*)*")
 SPAN = re.compile(r"`([^`]+)`")
@@ -105,18 +104,18 @@ def read_files():
     files = {}
     for at, folders, names in os.walk(TOP):
         folders[:] = [it for it in folders if it not in LEFT_OUT]
-        for name in names:
+        for name in (it for it in names if not it.endswith(".so")):
             with open(os.path.join(at, name), "rb") as it:
                 files[os.path.relpath(os.path.join(at, name), TOP)] = it.read().decode(errors="replace")
     return files
 
 
-def without_comments(path, text):
-    return re.sub(COMMENTS[kind_of(path)], " ", text, flags=re.S)
-
-
 def kind_of(path):
     return os.path.splitext(path)[1]
+
+
+def without_comments(path, text):
+    return re.sub(COMMENTS[kind_of(path)], " ", text, flags=re.S)
 
 
 def is_source(path):
@@ -239,12 +238,21 @@ def files(tree):
 # ---- names
 
 
+def passed_on(tree, crate):
+    """The modules of a crate, and what it makes public or passes on."""
+    uses = (it for text in modules_of(tree, crate).values() for it in re.findall(r"^pub use ([^;]*);", text, re.M))
+    return {*re.findall(r"\w+", " ".join([*modules_of(tree, crate), *uses])), *public_names(tree, crate)}
+
+
 def is_path(tree, path):
-    """Whether the names of a path belong together: in a block of the type or the trait before the last, or else in one source."""
+    """Whether the last name of a path is of the type, the trait, the crate or the module before it; else, whether a source has both."""
     owner, name = path.split("::")[-2:]
     if owner in tree.owned:
         return name in tree.owned[owner]
-    return any(names.issuperset(path.split("::")) for names in tree.sources.values())
+    if f"crates/{owner}/src/lib.rt" in tree.places:
+        return name in passed_on(tree, owner)
+    of_module = [names for source, names in tree.sources.items() if owner in re.findall(r"\w+", source)]
+    return any(names.issuperset(path.split("::")[-2:]) for names in of_module or tree.sources.values())
 
 
 def missing_names(tree):
@@ -294,12 +302,12 @@ def modules_of(tree, crate):
 
 def public_names(tree, crate):
     """What can be reached of a crate: the items of its root and of its public modules, those passed on, and those of these types."""
-    modules = modules_of(tree, crate)
-    root = modules["lib"]
-    passed = {it for use in re.findall(r"^pub use ([^;]*);", root, re.M) for it in re.findall(r"\w+", use)}
-    reached = {"lib", *re.findall(r"^pub mod (\w+);", root, re.M)}
-    found = [(module, owner, name) for module, text in modules.items() for owner, name in [*public_items(text), *calls_of_traits(text)]]
-    at_edge = {name for module, owner, name in found if not owner and (module in reached or name in passed or crate == "calendar_c")}
+    sources = modules_of(tree, crate)
+    passed = {it for use in re.findall(r"^pub use ([^;]*);", sources["lib"], re.M) for it in re.findall(r"\w+", use)}
+    # What C calls is exported by its own name, in whichever module it stands.
+    reached = set(sources) if crate == "calendar_c" else {"lib", *re.findall(r"^pub mod (\w+);", sources["lib"], re.M)}
+    found = [(module, owner, name) for module, text in sources.items() for owner, name in [*public_items(text), *calls_of_traits(text)]]
+    at_edge = {name for module, owner, name in found if not owner and (module in reached or name in passed)}
     return at_edge | {name for _, owner, name in found if owner in at_edge}
 
 
@@ -318,8 +326,8 @@ def modules(tree):
         if crate not in rows:
             yield f"docs/ARCHITECTURE.md: {crate} has no row"
         said = ["lib", *re.findall(r"\w+", " ".join(SPAN.findall(rows.get(crate, ""))))]
-        for module in modules_of(tree, crate) if crate in LISTED else []:
-            if module.split("::")[0] not in NOT_TAKEN_APART and module.split("::")[-1] not in said:
+        for module in modules_of(tree, crate):
+            if not {crate, module.split("::")[0]} & set(NOT_TAKEN_APART) and module.split("::")[-1] not in said:
                 yield f"docs/ARCHITECTURE.md: {module} of {crate} is not named"
 
 
@@ -337,9 +345,8 @@ def words(tree):
     told = {it for span, _ in spans({"": text}) for it in NAME.findall(span)}
     in_code = {it for path in tree.sources if path.endswith(".rt") for it in declared_by(".rt", without_comments(path, tree.files[path]))}
     defined = {it for crate in LISTED for it in re.findall(r"^(?:\w+ )*pub (\w+)[^\n:]* :", specs_of(tree, crate), re.M)}
-    for path in WITH_WORDS:
-        named = {it for span, _ in spans({path: tree.documents[path]}) for it in NAME.findall(span)}
-        yield from (f"{path}: {it} is not told in docs/DEFINITIONS.md" for it in sorted(named & defined - in_code - told))
+    for span, part in spans(tree.documents):
+        yield from (f"{part.path}: {it} is not told in docs/DEFINITIONS.md" for it in set(NAME.findall(span)) & defined - in_code - told)
     for section in re.split(r"^(?=## )", text, flags=re.M)[1:]:
         crates = re.findall(r"`((?:chrono|cal)\w+)`", section.partition("\n| Word")[0])
         here = set(re.findall(r"\w+", " ".join(specs_of(tree, it) for it in crates)))
@@ -365,8 +372,6 @@ def shut(tree):
 
 NUMBERS = dict(zip("one two three four five six seven eight nine ten eleven twelve thirteen fourteen".split(), range(1, 15)))
 NUMBERS |= {"twenty": 20, "thirty": 30, "forty": 40, "fifty": 50, "sixty": 60, "seventy": 70, "eighty": 80, "ninety": 90}
-
-
 # A row of CALLING.md: a question, the function that answers it, and the lines of its proof.
 CALLER = r"^\|[^|]*\| `(?P<module>\w+)::(?P<name>\w+)` \| (\d+|-) \| (\d+|-) \|"
 
@@ -428,9 +433,21 @@ def cases_of_statuses(_):
         vars(statuses).update(made)
 
 
+def length(tree, path, array):
+    """The length of an array of a source, which the compiler holds to what stands in it."""
+    return int(re.search(rf"^const {array}: \[.*; (\d+)\] =", tree.files[f"crates/{path}"], re.M)[1])
+
+
 def kinds_of_error(tree):
-    _, _, kinds = tree.files["crates/caltool_tests/src/hostile.rt"].partition("const KINDS:")
-    return len(set(re.findall(r"ErrorKind::\w+", kinds.partition("];")[0])))
+    return length(tree, "caltool_tests/src/hostile.rt", "KINDS")
+
+
+def fractions_and_moves(tree):
+    return tuple(length(tree, "chrono_tests/src/naive_time/every_second.rt", it) for it in ("FRACTIONS", "MOVES"))
+
+
+def lines_of_fuzz(tree):
+    return int(re.search(r'"--lines", type=int, default=(\w+)', tree.files["checks/fuzz.py"])[1])
 
 
 def lines_for_callers(_):
@@ -438,11 +455,11 @@ def lines_for_callers(_):
 
 
 def crates_of_caltool(_):
-    return len(set(outside.below("caltool", outside.listed_crates())) - {"num_traits"})
+    return len(outside.below("caltool", outside.listed_crates()))
 
 
 def lines_of_proof(tree, module, name):
-    """The lines of a function's proof files without imports, comments and empty lines, and all of them; a dash for none."""
+    """The lines of a function's proof files without imports, comments and empty lines, and all of them."""
     folder = f"crates/chrono_uses/proofs/{module}/{name}/"
     lines = [it for path, text in tree.files.items() if path.startswith(folder) for it in text.splitlines()]
     return len([it for it in lines if it.strip() and not re.match(r" *--|use ", it)]), len(lines)
@@ -479,6 +496,9 @@ COUNTS = [
     (r"at the ends of the types of (\d+) calls", lambda _: len(ends.CALLS)),
     (r"(\d+) cases of the program", cases_of_statuses),
     (r"each of (\d+) kinds of error", kinds_of_error),
+    (r"second of the day with (\w+) fractions and (\w+) durations", fractions_and_moves),
+    (r"refused while (\w+)\s+texts are printed", lambda _: len(memory.TEXTS)),
+    (r"([\d,]+) in each check", lines_of_fuzz),
     (r"all (\w+) commands", commands),
     (r"need (\w+) more lines", lines_for_callers),
     (r"some (\w+) small functions of\s+a user", functions_of_a_user),
@@ -524,6 +544,7 @@ PLANTED = [
     (files, "README.md", "(cd crates/caltool && rt run)", "(cd crates/calltool && rt run)"),
     (names, "CALLING.md", "`Datelike::num_days_from_ce`", "`Datelike::num_days_from_bce`"),
     (names, "CALLING.md", "`Datelike::num_days_from_ce`", "`Timelike::num_days_from_ce`"),
+    (names, "docs/DIFFERENCES.md", "`chrono_units::year`", "`chrono_units::years`"),
     (names, "docs/DEFINITIONS.md", "`is_leap_year y`", "`is_leaping_year y`"),
     (names, "docs/CALLS.md", "(`back`)", "(`beta`)"),
     (names, "README.md", "(`output`, `status`)", "(`output`, `arith`)"),
