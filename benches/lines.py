@@ -82,7 +82,7 @@ def debian_registry():
 
 
 def build_over_chrono(folder, name):
-    """Builds a program over Debian's chrono, in the folder of its name below this one; where it then lies."""
+    """Builds a program over Debian's chrono, in a folder named as from this one; where it then lies."""
     target = os.path.join(folder, "target")
     env = dict(os.environ, CARGO_TARGET_DIR=target)
     command = ["cargo", "build", "--release", "--offline", "--quiet"]

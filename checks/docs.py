@@ -40,7 +40,7 @@ ABSENT = {
     "of Rust and its std": """Box Clone Copy Default Display DoubleEndedIterator Drop Eq FromIterator FromPrimitive FromStr Hash
         IntoIterator Ok Result Some String Sum TryFrom Vec bool collect fmt::Write for format if mod requires self str unsafe unwrap""",
     "of the kit: its words, its tactics and its std": """SomeIff agree_below agree_below_at grind ints num_traits omega refl subst
-        unfoldable view_is write_str_gives""",
+        unfoldable view_is write_str_gives ensures plant must_fail checked edited rtlib""",
     "of Python": "OverflowError PYTHONPATH True TypeError ValueError datetime",
     "of C": "gmtime_r int32_t memcpy strftime strptime timegm",
     "read from the environment": "CALENDAR_FOLDER CALENDAR_LIBRARY",
@@ -55,14 +55,14 @@ ABSENT = {
     "words of the shell and of a line": "cd move",
     "texts and digits of a text": "P0D PT YYYY-MM-DD YYYY-DDD YYYY-Www-D hh mm ss",
     "an argument of a call": "stop",
-    "in the place of a name, or a part of names": "LAW condition with_ _opt",
+    "in the place of a name, or a part of names": "LAW ARGS OUT condition with_ _opt",
 }
 # Files and folders that are rightly not there, by the reason.
 NO_FILES = {
-    "left by a build": "out/libcalendar_c.a out/incremental languages/python/proved_calendar/libcalendar.so",
+    "left by a build": "out out/libcalendar_c.a out/incremental languages/python/proved_calendar/libcalendar.so",
     "of the kit": "docs/WALKS.md",
     "of the reader": "main.c",
-    "in the place of a name": "plants/MODULE.edits specs.MODULE.edits",
+    "in the place of a name": "plants/MODULE.edits specs.MODULE.edits proofs/MODULE/FUNCTION/Answers.antt",
     "an option of a compiler": "-Ilanguages/c",
 }
 # The crates of which docs/CALLS.md lists what is public, each under a heading that names it.
@@ -188,7 +188,9 @@ def is_there(name, part, places):
     if {name, f"crates/{name}", os.path.normpath(os.path.join(os.path.dirname(part.path), name))} & places:
         return True
     rooms = tuple(f"crates/{it}/" for it in crates_named(part, places))
-    if "/" in name or "." not in name:
+    if "/" not in name and "." not in name:
+        return any(re.fullmatch(rf"crates/\w+/{name}", it) for it in places)
+    if "/" in name:
         return any(f"{it}{name}" in places for it in rooms)
     return any(it.endswith(f"/{name}") and (it.startswith(rooms) or not it.startswith("crates/")) for it in places)
 
@@ -218,7 +220,7 @@ def missing_files(tree):
     given |= {it[: slash.start()] for it in given for slash in re.finditer("/", it)}
     for name, part in named_places(tree.documents):
         if name not in given and not is_there(name, part, tree.places):
-            yield part.path, name
+            yield part.path, os.path.normpath(name)
 
 
 def files(tree):
@@ -484,6 +486,7 @@ COUNTS = [
     (r"(\d+) are plants", plants_in),
     (r"(\d+) of them turn a\s+definition", wrong_definitions),
     (r"(\d+) of them wrong definitions", wrong_definitions),
+    (r"(\d+) planted edits each turn a definition", wrong_definitions),
     (r"(\w+) edits carry a right body", twins),
     (r"finds (\d+) wrong bodies planted", lambda _: len(rules.PLANTED)),
     (r"(\w+) (?:cases|arms) or\s+more", lambda _: rules.MANY),
