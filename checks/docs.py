@@ -472,6 +472,22 @@ def lines_of_callers(tree):
     return tuple(map(sum, zip(*each)))
 
 
+def lines_in(texts):
+    return sum(bool(it.strip()) for text in texts for it in text.splitlines())
+
+
+def lines_of_all_specs(tree):
+    """The lines of all specs that are not empty, in hundreds."""
+    return round(lines_in(text for path, text in tree.files.items() if re.fullmatch(r"crates/\w+/specs/.*\.antt", path)), -2)
+
+
+def lines_of_specs(tree, those):
+    """The lines that are not empty, of the files and folders that code spans name; of a folder without its list of modules."""
+    named = "|".join(re.escape(it.removesuffix(".antt").strip("/")) for it in SPAN.findall(those))
+    inside = re.compile(rf"crates/(\w+/specs/)?({named})(/(?!Lib\b)\w+)?\.antt")
+    return lines_in(text for path, text in tree.files.items() if "/specs/" in path and inside.fullmatch(path))
+
+
 def callers(tree):
     return len(re.findall(CALLER, tree.documents["CALLING.md"], re.M))
 
@@ -507,6 +523,8 @@ COUNTS = [
     (r"some (\w+) small functions of\s+a user", functions_of_a_user),
     (r"the (\w+) crates that `caltool` is made of", crates_of_caltool),
     (r"([\d,]+) days of (?:its )?`datetime`", lambda _: datetime.date.max.toordinal()),
+    (r"some ([\d,]+) lines in the `specs/` folders", lines_of_all_specs),
+    (r"^\| (?P<those>`\w+/specs/[^|]*) \| (\d+) \|", lines_of_specs),
     (r"^## (\w+) callers", callers),
     (CALLER, lines_of_proof),
     (r"^\| all \| \| (\d+) \| (\d+) \|", lines_of_callers),
@@ -553,6 +571,7 @@ PLANTED = [
     (names, "README.md", "(`output`, `status`)", "(`output`, `arith`)"),
     (counts, "README.md", "the prover refuse ", "the prover refuse 1"),
     (counts, "README.md", " wrong bodies (`must-fail/`", " bodies (`must-fail/`"),
+    (counts, "docs/TRUST.md", "/specs/Years.antt` | ", "/specs/Years.antt` | 1"),
     (counts, "README.md", "all fourteen commands", "all thirteen commands"),
     (counts, "docs/CALTOOL.md", "| `wom ", "| `wmo "),
     (counts, "CALLING.md", "`questions::mondays_walked` | ", "`questions::mondays_walked` | 1"),
