@@ -571,7 +571,7 @@ PLANTED = [
     (names, "README.md", "(`output`, `status`)", "(`output`, `arith`)"),
     (counts, "README.md", "the prover refuse ", "the prover refuse 1"),
     (counts, "README.md", " wrong bodies (`must-fail/`", " bodies (`must-fail/`"),
-    (counts, "docs/TRUST.md", "/specs/Years.antt` | ", "/specs/Years.antt` | 1"),
+    (counts, "docs/TRUST.md", "Years.antt` | ", "Years.antt` | 1"),
     (counts, "README.md", "all fourteen commands", "all thirteen commands"),
     (counts, "docs/CALTOOL.md", "| `wom ", "| `wmo "),
     (counts, "CALLING.md", "`questions::mondays_walked` | ", "`questions::mondays_walked` | 1"),
