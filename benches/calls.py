@@ -1,5 +1,5 @@
 #!/usr/bin/env python3
-"""Measures single calls of the calendar beside the same calls of chrono, in one run, as ratios.
+"""Measures single calls of the calendar beside the same calls of chrono, in one run: how many times as fast ours are.
 
     benches/calls.py [COUNT]        (20 million if left out)
 
@@ -111,14 +111,14 @@ def all_runs(ours, chrono):
 
 
 def row(best, call, count):
-    """The line of a call: nanoseconds of a call by each, and how often the time of another goes into ours."""
+    """The line of a call: nanoseconds of a call by each, and how often our time goes into that of another."""
 
     def of(who):
         base = "chrono" if who in ("chrono", "formula") else "ours"
         return (best[call, who] - best["none", base]) / count * 1e9 if (call, who) in best else None
 
     def ratio(who, other):
-        return f"{of(who) / of(other):.2f}" if of(who) is not None and of(other) and of(other) >= 0.1 else ""
+        return f"{of(other) / of(who):.2f}" if of(other) is not None and of(who) and of(who) >= 0.1 else ""
 
     times = [f"{of(who):.2f}" if of(who) is not None else "" for who in ("chrono", "ours", "counted", "packed", "formula")]
     ratios = [ratio("ours", "chrono"), ratio("counted", "chrono"), ratio("packed", "chrono"), ratio("ours", "formula")]
@@ -131,7 +131,7 @@ def main():
         runs = list(all_runs(CHRONO_SUMS, build_over_chrono(folder, "chrono_timed")))
         compare_sums(runs)
         best = best_times(runs, count)
-    print(f"{count} calls of each, in nanoseconds a call, and times by those of chrono (the last column: of the bare formula)\n")
+    print(f"{count} calls of each, in nanoseconds a call, and how many times as fast as chrono's ours are (last: as the bare formula)\n")
     print("| Call | chrono | `NaiveDate` | `CountedForm` | `PackedForm` | formula | ours | counted | packed | by formula |")
     print("|---|---|---|---|---|---|---|---|---|---|")
     for call in [*OF_DATES, *OTHERS]:

@@ -38,11 +38,11 @@ COMMENTS = {".rt": r"//[^\n]*", ".rs": r"//[^\n]*", ".antt": r"--[^\n]*", ".c": 
 # Names that no source declares, by the reason.
 ABSENT = {
     "of Rust and its std": """Box Clone Copy Default Display DoubleEndedIterator Drop Eq FromIterator FromPrimitive FromStr Hash
-        IntoIterator Ok Result Some String Sum TryFrom Vec bool collect fmt::Write for format if mod requires self str unsafe unwrap""",
+        IntoIterator Ok Result Some String Sum TryFrom Vec collect fmt::Write for format if mod requires self str unsafe unwrap""",
     "of the kit: its words, its tactics and its std": """SomeIff agree_below agree_below_at grind ints num_traits omega refl subst
         unfoldable view_is write_str_gives ensures plant must_fail checked edited rtlib""",
     "of Python": "OverflowError PYTHONPATH True TypeError ValueError datetime",
-    "of C": "gmtime_r int32_t memcpy strftime strptime timegm",
+    "of C": "int32_t memcpy",
     "read from the environment": "CALENDAR_FOLDER CALENDAR_LIBRARY",
     "of chrono, and left out here": """parse_from_str parse_and_remainder ParseMonthError ParseWeekdayError format_with_items
         format_localized format_localized_with_items and_utc and_local_timezone checked_add_offset checked_sub_offset FixedOffset
@@ -50,10 +50,10 @@ ABSENT = {
         from_isoywd from_num_days_from_ce from_weekday_of_month from_hms from_hms_milli from_hms_micro from_hms_nano
         from_num_seconds_from_midnight and_hms and_hms_milli and_hms_micro and_hms_nano NaiveDate::succ NaiveDate::pred""",
     "files and modules of chrono": "traits naive internals isoweek",
-    "gone, as the changelog says": "caltool_form::answer_line answer_lines push_weekday Text::push_weekday push_set push_duration",
     "what the kit prints of itself": "rattle-kit logic dac8208d650f15bf",
-    "words of the shell and of a line": "cd move",
-    "texts and digits of a text": "P0D PT YYYY-MM-DD YYYY-DDD YYYY-Www-D hh mm ss",
+    "words of the shell and of a line": "cd echo move",
+    "digits of a number": "_294_967_297 _611_686_018_427_387",
+    "texts and digits of a text": "P0D PT PT59M59 YYYY-MM-DD YYYY-DDD YYYY-Www-D hh mm ss",
     "an argument of a call": "stop",
     "in the place of a name, or a part of names": "LAW ARGS OUT condition with_ _opt",
 }
@@ -63,7 +63,6 @@ NO_FILES = {
     "of the kit": "docs/WALKS.md",
     "of the reader": "main.c",
     "in the place of a name": "plants/MODULE.edits specs.MODULE.edits proofs/MODULE/FUNCTION/Answers.antt",
-    "an option of a compiler": "-Ilanguages/c",
 }
 # The crates of which docs/CALLS.md lists what is public, each under a heading that names it.
 LISTED = """chrono_text chrono_units chrono_clock chrono_calendar chrono_internals chrono_stored chrono_naive chrono_datetime
@@ -495,13 +494,10 @@ def callers(tree):
 # What counts the numbers of a text that fits the pattern; the groups that are named say of what.
 COUNTS = [
     (r"(\d+) wrong bodies \(`must-fail/`", edits_in),
-    (r"[Tt]he gate tries (\d+) edits", edits_in),
     (r"^\| all \| \d+ \| \d+ \| (\d+) \|", edits_in),
     (r"^\| `(?P<crate>\w+)` \| \d+ \| *\d* *\| *(\d*) *\|", edits_in),
     (r"(\d+) more \(`plants/`\)", plants_in),
-    (r"(\d+) are plants", plants_in),
     (r"(\d+) of them turn a\s+definition", wrong_definitions),
-    (r"(\d+) of them wrong definitions", wrong_definitions),
     (r"(\d+) planted edits each turn a definition", wrong_definitions),
     (r"(\w+) edits carry a right body", twins),
     (r"finds (\d+) wrong bodies planted", lambda _: len(rules.PLANTED)),
@@ -568,9 +564,9 @@ PLANTED = [
     (names, "docs/DIFFERENCES.md", "`chrono_units::year`", "`chrono_units::years`"),
     (names, "docs/DEFINITIONS.md", "`is_leap_year y`", "`is_leaping_year y`"),
     (names, "docs/CALLS.md", "(`back`)", "(`beta`)"),
-    (names, "README.md", "(`output`, `status`)", "(`output`, `arith`)"),
-    (counts, "README.md", "the prover refuse ", "the prover refuse 1"),
-    (counts, "README.md", " wrong bodies (`must-fail/`", " bodies (`must-fail/`"),
+    (names, "docs/PROMISES.md", "(`output`, `status`)", "(`output`, `arith`)"),
+    (counts, "docs/PROMISES.md", "the prover refuse ", "the prover refuse 1"),
+    (counts, "docs/PROMISES.md", " wrong bodies (`must-fail/`", " bodies (`must-fail/`"),
     (counts, "docs/TRUST.md", "Years.antt` | ", "Years.antt` | 1"),
     (counts, "README.md", "all fourteen commands", "all thirteen commands"),
     (counts, "docs/CALTOOL.md", "| `wom ", "| `wmo "),
