@@ -12,8 +12,8 @@ A file of edits holds those of one source module: a line `file: src/PATH`, and t
 A twin is a right body in the shape of a wrong one: a line `same: TEXT` behind a line `new: TEXT`, put in the same place. Where it is proved,
 the wrong body is refused for what it means, and not for its shape.
 
-To be run before a release, and in a crate whenever one of its contracts changes. It works on a copy of what is committed,
-below $TMPDIR, in which the plants stand where the kit's own `rt must-fail` looks for edits. A crate is built in the copy before
+To be run before a release, and in a crate whenever one of its contracts changes. Edits in the bodies of different functions are tried in one check, as
+tools/rounds.py says, and all others as the kit's own `rt must-fail` tries them. It works on a copy of what is committed, below $TMPDIR. A crate is built in the copy before
 its edits are tried, since an edit of a crate that is not proved would be refused for no fault of its own; libraries that the
 work tree has built of the same sources are taken from there.
 What is not refused is printed, then a count and the processor seconds by crate; the exit status is 0 if each edit is refused.
@@ -22,14 +22,18 @@ import argparse
 import concurrent.futures
 import os
 import re
+import resource
 import shutil
 import subprocess
 import sys
 import tempfile
 
 from gate import copy_of_head, load_rt
+from rounds import Sources, rounds_of, refused_in, texts_with
 
 TOP = os.path.dirname(os.path.dirname(os.path.abspath(__file__)))
+# One processor for each check.
+FLAGS = ["--jobs", "1"]
 # Of an edit that took away a name which a proof file cites: refused, but not for what it means.
 FOR_A_NAME = re.compile(r"refused, as it must be \(only because a proof file names|proofs/\S+: error: `[^`]*`: (`goal\.|record `)")
 
@@ -45,6 +49,13 @@ def edits_of(path):
         if not re.fullmatch(r"name: \w+", name) or not edit:
             sys.exit(f"{path}: an edit has to begin with `name: NAME`, and not with {name!r}")
         yield name.removeprefix("name: "), f"{module}\n{edit}\n"
+
+
+def edits_at(folder):
+    """The edits that stand in a folder, by name."""
+    for name in sorted(os.listdir(folder)) if os.path.isdir(folder) else []:
+        with open(f"{folder}/{name}", encoding="utf-8") as it:
+            yield name.removesuffix(".edit"), it.read()
 
 
 def put_in_place(folder, with_edits):
@@ -91,39 +102,52 @@ def twin_of(edit):
 
 def twins_in(folder):
     """The twins of the edits that stand in must-fail/ of a crate of the copy, by name."""
-    edits, found = f"{folder}/must-fail", {}
-    for name in sorted(os.listdir(edits)) if os.path.isdir(edits) else []:
-        with open(f"{edits}/{name}", encoding="utf-8") as it:
-            twin = twin_of(it.read())
-        if twin:
-            found[name.removesuffix(".edit")] = twin
-    return found
+    twins = ((name, twin_of(edit)) for name, edit in edits_at(f"{folder}/must-fail"))
+    return {name: twin for name, twin in twins if twin}
 
 
 def try_twins(rt, crate, twins):
     """Checks a crate with each twin; how many were proved, and what is to be said of the others."""
-    flags, said = ["--jobs", "1"], []
+    said = []
     with tempfile.TemporaryDirectory(prefix="twins-") as kept:
-        rt.checked(crate, {}, flags, kept)
+        rt.checked(crate, {}, FLAGS, kept)
         for name, twin in twins.items():
             texts, why = rt.edited(twin, crate.folder)
-            ran = None if why else rt.checked(crate, texts, flags, kept)
+            ran = None if why else rt.checked(crate, texts, FLAGS, kept)
             if why or ran.returncode:
                 errors = why or next((it for it in ran.stdout.splitlines() if ": error" in it), ran.stdout[-300:])
                 said.append(f"twin {crate.name}/{name}: NOT PROVED: {errors}")
     return len(twins) - len(said), said
 
 
-def try_crate(copy, name, count):
-    """Tries the edits of a crate; how many were refused, the processor seconds, and what is to be said."""
-    status, printed, used = run(["rt", "must-fail", name], copy)
-    told = re.split(r"^(?:rt: )?(?=must-fail )", printed, flags=re.M)[1:]
-    refused = [it for it in told if ": refused, as it must be" in it]
-    said = [it.rstrip() for it in told if it not in refused]
-    said += [it.rstrip() for it in refused if FOR_A_NAME.search(it)]
-    if len(refused) < count and not said or status and len(refused) == count:
-        said.append(f"{name}: rt must-fail ended with status {status}: {printed[-600:]}")
-    return len(refused) if not status else min(len(refused), count - 1), used, said
+def try_rounds(rt, crate, rounds, kept):
+    """Tries the edits of each round together; the names of those refused, and those of them refused for a lost name alone."""
+    sources, edits, refused = Sources(crate.folder), dict(edits_at(f"{crate.folder}/must-fail")), {}
+    for functions in rounds:
+        texts = texts_with([edits[it] for it in functions], sources)
+        ran = rt.checked(crate, texts, FLAGS, kept)
+        if ran.returncode == 1 and ran.stdout.rstrip().endswith("logic=not-proved"):
+            refused |= refused_in(ran.stdout, functions)
+    return refused
+
+
+def try_crate(copy, name):
+    """Tries the edits of a crate, in rounds and what is left of them alone; how many were refused, the processor seconds, and what is to be said."""
+    rt, said = load_rt(), []
+    crate = next(it for it in rt.rtlib.crates_below(copy) if it.name == name)
+    edits = dict(edits_at(f"{crate.folder}/must-fail"))
+    rounds, alone = rounds_of(edits.items(), name, Sources(crate.folder))
+    with tempfile.TemporaryDirectory(prefix="plants-kept-") as kept:
+        if rt.checked(crate, {}, FLAGS, kept).returncode:
+            return 0, 0, [f"{name} is not proved, so no edit of it was tried"]
+        refused = try_rounds(rt, crate, rounds, kept)
+        said += [f"{name}/{it}: refused, but only because a proof file names what the edit took away" for it, lost in refused.items() if lost]
+        for it in [*alone, *(it for each in rounds for it in each if it not in refused)]:
+            well, text = rt.must_fail(crate, f"{crate.folder}/must-fail/{it}.edit", FLAGS, kept)
+            refused |= {it: False} if well else {}
+            said += [text] if not well or FOR_A_NAME.search(text) else []
+    used = resource.getrusage(resource.RUSAGE_CHILDREN)
+    return len(refused), used.ru_utime + used.ru_stime, said
 
 
 def build(copy, crates, names):
@@ -150,16 +174,15 @@ def try_all_twins(rt, crates, twins, jobs):
 
 
 def try_all_edits(copy, tried, jobs):
-    """Tries the edits of all crates; the exit status."""
-    with concurrent.futures.ThreadPoolExecutor(jobs) as pool:
-        found = dict(zip(tried, pool.map(lambda it: try_crate(copy, *it), tried.items())))
-    for _, _, said in found.values():
-        for text in said:
-            print(text)
-    for name, (refused, used, _) in found.items():
-        print(f"{name}: {refused} of {tried[name]} refused, {used:.0f} processor seconds")
-    refused, used = (sum(it[part] for it in found.values()) for part in (0, 1))
-    print(f"{refused} passed, {sum(tried.values()) - refused} failed, {used:.0f} processor seconds")
+    """Tries the edits of all crates, each in a process of its own; the exit status."""
+    refused = seconds = 0
+    with concurrent.futures.ProcessPoolExecutor(jobs, max_tasks_per_child=1) as pool:
+        for name, found in zip(tried, pool.map(try_crate, [copy] * len(tried), tried)):
+            for text in found[2]:
+                print(text)
+            print(f"{name}: {found[0]} of {tried[name]} refused, {found[1]:.0f} processor seconds", flush=True)
+            refused, seconds = refused + found[0], seconds + found[1]
+    print(f"{refused} passed, {sum(tried.values()) - refused} failed, {seconds:.0f} processor seconds")
     return 1 if refused < sum(tried.values()) else 0
 
 
