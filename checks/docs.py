@@ -50,7 +50,7 @@ ABSENT = {
         from_isoywd from_num_days_from_ce from_weekday_of_month from_hms from_hms_milli from_hms_micro from_hms_nano
         from_num_seconds_from_midnight and_hms and_hms_milli and_hms_micro and_hms_nano NaiveDate::succ NaiveDate::pred""",
     "files and modules of chrono": "traits naive internals isoweek",
-    "what the kit prints of itself": "rattle-kit logic dac8208d650f15bf",
+    "what the kit prints of itself": "rattle-kit dac8208d650f15bf",
     "words of the shell and of a line": "cd echo move",
     "digits of a number": "_294_967_297 _611_686_018_427_387",
     "texts and digits of a text": "P0D PT PT59M59 YYYY-MM-DD YYYY-DDD YYYY-Www-D hh mm ss",
