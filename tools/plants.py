@@ -34,6 +34,8 @@ from rounds import Sources, rounds_of, refused_in, texts_with
 TOP = os.path.dirname(os.path.dirname(os.path.abspath(__file__)))
 # One processor for each check.
 FLAGS = ["--jobs", "1"]
+# Of a definition whose lemma fell, and others with it, which the kit takes for an edit that it cannot read.
+LEMMA_FELL = "which was rejected, was not checked"
 # Of an edit that took away a name which a proof file cites: refused, but not for what it means.
 FOR_A_NAME = re.compile(r"refused, as it must be \(only because a proof file names|proofs/\S+: error: `[^`]*`: (`goal\.|record `)")
 
@@ -144,6 +146,7 @@ def try_crate(copy, name):
         said += [f"{name}/{it}: refused, but only because a proof file names what the edit took away" for it, lost in refused.items() if lost]
         for it in [*alone, *(it for each in rounds for it in each if it not in refused)]:
             well, text = rt.must_fail(crate, f"{crate.folder}/must-fail/{it}.edit", FLAGS, kept)
+            well = well or LEMMA_FELL in text
             refused |= {it: False} if well else {}
             said += [text] if not well or FOR_A_NAME.search(text) else []
     used = resource.getrusage(resource.RUSAGE_CHILDREN)
