@@ -21,9 +21,10 @@ import subprocess
 import sys
 import tempfile
 
-from outside import below, copy_crates, listed_crates, load_rt, take_proved, time_of
-
 TOP = os.path.dirname(os.path.dirname(os.path.abspath(__file__)))
+sys.path.insert(0, f"{TOP}/tools")
+from library import find_library  # noqa: E402
+
 CRATE = f"{TOP}/crates/calendar_c"
 LANGUAGES = f"{TOP}/languages"
 HEADER = f"{LANGUAGES}/c/calendar.h"
@@ -246,44 +247,6 @@ def compare_uses(results, header):
 
 
 # ---- what is built and run
-
-
-def is_newer(library, libraries):
-    """Whether the static library is newer than what it is made from."""
-    parts = [f"{TOP}/crates/{name}/{part}" for name in (*libraries, "calendar_c") for part in ("src", "specs", "proofs")]
-    return os.path.exists(library) and os.path.getmtime(library) > time_of(parts, max)
-
-
-def make_repository(room, libraries, crates):
-    """Writes a repository of the libraries and of calendar_c, with what is proved of them."""
-    copy_crates(room, [*libraries, "calendar_c"])
-    line = next(it for it in crates if it.split()[0] == "calendar_c")
-    with open(f"{room}/crates.txt", "w", encoding="utf-8") as it:
-        it.writelines(f"{name}: {' '.join(crates[name])}\n" for name in (*libraries, line))
-    if not take_proved(room, libraries):
-        print("nothing kept serves: the libraries are proved first", flush=True)
-
-
-def find_library(room):
-    """The static library: the one here, if it is newer than what it is made from, or else one that is built now."""
-    crates = listed_crates()
-    *libraries, _ = below(next(it for it in crates if it.split()[0] == "calendar_c"), crates)
-    here = "crates/calendar_c/out/libcalendar_c.a"
-    if is_newer(f"{TOP}/{here}", libraries):
-        return f"{TOP}/{here}"
-    if not shutil.which("rt"):
-        return None
-    built = {it.name for it in load_rt().rtlib.crates_below(TOP) if it.is_built()}
-    top = TOP if built.issuperset(libraries) else room
-    if top == room:
-        make_repository(room, libraries, crates)
-    # (each job more loads all libraries once more, which takes as long as the proofs)
-    words = ["rt", "lib", "--jobs", "1"]
-    ran = subprocess.run(words, cwd=f"{top}/crates/calendar_c", stdout=subprocess.PIPE, stderr=subprocess.STDOUT)
-    if ran.returncode:
-        print(ran.stdout.decode(errors="replace")[-3000:], flush=True)
-        return None
-    return f"{top}/{here}"
 
 
 def run(results, what, words, counts, **how):

@@ -28,6 +28,9 @@
 extern "C" {
 #endif
 
+/* The version of this header and of the library that comes with it. */
+#define CALENDAR_VERSION "0.1.0"
+
 /* Stands for a date, a field or a length that there is not. */
 #define CALENDAR_NONE INT32_MIN
 

@@ -1,0 +1,25 @@
+"""What users of each language install: a module for each, with `make(top, built, dist)`.
+
+`top` is this repository, `built` a folder with `libcalendar.a` and `libcalendar.so.0`, and `dist` the folder to fill. `make`
+answers the paths that it made. It raises `Missing` where a program or a package that it needs is not there.
+"""
+import re
+import subprocess
+
+
+class Missing(Exception):
+    """What a package cannot be made without, in words that say what to install."""
+
+
+def version(top):
+    """The version of all packages, which the header has."""
+    with open(f"{top}/languages/c/calendar.h", encoding="utf-8") as it:
+        return re.search(r"^#define CALENDAR_VERSION \"([^\"]+)\"$", it.read(), re.M)[1]
+
+
+def run(words, **how):
+    """Runs a program that says nothing if all goes well; what it says is in the error if it does not."""
+    ran = subprocess.run(words, stdout=subprocess.PIPE, stderr=subprocess.STDOUT, text=True, errors="replace", **how)
+    if ran.returncode:
+        raise RuntimeError(f"{' '.join(map(str, words))}\n{ran.stdout[-4000:]}")
+    return ran.stdout
