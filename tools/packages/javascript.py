@@ -5,12 +5,14 @@ of the libraries below: a repository has one kind of each crate. It is kept besi
 changes.
 """
 import base64
+import json
 import os
 import re
 import shutil
 import subprocess
 import sys
 import tempfile
+import urllib.parse
 
 from . import Missing, version
 
@@ -76,21 +78,22 @@ def module(top):
         return it.read()
 
 
-def joined(texts):
-    """Some modules as one: without the lines that import from one another, and with no export."""
-    text = "\n".join(texts)
-    text = re.sub(r"^import\b[^;]*;\n", "", text, flags=re.M)
-    text = re.sub(r"^export \{[^;]*;\n", "", text, flags=re.M)
-    return re.sub(r"^export ", "", text, flags=re.M)
+def address(text):
+    """A module as an address that holds it, which imports other modules by their names."""
+    text = re.sub(r"(?<=from )\"\.[./a-z]*/(\w+)\.js\"", r'"\1"', text)
+    return "data:text/javascript;charset=utf-8," + urllib.parse.quote(text, safe=" ,;:/?@&=+$!*'()[]{}|^`<>~")
 
 
 def page_of(folder, module_text):
     """The page with its styles and all modules inside, so that it is one file that a browser opens from anywhere."""
-    texts = [module_text, *(read(f"{folder}/src/{it}.js") for it in SOURCES), *(read(f"{folder}/page/{it}.js") for it in PAGE)]
+    texts = {"module": module_text, **{it: read(f"{folder}/src/{it}.js") for it in SOURCES}}
+    texts.update({it: read(f"{folder}/page/{it}.js") for it in PAGE})
+    listed = json.dumps({"imports": {name: address(text) for name, text in texts.items()}}, indent=1)
+    scripts = f'  <script type="importmap">\n{listed}\n  </script>\n  <script type="module">import "page";</script>\n'
     page = read(f"{folder}/page/index.html")
     for line, made in (
         ('  <link rel="stylesheet" href="page.css">\n', f"  <style>\n{read(f'{folder}/page/page.css')}  </style>\n"),
-        ('  <script type="module" src="page.js"></script>\n', f'  <script type="module">\n{joined(texts)}  </script>\n'),
+        ('  <script type="module" src="page.js"></script>\n', scripts),
     ):
         if page.count(line) != 1:
             raise RuntimeError(f"page/index.html has no single line {line.strip()}")
