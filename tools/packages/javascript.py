@@ -101,20 +101,29 @@ def page_of(folder, module_text):
     return page
 
 
-def make(top, built, dist):
-    """Makes javascript/proved-calendar, which npm and node take as a folder, and javascript/page.html; their paths."""
-    folder, package = f"{top}/languages/javascript", f"{dist}/javascript/proved-calendar"
-    bytes_of_module = module(top)
+def module_text_of(bytes_of_module):
+    """The module as one of JavaScript, which no host has to fetch."""
     text = base64.b64encode(bytes_of_module).decode()
-    module_text = f'/** The module, which `rt lib` makes of the proved functions: {len(bytes_of_module):,} bytes. */\nexport const MODULE =\n  "{text}";\n'
+    return f'/** The proved functions, as `rt lib` builds them: {len(bytes_of_module):,} bytes. */\nexport const MODULE =\n  "{text}";\n'
+
+
+def make_package(top, folder, bytes_of_module, package):
+    """Makes a package of the wrapper in a folder; its path."""
     shutil.rmtree(package, ignore_errors=True)
     for name in SOURCES:
         write(f"{package}/src/{name}.js", read(f"{folder}/src/{name}.js"))
-    write(f"{package}/src/module.js", module_text)
+    write(f"{package}/src/module.js", module_text_of(bytes_of_module))
     for name in ("README.md", "index.d.ts", "package.json"):
         write(f"{package}/{name}", read(f"{folder}/{name}"))
     for name in ("LICENSE-APACHE", "LICENSE-MIT"):
         write(f"{package}/{name}", read(f"{top}/{name}"))
-    if f'"version": "{version(top)}"' not in read(f"{package}/package.json"):
+    return package
+
+
+def make(top, built, dist):
+    """Makes javascript/proved-calendar, which npm and node take as a folder, and javascript/page.html; their paths."""
+    folder, bytes_of_module = f"{top}/languages/javascript", module(top)
+    if f'"version": "{version(top)}"' not in read(f"{folder}/package.json"):
         raise RuntimeError(f"languages/javascript/package.json has another version than calendar.h, {version(top)}")
-    return [package, write(f"{dist}/javascript/page.html", page_of(folder, module_text))]
+    package = make_package(top, folder, bytes_of_module, f"{dist}/javascript/proved-calendar")
+    return [package, write(f"{dist}/javascript/page.html", page_of(folder, module_text_of(bytes_of_module)))]

@@ -92,11 +92,10 @@
       exactUnit: among("auto", "day", "hours", "minute", "seconds", "millisecond"), durationField: among(...UNITS, "sign", "blank"),
     };
     // (a leap second is a second of its own here, and 59 for Temporal)
-    given.number = given.part === "year" || given.clock === "second" ? draw(60) : among(draw(13), draw(40), draw(1_100));
-    given.number = given.clock === "second" && given.number === 60 ? 59 : given.number;
+    given.number = given.clock === "second" ? draw(60) : among(draw(13), draw(40), draw(1_100));
     const sampled = answered(() => Temporal.PlainDate.from(given.date));
     given.text = texts(sampled.includes("-") ? sampled : "2024-02-29");
-    given.clockText = `${among("12:34:56", "00:00:00", "23:59:59", "24:00:00", "12:60:00")}${among("", ".5", ".123456789", ".000000001", ",25".replace(",", "."), ".")}`;
+    given.clockText = `${among("12:34:56", "00:00:00", "23:59:59", "24:00:00", "12:60:00")}${among("", ".5", ".123456789", ".000000001", ".250", ".")}`;
     given.durationText = texts(`${Temporal.Duration.from(given.duration)}`);
     if (isBeyond(given.date) || isBeyond(given.other)) {
       continue;
@@ -108,7 +107,7 @@
       if (ours === theirs) {
         alike += 1;
       } else if (!isEnd && differ.length < 20) {
-        differ.push(`${call}: ${JSON.stringify(given, (_, it) => it)}: here ${ours}, Temporal ${theirs}`);
+        differ.push(`${call}: ${JSON.stringify(given)}: here ${ours}, Temporal ${theirs}`);
       }
     }
   }

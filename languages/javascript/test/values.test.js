@@ -53,7 +53,7 @@ test("durations", () => {
   for (const text of ["", "P", "PT", "P1", "1D", "P1DT", "P1.5D", "P1H", "PT1.1234567890S", "P4294967296Y", "PT9007199254740992S", "P-1D"]) {
     refused(() => Duration.from(text));
   }
-  for (const fields of [{ days: 1, hours: -1 }, { days: 1.5 }, { days: NaN }, { months: 2 ** 32 }, { seconds: 2 ** 53 }]) {
+  for (const fields of [{ days: 1, hours: -1 }, { days: 1.5 }, { days: NaN }, { months: 2 ** 32 }, { seconds: 2 ** 53 }, { seconds: -(2 ** 53) }]) {
     refused(() => Duration.from(fields));
   }
   for (const item of [{}, null, 7, { day: 1 }]) {
