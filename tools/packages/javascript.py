@@ -17,7 +17,8 @@ import urllib.parse
 from . import Missing, version
 
 CRATE = "calendar_c"
-KEPT = f"crates/{CRATE}/out/{CRATE}.wasm"
+# (`rt lib` of the static library takes away a module of the crate's own name)
+KEPT = f"crates/{CRATE}/out/calendar.wasm"
 SOURCES = ("numbers", "texts", "library", "duration", "plain_date", "plain_date_time", "index")
 PAGE = ("answers", "parts", "page")
 
