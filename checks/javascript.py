@@ -1,0 +1,384 @@
+#!/usr/bin/env python3
+"""Holds the package for JavaScript to what it is made of, and its page to caltool.
+
+    checks/javascript.py
+
+The package is made as `tools/dist javascript` makes it, in a temporary folder. The exports of its module have to be those of
+calendar.h, each called by the wrapper and with a test of its name. In a project of its own, to which the package is put as npm puts
+it, node runs the tests, the example of the README and, where there is a tsc, a file of types. Ten wrong lines are then planted in
+the wrapper, one at a time, and the tests have to fail on each.
+
+In a headless Chromium the package is compared with the browser's own Temporal, and the page is used as a user uses it: lines are
+typed and their answers compared with those of caltool (the program, if it is built, or else the calendar of checks/fuzz.py); months,
+distances and rows of dates are compared with Python's datetime and with the calendar that counts (checks/counted.py); what can be
+reached by the keyboard has to have a name that a screen reader reads; nothing may be wider than a narrow screen, and texts have to stand
+out from what is behind them, in light and in dark.
+"""
+import datetime
+import json
+import os
+import random
+import re
+import shutil
+import subprocess
+import sys
+import tempfile
+
+import chromium
+import counted
+import fuzz
+from wrong_lines import edits, planted
+
+TOP = os.path.dirname(os.path.dirname(os.path.abspath(__file__)))
+sys.path.insert(0, f"{TOP}/tools")
+import packages  # noqa: E402
+from packages import javascript  # noqa: E402
+
+FOLDER = f"{TOP}/languages/javascript"
+MONTHS = "January February March April May June July August September October November December".split()
+WEEKDAYS = "Monday Tuesday Wednesday Thursday Friday Saturday Sunday".split()
+
+
+class Results:
+    """What passed and failed."""
+
+    def __init__(self):
+        self.passed, self.failed = 0, 0
+
+    def count(self, is_right, what):
+        """Counts a fact, and tells of it if it does not hold."""
+        if is_right:
+            self.passed += 1
+        else:
+            self.failed += 1
+            print(f"FAILED: {what}", flush=True)
+
+    def equal(self, found, wanted, what):
+        """Counts whether what was found is what was wanted."""
+        self.count(found == wanted, f"{what}: {found!r}, and it has to be {wanted!r}")
+
+
+def read(path):
+    with open(path, encoding="utf-8") as it:
+        return it.read()
+
+
+# ---- in node
+
+
+def node_words():
+    """Node, with the flag that its versions before 24 need for 64-bit memories."""
+    told = subprocess.run(["node", "--version"], check=True, capture_output=True, text=True).stdout
+    return ["node", *["--experimental-wasm-memory64"] * (int(re.match(r"v(\d+)", told)[1]) < 24)]
+
+
+def make_project(room, package):
+    """A project that has the package as npm puts it, and the tests."""
+    shutil.rmtree(room, ignore_errors=True)
+    shutil.copytree(package, f"{room}/node_modules/proved-calendar")
+    shutil.copytree(f"{FOLDER}/test", f"{room}/test")
+    with open(f"{room}/package.json", "w", encoding="utf-8") as it:
+        it.write('{ "type": "module", "private": true }\n')
+    return room
+
+
+def run_tests(project):
+    """Runs the tests in a project: what passed and failed, and what was printed."""
+    names = [f"test/{it}" for it in sorted(os.listdir(f"{project}/test")) if it.endswith(".test.js")]
+    ran = subprocess.run(
+        [*node_words(), "--test", *names], cwd=project, stdout=subprocess.PIPE, stderr=subprocess.STDOUT, text=True, timeout=120
+    )
+    passed, failed = (sum(int(it) for it in re.findall(rf"^# {name} (\d+)$", ran.stdout, re.M)) for name in ("pass", "fail"))
+    return passed, failed or int(ran.returncode != 0 or not passed), ran.stdout
+
+
+def compare_exports(results, module):
+    """The module has the functions of calendar.h, and imports nothing; each is called by the wrapper, and has a test of its name."""
+    script = "const m = new WebAssembly.Module(require('fs').readFileSync(process.argv[1]));"
+    script += "console.log(JSON.stringify([WebAssembly.Module.imports(m), WebAssembly.Module.exports(m)]))"
+    with tempfile.NamedTemporaryFile(suffix=".wasm") as it:
+        it.write(module)
+        it.flush()
+        ran = subprocess.run([*node_words(), "-e", script, it.name], check=True, capture_output=True, text=True)
+    imports, exports = json.loads(ran.stdout)
+    results.equal(imports, [], "imports of the module")
+    header = re.sub(r"/\*.*?\*/", "", read(f"{TOP}/languages/c/calendar.h"), flags=re.S)
+    wanted = sorted(re.findall(r"^\w+\s+(calendar_\w+)\(", header, re.M))
+    results.equal(sorted(it["name"] for it in exports if it["kind"] == "function"), wanted, "functions of the module")
+    wrapper = "\n".join(read(f"{FOLDER}/src/{it}.js") for it in javascript.SOURCES)
+    tests = read(f"{FOLDER}/test/calls.test.js")
+    for name in wanted:
+        results.count(f"library.{name}(" in wrapper, f"the wrapper does not call {name}")
+        short = name.removeprefix("calendar_")
+        results.count(re.search(rf'test\("{short}"|^const FIELDS = .*\b{short}:', tests, re.M), f"calls.test.js has no test {short}")
+
+
+def compare_example(results, project):
+    """The example of the README prints what stands beside its lines."""
+    example = re.search(r"^```js\n(.*?)^```$", read(f"{FOLDER}/README.md"), re.M | re.S)[1]
+    wanted = re.findall(r"^console\.log\(.*\); // (.*)$", example, re.M)
+    with open(f"{project}/example.js", "w", encoding="utf-8") as it:
+        it.write(example)
+    ran = subprocess.run([*node_words(), "example.js"], cwd=project, capture_output=True, text=True)
+    results.equal(ran.stdout.splitlines(), wanted, f"the example of languages/javascript/README.md {ran.stderr[-2000:]}")
+    results.count(wanted, "languages/javascript/README.md has no example that prints")
+
+
+def check_types(results, project):
+    """The types, by the compiler of TypeScript; a wrong call in the file has to be found."""
+    if not shutil.which("tsc"):
+        print("not run: the types of the package for JavaScript, since there is no tsc")
+        return
+    words = ["tsc", "--noEmit", "--strict", "--target", "es2022", "--module", "es2022", "--moduleResolution", "node", "types.ts"]
+    right = read(f"{FOLDER}/test/types.ts")
+    for text, is_right in ((right, True), (right.replace("largestUnit: \"weeks\"", "largestUnit: \"fortnights\""), False)):
+        with open(f"{project}/types.ts", "w", encoding="utf-8") as it:
+            it.write(text)
+        ran = subprocess.run(words, cwd=project, stdout=subprocess.PIPE, stderr=subprocess.STDOUT, text=True)
+        results.count((ran.returncode == 0) == is_right, f"{' '.join(words)}: {ran.stdout[-2000:]}")
+
+
+def plant(results, room, bytes_of_module):
+    """Each wrong line in the wrapper fails its tests."""
+    found = 0
+    for number, edit in enumerate(edits("javascript"), 1):
+        folder = planted("javascript", f"{room}/planted", edit)
+        package = javascript.make_package(TOP, folder, bytes_of_module, f"{room}/planted-package")
+        passed, failed, _ = run_tests(make_project(f"{room}/planted-project", package))
+        results.count(failed, f"wrong line {number} of languages/javascript passes all {passed} tests: {edit}")
+        found += bool(failed)
+    print(f"wrong lines in the wrapper: {found} found", flush=True)
+    results.count(found >= 10, "languages/javascript has fewer than ten wrong lines that its tests find")
+
+
+def in_node(results, room, package, bytes_of_module):
+    if not shutil.which("node"):
+        print("not run: the tests in JavaScript, since there is no node")
+        return
+    compare_exports(results, bytes_of_module)
+    project = make_project(f"{room}/project", package)
+    passed, failed, printed = run_tests(project)
+    print(f"node: {passed} passed, {failed} failed", flush=True)
+    results.passed, results.failed = results.passed + passed, results.failed + failed
+    if failed:
+        print(printed[-4000:], flush=True)
+    compare_example(results, project)
+    check_types(results, project)
+    plant(results, room, bytes_of_module)
+
+
+# ---- in Chromium
+
+
+def compare_temporal(results, page):
+    """The package beside the browser's own Temporal."""
+    if page.run("typeof Temporal") != "object":
+        print("not run: the package beside Temporal, since this Chromium has none")
+        return
+    text = read(f"{FOLDER}/test/temporal.js")
+    answer = page.run(f"{text[text.index('(async'):].rstrip()}(1, 2_000)")
+    print(f"beside Temporal: {answer['alike']:,} calls answered alike, {len(answer['differ'])} otherwise", flush=True)
+    results.count(answer["alike"] > 40_000, "too few calls were compared with Temporal")
+    for it in answer["differ"]:
+        results.count(False, it[:1000])
+
+
+def caltool_answers(lines):
+    """The answers of caltool to some lines: the program's, if it is built."""
+    if not os.path.exists(fuzz.CALTOOL):
+        print("not run: the page beside caltool itself, since there is no crates/caltool/out/caltool: checks/fuzz.py answers for it")
+        return [fuzz.answer(it.encode()) for it in lines]
+    ran = subprocess.run([fuzz.CALTOOL], input="\n".join(lines) + "\n", capture_output=True, text=True, check=True, timeout=120)
+    return ran.stdout.splitlines()
+
+
+def drawn_lines(count):
+    """Lines of checks/fuzz.py that a field of one line can hold."""
+    chance, lines = random.Random(1), []
+    while len(lines) < count:
+        line = fuzz.a_line(chance).decode("latin-1")
+        if line.isascii() and line.isprintable():
+            lines.append(line)
+    return lines
+
+
+def use_lines(results, page):
+    """Lines are answered as caltool answers them: some typed, and many by the function behind the field."""
+    examples = page.run("[...document.querySelectorAll('#examples button')].map((it) => it.ariaLabel.split(':')[0])")
+    results.equal(sorted(it.split()[0] for it in examples), sorted(fuzz.COMMANDS), "the examples of the page")
+    lines = [*examples, "", "ymd 2023 2 29", "ymd 2024 2", *drawn_lines(3_000)]
+    wanted = caltool_answers(lines)
+    for line, answer in list(zip(lines, wanted))[:60]:
+        page.type("#line", line)
+        results.equal(page.text("#answer"), answer, f"the page's answer to {line!r}")
+    answers = page.run(f"import('answers').then((it) => {json.dumps(lines)}.map(it.answerOf))")
+    differ = [it for it in zip(lines, answers, wanted) if it[1] != it[2]]
+    results.count(not differ, f"the page answers otherwise than caltool: {differ[:5]}")
+    page.run("document.querySelectorAll('#examples button')[2].click()")
+    results.equal(page.text("#answer"), "2021-01-03 737793 Sun 2020-W53 3", "the answer to the third example")
+
+
+def label_of(number):
+    """What a screen reader reads of a day in the sheet."""
+    year, month, day = counted.name_of(number)
+    names = f"{WEEKDAYS[counted.weekday_of(number)]} {day} {MONTHS[month - 1]} {fuzz.year_text(year)}"
+    return f"{names}, week {counted.week_of(number)[1]}, day {counted.ordinal_of(number)} of the year, day number {number}"
+
+
+def compare_sheet(results, page, year, month):
+    """The days of a month in the sheet, the weeks beside them, and what the chosen day is called."""
+    first = counted.day_of(year, month, 1)
+    days = range(first, first + counted.month_lengths(year)[month - 1])
+    results.equal(page.run("[...document.querySelectorAll('#sheet td button')].map((it) => it.ariaLabel)"),
+                  [label_of(it) for it in days], f"the days of {year}-{month}")
+    weeks = list(dict.fromkeys(f"W{counted.week_of(it)[1]:02}" for it in days))
+    results.equal(page.run("[...document.querySelectorAll('#sheet tbody th')].map((it) => it.textContent)"), weeks, f"weeks of {year}-{month}")
+    columns = page.run("[...document.querySelectorAll('#sheet td button')].map((it) => it.parentNode.cellIndex)")
+    results.equal(columns, [counted.weekday_of(it) + 1 for it in days], f"the columns of {year}-{month}")
+    chosen = page.run("document.querySelector('#sheet [aria-selected=\"true\"] button').dataset.date")
+    number = next((it for it in days if fuzz.date_text(it) == chosen), None)
+    year_of_week, week = counted.week_of(number)
+    names = [chosen, WEEKDAYS[counted.weekday_of(number)], f"{fuzz.year_text(year_of_week)}-W{week:02}-{counted.weekday_of(number) + 1}",
+             f"{fuzz.year_text(year)}-{counted.ordinal_of(number):03}", f"{number:,}"]
+    results.equal(page.run("[...document.querySelectorAll('#names dd')].map((it) => it.textContent)"), names, f"the names of {chosen}")
+
+
+def use_month(results, page):
+    """Months are chosen by their fields, by buttons and by the keyboard."""
+    today = datetime.date.today()
+    compare_sheet(results, page, today.year, today.month)
+    for year, month in ((2024, 2), (2021, 1), (2020, 12), (-1, 2), (10_000, 1), (262_142, 12), (-262_143, 1)):
+        page.type("#year", str(year))
+        page.run(f"(() => {{ const it = document.querySelector('#month'); it.value = '{month}'; it.dispatchEvent(new Event('change')); }})()")
+        compare_sheet(results, page, year, month)
+    page.run("document.querySelector('#earlier').click()")
+    results.count("beyond the calendar" in page.text("#month-trouble"), "the month before the first is not refused")
+    page.type("#year", "300000")
+    results.count("300000" in page.text("#month-trouble"), "the year 300000 is not refused")
+    page.type("#year", "2024")
+    page.run("document.querySelector('#later').click()")
+    compare_sheet(results, page, 2024, 2)
+    page.run("document.querySelector('#sheet [data-date=\"2024-02-29\"]').click()")
+    chosen = "document.activeElement.dataset.date"
+    for key, wanted in (("ArrowRight", "2024-03-01"), ("ArrowUp", "2024-02-23"), ("ArrowDown", "2024-03-01"), ("ArrowLeft", "2024-02-29"),
+                        ("Home", "2024-02-26"), ("End", "2024-03-03"), ("PageUp", "2024-02-03"), ("PageDown", "2024-03-03")):
+        page.press(key)
+        results.equal(page.run(chosen), wanted, f"the day that {key} leads to")
+    compare_sheet(results, page, 2024, 3)
+
+
+def use_between(results, page):
+    """The days between two dates."""
+    for one, other in (("2024-02-29", "2025-02-28"), ("2025-02-28", "2024-02-29"), ("2024-02-29", "2024-02-29"), ("0001-01-01", "9999-12-31")):
+        page.type("#from", one)
+        page.type("#to", other)
+        days = (datetime.date.fromisoformat(other) - datetime.date.fromisoformat(one)).days
+        results.equal(page.text("#between strong"), f"{days:,} day{'' if abs(days) == 1 else 's'}", f"days from {one} to {other}")
+    page.run("document.querySelector('#swap').click()")
+    results.equal(page.text("#between strong"), "-3,652,058 days", "days after a swap")
+    page.type("#from", "2024-02-30")
+    results.equal(page.text("#between"), '"2024-02-30": no text of a date', "what is said of 2024-02-30")
+    results.equal(page.run("document.querySelector('#from').getAttribute('aria-invalid')"), "true", "whether the field is marked")
+    page.type("#from", "2024-02-29")
+    results.equal(page.run("document.querySelector('#from').hasAttribute('aria-invalid')"), False, "whether the field is still marked")
+
+
+def use_row(results, page):
+    """Dates every so many months."""
+    for text, step, count in (("2024-01-31", 1, 12), ("2024-02-29", 12, 8), ("2024-05-31", -1, 6)):
+        page.type("#start", text)
+        page.type("#step", str(step))
+        page.type("#count", str(count))
+        start = datetime.date.fromisoformat(text)
+        moved = [datetime.date.fromordinal(counted.month_move(start.toordinal(), step * it)) for it in range(count)]
+        leaves = page.run("[...document.querySelectorAll('#row li')].map((it) => [it.dataset.date, it.className])")
+        results.equal(leaves, [[f"{it}", "short" if it.day < start.day else ""] for it in moved], f"every {step} months from {text}")
+        gaps = ["start", *(f"{(b - a).days} days" for a, b in zip(moved, moved[1:]))]
+        results.equal(page.run("[...document.querySelectorAll('#row .gap')].map((it) => it.textContent)"), gaps, f"days between from {text}")
+    page.type("#start", "+262142-12-31")
+    page.type("#step", "1")
+    results.count("the calendar ends after 1" in page.text("#row-trouble"), "the end of the calendar is not told")
+    page.type("#start", "2024-01-31")
+
+
+def read_aloud(results, page):
+    """What can be reached has a role and a name; tables and rows have theirs."""
+    page.call("Accessibility.enable")
+    nodes = page.call("Accessibility.getFullAXTree")["nodes"]
+    kinds = {"button", "textbox", "combobox", "spinbutton", "grid", "list", "region", "status"}
+    named = [(it["role"]["value"], it.get("name", {}).get("value", "")) for it in nodes if it.get("role", {}).get("value") in kinds]
+    for kind, name in named:
+        results.count(name or kind in ("status", "list"), f"a {kind} of the page has no name")
+    wanted = {("textbox", "A command and its numbers"), ("textbox", "From"), ("textbox", "To"), ("combobox", "Month"), ("spinbutton", "Year"),
+              ("button", "The month before"), ("spinbutton", "Months apart"), ("region", "Ask a line"), ("list", "The dates")}
+    results.equal(wanted - set(named), set(), "what a screen reader does not find")
+    page.run("document.querySelector('#line').focus()")
+    reached = []
+    for _ in range(60):
+        reached.append(page.run("document.activeElement.id || document.activeElement.dataset.date && 'day' || ''"))
+        page.press("Tab")
+    for it in ("line", "month", "year", "earlier", "today", "later", "day", "from", "to", "swap", "start", "step", "count", "row"):
+        results.count(it in reached, f"the Tab key does not reach {it}")
+
+
+CONTRAST = """(() => {
+  const light = (rgb) => rgb.slice(0, 3).map((it) => it / 255).map((it) => (it <= 0.04045 ? it / 12.92 : ((it + 0.055) / 1.055) ** 2.4))
+    .reduce((sum, it, index) => sum + it * [0.2126, 0.7152, 0.0722][index], 0);
+  const parts = (text) => text.match(/[\\d.]+/g).map(Number);
+  const behind = (it) => { for (; it; it = it.parentElement) { const rgb = parts(getComputedStyle(it).backgroundColor);
+    if (rgb.length < 4 || rgb[3] === 1) return rgb; } return [255, 255, 255]; };
+  return ['h1', 'header p', 'label', '.help', '#answer', '#sheet caption', '#sheet th', '#sheet td button', '#sheet td small',
+    '#sheet [aria-selected="true"] button', '#names dt', '#names dd', '#between strong', '#row .month', '#row .gap', '#today', '#line', 'footer p']
+    .map((name) => { const it = document.querySelector(name); const [a, b] = [light(parts(getComputedStyle(it).color)), light(behind(it))];
+      return [name, (Math.max(a, b) + 0.05) / (Math.min(a, b) + 0.05)]; });
+})()"""
+
+
+def look(results, page, path):
+    """Light and dark, wide and narrow: nothing is cut off, and texts stand out from what is behind them."""
+    papers = set()
+    for scheme in ("light", "dark"):
+        page.call("Emulation.setEmulatedMedia", features=[{"name": "prefers-color-scheme", "value": scheme}])
+        for width in (1_120, 320):
+            page.call("Emulation.setDeviceMetricsOverride", width=width, height=900, deviceScaleFactor=1, mobile=width < 500)
+            page.open(path)
+            results.equal(page.run("document.documentElement.scrollWidth <= innerWidth"), True, f"whether the page fits {width} pixels")
+            for name, ratio in page.run(CONTRAST):
+                results.count(ratio >= 4.5, f"{name} in {scheme} has a contrast of {ratio:.2f}, less than 4.5")
+        papers.add(page.run("getComputedStyle(document.body).backgroundColor"))
+    results.count(len(papers) == 2, "the page is as bright in dark as in light")
+
+
+def in_chromium(results, path):
+    if not chromium.found():
+        print("not run: the page, since there is no chromium")
+        return
+    with chromium.Chromium() as page:
+        page.open(path)
+        results.equal(page.text("#answer"), "2024-02-29 738945 Thu 2024-W09 60", "the first answer of the page")
+        for use in (use_lines, use_month, use_between, use_row, read_aloud, compare_temporal):
+            use(results, page)
+        look(results, page, path)
+        results.equal(page.faults(), [], "what the page threw")
+        results.equal(page.run("performance.getEntriesByType('resource').filter((it) => !it.name.startsWith('data:')).map((it) => it.name)"), [],
+                      "what the page loads")
+
+
+def main():
+    results = Results()
+    with tempfile.TemporaryDirectory(prefix="javascript-") as room:
+        try:
+            bytes_of_module = javascript.module(TOP)
+        except packages.Missing as it:
+            print(f"not run: the package for JavaScript, since there is {it}")
+            print("0 passed, 1 failed")
+            return 1
+        package, page = javascript.make(TOP, None, f"{room}/dist")
+        in_node(results, room, package, bytes_of_module)
+        in_chromium(results, page)
+    print(f"{results.passed} passed, {results.failed} failed")
+    return 1 if results.failed else 0
+
+
+if __name__ == "__main__":
+    sys.exit(main())

@@ -1,0 +1,230 @@
+/** A unit of differences, in the singular or the plural. */
+type Unit<Name extends string> = Name | `${Name}s`;
+
+/** What becomes of a month or a day that lies too high: it is clipped, or refused by a RangeError. */
+export interface OverflowOptions {
+  overflow?: "constrain" | "reject";
+}
+
+/** The largest unit of a difference. */
+export interface DifferenceOptions<Name extends string> {
+  largestUnit?: "auto" | Unit<Name>;
+}
+
+/** Units of which a duration is made: whole numbers, none below 0 if another is above. */
+export interface DurationFields {
+  years?: number;
+  months?: number;
+  weeks?: number;
+  days?: number;
+  hours?: number;
+  minutes?: number;
+  seconds?: number;
+  milliseconds?: number;
+  microseconds?: number;
+  nanoseconds?: number;
+}
+
+/** The calendar name of a date (ISO 8601). */
+export interface DateFields {
+  year: number;
+  month: number;
+  day: number;
+}
+
+/** What a clock shows; the second 60 is a leap second. */
+export interface TimeFields {
+  hour?: number;
+  minute?: number;
+  second?: number;
+  millisecond?: number;
+  microsecond?: number;
+  nanosecond?: number;
+}
+
+export type DurationLike = Duration | DurationFields | string;
+export type DateLike = PlainDate | PlainDateTime | DateFields | string;
+export type DateTimeLike = PlainDateTime | PlainDate | (DateFields & TimeFields) | string;
+
+type ExactUnit = "day" | "hour" | "minute" | "second" | "millisecond" | "microsecond" | "nanosecond";
+
+/** A length of time: years, months and weeks, which a calendar measures, and days of 24 hours and shorter units. */
+export class Duration {
+  constructor(
+    years?: number,
+    months?: number,
+    weeks?: number,
+    days?: number,
+    hours?: number,
+    minutes?: number,
+    seconds?: number,
+    milliseconds?: number,
+    microseconds?: number,
+    nanoseconds?: number,
+  );
+  static from(item: DurationLike): Duration;
+  static fromNanoseconds(nanoseconds: bigint | number, largestUnit?: ExactUnit): Duration;
+  static compare(one: DurationLike, other: DurationLike): -1 | 0 | 1;
+  readonly years: number;
+  readonly months: number;
+  readonly weeks: number;
+  readonly days: number;
+  readonly hours: number;
+  readonly minutes: number;
+  readonly seconds: number;
+  readonly milliseconds: number;
+  readonly microseconds: number;
+  readonly nanoseconds: number;
+  readonly sign: -1 | 0 | 1;
+  readonly blank: boolean;
+  /** The months of years and months. */
+  readonly totalMonths: number;
+  /** The nanoseconds of days and shorter units. */
+  readonly exactNanoseconds: bigint;
+  /** The nanoseconds of all fields; RangeError if there are years, months or weeks. */
+  readonly totalNanoseconds: bigint;
+  negated(): Duration;
+  abs(): Duration;
+  add(other: DurationLike): Duration;
+  subtract(other: DurationLike): Duration;
+  toString(): string;
+  toJSON(): string;
+  valueOf(): never;
+  readonly [Symbol.toStringTag]: "Duration";
+}
+
+/** What is asked of a date. */
+interface Named {
+  readonly calendarId: "iso8601";
+  readonly year: number;
+  /** From 1 for January to 12. */
+  readonly month: number;
+  /** From `M01` to `M12`. */
+  readonly monthCode: string;
+  /** The day of the month, from 1. */
+  readonly day: number;
+  /** The weekday, from 1 for Monday to 7. */
+  readonly dayOfWeek: number;
+  /** The day of the year, from 1 to 366. */
+  readonly dayOfYear: number;
+  /** The ISO week, from 1 to 53. */
+  readonly weekOfYear: number;
+  /** The year of the ISO week: that of its Thursday. */
+  readonly yearOfWeek: number;
+  readonly daysInWeek: 7;
+  readonly daysInMonth: number;
+  readonly daysInYear: number;
+  readonly monthsInYear: 12;
+  readonly inLeapYear: boolean;
+}
+
+/** A date of the proleptic Gregorian calendar, from 1 January of year -262143 to 31 December of year 262142. */
+export class PlainDate implements Named {
+  constructor(isoYear: number, isoMonth: number, isoDay: number);
+  static from(item: DateLike, options?: OverflowOptions): PlainDate;
+  /** The date of a day number, in which 1 January of year 1 is 1. */
+  static fromDayNumber(number: number): PlainDate;
+  /** The date of a year and a day of it from 1 to 366 (ISO 8601 ordinal date). */
+  static fromDayOfYear(year: number, dayOfYear: number): PlainDate;
+  /** The date of an ISO year, a week of it and a weekday from 1 for Monday to 7 (ISO 8601 week date). */
+  static fromWeek(yearOfWeek: number, weekOfYear: number, dayOfWeek: number): PlainDate;
+  /** The n-th day of a month with a weekday, counted from 1. */
+  static fromWeekdayOfMonth(year: number, month: number, dayOfWeek: number, n: number): PlainDate;
+  static compare(one: DateLike, other: DateLike): -1 | 0 | 1;
+  readonly calendarId: "iso8601";
+  /** The day number, in which 1 January of year 1 is 1. */
+  readonly dayNumber: number;
+  readonly year: number;
+  readonly month: number;
+  readonly monthCode: string;
+  readonly day: number;
+  readonly dayOfWeek: number;
+  readonly dayOfYear: number;
+  readonly weekOfYear: number;
+  readonly yearOfWeek: number;
+  readonly daysInWeek: 7;
+  readonly daysInMonth: number;
+  readonly daysInYear: number;
+  readonly monthsInYear: 12;
+  readonly inLeapYear: boolean;
+  with(parts: Partial<DateFields>, options?: OverflowOptions): PlainDate;
+  add(duration: DurationLike, options?: OverflowOptions): PlainDate;
+  subtract(duration: DurationLike, options?: OverflowOptions): PlainDate;
+  until(other: DateLike, options?: DifferenceOptions<"year" | "month" | "week" | "day">): Duration;
+  since(other: DateLike, options?: DifferenceOptions<"year" | "month" | "week" | "day">): Duration;
+  /** The date `index` times so many months later in one move, so that a 31st comes back after a shorter month. */
+  everyMonths(months: number, index: number): PlainDate;
+  /** The whole years since an earlier date. From 29 February they are whole on 1 March. */
+  yearsSince(base: DateLike): number;
+  /** The first day of this date's week, where weeks begin on a weekday from 1 for Monday to 7. */
+  firstOfWeek(start?: number): PlainDate;
+  /** The first date from this one on, itself counted, that falls on one of the weekdays. */
+  firstOn(...daysOfWeek: number[]): PlainDate;
+  equals(other: DateLike): boolean;
+  toPlainDateTime(time?: TimeFields): PlainDateTime;
+  toString(): string;
+  toJSON(): string;
+  valueOf(): never;
+  readonly [Symbol.toStringTag]: "PlainDate";
+}
+
+/** A date with a time of day, to the nanosecond, in no time zone; the time may lie in a leap second. */
+export class PlainDateTime implements Named {
+  constructor(
+    isoYear: number,
+    isoMonth: number,
+    isoDay: number,
+    hour?: number,
+    minute?: number,
+    second?: number,
+    millisecond?: number,
+    microsecond?: number,
+    nanosecond?: number,
+  );
+  static from(item: DateTimeLike, options?: OverflowOptions): PlainDateTime;
+  /** The date-time with these seconds since 1970, and nanoseconds past them; 1,000,000,000 and more lie in the leap second that follows. */
+  static fromUnix(seconds: number, nanoseconds?: number): PlainDateTime;
+  static compare(one: DateTimeLike, other: DateTimeLike): -1 | 0 | 1;
+  readonly calendarId: "iso8601";
+  readonly year: number;
+  readonly month: number;
+  readonly monthCode: string;
+  readonly day: number;
+  readonly hour: number;
+  readonly minute: number;
+  /** From 0 to 59; 60 in a leap second. */
+  readonly second: number;
+  readonly millisecond: number;
+  readonly microsecond: number;
+  readonly nanosecond: number;
+  readonly dayOfWeek: number;
+  readonly dayOfYear: number;
+  readonly weekOfYear: number;
+  readonly yearOfWeek: number;
+  readonly daysInWeek: 7;
+  readonly daysInMonth: number;
+  readonly daysInYear: number;
+  readonly monthsInYear: 12;
+  readonly inLeapYear: boolean;
+  /** The seconds since 1970-01-01T00:00:00, leap seconds not counted. */
+  readonly unixSeconds: number;
+  /** The nanoseconds past them; 1,000,000,000 and more lie in the leap second that follows. */
+  readonly unixNanoseconds: number;
+  with(parts: Partial<DateFields & TimeFields>, options?: OverflowOptions): PlainDateTime;
+  add(duration: DurationLike, options?: OverflowOptions): PlainDateTime;
+  subtract(duration: DurationLike, options?: OverflowOptions): PlainDateTime;
+  until(other: DateTimeLike, options?: DifferenceOptions<ExactUnit>): Duration;
+  since(other: DateTimeLike, options?: DifferenceOptions<ExactUnit>): Duration;
+  equals(other: DateTimeLike): boolean;
+  toPlainDate(): PlainDate;
+  toString(): string;
+  toJSON(): string;
+  valueOf(): never;
+  readonly [Symbol.toStringTag]: "PlainDateTime";
+}
+
+/** Whether a year, which may lie beyond those of dates, has 366 days. */
+export function isLeapYear(year: number): boolean;
+
+/** The days from a weekday on to the first of some weekdays, 0 to 6; undefined if there are none of them. */
+export function daysUntil(dayOfWeek: number, ...daysOfWeek: number[]): number | undefined;

@@ -1,0 +1,123 @@
+/** Ties what is typed to what is shown. */
+
+import { PlainDate } from "../src/index.js";
+import { answerOf } from "./answers.js";
+import { dateOfText, element, MONTHS, moveOfKey, showBetween, showMonth, showRow } from "./parts.js";
+
+/** The commands of caltool: one line for each, and what it asks. */
+const EXAMPLES = {
+  "ymd 2024 12 30": "a calendar date",
+  "yo 2024 366": "an ordinal date",
+  "iwd 2020 53 7": "an ISO week date",
+  "day 719163": "a day number",
+  "wom 2017 3 5 2": "the second Friday of a month",
+  "days 2024 12 31 1": "so many days on",
+  "months 2023 1 31 1": "so many months on",
+  "week 2022 5 18 4": "the week that begins on a Thursday",
+  "move 2015 6 30 23 59 59 1500000000 1 0": "a second on, from inside a leap second",
+  "diff 2015 7 1 1 0 0 0 2015 6 30 23 59 59 1500000000": "the time between two date-times",
+  "since 2021 3 1 2020 2 29": "whole years",
+  "set 3 1 4 7": "a set of weekdays, walked from Wednesday",
+  "on 2024 12 30 2 4": "the first Tuesday or Thursday",
+  "every 2024 1 31 1 2": "the second of dates every month",
+};
+
+const at = (id) => document.getElementById(id);
+
+/** Runs what shows something; where a date is refused, the place says why, and the fields are marked. */
+function orRefused(place, fields, show) {
+  fields.forEach((it) => it.removeAttribute("aria-invalid"));
+  try {
+    place.replaceChildren();
+    show();
+  } catch (refused) {
+    if (!(refused instanceof RangeError)) {
+      throw refused;
+    }
+    place.textContent = refused.message;
+    fields.forEach((it) => it.setAttribute("aria-invalid", "true"));
+  }
+}
+
+function startLine() {
+  const [line, answer, help] = [at("line"), at("answer"), at("line-help")];
+  const show = () => {
+    answer.textContent = answerOf(line.value);
+    help.textContent = EXAMPLES[line.value] ? `This asks for ${EXAMPLES[line.value]}.` : "none: no such date; error: no such command.";
+  };
+  const chips = Object.keys(EXAMPLES).map((example) => {
+    const button = element("button", { type: "button", title: EXAMPLES[example], ariaLabel: `${example}: ${EXAMPLES[example]}` });
+    button.textContent = example.split(" ")[0];
+    button.addEventListener("click", () => {
+      line.value = example;
+      show();
+      line.focus();
+    });
+    return element("li", {}, button);
+  });
+  at("examples").replaceChildren(...chips);
+  line.addEventListener("input", show);
+  show();
+}
+
+function startMonth() {
+  const [table, month, year] = [at("sheet"), at("month"), at("year")];
+  const now = new Date();
+  const today = new PlainDate(now.getFullYear(), now.getMonth() + 1, now.getDate());
+  let selected = today;
+  month.replaceChildren(...MONTHS.map((it, index) => element("option", { value: `${index + 1}` }, it)));
+  const show = (date, isFocused = false) => {
+    selected = date;
+    [month.value, year.value] = [`${date.month}`, `${date.year}`];
+    showMonth(table, at("names"), date, today, (it) => show(it, true));
+    if (isFocused) {
+      table.querySelector('[aria-selected="true"] button').focus();
+    }
+  };
+  const go = (find, isFocused) => orRefused(at("month-trouble"), [year], () => show(find(), isFocused));
+  const named = () => go(() => selected.with({ year: year.value === "" ? NaN : year.value, month: month.value }));
+  month.addEventListener("change", named);
+  year.addEventListener("input", named);
+  at("earlier").addEventListener("click", () => go(() => selected.subtract({ months: 1 })));
+  at("later").addEventListener("click", () => go(() => selected.add({ months: 1 })));
+  at("today").addEventListener("click", () => go(() => today));
+  table.addEventListener("keydown", (event) => {
+    const move = moveOfKey(event.key, selected);
+    if (move && !event.ctrlKey && !event.altKey && !event.metaKey) {
+      event.preventDefault();
+      go(() => selected.add(move), true);
+    }
+  });
+  show(today);
+}
+
+function startBetween() {
+  const [from, to, output] = [at("from"), at("to"), at("between")];
+  const show = () => orRefused(output, [from, to], () => showBetween(output, dateOfText(from.value), dateOfText(to.value)));
+  from.addEventListener("input", show);
+  to.addEventListener("input", show);
+  at("swap").addEventListener("click", () => {
+    [from.value, to.value] = [to.value, from.value];
+    show();
+  });
+  show();
+}
+
+function startRow() {
+  const [start, step, count] = [at("start"), at("step"), at("count")];
+  const show = () =>
+    orRefused(at("row-trouble"), [start], () => {
+      const leaves = Math.min(Math.max(Math.trunc(Number(count.value)) || 1, 1), 60);
+      const shown = showRow(at("row"), dateOfText(start.value), step.value === "" ? NaN : step.value, leaves);
+      if (shown < leaves) {
+        throw new RangeError(`the calendar ends after ${shown} of these dates`);
+      }
+    });
+  [start, step, count].forEach((it) => it.addEventListener("input", show));
+  show();
+}
+
+startLine();
+startMonth();
+startBetween();
+startRow();

@@ -1,0 +1,68 @@
+/** Whole numbers, as the functions of the library take them. */
+
+/**
+ * The whole number that a value stands for, cut toward zero as Temporal's constructors cut it.
+ *
+ * The part of the name (`year`, `hour` ..) stands in the RangeError that a value with no whole number throws.
+ */
+export function integer(value, part) {
+  const number = Math.trunc(+value);
+  if (!Number.isFinite(number)) {
+    throw new RangeError(`${part} ${value}: no whole number`);
+  }
+  return number + 0;
+}
+
+/** The whole number that a value stands for; RangeError unless it lies between the two ends, which both count. */
+export function between(value, part, least, most) {
+  const number = integer(value, part);
+  if (number < least || number > most) {
+    throw new RangeError(`${part} ${number}: it lies from ${least} to ${most}`);
+  }
+  return number;
+}
+
+/** Whether a whole number fits 32 bits with a sign. A function of WebAssembly would cut it to them. */
+export const isInt32 = (number) => number === (number | 0);
+
+/** Whether a whole number fits 32 bits without a sign. */
+export const isUint32 = (number) => number === number >>> 0;
+
+/** The nearest whole number that lies between the two ends. */
+export const clipped = (number, least, most) => Math.min(Math.max(number, least), most);
+
+/** What becomes of parts of a name that lie too high: "constrain", which clips them, or "reject". */
+export function overflowOf(options) {
+  const overflow = optionsOf(options).overflow ?? "constrain";
+  if (overflow !== "constrain" && overflow !== "reject") {
+    throw new RangeError(`overflow ${overflow}: it is "constrain" or "reject"`);
+  }
+  return overflow;
+}
+
+/** The options of a call: an object, or none. */
+export function optionsOf(options) {
+  if (options === undefined) {
+    return {};
+  }
+  if (options === null || (typeof options !== "object" && typeof options !== "function")) {
+    throw new TypeError(`${String(options)}: options are an object`);
+  }
+  return options;
+}
+
+/** The unit of an option `largestUnit`, in the singular; RangeError unless it is one of the units. */
+export function largestUnitOf(options, units, usual) {
+  const { largestUnit = "auto", smallestUnit, roundingIncrement, roundingMode } = optionsOf(options);
+  if (smallestUnit !== undefined || roundingIncrement !== undefined || roundingMode !== undefined) {
+    throw new RangeError("differences are not rounded here");
+  }
+  const unit = `${largestUnit}`.replace(/s$/, "");
+  if (unit === "auto") {
+    return usual;
+  }
+  if (!units.includes(unit)) {
+    throw new RangeError(`largestUnit ${largestUnit}: it is one of ${units.join(", ")}`);
+  }
+  return unit;
+}

@@ -1,0 +1,86 @@
+/** What the package does besides: orders, differences by units, durations, and values that print. */
+
+import { strict as assert } from "node:assert";
+import { inspect } from "node:util";
+import { test } from "node:test";
+
+import { Duration, PlainDate, PlainDateTime } from "proved-calendar";
+
+const refused = (call) => assert.throws(call, RangeError);
+
+test("orders", () => {
+  assert.deepEqual(
+    ["2024-03-01", "2024-02-29", "-000001-01-01"].map((it) => PlainDate.compare("2024-02-29", it)),
+    [-1, 0, 1],
+  );
+  const times = ["2016-12-31T23:59:59.999", "2016-12-31T23:59:60", "2016-12-31T23:59:60.5", "2017-01-01T00:00:00"];
+  for (const [index, one] of times.entries()) {
+    for (const [place, other] of times.entries()) {
+      assert.equal(PlainDateTime.compare(one, other), Math.sign(index - place));
+      assert.equal(PlainDateTime.from(one).equals(other), index === place);
+    }
+  }
+  assert.ok(new PlainDate(2024, 2, 29).equals({ year: 2024, month: 2, day: 29 }));
+  assert.throws(() => new PlainDate(2024, 2, 29) < new PlainDate(2024, 3, 1), TypeError);
+  assert.throws(() => +PlainDateTime.from("2024-02-29"), TypeError);
+  assert.throws(() => +new Duration(), TypeError);
+});
+
+test("differences by units", () => {
+  for (const [from, to, unit, text] of [
+    ["2024-01-31", "2024-02-29", "month", "P29D"], ["2024-01-31", "2024-03-01", "month", "P1M1D"], ["2024-02-29", "2025-02-28", "year", "P11M30D"],
+    ["2024-02-29", "2028-02-29", "years", "P4Y"], ["2024-02-29", "2024-03-15", "weeks", "P2W1D"], ["2024-03-15", "2024-02-29", "auto", "-P15D"],
+    ["2024-03-31", "2024-02-29", "month", "-P1M"], ["2024-03-30", "2024-02-29", "month", "-P1M"], ["2024-03-28", "2024-02-29", "month", "-P28D"], ["2024-02-29", "2024-02-29", "year", "PT0S"],
+    ["-262143-01-01", "+262142-12-31", "year", "P524285Y11M30D"],
+  ]) {
+    assert.equal(`${PlainDate.from(from).until(to, { largestUnit: unit })}`, text);
+    assert.equal(`${PlainDate.from(from).since(to, { largestUnit: unit }).negated()}`, text);
+  }
+  refused(() => PlainDate.from("2024-02-29").until("2025-02-28", { largestUnit: "hour" }));
+});
+
+test("durations", () => {
+  for (const text of ["PT0S", "P1Y2M3W4DT5H6M7.008009001S", "-PT0.5S", "P4294967295Y", "PT9007199254740991.999999999S", "P7W", "-P1DT1S"]) {
+    assert.equal(`${Duration.from(text)}`, text);
+    assert.equal(`${Duration.from(text).negated().negated()}`, text);
+    assert.equal(JSON.stringify(Duration.from(text)), `"${text}"`);
+  }
+  assert.equal(`${Duration.from("+p1dt2h")}`, "P1DT2H");
+  assert.equal(`${Duration.from({ seconds: 90, milliseconds: 1_500 })}`, "PT91.5S");
+  const { seconds, milliseconds, sign, blank } = Duration.from({ seconds: -90, milliseconds: -1_500 });
+  assert.deepEqual([seconds, milliseconds, sign, blank, new Duration().blank], [-90, -1_500, -1, false, true]);
+  assert.equal(`${Duration.from({ days: -1 }).abs()}`, "P1D");
+  for (const text of ["", "P", "PT", "P1", "1D", "P1DT", "P1.5D", "P1H", "PT1.1234567890S", "P4294967296Y", "PT9007199254740992S", "P-1D"]) {
+    refused(() => Duration.from(text));
+  }
+  for (const fields of [{ days: 1, hours: -1 }, { days: 1.5 }, { days: NaN }, { months: 2 ** 32 }, { seconds: 2 ** 53 }, { seconds: -(2 ** 53) }]) {
+    refused(() => Duration.from(fields));
+  }
+  for (const item of [{}, null, 7, { day: 1 }]) {
+    assert.throws(() => Duration.from(item), TypeError);
+  }
+});
+
+test("sums of durations", () => {
+  for (const [one, other, sum] of [
+    ["PT1.5S", "PT1.5S", "PT3S"], ["P1D", "PT25H", "P2DT1H"], ["PT50M", "PT20M", "PT70M"], ["PT1H", "-PT1S", "PT59M59S"], ["P1D", "-P1D", "PT0S"],
+  ]) {
+    assert.equal(`${Duration.from(one).add(other)}`, sum);
+    assert.equal(`${Duration.from(one).subtract(Duration.from(other).negated())}`, sum);
+  }
+  refused(() => Duration.from("P1M").add("P1D"));
+  refused(() => Duration.from("P1W").add("P1D"));
+  assert.deepEqual(["PT1H", "PT60M", "PT61M"].map((it) => Duration.compare("PT60M", it)), [0, 0, -1]);
+  assert.equal(Duration.compare("P1M", "P1M"), 0);
+  refused(() => Duration.compare("P1M", "P30D"));
+  assert.equal(`${Duration.fromNanoseconds(90_061_000_000_001n)}`, "P1DT1H1M1.000000001S");
+  assert.equal(Duration.from("P1Y1MT1S").totalMonths, 13);
+});
+
+test("printing", () => {
+  assert.equal(inspect(new PlainDate(2024, 2, 29)), "PlainDate 2024-02-29");
+  assert.equal(inspect(PlainDateTime.from("2016-12-31T23:59:60.5")), "PlainDateTime 2016-12-31T23:59:60.5");
+  assert.equal(inspect(Duration.from("PT1H")), "Duration PT1H");
+  assert.equal(Object.prototype.toString.call(new PlainDate(2024, 2, 29)), "[object PlainDate]");
+  assert.deepEqual([new PlainDate(2024, 2, 29).monthCode, new PlainDate(2024, 2, 29).calendarId], ["M02", "iso8601"]);
+});
