@@ -224,6 +224,9 @@ bool calendar_column_add_months(const int32_t *dates, size_t dates_length, int32
 bool calendar_column_days_between(const int32_t *dates, size_t dates_length, const int32_t *bases, size_t bases_length,
                                   int32_t *days, size_t days_length);
 
+/* The first date from each on, itself counted, whose weekday is in the set. */
+bool calendar_column_first_on(const int32_t *dates, size_t dates_length, uint8_t weekdays, int32_t *found, size_t found_length);
+
 /* The date so many days after 1 January 1970, for each number of days. */
 bool calendar_column_from_unix_days(const int64_t *days, size_t days_length, int32_t *dates, size_t dates_length);
 

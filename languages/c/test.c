@@ -510,6 +510,8 @@ static void columns(void)
     count(unix_days[0] == 19782 && unix_days[1] == INT64_MIN && unix_days[2] == 0, __LINE__, "calendar_column_to_unix_days");
     IS(calendar_column_from_unix_days(unix_days, 3, numbers, 3), true);
     count(numbers[0] == 738945 && numbers[1] == NONE && numbers[2] == 719163, __LINE__, "calendar_column_from_unix_days");
+    IS(calendar_column_first_on(dates, 3, 1, numbers, 3), true);
+    count(numbers[0] == 738949 && numbers[1] == NONE && numbers[2] == 719167, __LINE__, "calendar_column_first_on");
     IS(calendar_column_years(dates, 3, years, 2), false);
 }
 

@@ -4,7 +4,10 @@
 //! In a column the least `i32` stands for a date, a year or a distance that there is not, the least `i64` for days since 1970,
 //! and 0 for a month, a day, an ordinal, a week or a weekday.
 ghost use Rattle.std.specs.Prelude.{◌≡◌, ◌==◌, ◌&&◌, ℕ, ◌<◌, true, false, length, map, pos, slice_index, slice_index_or};
-ghost use Rattle.chrono_columns.specs.Columns.{date_entry, day_entry, distance_entry, iso_week_entry, iso_year_entry, later_entry, month_entry, months_later_entry, ordinal_entry, unix_date_entry, unix_days_entry, weekday_entry, year_entry};
+ghost use Rattle.chrono_units.specs.SetDigits.{set_at};
+ghost use Rattle.chrono_columns.specs.Columns.{date_entry, day_entry, distance_entry, first_on_entry, iso_week_entry, iso_year_entry, later_entry, month_entry, months_later_entry, ordinal_entry, unix_date_entry, unix_days_entry, weekday_entry, year_entry};
+
+use crate::arguments::set_of;
 
 /// The weekday of each date, from 1 for Monday to 7 for Sunday.
 #[unsafe(no_mangle)]
@@ -224,5 +227,19 @@ pub extern "C" fn calendar_column_to_unix_days(dates: &[i32], days: &mut [i64]) 
         return false;
     }
     chrono_columns::to_unix_days(dates, days);
+    true
+}
+
+/// The first date from each on, itself counted, whose weekday is in the set.
+#[unsafe(no_mangle)]
+pub extern "C" fn calendar_column_first_on(dates: &[i32], weekdays: u8, found: &mut [i32]) -> bool
+    ensures answer { result ≡ (length found.old == length dates.now) }
+    ensures filled { result ≡ true → found.new ≡ map (first_on_entry (set_at weekdays)) dates.now }
+    ensures kept { result ≡ false → found.new ≡ found.old }
+{
+    if found.len() != dates.len() {
+        return false;
+    }
+    chrono_columns::first_on(dates, set_of(weekdays), found);
     true
 }

@@ -10,6 +10,7 @@
 
 mod conversion;
 mod fields;
+pub mod law;
 mod months;
 mod moved;
 mod moves;
@@ -17,11 +18,13 @@ mod named;
 mod names;
 mod nearest;
 mod none;
+mod occasions;
 mod unix;
 mod week;
 
 pub use moves::{add_days, add_days_each, add_months, days_between};
 pub use names::{join_dates, ordinals, split_dates, years};
 pub use none::{NONE, NOT_A_TIME};
+pub use occasions::first_on;
 pub use unix::{from_unix_days, to_unix_days};
 pub use week::{iso_weeks, weekdays};
