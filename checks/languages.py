@@ -11,7 +11,7 @@ Compared are names, results and parameters, each way: those of calendar.h with t
 of the library, with the declarations of the Rust crate and with the prototypes of the Python package; the fields of both structs;
 and the processors that texts and header name, with one another and with the library's instructions. The header is then compiled,
 alone, by each compiler that is found, and the tests of C, Python and Rust are built in a temporary folder and run: each export has
-to be called in C's, and to have a test of its name in the other two. The examples of their READMEs are run too, and the lines of
+to be called in C's, and to have a test of its name in the other two, but for columns and what belongs to them, which C alone has. The examples of their READMEs are run too, and the lines of
 README.md for each language have to stand in them.
 """
 import os
@@ -35,12 +35,18 @@ WARNINGS = ["-Wall", "-Wextra", "-pedantic", "-Werror"]
 # The names of types, in Rust's words and the header's for structs.
 TYPES = {
     "int32_t": "i32", "int64_t": "i64", "uint8_t": "u8", "uint32_t": "u32", "size_t": "usize",
-    "uint8_t *": "*mut u8", "const uint8_t *": "*const u8",
+    "uint8_t *": "*mut u8", "const uint8_t *": "*const u8", "uint16_t *": "*mut u16",
+    "int32_t *": "*mut i32", "const int32_t *": "*const i32", "int64_t *": "*mut i64", "const int64_t *": "*const i64",
     "c_int32": "i32", "c_int64": "i64", "c_uint8": "u8", "c_uint32": "u32", "c_size_t": "usize", "c_bool": "bool",
     "Moment": "calendar_date_time", "Span": "calendar_duration",
-    "CalendarDateTime": "calendar_date_time", "CalendarDuration": "calendar_duration",
+    "CalendarDateTime": "calendar_date_time", "CalendarDuration": "calendar_duration", "CalendarYmd": "calendar_ymd",
 }
-# How a slice of Rattle crosses: its first byte, and how many bytes there are.
+
+# What is for C alone: columns, and the struct of a date's names. No other language has declarations or tests of these.
+C_ALONE = r"calendar_(?:column_\w+|split|ymd)"
+
+# How a slice of Rattle crosses: its first byte, and how many bytes there are; and likewise for a column.
+COLUMN = r"&(mut )?\[(\w+)\]"
 SLICES = {"&[u8]": (("*const u8", "text"), ("usize", "length")), "&mut [u8]": (("*mut u8", "text"), ("usize", "room"))}
 
 # How a function is used, in the sources of a folder.
@@ -113,8 +119,13 @@ def of_rust(declared):
     for name, listed, result in declared:
         parameters = []
         for it in filter(None, (it.strip() for it in listed.split(","))):
-            parameter, _, kind = it.partition(":")
-            parameters += SLICES.get(kind.strip(), [(plain(kind), parameter.strip())])
+            parameter, kind = (part.strip() for part in it.split(":"))
+            column = re.fullmatch(COLUMN, kind)
+            if column and parameter != "text":
+                pointer = f"*{'mut' if column[1] else 'const'} {column[2]}"
+                parameters += [(pointer, parameter), ("usize", f"{parameter}_length")]
+            else:
+                parameters += SLICES.get(kind, [(plain(kind), parameter)])
         found[name] = plain(result), parameters
     return found
 
@@ -178,21 +189,26 @@ def compare(results, what, wanted, found):
         results.count(one == other, f"{what}: {name} is {other}, and in calendar.h {one}")
 
 
+def for_all(names):
+    """What is declared in every language."""
+    return {name: what for name, what in names.items() if not re.fullmatch(C_ALONE, name)}
+
+
 def compare_declarations(results, header):
     compare(results, "exports of crates/calendar_c", header, of_rattle())
-    compare(results, "declarations of languages/rust", header, of_crate())
-    compare(results, "prototypes of languages/python", without_names(header), of_package())
+    compare(results, "declarations of languages/rust", for_all(header), of_crate())
+    compare(results, "prototypes of languages/python", without_names(for_all(header)), of_package())
     fields = structs("c", HEADER)
-    results.count(len(fields) == 2, f"calendar.h has the structs {sorted(fields)}")
+    results.count(len(fields) == 3, f"calendar.h has the structs {sorted(fields)}")
     compare(results, "structs of crates/calendar_c", fields, structs("rust", *sources(CRATE)))
-    compare(results, "structs of languages/rust", fields, structs("rust", DECLARATIONS))
-    compare(results, "structs of languages/python", fields, structs("python", PACKAGE))
+    compare(results, "structs of languages/rust", for_all(fields), structs("rust", DECLARATIONS))
+    compare(results, "structs of languages/python", for_all(fields), structs("python", PACKAGE))
 
 
 def compare_safety(results, header):
     """The Rust crate calls a function safe exactly if it takes no pointer."""
     safe = set(re.findall(r"\bsafe fn (calendar_\w+)\(", read(DECLARATIONS)))
-    for name, (_, parameters) in header.items():
+    for name, (_, parameters) in for_all(header).items():
         takes_pointer = any(kind.startswith("*") for kind, _ in parameters)
         what = "is safe, and takes a pointer" if takes_pointer else "is not safe, and takes no pointer"
         results.count((name in safe) != takes_pointer, f"declarations of languages/rust: {name} {what}")
@@ -241,7 +257,7 @@ def compare_uses(results, header):
     for language, (folder, pattern) in USES.items():
         names = [it for it in os.listdir(f"{LANGUAGES}/{folder}") if it.endswith((".c", ".py", ".rs"))]
         text = "\n".join(read(f"{LANGUAGES}/{folder}/{it}") for it in names)
-        for name in header:
+        for name in header if folder == "c" else for_all(header):
             used = pattern.format(name=name, short=name.removeprefix("calendar_"))
             results.count(re.search(used, text), f"{language}: there is none for {name}")
 

@@ -173,6 +173,69 @@ int32_t calendar_write_date_time(calendar_date_time moment, uint8_t *text, size_
  * then nothing or a point and one to nine digits; the second 60 is a leap second. None for any other bytes. */
 calendar_date_time calendar_read_date_time(const uint8_t *text, size_t length);
 
+/* ---- year, month and day of one date */
+
+/* A year, a month from 1 to 12 and a day of the month from 1; of no date they are CALENDAR_NONE, 0 and 0. */
+typedef struct {
+    int32_t year;
+    uint8_t month;
+    uint8_t day;
+} calendar_ymd;
+
+/* The year, the month and the day of a date, by one conversion (ISO 8601 calendar date). */
+calendar_ymd calendar_split(int32_t date);
+
+/* ---- columns of dates
+ *
+ * A column is a pointer to its first element and the number of its elements. Where the columns of a call have not all the same
+ * number, nothing is written and false answered; else each element of the last columns is written, and true answered. No column
+ * that is written may overlap another one. In a column CALENDAR_NONE stands for a date, a year or a distance that there is not,
+ * INT64_MIN for days since 1970, and 0 for a month, a day, an ordinal, a week or a weekday; what is no date has none of these. */
+
+/* The weekday of each date, from 1 for Monday to 7. */
+bool calendar_column_weekdays(const int32_t *dates, size_t dates_length, uint8_t *weekdays, size_t weekdays_length);
+
+/* The year of each date. */
+bool calendar_column_years(const int32_t *dates, size_t dates_length, int32_t *years, size_t years_length);
+
+/* The day of the year of each date, from 1 to 366 (ISO 8601 ordinal date). */
+bool calendar_column_ordinals(const int32_t *dates, size_t dates_length, uint16_t *ordinals, size_t ordinals_length);
+
+/* The year, the month and the day of each date (ISO 8601 calendar date). */
+bool calendar_column_split(const int32_t *dates, size_t dates_length, int32_t *years, size_t years_length,
+                           uint8_t *months, size_t months_length, uint8_t *days, size_t days_length);
+
+/* The year that each date's week belongs to, and the week there (ISO 8601 week date). */
+bool calendar_column_iso_weeks(const int32_t *dates, size_t dates_length, int32_t *years, size_t years_length,
+                               uint8_t *weeks, size_t weeks_length);
+
+/* The date of each year, month and day (ISO 8601 calendar date). */
+bool calendar_column_join(const int32_t *years, size_t years_length, const uint8_t *months, size_t months_length,
+                          const uint8_t *days, size_t days_length, int32_t *dates, size_t dates_length);
+
+/* The date so many days after each, or before it for a negative number. */
+bool calendar_column_add_days(const int32_t *dates, size_t dates_length, int32_t days, int32_t *moved, size_t moved_length);
+
+/* The same with a number of days of its own for each date; CALENDAR_NONE days lead nowhere. */
+bool calendar_column_add_days_each(const int32_t *dates, size_t dates_length, const int32_t *days, size_t days_length,
+                                   int32_t *moved, size_t moved_length);
+
+/* The date so many months after each, or before it for a negative number, or the last day of that month if it is shorter. */
+bool calendar_column_add_months(const int32_t *dates, size_t dates_length, int32_t months, int32_t *moved, size_t moved_length);
+
+/* The days from each date of the second column to that beside it in the first. */
+bool calendar_column_days_between(const int32_t *dates, size_t dates_length, const int32_t *bases, size_t bases_length,
+                                  int32_t *days, size_t days_length);
+
+/* The first date from each on, itself counted, whose weekday is in the set. */
+bool calendar_column_first_on(const int32_t *dates, size_t dates_length, uint8_t weekdays, int32_t *found, size_t found_length);
+
+/* The date so many days after 1 January 1970, for each number of days. */
+bool calendar_column_from_unix_days(const int64_t *days, size_t days_length, int32_t *dates, size_t dates_length);
+
+/* The days from 1 January 1970 to each date. */
+bool calendar_column_to_unix_days(const int32_t *dates, size_t dates_length, int64_t *days, size_t days_length);
+
 #ifdef __cplusplus
 }
 #endif

@@ -474,6 +474,47 @@ static void near_misses_of_date_times(void)
     }
 }
 
+/* Each column call once, over dates of known names: 29 February 2024 was a Thursday, in the week 2024-W09. */
+static void columns(void)
+{
+    const int32_t dates[] = {738945, CALENDAR_MAX + 1, 719163};
+    int32_t years[3], numbers[3];
+    uint8_t months[3], days[3], weekdays[3];
+    uint16_t ordinals[3];
+    int64_t unix_days[3];
+    calendar_ymd leap_day = calendar_split(738945), none = calendar_split(NONE);
+    count(leap_day.year == 2024 && leap_day.month == 2 && leap_day.day == 29, __LINE__, "calendar_split");
+    count(none.year == NONE && none.month == 0 && none.day == 0, __LINE__, "calendar_split of none");
+    IS(calendar_column_weekdays(dates, 3, weekdays, 3), true);
+    count(weekdays[0] == 4 && weekdays[1] == 0 && weekdays[2] == 4, __LINE__, "calendar_column_weekdays");
+    IS(calendar_column_years(dates, 3, years, 3), true);
+    count(years[0] == 2024 && years[1] == NONE && years[2] == 1970, __LINE__, "calendar_column_years");
+    IS(calendar_column_ordinals(dates, 3, ordinals, 3), true);
+    count(ordinals[0] == 60 && ordinals[1] == 0 && ordinals[2] == 1, __LINE__, "calendar_column_ordinals");
+    IS(calendar_column_iso_weeks(dates, 3, years, 3, weekdays, 3), true);
+    count(years[0] == 2024 && weekdays[0] == 9 && years[1] == NONE && weekdays[1] == 0, __LINE__, "calendar_column_iso_weeks");
+    IS(calendar_column_split(dates, 3, years, 3, months, 3, days, 3), true);
+    count(years[0] == 2024 && months[0] == 2 && days[0] == 29, __LINE__, "calendar_column_split");
+    count(years[1] == NONE && months[1] == 0 && days[1] == 0, __LINE__, "calendar_column_split of none");
+    IS(calendar_column_join(years, 3, months, 3, days, 3, numbers, 3), true);
+    count(numbers[0] == 738945 && numbers[1] == NONE && numbers[2] == 719163, __LINE__, "calendar_column_join");
+    IS(calendar_column_add_days(dates, 3, 1, numbers, 3), true);
+    count(numbers[0] == 738946 && numbers[1] == NONE && numbers[2] == 719164, __LINE__, "calendar_column_add_days");
+    IS(calendar_column_add_days_each(dates, 3, dates, 3, numbers, 3), true);
+    count(numbers[0] == 1477890 && numbers[1] == NONE && numbers[2] == 1438326, __LINE__, "calendar_column_add_days_each");
+    IS(calendar_column_add_months(dates, 3, 12, numbers, 3), true);
+    count(numbers[0] == 739310 && numbers[1] == NONE && numbers[2] == 719528, __LINE__, "calendar_column_add_months");
+    IS(calendar_column_days_between(dates, 3, numbers, 3, years, 3), true);
+    count(years[0] == -365 && years[1] == NONE && years[2] == -365, __LINE__, "calendar_column_days_between");
+    IS(calendar_column_to_unix_days(dates, 3, unix_days, 3), true);
+    count(unix_days[0] == 19782 && unix_days[1] == INT64_MIN && unix_days[2] == 0, __LINE__, "calendar_column_to_unix_days");
+    IS(calendar_column_from_unix_days(unix_days, 3, numbers, 3), true);
+    count(numbers[0] == 738945 && numbers[1] == NONE && numbers[2] == 719163, __LINE__, "calendar_column_from_unix_days");
+    IS(calendar_column_first_on(dates, 3, 1, numbers, 3), true);
+    count(numbers[0] == 738949 && numbers[1] == NONE && numbers[2] == 719167, __LINE__, "calendar_column_first_on");
+    IS(calendar_column_years(dates, 3, years, 2), false);
+}
+
 int main(void)
 {
     calendar_names();
@@ -494,6 +535,7 @@ int main(void)
     distances_of_date_times();
     texts_of_date_times();
     near_misses_of_date_times();
+    columns();
     printf("%d passed, %d failed\n", passed, failed);
     return failed != 0;
 }

@@ -8,10 +8,12 @@
 
 mod answers;
 mod arguments;
+mod columns;
 mod date_time_numbers;
 mod date_times;
 mod fields;
 mod moves;
 mod names;
+mod split;
 mod texts;
 mod weekdays;

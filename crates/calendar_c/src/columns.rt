@@ -1,0 +1,245 @@
+//! Columns of dates: each call fills the caller's columns with what holds of each element of others.
+//!
+//! A column is a pointer and a length. Where the columns have not all the same length nothing is written, and `false` answered.
+//! In a column the least `i32` stands for a date, a year or a distance that there is not, the least `i64` for days since 1970,
+//! and 0 for a month, a day, an ordinal, a week or a weekday.
+ghost use Rattle.std.specs.Prelude.{◌≡◌, ◌==◌, ◌&&◌, ℕ, ◌<◌, true, false, length, map, pos, slice_index, slice_index_or};
+ghost use Rattle.chrono_units.specs.SetDigits.{set_at};
+ghost use Rattle.chrono_columns.specs.Columns.{date_entry, day_entry, distance_entry, first_on_entry, iso_week_entry, iso_year_entry, later_entry, month_entry, months_later_entry, ordinal_entry, unix_date_entry, unix_days_entry, weekday_entry, year_entry};
+
+use crate::arguments::set_of;
+
+/// The weekday of each date, from 1 for Monday to 7 for Sunday.
+#[unsafe(no_mangle)]
+pub extern "C" fn calendar_column_weekdays(dates: &[i32], weekdays: &mut [u8]) -> bool
+    ensures answer { result ≡ (length weekdays.old == length dates.now) }
+    ensures filled { result ≡ true → weekdays.new ≡ map weekday_entry dates.now }
+    ensures kept { result ≡ false → weekdays.new ≡ weekdays.old }
+{
+    if weekdays.len() != dates.len() {
+        return false;
+    }
+    chrono_columns::weekdays(dates, weekdays);
+    true
+}
+
+/// The year of each date.
+#[unsafe(no_mangle)]
+pub extern "C" fn calendar_column_years(dates: &[i32], years: &mut [i32]) -> bool
+    ensures answer { result ≡ (length years.old == length dates.now) }
+    ensures filled { result ≡ true → years.new ≡ map year_entry dates.now }
+    ensures kept { result ≡ false → years.new ≡ years.old }
+{
+    if years.len() != dates.len() {
+        return false;
+    }
+    chrono_columns::years(dates, years);
+    true
+}
+
+/// The day of the year of each date, from 1 to 366 (ISO 8601 ordinal date).
+#[unsafe(no_mangle)]
+pub extern "C" fn calendar_column_ordinals(dates: &[i32], ordinals: &mut [u16]) -> bool
+    ensures answer { result ≡ (length ordinals.old == length dates.now) }
+    ensures filled { result ≡ true → ordinals.new ≡ map ordinal_entry dates.now }
+    ensures kept { result ≡ false → ordinals.new ≡ ordinals.old }
+{
+    if ordinals.len() != dates.len() {
+        return false;
+    }
+    chrono_columns::ordinals(dates, ordinals);
+    true
+}
+
+/// The year, the month and the day of each date (ISO 8601 calendar date).
+#[unsafe(no_mangle)]
+pub extern "C" fn calendar_column_split(
+    dates: &[i32],
+    years: &mut [i32],
+    months: &mut [u8],
+    days: &mut [u8],
+) -> bool
+    ensures answer { result ≡ ((length years.old == length dates.now) && (length months.old == length dates.now) && (length days.old == length dates.now)) }
+    ensures years { result ≡ true → years.new ≡ map year_entry dates.now }
+    ensures months { result ≡ true → months.new ≡ map month_entry dates.now }
+    ensures days { result ≡ true → days.new ≡ map day_entry dates.now }
+    ensures years_kept { result ≡ false → years.new ≡ years.old }
+    ensures months_kept { result ≡ false → months.new ≡ months.old }
+    ensures days_kept { result ≡ false → days.new ≡ days.old }
+{
+    if years.len() != dates.len() {
+        return false;
+    }
+    if months.len() != dates.len() {
+        return false;
+    }
+    if days.len() != dates.len() {
+        return false;
+    }
+    chrono_columns::split_dates(dates, years, months, days);
+    true
+}
+
+/// The ISO year of each date and the week there (ISO 8601 week date).
+#[unsafe(no_mangle)]
+pub extern "C" fn calendar_column_iso_weeks(
+    dates: &[i32],
+    years: &mut [i32],
+    weeks: &mut [u8],
+) -> bool
+    ensures answer { result ≡ ((length years.old == length dates.now) && (length weeks.old == length dates.now)) }
+    ensures years { result ≡ true → years.new ≡ map iso_year_entry dates.now }
+    ensures weeks { result ≡ true → weeks.new ≡ map iso_week_entry dates.now }
+    ensures years_kept { result ≡ false → years.new ≡ years.old }
+    ensures weeks_kept { result ≡ false → weeks.new ≡ weeks.old }
+{
+    if years.len() != dates.len() {
+        return false;
+    }
+    if weeks.len() != dates.len() {
+        return false;
+    }
+    chrono_columns::iso_weeks(dates, years, weeks);
+    true
+}
+
+/// The date of each year, month and day (ISO 8601 calendar date).
+#[unsafe(no_mangle)]
+pub extern "C" fn calendar_column_join(
+    years: &[i32],
+    months: &[u8],
+    days: &[u8],
+    dates: &mut [i32],
+) -> bool
+    ensures answer { result ≡ ((length months.now == length years.now) && (length days.now == length years.now) && (length dates.old == length years.now)) }
+    ensures filled { result ≡ true → (i : ℕ) → i < length years.now → slice_index_or dates.new i (pos 0)
+        ≡ date_entry (slice_index_or years.now i (pos 0)) (slice_index months.now i) (slice_index days.now i) }
+    ensures kept { result ≡ false → dates.new ≡ dates.old }
+{
+    if months.len() != years.len() {
+        return false;
+    }
+    if days.len() != years.len() {
+        return false;
+    }
+    if dates.len() != years.len() {
+        return false;
+    }
+    chrono_columns::join_dates(years, months, days, dates);
+    true
+}
+
+/// The date so many days after each, or before it for a negative number.
+#[unsafe(no_mangle)]
+pub extern "C" fn calendar_column_add_days(dates: &[i32], days: i32, moved: &mut [i32]) -> bool
+    ensures answer { result ≡ (length moved.old == length dates.now) }
+    ensures filled { result ≡ true → moved.new ≡ map (later_entry days) dates.now }
+    ensures kept { result ≡ false → moved.new ≡ moved.old }
+{
+    if moved.len() != dates.len() {
+        return false;
+    }
+    chrono_columns::add_days(dates, days, moved);
+    true
+}
+
+/// The same with a number of days of its own for each date.
+#[unsafe(no_mangle)]
+pub extern "C" fn calendar_column_add_days_each(
+    dates: &[i32],
+    days: &[i32],
+    moved: &mut [i32],
+) -> bool
+    ensures answer { result ≡ ((length days.now == length dates.now) && (length moved.old == length dates.now)) }
+    ensures filled { result ≡ true → (i : ℕ) → i < length dates.now → slice_index_or moved.new i (pos 0)
+        ≡ later_entry (slice_index_or days.now i (pos 0)) (slice_index_or dates.now i (pos 0)) }
+    ensures kept { result ≡ false → moved.new ≡ moved.old }
+{
+    if days.len() != dates.len() {
+        return false;
+    }
+    if moved.len() != dates.len() {
+        return false;
+    }
+    chrono_columns::add_days_each(dates, days, moved);
+    true
+}
+
+/// The date so many months after each, or before it for a negative number, or the last day of that month if it is
+/// shorter.
+#[unsafe(no_mangle)]
+pub extern "C" fn calendar_column_add_months(dates: &[i32], months: i32, moved: &mut [i32]) -> bool
+    ensures answer { result ≡ (length moved.old == length dates.now) }
+    ensures filled { result ≡ true → moved.new ≡ map (months_later_entry months) dates.now }
+    ensures kept { result ≡ false → moved.new ≡ moved.old }
+{
+    if moved.len() != dates.len() {
+        return false;
+    }
+    chrono_columns::add_months(dates, months, moved);
+    true
+}
+
+/// The days from each date of the second column to that beside it in the first.
+#[unsafe(no_mangle)]
+pub extern "C" fn calendar_column_days_between(
+    dates: &[i32],
+    bases: &[i32],
+    days: &mut [i32],
+) -> bool
+    ensures answer { result ≡ ((length bases.now == length dates.now) && (length days.old == length dates.now)) }
+    ensures filled { result ≡ true → (i : ℕ) → i < length dates.now → slice_index_or days.new i (pos 0)
+        ≡ distance_entry (slice_index_or dates.now i (pos 0)) (slice_index_or bases.now i (pos 0)) }
+    ensures kept { result ≡ false → days.new ≡ days.old }
+{
+    if bases.len() != dates.len() {
+        return false;
+    }
+    if days.len() != dates.len() {
+        return false;
+    }
+    chrono_columns::days_between(dates, bases, days);
+    true
+}
+
+/// The date so many days after 1 January 1970, for each number of days.
+#[unsafe(no_mangle)]
+pub extern "C" fn calendar_column_from_unix_days(days: &[i64], dates: &mut [i32]) -> bool
+    ensures answer { result ≡ (length dates.old == length days.now) }
+    ensures filled { result ≡ true → dates.new ≡ map unix_date_entry days.now }
+    ensures kept { result ≡ false → dates.new ≡ dates.old }
+{
+    if dates.len() != days.len() {
+        return false;
+    }
+    chrono_columns::from_unix_days(days, dates);
+    true
+}
+
+/// The days from 1 January 1970 to each date.
+#[unsafe(no_mangle)]
+pub extern "C" fn calendar_column_to_unix_days(dates: &[i32], days: &mut [i64]) -> bool
+    ensures answer { result ≡ (length days.old == length dates.now) }
+    ensures filled { result ≡ true → days.new ≡ map unix_days_entry dates.now }
+    ensures kept { result ≡ false → days.new ≡ days.old }
+{
+    if days.len() != dates.len() {
+        return false;
+    }
+    chrono_columns::to_unix_days(dates, days);
+    true
+}
+
+/// The first date from each on, itself counted, whose weekday is in the set.
+#[unsafe(no_mangle)]
+pub extern "C" fn calendar_column_first_on(dates: &[i32], weekdays: u8, found: &mut [i32]) -> bool
+    ensures answer { result ≡ (length found.old == length dates.now) }
+    ensures filled { result ≡ true → found.new ≡ map (first_on_entry (set_at weekdays)) dates.now }
+    ensures kept { result ≡ false → found.new ≡ found.old }
+{
+    if found.len() != dates.len() {
+        return false;
+    }
+    chrono_columns::first_on(dates, set_of(weekdays), found);
+    true
+}

@@ -1,0 +1,18 @@
+-- Months counted from March of the year -262,400, and the moves that the library has no date for.
+use Rattle.std.proofs.Common.{◌≡◌, ℤ, pos, neg_ℤ, ◌+ℤ◌, ◌-ℤ◌, ◌≤ℤ◌, ◌<ℤ◌, Some, None, ap, sym, ◌∙◌, arith, subst}
+use Rattle.chrono_units.specs.Years.{IsYear, is_year}
+use Rattle.chrono_calendar.specs.Days.{day_of}
+use Rattle.chrono_calendar.specs.MonthMoves.{day_number_in_month, month_index_of, month_move, year_of_month_index}
+use Rattle.chrono_calendar.proofs.Dates.{is_year-fact}
+use Rattle.chrono_calendar.proofs.NamedDates.{None-cond}
+use Rattle.chrono_calendar.proofs.Signed.{signed}
+
+-- a month of the library is less than 7,000,000 months from any other
+pub near_month : (begun k : ℤ) → pos 0 ≤ℤ begun → begun <ℤ pos 7_000_000 → IsYear (year_of_month_index (begun +ℤ k -ℤ pos 3_148_798)) → (neg_ℤ (pos 7_000_000) <ℤ k) × (k <ℤ pos 7_000_000)
+near_month begun k low high year = (omega (arith, signed, low, high, year), omega (arith, signed, low, high, year))
+
+pub month_move-None : (n k : ℤ) → (IsYear (year_of_month_index (month_index_of n +ℤ k)) → ⊥) → None ≡ month_move n k
+unfolding month_move
+month_move-None n k past =
+    let i = month_index_of n +ℤ k in
+    None-cond (is_year (year_of_month_index i)) (Some (day_number_in_month i (day_of n))) (λ t. past (is_year-fact (year_of_month_index i) t))

@@ -1,0 +1,7 @@
+use Rattle.std.proofs.Common.{◌≡◌, ℕ, ◌<◌, pos, get_or}
+use Rattle.chrono_columns.specs.Columns.{distance_entry}
+use Rattle.chrono_columns.proofs.moves.days_between.Given as goal
+
+abbrev pub invariant-loop-i : goal.invariant-loop-i
+invariant-loop-i l =
+    (k : ℕ) → k < l.i → get_or l.out k (pos 0) ≡ distance_entry (get_or l.dates k (pos 0)) (get_or l.bases k (pos 0))

@@ -1,0 +1,75 @@
+-- What stands in a column for each number, date or name, and for that there is none.
+use Rattle.std.specs.Prelude.{ℕ, ℤ, pos, neg_ℤ, ◌+ℤ◌, ◌-ℤ◌, Option, Some, None}
+use Rattle.std.specs.Option.{option_and_then, option_map}
+use Rattle.chrono_units.specs.Weekday.{number_from_monday}
+use Rattle.chrono_units.specs.WeekdaySet.{DaySet}
+use Rattle.chrono_calendar.specs.Days.{date_of_day, date_of_ymd, year_of, ordinal_of, month_of, day_of}
+use Rattle.chrono_calendar.specs.Weeks.{iso_week_of, iso_year_of, weekday_of}
+use Rattle.chrono_calendar.specs.MonthMoves.{month_move}
+use Rattle.chrono_calendar.specs.Recurrence.{date_on}
+use Rattle.chrono_datetime.specs.Fields.{unix_epoch_day}
+
+-- a date, a year or a distance, and for none the least i32, which is no such number
+abbrev pub number_entry : Option ℤ → ℤ
+number_entry (Some n) = n
+number_entry None = neg_ℤ (pos 2_147_483_648)
+
+-- the days since 1970 in 64 bits, and for none the least i64
+abbrev pub wide_entry : Option ℤ → ℤ
+wide_entry (Some n) = n
+wide_entry None = neg_ℤ (pos 9_223_372_036_854_775_808)
+
+-- a month, a day, an ordinal, a week or a weekday, and for none 0, as all of these begin at 1
+abbrev pub count_entry : Option ℕ → ℕ
+count_entry (Some n) = n
+count_entry None = 0
+
+-- of the date with the number n: its year, its ordinal, its month and its day
+unfoldable pub year_entry : ℤ → ℤ
+year_entry n = number_entry (option_map year_of (date_of_day n))
+
+unfoldable pub ordinal_entry : ℤ → ℕ
+ordinal_entry n = count_entry (option_map ordinal_of (date_of_day n))
+
+unfoldable pub month_entry : ℤ → ℕ
+month_entry n = count_entry (option_map month_of (date_of_day n))
+
+unfoldable pub day_entry : ℤ → ℕ
+day_entry n = count_entry (option_map day_of (date_of_day n))
+
+-- its weekday, from 1 for Monday to 7 for Sunday
+unfoldable pub weekday_entry : ℤ → ℕ
+weekday_entry n = count_entry (option_map (λ d. number_from_monday (weekday_of d)) (date_of_day n))
+
+-- its ISO year, and its week there
+unfoldable pub iso_year_entry : ℤ → ℤ
+iso_year_entry n = number_entry (option_map iso_year_of (date_of_day n))
+
+unfoldable pub iso_week_entry : ℤ → ℕ
+iso_week_entry n = count_entry (option_map iso_week_of (date_of_day n))
+
+-- the date of a year, a month and a day
+unfoldable pub date_entry : ℤ → ℕ → ℕ → ℤ
+date_entry y m d = number_entry (date_of_ymd y m d)
+
+-- the date k days after the date n, and the date k months after it
+unfoldable pub later_entry : ℤ → ℤ → ℤ
+later_entry k n = number_entry (option_and_then (λ d. date_of_day (d +ℤ k)) (date_of_day n))
+
+unfoldable pub months_later_entry : ℤ → ℤ → ℤ
+months_later_entry k n = number_entry (option_and_then (λ d. month_move d k) (date_of_day n))
+
+-- the days from the date m to the date n
+unfoldable pub distance_entry : ℤ → ℤ → ℤ
+distance_entry n m = number_entry (option_and_then (λ d. option_map (λ e. d -ℤ e) (date_of_day m)) (date_of_day n))
+
+-- the first date from the date n on that has a weekday of the set
+unfoldable pub first_on_entry : DaySet → ℤ → ℤ
+first_on_entry set n = number_entry (option_and_then (λ d. date_on d set) (date_of_day n))
+
+-- the date so many days after 1 January 1970, and the days from then to the date n
+unfoldable pub unix_date_entry : ℤ → ℤ
+unix_date_entry z = number_entry (date_of_day (z +ℤ unix_epoch_day))
+
+unfoldable pub unix_days_entry : ℤ → ℤ
+unix_days_entry n = wide_entry (option_map (λ d. d -ℤ unix_epoch_day) (date_of_day n))

@@ -1,0 +1,79 @@
+//! What one element of a column is called: the names of a number that is a date, or what stands for none.
+ghost use Rattle.std.specs.Prelude.{◌≡◌};
+ghost use Rattle.chrono_columns.specs.Columns.{day_entry, iso_week_entry, iso_year_entry, month_entry, ordinal_entry, weekday_entry, year_entry};
+
+use crate::conversion::{iso_year_and_week, weekday, year_and_ordinal, year_month_day};
+use crate::nearest::{is_date, nearest_date};
+use crate::none::NONE;
+
+/// The weekday, from 1 for Monday to 7 for Sunday, or 0.
+#[inline]
+pub(crate) fn weekday_of_number(number: i32) -> u8
+    ensures { result ≡ weekday_entry number }
+{
+    let day = weekday(nearest_date(number));
+    if is_date(number) { day as u8 } else { 0 }
+}
+
+/// The year, or [`NONE`].
+#[inline]
+pub(crate) fn year_of_number(number: i32) -> i32
+    ensures { result ≡ year_entry number }
+{
+    let (year, _) = year_and_ordinal(nearest_date(number));
+    if is_date(number) { year } else { NONE }
+}
+
+/// The day of the year from 1, or 0.
+#[inline]
+pub(crate) fn ordinal_of_number(number: i32) -> u16
+    ensures { result ≡ ordinal_entry number }
+{
+    let (_, ordinal) = year_and_ordinal(nearest_date(number));
+    if is_date(number) { ordinal as u16 } else { 0 }
+}
+
+/// The year by the conversion that tells month and day too, or [`NONE`].
+#[inline]
+pub(crate) fn year_with_month(number: i32) -> i32
+    ensures { result ≡ year_entry number }
+{
+    let (year, _, _) = year_month_day(nearest_date(number));
+    if is_date(number) { year } else { NONE }
+}
+
+/// The month, or 0.
+#[inline]
+pub(crate) fn month_of_number(number: i32) -> u8
+    ensures { result ≡ month_entry number }
+{
+    let (_, month, _) = year_month_day(nearest_date(number));
+    if is_date(number) { month as u8 } else { 0 }
+}
+
+/// The day of the month, or 0.
+#[inline]
+pub(crate) fn day_of_number(number: i32) -> u8
+    ensures { result ≡ day_entry number }
+{
+    let (_, _, day) = year_month_day(nearest_date(number));
+    if is_date(number) { day as u8 } else { 0 }
+}
+
+/// The ISO year, or [`NONE`].
+#[inline]
+pub(crate) fn iso_year_of_number(number: i32) -> i32
+    ensures { result ≡ iso_year_entry number }
+{
+    let (year, _) = iso_year_and_week(nearest_date(number));
+    if is_date(number) { year } else { NONE }
+}
+
+/// The week of that year, or 0.
+#[inline]
+pub(crate) fn iso_week_of_number(number: i32) -> u8
+    ensures { result ≡ iso_week_entry number }
+{
+    let (_, week) = iso_year_and_week(nearest_date(number));
+    if is_date(number) { week as u8 } else { 0 }
+}

@@ -1,0 +1,52 @@
+//! The values of a range that are nearest to any numbers.
+ghost use Rattle.std.specs.Prelude.{◌≡◌};
+ghost use Rattle.std.specs.Int.{IsInRange};
+ghost use Rattle.chrono_units.specs.Years.{IsYear};
+ghost use Rattle.chrono_calendar.specs.Days.{IsDate, is_date};
+
+use chrono_calendar::ends::{FIRST_DAY, LAST_DAY};
+use chrono_units::year::{MAX_YEAR, MIN_YEAR};
+
+/// The date nearest to a number: the number itself where it is one.
+#[inline]
+pub(crate) fn nearest_date(number: i32) -> i32
+    ensures in_range { IsDate result }
+    ensures same { IsDate number → result ≡ number }
+{
+    if number < FIRST_DAY {
+        return FIRST_DAY;
+    }
+    if number > LAST_DAY { LAST_DAY } else { number }
+}
+
+/// Whether a number is a date.
+#[inline]
+pub(crate) fn is_date(number: i32) -> bool
+    ensures { result ≡ is_date number }
+{
+    (number >= FIRST_DAY) & (number <= LAST_DAY)
+}
+
+/// The year nearest to a number, of those that have dates.
+#[inline]
+pub(crate) fn nearest_year(number: i32) -> i32
+    ensures in_range { IsYear result }
+    ensures same { IsYear number → result ≡ number }
+{
+    if number < MIN_YEAR {
+        return MIN_YEAR;
+    }
+    if number > MAX_YEAR { MAX_YEAR } else { number }
+}
+
+/// The month nearest to a number.
+#[inline]
+pub(crate) fn nearest_month(number: u8) -> u32
+    ensures in_range { IsInRange 1 12 result }
+    ensures same { IsInRange 1 12 number → result ≡ number }
+{
+    if number < 1 {
+        return 1;
+    }
+    if number > 12 { 12 } else { u32::from(number) }
+}
