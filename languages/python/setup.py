@@ -19,7 +19,7 @@ setup(
             depends=["src/package.h"],
             include_dirs=[f"{PREFIX}/include"],
             extra_objects=[f"{PREFIX}/lib/libcalendar.a"],
-            extra_compile_args=["-std=c99", "-O2", "-g0", "-fvisibility=hidden", *WARNINGS],
+            extra_compile_args=["-std=c99", "-O2", "-g0", "-fno-plt", "-fvisibility=hidden", *WARNINGS],
             extra_link_args=["-s"],
             # (an older Python has no symbols of a later one: one build serves all from 3.10 on)
             py_limited_api=True,

@@ -86,7 +86,7 @@ bool take_tuple(Signature *to, PyObject *arguments, PyObject *keywords, PyObject
             }
         }
     }
-    return is_complete(to, parts);
+    return count == to->count || is_complete(to, parts);
 }
 
 bool take_array(Signature *to, PyObject *const *arguments, Py_ssize_t count, PyObject *keywords, PyObject **parts)

@@ -2,7 +2,6 @@
 #include "package.h"
 
 PyTypeObject *date_type;
-static PyTypeObject *iso_calendar_type;
 
 static Signature of_name = {
     .call = "Date", .count = 3, .needed = 3, .places = 3, .names = {"year", "month", "day"},
@@ -23,6 +22,19 @@ static PyObject *reached(PyTypeObject *kind, int32_t number)
     return date_of(kind, number);
 }
 
+/* An object for a date, with those of its fields that are known. */
+static PyObject *new_date(PyTypeObject *kind, int32_t number, int32_t year, uint8_t month, uint8_t day)
+{
+    Date *self = (Date *)new_object(kind, date_type);
+    if (self) {
+        self->number = number;
+        self->year = year;
+        self->month = month;
+        self->day = day;
+    }
+    return (PyObject *)self;
+}
+
 PyObject *date_of(PyTypeObject *kind, int32_t number)
 {
     if (kind != date_type) {
@@ -30,11 +42,7 @@ PyObject *date_of(PyTypeObject *kind, int32_t number)
         return PyObject_CallFunction((PyObject *)kind, "iii", (int)calendar_year(number), (int)calendar_month(number),
                                      (int)calendar_day(number));
     }
-    PyObject *self = new_object(kind, date_type);
-    if (self) {
-        ((Date *)self)->number = number;
-    }
-    return self;
+    return new_date(kind, number, CALENDAR_NONE, 0, 0);
 }
 
 /* ---- dates by their names */
@@ -60,11 +68,7 @@ static PyObject *date_new(PyTypeObject *kind, PyObject *arguments, PyObject *key
         return NULL;
     }
     int32_t number = number_of_name(year, month, day);
-    PyObject *self = number == CALENDAR_NONE ? NULL : new_object(kind, date_type);
-    if (self) {
-        ((Date *)self)->number = number;
-    }
-    return self;
+    return number == CALENDAR_NONE ? NULL : new_date(kind, number, (int32_t)year, (uint8_t)month, (uint8_t)day);
 }
 
 static void date_free(PyObject *self)
@@ -182,20 +186,32 @@ static PyObject *date_number(PyObject *self, void *unused)
 
 static PyObject *date_year(PyObject *self, void *unused)
 {
+    Date *date = (Date *)self;
     (void)unused;
-    return PyLong_FromLong(calendar_year(number_of(self)));
+    if (date->year == CALENDAR_NONE) {
+        date->year = calendar_year(date->number);
+    }
+    return PyLong_FromLong(date->year);
 }
 
 static PyObject *date_month(PyObject *self, void *unused)
 {
+    Date *date = (Date *)self;
     (void)unused;
-    return PyLong_FromLong(calendar_month(number_of(self)));
+    if (date->month == 0) {
+        date->month = (uint8_t)calendar_month(date->number);
+    }
+    return PyLong_FromLong(date->month);
 }
 
 static PyObject *date_day(PyObject *self, void *unused)
 {
+    Date *date = (Date *)self;
     (void)unused;
-    return PyLong_FromLong(calendar_day(number_of(self)));
+    if (date->day == 0) {
+        date->day = (uint8_t)calendar_day(date->number);
+    }
+    return PyLong_FromLong(date->day);
 }
 
 static PyObject *date_ordinal(PyObject *self, void *unused)
@@ -232,24 +248,6 @@ static PyObject *date_iso_weekday(PyObject *self, PyObject *unused)
 {
     (void)unused;
     return weekday_member(calendar_weekday(number_of(self)));
-}
-
-PyObject *iso_calendar(int32_t number)
-{
-    PyObject *parts[] = {
-        PyLong_FromLong(calendar_iso_year(number)),
-        PyLong_FromLong(calendar_iso_week(number)),
-        weekday_member(calendar_weekday(number)),
-    };
-    PyObject *result = parts[0] && parts[1] ? PyStructSequence_New(iso_calendar_type) : NULL;
-    for (int i = 0; i < 3; i++) {
-        if (result) {
-            PyStructSequence_SetItem(result, i, parts[i]);
-        } else {
-            Py_XDECREF(parts[i]);
-        }
-    }
-    return result;
 }
 
 static PyObject *date_iso_calendar(PyObject *self, PyObject *unused)
@@ -541,14 +539,6 @@ static PyType_Spec spec = {
     .slots = slots,
 };
 
-static PyStructSequence_Field iso_fields[] = {
-    {"year", "The ISO year."}, {"week", "The week, from 1 to 53."}, {"weekday", "The Weekday."}, {NULL, NULL},
-};
-
-static PyStructSequence_Desc iso_description = {
-    "proved_calendar.IsoCalendarDate", "ISO year, week and weekday of a date.", iso_fields, 3,
-};
-
 /* Adds the first or the last date to the type. */
 static bool add_end(const char *name, int32_t number)
 {
@@ -560,10 +550,6 @@ static bool add_end(const char *name, int32_t number)
 
 bool make_date_type(PyObject *module)
 {
-    iso_calendar_type = PyStructSequence_NewType(&iso_description);
-    if (!iso_calendar_type || PyModule_AddObjectRef(module, "IsoCalendarDate", (PyObject *)iso_calendar_type) < 0) {
-        return false;
-    }
     date_type = add_type(module, &spec, "Date", "year month day");
     return date_type && add_end("MIN", CALENDAR_MIN) && add_end("MAX", CALENDAR_MAX);
 }

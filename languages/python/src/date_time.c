@@ -65,7 +65,41 @@ static bool moment_at(int32_t number, const int64_t clock[CLOCK], calendar_date_
     return true;
 }
 
+/* ---- what is kept of a date-time */
+
+/* The number of its date. */
+static int32_t day_of(PyObject *self)
+{
+    DateTime *of = (DateTime *)self;
+    if (of->number == CALENDAR_NONE) {
+        of->number = calendar_date_time_date(of->moment);
+    }
+    return of->number;
+}
+
+/* Its second of the day. */
+static int32_t second_of(PyObject *self)
+{
+    DateTime *of = (DateTime *)self;
+    if (of->second == CALENDAR_NONE) {
+        of->second = calendar_date_time_second_of_day(of->moment);
+    }
+    return of->second;
+}
+
 /* ---- making */
+
+/* An object for a date-time, with the number of its date if that is known. */
+static PyObject *new_date_time(PyTypeObject *kind, calendar_date_time moment, int32_t number)
+{
+    DateTime *self = (DateTime *)new_object(kind, date_time_type);
+    if (self) {
+        self->moment = moment;
+        self->number = number;
+        self->second = CALENDAR_NONE;
+    }
+    return (PyObject *)self;
+}
 
 /* A date-time of a type, from fields that are one. */
 static PyObject *date_time_of(PyTypeObject *kind, calendar_date_time moment)
@@ -78,11 +112,7 @@ static PyObject *date_time_of(PyTypeObject *kind, calendar_date_time moment)
                                      (long long)clock[HOUR], (long long)clock[MINUTE], (long long)clock[CLOCK_SECOND],
                                      (long long)clock[NANOSECOND]);
     }
-    PyObject *self = new_object(kind, date_time_type);
-    if (self) {
-        ((DateTime *)self)->moment = moment;
-    }
-    return self;
+    return new_date_time(kind, moment, CALENDAR_NONE);
 }
 
 static PyObject *date_time_new(PyTypeObject *kind, PyObject *arguments, PyObject *keywords)
@@ -101,11 +131,7 @@ static PyObject *date_time_new(PyTypeObject *kind, PyObject *arguments, PyObject
             return NULL;
         }
     }
-    PyObject *self = moment_at(number_of(parts[0]), clock, &moment) ? new_object(kind, date_time_type) : NULL;
-    if (self) {
-        ((DateTime *)self)->moment = moment;
-    }
-    return self;
+    return moment_at(number_of(parts[0]), clock, &moment) ? new_date_time(kind, moment, number_of(parts[0])) : NULL;
 }
 
 static void date_time_free(PyObject *self)
@@ -149,7 +175,7 @@ static PyObject *date_time_replace(PyObject *self, PyObject *const *arguments, P
     int64_t name[3], clock[CLOCK];
     calendar_date_time moment = moment_of(self);
     if (!take_array(&of_replace, arguments, count, keywords, parts)
-        || !read_name(calendar_date_time_date(moment), parts, name)) {
+        || !read_name(day_of(self), parts, name)) {
         return NULL;
     }
     read_clock(moment, clock);
@@ -166,11 +192,6 @@ static PyObject *date_time_replace(PyObject *self, PyObject *const *arguments, P
 }
 
 /* ---- what a date-time is called */
-
-static int32_t day_of(PyObject *self)
-{
-    return calendar_date_time_date(moment_of(self));
-}
 
 static PyObject *date_time_seconds(PyObject *self, void *unused)
 {
@@ -211,25 +232,25 @@ static PyObject *date_time_day(PyObject *self, void *unused)
 static PyObject *second_of_day(PyObject *self, void *unused)
 {
     (void)unused;
-    return PyLong_FromLong(calendar_date_time_second_of_day(moment_of(self)));
+    return PyLong_FromLong(second_of(self));
 }
 
 static PyObject *date_time_hour(PyObject *self, void *unused)
 {
     (void)unused;
-    return PyLong_FromLong(calendar_date_time_second_of_day(moment_of(self)) / 3600);
+    return PyLong_FromLong(second_of(self) / 3600);
 }
 
 static PyObject *date_time_minute(PyObject *self, void *unused)
 {
     (void)unused;
-    return PyLong_FromLong(calendar_date_time_second_of_day(moment_of(self)) / 60 % 60);
+    return PyLong_FromLong(second_of(self) / 60 % 60);
 }
 
 static PyObject *date_time_second(PyObject *self, void *unused)
 {
     (void)unused;
-    return PyLong_FromLong(calendar_date_time_second_of_day(moment_of(self)) % 60 + (moment_of(self).nanos >= SECOND));
+    return PyLong_FromLong(second_of(self) % 60 + (moment_of(self).nanos >= SECOND));
 }
 
 static PyObject *date_time_nanosecond(PyObject *self, void *unused)

@@ -1,20 +1,28 @@
 /* datetime_types.c: values of Python's own module datetime, whose C functions are not in the limited API. */
 #include "package.h"
 
+#include <string.h>
+
 /* The days of datetime: 1 January of year 1 is the first. */
 enum { FIRST_DAY = 1, LAST_DAY = 3652059, LONGEST_DAYS = 999999999 };
 
 static PyTypeObject *date_class, *datetime_class, *timedelta_class;
 static PyObject *from_ordinal;
 
-/* A field of timedelta, read as its class reads it. */
+/* A field of timedelta, as its class reads it, and where an object has it. */
 typedef struct {
     const char *name;
     PyObject *member;
     descrgetfunc get;
+    Py_ssize_t place;
 } Field;
 
-static Field fields[] = {{"days", NULL, NULL}, {"seconds", NULL, NULL}, {"microseconds", NULL, NULL}};
+enum { FIELDS = 3 };
+
+static Field fields[FIELDS] = {{.name = "days"}, {.name = "seconds"}, {.name = "microseconds"}};
+
+/* Whether the places of the fields are known. */
+static bool has_places;
 
 static bool take_class(PyObject *module, const char *name, PyTypeObject **class)
 {
@@ -32,6 +40,42 @@ static bool take_field(Field *field)
     return field->get;
 }
 
+/* The only place, of those for an int behind the head of an object, where a timedelta holds a number; 0 if there is none. */
+static Py_ssize_t place_of(const PyObject *it, Py_ssize_t size, int number)
+{
+    Py_ssize_t place = 0;
+    int found = 0;
+    for (Py_ssize_t i = sizeof(PyObject); i + (Py_ssize_t)sizeof number <= size; i += sizeof number) {
+        if (memcmp((const char *)it + i, &number, sizeof number) == 0) {
+            place = i;
+            found++;
+        }
+    }
+    return found == 1 ? place : 0;
+}
+
+/* Looks where timedeltas hold their fields: to read them there takes a third of the time that their class takes. The places
+ * have to be the same in two timedeltas of numbers that stand nowhere by chance; else they are read by the class. */
+static bool find_places(void)
+{
+    static const int samples[2][FIELDS] = {{123456789, 76543, 987654}, {-87654321, 23456, 345678}};
+    PyObject *size = PyObject_GetAttrString((PyObject *)timedelta_class, "__basicsize__");
+    Py_ssize_t bytes = size ? PyLong_AsSsize_t(size) : -1;
+    Py_XDECREF(size);
+    has_places = bytes > 0;
+    for (int sample = 0; bytes > 0 && sample < 2; sample++) {
+        const int *numbers = samples[sample];
+        PyObject *it = PyObject_CallFunction((PyObject *)timedelta_class, "iii", numbers[0], numbers[1], numbers[2]);
+        for (int i = 0; it && i < FIELDS; i++) {
+            Py_ssize_t place = place_of(it, bytes, numbers[i]);
+            has_places = has_places && place && (sample == 0 || place == fields[i].place);
+            fields[i].place = place;
+        }
+        Py_XDECREF(it);
+    }
+    return !PyErr_Occurred();
+}
+
 bool take_datetime(void)
 {
     PyObject *module = PyImport_ImportModule("datetime");
@@ -39,7 +83,8 @@ bool take_datetime(void)
         && take_class(module, "timedelta", &timedelta_class);
     Py_XDECREF(module);
     from_ordinal = is_taken ? PyObject_GetAttrString((PyObject *)date_class, "fromordinal") : NULL;
-    return from_ordinal && take_field(&fields[0]) && take_field(&fields[1]) && take_field(&fields[2]);
+    return from_ordinal && take_field(&fields[0]) && take_field(&fields[1]) && take_field(&fields[2])
+        && find_places();
 }
 
 bool is_python_date(PyObject *it)
@@ -70,8 +115,22 @@ static bool read_field(const Field *field, PyObject *it, int64_t *number)
     return take_whole(field->get(field->member, it, (PyObject *)timedelta_class), number);
 }
 
+/* The number that an object has at a place. */
+static int64_t number_at(const PyObject *it, Py_ssize_t place)
+{
+    int number;
+    memcpy(&number, (const char *)it + place, sizeof number);
+    return number;
+}
+
 bool read_timedelta(PyObject *it, int64_t *days, int64_t *seconds, int64_t *microseconds)
 {
+    if (has_places) {
+        *days = number_at(it, fields[0].place);
+        *seconds = number_at(it, fields[1].place);
+        *microseconds = number_at(it, fields[2].place);
+        return true;
+    }
     return read_field(&fields[0], it, days) && read_field(&fields[1], it, seconds) && read_field(&fields[2], it, microseconds);
 }
 

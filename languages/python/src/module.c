@@ -66,8 +66,9 @@ PyMODINIT_FUNC PyInit__calendar(void);
 PyMODINIT_FUNC PyInit__calendar(void)
 {
     PyObject *module = PyModule_Create(&definition);
-    bool is_made = module && take_weekdays() && take_datetime() && make_date_type(module) && make_duration_type(module)
-        && make_date_time_type(module) && PyModule_AddStringConstant(module, "__version__", CALENDAR_VERSION) == 0;
+    bool is_made = module && take_weekdays() && take_datetime() && make_iso_calendar_type(module)
+        && make_date_type(module) && make_duration_type(module) && make_date_time_type(module)
+        && PyModule_AddStringConstant(module, "__version__", CALENDAR_VERSION) == 0;
     if (!is_made) {
         Py_CLEAR(module);
     }

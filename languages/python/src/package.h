@@ -17,16 +17,20 @@
 #define FROM_SLOT(kind, type, slot) (__extension__(kind)PyType_GetSlot(type, slot))
 #define METHOD(function) ((PyCFunction)(void (*)(void))(function))
 
-/* A date: its day number, from CALENDAR_MIN to CALENDAR_MAX. */
+/* A date: its day number, from CALENDAR_MIN to CALENDAR_MAX, and what was asked of it before: its year, or CALENDAR_NONE, its
+ * month and its day, or 0. */
 typedef struct {
     PyObject_HEAD
-    int32_t number;
+    int32_t number, year;
+    uint8_t month, day;
 } Date;
 
-/* A date-time: the fields of one. */
+/* A date-time: the fields of one, and what was asked of it before: the number of its date and its second of the day, or
+ * CALENDAR_NONE. */
 typedef struct {
     PyObject_HEAD
     calendar_date_time moment;
+    int32_t number, second;
 } DateTime;
 
 /* A duration: the fields of one. */
@@ -166,7 +170,11 @@ int32_t number_of_name(int64_t year, int64_t month, int64_t day);
 /* Year, month and day of a date, each in place of a part that is left out. */
 bool read_name(int32_t number, PyObject *const parts[3], int64_t name[3]);
 
-/* ISO year, week and weekday of a date. */
+/* ---- ISO year, week and weekday as a tuple (iso_calendar.c) */
+
+bool make_iso_calendar_type(PyObject *module);
+
+/* Those of the date with a number. */
 PyObject *iso_calendar(int32_t number);
 
 /* ---- durations (duration.c) */

@@ -1,0 +1,148 @@
+/* Times the columns of the calendar: N ROUNDS, and prints a line `CALL WHO NANOSECONDS` for each. Answers are compared first. */
+#define _POSIX_C_SOURCE 200809L
+#include "calendar.h"
+
+#include <stdio.h>
+#include <stdlib.h>
+#include <string.h>
+#include <time.h>
+
+void limit_weekdays(const int32_t *, uint8_t *, size_t);
+void limit_split(const int32_t *, int32_t *, uint8_t *, uint8_t *, size_t);
+void limit_join(const int32_t *, const uint8_t *, const uint8_t *, int32_t *, size_t);
+void limit_add_months(const int32_t *, int32_t, int32_t *, size_t);
+void copy_1(const int32_t *, uint8_t *, size_t);
+void copy_4(const int32_t *, int32_t *, size_t);
+void copy_split(const int32_t *, int32_t *, uint8_t *, uint8_t *, size_t);
+void copy_join(const int32_t *, const uint8_t *, const uint8_t *, int32_t *, size_t);
+
+static int32_t *dates, *years, *numbers, *wanted;
+static uint8_t *months, *days, *small;
+static uint16_t *ordinals;
+static int64_t *wide;
+static size_t n;
+
+static uint64_t state = 88172645463325252ull;
+
+static uint64_t draw(void)
+{
+    state ^= state << 13;
+    state ^= state >> 7;
+    return state ^= state << 17;
+}
+
+static void *room(size_t size)
+{
+    void *made = malloc(n * size);
+    if (!made) exit(2);
+    memset(made, 1, n * size);
+    return made;
+}
+
+static double now(void)
+{
+    struct timespec it;
+    clock_gettime(CLOCK_THREAD_CPUTIME_ID, &it);
+    return (double)it.tv_sec + (double)it.tv_nsec * 1e-9;
+}
+
+/* ---- the calls: columns, the same one by one, the loops of C, and copies */
+
+static void weekdays_ours(void) { calendar_column_weekdays(dates, n, small, n); }
+static void weekdays_single(void) { for (size_t i = 0; i < n; i++) small[i] = (uint8_t)calendar_weekday(dates[i]); }
+static void weekdays_limit(void) { limit_weekdays(dates, small, n); }
+static void weekdays_copy(void) { copy_1(dates, small, n); }
+static void years_ours(void) { calendar_column_years(dates, n, numbers, n); }
+static void years_single(void) { for (size_t i = 0; i < n; i++) numbers[i] = calendar_year(dates[i]); }
+static void years_copy(void) { copy_4(dates, numbers, n); }
+static void ordinals_ours(void) { calendar_column_ordinals(dates, n, ordinals, n); }
+static void iso_weeks_ours(void) { calendar_column_iso_weeks(dates, n, numbers, n, small, n); }
+static void split_ours(void) { calendar_column_split(dates, n, years, n, months, n, days, n); }
+static void split_limit(void) { limit_split(dates, years, months, days, n); }
+static void split_copy(void) { copy_split(dates, years, months, days, n); }
+static void split_single(void)
+{
+    for (size_t i = 0; i < n; i++) {
+        calendar_ymd it = calendar_split(dates[i]);
+        years[i] = it.year, months[i] = it.month, days[i] = it.day;
+    }
+}
+static void join_ours(void) { calendar_column_join(years, n, months, n, days, n, numbers, n); }
+static void join_single(void) { for (size_t i = 0; i < n; i++) numbers[i] = calendar_from_ymd(years[i], months[i], days[i]); }
+static void join_limit(void) { limit_join(years, months, days, numbers, n); }
+static void join_copy(void) { copy_join(years, months, days, numbers, n); }
+static void add_days_ours(void) { calendar_column_add_days(dates, n, 1000, numbers, n); }
+static void add_days_single(void) { for (size_t i = 0; i < n; i++) numbers[i] = calendar_add_days(dates[i], 1000); }
+static void add_days_copy(void) { copy_4(dates, numbers, n); }
+static void add_months_ours(void) { calendar_column_add_months(dates, n, 7, numbers, n); }
+static void add_months_single(void) { for (size_t i = 0; i < n; i++) numbers[i] = calendar_add_months(dates[i], 7); }
+static void add_months_limit(void) { limit_add_months(dates, 7, numbers, n); }
+static void add_months_copy(void) { copy_4(dates, numbers, n); }
+static void days_between_ours(void) { calendar_column_days_between(dates, n, years, n, numbers, n); }
+static void to_unix_days_ours(void) { calendar_column_to_unix_days(dates, n, wide, n); }
+static void from_unix_days_ours(void) { calendar_column_from_unix_days(wide, n, numbers, n); }
+
+typedef struct {
+    const char *call, *who;
+    void (*run)(void);
+} timed;
+
+static const timed all[] = {
+    {"weekdays", "ours", weekdays_ours}, {"weekdays", "single", weekdays_single}, {"weekdays", "limit", weekdays_limit},
+    {"weekdays", "copy", weekdays_copy},
+    {"years", "ours", years_ours}, {"years", "single", years_single}, {"years", "copy", years_copy},
+    {"ordinals", "ours", ordinals_ours}, {"iso_weeks", "ours", iso_weeks_ours},
+    {"split", "ours", split_ours}, {"split", "single", split_single}, {"split", "limit", split_limit}, {"split", "copy", split_copy},
+    {"join", "ours", join_ours}, {"join", "single", join_single}, {"join", "limit", join_limit}, {"join", "copy", join_copy},
+    {"add_days", "ours", add_days_ours}, {"add_days", "single", add_days_single}, {"add_days", "copy", add_days_copy},
+    {"add_months", "ours", add_months_ours}, {"add_months", "single", add_months_single},
+    {"add_months", "limit", add_months_limit}, {"add_months", "copy", add_months_copy},
+    {"days_between", "ours", days_between_ours}, {"to_unix_days", "ours", to_unix_days_ours},
+    {"from_unix_days", "ours", from_unix_days_ours},
+};
+
+#define CALLS (sizeof all / sizeof *all)
+
+/* Ends the program unless each column is what the single calls and the loops of C make of it. */
+static void compare(void)
+{
+    bool same = true;
+    weekdays_ours(), memcpy(wanted, small, n), weekdays_limit(), same &= !memcmp(wanted, small, n);
+    weekdays_single(), same &= !memcmp(wanted, small, n);
+    years_ours(), memcpy(wanted, numbers, 4 * n), years_single(), same &= !memcmp(wanted, numbers, 4 * n);
+    add_days_ours(), memcpy(wanted, numbers, 4 * n), add_days_single(), same &= !memcmp(wanted, numbers, 4 * n);
+    add_months_ours(), memcpy(wanted, numbers, 4 * n), add_months_single(), same &= !memcmp(wanted, numbers, 4 * n);
+    add_months_limit(), same &= !memcmp(wanted, numbers, 4 * n);
+    split_limit(), join_limit(), same &= !memcmp(dates, numbers, 4 * n);
+    split_single(), join_single(), same &= !memcmp(dates, numbers, 4 * n);
+    split_ours(), join_ours(), same &= !memcmp(dates, numbers, 4 * n);
+    to_unix_days_ours(), from_unix_days_ours(), same &= !memcmp(dates, numbers, 4 * n);
+    if (!same) {
+        fprintf(stderr, "the answers are not the same, so nothing was timed\n");
+        exit(1);
+    }
+}
+
+int main(int argc, char **argv)
+{
+    n = strtoull(argc > 1 ? argv[1] : "32768", NULL, 10);
+    int rounds = argc > 2 ? atoi(argv[2]) : 100, repeats = n < 1000000 ? (int)(1000000 / n) : 1;
+    dates = room(4), years = room(4), numbers = room(4), wanted = room(4), wide = room(8);
+    months = room(1), days = room(1), small = room(1), ordinals = room(2);
+    for (size_t i = 0; i < n; i++) dates[i] = 657073 + (int32_t)(draw() % 146097);
+    compare();
+    double best[CALLS];
+    for (int round = 0; round < rounds; round++) {
+        for (size_t call = 0; call < CALLS; call++) {
+            double began = now();
+            for (int i = 0; i < repeats; i++) {
+                all[call].run();
+                __asm__ volatile("" ::: "memory");
+            }
+            double taken = (now() - began) / repeats / (double)n * 1e9;
+            if (!round || taken < best[call]) best[call] = taken;
+        }
+    }
+    for (size_t call = 0; call < CALLS; call++) printf("%s %s %.3f\n", all[call].call, all[call].who, best[call]);
+    return 0;
+}
