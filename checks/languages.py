@@ -21,6 +21,8 @@ import subprocess
 import sys
 import tempfile
 
+import rust
+
 TOP = os.path.dirname(os.path.dirname(os.path.abspath(__file__)))
 sys.path.insert(0, f"{TOP}/tools")
 from library import find_library  # noqa: E402
@@ -330,13 +332,11 @@ def test_python(results, room, library):
 
 
 def test_rust(results, room, library):
-    """The tests of Rust, and the example of its README, which is the crate's documentation."""
+    """The package for Rust in a project outside, with its features, examples and wrong lines (checks/rust.py)."""
     if not shutil.which("cargo"):
         print("not run: the tests in Rust, since there is no cargo")
         return
-    env = dict(os.environ, CALENDAR_FOLDER=os.path.dirname(library), CARGO_TARGET_DIR=f"{room}/target")
-    words = ["cargo", "test", "--offline", "--locked", "--manifest-path", f"{LANGUAGES}/rust/Cargo.toml"]
-    run(results, "cargo test", words, (r"test result: .*? (\d+) passed", r"test result: .*? (\d+) failed"), env=env)
+    rust.test(results, run, room, library)
 
 
 def compare_examples(results):

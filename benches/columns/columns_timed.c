@@ -134,6 +134,7 @@ int main(int argc, char **argv)
     double best[CALLS];
     for (int round = 0; round < rounds; round++) {
         for (size_t call = 0; call < CALLS; call++) {
+            split_limit(); /* (the copies leave no names) */
             double began = now();
             for (int i = 0; i < repeats; i++) {
                 all[call].run();

@@ -61,7 +61,7 @@ void limit_join(const int32_t *restrict years, const uint8_t *restrict months, c
         uint32_t length = m == 2 ? 28 + leap : 30 + ((m + (m >> 3)) & 1);
         uint32_t before = days_to(counted - (m < 3)) + (979 * (m < 3 ? m + 12 : m) - 2919) / 32;
         int32_t date = (int32_t)(before + day) - (DAYS_TO_ONE + FROM_MARCH);
-        out[i] = (year == years[i]) & (month == months[i]) & (day >= 1) & (day <= length) ? date : NONE;
+        out[i] = ((year == years[i]) & (month == months[i]) & (day >= 1) & (day <= length)) ? date : NONE;
     }
 }
 
@@ -76,7 +76,7 @@ void limit_add_months(const int32_t *restrict dates, int32_t months, int32_t *re
         uint32_t year = (uint32_t)near / 12, month = (uint32_t)near % 12 + 3, start = days_to(year), length = days_to(year + 1) - start;
         uint32_t next = (979 * month - 1940) / 32, end = next < length ? next : length, at = (979 * month - 2919) / 32 + day;
         int32_t moved = (int32_t)(start + (at < end ? at : end)) - (DAYS_TO_ONE + FROM_MARCH);
-        out[i] = (date == dates[i]) & (near == wanted) ? moved : NONE;
+        out[i] = ((date == dates[i]) & (near == wanted)) ? moved : NONE;
     }
 }
 

@@ -35,15 +35,6 @@ fn nearest_count(months: i32) -> i32
     if months > PAST_ALL { PAST_ALL } else { months }
 }
 
-// Whether a month is one of the library's.
-#[inline]
-fn is_month(month: i32) -> bool
-    ensures yes { result ≡ true → IsYear (year_of_month_index (month -ℤ pos 3_148_798)) }
-    ensures no { result ≡ false → IsYear (year_of_month_index (month -ℤ pos 3_148_798)) → ⊥ }
-{
-    (month >= FIRST_MONTH) & (month <= LAST_MONTH)
-}
-
 // The month of the library's that is nearest to another.
 #[inline]
 fn nearest_month(month: i32) -> u32
@@ -59,6 +50,15 @@ fn nearest_month(month: i32) -> u32
     } else {
         month as u32
     }
+}
+
+// Whether a month is one of the library's.
+#[inline]
+fn is_month(month: i32) -> bool
+    ensures yes { result ≡ true → IsYear (year_of_month_index (month -ℤ pos 3_148_798)) }
+    ensures no { result ≡ false → IsYear (year_of_month_index (month -ℤ pos 3_148_798)) → ⊥ }
+{
+    nearest_month(month) as i32 == month
 }
 
 // The month of a date, and the day there.

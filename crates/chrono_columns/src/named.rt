@@ -6,10 +6,10 @@ ghost use Rattle.chrono_calendar.specs.Days.{days_before_year, day_number_of_ymd
 ghost use Rattle.chrono_columns.specs.Columns.{date_entry};
 
 use crate::conversion::{DAYS_FROM_MARCH, days_to_year};
-use crate::nearest::{nearest_month, nearest_year};
+use crate::nearest::{is_month, is_year, nearest_month, nearest_year};
 use crate::none::NONE;
 use chrono_calendar::counted_years::{DAYS_TO_ONE, YEARS_TO_ONE};
-use chrono_units::year::{is_year, month_length};
+use chrono_units::year::month_length;
 
 // Whether a year is leap, by one division: of the hundredth years every fourth is, of all others each that four divides.
 #[inline]
@@ -49,14 +49,6 @@ fn number_of(year: i32, month: u32, day: u32) -> i32
 {
     let from_march = if month > 2 { month } else { month + 12 };
     number_at(year, month, (979 * from_march - 2_919) / 32 + day)
-}
-
-// Whether a number is that of a month.
-#[inline]
-fn is_month(number: u8) -> bool
-    ensures { result ≡ (nat_le 1 number && nat_le number 12) }
-{
-    (number >= 1) & (number <= 12)
 }
 
 // Whether a month of so many days has the day.

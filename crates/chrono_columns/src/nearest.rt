@@ -1,7 +1,7 @@
 //! The values of a range that are nearest to any numbers.
-ghost use Rattle.std.specs.Prelude.{◌≡◌};
+ghost use Rattle.std.specs.Prelude.{◌≡◌, ◌&&◌, nat_le};
 ghost use Rattle.std.specs.Int.{IsInRange};
-ghost use Rattle.chrono_units.specs.Years.{IsYear};
+ghost use Rattle.chrono_units.specs.Years.{IsYear, is_year};
 ghost use Rattle.chrono_calendar.specs.Days.{IsDate, is_date};
 
 use chrono_calendar::ends::{FIRST_DAY, LAST_DAY};
@@ -19,12 +19,12 @@ pub(crate) fn nearest_date(number: i32) -> i32
     if number > LAST_DAY { LAST_DAY } else { number }
 }
 
-/// Whether a number is a date.
+/// Whether a number is a date, and so the nearest one itself.
 #[inline]
 pub(crate) fn is_date(number: i32) -> bool
     ensures { result ≡ is_date number }
 {
-    (number >= FIRST_DAY) & (number <= LAST_DAY)
+    nearest_date(number) == number
 }
 
 /// The year nearest to a number, of those that have dates.
@@ -39,6 +39,14 @@ pub(crate) fn nearest_year(number: i32) -> i32
     if number > MAX_YEAR { MAX_YEAR } else { number }
 }
 
+/// Whether a number is a year that has dates.
+#[inline]
+pub(crate) fn is_year(number: i32) -> bool
+    ensures { result ≡ is_year number }
+{
+    nearest_year(number) == number
+}
+
 /// The month nearest to a number.
 #[inline]
 pub(crate) fn nearest_month(number: u8) -> u32
@@ -49,4 +57,12 @@ pub(crate) fn nearest_month(number: u8) -> u32
         return 1;
     }
     if number > 12 { 12 } else { u32::from(number) }
+}
+
+/// Whether a number is that of a month.
+#[inline]
+pub(crate) fn is_month(number: u8) -> bool
+    ensures { result ≡ (nat_le 1 number && nat_le number 12) }
+{
+    nearest_month(number) == u32::from(number)
 }

@@ -1,8 +1,9 @@
 //! Dates with a time of day.
 
-use std::fmt;
-use std::ops::Sub;
-use std::str::{from_utf8, FromStr};
+use core::fmt;
+use core::num::NonZeroU32;
+use core::ops::Sub;
+use core::str::{from_utf8, FromStr};
 
 use crate::calls::*;
 use crate::{Date, Duration, ParseError};
@@ -18,20 +19,48 @@ const TEXT_ROOM: usize = 32;
 /// The time may lie in a leap second, the second 60 of a minute. From there a move goes on a line that holds this leap second
 /// and no other. Date-times are compared by date, then by time of day. Printed is the date's text, `T` and `HH:MM:SS`, with
 /// three, six or nine digits of a fraction that is not 0; a text that is read may have a space for the `T`, and any number of
-/// digits from one to nine.
+/// digits from one to nine. An `Option` of one takes no more room.
+///
+/// ```
+/// use proved_calendar::DateTime;
+/// let leap_second: DateTime = "2016-12-31T23:59:60.5".parse().unwrap();
+/// assert_eq!((leap_second.second(), leap_second.nanosecond()), (60, 500_000_000));
+/// assert_eq!(size_of::<Option<DateTime>>(), size_of::<DateTime>());
+/// ```
 #[derive(Clone, Copy, PartialEq, Eq, PartialOrd, Ord, Hash)]
 pub struct DateTime {
-    moment: Moment,
+    seconds: i64,
+    /// One more than the nanoseconds past the seconds, so that there is a number for none.
+    after: NonZeroU32,
 }
 
 impl DateTime {
     /// The date-time that a function of the library answers.
     fn found(moment: Moment) -> Option<DateTime> {
-        (moment.nanos != NO_NANOS).then_some(DateTime { moment })
+        let after = NonZeroU32::new(moment.nanos.wrapping_sub(NO_NANOS))?;
+        Some(DateTime {
+            seconds: moment.seconds,
+            after,
+        })
+    }
+
+    /// The date-time as the library takes it.
+    const fn moment(self) -> Moment {
+        Moment {
+            seconds: self.seconds,
+            nanos: self.nanos(),
+        }
     }
 
     /// The date-time at a second of a date, from 0 to 86,399, and so many nanoseconds past it. From 1,000,000,000 on they lie
     /// in the leap second that follows the last second of a minute; `None` if there is no such time.
+    ///
+    /// ```
+    /// use proved_calendar::{Date, DateTime};
+    /// assert_eq!(DateTime::new(Date::UNIX_EPOCH, 86_399, 0).unwrap().to_string(), "1970-01-01T23:59:59");
+    /// assert_eq!(DateTime::new(Date::UNIX_EPOCH, 86_400, 0), None);
+    /// ```
+    #[must_use]
     pub fn new(date: Date, second_of_day: u32, nanos: u32) -> Option<DateTime> {
         DateTime::found(calendar_date_time_new(date.number(), second_of_day, nanos))
     }
@@ -57,58 +86,132 @@ impl DateTime {
 
     /// The date-time with these seconds since 1970-01-01T00:00:00, leap seconds not counted, and nanoseconds past them, of
     /// which 1,000,000,000 and more lie in the leap second that follows; `None` if there is none.
+    ///
+    /// ```
+    /// use proved_calendar::DateTime;
+    /// let leap_second = DateTime::from_seconds(1_483_228_799, 1_500_000_000).unwrap();
+    /// assert_eq!(leap_second.to_string(), "2016-12-31T23:59:60.500");
+    /// assert_eq!(DateTime::from_seconds(0, 1_500_000_000), None);
+    /// ```
+    #[must_use]
     pub fn from_seconds(seconds: i64, nanos: u32) -> Option<DateTime> {
         let moment = Moment { seconds, nanos };
-        (calendar_date_time_date(moment) != NONE).then_some(DateTime { moment })
+        if calendar_date_time_date(moment) == NONE {
+            return None;
+        }
+        DateTime::found(moment)
     }
 
     /// The seconds since 1970-01-01T00:00:00, leap seconds not counted.
+    ///
+    /// ```
+    /// use proved_calendar::Date;
+    /// assert_eq!(Date::UNIX_EPOCH.at(0, 1, 0, 0).unwrap().seconds(), 60);
+    /// ```
+    #[must_use]
     pub const fn seconds(self) -> i64 {
-        self.moment.seconds
+        self.seconds
     }
 
     /// The nanoseconds past the seconds; 1,000,000,000 and more lie in the leap second that follows.
+    ///
+    /// ```
+    /// use proved_calendar::Date;
+    /// assert_eq!(Date::UNIX_EPOCH.at(0, 0, 60, 5).unwrap().nanos(), 1_000_000_005);
+    /// ```
+    #[must_use]
     pub const fn nanos(self) -> u32 {
-        self.moment.nanos
+        self.after.get() - 1
     }
 
     /// The date.
+    ///
+    /// ```
+    /// use proved_calendar::Date;
+    /// assert_eq!(Date::MIN.at(0, 0, 0, 0).unwrap().date(), Date::MIN);
+    /// ```
+    #[must_use]
     pub fn date(self) -> Date {
-        let number = calendar_date_time_date(self.moment);
+        let number = calendar_date_time_date(self.moment());
         Date::from_number(number).expect("a date-time has a date")
     }
 
     /// The second of the day, from 0 to 86,399; of a leap second that before it.
+    ///
+    /// ```
+    /// use proved_calendar::Date;
+    /// assert_eq!(Date::MIN.at(1, 0, 1, 0).unwrap().second_of_day(), 3_601);
+    /// ```
+    #[must_use]
     pub fn second_of_day(self) -> u32 {
-        calendar_date_time_second_of_day(self.moment) as u32
+        calendar_date_time_second_of_day(self.moment()) as u32
     }
 
     /// The hour, from 0 to 23.
+    ///
+    /// ```
+    /// use proved_calendar::Date;
+    /// assert_eq!(Date::MIN.at(23, 0, 0, 0).unwrap().hour(), 23);
+    /// ```
+    #[must_use]
     pub fn hour(self) -> u32 {
         self.second_of_day() / 3_600
     }
 
     /// The minute, from 0 to 59.
+    ///
+    /// ```
+    /// use proved_calendar::Date;
+    /// assert_eq!(Date::MIN.at(23, 7, 0, 0).unwrap().minute(), 7);
+    /// ```
+    #[must_use]
     pub fn minute(self) -> u32 {
         self.second_of_day() / 60 % 60
     }
 
     /// The second, from 0 to 59; 60 in a leap second.
+    ///
+    /// ```
+    /// use proved_calendar::Date;
+    /// assert_eq!(Date::MIN.at(23, 59, 60, 0).unwrap().second(), 60);
+    /// ```
+    #[must_use]
     pub fn second(self) -> u32 {
         self.second_of_day() % 60 + self.nanos() / NANOS
     }
 
     /// The nanoseconds past the second that a clock shows, from 0 to 999,999,999.
+    ///
+    /// ```
+    /// use proved_calendar::Date;
+    /// assert_eq!(Date::MIN.at(23, 59, 60, 5).unwrap().nanosecond(), 5);
+    /// ```
+    #[must_use]
     pub fn nanosecond(self) -> u32 {
         self.nanos() % NANOS
     }
 
     /// The date-time so much later, or earlier for a negative duration; `None` beyond the calendar.
+    ///
+    /// ```
+    /// use proved_calendar::{Date, Duration};
+    /// let midnight = Date::UNIX_EPOCH.at(0, 0, 0, 0).unwrap();
+    /// let later = midnight.checked_add(Duration::from_seconds(90).unwrap());
+    /// assert_eq!(later, Date::UNIX_EPOCH.at(0, 1, 30, 0));
+    /// ```
+    #[must_use]
     pub fn checked_add(self, by: Duration) -> Option<DateTime> {
-        DateTime::found(calendar_date_time_add(self.moment, by.span))
+        DateTime::found(calendar_date_time_add(self.moment(), by.span()))
     }
 
     /// The date-time so much earlier, or later for a negative duration; `None` beyond the calendar.
+    ///
+    /// ```
+    /// use proved_calendar::{Date, Duration};
+    /// let first = Date::MIN.at(0, 0, 0, 0).unwrap();
+    /// assert_eq!(first.checked_sub(Duration::from_nanoseconds(1).unwrap()), None);
+    /// ```
+    #[must_use]
     pub fn checked_sub(self, by: Duration) -> Option<DateTime> {
         self.checked_add(-by)
     }
@@ -117,13 +220,18 @@ impl DateTime {
 /// How far the left date-time is from the right one. A leap second counts if one of them is in it and has the smaller second
 /// of the day. So the sign of the difference tells the order of two times of one date, but not always of two dates:
 /// 2017-01-01T00:00:00 is -0.5 seconds from 2016-12-31T23:59:60.5, which is before it.
+///
+/// ```
+/// use proved_calendar::DateTime;
+/// let [first, last] = ["1970-01-01T00:00:00", "1970-01-02T00:00:01.5"].map(|it| it.parse::<DateTime>().unwrap());
+/// assert_eq!((last - first).to_string(), "PT86401.5S");
+/// ```
 impl Sub for DateTime {
     type Output = Duration;
 
     fn sub(self, base: DateTime) -> Duration {
-        Duration {
-            span: calendar_date_time_since(self.moment, base.moment),
-        }
+        let span = calendar_date_time_since(self.moment(), base.moment());
+        Duration::found(span).expect("two date-times are apart by a duration")
     }
 }
 
@@ -131,7 +239,7 @@ impl fmt::Display for DateTime {
     fn fmt(&self, f: &mut fmt::Formatter<'_>) -> fmt::Result {
         let mut room = [0; TEXT_ROOM];
         // SAFETY: so many bytes lie in the array.
-        let length = unsafe { calendar_write_date_time(self.moment, room.as_mut_ptr(), TEXT_ROOM) };
+        let length = unsafe { calendar_write_date_time(self.moment(), room.as_mut_ptr(), TEXT_ROOM) };
         f.pad(from_utf8(&room[..length as usize]).map_err(|_| fmt::Error)?)
     }
 }

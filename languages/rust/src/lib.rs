@@ -1,15 +1,31 @@
 #![doc = include_str!("../README.md")]
+#![no_std]
 #![warn(missing_docs)]
 
 mod calls;
 mod date;
+mod date_range;
 mod date_time;
 mod duration;
 mod parse_error;
 mod weekday;
+mod weekday_set;
+#[cfg(feature = "chrono")]
+mod with_chrono;
+#[cfg(feature = "serde")]
+mod with_serde;
+#[cfg(feature = "time")]
+mod with_time;
 
+#[cfg(any(feature = "chrono", feature = "time"))]
+mod conversion_error;
+
+#[cfg(any(feature = "chrono", feature = "time"))]
+pub use conversion_error::ConversionError;
 pub use date::{days_in_month, is_leap_year, Date};
+pub use date_range::DateRange;
 pub use date_time::DateTime;
 pub use duration::Duration;
 pub use parse_error::ParseError;
-pub use weekday::{Weekday, WeekdaySet};
+pub use weekday::Weekday;
+pub use weekday_set::{WeekdaySet, Weekdays};

@@ -1,9 +1,14 @@
 //! What is answered of a text that has no value.
 
-use std::error::Error;
-use std::fmt;
+use core::error::Error;
+use core::fmt;
 
 /// The text is none of those that a value of the type has.
+///
+/// ```
+/// let refused = "2024-02-30".parse::<proved_calendar::Date>().unwrap_err();
+/// assert_eq!(refused.to_string(), "no text of a date");
+/// ```
 #[derive(Clone, Copy, Debug, PartialEq, Eq)]
 pub struct ParseError {
     pub(crate) kind: &'static str,

@@ -1,8 +1,30 @@
-//! Weekdays, and sets of them.
+//! Weekdays.
 
-use crate::calls::{calendar_days_until, NONE};
+use core::fmt;
+use core::str::FromStr;
+
+use crate::ParseError;
+
+/// The names in English, from Monday on.
+const NAMES: [&str; 7] = [
+    "Monday",
+    "Tuesday",
+    "Wednesday",
+    "Thursday",
+    "Friday",
+    "Saturday",
+    "Sunday",
+];
 
 /// A day of the week, from 1 for Monday to 7 for Sunday (ISO 8601).
+///
+/// Printed is the name's first three letters. A text that is read is these or the whole name, in large or small letters.
+///
+/// ```
+/// use proved_calendar::Weekday;
+/// assert_eq!(Weekday::Thu.to_string(), "Thu");
+/// assert_eq!("thursday".parse(), Ok(Weekday::Thu));
+/// ```
 #[derive(Clone, Copy, Debug, PartialEq, Eq, PartialOrd, Ord, Hash)]
 pub enum Weekday {
     /// Monday, 1.
@@ -23,6 +45,11 @@ pub enum Weekday {
 
 impl Weekday {
     /// All weekdays, from Monday on.
+    ///
+    /// ```
+    /// use proved_calendar::Weekday;
+    /// assert_eq!(Weekday::ALL[6], Weekday::Sun);
+    /// ```
     pub const ALL: [Weekday; 7] = [
         Weekday::Mon,
         Weekday::Tue,
@@ -34,47 +61,53 @@ impl Weekday {
     ];
 
     /// The weekday with a number from 1 for Monday to 7; `None` for any other number.
+    ///
+    /// ```
+    /// use proved_calendar::Weekday;
+    /// assert_eq!(Weekday::from_number(4), Some(Weekday::Thu));
+    /// assert_eq!(Weekday::from_number(0), None);
+    /// ```
+    #[must_use]
     pub fn from_number(number: u32) -> Option<Weekday> {
         Weekday::ALL.get((number as usize).checked_sub(1)?).copied()
     }
 
     /// The number, from 1 for Monday to 7.
+    ///
+    /// ```
+    /// assert_eq!(proved_calendar::Weekday::Sun.number(), 7);
+    /// ```
+    #[must_use]
     pub const fn number(self) -> u32 {
         self as u32
     }
-}
 
-/// A set of weekdays.
-#[derive(Clone, Copy, Debug, Default, PartialEq, Eq, Hash)]
-pub struct WeekdaySet {
-    /// 1 for Monday, 2 for Tuesday, and so on up to 64 for Sunday.
-    pub(crate) members: u8,
-}
-
-impl WeekdaySet {
-    /// Whether the weekday is in the set.
-    pub const fn contains(self, weekday: Weekday) -> bool {
-        self.members >> (weekday.number() - 1) & 1 == 1
-    }
-
-    /// The days from a weekday on to the first one in the set, 0 to 6; `None` if the set is empty.
-    pub fn days_until(self, from: Weekday) -> Option<u32> {
-        let days = calendar_days_until(self.members, from.number());
-        (days != NONE).then_some(days as u32)
+    /// The whole name.
+    ///
+    /// ```
+    /// assert_eq!(proved_calendar::Weekday::Sun.name(), "Sunday");
+    /// ```
+    #[must_use]
+    pub const fn name(self) -> &'static str {
+        NAMES[self as usize - 1]
     }
 }
 
-impl FromIterator<Weekday> for WeekdaySet {
-    fn from_iter<I: IntoIterator<Item = Weekday>>(weekdays: I) -> WeekdaySet {
-        let bits = weekdays.into_iter().map(|it| 1 << (it.number() - 1));
-        WeekdaySet {
-            members: bits.fold(0, |members, bit| members | bit),
-        }
+impl fmt::Display for Weekday {
+    fn fmt(&self, f: &mut fmt::Formatter<'_>) -> fmt::Result {
+        f.pad(&self.name()[..3])
     }
 }
 
-impl<const N: usize> From<[Weekday; N]> for WeekdaySet {
-    fn from(weekdays: [Weekday; N]) -> WeekdaySet {
-        weekdays.into_iter().collect()
+impl FromStr for Weekday {
+    type Err = ParseError;
+
+    /// The weekday with this name.
+    fn from_str(text: &str) -> Result<Weekday, ParseError> {
+        let is_named = |it: &Weekday| {
+            text.eq_ignore_ascii_case(it.name()) || text.eq_ignore_ascii_case(&it.name()[..3])
+        };
+        let found = Weekday::ALL.into_iter().find(is_named);
+        found.ok_or(ParseError { kind: "weekday" })
     }
 }

@@ -1,0 +1,131 @@
+"""The package for Rust, used as its users use it; checks/languages.py runs this.
+
+The package is made with the static library inside, packed, and unpacked again. A project outside, which names it by its path, runs its
+tests, and where Debian's crates lie, those of its features too. The example of each item is run, a build with no library has to say what to
+do, and each of the wrong lines planted in the wrapper has to fail its tests.
+"""
+import glob
+import os
+import shutil
+import subprocess
+import sys
+import tarfile
+
+from wrong_lines import edits, planted
+
+TOP = os.path.dirname(os.path.dirname(os.path.abspath(__file__)))
+sys.path.insert(0, f"{TOP}/tools")
+from packages import rust  # noqa: E402
+
+FOLDER = f"{TOP}/languages/rust"
+REGISTRY = "/usr/share/cargo/registry"
+FROM_DEBIAN = ["--config", 'source.crates-io.replace-with="debian"', "--config", f'source.debian.directory="{REGISTRY}"']
+
+# The crates of the features, as the project of the tests lists them.
+FEATURES = {
+    "serde": '{ version = "1" }',
+    "chrono": '{ version = "0.4.23", default-features = false }',
+    "time": '{ version = "0.3", default-features = false }',
+}
+COUNTS = (r"test result: .*? (\d+) passed", r"test result: .*? (\d+) failed")
+
+PROJECT = """\
+[package]
+name = "user"
+version = "0.0.0"
+edition = "2021"
+
+[profile.dev]
+debug = false
+
+[dependencies]
+proved-calendar = {{ path = "{package}", features = [{features}] }}
+{others}"""
+
+
+def write(path, text):
+    os.makedirs(os.path.dirname(path), exist_ok=True)
+    with open(path, "w", encoding="utf-8") as it:
+        it.write(text)
+
+
+def unpacked(room, library):
+    """The package, made, packed and unpacked again."""
+    os.makedirs(f"{room}/built")
+    shutil.copy(library, f"{room}/built/libcalendar.a")
+    packed = next(it for it in rust.make(TOP, f"{room}/built", f"{room}/dist") if it.endswith(".crate"))
+    with tarfile.open(packed) as it:
+        it.extractall(f"{room}/unpacked")
+    return glob.glob(f"{room}/unpacked/*")[0]
+
+
+def make_project(project, package, tests, features=()):
+    """A project that uses the package and has its tests; the project."""
+    named = ", ".join(f'"{it}"' for it in features)
+    others = "".join(f"{it} = {FEATURES[it]}\n" for it in features)
+    write(f"{project}/Cargo.toml", PROJECT.format(package=package, features=named, others=others))
+    write(f"{project}/src/lib.rs", "")
+    for it in tests:
+        os.makedirs(f"{project}/tests", exist_ok=True)
+        shutil.copy(f"{FOLDER}/tests/{it}.rs", f"{project}/tests/{it}.rs")
+    return project
+
+
+def environment(room):
+    """The environment of cargo, with no library but the package's own."""
+    kept = {name: it for name, it in os.environ.items() if name != "CALENDAR_FOLDER"}
+    return dict(kept, CARGO_TARGET_DIR=f"{room}/target")
+
+
+def test_examples(results, run, room, package):
+    """The example of each item, over the package as it was just built."""
+    built = f"{room}/target/debug/deps"
+    library = max(glob.glob(f"{built}/libproved_calendar-*.rlib"), key=os.path.getmtime)
+    words = ["rustdoc", "--test", "--edition", "2021", "--crate-name", "proved_calendar", f"{package}/src/lib.rs"]
+    words += ["-L", f"dependency={built}", "--extern", f"proved_calendar={library}"]
+    run(results, "the examples in Rust", words, COUNTS, cwd=package)
+
+
+def test_missing(results, room, package):
+    """A build with no library says what to run."""
+    os.rename(f"{package}/lib", f"{package}/lib-away")
+    try:
+        project = make_project(f"{room}/missing", package, [])
+        words = ["cargo", "check", "--offline"]
+        ran = subprocess.run(words, cwd=project, env=environment(room), capture_output=True, text=True)
+        told = "libcalendar.a is missing" in ran.stderr and "`tools/dist rust`" in ran.stderr
+        results.count(ran.returncode != 0 and told, f"a build with no library says:\n{ran.stderr[-2000:]}")
+    finally:
+        os.rename(f"{package}/lib-away", f"{package}/lib")
+
+
+def plant(results, room, library):
+    """Each wrong line in the wrapper fails its tests, which are built."""
+    package, found = f"{room}/planted-package", 0
+    project = make_project(f"{room}/planted-project", package, ["calls", "values"])
+    for number, edit in enumerate(edits("rust"), 1):
+        rust.make_package(TOP, planted("rust", f"{room}/planted", edit), library, package)
+        words = ["cargo", "test", "--offline", "--quiet", "--no-fail-fast", "--tests"]
+        ran = subprocess.run(words, cwd=project, env=environment(room), stdout=subprocess.PIPE, stderr=subprocess.STDOUT, text=True)
+        is_found = "test result: FAILED" in ran.stdout
+        results.count(is_found, f"wrong line {number} of languages/rust is not found: {edit}\n{ran.stdout[-1500:]}")
+        found += is_found
+    print(f"wrong lines in Rust: {found} found", flush=True)
+    results.count(found >= 10, "languages/rust has fewer than ten wrong lines that its tests find")
+
+
+def test(results, run, room, library):
+    """All of it; `run` runs a test, and counts by patterns what it prints."""
+    room = f"{room}/rust"
+    os.makedirs(room)
+    package = unpacked(room, library)
+    missing = [it for it in FEATURES if not glob.glob(f"{REGISTRY}/{it}-[0-9]*")]
+    if missing:
+        print(f"not run: the features of the Rust crate, since there is no {REGISTRY}/{missing[0]}")
+    tests, features = (["calls", "values"], ()) if missing else (["calls", "values", "features"], FEATURES)
+    project = make_project(f"{room}/project", package, tests, features)
+    words = ["cargo", "test", "--offline", "--tests", *([] if missing else FROM_DEBIAN)]
+    run(results, "cargo test", words, COUNTS, cwd=project, env=environment(room))
+    test_examples(results, run, room, package)
+    test_missing(results, room, package)
+    plant(results, room, library)

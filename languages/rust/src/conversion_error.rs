@@ -1,0 +1,18 @@
+//! What is answered of a value of another crate that has no like.
+
+use core::error::Error;
+use core::fmt;
+
+/// The other type has no such value.
+#[derive(Clone, Copy, Debug, PartialEq, Eq)]
+pub struct ConversionError {
+    pub(crate) kind: &'static str,
+}
+
+impl fmt::Display for ConversionError {
+    fn fmt(&self, f: &mut fmt::Formatter<'_>) -> fmt::Result {
+        write!(f, "there is no such {}", self.kind)
+    }
+}
+
+impl Error for ConversionError {}
