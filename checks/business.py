@@ -1,0 +1,292 @@
+#!/usr/bin/env python3
+"""Holds the calls of chrono_business to a walk day by day, and to numpy where it is installed.
+
+    checks/business.py [--seed N]      (seed 1, if left out)
+    checks/business.py --write         writes the rows of crates/business_rows/stdin
+
+The program crates/business_rows answers rows; here they are made. Calendars: closed on Saturday and Sunday alone, with the
+federal holidays of the United States from 2020 to 2030 (5 U.S.C. 6103, each found by walking its month), on Friday and Saturday, on
+random weekdays with random holidays, never closed and never open. The walk goes over 400 years of each of two calendars, and asks of
+each day whether it is open and how many open days lie before it; all other calls are asked at random dates. numpy answers 100,000
+queries of `busday_offset`, with each of its rolls, and of `busday_count`. Day counts are held to the texts of ISDA 2006,
+4.16(e), (f) and (g), in calendar fields of `datetime`.
+
+It needs crates/business_rows/out/business_rows, which `rt run` and `rt ci` leave there.
+"""
+import argparse
+import bisect
+import calendar as months
+import datetime
+import os
+import random
+import re
+import subprocess
+import sys
+
+TOP = os.path.dirname(os.path.dirname(os.path.abspath(__file__)))
+ROWS = os.path.join(TOP, "crates", "business_rows", "out", "business_rows")
+STDIN = os.path.join(TOP, "crates", "business_rows", "stdin")
+DEBIAN = "/usr/bin/python3"
+
+try:
+    import numpy
+except ImportError:
+    numpy = None
+
+Date = datetime.date
+
+
+# ---- calendars
+
+
+def weekdays_of_month(year, month, weekday):
+    """The dates of a month with that weekday, 0 for Monday."""
+    days = months.monthrange(year, month)[1]
+    return [it for it in (Date(year, month, day) for day in range(1, days + 1)) if it.weekday() == weekday]
+
+
+def observed(date):
+    """A federal holiday on Saturday is kept on Friday, one on Sunday on Monday."""
+    return date + datetime.timedelta({5: -1, 6: 1}.get(date.weekday(), 0))
+
+
+def federal(year):
+    """The federal holidays of a year."""
+    fixed = [observed(Date(year, *it)) for it in ((1, 1), (6, 19), (7, 4), (11, 11), (12, 25))]
+    counted = [
+        weekdays_of_month(year, 1, 0)[2],
+        weekdays_of_month(year, 2, 0)[2],
+        weekdays_of_month(year, 5, 0)[-1],
+        weekdays_of_month(year, 9, 0)[0],
+        weekdays_of_month(year, 10, 0)[1],
+        weekdays_of_month(year, 11, 3)[3],
+    ]
+    return fixed + counted
+
+
+class Calendar:
+    """Which days are open, from one day number to before another, by a walk."""
+
+    def __init__(self, week, holidays, first, last):
+        self.week = week
+        closed = set(holidays)
+        self.holidays = sorted(it for it in closed if week[(it - 1) % 7] == "1")
+        closed = set(self.holidays)
+        self.first, self.last = first, last
+        self.open = [it for it in range(first, last) if week[(it - 1) % 7] == "1" and it not in closed]
+        self.is_open = set(self.open)
+
+    def row(self):
+        return " ".join(["calendar", self.week, *map(str, self.holidays)])
+
+    def before(self, day):
+        """How many open days of the walk come before a day."""
+        return bisect.bisect_left(self.open, day)
+
+    def next(self, day, n=0):
+        place = self.before(day) + n
+        return self.open[place] if place < len(self.open) else None
+
+    def last_up_to(self, day, n=0):
+        place = self.before(day + 1) - 1 - n
+        return self.open[place] if place >= 0 else None
+
+
+def in_month(day, of):
+    return day is not None and Date.fromordinal(day).replace(day=1) == Date.fromordinal(of).replace(day=1)
+
+
+def rolled(calendar, name, day):
+    after, before = calendar.next(day), calendar.last_up_to(day)
+    if name == "following":
+        return after
+    if name == "preceding":
+        return before
+    if name == "modified_following":
+        return after if in_month(after, day) else before
+    if name == "modified_preceding":
+        return before if in_month(before, day) else after
+    if after is None or before is None:
+        return before if after is None else after
+    return after if after - day <= day - before else before
+
+
+ROLLS = ("following", "preceding", "modified_following", "modified_preceding", "nearest")
+
+
+# ---- rows
+
+
+def shown(number):
+    return "none" if number is None else str(number)
+
+
+def in_row(calendar, name, day, last=None):
+    """A row with the answer that the walk gives."""
+    if name == "add":
+        answer = calendar.next(day, last) if last >= 0 else calendar.last_up_to(day, -last)
+    elif name == "count":
+        answer = calendar.before(last) - calendar.before(day)
+    elif name == "both":
+        low, high = min(day, last), max(day, last)
+        answer = (calendar.before(high + 1) - calendar.before(low)) * (-1 if last < day else 1)
+    elif name == "is_open":
+        answer = int(day in calendar.is_open)
+    elif name in ("next", "last"):
+        answer = rolled(calendar, {"next": "following", "last": "preceding"}[name], day)
+    elif name in ("first_of_month", "last_of_month"):
+        date = Date.fromordinal(day)
+        first = date.replace(day=1).toordinal()
+        end = first + months.monthrange(date.year, date.month)[1] - 1
+        answer = calendar.next(first) if name == "first_of_month" else calendar.last_up_to(end)
+        answer = answer if in_month(answer, day) else None
+    else:
+        answer = rolled(calendar, name, day)
+    return f"{name} {day}{'' if last is None else f' {last}'} = {shown(answer)}"
+
+
+def day_counts(chance, count):
+    """Rows of the numerators of day counts."""
+    ends = [Date(2024, 2, 29), Date(2023, 2, 28), Date(2024, 1, 31), Date(2024, 1, 30), Date(2024, 3, 31), Date(2024, 12, 31)]
+    for _ in range(count):
+        start, end = (
+            chance.choice(ends) if chance.random() < 0.5 else Date.fromordinal(chance.randrange(700_000, 770_000)) for _ in range(2)
+        )
+        months_apart = 360 * (end.year - start.year) + 30 * (end.month - start.month)
+        first, last = min(start.day, 30), min(end.day, 30)
+        bond = last if start.day > 29 else end.day
+        pair = f"{start.toordinal()} {end.toordinal()}"
+        yield f"actual_360 {pair} = {end.toordinal() - start.toordinal()}"
+        yield f"thirty_360 {pair} = {months_apart + bond - first}"
+        yield f"thirty_e_360 {pair} = {months_apart + last - first}"
+
+
+def calendars(chance):
+    """The calendars, each walked over the 400 years from 1900 on."""
+    first, last = Date(1900, 1, 1).toordinal(), Date(2300, 1, 1).toordinal()
+    us = [it.toordinal() for year in range(2020, 2031) for it in federal(year)]
+    yield Calendar("1111100", us, first, last)
+    yield Calendar("1111100", [], first, last)
+    yield Calendar("1111001", [Date(2024, 4, day).toordinal() for day in (9, 10)], first, last)
+    yield Calendar("1111111", us, first, last)
+    yield Calendar("0000000", [], first, last)
+    for _ in range(6):
+        week = "".join(chance.choice("011") for _ in range(7))
+        days = [chance.randrange(730_000, 731_000) for _ in range(chance.randrange(400))]
+        yield Calendar(week, days, first, last)
+
+
+def questions(chance, calendar, count):
+    """Rows of calls at random days, far enough from the ends of the walk."""
+    never = not calendar.open
+    for _ in range(count):
+        day = chance.randrange(729_900, 731_200) if chance.random() < 0.5 else chance.randrange(720_000, 800_000)
+        day = chance.choice((day, chance.randrange(738_000, 741_000)))
+        yield in_row(calendar, "is_open", day)
+        for name in ("next", "last", "first_of_month", "last_of_month") + ROLLS:
+            yield in_row(calendar, name, day)
+        steps = chance.choice((0, 1, -1, chance.randrange(-20, 20), chance.randrange(-3000, 3000)))
+        if not never:
+            yield in_row(calendar, "add", day, steps)
+        other = chance.randrange(725_000, 745_000)
+        yield in_row(calendar, "count", day, other)
+        yield in_row(calendar, "both", day, other)
+
+
+def walked(calendar):
+    """Rows of each day of the walk."""
+    for day in range(calendar.first, calendar.last):
+        yield in_row(calendar, "is_open", day)
+        yield in_row(calendar, "count", calendar.first, day)
+
+
+def by_numpy(chance, calendar, count):
+    """Rows whose answers numpy gives."""
+    epoch = Date(1970, 1, 1).toordinal()
+    business = numpy.busdaycalendar(calendar.week, numpy.array([it - epoch for it in calendar.holidays], "datetime64[D]"))
+    days = numpy.array([chance.randrange(738_000, 741_000) for _ in range(count)])
+    dates = (days - epoch).astype("datetime64[D]")
+    steps = numpy.array([chance.randrange(-600, 600) for _ in range(count)])
+    on, back = (numpy.busday_offset(dates, abs(steps) * sign, roll, busdaycal=business) for sign, roll in ((1, "forward"), (-1, "backward")))
+    moved = numpy.where(steps >= 0, on, back).astype("datetime64[D]").astype(int) + epoch
+    for day, step, answer in zip(days, steps, moved):
+        yield f"add {day} {step} = {answer}"
+    names = {"following": "following", "preceding": "preceding", "modified_following": "modifiedfollowing",
+             "modified_preceding": "modifiedpreceding"}
+    for name, roll in names.items():
+        answers = numpy.busday_offset(dates, 0, roll, busdaycal=business).astype("datetime64[D]").astype(int) + epoch
+        for day, answer in zip(days, answers):
+            yield f"{name} {day} = {answer}"
+    others = numpy.array([chance.randrange(738_000, 741_000) for _ in range(count)])
+    low, high = numpy.minimum(days, others), numpy.maximum(days, others)
+    counts = numpy.busday_count((low - epoch).astype("datetime64[D]"), (high - epoch).astype("datetime64[D]"), busdaycal=business)
+    for first, last, answer in zip(low, high, counts):
+        yield f"count {first} {last} = {answer}"
+        yield f"count {last} {first} = {-answer}"
+
+
+# Rows of a page, not of this walk: federal holidays of 2024 and 2025, and the ends of the calendar.
+KNOWN = """count 738886 739252 = 251
+add 739244 1 = 739246
+add 738975 0 = 738977
+add 738886 251 = 739253
+following 738975 = 738977
+modified_following 738975 = 738974
+add 95745399 0 = 95745399
+add 95745399 1 = none
+add -95746129 -1 = none
+add 738886 9223372036854775807 = none
+add 738886 -9223372036854775808 = none"""
+
+
+def answered(rows):
+    """How many rows the program answers otherwise, and of how many."""
+    ran = subprocess.run([ROWS], input="\n".join(rows) + "\n", stdout=subprocess.PIPE, text=True, timeout=900)
+    lines = ran.stdout.splitlines()
+    counts = re.fullmatch(r"(\d+) lines, (\d+) of them answered otherwise", lines[-1] if lines else "")
+    for it in lines[:5]:
+        if it.startswith("line "):
+            print(it)
+    return (len(rows), int(counts[2])) if counts and int(counts[1]) == len(rows) else (len(rows), len(rows))
+
+
+def main():
+    wanted = argparse.ArgumentParser(description=__doc__, formatter_class=argparse.RawDescriptionHelpFormatter)
+    wanted.add_argument("--seed", type=int, default=1)
+    wanted.add_argument("--write", action="store_true")
+    given = wanted.parse_args()
+    chance = random.Random(given.seed)
+    made = list(calendars(chance))
+    few = [made[0].row(), *KNOWN.splitlines()]
+    for it in made:
+        few += [it.row(), *questions(chance, it, 20)]
+    few += day_counts(chance, 100)
+    if given.write:
+        with open(STDIN, "w", encoding="utf-8") as it:
+            it.write("\n".join(few) + "\n")
+        return 0
+    if not os.path.exists(ROWS):
+        print("there is no crates/business_rows/out/business_rows: `rt run` in crates/business_rows builds it\n0 passed, 1 failed")
+        return 1
+    if numpy is None and sys.executable != DEBIAN and os.path.exists(DEBIAN):
+        return subprocess.run([DEBIAN, os.path.abspath(__file__), "--seed", str(given.seed)]).returncode
+    parts = {"the rows of business_rows": few}
+    for place, it in enumerate(made[:2]):
+        parts[f"400 years day by day, calendar {place + 1}"] = [it.row(), *walked(it)]
+    parts["random questions"] = [row for it in made for row in (it.row(), *questions(chance, it, 500))]
+    if numpy is None:
+        print("not run: the rows of numpy, since there is no numpy")
+    else:
+        open_ones = [it for it in made if it.open]
+        parts["numpy"] = [row for it in open_ones for row in (it.row(), *by_numpy(chance, it, 1_500))]
+    passed = failed = 0
+    for name, rows in parts.items():
+        count, others = answered(rows)
+        print(f"{name}: {count} rows, {others} answered otherwise")
+        passed, failed = passed + count - others, failed + others
+    print(f"{passed} passed, {failed} failed")
+    return 1 if failed else 0
+
+
+if __name__ == "__main__":
+    sys.exit(main())

@@ -1,0 +1,108 @@
+//! `business_rows` makes the call of each line of standard input on the calendar of the last line that names one, and
+//! compares the answer with the numbers behind it.
+//!
+//! A line is a calendar, as `calendar 1111100 738886 738900`: of each weekday from Monday on whether it is worked, and the
+//! holidays; or `call numbers = answer`, as `add 738886 3 = 738890`. A date is its day number, a count has a sign, a roll is a
+//! word, `none` is no date. Each line with another answer is printed with its number, and at the end their count.
+#![tactic(auto)]
+
+use chrono_business::{Calendar, Roll, actual_360, thirty_360, thirty_e_360};
+use chrono_datetime::{Datelike, NaiveDate, Weekday, WeekdaySet};
+use std::io::{self, BufRead, BufReader};
+
+fn main(rt: HostRuntime) -> io::Result<()> {
+    let (mut lines, mut others) = (0u64, 0u64);
+    let mut weekend = WeekdaySet::EMPTY;
+    let mut holidays: Vec<NaiveDate, _> = Vec::new(rt.alloc());
+    for line in BufReader::new(rt.alloc(), rt.reader())?.lines(rt.alloc()) {
+        let line = line?;
+        lines = lines.wrapping_add(1);
+        if let Some(days) = line.as_str().strip_prefix("calendar ") {
+            let mut words = days.split_ascii_whitespace();
+            weekend = weekend_of(words.next().unwrap_or(""));
+            holidays.clear();
+            for word in words {
+                if let Some(date) = date_of(word) {
+                    holidays.push(date)?;
+                }
+            }
+        } else if !is_answered(weekend, holidays.as_slice(), line.as_str()) {
+            others = others.wrapping_add(1);
+            println!(rt; "line {lines} is answered otherwise: {line}")?;
+        }
+    }
+    println!(rt; "{lines} lines, {others} of them answered otherwise")?;
+    Ok(())
+}
+
+// The weekdays whose digit, from Monday on, is 0.
+fn weekend_of(week: &str) -> WeekdaySet {
+    let mut weekend = WeekdaySet::EMPTY;
+    let mut weekday = Weekday::Mon;
+    for digit in week.bytes() {
+        if digit == b'0' {
+            weekend.insert(weekday);
+        }
+        weekday = weekday.succ();
+    }
+    weekend
+}
+
+fn date_of(word: &str) -> Option<NaiveDate> {
+    NaiveDate::from_num_days_from_ce_opt(word.parse().ok()?)
+}
+
+// Whether the call of the line gives the answer behind it.
+fn is_answered(weekend: WeekdaySet, holidays: &[NaiveDate], line: &str) -> bool {
+    let Ok(calendar) = Calendar::try_new(weekend, holidays) else {
+        return line == "refused";
+    };
+    let Some((call, answer)) = line.split_once(" = ") else {
+        return false;
+    };
+    let mut words = call.split_ascii_whitespace();
+    let name = words.next().unwrap_or("");
+    let Some(date) = date_of(words.next().unwrap_or("")) else {
+        return false;
+    };
+    let last = words.next().unwrap_or("");
+    match answer_of(&calendar, name, date, last) {
+        Some(number) => answer.parse() == Ok(number),
+        None => answer == "none",
+    }
+}
+
+// What the call answers, a date by its number and a day count by its numerator.
+fn answer_of(calendar: &Calendar<'_>, name: &str, date: NaiveDate, last: &str) -> Option<i64> {
+    match name {
+        "is_open" => Some(i64::from(calendar.is_open(date))),
+        "next" => number_of(calendar.next_open(date)),
+        "last" => number_of(calendar.last_open(date)),
+        "first_of_month" => number_of(calendar.first_open_of_month(date)),
+        "last_of_month" => number_of(calendar.last_open_of_month(date)),
+        "add" => number_of(calendar.add_open_days(date, last.parse().ok()?)),
+        "count" => Some(calendar.open_days(date, date_of(last)?)),
+        "both" => Some(calendar.open_days_inclusive(date, date_of(last)?)),
+        "actual_360" => Some(actual_360(date, date_of(last)?).numerator),
+        "thirty_360" => Some(thirty_360(date, date_of(last)?).numerator),
+        "thirty_e_360" => Some(thirty_e_360(date, date_of(last)?).numerator),
+        _ => number_of(calendar.roll(date, roll_of(name)?)),
+    }
+}
+
+fn roll_of(name: &str) -> Option<Roll> {
+    let roll = match name {
+        "unadjusted" => Roll::Unadjusted,
+        "following" => Roll::Following,
+        "preceding" => Roll::Preceding,
+        "modified_following" => Roll::ModifiedFollowing,
+        "modified_preceding" => Roll::ModifiedPreceding,
+        "nearest" => Roll::Nearest,
+        _ => return None,
+    };
+    Some(roll)
+}
+
+fn number_of(date: Option<NaiveDate>) -> Option<i64> {
+    Some(i64::from(date?.num_days_from_ce()))
+}

@@ -1,0 +1,8 @@
+-- Lemmas that crates above cite: of the rank of a day, of the n-th open day from a day, and of rolls.
+pub mod Ranks
+pub mod Laws
+pub mod RollLemmas
+-- The rest serve this crate's own proofs alone.
+mod Early
+mod Workdays
+mod Checked

@@ -1,0 +1,30 @@
+use Rattle.std.proofs.Common.{◌≡◌, ℕ, ◌<◌, true, not, length, sym, ap, ◌∙◌, arith, ℤ, ◌<ℤ◌}
+use Rattle.std.specs.Prelude.{slice_index_or}
+use Rattle.chrono_datetime.specs.Days.{IsDate}
+use Rattle.chrono_datetime.specs.WeekdaySet.{contains}
+use Rattle.chrono_datetime.proofs.Signed.{signed}
+use Rattle.chrono_business.specs.OpenDays.{is_workday}
+use Rattle.chrono_business.proofs.Checked.{all-next, later_than_all, rising-next}
+use Rattle.chrono_business.proofs.calendar.checked.wrong_holiday.Goals as goal
+use Rattle.chrono_business.proofs.calendar.checked.wrong_holiday.Goals.{else-place-gt0-via-then-place-gt0+else-number-num_days_from_ce, else-place-gt0-via-else-place-gt0}
+
+pub loop-place-preserved : goal.loop-place-preserved
+loop-place-preserved c =
+    let xs = c.args.holidays.now in
+    let i = c.loop-place.place in
+    let x : ℤ = c.index-holidays-place.result in
+    let inv = c.loop-place.invariant in
+    let is = c.index-holidays-place.is in
+    let number : c.num_days_from_ce-number.result ≡ x = c.num_days_from_ce-number.ensures.value in
+    let within : i < length xs = omega (arith, c.loop-place-test.true, c.loop-place.auto.place-end) in
+    let date : IsDate x = rw number at c.num_days_from_ce-number.ensures.in_range in
+    let workday : is_workday c.args.weekend x ≡ true = ap not (ap (contains c.args.weekend) (sym c.weekday.ensures.value) ∙ (sym c.contains.ensures ∙ c.if-contains.false)) in
+    let behind : (k : ℕ) (d : ℤ) → k < i → slice_index_or xs k d <ℤ x = elim c.else-place-gt0.branch [
+      | else-place-gt0-via-then-place-gt0+else-number-num_days_from_ce w ↦ later_than_all xs i x w.index-holidays-place-then-place-gt0.result (omega (arith, w.if-place-gt0.true)) within w.index-holidays-place-then-place-gt0.is (omega (arith, signed, number, w.num_days_from_ce.ensures.value, w.if-number-num_days_from_ce.false)) inv.rising
+      | else-place-gt0-via-else-place-gt0 w ↦ λ k d low. absurd (omega (arith, w.if-place-gt0.false))
+    ] in
+    record {
+      dates = all-next IsDate xs i x within is date inv.dates;
+      rising = rising-next xs i x within is behind inv.rising;
+      workdays = all-next (λ h. is_workday c.args.weekend h ≡ true) xs i x within is workday inv.workdays;
+    }

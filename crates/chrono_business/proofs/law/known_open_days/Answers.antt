@@ -1,0 +1,28 @@
+use Rattle.std.proofs.Common.{refl}
+use Rattle.chrono_datetime.specs.Recurrence.{count_between, count_where}
+use Rattle.chrono_business.specs.OpenDays.{is_open}
+use Rattle.chrono_business.proofs.law.known_open_days.Goals as goal
+
+pub returns-clause-new_year : goal.returns-clause-new_year
+unfolding is_open
+returns-clause-new_year c = refl
+
+pub returns-clause-saturday : goal.returns-clause-saturday
+unfolding is_open
+returns-clause-saturday c = refl
+
+pub returns-clause-tuesday : goal.returns-clause-tuesday
+unfolding is_open
+returns-clause-tuesday c = refl
+
+pub returns-clause-sunday : goal.returns-clause-sunday
+unfolding is_open
+returns-clause-sunday c = refl
+
+pub returns-clause-week : goal.returns-clause-week
+unfolding is_open count_between count_where
+returns-clause-week c = refl
+
+pub returns-clause-back : goal.returns-clause-back
+unfolding is_open count_between count_where
+returns-clause-back c = refl

@@ -1,0 +1,4 @@
+pub mod OpenDays
+pub mod WrongHolidays
+pub mod Rolls
+pub mod DayCounts

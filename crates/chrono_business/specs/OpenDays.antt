@@ -1,0 +1,58 @@
+-- Open days: those that are neither on the weekend nor holidays, and how many of them there are between two days.
+use Rattle.std.specs.Prelude.{◌≡◌, ℕ, ◌<◌, Bool, true, not, ◌&&◌, List, length, slice_index_or, ℤ, pos, ◌+ℤ◌, ◌-ℤ◌, ◌≤ℤ◌, ◌<ℤ◌}
+use Rattle.std.specs.List.{All, list_any}
+use Rattle.std.specs.Ordering.{int_eq}
+use Rattle.chrono_datetime.specs.WeekdaySet.{DaySet}
+use Rattle.chrono_datetime.specs.Days.{IsDate}
+use Rattle.chrono_datetime.specs.Recurrence.{count_between, is_on}
+
+-- what a calendar closes: each of these weekdays, and these days
+pub record Closed : Type 0 where
+  pub weekend : DaySet
+  pub holidays : List ℤ
+
+-- the calendar that closes these
+abbrev pub closed : DaySet → List ℤ → Closed
+closed weekend holidays = record { weekend = weekend; holidays = holidays }
+
+-- the day is not on the weekend
+abbrev pub is_workday : DaySet → ℤ → Bool
+is_workday weekend n = not (is_on weekend n)
+
+-- the day is one of the holidays
+abbrev pub is_holiday : List ℤ → ℤ → Bool
+is_holiday holidays n = list_any (λ h. int_eq h n) holidays
+
+-- the day is neither on the weekend nor a holiday
+unfoldable pub is_open : Closed → ℤ → Bool
+is_open c n = is_workday c.weekend n && not (is_holiday c.holidays n)
+
+-- each day of the list is before those behind it
+abbrev pub AreRising : List ℤ → Type 0
+AreRising xs = (i j : ℕ) (d : ℤ) → i < j → j < length xs → slice_index_or xs i d <ℤ slice_index_or xs j d
+
+-- what the holidays of a calendar are: dates that rise, none of them on the weekend
+pub record AreHolidays (weekend : DaySet) (holidays : List ℤ) : Type 0 where
+  pub dates : All IsDate holidays
+  pub rising : AreRising holidays
+  pub workdays : All (λ h. is_workday weekend h ≡ true) holidays
+
+-- how many of the days from a to before b are open; none if b is not after a
+abbrev pub open_days : Closed → ℤ → ℤ → ℕ
+open_days c a b = count_between (is_open c) a b
+
+-- the same with a sign: negative, and of the days from b to before a, if b is before a
+abbrev pub open_days_signed : Closed → ℤ → ℤ → ℤ
+open_days_signed c a b = pos (open_days c a b) -ℤ pos (open_days c b a)
+
+-- e is the n-th open day from the day d on, counted from 0: it is open, and n of the days from d to before it are
+pub record IsNthOpenFrom (c : Closed) (d : ℤ) (n : ℕ) (e : ℤ) : Type 0 where
+  pub passes : is_open c e ≡ true
+  pub not_before : d ≤ℤ e
+  pub count : open_days c d e ≡ n
+
+-- e is the n-th open day from the day d back, counted from 0: it is open, and n of the days from behind it to d are
+pub record IsNthOpenBack (c : Closed) (d : ℤ) (n : ℕ) (e : ℤ) : Type 0 where
+  pub passes : is_open c e ≡ true
+  pub not_after : e ≤ℤ d
+  pub count : open_days c (e +ℤ pos 1) (d +ℤ pos 1) ≡ n

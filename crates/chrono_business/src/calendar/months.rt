@@ -1,0 +1,62 @@
+//! Open days of a month.
+ghost use Rattle.std.specs.Prelude.{◌≡◌, ◌-◌, ◌<◌, ◌⊎◌, ℤ, pos, ◌+ℤ◌, ◌<ℤ◌, true, false, IfSome, IfNone};
+ghost use Rattle.chrono_datetime.specs.Days.{IsDate};
+ghost use Rattle.chrono_datetime.specs.MonthMoves.{InSameMonth, month_first_of, month_last_of};
+ghost use Rattle.chrono_business.specs.OpenDays.{IsNthOpenFrom, open_days};
+ghost use Rattle.chrono_business.specs.Rolls.{IsLastOpen, IsNextOpen, MonthBeginsClosed, MonthEndsClosed};
+
+use crate::calendar::Calendar;
+use chrono_datetime::{Datelike, NaiveDate};
+
+impl<'a> Calendar<'a> {
+    /// The first open day of the date's month; `None` exactly if the whole month is closed.
+    pub fn first_open_of_month(&self, date: NaiveDate) -> Option<NaiveDate>
+        ensures first { IfSome result (λ e. IsNextOpen self.now (month_first_of date) e) }
+        ensures month { IfSome result (λ e. InSameMonth e (month_first_of date)) }
+        ensures none { IfNone result (MonthEndsClosed self.now (month_first_of date)) }
+    {
+        self.next_open_in_month(date.first_day_of_month())
+    }
+
+    /// The last open day of the date's month; `None` exactly if the whole month is closed.
+    pub fn last_open_of_month(&self, date: NaiveDate) -> Option<NaiveDate>
+        ensures last { IfSome result (λ e. IsLastOpen self.now (month_last_of date) e) }
+        ensures month { IfSome result (λ e. InSameMonth e (month_last_of date)) }
+        ensures none { IfNone result (MonthBeginsClosed self.now (month_last_of date)) }
+    {
+        self.last_open_in_month(date.last_day_of_month())
+    }
+
+    /// The first open day from the date on, if it is in the date's month; `None` exactly if the rest of the month is closed.
+    pub fn next_open_in_month(&self, date: NaiveDate) -> Option<NaiveDate>
+        ensures exists { IfSome result (λ e. IsDate e) }
+        ensures next { IfSome result (λ e. IsNextOpen self.now date e) }
+        ensures month { IfSome result (λ e. InSameMonth e date) }
+        ensures none { IfNone result (MonthEndsClosed self.now date) }
+    {
+        prove!(date.num_days_from_ce() <= LAST_DAY);
+        let next = self.next_open(date)?;
+        if next.num_days_from_ce() > date.last_day_of_month().num_days_from_ce() {
+            return None;
+        }
+        Some(next)
+    }
+
+    /// The last open day up to the date, if it is in the date's month; `None` exactly if the month up to the date is closed.
+    pub fn last_open_in_month(&self, date: NaiveDate) -> Option<NaiveDate>
+        ensures exists { IfSome result (λ e. IsDate e) }
+        ensures last { IfSome result (λ e. IsLastOpen self.now date e) }
+        ensures month { IfSome result (λ e. InSameMonth e date) }
+        ensures none { IfNone result (MonthBeginsClosed self.now date) }
+    {
+        prove!(date.num_days_from_ce() <= LAST_DAY);
+        let last = self.last_open(date)?;
+        if last.num_days_from_ce() < date.first_day_of_month().num_days_from_ce() {
+            return None;
+        }
+        Some(last)
+    }
+}
+
+// The day number of the last date.
+const LAST_DAY: i32 = 95_745_399;

@@ -1,0 +1,81 @@
+//! Dates that are rolled to open days.
+ghost use Rattle.std.specs.Prelude.{◌≡◌, ℤ, IfSome, IfNone};
+ghost use Rattle.chrono_datetime.specs.Days.{IsDate};
+ghost use Rattle.chrono_business.specs.Rolls.{RollsTo};
+ghost use Rattle.chrono_business.specs.declared.roll.Roll.TheVariants.{ModifiedFollowing, ModifiedPreceding, Nearest};
+
+use crate::calendar::Calendar;
+use crate::roll::Roll;
+use chrono_datetime::{Datelike, NaiveDate};
+
+impl<'a> Calendar<'a> {
+    /// The date that a date rolls to; `None` exactly if there is none.
+    ///
+    /// So of a calendar that is closed on Saturday and Sunday alone, Saturday, 30 March 2024 goes by `Following` to Monday, 1 April,
+    /// and by `ModifiedFollowing` to Friday, 29 March.
+    pub fn roll(&self, date: NaiveDate, roll: Roll) -> Option<NaiveDate>
+        ensures exists { IfSome result (λ e. IsDate e) }
+        ensures rolled { IfSome result (λ e. RollsTo self.now roll date e) }
+        ensures none { IfNone result ((e : ℤ) → IsDate e → ¬ RollsTo self.now roll date e) }
+    {
+        match roll {
+            Roll::Unadjusted => {
+                prove!(date.num_days_from_ce() <= LAST_DAY);
+                Some(date)
+            }
+            Roll::Following => self.next_open(date),
+            Roll::Preceding => self.last_open(date),
+            Roll::ModifiedFollowing => self.modified_following(date),
+            Roll::ModifiedPreceding => self.modified_preceding(date),
+            Roll::Nearest => self.nearest_open(date),
+        }
+    }
+
+    // The next open day, or the last one where the rest of the month is closed.
+    fn modified_following(&self, date: NaiveDate) -> Option<NaiveDate>
+        ensures exists { IfSome result (λ e. IsDate e) }
+        ensures rolled { IfSome result (λ e. RollsTo self.now ModifiedFollowing date e) }
+        ensures none { IfNone result ((e : ℤ) → IsDate e → ¬ RollsTo self.now ModifiedFollowing date e) }
+    {
+        match self.next_open_in_month(date) {
+            Some(next) => Some(next),
+            None => self.last_open(date),
+        }
+    }
+
+    // The last open day, or the next one where the month up to the date is closed.
+    fn modified_preceding(&self, date: NaiveDate) -> Option<NaiveDate>
+        ensures exists { IfSome result (λ e. IsDate e) }
+        ensures rolled { IfSome result (λ e. RollsTo self.now ModifiedPreceding date e) }
+        ensures none { IfNone result ((e : ℤ) → IsDate e → ¬ RollsTo self.now ModifiedPreceding date e) }
+    {
+        match self.last_open_in_month(date) {
+            Some(last) => Some(last),
+            None => self.next_open(date),
+        }
+    }
+
+    // The open day that is nearest, and of two the later.
+    fn nearest_open(&self, date: NaiveDate) -> Option<NaiveDate>
+        ensures exists { IfSome result (λ e. IsDate e) }
+        ensures rolled { IfSome result (λ e. RollsTo self.now Nearest date e) }
+        ensures none { IfNone result ((e : ℤ) → IsDate e → ¬ RollsTo self.now Nearest date e) }
+    {
+        let Some(last) = self.last_open(date) else {
+            return self.next_open(date);
+        };
+        let Some(next) = self.next_open(date) else {
+            return Some(last);
+        };
+        let (before, after) = (last.num_days_from_ce(), next.num_days_from_ce());
+        let number = date.num_days_from_ce();
+        if after - number <= number - before {
+            Some(next)
+        } else {
+            Some(last)
+        }
+    }
+}
+
+// The day number of the last date.
+const LAST_DAY: i32 = 95_745_399;

@@ -1,0 +1,119 @@
+//! Day counts: which part of a year lies between two dates, as an exact fraction (ISDA 2006 Definitions, section 4.16).
+ghost use Rattle.std.specs.Prelude.{◌≡◌, ◌≤◌, ◌==◌, ◌&&◌, nat_lt, if◌then◌else◌, pos, ◌+ℤ◌, ◌-ℤ◌, ◌*ℤ◌};
+ghost use Rattle.chrono_datetime.specs.Days.{month_of, year_of};
+ghost use Rattle.chrono_business.specs.DayCounts.{at_most_30 as up_to_30, days_30_360, days_30e_360, days_of_360 as days_of_months};
+
+use chrono_datetime::{Datelike, NaiveDate};
+
+/// An exact fraction.
+#[derive(Clone, Copy, PartialEq, Eq, Hash, Debug)]
+pub struct Fraction {
+    /// The number above the line.
+    pub numerator: i64,
+    /// The number below it, which is positive.
+    pub denominator: i64,
+}
+
+/// "Actual/360" (4.16(e)): the days from one date to another over 360.
+pub fn actual_360(from: NaiveDate, to: NaiveDate) -> Fraction
+    ensures numerator { result.numerator ≡ to -ℤ from }
+    ensures denominator { result.denominator ≡ pos 360 }
+{
+    Fraction {
+        numerator: days_between(from, to),
+        denominator: 360,
+    }
+}
+
+/// "Actual/365 (Fixed)" (4.16(d)): the days from one date to another over 365, in leap years too.
+pub fn actual_365_fixed(from: NaiveDate, to: NaiveDate) -> Fraction
+    ensures numerator { result.numerator ≡ to -ℤ from }
+    ensures denominator { result.denominator ≡ pos 365 }
+{
+    Fraction {
+        numerator: days_between(from, to),
+        denominator: 365,
+    }
+}
+
+/// "30/360" or "Bond Basis" (4.16(f)): each month has 30 days; a first day on the 31st counts as the 30th, and a last one if the
+/// first is later than the 29th.
+pub fn thirty_360(from: NaiveDate, to: NaiveDate) -> Fraction
+    ensures numerator { result.numerator ≡ days_30_360 from to }
+    ensures denominator { result.denominator ≡ pos 360 }
+{
+    let last = bond_last(from.day(), to.day());
+    Fraction {
+        numerator: days_of_360(from, to, at_most_30(from.day()), last),
+        denominator: 360,
+    }
+}
+
+/// "30E/360" or "Eurobond Basis" (4.16(g)): each month has 30 days, and a 31st counts as the 30th.
+pub fn thirty_e_360(from: NaiveDate, to: NaiveDate) -> Fraction
+    ensures numerator { result.numerator ≡ days_30e_360 from to }
+    ensures denominator { result.denominator ≡ pos 360 }
+{
+    Fraction {
+        numerator: days_of_360(from, to, at_most_30(from.day()), at_most_30(to.day())),
+        denominator: 360,
+    }
+}
+
+// The days from one date to another.
+fn days_between(from: NaiveDate, to: NaiveDate) -> i64
+    ensures { result ≡ to -ℤ from }
+{
+    i64::from(to.num_days_from_ce() - from.num_days_from_ce())
+}
+
+// 360 days for each year between two dates, 30 for each month, and the days from one of its days to another.
+fn days_of_360(from: NaiveDate, to: NaiveDate, first: u32, last: u32) -> i64
+    requires first { first ≤ 31 }
+    requires last { last ≤ 31 }
+    ensures { result ≡ days_of_months from to first last }
+{
+    difference(days_360(from, first), days_360(to, last))
+}
+
+// The days of 30-day months from January of the year -262,144 to a day of the date's month.
+fn days_360(date: NaiveDate, day: u32) -> u32
+    requires { day ≤ 31 }
+    ensures value { pos result ≡ (pos 360 *ℤ year_of date +ℤ pos 30 *ℤ pos (month_of date))
+        +ℤ (pos day +ℤ pos 94_371_840) }
+    ensures few { result ≤ 200_000_000 }
+{
+    month_number(date) * 30 + day
+}
+
+// The months from December of the year -262,145 to the date's.
+fn month_number(date: NaiveDate) -> u32
+    ensures value { pos result ≡ (pos 12 *ℤ year_of date +ℤ pos (month_of date)) +ℤ pos 3_145_728 }
+    ensures few { result ≤ 6_291_456 }
+{
+    (date.year() + 262_144) as u32 * 12 + date.month()
+}
+
+// The difference of two numbers of days.
+fn difference(from: u32, to: u32) -> i64
+    requires from { from ≤ 200_000_000 }
+    requires to { to ≤ 200_000_000 }
+    ensures value { result ≡ pos to -ℤ pos from }
+{
+    i64::from(to) - i64::from(from)
+}
+
+// The last day, which is at most the 30th if the first is later than the 29th.
+fn bond_last(first: u32, last: u32) -> u32
+    ensures value { result ≡ (if (last == 31) && nat_lt 29 first then 30 else last) }
+    ensures few { result ≤ last }
+{
+    if first > 29 { at_most_30(last) } else { last }
+}
+
+// The day of a month, and of the 31st the 30th.
+fn at_most_30(day: u32) -> u32
+    ensures { result ≡ up_to_30 day }
+{
+    if day == 31 { 30 } else { day }
+}

@@ -1,0 +1,18 @@
+//! Business days: the days that are neither on the weekend nor holidays; the next one, the n-th of them, how many lie between
+//! two dates, and where a closed day rolls to; and the parts of a year between two dates as day counts have them.
+//!
+//! A [`Calendar`] is a weekend and a slice of holidays, and takes no memory. Each answer is what counting day by day gives; it
+//! is found by whole weeks and two searches through the holidays.
+#![tactic(auto)]
+
+mod calendar;
+mod day_count;
+mod holiday_error;
+pub mod law;
+mod roll;
+mod workweek;
+
+pub use calendar::Calendar;
+pub use day_count::{Fraction, actual_360, actual_365_fixed, thirty_360, thirty_e_360};
+pub use holiday_error::HolidayError;
+pub use roll::Roll;
