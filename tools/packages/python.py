@@ -29,6 +29,7 @@ def python():
 
 def make(top, built, dist):
     """Makes the source package and the wheel; their paths."""
+    os.makedirs(dist, exist_ok=True)
     with tempfile.TemporaryDirectory(prefix="python-") as room:
         source = f"{room}/source"
         skipped = shutil.ignore_patterns("__pycache__", "*.so", "build", "*.egg-info")

@@ -58,6 +58,8 @@ class Names(Answers):
             self.none(Date, 2**32 + 2024, 2, 28)
             self.none(Date, 2024, 2**32 + 2, 28)
             self.none(Date, 2024, 2, 2**32 + 28)
+            self.none(Date, 2024, 2 - 2**32, 28)
+            self.none(Date, 2024, 2, 28 - 2**32)
 
     def test_from_yo(self):
         for name, number in {

@@ -13,7 +13,7 @@ import unittest
 
 from proved_calendar import Date, DateTime, Duration, days_in_month, days_until, is_leap_year
 
-sys.path.append(os.path.join(os.path.dirname(os.path.abspath(__file__)), "..", "..", "checks"))
+sys.path.append(os.path.join(os.path.dirname(os.path.abspath(__file__)), "..", "..", "..", "checks"))
 import counted  # noqa: E402
 from counted import FIRST_DAY, FIRST_YEAR, LAST_DAY, LAST_YEAR, NANOS  # noqa: E402
 

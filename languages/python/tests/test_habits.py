@@ -5,6 +5,7 @@ nothing is lost or kept in memory by calls, also by those that fail."""
 import copy
 import datetime
 import gc
+import os
 import pickle
 import sys
 import tracemalloc
@@ -162,6 +163,8 @@ class Keeping(unittest.TestCase):
         self.assertEqual({LEAP_DAY: 1, NOON: 2, HOUR: 3}[DateTime(LEAP_DAY, 12, 30, 15, 250_000_000)], 2)
         self.assertEqual(hash(Duration(minutes=60)), hash(HOUR))
 
+    @unittest.skipIf("SKIP_MEMORY" in os.environ, "it takes seconds")
+    @unittest.skipIf("SKIP_MEMORY" in os.environ, "it takes seconds")
     def test_memory(self):
         """Rounds of all calls, and of calls that fail, leave no more memory in use and no more references to the types."""
 
