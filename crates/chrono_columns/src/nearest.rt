@@ -13,10 +13,7 @@ pub(crate) fn nearest_date(number: i32) -> i32
     ensures in_range { IsDate result }
     ensures same { IsDate number → result ≡ number }
 {
-    if number < FIRST_DAY {
-        return FIRST_DAY;
-    }
-    if number > LAST_DAY { LAST_DAY } else { number }
+    number.max(FIRST_DAY).min(LAST_DAY)
 }
 
 /// Whether a number is a date, and so the nearest one itself.
@@ -33,10 +30,7 @@ pub(crate) fn nearest_year(number: i32) -> i32
     ensures in_range { IsYear result }
     ensures same { IsYear number → result ≡ number }
 {
-    if number < MIN_YEAR {
-        return MIN_YEAR;
-    }
-    if number > MAX_YEAR { MAX_YEAR } else { number }
+    number.max(MIN_YEAR).min(MAX_YEAR)
 }
 
 /// Whether a number is a year that has dates.
@@ -53,10 +47,7 @@ pub(crate) fn nearest_month(number: u8) -> u32
     ensures in_range { IsInRange 1 12 result }
     ensures same { IsInRange 1 12 number → result ≡ number }
 {
-    if number < 1 {
-        return 1;
-    }
-    if number > 12 { 12 } else { u32::from(number) }
+    u32::from(number).max(1).min(12)
 }
 
 /// Whether a number is that of a month.
