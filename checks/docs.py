@@ -34,7 +34,7 @@ TOP = os.path.dirname(os.path.dirname(os.path.abspath(__file__)))
 LEFT_OUT = (".git", "out", "target", "__pycache__")
 # The comments of each kind of source.
 COMMENTS = {".rt": r"//[^\n]*", ".rs": r"//[^\n]*", ".antt": r"--[^\n]*", ".c": r"//[^\n]*|/\*.*?\*/", ".h": r"//[^\n]*|/\*.*?\*/",
-            ".py": r'""".*?"""|#[^\n]*', ".toml": r"#[^\n]*"}
+            ".py": r'""".*?"""|#[^\n]*', ".toml": r"#[^\n]*", ".js": r"//[^\n]*|/\*.*?\*/"}
 # Names that no source declares, by the reason.
 ABSENT = {
     "of Rust and its std": """Box Clone Copy Default Display DoubleEndedIterator Drop Eq FromIterator FromPrimitive FromStr Hash
@@ -42,6 +42,7 @@ ABSENT = {
     "of the kit: its words, its tactics and its std": """SomeIff agree_below agree_below_at grind ints num_traits omega refl subst
         unfoldable view_is write_str_gives ensures plant must_fail checked edited rtlib""",
     "of Python": "OverflowError PYTHONPATH True TypeError ValueError datetime",
+    "of JavaScript": "PlainTime RangeError Temporal overflow round toLocaleString",
     "of C": "gmtime_r int32_t memcpy strftime strptime timegm",
     "read from the environment": "CALENDAR_FOLDER CALENDAR_LIBRARY",
     "of chrono, and left out here": """parse_from_str parse_and_remainder ParseMonthError ParseWeekdayError format_with_items
@@ -85,6 +86,7 @@ DECLARED = {
     ".antt": re.compile(r"^ *(?:[a-z]+ )*([^\s:]+)[^:\n]* : |^(?:pub )?ruleset (\w+)", re.M),
     ".h": re.compile(r"^#define (\w+)", re.M),
     ".toml": re.compile(r'^name = "([\w-]+)"', re.M),
+    ".js": re.compile(r"^(?:export )?(?:class|function|const) (\w+)|^  (?:static )?(?:get )?(\w+)\(|^  \"(\w+)\",$", re.M),
 }
 # The blocks of types and of traits.
 BLOCK = re.compile(r"^((?:pub )?(?:impl|trait|enum|struct)\b[^{;]*)\{(.*?)^\}", re.M | re.S)

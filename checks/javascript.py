@@ -138,7 +138,7 @@ def check_types(results, project):
         results.count((ran.returncode == 0) == is_right, f"{' '.join(words)}: {ran.stdout[-2000:]}")
 
 
-def plant(results, room, bytes_of_module):
+def try_wrong_lines(results, room, bytes_of_module):
     """Each wrong line in the wrapper fails its tests."""
     found = 0
     for number, edit in enumerate(edits("javascript"), 1):
@@ -164,7 +164,7 @@ def in_node(results, room, package, bytes_of_module):
         print(printed[-4000:], flush=True)
     compare_example(results, project)
     check_types(results, project)
-    plant(results, room, bytes_of_module)
+    try_wrong_lines(results, room, bytes_of_module)
 
 
 # ---- in Chromium

@@ -99,7 +99,7 @@ def test_missing(results, room, package):
         os.rename(f"{package}/lib-away", f"{package}/lib")
 
 
-def plant(results, room, library):
+def try_wrong_lines(results, room, library):
     """Each wrong line in the wrapper fails its tests, which are built."""
     package, found = f"{room}/planted-package", 0
     project = make_project(f"{room}/planted-project", package, ["calls", "values"])
@@ -128,4 +128,4 @@ def test(results, run, room, library):
     run(results, "cargo test", words, COUNTS, cwd=project, env=environment(room))
     test_examples(results, run, room, package)
     test_missing(results, room, package)
-    plant(results, room, library)
+    try_wrong_lines(results, room, library)
