@@ -2,6 +2,7 @@
 """Holds the package for JavaScript to what it is made of, and its page to caltool.
 
     checks/javascript.py
+    checks/javascript.py --picture FILE      (only takes a picture of the page, as docs/page.png is one)
 
 The package is made as `tools/dist javascript` makes it, in a temporary folder. The exports of its module have to be those of
 calendar.h, each called by the wrapper and with a test of its name. In a project of its own, to which the package is put as npm puts
@@ -14,6 +15,7 @@ distances and rows of dates are compared with Python's datetime and with the cal
 reached by the keyboard has to have a name that a screen reader reads; nothing may be wider than a narrow screen, and texts have to stand
 out from what is behind them, in light and in dark.
 """
+import base64
 import datetime
 import json
 import os
@@ -124,6 +126,12 @@ def compare_example(results, project):
     results.count(wanted, "languages/javascript/README.md has no example that prints")
 
 
+def compare_size(results, bytes_of_module):
+    """The README says how large the module is, to a twentieth."""
+    told = int(re.search(r"The module is ([\d,]+) bytes", read(f"{FOLDER}/README.md"))[1].replace(",", ""))
+    results.count(abs(told - len(bytes_of_module)) <= told / 20, f"the module has {len(bytes_of_module):,} bytes, and not {told:,}")
+
+
 def check_types(results, project):
     """The types, by the compiler of TypeScript; a wrong call in the file has to be found."""
     if not shutil.which("tsc"):
@@ -163,6 +171,7 @@ def in_node(results, room, package, bytes_of_module):
     if failed:
         print(printed[-4000:], flush=True)
     compare_example(results, project)
+    compare_size(results, bytes_of_module)
     check_types(results, project)
     try_wrong_lines(results, room, bytes_of_module)
 
@@ -364,7 +373,28 @@ def in_chromium(results, path):
                       "what the page loads")
 
 
+def take_picture(path):
+    """A picture of the page in February 2024."""
+    with tempfile.TemporaryDirectory(prefix="javascript-") as room, chromium.Chromium() as page:
+        size = {"width": 1_040, "deviceScaleFactor": 1, "mobile": True}
+        page.call("Emulation.setEmulatedMedia", features=[{"name": "prefers-color-scheme", "value": "light"}])
+        page.call("Emulation.setDeviceMetricsOverride", height=900, **size)
+        page.open(javascript.make(TOP, None, room)[1])
+        page.type("#year", "2024")
+        page.run("(() => { const it = document.querySelector('#month'); it.value = '2'; it.dispatchEvent(new Event('change')); })()")
+        page.run("(() => { document.querySelector('#sheet [data-date=\"2024-02-29\"]').click(); document.activeElement.blur(); })()")
+        height = page.run("document.documentElement.scrollHeight")
+        page.call("Emulation.setDeviceMetricsOverride", height=height, **size)
+        clip = {"x": 0, "y": 0, "width": 1_040, "height": height, "scale": 0.7}
+        shot = page.call("Page.captureScreenshot", format="png", clip=clip)
+        with open(path, "wb") as it:
+            it.write(base64.b64decode(shot["data"]))
+
+
 def main():
+    if sys.argv[1:2] == ["--picture"]:
+        take_picture(sys.argv[2])
+        return 0
     results = Results()
     with tempfile.TemporaryDirectory(prefix="javascript-") as room:
         try:
