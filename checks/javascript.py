@@ -5,7 +5,7 @@
     checks/javascript.py --picture FILE      (only takes a picture of the page, as docs/page.png is one)
 
 The package is made as `tools/dist javascript` makes it, in a temporary folder. The exports of its module have to be those of
-calendar.h, each called by the wrapper and with a test of its name. In a project of its own, to which the package is put as npm puts
+calendar.h, but for those that C alone has, each called by the wrapper and with a test of its name. In a project of its own, to which the package is put as npm puts
 it, node runs the tests, the example of the README and, where there is a tsc, a file of types. Ten wrong lines are then planted in
 the wrapper, one at a time, and the tests have to fail on each.
 
@@ -29,6 +29,8 @@ import tempfile
 import chromium
 import counted
 import fuzz
+import languages
+from results import Results, read
 from wrong_lines import edits, planted
 
 TOP = os.path.dirname(os.path.dirname(os.path.abspath(__file__)))
@@ -41,28 +43,12 @@ MONTHS = "January February March April May June July August September October No
 WEEKDAYS = "Monday Tuesday Wednesday Thursday Friday Saturday Sunday".split()
 
 
-class Results:
-    """What passed and failed."""
-
-    def __init__(self):
-        self.passed, self.failed = 0, 0
-
-    def count(self, is_right, what):
-        """Counts a fact, and tells of it if it does not hold."""
-        if is_right:
-            self.passed += 1
-        else:
-            self.failed += 1
-            print(f"FAILED: {what}", flush=True)
+class Findings(Results):
+    """What passed and failed, of values too."""
 
     def equal(self, found, wanted, what):
         """Counts whether what was found is what was wanted."""
         self.count(found == wanted, f"{what}: {found!r}, and it has to be {wanted!r}")
-
-
-def read(path):
-    with open(path, encoding="utf-8") as it:
-        return it.read()
 
 
 # ---- in node
@@ -104,8 +90,7 @@ def compare_exports(results, module):
         ran = subprocess.run([*node_words(), "-e", script, it.name], check=True, capture_output=True, text=True)
     imports, exports = json.loads(ran.stdout)
     results.equal(imports, [], "imports of the module")
-    header = re.sub(r"/\*.*?\*/", "", read(f"{TOP}/languages/c/calendar.h"), flags=re.S)
-    wanted = sorted(re.findall(r"^\w+\s+(calendar_\w+)\(", header, re.M))
+    wanted = sorted(it for it in languages.of_header() if not re.fullmatch(languages.C_ALONE, it))
     results.equal(sorted(it["name"] for it in exports if it["kind"] == "function"), wanted, "functions of the module")
     wrapper = "\n".join(read(f"{FOLDER}/src/{it}.js") for it in javascript.SOURCES)
     tests = read(f"{FOLDER}/test/calls.test.js")
@@ -395,7 +380,7 @@ def main():
     if sys.argv[1:2] == ["--picture"]:
         take_picture(sys.argv[2])
         return 0
-    results = Results()
+    results = Findings()
     with tempfile.TemporaryDirectory(prefix="javascript-") as room:
         try:
             bytes_of_module = javascript.module(TOP)

@@ -8,11 +8,13 @@ there, if the libraries below are built, and after `rt ci`, which builds none fo
 what is proved of them, as checks/outside.py does.
 
 Compared are names, results and parameters, each way: those of calendar.h with the exports of crates/calendar_c, with the symbols
-of the library, with the declarations of the Rust crate and with the prototypes of the Python package; the fields of both structs;
-and the processors that texts and header name, with one another and with the library's instructions. The header is then compiled,
-alone, by each compiler that is found, and the tests of C, Python and Rust are built in a temporary folder and run: each export has
-to be called in C's, and to have a test of its name in the other two. The examples of their READMEs are run too, and the lines of
-README.md for each language have to stand in them.
+of the library and with the declarations of the Rust crate; the fields of both structs; the processors that texts and header name,
+with one another and with the library's instructions; and the versions of all packages. The header is then compiled, alone, by each
+compiler that is found. The packages for C and Python are made by the modules of tools/packages in a temporary folder, installed as
+their users would, and tested there by checks/from_c.py and checks/from_python.py, and so is that for Rust by checks/from_rust.py. Each export
+has to be called in C's tests, and to have a test of its name in the other two, but for columns and what belongs to them, which C
+alone has. The examples of the READMEs are run too, and the
+lines of README.md for each language have to stand in them.
 """
 import os
 import re
@@ -21,35 +23,40 @@ import subprocess
 import sys
 import tempfile
 
-import rust
-
 TOP = os.path.dirname(os.path.dirname(os.path.abspath(__file__)))
 sys.path.insert(0, f"{TOP}/tools")
+import from_c  # noqa: E402
+import from_python  # noqa: E402
+import from_rust  # noqa: E402
 from library import find_library  # noqa: E402
+from results import LANGUAGES, Results, example, read, run  # noqa: E402
 
 CRATE = f"{TOP}/crates/calendar_c"
-LANGUAGES = f"{TOP}/languages"
 HEADER = f"{LANGUAGES}/c/calendar.h"
 DECLARATIONS = f"{LANGUAGES}/rust/src/calls.rs"
-PACKAGE = f"{LANGUAGES}/python/proved_calendar/library.py"
 WARNINGS = ["-Wall", "-Wextra", "-pedantic", "-Werror"]
 
 # The names of types, in Rust's words and the header's for structs.
 TYPES = {
     "int32_t": "i32", "int64_t": "i64", "uint8_t": "u8", "uint32_t": "u32", "size_t": "usize",
-    "uint8_t *": "*mut u8", "const uint8_t *": "*const u8",
-    "c_int32": "i32", "c_int64": "i64", "c_uint8": "u8", "c_uint32": "u32", "c_size_t": "usize", "c_bool": "bool",
+    "uint8_t *": "*mut u8", "const uint8_t *": "*const u8", "uint16_t *": "*mut u16",
+    "int32_t *": "*mut i32", "const int32_t *": "*const i32", "int64_t *": "*mut i64", "const int64_t *": "*const i64",
     "Moment": "calendar_date_time", "Span": "calendar_duration",
-    "CalendarDateTime": "calendar_date_time", "CalendarDuration": "calendar_duration",
+    "CalendarDateTime": "calendar_date_time", "CalendarDuration": "calendar_duration", "CalendarYmd": "calendar_ymd",
 }
-# How a slice of Rattle crosses: its first byte, and how many bytes there are.
+
+# What is for C alone: columns, and the struct of a date's names. No other language has declarations or tests of these.
+C_ALONE = r"calendar_(?:column_\w+|split|ymd)"
+
+# How a slice of Rattle crosses: its first byte, and how many bytes there are; and likewise for a column.
+COLUMN = r"&(mut )?\[(\w+)\]"
 SLICES = {"&[u8]": (("*const u8", "text"), ("usize", "length")), "&mut [u8]": (("*mut u8", "text"), ("usize", "room"))}
 
 # How a function is used, in the sources of a folder.
 USES = {
     "calls of C's tests": ("c", r"\b{name}\("),
-    "calls of the Python package": ("python/proved_calendar", r"\bLIBRARY\.{name}\("),
-    "Python's tests": ("python", r"\bdef test_{short}\("),
+    "calls of the Python package": ("python/src", r"\b{name}\("),
+    "Python's tests": ("python/tests", r"\bdef test_{short}\("),
     "calls of the Rust crate": ("rust/src", r"(?<!fn ){name}\("),
     "Rust's tests": ("rust/tests", r"#\[test\]\nfn {short}\(\)"),
 }
@@ -68,26 +75,6 @@ INSTRUCTIONS = {
     "x86-64-v3": r"v\w+|andn\w?|bextr\w?|bls(?:i|msk|r)\w?|bzhi\w?|mulx\w?|p(?:dep|ext)[lq]?|rorx\w?|s(?:ar|hl|hr)x\w?|lzcnt\w?"
     r"|movbe\w?",
 }
-
-
-class Results:
-    """What passed and failed."""
-
-    def __init__(self):
-        self.passed, self.failed = 0, 0
-
-    def count(self, is_right, what):
-        """Counts a fact, and tells of it if it does not hold."""
-        if is_right:
-            self.passed += 1
-        else:
-            self.failed += 1
-            print(f"FAILED: {what}", flush=True)
-
-
-def read(path):
-    with open(path, encoding="utf-8") as it:
-        return it.read()
 
 
 def plain(name):
@@ -115,8 +102,13 @@ def of_rust(declared):
     for name, listed, result in declared:
         parameters = []
         for it in filter(None, (it.strip() for it in listed.split(","))):
-            parameter, _, kind = it.partition(":")
-            parameters += SLICES.get(kind.strip(), [(plain(kind), parameter.strip())])
+            parameter, kind = (part.strip() for part in it.split(":"))
+            column = re.fullmatch(COLUMN, kind)
+            if column and parameter != "text":
+                pointer = f"*{'mut' if column[1] else 'const'} {column[2]}"
+                parameters += [(pointer, parameter), ("usize", f"{parameter}_length")]
+            else:
+                parameters += SLICES.get(kind, [(plain(kind), parameter)])
         found[name] = plain(result), parameters
     return found
 
@@ -137,21 +129,6 @@ def of_crate():
     return of_rust(re.findall(r"\bfn (calendar_\w+)\(([^)]*)\) -> (\w+);", read(DECLARATIONS)))
 
 
-def of_package():
-    """The functions of the Python package; ctypes names no parameter, and knows no const."""
-    found = {}
-    for name, listed in re.findall(r"^    \"(calendar_\w+)\": \(([\w, ]+)\),$", read(PACKAGE), re.M):
-        result, *rest = (plain(it) for it in listed.split(","))
-        found[name] = result, rest
-    return found
-
-
-def without_names(functions):
-    """The same functions as ctypes has them."""
-    pointers = {"*mut u8": "c_char_p", "*const u8": "c_char_p"}
-    return {name: (result, [pointers.get(it, it) for it, _ in rest]) for name, (result, rest) in functions.items()}
-
-
 # How each language writes a struct, and a field of it.
 STRUCTS = {
     "c": (r"typedef struct \{(?P<fields>.*?)\} (?P<name>\w+);", r"(?P<kind>\w+) (?P<name>\w+);"),
@@ -159,7 +136,6 @@ STRUCTS = {
         r"#\[repr\(C\)\][^{]*?\bstruct (?P<name>\w+) \{(?P<fields>.*?)\n\}",
         r"(?m)^    (?:pub(?:\(crate\))? )?(?P<name>\w+): (?P<kind>\w+),$",
     ),
-    "python": (r"class (?P<name>\w+)\(ctypes\.Structure\):(?P<fields>.*?)\]", r"\(\"(?P<name>\w+)\", (?P<kind>\w+)\)"),
 }
 
 
@@ -180,21 +156,24 @@ def compare(results, what, wanted, found):
         results.count(one == other, f"{what}: {name} is {other}, and in calendar.h {one}")
 
 
+def for_all(names):
+    """What is declared in every language."""
+    return {name: what for name, what in names.items() if not re.fullmatch(C_ALONE, name)}
+
+
 def compare_declarations(results, header):
     compare(results, "exports of crates/calendar_c", header, of_rattle())
-    compare(results, "declarations of languages/rust", header, of_crate())
-    compare(results, "prototypes of languages/python", without_names(header), of_package())
+    compare(results, "declarations of languages/rust", for_all(header), of_crate())
     fields = structs("c", HEADER)
-    results.count(len(fields) == 2, f"calendar.h has the structs {sorted(fields)}")
+    results.count(len(fields) == read(HEADER).count("typedef struct {"), f"calendar.h has the structs {sorted(fields)}")
     compare(results, "structs of crates/calendar_c", fields, structs("rust", *sources(CRATE)))
-    compare(results, "structs of languages/rust", fields, structs("rust", DECLARATIONS))
-    compare(results, "structs of languages/python", fields, structs("python", PACKAGE))
+    compare(results, "structs of languages/rust", for_all(fields), structs("rust", DECLARATIONS))
 
 
 def compare_safety(results, header):
     """The Rust crate calls a function safe exactly if it takes no pointer."""
     safe = set(re.findall(r"\bsafe fn (calendar_\w+)\(", read(DECLARATIONS)))
-    for name, (_, parameters) in header.items():
+    for name, (_, parameters) in for_all(header).items():
         takes_pointer = any(kind.startswith("*") for kind, _ in parameters)
         what = "is safe, and takes a pointer" if takes_pointer else "is not safe, and takes no pointer"
         results.count((name in safe) != takes_pointer, f"declarations of languages/rust: {name} {what}")
@@ -243,29 +222,12 @@ def compare_uses(results, header):
     for language, (folder, pattern) in USES.items():
         names = [it for it in os.listdir(f"{LANGUAGES}/{folder}") if it.endswith((".c", ".py", ".rs"))]
         text = "\n".join(read(f"{LANGUAGES}/{folder}/{it}") for it in names)
-        for name in header:
+        for name in header if folder == "c" else for_all(header):
             used = pattern.format(name=name, short=name.removeprefix("calendar_"))
             results.count(re.search(used, text), f"{language}: there is none for {name}")
 
 
 # ---- what is built and run
-
-
-def run(results, what, words, counts, **how):
-    """Runs a test; the patterns say how it tells what passed and failed, by a number or, with none, one by one."""
-    ran = subprocess.run(words, stdout=subprocess.PIPE, stderr=subprocess.STDOUT, text=True, errors="replace", **how)
-    passed, failed = (sum(int(number or 1) for number in re.findall(it, ran.stdout, re.M)) for it in counts)
-    failed = failed or int(ran.returncode != 0 or not passed)
-    print(f"{what}: {passed} passed, {failed} failed", flush=True)
-    results.passed, results.failed = results.passed + passed, results.failed + failed
-    if failed:
-        print(ran.stdout[-4000:], flush=True)
-
-
-def example(language):
-    """The example of a README."""
-    folder = {"js": "javascript"}.get(language, language)
-    return re.search(rf"^```{language}\n(.*?)^```$", read(f"{LANGUAGES}/{folder}/README.md"), re.M | re.S)[1]
 
 
 def compile_header(results):
@@ -281,49 +243,6 @@ def compile_header(results):
             results.count(ran.returncode == 0, f"{' '.join(words)}: {ran.stderr}")
 
 
-def built(results, words):
-    """Builds by the C compiler; whether that went well."""
-    ran = subprocess.run(["cc", *words], stderr=subprocess.PIPE, text=True)
-    results.count(ran.returncode == 0, f"cc {' '.join(words)}: {ran.stderr}")
-    return ran.returncode == 0
-
-
-def test_c(results, room, library):
-    """The test of C, and the example with the line that its README says it prints."""
-    flags = ["-std=c99", "-O2", *WARNINGS, f"-I{LANGUAGES}/c"]
-    if built(results, [*flags, f"{LANGUAGES}/c/test.c", library, "-o", f"{room}/test"]):
-        run(results, "test.c", [f"{room}/test"], (r"(\d+) passed", r"(\d+) failed"))
-    with open(f"{room}/main.c", "w", encoding="utf-8") as it:
-        it.write(example("c"))
-    if built(results, [*flags, f"{room}/main.c", library, "-o", f"{room}/main"]):
-        printed = subprocess.run([f"{room}/main"], stdout=subprocess.PIPE, text=True).stdout
-        is_told = f"the program prints `{printed.strip()}`:" in read(f"{LANGUAGES}/c/README.md")
-        results.count(is_told, f"the example in C prints {printed}")
-
-
-def test_python(results, room, library):
-    """The tests of Python, and the example of its README."""
-    shared = f"{room}/libcalendar.so"
-    if not built(results, ["-shared", "-o", shared, "-Wl,--whole-archive", library, "-Wl,--no-whole-archive"]):
-        return
-    env = dict(os.environ, CALENDAR_LIBRARY=shared, PYTHONPATH=f"{LANGUAGES}/python", PYTHONDONTWRITEBYTECODE="1")
-    counts = (r"\.\.\. ok()$", r"\.\.\. (?:FAIL|ERROR)()$")
-    for name in ("test_calls.py", "test_days.py"):
-        run(results, name, [sys.executable, f"{LANGUAGES}/python/{name}", "-v"], counts, env=env)
-    with open(f"{room}/example.txt", "w", encoding="utf-8") as it:
-        it.write(example("python"))
-    counts = (r"^(\d+) passed and", r"(\d+) failed\.")
-    run(results, "the example in Python", [sys.executable, "-m", "doctest", "-v", f"{room}/example.txt"], counts, env=env)
-
-
-def test_rust(results, room, library):
-    """The package for Rust in a project outside, with its features, examples and wrong lines (checks/rust.py)."""
-    if not shutil.which("cargo"):
-        print("not run: the tests in Rust, since there is no cargo")
-        return
-    rust.test(results, run, room, library)
-
-
 def compare_examples(results):
     """README.md has lines for each language, which stand in the example of that language."""
     section = read(f"{TOP}/README.md").partition("\n## From other languages\n")[2].partition("\n## ")[0]
@@ -332,6 +251,22 @@ def compare_examples(results):
     results.count({"c", "python", "rust"} <= set(shown) <= {"c", "js", "python", "rust"}, f"README.md has lines of {shown}")
     for language, lines in quoted:
         results.count(lines in re.sub(r"^    ", "", example(language), flags=re.M), f"README.md: other lines of {language}")
+
+
+# Where each package says its version.
+VERSIONS = {
+    "python/pyproject.toml": r"^version = \"(.*)\"$", "rust/Cargo.toml": r"^version = \"(.*)\"$",
+    "javascript/package.json": r"^ *\"version\": \"(.*)\",?$",
+}
+
+
+def compare_versions(results):
+    """All packages have the version of the header."""
+    wanted = re.search(r"^#define CALENDAR_VERSION \"(.*)\"$", read(HEADER), re.M)[1]
+    for path, pattern in VERSIONS.items():
+        if os.path.exists(f"{LANGUAGES}/{path}"):
+            found = re.findall(pattern, read(f"{LANGUAGES}/{path}"), re.M)[:1]
+            results.count(found == [wanted], f"{path} has the version {found}, and calendar.h {wanted}")
 
 
 def compare_sources(results):
@@ -343,6 +278,7 @@ def compare_sources(results):
     compare_uses(results, header)
     compare_processors(results)
     compare_examples(results)
+    compare_versions(results)
     compile_header(results)
     return header
 
@@ -356,10 +292,10 @@ def main():
         if library:
             compare_symbols(results, header, library)
             compare_instructions(results, library)
-            test_rust(results, room, library)
+            from_rust.test(results, room, library)
         if library and shutil.which("cc"):
-            test_c(results, room, library)
-            test_python(results, room, library)
+            from_c.test(results, room, library, sorted(header))
+            from_python.test(results, room, library)
         elif library:
             print("not run: the tests in C and Python, since there is no C compiler")
     print(f"{results.passed} passed, {results.failed} failed")

@@ -141,7 +141,11 @@ static void has_fields(int line, int32_t date, const int32_t fields[7])
     count(calendar_iso_week(date) == fields[6], line, "calendar_iso_week");
 }
 
-#define FIELDS(date, ...) has_fields(__LINE__, date, (const int32_t[7]){__VA_ARGS__})
+#define FIELDS(date, ...)                             \
+    do {                                              \
+        static const int32_t named[] = {__VA_ARGS__}; \
+        has_fields(__LINE__, date, named);            \
+    } while (0)
 
 static void fields(void)
 {

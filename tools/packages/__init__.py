@@ -4,6 +4,7 @@
 answers the paths that it made. It raises `Missing` where a program or a package that it needs is not there.
 """
 import re
+import shutil
 import subprocess
 
 
@@ -15,6 +16,17 @@ def version(top):
     """The version of all packages, which the header has."""
     with open(f"{top}/languages/c/calendar.h", encoding="utf-8") as it:
         return re.search(r"^#define CALENDAR_VERSION \"([^\"]+)\"$", it.read(), re.M)[1]
+
+
+def build(library, built):
+    """Puts the static library into a folder as libcalendar.a, and beside it libcalendar.so.0, which shows its own names alone."""
+    shutil.copy(library, f"{built}/libcalendar.a")
+    names = f"{built}/names.map"
+    with open(names, "w", encoding="utf-8") as it:
+        it.write("{ global: calendar_*; local: *; };\n")
+    flags = ["-shared", "-nostartfiles", "-Wl,-soname,libcalendar.so.0", f"-Wl,--version-script={names}", "-Wl,-z,defs"]
+    whole = ["-Wl,--whole-archive", f"{built}/libcalendar.a", "-Wl,--no-whole-archive"]
+    run(["cc", *flags, *whole, "-o", f"{built}/libcalendar.so.0"])
 
 
 def run(words, **how):

@@ -4,7 +4,6 @@ named after it, and then what Python adds."""
 import copy
 import pickle
 import unittest
-from dataclasses import FrozenInstanceError
 from datetime import date as python_date
 from datetime import timedelta
 
@@ -59,6 +58,8 @@ class Names(Answers):
             self.none(Date, 2**32 + 2024, 2, 28)
             self.none(Date, 2024, 2**32 + 2, 28)
             self.none(Date, 2024, 2, 2**32 + 28)
+            self.none(Date, 2024, 2 - 2**32, 28)
+            self.none(Date, 2024, 2, 28 - 2**32)
 
     def test_from_yo(self):
         for name, number in {
@@ -126,8 +127,12 @@ class Fields(Answers):
         self.of_all("ordinal", 3)
 
     def test_weekday(self):
-        self.of_all("weekday", 4)
-        self.assertIsInstance(LEAP_DAY.weekday, Weekday)
+        for number, fields in self.DAYS.items():
+            date = Date.from_number(number)
+            self.assertIs(date.isoweekday(), fields[4])
+            self.assertEqual(date.weekday(), fields[4] - 1)
+            self.assertEqual(DateTime(date).isoweekday(), fields[4])
+            self.assertEqual(DateTime(date).weekday(), fields[4] - 1)
 
     def test_iso_year(self):
         self.of_all("iso_year", 5)
@@ -375,7 +380,7 @@ class Python(Answers):
 
     def test_frozen(self):
         for value, name in [(LEAP_DAY, "number"), (DateTime(LEAP_DAY), "nanos"), (Duration(seconds=1), "nanoseconds")]:
-            with self.assertRaises(FrozenInstanceError):
+            with self.assertRaises(AttributeError):
                 setattr(value, name, 0)
             self.assertEqual(pickle.loads(pickle.dumps(value)), value)
             self.assertEqual(copy.deepcopy(value), value)
@@ -385,8 +390,7 @@ class Python(Answers):
             lambda: Date(2024.0, 2, 29), lambda: Date("2024", 2, 29), lambda: LEAP_DAY + 1.5, lambda: LEAP_DAY - "1",
             lambda: LEAP_DAY + 1.0, lambda: 1.0 + LEAP_DAY, lambda: LEAP_DAY - 1.0, lambda: LEAP_DAY + "1",
             lambda: LEAP_DAY - None,
-            lambda: LEAP_DAY + timedelta(1), lambda: timedelta(1) + LEAP_DAY, lambda: LEAP_DAY - timedelta(1),
-            lambda: LEAP_DAY + LEAP_DAY, lambda: LEAP_DAY + Duration(days=1), lambda: LEAP_DAY + int,
+            lambda: LEAP_DAY + LEAP_DAY, lambda: LEAP_DAY + int, lambda: timedelta(1) - LEAP_DAY,
             lambda: LEAP_DAY < 738946, lambda: is_leap_year(2024.0), lambda: DateTime(LEAP_DAY) + 1,
             lambda: DateTime(LEAP_DAY) - 1,
             lambda: DateTime(LEAP_DAY, 1.5), lambda: Duration(seconds=1) + 1, lambda: Duration(seconds=1) - 1,

@@ -1,8 +1,7 @@
 #!/usr/bin/env python3
 """Compares proved_calendar with calendars that are made otherwise: with datetime on each of its 3,652,059 days, and beyond them
 with checks/counted.py and with a walk that counts day after day by the leap rule alone, over 400 years at both ends and around
-year 0. There the functions are called themselves, since most of a call through a class goes into making an object. The classes,
-moves and date-times are compared with checks/counted.py on samples from the whole calendar.
+year 0. Moves and date-times are compared with checks/counted.py on samples from the whole calendar.
 """
 import datetime
 import itertools
@@ -13,10 +12,8 @@ import sys
 import unittest
 
 from proved_calendar import Date, DateTime, Duration, days_in_month, days_until, is_leap_year
-from proved_calendar.date import Room
-from proved_calendar.library import LIBRARY
 
-sys.path.append(os.path.join(os.path.dirname(os.path.abspath(__file__)), "..", "..", "checks"))
+sys.path.append(os.path.join(os.path.dirname(os.path.abspath(__file__)), "..", "..", "..", "checks"))
 import counted  # noqa: E402
 from counted import FIRST_DAY, FIRST_YEAR, LAST_DAY, LAST_YEAR, NANOS  # noqa: E402
 
@@ -30,7 +27,7 @@ SAMPLES = 20_000
 def names(date):
     """All that a date is called."""
     fields = (date.year, date.month, date.day, date.ordinal)
-    return (date.number, *fields, (date.iso_year, date.iso_week, date.weekday), date.isoformat())
+    return (date.toordinal(), *fields, date.isocalendar(), date.isoformat())
 
 
 def is_found(wanted):
@@ -41,30 +38,12 @@ def is_found(wanted):
 
 
 def same(wanted):
-    return names(Date.from_number(wanted[0])) == wanted and is_found(wanted)
-
-
-ROOM = Room()
-
-
-def text_of(number):
-    """The text that is written of a date."""
-    return ROOM[: LIBRARY.calendar_write_date(number, ROOM, len(ROOM))].decode()
+    return names(Date.fromordinal(wanted[0])) == wanted and is_found(wanted)
 
 
 def unlike(days):
-    """The days whose names are not what the functions answer of their number, or whose names are not answered by it."""
-    numbers, years, months, of_months, ordinals, weeks, texts = zip(*days)
-    fields = (LIBRARY.calendar_year, LIBRARY.calendar_month, LIBRARY.calendar_day, LIBRARY.calendar_ordinal)
-    of_weeks = (LIBRARY.calendar_iso_year, LIBRARY.calendar_iso_week, LIBRARY.calendar_weekday)
-    named = zip(numbers, *(map(it, numbers) for it in fields), zip(*(map(it, numbers) for it in of_weeks)), map(text_of, numbers))
-    found = zip(
-        map(LIBRARY.calendar_from_ymd, years, months, of_months),
-        map(LIBRARY.calendar_from_yo, years, ordinals),
-        map(LIBRARY.calendar_from_isoywd, *zip(*weeks)),
-        map(LIBRARY.calendar_read_date, map(str.encode, texts), map(len, texts)),
-    )
-    return [it for it, names, by_names in zip(days, named, found, strict=True) if names != it or by_names != it[:1] * 4]
+    """The days that have other names, or whose names are those of another day."""
+    return [it for it in days if not same(it)]
 
 
 def names_by_datetime(number):

@@ -1,0 +1,130 @@
+"""The package for C as its users install it: copied to a prefix, found by pkg-config and by CMake, linked both ways, from C and C++,
+and run under valgrind and with sanitizers where there are any. The fault of a call that is too short would be seen there too."""
+import os
+import re
+import shutil
+import subprocess
+import sys
+
+from results import LANGUAGES, TOP, example, read, run, succeeds
+
+sys.path.insert(0, f"{TOP}/tools")
+import packages  # noqa: E402
+from packages import c  # noqa: E402
+
+TEST = f"{LANGUAGES}/c/test.c"
+COUNTS = (r"(\d+) passed", r"(\d+) failed")
+COMPILERS = {
+    "cc": ["cc", "-std=c99", "-O2", "-Wall", "-Wextra", "-Wpedantic", "-Werror"],
+    "g++": ["g++", "-std=c++17", "-O2", "-Wall", "-Wextra", "-Wpedantic", "-Werror", "-x", "c++"],
+}
+CMAKE = """\
+cmake_minimum_required(VERSION 3.13)
+project(uses C)
+find_package(calendar 0.1 REQUIRED)
+add_executable(static {test})
+target_link_libraries(static calendar::calendar)
+add_executable(shared {test})
+target_link_libraries(shared calendar::shared)
+"""
+
+
+def install(room, library):
+    """Makes the package and copies it to a prefix, as README says; the prefix."""
+    built, dist, prefix = f"{room}/built", f"{room}/dist", f"{room}/prefix with a space"
+    os.makedirs(built)
+    packages.build(library, built)
+    c.make(TOP, built, dist)
+    shutil.copytree(f"{dist}/include", f"{prefix}/include")
+    shutil.copytree(f"{dist}/lib", f"{prefix}/lib")
+    return prefix
+
+
+def compare_shared(results, shared, names):
+    """The shared library has its soname and shows the names of calendar.h alone."""
+    if not shutil.which("nm") or not shutil.which("objdump"):
+        print("not run: the names of the shared library, since there is no nm or no objdump")
+        return
+    listed = subprocess.run(["nm", "-D", "--defined-only", shared], check=True, capture_output=True, text=True).stdout
+    found = sorted(line.split()[-1] for line in listed.splitlines())
+    results.count(found == names, f"the shared library shows {sorted(set(found) ^ set(names))}, or does not")
+    head = subprocess.run(["objdump", "-p", shared], check=True, capture_output=True, text=True).stdout
+    results.count(re.findall(r"SONAME +(\S+)", head) == ["libcalendar.so.0"], "the soname of the shared library")
+
+
+def flags_of(results, prefix):
+    """What pkg-config answers for a prefix, as words."""
+    env = dict(os.environ, PKG_CONFIG_PATH=f"{prefix}/lib/pkgconfig")
+    version = succeeds(results, ["pkg-config", "--modversion", "calendar"], env=env)
+    results.count((version or "").strip() == packages.version(TOP), f"pkg-config has the version {version}")
+    # (it answers as for a shell)
+    listed = succeeds(results, ["sh", "-c", 'eval "set -- $(pkg-config --cflags --libs calendar)"; printf "%s\\n" "$@"'], env=env)
+    return (listed or "").split("\n")[:-1]
+
+
+def test_by_pkg_config(results, room, prefix):
+    """The test by each compiler, with the static library and with the shared one."""
+    if not shutil.which("pkg-config"):
+        print("not run: the tests in C by pkg-config, since there is none")
+        return
+    flags = flags_of(results, prefix)
+    shared = [it.replace("-lcalendar", "-l:libcalendar.so.0") for it in flags]
+    env = dict(os.environ, LD_LIBRARY_PATH=f"{prefix}/lib")
+    for name, words in COMPILERS.items():
+        if not shutil.which(name):
+            print(f"not run: the tests in C by {name}, since there is none")
+            continue
+        for kind, given in {"static": flags, "shared": shared}.items():
+            if succeeds(results, [*words, TEST, "-x", "none", *given, "-o", f"{room}/{kind}"]) is not None:
+                run(results, f"test.c by {name}, {kind}", [f"{room}/{kind}"], COUNTS, env=env)
+
+
+def test_by_cmake(results, room, prefix):
+    """The test by CMake's two targets."""
+    if not shutil.which("cmake"):
+        print("not run: the tests in C by CMake, since there is none")
+        return
+    os.makedirs(f"{room}/cmake")
+    with open(f"{room}/cmake/CMakeLists.txt", "w", encoding="utf-8") as it:
+        it.write(CMAKE.format(test=TEST))
+    words = ["cmake", "-S", f"{room}/cmake", "-B", f"{room}/cmake/made", f"-DCMAKE_PREFIX_PATH={prefix}"]
+    if succeeds(results, words) is not None and succeeds(results, ["cmake", "--build", f"{room}/cmake/made"]) is not None:
+        for kind in ("static", "shared"):
+            run(results, f"test.c by CMake, {kind}", [f"{room}/cmake/made/{kind}"], COUNTS)
+
+
+def test_memory(results, room, prefix):
+    """The test where each read and write is watched."""
+    given = [f"-I{prefix}/include", TEST, f"{prefix}/lib/libcalendar.a"]
+    if not shutil.which("valgrind"):
+        print("not run: the tests in C under valgrind, since there is none")
+    elif succeeds(results, ["cc", "-std=c99", "-O1", "-g", *given, "-o", f"{room}/watched"]) is not None:
+        run(results, "test.c under valgrind", ["valgrind", "-q", "--error-exitcode=9", f"{room}/watched"], COUNTS)
+    sanitizers = ["-fsanitize=address,undefined", "-fno-sanitize-recover=all"]
+    if subprocess.run(["cc", *sanitizers, *given, "-o", f"{room}/checked"], capture_output=True).returncode:
+        print("not run: the tests in C with sanitizers, since the compiler has none")
+    else:
+        run(results, "test.c with sanitizers", [f"{room}/checked"], COUNTS)
+
+
+def test_example(results, room, prefix):
+    """The example prints the line that its README says."""
+    with open(f"{room}/main.c", "w", encoding="utf-8") as it:
+        it.write(example("c"))
+    words = [*COMPILERS["cc"], f"-I{prefix}/include", f"{room}/main.c", f"{prefix}/lib/libcalendar.a", "-o", f"{room}/main"]
+    if succeeds(results, words) is not None:
+        printed = subprocess.run([f"{room}/main"], stdout=subprocess.PIPE, text=True).stdout
+        is_told = f"the program prints `{printed.strip()}`:" in read(f"{LANGUAGES}/c/README.md")
+        results.count(is_told, f"the example in C prints {printed}")
+
+
+def test(results, room, library, names):
+    """Installs the package to a prefix and runs the tests there."""
+    room = f"{room}/c"
+    os.makedirs(room)
+    prefix = install(room, library)
+    compare_shared(results, f"{prefix}/lib/libcalendar.so.0", names)
+    test_example(results, room, prefix)
+    test_by_pkg_config(results, room, prefix)
+    test_by_cmake(results, room, prefix)
+    test_memory(results, room, prefix)

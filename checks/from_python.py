@@ -1,0 +1,133 @@
+"""The package for Python as its users install it: the wheel into fresh environments with no network, its tests and the example
+there, the same wheel under other versions of Python, the package of sources built, its types by mypy, and wrong lines planted in its C."""
+import glob
+import os
+import shutil
+import subprocess
+import sys
+
+from results import LANGUAGES, TOP, example, run, succeeds
+from wrong_lines import edits, planted
+
+sys.path.insert(0, f"{TOP}/tools")
+import packages  # noqa: E402
+from packages import python  # noqa: E402
+
+PACKAGE = f"{LANGUAGES}/python"
+TESTS = f"{PACKAGE}/tests"
+COUNTS = (r"\.\.\. ok()$", r"\.\.\. (?:FAIL|ERROR)()$")
+# The versions from 3.10 on, which one wheel serves.
+VERSIONS = [f"python3.{it}" for it in range(10, 16)]
+WARNINGS = ["-std=c99", "-O1", "-fPIC", "-Wall", "-Wextra", "-Wpedantic", "-Werror"]
+QUIET = dict(os.environ, PYTHONDONTWRITEBYTECODE="1", PIP_DISABLE_PIP_VERSION_CHECK="1", PIP_NO_INDEX="1")
+
+
+def install(results, room, name, program, wheel):
+    """A fresh environment of a Python with the wheel; its program, or None."""
+    folder = f"{room}/{name}"
+    if succeeds(results, [program, "-m", "venv", folder], env=QUIET) is None:
+        return None
+    if succeeds(results, [f"{folder}/bin/pip", "install", "--quiet", wheel], env=QUIET) is None:
+        return None
+    return f"{folder}/bin/python"
+
+
+def test_installed(results, room, program):
+    """All tests, and the example of README."""
+    for name in ("test_calls.py", "test_habits.py", "test_days.py"):
+        run(results, name, [program, f"{TESTS}/{name}", "-v"], COUNTS, env=QUIET)
+    with open(f"{room}/example.txt", "w", encoding="utf-8") as it:
+        it.write(example("python"))
+    counts = (r"^(\d+) passed and", r"(\d+) failed\.")
+    run(results, "the example in Python", [program, "-m", "doctest", "-v", f"{room}/example.txt"], counts, env=QUIET)
+
+
+def test_versions(results, room, wheel):
+    """The calls under each other version of Python that is found."""
+    own = f"python{sys.version_info.major}.{sys.version_info.minor}"
+    for name in VERSIONS:
+        asked = [name, "-c", "import venv, ensurepip"]
+        is_there = shutil.which(name) and subprocess.run(asked, capture_output=True).returncode == 0
+        if name != own and is_there:
+            program = install(results, room, name, name, wheel)
+            if program:
+                run(results, f"test_calls.py by {name}", [program, f"{TESTS}/test_calls.py", "-v"], COUNTS, env=QUIET)
+
+
+def test_sources(results, room, sources):
+    """The package of sources becomes a wheel again."""
+    words = [python.python(), "-m", "pip", "wheel", "--quiet", "--no-deps", "--no-build-isolation", "--wheel-dir", room, sources]
+    succeeds(results, words, env=QUIET)
+    results.count(glob.glob(f"{room}/proved_calendar-*-cp310-abi3-*.whl"), "the package of sources makes no wheel")
+
+
+def test_types(results, program):
+    """The stubs are whole, and serve a program."""
+    mypy = shutil.which("mypy")
+    if not mypy:
+        print("not run: the types of the Python package, since there is no mypy")
+        return
+    for path in (f"{PACKAGE}/proved_calendar", f"{TESTS}/typed.py"):
+        words = [mypy, "--strict", "--cache-dir", os.devnull, "--python-executable", program, path]
+        succeeds(results, words, env=QUIET)
+
+
+def headers():
+    """The folder of Python's headers for C."""
+    asked = "import sysconfig; print(sysconfig.get_paths()['include'])"
+    return subprocess.run([python.python(), "-c", asked], check=True, capture_output=True, text=True).stdout.strip()
+
+
+def compile_c(folder, names, flags):
+    """Compiles files of the extension there, beside them; what the compiler says, if it fails."""
+    for name in names:
+        words = ["cc", *flags, "-c", f"{folder}/src/{name}", "-o", f"{folder}/src/{name}.o"]
+        ran = subprocess.run(words, stdout=subprocess.PIPE, stderr=subprocess.STDOUT, text=True)
+        if ran.returncode:
+            return ran.stdout
+    return ""
+
+
+def fails(folder, objects, library):
+    """Whether a test fails over an extension that is linked of these objects."""
+    module = f"{folder}/proved_calendar/_calendar.abi3.so"
+    subprocess.run(["cc", "-shared", *objects, library, "-o", module], check=True)
+    env = dict(QUIET, PYTHONPATH=folder, SKIP_MEMORY="1")
+    tests = (f"{TESTS}/test_calls.py", f"{TESTS}/test_habits.py")
+    return any(subprocess.run([python.python(), it], env=env, capture_output=True, timeout=60).returncode for it in tests)
+
+
+def test_wrong_lines(results, room, library):
+    """Each wrong line in the C of the extension fails its tests, and none of them fails without."""
+    flags = [*WARNINGS, f"-I{LANGUAGES}/c", f"-I{headers()}"]
+    right = f"{room}/right"
+    shutil.copytree(PACKAGE, right)
+    names = sorted(os.path.basename(it) for it in glob.glob(f"{right}/src/*.c"))
+    said = compile_c(right, names, flags)
+    results.count(not said, f"the extension in C: {said}")
+    results.count(not said and not fails(right, [f"{right}/src/{it}.o" for it in names], library), "a test fails over right lines")
+    for number, edit in enumerate(edits("python")):
+        folder, changed = planted("python", f"{room}/wrong_{number}", edit), os.path.basename(edit[0])
+        compiled = names if changed.endswith(".h") else [changed]
+        said = compile_c(folder, compiled, flags)
+        objects = [f"{folder if it in compiled else right}/src/{it}.o" for it in names]
+        results.count(not said and fails(folder, objects, library), f"no test in Python fails with {edit[2]!r} in {edit[0]} {said}")
+
+
+def test(results, room, library):
+    """Makes the packages, installs the wheel and runs the tests there."""
+    room, built = f"{room}/python", f"{room}/python/built"
+    os.makedirs(built)
+    packages.build(library, built)
+    try:
+        sources, wheel = sorted(python.make(TOP, built, f"{room}/dist"))
+    except packages.Missing as it:
+        print(f"not run: the tests in Python, since there is {it}")
+        return
+    program = install(results, room, "environment", sys.executable, wheel)
+    if program:
+        test_installed(results, room, program)
+        test_types(results, program)
+    test_versions(results, room, wheel)
+    test_sources(results, f"{room}/again", sources)
+    test_wrong_lines(results, room, library)

@@ -1,0 +1,51 @@
+"""What checks of several languages share: facts that are counted, and tests that are run."""
+import os
+import re
+import subprocess
+
+TOP = os.path.dirname(os.path.dirname(os.path.abspath(__file__)))
+LANGUAGES = f"{TOP}/languages"
+
+
+class Results:
+    """What passed and failed."""
+
+    def __init__(self):
+        self.passed, self.failed = 0, 0
+
+    def count(self, is_right, what):
+        """Counts a fact, and tells of it if it does not hold."""
+        if is_right:
+            self.passed += 1
+        else:
+            self.failed += 1
+            print(f"FAILED: {what}", flush=True)
+
+
+def read(path):
+    with open(path, encoding="utf-8") as it:
+        return it.read()
+
+
+def run(results, what, words, counts, **how):
+    """Runs a test; the patterns say how it tells what passed and failed, by a number or, with none, one by one."""
+    ran = subprocess.run(words, stdout=subprocess.PIPE, stderr=subprocess.STDOUT, text=True, errors="replace", **how)
+    passed, failed = (sum(int(number or 1) for number in re.findall(it, ran.stdout, re.M)) for it in counts)
+    failed = failed or int(ran.returncode != 0 or not passed)
+    print(f"{what}: {passed} passed, {failed} failed", flush=True)
+    results.passed, results.failed = results.passed + passed, results.failed + failed
+    if failed:
+        print(ran.stdout[-4000:], flush=True)
+
+
+def succeeds(results, words, **how):
+    """Runs a program that has to succeed; what it prints, or None."""
+    ran = subprocess.run(words, stdout=subprocess.PIPE, stderr=subprocess.STDOUT, text=True, errors="replace", **how)
+    results.count(ran.returncode == 0, f"{' '.join(words)}: {ran.stdout[-3000:]}")
+    return ran.stdout if ran.returncode == 0 else None
+
+
+def example(language):
+    """The example of a README."""
+    folder = {"js": "javascript"}.get(language, language)
+    return re.search(rf"^```{language}\n(.*?)^```$", read(f"{LANGUAGES}/{folder}/README.md"), re.M | re.S)[1]

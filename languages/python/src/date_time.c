@@ -1,0 +1,503 @@
+/* date_time.c: the type DateTime. */
+#include "package.h"
+
+PyTypeObject *date_time_type;
+
+enum { SECOND = 1000000000, LAST_SECOND = 59 };
+
+/* The parts of a clock, in the order of parameters: hour, minute, second and nanosecond. */
+enum { HOUR, MINUTE, CLOCK_SECOND, NANOSECOND, CLOCK };
+
+static Signature of_date_and_clock = {
+    .call = "DateTime", .count = 5, .needed = 1, .places = 5, .names = {"date", "hour", "minute", "second", "nanosecond"},
+};
+static Signature of_replace = {
+    .call = "replace", .count = 7, .needed = 0, .places = 7,
+    .names = {"year", "month", "day", "hour", "minute", "second", "nanosecond"},
+};
+static Signature of_fields = {
+    .call = "from_seconds", .count = 2, .needed = 1, .places = 2, .names = {"seconds", "nanos"},
+};
+
+/* ---- the clock */
+
+/* What a clock shows; the second is 60 in a leap second. */
+static void read_clock(calendar_date_time moment, int64_t clock[CLOCK])
+{
+    int32_t second = calendar_date_time_second_of_day(moment);
+    bool is_leap = moment.nanos >= SECOND;
+    clock[HOUR] = second / 3600;
+    clock[MINUTE] = second / 60 % 60;
+    clock[CLOCK_SECOND] = second % 60 + is_leap;
+    clock[NANOSECOND] = is_leap ? moment.nanos - SECOND : moment.nanos;
+}
+
+/* Whether a part of a clock is one of its numbers, from 0; else it is refused. */
+static bool shows(const int64_t clock[CLOCK], int part)
+{
+    static const struct {
+        const char *name, *range;
+        int64_t last;
+    } parts[CLOCK] = {
+        {"hour", "hours are 0 to 23", 23},
+        {"minute", "minutes are 0 to 59", 59},
+        {"second", "seconds are 0 to 59, and 60 in a leap second", 60},
+        {"nanosecond", "nanoseconds are 0 to 999999999", SECOND - 1},
+    };
+    bool is_shown = 0 <= clock[part] && clock[part] <= parts[part].last;
+    if (!is_shown) {
+        refuse_part(parts[part].name, clock[part], parts[part].range);
+    }
+    return is_shown;
+}
+
+/* The date-time of a date at the time that a clock shows; whether there is one. */
+static bool moment_at(int32_t number, const int64_t clock[CLOCK], calendar_date_time *moment)
+{
+    for (int part = 0; part < CLOCK; part++) {
+        if (!shows(clock, part)) {
+            return false;
+        }
+    }
+    bool is_leap = clock[CLOCK_SECOND] > LAST_SECOND;
+    uint32_t second = (uint32_t)(3600 * clock[HOUR] + 60 * clock[MINUTE] + clock[CLOCK_SECOND] - is_leap);
+    *moment = calendar_date_time_new(number, second, (uint32_t)(clock[NANOSECOND] + (is_leap ? SECOND : 0)));
+    return true;
+}
+
+/* ---- what is kept of a date-time */
+
+/* The number of its date. */
+static int32_t day_of(PyObject *self)
+{
+    DateTime *of = (DateTime *)self;
+    if (of->number == CALENDAR_NONE) {
+        of->number = calendar_date_time_date(of->moment);
+    }
+    return of->number;
+}
+
+/* Its second of the day. */
+static int32_t second_of(PyObject *self)
+{
+    DateTime *of = (DateTime *)self;
+    if (of->second == CALENDAR_NONE) {
+        of->second = calendar_date_time_second_of_day(of->moment);
+    }
+    return of->second;
+}
+
+/* ---- making */
+
+/* An object for a date-time, with the number of its date if that is known. */
+static PyObject *new_date_time(PyTypeObject *kind, calendar_date_time moment, int32_t number)
+{
+    DateTime *self = (DateTime *)new_object(kind, date_time_type);
+    if (self) {
+        self->moment = moment;
+        self->number = number;
+        self->second = CALENDAR_NONE;
+    }
+    return (PyObject *)self;
+}
+
+/* A date-time of a type, from fields that are one. */
+static PyObject *date_time_of(PyTypeObject *kind, calendar_date_time moment)
+{
+    if (kind != date_time_type) {
+        /* (a user's class makes its objects as it likes) */
+        int64_t clock[CLOCK];
+        read_clock(moment, clock);
+        return PyObject_CallFunction((PyObject *)kind, "NLLLL", date_of(date_type, calendar_date_time_date(moment)),
+                                     (long long)clock[HOUR], (long long)clock[MINUTE], (long long)clock[CLOCK_SECOND],
+                                     (long long)clock[NANOSECOND]);
+    }
+    return new_date_time(kind, moment, CALENDAR_NONE);
+}
+
+static PyObject *date_time_new(PyTypeObject *kind, PyObject *arguments, PyObject *keywords)
+{
+    PyObject *parts[PARTS];
+    int64_t clock[CLOCK] = {0};
+    calendar_date_time moment;
+    if (!take_tuple(&of_date_and_clock, arguments, keywords, parts)) {
+        return NULL;
+    }
+    if (!is_date(parts[0])) {
+        return refuse_type("a Date", parts[0]);
+    }
+    for (int i = 0; i < CLOCK; i++) {
+        if (parts[1 + i] && !read_whole(parts[1 + i], &clock[i])) {
+            return NULL;
+        }
+    }
+    return moment_at(number_of(parts[0]), clock, &moment) ? new_date_time(kind, moment, number_of(parts[0])) : NULL;
+}
+
+static void date_time_free(PyObject *self)
+{
+    free_object(self, date_time_type);
+}
+
+static PyObject *from_seconds(PyObject *kind, PyObject *const *arguments, Py_ssize_t count, PyObject *keywords)
+{
+    PyObject *parts[PARTS];
+    int64_t seconds, nanos = 0;
+    if (!take_array(&of_fields, arguments, count, keywords, parts) || !read_whole(parts[0], &seconds)
+        || (parts[1] && !read_whole(parts[1], &nanos))) {
+        return NULL;
+    }
+    calendar_date_time moment = {.seconds = seconds, .nanos = is_u32(nanos) ? (uint32_t)nanos : CALENDAR_NO_NANOS};
+    if (calendar_date_time_date(moment) == CALENDAR_NONE) {
+        PyErr_SetString(PyExc_ValueError, "no date-time has these seconds and nanos");
+        return NULL;
+    }
+    return date_time_of((PyTypeObject *)kind, moment);
+}
+
+static PyObject *from_datetime(PyObject *kind, PyObject *it)
+{
+    int32_t number;
+    int64_t clock[CLOCK];
+    calendar_date_time moment;
+    if (!is_python_datetime(it)) {
+        return refuse_type("a datetime.datetime", it);
+    }
+    if (!read_python_datetime(it, &number, clock) || !moment_at(number, clock, &moment)) {
+        return NULL;
+    }
+    return date_time_of((PyTypeObject *)kind, moment);
+}
+
+static PyObject *date_time_replace(PyObject *self, PyObject *const *arguments, Py_ssize_t count, PyObject *keywords)
+{
+    PyObject *parts[PARTS];
+    int64_t name[3], clock[CLOCK];
+    calendar_date_time moment = moment_of(self);
+    if (!take_array(&of_replace, arguments, count, keywords, parts)
+        || !read_name(day_of(self), parts, name)) {
+        return NULL;
+    }
+    read_clock(moment, clock);
+    for (int i = 0; i < CLOCK; i++) {
+        if (parts[3 + i] && !read_whole(parts[3 + i], &clock[i])) {
+            return NULL;
+        }
+    }
+    int32_t number = number_of_name(name[0], name[1], name[2]);
+    if (number == CALENDAR_NONE || !moment_at(number, clock, &moment)) {
+        return NULL;
+    }
+    return date_time_of(Py_TYPE(self), moment);
+}
+
+/* ---- what a date-time is called */
+
+static PyObject *date_time_seconds(PyObject *self, void *unused)
+{
+    (void)unused;
+    return PyLong_FromLongLong(moment_of(self).seconds);
+}
+
+static PyObject *date_time_nanos(PyObject *self, void *unused)
+{
+    (void)unused;
+    return PyLong_FromLong(moment_of(self).nanos);
+}
+
+static PyObject *date_time_date(PyObject *self, void *unused)
+{
+    (void)unused;
+    return date_of(date_type, day_of(self));
+}
+
+static PyObject *date_time_year(PyObject *self, void *unused)
+{
+    (void)unused;
+    return PyLong_FromLong(calendar_year(day_of(self)));
+}
+
+static PyObject *date_time_month(PyObject *self, void *unused)
+{
+    (void)unused;
+    return PyLong_FromLong(calendar_month(day_of(self)));
+}
+
+static PyObject *date_time_day(PyObject *self, void *unused)
+{
+    (void)unused;
+    return PyLong_FromLong(calendar_day(day_of(self)));
+}
+
+static PyObject *second_of_day(PyObject *self, void *unused)
+{
+    (void)unused;
+    return PyLong_FromLong(second_of(self));
+}
+
+static PyObject *date_time_hour(PyObject *self, void *unused)
+{
+    (void)unused;
+    return PyLong_FromLong(second_of(self) / 3600);
+}
+
+static PyObject *date_time_minute(PyObject *self, void *unused)
+{
+    (void)unused;
+    return PyLong_FromLong(second_of(self) / 60 % 60);
+}
+
+static PyObject *date_time_second(PyObject *self, void *unused)
+{
+    (void)unused;
+    return PyLong_FromLong(second_of(self) % 60 + (moment_of(self).nanos >= SECOND));
+}
+
+static PyObject *date_time_nanosecond(PyObject *self, void *unused)
+{
+    (void)unused;
+    return PyLong_FromLong(moment_of(self).nanos % SECOND);
+}
+
+static PyObject *date_time_weekday(PyObject *self, PyObject *unused)
+{
+    (void)unused;
+    return PyLong_FromLong(calendar_weekday(day_of(self)) - 1);
+}
+
+static PyObject *date_time_iso_weekday(PyObject *self, PyObject *unused)
+{
+    (void)unused;
+    return weekday_member(calendar_weekday(day_of(self)));
+}
+
+static PyObject *date_time_iso_calendar(PyObject *self, PyObject *unused)
+{
+    (void)unused;
+    return iso_calendar(day_of(self));
+}
+
+static PyObject *date_time_to_ordinal(PyObject *self, PyObject *unused)
+{
+    (void)unused;
+    return PyLong_FromLong(day_of(self));
+}
+
+/* ---- moves and distances */
+
+static PyObject *moved(PyObject *self, calendar_duration by)
+{
+    calendar_date_time moment = calendar_date_time_add(moment_of(self), by);
+    if (moment.nanos == CALENDAR_NO_NANOS) {
+        PyErr_SetString(PyExc_OverflowError, "the date-time lies beyond the calendar");
+        return NULL;
+    }
+    return date_time_of(Py_TYPE(self), moment);
+}
+
+static PyObject *moved_by(PyObject *self, PyObject *by, bool is_back)
+{
+    calendar_duration length;
+    bool is_one;
+    if (!read_length(by, &length, &is_one)) {
+        return NULL;
+    }
+    if (!is_one) {
+        Py_RETURN_NOTIMPLEMENTED;
+    }
+    return moved(self, is_back ? back(length) : length);
+}
+
+static PyObject *date_time_add(PyObject *left, PyObject *right)
+{
+    return is_date_time(left) ? moved_by(left, right, false) : moved_by(right, left, false);
+}
+
+static PyObject *date_time_subtract(PyObject *left, PyObject *right)
+{
+    if (!is_date_time(left)) {
+        Py_RETURN_NOTIMPLEMENTED;
+    }
+    if (is_date_time(right)) {
+        return duration_of(duration_type, calendar_date_time_since(moment_of(left), moment_of(right)));
+    }
+    return moved_by(left, right, true);
+}
+
+/* ---- texts */
+
+/* Room for the longest text of a date-time, such as -262143-01-01T00:00:00.000000001. */
+enum { ROOM = 32 };
+
+static PyObject *date_time_text(PyObject *self)
+{
+    uint8_t text[ROOM];
+    int32_t length = calendar_write_date_time(moment_of(self), text, ROOM);
+    return PyUnicode_FromStringAndSize((const char *)text, length);
+}
+
+static PyObject *iso_format(PyObject *self, PyObject *unused)
+{
+    (void)unused;
+    return date_time_text(self);
+}
+
+/* How many bytes stand before the time of day. */
+static size_t length_of_date(const char *bytes, size_t length)
+{
+    size_t i = 0;
+    while (i < length && bytes[i] != 'T' && bytes[i] != ' ') {
+        i++;
+    }
+    return i;
+}
+
+static PyObject *from_iso_format(PyObject *kind, PyObject *text)
+{
+    Py_ssize_t length;
+    const char *bytes = PyUnicode_Check(text) ? PyUnicode_AsUTF8AndSize(text, &length) : NULL;
+    if (!bytes) {
+        return PyErr_Occurred() ? NULL : refuse_type("a str", text);
+    }
+    calendar_date_time moment = calendar_read_date_time((const uint8_t *)bytes, (size_t)length);
+    if (moment.nanos == CALENDAR_NO_NANOS) {
+        refuse_text(text, bytes, length_of_date(bytes, (size_t)length), "date-time");
+        return NULL;
+    }
+    return date_time_of((PyTypeObject *)kind, moment);
+}
+
+static PyObject *date_time_repr(PyObject *self)
+{
+    PyObject *name = PyObject_GetAttrString((PyObject *)Py_TYPE(self), "__name__");
+    PyObject *shown = date_time_text(self);
+    PyObject *text = name && shown ? PyUnicode_FromFormat("%U.fromisoformat(%R)", name, shown) : NULL;
+    Py_XDECREF(name);
+    Py_XDECREF(shown);
+    return text;
+}
+
+/* ---- as Python's objects do */
+
+static PyObject *date_time_compare(PyObject *left, PyObject *right, int order)
+{
+    if (!is_date_time(right)) {
+        Py_RETURN_NOTIMPLEMENTED;
+    }
+    calendar_date_time one = moment_of(left), other = moment_of(right);
+    if (one.seconds != other.seconds) {
+        Py_RETURN_RICHCOMPARE(one.seconds, other.seconds, order);
+    }
+    Py_RETURN_RICHCOMPARE(one.nanos, other.nanos, order);
+}
+
+static Py_hash_t date_time_hash(PyObject *self)
+{
+    return hash_of(moment_of(self).seconds, moment_of(self).nanos);
+}
+
+static PyObject *to_datetime(PyObject *self, PyObject *unused)
+{
+    int64_t clock[CLOCK];
+    (void)unused;
+    read_clock(moment_of(self), clock);
+    return python_datetime(day_of(self), clock);
+}
+
+static PyObject *date_time_reduce(PyObject *self, PyObject *unused)
+{
+    int64_t clock[CLOCK];
+    (void)unused;
+    read_clock(moment_of(self), clock);
+    PyObject *parts = Py_BuildValue("(NLLLL)", date_of(date_type, day_of(self)), (long long)clock[HOUR], (long long)clock[MINUTE],
+                                    (long long)clock[CLOCK_SECOND], (long long)clock[NANOSECOND]);
+    return reduced(self, Py_NewRef((PyObject *)Py_TYPE(self)), parts);
+}
+
+/* ---- the type */
+
+static PyGetSetDef fields[] = {
+    {"seconds", date_time_seconds, NULL, "The seconds from 1970-01-01T00:00:00 on, leap seconds not counted.", NULL},
+    {"nanos", date_time_nanos, NULL,
+     "The nanoseconds past them; 1,000,000,000 and more lie in the leap second that follows.", NULL},
+    {"date", date_time_date, NULL, "The date.", NULL},
+    {"year", date_time_year, NULL, "The year; 0 is the year before year 1.", NULL},
+    {"month", date_time_month, NULL, "The month, from 1 for January to 12.", NULL},
+    {"day", date_time_day, NULL, "The day of the month, from 1.", NULL},
+    {"second_of_day", second_of_day, NULL, "The second of the day, from 0 to 86,399; of a leap second that before it.", NULL},
+    {"hour", date_time_hour, NULL, "The hour, from 0 to 23.", NULL},
+    {"minute", date_time_minute, NULL, "The minute of the hour, from 0 to 59.", NULL},
+    {"second", date_time_second, NULL, "The second of the minute, from 0 to 59; 60 in a leap second.", NULL},
+    {"nanosecond", date_time_nanosecond, NULL,
+     "The nanoseconds past the second that a clock shows, from 0 to 999,999,999.", NULL},
+    {NULL, NULL, NULL, NULL, NULL},
+};
+
+static PyMethodDef methods[] = {
+    {"from_seconds", METHOD(from_seconds), METH_FASTCALL | METH_KEYWORDS | METH_CLASS,
+     "from_seconds($type, /, seconds, nanos=0)\n--\n\nThe date-time that has these fields; ValueError if none has."},
+    {"from_datetime", from_datetime, METH_O | METH_CLASS,
+     "from_datetime($type, moment, /)\n--\n\nThe date-time that a datetime.datetime is, which has no time zone."},
+    {"fromisoformat", from_iso_format, METH_O | METH_CLASS,
+     "fromisoformat($type, text, /)\n--\n\n"
+     "The date-time with a text: that of a date, T or a space, HH:MM:SS, and perhaps a point and up to nine digits."},
+    {"isoformat", iso_format, METH_NOARGS,
+     "isoformat($self, /)\n--\n\n"
+     "The date-time as YYYY-MM-DDTHH:MM:SS, with three, six or nine digits of a fraction that is not 0."},
+    {"isocalendar", date_time_iso_calendar, METH_NOARGS,
+     "isocalendar($self, /)\n--\n\nISO year, week and weekday, as a tuple with these names."},
+    {"weekday", date_time_weekday, METH_NOARGS,
+     "weekday($self, /)\n--\n\nThe weekday as datetime counts it, from 0 for Monday to 6; isoweekday answers a Weekday."},
+    {"isoweekday", date_time_iso_weekday, METH_NOARGS,
+     "isoweekday($self, /)\n--\n\nThe Weekday, which is a number from 1 for Monday to 7."},
+    {"toordinal", date_time_to_ordinal, METH_NOARGS,
+     "toordinal($self, /)\n--\n\nThe day number of the date: 1 for 1 January of year 1."},
+    {"replace", METHOD(date_time_replace), METH_FASTCALL | METH_KEYWORDS,
+     "replace($self, /, year=None, month=None, day=None, hour=None, minute=None, second=None, nanosecond=None)\n--\n\n"
+     "The date-time with these parts in place of its own; ValueError if there is none."},
+    {"to_datetime", to_datetime, METH_NOARGS,
+     "to_datetime($self, /)\n--\n\n"
+     "The same as a datetime.datetime; OverflowError outside the years 1 to 9999, ValueError in a leap second and for a part of a\n"
+     "microsecond."},
+    {"__format__", formatted, METH_O,
+     "__format__($self, format, /)\n--\n\nThe text in a width, as format(str(self), format). There are no formats of strftime."},
+    {"__reduce__", date_time_reduce, METH_NOARGS, "__reduce__($self, /)\n--\n\nWhat pickle and copy keep."},
+    {NULL, NULL, 0, NULL},
+};
+
+PyDoc_STRVAR(documentation,
+"DateTime(date, hour=0, minute=0, second=0, nanosecond=0)\n--\n\n"
+"A date with a time of day, to the nanosecond, in no time zone.\n\n"
+"The time may lie in a leap second, the second 60 of a minute. From there a move goes on a line that holds this leap second\n"
+"and no other. Date-times are compared by date, then by time of day.\n\n"
+"In a difference a leap second counts if one of the two is in it and has the smaller second of the day. So the sign of the\n"
+"difference tells the order of two times of one date, but not always of two dates: 2017-01-01T00:00:00 is -0.5 seconds from\n"
+"2016-12-31T23:59:60.5, which is before it.");
+
+static PyType_Slot slots[] = {
+    {Py_tp_doc, (void *)documentation},
+    {Py_tp_getset, fields},
+    {Py_tp_methods, methods},
+    SLOT(Py_tp_new, date_time_new),
+    SLOT(Py_tp_dealloc, date_time_free),
+    SLOT(Py_tp_richcompare, date_time_compare),
+    SLOT(Py_tp_hash, date_time_hash),
+    SLOT(Py_tp_str, date_time_text),
+    SLOT(Py_tp_repr, date_time_repr),
+    SLOT(Py_nb_add, date_time_add),
+    SLOT(Py_nb_subtract, date_time_subtract),
+    {0, NULL},
+};
+
+static PyType_Spec spec = {
+    .name = "proved_calendar.DateTime",
+    .basicsize = sizeof(DateTime),
+    .flags = Py_TPFLAGS_DEFAULT | Py_TPFLAGS_BASETYPE,
+    .slots = slots,
+};
+
+bool make_date_time_type(PyObject *module)
+{
+    date_time_type = add_type(module, &spec, "DateTime", "date hour minute second nanosecond");
+    return date_time_type;
+}

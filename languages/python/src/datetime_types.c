@@ -1,0 +1,211 @@
+/* datetime_types.c: values of Python's own module datetime, whose C functions are not in the limited API. */
+#include "package.h"
+
+#include <string.h>
+
+/* The days of datetime: 1 January of year 1 is the first. */
+enum { FIRST_DAY = 1, LAST_DAY = 3652059, LONGEST_DAYS = 999999999 };
+
+static PyTypeObject *date_class, *datetime_class, *timedelta_class;
+static PyObject *from_ordinal;
+
+/* A field of timedelta, as its class reads it, and where an object has it. */
+typedef struct {
+    const char *name;
+    PyObject *member;
+    descrgetfunc get;
+    Py_ssize_t place;
+} Field;
+
+enum { FIELDS = 3 };
+
+static Field fields[FIELDS] = {{.name = "days"}, {.name = "seconds"}, {.name = "microseconds"}};
+
+/* Whether the places of the fields are known. */
+static bool has_places;
+
+static bool take_class(PyObject *module, const char *name, PyTypeObject **class)
+{
+    *class = (PyTypeObject *)PyObject_GetAttrString(module, name);
+    return *class;
+}
+
+static bool take_field(Field *field)
+{
+    field->member = PyObject_GetAttrString((PyObject *)timedelta_class, field->name);
+    field->get = field->member ? FROM_SLOT(descrgetfunc, Py_TYPE(field->member), Py_tp_descr_get) : NULL;
+    if (field->member && !field->get) {
+        PyErr_Format(PyExc_ImportError, "timedelta.%s is no field of a class in C", field->name);
+    }
+    return field->get;
+}
+
+/* The only place, of those for an int behind the head of an object, where a timedelta holds a number; 0 if there is none. */
+static Py_ssize_t place_of(const PyObject *it, Py_ssize_t size, int number)
+{
+    Py_ssize_t place = 0;
+    int found = 0;
+    for (Py_ssize_t i = sizeof(PyObject); i + (Py_ssize_t)sizeof number <= size; i += sizeof number) {
+        if (memcmp((const char *)it + i, &number, sizeof number) == 0) {
+            place = i;
+            found++;
+        }
+    }
+    return found == 1 ? place : 0;
+}
+
+/* Looks where timedeltas hold their fields: to read them there takes a third of the time that their class takes. The places
+ * have to be the same in two timedeltas of numbers that stand nowhere by chance; else they are read by the class. */
+static bool find_places(void)
+{
+    static const int samples[2][FIELDS] = {{123456789, 76543, 987654}, {-87654321, 23456, 345678}};
+    PyObject *size = PyObject_GetAttrString((PyObject *)timedelta_class, "__basicsize__");
+    Py_ssize_t bytes = size ? PyLong_AsSsize_t(size) : -1;
+    Py_XDECREF(size);
+    has_places = bytes > 0;
+    for (int sample = 0; bytes > 0 && sample < 2; sample++) {
+        const int *numbers = samples[sample];
+        PyObject *it = PyObject_CallFunction((PyObject *)timedelta_class, "iii", numbers[0], numbers[1], numbers[2]);
+        for (int i = 0; it && i < FIELDS; i++) {
+            Py_ssize_t place = place_of(it, bytes, numbers[i]);
+            has_places = has_places && place && (sample == 0 || place == fields[i].place);
+            fields[i].place = place;
+        }
+        Py_XDECREF(it);
+    }
+    return !PyErr_Occurred();
+}
+
+bool take_datetime(void)
+{
+    PyObject *module = PyImport_ImportModule("datetime");
+    bool is_taken = module && take_class(module, "date", &date_class) && take_class(module, "datetime", &datetime_class)
+        && take_class(module, "timedelta", &timedelta_class);
+    Py_XDECREF(module);
+    from_ordinal = is_taken ? PyObject_GetAttrString((PyObject *)date_class, "fromordinal") : NULL;
+    return from_ordinal && take_field(&fields[0]) && take_field(&fields[1]) && take_field(&fields[2])
+        && find_places();
+}
+
+bool is_python_date(PyObject *it)
+{
+    return PyObject_TypeCheck(it, date_class);
+}
+
+bool is_python_datetime(PyObject *it)
+{
+    return PyObject_TypeCheck(it, datetime_class);
+}
+
+bool is_timedelta(PyObject *it)
+{
+    return PyObject_TypeCheck(it, timedelta_class);
+}
+
+/* Reads a whole number that was just made, and lets it go; false if it was not made. */
+static bool take_whole(PyObject *it, int64_t *number)
+{
+    bool is_read = it && read_whole(it, number);
+    Py_XDECREF(it);
+    return is_read;
+}
+
+static bool read_field(const Field *field, PyObject *it, int64_t *number)
+{
+    return take_whole(field->get(field->member, it, (PyObject *)timedelta_class), number);
+}
+
+/* The number that an object has at a place. */
+static int64_t number_at(const PyObject *it, Py_ssize_t place)
+{
+    int number;
+    memcpy(&number, (const char *)it + place, sizeof number);
+    return number;
+}
+
+bool read_timedelta(PyObject *it, int64_t *days, int64_t *seconds, int64_t *microseconds)
+{
+    if (has_places) {
+        *days = number_at(it, fields[0].place);
+        *seconds = number_at(it, fields[1].place);
+        *microseconds = number_at(it, fields[2].place);
+        return true;
+    }
+    return read_field(&fields[0], it, days) && read_field(&fields[1], it, seconds) && read_field(&fields[2], it, microseconds);
+}
+
+bool read_python_date(PyObject *it, int32_t *number)
+{
+    int64_t ordinal;
+    if (!take_whole(PyObject_CallMethod(it, "toordinal", NULL), &ordinal)) {
+        return false;
+    }
+    if (ordinal < FIRST_DAY || ordinal > LAST_DAY) {
+        refuse_part("ordinal", ordinal, "datetime has 1 to 3652059");
+        return false;
+    }
+    *number = (int32_t)ordinal;
+    return true;
+}
+
+bool read_python_datetime(PyObject *it, int32_t *number, int64_t clock[4])
+{
+    static const char *const parts[] = {"hour", "minute", "second", "microsecond"};
+    PyObject *zone = PyObject_GetAttrString(it, "tzinfo");
+    Py_XDECREF(zone);
+    if (!zone) {
+        return false;
+    }
+    if (zone != Py_None) {
+        PyErr_SetString(PyExc_ValueError, "the datetime has a time zone, and a DateTime has none");
+        return false;
+    }
+    for (int i = 0; i < 4; i++) {
+        if (!take_whole(PyObject_GetAttrString(it, parts[i]), &clock[i])) {
+            return false;
+        }
+    }
+    clock[3] *= 1000;
+    return read_python_date(it, number);
+}
+
+/* Whether datetime has a day; an OverflowError if not. */
+static bool is_day(int32_t number)
+{
+    if (number < FIRST_DAY || number > LAST_DAY) {
+        PyErr_Format(PyExc_OverflowError, "year %d: datetime has the years 1 to 9999", (int)calendar_year(number));
+        return false;
+    }
+    return true;
+}
+
+PyObject *python_date(int32_t number)
+{
+    return is_day(number) ? PyObject_CallFunction(from_ordinal, "i", (int)number) : NULL;
+}
+
+PyObject *python_datetime(int32_t number, const int64_t clock[4])
+{
+    if (clock[2] == 60) {
+        PyErr_SetString(PyExc_ValueError, "second 60: datetime has no leap seconds");
+        return NULL;
+    }
+    if (clock[3] % 1000 != 0) {
+        PyErr_Format(PyExc_ValueError, "nanosecond %d: datetime has whole microseconds", (int)clock[3]);
+        return NULL;
+    }
+    if (!is_day(number)) {
+        return NULL;
+    }
+    return PyObject_CallFunction((PyObject *)datetime_class, "iiiiiii", (int)calendar_year(number), (int)calendar_month(number),
+                                 (int)calendar_day(number), (int)clock[0], (int)clock[1], (int)clock[2], (int)(clock[3] / 1000));
+}
+
+PyObject *python_timedelta(int64_t days, int32_t seconds, int32_t microseconds)
+{
+    if (days < -LONGEST_DAYS || days > LONGEST_DAYS) {
+        PyErr_SetString(PyExc_OverflowError, "timedelta has at most 999,999,999 days");
+        return NULL;
+    }
+    return PyObject_CallFunction((PyObject *)timedelta_class, "iii", (int)days, (int)seconds, (int)microseconds);
+}

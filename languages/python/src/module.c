@@ -1,0 +1,76 @@
+/* module.c: the module proved_calendar._calendar, and what is asked of years, months and weekdays alone. */
+#include "package.h"
+
+static PyObject *is_leap_year(PyObject *module, PyObject *it)
+{
+    int64_t year;
+    (void)module;
+    if (!read_whole(it, &year)) {
+        return NULL;
+    }
+    if (!is_i32(year)) {
+        refuse_part("year", year, "it is a number of at most 32 bits");
+        return NULL;
+    }
+    return PyBool_FromLong(calendar_is_leap_year((int32_t)year));
+}
+
+static PyObject *days_in_month(PyObject *module, PyObject *const *arguments, Py_ssize_t count)
+{
+    int64_t year, month;
+    (void)module;
+    if (!has_arguments("days_in_month", 2, count) || !read_whole(arguments[0], &year) || !read_whole(arguments[1], &month)) {
+        return NULL;
+    }
+    int32_t days = is_i32(year) && is_u32(month) ? calendar_days_in_month((int32_t)year, (uint32_t)month) : CALENDAR_NONE;
+    if (days == CALENDAR_NONE) {
+        refuse_month(year, month);
+        return NULL;
+    }
+    return PyLong_FromLong(days);
+}
+
+static PyObject *days_until(PyObject *module, PyObject *const *arguments, Py_ssize_t count)
+{
+    uint8_t weekdays;
+    uint32_t start;
+    (void)module;
+    if (!has_arguments("days_until", 2, count) || !read_weekdays(arguments[0], &weekdays) || !read_weekday(arguments[1], &start)) {
+        return NULL;
+    }
+    return PyLong_FromLong(calendar_days_until(weekdays, start));
+}
+
+static PyMethodDef functions[] = {
+    {"is_leap_year", is_leap_year, METH_O,
+     "is_leap_year(year, /)\n--\n\nWhether a year, which may lie beyond those of dates, has 366 days."},
+    {"days_in_month", METHOD(days_in_month), METH_FASTCALL,
+     "days_in_month(year, month, /)\n--\n\nThe days of a month from 1 to 12; ValueError if there is no such month in a year of dates."},
+    {"days_until", METHOD(days_until), METH_FASTCALL,
+     "days_until(weekdays, start, /)\n--\n\n"
+     "The days from a weekday forward to the first of some weekdays, 0 to 6; ValueError if there is none of them."},
+    {NULL, NULL, 0, NULL},
+};
+
+static struct PyModuleDef definition = {
+    .m_base = PyModuleDef_HEAD_INIT,
+    .m_name = "proved_calendar._calendar",
+    .m_doc = "Dates, date-times and durations, by functions that are proved to answer what counting gives.",
+    /* (the types stand in variables of these files, so there is one of each in a process) */
+    .m_size = -1,
+    .m_methods = functions,
+};
+
+PyMODINIT_FUNC PyInit__calendar(void);
+
+PyMODINIT_FUNC PyInit__calendar(void)
+{
+    PyObject *module = PyModule_Create(&definition);
+    bool is_made = module && take_weekdays() && take_datetime() && make_iso_calendar_type(module)
+        && make_date_type(module) && make_duration_type(module) && make_date_time_type(module)
+        && PyModule_AddStringConstant(module, "__version__", CALENDAR_VERSION) == 0;
+    if (!is_made) {
+        Py_CLEAR(module);
+    }
+    return module;
+}

@@ -1,0 +1,97 @@
+/* objects.c: how objects are made, freed, pickled and formatted, whatever their type. */
+#include "package.h"
+
+#include <string.h>
+
+PyObject *new_object(PyTypeObject *kind, PyTypeObject *base)
+{
+    if (kind == base) {
+        return (PyObject *)PyObject_New(PyObject, kind);
+    }
+    return FROM_SLOT(allocfunc, kind, Py_tp_alloc)(kind, 0);
+}
+
+void free_object(PyObject *self, PyTypeObject *base)
+{
+    PyTypeObject *kind = Py_TYPE(self);
+    if (kind == base) {
+        PyObject_Free(self);
+    } else {
+        FROM_SLOT(freefunc, kind, Py_tp_free)(self);
+    }
+    Py_DECREF(kind);
+}
+
+/* The names of a pattern, which are given with a space between, as a tuple. */
+static PyObject *names_of_pattern(const char *names)
+{
+    PyObject *text = PyUnicode_FromString(names);
+    PyObject *list = text ? PyUnicode_Split(text, NULL, -1) : NULL;
+    PyObject *tuple = list ? PyList_AsTuple(list) : NULL;
+    Py_XDECREF(text);
+    Py_XDECREF(list);
+    return tuple;
+}
+
+PyTypeObject *add_type(PyObject *module, PyType_Spec *spec, const char *name, const char *match_args)
+{
+    PyObject *type = PyType_FromSpec(spec);
+    if (type && match_args) {
+        PyObject *names = names_of_pattern(match_args);
+        if (!names || PyObject_SetAttrString(type, "__match_args__", names) < 0) {
+            Py_CLEAR(type);
+        }
+        Py_XDECREF(names);
+    }
+    if (type && PyModule_AddObjectRef(module, name, type) < 0) {
+        Py_CLEAR(type);
+    }
+    return (PyTypeObject *)type;
+}
+
+/* The attributes that a user's class gave an object; null and no error if there are none. */
+static PyObject *attributes_of(PyObject *self)
+{
+    PyObject *attributes = PyObject_GetAttrString(self, "__dict__");
+    if (!attributes) {
+        if (PyErr_ExceptionMatches(PyExc_AttributeError)) {
+            PyErr_Clear();
+        }
+        return NULL;
+    }
+    if (PyObject_Size(attributes) <= 0) {
+        Py_CLEAR(attributes);
+    }
+    return attributes;
+}
+
+PyObject *reduced(PyObject *self, PyObject *maker, PyObject *arguments)
+{
+    PyObject *attributes = maker && arguments ? attributes_of(self) : NULL;
+    PyObject *result = NULL;
+    if (attributes) {
+        result = PyTuple_Pack(3, maker, arguments, attributes);
+    } else if (!PyErr_Occurred()) {
+        result = PyTuple_Pack(2, maker, arguments);
+    }
+    Py_XDECREF(attributes);
+    Py_XDECREF(maker);
+    Py_XDECREF(arguments);
+    return result;
+}
+
+PyObject *formatted(PyObject *self, PyObject *width)
+{
+    const char *text = PyUnicode_AsUTF8AndSize(width, NULL);
+    if (!text) {
+        return NULL;
+    }
+    if (strchr(text, '%')) {
+        PyErr_SetString(PyExc_ValueError, "there is no strftime here: a format is that of a text, such as '>12'");
+        return NULL;
+    }
+    PyObject *shown = PyObject_Str(self);
+    PyObject *result = shown ? PyObject_Format(shown, width) : NULL;
+    Py_XDECREF(shown);
+    return result;
+}

@@ -1,0 +1,225 @@
+/* package.h: what the files of this extension share.
+ *
+ * The extension stands on the functions of calendar.h, which are proved, and keeps to Python's limited API, so that one build
+ * serves every Python from 3.10 on. Each type has a file; what is written here by hand is how values of Python become numbers
+ * and come back, and what is said where there is no date. */
+#ifndef PROVED_CALENDAR_PACKAGE_H
+#define PROVED_CALENDAR_PACKAGE_H
+
+#define Py_LIMITED_API 0x030A0000
+#define PY_SSIZE_T_CLEAN
+#include <Python.h>
+
+#include "calendar.h"
+
+/* A function in the slot of a type, that of a slot, and a method that takes more than its object: C has no type for any. */
+#define SLOT(slot, function) {slot, __extension__(void *)(function)}
+#define FROM_SLOT(kind, type, slot) (__extension__(kind)PyType_GetSlot(type, slot))
+#define METHOD(function) ((PyCFunction)(void (*)(void))(function))
+
+/* A date: its day number, from CALENDAR_MIN to CALENDAR_MAX, and what was asked of it before: its year, or CALENDAR_NONE, its
+ * month and its day, or 0. */
+typedef struct {
+    PyObject_HEAD
+    int32_t number, year;
+    uint8_t month, day;
+} Date;
+
+/* A date-time: the fields of one, and what was asked of it before: the number of its date and its second of the day, or
+ * CALENDAR_NONE. */
+typedef struct {
+    PyObject_HEAD
+    calendar_date_time moment;
+    int32_t number, second;
+} DateTime;
+
+/* A duration: the fields of one. */
+typedef struct {
+    PyObject_HEAD
+    calendar_duration length;
+} Duration;
+
+/* The types; each is made once, when the module is. */
+extern PyTypeObject *date_type;
+extern PyTypeObject *date_time_type;
+extern PyTypeObject *duration_type;
+bool make_date_type(PyObject *module);
+bool make_date_time_type(PyObject *module);
+bool make_duration_type(PyObject *module);
+
+static inline bool is_date(PyObject *it)
+{
+    return PyObject_TypeCheck(it, date_type);
+}
+
+static inline bool is_date_time(PyObject *it)
+{
+    return PyObject_TypeCheck(it, date_time_type);
+}
+
+static inline bool is_duration(PyObject *it)
+{
+    return PyObject_TypeCheck(it, duration_type);
+}
+
+static inline int32_t number_of(PyObject *date)
+{
+    return ((Date *)date)->number;
+}
+
+static inline calendar_date_time moment_of(PyObject *date_time)
+{
+    return ((DateTime *)date_time)->moment;
+}
+
+static inline calendar_duration length_of(PyObject *duration)
+{
+    return ((Duration *)duration)->length;
+}
+
+/* ---- objects (objects.c) */
+
+/* Room for an object of this type or of one that a user made from it; what lies behind its head is to be written. */
+PyObject *new_object(PyTypeObject *kind, PyTypeObject *base);
+
+/* Frees such an object. */
+void free_object(PyObject *self, PyTypeObject *base);
+
+/* Adds a type to the module, with the names that a pattern takes in order, if it takes any; null if that fails. */
+PyTypeObject *add_type(PyObject *module, PyType_Spec *spec, const char *name, const char *match_args);
+
+/* The hash of an object that has two fields. */
+static inline Py_hash_t hash_of(int64_t seconds, uint32_t nanos)
+{
+    /* (an odd factor, so that no two fields near to each other share a hash) */
+    Py_hash_t hash = (Py_hash_t)((uint64_t)seconds * UINT64_C(0x9e3779b97f4a7c15) + nanos);
+    return hash == -1 ? -2 : hash;
+}
+
+/* What pickle keeps of an object: how it is made again, and the attributes that a user's class gave it. Takes both references. */
+PyObject *reduced(PyObject *self, PyObject *maker, PyObject *arguments);
+
+/* The text of an object in a width, as `format` has it for texts. */
+PyObject *formatted(PyObject *self, PyObject *width);
+
+/* ---- numbers and arguments (arguments.c) */
+
+enum { PARTS = 8 };
+
+/* The parameters of a call, by name: of those that are given by place there are `places` at most. */
+typedef struct {
+    const char *call;
+    Py_ssize_t count, needed, places;
+    const char *names[PARTS];
+    PyObject *keys[PARTS];
+} Signature;
+
+/* Reads a whole number, as `operator.index` has it; beyond 64 bits it is INT64_MIN or INT64_MAX, and no error. */
+static inline bool read_whole(PyObject *it, int64_t *number)
+{
+    int beyond;
+    *number = PyLong_AsLongLongAndOverflow(it, &beyond);
+    if (beyond) {
+        *number = beyond < 0 ? INT64_MIN : INT64_MAX;
+    }
+    return *number != -1 || !PyErr_Occurred();
+}
+
+static inline bool is_i32(int64_t number)
+{
+    return INT32_MIN <= number && number <= INT32_MAX;
+}
+
+static inline bool is_u32(int64_t number)
+{
+    return 0 <= number && number <= UINT32_MAX;
+}
+
+/* Gives each parameter its argument, and null to each that is left out; false with a TypeError if they do not fit. */
+bool take_tuple(Signature *to, PyObject *arguments, PyObject *keywords, PyObject **parts);
+bool take_array(Signature *to, PyObject *const *arguments, Py_ssize_t count, PyObject *keywords, PyObject **parts);
+
+/* Whether so many arguments are given; a TypeError if not. */
+bool has_arguments(const char *call, Py_ssize_t wanted, Py_ssize_t count);
+
+/* A TypeError: another type was wanted. */
+PyObject *refuse_type(const char *wanted, PyObject *it);
+
+/* ---- weekdays (weekday.c) */
+
+/* Takes the members of the class Weekday. */
+bool take_weekdays(void);
+
+/* A member, by its number from 1 to 7. */
+PyObject *weekday_member(int32_t weekday);
+
+/* Reads a weekday's number from 1 to 7; a ValueError if it is none. */
+bool read_weekday(PyObject *it, uint32_t *weekday);
+
+/* Reads some weekdays as a set of calendar.h; a ValueError if there are none of them. */
+bool read_weekdays(PyObject *it, uint8_t *weekdays);
+
+/* ---- dates (date.c) */
+
+/* The date of a type with a number, which is one of a date. */
+PyObject *date_of(PyTypeObject *kind, int32_t number);
+
+/* The number of the date with a name; CALENDAR_NONE and a ValueError that names the part if there is none. */
+int32_t number_of_name(int64_t year, int64_t month, int64_t day);
+
+/* Year, month and day of a date, each in place of a part that is left out. */
+bool read_name(int32_t number, PyObject *const parts[3], int64_t name[3]);
+
+/* ---- ISO year, week and weekday as a tuple (iso_calendar.c) */
+
+bool make_iso_calendar_type(PyObject *module);
+
+/* Those of the date with a number. */
+PyObject *iso_calendar(int32_t number);
+
+/* ---- durations (duration.c) */
+
+/* The duration of a type, from fields that are one. */
+PyObject *duration_of(PyTypeObject *kind, calendar_duration length);
+
+/* Reads a Duration or a timedelta; *is_one says whether it is either. False with an error if it cannot be read. */
+bool read_length(PyObject *it, calendar_duration *length, bool *is_one);
+
+/* The length the other way. */
+calendar_duration back(calendar_duration length);
+
+/* ---- the types of datetime (datetime_types.c) */
+
+/* Takes what is needed of the module datetime. */
+bool take_datetime(void);
+
+bool is_python_date(PyObject *it);
+bool is_python_datetime(PyObject *it);
+bool is_timedelta(PyObject *it);
+
+/* The parts of a timedelta. */
+bool read_timedelta(PyObject *it, int64_t *days, int64_t *seconds, int64_t *microseconds);
+
+/* The day number of a `datetime.date`, and the parts of a `datetime.datetime` that has no time zone. */
+bool read_python_date(PyObject *it, int32_t *number);
+bool read_python_datetime(PyObject *it, int32_t *number, int64_t clock[4]);
+
+/* The types of datetime from what they are made of. */
+PyObject *python_date(int32_t number);
+PyObject *python_datetime(int32_t number, const int64_t clock[4]);
+PyObject *python_timedelta(int64_t days, int32_t seconds, int32_t microseconds);
+
+/* ---- why there is no such date (refusals.c): a ValueError that names the part */
+
+void refuse_name(int64_t year, int64_t month, int64_t day);
+void refuse_ordinal(int64_t year, int64_t ordinal);
+void refuse_iso_week(int64_t year, int64_t week, int64_t weekday);
+void refuse_weekday_of_month(int64_t year, int64_t month, int64_t weekday, int64_t n);
+void refuse_month(int64_t year, int64_t month);
+/* Of a text, the first bytes are where its date stands. */
+void refuse_text(PyObject *text, const char *bytes, size_t length, const char *kind);
+
+/* A ValueError: a part cannot be this number. */
+void refuse_part(const char *part, int64_t number, const char *reason);
+
+#endif

@@ -1,0 +1,47 @@
+"""The packages for Python: a wheel that serves every CPython from 3.10 on, and its sources with the static library."""
+import glob
+import os
+import shutil
+import subprocess
+import sys
+import tempfile
+
+from . import Missing, run
+
+# What a Python needs to build the packages: setuptools with the command for wheels, and the headers of C.
+PROBE = """
+import os, setuptools, sysconfig
+try:
+    import setuptools.command.bdist_wheel
+except ImportError:
+    import wheel.bdist_wheel
+assert os.path.exists(os.path.join(sysconfig.get_paths()["include"], "Python.h"))
+"""
+
+
+def python():
+    """A Python that can build the packages: this one, or Debian's."""
+    for path in (sys.executable, "/usr/bin/python3"):
+        if os.path.exists(path) and subprocess.run([path, "-c", PROBE], stderr=subprocess.DEVNULL).returncode == 0:
+            return path
+    raise Missing("no Python with setuptools, wheel and Python.h: tools/setup installs Debian's")
+
+
+def make(top, built, dist):
+    """Makes the source package and the wheel; their paths."""
+    os.makedirs(dist, exist_ok=True)
+    with tempfile.TemporaryDirectory(prefix="python-") as room:
+        source = f"{room}/source"
+        skipped = shutil.ignore_patterns("__pycache__", "*.so", "build", "*.egg-info")
+        shutil.copytree(f"{top}/languages/python", source, ignore=skipped)
+        for part, file in {"include": f"{top}/languages/c/calendar.h", "lib": f"{built}/libcalendar.a"}.items():
+            os.makedirs(f"{source}/{part}")
+            shutil.copy(file, f"{source}/{part}/")
+        for kind in ("sdist", "bdist_wheel"):
+            run([python(), "setup.py", "--quiet", kind, "--dist-dir", f"{room}/made"], cwd=source)
+        paths = []
+        for old in glob.glob(f"{dist}/proved[-_]calendar-*"):
+            os.remove(old)
+        for path in sorted(glob.glob(f"{room}/made/*")):
+            paths.append(shutil.copy(path, f"{dist}/{os.path.basename(path)}"))
+    return paths
