@@ -89,6 +89,7 @@ DECLARED = {
     ".js": re.compile(r"\b(?:function|class|const|let|get|static) (\w+)|^ +(\w+)\(", re.M),
     ".ts": re.compile(r"\b(?:function|class|const|readonly|get|static) (\w+)|^ +(\w+)\(", re.M),
     ".toml": re.compile(r'^name = "([\w-]+)"', re.M),
+    ".js": re.compile(r"^(?:export )?(?:class|function|const) (\w+)|^  (?:static )?(?:get )?(\w+)\(|^  \"(\w+)\",$", re.M),
 }
 # The blocks of types and of traits.
 BLOCK = re.compile(r"^((?:pub )?(?:impl|trait|enum|struct)\b[^{;]*)\{(.*?)^\}", re.M | re.S)

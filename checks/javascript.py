@@ -2,9 +2,10 @@
 """Holds the package for JavaScript to what it is made of, and its page to caltool.
 
     checks/javascript.py
+    checks/javascript.py --picture FILE      (only takes a picture of the page, as docs/page.png is one)
 
 The package is made as `tools/dist javascript` makes it, in a temporary folder. The exports of its module have to be those of
-calendar.h, each called by the wrapper and with a test of its name. In a project of its own, to which the package is put as npm puts
+calendar.h, but for those that C alone has, each called by the wrapper and with a test of its name. In a project of its own, to which the package is put as npm puts
 it, node runs the tests, the example of the README and, where there is a tsc, a file of types. Ten wrong lines are then planted in
 the wrapper, one at a time, and the tests have to fail on each.
 
@@ -14,6 +15,7 @@ distances and rows of dates are compared with Python's datetime and with the cal
 reached by the keyboard has to have a name that a screen reader reads; nothing may be wider than a narrow screen, and texts have to stand
 out from what is behind them, in light and in dark.
 """
+import base64
 import datetime
 import json
 import os
@@ -27,6 +29,8 @@ import tempfile
 import chromium
 import counted
 import fuzz
+import languages
+from results import Results, read
 from wrong_lines import edits, planted
 
 TOP = os.path.dirname(os.path.dirname(os.path.abspath(__file__)))
@@ -39,28 +43,12 @@ MONTHS = "January February March April May June July August September October No
 WEEKDAYS = "Monday Tuesday Wednesday Thursday Friday Saturday Sunday".split()
 
 
-class Results:
-    """What passed and failed."""
-
-    def __init__(self):
-        self.passed, self.failed = 0, 0
-
-    def count(self, is_right, what):
-        """Counts a fact, and tells of it if it does not hold."""
-        if is_right:
-            self.passed += 1
-        else:
-            self.failed += 1
-            print(f"FAILED: {what}", flush=True)
+class Findings(Results):
+    """What passed and failed, of values too."""
 
     def equal(self, found, wanted, what):
         """Counts whether what was found is what was wanted."""
         self.count(found == wanted, f"{what}: {found!r}, and it has to be {wanted!r}")
-
-
-def read(path):
-    with open(path, encoding="utf-8") as it:
-        return it.read()
 
 
 # ---- in node
@@ -102,8 +90,7 @@ def compare_exports(results, module):
         ran = subprocess.run([*node_words(), "-e", script, it.name], check=True, capture_output=True, text=True)
     imports, exports = json.loads(ran.stdout)
     results.equal(imports, [], "imports of the module")
-    header = re.sub(r"/\*.*?\*/", "", read(f"{TOP}/languages/c/calendar.h"), flags=re.S)
-    wanted = sorted(re.findall(r"^\w+\s+(calendar_\w+)\(", header, re.M))
+    wanted = sorted(it for it in languages.of_header() if not re.fullmatch(languages.C_ALONE, it))
     results.equal(sorted(it["name"] for it in exports if it["kind"] == "function"), wanted, "functions of the module")
     wrapper = "\n".join(read(f"{FOLDER}/src/{it}.js") for it in javascript.SOURCES)
     tests = read(f"{FOLDER}/test/calls.test.js")
@@ -124,6 +111,12 @@ def compare_example(results, project):
     results.count(wanted, "languages/javascript/README.md has no example that prints")
 
 
+def compare_size(results, bytes_of_module):
+    """The README says how large the module is, to a twentieth."""
+    told = int(re.search(r"The module is ([\d,]+) bytes", read(f"{FOLDER}/README.md"))[1].replace(",", ""))
+    results.count(abs(told - len(bytes_of_module)) <= told / 20, f"the module has {len(bytes_of_module):,} bytes, and not {told:,}")
+
+
 def check_types(results, project):
     """The types, by the compiler of TypeScript; a wrong call in the file has to be found."""
     if not shutil.which("tsc"):
@@ -138,7 +131,7 @@ def check_types(results, project):
         results.count((ran.returncode == 0) == is_right, f"{' '.join(words)}: {ran.stdout[-2000:]}")
 
 
-def plant(results, room, bytes_of_module):
+def try_wrong_lines(results, room, bytes_of_module):
     """Each wrong line in the wrapper fails its tests."""
     found = 0
     for number, edit in enumerate(edits("javascript"), 1):
@@ -163,8 +156,9 @@ def in_node(results, room, package, bytes_of_module):
     if failed:
         print(printed[-4000:], flush=True)
     compare_example(results, project)
+    compare_size(results, bytes_of_module)
     check_types(results, project)
-    plant(results, room, bytes_of_module)
+    try_wrong_lines(results, room, bytes_of_module)
 
 
 # ---- in Chromium
@@ -364,8 +358,29 @@ def in_chromium(results, path):
                       "what the page loads")
 
 
+def take_picture(path):
+    """A picture of the page in February 2024."""
+    with tempfile.TemporaryDirectory(prefix="javascript-") as room, chromium.Chromium() as page:
+        size = {"width": 1_040, "deviceScaleFactor": 1, "mobile": True}
+        page.call("Emulation.setEmulatedMedia", features=[{"name": "prefers-color-scheme", "value": "light"}])
+        page.call("Emulation.setDeviceMetricsOverride", height=900, **size)
+        page.open(javascript.make(TOP, None, room)[1])
+        page.type("#year", "2024")
+        page.run("(() => { const it = document.querySelector('#month'); it.value = '2'; it.dispatchEvent(new Event('change')); })()")
+        page.run("(() => { document.querySelector('#sheet [data-date=\"2024-02-29\"]').click(); document.activeElement.blur(); })()")
+        height = page.run("document.documentElement.scrollHeight")
+        page.call("Emulation.setDeviceMetricsOverride", height=height, **size)
+        clip = {"x": 0, "y": 0, "width": 1_040, "height": height, "scale": 0.7}
+        shot = page.call("Page.captureScreenshot", format="png", clip=clip)
+        with open(path, "wb") as it:
+            it.write(base64.b64decode(shot["data"]))
+
+
 def main():
-    results = Results()
+    if sys.argv[1:2] == ["--picture"]:
+        take_picture(sys.argv[2])
+        return 0
+    results = Findings()
     with tempfile.TemporaryDirectory(prefix="javascript-") as room:
         try:
             bytes_of_module = javascript.module(TOP)

@@ -11,7 +11,7 @@ Compared are names, results and parameters, each way: those of calendar.h with t
 of the library and with the declarations of the Rust crate; the fields of both structs; the processors that texts and header name,
 with one another and with the library's instructions; and the versions of all packages. The header is then compiled, alone, by each
 compiler that is found. The packages for C and Python are made by the modules of tools/packages in a temporary folder, installed as
-their users would, and tested there by checks/from_c.py and checks/from_python.py; the tests of Rust are built and run. Each export
+their users would, and tested there by checks/from_c.py and checks/from_python.py, and so is that for Rust by checks/from_rust.py. Each export
 has to be called in C's tests, and to have a test of its name in the other two, but for columns and what belongs to them, which C
 alone has. The examples of the READMEs are run too, and the
 lines of README.md for each language have to stand in them.
@@ -23,12 +23,11 @@ import subprocess
 import sys
 import tempfile
 
-import rust
-
 TOP = os.path.dirname(os.path.dirname(os.path.abspath(__file__)))
 sys.path.insert(0, f"{TOP}/tools")
 import from_c  # noqa: E402
 import from_python  # noqa: E402
+import from_rust  # noqa: E402
 from library import find_library  # noqa: E402
 from results import LANGUAGES, Results, example, read, run  # noqa: E402
 
@@ -244,20 +243,12 @@ def compile_header(results):
             results.count(ran.returncode == 0, f"{' '.join(words)}: {ran.stderr}")
 
 
-def test_rust(results, room, library):
-    """The package for Rust in a project outside, with its features, examples and wrong lines (checks/rust.py)."""
-    if not shutil.which("cargo"):
-        print("not run: the tests in Rust, since there is no cargo")
-        return
-    rust.test(results, run, room, library)
-
-
 def compare_examples(results):
     """README.md has lines for each language, which stand in the example of that language."""
     section = read(f"{TOP}/README.md").partition("\n## From other languages\n")[2].partition("\n## ")[0]
     quoted = re.findall(r"^```(\w+)\n(.*?)^```$", section, re.M | re.S)
     shown = sorted(language for language, _ in quoted)
-    results.count(shown == ["c", "python", "rust"], f"README.md, From other languages: there are lines of {shown}")
+    results.count({"c", "python", "rust"} <= set(shown) <= {"c", "js", "python", "rust"}, f"README.md has lines of {shown}")
     for language, lines in quoted:
         results.count(lines in re.sub(r"^    ", "", example(language), flags=re.M), f"README.md: other lines of {language}")
 
@@ -301,7 +292,7 @@ def main():
         if library:
             compare_symbols(results, header, library)
             compare_instructions(results, library)
-            test_rust(results, room, library)
+            from_rust.test(results, room, library)
         if library and shutil.which("cc"):
             from_c.test(results, room, library, sorted(header))
             from_python.test(results, room, library)

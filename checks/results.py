@@ -47,4 +47,5 @@ def succeeds(results, words, **how):
 
 def example(language):
     """The example of a README."""
-    return re.search(rf"^```{language}\n(.*?)^```$", read(f"{LANGUAGES}/{language}/README.md"), re.M | re.S)[1]
+    folder = {"js": "javascript"}.get(language, language)
+    return re.search(rf"^```{language}\n(.*?)^```$", read(f"{LANGUAGES}/{folder}/README.md"), re.M | re.S)[1]

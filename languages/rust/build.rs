@@ -19,8 +19,8 @@ fn main() {
         let listed: Vec<String> = folders.iter().map(|it| format!("  {}", it.display())).collect();
         panic!(
             "\n\nThe static library libcalendar.a is missing. Looked for it in\n{}\n\
-             In a clone of the repository `(cd crates/calendar_c && rt lib)` proves and builds it, and `tools/dist rust` makes a \
-             package with the library inside. CALENDAR_FOLDER names the folder of one that was built elsewhere.\n\n",
+             In a clone of the repository `rt lib` in crates/calendar_c proves and builds it, and `tools/dist rust` makes a package \
+             with the library inside. CALENDAR_FOLDER names the folder of one that was built elsewhere.\n\n",
             listed.join("\n")
         );
     };

@@ -19,6 +19,8 @@ from . import Missing, version
 CRATE = "calendar_c"
 # (`rt lib` of the static library takes away a module of the crate's own name)
 KEPT = f"crates/{CRATE}/out/calendar.wasm"
+# Modules of the crate that only C has a use for: columns of dates, and a date's names as a struct.
+C_ALONE = ("columns", "split")
 SOURCES = ("numbers", "texts", "library", "duration", "plain_date", "plain_date_time", "index")
 PAGE = ("answers", "parts", "page")
 
@@ -35,6 +37,17 @@ def write(path, text):
     return path
 
 
+def leave_out(crate):
+    """Takes what only C has a use for out of a copy of the crate."""
+    root = read(f"{crate}/src/lib.rt")
+    for name in C_ALONE:
+        root = root.replace(f"mod {name};\n", "")
+        shutil.rmtree(f"{crate}/proofs/{name}", ignore_errors=True)
+        if os.path.exists(f"{crate}/src/{name}.rt"):
+            os.remove(f"{crate}/src/{name}.rt")
+    write(f"{crate}/src/lib.rt", root)
+
+
 def build_module(top, room):
     """Proves the crate as one of the kind wasm64 and builds its module; the module's path."""
     from outside import below, copy_crates, listed_crates, take_proved
@@ -43,6 +56,7 @@ def build_module(top, room):
     line = next(it for it in crates if it.split()[0] == CRATE)
     *libraries, _ = below(line, crates)
     copy_crates(room, [*libraries, CRATE])
+    leave_out(f"{room}/crates/{CRATE}")
     with open(f"{room}/crates.txt", "w", encoding="utf-8") as it:
         it.writelines(f"{name}: {' '.join(crates[name])}\n" for name in libraries)
         it.write(f"{CRATE} wasm64: {' '.join(crates[line])}\n")

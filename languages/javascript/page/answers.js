@@ -9,7 +9,7 @@ export const WEEKDAYS = ["Mon", "Tue", "Wed", "Thu", "Fri", "Sat", "Sun"];
 const LONGEST_LINE = 120;
 
 /** The day number of 1 January 1970. */
-const UNIX_EPOCH = 719_163;
+const EPOCH_DAY = 719_163;
 
 /** The nanoseconds of a second. */
 const SECOND = 1_000_000_000n;
@@ -60,7 +60,7 @@ function momentOf([year, month, day, hour, minute, second, nanos]) {
   if (hour > 23 || minute > 59 || second > 59) {
     throw new RangeError("no time of day");
   }
-  const days = new PlainDate(year, month, day).dayNumber - UNIX_EPOCH;
+  const days = new PlainDate(year, month, day).dayNumber - EPOCH_DAY;
   return PlainDateTime.fromUnix(86_400 * days + 3_600 * hour + 60 * minute + second, nanos);
 }
 
