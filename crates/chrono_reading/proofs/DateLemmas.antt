@@ -15,7 +15,7 @@ use Rattle.chrono_datetime.specs.Weekday.{number_from_monday}
 use Rattle.chrono_datetime.specs.Weeks.{date_of_iso, iso_week_of, iso_year_of, weekday_of}
 use Rattle.chrono_datetime.specs.DateText.{date_text}
 use Rattle.chrono_datetime.specs.NameLaws.{DatesHaveOneCalendarName, DatesHaveOneIsoName, DatesHaveOneOrdinalName}
-use Rattle.chrono_text.specs.Text.{all_digits, two_digits, year_text, calendar_text, week_text}
+use Rattle.chrono_text.specs.Text.{all_digits, two_digits, year_text, calendar_text, ordinal_text, week_date_text}
 use Rattle.chrono_reading.specs.DateTexts.{IsDateText, IsOrdinalDateText, IsWeekDateText}
 
 -- a text ends in so many bytes
@@ -92,12 +92,15 @@ joined front end text k e f = rw (e, f) (take-append-drop k text)
 ordinal-small : (y : ℤ) (o : ℕ) → is_ordinal_name y o ≡ true → o < 1_000
 ordinal-small y o e = let last = year_length-small y in grind (arith, nat_tests)
 
-pub ordinal_text-split : (text : List ℕ) (y : ℤ) (o : ℕ) → year_text y ++ 45 ∷ all_digits 3 o ≡ text
-    → (year_text y ≡ take (length text - 4) text) × (45 ∷ all_digits 3 o ≡ drop (length text - 4) text)
-ordinal_text-split text y o e = front_of (year_text y) (45 ∷ all_digits 3 o) text e
+ordinal_text-parts : (y : ℤ) (o : ℕ) → ordinal_text y o ≡ year_text y ++ 45 ∷ all_digits 3 o
+ordinal_text-parts y o = simp append_assoc
 
-pub ordinal_text-joined : (text : List ℕ) (y : ℤ) (o k : ℕ) → year_text y ≡ take k text → 45 ∷ all_digits 3 o ≡ drop k text → year_text y ++ 45 ∷ all_digits 3 o ≡ text
-ordinal_text-joined text y o k front end = joined (year_text y) (45 ∷ all_digits 3 o) text k front end
+pub ordinal_text-split : (text : List ℕ) (y : ℤ) (o : ℕ) → ordinal_text y o ≡ text
+    → (year_text y ≡ take (length text - 4) text) × (45 ∷ all_digits 3 o ≡ drop (length text - 4) text)
+ordinal_text-split text y o e = front_of (year_text y) (45 ∷ all_digits 3 o) text (sym (ordinal_text-parts y o) ∙ e)
+
+pub ordinal_text-joined : (text : List ℕ) (y : ℤ) (o k : ℕ) → year_text y ≡ take k text → 45 ∷ all_digits 3 o ≡ drop k text → ordinal_text y o ≡ text
+ordinal_text-joined text y o k front end = ordinal_text-parts y o ∙ joined (year_text y) (45 ∷ all_digits 3 o) text k front end
 
 pub date_of_yo-small : (y : ℤ) (o : ℕ) (n : ℤ) → date_of_yo y o ≡ Some n → (unsigned_abs y < 1_000_000) × (o < 1_000)
 unfolding date_of_yo
@@ -105,7 +108,7 @@ date_of_yo-small y o n e =
     let named = and_parts (is_year y) (is_ordinal_name y o) (cond_some _ _ _ e).0 in
     (year-small y named.0, ordinal-small y o named.1)
 
-pub IsOrdinalDateText-found : (r : Option ℤ) (text : List ℕ) (y : ℤ) (o : ℕ) → r ≡ date_of_yo y o → year_text y ++ 45 ∷ all_digits 3 o ≡ text
+pub IsOrdinalDateText-found : (r : Option ℤ) (text : List ℕ) (y : ℤ) (o : ℕ) → r ≡ date_of_yo y o → ordinal_text y o ≡ text
     → IfSome r (λ n. IsOrdinalDateText text n)
 IsOrdinalDateText-found None text y o found written = tt
 IsOrdinalDateText-found (Some n) text y o found written = record { year = y; ordinal = o; names = sym found; written = written }
@@ -113,11 +116,11 @@ IsOrdinalDateText-found (Some n) text y o found written = record { year = y; ord
 pub found_by_ordinal : (r : Option ℤ) (y z : ℤ) (o p : ℕ) (n : ℤ) → r ≡ date_of_yo y o → Some y ≡ Some z → Some o ≡ Some p → date_of_yo z p ≡ Some n → r ≡ Some n
 found_by_ordinal r y z o p n found year ordinal names = cc
 
-ordinal_text-of : (y z : ℤ) (o p : ℕ) → y ≡ z → o ≡ p → year_text y ++ 45 ∷ all_digits 3 o ≡ year_text z ++ 45 ∷ all_digits 3 p
+ordinal_text-of : (y z : ℤ) (o p : ℕ) → y ≡ z → o ≡ p → ordinal_text y o ≡ ordinal_text z p
 ordinal_text-of y z o p year ordinal = rw (year, ordinal) refl
 
 pub ordinal_text-only : (text : List ℕ) (n m : ℤ) → m ≡ n → IsDate m → DatesHaveOneOrdinalName → IsOrdinalDateText text n
-    → IsDate n × (text ≡ year_text (year_of n) ++ 45 ∷ all_digits 3 (ordinal_of n))
+    → IsDate n × (text ≡ ordinal_text (year_of n) (ordinal_of n))
 ordinal_text-only text n m same inside law is =
     let within = rw same at inside in
     let parts = (law n is.year is.ordinal within).0 is.names in
@@ -129,15 +132,15 @@ ordinal_text-only text n m same inside law is =
 abbrev pub week_tail : ℕ → Weekday → List ℕ
 week_tail w d = 45 ∷ 87 ∷ two_digits w ++ 45 ∷ (48 + number_from_monday d) ∷ []
 
-week_date_text-parts : (y : ℤ) (w : ℕ) (d : Weekday) → week_text y w ++ 45 ∷ (48 + number_from_monday d) ∷ [] ≡ year_text y ++ week_tail w d
+week_date_text-parts : (y : ℤ) (w : ℕ) (d : Weekday) → week_date_text y w (number_from_monday d) ≡ year_text y ++ week_tail w d
 week_date_text-parts y w d = simp append_assoc
 
-pub week_date_text-split : (text : List ℕ) (y : ℤ) (w : ℕ) (d : Weekday) → week_text y w ++ 45 ∷ (48 + number_from_monday d) ∷ [] ≡ text
+pub week_date_text-split : (text : List ℕ) (y : ℤ) (w : ℕ) (d : Weekday) → week_date_text y w (number_from_monday d) ≡ text
     → (year_text y ≡ take (length text - 6) text) × (week_tail w d ≡ drop (length text - 6) text)
 week_date_text-split text y w d e = front_of (year_text y) (week_tail w d) text (sym (week_date_text-parts y w d) ∙ e)
 
 pub week_date_text-joined : (text : List ℕ) (y : ℤ) (w : ℕ) (d : Weekday) (k : ℕ) → year_text y ≡ take k text → week_tail w d ≡ drop k text
-    → week_text y w ++ 45 ∷ (48 + number_from_monday d) ∷ [] ≡ text
+    → week_date_text y w (number_from_monday d) ≡ text
 week_date_text-joined text y w d k front end = week_date_text-parts y w d ∙ joined (year_text y) (week_tail w d) text k front end
 
 pub found_by_week : (r : Option ℤ) (y z : ℤ) (w v : ℕ) (d e : Weekday) (n : ℤ) → r ≡ date_of_iso y w d → Some y ≡ Some z
@@ -145,7 +148,7 @@ pub found_by_week : (r : Option ℤ) (y z : ℤ) (w v : ℕ) (d e : Weekday) (n 
 found_by_week r y z w v d e n found year tail names = let parts = some_pair_parts w v d e tail in cc
 
 pub IsWeekDateText-found : (r : Option ℤ) (text : List ℕ) (y : ℤ) (w : ℕ) (d : Weekday) → r ≡ date_of_iso y w d → IsIsoYear y → IsInRange 1 53 w
-    → week_text y w ++ 45 ∷ (48 + number_from_monday d) ∷ [] ≡ text → IfSome r (λ n. IsWeekDateText text n)
+    → week_date_text y w (number_from_monday d) ≡ text → IfSome r (λ n. IsWeekDateText text n)
 IsWeekDateText-found None text y w d found range week written = tt
 IsWeekDateText-found (Some n) text y w d found range week written =
     record { year = y; week = w; weekday = d; year_in_range = range; week_in_year = week; names = sym found; written = written }
@@ -155,7 +158,7 @@ iso_year_fits y h = search rules
 
 -- its own ISO name is a text of a date
 pub IsWeekDateText-named : (n : ℤ) → IsDate n → IsIsoYear (iso_year_of n) → IsInRange 1 53 (iso_week_of n) → DatesHaveOneIsoName
-    → IsWeekDateText (week_text (iso_year_of n) (iso_week_of n) ++ 45 ∷ (48 + number_from_monday (weekday_of n)) ∷ []) n
+    → IsWeekDateText (week_date_text (iso_year_of n) (iso_week_of n) (number_from_monday (weekday_of n))) n
 IsWeekDateText-named n is range week law = record {
   year = iso_year_of n;
   week = iso_week_of n;
@@ -167,12 +170,12 @@ IsWeekDateText-named n is range week law = record {
 }
 
 week_date_text-of : (y z : ℤ) (w v : ℕ) (d e : Weekday) → y ≡ z → w ≡ v → d ≡ e
-    → week_text y w ++ 45 ∷ (48 + number_from_monday d) ∷ [] ≡ week_text z v ++ 45 ∷ (48 + number_from_monday e) ∷ []
+    → week_date_text y w (number_from_monday d) ≡ week_date_text z v (number_from_monday e)
 week_date_text-of y z w v d e year week weekday = rw (year, week, weekday) refl
 
 -- and its only one
 pub week_date_text-only : (text : List ℕ) (n m : ℤ) → m ≡ n → IsDate m → DatesHaveOneIsoName → IsWeekDateText text n
-    → IsDate n × (text ≡ week_text (iso_year_of n) (iso_week_of n) ++ 45 ∷ (48 + number_from_monday (weekday_of n)) ∷ [])
+    → IsDate n × (text ≡ week_date_text (iso_year_of n) (iso_week_of n) (number_from_monday (weekday_of n)))
 week_date_text-only text n m same inside law is =
     let within = rw same at inside in
     let parts = (law n is.year is.week is.weekday within).0 is.names in

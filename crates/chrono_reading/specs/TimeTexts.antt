@@ -1,5 +1,5 @@
 -- The texts of times of day.
-use Rattle.std.specs.Prelude.{◌≡◌, ◌==◌, ◌<◌, ◌≤◌, ◌+◌, ℕ, List, ◌∷◌, ◌++◌, take, drop, if◌then◌else◌}
+use Rattle.std.specs.Prelude.{◌≡◌, ◌==◌, ◌<◌, ◌≤◌, ◌+◌, ℕ, List, ◌++◌, codes, take, drop, if◌then◌else◌}
 use Rattle.chrono_datetime.specs.Duration.{nanos_per_second}
 use Rattle.chrono_text.specs.Fractions.{IsFractionText, SameFraction}
 use Rattle.chrono_text.specs.Text.{two_digits}
@@ -26,4 +26,4 @@ pub record IsTimeText (text : List ℕ) (t : TimeOfDay) : Type 0 where
   pub second_in_minute : second ≤ 60
   pub names : time_shown hour minute second nanos ≡ t
   pub fraction_written : IsFractionText fraction nanos
-  pub written : two_digits hour ++ 58 ∷ two_digits minute ++ 58 ∷ two_digits second ++ fraction ≡ text
+  pub written : two_digits hour ++ codes ":" ++ two_digits minute ++ codes ":" ++ two_digits second ++ fraction ≡ text

@@ -8,7 +8,7 @@ ghost use Rattle.chrono_datetime.specs.Duration.{IsDuration};
 ghost use Rattle.chrono_datetime.specs.Moment.{Moment, moment};
 ghost use Rattle.chrono_datetime.specs.MomentText.{moment_text};
 ghost use Rattle.chrono_datetime.specs.Month.{month_name};
-ghost use Rattle.chrono_text.specs.Text.{all_digits, duration_text, week_text, year_text};
+ghost use Rattle.chrono_text.specs.Text.{duration_text, ordinal_text, week_date_text};
 ghost use Rattle.chrono_datetime.specs.TimeText.{time_text};
 ghost use Rattle.chrono_datetime.specs.Time.{FractionFits, IsTime, TimeOfDay, second_of, time_at};
 ghost use Rattle.chrono_datetime.specs.Weekday.{number_from_monday};
@@ -98,7 +98,7 @@ pub fn dates_have_one_text(text: &[u8])
 /// A year and the place in it that name a date, the place in three digits behind a `-`, are read as that date.
 pub fn ordinal_names_are_read()
     ensures { (n : ℤ) → IsDate n
-        → IsOrdinalDateText (year_text (year_of n) ++ 45 ∷ all_digits 3 (ordinal_of n)) n }
+        → IsOrdinalDateText (ordinal_text (year_of n) (ordinal_of n)) n }
 {
     dates_have_one_ordinal_name();
 }
@@ -113,7 +113,7 @@ pub fn texts_have_one_ordinal_date(text: &[u8])
 /// The one ordinal name of a date is its year and its place in it, in three digits behind a `-`.
 pub fn dates_have_one_ordinal_text(text: &[u8])
     ensures { (n : ℤ) → IsOrdinalDateText text.now n → IsDate n
-        × (text.now ≡ year_text (year_of n) ++ 45 ∷ all_digits 3 (ordinal_of n)) }
+        × (text.now ≡ ordinal_text (year_of n) (ordinal_of n)) }
 {
     if let Some(date) = read_ordinal_date(text) {
         let _number = date.num_days_from_ce();
@@ -124,8 +124,8 @@ pub fn dates_have_one_ordinal_text(text: &[u8])
 /// The ISO year and week that name a date, as `{:?}` writes them, and the number of its weekday behind a `-` are read as that
 /// date.
 pub fn week_names_are_read(date: NaiveDate)
-    ensures { IsWeekDateText (week_text (iso_year_of date) (iso_week_of date)
-        ++ 45 ∷ (48 + number_from_monday (weekday_of date)) ∷ []) date }
+    ensures { IsWeekDateText (week_date_text (iso_year_of date) (iso_week_of date)
+        (number_from_monday (weekday_of date))) date }
 {
     let _number = date.num_days_from_ce();
     let week = date.iso_week();
@@ -144,8 +144,8 @@ pub fn texts_have_one_week_date(text: &[u8])
 /// The one week name of a date is its ISO year and week, as `{:?}` writes them, and the number of its weekday behind a `-`.
 pub fn dates_have_one_week_text(text: &[u8])
     ensures { (n : ℤ) → IsWeekDateText text.now n → IsDate n
-        × (text.now ≡ week_text (iso_year_of n) (iso_week_of n)
-        ++ 45 ∷ (48 + number_from_monday (weekday_of n)) ∷ []) }
+        × (text.now ≡ week_date_text (iso_year_of n) (iso_week_of n)
+        (number_from_monday (weekday_of n))) }
 {
     if let Some(date) = read_week_date(text) {
         let _number = date.num_days_from_ce();
