@@ -40,20 +40,21 @@ ABSENT = {
     "of Rust and its std": """Box Clone Copy Default Display DoubleEndedIterator Drop Eq FromIterator FromPrimitive FromStr Hash
         IntoIterator Ok Result Some String Sum TryFrom Vec collect fmt::Write for format if mod requires self str unsafe unwrap""",
     "of the kit: its words, its tactics and its std": """SomeIff agree_below agree_below_at grind ints num_traits omega refl subst
-        unfoldable view_is write_str_gives ensures checked edited rtlib""",
+        unfoldable view_is write_str_gives ensures edited rtlib""",
     "of Python": "OverflowError PYTHONPATH True TypeError ValueError datetime operator",
-    "of JavaScript": "PlainTime RangeError Temporal toLocaleString",
+    "of JavaScript": "PlainTime RangeError Temporal overflow round toLocaleString",
     "of C": "int32_t memcpy",
     "of Rust's compiler and of the kit's options": "cpu target_feature",
     "read from the environment": "CALENDAR_FOLDER CALENDAR_LIBRARY",
     "of chrono, and left out here": """parse_from_str parse_and_remainder ParseMonthError ParseWeekdayError format_with_items
         format_localized format_localized_with_items and_utc and_local_timezone checked_add_offset checked_sub_offset FixedOffset
-        BEFORE_MIN AFTER_MAX timestamp from_timestamp as_seconds_f64 as_seconds_f32 from_std to_std OutOfRangeError
+        BEFORE_MIN AFTER_MAX UNIX_EPOCH timestamp from_timestamp as_seconds_f64 as_seconds_f32 from_std to_std OutOfRangeError
         from_isoywd from_num_days_from_ce from_weekday_of_month from_hms from_hms_milli from_hms_micro from_hms_nano
         from_num_seconds_from_midnight and_hms and_hms_milli and_hms_micro and_hms_nano NaiveDate::succ NaiveDate::pred""",
     "files and modules of chrono": "traits naive internals isoweek",
     "what the kit prints of itself": "rattle-kit dac8208d650f15bf",
-    "words of the shell": "echo install npm",
+    "words of the shell and of a line": "cd echo move",
+    "of numpy": "busday_offset",
     "digits of a number": "_294_967_297 _611_686_018_427_387",
     "texts and digits of a text": "P0D PT PT59M59 YYYY-MM-DD YYYY-DDD YYYY-Www-D hh mm ss",
     "an argument of a call": "stop",
@@ -68,7 +69,7 @@ NO_FILES = {
 }
 # The crates of which docs/CALLS.md lists what is public, each under a heading that names it.
 LISTED = """chrono_text chrono_units chrono_clock chrono_calendar chrono_internals chrono_stored chrono_naive chrono_datetime
-    caltool_command caltool_form caltool_dates chrono_reading chrono_columns calendar_c""".split()
+    caltool_command caltool_form caltool_dates chrono_reading chrono_business chrono_columns calendar_c""".split()
 # Traits whose calls docs/CALLS.md says together.
 SAID_TOGETHER = ("DayForm", "CommandAnswers")
 # Crates of tests, and modules, whose parts docs/ARCHITECTURE.md does not name: those of a date-time are like those of a date.
