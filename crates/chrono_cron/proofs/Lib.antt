@@ -1,0 +1,4 @@
+mod Digits
+mod Minutes
+mod Months
+mod Order
