@@ -1,3 +1,4 @@
+mod Again
 mod Digits
 mod Minutes
 mod Months

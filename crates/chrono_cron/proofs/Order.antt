@@ -1,12 +1,12 @@
 -- No due moment lies between a start and the one that was found.
-use Rattle.std.proofs.Common.{◌≡◌, ℕ, ◌+◌, ◌*◌, ◌/◌, ◌%◌, ◌<◌, ◌≤◌, ◌==◌, ◌⊎◌, inl, inr, Bool, true, false, ◌&&◌, refl, sym, ap, ◌∙◌, arith, ℤ, pos, ◌+ℤ◌, ◌≤ℤ◌, ◌<ℤ◌}
+use Rattle.std.proofs.Common.{◌≡◌, ℕ, ◌+◌, ◌*◌, ◌/◌, ◌%◌, ◌<◌, ◌≤◌, ◌==◌, ◌⊎◌, inl, inr, Bool, true, false, ◌&&◌, refl, sym, ap, ◌∙◌, arith, ℤ, pos, neg_ℤ, ◌+ℤ◌, ◌≤ℤ◌, ◌<ℤ◌}
 use Rattle.std.proofs.lemmas.Bool.{and_from, and_left, and_parts, and_right, both_ways, eq-eqb, eqb-true, false_from_ne_true}
 use Rattle.chrono_datetime.specs.Days.{IsDate}
 use Rattle.chrono_datetime.specs.Moment.{Moment, moment, IsBefore, IsMoment}
 use Rattle.chrono_datetime.specs.Time.{TimeOfDay, IsTime, IsEarlier, time_at}
 use Rattle.chrono_datetime.proofs.Signed.{signed}
 use Rattle.chrono_cron.specs.declared.sets.Sets.{Sets}
-use Rattle.chrono_cron.specs.Due.{NotDueOn, is_day, is_minute, is_due}
+use Rattle.chrono_cron.specs.Due.{IsNeverDue, NotDueOn, is_day, is_minute, is_due}
 
 -- what a moment has at which a schedule is due
 pub record IsDueAt (s : Sets) (q : Moment) : Type 0 where
@@ -147,3 +147,18 @@ pub none_earlier : (s : Sets) (start q : Moment) (end : ℕ) → Begun start.tim
 none_earlier s start q end begun today days is (inr same) = beginning_of_day s start q end begun today same.0 same.1
 none_earlier s start q end begun today days is (inl earlier) =
     not_due s q (λ at. both_ways (is_day s q.date) (days q.date earlier is.date) at.day)
+
+-- ---- never
+
+pub never-minutes : (s : Sets) → NoMinutes s 0 1440 → IsNeverDue s
+never-minutes s none = λ m is. none_ever s m none is.time
+
+pub never-days : (s : Sets) (from : ℤ) → from ≡ neg_ℤ (pos 95_746_129) → ((d : ℤ) → from ≤ℤ d → IsDate d → is_day s d ≡ false) → IsNeverDue s
+never-days s from first none = λ m is.
+    not_due s m (λ at. both_ways (is_day s m.date) (none m.date (omega (arith, signed, first, is.date)) is.date) at.day)
+
+pub not_never : (s : Sets) (n : ℤ) (k : ℕ) → IsDate n → is_day s n ≡ true → k < 1440 → is_minute s k ≡ true → IsNeverDue s → ⊥
+not_never s n k date day small minute never =
+    both_ways (is_due s (moment n (time_at 0 k 0 0)))
+    (never (moment n (time_at 0 k 0 0)) (record { date = date; time = record { second = omega (arith, small); fraction = omega arith } }))
+    (is_due-beginning s n k day minute)

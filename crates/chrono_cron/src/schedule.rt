@@ -5,7 +5,6 @@ ghost use Rattle.chrono_datetime.specs.Time.{IsEarlier, time_at};
 ghost use Rattle.chrono_cron.specs.Due.{IsNeverDue, is_due};
 
 use crate::sets::Sets;
-use chrono_datetime::law::last_date;
 use chrono_datetime::{NaiveDateTime, NaiveTime, Timelike};
 
 // The minutes of a day.
@@ -33,6 +32,13 @@ impl Schedule {
         self.sets.is_day(moment.date()) && self.sets.is_minute(second / SECONDS) && begins_minute
     }
 
+    /// Whether the schedule is due at no moment at all, as on 30 February.
+    pub fn never_due(&self) -> bool
+        ensures { IsTrue result ↔ IsNeverDue self.now.sets }
+    {
+        self.sets.is_never_due()
+    }
+
     /// The first moment after `start` at which the schedule is due; `None` exactly if it is not due any more.
     pub fn next_after(&self, start: NaiveDateTime) -> Option<NaiveDateTime>
         ensures member { IfSome result (λ m. IsTrue (is_due self.now.sets m)) }
@@ -48,8 +54,7 @@ impl Schedule {
             return Some(NaiveDateTime::new(date, beginning(minute)));
         }
         let minute = self.sets.first_minute(0)?;
-        let (last, _) = last_date();
-        let day = self.sets.first_day(date.moved_by_days(1)?, last)?;
+        let day = self.sets.first_day(date.moved_by_days(1)?)?;
         Some(NaiveDateTime::new(day, beginning(minute)))
     }
 
@@ -67,6 +72,9 @@ impl Schedule {
             return Some(NaiveDateTime::new(date, beginning(minute)));
         }
         let minute = self.sets.last_minute(MINUTES_PER_DAY)?;
+        if self.sets.is_never_due() {
+            return None;
+        }
         let day = self.sets.last_day(date.moved_by_days(-1)?)?;
         Some(NaiveDateTime::new(day, beginning(minute)))
     }

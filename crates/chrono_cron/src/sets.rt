@@ -1,12 +1,15 @@
 //! `Sets`: what the five fields of a schedule list, and the days and minutes that they make.
-ghost use Rattle.std.specs.Prelude.{◌≡◌, ◌+◌, ◌/◌, ◌≤◌, ◌<◌, ◌⊎◌, ℕ, ℤ, ◌≤ℤ◌, ◌<ℤ◌, IfSome, IfNone, IsTrue, false};
+ghost use Rattle.std.specs.Prelude.{◌≡◌, ◌+◌, ◌/◌, ◌≤◌, ◌<◌, ◌⊎◌, ◌↔◌, ℕ, ℤ, ◌≤ℤ◌, ◌<ℤ◌, IfSome, IfNone, IsTrue, false};
 ghost use Rattle.chrono_datetime.specs.Days.{IsDate, day_of, month_of};
 ghost use Rattle.chrono_datetime.specs.MonthMoves.{InSameMonth};
-ghost use Rattle.chrono_cron.specs.Due.{NotDueOn, has, is_day, is_listed, is_minute};
+ghost use Rattle.chrono_cron.specs.Due.{IsNeverDue, NotDueOn, has, is_day, is_listed, is_minute};
 
 use crate::number_set::NumberSet;
-use chrono_datetime::law::dates_are_days_of_years;
+use chrono_datetime::law::{dates_are_days_of_years, first_date, last_date};
 use chrono_datetime::{Datelike, NaiveDate};
+
+// The days of 400 years, after which the calendar comes again.
+const CYCLE: i64 = 146_097;
 
 // The hours of a day.
 const HOURS: u32 = 24;
@@ -78,11 +81,13 @@ impl Sets {
     // The first date from this one to the end of its month that is one of the schedule's.
     #[inline]
     fn first_in_month(&self, date: NaiveDate) -> Option<NaiveDate>
+        ensures in_range { IfSome result (λ e. IsDate e) }
         ensures member { IfSome result (λ e. IsTrue (is_day self.now e)) }
         ensures not_before { IfSome result (λ e. date ≤ℤ e) }
         ensures least { IfSome result (λ e. (d : ℤ) → date ≤ℤ d → d <ℤ e → is_day self.now d ≡ false) }
         ensures none { IfNone result ((d : ℤ) → date ≤ℤ d → InSameMonth d date → is_day self.now d ≡ false) }
     {
+        dates_are_days_of_years();
         let (year, month, day) = date.year_month_day();
         if !self.months.contains(month) {
             return None;
@@ -110,10 +115,10 @@ impl Sets {
         NaiveDate::from_ymd_opt(year + 1, first, 1)
     }
 
-    /// The first date of the schedule from `date` on, if one lies there up to `last`.
-    ///
-    /// If none does, the answer may be `None`, or a date after `last`.
-    pub fn first_day(&self, date: NaiveDate, last: NaiveDate) -> Option<NaiveDate>
+    // The first date of the schedule from `date` on, if one lies there up to `last`. If none does, the answer may be `None`, or a
+    // date after `last`.
+    fn first_day_up_to(&self, date: NaiveDate, last: NaiveDate) -> Option<NaiveDate>
+        ensures in_range { IfSome result (λ e. IsDate e) }
         ensures member { IfSome result (λ e. IsTrue (is_day self.now e)) }
         ensures not_before { IfSome result (λ e. date ≤ℤ e) }
         ensures least { IfSome result (λ e. (d : ℤ) → date ≤ℤ d → d <ℤ e → is_day self.now d ≡ false) }
@@ -127,6 +132,37 @@ impl Sets {
             month = self.next_month(month)?;
         }
         None
+    }
+
+    /// The first date of the schedule from `date` on; `None` exactly if none lies there.
+    ///
+    /// Days of the month and weekdays come again after 400 years, so that no search goes farther.
+    pub fn first_day(&self, date: NaiveDate) -> Option<NaiveDate>
+        ensures in_range { IfSome result (λ e. IsDate e) }
+        ensures member { IfSome result (λ e. IsTrue (is_day self.now e)) }
+        ensures not_before { IfSome result (λ e. date ≤ℤ e) }
+        ensures least { IfSome result (λ e. (d : ℤ) → date ≤ℤ d → d <ℤ e → is_day self.now d ≡ false) }
+        ensures none { IfNone result ((d : ℤ) → date ≤ℤ d → IsDate d → is_day self.now d ≡ false) }
+    {
+        if let Some(last) = date.moved_by_days(CYCLE) {
+            return self.first_day_up_to(date, last);
+        }
+        let (last, _) = last_date();
+        self.first_day_up_to(date, last)
+    }
+
+    /// Whether the schedule is due at no moment at all, as on 30 February.
+    pub fn is_never_due(&self) -> bool
+        ensures { IsTrue result ↔ IsNeverDue self.now }
+    {
+        let (first, _) = first_date();
+        let Some(_) = self.first_minute(0) else {
+            return true;
+        };
+        let Some(_) = self.first_day(first) else {
+            return true;
+        };
+        false
     }
 
     // The last date from the beginning of its month to this one that is one of the schedule's.

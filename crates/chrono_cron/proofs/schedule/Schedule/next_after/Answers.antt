@@ -41,7 +41,7 @@ returns-in_err-day-clause-none c =
     (λ q is after.
     none_later c.args.self.now.sets c.args.start q (rw (c.date-date.ensures, begun) at c.in_default.ensures.none)
     (λ d later date.
-    c.in_err-day.ensures.none d (omega (arith, signed, c.in_ok-moved_by_days.ensures.moved, c.date-date.ensures, later)) date (omega (arith, signed, c.last_date-last.ensures.of_type, date)))
+    c.in_err-day.ensures.none d (omega (arith, signed, c.in_ok-moved_by_days.ensures.moved, c.date-date.ensures, later)) date)
     is after)
 
 pub returns-clause-member : goal.returns-clause-member

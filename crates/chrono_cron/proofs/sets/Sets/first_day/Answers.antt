@@ -1,22 +1,19 @@
-use Rattle.std.proofs.Common.{arith}
-use Rattle.std.proofs.lemmas.Int.{by_lt_z}
+use Rattle.std.proofs.Common.{refl, arith}
 use Rattle.chrono_datetime.proofs.Signed.{signed}
-use Rattle.chrono_cron.proofs.Months.{later_passed}
+use Rattle.chrono_cron.proofs.Again.{if_none, none_from}
 use Rattle.chrono_cron.proofs.sets.Sets.first_day.Goals as goal
 
-pub returns-in-Some-clause-least : goal.returns-in-Some-clause-least
-returns-in-Some-clause-least c = λ d low high.
-    by_lt_z d c.loop-last.month (λ lt. c.loop-last.invariant.1 d low lt) (λ ge. c.in-Some.ensures.least d ge high)
+pub returns-in-Some-clause-none : goal.returns-in-Some-clause-none
+returns-in-Some-clause-none c =
+    let last = c.in-Some.ensures.moved in
+    let date = c.in-Some.ensures.exists.0 refl in
+    if_none c.first_day_up_to.result _ _
+    (λ none d low is. none_from c.args.self.now c.args.date d
+    (λ e from to. none e from (omega (arith, signed, from, c.in-Some.ensures.in_range), omega (arith, signed, to, date)) (omega (arith, signed, to, last))) low)
+    c.first_day_up_to.ensures.none
 
-pub returns-in_err-month-clause-none : goal.returns-in_err-month-clause-none
-returns-in_err-month-clause-none c =
-    rw c.from_residual.ensures
-    (λ d low date end.
-    later_passed c.args.self.now c.args.date c.loop-last.month d c.loop-last.invariant.1 (λ ge. c.in_err-month.ensures.none d ge date) (c.in_default.ensures.none d) low)
-
-pub loop-last-preserved : goal.loop-last-preserved
-loop-last-preserved c = (
-  omega (arith, signed, c.loop-last.invariant.0, c.in_ok-month.ensures.later),
-  λ d low high.
-      later_passed c.args.self.now c.args.date c.loop-last.month d c.loop-last.invariant.1 (λ ge. c.in_ok-month.ensures.passed d ge high) (c.in_default.ensures.none d) low,
-)
+pub returns-clause-none : goal.returns-clause-none
+returns-clause-none c =
+    if_none c.first_day_up_to-2.result _ _
+    (λ none d low is. none d low is (omega (arith, signed, is, c.last_date-last.ensures.of_type)))
+    c.first_day_up_to-2.ensures.none

@@ -61,3 +61,9 @@ returns-clause-none c =
     let past = past_month c.args.date d c.in_ok-first.first (rw c.year_month_day-year.ensures.year at c.year_month_day-year.ensures.in_range) same (omega (arith, from, place-bounds c.args.date)) nameless in
     no_listed_day c.args.self.now c.listed_in_month.result c.args.date d (month c) c.listed_in_month.ensures same
     (c.in_ok-first.ensures.least (day_of d) (omega (arith, signed, low, places c.args.date d same, c.year_month_day-year.ensures.day)) past))
+
+pub returns-clause-in_range : goal.returns-clause-in_range
+returns-clause-in_range c =
+    let fits = year_fits c.year_month_day-year.result.0 c.year_month_day-year.ensures.in_range in
+    if_named c.from_ymd_opt.result _ c.year_month_day-year.result.1 c.in_ok-first.first _ (rw fits at c.from_ymd_opt.ensures.year) c.from_ymd_opt.ensures.month c.from_ymd_opt.ensures.day
+    (λ e is_year is_month is_day. (c.dates_are_days_of_years.ensures e).1 (rw (← is_year) at c.year_month_day-year.ensures.in_range))
