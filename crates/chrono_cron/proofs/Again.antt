@@ -1,7 +1,6 @@
 -- The days of a schedule come again after 400 years.
-use Rattle.std.proofs.Common.{◌≡◌, ℕ, zero, suc, ◌+◌, ◌*◌, refl, ◌∙◌, arith, false, ℤ, pos, ◌+ℤ◌, ◌-ℤ◌, ◌≤ℤ◌, ◌<ℤ◌, unsigned_abs, Option, Some, None, IfNone}
+use Rattle.std.proofs.Common.{◌≡◌, ℕ, zero, suc, ◌*◌, refl, ◌∙◌, arith, false, ℤ, pos, ◌+ℤ◌, ◌-ℤ◌, ◌≤ℤ◌, unsigned_abs, Option, Some, None, IfNone}
 use Rattle.std.proofs.lemmas.Int.{by_lt_z}
-use Rattle.chrono_datetime.specs.Days.{day_of, month_of}
 use Rattle.chrono_datetime.specs.Weeks.{weekday_of}
 use Rattle.chrono_datetime.proofs.Cycles.{calendar_name-again}
 use Rattle.chrono_datetime.proofs.Signed.{signed}

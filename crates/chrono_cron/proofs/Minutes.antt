@@ -1,5 +1,5 @@
 -- The minutes of a day, by their hour and their minute past it.
-use Rattle.std.proofs.Common.{◌≡◌, ℕ, ◌+◌, ◌*◌, ◌/◌, ◌%◌, ◌<◌, ◌≤◌, true, false, refl, arith}
+use Rattle.std.proofs.Common.{◌≡◌, ℕ, ◌+◌, ◌*◌, ◌/◌, ◌%◌, ◌<◌, true, false, refl, arith}
 use Rattle.std.proofs.lemmas.Bool.{and_left, and_right}
 use Rattle.chrono_cron.specs.declared.sets.Sets.{Sets}
 use Rattle.chrono_cron.specs.Due.{has, is_minute}

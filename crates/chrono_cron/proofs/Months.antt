@@ -1,15 +1,14 @@
 -- The days of a month, and those between a day and the end of an earlier or the beginning of a later month.
-use Rattle.std.proofs.Common.{◌≡◌, ℕ, ◌+◌, ◌-◌, ◌%◌, ◌<◌, ◌≤◌, ◌==◌, ◌⊎◌, inl, inr, Bool, true, false, ◌&&◌, ◌||◌, refl, sym, ap, ◌∙◌, arith, ℤ, pos, ◌+ℤ◌, ◌-ℤ◌, ◌≤ℤ◌, ◌<ℤ◌, unsigned_abs, Option, Some, None, IfSome, IfNone, IsSome, ◌↔◌, ap₂, to_z, of_z, w32}
-use Rattle.std.proofs.lemmas.Bool.{agree_below_at, cases_order, cases_lt, eqb-true}
+use Rattle.std.proofs.Common.{◌≡◌, ℕ, ◌+◌, ◌-◌, ◌%◌, ◌<◌, ◌≤◌, ◌==◌, ◌⊎◌, inl, inr, true, false, ◌&&◌, ◌||◌, refl, sym, ap, ◌∙◌, arith, ℤ, pos, ◌+ℤ◌, ◌-ℤ◌, ◌≤ℤ◌, ◌<ℤ◌, Option, Some, None, IfSome, IfNone, IsSome, ◌↔◌, ap₂, to_z, of_z, w32}
+use Rattle.std.proofs.lemmas.Bool.{agree_below_at, cases_lt, eqb-true}
 use Rattle.std.proofs.lemmas.Int.{by_lt_z, to_z-of_z}
 use Rattle.chrono_datetime.specs.Years.{IsYear, month_length}
-use Rattle.std.specs.Int.{int_rem_euclid}
-use Rattle.chrono_datetime.specs.Days.{IsDate, IsCalendarName, year_of, month_of, day_of}
+use Rattle.chrono_datetime.specs.Days.{IsCalendarName, year_of, month_of, day_of}
 use Rattle.chrono_datetime.specs.MonthMoves.{InSameMonth, month_index_of, month_length_of}
 use Rattle.chrono_datetime.specs.Weekday.{days_from_sunday, weekday_from_sunday}
 use Rattle.chrono_datetime.specs.Weeks.{days_from_sunday_of, weekday_of}
 use Rattle.chrono_datetime.proofs.MonthDays.{day_of-bounds, month-days}
-use Rattle.chrono_datetime.proofs.MonthOrder.{before_month, day_at-exists, length_at, length_at-bounds, month_of-range}
+use Rattle.chrono_datetime.proofs.MonthOrder.{before_month, day_at-exists, length_at-bounds, month_of-range}
 use Rattle.chrono_datetime.proofs.Rising.{month_index_of-rises}
 use Rattle.chrono_datetime.proofs.Signed.{signed}
 use Rattle.chrono_cron.specs.declared.number_set.NumberSet.{NumberSet}

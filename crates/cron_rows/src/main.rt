@@ -13,7 +13,9 @@ use std::io::{self, BufRead, BufReader};
 
 // The seconds of a minute, the minutes of a day, and the days of a year.
 const SECONDS: u32 = 60;
+
 const MINUTES: u32 = 1_440;
+
 const DAYS: u32 = 365;
 
 fn main(rt: HostRuntime) -> io::Result<()> {

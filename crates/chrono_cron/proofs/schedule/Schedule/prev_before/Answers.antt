@@ -1,6 +1,5 @@
-use Rattle.std.proofs.Common.{inl, inr, refl, arith, ℕ}
+use Rattle.std.proofs.Common.{inl, inr, refl, arith}
 use Rattle.chrono_datetime.proofs.Signed.{signed}
-use Rattle.chrono_datetime.specs.Time.{IsEarlier, time_at}
 use Rattle.chrono_cron.proofs.Order.{greatest_earlier, greatest_today, is_due-beginning, none_earlier, none_ever}
 use Rattle.chrono_cron.proofs.schedule.Schedule.prev_before.Goals as goal
 

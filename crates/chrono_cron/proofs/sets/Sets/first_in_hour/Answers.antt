@@ -1,4 +1,4 @@
-use Rattle.std.proofs.Common.{◌≡◌, ◌+◌, ◌*◌, ◌/◌, ◌%◌, sym, ap, ◌∙◌, arith}
+use Rattle.std.proofs.Common.{◌/◌, ◌%◌, sym, ap, ◌∙◌, arith}
 use Rattle.chrono_cron.specs.Due.{has}
 use Rattle.chrono_cron.proofs.Minutes.{is_minute-at, no_hour, no_minute}
 use Rattle.chrono_cron.proofs.sets.Sets.first_in_hour.Goals as goal

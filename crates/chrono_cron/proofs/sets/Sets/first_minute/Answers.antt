@@ -1,4 +1,4 @@
-use Rattle.std.proofs.Common.{◌≡◌, ◌+◌, ◌*◌, ◌/◌, ◌%◌, ◌<◌, inl, inr, arith}
+use Rattle.std.proofs.Common.{◌/◌, ◌%◌, inl, inr, arith}
 use Rattle.std.proofs.lemmas.Bool.{cases_lt}
 use Rattle.chrono_cron.proofs.Minutes.{is_minute-at, no_hour, no_minute}
 use Rattle.chrono_cron.proofs.sets.Sets.first_minute.Goals as goal

@@ -11,6 +11,7 @@ returns-in_default-first_day c =
 
 pub returns : goal.returns
 returns c =
-    let day = c.in-Some-first_day in
-    (λ yes. cc,
-    λ never. absurd (not_never c.args.self.now c.in-Some-first_day.field-0 c.in-Some.field-0 c.in-Some-first_day.ensures.in_range c.in-Some-first_day.ensures.member c.in-Some.ensures.within c.in-Some.ensures.member never))
+    let day = c.in-Some-first_day in (
+      λ yes. cc,
+      λ never. absurd (not_never c.args.self.now c.in-Some-first_day.field-0 c.in-Some.field-0 c.in-Some-first_day.ensures.in_range c.in-Some-first_day.ensures.member c.in-Some.ensures.within c.in-Some.ensures.member never),
+    )

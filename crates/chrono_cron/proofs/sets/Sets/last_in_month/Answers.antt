@@ -1,4 +1,4 @@
-use Rattle.std.proofs.Common.{◌≡◌, ◌≤◌, refl, sym, ap, ◌∙◌, true, arith, ℤ, ◌≤ℤ◌, ◌<ℤ◌}
+use Rattle.std.proofs.Common.{◌≡◌, refl, sym, ap, ◌∙◌, true, arith, ℤ}
 use Rattle.chrono_datetime.specs.Days.{year_of, month_of, day_of}
 use Rattle.chrono_datetime.specs.MonthMoves.{InSameMonth}
 use Rattle.chrono_datetime.proofs.Signed.{signed}

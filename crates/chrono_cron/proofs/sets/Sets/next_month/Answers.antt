@@ -1,4 +1,4 @@
-use Rattle.std.proofs.Common.{◌≡◌, ◌+◌, inr, sym, ◌∙◌, arith, ℤ, pos, ◌+ℤ◌}
+use Rattle.std.proofs.Common.{◌≡◌, ◌+◌, inr, ◌∙◌, arith, pos, ◌+ℤ◌}
 use Rattle.chrono_datetime.specs.Days.{year_of, month_of}
 use Rattle.chrono_datetime.specs.Years.{IsYear}
 use Rattle.chrono_datetime.proofs.MonthOrder.{month_of-range}

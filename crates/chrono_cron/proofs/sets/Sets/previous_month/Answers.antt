@@ -1,9 +1,9 @@
-use Rattle.std.proofs.Common.{◌≡◌, ◌+◌, inr, refl, sym, ◌∙◌, arith, ℤ, pos, None, ◌-ℤ◌}
-use Rattle.chrono_datetime.specs.Days.{year_of, month_of}
+use Rattle.std.proofs.Common.{◌≡◌, inr, refl, ◌∙◌, arith, pos, None, ◌-ℤ◌}
+use Rattle.chrono_datetime.specs.Days.{year_of}
 use Rattle.chrono_datetime.specs.Years.{IsYear}
 use Rattle.chrono_datetime.proofs.MonthOrder.{month_of-range}
 use Rattle.chrono_datetime.proofs.Signed.{signed}
-use Rattle.chrono_cron.proofs.Months.{NoMonths, after_earlier_month, after_previous_year, earlier_in_year, first_day_exists, first_year, if_unnamed, last_place, month_before, no_days, previous_year_fits, year_before, year_fits}
+use Rattle.chrono_cron.proofs.Months.{after_earlier_month, after_previous_year, earlier_in_year, first_day_exists, first_year, if_unnamed, last_place, month_before, no_days, previous_year_fits, year_before, year_fits}
 use Rattle.chrono_cron.proofs.sets.Sets.previous_month.Goals as goal
 use Rattle.chrono_cron.proofs.sets.Sets.previous_month.Goals.{After-last_day_of_month, After-last_day_of_month-2}
 
