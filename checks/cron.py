@@ -1,0 +1,231 @@
+#!/usr/bin/env python3
+"""Holds chrono_cron to a second reading of schedules, which tries days and minutes one after another.
+
+    checks/cron.py [--rows N] [--seed N]      (20,000 generated rows from seed 1, if left out)
+    checks/cron.py --write                    (crates/cron_rows/stdin made again)
+
+A schedule is read here from its text of five fields, and a moment is due by the definition: its month, its hour and its minute are
+listed, and so are its day of the month and its weekday, or one of these where neither text begins with `*`. The next due moment is
+found by trying each day from the start's on, and each minute of a day that passes, to the end of the calendar; a schedule of which
+no day passes in 400 years, in which days and weekdays come again, is never due. Calendar dates are those of checks/counted.py.
+
+The rows of crates/cron_rows/stdin are held to it, and so are generated ones: schedules with wide and with narrow fields, starts at
+both ends of the calendar, in leap seconds, at due moments and beside them; and every minute of a year for ten schedules.
+"""
+import argparse
+import os
+import random
+import subprocess
+import sys
+
+from counted import FIRST_DAY, LAST_DAY, day_of, name_of, weekday_of
+
+TOP = os.path.dirname(os.path.dirname(os.path.abspath(__file__)))
+ROWS = os.path.join(TOP, "crates", "cron_rows", "stdin")
+PROGRAM = os.path.join(TOP, "crates", "cron_rows", "out", "cron_rows")
+
+FIELDS = ((0, 59), (0, 23), (1, 31), (1, 12), (0, 7))
+CYCLE = 146_097
+
+# Texts of crontab(5)'s manual page, and days that are rare, late or never.
+KNOWN = (
+    "5 0 * * *",
+    "15 14 1 * *",
+    "0 22 * * 1-5",
+    "23 0-23/2 * * *",
+    "5 4 * * 0",
+    "5 4 * * 7",
+    "0 4 8-14 * *",
+    "30 4 1,15 * 5",
+    "* * * * *",
+    "*/15 9-17 * * 1-5",
+    "0 0 29 2 *",
+    "0 0 29 2 1",
+    "0 0 */2 * 1",
+    "0 0 1-31/2 * 1",
+    "0 0 30 2 *",
+    "0 0 30 2 1",
+    "0 0 31 4,6,9,11 *",
+    "0 0 31 * *",
+    "59 23 31 12 *",
+    "0 0 1 1 *",
+    "0 0 13 * 5",
+    "7-59/13 3,21 28-31 2,3 2-6/2",
+)
+YEARS = KNOWN[:1] + KNOWN[3:4] + KNOWN[7:11] + KNOWN[12:14] + KNOWN[17:19]
+
+
+def numbers_of(text, low, high):
+    """The numbers that a field lists; a step is counted from the first of its range."""
+    listed = set()
+    for item in text.split(","):
+        span, _, step = item.partition("/")
+        first, last = (low, high) if span == "*" else (int(it) for it in (span.split("-") * 2)[:2])
+        listed |= set(range(first, last + 1, int(step or 1)))
+    return listed
+
+
+class Schedule:
+    """A schedule by its text."""
+
+    def __init__(self, text):
+        fields = text.split()
+        self.sets = [numbers_of(it, *FIELDS[i]) for i, it in enumerate(fields)]
+        self.sets[4] = {it % 7 for it in self.sets[4]}
+        self.either = not fields[2].startswith("*") and not fields[4].startswith("*")
+        self.minutes = [it for it in range(1440) if it // 60 in self.sets[1] and it % 60 in self.sets[0]]
+        self.is_never = not any(self.is_day(it) for it in range(1, CYCLE + 1))
+
+    def words(self):
+        return " ".join(str(sum(1 << it for it in numbers)) for numbers in self.sets) + f" {int(self.either)}"
+
+    def is_day(self, day):
+        _, month, of_month = name_of(day)
+        by_day, by_weekday = of_month in self.sets[2], (weekday_of(day) + 1) % 7 in self.sets[4]
+        return month in self.sets[3] and (by_day or by_weekday if self.either else by_day and by_weekday)
+
+    def is_due(self, day, second, fraction):
+        return self.is_day(day) and second // 60 in self.minutes and second % 60 == 0 and fraction == 0
+
+    def next(self, day, second, fraction):
+        """The minutes from day 0 to the first due moment after a start, or None."""
+        for later in range(day, day if self.is_never else LAST_DAY + 1):
+            if self.is_day(later):
+                for minute in self.minutes:
+                    if (later, 60 * minute, 0) > (day, second, fraction):
+                        return later * 1440 + minute
+        return None
+
+    def prev(self, day, second, fraction):
+        """The minutes from day 0 to the last due moment before a start, or None."""
+        for earlier in range(day, day if self.is_never else FIRST_DAY - 1, -1):
+            if self.is_day(earlier):
+                for minute in reversed(self.minutes):
+                    if (earlier, 60 * minute, 0) < (day, second, fraction):
+                        return earlier * 1440 + minute
+        return None
+
+    def year(self, day):
+        """The sum of the next moments after each minute of 365 days, in 64 digits with a sign."""
+        next_one, total = self.next(day + 364, 1439 * 60, 0), 0
+        for minute in range((day + 365) * 1440 - 1, day * 1440 - 1, -1):
+            total += next_one or 0
+            if self.is_due(minute // 1440, minute % 1440 * 60, 0):
+                next_one = minute
+        return (total + 2**63) % 2**64 - 2**63
+
+
+def field_text(chosen, low, high):
+    """The text of a field: wide or narrow, of one item or of some."""
+    kind = chosen.randrange(6)
+    if kind == 0:
+        return "*"
+    if kind == 1:
+        return f"*/{chosen.randint(1, high + 1)}"
+    items = []
+    for _ in range(chosen.choice((1, 1, 1, 2, 3))):
+        first, last = sorted((chosen.randint(low, high), chosen.randint(low, high)))
+        items.append(chosen.choice((f"{first}", f"{first}-{last}", f"{first}-{last}/{chosen.randint(1, 9)}")))
+    return ",".join(items)
+
+
+def schedule_text(chosen):
+    if chosen.random() < 0.2:
+        return chosen.choice(KNOWN)
+    texts = [field_text(chosen, *it) for it in FIELDS]
+    for place in range(5):
+        if chosen.random() < 0.4:
+            texts[place] = "*"
+    return " ".join(texts)
+
+
+def start_of(chosen, schedule):
+    """A start: any, at an end of the calendar, in a leap second, or at or beside a due moment."""
+    day = chosen.choice((chosen.randint(730_000, 750_000), chosen.randint(FIRST_DAY, LAST_DAY)))
+    if chosen.random() < 0.15:
+        day = chosen.choice((FIRST_DAY, LAST_DAY)) + chosen.choice((-1, 1)) * chosen.randint(0, 800)
+        day = min(max(day, FIRST_DAY), LAST_DAY)
+    minute = chosen.choice(schedule.minutes or [0]) if chosen.random() < 0.5 else chosen.randrange(1440)
+    second = 60 * minute + chosen.choice((0, 0, 0, 1, 59, chosen.randrange(60)))
+    fraction = chosen.choice((0, 0, 1, 999_999_999))
+    if second % 60 == 59 and chosen.random() < 0.5:
+        fraction += 10**9
+    return day, second, fraction
+
+
+def row_of(call, schedule, start):
+    if call == "year":
+        answer = schedule.year(start[0])
+    elif call == "due":
+        answer = int(schedule.is_due(*start))
+    else:
+        answer = getattr(schedule, call)(*start)
+    words = " ".join(str(it) for it in start)
+    return f"{call} {schedule.words()} {words} = {'none' if answer is None else answer}"
+
+
+def generated(count, seed):
+    """Rows of chosen schedules, some starts for each."""
+    chosen, rows = random.Random(seed), []
+    while len(rows) < count:
+        schedule = Schedule(schedule_text(chosen))
+        for _ in range(5):
+            start = start_of(chosen, schedule)
+            rows.append(row_of(chosen.choice(("next", "next", "prev", "prev", "due")), schedule, start))
+    return rows
+
+
+def known():
+    """The rows that stand in the repository: the known schedules from starts that say most."""
+    starts = [(day_of(2024, 2, 28), 86_399, 1_500_000_000), (day_of(2096, 2, 29), 0, 0), (day_of(2023, 12, 31), 86_340, 0)]
+    starts += [(FIRST_DAY, 0, 0), (FIRST_DAY, 0, 1), (LAST_DAY, 86_340, 0), (LAST_DAY, 86_399, 1_999_999_999)]
+    starts += [(day_of(2024, 2, 9), 16_199, 999_999_000), (day_of(2024, 2, 9), 16_200, 0), (day_of(2024, 2, 9), 16_200, 1)]
+    schedules = [Schedule(it) for it in KNOWN]
+    return [row_of(call, schedule, start) for schedule in schedules for start in starts for call in ("next", "prev", "due")]
+
+
+def answered(rows):
+    """Runs the program over rows; how many it answers, and what it prints of the others."""
+    text = "".join(f"{it}\n" for it in rows)
+    ran = subprocess.run([PROGRAM], input=text, stdout=subprocess.PIPE, text=True, check=True, timeout=600)
+    *others, last = ran.stdout.splitlines()
+    complete = last.startswith(f"{len(rows)} lines, ")
+    return (len(rows) - len(others) if complete else 0), others
+
+
+def main():
+    parser = argparse.ArgumentParser()
+    parser.add_argument("--rows", type=int, default=20_000)
+    parser.add_argument("--seed", type=int, default=1)
+    parser.add_argument("--write", action="store_true")
+    arguments = parser.parse_args()
+    if arguments.write:
+        with open(ROWS, "w", encoding="ascii") as file:
+            file.write("".join(f"{it}\n" for it in known()))
+        return 0
+    with open(ROWS, encoding="ascii") as file:
+        standing = file.read().splitlines()
+    passed, failed = int(standing == known()), int(standing != known())
+    if failed:
+        print("the rows of crates/cron_rows/stdin are others than this reading gives")
+    if not os.path.exists(PROGRAM):
+        print("not run: the rows by the program, since there is no crates/cron_rows/out/cron_rows")
+        print(f"{passed} passed, {failed} failed")
+        return failed
+    start = (day_of(2023, 11, 15), 0, 0)
+    for name, rows in (
+        ("standing rows", standing),
+        ("generated rows", generated(arguments.rows, arguments.seed)),
+        ("years of minutes", [row_of("year", Schedule(it), start) for it in YEARS]),
+    ):
+        right, others = answered(rows)
+        print(f"{name}: {len(rows)}, {len(rows) - right} of them answered otherwise (seed {arguments.seed})")
+        for other in others[:3]:
+            print(f"  {other}")
+        passed, failed = passed + int(right == len(rows)), failed + int(right != len(rows))
+    print(f"{passed} passed, {failed} failed")
+    return int(failed > 0)
+
+
+if __name__ == "__main__":
+    sys.exit(main())

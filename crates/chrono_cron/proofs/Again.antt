@@ -1,0 +1,32 @@
+-- The days of a schedule come again after 400 years.
+use Rattle.std.proofs.Common.{◌≡◌, ℕ, zero, suc, ◌*◌, refl, ◌∙◌, arith, false, ℤ, pos, ◌+ℤ◌, ◌-ℤ◌, ◌≤ℤ◌, unsigned_abs, Option, Some, None, IfNone}
+use Rattle.std.proofs.lemmas.Int.{by_lt_z}
+use Rattle.chrono_datetime.specs.Weeks.{weekday_of}
+use Rattle.chrono_datetime.proofs.Cycles.{calendar_name-again}
+use Rattle.chrono_datetime.proofs.Signed.{signed}
+use Rattle.chrono_datetime.proofs.WeekDays.{weekday_of-weeks}
+use Rattle.chrono_cron.specs.declared.sets.Sets.{Sets}
+use Rattle.chrono_cron.specs.Due.{is_day, is_listed}
+
+is_day-again : (s : Sets) (n m : ℤ) → m ≡ n +ℤ pos 146_097 → is_day s m ≡ is_day s n
+unfolding is_day is_listed
+is_day-again s n m e =
+    let name = calendar_name-again n m e in
+    let weekday : weekday_of m ≡ weekday_of n = weekday_of-weeks n m 20_871 e in
+    rw (name.0, name.1, weekday) refl
+
+-- where no day of 400 years is one of the schedule's, no later one is
+none_later : (s : Sets) (from : ℤ) (k : ℕ) (d : ℤ) → ((d : ℤ) → from ≤ℤ d → d ≤ℤ (from +ℤ pos 146_097) → is_day s d ≡ false) → from ≤ℤ d → d ≤ℤ (from +ℤ pos (146_097 * suc k)) → is_day s d ≡ false
+none_later s from zero d none low high = none d low (omega (arith, signed, high))
+none_later s from (suc k) d none low high =
+    by_lt_z d (from +ℤ pos 146_097)
+    (λ lt. none d low (omega (arith, signed, lt)))
+    (λ ge. is_day-again s (d -ℤ pos 146_097) d (omega (arith, signed)) ∙ none_later s from k (d -ℤ pos 146_097) none (omega (arith, signed, ge)) (omega (arith, signed, high)))
+
+pub none_from : (s : Sets) (from d : ℤ) → ((d : ℤ) → from ≤ℤ d → d ≤ℤ (from +ℤ pos 146_097) → is_day s d ≡ false) → from ≤ℤ d → is_day s d ≡ false
+none_from s from d none low = none_later s from (unsigned_abs (d -ℤ from)) d none low (omega (arith, signed, low))
+
+-- what follows where there is no answer
+pub if_none : (o : Option ℤ) (P Q : Type 0) → (P → Q) → IfNone o P → IfNone o Q
+if_none None P Q so p = so p
+if_none (Some e) P Q so p = tt

@@ -1,0 +1,135 @@
+-- The members of a set of numbers, by the binary digits that it is stored as.
+use Rattle.std.proofs.Common.{◌≡◌, ℕ, zero, suc, ◌+◌, ◌-◌, ◌*◌, ◌/◌, ◌%◌, ◌^◌, ◌<◌, ◌≤◌, ◌==◌, inl, inr, ◌&&◌, ◌||◌, Bool, true, false, min, max, sym, ap, ◌∙◌, arith}
+use Rattle.std.proofs.lemmas.Bool.{cases_lt}
+use Rattle.std.proofs.Math.Nat.{pow-suc, pow-le-pow_right}
+use Rattle.std.proofs.lemmas.Nat.{shr-shr, leading_top, and_le_r, pow_below, pow_pos}
+use Rattle.std.proofs.lemmas.Nat.Bits.{bit_at-lt, bit_at-zero, bit_at_above, bit_at_and, bit_at_or, bit_at_ones, bit_at_cat_high, bit_at_cat_low, bit_at-trailing_zeros}
+use Rattle.std.specs.Prelude.{bit_and, bit_or}
+use Rattle.std.specs.Int.{bit_at, w64, trailing_zeros, leading_zeros}
+use Rattle.chrono_cron.specs.declared.number_set.NumberSet.{NumberSet}
+use Rattle.chrono_cron.specs.Due.{has}
+
+-- whether a digit is 1
+abbrev is_one : ℕ → Bool
+is_one b = b == 1
+
+has_not : (s : NumberSet) (k : ℕ) → bit_at s.digits k ≡ 0 → has s k ≡ false
+unfolding has
+has_not s k none = ap is_one none
+
+has_one : (s : NumberSet) (k : ℕ) → bit_at s.digits k ≡ 1 → has s k ≡ true
+unfolding has
+has_one s k one = ap is_one one
+
+-- the digits of what is left of a number when its lowest are taken away
+bit_at-shifted : (n k i : ℕ) → bit_at (n / 2 ^ k) i ≡ bit_at n (k + i)
+bit_at-shifted n k i = ap (λ x. x % 2) (shr-shr n k i)
+
+bit_at-from : (n k j : ℕ) → k ≤ j → bit_at n j ≡ bit_at (n / 2 ^ k) (j - k)
+bit_at-from n k j le =
+    let at : j ≡ k + (j - k) = omega arith in
+    ap (bit_at n) at ∙ sym (bit_at-shifted n k (j - k))
+
+-- no digit from a place on is 1
+pub none_from : (s : NumberSet) (from j : ℕ) → s.digits / 2 ^ from ≡ 0 → from ≤ j → has s j ≡ false
+none_from s from j empty le =
+    has_not s j (bit_at-from s.digits from j le ∙ ap (λ n. bit_at n (j - from)) empty ∙ bit_at-zero (j - from))
+
+-- the lowest digit from a place on that is 1
+pub first_from : (s : NumberSet) (from : ℕ) → 0 < s.digits / 2 ^ from → s.digits / 2 ^ from < 2 ^ 64 → has s (from + trailing_zeros w64 (s.digits / 2 ^ from)) ≡ true
+first_from s from some fits =
+    let rest = s.digits / 2 ^ from in
+    has_one s (from + trailing_zeros w64 rest) (sym (bit_at-shifted s.digits from (trailing_zeros w64 rest)) ∙ (bit_at-trailing_zeros w64 rest some fits).1)
+
+pub none_before_first : (s : NumberSet) (from j : ℕ) → 0 < s.digits / 2 ^ from → s.digits / 2 ^ from < 2 ^ 64 → from ≤ j → j < from + trailing_zeros w64 (s.digits / 2 ^ from) → has s j ≡ false
+none_before_first s from j some fits low high =
+    has_not s j (bit_at-from s.digits from j low ∙ (bit_at-trailing_zeros w64 (s.digits / 2 ^ from) some fits).2 (j - from) (omega arith))
+
+-- the digits below a place
+abbrev pub below : ℕ → ℕ → ℕ
+below n end = bit_and n (2 ^ end - 1)
+
+bit_at-below : (n end j : ℕ) → j < end → bit_at (below n end) j ≡ bit_at n j
+bit_at-below n end j lt =
+    let bound = bit_at-lt n j in
+    bit_at_and n (2 ^ end - 1) j ∙ ap (min (bit_at n j)) (bit_at_ones end j lt) ∙ omega arith
+
+below_fits : (n end : ℕ) → below n end < 2 ^ end
+below_fits n end = omega (arith, and_le_r n (2 ^ end - 1), pow_pos end)
+
+-- no digit below a place is 1
+pub none_below : (s : NumberSet) (end j : ℕ) → below s.digits end ≡ 0 → j < end → has s j ≡ false
+none_below s end j empty lt =
+    has_not s j (sym (bit_at-below s.digits end j lt) ∙ ap (λ n. bit_at n j) empty ∙ bit_at-zero j)
+
+pow-double : (j : ℕ) → 2 ^ suc j ≡ 2 * 2 ^ j
+pow-double j = omega (arith, pow-suc 2 j)
+
+quotient_one : (n d : ℕ) → d ≤ n → n < 2 * d → n / d ≡ 1
+quotient_one n d low high = grind arith
+
+place_below : (n j end : ℕ) → 2 ^ j ≤ n → n < 2 ^ end → j < end
+place_below n j end low high = elim (cases_lt j end) [
+  | inl lt ↦ lt
+  | inr ge ↦ absurd (omega (arith, low, high, pow-le-pow_right {n = 2} (omega arith) ge))
+]
+
+-- the highest digit below a place that is 1
+top_digit : (n j : ℕ) → 2 ^ j ≤ n → n < 2 ^ suc j → bit_at n j ≡ 1
+top_digit n j low high =
+    let quotient : n / 2 ^ j ≡ 1 = quotient_one n (2 ^ j) low (rw (pow-double j) at high) in
+    ap (λ q. q % 2) quotient
+
+pub last_below : (s : NumberSet) (end rest : ℕ) → end < 64 → rest ≡ below s.digits end → (rest ≡ 0 → ⊥) → (has s (63 - leading_zeros w64 rest) ≡ true) × (63 - leading_zeros w64 rest < end) × ((j : ℕ) → 63 - leading_zeros w64 rest < j → j < end → has s j ≡ false)
+last_below s end rest lt is some =
+    let fits : rest < 2 ^ end = omega (arith, is, below_fits s.digits end) in
+    let top = leading_top 64 rest (omega (arith, some)) (omega (arith, fits, pow_below end 64 lt)) in
+    let at : 63 - leading_zeros w64 rest ≡ top.0 = omega (arith, top.1) in
+    let inside : top.0 < end = place_below rest top.0 end top.2 fits in
+    let digit : (j : ℕ) → j < end → bit_at s.digits j ≡ bit_at rest j = λ j high. sym (bit_at-below s.digits end j high) ∙ ap (λ n. bit_at n j) (sym is) in
+    rw at (has_one s top.0 (digit top.0 inside ∙ top_digit rest top.0 top.2 top.3), inside, λ j low high. has_not s j (digit j high ∙ bit_at_above rest (suc top.0) j top.3 low))
+
+-- a week's digits, over and over
+repeated : ℕ → ℕ → ℕ
+repeated w zero = 0
+repeated w (suc n) = repeated w n * 2 ^ 7 + w
+
+bit_at-repeated : (w n k : ℕ) → w < 2 ^ 7 → k < 7 * n → bit_at (repeated w n) k ≡ bit_at w (k % 7)
+unfolding repeated
+bit_at-repeated w zero k fits lt = absurd (omega arith)
+bit_at-repeated w (suc n) k fits lt = elim (cases_lt k 7) [
+  | inl low ↦ bit_at_cat_low (repeated w n) 7 w k low ∙ ap (bit_at w) (omega arith)
+  | inr high ↦ bit_at_cat_high (repeated w n) 7 w k fits high ∙ bit_at-repeated w n (k - 7) fits (omega arith) ∙ ap (bit_at w) (omega arith)
+]
+
+seven : (w : ℕ) → w * 4_432_676_798_593 ≡ repeated w 7
+unfolding repeated
+seven w = omega arith
+
+-- seven weeks in a row, from a day of the first on
+pub has-weeks : (s t : NumberSet) (before k : ℕ) → before < 7 → k < 40 → t.digits ≡ bit_and s.digits 127 * 4_432_676_798_593 / 2 ^ before → has t k ≡ has s ((k + before) % 7)
+unfolding has
+has-weeks s t before k start end made =
+    let week = bit_and s.digits 127 in
+    let fits : week < 2 ^ 7 = below_fits s.digits 7 in
+    let rows : week * 4_432_676_798_593 ≡ repeated week 7 = seven week in
+    let place : (before + k) % 7 ≡ (k + before) % 7 = omega arith in
+    let digit : bit_at t.digits k ≡ bit_at s.digits ((k + before) % 7) =
+    ap (λ n. bit_at n k) made ∙ bit_at-shifted (week * 4_432_676_798_593) before k ∙ ap (λ n. bit_at n (before + k)) rows
+    ∙ bit_at-repeated week 7 (before + k) fits (omega arith) ∙ ap (bit_at week) place
+    ∙ bit_at-below s.digits 7 ((k + before) % 7) (omega arith) in
+    ap is_one digit
+
+one_min : (a b x : ℕ) → a < 2 → b < 2 → x ≡ min a b → is_one x ≡ (is_one a && is_one b)
+one_min a b x p q e = grind arith
+
+one_max : (a b x : ℕ) → a < 2 → b < 2 → x ≡ max a b → is_one x ≡ (is_one a || is_one b)
+one_max a b x p q e = grind arith
+
+pub has-and : (s t u : NumberSet) (k : ℕ) → u.digits ≡ bit_and s.digits t.digits → has u k ≡ (has s k && has t k)
+unfolding has
+has-and s t u k made = one_min (bit_at s.digits k) (bit_at t.digits k) (bit_at u.digits k) (bit_at-lt s.digits k) (bit_at-lt t.digits k) (ap (λ n. bit_at n k) made ∙ bit_at_and s.digits t.digits k)
+
+pub has-or : (s t u : NumberSet) (k : ℕ) → u.digits ≡ bit_or s.digits t.digits → has u k ≡ (has s k || has t k)
+unfolding has
+has-or s t u k made = one_max (bit_at s.digits k) (bit_at t.digits k) (bit_at u.digits k) (bit_at-lt s.digits k) (bit_at-lt t.digits k) (ap (λ n. bit_at n k) made ∙ bit_at_or s.digits t.digits k)

@@ -1,0 +1,5 @@
+mod Again
+mod Digits
+mod Minutes
+mod Months
+mod Order

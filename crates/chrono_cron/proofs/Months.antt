@@ -1,0 +1,255 @@
+-- The days of a month, and those between a day and the end of an earlier or the beginning of a later month.
+use Rattle.std.proofs.Common.{◌≡◌, ℕ, ◌+◌, ◌-◌, ◌%◌, ◌<◌, ◌≤◌, ◌==◌, ◌⊎◌, inl, inr, true, false, ◌&&◌, ◌||◌, refl, sym, ap, ◌∙◌, arith, ℤ, pos, ◌+ℤ◌, ◌-ℤ◌, ◌≤ℤ◌, ◌<ℤ◌, Option, Some, None, IfSome, IfNone, IsSome, ◌↔◌, ap₂, to_z, of_z, w32}
+use Rattle.std.proofs.lemmas.Bool.{agree_below_at, cases_lt, eqb-true}
+use Rattle.std.proofs.lemmas.Int.{by_lt_z, to_z-of_z}
+use Rattle.chrono_datetime.specs.Years.{IsYear, month_length}
+use Rattle.chrono_datetime.specs.Days.{IsCalendarName, year_of, month_of, day_of}
+use Rattle.chrono_datetime.specs.MonthMoves.{InSameMonth, month_index_of, month_length_of}
+use Rattle.chrono_datetime.specs.Weekday.{days_from_sunday, weekday_from_sunday}
+use Rattle.chrono_datetime.specs.Weeks.{days_from_sunday_of, weekday_of}
+use Rattle.chrono_datetime.proofs.MonthDays.{day_of-bounds, month-days}
+use Rattle.chrono_datetime.proofs.MonthOrder.{before_month, day_at-exists, length_at-bounds, month_of-range}
+use Rattle.chrono_datetime.proofs.Rising.{month_index_of-rises}
+use Rattle.chrono_datetime.proofs.Signed.{signed}
+use Rattle.chrono_cron.specs.declared.number_set.NumberSet.{NumberSet}
+use Rattle.chrono_cron.specs.declared.sets.Sets.{Sets}
+use Rattle.chrono_cron.specs.Due.{has, is_day, is_listed}
+
+-- two days of a month are as far apart as their places there
+pub places : (n d : ℤ) → InSameMonth d n → d +ℤ pos (day_of n) ≡ n +ℤ pos (day_of d)
+places n d same =
+    let index : month_index_of d ≡ month_index_of n = omega (arith, signed, same.0, same.1) in
+    let begin = ap before_month index in
+    omega (arith, signed, (day_at-exists n).number, (day_at-exists d).number, begin)
+
+pub place-bounds : (n : ℤ) → (1 ≤ day_of n) × (day_of n ≤ 31)
+place-bounds n =
+    let here = day_at-exists n in
+    (here.first, omega (arith, here.last, length_at-bounds (month_index_of n)))
+
+-- the number of a day's weekday
+weekday_number : (n : ℤ) → days_from_sunday (weekday_of n) ≡ days_from_sunday_of n
+weekday_number n =
+    eqb-true _ _ (agree_below_at (λ k. days_from_sunday (weekday_from_sunday k) == k) (λ k. true) 7 (days_from_sunday_of n) refl (omega (arith, signed)))
+
+-- the weekday of a day, by its place in the month
+pub weekday_at : (n d : ℤ) (before : ℕ) → InSameMonth d n → before ≡ (days_from_sunday (weekday_of n) + 35 - day_of n) % 7 → (day_of d + before) % 7 ≡ days_from_sunday (weekday_of d)
+weekday_at n d before same is =
+    omega (arith, signed, weekday_number n, weekday_number d, places n d same, place-bounds n, place-bounds d)
+
+-- a set of the days of a month by their weekdays has those that the schedule has
+by_weekday : (s : Sets) (w : NumberSet) (n d : ℤ) (before : ℕ) → InSameMonth d n → before ≡ (days_from_sunday (weekday_of n) + 35 - day_of n) % 7 → ((k : ℕ) → k < 40 → has w k ≡ has s.weekdays ((k + before) % 7)) → has w (day_of d) ≡ has s.weekdays (days_from_sunday (weekday_of d))
+by_weekday s w n d before same is weeks =
+    weeks (day_of d) (omega (arith, place-bounds d)) ∙ ap (has s.weekdays) (weekday_at n d before same is)
+
+pub listed-either : (s : Sets) (w u : NumberSet) (n d : ℤ) (before : ℕ) → s.either ≡ true → InSameMonth d n → before ≡ (days_from_sunday (weekday_of n) + 35 - day_of n) % 7 → ((k : ℕ) → k < 40 → has w k ≡ has s.weekdays ((k + before) % 7)) → ((k : ℕ) → has u k ≡ (has s.days k || has w k)) → has u (day_of d) ≡ is_listed s d
+unfolding is_listed
+listed-either s w u n d before either same is weeks both =
+    rw either (both (day_of d) ∙ ap (λ b. has s.days (day_of d) || b) (by_weekday s w n d before same is weeks))
+
+pub listed-both : (s : Sets) (w u : NumberSet) (n d : ℤ) (before : ℕ) → s.either ≡ false → InSameMonth d n → before ≡ (days_from_sunday (weekday_of n) + 35 - day_of n) % 7 → ((k : ℕ) → k < 40 → has w k ≡ has s.weekdays ((k + before) % 7)) → ((k : ℕ) → has u k ≡ (has s.days k && has w k)) → has u (day_of d) ≡ is_listed s d
+unfolding is_listed
+listed-both s w u n d before either same is weeks both =
+    rw either (both (day_of d) ∙ ap (λ b. has s.days (day_of d) && b) (by_weekday s w n d before same is weeks))
+
+-- of a day before the first of a month, and of one after the last, the month is another
+month_before_first : (d e : ℤ) → day_of e ≡ 1 → d <ℤ e → month_index_of d <ℤ month_index_of e
+month_before_first d e first less =
+    by_lt_z (month_index_of d) (month_index_of e) (λ lt. lt) (λ ge.
+    let rises = month_index_of-rises d e (omega (arith, signed, less)) in
+    let same : InSameMonth d e = (omega (arith, signed, rises, ge, month_of-range d, month_of-range e), omega (arith, signed, rises, ge, month_of-range d, month_of-range e)) in
+    let within = (month-days e d).0 same in
+    absurd (omega (arith, signed, within.0, first, less)))
+
+month_after_last : (d e : ℤ) → day_of e ≡ month_length_of e → e <ℤ d → month_index_of e <ℤ month_index_of d
+month_after_last d e last less =
+    by_lt_z (month_index_of e) (month_index_of d) (λ lt. lt) (λ ge.
+    let rises = month_index_of-rises e d (omega (arith, signed, less)) in
+    let same : InSameMonth d e = (omega (arith, signed, rises, ge, month_of-range d, month_of-range e), omega (arith, signed, rises, ge, month_of-range d, month_of-range e)) in
+    let within = (month-days e d).0 same in
+    absurd (omega (arith, signed, within.1, last, less)))
+
+-- no day of a month that is none of the schedule's
+pub no_day : (s : Sets) (d : ℤ) → has s.months (month_of d) ≡ false → is_day s d ≡ false
+unfolding is_day
+no_day s d none = rw none refl
+
+-- of the months from one up to before another none is the schedule's
+abbrev pub NoMonths : Sets → ℕ → ℕ → Type 0
+NoMonths s from end = (j : ℕ) → from ≤ j → j < end → has s.months j ≡ false
+
+-- no month is one of the schedule's
+pub no_days : (s : Sets) (d : ℤ) → NoMonths s 1 13 → is_day s d ≡ false
+no_days s d none =
+    let range = month_of-range d in
+    no_day s d (none (month_of d) (omega (arith, range)) (omega (arith, range)))
+
+-- ---- later months
+
+-- a later day of the year, in a month before an end
+pub later_in_year : (s : Sets) (n d : ℤ) (end : ℕ) → n ≤ℤ d → year_of d ≡ year_of n → month_of d < end → NoMonths s (month_of n + 1) end → InSameMonth d n ⊎ (is_day s d ≡ false)
+later_in_year s n d end low year high none =
+    let rises = month_index_of-rises n d low in
+    let from : month_of n ≤ month_of d = omega (arith, signed, rises, year, month_of-range n, month_of-range d) in
+    elim (cases_lt (month_of n) (month_of d)) [
+      | inl lt ↦ inr (no_day s d (none (month_of d) (omega (arith, lt)) high))
+      | inr le ↦ inl (year, omega (arith, from, le))
+    ]
+
+-- up to the first of a month of the same year
+pub before_later_month : (s : Sets) (n d e : ℤ) → n ≤ℤ d → d <ℤ e → day_of e ≡ 1 → year_of e ≡ year_of n → NoMonths s (month_of n + 1) (month_of e) → InSameMonth d n ⊎ (is_day s d ≡ false)
+before_later_month s n d e low high first year none =
+    let rises = month_index_of-rises n d low in
+    let less = month_before_first d e first high in
+    let same : year_of d ≡ year_of n = omega (arith, signed, rises, less, year, month_of-range n, month_of-range d, month_of-range e) in
+    later_in_year s n d (month_of e) low same (omega (arith, signed, less, same, year, month_of-range d, month_of-range e)) none
+
+-- up to the first of a month of the next year
+pub before_next_year : (s : Sets) (n d e : ℤ) → n ≤ℤ d → d <ℤ e → day_of e ≡ 1 → year_of e ≡ year_of n +ℤ pos 1 → NoMonths s (month_of n + 1) 13 → NoMonths s 1 (month_of e) → InSameMonth d n ⊎ (is_day s d ≡ false)
+before_next_year s n d e low high first year none next =
+    let rises = month_index_of-rises n d low in
+    let less = month_before_first d e first high in
+    let range = month_of-range d in
+    by_lt_z (year_of n) (year_of d)
+    (λ lt. inr (no_day s d (next (month_of d) (omega (arith, range)) (omega (arith, signed, less, lt, year, range, month_of-range e)))))
+    (λ ge. later_in_year s n d 13 low (omega (arith, signed, rises, ge, range, month_of-range n)) (omega (arith, range)) none)
+
+-- ---- earlier months
+
+pub earlier_in_year : (s : Sets) (n d : ℤ) (from : ℕ) → d ≤ℤ n → year_of d ≡ year_of n → from ≤ month_of d → NoMonths s from (month_of n) → InSameMonth d n ⊎ (is_day s d ≡ false)
+earlier_in_year s n d from high year low none =
+    let rises = month_index_of-rises d n high in
+    let end : month_of d ≤ month_of n = omega (arith, signed, rises, year, month_of-range n, month_of-range d) in
+    elim (cases_lt (month_of d) (month_of n)) [
+      | inl lt ↦ inr (no_day s d (none (month_of d) low lt))
+      | inr le ↦ inl (year, omega (arith, end, le))
+    ]
+
+-- back to the last of a month of the same year
+pub after_earlier_month : (s : Sets) (n d e : ℤ) → d ≤ℤ n → e <ℤ d → day_of e ≡ month_length_of e → year_of e ≡ year_of n → NoMonths s (month_of e + 1) (month_of n) → InSameMonth d n ⊎ (is_day s d ≡ false)
+after_earlier_month s n d e high low last year none =
+    let rises = month_index_of-rises d n high in
+    let more = month_after_last d e last low in
+    let same : year_of d ≡ year_of n = omega (arith, signed, rises, more, year, month_of-range n, month_of-range d, month_of-range e) in
+    earlier_in_year s n d (month_of e + 1) high same (omega (arith, signed, more, same, year, month_of-range d, month_of-range e)) none
+
+-- back to the last of a month of the year before
+pub after_previous_year : (s : Sets) (n d e : ℤ) → d ≤ℤ n → e <ℤ d → day_of e ≡ month_length_of e → year_of e +ℤ pos 1 ≡ year_of n → NoMonths s 1 (month_of n) → NoMonths s (month_of e + 1) 13 → InSameMonth d n ⊎ (is_day s d ≡ false)
+after_previous_year s n d e high low last year none before =
+    let rises = month_index_of-rises d n high in
+    let more = month_after_last d e last low in
+    let range = month_of-range d in
+    by_lt_z (year_of d) (year_of n)
+    (λ lt. inr (no_day s d (before (month_of d) (omega (arith, signed, more, lt, year, range, month_of-range e)) (omega (arith, range)))))
+    (λ ge. earlier_in_year s n d 1 high (omega (arith, signed, rises, ge, range, month_of-range n)) (omega (arith, range)) none)
+
+-- ---- the days of a month
+
+-- of two days of a month the later has the higher place
+pub place-order : (n d e : ℤ) → InSameMonth d n → InSameMonth e n → d <ℤ e → day_of d < day_of e
+place-order n d e same other less = omega (arith, signed, places n d same, places n e other, less)
+
+-- a day of a month that is the schedule's, by a set of those listed
+pub is_day-listed : (s : Sets) (u : NumberSet) (d : ℤ) → has s.months (month_of d) ≡ true → has u (day_of d) ≡ is_listed s d → is_day s d ≡ has u (day_of d)
+unfolding is_day
+is_day-listed s u d month listed = rw month (sym listed)
+
+pub no_listed_day : (s : Sets) (u : NumberSet) (n d : ℤ) → has s.months (month_of n) ≡ true → ((d : ℤ) → InSameMonth d n → has u (day_of d) ≡ is_listed s d) → InSameMonth d n → has u (day_of d) ≡ false → is_day s d ≡ false
+no_listed_day s u n d month listed same none =
+    is_day-listed s u d (ap (has s.months) same.1 ∙ month) (listed d same) ∙ none
+
+pub listed_day : (s : Sets) (u : NumberSet) (n d : ℤ) → has s.months (month_of n) ≡ true → ((d : ℤ) → InSameMonth d n → has u (day_of d) ≡ is_listed s d) → InSameMonth d n → has u (day_of d) ≡ true → is_day s d ≡ true
+listed_day s u n d month listed same some =
+    is_day-listed s u d (ap (has s.months) same.1 ∙ month) (listed d same) ∙ some
+
+-- between two days of a month lie days of that month
+pub between_later : (n d e : ℤ) → n ≤ℤ d → d ≤ℤ e → InSameMonth e n → InSameMonth d n
+between_later n d e low high same =
+    let from = month_index_of-rises n d low in
+    let to = month_index_of-rises d e high in
+    (omega (arith, signed, from, to, same.0, same.1, month_of-range n, month_of-range d), omega (arith, signed, from, to, same.0, same.1, month_of-range n, month_of-range d))
+
+pub between_earlier : (n d e : ℤ) → e ≤ℤ d → d ≤ℤ n → InSameMonth e n → InSameMonth d n
+between_earlier n d e low high same =
+    let from = month_index_of-rises e d low in
+    let to = month_index_of-rises d n high in
+    (omega (arith, signed, from, to, same.0, same.1, month_of-range n, month_of-range d), omega (arith, signed, from, to, same.0, same.1, month_of-range n, month_of-range d))
+
+-- what is so of each date with a name is so of the date that was made of it
+pub if_named : (o : Option ℤ) (y : ℤ) (m k : ℕ) (P : ℤ → Type 0) → IfSome o (λ e. year_of e ≡ y) → IfSome o (λ e. month_of e ≡ m) → IfSome o (λ e. day_of e ≡ k) → ((e : ℤ) → year_of e ≡ y → month_of e ≡ m → day_of e ≡ k → P e) → IfSome o P
+if_named None y m k P year month day so = tt
+if_named (Some e) y m k P year month day so = so e year month day
+
+pub year_fits : (y : ℤ) → IsYear y → to_z w32 (of_z w32 y) ≡ y
+year_fits y year = to_z-of_z w32 y (omega (arith, signed, year))
+
+-- and what is so where there is no such date
+pub if_unnamed : (o : Option ℤ) (y : ℤ) (m k : ℕ) (P : Type 0) → (IsSome o ↔ (IsYear y × IsCalendarName y m k)) → ((IsYear y × IsCalendarName y m k → ⊥) → P) → IfNone o P
+if_unnamed None y m k P exists so = so (λ named. let no = exists.1 named in cc)
+if_unnamed (Some e) y m k P exists so = tt
+
+-- a place that a month has not lies behind all of its days
+pub past_month : (n d : ℤ) (k : ℕ) → IsYear (year_of n) → InSameMonth d n → 1 ≤ k → (IsYear (year_of n) × IsCalendarName (year_of n) (month_of n) k → ⊥) → day_of d < k
+past_month n d k year same some nameless =
+    let lengths : month_length_of d ≡ month_length_of n = ap₂ month_length same.0 same.1 in
+    elim (cases_lt (day_of d) k) [
+      | inl lt ↦ lt
+      | inr le ↦ absurd (nameless (year, (month_of-range n, (some, omega (arith, le, lengths, day_of-bounds d)))))
+    ]
+
+-- ---- the months of a walk
+
+pub later_month : (n e : ℤ) → month_index_of n <ℤ month_index_of e → n <ℤ e
+later_month n e less = by_lt_z n e (λ lt. lt) (λ ge. absurd (omega (arith, signed, less, month_index_of-rises e n ge)))
+
+pub next_year_fits : (y : ℤ) → IsYear y → to_z w32 (of_z w32 (to_z w32 (of_z w32 y) +ℤ pos 1)) ≡ y +ℤ pos 1
+next_year_fits y year =
+    ap (λ z. to_z w32 (of_z w32 (z +ℤ pos 1))) (year_fits y year) ∙ to_z-of_z w32 (y +ℤ pos 1) (omega (arith, signed, year))
+
+pub previous_year_fits : (y : ℤ) → IsYear y → to_z w32 (of_z w32 (to_z w32 (of_z w32 y) -ℤ pos 1)) ≡ y -ℤ pos 1
+previous_year_fits y year =
+    ap (λ z. to_z w32 (of_z w32 (z -ℤ pos 1))) (year_fits y year) ∙ to_z-of_z w32 (y -ℤ pos 1) (omega (arith, signed, year))
+
+-- the last day of a month that was named by its first
+pub month_before : (n f e : ℤ) → InSameMonth e f → year_of f ≡ year_of n → month_of f < month_of n → e <ℤ n
+month_before n f e same year less =
+    later_month e n (omega (arith, signed, same.0, same.1, year, less, month_of-range f))
+
+pub year_before : (n f e : ℤ) → InSameMonth e f → year_of f ≡ year_of n -ℤ pos 1 → e <ℤ n
+year_before n f e same year =
+    later_month e n (omega (arith, signed, same.0, year, month_of-range n, month_of-range e))
+
+pub last_place : (f e : ℤ) → InSameMonth e f → day_of e ≡ month_length_of f → day_of e ≡ month_length_of e
+last_place f e same day = day ∙ sym (ap₂ month_length same.0 same.1)
+
+-- each month has a first day
+first_place : (y : ℤ) (m : ℕ) → 1 ≤ month_length y m
+first_place y m = grind arith
+
+pub first_day_exists : (y : ℤ) (m : ℕ) → IsYear y → 1 ≤ m → m < 13 → IsYear y × IsCalendarName y m 1
+first_day_exists y m year low high = (year, ((low, omega (arith, high)), (omega arith, first_place y m)))
+
+-- the last year has no next one, nor the first one before it
+pub last_year : (n d : ℤ) → IsYear (year_of n) → (IsYear (year_of n +ℤ pos 1) → ⊥) → IsYear (year_of d) → n ≤ℤ d → year_of d ≡ year_of n
+last_year n d year past other low =
+    let rises = month_index_of-rises n d low in
+    by_lt_z (year_of n) (year_of d)
+    (λ lt. absurd (past (omega (arith, signed, year), omega (arith, signed, lt, other))))
+    (λ ge. omega (arith, signed, ge, rises, month_of-range n, month_of-range d))
+
+pub first_year : (n d : ℤ) → IsYear (year_of n) → (IsYear (year_of n -ℤ pos 1) → ⊥) → IsYear (year_of d) → d ≤ℤ n → year_of d ≡ year_of n
+first_year n d year past other high =
+    let rises = month_index_of-rises d n high in
+    by_lt_z (year_of d) (year_of n)
+    (λ lt. absurd (past (omega (arith, signed, lt, other), omega (arith, signed, year))))
+    (λ ge. omega (arith, signed, ge, rises, month_of-range n, month_of-range d))
+
+-- ---- loops over months
+
+pub later_passed : (s : Sets) (start n d : ℤ) → ((d : ℤ) → start ≤ℤ d → d <ℤ n → is_day s d ≡ false) → (n ≤ℤ d → InSameMonth d n ⊎ (is_day s d ≡ false)) → (n ≤ℤ d → InSameMonth d n → is_day s d ≡ false) → start ≤ℤ d → is_day s d ≡ false
+later_passed s start n d before passed month low =
+    by_lt_z d n (λ lt. before d low lt) (λ ge. elim (passed ge) [ inl same ↦ month ge same | inr none ↦ none ])
+
+pub earlier_passed : (s : Sets) (start n d : ℤ) → ((d : ℤ) → n <ℤ d → d ≤ℤ start → is_day s d ≡ false) → (d ≤ℤ n → InSameMonth d n ⊎ (is_day s d ≡ false)) → (d ≤ℤ n → InSameMonth d n → is_day s d ≡ false) → d ≤ℤ start → is_day s d ≡ false
+earlier_passed s start n d after passed month high =
+    by_lt_z n d (λ lt. after d lt high) (λ ge. elim (passed ge) [ inl same ↦ month ge same | inr none ↦ none ])

@@ -1,0 +1,112 @@
+//! `NumberSet`: a set of small numbers, as one field of a schedule lists them.
+ghost use Rattle.std.specs.Prelude.{◌≡◌, ◌<◌, ◌≤◌, ◌+◌, ◌%◌, ◌==◌, ◌&&◌, ◌||◌, ℕ, false, IsTrue, IfSome, IfNone};
+ghost use Rattle.std.specs.Int.{bit_at};
+ghost use Rattle.chrono_cron.specs.Due.{has};
+
+// The digits of a set of weekdays.
+const WEEK: u64 = 0b111_1111;
+
+// Seven weeks in a row: what is multiplied by it stands there seven times, seven digits apart.
+const SEVEN_WEEKS: u64 = 0x0408_1020_4081;
+
+/// A set of numbers from 0 to 63, stored as binary digits.
+#[derive(Clone, Copy, PartialEq, Eq, Debug)]
+pub struct NumberSet {
+    // The digit for 2^k says whether k is a member.
+    digits: u64,
+}
+
+impl NumberSet {
+    /// The set with no member.
+    pub const EMPTY: NumberSet = NumberSet { digits: 0 };
+
+    /// The set of the numbers whose digits are 1: k is a member if that for 2^k is.
+    ///
+    /// So 5, which is 101 in binary, is the set of 0 and 2.
+    #[inline]
+    #[tactic(auto, unfolding(crate::specs::Due::has))]
+    pub fn from_digits(digits: u64) -> NumberSet
+        ensures { (k : ℕ) → has result k ≡ (bit_at digits k == 1) }
+    {
+        NumberSet { digits }
+    }
+
+    /// Whether the number is a member.
+    #[inline]
+    #[tactic(auto, using(std::proofs::lemmas::Nat::Bits::shr_and_one), unfolding(crate::specs::Due::has))]
+    pub fn contains(self, number: u32) -> bool
+        requires { number < 64 }
+        ensures { result ≡ has self number }
+    {
+        (self.digits >> number) & 1 == 1
+    }
+
+    /// The least member from `from` on that is below `end`.
+    #[inline]
+    pub fn first_in(self, from: u32, end: u32) -> Option<u32>
+        requires { from < 64 }
+        ensures member { IfSome result (λ k. IsTrue (has self k)) }
+        ensures not_before { IfSome result (λ k. from ≤ k) }
+        ensures before { IfSome result (λ k. k < end) }
+        ensures least { IfSome result (λ k. (j : ℕ) → from ≤ j → j < k → has self j ≡ false) }
+        ensures none { IfNone result ((j : ℕ) → from ≤ j → j < end → has self j ≡ false) }
+    {
+        let rest = self.digits >> from;
+        if rest == 0 {
+            return None;
+        }
+        let first = from + rest.trailing_zeros();
+        if first < end { Some(first) } else { None }
+    }
+
+    /// The greatest member below `end` that is not below `from`.
+    #[inline]
+    pub fn last_in(self, from: u32, end: u32) -> Option<u32>
+        requires { end < 64 }
+        ensures member { IfSome result (λ k. IsTrue (has self k)) }
+        ensures not_before { IfSome result (λ k. from ≤ k) }
+        ensures before { IfSome result (λ k. k < end) }
+        ensures greatest { IfSome result (λ k. (j : ℕ) → k < j → j < end → has self j ≡ false) }
+        ensures none { IfNone result ((j : ℕ) → from ≤ j → j < end → has self j ≡ false) }
+    {
+        let rest = self.digits & ((1 << end) - 1);
+        if rest == 0 {
+            return None;
+        }
+        let last = 63 - rest.leading_zeros();
+        if from <= last { Some(last) } else { None }
+    }
+
+    // The set of the numbers that lie so many places before one that is, counted in weeks, a member: of the days of a month those
+    // with the weekdays of this set, where `before` is the weekday of the day before its first.
+    #[inline]
+    pub(crate) fn every_week(self, before: u32) -> NumberSet
+        requires { before < 7 }
+        ensures { (k : ℕ) → k < 40 → has result k ≡ has self ((k + before) % 7) }
+    {
+        let weeks = (self.digits & WEEK) * SEVEN_WEEKS;
+        NumberSet {
+            digits: weeks >> before,
+        }
+    }
+
+    // The members of both sets.
+    #[inline]
+    pub(crate) fn intersection(self, other: NumberSet) -> NumberSet
+        ensures { (k : ℕ) → has result k ≡ (has self k && has other k) }
+    {
+        NumberSet {
+            digits: self.digits & other.digits,
+        }
+    }
+
+    // The members of either set.
+    #[inline]
+    pub(crate) fn union(self, other: NumberSet) -> NumberSet
+        ensures { (k : ℕ) → has result k ≡ (has self k || has other k) }
+    {
+        NumberSet {
+            digits: self.digits | other.digits,
+        }
+    }
+}

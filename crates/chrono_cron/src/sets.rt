@@ -1,0 +1,332 @@
+//! `Sets`: what the five fields of a schedule list, and the days and minutes that they make.
+ghost use Rattle.std.specs.Prelude.{◌≡◌, ◌+◌, ◌/◌, ◌≤◌, ◌<◌, ◌⊎◌, ◌↔◌, ℕ, ℤ, ◌≤ℤ◌, ◌<ℤ◌, IfSome, IfNone, IsTrue, false};
+ghost use Rattle.chrono_datetime.specs.Days.{IsDate, day_of, month_of};
+ghost use Rattle.chrono_datetime.specs.MonthMoves.{InSameMonth};
+ghost use Rattle.chrono_cron.specs.Due.{IsNeverDue, NotDueOn, has, is_day, is_listed, is_minute};
+
+use crate::number_set::NumberSet;
+use chrono_datetime::law::{dates_are_days_of_years, first_date, last_date};
+use chrono_datetime::{Datelike, NaiveDate};
+
+// The days of 400 years, after which the calendar comes again.
+const CYCLE: i64 = 146_097;
+
+// The hours of a day.
+const HOURS: u32 = 24;
+
+// The minutes of an hour.
+const MINUTES: u32 = 60;
+
+/// What the five fields of a schedule list. A number that a field cannot have counts for nothing.
+#[derive(Clone, Copy, PartialEq, Eq, Debug)]
+pub struct Sets {
+    /// The minutes past the hour, 0 to 59.
+    pub minutes: NumberSet,
+    /// The hours, 0 to 23.
+    pub hours: NumberSet,
+    /// The days of the month, 1 to 31.
+    pub days: NumberSet,
+    /// The months, 1 to 12.
+    pub months: NumberSet,
+    /// The weekdays, from 0 for Sunday to 6.
+    pub weekdays: NumberSet,
+    /// Whether a day will do that has its day of the month or its weekday listed; else it has to have both.
+    pub either: bool,
+}
+
+impl Sets {
+    /// Whether the date is one of the schedule's.
+    #[inline]
+    #[tactic(auto, unfolding(crate::specs::Due::is_day, crate::specs::Due::is_listed))]
+    pub fn is_day(&self, date: NaiveDate) -> bool
+        ensures { result ≡ is_day self.now date }
+    {
+        let (_, month, day) = date.year_month_day();
+        let by_day = self.days.contains(day);
+        let by_weekday = self
+            .weekdays
+            .contains(date.weekday().num_days_from_sunday());
+        let is_listed = if self.either {
+            by_day || by_weekday
+        } else {
+            by_day && by_weekday
+        };
+        self.months.contains(month) && is_listed
+    }
+
+    /// Whether the minute of a day, counted from midnight, is one of the schedule's.
+    #[inline]
+    #[tactic(auto, unfolding(crate::specs::Due::is_minute))]
+    pub fn is_minute(&self, minute: u32) -> bool
+        requires { minute < 1440 }
+        ensures { result ≡ is_minute self.now minute }
+    {
+        self.hours.contains(minute / MINUTES) && self.minutes.contains(minute % MINUTES)
+    }
+
+    // The days of the date's month that are listed.
+    #[inline]
+    fn listed_in_month(&self, date: NaiveDate) -> NumberSet
+        ensures { (d : ℤ) → InSameMonth d date → has result (day_of d) ≡ is_listed self.now d }
+    {
+        let before = (date.weekday().num_days_from_sunday() + 35 - date.day()) % 7;
+        let by_weekday = self.weekdays.every_week(before);
+        if self.either {
+            self.days.union(by_weekday)
+        } else {
+            self.days.intersection(by_weekday)
+        }
+    }
+
+    // The first date from this one to the end of its month that is one of the schedule's.
+    #[inline]
+    fn first_in_month(&self, date: NaiveDate) -> Option<NaiveDate>
+        ensures in_range { IfSome result (λ e. IsDate e) }
+        ensures member { IfSome result (λ e. IsTrue (is_day self.now e)) }
+        ensures not_before { IfSome result (λ e. date ≤ℤ e) }
+        ensures least { IfSome result (λ e. (d : ℤ) → date ≤ℤ d → d <ℤ e → is_day self.now d ≡ false) }
+        ensures none { IfNone result ((d : ℤ) → date ≤ℤ d → InSameMonth d date → is_day self.now d ≡ false) }
+    {
+        dates_are_days_of_years();
+        let (year, month, day) = date.year_month_day();
+        if !self.months.contains(month) {
+            return None;
+        }
+        let first = self.listed_in_month(date).first_in(day, 32)?;
+        NaiveDate::from_ymd_opt(year, month, first)
+    }
+
+    // The first day of the next month that is one of the schedule's.
+    #[inline]
+    fn next_month(&self, date: NaiveDate) -> Option<NaiveDate>
+        ensures in_range { IfSome result (λ e. IsDate e) }
+        ensures later { IfSome result (λ e. date <ℤ e) }
+        ensures passed { IfSome result (λ e. (d : ℤ) → date ≤ℤ d → d <ℤ e →
+            InSameMonth d date ⊎ (is_day self.now d ≡ false)) }
+        ensures none { IfNone result ((d : ℤ) → date ≤ℤ d → IsDate d →
+            InSameMonth d date ⊎ (is_day self.now d ≡ false)) }
+    {
+        dates_are_days_of_years();
+        let (year, month, _) = date.year_month_day();
+        if let Some(later) = self.months.first_in(month + 1, 13) {
+            return NaiveDate::from_ymd_opt(year, later, 1);
+        }
+        let first = self.months.first_in(1, 13)?;
+        NaiveDate::from_ymd_opt(year + 1, first, 1)
+    }
+
+    // The first date of the schedule from `date` on, if one lies there up to `last`. If none does, the answer may be `None`, or a
+    // date after `last`.
+    fn first_day_up_to(&self, date: NaiveDate, last: NaiveDate) -> Option<NaiveDate>
+        ensures in_range { IfSome result (λ e. IsDate e) }
+        ensures member { IfSome result (λ e. IsTrue (is_day self.now e)) }
+        ensures not_before { IfSome result (λ e. date ≤ℤ e) }
+        ensures least { IfSome result (λ e. (d : ℤ) → date ≤ℤ d → d <ℤ e → is_day self.now d ≡ false) }
+        ensures none { IfNone result ((d : ℤ) → date ≤ℤ d → IsDate d → d ≤ℤ last → is_day self.now d ≡ false) }
+    {
+        let mut month = date;
+        while month <= last {
+            if let Some(first) = self.first_in_month(month) {
+                return Some(first);
+            }
+            month = self.next_month(month)?;
+        }
+        None
+    }
+
+    /// The first date of the schedule from `date` on; `None` exactly if none lies there.
+    ///
+    /// Days of the month and weekdays come again after 400 years, so that no search goes farther.
+    pub fn first_day(&self, date: NaiveDate) -> Option<NaiveDate>
+        ensures in_range { IfSome result (λ e. IsDate e) }
+        ensures member { IfSome result (λ e. IsTrue (is_day self.now e)) }
+        ensures not_before { IfSome result (λ e. date ≤ℤ e) }
+        ensures least { IfSome result (λ e. (d : ℤ) → date ≤ℤ d → d <ℤ e → is_day self.now d ≡ false) }
+        ensures none { IfNone result ((d : ℤ) → date ≤ℤ d → IsDate d → is_day self.now d ≡ false) }
+    {
+        if let Some(last) = date.moved_by_days(CYCLE) {
+            return self.first_day_up_to(date, last);
+        }
+        let (last, _) = last_date();
+        self.first_day_up_to(date, last)
+    }
+
+    /// Whether the schedule is due at no moment at all, as on 30 February.
+    pub fn is_never_due(&self) -> bool
+        ensures { IsTrue result ↔ IsNeverDue self.now }
+    {
+        let (first, _) = first_date();
+        let Some(_) = self.first_minute(0) else {
+            return true;
+        };
+        let Some(_) = self.first_day(first) else {
+            return true;
+        };
+        false
+    }
+
+    // The last date from the beginning of its month to this one that is one of the schedule's.
+    #[inline]
+    fn last_in_month(&self, date: NaiveDate) -> Option<NaiveDate>
+        ensures member { IfSome result (λ e. IsTrue (is_day self.now e)) }
+        ensures not_after { IfSome result (λ e. e ≤ℤ date) }
+        ensures greatest { IfSome result (λ e. (d : ℤ) → e <ℤ d → d ≤ℤ date → is_day self.now d ≡ false) }
+        ensures none { IfNone result ((d : ℤ) → d ≤ℤ date → InSameMonth d date → is_day self.now d ≡ false) }
+    {
+        let (year, month, day) = date.year_month_day();
+        if !self.months.contains(month) {
+            return None;
+        }
+        let last = self.listed_in_month(date).last_in(1, day + 1)?;
+        NaiveDate::from_ymd_opt(year, month, last)
+    }
+
+    // The last day of the month before that is one of the schedule's.
+    #[inline]
+    fn previous_month(&self, date: NaiveDate) -> Option<NaiveDate>
+        ensures in_range { IfSome result (λ e. IsDate e) }
+        ensures earlier { IfSome result (λ e. e <ℤ date) }
+        ensures passed { IfSome result (λ e. (d : ℤ) → e <ℤ d → d ≤ℤ date →
+            InSameMonth d date ⊎ (is_day self.now d ≡ false)) }
+        ensures none { IfNone result ((d : ℤ) → d ≤ℤ date → IsDate d →
+            InSameMonth d date ⊎ (is_day self.now d ≡ false)) }
+    {
+        dates_are_days_of_years();
+        let (year, month, _) = date.year_month_day();
+        if let Some(earlier) = self.months.last_in(1, month) {
+            let first = NaiveDate::from_ymd_opt(year, earlier, 1)?;
+            return Some(first.last_day_of_month());
+        }
+        let last = self.months.last_in(1, 13)?;
+        let first = NaiveDate::from_ymd_opt(year - 1, last, 1)?;
+        Some(first.last_day_of_month())
+    }
+
+    /// The last date of the schedule up to `date`; `None` exactly if none lies there.
+    pub fn last_day(&self, date: NaiveDate) -> Option<NaiveDate>
+        ensures member { IfSome result (λ e. IsTrue (is_day self.now e)) }
+        ensures not_after { IfSome result (λ e. e ≤ℤ date) }
+        ensures greatest { IfSome result (λ e. (d : ℤ) → e <ℤ d → d ≤ℤ date → is_day self.now d ≡ false) }
+        ensures none { IfNone result ((d : ℤ) → d ≤ℤ date → IsDate d → is_day self.now d ≡ false) }
+    {
+        let mut month = date;
+        loop {
+            if let Some(last) = self.last_in_month(month) {
+                return Some(last);
+            }
+            month = self.previous_month(month)?;
+        }
+    }
+
+    // The first minute of a day, from that one to the end of its hour, that is one of the schedule's.
+    #[inline]
+    fn first_in_hour(&self, from: u32) -> Option<u32>
+        requires { from ≤ 1440 }
+        ensures member { IfSome result (λ k. IsTrue (is_minute self.now k)) }
+        ensures within { IfSome result (λ k. k < 1440) }
+        ensures not_before { IfSome result (λ k. from ≤ k) }
+        ensures least { IfSome result (λ k. (j : ℕ) → from ≤ j → j < k → is_minute self.now j ≡ false) }
+        ensures none { IfNone result ((j : ℕ) → from ≤ j → j < 1440 → j / 60 ≡ from / 60 →
+            is_minute self.now j ≡ false) }
+    {
+        let hour = from / MINUTES;
+        if hour >= HOURS {
+            return None;
+        }
+        if !self.hours.contains(hour) {
+            return None;
+        }
+        let minute = self.minutes.first_in(from % MINUTES, MINUTES)?;
+        Some(hour * MINUTES + minute)
+    }
+
+    /// The first minute of a day, from that one on, that is one of the schedule's; `None` exactly if none is.
+    #[inline]
+    pub fn first_minute(&self, from: u32) -> Option<u32>
+        requires { from ≤ 1440 }
+        ensures member { IfSome result (λ k. IsTrue (is_minute self.now k)) }
+        ensures within { IfSome result (λ k. k < 1440) }
+        ensures not_before { IfSome result (λ k. from ≤ k) }
+        ensures least { IfSome result (λ k. (j : ℕ) → from ≤ j → j < k → is_minute self.now j ≡ false) }
+        ensures none { IfNone result ((j : ℕ) → from ≤ j → j < 1440 → is_minute self.now j ≡ false) }
+    {
+        if let Some(first) = self.first_in_hour(from) {
+            return Some(first);
+        }
+        let minute = self.minutes.first_in(0, MINUTES)?;
+        let hour = self.hours.first_in(from / MINUTES + 1, HOURS)?;
+        Some(hour * MINUTES + minute)
+    }
+
+    // The last minute of a day, before that one and in its hour, that is one of the schedule's.
+    #[inline]
+    fn last_in_hour(&self, end: u32) -> Option<u32>
+        requires { end ≤ 1440 }
+        ensures member { IfSome result (λ k. IsTrue (is_minute self.now k)) }
+        ensures before { IfSome result (λ k. k < end) }
+        ensures greatest { IfSome result (λ k. (j : ℕ) → k < j → j < end → is_minute self.now j ≡ false) }
+        ensures none { IfNone result ((j : ℕ) → j < end → j / 60 ≡ end / 60 → is_minute self.now j ≡ false) }
+    {
+        let hour = end / MINUTES;
+        if hour >= HOURS {
+            return None;
+        }
+        if !self.hours.contains(hour) {
+            return None;
+        }
+        let minute = self.minutes.last_in(0, end % MINUTES)?;
+        Some(hour * MINUTES + minute)
+    }
+
+    /// The last minute of a day, before that one, that is one of the schedule's; `None` exactly if none is.
+    #[inline]
+    pub fn last_minute(&self, end: u32) -> Option<u32>
+        requires { end ≤ 1440 }
+        ensures member { IfSome result (λ k. IsTrue (is_minute self.now k)) }
+        ensures before { IfSome result (λ k. k < end) }
+        ensures greatest { IfSome result (λ k. (j : ℕ) → k < j → j < end → is_minute self.now j ≡ false) }
+        ensures none { IfNone result ((j : ℕ) → j < end → is_minute self.now j ≡ false) }
+    {
+        if let Some(last) = self.last_in_hour(end) {
+            return Some(last);
+        }
+        let minute = self.minutes.last_in(0, MINUTES)?;
+        let hour = self.hours.last_in(0, end / MINUTES)?;
+        Some(hour * MINUTES + minute)
+    }
+
+    // The first minute of the date, from that one on, at which the schedule is due.
+    #[inline]
+    pub(crate) fn first_on(&self, date: NaiveDate, from: u32) -> Option<u32>
+        requires { from ≤ 1440 }
+        ensures day { IfSome result (λ _. IsTrue (is_day self.now date)) }
+        ensures minute { IfSome result (λ k. IsTrue (is_minute self.now k)) }
+        ensures within { IfSome result (λ k. k < 1440) }
+        ensures not_before { IfSome result (λ k. from ≤ k) }
+        ensures least { IfSome result (λ k. NotDueOn self.now date from k) }
+        ensures none { IfNone result (NotDueOn self.now date from 1440) }
+    {
+        if self.is_day(date) {
+            self.first_minute(from)
+        } else {
+            None
+        }
+    }
+
+    // The last minute of the date, before that one, at which the schedule is due.
+    #[inline]
+    pub(crate) fn last_on(&self, date: NaiveDate, end: u32) -> Option<u32>
+        requires { end ≤ 1440 }
+        ensures day { IfSome result (λ _. IsTrue (is_day self.now date)) }
+        ensures minute { IfSome result (λ k. IsTrue (is_minute self.now k)) }
+        ensures before { IfSome result (λ k. k < end) }
+        ensures greatest { IfSome result (λ k. NotDueOn self.now date (k + 1) end) }
+        ensures none { IfNone result (NotDueOn self.now date 0 end) }
+    {
+        if self.is_day(date) {
+            self.last_minute(end)
+        } else {
+            None
+        }
+    }
+}

@@ -1,0 +1,100 @@
+//! `cron_rows` makes the call of each line of standard input, and compares what it answers with the number behind it.
+//!
+//! A line is `call minutes hours days months weekdays either day second fraction = number`. The five sets are numbers whose binary
+//! digits are their members, `either` is 1 where a day of the month or a weekday is enough, and the start is a day number, a second
+//! of the day and the nanoseconds past it. The calls are `next` and `prev`, answered by the number of minutes from day 0 to the moment,
+//! `due`, by 1 or 0, and `year`, by the sum of those numbers of minutes over the next moments after each minute of 365 days,
+//! in 64 binary digits. `none` is no moment. Each line that is answered otherwise is printed with its number, and at the end their count.
+#![tactic(auto)]
+
+use chrono_cron::{NumberSet, Schedule, Sets};
+use chrono_datetime::{Datelike, NaiveDate, NaiveDateTime, NaiveTime, Timelike};
+use std::io::{self, BufRead, BufReader};
+
+// The seconds of a minute, the minutes of a day, and the days of a year.
+const SECONDS: u32 = 60;
+
+const MINUTES: u32 = 1_440;
+
+const DAYS: u32 = 365;
+
+fn main(rt: HostRuntime) -> io::Result<()> {
+    let (mut lines, mut others) = (0u64, 0u64);
+    for line in BufReader::new(rt.alloc(), rt.reader())?.lines(rt.alloc()) {
+        let line = line?;
+        lines = lines.wrapping_add(1);
+        if !is_answered(line.as_str()) {
+            others = others.wrapping_add(1);
+            println!(rt; "line {lines} is answered otherwise: {line}")?;
+        }
+    }
+    println!(rt; "{lines} lines, {others} of them answered otherwise")?;
+    Ok(())
+}
+
+// Whether the call of the line is answered by the number behind it.
+fn is_answered(line: &str) -> bool {
+    let Some((row, expected)) = line.split_once(" = ") else {
+        return false;
+    };
+    let Some((call, arguments)) = row.split_once(' ') else {
+        return false;
+    };
+    let Some((schedule, start)) = arguments_of(arguments) else {
+        return false;
+    };
+    let answer = match call {
+        "next" => schedule.next_after(start).map(|moment| minutes_to(moment)),
+        "prev" => schedule.prev_before(start).map(|moment| minutes_to(moment)),
+        "due" => Some(i64::from(schedule.is_due(start))),
+        "year" => Some(sum_of_year(&schedule, start.date())),
+        _ => return false,
+    };
+    match answer {
+        Some(number) => expected.parse() == Ok(number),
+        None => expected == "none",
+    }
+}
+
+// The schedule and the start that stand in a row.
+fn arguments_of(text: &str) -> Option<(Schedule, NaiveDateTime)> {
+    let mut words = text.split_ascii_whitespace();
+    let sets = Sets {
+        minutes: NumberSet::from_digits(words.next()?.parse().ok()?),
+        hours: NumberSet::from_digits(words.next()?.parse().ok()?),
+        days: NumberSet::from_digits(words.next()?.parse().ok()?),
+        months: NumberSet::from_digits(words.next()?.parse().ok()?),
+        weekdays: NumberSet::from_digits(words.next()?.parse().ok()?),
+        either: words.next()? == "1",
+    };
+    let date = NaiveDate::from_num_days_from_ce_opt(words.next()?.parse().ok()?)?;
+    let second = words.next()?.parse().ok()?;
+    let fraction = words.next()?.parse().ok()?;
+    let time = NaiveTime::from_num_seconds_from_midnight_opt(second, fraction)?;
+    Some((Schedule { sets }, NaiveDateTime::new(date, time)))
+}
+
+// The minutes from the beginning of day 0 to a moment, rounded down.
+fn minutes_to(moment: NaiveDateTime) -> i64 {
+    let minute = moment.time().num_seconds_from_midnight() / SECONDS;
+    i64::from(moment.date().num_days_from_ce()) * i64::from(MINUTES) + i64::from(minute)
+}
+
+// The sum of the minutes to the next moment, of each minute of so many days from a date on.
+fn sum_of_year(schedule: &Schedule, first: NaiveDate) -> i64 {
+    let mut sum: i64 = 0;
+    let mut date = first;
+    for _ in 0..DAYS {
+        for minute in 0..MINUTES {
+            if let Some(time) = NaiveTime::from_num_seconds_from_midnight_opt(minute * SECONDS, 0) {
+                if let Some(next) = schedule.next_after(NaiveDateTime::new(date, time)) {
+                    sum = sum.wrapping_add(minutes_to(next));
+                }
+            }
+        }
+        if let Some(next) = date.succ_opt() {
+            date = next;
+        }
+    }
+    sum
+}
