@@ -69,7 +69,7 @@ NO_FILES = {
 }
 # The crates of which docs/CALLS.md lists what is public, each under a heading that names it.
 LISTED = """chrono_text chrono_units chrono_clock chrono_calendar chrono_internals chrono_stored chrono_naive chrono_datetime
-    caltool_command caltool_form caltool_dates chrono_reading chrono_business chrono_columns calendar_c""".split()
+    caltool_command caltool_form caltool_dates chrono_reading chrono_cron chrono_business chrono_columns calendar_c""".split()
 # Traits whose calls docs/CALLS.md says together.
 SAID_TOGETHER = ("DayForm", "CommandAnswers")
 # Crates of tests, and modules, whose parts docs/ARCHITECTURE.md does not name: those of a date-time are like those of a date.
