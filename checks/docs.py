@@ -39,11 +39,11 @@ COMMENTS = {".rt": r"//[^\n]*", ".rs": r"//[^\n]*", ".antt": r"--[^\n]*", ".c": 
 ABSENT = {
     "of Rust and its std": """Box Clone Copy Default Display DoubleEndedIterator Drop Eq FromIterator FromPrimitive FromStr Hash
         IntoIterator Ok Result Some String Sum TryFrom Vec collect fmt::Write for format if mod requires self str unsafe unwrap""",
-    "of the kit: its words, its tactics and its std": """SomeIff agree_below agree_below_at grind ints num_traits omega refl subst
+    "of the kit: its words, its tactics and its std": """SomeIff agree_below agree_below_at grind ints map num_traits omega refl subst
         unfoldable view_is write_str_gives ensures edited rtlib""",
     "of Python": "OverflowError PYTHONPATH True TypeError ValueError datetime operator",
     "of JavaScript": "PlainTime RangeError Temporal overflow round toLocaleString",
-    "of C": "int32_t memcpy",
+    "of C": "INT64_MIN memcpy",
     "of Rust's compiler and of the kit's options": "cpu target_feature",
     "read from the environment": "CALENDAR_FOLDER CALENDAR_LIBRARY",
     "of chrono, and left out here": """parse_from_str parse_and_remainder ParseMonthError ParseWeekdayError format_with_items
@@ -55,14 +55,14 @@ ABSENT = {
     "what the kit prints of itself": "rattle-kit dac8208d650f15bf",
     "words of the shell and of a line": "cd echo move",
     "of numpy": "busday_offset",
-    "digits of a number": "_294_967_297 _611_686_018_427_387",
+    "digits of a number": "_294_967_297",
     "texts and digits of a text": "P0D PT PT59M59 YYYY-MM-DD YYYY-DDD YYYY-Www-D hh mm ss",
     "an argument of a call": "stop",
     "in the place of a name, or a part of names": "LAW ARGS condition with_ _opt",
 }
 # Files and folders that are rightly not there, by the reason.
 NO_FILES = {
-    "left by a build": "out out/libcalendar_c.a out/incremental languages/python/proved_calendar/libcalendar.so",
+    "left by a build": "dist crates/caltool/out/caltool out out/libcalendar_c.a out/incremental languages/python/proved_calendar/libcalendar.so",
     "of the kit": "docs/WALKS.md",
     "of the reader": "main.c",
     "in the place of a name": "plants/MODULE.edits specs.MODULE.edits proofs/MODULE/FUNCTION/Answers.antt",
