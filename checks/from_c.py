@@ -1,5 +1,5 @@
 """The package for C as its users install it: copied to a prefix, found by pkg-config and by CMake, linked both ways, from C and C++,
-and run under valgrind and with sanitizers where there are any. The fault of a call that is too short would be seen there too."""
+and run under valgrind and with sanitizers where there are any."""
 import os
 import re
 import shutil
