@@ -1,5 +1,5 @@
 -- What stands in a column for a date, and for a number that is none.
-use Rattle.std.proofs.Common.{◌≡◌, ◌∙◌, ℕ, ℤ, pos, neg_ℤ, Bool, true, false, ◌&&◌, Option, Some, None, ap, sym, refl, ◌+ℤ◌, ◌-ℤ◌}
+use Rattle.std.proofs.Common.{◌≡◌, ◌∙◌, ℤ, pos, neg_ℤ, Bool, true, false, ◌&&◌, Option, Some, None, ap, sym, refl, ◌+ℤ◌, ◌-ℤ◌}
 use Rattle.std.proofs.lemmas.Bool.{false≢true}
 use Rattle.std.specs.Option.{option_and_then, option_map}
 use Rattle.chrono_units.specs.Weekday.{number_from_monday}

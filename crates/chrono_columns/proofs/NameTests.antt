@@ -1,5 +1,5 @@
 -- Which names of days the calendar has, told of the nearest year and month, and what stands in a column for a name.
-use Rattle.std.proofs.Common.{◌≡◌, ◌∙◌, ℕ, ℤ, pos, neg_ℤ, nat_le, ◌&&◌, Bool, true, false, cond, Some, None, ap, sym, refl, arith}
+use Rattle.std.proofs.Common.{◌≡◌, ◌∙◌, ℕ, ℤ, pos, neg_ℤ, nat_le, ◌&&◌, Bool, true, false, cond, Some, None, ap, refl, arith}
 use Rattle.std.proofs.lemmas.Bool.Decides.{nat_tests}
 use Rattle.std.specs.Int.{IsInRange}
 use Rattle.chrono_units.specs.Years.{IsYear, is_year, month_length}

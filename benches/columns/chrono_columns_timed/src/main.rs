@@ -1,7 +1,17 @@
 //! The columns of the calendar by chrono, one date after another: N ROUNDS, a line `CALL chrono NANOSECONDS` for each.
 
 use chrono::{Datelike, Days, Months, NaiveDate};
-use std::time::Instant;
+
+extern "C" {
+    /// The processor time of this program in millionths of a second, of C's library.
+    fn clock() -> i64;
+}
+
+/// The processor time of this program in nanoseconds.
+fn now() -> f64 {
+    // SAFETY: it takes nothing, and only reads a clock.
+    (unsafe { clock() }) as f64 * 1e3
+}
 
 /// Columns of the same length.
 struct Columns {
@@ -110,11 +120,11 @@ fn main() {
         }
         let mut best = f64::MAX;
         for _ in 0..rounds {
-            let began = Instant::now();
+            let began = now();
             for _ in 0..repeats {
                 call(std::hint::black_box(&mut columns));
             }
-            best = best.min(began.elapsed().as_secs_f64() / repeats as f64 / n as f64 * 1e9);
+            best = best.min((now() - began) / repeats as f64 / n as f64);
         }
         println!("{name} chrono {best:.3}");
     }

@@ -1,6 +1,5 @@
 use Rattle.std.proofs.Common.{◌≡◌, ◌+◌, ◌-◌, ◌*◌, ◌/◌, arith, rules, sym, ◌∙◌, pos, ◌+ℤ◌, w32}
 use Rattle.std.proofs.lemmas.Int.{to_z-of_z}
-use Rattle.chrono_calendar.specs.Days.{IsOrdinalName, day_number_of_yo}
 use Rattle.chrono_calendar.specs.Weeks.{thursday_of_week, iso_year_of, iso_week_of}
 use Rattle.chrono_calendar.proofs.Signed.{casts}
 use Rattle.chrono_calendar.proofs.IsoWeeks.{thursday_of_week-monday, days_from_monday-of, iso_name-thursday}

@@ -1,4 +1,4 @@
-use Rattle.std.proofs.Common.{◌≡◌, ◌∙◌, arith, refl, rules, of_z, to_z, w32, ℤ, pos, ◌+ℤ◌}
+use Rattle.std.proofs.Common.{◌≡◌, arith, refl, rules, of_z, to_z, w32, pos, ◌+ℤ◌}
 use Rattle.std.proofs.lemmas.Int.{to_z-of_z}
 use Rattle.chrono_calendar.proofs.Signed.{casts}
 use Rattle.chrono_calendar.proofs.Years.{days_before_year-next}

@@ -1,4 +1,4 @@
-use Rattle.std.proofs.Common.{◌≡◌, ◌∙◌, ℤ, pos, ◌+ℤ◌, arith, ap, rules, sym, of_z, to_z, w32}
+use Rattle.std.proofs.Common.{◌∙◌, ◌+ℤ◌, arith, ap, sym, of_z, to_z, w32}
 use Rattle.std.proofs.lemmas.Bool.{and_parts}
 use Rattle.std.proofs.lemmas.Int.{to_z-of_z}
 use Rattle.chrono_calendar.specs.Days.{IsDate, is_date}

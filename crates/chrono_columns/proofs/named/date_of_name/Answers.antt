@@ -1,7 +1,7 @@
 use Rattle.std.proofs.Common.{◌≡◌, ◌∙◌, ℕ, ap, rules, sym, of_z, to_z, w32}
 use Rattle.std.proofs.lemmas.Bool.{and_parts}
 use Rattle.std.proofs.lemmas.Int.{to_z-of_z}
-use Rattle.chrono_units.specs.Years.{IsYear, is_leap_year, is_year, month_length_in}
+use Rattle.chrono_units.specs.Years.{IsYear, is_year, month_length_in}
 use Rattle.chrono_calendar.specs.Days.{day_number_of_ymd}
 use Rattle.chrono_calendar.proofs.Dates.{is_year-fact}
 use Rattle.chrono_columns.proofs.NameTests.{a_month, name_test, name-there, name-none}
