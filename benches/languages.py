@@ -4,9 +4,10 @@
     benches/languages.py [COUNT]        (20 million from C and Rust if left out, and a hundredth of them from Python)
 
 Beside C's stand the calls `timegm`, `gmtime_r`, `strftime` and `strptime` of its library, beside Python's its `datetime`, and
-beside Rust's chrono. It needs crates/calendar_c/out/libcalendar_c.a, which `rt lib` leaves there, a C compiler, and
-librust-chrono-dev with cargo. C and Rust are linked with the library itself, without optimisation across the call; Python calls
-a shared object of it by ctypes, and most of what a call takes there is ctypes and the making of an object.
+beside Rust's chrono. It needs crates/calendar_c/out/libcalendar_c.a, which `rt lib` leaves there, a C compiler, what the wheel
+needs, and librust-chrono-dev with cargo. C and Rust are linked with the library itself, without optimisation across the call; for
+Python the wheel is made, and most of what a call takes there is Python's own. A second table has each call from Python beside
+datetime's, as benches/languages/python_calls.py times them.
 
 The programs of benches/languages make each call on the same pseudo-random arguments, from the 400 years from 1800 on, and print
 the sum of the answers, which has to be the same before any is timed. They take turns in 21 rounds over all calls, and the best
@@ -16,9 +17,14 @@ import os
 import subprocess
 import sys
 import tempfile
+import zipfile
 
 from calls import COMPARED, best_times, compare_sums
 from lines import TOP, build_over_chrono
+
+sys.path.insert(0, os.path.join(TOP, "tools"))
+import packages  # noqa: E402
+from packages import python  # noqa: E402
 
 LIBRARY = os.path.join(TOP, "crates", "calendar_c", "out", "libcalendar_c.a")
 SOURCES = os.path.join(TOP, "benches", "languages")
@@ -43,13 +49,14 @@ from Rust as day number and second of the day."""
 
 
 def build(folder):
-    """The programs of the languages; Python's finds the shared object by the environment."""
+    """The programs of the languages; Python's finds the package by the environment."""
     compiler = ["cc", "-std=c99", "-O2", f"-I{os.path.join(TOP, 'languages', 'c')}"]
     subprocess.run([*compiler, f"{SOURCES}/c_sums.c", LIBRARY, "-o", f"{folder}/c_sums"], check=True)
-    whole = ["-Wl,--whole-archive", LIBRARY, "-Wl,--no-whole-archive"]
-    subprocess.run(["cc", "-shared", "-o", f"{folder}/libcalendar.so", *whole], check=True)
-    os.environ["CALENDAR_LIBRARY"] = f"{folder}/libcalendar.so"
-    os.environ["PYTHONPATH"] = os.path.join(TOP, "languages", "python")
+    packages.build(LIBRARY, folder)
+    _, wheel = sorted(python.make(TOP, folder, f"{folder}/dist"))
+    with zipfile.ZipFile(wheel) as it:
+        it.extractall(f"{folder}/python")
+    os.environ["PYTHONPATH"] = f"{folder}/python"
     rust = build_over_chrono(folder, os.path.join("languages", "rust_sums"))
     return {"C": f"{folder}/c_sums", "Python": f"{SOURCES}/python_sums.py", "Rust": rust}
 
@@ -79,6 +86,9 @@ def main():
             runs, fewer = list(runs_of(language, program)), LANGUAGES[language][1]
             compare_sums(runs, COMPARED // fewer)
             tables[language] = best_times(runs, count // fewer)
+        words = [python.python(), f"{SOURCES}/python_calls.py"]
+        of_python = subprocess.run(words, check=True, stdout=subprocess.PIPE, text=True).stdout
+        version = subprocess.run([words[0], "--version"], check=True, stdout=subprocess.PIPE, text=True).stdout.strip()
     print("Nanoseconds a call, and how often the time of a language's own calendar goes into ours\n")
     heads = [f"{own} | from {language} | ratio" for language, (own, _) in LANGUAGES.items()]
     print(f"| Call | {' | '.join(heads)} |\n|---{'|---' * 9}|")
@@ -86,6 +96,7 @@ def main():
         row = [it for name, best in tables.items() for it in cells(best, call, count // LANGUAGES[name][1])]
         print(f"| `{call}` | {' | '.join(row)} |")
     print(NOTES)
+    print(f"\nFrom {version}, each call\n\n| Kind | Call | datetime | ours | ratio |\n|---|---|---|---|---|\n{of_python}", end="")
 
 
 if __name__ == "__main__":

@@ -2,6 +2,7 @@
 #include "package.h"
 
 PyTypeObject *date_type;
+static Blocks kept;
 
 static Signature of_name = {
     .call = "Date", .count = 3, .needed = 3, .places = 3, .names = {"year", "month", "day"},
@@ -25,7 +26,7 @@ static PyObject *reached(PyTypeObject *kind, int32_t number)
 /* An object for a date, with those of its fields that are known. */
 static PyObject *new_date(PyTypeObject *kind, int32_t number, int32_t year, uint8_t month, uint8_t day)
 {
-    Date *self = (Date *)new_object(kind, date_type);
+    Date *self = (Date *)new_object(kind, date_type, &kept);
     if (self) {
         self->number = number;
         self->year = year;
@@ -73,7 +74,7 @@ static PyObject *date_new(PyTypeObject *kind, PyObject *arguments, PyObject *key
 
 static void date_free(PyObject *self)
 {
-    free_object(self, date_type);
+    free_object(self, date_type, &kept);
 }
 
 static PyObject *from_number(PyObject *kind, PyObject *it)
@@ -389,9 +390,9 @@ static PyObject *iso_format(PyObject *self, PyObject *unused)
 static PyObject *from_iso_format(PyObject *kind, PyObject *text)
 {
     Py_ssize_t length;
-    const char *bytes = PyUnicode_Check(text) ? PyUnicode_AsUTF8AndSize(text, &length) : NULL;
+    const char *bytes = PyUnicode_AsUTF8AndSize(text, &length);
     if (!bytes) {
-        return PyErr_Occurred() ? NULL : refuse_type("a str", text);
+        return PyUnicode_Check(text) ? NULL : refuse_type("a str", text);
     }
     int32_t number = calendar_read_date((const uint8_t *)bytes, (size_t)length);
     if (number == CALENDAR_NONE) {

@@ -2,6 +2,7 @@
 #include "package.h"
 
 PyTypeObject *date_time_type;
+static Blocks kept;
 
 enum { SECOND = 1000000000, LAST_SECOND = 59 };
 
@@ -92,7 +93,7 @@ static int32_t second_of(PyObject *self)
 /* An object for a date-time, with the number of its date if that is known. */
 static PyObject *new_date_time(PyTypeObject *kind, calendar_date_time moment, int32_t number)
 {
-    DateTime *self = (DateTime *)new_object(kind, date_time_type);
+    DateTime *self = (DateTime *)new_object(kind, date_time_type, &kept);
     if (self) {
         self->moment = moment;
         self->number = number;
@@ -136,7 +137,7 @@ static PyObject *date_time_new(PyTypeObject *kind, PyObject *arguments, PyObject
 
 static void date_time_free(PyObject *self)
 {
-    free_object(self, date_time_type);
+    free_object(self, date_time_type, &kept);
 }
 
 static PyObject *from_seconds(PyObject *kind, PyObject *const *arguments, Py_ssize_t count, PyObject *keywords)
@@ -355,9 +356,9 @@ static size_t length_of_date(const char *bytes, size_t length)
 static PyObject *from_iso_format(PyObject *kind, PyObject *text)
 {
     Py_ssize_t length;
-    const char *bytes = PyUnicode_Check(text) ? PyUnicode_AsUTF8AndSize(text, &length) : NULL;
+    const char *bytes = PyUnicode_AsUTF8AndSize(text, &length);
     if (!bytes) {
-        return PyErr_Occurred() ? NULL : refuse_type("a str", text);
+        return PyUnicode_Check(text) ? NULL : refuse_type("a str", text);
     }
     calendar_date_time moment = calendar_read_date_time((const uint8_t *)bytes, (size_t)length);
     if (moment.nanos == CALENDAR_NO_NANOS) {

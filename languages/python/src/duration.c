@@ -2,6 +2,7 @@
 #include "package.h"
 
 PyTypeObject *duration_type;
+static Blocks kept;
 
 enum { SECOND = 1000000000, MICROSECOND = 1000, DAY = 86400 };
 
@@ -41,18 +42,22 @@ static bool is_length(calendar_duration length)
 /* The sum of two lengths; whether it is one. */
 static bool add_lengths(calendar_duration left, calendar_duration right, calendar_duration *sum)
 {
-    *sum = length_from(left.seconds + right.seconds, (int64_t)left.nanos + right.nanos);
+    uint32_t nanos = left.nanos + right.nanos;
+    bool is_carried = nanos >= SECOND;
+    sum->seconds = left.seconds + right.seconds + is_carried;
+    sum->nanos = is_carried ? nanos - SECOND : nanos;
     return is_length(*sum);
 }
 
 calendar_duration back(calendar_duration length)
 {
-    return length_from(-length.seconds, -(int64_t)length.nanos);
+    bool is_whole = length.nanos == 0;
+    return (calendar_duration){.seconds = -length.seconds - !is_whole, .nanos = is_whole ? 0 : SECOND - length.nanos};
 }
 
 PyObject *duration_of(PyTypeObject *kind, calendar_duration length)
 {
-    PyObject *self = new_object(kind, duration_type);
+    PyObject *self = new_object(kind, duration_type, &kept);
     if (self) {
         ((Duration *)self)->length = length;
     }
@@ -162,7 +167,7 @@ static PyObject *duration_new(PyTypeObject *kind, PyObject *arguments, PyObject 
 
 static void duration_free(PyObject *self)
 {
-    free_object(self, duration_type);
+    free_object(self, duration_type, &kept);
 }
 
 /* ---- whole nanoseconds */
@@ -223,8 +228,11 @@ static PyObject *to_timedelta(PyObject *self, PyObject *unused)
 static PyObject *sum_of(PyObject *left, PyObject *right, bool is_difference)
 {
     calendar_duration lengths[2], sum;
-    bool are_both[2];
-    if (!read_length(left, &lengths[0], &are_both[0]) || !read_length(right, &lengths[1], &are_both[1])) {
+    bool are_both[2] = {is_duration(left), is_duration(right)};
+    if (are_both[0] && are_both[1]) {
+        lengths[0] = length_of(left);
+        lengths[1] = length_of(right);
+    } else if (!read_length(left, &lengths[0], &are_both[0]) || !read_length(right, &lengths[1], &are_both[1])) {
         return NULL;
     }
     if (!are_both[0] || !are_both[1]) {

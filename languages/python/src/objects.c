@@ -1,26 +1,7 @@
-/* objects.c: how objects are made, freed, pickled and formatted, whatever their type. */
+/* objects.c: how types are added, and objects pickled and formatted, whatever their type. */
 #include "package.h"
 
 #include <string.h>
-
-PyObject *new_object(PyTypeObject *kind, PyTypeObject *base)
-{
-    if (kind == base) {
-        return (PyObject *)PyObject_New(PyObject, kind);
-    }
-    return FROM_SLOT(allocfunc, kind, Py_tp_alloc)(kind, 0);
-}
-
-void free_object(PyObject *self, PyTypeObject *base)
-{
-    PyTypeObject *kind = Py_TYPE(self);
-    if (kind == base) {
-        PyObject_Free(self);
-    } else {
-        FROM_SLOT(freefunc, kind, Py_tp_free)(self);
-    }
-    Py_DECREF(kind);
-}
 
 /* The names of a pattern, which are given with a space between, as a tuple. */
 static PyObject *names_of_pattern(const char *names)

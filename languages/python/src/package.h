@@ -79,11 +79,36 @@ static inline calendar_duration length_of(PyObject *duration)
 
 /* ---- objects (objects.c) */
 
-/* Room for an object of this type or of one that a user made from it; what lies behind its head is to be written. */
-PyObject *new_object(PyTypeObject *kind, PyTypeObject *base);
+enum { KEPT = 64 };
+
+/* Memory of objects of a type that are gone, for its next ones: to ask Python for memory takes a third of making an object. */
+typedef struct {
+    int count;
+    void *blocks[KEPT];
+} Blocks;
+
+/* An object of this type or of one that a user made from it; what lies behind its head is to be written. */
+static inline PyObject *new_object(PyTypeObject *kind, PyTypeObject *base, Blocks *kept)
+{
+    if (kind != base) {
+        return FROM_SLOT(allocfunc, kind, Py_tp_alloc)(kind, 0);
+    }
+    return kept->count ? PyObject_Init(kept->blocks[--kept->count], kind) : (PyObject *)PyObject_New(PyObject, kind);
+}
 
 /* Frees such an object. */
-void free_object(PyObject *self, PyTypeObject *base);
+static inline void free_object(PyObject *self, PyTypeObject *base, Blocks *kept)
+{
+    PyTypeObject *kind = Py_TYPE(self);
+    if (kind != base) {
+        FROM_SLOT(freefunc, kind, Py_tp_free)(self);
+    } else if (kept->count < KEPT) {
+        kept->blocks[kept->count++] = self;
+    } else {
+        PyObject_Free(self);
+    }
+    Py_DECREF(kind);
+}
 
 /* Adds a type to the module, with the names that a pattern takes in order, if it takes any; null if that fails. */
 PyTypeObject *add_type(PyObject *module, PyType_Spec *spec, const char *name, const char *match_args);
