@@ -19,8 +19,8 @@ from . import Missing, version
 CRATE = "calendar_c"
 # (`rt lib` of the static library takes away a module of the crate's own name)
 KEPT = f"crates/{CRATE}/out/calendar.wasm"
-# Modules of the crate that only C has a use for: columns of dates, and a date's names as a struct.
-C_ALONE = ("columns", "split")
+# What only C has a use for, columns of dates and a date's names as a struct: modules of the crate, and the library below them.
+C_ALONE, BELOW_C_ALONE = ("columns", "split"), "chrono_columns"
 SOURCES = ("numbers", "texts", "library", "duration", "plain_date", "plain_date_time", "index")
 PAGE = ("answers", "parts", "page")
 
@@ -54,6 +54,7 @@ def build_module(top, room):
 
     crates = listed_crates()
     line = next(it for it in crates if it.split()[0] == CRATE)
+    crates[line] = [it for it in crates[line] if it != BELOW_C_ALONE]
     *libraries, _ = below(line, crates)
     copy_crates(room, [*libraries, CRATE])
     leave_out(f"{room}/crates/{CRATE}")

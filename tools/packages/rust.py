@@ -1,4 +1,5 @@
 """The package for Rust: the crate with the static library inside, as a folder that a project names by its path, and as one file."""
+import gzip
 import io
 import os
 import shutil
@@ -25,7 +26,7 @@ def make_package(top, folder, library, package):
 
 def pack(package, path, name):
     """Packs a folder under a name, so that the same files give the same bytes."""
-    with tarfile.open(path, "w:gz", format=tarfile.PAX_FORMAT, compresslevel=9) as packed:
+    with gzip.GzipFile(path, "wb", 9, mtime=0) as zipped, tarfile.open(fileobj=zipped, mode="w", format=tarfile.PAX_FORMAT) as packed:
         files = sorted(os.path.relpath(f"{at}/{it}", package) for at, _, names in os.walk(package) for it in names)
         for it in files:
             with open(f"{package}/{it}", "rb") as file:
