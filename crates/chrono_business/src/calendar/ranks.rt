@@ -1,7 +1,7 @@
 //! The rank of a day, how many open days the dates before it have, and the open day of a rank.
 //!
-//! A rank is the workdays before the day, by whole weeks, less the holidays before it, by a search. The open day of a rank
-//! comes behind the holidays that have no larger one, and they say which workday it is.
+//! A rank is the workdays before the day, by whole weeks, less the holidays before it, by a search. The open day of a
+//! rank comes behind the holidays that have no larger one, and they say which workday it is.
 ghost use Rattle.std.specs.Prelude.{◌≡◌, ◌<◌, ◌≤◌, ◌≤ℤ◌, ◌<ℤ◌, ◌+ℤ◌, ℕ, ℤ, true, pos, length, slice_index_or, IfSome, IfNone};
 ghost use Rattle.std.specs.List.{AllWithin};
 ghost use Rattle.std.specs.List.Sorted.{IsPartitionPoint};
