@@ -49,7 +49,7 @@ ABSENT = {
     "of chrono, and left out here": """parse_from_str parse_and_remainder ParseMonthError ParseWeekdayError format_with_items
         format_localized format_localized_with_items and_utc and_local_timezone checked_add_offset checked_sub_offset FixedOffset
         BEFORE_MIN AFTER_MAX UNIX_EPOCH timestamp from_timestamp as_seconds_f64 as_seconds_f32 from_std to_std OutOfRangeError
-        from_isoywd from_num_days_from_ce from_weekday_of_month from_hms from_hms_milli from_hms_micro from_hms_nano
+        from_isoywd from_num_days_from_ce from_hms from_hms_milli from_hms_micro from_hms_nano
         from_num_seconds_from_midnight and_hms and_hms_milli and_hms_micro and_hms_nano NaiveDate::succ NaiveDate::pred""",
     "files and modules of chrono": "traits naive internals isoweek",
     "what the kit prints of itself": "rattle-kit dac8208d650f15bf",

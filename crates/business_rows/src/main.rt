@@ -1,9 +1,10 @@
 //! `business_rows` makes the call of each line of standard input on the calendar of the last line that names one, and
 //! compares the answer with the numbers behind it.
 //!
-//! A line is a calendar, as `calendar 1111100 738886 738900`: of each weekday from Monday on whether it is worked, and the
-//! holidays; or `call numbers = answer`, as `add 738886 3 = 738890`. A date is its day number, a count has a sign, a roll is a
-//! word, `none` is no date. Each line with another answer is printed with its number, and at the end their count.
+//! A line is a calendar, as `calendar 1111100 738886 738900`: of each weekday from Monday on whether it is worked,
+//! and the holidays; or `call numbers = answer`, as `add 738886 3 = 738890`. A date is its day number, a count has a
+//! sign, a roll is a word, `none` is no date. Each line with another answer is printed with its number, and at the
+//! end their count.
 #![tactic(auto)]
 
 use chrono_business::{Calendar, Roll, actual_360, thirty_360, thirty_e_360};

@@ -11,8 +11,8 @@ days_of_360 a b first last =
 abbrev pub at_most_30 : ℕ → ℕ
 at_most_30 d = if d == 31 then 30 else d
 
--- the numerator over 360 of "30/360" or "Bond Basis", section 4.16(f): the first day is at most the 30th, and so is the last if
--- the first is later than the 29th
+-- the numerator over 360 of "30/360" or "Bond Basis", section 4.16(f): the first day is at most the 30th, and so is
+-- the last if the first is later than the 29th
 abbrev pub days_30_360 : ℤ → ℤ → ℤ
 days_30_360 a b =
     days_of_360 a b (at_most_30 (day_of a))

@@ -31,8 +31,8 @@ pub record IsNearestOpen (c : Closed) (d e : ℤ) : Type 0 where
   pub nearest : (f : ℤ) → IsDate f → is_open c f ≡ true → unsigned_abs (e -ℤ d) ≤ unsigned_abs (f -ℤ d)
   pub later : (f : ℤ) → IsDate f → is_open c f ≡ true → unsigned_abs (e -ℤ d) ≡ unsigned_abs (f -ℤ d) → f ≤ℤ e
 
--- d rolls to e: by `ModifiedFollowing` to the next open day, or to the last one where the rest of the month is closed, and by
--- `ModifiedPreceding` the other way round
+-- d rolls to e: by `ModifiedFollowing` to the next open day, or to the last one where the rest of the month is
+-- closed, and by `ModifiedPreceding` the other way round
 abbrev pub RollsTo : Closed → Roll → ℤ → ℤ → Type 0
 RollsTo c Unadjusted d e = e ≡ d
 RollsTo c Following d e = IsNextOpen c d e

@@ -34,7 +34,8 @@ impl<'a> Model for Calendar<'a> {
 }
 
 impl<'a> Calendar<'a> {
-    /// The calendar that is closed on these weekdays and on these days, which rise and none of which is on the weekend.
+    /// The calendar that is closed on these weekdays and on these days, which rise and none of which is on the
+    /// weekend.
     ///
     /// [`try_new`](Self::try_new) checks holidays of which that is not known.
     #[inline]

@@ -1,4 +1,5 @@
-//! Day counts: which part of a year lies between two dates, as an exact fraction (ISDA 2006 Definitions, section 4.16).
+//! Day counts: which part of a year lies between two dates, as an exact fraction (ISDA 2006 Definitions, section
+//! 4.16).
 ghost use Rattle.std.specs.Prelude.{◌≡◌, ◌≤◌, ◌==◌, ◌&&◌, nat_lt, if◌then◌else◌, pos, ◌+ℤ◌, ◌-ℤ◌, ◌*ℤ◌};
 ghost use Rattle.chrono_datetime.specs.Days.{month_of, year_of};
 ghost use Rattle.chrono_business.specs.DayCounts.{at_most_30 as up_to_30, days_30_360, days_30e_360, days_of_360 as days_of_months};
@@ -36,8 +37,8 @@ pub fn actual_365_fixed(from: NaiveDate, to: NaiveDate) -> Fraction
     }
 }
 
-/// "30/360" or "Bond Basis" (4.16(f)): each month has 30 days; a first day on the 31st counts as the 30th, and a last one if the
-/// first is later than the 29th.
+/// "30/360" or "Bond Basis" (4.16(f)): each month has 30 days; a first day on the 31st counts as the 30th, and a last
+/// one if the first is later than the 29th.
 pub fn thirty_360(from: NaiveDate, to: NaiveDate) -> Fraction
     ensures numerator { result.numerator ≡ days_30_360 from to }
     ensures denominator { result.denominator ≡ pos 360 }

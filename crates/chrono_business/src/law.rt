@@ -1,5 +1,5 @@
-//! Laws of open days, each as the contract of a function that does nothing: behind a call of it its clauses are known; and open
-//! days that are known.
+//! Laws of open days, each as the contract of a function that does nothing: behind a call of it its clauses are
+//! known; and open days that are known.
 ghost use Rattle.std.specs.Prelude.{◌≡◌, ◌≤◌, ℕ, ℤ, true, false, pos, neg_ℤ, ◌+ℤ◌, ◌≤ℤ◌, ◌<ℤ◌, [], ◌∷◌};
 ghost use Rattle.chrono_datetime.specs.WeekdaySet.{set_of};
 ghost use Rattle.chrono_datetime.specs.declared.Weekday.TheVariants.{Fri, Sat, Sun};
@@ -27,9 +27,9 @@ pub fn open_days_add_up()
         open_days_signed c a b +ℤ open_days_signed c b e ≡ open_days_signed c a e }
 {}
 
-/// Days that are known, of calendars closed on Saturday, Sunday and 1 January 2024, a Monday, which is day 738,886: that day and
-/// Saturday, 6 January are closed, Tuesday is open, and of the week from that Monday four days are open; and of one closed on
-/// Friday and Saturday, whose Sunday is open.
+/// Days that are known, of calendars closed on Saturday, Sunday and 1 January 2024, a Monday, which is day 738,886:
+/// that day and Saturday, 6 January are closed, Tuesday is open, and of the week from that Monday four days are open;
+/// and of one closed on Friday and Saturday, whose Sunday is open.
 pub fn known_open_days()
     ensures new_year { is_open (closed (set_of (Sat ∷ Sun ∷ [])) (pos 738_886 ∷ []))
         (pos 738_886) ≡ false }

@@ -1,8 +1,9 @@
-//! Business days: the days that are neither on the weekend nor holidays; the next one, the n-th of them, how many lie between
-//! two dates, and where a closed day rolls to; and the parts of a year between two dates as day counts have them.
+//! Business days: the days that are neither on the weekend nor holidays; the next one, the n-th of them, how many lie
+//! between two dates, and where a closed day rolls to; and the parts of a year between two dates as day counts have
+//! them.
 //!
-//! A [`Calendar`] is a weekend and a slice of holidays, and takes no memory. Each answer is what counting day by day gives; it
-//! is found by whole weeks and two searches through the holidays.
+//! A [`Calendar`] is a weekend and a slice of holidays, and takes no memory. Each answer is what counting day by day
+//! gives; it is found by whole weeks and two searches through the holidays.
 #![tactic(auto)]
 
 mod calendar;

@@ -14,12 +14,21 @@ pub(crate) fn workdays(weekend: WeekdaySet, days: u32) -> u32
     ensures counted { result ≡ count_where (is_workday weekend) days first_date }
     ensures few { result ≤ days }
 {
-    days / 7 * first_workdays(weekend, 7) + first_workdays(weekend, days % 7)
+    days / 7 * workdays_of_week(weekend) + first_workdays(weekend, days % 7)
 }
 
-// The same of at most a week, day by day.
+// How many days of a week are workdays.
 #[inline]
-pub(crate) fn first_workdays(weekend: WeekdaySet, days: u32) -> u32
+pub(crate) fn workdays_of_week(weekend: WeekdaySet) -> u32
+    ensures counted { result ≡ count_where (is_workday weekend) 7 first_date }
+    ensures few { result ≤ 7 }
+{
+    7 - u32::from(weekend.len())
+}
+
+// How many of the first days of a week are workdays, day by day.
+#[inline]
+fn first_workdays(weekend: WeekdaySet, days: u32) -> u32
     requires { days ≤ 7 }
     ensures counted { result ≡ count_where (is_workday weekend) days first_date }
     ensures few { result ≤ days }

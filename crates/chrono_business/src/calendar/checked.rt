@@ -8,8 +8,8 @@ use crate::holiday_error::HolidayError;
 use chrono_datetime::{Datelike, NaiveDate, WeekdaySet};
 
 impl<'a> Calendar<'a> {
-    /// The calendar that is closed on these weekdays and on these days; an error if the days do not rise, or if one of them is on
-    /// the weekend.
+    /// The calendar that is closed on these weekdays and on these days; an error if the days do not rise, or if one
+    /// of them is on the weekend.
     pub fn try_new(
         weekend: WeekdaySet,
         holidays: &'a [NaiveDate],

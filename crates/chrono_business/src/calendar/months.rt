@@ -27,7 +27,8 @@ impl<'a> Calendar<'a> {
         self.last_open_in_month(date.last_day_of_month())
     }
 
-    /// The first open day from the date on, if it is in the date's month; `None` exactly if the rest of the month is closed.
+    /// The first open day from the date on, if it is in the date's month; `None` exactly if the rest of the month is
+    /// closed.
     pub fn next_open_in_month(&self, date: NaiveDate) -> Option<NaiveDate>
         ensures exists { IfSome result (λ e. IsDate e) }
         ensures next { IfSome result (λ e. IsNextOpen self.now date e) }
@@ -42,7 +43,8 @@ impl<'a> Calendar<'a> {
         Some(next)
     }
 
-    /// The last open day up to the date, if it is in the date's month; `None` exactly if the month up to the date is closed.
+    /// The last open day up to the date, if it is in the date's month; `None` exactly if the month up to the date is
+    /// closed.
     pub fn last_open_in_month(&self, date: NaiveDate) -> Option<NaiveDate>
         ensures exists { IfSome result (λ e. IsDate e) }
         ensures last { IfSome result (λ e. IsLastOpen self.now date e) }

@@ -43,8 +43,8 @@ impl<'a> Calendar<'a> {
         self.nth_open_back(date, 0)
     }
 
-    /// How many days are open from `from` on and before `to`; with a minus sign, and from `to` on and before `from`, if `to` is
-    /// the earlier.
+    /// How many days are open from `from` on and before `to`; with a minus sign, and from `to` on and before `from`,
+    /// if `to` is the earlier.
     ///
     /// So the counts of two stretches, one behind the other, add up, whichever way each goes.
     #[inline]
@@ -58,8 +58,8 @@ impl<'a> Calendar<'a> {
         ranks_between(start, end)
     }
 
-    /// How many days are open from the earlier of two dates to the later, both of them counted; with a minus sign if `to` is the
-    /// earlier.
+    /// How many days are open from the earlier of two dates to the later, both of them counted; with a minus sign if
+    /// `to` is the earlier.
     #[inline]
     pub fn open_days_inclusive(&self, from: NaiveDate, to: NaiveDate) -> i64
         ensures on { from ≤ℤ to → result ≡ pos (open_days self.now from (to +ℤ pos 1)) }
@@ -72,11 +72,11 @@ impl<'a> Calendar<'a> {
         }
     }
 
-    /// The date that is so many open days on: for `n` from 0 on the `n`-th open day from the date on, and for `n` below 0 the
-    /// `-n`-th from the date back, each counted from 0. `None` exactly if there is no such date.
+    /// The date that is so many open days on: for `n` from 0 on the `n`-th open day from the date on, and for `n`
+    /// below 0 the `-n`-th from the date back, each counted from 0. `None` exactly if there is no such date.
     ///
-    /// So 0 takes a closed day to the next open one, as `busday_offset` of numpy does with `forward`; with `n` below 0 the date
-    /// is first taken back to an open one, as with `backward`.
+    /// So 0 takes a closed day to the next open one, as `busday_offset` of numpy does with `forward`; with `n` below
+    /// 0 the date is first taken back to an open one, as with `backward`.
     #[inline]
     pub fn add_open_days(&self, date: NaiveDate, n: i64) -> Option<NaiveDate>
         ensures exists { IfSome result (λ e. IsDate e) }

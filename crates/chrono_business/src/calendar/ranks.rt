@@ -1,7 +1,7 @@
 //! The rank of a day, how many open days the dates before it have, and the open day of a rank.
 //!
-//! A rank is the workdays before the day, by whole weeks, less the holidays before it, by a search. The open day of a rank
-//! comes behind the holidays that have no larger one, and they say which workday it is.
+//! A rank is the workdays before the day, by whole weeks, less the holidays before it, by a search. The open day of a
+//! rank comes behind the holidays that have no larger one, and they say which workday it is.
 ghost use Rattle.std.specs.Prelude.{◌≡◌, ◌<◌, ◌≤◌, ◌≤ℤ◌, ◌<ℤ◌, ◌+ℤ◌, ℕ, ℤ, true, pos, length, slice_index_or, IfSome, IfNone};
 ghost use Rattle.std.specs.List.{AllWithin};
 ghost use Rattle.std.specs.List.Sorted.{IsPartitionPoint};
@@ -10,7 +10,7 @@ ghost use Rattle.chrono_datetime.specs.Recurrence.{first_date, past_last_date};
 ghost use Rattle.chrono_business.specs.OpenDays.{is_holiday, is_open, open_days};
 
 use crate::calendar::Calendar;
-use crate::workweek::{days_to_workday, first_workdays, workdays};
+use crate::workweek::{days_to_workday, workdays, workdays_of_week};
 use chrono_datetime::{Datelike, NaiveDate};
 
 // The day number of the first date, and how many dates come after it.
@@ -86,7 +86,7 @@ impl<'a> Calendar<'a> {
         ensures count { IfSome result (λ e. open_days self.now first_date e ≡ rank) }
         ensures none { IfNone result (open_days self.now first_date past_last_date ≤ rank) }
     {
-        let per_week = u64::from(first_workdays(self.weekend, 7));
+        let per_week = u64::from(workdays_of_week(self.weekend));
         if per_week == 0 {
             return None;
         }

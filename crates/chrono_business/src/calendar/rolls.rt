@@ -11,8 +11,8 @@ use chrono_datetime::{Datelike, NaiveDate};
 impl<'a> Calendar<'a> {
     /// The date that a date rolls to; `None` exactly if there is none.
     ///
-    /// So of a calendar that is closed on Saturday and Sunday alone, Saturday, 30 March 2024 goes by `Following` to Monday, 1 April,
-    /// and by `ModifiedFollowing` to Friday, 29 March.
+    /// So of a calendar that is closed on Saturday and Sunday alone, Saturday, 30 March 2024 goes by `Following` to
+    /// Monday, 1 April, and by `ModifiedFollowing` to Friday, 29 March.
     pub fn roll(&self, date: NaiveDate, roll: Roll) -> Option<NaiveDate>
         ensures exists { IfSome result (λ e. IsDate e) }
         ensures rolled { IfSome result (λ e. RollsTo self.now roll date e) }

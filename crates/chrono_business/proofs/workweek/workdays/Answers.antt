@@ -6,4 +6,4 @@ use Rattle.chrono_business.proofs.workweek.workdays.Goals as goal
 pub returns-clause-counted : goal.returns-clause-counted
 returns-clause-counted c =
     let k = c.args.days in
-    omega (arith, workdays-weeks c.args.weekend (k / 7) (k % 7) k first_date (omega arith), ap (λ n. k / 7 * n) c.first_workdays.ensures.counted, c.first_workdays-2.ensures.counted)
+    omega (arith, workdays-weeks c.args.weekend (k / 7) (k % 7) k first_date (omega arith), ap (λ n. k / 7 * n) c.workdays_of_week.ensures.counted, c.first_workdays.ensures.counted)

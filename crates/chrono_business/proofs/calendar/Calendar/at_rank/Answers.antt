@@ -12,7 +12,7 @@ IsCalendar v = AreHolidays v.weekend v.holidays
 pub returns-then-per_week-eq0-clause-none : goal.returns-then-per_week-eq0-clause-none
 returns-then-per_week-eq0-clause-none c =
     let weekend : c.self.inside.weekend ≡ c.args.self.now.weekend = ap (λ (v : Closed). v.weekend) c.self.view_is in
-    let week = rw weekend at c.first_workdays.ensures.counted in
+    let week = rw weekend at c.workdays_of_week.ensures.counted in
     none-open c.args.self.now c.args.rank (subst IsCalendar c.self.view_is c.self.invariant) (omega (arith, week, c.from-per_week.ensures, c.if-per_week-eq0.true))
 
 -- the day so many workdays on, by whole weeks, is the open day of the rank
@@ -25,7 +25,7 @@ returns-then-days-gt-DATES_AFTER_FIRST-clause-none c =
     let n : ℕ = c.from.result + j in
     let k : ℕ = n / c.from-per_week.result * 7 + c.from-2.result in
     let e : ℤ = first_date +ℤ pos k in
-    let week = rw weekend at c.first_workdays.ensures.counted in
+    let week = rw weekend at c.workdays_of_week.ensures.counted in
     let workday = rw weekend at c.days_to_workday-place.ensures.workday in
     let count = rw weekend at c.days_to_workday-place.ensures.counted in
     let placed = placed-by_weeks now c.args.rank j n c.from-per_week.result c.days_to_workday-place.result k e (omega (arith, week, c.from-per_week.ensures)) (omega (arith, c.from.ensures)) (omega (arith, c.from-2.ensures)) refl workday count c.holidays_up_to.ensures.bound c.holidays_up_to.ensures.behind c.holidays_up_to.ensures.ahead in
@@ -39,7 +39,7 @@ found c e at =
     let j = c.holidays_up_to.result in
     let n : ℕ = c.from.result + j in
     let k : ℕ = n / c.from-per_week.result * 7 + c.from-2.result in
-    let week = rw weekend at c.first_workdays.ensures.counted in
+    let week = rw weekend at c.workdays_of_week.ensures.counted in
     let workday = rw weekend at c.days_to_workday-place.ensures.workday in
     let count = rw weekend at c.days_to_workday-place.ensures.counted in
     placed-open now c.args.rank j k e are
