@@ -1,5 +1,5 @@
 """The package for C as its users install it: copied to a prefix, found by pkg-config and by CMake, linked both ways, from C and C++,
-and run under valgrind and with sanitizers where there are any. The fault of a call that is too short would be seen there too."""
+and run under valgrind and with sanitizers where there are any."""
 import os
 import re
 import shutil
@@ -101,9 +101,10 @@ def test_memory(results, room, prefix):
     elif succeeds(results, ["cc", "-std=c99", "-O1", "-g", *given, "-o", f"{room}/watched"]) is not None:
         run(results, "test.c under valgrind", ["valgrind", "-q", "--error-exitcode=9", f"{room}/watched"], COUNTS)
     sanitizers = ["-fsanitize=address,undefined", "-fno-sanitize-recover=all"]
-    if subprocess.run(["cc", *sanitizers, *given, "-o", f"{room}/checked"], capture_output=True).returncode:
+    words = ["cc", *sanitizers, "-x", "c", "-", "-o", f"{room}/probe"]
+    if subprocess.run(words, input=b"int main(void) { return 0; }", capture_output=True).returncode:
         print("not run: the tests in C with sanitizers, since the compiler has none")
-    else:
+    elif succeeds(results, ["cc", *sanitizers, *given, "-o", f"{room}/checked"]) is not None:
         run(results, "test.c with sanitizers", [f"{room}/checked"], COUNTS)
 
 

@@ -120,6 +120,7 @@ bool has_arguments(const char *call, Py_ssize_t wanted, Py_ssize_t count)
 
 PyObject *refuse_type(const char *wanted, PyObject *it)
 {
+    PyErr_Clear();
     PyObject *name = PyObject_GetAttrString((PyObject *)Py_TYPE(it), "__name__");
     if (name) {
         PyErr_Format(PyExc_TypeError, "%s is wanted, not %U", wanted, name);

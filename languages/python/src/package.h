@@ -167,7 +167,7 @@ bool take_array(Signature *to, PyObject *const *arguments, Py_ssize_t count, PyO
 /* Whether so many arguments are given; a TypeError if not. */
 bool has_arguments(const char *call, Py_ssize_t wanted, Py_ssize_t count);
 
-/* A TypeError: another type was wanted. */
+/* A TypeError, in place of any other error: another type was wanted. */
 PyObject *refuse_type(const char *wanted, PyObject *it);
 
 /* ---- weekdays (weekday.c) */
