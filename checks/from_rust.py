@@ -1,8 +1,8 @@
 """The package for Rust, used as its users use it; checks/languages.py runs this.
 
-The package is made with the static library inside, packed, and unpacked again. A project outside, which names it by its path, runs its
-tests, and where Debian's crates lie, those of its features too. The example of each item is run, a build with no library has to say what to
-do, and each of the wrong lines planted in the wrapper has to fail its tests.
+The package is made with the static library inside, packed, and unpacked again. A project outside, which names it by its
+path, runs its tests, and where Debian's crates lie, those of its features too. The example of each item is run, a build
+with no library has to say what to do, and each of the wrong lines planted in the wrapper has to fail its tests.
 """
 import glob
 import os

@@ -4,16 +4,17 @@
     checks/javascript.py
     checks/javascript.py --picture FILE      (only takes a picture of the page, as docs/page.png is one)
 
-The package is made as `tools/dist javascript` makes it, in a temporary folder. The exports of its module have to be those of
-calendar.h, but for those that C alone has, each called by the wrapper and with a test of its name. In a project of its own, to which the package is put as npm puts
-it, node runs the tests, the example of the README and, where there is a tsc, a file of types. Ten wrong lines are then planted in
-the wrapper, one at a time, and the tests have to fail on each.
+The package is made as `tools/dist javascript` makes it, in a temporary folder. The exports of its module have to be
+those of calendar.h, but for those that C alone has, each called by the wrapper and with a test of its name. In a
+project of its own, to which the package is put as npm puts it, node runs the tests, the example of the README and,
+where there is a tsc, a file of types. Ten wrong lines are then planted in the wrapper, one at a time, and the tests
+have to fail on each.
 
-In a headless Chromium the package is compared with the browser's own Temporal, and the page is used as a user uses it: lines are
-typed and their answers compared with those of caltool (the program, if it is built, or else the calendar of checks/fuzz.py); months,
-distances and rows of dates are compared with Python's datetime and with the calendar that counts (checks/counted.py); what can be
-reached by the keyboard has to have a name that a screen reader reads; nothing may be wider than a narrow screen, and texts have to stand
-out from what is behind them, in light and in dark.
+In a headless Chromium the package is compared with the browser's own Temporal, and the page is used as a user uses it:
+lines are typed and their answers compared with those of caltool (the program, if it is built, or else the calendar of
+checks/fuzz.py); months, distances and rows of dates are compared with Python's datetime and with the calendar that
+counts (checks/counted.py); what can be reached by the keyboard has to have a name that a screen reader reads; nothing
+may be wider than a narrow screen, and texts have to stand out from what is behind them, in light and in dark.
 """
 import base64
 import datetime
@@ -343,12 +344,25 @@ def look(results, page, path):
     results.count(len(papers) == 2, "the page is as bright in dark as in light")
 
 
+def use_without_memories(results, page, path):
+    """Where there are no 64-bit memories the page says so."""
+    script = "WebAssembly.Module = function () { throw new WebAssembly.CompileError('no memory64'); };"
+    added = page.call("Page.addScriptToEvaluateOnNewDocument", source=script)
+    page.open(path)
+    told = page.text("#trouble")
+    results.count("no 64-bit memories here" in told and "Firefox" in told, f"a page with no 64-bit memories says {told!r}")
+    page.call("Page.removeScriptToEvaluateOnNewDocument", identifier=added["identifier"])
+    page.events.clear()
+
+
 def in_chromium(results, path):
     if not chromium.found():
         print("not run: the page, since there is no chromium")
         return
     with chromium.Chromium() as page:
+        use_without_memories(results, page, path)
         page.open(path)
+        results.equal(page.run("document.querySelector('#trouble').hidden"), True, "whether the page has no trouble to tell")
         results.equal(page.text("#answer"), "2024-02-29 738945 Thu 2024-W09 60", "the first answer of the page")
         for use in (use_lines, use_month, use_between, use_row, read_aloud, compare_temporal):
             use(results, page)

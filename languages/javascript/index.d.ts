@@ -182,7 +182,10 @@ export class PlainDateTime implements Named {
     nanosecond?: number,
   );
   static from(item: DateTimeLike, options?: OverflowOptions): PlainDateTime;
-  /** The date-time with these seconds since 1970, and nanoseconds past them; 1,000,000,000 and more lie in the leap second that follows. */
+  /**
+   * The date-time with these seconds since 1970, and nanoseconds past them; 1,000,000,000 and more lie in the leap
+   * second that follows.
+   */
   static fromUnix(seconds: number, nanoseconds?: number): PlainDateTime;
   static compare(one: DateTimeLike, other: DateTimeLike): -1 | 0 | 1;
   readonly calendarId: "iso8601";

@@ -1,5 +1,5 @@
-//! Links the static library: that of the folder which `CALENDAR_FOLDER` names by its whole path, or else the one inside this package, or
-//! else the one that this repository builds.
+//! Links the static library: that of the folder which `CALENDAR_FOLDER` names by its whole path, or else the one inside
+//! this package, or else the one that this repository builds.
 
 use std::env;
 use std::path::{Path, PathBuf};
@@ -12,11 +12,16 @@ fn main() {
     refuse_other_machines();
     let folders = folders();
     let found = folders.iter().find_map(|folder| {
-        let name = NAMES.iter().find(|name| folder.join(format!("lib{name}.a")).exists())?;
+        let name = NAMES
+            .iter()
+            .find(|name| folder.join(format!("lib{name}.a")).exists())?;
         Some((folder, name))
     });
     let Some((folder, name)) = found else {
-        let listed: Vec<String> = folders.iter().map(|it| format!("  {}", it.display())).collect();
+        let listed: Vec<String> = folders
+            .iter()
+            .map(|it| format!("  {}", it.display()))
+            .collect();
         panic!(
             "\n\nThe static library libcalendar.a is missing. Looked for it in\n{}\n\
              In a clone of the repository `rt lib` in crates/calendar_c proves and builds it, and `tools/dist rust` makes a package \
@@ -33,10 +38,14 @@ fn main() {
 fn folders() -> Vec<PathBuf> {
     if let Ok(named) = env::var("CALENDAR_FOLDER") {
         // (each command of cargo reads a relative path from a folder of its own)
-        assert!(Path::new(&named).is_absolute(), "CALENDAR_FOLDER is no whole path: {named}");
+        assert!(
+            Path::new(&named).is_absolute(),
+            "CALENDAR_FOLDER is no whole path: {named}"
+        );
         return vec![PathBuf::from(named)];
     }
-    let own = PathBuf::from(env::var("CARGO_MANIFEST_DIR").expect("cargo says where the crate lies"));
+    let own =
+        PathBuf::from(env::var("CARGO_MANIFEST_DIR").expect("cargo says where the crate lies"));
     vec![own.join("lib"), own.join("../../crates/calendar_c/out")]
 }
 

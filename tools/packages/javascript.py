@@ -1,8 +1,8 @@
 """The package for JavaScript: the library as a module of WebAssembly, the wrapper over it, and a page that needs nothing else.
 
-The module is made of the sources of crates/calendar_c, as a crate of the kind wasm64 in a repository of its own, over what is proved
-of the libraries below: a repository has one kind of each crate. It is kept beside the static library and serves until a source
-changes.
+The module is made of the sources of crates/calendar_c, as a crate of the kind wasm64 in a repository of its own, over
+what is proved of the libraries below: a repository has one kind of each crate. It is kept beside the static library and
+serves until a source changes.
 """
 import base64
 import json

@@ -1,4 +1,5 @@
-"""The package for Rust: the crate with the static library inside, as a folder that a project names by its path, and as one file."""
+"""The package for Rust: the crate with the static library inside, as a folder that a project names by its path, and as one
+file."""
 import gzip
 import io
 import os

@@ -92,7 +92,9 @@ function setOf(start, days) {
   return [`[${names(members).join(", ")}]`, ...names(walk)].join(" ");
 }
 
-/** Of each command: the types of its numbers, of which the last may come any number of times (`many`), and its answer. */
+/**
+ * Of each command: the types of its numbers, of which the last may come any number of times (`many`), and its answer.
+ */
 const COMMANDS = {
   ymd: { types: DATE, answer: (it) => lineOf(dateOf(it)) },
   yo: { types: [I32, U32], answer: (it) => lineOf(PlainDate.fromDayOfYear(...it)) },

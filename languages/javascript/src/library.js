@@ -1,9 +1,9 @@
 /**
  * The functions of the library, which are proved, as a module of WebAssembly.
  *
- * A date is its number, and `NONE` where there is none; they answer for all arguments of their types, whose 32 bits whoever calls
- * has to look at, since WebAssembly cuts other numbers to them. Date-times and texts lie in memory behind all that the module itself
- * uses.
+ * A date is its number, and `NONE` where there is none; they answer for all arguments of their types, whose 32 bits
+ * whoever calls has to look at, since WebAssembly cuts other numbers to them. Date-times and texts lie in memory behind
+ * all that the module itself uses.
  */
 
 import { MODULE } from "./module.js";
@@ -32,7 +32,9 @@ function instantiate() {
 
 export const library = instantiate();
 
-/** Grows the memory by a page, and answers how many it had; node 20 and 22 take and answer numbers, all others BigInts. */
+/**
+ * Grows the memory by a page, and answers how many it had; node 20 and 22 take and answer numbers, all others BigInts.
+ */
 function grow(memory) {
   try {
     return BigInt(memory.grow(1n));

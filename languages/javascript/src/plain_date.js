@@ -41,8 +41,8 @@ function numberOf(year, month, day) {
 }
 
 /**
- * A date of the proleptic Gregorian calendar, from 1 January of year -262143 to 31 December of year 262142, in which the year before
- * year 1 is year 0 (ISO 8601).
+ * A date of the proleptic Gregorian calendar, from 1 January of year -262143 to 31 December of year 262142, in which
+ * the year before year 1 is year 0 (ISO 8601).
  *
  * Names that `Temporal.PlainDate` has too mean the same here. Dates know no calendar but ISO 8601's.
  */
@@ -208,7 +208,9 @@ export class PlainDate {
     return PlainDate.from({ year, month, day }, options);
   }
 
-  /** The date so much later: years and months first, which lead to the last day of a shorter month, then weeks and days. */
+  /**
+   * The date so much later: years and months first, which lead to the last day of a shorter month, then weeks and days.
+   */
   add(duration, options) {
     const by = Duration.from(duration);
     const overflow = overflowOf(options);

@@ -41,14 +41,18 @@ function spanOf(nanoseconds) {
 /**
  * A date with a time of day, to the nanosecond, in no time zone.
  *
- * Names that `Temporal.PlainDateTime` has too mean the same here, but that a time may lie in a leap second, the second 60 of a
- * minute, which Temporal does not know. From there a move goes on a line that holds this leap second and no other.
+ * Names that `Temporal.PlainDateTime` has too mean the same here, but that a time may lie in a leap second, the second
+ * 60 of a minute, which Temporal does not know. From there a move goes on a line that holds this leap second and no
+ * other.
  */
 export class PlainDateTime {
   #moment;
   #date;
 
-  /** The date-time of a date and what a clock shows, 60 being the leap second that follows 59; RangeError if there is none. */
+  /**
+   * The date-time of a date and what a clock shows, 60 being the leap second that follows 59; RangeError if there is
+   * none.
+   */
   constructor(isoYear, isoMonth, isoDay, hour, minute, second, millisecond, microsecond, nanosecond) {
     if (isoYear === BY_NUMBERS) {
       this.#moment = isoMonth;
@@ -67,8 +71,8 @@ export class PlainDateTime {
   }
 
   /**
-   * The date-time of a text such as `2024-02-29T12:00:00.5`, of an object with year, month, day and parts of a time, of a date-time,
-   * or of a date, whose midnight it is.
+   * The date-time of a text such as `2024-02-29T12:00:00.5`, of an object with year, month, day and parts of a time, of
+   * a date-time, or of a date, whose midnight it is.
    */
   static from(item, options) {
     if (typeof item === "string") {
@@ -97,8 +101,8 @@ export class PlainDateTime {
   }
 
   /**
-   * The date-time with these seconds since 1970-01-01T00:00:00, leap seconds not counted, and nanoseconds past them, of which
-   * 1,000,000,000 and more lie in the leap second that follows.
+   * The date-time with these seconds since 1970-01-01T00:00:00, leap seconds not counted, and nanoseconds past them, of
+   * which 1,000,000,000 and more lie in the leap second that follows.
    */
   static fromUnix(seconds, nanoseconds = 0) {
     const counted = between(seconds, "seconds", Number.MIN_SAFE_INTEGER, Number.MAX_SAFE_INTEGER);
@@ -107,7 +111,9 @@ export class PlainDateTime {
     return PlainDateTime.#found(dateOf(moment) === NONE ? undefined : moment, why);
   }
 
-  /** -1 if the first of two date-times is the earlier by date and then by time of day, 1 if it is the later, 0 if neither. */
+  /**
+   * -1 if the first of two date-times is the earlier by date and then by time of day, 1 if it is the later, 0 if neither.
+   */
   static compare(one, other) {
     const [first, second] = [PlainDateTime.from(one).#moment, PlainDateTime.from(other).#moment];
     const seconds = Number(first.seconds - second.seconds);
@@ -168,7 +174,10 @@ export class PlainDateTime {
     return PlainDateTime.from(Object.fromEntries(named), options);
   }
 
-  /** The date-time so much later: years and months first, which lead to the last day of a shorter month, then all other units. */
+  /**
+   * The date-time so much later: years and months first, which lead to the last day of a shorter month, then all other
+   * units.
+   */
   add(duration, options) {
     const by = Duration.from(duration);
     const date = this.toPlainDate().add({ months: by.totalMonths }, options);
@@ -182,12 +191,18 @@ export class PlainDateTime {
     return this.add(Duration.from(duration).negated(), options);
   }
 
-  /** How far it is to another date-time, in days of 24 hours and shorter units, or from a shorter unit on (`largestUnit`). */
+  /**
+   * How far it is to another date-time, in days of 24 hours and shorter units, or from a shorter unit on
+   * (`largestUnit`).
+   */
   until(other, options) {
     return PlainDateTime.from(other).since(this, options);
   }
 
-  /** How far it is from another date-time. A leap second counts if one of both lies in it and has the smaller second of the day. */
+  /**
+   * How far it is from another date-time. A leap second counts if one of both lies in it and has the smaller second of
+   * the day.
+   */
   since(other, options) {
     const unit = largestUnitOf(options, UNITS, "day");
     const { seconds, nanos } = distance(this.#moment, PlainDateTime.from(other).#moment);

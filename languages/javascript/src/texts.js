@@ -1,11 +1,15 @@
 /**
  * Texts of Temporal and texts of the library.
  *
- * Both write a year from 0 to 9999 by four digits. Any other has a sign, and six digits for Temporal, four or five for the library. A
- * fraction of a second has as many digits as it needs for Temporal, and three, six or nine for the library.
+ * Both write a year from 0 to 9999 by four digits. Any other has a sign, and six digits for Temporal, four or five for
+ * the library. A fraction of a second has as many digits as it needs for Temporal, and three, six or nine for the
+ * library.
  */
 
-/** The text of the library for a text as Temporal writes it; the empty text, which names nothing, for a year in another form. */
+/**
+ * The text of the library for a text as Temporal writes it; the empty text, which names nothing, for a year in another
+ * form.
+ */
 export function forLibrary(text) {
   const found = /^([+-])(\d{6})(-.*)$/.exec(text);
   if (!found) {

@@ -1,4 +1,7 @@
-/** Calls every function of `calendar.h` through the package, with answers that are known from outside: a test for each, named after it. */
+/**
+ * Calls every function of `calendar.h` through the package, with answers that are known from outside: a test for each,
+ * named after it.
+ */
 
 import { strict as assert } from "node:assert";
 import { test } from "node:test";
@@ -15,7 +18,10 @@ const dated = (number) => PlainDate.fromDayNumber(number);
 const refused = (call) => assert.throws(call, RangeError);
 const LEAP_DAY = new PlainDate(2024, 2, 29);
 
-/** Number, year, month, day, day of the year, weekday, ISO year and week of days at the ends, around year 0 and between years. */
+/**
+ * Number, year, month, day, day of the year, weekday, ISO year and week of days at the ends, around year 0 and between
+ * years.
+ */
 const DAYS = [
   [MIN, -262_143, 1, 1, 1, 4, -262_143, 1],
   [-95_745_765, -262_143, 12, 31, 365, 4, -262_143, 53],

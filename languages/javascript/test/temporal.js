@@ -1,9 +1,10 @@
 /**
- * Compares the package with a browser's own Temporal, call by call, over drawn dates, times and durations of the years that Temporal
- * has. It stands as an expression whose value is how often they answered alike, and the first answers that differ.
+ * Compares the package with a browser's own Temporal, call by call, over drawn dates, times and durations of the years
+ * that Temporal has. It stands as an expression whose value is how often they answered alike, and the first answers
+ * that differ.
  *
- * Left out is what is otherwise on purpose: leap seconds, which Temporal has not, and forms of texts and differences that the package
- * does not offer.
+ * Left out is what is otherwise on purpose: leap seconds, which Temporal has not, and forms of texts and differences
+ * that the package does not offer.
  */
 (async (seed, rounds) => {
   const own = await import("index");

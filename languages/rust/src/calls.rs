@@ -31,8 +31,8 @@ pub(crate) struct Span {
     pub(crate) nanos: u32,
 }
 
-// A function is safe if it takes no pointer: it answers for all arguments of its types. Of one that takes a pointer, so many
-// bytes have to lie there as the next argument says.
+// A function is safe if it takes no pointer: it answers for all arguments of its types. Of one that takes a pointer, so
+// many bytes have to lie there as the next argument says.
 unsafe extern "C" {
     pub(crate) safe fn calendar_from_ymd(year: i32, month: u32, day: u32) -> i32;
     pub(crate) safe fn calendar_from_yo(year: i32, ordinal: u32) -> i32;

@@ -13,8 +13,9 @@ const TEXT_ROOM: usize = 13;
 
 /// A date of the proleptic Gregorian calendar, from 1 January of year -262143 to 31 December of year 262142.
 ///
-/// The year before year 1 is year 0 (ISO 8601). A date is one number, by which it is compared and hashed, and an `Option` of one takes no
-/// more room. Its text, which is printed and read, is `YYYY-MM-DD`; a year below 0 or above 9999 has a sign and at least four digits.
+/// The year before year 1 is year 0 (ISO 8601). A date is one number, by which it is compared and hashed, and an
+/// `Option` of one takes no more room. Its text, which is printed and read, is `YYYY-MM-DD`; a year below 0 or above
+/// 9999 has a sign and at least four digits.
 ///
 /// ```
 /// use proved_calendar::Date;
@@ -247,8 +248,8 @@ impl Date {
         Date::found(calendar_add_months(self.number(), months))
     }
 
-    /// The date `index * months` months later in one move, so that a 31st comes back after a shorter month; `None` beyond the
-    /// calendar.
+    /// The date `index * months` months later in one move, so that a 31st comes back after a shorter month; `None`
+    /// beyond the calendar.
     ///
     /// ```
     /// use proved_calendar::Date;

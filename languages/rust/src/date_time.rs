@@ -16,10 +16,10 @@ const TEXT_ROOM: usize = 32;
 
 /// A date with a time of day, to the nanosecond, in no time zone.
 ///
-/// The time may lie in a leap second, the second 60 of a minute. From there a move goes on a line that holds this leap second
-/// and no other. Date-times are compared by date, then by time of day. Printed is the date's text, `T` and `HH:MM:SS`, with
-/// three, six or nine digits of a fraction that is not 0; a text that is read may have a space for the `T`, and any number of
-/// digits from one to nine. An `Option` of one takes no more room.
+/// The time may lie in a leap second, the second 60 of a minute. From there a move goes on a line that holds this leap
+/// second and no other. Date-times are compared by date, then by time of day. Printed is the date's text, `T` and
+/// `HH:MM:SS`, with three, six or nine digits of a fraction that is not 0; a text that is read may have a space for the
+/// `T`, and any number of digits from one to nine. An `Option` of one takes no more room.
 ///
 /// ```
 /// use proved_calendar::DateTime;
@@ -52,8 +52,8 @@ impl DateTime {
         }
     }
 
-    /// The date-time at a second of a date, from 0 to 86,399, and so many nanoseconds past it. From 1,000,000,000 on they lie
-    /// in the leap second that follows the last second of a minute; `None` if there is no such time.
+    /// The date-time at a second of a date, from 0 to 86,399, and so many nanoseconds past it. From 1,000,000,000 on
+    /// they lie in the leap second that follows the last second of a minute; `None` if there is no such time.
     ///
     /// ```
     /// use proved_calendar::{Date, DateTime};
@@ -84,8 +84,8 @@ impl DateTime {
         )
     }
 
-    /// The date-time with these seconds since 1970-01-01T00:00:00, leap seconds not counted, and nanoseconds past them, of
-    /// which 1,000,000,000 and more lie in the leap second that follows; `None` if there is none.
+    /// The date-time with these seconds since 1970-01-01T00:00:00, leap seconds not counted, and nanoseconds past them,
+    /// of which 1,000,000,000 and more lie in the leap second that follows; `None` if there is none.
     ///
     /// ```
     /// use proved_calendar::DateTime;
@@ -217,9 +217,9 @@ impl DateTime {
     }
 }
 
-/// How far the left date-time is from the right one. A leap second counts if one of them is in it and has the smaller second
-/// of the day. So the sign of the difference tells the order of two times of one date, but not always of two dates:
-/// 2017-01-01T00:00:00 is -0.5 seconds from 2016-12-31T23:59:60.5, which is before it.
+/// How far the left date-time is from the right one. A leap second counts if one of them is in it and has the smaller
+/// second of the day. So the sign of the difference tells the order of two times of one date, but not always of two
+/// dates: 2017-01-01T00:00:00 is -0.5 seconds from 2016-12-31T23:59:60.5, which is before it.
 ///
 /// ```
 /// use proved_calendar::DateTime;
@@ -239,7 +239,8 @@ impl fmt::Display for DateTime {
     fn fmt(&self, f: &mut fmt::Formatter<'_>) -> fmt::Result {
         let mut room = [0; TEXT_ROOM];
         // SAFETY: so many bytes lie in the array.
-        let length = unsafe { calendar_write_date_time(self.moment(), room.as_mut_ptr(), TEXT_ROOM) };
+        let length =
+            unsafe { calendar_write_date_time(self.moment(), room.as_mut_ptr(), TEXT_ROOM) };
         f.pad(from_utf8(&room[..length as usize]).map_err(|_| fmt::Error)?)
     }
 }

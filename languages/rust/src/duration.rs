@@ -20,8 +20,8 @@ const TEXT_ROOM: usize = 30;
 
 /// A length of time in whole nanoseconds, forward or back, of at most 2^63 - 1 milliseconds.
 ///
-/// Printed is ISO 8601's text in seconds, with the fewest digits of a fraction, or `P0D` if it is no time; a text that is read may
-/// have more digits, up to nine.
+/// Printed is ISO 8601's text in seconds, with the fewest digits of a fraction, or `P0D` if it is no time; a text that
+/// is read may have more digits, up to nine.
 ///
 /// ```
 /// use proved_calendar::Duration;
@@ -159,7 +159,8 @@ impl Neg for Duration {
     type Output = Duration;
 
     fn neg(self) -> Duration {
-        Duration::from_nanoseconds(-self.nanoseconds()).expect("a duration has its like the other way")
+        Duration::from_nanoseconds(-self.nanoseconds())
+            .expect("a duration has its like the other way")
     }
 }
 
@@ -167,7 +168,8 @@ impl Neg for Duration {
 ///
 /// # Panics
 ///
-/// If the sum is too long, as the operators of `core::time::Duration` do; [`Duration::checked_add`] answers `None` there.
+/// If the sum is too long, as the operators of `core::time::Duration` do; [`Duration::checked_add`] answers `None`
+/// there.
 ///
 /// ```
 /// use proved_calendar::Duration;
@@ -178,7 +180,8 @@ impl Add for Duration {
     type Output = Duration;
 
     fn add(self, other: Duration) -> Duration {
-        self.checked_add(other).expect("the sum of two durations is too long")
+        self.checked_add(other)
+            .expect("the sum of two durations is too long")
     }
 }
 
@@ -191,7 +194,8 @@ impl Sub for Duration {
     type Output = Duration;
 
     fn sub(self, other: Duration) -> Duration {
-        self.checked_sub(other).expect("the difference of two durations is too long")
+        self.checked_sub(other)
+            .expect("the difference of two durations is too long")
     }
 }
 
@@ -252,7 +256,10 @@ impl fmt::Display for Duration {
             bytes: [0; TEXT_ROOM],
             length: 0,
         };
-        let (size, sign) = (nanoseconds.unsigned_abs(), if nanoseconds < 0 { "-" } else { "" });
+        let (size, sign) = (
+            nanoseconds.unsigned_abs(),
+            if nanoseconds < 0 { "-" } else { "" },
+        );
         let (seconds, mut fraction) = (size / NANOS as u128, size % NANOS as u128);
         write!(text, "{sign}PT{seconds}")?;
         if fraction > 0 {

@@ -18,7 +18,8 @@ const NAMES: [&str; 7] = [
 
 /// A day of the week, from 1 for Monday to 7 for Sunday (ISO 8601).
 ///
-/// Printed is the name's first three letters. A text that is read is these or the whole name, in large or small letters.
+/// Printed is the name's first three letters. A text that is read is these or the whole name, in large or small
+/// letters.
 ///
 /// ```
 /// use proved_calendar::Weekday;

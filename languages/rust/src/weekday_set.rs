@@ -121,7 +121,8 @@ impl IntoIterator for WeekdaySet {
 ///
 /// ```
 /// use proved_calendar::{Weekday, WeekdaySet};
-/// let names: Vec<String> = WeekdaySet::from([Weekday::Sun, Weekday::Tue]).into_iter().map(|it| it.to_string()).collect();
+/// let set = WeekdaySet::from([Weekday::Sun, Weekday::Tue]);
+/// let names: Vec<String> = set.into_iter().map(|it| it.to_string()).collect();
 /// assert_eq!(names, ["Tue", "Sun"]);
 /// ```
 #[derive(Clone, Debug)]

@@ -1,4 +1,5 @@
-//! The feature `chrono`: values of that crate, in which the year is counted as here and a leap second has nanoseconds of its own.
+//! The feature `chrono`: values of that crate, in which the year is counted as here and a leap second has nanoseconds
+//! of its own.
 
 use chrono::{Datelike, NaiveDate, NaiveDateTime, NaiveTime, Timelike};
 
@@ -27,7 +28,8 @@ impl TryFrom<NaiveDate> for Date {
 /// Every date-time is one of chrono too.
 impl From<DateTime> for NaiveDateTime {
     fn from(moment: DateTime) -> NaiveDateTime {
-        let time = NaiveTime::from_num_seconds_from_midnight_opt(moment.second_of_day(), moment.nanos());
+        let time =
+            NaiveTime::from_num_seconds_from_midnight_opt(moment.second_of_day(), moment.nanos());
         NaiveDate::from(moment.date()).and_time(time.expect("chrono has every time of day"))
     }
 }
@@ -47,7 +49,10 @@ impl TryFrom<NaiveDateTime> for DateTime {
 impl From<Duration> for chrono::Duration {
     fn from(length: Duration) -> chrono::Duration {
         // (both parts have the sign of the whole, so that neither is too long)
-        let (millis, nanos) = (length.nanoseconds() / 1_000_000, length.nanoseconds() % 1_000_000);
+        let (millis, nanos) = (
+            length.nanoseconds() / 1_000_000,
+            length.nanoseconds() % 1_000_000,
+        );
         chrono::Duration::milliseconds(millis as i64) + chrono::Duration::nanoseconds(nanos as i64)
     }
 }
@@ -59,7 +64,8 @@ impl TryFrom<chrono::Duration> for Duration {
     fn try_from(length: chrono::Duration) -> Result<Duration, ConversionError> {
         let rest = length - chrono::Duration::milliseconds(length.num_milliseconds());
         let nanos = i128::from(rest.num_nanoseconds().ok_or(NO_DURATION)?);
-        Duration::from_nanoseconds(i128::from(length.num_milliseconds()) * 1_000_000 + nanos).ok_or(NO_DURATION)
+        Duration::from_nanoseconds(i128::from(length.num_milliseconds()) * 1_000_000 + nanos)
+            .ok_or(NO_DURATION)
     }
 }
 

@@ -1,4 +1,5 @@
-//! The feature `time`: values of that crate, which has the years from -9999 to 9999 (more with its own `large-dates`) and no leap seconds.
+//! The feature `time`: values of that crate, which has the years from -9999 to 9999 (more with its own `large-dates`)
+//! and no leap seconds.
 
 use time::{PrimitiveDateTime, Time};
 
@@ -33,9 +34,13 @@ impl TryFrom<DateTime> for PrimitiveDateTime {
 
     fn try_from(moment: DateTime) -> Result<PrimitiveDateTime, ConversionError> {
         let date = time::Date::try_from(moment.date()).map_err(|_| NO_DATE_TIME)?;
-        let [hour, minute, second] = [moment.hour(), moment.minute(), moment.second()].map(|it| it as u8);
+        let [hour, minute, second] =
+            [moment.hour(), moment.minute(), moment.second()].map(|it| it as u8);
         let time = Time::from_hms_nano(hour, minute, second, moment.nanosecond());
-        Ok(PrimitiveDateTime::new(date, time.map_err(|_| NO_DATE_TIME)?))
+        Ok(PrimitiveDateTime::new(
+            date,
+            time.map_err(|_| NO_DATE_TIME)?,
+        ))
     }
 }
 
@@ -44,15 +49,18 @@ impl TryFrom<PrimitiveDateTime> for DateTime {
 
     fn try_from(moment: PrimitiveDateTime) -> Result<DateTime, ConversionError> {
         let date = Date::try_from(moment.date()).map_err(|_| NO_DATE_TIME)?;
-        let [hour, minute, second] = [moment.hour(), moment.minute(), moment.second()].map(u32::from);
-        date.at(hour, minute, second, moment.nanosecond()).ok_or(NO_DATE_TIME)
+        let [hour, minute, second] =
+            [moment.hour(), moment.minute(), moment.second()].map(u32::from);
+        date.at(hour, minute, second, moment.nanosecond())
+            .ok_or(NO_DATE_TIME)
     }
 }
 
 /// Every duration is one of the crate `time` too.
 impl From<Duration> for time::Duration {
     fn from(length: Duration) -> time::Duration {
-        time::Duration::seconds(length.seconds()) + time::Duration::nanoseconds(i64::from(length.nanos()))
+        time::Duration::seconds(length.seconds())
+            + time::Duration::nanoseconds(i64::from(length.nanos()))
     }
 }
 

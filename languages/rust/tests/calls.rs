@@ -1,5 +1,5 @@
-//! Calls every function of `calendar.h` through this crate, with answers that are known from outside: a test for each function,
-//! named after it, and then what Rust adds.
+//! Calls every function of `calendar.h` through this crate, with answers that are known from outside: a test for each
+//! function, named after it, and then what Rust adds.
 
 use proved_calendar::{
     days_in_month as days_in, is_leap_year as is_leap, Date, DateTime, Duration, Weekday,
@@ -34,7 +34,8 @@ fn number(date: Option<Date>) -> Option<i32> {
     date.map(Date::number)
 }
 
-/// Each field of the first and the last date, of days around year 0 and of ISO years that begin before or after the year.
+/// Each field of the first and the last date, of days around year 0 and of ISO years that begin before or after the
+/// year.
 const DAYS: [(i32, i32, [u32; 3], Weekday, i32, u32); 12] = [
     (-95_746_129, -262_143, [1, 1, 1], Thu, -262_143, 1),
     (-95_745_765, -262_143, [12, 31, 365], Thu, -262_143, 53),

@@ -46,7 +46,10 @@ fn texts_by_serde() {
     for moment in date_times() {
         assert_eq!(Written(moment).to_string(), moment.to_string());
         assert_eq!(read(&moment.to_string()), Ok(moment));
-        assert_eq!(Written(moment.date()).to_string(), moment.date().to_string());
+        assert_eq!(
+            Written(moment.date()).to_string(),
+            moment.date().to_string()
+        );
         assert_eq!(read(&moment.date().to_string()), Ok(moment.date()));
     }
     assert_eq!(read("-PT1.5S"), Ok(nanoseconds(-1_500_000_000)));
@@ -54,8 +57,15 @@ fn texts_by_serde() {
     assert_eq!(read("Thu"), Ok(Weekday::Thu));
     assert_eq!(Written(Weekday::Thu).to_string(), "Thu");
     let refused = read::<Date>("2024-02-30").unwrap_err().to_string();
-    assert_eq!(refused, "invalid value: string \"2024-02-30\", expected the text of a date");
-    assert!(read::<DateTime>("2024-02-29").is_err() && read::<Duration>("1").is_err() && read::<Weekday>("T").is_err());
+    assert_eq!(
+        refused,
+        "invalid value: string \"2024-02-30\", expected the text of a date"
+    );
+    assert!(
+        read::<DateTime>("2024-02-29").is_err()
+            && read::<Duration>("1").is_err()
+            && read::<Weekday>("T").is_err()
+    );
 }
 
 #[test]
@@ -63,22 +73,50 @@ fn values_of_chrono() {
     use chrono::{Datelike, NaiveDate, NaiveDateTime, Timelike};
     for moment in date_times() {
         let theirs = NaiveDateTime::from(moment);
-        assert_eq!((theirs.year(), theirs.month(), theirs.day()), (moment.date().year(), moment.date().month(), moment.date().day()));
-        assert_eq!((theirs.num_seconds_from_midnight(), theirs.nanosecond()), (moment.second_of_day(), moment.nanos()));
+        assert_eq!(
+            (theirs.year(), theirs.month(), theirs.day()),
+            (
+                moment.date().year(),
+                moment.date().month(),
+                moment.date().day()
+            )
+        );
+        assert_eq!(
+            (theirs.num_seconds_from_midnight(), theirs.nanosecond()),
+            (moment.second_of_day(), moment.nanos())
+        );
         assert_eq!(DateTime::try_from(theirs), Ok(moment));
-        assert_eq!(Date::try_from(NaiveDate::from(moment.date())), Ok(moment.date()));
+        assert_eq!(
+            Date::try_from(NaiveDate::from(moment.date())),
+            Ok(moment.date())
+        );
     }
     let last = NaiveDate::from(Date::MAX);
-    assert!(last.succ_opt().map_or(true, |it| Date::try_from(it).is_err()));
-    let leap = NaiveDate::from(Date::UNIX_EPOCH).and_hms_nano_opt(0, 0, 0, 0).unwrap().with_nanosecond(1_500_000_000).unwrap();
-    assert_eq!(DateTime::try_from(leap).unwrap_err().to_string(), "there is no such date-time");
+    assert!(last
+        .succ_opt()
+        .map_or(true, |it| Date::try_from(it).is_err()));
+    let leap = NaiveDate::from(Date::UNIX_EPOCH)
+        .and_hms_nano_opt(0, 0, 0, 0)
+        .unwrap()
+        .with_nanosecond(1_500_000_000)
+        .unwrap();
+    assert_eq!(
+        DateTime::try_from(leap).unwrap_err().to_string(),
+        "there is no such date-time"
+    );
     for count in [0, 1, -1, -1_500_000_000, LONGEST, -LONGEST, 1 - LONGEST] {
         let theirs = chrono::Duration::from(nanoseconds(count));
         assert_eq!(Duration::try_from(theirs), Ok(nanoseconds(count)));
     }
-    assert_eq!(chrono::Duration::from(nanoseconds(-1_500_000_000)).num_milliseconds(), -1_500);
+    assert_eq!(
+        chrono::Duration::from(nanoseconds(-1_500_000_000)).num_milliseconds(),
+        -1_500
+    );
     for weekday in Weekday::ALL {
-        assert_eq!(chrono::Weekday::from(weekday).number_from_monday(), weekday.number());
+        assert_eq!(
+            chrono::Weekday::from(weekday).number_from_monday(),
+            weekday.number()
+        );
         assert_eq!(Weekday::from(chrono::Weekday::from(weekday)), weekday);
     }
 }
@@ -88,9 +126,15 @@ fn values_of_time() {
     use time::PrimitiveDateTime;
     let leap_day = Date::from_ymd(2024, 2, 29).unwrap();
     let theirs = time::Date::try_from(leap_day).unwrap();
-    assert_eq!((theirs.year(), u8::from(theirs.month()), theirs.day()), (2024, 2, 29));
+    assert_eq!(
+        (theirs.year(), u8::from(theirs.month()), theirs.day()),
+        (2024, 2, 29)
+    );
     assert_eq!(Date::try_from(theirs), Ok(leap_day));
-    assert_eq!(time::Date::try_from(Date::MAX).unwrap_err().to_string(), "there is no such date");
+    assert_eq!(
+        time::Date::try_from(Date::MAX).unwrap_err().to_string(),
+        "there is no such date"
+    );
     let mut found = 0;
     for moment in date_times() {
         let Ok(theirs) = PrimitiveDateTime::try_from(moment) else {
@@ -103,11 +147,22 @@ fn values_of_time() {
     assert_eq!(found, 3);
     for count in [0, 1, -1, -1_500_000_000, LONGEST, -LONGEST, 1 - LONGEST] {
         let theirs = time::Duration::from(nanoseconds(count));
-        assert_eq!((theirs.whole_nanoseconds(), Duration::try_from(theirs)), (count, Ok(nanoseconds(count))));
+        assert_eq!(
+            (theirs.whole_nanoseconds(), Duration::try_from(theirs)),
+            (count, Ok(nanoseconds(count)))
+        );
     }
-    assert_eq!(Duration::try_from(time::Duration::MAX).unwrap_err().to_string(), "there is no such duration");
+    assert_eq!(
+        Duration::try_from(time::Duration::MAX)
+            .unwrap_err()
+            .to_string(),
+        "there is no such duration"
+    );
     for weekday in Weekday::ALL {
-        assert_eq!(u32::from(time::Weekday::from(weekday).number_from_monday()), weekday.number());
+        assert_eq!(
+            u32::from(time::Weekday::from(weekday).number_from_monday()),
+            weekday.number()
+        );
         assert_eq!(Weekday::from(time::Weekday::from(weekday)), weekday);
     }
 }

@@ -1,4 +1,5 @@
-//! What the crate does besides calling the library: sums and texts of durations, names of weekdays, sets and ranges, room.
+//! What the crate does besides calling the library: sums and texts of durations, names of weekdays, sets and ranges,
+//! room.
 
 use proved_calendar::{Date, DateRange, DateTime, Duration, Weekday, WeekdaySet};
 
@@ -17,14 +18,24 @@ fn room() {
     assert_eq!(size_of::<Option<Date>>(), size_of::<Date>());
     assert_eq!(size_of::<Option<DateTime>>(), size_of::<DateTime>());
     assert_eq!(size_of::<Option<Duration>>(), size_of::<Duration>());
-    assert_eq!((size_of::<Date>(), size_of::<DateTime>(), size_of::<Duration>()), (4, 16, 16));
+    assert_eq!(
+        (
+            size_of::<Date>(),
+            size_of::<DateTime>(),
+            size_of::<Duration>()
+        ),
+        (4, 16, 16)
+    );
 }
 
 #[test]
 fn sums_of_durations() {
     let lengths = [1, -1_500_000_000, 2_000_000_000, 999_999_999].map(nanoseconds);
     assert_eq!(lengths.iter().sum::<Duration>(), nanoseconds(1_500_000_000));
-    assert_eq!(lengths.into_iter().sum::<Duration>(), nanoseconds(1_500_000_000));
+    assert_eq!(
+        lengths.into_iter().sum::<Duration>(),
+        nanoseconds(1_500_000_000)
+    );
     assert_eq!([].iter().sum::<Duration>(), Duration::ZERO);
     let mut length = nanoseconds(5);
     length += nanoseconds(7);
@@ -96,16 +107,37 @@ fn texts_of_durations() {
 
 #[test]
 fn names_of_weekdays() {
-    let names = ["Monday", "Tuesday", "Wednesday", "Thursday", "Friday", "Saturday", "Sunday"];
+    let names = [
+        "Monday",
+        "Tuesday",
+        "Wednesday",
+        "Thursday",
+        "Friday",
+        "Saturday",
+        "Sunday",
+    ];
     for (weekday, name) in Weekday::ALL.into_iter().zip(names) {
         assert_eq!(weekday.name(), name);
         assert_eq!(weekday.to_string(), name[..3]);
         assert_eq!(format!("{weekday:>5}"), format!("{:>5}", &name[..3]));
-        for text in [name, &name[..3], &name.to_uppercase(), &name[..3].to_lowercase()] {
+        for text in [
+            name,
+            &name[..3],
+            &name.to_uppercase(),
+            &name[..3].to_lowercase(),
+        ] {
             assert_eq!(text.parse(), Ok(weekday));
         }
-        for text in [&name[..2], &name[..4], &format!("{name} "), &format!("{name}s")] {
-            assert_eq!(text.parse::<Weekday>().unwrap_err().to_string(), "no text of a weekday");
+        for text in [
+            &name[..2],
+            &name[..4],
+            &format!("{name} "),
+            &format!("{name}s"),
+        ] {
+            assert_eq!(
+                text.parse::<Weekday>().unwrap_err().to_string(),
+                "no text of a weekday"
+            );
         }
     }
     assert!("".parse::<Weekday>().is_err());
@@ -121,13 +153,22 @@ fn members_of_sets() {
         let set: WeekdaySet = weekdays.iter().copied().rev().collect();
         assert!(set.iter().eq(weekdays.iter().copied()));
         assert!(set.into_iter().rev().eq(weekdays.iter().rev().copied()));
-        assert_eq!((set.len(), set.iter().len(), set.is_empty()), (weekdays.len(), weekdays.len(), members == 0));
+        assert_eq!(
+            (set.len(), set.iter().len(), set.is_empty()),
+            (weekdays.len(), weekdays.len(), members == 0)
+        );
         let mut extended = WeekdaySet::from([Weekday::Sun]);
         extended.extend(set);
-        assert_eq!(extended, weekdays.into_iter().chain([Weekday::Sun]).collect());
+        assert_eq!(
+            extended,
+            weekdays.into_iter().chain([Weekday::Sun]).collect()
+        );
         let mut both = set.iter();
         let (first, last) = (both.next(), both.next_back());
-        assert_eq!(both.len(), set.len() - usize::from(first.is_some()) - usize::from(last.is_some()));
+        assert_eq!(
+            both.len(),
+            set.len() - usize::from(first.is_some()) - usize::from(last.is_some())
+        );
     }
 }
 
@@ -141,16 +182,38 @@ fn ranges_of_dates() {
     assert_eq!(numbers((dated(8)..dated(5)).into()), []);
     assert_eq!(numbers((dated(8)..=dated(5)).into()), []);
     let whole = DateRange::from(Date::MIN..=Date::MAX);
-    assert_eq!((whole.len(), whole.clone().last()), (191_491_529, Some(Date::MAX)));
+    assert_eq!(
+        (whole.len(), whole.clone().last()),
+        (191_491_529, Some(Date::MAX))
+    );
     assert_eq!(whole.clone().nth(191_491_528), Some(Date::MAX));
     assert_eq!(whole.clone().nth(191_491_529), None);
     assert_eq!(whole.clone().nth(usize::MAX), None);
     assert_eq!(whole.step_by(100_000_000).count(), 2);
     let mut short = DateRange::from(dated(5)..dated(8));
-    assert_eq!((short.clone().count(), short.clone().last()), (3, Some(dated(7))));
+    assert_eq!(
+        (short.clone().count(), short.clone().last()),
+        (3, Some(dated(7)))
+    );
     assert_eq!((short.nth(9), short.len(), short.next()), (None, 0, None));
     let mut both = DateRange::from(dated(5)..dated(9));
-    assert_eq!((both.next(), both.next_back(), both.len()), (Some(dated(5)), Some(dated(8)), 2));
-    assert!(both.contains(dated(6)) && both.contains(dated(7)) && !both.contains(dated(5)) && !both.contains(dated(8)));
-    assert_eq!((both.next_back(), both.next_back(), both.next_back(), both.next()), (Some(dated(7)), Some(dated(6)), None, None));
+    assert_eq!(
+        (both.next(), both.next_back(), both.len()),
+        (Some(dated(5)), Some(dated(8)), 2)
+    );
+    assert!(
+        both.contains(dated(6))
+            && both.contains(dated(7))
+            && !both.contains(dated(5))
+            && !both.contains(dated(8))
+    );
+    assert_eq!(
+        (
+            both.next_back(),
+            both.next_back(),
+            both.next_back(),
+            both.next()
+        ),
+        (Some(dated(7)), Some(dated(6)), None, None)
+    );
 }
