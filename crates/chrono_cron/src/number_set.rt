@@ -17,9 +17,6 @@ pub struct NumberSet {
 }
 
 impl NumberSet {
-    /// The set with no member.
-    pub const EMPTY: NumberSet = NumberSet { digits: 0 };
-
     /// The set of the numbers whose digits are 1: k is a member if that for 2^k is.
     ///
     /// So 5, which is 101 in binary, is the set of 0 and 2.
@@ -77,8 +74,8 @@ impl NumberSet {
         if from <= last { Some(last) } else { None }
     }
 
-    // The set of the numbers that lie so many places before one that is, counted in weeks, a member: of the days of a month those
-    // with the weekdays of this set, where `before` is the weekday of the day before its first.
+    // Of the days of a month, by their places in it, those with a weekday of this set, from 0 for Sunday; `before` is the weekday of the
+    // day before the first.
     #[inline]
     pub(crate) fn every_week(self, before: u32) -> NumberSet
         requires { before < 7 }
