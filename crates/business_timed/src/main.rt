@@ -1,8 +1,8 @@
-//! `business_timed CALL COUNT` makes one call of `chrono_business` on so many pseudo-random dates and prints the sum of the
-//! answers. `benches/business.py` times it.
+//! `business_timed CALL COUNT` makes one call of `chrono_business` on so many pseudo-random dates and prints the sum
+//! of the answers. `benches/business.py` times it.
 //!
-//! The holidays are the day numbers on the first line of standard input; Saturday and Sunday are the weekend. The call `none`
-//! draws the dates and adds their numbers up.
+//! The holidays are the day numbers on the first line of standard input; Saturday and Sunday are the weekend. The
+//! call `none` draws the dates and adds their numbers up.
 #![tactic(auto)]
 
 use chrono_business::Calendar;
