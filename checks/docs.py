@@ -31,7 +31,7 @@ import statuses  # noqa: E402
 
 TOP = os.path.dirname(os.path.dirname(os.path.abspath(__file__)))
 # Folders with nothing of the tree's own, beside which a caller from Python may build a shared object.
-LEFT_OUT = (".git", "out", "target", "__pycache__")
+LEFT_OUT = (".git", "out", "dist", "target", "__pycache__")
 # The comments of each kind of source.
 COMMENTS = {".rt": r"//[^\n]*", ".rs": r"//[^\n]*", ".antt": r"--[^\n]*", ".c": r"//[^\n]*|/\*.*?\*/", ".h": r"//[^\n]*|/\*.*?\*/",
             ".py": r'""".*?"""|#[^\n]*', ".pyi": r"#[^\n]*", ".toml": r"#[^\n]*", ".js": r"//[^\n]*|/\*.*?\*/", ".ts": r"//[^\n]*|/\*.*?\*/"}
@@ -41,29 +41,30 @@ ABSENT = {
         IntoIterator Ok Result Some String Sum TryFrom Vec collect fmt::Write for format if mod requires self str unsafe unwrap""",
     "of the kit: its words, its tactics and its std": """SomeIff agree_below agree_below_at grind ints map num_traits omega refl subst
         unfoldable view_is write_str_gives ensures edited rtlib""",
-    "of Python": "OverflowError True TypeError ValueError datetime operator strftime",
+    "of Python": "OverflowError True TypeError ValueError datetime operator strftime timedelta",
     "of JavaScript": "PlainTime RangeError Temporal overflow round toLocaleString",
     "of C": "INT64_MIN memcpy",
-    "of Rust's compiler and of the kit's options": "cpu target_feature",
+    "of Rust's compiler and of the kit's options": "cpu serde target_feature wasm64",
     "read from the environment": "CALENDAR_FOLDER CMAKE_PREFIX_PATH PKG_CONFIG_PATH",
     "of chrono, and left out here": """parse_from_str parse_and_remainder ParseMonthError ParseWeekdayError format_with_items
         format_localized format_localized_with_items and_utc and_local_timezone checked_add_offset checked_sub_offset FixedOffset
         BEFORE_MIN AFTER_MAX UNIX_EPOCH timestamp from_timestamp as_seconds_f64 as_seconds_f32 from_std to_std OutOfRangeError
         from_isoywd from_num_days_from_ce from_hms from_hms_milli from_hms_micro from_hms_nano
         from_num_seconds_from_midnight and_hms and_hms_milli and_hms_micro and_hms_nano NaiveDate::succ NaiveDate::pred""",
-    "files and modules of chrono": "traits naive internals isoweek",
+    "files and modules of chrono": "chrono traits naive internals isoweek",
     "what the kit prints of itself": "rattle-kit dac8208d650f15bf",
-    "words of the shell and of a line": "cc cd echo move pkg-config",
+    "words of the shell and of a line": "cc cd echo move pkg-config sha256sum",
     "of numpy": "busday_offset",
     "digits of a number": "_294_967_297",
     "texts and digits of a text": "P0D PT PT59M59 YYYY-MM-DD YYYY-DDD YYYY-Www-D hh mm ss",
     "an argument of a call": "stop",
+    "made by tools/dist": "SHA256SUMS",
     "in the place of a name, or a part of names": "LAW ARGS condition with_ _opt",
 }
 # Files and folders that are rightly not there, by the reason.
 NO_FILES = {
     "left by a build": "dist crates/caltool/out/caltool out out/libcalendar_c.a out/incremental",
-    "where a package is installed": "include/calendar.h lib/libcalendar.a lib/libcalendar.so.0 lib/pkgconfig lib/pkgconfig/calendar.pc lib/cmake/calendar",
+    "where a package is installed": "include/calendar.h lib/libcalendar.a lib/libcalendar.so.0 lib/pkgconfig lib/pkgconfig/calendar.pc lib/cmake/calendar libcalendar.so",
     "an option of a compiler": "-Ilanguages/c",
     "of the kit": "docs/WALKS.md",
     "of the reader": "main.c",

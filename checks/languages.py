@@ -13,8 +13,8 @@ with one another and with the library's instructions; and the versions of all pa
 compiler that is found. The packages for C and Python are made by the modules of tools/packages in a temporary folder, installed as
 their users would, and tested there by checks/from_c.py and checks/from_python.py, and so is that for Rust by checks/from_rust.py. Each export
 has to be called in C's tests, and to have a test of its name in the other two, but for columns and what belongs to them, which C
-alone has. The examples of the READMEs are run too, and the
-lines of README.md for each language have to stand in them.
+alone has. The
+examples of the READMEs are run too, and the uses that README.md shows have to stand in them.
 """
 import os
 import re
@@ -243,14 +243,14 @@ def compile_header(results):
             results.count(ran.returncode == 0, f"{' '.join(words)}: {ran.stderr}")
 
 
-def compare_examples(results):
-    """README.md has lines for each language, which stand in the example of that language."""
-    section = read(f"{TOP}/README.md").partition("\n## From other languages\n")[2].partition("\n## ")[0]
-    quoted = re.findall(r"^```(\w+)\n(.*?)^```$", section, re.M | re.S)
-    shown = sorted(language for language, _ in quoted)
-    results.count({"c", "python", "rust"} <= set(shown) <= {"c", "js", "python", "rust"}, f"README.md has lines of {shown}")
-    for language, lines in quoted:
-        results.count(lines in re.sub(r"^    ", "", example(language), flags=re.M), f"README.md: other lines of {language}")
+def compare_uses(results):
+    """README.md has a use of each language with its answer; both stand in the examples of that language, which are run."""
+    row = r"^\| \[[^]]*\]\(languages/(\w+)/README\.md\) \| `([^`]*)` \| `([^`]*)`"
+    rows = re.findall(row, read(f"{TOP}/README.md"), re.M)
+    results.count(sorted(it for it, _, _ in rows) == ["c", "javascript", "python", "rust"], f"README.md has uses of {rows}")
+    for language, use, answer in rows:
+        text = read(f"{TOP}/languages/{language}/README.md")
+        results.count(use in text and answer in text, f"languages/{language}/README.md has no {use} with {answer}")
 
 
 # Where each package says its version.
@@ -277,7 +277,7 @@ def compare_sources(results):
     compare_safety(results, header)
     compare_uses(results, header)
     compare_processors(results)
-    compare_examples(results)
+    compare_uses(results)
     compare_versions(results)
     compile_header(results)
     return header
