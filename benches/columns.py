@@ -81,14 +81,14 @@ def times(words, count, rounds):
 
 def table(measured, levels):
     """The rows of a table: ours, one by one, the loop of C and the copy of each level, and then chrono and numpy."""
-    heads = [f"{it} {level}" for level in levels for it in ("ours", "one by one", "loop of C", "ratio", "copy")]
+    heads = [f"{it} {level}" for level in levels for it in ("ours", "one by one", "loop of C", "times as fast", "copy")]
     print("| Column | " + " | ".join([*heads, "chrono", "numpy"]) + " |")
     print("|---" * (len(heads) + 3) + "|")
     for call in CALLS:
         cells = []
         for level in levels:
             ours, single, limit, copy = (measured[level].get((call, who)) for who in ("ours", "single", "limit", "copy"))
-            ratio = ours / limit if limit else None
+            ratio = limit / ours if limit else None
             cells += [f"{it:.2f}" if it else "" for it in (ours, single, limit, ratio, copy)]
         for who in ("chrono", "numpy"):
             taken = measured.get(who, {}).get((call, who))

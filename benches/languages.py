@@ -1,5 +1,5 @@
 #!/usr/bin/env python3
-"""Measures calls of the calendar from C, Python and Rust, each beside that language's own, in one run, as ratios.
+"""Measures calls of the calendar from C, Python and Rust, each beside that language's own, in one run: how many times as fast ours are.
 
     benches/languages.py [COUNT]        (20 million from C and Rust if left out, and a hundredth of them from Python)
 
@@ -71,11 +71,11 @@ def runs_of(language, program):
 
 
 def cells(best, call, count):
-    """Of a call from a language: the nanoseconds of theirs and of ours, and how often the time of theirs goes into ours."""
+    """Of a call from a language: the nanoseconds of theirs and of ours, and how often our time goes into theirs."""
     if (call, "ours") not in best:
         return ["", "", ""]
     ours, theirs = ((best[call, who] - best["none", "none"]) / count * 1e9 for who in ("ours", "theirs"))
-    return [f"{theirs:.1f}", f"{ours:.1f}", f"{ours / theirs:.2f}"]
+    return [f"{theirs:.1f}", f"{ours:.1f}", f"{theirs / ours:.2f}"]
 
 
 def main():
@@ -89,14 +89,14 @@ def main():
         words = [python.python(), f"{SOURCES}/python_calls.py"]
         of_python = subprocess.run(words, check=True, stdout=subprocess.PIPE, text=True).stdout
         version = subprocess.run([words[0], "--version"], check=True, stdout=subprocess.PIPE, text=True).stdout.strip()
-    print("Nanoseconds a call, and how often the time of a language's own calendar goes into ours\n")
-    heads = [f"{own} | from {language} | ratio" for language, (own, _) in LANGUAGES.items()]
+    print("Nanoseconds a call, and how many times as fast as a language's own calendar ours is\n")
+    heads = [f"{own} | from {language} | times as fast" for language, (own, _) in LANGUAGES.items()]
     print(f"| Call | {' | '.join(heads)} |\n|---{'|---' * 9}|")
     for call in CALLS:
         row = [it for name, best in tables.items() for it in cells(best, call, count // LANGUAGES[name][1])]
         print(f"| `{call}` | {' | '.join(row)} |")
     print(NOTES)
-    print(f"\nFrom {version}, each call\n\n| Kind | Call | datetime | ours | ratio |\n|---|---|---|---|---|\n{of_python}", end="")
+    print(f"\nFrom {version}, each call\n\n| Kind | Call | datetime | ours | times as fast |\n|---|---|---|---|---|\n{of_python}", end="")
 
 
 if __name__ == "__main__":

@@ -1,6 +1,6 @@
 #!/usr/bin/env python3
 """Each call of proved_calendar beside the call of datetime that means the same: `python_calls.py [ROUNDS]` prints rows of a table
-with both times in nanoseconds and their ratio.
+with both times in nanoseconds, and how many times as fast ours is.
 
 The calls are made on 500 pseudo-random arguments from the 400 years from 1800 on, and what they answer has to be the same before any
 is timed. They take turns in all rounds, and the best one counts, by processor time, less that of a loop without a call. A Python
@@ -126,7 +126,7 @@ def main():
                 kept[i] = min(kept[i], best(function, items, 20) / len(items))
     for (kind, what, _), (ours, theirs, none) in zip(programs, times):
         ours, theirs = (1e9 * (it - none) for it in (ours, theirs))
-        print(f"| {kind} | {what} | {theirs:.0f} | {ours:.0f} | {ours / theirs:.2f} |")
+        print(f"| {kind} | {what} | {theirs:.0f} | {ours:.0f} | {theirs / ours:.2f} |")
 
 
 if __name__ == "__main__":
