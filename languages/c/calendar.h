@@ -1,4 +1,4 @@
-/* calendar.h: the proleptic Gregorian calendar, by functions that are proved.
+/* calendar.h of proved_calendar: the proleptic Gregorian calendar, by functions that are proved.
  *
  * A date is its day number: 1 is 1 January of year 1, 0 the day before it. Years count as in ISO 8601, so year 0 is the one
  * before year 1. Dates are compared, and the days between two of them counted, as the numbers that they are.
