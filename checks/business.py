@@ -98,6 +98,8 @@ def in_month(day, of):
 
 def rolled(calendar, name, day):
     after, before = calendar.next(day), calendar.last_up_to(day)
+    if name == "unadjusted":
+        return day
     if name == "following":
         return after
     if name == "preceding":
@@ -111,7 +113,7 @@ def rolled(calendar, name, day):
     return after if after - day <= day - before else before
 
 
-ROLLS = ("following", "preceding", "modified_following", "modified_preceding", "nearest")
+ROLLS = ("unadjusted", "following", "preceding", "modified_following", "modified_preceding", "nearest")
 
 
 # ---- rows
@@ -178,7 +180,6 @@ def calendars(chance):
 
 def questions(chance, calendar, count):
     """Rows of calls at random days, far enough from the ends of the walk."""
-    never = not calendar.open
     for _ in range(count):
         day = chance.randrange(729_900, 731_200) if chance.random() < 0.5 else chance.randrange(720_000, 800_000)
         day = chance.choice((day, chance.randrange(738_000, 741_000)))
@@ -186,8 +187,7 @@ def questions(chance, calendar, count):
         for name in ("next", "last", "first_of_month", "last_of_month") + ROLLS:
             yield in_row(calendar, name, day)
         steps = chance.choice((0, 1, -1, chance.randrange(-20, 20), chance.randrange(-3000, 3000)))
-        if not never:
-            yield in_row(calendar, "add", day, steps)
+        yield in_row(calendar, "add", day, steps)
         other = chance.randrange(725_000, 745_000)
         yield in_row(calendar, "count", day, other)
         yield in_row(calendar, "both", day, other)
@@ -236,7 +236,13 @@ add 95745399 0 = 95745399
 add 95745399 1 = none
 add -95746129 -1 = none
 add 738886 9223372036854775807 = none
-add 738886 -9223372036854775808 = none"""
+add 738886 -9223372036854775808 = none
+thirty_360 732735 732919 = 183
+thirty_e_360 732735 732919 = 182
+thirty_360 733101 733285 = 182
+thirty_e_360 733101 733285 = 181
+thirty_360 732554 732735 = 178
+thirty_e_360 732554 732735 = 178"""
 
 
 def answered(rows):

@@ -102,6 +102,9 @@ static void compare_block(size_t n, int32_t days_on, int32_t months_on)
     for (size_t i = 0; i < n; i++) wrong += numbers[i] != calendar_add_days(dates[i], counts[i]);
     answered &= calendar_column_days_between(dates, n, bases, n, numbers, n);
     for (size_t i = 0; i < n; i++) wrong += numbers[i] != distance(dates[i], bases[i]);
+    uint8_t set = (uint8_t)(draw() % 256);
+    answered &= calendar_column_first_on(dates, n, set, numbers, n);
+    for (size_t i = 0; i < n; i++) wrong += numbers[i] != calendar_first_on(dates[i], set);
     answered &= calendar_column_to_unix_days(dates, n, wide, n);
     for (size_t i = 0; i < n; i++) wrong += wide[i] != to_unix(dates[i]);
     for (size_t i = 0; i < n; i++) wide[i] = (int64_t)dates[i] - CALENDAR_UNIX_EPOCH;

@@ -9,7 +9,7 @@ listed, and so are its day of the month and its weekday, or one of these where n
 found by trying each day from the start's on, and each minute of a day that passes, to the end of the calendar; a schedule of which
 no day passes in 400 years, in which days and weekdays come again, is never due. Calendar dates are those of checks/counted.py.
 
-The rows of crates/cron_rows/stdin are held to it, and so are generated ones: schedules with wide and with narrow fields, starts at
+The rows of crates/cron_rows/stdin are held to it, some answers that were worked out by hand, and generated ones: schedules with wide and with narrow fields, starts at
 both ends of the calendar, in leap seconds, at due moments and beside them; and every minute of a year for ten schedules.
 """
 import argparse
@@ -17,6 +17,7 @@ import os
 import random
 import subprocess
 import sys
+from datetime import date as Date
 
 from counted import FIRST_DAY, LAST_DAY, day_of, name_of, weekday_of
 
@@ -184,6 +185,40 @@ def known():
     return [row_of(call, schedule, start) for schedule in schedules for start in starts for call in ("next", "prev", "due")]
 
 
+# Answers that were worked out by hand, with a calendar beside: a call, a schedule, a start and the moment that is answered.
+BY_HAND = """\
+next | 0 0 29 2 * | 2096-02-29 00:00:00.0 | 2104-02-29 00:00
+prev | 0 0 29 2 * | 2096-02-29 00:00:00.0 | 2092-02-29 00:00
+next | 30 4 1,15 * 5 | 2024-02-09 04:29:59.999999999 | 2024-02-09 04:30
+next | 30 4 1,15 * 5 | 2024-02-09 04:30:00.0 | 2024-02-15 04:30
+prev | 30 4 1,15 * 5 | 2024-02-09 04:30:00.0 | 2024-02-02 04:30
+next | 0 0 */2 * 1 | 2024-03-01 00:00:00.0 | 2024-03-11 00:00
+prev | 0 0 */2 * 1 | 2024-03-01 00:00:00.0 | 2024-02-19 00:00
+next | 0 0 1-31/2 * 1 | 2024-03-01 00:00:00.0 | 2024-03-03 00:00
+next | 0 0 13 * 5 | 2024-09-01 00:00:00.0 | 2024-09-06 00:00
+next | 0 0 * * 7 | 2024-02-29 00:00:00.0 | 2024-03-03 00:00
+next | 0 0 30 2 1 | 2024-01-31 00:00:00.0 | 2024-02-05 00:00
+prev | 0 0 30 2 1 | 2024-01-31 00:00:00.0 | 2023-02-27 00:00
+next | 0 0 30 2 * | 2024-01-01 00:00:00.0 | none
+prev | 0 0 30 2 * | 2024-01-01 00:00:00.0 | none
+next | 59 23 31 12 * | 2024-12-31 23:58:59.0 | 2024-12-31 23:59
+next | 59 23 31 12 * | 2024-12-31 23:59:00.0 | 2025-12-31 23:59
+next | 0 0 1 1 * | 2016-12-31 23:59:59.1500000000 | 2017-01-01 00:00"""
+
+
+def by_hand():
+    """The rows of these answers."""
+    for line in BY_HAND.splitlines():
+        call, text, start, answer = line.split(" | ")
+        date, clock = start.split()
+        (hour, minute, second), fraction = map(int, clock.partition(".")[0].split(":")), clock.partition(".")[2]
+        if answer != "none":
+            day, at = answer.split()
+            answer = Date.fromisoformat(day).toordinal() * 1440 + int(at[:2]) * 60 + int(at[3:])
+        start = f"{Date.fromisoformat(date).toordinal()} {hour * 3600 + minute * 60 + second} {int(fraction)}"
+        yield f"{call} {Schedule(text).words()} {start} = {answer}"
+
+
 def answered(rows):
     """Runs the program over rows; how many it answers, and what it prints of the others."""
     text = "".join(f"{it}\n" for it in rows)
@@ -215,6 +250,7 @@ def main():
     start = (day_of(2023, 11, 15), 0, 0)
     for name, rows in (
         ("standing rows", standing),
+        ("answers by hand", list(by_hand())),
         ("generated rows", generated(arguments.rows, arguments.seed)),
         ("years of minutes", [row_of("year", Schedule(it), start) for it in YEARS]),
     ):

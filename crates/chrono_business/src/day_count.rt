@@ -6,7 +6,7 @@ ghost use Rattle.chrono_business.specs.DayCounts.{at_most_30 as up_to_30, days_3
 
 use chrono_datetime::{Datelike, NaiveDate};
 
-/// An exact fraction.
+/// An exact fraction, not reduced, and compared by its two numbers.
 #[derive(Clone, Copy, PartialEq, Eq, Hash, Debug)]
 pub struct Fraction {
     /// The number above the line.
@@ -38,7 +38,7 @@ pub fn actual_365_fixed(from: NaiveDate, to: NaiveDate) -> Fraction
 }
 
 /// "30/360" or "Bond Basis" (4.16(f)): each month has 30 days; a first day on the 31st counts as the 30th, and a last
-/// one if the first is later than the 29th.
+/// one if the first is later than the 29th. Which is the first goes by the arguments, also where `to` is earlier.
 pub fn thirty_360(from: NaiveDate, to: NaiveDate) -> Fraction
     ensures numerator { result.numerator ≡ days_30_360 from to }
     ensures denominator { result.denominator ≡ pos 360 }

@@ -13,7 +13,7 @@ pub fn open_days_come_back()
         IsNthOpenFrom c e n d }
 {}
 
-/// There is one `n`-th open day from a day on, and it is the first day that has more than `n` open days up to it.
+/// There is at most one `n`-th open day from a day on, and up to no earlier day are there more than `n`.
 pub fn nth_open_days_are_least()
     ensures one { (c : Closed) (d e f : ℤ) (n : ℕ) → IsNthOpenFrom c d n e →
         IsNthOpenFrom c d n f → e ≡ f }

@@ -2,7 +2,7 @@
 ghost use Rattle.std.specs.Prelude.{◌≡◌, pos, neg_ℤ};
 ghost use Rattle.chrono_columns.specs.Columns.{date_entry, day_entry, distance_entry, iso_week_entry, iso_year_entry, later_entry, month_entry, months_later_entry, ordinal_entry, unix_date_entry, unix_days_entry, weekday_entry, year_entry};
 
-/// What stands for none has no names, and no move and no distance leads from it to a date.
+/// What stands for none has no names; no date is a day or a month later than it, and it is no distance from a date.
 #[tactic(auto, unfolding(chrono_calendar::specs::Days::date_of_day, crate::specs::Columns::year_entry, crate::specs::Columns::ordinal_entry, crate::specs::Columns::month_entry, crate::specs::Columns::day_entry, crate::specs::Columns::weekday_entry, crate::specs::Columns::iso_year_entry, crate::specs::Columns::iso_week_entry, crate::specs::Columns::later_entry, crate::specs::Columns::months_later_entry, crate::specs::Columns::distance_entry, crate::specs::Columns::unix_days_entry))]
 pub fn none_comes_of_none()
     ensures year { year_entry (neg_ℤ (pos 2_147_483_648)) ≡ neg_ℤ (pos 2_147_483_648) }

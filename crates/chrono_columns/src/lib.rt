@@ -4,8 +4,8 @@
 //! or a distance that there is not, and 0 for a month, a day, an ordinal, a week or a weekday. A number that is no date has no
 //! names, and none comes of none.
 //!
-//! An element is computed with no branch and no memory: a number that is no date is taken for the nearest one, and what comes
-//! of it is then chosen or not. So a compiler turns each loop into vector code.
+//! But for those of [`first_on`] an element is computed with no branch: a number that is no date is taken for the nearest one, and
+//! what comes of it is then chosen or not. So a compiler turns their loops into vector code. No call takes memory.
 #![tactic(auto)]
 
 mod conversion;

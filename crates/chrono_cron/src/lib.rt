@@ -1,6 +1,9 @@
 //! Cron schedules: whether one is due at a moment, and the next and the last moment at which it is.
 //!
-//! Days and minutes are those of `chrono_datetime`'s naive date-times: no zone is known here, and no daylight-saving time.
+//! Days and minutes are those of `chrono_datetime`'s naive date-times: no zone is known here, and no daylight-saving time. A layer
+//! over zones maps these moments, and says what it does with one that comes twice or not at all.
+//!
+//! A field of `*` lists every number, and where one of the two fields of days begins so, `either` is false: the rule of cronie.
 #![tactic(auto)]
 
 mod number_set;

@@ -38,7 +38,7 @@ impl NumberSet {
         (self.digits >> number) & 1 == 1
     }
 
-    /// The least member from `from` on that is below `end`.
+    /// The least member from `from` on that is below `end`; `None` exactly if there is none.
     #[inline]
     pub fn first_in(self, from: u32, end: u32) -> Option<u32>
         requires { from < 64 }
@@ -56,7 +56,7 @@ impl NumberSet {
         if first < end { Some(first) } else { None }
     }
 
-    /// The greatest member below `end` that is not below `from`.
+    /// The greatest member below `end` that is not below `from`; `None` exactly if there is none.
     #[inline]
     pub fn last_in(self, from: u32, end: u32) -> Option<u32>
         requires { end < 64 }

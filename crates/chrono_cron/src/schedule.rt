@@ -39,7 +39,7 @@ impl Schedule {
         self.sets.is_never_due()
     }
 
-    /// The first moment after `start` at which the schedule is due; `None` exactly if it is not due any more.
+    /// The first moment after `start` at which the schedule is due; `None` exactly if it is not due any more in the calendar.
     pub fn next_after(&self, start: NaiveDateTime) -> Option<NaiveDateTime>
         ensures member { IfSome result (λ m. IsTrue (is_due self.now.sets m)) }
         ensures later { IfSome result (λ m. IsBefore start m) }
@@ -58,7 +58,7 @@ impl Schedule {
         Some(NaiveDateTime::new(day, beginning(minute)))
     }
 
-    /// The last moment before `start` at which the schedule is due; `None` exactly if it never was.
+    /// The last moment before `start` at which the schedule is due; `None` exactly if it never was in the calendar.
     pub fn prev_before(&self, start: NaiveDateTime) -> Option<NaiveDateTime>
         ensures member { IfSome result (λ m. IsTrue (is_due self.now.sets m)) }
         ensures earlier { IfSome result (λ m. IsBefore m start) }

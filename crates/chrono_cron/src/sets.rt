@@ -17,7 +17,7 @@ const HOURS: u32 = 24;
 // The minutes of an hour.
 const MINUTES: u32 = 60;
 
-/// What the five fields of a schedule list. A number that a field cannot have counts for nothing.
+/// What the five fields of a schedule list. A number that a field cannot have counts for nothing, but where two are compared.
 #[derive(Clone, Copy, PartialEq, Eq, Debug)]
 pub struct Sets {
     /// The minutes past the hour, 0 to 59.

@@ -25,7 +25,7 @@ impl<'a> Calendar<'a> {
     }
 }
 
-// The first holiday of a list that cannot be one of a calendar.
+// A holiday of a list that cannot be one of a calendar.
 fn wrong_holiday(weekend: WeekdaySet, holidays: &[NaiveDate]) -> Option<HolidayError>
     ensures some { IfSome result (λ e. IsWrong weekend holidays.now e) }
     ensures none { IfNone result (AreHolidays weekend holidays.now) }
