@@ -41,7 +41,7 @@ ABSENT = {
         IntoIterator Ok Result Some String Sum TryFrom Vec collect fmt::Write for format if mod requires self str unsafe unwrap""",
     "of the kit: its words, its tactics and its std": """SomeIff agree_below agree_below_at grind ints map num_traits omega refl subst
         unfoldable view_is write_str_gives ensures edited rtlib""",
-    "of Python": "OverflowError True TypeError ValueError datetime operator strftime timedelta",
+    "of Python": "OverflowError True TypeError ValueError datetime operator strftime timedelta fold __slots__ __getstate__",
     "of JavaScript": "PlainTime RangeError Temporal overflow round toLocaleString",
     "of C": "INT64_MIN memcpy",
     "of Rust's compiler and of the kit's options": "cpu serde target_feature wasm64",

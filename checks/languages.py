@@ -243,7 +243,7 @@ def compile_header(results):
             results.count(ran.returncode == 0, f"{' '.join(words)}: {ran.stderr}")
 
 
-def compare_uses(results):
+def compare_examples(results):
     """README.md has a use of each language with its answer; both stand in the examples of that language, which are run."""
     row = r"^\| \[[^]]*\]\(languages/(\w+)/README\.md\) \| `([^`]*)` \| `([^`]*)`"
     rows = re.findall(row, read(f"{TOP}/README.md"), re.M)
@@ -277,7 +277,7 @@ def compare_sources(results):
     compare_safety(results, header)
     compare_uses(results, header)
     compare_processors(results)
-    compare_uses(results)
+    compare_examples(results)
     compare_versions(results)
     compile_header(results)
     return header

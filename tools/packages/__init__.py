@@ -7,6 +7,9 @@ import re
 import shutil
 import subprocess
 
+# What each package holds beside what it is made of.
+LICENCES = ("LICENSE-APACHE", "LICENSE-MIT")
+
 
 class Missing(Exception):
     """What a package cannot be made without, in words that say what to install."""
@@ -31,7 +34,10 @@ def build(library, built):
 
 def run(words, **how):
     """Runs a program that says nothing if all goes well; what it says is in the error if it does not."""
-    ran = subprocess.run(words, stdout=subprocess.PIPE, stderr=subprocess.STDOUT, text=True, errors="replace", **how)
+    try:
+        ran = subprocess.run(words, stdout=subprocess.PIPE, stderr=subprocess.STDOUT, text=True, errors="replace", **how)
+    except FileNotFoundError:
+        raise Missing(f"no {words[0]}: tools/setup installs what Debian has") from None
     if ran.returncode:
         raise RuntimeError(f"{' '.join(map(str, words))}\n{ran.stdout[-4000:]}")
     return ran.stdout

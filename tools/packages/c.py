@@ -2,7 +2,7 @@
 import os
 import shutil
 
-from . import version
+from . import LICENCES, version
 
 PKG_CONFIG = """\
 prefix=${{pcfiledir}}/../..
@@ -52,11 +52,12 @@ endif()
 
 
 def make(top, built, dist):
-    """Makes include/ and lib/; the paths of their files."""
+    """Makes include/, lib/ and share/; the paths of their files."""
     copied = {
         f"{top}/languages/c/calendar.h": "include/calendar.h",
         f"{built}/libcalendar.a": "lib/libcalendar.a",
         f"{built}/libcalendar.so.0": "lib/libcalendar.so.0",
+        **{f"{top}/{it}": f"share/doc/calendar/{it}" for it in LICENCES},
     }
     written = {
         "lib/pkgconfig/calendar.pc": PKG_CONFIG.format(version=version(top)),

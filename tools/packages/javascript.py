@@ -14,7 +14,7 @@ import sys
 import tempfile
 import urllib.parse
 
-from . import Missing, version
+from . import LICENCES, Missing, version
 
 CRATE = "calendar_c"
 # (`rt lib` of the static library takes away a module of the crate's own name)
@@ -131,7 +131,7 @@ def make_package(top, folder, bytes_of_module, package):
     write(f"{package}/src/module.js", module_text_of(bytes_of_module))
     for name in ("README.md", "index.d.ts", "package.json"):
         write(f"{package}/{name}", read(f"{folder}/{name}"))
-    for name in ("LICENSE-APACHE", "LICENSE-MIT"):
+    for name in LICENCES:
         write(f"{package}/{name}", read(f"{top}/{name}"))
     return package
 

@@ -6,7 +6,7 @@ import subprocess
 import sys
 import tempfile
 
-from . import Missing, run
+from . import LICENCES, Missing, run
 
 # What a Python needs to build the packages: setuptools with the command for wheels, and the headers of C.
 PROBE = """
@@ -37,6 +37,8 @@ def make(top, built, dist):
         for part, file in {"include": f"{top}/languages/c/calendar.h", "lib": f"{built}/libcalendar.a"}.items():
             os.makedirs(f"{source}/{part}")
             shutil.copy(file, f"{source}/{part}/")
+        for licence in LICENCES:
+            shutil.copy(f"{top}/{licence}", source)
         for kind in ("sdist", "bdist_wheel"):
             run([python(), "setup.py", "--quiet", kind, "--dist-dir", f"{room}/made"], cwd=source)
         paths = []

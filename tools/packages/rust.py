@@ -6,7 +6,7 @@ import os
 import shutil
 import tarfile
 
-from . import version
+from . import LICENCES, version
 
 NAME = "proved-calendar"
 FILES = ("Cargo.toml", "README.md", "build.rs")
@@ -19,7 +19,7 @@ def make_package(top, folder, library, package):
     shutil.copytree(f"{folder}/src", f"{package}/src")
     for name in FILES:
         shutil.copy(f"{folder}/{name}", f"{package}/{name}")
-    for name in ("LICENSE-APACHE", "LICENSE-MIT"):
+    for name in LICENCES:
         shutil.copy(f"{top}/{name}", f"{package}/{name}")
     shutil.copy(library, f"{package}/lib/libcalendar.a")
     return package

@@ -43,7 +43,7 @@ function startLine() {
   const [line, answer, help] = [at("line"), at("answer"), at("line-help")];
   const show = () => {
     answer.textContent = answerOf(line.value);
-    help.textContent = EXAMPLES[line.value] ? `This asks for ${EXAMPLES[line.value]}.` : "none: no such date; error: no such command.";
+    help.textContent = Object.hasOwn(EXAMPLES, line.value) ? `This asks for ${EXAMPLES[line.value]}.` : "none: no such date; error: no such command.";
   };
   const chips = Object.keys(EXAMPLES).map((example) => {
     const button = element("button", { type: "button", title: EXAMPLES[example], ariaLabel: `${example}: ${EXAMPLES[example]}` });
@@ -105,7 +105,8 @@ function startBetween() {
 
 function startRow() {
   const [start, step, count] = [at("start"), at("step"), at("count")];
-  const show = () =>
+  const show = () => {
+    at("row").replaceChildren();
     orRefused(at("row-trouble"), [start], () => {
       const leaves = Math.min(Math.max(Math.trunc(Number(count.value)) || 1, 1), 60);
       const shown = showRow(at("row"), dateOfText(start.value), step.value === "" ? NaN : step.value, leaves);
@@ -113,6 +114,7 @@ function startRow() {
         throw new RangeError(`the calendar ends after ${shown} of these dates`);
       }
     });
+  };
   [start, step, count].forEach((it) => it.addEventListener("input", show));
   show();
 }

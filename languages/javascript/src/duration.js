@@ -100,6 +100,9 @@ export class Duration {
   /** So many nanoseconds, in the units from the largest one on, which is a day or shorter. */
   static fromNanoseconds(nanoseconds, largestUnit = "day") {
     const first = FIELDS.indexOf(`${largestUnit}s`) - DAYS;
+    if (!(first >= 0)) {
+      throw new RangeError(`largestUnit ${largestUnit}: day or a shorter unit`);
+    }
     const fields = Array(FIELDS.length).fill(0);
     let rest = BigInt(nanoseconds);
     for (let unit = first; unit < LENGTHS.length; unit += 1) {

@@ -287,8 +287,9 @@ export class PlainDate {
   }
 
   /** The date-time at a time of this date, which is midnight if none is given. */
-  toPlainDateTime(time = {}) {
-    return PlainDateTime.from({ year: this.year, month: this.month, day: this.day, ...time });
+  toPlainDateTime(time) {
+    const midnight = PlainDateTime.from(this);
+    return time === undefined ? midnight : midnight.with(timeOf(time));
   }
 
   /** The text of ISO 8601, such as `2024-02-29`; a year below 0 or above 9999 has a sign and six digits. */
@@ -312,6 +313,16 @@ export class PlainDate {
   [Symbol.for("nodejs.util.inspect.custom")]() {
     return `PlainDate ${this}`;
   }
+}
+
+/** The parts of a time of day that an object has; TypeError if it has none. */
+function timeOf(time) {
+  const parts = ["hour", "minute", "second", "millisecond", "microsecond", "nanosecond"];
+  const given = time !== null && typeof time === "object" ? parts.filter((it) => time[it] !== undefined) : [];
+  if (given.length === 0) {
+    throw new TypeError("a time of day is an object with hour, minute or a shorter part");
+  }
+  return Object.fromEntries(given.map((it) => [it, time[it]]));
 }
 
 /** The set of weekdays as the library has it: one binary digit for each. */

@@ -167,10 +167,11 @@ export class PlainDateTime {
 
   /** The date-time with some parts of its name replaced. */
   with(parts, options) {
-    if (parts === null || typeof parts !== "object") {
-      throw new TypeError("what replaces parts of a date-time is an object");
+    const names = ["year", "month", "day", ...Object.keys(TIME)];
+    if (parts === null || typeof parts !== "object" || names.every((it) => parts[it] === undefined)) {
+      throw new TypeError("what replaces parts of a date-time is an object with year, hour or another part");
     }
-    const named = ["year", "month", "day", ...Object.keys(TIME)].map((it) => [it, parts[it] ?? this[it]]);
+    const named = names.map((it) => [it, parts[it] === undefined ? this[it] : parts[it]]);
     return PlainDateTime.from(Object.fromEntries(named), options);
   }
 

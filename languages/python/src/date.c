@@ -536,7 +536,7 @@ static PyType_Slot slots[] = {
 static PyType_Spec spec = {
     .name = "proved_calendar.Date",
     .basicsize = sizeof(Date),
-    .flags = Py_TPFLAGS_DEFAULT | Py_TPFLAGS_BASETYPE,
+    .flags = Py_TPFLAGS_DEFAULT | Py_TPFLAGS_BASETYPE | Py_TPFLAGS_IMMUTABLETYPE,
     .slots = slots,
 };
 
@@ -544,7 +544,7 @@ static PyType_Spec spec = {
 static bool add_end(const char *name, int32_t number)
 {
     PyObject *date = date_of(date_type, number);
-    bool is_added = date && PyObject_SetAttrString((PyObject *)date_type, name, date) == 0;
+    bool is_added = date && set_on_type((PyObject *)date_type, name, date);
     Py_XDECREF(date);
     return is_added;
 }

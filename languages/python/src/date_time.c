@@ -493,7 +493,7 @@ static PyType_Slot slots[] = {
 static PyType_Spec spec = {
     .name = "proved_calendar.DateTime",
     .basicsize = sizeof(DateTime),
-    .flags = Py_TPFLAGS_DEFAULT | Py_TPFLAGS_BASETYPE,
+    .flags = Py_TPFLAGS_DEFAULT | Py_TPFLAGS_BASETYPE | Py_TPFLAGS_IMMUTABLETYPE,
     .slots = slots,
 };
 

@@ -202,6 +202,8 @@ static PyObject *duration_repr(PyObject *self)
 
 /* ---- timedelta */
 
+static PyObject *from_nanoseconds(PyObject *kind, PyObject *count);
+
 static PyObject *from_timedelta(PyObject *kind, PyObject *it)
 {
     calendar_duration length;
@@ -209,7 +211,16 @@ static PyObject *from_timedelta(PyObject *kind, PyObject *it)
     if (!is_timedelta(it)) {
         return refuse_type("a datetime.timedelta", it);
     }
-    return read_length(it, &length, &is_one) ? duration_of((PyTypeObject *)kind, length) : NULL;
+    if (!read_length(it, &length, &is_one)) {
+        return NULL;
+    }
+    if ((PyTypeObject *)kind == duration_type) {
+        return duration_of(duration_type, length);
+    }
+    /* (a user's class makes its objects as it likes) */
+    PyObject *count = nanoseconds_of(length), *self = count ? from_nanoseconds(kind, count) : NULL;
+    Py_XDECREF(count);
+    return self;
 }
 
 static PyObject *to_timedelta(PyObject *self, PyObject *unused)
@@ -354,7 +365,7 @@ static PyType_Slot slots[] = {
 static PyType_Spec spec = {
     .name = "proved_calendar.Duration",
     .basicsize = sizeof(Duration),
-    .flags = Py_TPFLAGS_DEFAULT | Py_TPFLAGS_BASETYPE,
+    .flags = Py_TPFLAGS_DEFAULT | Py_TPFLAGS_BASETYPE | Py_TPFLAGS_IMMUTABLETYPE,
     .slots = slots,
 };
 

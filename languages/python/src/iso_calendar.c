@@ -7,19 +7,11 @@ enum { YEAR, WEEK, WEEKDAY, FIELDS };
 
 PyObject *iso_calendar(int32_t number)
 {
-    PyObject *parts[FIELDS] = {
-        PyLong_FromLong(calendar_iso_year(number)),
-        PyLong_FromLong(calendar_iso_week(number)),
-        weekday_member(calendar_weekday(number)),
-    };
-    PyObject *result = parts[YEAR] && parts[WEEK] ? PyType_GenericAlloc(iso_calendar_type, FIELDS) : NULL;
-    for (int i = 0; i < FIELDS; i++) {
-        if (result) {
-            PyTuple_SetItem(result, i, parts[i]);
-        } else {
-            Py_XDECREF(parts[i]);
-        }
-    }
+    /* (by the class's own maker: a tuple keeps more than its items in some versions, such as its hash from 3.14 on) */
+    PyObject *parts = Py_BuildValue("((iiN))", (int)calendar_iso_year(number), (int)calendar_iso_week(number),
+                                    weekday_member(calendar_weekday(number)));
+    PyObject *result = parts ? FROM_SLOT(newfunc, iso_calendar_type, Py_tp_new)(iso_calendar_type, parts, NULL) : NULL;
+    Py_XDECREF(parts);
     return result;
 }
 

@@ -14,12 +14,21 @@ static PyObject *names_of_pattern(const char *names)
     return tuple;
 }
 
+bool set_on_type(PyObject *type, const char *name, PyObject *value)
+{
+    PyObject *key = PyUnicode_InternFromString(name);
+    bool is_set = key && PyObject_GenericSetAttr(type, key, value) == 0;
+    Py_XDECREF(key);
+    PyType_Modified((PyTypeObject *)type);
+    return is_set;
+}
+
 PyTypeObject *add_type(PyObject *module, PyType_Spec *spec, const char *name, const char *match_args)
 {
     PyObject *type = PyType_FromSpec(spec);
     if (type && match_args) {
         PyObject *names = names_of_pattern(match_args);
-        if (!names || PyObject_SetAttrString(type, "__match_args__", names) < 0) {
+        if (!names || !set_on_type(type, "__match_args__", names)) {
             Py_CLEAR(type);
         }
         Py_XDECREF(names);
@@ -30,20 +39,29 @@ PyTypeObject *add_type(PyObject *module, PyType_Spec *spec, const char *name, co
     return (PyTypeObject *)type;
 }
 
-/* The attributes that a user's class gave an object; null and no error if there are none. */
+/* What a user's class gave an object, as `__getstate__` has it, or before Python 3.11 its attributes; null and no error if nothing. */
 static PyObject *attributes_of(PyObject *self)
 {
-    PyObject *attributes = PyObject_GetAttrString(self, "__dict__");
-    if (!attributes) {
-        if (PyErr_ExceptionMatches(PyExc_AttributeError)) {
+    PyObject *own = PyObject_GetAttrString(self, "__getstate__"), *state;
+    if (own) {
+        state = PyObject_CallNoArgs(own);
+        Py_DECREF(own);
+    } else if (PyErr_ExceptionMatches(PyExc_AttributeError)) {
+        PyErr_Clear();
+        state = PyObject_GetAttrString(self, "__dict__");
+        if (!state && PyErr_ExceptionMatches(PyExc_AttributeError)) {
             PyErr_Clear();
         }
+        if (state && PyObject_Size(state) <= 0) {
+            Py_CLEAR(state);
+        }
+    } else {
         return NULL;
     }
-    if (PyObject_Size(attributes) <= 0) {
-        Py_CLEAR(attributes);
+    if (state == Py_None) {
+        Py_CLEAR(state);
     }
-    return attributes;
+    return state;
 }
 
 PyObject *reduced(PyObject *self, PyObject *maker, PyObject *arguments)

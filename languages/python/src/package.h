@@ -113,6 +113,8 @@ static inline void free_object(PyObject *self, PyTypeObject *base, Blocks *kept)
 /* Adds a type to the module, with the names that a pattern takes in order, if it takes any; null if that fails. */
 PyTypeObject *add_type(PyObject *module, PyType_Spec *spec, const char *name, const char *match_args);
 
+bool set_on_type(PyObject *type, const char *name, PyObject *value);
+
 /* The hash of an object that has two fields. */
 static inline Py_hash_t hash_of(int64_t seconds, uint32_t nanos)
 {
