@@ -43,12 +43,14 @@ def test_installed(results, room, program):
 
 
 def test_versions(results, room, wheel):
-    """The calls under each other version of Python that is found."""
+    """The calls under each other version of Python that is found; those that are not found are told."""
     own = f"python{sys.version_info.major}.{sys.version_info.minor}"
     for name in VERSIONS:
         asked = [name, "-c", "import venv, ensurepip"]
         is_there = shutil.which(name) and subprocess.run(asked, capture_output=True).returncode == 0
-        if name != own and is_there:
+        if name != own and not is_there:
+            print(f"not run: test_calls.py by {name}, since there is no {name} with venv")
+        elif name != own:
             program = install(results, room, name, name, wheel)
             if program:
                 run(results, f"test_calls.py by {name}", [program, f"{TESTS}/test_calls.py", "-v"], COUNTS, env=QUIET)
@@ -89,12 +91,15 @@ def compile_c(folder, names, flags):
 
 
 def fails(folder, objects, library):
-    """Whether a test fails over an extension that is linked of these objects."""
+    """Whether a test fails, or does not end, over an extension that is linked of these objects."""
     module = f"{folder}/proved_calendar/_calendar.abi3.so"
     subprocess.run(["cc", "-shared", *objects, library, "-o", module], check=True)
     env = dict(QUIET, PYTHONPATH=folder, SKIP_MEMORY="1")
     tests = (f"{TESTS}/test_calls.py", f"{TESTS}/test_habits.py")
-    return any(subprocess.run([python.python(), it], env=env, capture_output=True, timeout=60).returncode for it in tests)
+    try:
+        return any(subprocess.run([python.python(), it], env=env, capture_output=True, timeout=60).returncode for it in tests)
+    except subprocess.TimeoutExpired:
+        return True
 
 
 def test_wrong_lines(results, room, library):

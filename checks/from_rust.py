@@ -6,12 +6,13 @@ with no library has to say what to do, and each of the wrong lines planted in th
 """
 import glob
 import os
+import re
 import shutil
 import subprocess
 import sys
 import tarfile
 
-from results import run
+from results import is_older, read, run
 from wrong_lines import edits, planted
 
 TOP = os.path.dirname(os.path.dirname(os.path.abspath(__file__)))
@@ -119,6 +120,11 @@ def test(results, room, library):
     """All of it."""
     if not shutil.which("cargo"):
         print("not run: the tests in Rust, since there is no cargo")
+        return
+    told = subprocess.run(["rustc", "--version"], check=True, capture_output=True, text=True).stdout.strip()
+    least = re.search(r'^rust-version = "(.*)"$', read(f"{FOLDER}/Cargo.toml"), re.M)[1]
+    if is_older(told, least):
+        print(f"not run: the tests in Rust, since {told} is older than {least}")
         return
     room = f"{room}/rust"
     os.makedirs(room)

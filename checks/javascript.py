@@ -31,7 +31,7 @@ import chromium
 import counted
 import fuzz
 import languages
-from results import Results, read
+from results import Results, is_older, read
 from wrong_lines import edits, planted
 
 TOP = os.path.dirname(os.path.dirname(os.path.abspath(__file__)))
@@ -149,6 +149,11 @@ def in_node(results, room, package, bytes_of_module):
     if not shutil.which("node"):
         print("not run: the tests in JavaScript, since there is no node")
         return
+    told = subprocess.run(["node", "--version"], check=True, capture_output=True, text=True).stdout.strip()
+    least = json.loads(read(f"{FOLDER}/package.json"))["engines"]["node"].removeprefix(">=")
+    if is_older(told, least):
+        print(f"not run: the tests in JavaScript, since node {told} is older than {least}")
+        return
     compare_exports(results, bytes_of_module)
     project = make_project(f"{room}/project", package)
     passed, failed, printed = run_tests(project)
@@ -262,6 +267,11 @@ def use_month(results, page):
     compare_sheet(results, page, 2024, 3)
 
 
+def marked(page):
+    """The fields that are marked as wrong."""
+    return page.run("[...document.querySelectorAll('[aria-invalid]')].map((it) => it.id)")
+
+
 def use_between(results, page):
     """The days between two dates."""
     for one, other in (("2024-02-29", "2025-02-28"), ("2025-02-28", "2024-02-29"), ("2024-02-29", "2024-02-29"), ("0001-01-01", "9999-12-31")):
@@ -274,7 +284,11 @@ def use_between(results, page):
     page.type("#from", "2024-02-30")
     results.equal(page.text("#between"), '"2024-02-30": no text of a date', "what is said of 2024-02-30")
     results.equal(page.run("document.querySelector('#from').getAttribute('aria-invalid')"), "true", "whether the field is marked")
+    results.equal(marked(page), ["from"], "the fields marked at 2024-02-30")
     page.type("#from", "2024-02-29")
+    page.type("#to", "")
+    results.equal(marked(page), ["to"], "the fields marked at an empty date")
+    page.type("#to", "2024-02-29")
     results.equal(page.run("document.querySelector('#from').hasAttribute('aria-invalid')"), False, "whether the field is still marked")
 
 
@@ -293,6 +307,12 @@ def use_row(results, page):
     page.type("#start", "+262142-12-31")
     page.type("#step", "1")
     results.count("the calendar ends after 1" in page.text("#row-trouble"), "the end of the calendar is not told")
+    results.equal(marked(page), [], "the fields marked where the calendar ends")
+    page.type("#step", "")
+    results.equal(marked(page), ["step"], "the fields marked at an empty step")
+    page.type("#step", "1")
+    page.type("#start", "2024-02-30")
+    results.equal(marked(page), ["start"], "the fields marked at a start that is none")
     page.type("#start", "2024-01-31")
 
 

@@ -22,6 +22,12 @@ class Results:
             print(f"FAILED: {what}", flush=True)
 
 
+def is_older(told, least):
+    """Whether a program that tells its version is older than the least one, as in "v20.20.2" and "20.10"."""
+    version, wanted = ([int(it) for it in re.search(r"\d+(?:\.\d+)*", text)[0].split(".")] for text in (told, least))
+    return version < wanted
+
+
 def read(path):
     with open(path, encoding="utf-8") as it:
         return it.read()

@@ -29,7 +29,16 @@ export interface DurationFields {
 export interface DateFields {
   year: number;
   month: number;
+  /** From `M01` to `M12`: that of the month. */
+  monthCode?: string;
   day: number;
+  calendar?: "iso8601";
+}
+
+/** The calendar name of a date, its month by its code. */
+export interface CodedDateFields extends Omit<DateFields, "month" | "monthCode"> {
+  month?: number;
+  monthCode: string;
 }
 
 /** What a clock shows; the second 60 is a leap second. */
@@ -43,8 +52,8 @@ export interface TimeFields {
 }
 
 export type DurationLike = Duration | DurationFields | string;
-export type DateLike = PlainDate | PlainDateTime | DateFields | string;
-export type DateTimeLike = PlainDateTime | PlainDate | (DateFields & TimeFields) | string;
+export type DateLike = PlainDate | PlainDateTime | DateFields | CodedDateFields | string;
+export type DateTimeLike = PlainDateTime | PlainDate | ((DateFields | CodedDateFields) & TimeFields) | string;
 
 type ExactUnit = "day" | "hour" | "minute" | "second" | "millisecond" | "microsecond" | "nanosecond";
 
@@ -147,7 +156,7 @@ export class PlainDate implements Named {
   readonly daysInYear: number;
   readonly monthsInYear: 12;
   readonly inLeapYear: boolean;
-  with(parts: Partial<DateFields>, options?: OverflowOptions): PlainDate;
+  with(parts: Partial<Omit<DateFields, "calendar">>, options?: OverflowOptions): PlainDate;
   add(duration: DurationLike, options?: OverflowOptions): PlainDate;
   subtract(duration: DurationLike, options?: OverflowOptions): PlainDate;
   until(other: DateLike, options?: DifferenceOptions<"year" | "month" | "week" | "day">): Duration;
@@ -213,7 +222,7 @@ export class PlainDateTime implements Named {
   readonly unixSeconds: number;
   /** The nanoseconds past them; 1,000,000,000 and more lie in the leap second that follows. */
   readonly unixNanoseconds: number;
-  with(parts: Partial<DateFields & TimeFields>, options?: OverflowOptions): PlainDateTime;
+  with(parts: Partial<Omit<DateFields, "calendar"> & TimeFields>, options?: OverflowOptions): PlainDateTime;
   add(duration: DurationLike, options?: OverflowOptions): PlainDateTime;
   subtract(duration: DurationLike, options?: OverflowOptions): PlainDateTime;
   until(other: DateTimeLike, options?: DifferenceOptions<ExactUnit>): Duration;

@@ -24,7 +24,26 @@ const EXAMPLES = {
 
 const at = (id) => document.getElementById(id);
 
-/** Runs what shows something; where a date is refused, the place says why, and the fields are marked. */
+/** What is found from the text of a field, which is marked if that is refused. */
+function read(field, find) {
+  try {
+    return find(field.value);
+  } catch (refused) {
+    field.setAttribute("aria-invalid", "true");
+    throw refused;
+  }
+}
+
+/** The months of a text, of 32 bits; a RangeError if it is none. */
+function monthsOf(text) {
+  const months = Math.trunc(Number(text));
+  if (text === "" || months !== (months | 0)) {
+    throw new RangeError(`${JSON.stringify(text)}: no number of months`);
+  }
+  return months;
+}
+
+/** Runs what shows something; where that is refused, the place says why. The fields are unmarked first. */
 function orRefused(place, fields, show) {
   fields.forEach((it) => it.removeAttribute("aria-invalid"));
   try {
@@ -35,7 +54,6 @@ function orRefused(place, fields, show) {
       throw refused;
     }
     place.textContent = refused.message;
-    fields.forEach((it) => it.setAttribute("aria-invalid", "true"));
   }
 }
 
@@ -74,7 +92,7 @@ function startMonth() {
       table.querySelector('[aria-selected="true"] button').focus();
     }
   };
-  const go = (find, isFocused) => orRefused(at("month-trouble"), [year], () => show(find(), isFocused));
+  const go = (find, isFocused) => orRefused(at("month-trouble"), [year], () => show(read(year, find), isFocused));
   const named = () => go(() => selected.with({ year: year.value === "" ? NaN : year.value, month: month.value }));
   month.addEventListener("change", named);
   year.addEventListener("input", named);
@@ -93,7 +111,7 @@ function startMonth() {
 
 function startBetween() {
   const [from, to, output] = [at("from"), at("to"), at("between")];
-  const show = () => orRefused(output, [from, to], () => showBetween(output, dateOfText(from.value), dateOfText(to.value)));
+  const show = () => orRefused(output, [from, to], () => showBetween(output, read(from, dateOfText), read(to, dateOfText)));
   from.addEventListener("input", show);
   to.addEventListener("input", show);
   at("swap").addEventListener("click", () => {
@@ -107,9 +125,9 @@ function startRow() {
   const [start, step, count] = [at("start"), at("step"), at("count")];
   const show = () => {
     at("row").replaceChildren();
-    orRefused(at("row-trouble"), [start], () => {
+    orRefused(at("row-trouble"), [start, step], () => {
       const leaves = Math.min(Math.max(Math.trunc(Number(count.value)) || 1, 1), 60);
-      const shown = showRow(at("row"), dateOfText(start.value), step.value === "" ? NaN : step.value, leaves);
+      const shown = showRow(at("row"), read(start, dateOfText), read(step, monthsOf), leaves);
       if (shown < leaves) {
         throw new RangeError(`the calendar ends after ${shown} of these dates`);
       }

@@ -1,6 +1,6 @@
 /** Durations. */
 
-import { optionsOf } from "./numbers.js";
+import { refuseRounding } from "./numbers.js";
 
 /** The fields of a duration, from the longest unit on. */
 const FIELDS = [
@@ -97,7 +97,10 @@ export class Duration {
     return new Duration(...[...parts, ...thousandths].map((it) => factor * Number(it ?? 0)));
   }
 
-  /** So many nanoseconds, in the units from the largest one on, which is a day or shorter. */
+  /**
+   * So many nanoseconds, in the units from the largest one on, which is a day or shorter. A field is a Number, so that
+   * what makes more than 2^53 of one unit is rounded to the nearest that there is.
+   */
   static fromNanoseconds(nanoseconds, largestUnit = "day") {
     const first = FIELDS.indexOf(`${largestUnit}s`) - DAYS;
     if (!(first >= 0)) {
@@ -181,7 +184,7 @@ export class Duration {
 
   /** The text of ISO 8601, such as `P1DT2H0.5S`; its seconds hold all that is shorter. */
   toString(options) {
-    optionsOf(options);
+    refuseRounding(options, "texts");
     const [years, months, weeks, days, hours, minutes, ...shorter] = this.#fields.map((it) => BigInt(Math.abs(it)));
     const nanoseconds = shorter.reduce((sum, it, index) => sum + it * LENGTHS[index + 3], 0n);
     const fraction = `${nanoseconds % LENGTHS[3]}`.padStart(9, "0").replace(/0+$/, "");

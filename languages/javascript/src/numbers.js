@@ -51,16 +51,24 @@ export function optionsOf(options) {
   return options;
 }
 
+/** Refuses options that round, which nothing here does. */
+export function refuseRounding(options, what) {
+  const given = optionsOf(options);
+  for (const name of ["smallestUnit", "roundingIncrement", "roundingMode", "fractionalSecondDigits"]) {
+    if (given[name] !== undefined) {
+      throw new RangeError(`${name}: ${what} are not rounded here`);
+    }
+  }
+}
+
 /** The unit of an option `largestUnit`, in the singular; RangeError unless it is one of the units. */
 export function largestUnitOf(options, units, usual) {
-  const { largestUnit = "auto", smallestUnit, roundingIncrement, roundingMode } = optionsOf(options);
-  if (smallestUnit !== undefined || roundingIncrement !== undefined || roundingMode !== undefined) {
-    throw new RangeError("differences are not rounded here");
-  }
-  const unit = `${largestUnit}`.replace(/s$/, "");
-  if (unit === "auto") {
+  refuseRounding(options, "differences");
+  const { largestUnit = "auto" } = optionsOf(options);
+  if (`${largestUnit}` === "auto") {
     return usual;
   }
+  const unit = `${largestUnit}`.replace(/s$/, "");
   if (!units.includes(unit)) {
     throw new RangeError(`largestUnit ${largestUnit}: it is one of ${units.join(", ")}`);
   }

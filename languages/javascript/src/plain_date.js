@@ -2,7 +2,7 @@
 
 import { Duration } from "./duration.js";
 import { library, NONE, readDate, textOfDate } from "./library.js";
-import { clipped, integer, isInt32, isUint32, largestUnitOf, overflowOf } from "./numbers.js";
+import { clipped, integer, isInt32, isUint32, largestUnitOf, optionsOf, overflowOf } from "./numbers.js";
 import { PlainDateTime } from "./plain_date_time.js";
 import { forLibrary, forTemporal } from "./texts.js";
 
@@ -17,6 +17,46 @@ const DAY = 86_400_000_000_000n;
 
 /** The units of differences between dates. */
 const UNITS = ["year", "month", "week", "day"];
+
+/** From `M01` to `M12`. */
+const MONTH_CODE = /^M(0[1-9]|1[0-2])$/;
+
+/** Refuses a calendar other than ISO 8601's, of which an object names its own as `calendar` or `calendarId`. */
+function refuseCalendar({ calendar, calendarId }) {
+  for (const name of [calendar, calendarId]) {
+    if (name !== undefined && `${name}`.toLowerCase() !== "iso8601") {
+      throw new RangeError(`calendar ${name}: it is iso8601`);
+    }
+  }
+}
+
+/** The month that an object names by its number, by its code or, if they agree, by both. */
+function monthOf({ month, monthCode }) {
+  if (monthCode === undefined) {
+    return integer(month, "month");
+  }
+  const found = MONTH_CODE.exec(monthCode);
+  if (!found) {
+    throw new RangeError(`monthCode ${monthCode}: it lies from M01 to M12`);
+  }
+  const named = Number(found[1]);
+  if (month !== undefined && integer(month, "month") !== named) {
+    throw new RangeError(`month ${month} and monthCode ${monthCode}: they differ`);
+  }
+  return named;
+}
+
+/** The parts of a value's name, some of them replaced, of which a month may be given by its code. */
+export function replaced(value, parts, names) {
+  const isObject = parts !== null && typeof parts === "object";
+  const given = isObject ? ["monthCode", ...names].filter((it) => parts[it] !== undefined) : [];
+  if (given.length === 0 || parts.calendar !== undefined || parts.timeZone !== undefined) {
+    throw new TypeError(`what replaces parts is an object with one of ${names.join(", ")}, and with no calendar or time zone`);
+  }
+  refuseCalendar(parts);
+  const kept = names.filter((it) => parts[it] === undefined && (it !== "month" || parts.monthCode === undefined));
+  return Object.fromEntries([...kept.map((it) => [it, value[it]]), ...given.map((it) => [it, parts[it]])]);
+}
 
 /** Why there is no such date. */
 function refusal(year, month, day) {
@@ -67,8 +107,8 @@ export class PlainDate {
 
   /** The date of a text such as `2024-02-29`, of an object with year, month and day, of a date or of a date-time. */
   static from(item, options) {
+    const overflow = overflowOf(options);
     if (typeof item === "string") {
-      overflowOf(options);
       return PlainDate.#found(readDate(forLibrary(item)), `${JSON.stringify(item)}: no text of a date`);
     }
     if (item instanceof PlainDate) {
@@ -80,13 +120,14 @@ export class PlainDate {
     if (item === null || typeof item !== "object") {
       throw new TypeError("a date is made of a text, or of an object with year, month and day");
     }
+    refuseCalendar(item);
     for (const part of ["year", "month", "day"]) {
-      if (item[part] === undefined) {
+      if (item[part] === undefined && (part !== "month" || item.monthCode === undefined)) {
         throw new TypeError(`the ${part} is missing`);
       }
     }
-    const [year, month, day] = [integer(item.year, "year"), integer(item.month, "month"), integer(item.day, "day")];
-    if (overflowOf(options) === "reject" || !isInt32(year) || month < 1 || day < 1) {
+    const [year, month, day] = [integer(item.year, "year"), monthOf(item), integer(item.day, "day")];
+    if (overflow === "reject" || !isInt32(year) || month < 1 || day < 1) {
       return new PlainDate(year, month, day);
     }
     const last = clipped(month, 1, 12);
@@ -201,11 +242,7 @@ export class PlainDate {
 
   /** The date with some of year, month and day replaced. */
   with(parts, options) {
-    if (parts === null || typeof parts !== "object" || [parts.year, parts.month, parts.day].every((it) => it === undefined)) {
-      throw new TypeError("what replaces parts of a date is an object with year, month or day");
-    }
-    const { year = this.year, month = this.month, day = this.day } = parts;
-    return PlainDate.from({ year, month, day }, options);
+    return PlainDate.from(replaced(this, parts, ["year", "month", "day"]), options);
   }
 
   /**
@@ -293,7 +330,8 @@ export class PlainDate {
   }
 
   /** The text of ISO 8601, such as `2024-02-29`; a year below 0 or above 9999 has a sign and six digits. */
-  toString() {
+  toString(options) {
+    optionsOf(options);
     return forTemporal(textOfDate(this.#number));
   }
 

@@ -2,8 +2,8 @@
 
 import { Duration } from "./duration.js";
 import { dateOf, dateTimeAt, distance, moved, NONE, readDate, readDateTime, secondOfDayOf, textOfDateTime } from "./library.js";
-import { between, clipped, integer, largestUnitOf, overflowOf } from "./numbers.js";
-import { PlainDate } from "./plain_date.js";
+import { between, clipped, integer, largestUnitOf, overflowOf, refuseRounding } from "./numbers.js";
+import { PlainDate, replaced } from "./plain_date.js";
 import { forLibrary, forTemporal } from "./texts.js";
 
 /** Tells the constructor that the two numbers follow that a date-time is. */
@@ -75,15 +75,14 @@ export class PlainDateTime {
    * a date-time, or of a date, whose midnight it is.
    */
   static from(item, options) {
+    const isRejected = overflowOf(options) === "reject";
     if (typeof item === "string") {
-      overflowOf(options);
       return PlainDateTime.#read(item);
     }
     if (item instanceof PlainDateTime) {
       return new PlainDateTime(BY_NUMBERS, item.#moment);
     }
     const date = PlainDate.from(item, options);
-    const isRejected = overflowOf(options) === "reject";
     const time = {};
     for (const [part, most] of Object.entries(TIME)) {
       const number = integer(item[part] ?? 0, part);
@@ -167,12 +166,7 @@ export class PlainDateTime {
 
   /** The date-time with some parts of its name replaced. */
   with(parts, options) {
-    const names = ["year", "month", "day", ...Object.keys(TIME)];
-    if (parts === null || typeof parts !== "object" || names.every((it) => parts[it] === undefined)) {
-      throw new TypeError("what replaces parts of a date-time is an object with year, hour or another part");
-    }
-    const named = names.map((it) => [it, parts[it] === undefined ? this[it] : parts[it]]);
-    return PlainDateTime.from(Object.fromEntries(named), options);
+    return PlainDateTime.from(replaced(this, parts, ["year", "month", "day", ...Object.keys(TIME)]), options);
   }
 
   /**
@@ -216,7 +210,8 @@ export class PlainDateTime {
   }
 
   /** The text of ISO 8601, such as `2024-02-29T12:00:00.5`; a year below 0 or above 9999 has a sign and six digits. */
-  toString() {
+  toString(options) {
+    refuseRounding(options, "texts");
     return forTemporal(textOfDateTime(this.#moment));
   }
 

@@ -84,3 +84,61 @@ test("printing", () => {
   assert.equal(Object.prototype.toString.call(new PlainDate(2024, 2, 29)), "[object PlainDate]");
   assert.deepEqual([new PlainDate(2024, 2, 29).monthCode, new PlainDate(2024, 2, 29).calendarId], ["M02", "iso8601"]);
 });
+
+test("months by their codes, and calendars", () => {
+  const named = { year: 2024, monthCode: "M02", day: 29 };
+  assert.equal(`${PlainDate.from(named)}`, "2024-02-29");
+  assert.equal(`${PlainDate.from({ ...named, month: 2, calendar: "ISO8601" })}`, "2024-02-29");
+  assert.equal(`${PlainDateTime.from({ ...named, hour: 7 })}`, "2024-02-29T07:00:00");
+  for (const one of [new PlainDate(2024, 1, 31), new PlainDateTime(2024, 1, 31)]) {
+    assert.equal(`${one.with({ monthCode: "M02" }).toPlainDate?.() ?? one.with({ monthCode: "M02" })}`, "2024-02-29");
+    assert.equal(one.with({ monthCode: "M12", month: 12 }).month, 12);
+    refused(() => one.with({ monthCode: "M02", month: 3 }));
+    refused(() => one.with({ monthCode: "M13" }));
+    refused(() => one.with({ day: 1, calendarId: "hebrew" }));
+    assert.throws(() => one.with({ day: 1, calendar: "iso8601" }), TypeError);
+    assert.throws(() => one.with({ day: 1, timeZone: "UTC" }), TypeError);
+    assert.throws(() => one.with({}), TypeError);
+    assert.throws(() => one.with(null), TypeError);
+  }
+  for (const it of [PlainDate, PlainDateTime]) {
+    for (const monthCode of ["M00", "M13", "M2", "m02", "M02L", "M02 ", "", "02", 2, null]) {
+      refused(() => it.from({ ...named, monthCode }));
+    }
+    for (const other of [{ month: 3 }, { month: 14 }, { calendar: "hebrew" }, { calendarId: "hebrew" }, { calendar: "" }]) {
+      refused(() => it.from({ ...named, ...other }));
+    }
+    assert.throws(() => it.from({ year: 2024, day: 29 }), TypeError);
+  }
+});
+
+test("options that are none", () => {
+  const [date, time] = [new PlainDate(2024, 2, 29), new PlainDateTime(2024, 2, 29)];
+  for (const it of [PlainDate, PlainDateTime]) {
+    for (const item of [date, time, "2024-02-29", { year: 2024, month: 2, day: 29 }]) {
+      refused(() => it.from(item, { overflow: "bad" }));
+      assert.throws(() => it.from(item, 5), TypeError);
+      assert.throws(() => it.from(item, null), TypeError);
+      assert.equal(it.from(item, { overflow: "reject" }).day, 29);
+    }
+  }
+  for (const it of [time, Duration.from("PT1.5S")]) {
+    refused(() => it.toString({ smallestUnit: "second" }));
+    refused(() => it.toString({ fractionalSecondDigits: 3 }));
+    refused(() => it.toString({ roundingMode: "ceil" }));
+    assert.equal(it.toString({}), `${it}`);
+  }
+  for (const it of [date, time, Duration.from("PT1S")]) {
+    assert.throws(() => it.toString(5), TypeError);
+  }
+  for (const largestUnit of ["autos", "dayss", "s", ""]) {
+    refused(() => date.until(date, { largestUnit }));
+    refused(() => time.until(time, { largestUnit }));
+  }
+  refused(() => date.until(date, { roundingMode: "ceil" }));
+});
+
+test("nanoseconds beyond a Number", () => {
+  assert.equal(Duration.fromNanoseconds(2n ** 53n + 1n, "nanosecond").nanoseconds, 2 ** 53);
+  assert.equal(Duration.fromNanoseconds(2n ** 53n + 1n, "second").totalNanoseconds, 2n ** 53n + 1n);
+});

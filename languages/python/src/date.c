@@ -485,7 +485,7 @@ static PyMethodDef methods[] = {
      "isoweekday($self, /)\n--\n\nThe Weekday, which is a number from 1 for Monday to 7."},
     {"toordinal", date_to_ordinal, METH_NOARGS, "toordinal($self, /)\n--\n\nThe day number: 1 for 1 January of year 1."},
     {"replace", METHOD(date_replace), METH_FASTCALL | METH_KEYWORDS,
-     "replace($self, /, year=None, month=None, day=None)\n--\n\n"
+     "replace($self, /, year=..., month=..., day=...)\n--\n\n"
      "The date with these parts in place of its own; ValueError if there is none."},
     {"add_months", add_months, METH_O,
      "add_months($self, months, /)\n--\n\n"

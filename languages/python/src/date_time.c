@@ -454,7 +454,7 @@ static PyMethodDef methods[] = {
     {"toordinal", date_time_to_ordinal, METH_NOARGS,
      "toordinal($self, /)\n--\n\nThe day number of the date: 1 for 1 January of year 1."},
     {"replace", METHOD(date_time_replace), METH_FASTCALL | METH_KEYWORDS,
-     "replace($self, /, year=None, month=None, day=None, hour=None, minute=None, second=None, nanosecond=None)\n--\n\n"
+     "replace($self, /, year=..., month=..., day=..., hour=..., minute=..., second=..., nanosecond=...)\n--\n\n"
      "The date-time with these parts in place of its own; ValueError if there is none."},
     {"to_datetime", to_datetime, METH_NOARGS,
      "to_datetime($self, /)\n--\n\n"

@@ -4,6 +4,13 @@ use core::error::Error;
 use core::fmt;
 
 /// The other type has no such value.
+///
+/// ```
+/// use proved_calendar::ConversionError;
+/// fn told(refused: ConversionError) -> String {
+///     format!("skipped: {refused}")
+/// }
+/// ```
 #[derive(Clone, Copy, Debug, PartialEq, Eq)]
 pub struct ConversionError {
     pub(crate) kind: &'static str,

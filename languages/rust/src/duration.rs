@@ -155,6 +155,12 @@ impl Duration {
 }
 
 /// The same length the other way, which there is of every duration.
+///
+/// ```
+/// use proved_calendar::Duration;
+/// let second = Duration::from_seconds(1).unwrap();
+/// assert_eq!(-second, Duration::from_seconds(-1).unwrap());
+/// ```
 impl Neg for Duration {
     type Output = Duration;
 
@@ -190,6 +196,12 @@ impl Add for Duration {
 /// # Panics
 ///
 /// If it is too long; [`Duration::checked_sub`] answers `None` there.
+///
+/// ```
+/// use proved_calendar::Duration;
+/// let second = Duration::from_seconds(1).unwrap();
+/// assert_eq!(second - second, Duration::ZERO);
+/// ```
 impl Sub for Duration {
     type Output = Duration;
 
@@ -199,12 +211,28 @@ impl Sub for Duration {
     }
 }
 
+/// The sum, as `+` has it.
+///
+/// ```
+/// use proved_calendar::Duration;
+/// let mut length = Duration::from_seconds(1).unwrap();
+/// length += length;
+/// assert_eq!(length, Duration::from_seconds(2).unwrap());
+/// ```
 impl AddAssign for Duration {
     fn add_assign(&mut self, other: Duration) {
         *self = *self + other;
     }
 }
 
+/// The difference, as `-` has it.
+///
+/// ```
+/// use proved_calendar::Duration;
+/// let mut length = Duration::from_seconds(1).unwrap();
+/// length -= length;
+/// assert_eq!(length, Duration::ZERO);
+/// ```
 impl SubAssign for Duration {
     fn sub_assign(&mut self, other: Duration) {
         *self = *self - other;
