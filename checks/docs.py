@@ -44,7 +44,7 @@ ABSENT = {
     "of Python": "OverflowError True TypeError ValueError datetime operator strftime timedelta fold __slots__ __getstate__",
     "of JavaScript": "PlainTime RangeError Temporal overflow round toLocaleString",
     "of C": "INT64_MIN memcpy",
-    "of Rust's compiler and of the kit's options": "cpu serde target_feature wasm64",
+    "of Rust's compiler and of the kit's options": "ConversionError cpu serde target_feature wasm64",
     "read from the environment": "CALENDAR_FOLDER CMAKE_PREFIX_PATH PKG_CONFIG_PATH",
     "of chrono, and left out here": """parse_from_str parse_and_remainder ParseMonthError ParseWeekdayError format_with_items
         format_localized format_localized_with_items and_utc and_local_timezone checked_add_offset checked_sub_offset FixedOffset
@@ -56,7 +56,7 @@ ABSENT = {
     "words of the shell and of a line": "cc cd echo move pkg-config sha256sum",
     "of numpy": "busday_offset",
     "digits of a number": "_294_967_297",
-    "texts and digits of a text": "P0D PT PT59M59 YYYY-MM-DD YYYY-DDD YYYY-Www-D hh mm ss",
+    "texts and digits of a text": "P0D PT PT59M59 PT90S PT007S PT1H30M PT5400S PT0S YYYY-MM-DD YYYY-DDD YYYY-Www-D hh mm ss",
     "an argument of a call": "stop",
     "made by tools/dist": "SHA256SUMS",
     "in the place of a name, or a part of names": "LAW ARGS condition with_ _opt",
