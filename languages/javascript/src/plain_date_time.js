@@ -111,7 +111,8 @@ export class PlainDateTime {
   }
 
   /**
-   * -1 if the first of two date-times is the earlier by date and then by time of day, 1 if it is the later, 0 if neither.
+   * -1 if the first of two date-times is the earlier by date and then by time of day, 1 if it is the later, 0 if
+   * neither.
    */
   static compare(one, other) {
     const [first, second] = [PlainDateTime.from(one).#moment, PlainDateTime.from(other).#moment];

@@ -5,6 +5,7 @@ nothing is lost or kept in memory by calls, also by those that fail."""
 import copy
 import datetime
 import gc
+import inspect
 import os
 import pickle
 import sys
@@ -271,6 +272,10 @@ class Moves(unittest.TestCase):
         for name, value in parts.items():
             self.assertEqual(LEAP_DAY.replace(**{name: value}).isoformat(), THEIR_LEAP_DAY.replace(**{name: value}).isoformat())
         self.assertEqual(LEAP_DAY.replace(2020, 3, 7), Date(2020, 3, 7))
+        for call, count in ((Date.replace, 3), (DateTime.replace, 7)):
+            _, *taken = inspect.signature(call).parameters.values()
+            self.assertEqual([it.default for it in taken], [...] * count)
+        self.assertRaises(TypeError, lambda: LEAP_DAY.replace(day=None))
         self.assertEqual(LEAP_DAY.replace(), LEAP_DAY)
         self.assertEqual(NOON.replace(2020, 3, 7, 1, 2, 3, 4), DateTime(Date(2020, 3, 7), 1, 2, 3, 4))
         for name, value in {**parts, "hour": 1, "minute": 2, "second": 3}.items():
