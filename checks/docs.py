@@ -43,7 +43,7 @@ ABSENT = {
         unfoldable view_is write_str_gives ensures edited rtlib""",
     "of Python": "OverflowError True TypeError ValueError datetime operator strftime timedelta fold __slots__ __getstate__",
     "of JavaScript": "PlainTime RangeError Temporal overflow round toLocaleString",
-    "of C": "INT64_MIN memcpy",
+    "of C": "INT64_MIN gmtime_r memcpy strptime timegm",
     "of Rust's compiler and of the kit's options": "ConversionError cpu serde target_feature wasm64",
     "read from the environment": "CALENDAR_FOLDER CMAKE_PREFIX_PATH PKG_CONFIG_PATH",
     "of chrono, and left out here": """parse_from_str parse_and_remainder ParseMonthError ParseWeekdayError format_with_items

@@ -5,14 +5,55 @@ static PyTypeObject *iso_calendar_type;
 
 enum { YEAR, WEEK, WEEKDAY, FIELDS };
 
+/* Whether a tuple of the class may be filled in place: from 3.14 on a tuple keeps its hash, which only its own maker prepares. */
+static bool fills_in_place = true;
+
+/* A tuple of the class of these parts, which it takes; each may be missing after an error. */
+static PyObject *tuple_of(PyObject *parts[FIELDS])
+{
+    bool are_there = parts[YEAR] && parts[WEEK] && parts[WEEKDAY];
+    PyObject *filled = NULL;
+    if (are_there) {
+        filled = fills_in_place ? PyType_GenericAlloc(iso_calendar_type, FIELDS) : PyTuple_New(FIELDS);
+    }
+    for (int i = 0; i < FIELDS; i++) {
+        if (filled) {
+            PyTuple_SetItem(filled, i, parts[i]);
+        } else {
+            Py_XDECREF(parts[i]);
+        }
+    }
+    if (!filled || fills_in_place) {
+        return filled;
+    }
+    PyObject *arguments = PyTuple_Pack(1, filled);
+    PyObject *result = arguments ? FROM_SLOT(newfunc, iso_calendar_type, Py_tp_new)(iso_calendar_type, arguments, NULL) : NULL;
+    Py_XDECREF(arguments);
+    Py_DECREF(filled);
+    return result;
+}
+
 PyObject *iso_calendar(int32_t number)
 {
-    /* (by the class's own maker: a tuple keeps more than its items in some versions, such as its hash from 3.14 on) */
-    PyObject *parts = Py_BuildValue("((iiN))", (int)calendar_iso_year(number), (int)calendar_iso_week(number),
-                                    weekday_member(calendar_weekday(number)));
-    PyObject *result = parts ? FROM_SLOT(newfunc, iso_calendar_type, Py_tp_new)(iso_calendar_type, parts, NULL) : NULL;
-    Py_XDECREF(parts);
-    return result;
+    PyObject *parts[FIELDS] = {
+        PyLong_FromLong(calendar_iso_year(number)),
+        PyLong_FromLong(calendar_iso_week(number)),
+        weekday_member(calendar_weekday(number)),
+    };
+    return tuple_of(parts);
+}
+
+/* Finds out whether a tuple that is filled in place has the hash of a plain one; false after an error. */
+static bool look_at_hashes(void)
+{
+    PyObject *parts[FIELDS] = {PyLong_FromLong(2024), PyLong_FromLong(9), PyLong_FromLong(4)};
+    PyObject *filled = tuple_of(parts);
+    PyObject *plain = Py_BuildValue("(iii)", 2024, 9, 4);
+    bool are_made = filled && plain;
+    fills_in_place = are_made && PyObject_Hash(filled) == PyObject_Hash(plain);
+    Py_XDECREF(filled);
+    Py_XDECREF(plain);
+    return are_made;
 }
 
 /* A part of a tuple, which a user may have made of fewer. */
@@ -78,5 +119,5 @@ bool make_iso_calendar_type(PyObject *module)
     PyObject *bases = PyTuple_Pack(1, (PyObject *)&PyTuple_Type);
     iso_calendar_type = bases ? (PyTypeObject *)PyType_FromSpecWithBases(&spec, bases) : NULL;
     Py_XDECREF(bases);
-    return iso_calendar_type && PyModule_AddObjectRef(module, "IsoCalendarDate", (PyObject *)iso_calendar_type) == 0;
+    return iso_calendar_type && look_at_hashes() && PyModule_AddObjectRef(module, "IsoCalendarDate", (PyObject *)iso_calendar_type) == 0;
 }

@@ -155,6 +155,7 @@ class Keeping(unittest.TestCase):
         for protocol in range(2, pickle.HIGHEST_PROTOCOL + 1):
             week = pickle.loads(pickle.dumps(LEAP_DAY.isocalendar(), protocol))
             self.assertEqual((week, type(week)), (LEAP_DAY.isocalendar(), IsoCalendarDate))
+        self.assertEqual(hash(LEAP_DAY.isocalendar()), hash((2024, 9, 4)))
 
     def test_hash(self):
         numbers = (*range(-1_000, 1_000), 738_945, -95_746_129, 95_745_399)
