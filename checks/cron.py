@@ -9,7 +9,7 @@ listed, and so are its day of the month and its weekday, or one of these where n
 found by trying each day from the start's on, and each minute of a day that passes, to the end of the calendar; a schedule of which
 no day passes in 400 years, in which days and weekdays come again, is never due. Calendar dates are those of checks/counted.py.
 
-The rows of crates/cron_rows/stdin are held to it, some answers that were worked out by hand, and generated ones: schedules with wide and with narrow fields, starts at
+The rows of crates/cron_rows/stdin are held to it, some answers that are written out, and generated ones: schedules with wide and with narrow fields, starts at
 both ends of the calendar, in leap seconds, at due moments and beside them; and every minute of a year for ten schedules.
 """
 import argparse
@@ -185,8 +185,8 @@ def known():
     return [row_of(call, schedule, start) for schedule in schedules for start in starts for call in ("next", "prev", "due")]
 
 
-# Answers that were worked out by hand, with a calendar beside: a call, a schedule, a start and the moment that is answered.
-BY_HAND = """\
+# Answers written out, so that a change of the reading above is seen: a call, a schedule, a start and the moment that is answered.
+WRITTEN_OUT = """\
 next | 0 0 29 2 * | 2096-02-29 00:00:00.0 | 2104-02-29 00:00
 prev | 0 0 29 2 * | 2096-02-29 00:00:00.0 | 2092-02-29 00:00
 next | 30 4 1,15 * 5 | 2024-02-09 04:29:59.999999999 | 2024-02-09 04:30
@@ -206,9 +206,9 @@ next | 59 23 31 12 * | 2024-12-31 23:59:00.0 | 2025-12-31 23:59
 next | 0 0 1 1 * | 2016-12-31 23:59:59.1500000000 | 2017-01-01 00:00"""
 
 
-def by_hand():
+def written_out():
     """The rows of these answers."""
-    for line in BY_HAND.splitlines():
+    for line in WRITTEN_OUT.splitlines():
         call, text, start, answer = line.split(" | ")
         date, clock = start.split()
         (hour, minute, second), fraction = map(int, clock.partition(".")[0].split(":")), clock.partition(".")[2]
@@ -250,7 +250,7 @@ def main():
     start = (day_of(2023, 11, 15), 0, 0)
     for name, rows in (
         ("standing rows", standing),
-        ("answers by hand", list(by_hand())),
+        ("answers written out", list(written_out())),
         ("generated rows", generated(arguments.rows, arguments.seed)),
         ("years of minutes", [row_of("year", Schedule(it), start) for it in YEARS]),
     ):
