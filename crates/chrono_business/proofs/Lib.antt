@@ -5,4 +5,5 @@ pub mod RollLemmas
 -- The rest serve this crate's own proofs alone.
 mod Early
 mod Workdays
+mod WeekTables
 mod Checked

@@ -1,4 +1,5 @@
 pub mod OpenDays
+pub mod Workweeks
 pub mod WrongHolidays
 pub mod Rolls
 pub mod DayCounts

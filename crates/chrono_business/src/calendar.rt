@@ -11,6 +11,7 @@ mod open_days;
 mod ranks;
 mod rolls;
 
+use crate::workweek::Workweek;
 use chrono_datetime::{NaiveDate, WeekdaySet};
 use std::marker::Model;
 
@@ -19,7 +20,7 @@ use std::marker::Model;
 /// The holidays are a slice of the caller's. Contracts see a calendar as a record `Closed` of both.
 #[derive(Drop)]
 pub struct Calendar<'a> {
-    weekend: WeekdaySet,
+    week: Workweek,
     holidays: &'a [NaiveDate],
 }
 
@@ -28,9 +29,9 @@ impl<'a> Model for Calendar<'a> {
 
     ghost Value = { Closed };
 
-    ghost view = { λ c. record { weekend = c.weekend; holidays = c.holidays.now } };
+    ghost view = { λ c. record { weekend = c.week; holidays = c.holidays.now } };
 
-    ghost invariant = { λ c. AreHolidays c.weekend c.holidays.now };
+    ghost invariant = { λ c. AreHolidays c.week c.holidays.now };
 }
 
 impl<'a> Calendar<'a> {
@@ -43,6 +44,9 @@ impl<'a> Calendar<'a> {
         requires { AreHolidays weekend holidays.now }
         ensures { result ≡ record { weekend = weekend; holidays = holidays.now } }
     {
-        Calendar { weekend, holidays }
+        Calendar {
+            week: Workweek::new(weekend),
+            holidays,
+        }
     }
 }

@@ -14,7 +14,7 @@ impl<'a> Calendar<'a> {
     pub fn is_open(&self, date: NaiveDate) -> bool
         ensures { result ≡ is_open self.now date }
     {
-        !self.weekend.contains(date.weekday()) && !self.is_holiday(date)
+        self.week.is_workday(date) && !self.is_holiday(date)
     }
 
     /// The first open date not before this one; `None` exactly if no date from this one on is open.

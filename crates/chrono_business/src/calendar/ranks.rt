@@ -10,7 +10,6 @@ ghost use Rattle.chrono_datetime.specs.Recurrence.{first_date, past_last_date};
 ghost use Rattle.chrono_business.specs.OpenDays.{is_holiday, is_open, open_days};
 
 use crate::calendar::Calendar;
-use crate::workweek::{days_to_workday, workdays, workdays_of_week};
 use chrono_datetime::{Datelike, NaiveDate};
 
 // The day number of the first date, and how many dates come after it.
@@ -49,7 +48,7 @@ impl<'a> Calendar<'a> {
         ensures few { result ≤ 191_491_529 }
     {
         let days = (day - FIRST_DAY) as u32;
-        workdays(self.weekend, days) - self.holidays_before(day) as u32
+        self.week.workdays(days) - self.holidays_before(day) as u32
     }
 
     // How many holidays come before the day.
@@ -58,8 +57,16 @@ impl<'a> Calendar<'a> {
         ensures bound { result ≤ length self.now.holidays }
         ensures place { IsPartitionPoint (λ h. h <ℤ day) (λ h. day ≤ℤ h) self.now.holidays result }
     {
-        self.holidays
-            .partition_point(|holiday| holiday.num_days_from_ce() < day)
+        let holidays = self.holidays;
+        let mut place = 0;
+        let mut left = holidays.len();
+        while left > 0 {
+            let half = left - left / 2;
+            let is_before = holidays[place + half - 1].num_days_from_ce() < day;
+            place += if is_before { half } else { 0 };
+            left /= 2;
+        }
+        place
     }
 
     // Whether the date is one of the holidays.
@@ -86,12 +93,12 @@ impl<'a> Calendar<'a> {
         ensures count { IfSome result (λ e. open_days self.now first_date e ≡ rank) }
         ensures none { IfNone result (open_days self.now first_date past_last_date ≤ rank) }
     {
-        let per_week = u64::from(workdays_of_week(self.weekend));
+        let per_week = u64::from(self.week.workdays_of_week());
         if per_week == 0 {
             return None;
         }
         let workday = u64::from(rank) + self.holidays_up_to(rank) as u64;
-        let place = days_to_workday(self.weekend, (workday % per_week) as u32);
+        let place = self.week.days_to_workday((workday % per_week) as u32);
         let days = workday / per_week * 7 + u64::from(place);
         if days > DATES_AFTER_FIRST {
             return None;
@@ -108,17 +115,15 @@ impl<'a> Calendar<'a> {
         ensures ahead { AllWithin (λ h. rank < open_days self.now first_date h)
             self.now.holidays result (length self.now.holidays) }
     {
-        let mut low = 0;
-        let mut high = self.holidays.len();
-        while low < high {
-            let middle = low + (high - low) / 2;
-            if self.rank_of_holiday(middle) <= rank {
-                low = middle + 1;
-            } else {
-                high = middle;
-            }
+        let mut place = 0;
+        let mut left = self.holidays.len();
+        while left > 0 {
+            let half = left - left / 2;
+            let is_behind = self.rank_of_holiday(place + half - 1) <= rank;
+            place += if is_behind { half } else { 0 };
+            left /= 2;
         }
-        low
+        place
     }
 
     // The rank of a holiday by its place.
@@ -130,6 +135,6 @@ impl<'a> Calendar<'a> {
     {
         let holidays = self.holidays;
         let days = (holidays[place].num_days_from_ce() - FIRST_DAY) as u32;
-        workdays(self.weekend, days) - place as u32
+        self.week.workdays(days) - place as u32
     }
 }

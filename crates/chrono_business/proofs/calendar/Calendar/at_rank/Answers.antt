@@ -11,7 +11,7 @@ IsCalendar v = AreHolidays v.weekend v.holidays
 
 pub returns-then-per_week-eq0-clause-none : goal.returns-then-per_week-eq0-clause-none
 returns-then-per_week-eq0-clause-none c =
-    let weekend : c.self.inside.weekend ≡ c.args.self.now.weekend = ap (λ (v : Closed). v.weekend) c.self.view_is in
+    let weekend : c.self.inside.week ≡ c.args.self.now.weekend = ap (λ (v : Closed). v.weekend) c.self.view_is in
     let week = rw weekend at c.workdays_of_week.ensures.counted in
     none-open c.args.self.now c.args.rank (subst IsCalendar c.self.view_is c.self.invariant) (omega (arith, week, c.from-per_week.ensures, c.if-per_week-eq0.true))
 
@@ -19,7 +19,7 @@ returns-then-per_week-eq0-clause-none c =
 pub returns-then-days-gt-DATES_AFTER_FIRST-clause-none : goal.returns-then-days-gt-DATES_AFTER_FIRST-clause-none
 returns-then-days-gt-DATES_AFTER_FIRST-clause-none c =
     let now = c.args.self.now in
-    let weekend : c.self.inside.weekend ≡ now.weekend = ap (λ (v : Closed). v.weekend) c.self.view_is in
+    let weekend : c.self.inside.week ≡ now.weekend = ap (λ (v : Closed). v.weekend) c.self.view_is in
     let are = subst IsCalendar c.self.view_is c.self.invariant in
     let j = c.holidays_up_to.result in
     let n : ℕ = c.from.result + j in
@@ -34,7 +34,7 @@ returns-then-days-gt-DATES_AFTER_FIRST-clause-none c =
 found : (c : goal.After-from_num_days_from_ce_opt) (e : ℤ) → e ≡ first_date +ℤ pos ((c.from.result + c.holidays_up_to.result) / c.from-per_week.result * 7 + c.from-2.result) → IsOpenAt c.args.self.now c.args.rank e
 found c e at =
     let now = c.args.self.now in
-    let weekend : c.self.inside.weekend ≡ now.weekend = ap (λ (v : Closed). v.weekend) c.self.view_is in
+    let weekend : c.self.inside.week ≡ now.weekend = ap (λ (v : Closed). v.weekend) c.self.view_is in
     let are = subst IsCalendar c.self.view_is c.self.invariant in
     let j = c.holidays_up_to.result in
     let n : ℕ = c.from.result + j in

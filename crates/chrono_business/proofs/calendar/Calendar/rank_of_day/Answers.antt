@@ -13,7 +13,7 @@ counted c =
     let P : Closed → Type 0 = λ v. AreHolidays v.weekend v.holidays in
     let k : ℕ = unsigned_abs (c.args.day -ℤ first_date) in
     let at : c.args.day ≡ first_date +ℤ pos k = omega (arith, signed, c.requires.from) in
-    let weekend : c.self.inside.weekend ≡ now.weekend = ap (λ (v : Closed). v.weekend) c.self.view_is in
+    let weekend : c.self.inside.week ≡ now.weekend = ap (λ (v : Closed). v.weekend) c.self.view_is in
     let workdays : c.workdays.result ≡ count_where (is_workday now.weekend) k first_date =
     rw weekend at c.workdays.ensures.counted ∙ ap (λ n. count_where (is_workday now.weekend) n first_date) (omega (arith, casts, at)) in
     omega (arith, workdays, rank-at_place now c.args.day k c.holidays_before.result (subst P c.self.view_is c.self.invariant) at c.holidays_before.ensures.bound (simp (to_z-of_z w32 c.args.day c.ranges.day) at c.holidays_before.ensures.place))

@@ -1,0 +1,17 @@
+-- The workdays so far are those of the days so far.
+use Rattle.std.proofs.Common.{◌≡◌, ℕ, ◌<◌, ◌≤◌, length, pos, ◌+ℤ◌}
+use Rattle.std.specs.Prelude.{slice_index_or}
+use Rattle.chrono_datetime.specs.Weeks.{weekday_of}
+use Rattle.chrono_datetime.specs.Recurrence.{count_where, first_date}
+use Rattle.chrono_business.specs.OpenDays.{is_workday}
+use Rattle.chrono_business.specs.Workweeks.{IsWorkdayAt}
+use Rattle.chrono_business.proofs.workweek.workdays_of.Given as goal
+
+abbrev pub invariant-loop-day : goal.invariant-loop-day
+invariant-loop-day l = record {
+  weekday : l.weekday ≡ weekday_of (first_date +ℤ pos l.day);
+  count : l.count ≡ count_where (is_workday l.weekend) l.day first_date;
+  few : l.count ≤ l.day;
+  size : length l.workdays ≡ 7;
+  workdays : (place d : ℕ) → place < l.count → IsWorkdayAt l.weekend place (slice_index_or l.workdays place d);
+}
