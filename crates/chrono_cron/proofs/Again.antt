@@ -1,5 +1,5 @@
 -- The days of a schedule come again after 400 years.
-use Rattle.std.proofs.Common.{◌≡◌, ℕ, zero, suc, ◌*◌, refl, ◌∙◌, arith, false, ℤ, pos, ◌+ℤ◌, ◌-ℤ◌, ◌≤ℤ◌, unsigned_abs, Option, Some, None, IfNone}
+use Rattle.std.proofs.Common.{◌≡◌, ℕ, zero, suc, ◌*◌, refl, sym, ◌∙◌, arith, false, ℤ, pos, ◌+ℤ◌, ◌-ℤ◌, ◌≤ℤ◌, unsigned_abs, Option, Some, None, IfNone}
 use Rattle.std.proofs.lemmas.Int.{by_lt_z}
 use Rattle.chrono_datetime.specs.Weeks.{weekday_of}
 use Rattle.chrono_datetime.proofs.Cycles.{calendar_name-again}
@@ -25,6 +25,17 @@ none_later s from (suc k) d none low high =
 
 pub none_from : (s : Sets) (from d : ℤ) → ((d : ℤ) → from ≤ℤ d → d ≤ℤ (from +ℤ pos 146_097) → is_day s d ≡ false) → from ≤ℤ d → is_day s d ≡ false
 none_from s from d none low = none_later s from (unsigned_abs (d -ℤ from)) d none low (omega (arith, signed, low))
+
+-- where no day of 400 years is one of the schedule's, no earlier one is
+none_earlier : (s : Sets) (to : ℤ) (k : ℕ) (d : ℤ) → ((d : ℤ) → (to -ℤ pos 146_097) ≤ℤ d → d ≤ℤ to → is_day s d ≡ false) → d ≤ℤ to → (to -ℤ pos (146_097 * suc k)) ≤ℤ d → is_day s d ≡ false
+none_earlier s to zero d none high low = none d (omega (arith, signed, low)) high
+none_earlier s to (suc k) d none high low =
+    by_lt_z (to -ℤ pos 146_097) d
+    (λ lt. none d (omega (arith, signed, lt)) high)
+    (λ ge. sym (is_day-again s d (d +ℤ pos 146_097) refl) ∙ none_earlier s to k (d +ℤ pos 146_097) none (omega (arith, signed, ge)) (omega (arith, signed, low)))
+
+pub none_up_to : (s : Sets) (to d : ℤ) → ((d : ℤ) → (to -ℤ pos 146_097) ≤ℤ d → d ≤ℤ to → is_day s d ≡ false) → d ≤ℤ to → is_day s d ≡ false
+none_up_to s to d none high = none_earlier s to (unsigned_abs (to -ℤ d)) d none high (omega (arith, signed, high))
 
 -- what follows where there is no answer
 pub if_none : (o : Option ℤ) (P Q : Type 0) → (P → Q) → IfNone o P → IfNone o Q

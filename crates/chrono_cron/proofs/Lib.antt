@@ -1,5 +1,6 @@
 mod Again
 mod Digits
+mod DueLists
 mod Minutes
 mod Months
 mod Order

@@ -15,7 +15,7 @@ pub record IsDueAt (s : Sets) (q : Moment) : Type 0 where
   pub second : q.time.second % 60 ≡ 0
   pub fraction : q.time.fraction ≡ 0
 
-due_parts : (s : Sets) (q : Moment) → is_due s q ≡ true → IsDueAt s q
+pub due_parts : (s : Sets) (q : Moment) → is_due s q ≡ true → IsDueAt s q
 unfolding is_due
 due_parts s q due =
     let day = and_parts (is_day s q.date) (is_minute s (q.time.second / 60) && (q.time.second % 60 == 0 && q.time.fraction == 0)) due in

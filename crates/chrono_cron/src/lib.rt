@@ -6,10 +6,12 @@
 //! A field of `*` lists every number, and where one of the two fields of days begins so, `either` is false: the rule of cronie.
 #![tactic(auto)]
 
+mod after;
 mod number_set;
 mod schedule;
 mod sets;
 
+pub use after::After;
 pub use number_set::NumberSet;
 pub use schedule::Schedule;
 pub use sets::Sets;

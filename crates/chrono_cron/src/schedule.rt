@@ -1,9 +1,13 @@
 //! `Schedule`: the moments at which something is due, and the next and the last of them.
-ghost use Rattle.std.specs.Prelude.{◌≡◌, ◌↔◌, ◌<◌, ◌≤◌, ℕ, IfSome, IfNone, IsTrue, false};
+ghost use Rattle.std.specs.Prelude.{◌≡◌, ◌↔◌, ◌<◌, ◌≤◌, ℕ, length, IfSome, IfNone, IsTrue, false};
+ghost use Rattle.std.specs.Iterator.{YieldsFirst};
+ghost use Rattle.std.specs.Iterator.Runs.{YieldsInOrder};
 ghost use Rattle.chrono_datetime.specs.Moment.{Moment, IsBefore, IsMoment};
 ghost use Rattle.chrono_datetime.specs.Time.{IsEarlier, time_at};
 ghost use Rattle.chrono_cron.specs.Due.{IsNeverDue, is_due};
+ghost use Rattle.chrono_cron.specs.DueMoments.{dues_after, dues_left};
 
+use crate::after::{After, lies_in_calendar};
 use crate::sets::Sets;
 use chrono_datetime::{NaiveDateTime, NaiveTime, Timelike};
 
@@ -72,11 +76,25 @@ impl Schedule {
             return Some(NaiveDateTime::new(date, beginning(minute)));
         }
         let minute = self.sets.last_minute(MINUTES_PER_DAY)?;
-        if self.sets.is_never_due() {
-            return None;
-        }
         let day = self.sets.last_day(date.moved_by_days(-1)?)?;
         Some(NaiveDateTime::new(day, beginning(minute)))
+    }
+
+    /// The moments after `start` at which the schedule is due, in order and each once, up to the last in the calendar.
+    #[inline]
+    pub fn after(&self, start: NaiveDateTime) -> After
+        ensures schedule { result.schedule ≡ self.now }
+        ensures start { result.last ≡ start }
+        // There are no more minutes than that in all.
+        ensures few { length (dues_after self.now.sets start) ≤ 275_747_801_760 }
+        // Any calls of `next` give the list's moments in order: what chains of iterators are proved by.
+        ensures runs { YieldsInOrder (YieldsFirst dues_left) dues_left }
+    {
+        lies_in_calendar(start);
+        After {
+            schedule: *self,
+            last: start,
+        }
     }
 }
 

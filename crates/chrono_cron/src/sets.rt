@@ -202,20 +202,38 @@ impl Sets {
         Some(first.last_day_of_month())
     }
 
+    // The last date of the schedule up to `date`, if one lies there from `first` on. If none does, the answer may be `None`, or a
+    // date before `first`.
+    fn last_day_down_to(&self, date: NaiveDate, first: NaiveDate) -> Option<NaiveDate>
+        ensures member { IfSome result (λ e. IsTrue (is_day self.now e)) }
+        ensures not_after { IfSome result (λ e. e ≤ℤ date) }
+        ensures greatest { IfSome result (λ e. (d : ℤ) → e <ℤ d → d ≤ℤ date → is_day self.now d ≡ false) }
+        ensures none { IfNone result ((d : ℤ) → d ≤ℤ date → IsDate d → first ≤ℤ d → is_day self.now d ≡ false) }
+    {
+        let mut month = date;
+        while month >= first {
+            if let Some(last) = self.last_in_month(month) {
+                return Some(last);
+            }
+            month = self.previous_month(month)?;
+        }
+        None
+    }
+
     /// The last date of the schedule up to `date`; `None` exactly if none lies there.
+    ///
+    /// Days of the month and weekdays come again after 400 years, so that no search goes farther.
     pub fn last_day(&self, date: NaiveDate) -> Option<NaiveDate>
         ensures member { IfSome result (λ e. IsTrue (is_day self.now e)) }
         ensures not_after { IfSome result (λ e. e ≤ℤ date) }
         ensures greatest { IfSome result (λ e. (d : ℤ) → e <ℤ d → d ≤ℤ date → is_day self.now d ≡ false) }
         ensures none { IfNone result ((d : ℤ) → d ≤ℤ date → IsDate d → is_day self.now d ≡ false) }
     {
-        let mut month = date;
-        loop {
-            if let Some(last) = self.last_in_month(month) {
-                return Some(last);
-            }
-            month = self.previous_month(month)?;
+        if let Some(first) = date.moved_by_days(-CYCLE) {
+            return self.last_day_down_to(date, first);
         }
+        let (first, _) = first_date();
+        self.last_day_down_to(date, first)
     }
 
     // The first minute of a day, from that one to the end of its hour, that is one of the schedule's.

@@ -62,6 +62,3 @@ returns-clause-greatest c = λ q is after before.
     (λ d low high. c.in_ok-day.ensures.greatest d (omega (arith, signed, low)) (omega (arith, signed, back, c.date-date.ensures, high)))
     (λ j low high. c.in_ok-minute.ensures.greatest j (omega (arith, low)) high) is.time
     (rw (c.new-2.ensures, c.beginning-2.ensures) at after) before
-
-pub returns-then-is_never_due-clause-none : goal.returns-then-is_never_due-clause-none
-returns-then-is_never_due-clause-none c = λ q is before. c.is_never_due.ensures.0 c.if-is_never_due.true q is

@@ -1,22 +1,19 @@
-use Rattle.std.proofs.Common.{arith}
-use Rattle.std.proofs.lemmas.Int.{by_lt_z}
+use Rattle.std.proofs.Common.{refl, arith}
 use Rattle.chrono_datetime.proofs.Signed.{signed}
-use Rattle.chrono_cron.proofs.Months.{earlier_passed}
+use Rattle.chrono_cron.proofs.Again.{if_none, none_up_to}
 use Rattle.chrono_cron.proofs.sets.Sets.last_day.Goals as goal
 
-pub returns-in-Some-clause-greatest : goal.returns-in-Some-clause-greatest
-returns-in-Some-clause-greatest c = λ d low high.
-    by_lt_z c.loop-last.month d (λ lt. c.loop-last.invariant.1 d lt high) (λ ge. c.in-Some.ensures.greatest d low ge)
+pub returns-in-Some-clause-none : goal.returns-in-Some-clause-none
+returns-in-Some-clause-none c =
+    let first = c.in-Some.ensures.moved in
+    let date = c.in-Some.ensures.exists.0 refl in
+    if_none c.last_day_down_to.result _ _
+    (λ none d high is. none_up_to c.args.self.now c.args.date d
+    (λ e from to. none e to (omega (arith, signed, from, first, date)) (omega (arith, signed, from, first))) high)
+    c.last_day_down_to.ensures.none
 
-pub returns-in_err-month-clause-none : goal.returns-in_err-month-clause-none
-returns-in_err-month-clause-none c =
-    rw c.from_residual.ensures
-    (λ d high date.
-    earlier_passed c.args.self.now c.args.date c.loop-last.month d c.loop-last.invariant.1 (λ le. c.in_err-month.ensures.none d le date) (c.in_default.ensures.none d) high)
-
-pub loop-last-preserved : goal.loop-last-preserved
-loop-last-preserved c = (
-  omega (arith, signed, c.loop-last.invariant.0, c.in_ok-month.ensures.earlier),
-  λ d low high.
-      earlier_passed c.args.self.now c.args.date c.loop-last.month d c.loop-last.invariant.1 (λ le. c.in_ok-month.ensures.passed d low le) (c.in_default.ensures.none d) high,
-)
+pub returns-clause-none : goal.returns-clause-none
+returns-clause-none c =
+    if_none c.last_day_down_to-2.result _ _
+    (λ none d high is. none d high is (omega (arith, signed, is, c.first_date-first.ensures.of_type)))
+    c.last_day_down_to-2.ensures.none

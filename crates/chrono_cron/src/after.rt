@@ -1,0 +1,114 @@
+//! `After`: the moments at which a schedule is due, one after another.
+ghost use Rattle.std.specs.Prelude.{◌≡◌, ◌≤◌, ℕ, pos, length, IfSome, IfNone, IsTrue, false, Some};
+ghost use Rattle.std.specs.Iterator.{YieldsFirst, item_count};
+ghost use Rattle.chrono_datetime.specs.Moment.{Moment, IsBefore, IsMoment, moment};
+ghost use Rattle.chrono_datetime.specs.Time.{time_at};
+ghost use Rattle.chrono_cron.specs.Due.{is_due};
+ghost use Rattle.chrono_cron.specs.DueMoments.{dues_left, minutes_left};
+
+use crate::schedule::Schedule;
+use chrono_datetime::law::last_date_time;
+use chrono_datetime::{Datelike, NaiveDateTime, Timelike};
+use std::iter::FusedIterator;
+
+// The day number of the last date.
+const LAST_DAY: i32 = 95_745_399;
+
+// The minutes of a day, and those from the beginning of day 0 to the end of the last date.
+const MINUTES_PER_DAY: i64 = 1_440;
+
+const END: i64 = 95_745_400 * MINUTES_PER_DAY;
+
+// The seconds of a day, and the nanoseconds that end a leap second.
+const SECONDS_PER_DAY: u32 = 86_400;
+
+const PAST_LEAP_SECOND: u32 = 2_000_000_000;
+
+// The seconds of a minute.
+const SECONDS: u32 = 60;
+
+/// The moments after a start at which a schedule is due, in order and each once, up to the last in the calendar. From
+/// [`Schedule::after`].
+///
+/// Once none is left the iterator is ended: it gives nothing more, and stays so.
+#[derive(Clone, Copy, PartialEq, Eq, Debug)]
+pub struct After {
+    /// The schedule.
+    pub schedule: Schedule,
+    /// The moment after which the next one lies: the start at first, then the moment that was given last, and
+    /// [`NaiveDateTime::MAX`] once the iterator is ended.
+    pub last: NaiveDateTime,
+}
+
+impl After {
+    /// The next moment at which the schedule is due; `None` exactly if it is not due any more in the calendar.
+    ///
+    /// It is [`next`](Iterator::next), which says to a loop which list of moments is left; this says which moment comes.
+    pub fn step(&mut self) -> Option<NaiveDateTime>
+        ensures member { IfSome result (λ m. IsTrue (is_due self.old.schedule.sets m)) }
+        ensures later { IfSome result (λ m. IsBefore self.old.last m) }
+        ensures least { IfSome result (λ m. (q : Moment) → IsMoment q → IsBefore self.old.last q → IsBefore q m →
+            is_due self.old.schedule.sets q ≡ false) }
+        ensures none { IfNone result ((q : Moment) → IsMoment q → IsBefore self.old.last q →
+            is_due self.old.schedule.sets q ≡ false) }
+        ensures kept { self.new.schedule ≡ self.old.schedule }
+        ensures moved { IfSome result (λ m. self.new.last ≡ m) }
+        // An ended iterator stays ended.
+        ensures ended { IfNone result (self.new.last ≡ moment (pos 95_745_399) (time_at 23 59 59 999_999_999)) }
+        ensures steps { YieldsFirst dues_left self.old result self.new }
+    {
+        lies_in_calendar(self.last);
+        let Some(next) = self.schedule.next_after(self.last) else {
+            let (end, _) = last_date_time();
+            self.last = end;
+            return None;
+        };
+        lies_in_calendar(next);
+        self.last = next;
+        Some(next)
+    }
+}
+
+impl Iterator for After {
+    type Item = NaiveDateTime;
+
+    ghost next_gives = { YieldsFirst dues_left };
+
+    ghost remaining = { item_count dues_left };
+
+    /// The next moment at which the schedule is due; `None` exactly if it is not due any more in the calendar.
+    fn next(&mut self) -> Option<NaiveDateTime> {
+        self.step()
+    }
+
+    /// At least none, and at most as many moments as minutes begin after the last one: none once the iterator is ended.
+    #[inline]
+    fn size_hint(&self) -> (usize, Option<usize>)
+        ensures value { result ≡ (0, Some (minutes_left self.now.last)) }
+        ensures bound { length (dues_left self.now) ≤ minutes_left self.now.last }
+    {
+        (0, Some(minutes_after(self.last)))
+    }
+}
+
+impl FusedIterator for After {}
+
+// Each date-time is one of the calendar's.
+#[inline]
+pub(crate) fn lies_in_calendar(moment: NaiveDateTime)
+    ensures { IsMoment moment }
+{
+    prove!(moment.date().num_days_from_ce() <= LAST_DAY);
+    prove!(moment.time().num_seconds_from_midnight() < SECONDS_PER_DAY);
+    prove!(moment.time().nanosecond() < PAST_LEAP_SECOND);
+}
+
+// How many minutes begin after a moment, up to the end of the last date.
+#[inline]
+fn minutes_after(moment: NaiveDateTime) -> usize
+    ensures value { result ≡ minutes_left moment }
+{
+    let days = i64::from(moment.date().num_days_from_ce()) * MINUTES_PER_DAY;
+    let minute = moment.time().num_seconds_from_midnight() / SECONDS;
+    (END - (days + i64::from(minute) + 1)) as usize
+}
