@@ -10,7 +10,8 @@ found by trying each day from the start's on, and each minute of a day that pass
 no day passes in 400 years, in which days and weekdays come again, is never due. Calendar dates are those of checks/counted.py.
 
 The rows of crates/cron_rows/stdin are held to it, some answers that are written out, and generated ones: schedules with wide and with narrow fields, starts at
-both ends of the calendar, in leap seconds, at due moments and beside them; and every minute of a year for ten schedules.
+both ends of the calendar, in leap seconds, at due moments and beside them; and for ten schedules the next moment after every minute of
+a year, and all that the iterator gives, held to the minutes of a year that are due by the definition.
 """
 import argparse
 import os
@@ -116,6 +117,17 @@ class Schedule:
         return (total + 2**63) % 2**64 - 2**63
 
 
+    def dues(self, day, second, fraction):
+        """The due moments after a start up to 365 days past its date, each added to 31 times what came before, in 64 digits with a sign."""
+        total = 0
+        for later in range(day, min(day + 365, LAST_DAY) + 1):
+            if self.is_day(later):
+                for minute in self.minutes:
+                    if (later, 60 * minute, 0) > (day, second, fraction):
+                        total = (total * 31 + later * 1440 + minute) % 2**64
+        return (total + 2**63) % 2**64 - 2**63
+
+
 def field_text(chosen, low, high):
     """The text of a field: wide or narrow, of one item or of some."""
     kind = chosen.randrange(6)
@@ -159,6 +171,8 @@ def row_of(call, schedule, start):
         answer = schedule.year(start[0])
     elif call == "due":
         answer = int(schedule.is_due(*start))
+    elif call == "never":
+        answer = int(schedule.is_never or not schedule.minutes)
     else:
         answer = getattr(schedule, call)(*start)
     words = " ".join(str(it) for it in start)
@@ -172,7 +186,7 @@ def generated(count, seed):
         schedule = Schedule(schedule_text(chosen))
         for _ in range(5):
             start = start_of(chosen, schedule)
-            rows.append(row_of(chosen.choice(("next", "next", "prev", "prev", "due")), schedule, start))
+            rows.append(row_of(chosen.choice(("next", "next", "prev", "prev", "due", "never")), schedule, start))
     return rows
 
 
@@ -182,7 +196,10 @@ def known():
     starts += [(FIRST_DAY, 0, 0), (FIRST_DAY, 0, 1), (LAST_DAY, 86_340, 0), (LAST_DAY, 86_399, 1_999_999_999)]
     starts += [(day_of(2024, 2, 9), 16_199, 999_999_000), (day_of(2024, 2, 9), 16_200, 0), (day_of(2024, 2, 9), 16_200, 1)]
     schedules = [Schedule(it) for it in KNOWN]
-    return [row_of(call, schedule, start) for schedule in schedules for start in starts for call in ("next", "prev", "due")]
+    rows = [row_of(call, schedule, start) for schedule in schedules for start in starts for call in ("next", "prev", "due")]
+    rows += [row_of("never", schedule, starts[0]) for schedule in schedules]
+    # The iterator from the ends of the calendar and from within it: past the last due moment it has to have ended.
+    return rows + [row_of("dues", schedule, start) for schedule in schedules for start in starts[:1] + starts[3:8]]
 
 
 # Answers written out, so that a change of the reading above is seen: a call, a schedule, a start and the moment that is answered.
@@ -253,6 +270,7 @@ def main():
         ("answers written out", list(written_out())),
         ("generated rows", generated(arguments.rows, arguments.seed)),
         ("years of minutes", [row_of("year", Schedule(it), start) for it in YEARS]),
+        ("iterators over years", [row_of("dues", Schedule(it), start) for it in YEARS]),
     ):
         right, others = answered(rows)
         print(f"{name}: {len(rows)}, {len(rows) - right} of them answered otherwise (seed {arguments.seed})")

@@ -7,6 +7,7 @@
 #![tactic(auto)]
 
 mod after;
+pub mod law;
 mod number_set;
 mod schedule;
 mod sets;

@@ -3,8 +3,9 @@
 //! A line is `call minutes hours days months weekdays either day second fraction = number`. The five sets are numbers whose binary
 //! digits are their members, `either` is 1 where a day of the month or a weekday is enough, and the start is a day number, a second
 //! of the day and the nanoseconds past it. The calls are `next` and `prev`, answered by the number of minutes from day 0 to the moment,
-//! `due`, by 1 or 0, and `year`, by the sum of those numbers of minutes over the next moments after each minute of 365 days,
-//! in 64 binary digits. `none` is no moment. Each line that is answered otherwise is printed with its number, and at the end their count.
+//! `due` and `never`, by 1 or 0, `year`, by the sum of those numbers of minutes over the next moments after each minute of 365 days,
+//! in 64 binary digits, and `dues`, by those of the moments that the iterator gives up to 365 days past the start's, each added to 31
+//! times what came before. `none` is no moment. Each line that is answered otherwise is printed with its number, and at the end their count.
 #![tactic(auto)]
 
 use chrono_cron::{NumberSet, Schedule, Sets};
@@ -47,6 +48,8 @@ fn is_answered(line: &str) -> bool {
         "next" => schedule.next_after(start).map(|moment| minutes_to(moment)),
         "prev" => schedule.prev_before(start).map(|moment| minutes_to(moment)),
         "due" => Some(i64::from(schedule.is_due(start))),
+        "never" => Some(i64::from(schedule.never_due())),
+        "dues" => all_dues(&schedule, start),
         "year" => Some(sum_of_year(&schedule, start.date())),
         _ => return false,
     };
@@ -78,6 +81,23 @@ fn arguments_of(text: &str) -> Option<(Schedule, NaiveDateTime)> {
 fn minutes_to(moment: NaiveDateTime) -> i64 {
     let minute = moment.time().num_seconds_from_midnight() / SECONDS;
     i64::from(moment.date().num_days_from_ce()) * i64::from(MINUTES) + i64::from(minute)
+}
+
+// The minutes to the moments that the iterator gives, as one number; none if it gives one more after its end.
+fn all_dues(schedule: &Schedule, start: NaiveDateTime) -> Option<i64> {
+    let end = start.date().num_days_from_ce() + DAYS as i32;
+    let mut sum: i64 = 0;
+    let mut moments = schedule.after(start);
+    while let Some(moment) = moments.next() {
+        if moment.date().num_days_from_ce() > end {
+            return Some(sum);
+        }
+        sum = sum.wrapping_mul(31).wrapping_add(minutes_to(moment));
+    }
+    match moments.next() {
+        Some(_) => None,
+        None => Some(sum),
+    }
 }
 
 // The sum of the minutes to the next moment, of each minute of so many days from a date on.
