@@ -1,5 +1,6 @@
 mod Again
 mod Digits
 mod Minutes
+mod MonthSets
 mod Months
 mod Order

@@ -6,10 +6,13 @@
 //! A field of `*` lists every number, and where one of the two fields of days begins so, `either` is false: the rule of cronie.
 #![tactic(auto)]
 
+pub mod law;
+mod month_days;
 mod number_set;
 mod schedule;
 mod sets;
 
+pub use month_days::MonthDays;
 pub use number_set::NumberSet;
 pub use schedule::Schedule;
 pub use sets::Sets;
