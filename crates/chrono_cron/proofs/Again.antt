@@ -1,19 +1,54 @@
 -- The days of a schedule come again after 400 years.
-use Rattle.std.proofs.Common.{◌≡◌, ℕ, zero, suc, ◌*◌, refl, sym, ◌∙◌, arith, false, ℤ, pos, ◌+ℤ◌, ◌-ℤ◌, ◌≤ℤ◌, unsigned_abs, Option, Some, None, IfNone}
+use Rattle.std.proofs.Common.{◌≡◌, ℕ, zero, suc, ◌+◌, ◌-◌, ◌*◌, ◌≤◌, inl, inr, Bool, ◌&&◌, ◌||◌, refl, sym, ap, ◌∙◌, arith, false, ℤ, pos, ◌+ℤ◌, ◌-ℤ◌, ◌≤ℤ◌, unsigned_abs, Option, Some, None, IfNone}
+use Rattle.std.proofs.lemmas.Bool.{cases_lt}
 use Rattle.std.proofs.lemmas.Int.{by_lt_z}
+use Rattle.chrono_datetime.specs.Days.{day_of, month_of}
+use Rattle.chrono_datetime.specs.MonthMoves.{month_length_of}
+use Rattle.chrono_datetime.specs.Weekday.{days_from_sunday}
 use Rattle.chrono_datetime.specs.Weeks.{weekday_of}
 use Rattle.chrono_datetime.proofs.Cycles.{calendar_name-again}
+use Rattle.chrono_datetime.proofs.MonthDays.{day_of-bounds, later_in_month, month-next}
 use Rattle.chrono_datetime.proofs.Signed.{signed}
 use Rattle.chrono_datetime.proofs.WeekDays.{weekday_of-weeks}
 use Rattle.chrono_cron.specs.declared.sets.Sets.{Sets}
-use Rattle.chrono_cron.specs.Due.{is_day, is_listed}
+use Rattle.chrono_cron.specs.Due.{either_or_both, has, is_day, is_listed, is_named_by_place, is_named_by_weekday}
+
+-- a month is not longer than one whose days have the same places
+not_longer : (n m : ℤ) → day_of m ≡ day_of n → ((k : ℕ) → day_of (m +ℤ pos k) ≡ day_of (n +ℤ pos k)) → month_length_of m ≤ month_length_of n
+not_longer n m place again =
+    let bounds = day_of-bounds n in
+    let behind = month_length_of n - day_of n + 1 in
+    let next = month-next n (n +ℤ pos behind) (omega (arith, signed, bounds)) in
+    elim (cases_lt (month_length_of n) (month_length_of m)) [
+      | inl longer ↦
+          let within = later_in_month m (m +ℤ pos behind) behind refl (omega (arith, place, bounds, longer)) in
+          absurd (omega (arith, within.day, again behind, next.1, place, bounds))
+      | inr le ↦ le
+    ]
+
+month_length_of-again : (n m : ℤ) → m ≡ n +ℤ pos 146_097 → month_length_of m ≡ month_length_of n
+month_length_of-again n m e =
+    let name = calendar_name-again n m e in
+    let later : (k : ℕ) → day_of (m +ℤ pos k) ≡ day_of (n +ℤ pos k) = λ k. (calendar_name-again (n +ℤ pos k) (m +ℤ pos k) (omega (arith, signed, e))).1 in
+    omega (arith, not_longer n m name.1 later, not_longer m n (sym name.1) (λ k. sym (later k)))
+
+-- a day by what tells whether it is one of the schedule's: its month, its place there, the month's length and its weekday
+abbrev day_at : Sets → ℕ → ℕ → ℕ → ℕ → Bool
+day_at s month p length w =
+    let by_day = has s.days p || is_named_by_place s.month_days p (length - p) w in
+    let by_weekday = has s.weekdays w || is_named_by_weekday s.month_days p (length - p) w in
+    has s.months month && either_or_both s.either by_day by_weekday
+
+day_at-same : (s : Sets) (month other p q length k w v : ℕ) → month ≡ other → p ≡ q → length ≡ k → w ≡ v → day_at s month p length w ≡ day_at s other q k v
+day_at-same s month other p q length k w v months places lengths weekdays = rw (months, places, lengths, weekdays) refl
 
 is_day-again : (s : Sets) (n m : ℤ) → m ≡ n +ℤ pos 146_097 → is_day s m ≡ is_day s n
 unfolding is_day is_listed
 is_day-again s n m e =
     let name = calendar_name-again n m e in
     let weekday : weekday_of m ≡ weekday_of n = weekday_of-weeks n m 20_871 e in
-    rw (name.0, name.1, weekday) refl
+    day_at-same s (month_of m) (month_of n) (day_of m) (day_of n) (month_length_of m) (month_length_of n) (days_from_sunday (weekday_of m)) (days_from_sunday (weekday_of n))
+    name.0 name.1 (month_length_of-again n m e) (ap days_from_sunday weekday)
 
 -- where no day of 400 years is one of the schedule's, no later one is
 none_later : (s : Sets) (from : ℤ) (k : ℕ) (d : ℤ) → ((d : ℤ) → from ≤ℤ d → d ≤ℤ (from +ℤ pos 146_097) → is_day s d ≡ false) → from ≤ℤ d → d ≤ℤ (from +ℤ pos (146_097 * suc k)) → is_day s d ≡ false

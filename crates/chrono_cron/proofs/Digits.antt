@@ -1,11 +1,11 @@
 -- The members of a set of numbers, by the binary digits that it is stored as.
-use Rattle.std.proofs.Common.{◌≡◌, ℕ, zero, suc, ◌+◌, ◌-◌, ◌*◌, ◌/◌, ◌%◌, ◌^◌, ◌<◌, ◌≤◌, ◌==◌, inl, inr, ◌&&◌, ◌||◌, Bool, true, false, min, max, sym, ap, ◌∙◌, arith}
-use Rattle.std.proofs.lemmas.Bool.{cases_lt}
+use Rattle.std.proofs.Common.{◌≡◌, ℕ, zero, suc, ◌+◌, ◌-◌, ◌*◌, ◌/◌, ◌%◌, ◌^◌, ◌<◌, ◌≤◌, ◌==◌, inl, inr, ◌&&◌, ◌||◌, Bool, true, false, min, max, refl, sym, ap, ◌∙◌, arith}
+use Rattle.std.proofs.lemmas.Bool.{and_left, and_right, cases_lt, eqb-true, le-leb, le-ltb, lt-leb, lt-ltb}
 use Rattle.std.proofs.Math.Nat.{pow-suc, pow-le-pow_right}
 use Rattle.std.proofs.lemmas.Nat.{shr-shr, leading_top, and_le_r, pow_below, pow_pos}
-use Rattle.std.proofs.lemmas.Nat.Bits.{bit_at-lt, bit_at-zero, bit_at_above, bit_at_and, bit_at_or, bit_at_ones, bit_at_cat_high, bit_at_cat_low, bit_at-trailing_zeros}
-use Rattle.std.specs.Prelude.{bit_and, bit_or}
-use Rattle.std.specs.Int.{bit_at, w64, trailing_zeros, leading_zeros}
+use Rattle.std.proofs.lemmas.Nat.Bits.{bit_at-lt, bit_at-suc, bit_at-zero, bit_at_above, bit_at_and, bit_at_or, bit_at_lowest, bit_at_ones, bit_at_mask_above, bit_at_mask_below, bit_at_mask_inside, bit_at_cat_high, bit_at_cat_low, bit_at-trailing_zeros}
+use Rattle.std.specs.Prelude.{bit_and, bit_or, nat_le, nat_lt}
+use Rattle.std.specs.Int.{bit_at, w64, trailing_zeros, leading_zeros, reverse_bits_onto}
 use Rattle.chrono_cron.specs.declared.number_set.NumberSet.{NumberSet}
 use Rattle.chrono_cron.specs.Due.{has}
 
@@ -133,3 +133,79 @@ has-and s t u k made = one_min (bit_at s.digits k) (bit_at t.digits k) (bit_at u
 pub has-or : (s t u : NumberSet) (k : ℕ) → u.digits ≡ bit_or s.digits t.digits → has u k ≡ (has s k || has t k)
 unfolding has
 has-or s t u k made = one_max (bit_at s.digits k) (bit_at t.digits k) (bit_at u.digits k) (bit_at-lt s.digits k) (bit_at-lt t.digits k) (ap (λ n. bit_at n k) made ∙ bit_at_or s.digits t.digits k)
+
+pub has-none : (s : NumberSet) (k : ℕ) → (s.digits == 0) ≡ true → has s k ≡ false
+has-none s k empty = has_not s k (ap (λ n. bit_at n k) (eqb-true s.digits 0 empty) ∙ bit_at-zero k)
+
+-- ---- sets moved, mirrored and cut
+
+pub has-lowered : (s t : NumberSet) (by k : ℕ) → t.digits ≡ s.digits / 2 ^ by → has t k ≡ has s (k + by)
+unfolding has
+has-lowered s t by k made =
+    let place : by + k ≡ k + by = omega arith in
+    ap is_one (ap (λ n. bit_at n k) made ∙ bit_at-shifted s.digits by k ∙ ap (bit_at s.digits) place)
+
+-- the lowest 64 digits of a number
+bit_at-wrapped : (n k : ℕ) → k < 64 → bit_at (n % 2 ^ 64) k ≡ bit_at n k
+bit_at-wrapped n k lt =
+    let whole : n / 2 ^ 64 * 2 ^ 64 + n % 2 ^ 64 ≡ n = omega arith in
+    sym (bit_at_cat_low (n / 2 ^ 64) 64 (n % 2 ^ 64) k lt) ∙ ap (λ x. bit_at x k) whole
+
+pub has-raised : (s t : NumberSet) (by k : ℕ) → k < 64 → t.digits ≡ s.digits * 2 ^ by % 2 ^ 64 → has t k ≡ (nat_le by k && has s (k - by))
+unfolding has
+has-raised s t by k lt made =
+    let digit : bit_at t.digits k ≡ bit_at (s.digits * 2 ^ by) k = ap (λ n. bit_at n k) made ∙ bit_at-wrapped (s.digits * 2 ^ by) k lt in
+    let filled : s.digits * 2 ^ by ≡ s.digits * 2 ^ by + 0 = omega arith in
+    elim (cases_lt k by) [
+      | inl low ↦ rw (lt-leb by k low) (ap is_one (digit ∙ ap (λ n. bit_at n k) filled ∙ bit_at_cat_low s.digits by 0 k low ∙ bit_at-zero k))
+      | inr high ↦ rw (le-leb by k high) (ap is_one (digit ∙ ap (λ n. bit_at n k) filled ∙ bit_at_cat_high s.digits by 0 k (pow_pos by) high))
+    ]
+
+-- digits in the opposite order, in front of others
+bit_at-behind : (k n a i : ℕ) → bit_at (reverse_bits_onto k n a) (k + i) ≡ bit_at a i
+unfolding reverse_bits_onto
+bit_at-behind zero n a i = let place : 0 + i ≡ i = omega arith in ap (bit_at a) place
+bit_at-behind (suc k) n a i =
+    let place : suc k + i ≡ k + suc i = omega arith in
+    let before : suc i - 1 ≡ i = omega arith in
+    ap (bit_at (reverse_bits_onto k (n / 2) (a * 2 + n % 2))) place ∙ bit_at-behind k (n / 2) (a * 2 + n % 2) (suc i)
+    ∙ bit_at_cat_high a 1 (n % 2) (suc i) (omega arith) (omega arith) ∙ ap (bit_at a) before
+
+bit_at-turned : (k n a i : ℕ) → i < k → bit_at (reverse_bits_onto k n a) i ≡ bit_at n (k - 1 - i)
+unfolding reverse_bits_onto
+bit_at-turned zero n a i lt = absurd (omega (arith, lt))
+bit_at-turned (suc k) n a i lt = elim (cases_lt i k) [
+  | inl less ↦
+      let place : suc (k - 1 - i) ≡ suc k - 1 - i = omega (arith, less) in
+      bit_at-turned k (n / 2) (a * 2 + n % 2) i less ∙ sym (bit_at-suc n (k - 1 - i)) ∙ ap (bit_at n) place
+  | inr last ↦
+      let here : i ≡ k + 0 = omega (arith, lt, last) in
+      let place : 0 ≡ suc k - 1 - i = omega (arith, lt, last) in
+      let lowest : (a * 2 + n % 2) % 2 ≡ n % 2 = omega arith in
+      ap (bit_at (reverse_bits_onto k (n / 2) (a * 2 + n % 2))) here ∙ bit_at-behind k (n / 2) (a * 2 + n % 2) 0
+      ∙ bit_at_lowest (a * 2 + n % 2) ∙ lowest ∙ sym (bit_at_lowest n) ∙ ap (bit_at n) place
+]
+
+pub has-mirrored : (s t : NumberSet) (last k : ℕ) → last < 64 → k ≤ last → t.digits ≡ reverse_bits_onto 64 s.digits 0 / 2 ^ (63 - last) → has t k ≡ has s (last - k)
+unfolding has
+has-mirrored s t last k lt le made =
+    let place : 64 - 1 - (63 - last + k) ≡ last - k = omega (arith, lt, le) in
+    ap is_one (ap (λ n. bit_at n k) made ∙ bit_at-shifted (reverse_bits_onto 64 s.digits 0) (63 - last) k
+    ∙ bit_at-turned 64 s.digits 0 (63 - last + k) (omega (arith, lt, le)) ∙ ap (bit_at s.digits) place)
+
+-- whether a place lies between two others, by the digits of ones
+is_one-between : (from end k : ℕ) → is_one (bit_at (2 ^ end - 2 ^ from) k) ≡ (nat_le from k && nat_lt k end)
+is_one-between from end k = elim (cases_lt k from) [
+  | inl low ↦ ap is_one (bit_at_mask_below from end k low) ∙ sym (and_left (nat_le from k) (nat_lt k end) (lt-leb from k low))
+  | inr high ↦ elim (cases_lt k end) [
+    | inl inside ↦ ap is_one (bit_at_mask_inside from end k high inside) ∙ rw (le-leb from k high, lt-ltb k end inside) refl
+    | inr past ↦ ap is_one (bit_at_mask_above from end k past) ∙ sym (and_right (nat_le from k) (nat_lt k end) (le-ltb k end past))
+  ]
+]
+
+pub has-between : (s t : NumberSet) (from end k : ℕ) → t.digits ≡ bit_and s.digits (2 ^ end - 2 ^ from) → has t k ≡ (has s k && (nat_le from k && nat_lt k end))
+unfolding has
+has-between s t from end k made =
+    let mask = 2 ^ end - 2 ^ from in
+    one_min (bit_at s.digits k) (bit_at mask k) (bit_at t.digits k) (bit_at-lt s.digits k) (bit_at-lt mask k) (ap (λ n. bit_at n k) made ∙ bit_at_and s.digits mask k)
+    ∙ ap (λ b. is_one (bit_at s.digits k) && b) (is_one-between from end k)

@@ -2,5 +2,6 @@ mod Again
 mod Digits
 mod DueLists
 mod Minutes
+mod MonthSets
 mod Months
 mod Order

@@ -1,5 +1,5 @@
 -- The days of a month, and those between a day and the end of an earlier or the beginning of a later month.
-use Rattle.std.proofs.Common.{◌≡◌, ℕ, ◌+◌, ◌-◌, ◌%◌, ◌<◌, ◌≤◌, ◌==◌, ◌⊎◌, inl, inr, true, false, ◌&&◌, ◌||◌, refl, sym, ap, ◌∙◌, arith, ℤ, pos, ◌+ℤ◌, ◌-ℤ◌, ◌≤ℤ◌, ◌<ℤ◌, Option, Some, None, IfSome, IfNone, IsSome, ◌↔◌, ap₂, to_z, of_z, w32}
+use Rattle.std.proofs.Common.{◌≡◌, ℕ, ◌+◌, ◌-◌, ◌%◌, ◌<◌, ◌≤◌, ◌==◌, ◌⊎◌, inl, inr, Bool, true, false, ◌||◌, refl, sym, ap, ◌∙◌, arith, ℤ, pos, ◌+ℤ◌, ◌-ℤ◌, ◌≤ℤ◌, ◌<ℤ◌, Option, Some, None, IfSome, IfNone, IsSome, ◌↔◌, ap₂, to_z, of_z, w32}
 use Rattle.std.proofs.lemmas.Bool.{agree_below_at, cases_lt, eqb-true}
 use Rattle.std.proofs.lemmas.Int.{by_lt_z, to_z-of_z}
 use Rattle.chrono_datetime.specs.Years.{IsYear, month_length}
@@ -13,7 +13,7 @@ use Rattle.chrono_datetime.proofs.Rising.{month_index_of-rises}
 use Rattle.chrono_datetime.proofs.Signed.{signed}
 use Rattle.chrono_cron.specs.declared.number_set.NumberSet.{NumberSet}
 use Rattle.chrono_cron.specs.declared.sets.Sets.{Sets}
-use Rattle.chrono_cron.specs.Due.{has, is_day, is_listed}
+use Rattle.chrono_cron.specs.Due.{either_or_both, has, is_day, is_listed, is_named_by_place, is_named_by_weekday}
 
 -- two days of a month are as far apart as their places there
 pub places : (n d : ℤ) → InSameMonth d n → d +ℤ pos (day_of n) ≡ n +ℤ pos (day_of d)
@@ -42,15 +42,46 @@ by_weekday : (s : Sets) (w : NumberSet) (n d : ℤ) (before : ℕ) → InSameMon
 by_weekday s w n d before same is weeks =
     weeks (day_of d) (omega (arith, place-bounds d)) ∙ ap (has s.weekdays) (weekday_at n d before same is)
 
-pub listed-either : (s : Sets) (w u : NumberSet) (n d : ℤ) (before : ℕ) → s.either ≡ true → InSameMonth d n → before ≡ (days_from_sunday (weekday_of n) + 35 - day_of n) % 7 → ((k : ℕ) → k < 40 → has w k ≡ has s.weekdays ((k + before) % 7)) → ((k : ℕ) → has u k ≡ (has s.days k || has w k)) → has u (day_of d) ≡ is_listed s d
+-- a set of the days that are listed by either of two sets, or by both
+pub listed_at : (s : Sets) (u x y : NumberSet) (d : ℤ) → has u (day_of d) ≡ either_or_both s.either (has x (day_of d)) (has y (day_of d)) → has x (day_of d) ≡ (has s.days (day_of d) || is_named_by_place s.month_days (day_of d) (month_length_of d - day_of d) (days_from_sunday (weekday_of d))) → has y (day_of d) ≡ (has s.weekdays (days_from_sunday (weekday_of d)) || is_named_by_weekday s.month_days (day_of d) (month_length_of d - day_of d) (days_from_sunday (weekday_of d))) → has u (day_of d) ≡ is_listed s d
 unfolding is_listed
-listed-either s w u n d before either same is weeks both =
-    rw either (both (day_of d) ∙ ap (λ b. has s.days (day_of d) || b) (by_weekday s w n d before same is weeks))
+listed_at s u x y d together by_day by_weekday = together ∙ ap₂ (either_or_both s.either) by_day by_weekday
 
-pub listed-both : (s : Sets) (w u : NumberSet) (n d : ℤ) (before : ℕ) → s.either ≡ false → InSameMonth d n → before ≡ (days_from_sunday (weekday_of n) + 35 - day_of n) % 7 → ((k : ℕ) → k < 40 → has w k ≡ has s.weekdays ((k + before) % 7)) → ((k : ℕ) → has u k ≡ (has s.days k && has w k)) → has u (day_of d) ≡ is_listed s d
+or_none : (a b : Bool) → b ≡ false → a ≡ (a || b)
+or_none true b none = refl
+or_none false b none = sym none
+
+-- where no day is named
+pub listed_plainly : (s : Sets) (u w : NumberSet) (n d : ℤ) (before : ℕ) → ((p follow w : ℕ) → is_named_by_place s.month_days p follow w ≡ false) → ((p follow w : ℕ) → is_named_by_weekday s.month_days p follow w ≡ false) → InSameMonth d n → before ≡ (days_from_sunday (weekday_of n) + 35 - day_of n) % 7 → ((k : ℕ) → k < 40 → has w k ≡ has s.weekdays ((k + before) % 7)) → ((k : ℕ) → has u k ≡ either_or_both s.either (has s.days k) (has w k)) → has u (day_of d) ≡ is_listed s d
+listed_plainly s u w n d before no_place no_weekday same is weeks together =
+    let p = day_of d in
+    let follow = month_length_of d - p in
+    let weekday = days_from_sunday (weekday_of d) in
+    listed_at s u s.days w d (together p) (or_none (has s.days p) _ (no_place p follow weekday)) (by_weekday s w n d before same is weeks ∙ or_none (has s.weekdays weekday) _ (no_weekday p follow weekday))
+
+-- a test of the places of a month, of their distance from its end and of their weekdays, at a day of the month
+pub place_test : (set : NumberSet) (test : ℕ → ℕ → ℕ → Bool) (n d : ℤ) (length before : ℕ) → InSameMonth d n → length ≡ month_length_of n → before ≡ (days_from_sunday (weekday_of n) + 35 - day_of n) % 7 → ((k : ℕ) → 1 ≤ k → k ≤ length → has set k ≡ test k (length - k) ((k + before) % 7)) → has set (day_of d) ≡ test (day_of d) (month_length_of d - day_of d) (days_from_sunday (weekday_of d))
+place_test set test n d length before same is_length is_before places =
+    let lengths : month_length_of d ≡ month_length_of n = ap₂ month_length same.0 same.1 in
+    let whole : length ≡ month_length_of d = omega (arith, is_length, lengths) in
+    let bounds = day_of-bounds d in
+    places (day_of d) (omega (arith, bounds)) (omega (arith, bounds, whole))
+    ∙ ap₂ (λ l w. test (day_of d) (l - day_of d) w) whole (weekday_at n d before same is_before)
+
+-- where days are named
+pub listed_or_named : (s : Sets) (u x y m v w : NumberSet) (n d : ℤ) (length before : ℕ) → InSameMonth d n → length ≡ month_length_of n → before ≡ (days_from_sunday (weekday_of n) + 35 - day_of n) % 7 → ((k : ℕ) → k < 40 → has w k ≡ has s.weekdays ((k + before) % 7)) → ((k : ℕ) → 1 ≤ k → k ≤ length → has m k ≡ is_named_by_place s.month_days k (length - k) ((k + before) % 7)) → ((k : ℕ) → 1 ≤ k → k ≤ length → has v k ≡ is_named_by_weekday s.month_days k (length - k) ((k + before) % 7)) → ((k : ℕ) → has x k ≡ (has s.days k || has m k)) → ((k : ℕ) → has y k ≡ (has w k || has v k)) → ((k : ℕ) → has u k ≡ either_or_both s.either (has x k) (has y k)) → has u (day_of d) ≡ is_listed s d
+listed_or_named s u x y m v w n d length before same is_length is weeks places weekdays by_day by_week together =
+    listed_at s u x y d (together (day_of d))
+    (by_day (day_of d) ∙ ap (λ b. has s.days (day_of d) || b) (place_test m (is_named_by_place s.month_days) n d length before same is_length is places))
+    (by_week (day_of d) ∙ ap₂ (λ a b. a || b) (by_weekday s w n d before same is weeks) (place_test v (is_named_by_weekday s.month_days) n d length before same is_length is weekdays))
+
+-- a day by its own place and weekday, where no day is named
+pub listed-day : (s : Sets) (d : ℤ) → ((p follow w : ℕ) → is_named_by_place s.month_days p follow w ≡ false) → ((p follow w : ℕ) → is_named_by_weekday s.month_days p follow w ≡ false) → either_or_both s.either (has s.days (day_of d)) (has s.weekdays (days_from_sunday (weekday_of d))) ≡ is_listed s d
 unfolding is_listed
-listed-both s w u n d before either same is weeks both =
-    rw either (both (day_of d) ∙ ap (λ b. has s.days (day_of d) && b) (by_weekday s w n d before same is weeks))
+listed-day s d no_place no_weekday =
+    ap₂ (either_or_both s.either)
+    (or_none (has s.days (day_of d)) _ (no_place (day_of d) (month_length_of d - day_of d) (days_from_sunday (weekday_of d))))
+    (or_none (has s.weekdays (days_from_sunday (weekday_of d))) _ (no_weekday (day_of d) (month_length_of d - day_of d) (days_from_sunday (weekday_of d))))
 
 -- of a day before the first of a month, and of one after the last, the month is another
 month_before_first : (d e : ℤ) → day_of e ≡ 1 → d <ℤ e → month_index_of d <ℤ month_index_of e

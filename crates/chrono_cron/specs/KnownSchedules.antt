@@ -1,5 +1,6 @@
 -- Some schedules, by what their fields list.
 use Rattle.std.specs.Prelude.{ℕ, ◌+◌, ◌-◌, ◌^◌, Bool, true, false, List, [], ◌∷◌, map, sum}
+use Rattle.chrono_cron.specs.declared.month_days.MonthDays.{MonthDays}
 use Rattle.chrono_cron.specs.declared.number_set.NumberSet.{NumberSet}
 use Rattle.chrono_cron.specs.declared.sets.Sets.{Sets}
 
@@ -25,10 +26,15 @@ every_month = numbers_to 1 12
 abbrev pub every_weekday : NumberSet
 every_weekday = numbers_to 0 6
 
+-- no day by the month's end, its workdays and its weeks
+abbrev pub no_month_days : MonthDays
+no_month_days =
+    record { from_end = numbers []; nearest_workdays = numbers []; last_workday = false; last_weekdays = numbers []; nth_weekdays = numbers [] }
+
 -- five fields in the order of a text, and whether one of the two fields of days is enough
 abbrev pub fields : NumberSet → NumberSet → NumberSet → NumberSet → NumberSet → Bool → Sets
 fields minutes hours days months weekdays either =
-    record { minutes = minutes; hours = hours; days = days; months = months; weekdays = weekdays; either = either }
+    record { minutes = minutes; hours = hours; days = days; months = months; weekdays = weekdays; month_days = no_month_days; either = either }
 
 -- `0 0 29 2 *`
 abbrev pub on_leap_days : Sets

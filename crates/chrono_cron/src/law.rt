@@ -1,10 +1,11 @@
-//! Schedules that are known, each as the contract of a function that does nothing: the moments at which they are due, and
-//! at which they are not.
-ghost use Rattle.std.specs.Prelude.{◌≡◌, pos, neg_ℤ, true, false};
+//! Schedules and days that are known, each as the contract of a function that does nothing: the moments at which schedules are
+//! due, and at which they are not, and which days are named by a month's end, its workdays and its weeks.
+ghost use Rattle.std.specs.Prelude.{◌≡◌, ◌^◌, pos, neg_ℤ, true, false};
 ghost use Rattle.chrono_datetime.specs.Moment.{moment};
 ghost use Rattle.chrono_datetime.specs.Time.{time_at};
 ghost use Rattle.chrono_cron.specs.Due.{is_due};
 ghost use Rattle.chrono_cron.specs.KnownSchedules.{at_the_end_of_the_year, on_leap_days, on_odd_days_and_mondays, on_odd_mondays, on_paydays_and_fridays, on_sundays};
+ghost use Rattle.chrono_cron.specs.KnownMonthDays.{is_named, named};
 
 /// `0 0 29 2 *` is due at midnight on 29 February 2096 and 2104, which are days 765,243 and 768,164, and not on
 /// 28 February 2100 or the day after it, 1 March.
@@ -55,4 +56,29 @@ pub fn known_sundays()
     ensures monday { is_due on_sundays (moment (pos 738_949) (time_at 22 15 0 0)) ≡ false }
     ensures saturday { is_due on_sundays (moment (pos 738_947) (time_at 22 15 0 0)) ≡ false }
     ensures odd_hour { is_due on_sundays (moment (pos 738_948) (time_at 21 15 0 0)) ≡ false }
+{}
+
+/// Days of 2024 that are known: 31 May is `L` and the 30th is not, 28 February is `L-1`; 29 March, a Friday, is `LW`, and so is Tuesday,
+/// 30 April; 14 June, a Friday, is `14W` and `15W`, and 16 September, a Monday, is `15W`; 3 June, a Monday, is `1W`, 29 March is `31W`,
+/// and neither goes into another month: 31 May is not `1W`, and February has no `31W`; 23 February is `5L`, 29 March is `5#5`, and
+/// 10 March is `0#2`.
+pub fn known_month_days()
+    ensures last { is_named (named 1 0 false 0 0) (pos 739_037) ≡ true }
+    ensures before_last { is_named (named 1 0 false 0 0) (pos 739_036) ≡ false }
+    ensures one_before { is_named (named 2 0 false 0 0) (pos 738_944) ≡ true }
+    ensures last_workday { is_named (named 0 0 true 0 0) (pos 738_974) ≡ true }
+    ensures earlier_workday { is_named (named 0 0 true 0 0) (pos 738_973) ≡ false }
+    ensures last_is_workday { is_named (named 0 0 true 0 0) (pos 739_006) ≡ true }
+    ensures own_day { is_named (named 0 (2 ^ 14) false 0 0) (pos 739_051) ≡ true }
+    ensures friday { is_named (named 0 (2 ^ 15) false 0 0) (pos 739_051) ≡ true }
+    ensures monday { is_named (named 0 (2 ^ 15) false 0 0) (pos 739_145) ≡ true }
+    ensures after_first { is_named (named 0 2 false 0 0) (pos 739_040) ≡ true }
+    ensures before_end { is_named (named 0 (2 ^ 31) false 0 0) (pos 738_974) ≡ true }
+    ensures not_before_first { is_named (named 0 2 false 0 0) (pos 739_037) ≡ false }
+    ensures no_such_day { is_named (named 0 (2 ^ 31) false 0 0) (pos 738_945) ≡ false }
+    ensures last_friday { is_named (named 0 0 false (2 ^ 5) 0) (pos 738_939) ≡ true }
+    ensures earlier_friday { is_named (named 0 0 false (2 ^ 5) 0) (pos 738_932) ≡ false }
+    ensures fifth_friday { is_named (named 0 0 false 0 (2 ^ 33)) (pos 738_974) ≡ true }
+    ensures fourth_friday { is_named (named 0 0 false 0 (2 ^ 33)) (pos 738_967) ≡ false }
+    ensures second_sunday { is_named (named 0 0 false 0 (2 ^ 7)) (pos 738_955) ≡ true }
 {}

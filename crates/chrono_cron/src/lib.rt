@@ -8,11 +8,13 @@
 
 mod after;
 pub mod law;
+mod month_days;
 mod number_set;
 mod schedule;
 mod sets;
 
 pub use after::After;
+pub use month_days::MonthDays;
 pub use number_set::NumberSet;
 pub use schedule::Schedule;
 pub use sets::Sets;

@@ -1,5 +1,5 @@
 //! `NumberSet`: a set of small numbers, as one field of a schedule lists them.
-ghost use Rattle.std.specs.Prelude.{◌≡◌, ◌<◌, ◌≤◌, ◌+◌, ◌%◌, ◌==◌, ◌&&◌, ◌||◌, ℕ, false, IsTrue, IfSome, IfNone};
+ghost use Rattle.std.specs.Prelude.{◌≡◌, ◌<◌, ◌≤◌, ◌+◌, ◌-◌, ◌%◌, ◌==◌, nat_le, nat_lt, ◌&&◌, ◌||◌, ℕ, false, IsTrue, IfSome, IfNone};
 ghost use Rattle.std.specs.Int.{bit_at};
 ghost use Rattle.chrono_cron.specs.Due.{has};
 
@@ -84,6 +84,59 @@ impl NumberSet {
         let weeks = (self.digits & WEEK) * SEVEN_WEEKS;
         NumberSet {
             digits: weeks >> before,
+        }
+    }
+
+    // Whether there is no member.
+    #[inline]
+    pub(crate) fn is_empty(self) -> bool
+        ensures { IsTrue result → (k : ℕ) → has self k ≡ false }
+    {
+        self.digits == 0
+    }
+
+    // The numbers from which it is so far to a member: the members less that, as far as they are not below it.
+    #[inline]
+    pub(crate) fn lowered(self, by: u32) -> NumberSet
+        requires { by < 64 }
+        ensures { (k : ℕ) → has result k ≡ has self (k + by) }
+    {
+        NumberSet {
+            digits: self.digits >> by,
+        }
+    }
+
+    // The members and so much more, as far as that is below 64.
+    #[inline]
+    pub(crate) fn raised(self, by: u32) -> NumberSet
+        requires { by < 64 }
+        ensures { (k : ℕ) → k < 64 → has result k ≡ (nat_le by k && has self (k - by)) }
+    {
+        NumberSet {
+            digits: self.digits << by,
+        }
+    }
+
+    // The numbers that are as far below `last` as the members are above 0.
+    #[inline]
+    pub(crate) fn mirrored(self, last: u32) -> NumberSet
+        requires { last < 64 }
+        ensures { (k : ℕ) → k ≤ last → has result k ≡ has self (last - k) }
+    {
+        NumberSet {
+            digits: self.digits.reverse_bits() >> (63 - last),
+        }
+    }
+
+    // The members from `from` on that are below `end`.
+    #[inline]
+    pub(crate) fn between(self, from: u32, end: u32) -> NumberSet
+        requires order { from ≤ end }
+        requires end { end < 64 }
+        ensures { (k : ℕ) → has result k ≡ (has self k && (nat_le from k && nat_lt k end)) }
+    {
+        NumberSet {
+            digits: self.digits & ((1 << end) - (1 << from)),
         }
     }
 

@@ -2,8 +2,9 @@
 ghost use Rattle.std.specs.Prelude.{◌≡◌, ◌+◌, ◌/◌, ◌≤◌, ◌<◌, ◌⊎◌, ◌↔◌, ℕ, ℤ, ◌≤ℤ◌, ◌<ℤ◌, IfSome, IfNone, IsTrue, false};
 ghost use Rattle.chrono_datetime.specs.Days.{IsDate, day_of, month_of};
 ghost use Rattle.chrono_datetime.specs.MonthMoves.{InSameMonth};
-ghost use Rattle.chrono_cron.specs.Due.{IsNeverDue, NotDueOn, has, is_day, is_listed, is_minute};
+ghost use Rattle.chrono_cron.specs.Due.{IsNeverDue, NotDueOn, either_or_both, has, is_day, is_listed, is_minute, is_named_by_place, is_named_by_weekday};
 
+use crate::month_days::MonthDays;
 use crate::number_set::NumberSet;
 use chrono_datetime::law::{dates_are_days_of_years, first_date, last_date};
 use chrono_datetime::{Datelike, NaiveDate};
@@ -30,28 +31,53 @@ pub struct Sets {
     pub months: NumberSet,
     /// The weekdays, from 0 for Sunday to 6.
     pub weekdays: NumberSet,
-    /// Whether a day will do that has its day of the month or its weekday listed; else it has to have both.
+    /// Days of the month that are named by its end, its workdays and its weeks.
+    pub month_days: MonthDays,
+    /// Whether a day will do that has its day of the month or its weekday listed or named; else it has to have both.
     pub either: bool,
 }
 
 impl Sets {
     /// Whether the date is one of the schedule's.
     #[inline]
-    #[tactic(auto, unfolding(crate::specs::Due::is_day, crate::specs::Due::is_listed))]
+    #[tactic(auto, unfolding(crate::specs::Due::is_day))]
     pub fn is_day(&self, date: NaiveDate) -> bool
         ensures { result ≡ is_day self.now date }
     {
         let (_, month, day) = date.year_month_day();
+        let is_listed = if self.month_days.is_none() {
+            self.is_listed_plainly(date, day)
+        } else {
+            self.listed_in_month(date).contains(day)
+        };
+        self.months.contains(month) && is_listed
+    }
+
+    // Whether the date is listed, where no day is named.
+    #[inline]
+    fn is_listed_plainly(&self, date: NaiveDate, day: u32) -> bool
+        requires day { day ≡ day_of date }
+        requires place { (p follow w : ℕ) → is_named_by_place self.now.month_days p follow w ≡ false }
+        requires weekday { (p follow w : ℕ) → is_named_by_weekday self.now.month_days p follow w ≡ false }
+        ensures { result ≡ is_listed self.now date }
+    {
         let by_day = self.days.contains(day);
         let by_weekday = self
             .weekdays
             .contains(date.weekday().num_days_from_sunday());
-        let is_listed = if self.either {
+        self.is_enough(by_day, by_weekday)
+    }
+
+    // Whether a day is listed that is so by its place in the month, by its weekday, or by both.
+    #[inline]
+    fn is_enough(&self, by_day: bool, by_weekday: bool) -> bool
+        ensures { result ≡ either_or_both self.now.either by_day by_weekday }
+    {
+        if self.either {
             by_day || by_weekday
         } else {
             by_day && by_weekday
-        };
-        self.months.contains(month) && is_listed
+        }
     }
 
     /// Whether the minute of a day, counted from midnight, is one of the schedule's.
@@ -70,11 +96,25 @@ impl Sets {
         ensures { (d : ℤ) → InSameMonth d date → has result (day_of d) ≡ is_listed self.now d }
     {
         let before = (date.weekday().num_days_from_sunday() + 35 - date.day()) % 7;
-        let by_weekday = self.weekdays.every_week(before);
+        let weekly = self.weekdays.every_week(before);
+        if self.month_days.is_none() {
+            return self.together(self.days, weekly);
+        }
+        let length = date.last_day_of_month().day();
+        let by_day = self.days.union(self.month_days.by_place(length, before));
+        let by_weekday = weekly.union(self.month_days.by_weekday(length, before));
+        self.together(by_day, by_weekday)
+    }
+
+    // The days that are listed by either, or by both.
+    #[inline]
+    fn together(&self, by_day: NumberSet, by_weekday: NumberSet) -> NumberSet
+        ensures { (k : ℕ) → has result k ≡ either_or_both self.now.either (has by_day k) (has by_weekday k) }
+    {
         if self.either {
-            self.days.union(by_weekday)
+            by_day.union(by_weekday)
         } else {
-            self.days.intersection(by_weekday)
+            by_day.intersection(by_weekday)
         }
     }
 

@@ -1,0 +1,175 @@
+//! `MonthDays`: days of a month that are named by its end, its workdays and its weeks, as Quartz and croner write them.
+ghost use Rattle.std.specs.Prelude.{◌≡◌, ◌+◌, ◌-◌, ◌*◌, ◌/◌, ◌%◌, ◌≤◌, ◌<◌, ◌==◌, nat_le, nat_lt, ◌&&◌, ◌||◌, ℕ, false, IsTrue};
+ghost use Rattle.chrono_cron.specs.Due.{has, is_friday_for, is_last_workday, is_monday_for, is_named_by_place, is_named_by_weekday, is_nearest_workday, is_workday};
+
+use crate::number_set::NumberSet;
+
+// The digits of the sets of Monday, of Friday, and of Monday to Friday.
+const MONDAY: u64 = 0b000_0010;
+
+const FRIDAY: u64 = 0b010_0000;
+
+const WORKDAYS: u64 = 0b011_1110;
+
+/// Days of a month, named by its end, its workdays and its weeks. Workdays are Monday to Friday, weekdays count from 0 for Sunday.
+#[derive(Clone, Copy, PartialEq, Eq, Debug)]
+pub struct MonthDays {
+    /// `L` and `L-k`: the day that so many days of the month follow, 0 for the last.
+    pub from_end: NumberSet,
+    /// `kW`: the workday of the month that is nearest to its k-th day; none in a month without a k-th day.
+    pub nearest_workdays: NumberSet,
+    /// `LW`: the last workday of the month.
+    pub last_workday: bool,
+    /// `dL`: the last of the month's days with the weekday d.
+    pub last_weekdays: NumberSet,
+    /// `d#k`: the k-th of the month's days with the weekday d, as the number 7 · (k - 1) + d; none if there are fewer.
+    pub nth_weekdays: NumberSet,
+}
+
+impl MonthDays {
+    /// No day.
+    #[inline]
+    pub fn none() -> MonthDays
+        ensures place { (p follow w : ℕ) → is_named_by_place result p follow w ≡ false }
+        ensures weekday { (p follow w : ℕ) → is_named_by_weekday result p follow w ≡ false }
+    {
+        let none = NumberSet::from_digits(0);
+        MonthDays {
+            from_end: none,
+            nearest_workdays: none,
+            last_workday: false,
+            last_weekdays: none,
+            nth_weekdays: none,
+        }
+    }
+
+    // Whether no day is named.
+    #[inline]
+    pub(crate) fn is_none(&self) -> bool
+        ensures place { IsTrue result → (p follow w : ℕ) → is_named_by_place self.now p follow w ≡ false }
+        ensures weekday { IsTrue result → (p follow w : ℕ) → is_named_by_weekday self.now p follow w ≡ false }
+    {
+        let all = self
+            .from_end
+            .union(self.nearest_workdays)
+            .union(self.last_weekdays.union(self.nth_weekdays));
+        all.is_empty() && !self.last_workday
+    }
+
+    // Of the days of a month, by their places in it, those that are named by its end and its workdays; `before` is the weekday of the
+    // day before the first.
+    pub(crate) fn by_place(&self, length: u32, before: u32) -> NumberSet
+        requires long { 28 ≤ length }
+        requires short { length ≤ 31 }
+        requires before { before < 7 }
+        ensures { (k : ℕ) → 1 ≤ k → k ≤ length →
+            has result k ≡ is_named_by_place self.now k (length - k) ((k + before) % 7) }
+    {
+        let nearest = nearest_workdays(self.nearest_workdays, length, before);
+        let workdays = if self.last_workday {
+            last_workday(length, before).union(nearest)
+        } else {
+            nearest
+        };
+        self.from_end.mirrored(length).union(workdays)
+    }
+
+    // The same of those that are named by their weekday.
+    pub(crate) fn by_weekday(&self, length: u32, before: u32) -> NumberSet
+        requires long { 28 ≤ length }
+        requires short { length ≤ 31 }
+        requires before { before < 7 }
+        ensures { (k : ℕ) → 1 ≤ k → k ≤ length →
+            has result k ≡ is_named_by_weekday self.now k (length - k) ((k + before) % 7) }
+    {
+        let last = self
+            .last_weekdays
+            .every_week(before)
+            .between(length - 6, length + 1);
+        last.union(nth_weekdays(self.nth_weekdays, before))
+    }
+}
+
+// The last workday of a month.
+#[inline]
+fn last_workday(length: u32, before: u32) -> NumberSet
+    requires long { 28 ≤ length }
+    requires short { length ≤ 31 }
+    requires before { before < 7 }
+    ensures { (k : ℕ) → 1 ≤ k → k ≤ length →
+        has result k ≡ is_last_workday (length - k) ((k + before) % 7) }
+{
+    let friday = NumberSet::from_digits(FRIDAY)
+        .every_week(before)
+        .between(length - 2, length + 1);
+    let workday = NumberSet::from_digits(WORKDAYS)
+        .every_week(before)
+        .between(length, length + 1);
+    friday.union(workday)
+}
+
+// The workdays of a month that are nearest to the days asked for.
+#[inline]
+fn nearest_workdays(asked: NumberSet, length: u32, before: u32) -> NumberSet
+    requires long { 28 ≤ length }
+    requires short { length ≤ 31 }
+    requires before { before < 7 }
+    ensures { (k : ℕ) → 1 ≤ k → k ≤ length →
+        has result k ≡ is_nearest_workday asked k (length - k) ((k + before) % 7) }
+{
+    let workdays = NumberSet::from_digits(WORKDAYS).every_week(before);
+    let others = fridays_for(asked, length, before).union(mondays_for(asked, before));
+    workdays.intersection(asked).union(others)
+}
+
+// The Fridays that stand for a Saturday, or for the Sunday that ends the month.
+#[inline]
+fn fridays_for(asked: NumberSet, length: u32, before: u32) -> NumberSet
+    requires long { 28 ≤ length }
+    requires short { length ≤ 31 }
+    requires before { before < 7 }
+    ensures { (k : ℕ) → 1 ≤ k → k ≤ length →
+        has result k ≡ is_friday_for asked k (length - k) ((k + before) % 7) }
+{
+    let fridays = NumberSet::from_digits(FRIDAY).every_week(before);
+    let saturday = asked.lowered(1).between(0, length);
+    let sunday = asked.lowered(2).between(length - 2, length - 1);
+    fridays.intersection(saturday.union(sunday))
+}
+
+// The Mondays that stand for a Sunday, or for the Saturday that begins the month.
+#[inline]
+fn mondays_for(asked: NumberSet, before: u32) -> NumberSet
+    requires { before < 7 }
+    ensures { (k : ℕ) → 1 ≤ k → k < 40 → has result k ≡ is_monday_for asked k ((k + before) % 7) }
+{
+    let mondays = NumberSet::from_digits(MONDAY).every_week(before);
+    let sunday = asked.raised(1).between(2, 40);
+    let saturday = asked.raised(2).between(3, 4);
+    mondays.intersection(sunday.union(saturday))
+}
+
+// The weekdays of a month by how often they came.
+#[inline]
+fn nth_weekdays(asked: NumberSet, before: u32) -> NumberSet
+    requires { before < 7 }
+    ensures { (k : ℕ) → 1 ≤ k → k ≤ 35 → has result k ≡ has asked (7 * ((k - 1) / 7) + (k + before) % 7) }
+{
+    let first = nth_week(asked, 0, before).union(nth_week(asked, 1, before));
+    let middle = nth_week(asked, 2, before).union(nth_week(asked, 3, before));
+    first.union(middle).union(nth_week(asked, 4, before))
+}
+
+// Those of them that so many whole weeks precede.
+#[inline]
+fn nth_week(asked: NumberSet, weeks: u32, before: u32) -> NumberSet
+    requires weeks { weeks < 5 }
+    requires before { before < 7 }
+    ensures { (k : ℕ) → 1 ≤ k → k ≤ 35 →
+        has result k ≡ (has asked (7 * weeks + (k + before) % 7) && ((k - 1) / 7 == weeks)) }
+{
+    asked
+        .lowered(7 * weeks)
+        .every_week(before)
+        .between(7 * weeks + 1, 7 * weeks + 8)
+}
