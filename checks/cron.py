@@ -5,17 +5,19 @@
     checks/cron.py --write                    (crates/cron_rows/stdin made again)
 
 A schedule is read here from its text of five fields, and a moment is due by the definition: its month, its hour and its minute are
-listed, and so are its day of the month and its weekday, or one of these where neither text begins with `*`. The next due moment is
+listed, and so are its day of the month and its weekday, or one of these where neither text begins with `*`. Days that a field names by
+the month's end, its workdays or its weeks (`L`, `L-3`, `LW`, `15W`, `5L`, `5#2`) are picked from a list of the month's days. The next due moment is
 found by trying each day from the start's on, and each minute of a day that passes, to the end of the calendar; a schedule of which
 no day passes in 400 years, in which days and weekdays come again, is never due. Calendar dates are those of checks/counted.py.
 
 The rows of crates/cron_rows/stdin are held to it, some answers that are written out, and generated ones: schedules with wide and with narrow fields, starts at
-both ends of the calendar, in leap seconds, at due moments and beside them; and for ten schedules the next moment after every minute of
+both ends of the calendar, in leap seconds, at due moments and beside them; and for twelve schedules the next moment after every minute of
 a year, and all that the iterator gives, held to the minutes of a year that are due by the definition.
 """
 import argparse
 import os
 import random
+import re
 import subprocess
 import sys
 from datetime import date as Date
@@ -53,18 +55,58 @@ KNOWN = (
     "0 0 1 1 *",
     "0 0 13 * 5",
     "7-59/13 3,21 28-31 2,3 2-6/2",
+    "0 12 L * *",
+    "30 6 L-3,L-27 * *",
+    "0 0 LW * *",
+    "15 9 15W * *",
+    "0 0 1W,31W * *",
+    "0 0 30W 2 *",
+    "0 18 * * 5L",
+    "0 0 * * 5#5",
+    "0 0 * 2 1#5",
+    "0 0 1,LW * 1#1,7L",
+    "45 23 L * */2",
 )
-YEARS = KNOWN[:1] + KNOWN[3:4] + KNOWN[7:11] + KNOWN[12:14] + KNOWN[17:19]
+YEARS = KNOWN[:1] + KNOWN[3:4] + KNOWN[7:11] + KNOWN[12:14] + KNOWN[17:19] + KNOWN[26:27] + KNOWN[31:32]
+# Items that name days: of the field of days, and of that of weekdays.
+NAMED = re.compile(r"L(?:-\d+)?|LW|\d+W|\dL|\d#\d")
 
 
 def numbers_of(text, low, high):
     """The numbers that a field lists; a step is counted from the first of its range."""
     listed = set()
-    for item in text.split(","):
+    for item in text.split(",") if text else ():
         span, _, step = item.partition("/")
         first, last = (low, high) if span == "*" else (int(it) for it in (span.split("-") * 2)[:2])
         listed |= set(range(first, last + 1, int(step or 1)))
     return listed
+
+
+def month_of(day):
+    """The days of a day's month, in order."""
+    return range(day - name_of(day)[2] + 1, next(it for it in range(day + 1, day + 33) if name_of(it)[2] == 1))
+
+
+def cron_weekday(day):
+    """The weekday of a day, from 0 for Sunday."""
+    return (weekday_of(day) + 1) % 7
+
+
+def named_day(item, days):
+    """The one of a month's days that an item names, or None."""
+    workdays = [it for it in days if cron_weekday(it) not in (0, 6)]
+    if item == "LW":
+        return workdays[-1]
+    if item[-1] == "W":
+        place = int(item[:-1])
+        return min(workdays, key=lambda it: abs(it - days[place - 1])) if place <= len(days) else None
+    if item[0] == "L":
+        before = int(item[2:] or 0)
+        return days[-1 - before] if before < len(days) else None
+    chosen = [it for it in days if cron_weekday(it) == int(item[0]) % 7]
+    if item[1] == "L":
+        return chosen[-1]
+    return chosen[int(item[2]) - 1] if int(item[2]) <= len(chosen) else None
 
 
 class Schedule:
@@ -72,18 +114,39 @@ class Schedule:
 
     def __init__(self, text):
         fields = text.split()
+        self.named = [[it for it in fields[place].split(",") if NAMED.fullmatch(it)] for place in (2, 4)]
+        self.months = {}
+        fields = [",".join(it for it in field.split(",") if not NAMED.fullmatch(it)) for field in fields]
         self.sets = [numbers_of(it, *FIELDS[i]) for i, it in enumerate(fields)]
         self.sets[4] = {it % 7 for it in self.sets[4]}
+        fields = text.split()
         self.either = not fields[2].startswith("*") and not fields[4].startswith("*")
         self.minutes = [it for it in range(1440) if it // 60 in self.sets[1] and it % 60 in self.sets[0]]
         self.is_never = not any(self.is_day(it) for it in range(1, CYCLE + 1))
 
     def words(self):
-        return " ".join(str(sum(1 << it for it in numbers)) for numbers in self.sets) + f" {int(self.either)}"
+        by_day, by_weekday = self.named
+        ends = {int(it[2:] or 0) for it in by_day if it[0] == "L" and it != "LW"}
+        nearest = {int(it[:-1]) for it in by_day if it[0] != "L"}
+        lasts = {int(it[0]) % 7 for it in by_weekday if it[1] == "L"}
+        nths = {7 * (int(it[2]) - 1) + int(it[0]) % 7 for it in by_weekday if it[1] == "#"}
+        words = [str(sum(1 << it for it in numbers)) for numbers in (*self.sets, ends, nearest, lasts, nths)]
+        return " ".join([*words, str(int("LW" in by_day)), str(int(self.either))])
+
+    def named_in_month(self, day):
+        """The days of a day's month that the items of each of the two fields name."""
+        key = name_of(day)[:2]
+        if key not in self.months:
+            days = month_of(day)
+            self.months[key] = [{named_day(it, days) for it in items} for items in self.named]
+        return self.months[key]
 
     def is_day(self, day):
         _, month, of_month = name_of(day)
-        by_day, by_weekday = of_month in self.sets[2], (weekday_of(day) + 1) % 7 in self.sets[4]
+        by_day, by_weekday = of_month in self.sets[2], cron_weekday(day) in self.sets[4]
+        if month in self.sets[3] and any(self.named):
+            named = self.named_in_month(day)
+            by_day, by_weekday = by_day or day in named[0], by_weekday or day in named[1]
         return month in self.sets[3] and (by_day or by_weekday if self.either else by_day and by_weekday)
 
     def is_due(self, day, second, fraction):
@@ -142,6 +205,13 @@ def field_text(chosen, low, high):
     return ",".join(items)
 
 
+def named_item(chosen, place):
+    """An item that names a day, in the field of days or in that of weekdays."""
+    if place == 2:
+        return chosen.choice(("L", f"L-{chosen.randint(0, 30)}", "LW", f"{chosen.randint(1, 31)}W", f"{chosen.choice((1, 2, 28, 30, 31))}W"))
+    return chosen.choice((f"{chosen.randint(0, 7)}L", f"{chosen.randint(0, 7)}#{chosen.randint(1, 5)}"))
+
+
 def schedule_text(chosen):
     if chosen.random() < 0.2:
         return chosen.choice(KNOWN)
@@ -149,6 +219,11 @@ def schedule_text(chosen):
     for place in range(5):
         if chosen.random() < 0.4:
             texts[place] = "*"
+    for place in (2, 4):
+        if chosen.random() < 0.3:
+            named = [named_item(chosen, place) for _ in range(chosen.choice((1, 1, 2)))]
+            kept = [texts[place]] if texts[place][0] != "*" and chosen.random() < 0.3 else []
+            texts[place] = ",".join(kept + named)
     return " ".join(texts)
 
 
@@ -180,14 +255,15 @@ def row_of(call, schedule, start):
 
 
 def generated(count, seed):
-    """Rows of chosen schedules, some starts for each."""
-    chosen, rows = random.Random(seed), []
+    """Rows of chosen schedules, some starts for each; of these the number with days that are named."""
+    chosen, rows, named = random.Random(seed), [], 0
     while len(rows) < count:
         schedule = Schedule(schedule_text(chosen))
+        named += 5 * any(schedule.named)
         for _ in range(5):
             start = start_of(chosen, schedule)
             rows.append(row_of(chosen.choice(("next", "next", "prev", "prev", "due", "never")), schedule, start))
-    return rows
+    return rows, named
 
 
 def known():
@@ -220,7 +296,21 @@ next | 0 0 30 2 * | 2024-01-01 00:00:00.0 | none
 prev | 0 0 30 2 * | 2024-01-01 00:00:00.0 | none
 next | 59 23 31 12 * | 2024-12-31 23:58:59.0 | 2024-12-31 23:59
 next | 59 23 31 12 * | 2024-12-31 23:59:00.0 | 2025-12-31 23:59
-next | 0 0 1 1 * | 2016-12-31 23:59:59.1500000000 | 2017-01-01 00:00"""
+next | 0 0 1 1 * | 2016-12-31 23:59:59.1500000000 | 2017-01-01 00:00
+next | 0 12 L * * | 2024-05-30 12:00:00.0 | 2024-05-31 12:00
+prev | 0 0 L-3 * * | 2024-03-01 00:00:00.0 | 2024-02-26 00:00
+next | 0 0 LW * * | 2024-03-01 00:00:00.0 | 2024-03-29 00:00
+next | 0 0 LW * * | 2024-03-29 00:00:00.0 | 2024-04-30 00:00
+next | 0 0 1W * * | 2024-06-01 00:00:00.0 | 2024-06-03 00:00
+next | 0 0 15W * * | 2024-06-01 00:00:00.0 | 2024-06-14 00:00
+next | 0 0 15W * * | 2024-09-01 00:00:00.0 | 2024-09-16 00:00
+prev | 0 0 31W * * | 2024-04-01 00:00:00.0 | 2024-03-29 00:00
+next | 0 0 31W * * | 2024-04-01 00:00:00.0 | 2024-05-31 00:00
+next | 0 0 30W 2 * | 2024-01-01 00:00:00.0 | none
+next | 0 0 * * 5L | 2024-02-01 00:00:00.0 | 2024-02-23 00:00
+next | 0 0 * * 5#5 | 2024-02-23 00:00:00.0 | 2024-03-29 00:00
+next | 0 0 * 2 1#5 | 2024-03-01 00:00:00.0 | 2044-02-29 00:00
+next | 0 0 1,LW * 1#1,7L | 2024-06-01 00:00:00.0 | 2024-06-03 00:00"""
 
 
 def written_out():
@@ -265,10 +355,11 @@ def main():
         print(f"{passed} passed, {failed} failed")
         return failed
     start = (day_of(2023, 11, 15), 0, 0)
+    chosen, named = generated(arguments.rows, arguments.seed)
     for name, rows in (
         ("standing rows", standing),
         ("answers written out", list(written_out())),
-        ("generated rows", generated(arguments.rows, arguments.seed)),
+        (f"generated rows, {named} with days that are named", chosen),
         ("years of minutes", [row_of("year", Schedule(it), start) for it in YEARS]),
         ("iterators over years", [row_of("dues", Schedule(it), start) for it in YEARS]),
     ):

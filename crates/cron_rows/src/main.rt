@@ -1,14 +1,15 @@
 //! `cron_rows` makes the call of each line of standard input, and compares what it answers with the number behind it.
 //!
-//! A line is `call minutes hours days months weekdays either day second fraction = number`. The five sets are numbers whose binary
-//! digits are their members, `either` is 1 where a day of the month or a weekday is enough, and the start is a day number, a second
+//! A line is `call minutes hours days months weekdays from_end nearest_workdays last_weekdays nth_weekdays last_workday either day second
+//! fraction = number`. The nine sets are numbers whose binary digits are their members, `last_workday` is 1 where the month's last workday
+//! is named, `either` where a day of the month or a weekday is enough, and the start is a day number, a second
 //! of the day and the nanoseconds past it. The calls are `next` and `prev`, answered by the number of minutes from day 0 to the moment,
 //! `due` and `never`, by 1 or 0, `year`, by the sum of those numbers of minutes over the next moments after each minute of 365 days,
 //! in 64 binary digits, and `dues`, by those of the moments that the iterator gives up to 365 days past the start's, each added to 31
 //! times what came before. `none` is no moment. Each line that is answered otherwise is printed with its number, and at the end their count.
 #![tactic(auto)]
 
-use chrono_cron::{NumberSet, Schedule, Sets};
+use chrono_cron::{MonthDays, NumberSet, Schedule, Sets};
 use chrono_datetime::{Datelike, NaiveDate, NaiveDateTime, NaiveTime, Timelike};
 use std::io::{self, BufRead, BufReader};
 
@@ -63,11 +64,18 @@ fn is_answered(line: &str) -> bool {
 fn arguments_of(text: &str) -> Option<(Schedule, NaiveDateTime)> {
     let mut words = text.split_ascii_whitespace();
     let sets = Sets {
-        minutes: NumberSet::from_digits(words.next()?.parse().ok()?),
-        hours: NumberSet::from_digits(words.next()?.parse().ok()?),
-        days: NumberSet::from_digits(words.next()?.parse().ok()?),
-        months: NumberSet::from_digits(words.next()?.parse().ok()?),
-        weekdays: NumberSet::from_digits(words.next()?.parse().ok()?),
+        minutes: set_of(words.next()?)?,
+        hours: set_of(words.next()?)?,
+        days: set_of(words.next()?)?,
+        months: set_of(words.next()?)?,
+        weekdays: set_of(words.next()?)?,
+        month_days: MonthDays {
+            from_end: set_of(words.next()?)?,
+            nearest_workdays: set_of(words.next()?)?,
+            last_weekdays: set_of(words.next()?)?,
+            nth_weekdays: set_of(words.next()?)?,
+            last_workday: words.next()? == "1",
+        },
         either: words.next()? == "1",
     };
     let date = NaiveDate::from_num_days_from_ce_opt(words.next()?.parse().ok()?)?;
@@ -75,6 +83,11 @@ fn arguments_of(text: &str) -> Option<(Schedule, NaiveDateTime)> {
     let fraction = words.next()?.parse().ok()?;
     let time = NaiveTime::from_num_seconds_from_midnight_opt(second, fraction)?;
     Some((Schedule { sets }, NaiveDateTime::new(date, time)))
+}
+
+// The set whose digits a word writes as a number.
+fn set_of(word: &str) -> Option<NumberSet> {
+    Some(NumberSet::from_digits(word.parse().ok()?))
 }
 
 // The minutes from the beginning of day 0 to a moment, rounded down.
