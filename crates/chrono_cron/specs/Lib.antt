@@ -1,4 +1,3 @@
 pub mod Due
 pub mod DueMoments
 pub mod KnownMonthDays
-pub mod KnownSchedules
