@@ -7,3 +7,5 @@ mod Early
 mod Workdays
 mod WeekTables
 mod Checked
+mod OpenLists
+mod MonthDayCounts

@@ -10,10 +10,12 @@ mod calendar;
 mod day_count;
 mod holiday_error;
 pub mod law;
+mod open_days_iterator;
 mod roll;
 mod workweek;
 
 pub use calendar::Calendar;
 pub use day_count::{Fraction, actual_360, actual_365_fixed, thirty_360, thirty_e_360};
 pub use holiday_error::HolidayError;
+pub use open_days_iterator::OpenDaysIterator;
 pub use roll::Roll;
