@@ -1,3 +1,4 @@
 pub mod Due
 pub mod DueMoments
 pub mod KnownMonthDays
+pub mod Steps
