@@ -8,3 +8,4 @@ mod Workdays
 mod WeekTables
 mod Checked
 mod OpenLists
+mod MonthDayCounts

@@ -2,3 +2,4 @@ pub mod Due
 pub mod DueMoments
 pub mod KnownMonthDays
 pub mod KnownSchedules
+pub mod Steps
