@@ -1,5 +1,5 @@
 -- A text is at most one kind of name of a day.
-use Rattle.std.proofs.Common.{◌≡◌, ◌⊎◌, ℕ, ◌+◌, ◌/◌, ◌%◌, List, [], ◌∷◌, ◌++◌, codes, get_or, ℤ, Option, Some, None, inl, inr, refl, sym, ap, ◌∙◌, append_assoc, arith}
+use Rattle.std.proofs.Common.{◌≡◌, ℕ, ◌+◌, ◌/◌, ◌%◌, List, [], ◌∷◌, ◌++◌, codes, get_or, ℤ, Option, Some, None, inl, inr, refl, sym, ap, ◌∙◌, append_assoc, arith}
 use Rattle.std.proofs.lemmas.Option.{none-some}
 use Rattle.chrono_datetime.specs.Weekday.{number_from_monday}
 use Rattle.chrono_text.specs.Text.{all_digits, two_digits, year_text, calendar_text, ordinal_text, week_date_text}
