@@ -1,9 +1,9 @@
 //! `Rule`: a recurrence rule (RFC 5545, section 3.3.10), as far as it is over days.
 ghost use Rattle.std.specs.Prelude.{◌≡◌};
-ghost use Rattle.chrono_rules.specs.Instances.{plain};
+ghost use Rattle.chrono_rules.specs.Instances.{not_after, on_month_day, plain};
 
 use crate::places::{NumberSet, PlaceSet, WeekdayPlaces};
-use chrono_datetime::{NaiveDate, Weekday};
+use chrono_datetime::{Datelike, NaiveDate, Weekday};
 
 /// What a rule's periods are (FREQ).
 #[derive(Clone, Copy, PartialEq, Eq, Debug)]
@@ -85,5 +85,26 @@ impl Rule {
             positions_from_end: PlaceSet::none(),
             week_start: Weekday::Mon,
         }
+    }
+    /// Whether the date is not behind the rule's UNTIL; true of each date where the rule has none.
+    #[tactic(auto, unfolding(crate::specs::Instances::not_after))]
+    pub fn not_after(&self, date: NaiveDate) -> bool
+        ensures { result ≡ not_after self.now.end date }
+    {
+        match self.end {
+            End::Never => true,
+            End::Count(_) => true,
+            End::Until(last) => date <= last,
+        }
+    }
+
+    /// Whether the date is one of the days that BYMONTHDAY names, from either end of the month.
+    #[tactic(auto, unfolding(crate::specs::Instances::on_month_day))]
+    pub fn on_month_day(&self, date: NaiveDate) -> bool
+        ensures { result ≡ on_month_day self.now date }
+    {
+        let day = date.day();
+        let length = date.last_day_of_month().day();
+        self.month_days.contains(day) || self.month_days_from_end.contains(length - day + 1)
     }
 }
