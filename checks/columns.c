@@ -222,10 +222,10 @@ typedef struct {
 
 static room room_of(size_t n, size_t size, size_t place)
 {
-    room made = {malloc(2 * GUARD + PLACES * 8 + n * size), NULL, n * size};
+    room made = {malloc(2 * GUARD + PLACES * 10 + n * size), NULL, n * size};
     if (!made.whole) exit(2);
     made.at = made.whole + GUARD + place * size;
-    memset(made.whole, 0xA5, 2 * GUARD + PLACES * 8 + n * size);
+    memset(made.whole, 0xA5, 2 * GUARD + PLACES * 10 + n * size);
     return made;
 }
 
