@@ -8,3 +8,5 @@ mod Workdays
 mod WeekTables
 mod Checked
 mod OpenLists
+mod MonthDayCounts
+mod LeapDayCounts
