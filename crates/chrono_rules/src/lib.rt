@@ -4,6 +4,7 @@
 #![tactic(auto)]
 
 pub mod law;
+mod parts;
 mod places;
 mod rule;
 

@@ -1,0 +1,132 @@
+//! The tests that the BY parts of a rule are.
+ghost use Rattle.std.specs.Prelude.{◌≡◌, ◌==◌, ◌&&◌, ◌||◌, not};
+ghost use Rattle.std.specs.Int.{IsInRange};
+ghost use Rattle.chrono_datetime.specs.Days.{year_of};
+ghost use Rattle.chrono_datetime.specs.Years.{year_length};
+ghost use Rattle.chrono_rules.specs.Instances.{days_behind, fills_day, fills_month, fills_weekday, filled, has, lacks_month_days, lacks_months, lacks_positions, lacks_weekdays, lacks_weeks, lacks_year_days, on_weekday, on_year_day, passes, place_of};
+
+use crate::rule::{Frequency, Rule};
+use chrono_datetime::{Datelike, NaiveDate};
+
+impl Rule {
+    // Which parts the rule does not have.
+    #[inline]
+    fn lacks_months(&self) -> bool
+        ensures { result ≡ lacks_months self.now }
+    {
+        self.months.is_empty()
+    }
+
+    #[inline]
+    fn lacks_month_days(&self) -> bool
+        ensures { result ≡ lacks_month_days self.now }
+    {
+        self.month_days.is_empty() && self.month_days_from_end.is_empty()
+    }
+
+    #[inline]
+    fn lacks_weekdays(&self) -> bool
+        ensures { result ≡ lacks_weekdays self.now }
+    {
+        self.weekdays.is_empty()
+    }
+
+    #[inline]
+    fn lacks_year_days(&self) -> bool
+        ensures { result ≡ lacks_year_days self.now }
+    {
+        self.year_days.is_empty() && self.year_days_from_end.is_empty()
+    }
+
+    #[inline]
+    fn lacks_weeks(&self) -> bool
+        ensures { result ≡ lacks_weeks self.now }
+    {
+        self.weeks.is_empty() && self.weeks_from_end.is_empty()
+    }
+
+    #[inline]
+    pub(crate) fn lacks_positions(&self) -> bool
+        ensures { result ≡ lacks_positions self.now }
+    {
+        self.positions.is_empty() && self.positions_from_end.is_empty()
+    }
+
+    // Whether the start's weekday stands for BYDAY.
+    #[inline]
+    #[tactic(auto, unfolding(crate::specs::Instances::fills_weekday))]
+    fn fills_weekday(&self) -> bool
+        ensures { result ≡ fills_weekday self.now.frequency self.now }
+    {
+        match self.frequency {
+            Frequency::Daily => false,
+            Frequency::Weekly => self.lacks_weekdays(),
+            Frequency::Monthly => false,
+            Frequency::Yearly => {
+                !self.lacks_weeks()
+                    && (self.lacks_weekdays() && (self.lacks_month_days() && self.lacks_year_days()))
+            }
+        }
+    }
+
+    // Whether the start's day stands for BYMONTHDAY.
+    #[inline]
+    #[tactic(auto, unfolding(crate::specs::Instances::fills_day))]
+    fn fills_day(&self) -> bool
+        ensures { result ≡ fills_day self.now.frequency self.now }
+    {
+        match self.frequency {
+            Frequency::Daily => false,
+            Frequency::Weekly => false,
+            Frequency::Monthly => self.lacks_month_days() && self.lacks_weekdays(),
+            Frequency::Yearly => {
+                (self.lacks_month_days() && self.lacks_weekdays())
+                    && (self.lacks_year_days() && self.lacks_weeks())
+            }
+        }
+    }
+
+    // Whether the start's month stands for BYMONTH.
+    #[inline]
+    #[tactic(auto, unfolding(crate::specs::Instances::fills_month, crate::specs::Instances::fills_day))]
+    fn fills_month(&self) -> bool
+        ensures { result ≡ fills_month self.now.frequency self.now }
+    {
+        match self.frequency {
+            Frequency::Daily => false,
+            Frequency::Weekly => false,
+            Frequency::Monthly => false,
+            Frequency::Yearly => self.lacks_months() && self.fills_day(),
+        }
+    }
+
+    // Whether the date has what the start says where the rule does not.
+    fn filled(&self, start: NaiveDate, date: NaiveDate) -> bool
+        ensures { result ≡ filled self.now start date }
+    {
+        let weekday = !self.fills_weekday()
+            || date.weekday().num_days_from_monday() == start.weekday().num_days_from_monday();
+        let day = !self.fills_day() || date.day() == start.day();
+        let month = !self.fills_month() || date.month() == start.month();
+        weekday && (day && month)
+    }
+
+    /// Whether the date is one of the days that BYYEARDAY names, from either end of the year.
+    #[tactic(auto, unfolding(crate::specs::Instances::on_year_day))]
+    pub fn on_year_day(&self, date: NaiveDate) -> bool
+        ensures { result ≡ on_year_day self.now date }
+    {
+        let place = date.ordinal();
+        let length = days_of_year(date);
+        self.year_days.contains(place) || self.year_days_from_end.contains(length - place + 1)
+    }
+}
+
+// The days of the date's year.
+#[inline]
+fn days_of_year(date: NaiveDate) -> u32
+    ensures value { result ≡ year_length (year_of date) }
+    ensures in_range { IsInRange 365 366 result }
+{
+    if date.leap_year() { 366 } else { 365 }
+}
