@@ -5,6 +5,7 @@
 
 pub mod law;
 mod parts;
+mod periods;
 mod places;
 mod rule;
 
