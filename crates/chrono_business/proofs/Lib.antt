@@ -9,3 +9,4 @@ mod WeekTables
 mod Checked
 mod OpenLists
 mod MonthDayCounts
+mod LeapDayCounts
