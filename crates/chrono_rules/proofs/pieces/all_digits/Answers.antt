@@ -24,8 +24,7 @@ loop-rest-preserved c =
     let high : get_or text 0 0 ≤ 57 = grind arith in
     let is : c.from.result ≡ get_or text 0 0 - 48 = grind arith in
     let one = rest_size text c.in-len1-up.len_at_least in
-    let rest = take (length text - 1) (drop 1 text) in
-    (
+    let rest = take (length text - 1) (drop 1 text) in (
       c.loop-rest.invariant.0 ∙ digit_step c.loop-rest.value text c.in-len1-up.len_at_least low high ∙ ap (λ d. with_digits (c.loop-rest.value * 10 + d) rest) (sym is),
       omega (arith, one),
       more_digit c.loop-rest.value c.from.result (length text) (length rest) c.loop-rest.invariant.1 one (omega arith) c.loop-rest.invariant.2,
