@@ -1,4 +1,4 @@
-mod PieceLemmas
-mod LetterLemmas
 -- These serve this crate's own proofs alone.
 mod Cycles
+mod LetterLemmas
+mod PieceLemmas

@@ -1,4 +1,4 @@
-use Rattle.std.proofs.Common.{rules, ◌≡◌, ◌∷◌, ◌≤◌, length, take, drop, get_or, ℕ, ◌+◌, ◌-◌, ◌*◌, ◌<◌, ◌∙◌, ap, sym, refl, arith}
+use Rattle.std.proofs.Common.{◌≡◌, ◌≤◌, length, take, drop, get_or, ◌+◌, ◌-◌, ◌*◌, ◌<◌, ◌∙◌, ap, sym, refl, arith}
 use Rattle.chrono_rules.specs.Pieces.{with_digits}
 use Rattle.chrono_rules.proofs.PieceLemmas.{digit_fits, digit_step, more_digit, no_digits, rest_size}
 use Rattle.chrono_rules.proofs.pieces.all_digits.Goals as goal

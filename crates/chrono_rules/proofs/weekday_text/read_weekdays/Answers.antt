@@ -1,4 +1,4 @@
-use Rattle.std.proofs.Common.{◌≡◌, ◌∙◌, ap, sym}
+use Rattle.std.proofs.Common.{◌∙◌, ap, sym}
 use Rattle.chrono_rules.specs.Pieces.{pieces, through}
 use Rattle.chrono_rules.specs.Places.{weekdays_of, with_weekday_text}
 use Rattle.chrono_rules.proofs.PieceLemmas.{through_last, through_none}
