@@ -7,3 +7,4 @@ mod Early
 mod Workdays
 mod WeekTables
 mod Checked
+mod EasterLemmas

@@ -3,3 +3,4 @@ pub mod Workweeks
 pub mod WrongHolidays
 pub mod Rolls
 pub mod DayCounts
+pub mod Easter

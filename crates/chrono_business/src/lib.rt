@@ -7,6 +7,7 @@
 #![tactic(auto)]
 
 mod calendar;
+mod computus;
 mod day_count;
 mod holiday_error;
 pub mod law;
@@ -14,6 +15,8 @@ mod roll;
 mod workweek;
 
 pub use calendar::Calendar;
+pub use computus::easter;
 pub use day_count::{Fraction, actual_360, actual_365_fixed, thirty_360, thirty_e_360};
+
 pub use holiday_error::HolidayError;
 pub use roll::Roll;
