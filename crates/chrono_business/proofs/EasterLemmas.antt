@@ -120,15 +120,17 @@ easter-fields y e t is h =
     let place = rw (← h) at (sunday-place (paschal_full_moon y)) in
     let bound = moon-bound (golden_number y) (epact y) in
     let k : ℕ = unsigned_abs (e -ℤ day_number_of_ymd y 3 21) in
-    let year = year_of-spring y e k (omega (arith, signed, place.0)) (omega (arith, signed, place.0, place.1, bound)) in
-    (IsDate-year e (rw (← year) at is), record {
-      date = easter-cond y e t (easter-of y e h);
-      exists = refl;
-      year = year;
-      sunday = place.2;
-      earliest = omega (arith, signed, place.0);
-      latest = omega (arith, signed, place.1, bound, day-latest y);
-    })
+    let year = year_of-spring y e k (omega (arith, signed, place.0)) (omega (arith, signed, place.0, place.1, bound)) in (
+      IsDate-year e (rw (← year) at is),
+      record {
+        date = easter-cond y e t (easter-of y e h);
+        exists = refl;
+        year = year;
+        sunday = place.2;
+        earliest = omega (arith, signed, place.0);
+        latest = omega (arith, signed, place.1, bound, day-latest y);
+      },
+    )
 
 pub easter-some : (o : Option ℤ) (y m moon n : ℤ) → o ≡ date_of_day n → n ≡ sunday_after moon → moon ≡ paschal_full_moon y → Some m ≡ date_of_ymd y 3 21 → IsYear y → IsEasterOf o y
 easter-some o y m moon n e h same named is =

@@ -17,6 +17,5 @@ mod workweek;
 pub use calendar::Calendar;
 pub use computus::easter;
 pub use day_count::{Fraction, actual_360, actual_365_fixed, thirty_360, thirty_e_360};
-
 pub use holiday_error::HolidayError;
 pub use roll::Roll;

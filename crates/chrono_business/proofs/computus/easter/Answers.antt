@@ -26,9 +26,9 @@ returns-clause-date c = (answer c).date
 pub returns-clause-exists : goal.returns-clause-exists
 returns-clause-exists c =
     let inside : FitsSigned w32 c.args.year = search rules in (
-  λ s. ((rw (to_z-of_z w32 c.args.year inside) at c.in_ok-equinox.ensures.exists).0 refl).0,
-  λ y. (answer c).exists,
-)
+      λ s. ((rw (to_z-of_z w32 c.args.year inside) at c.in_ok-equinox.ensures.exists).0 refl).0,
+      λ y. (answer c).exists,
+    )
 
 pub returns-clause-sunday : goal.returns-clause-sunday
 returns-clause-sunday c = (answer c).sunday
