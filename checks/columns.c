@@ -107,6 +107,15 @@ static void compare_block(size_t n, int32_t days_on, int32_t months_on)
     for (size_t i = 0; i < n; i++) wrong += numbers[i] != calendar_first_on(dates[i], set);
     answered &= calendar_column_to_unix_days(dates, n, wide, n);
     for (size_t i = 0; i < n; i++) wrong += wide[i] != to_unix(dates[i]);
+    size_t there = 0;
+    for (size_t i = 0; i < n; i++) there += is_date(dates[i]);
+    wrong += calendar_column_count_dates(dates, n) != there;
+    memcpy(numbers, dates, 4 * n), calendar_column_add_days_in_place(numbers, n, days_on);
+    for (size_t i = 0; i < n; i++) wrong += numbers[i] != calendar_add_days(dates[i], days_on);
+    memcpy(numbers, dates, 4 * n), calendar_column_add_months_in_place(numbers, n, months_on);
+    for (size_t i = 0; i < n; i++) wrong += numbers[i] != calendar_add_months(dates[i], months_on);
+    memcpy(numbers, dates, 4 * n), answered &= calendar_column_add_days_each_in_place(numbers, n, counts, n);
+    for (size_t i = 0; i < n; i++) wrong += numbers[i] != calendar_add_days(dates[i], counts[i]);
     for (size_t i = 0; i < n; i++) wide[i] = (int64_t)dates[i] - CALENDAR_UNIX_EPOCH;
     answered &= calendar_column_from_unix_days(wide, n, numbers, n);
     for (size_t i = 0; i < n; i++) wrong += numbers[i] != from_unix(wide[i]);
@@ -228,6 +237,20 @@ static void one_length(size_t n, size_t place)
     for (size_t i = 0; i < n; i++) wide[i] = to_unix(dates[i]), numbers[i] = is_date(dates[i]) ? dates[i] : NONE;
     right &= calendar_column_from_unix_days((int64_t *)of_unix.at, n, (int32_t *)again.at, n);
     right &= holds(of_unix, wide) & holds(again, numbers);
+    room days_moved = room_of(n, 4, place), months_moved = room_of(n, 4, place), each_moved = room_of(n, 4, place);
+    memcpy(days_moved.at, dates, 4 * n), memcpy(months_moved.at, dates, 4 * n), memcpy(each_moved.at, dates, 4 * n);
+    calendar_column_add_days_in_place((int32_t *)days_moved.at, n, 40000);
+    for (size_t i = 0; i < n; i++) numbers[i] = calendar_add_days(dates[i], 40000), counts[i] = (int32_t)i - 30;
+    right &= holds(days_moved, numbers);
+    calendar_column_add_months_in_place((int32_t *)months_moved.at, n, -37);
+    for (size_t i = 0; i < n; i++) numbers[i] = calendar_add_months(dates[i], -37);
+    right &= holds(months_moved, numbers);
+    right &= calendar_column_add_days_each_in_place((int32_t *)each_moved.at, n, counts, n);
+    for (size_t i = 0; i < n; i++) numbers[i] = calendar_add_days(dates[i], counts[i]);
+    right &= holds(each_moved, numbers);
+    size_t there = 0;
+    for (size_t i = 0; i < n; i++) there += is_date(dates[i]);
+    right &= calendar_column_count_dates(from, n) == there;
     free(in.whole);
     count(right, "a column at a place, with length", (long long)n);
 }
@@ -249,6 +272,7 @@ static void unequal(void)
             any |= calendar_column_join(of_dates, n, few, n, more, m, of_years, n);
             any |= calendar_column_join(of_dates, n, few, n, more, n, of_years, m);
             any |= calendar_column_days_between(of_dates, n, of_dates, m, of_years, n);
+            any |= calendar_column_add_days_each_in_place(of_years, n, of_dates, m);
             for (int i = 0; i < 4; i++) any |= few[i] != 9 || more[i] != 9 || of_years[i] != 9;
             count(!any, "columns of unequal lengths", (long long)n);
         }

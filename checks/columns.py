@@ -29,7 +29,7 @@ HEADERS = f"{TOP}/languages/c"
 NEEDED = {
     "weekdays": (2, 3), "years": (4, 3), "ordinals": (4, 3), "split": (8, 4), "iso_weeks": (8, 4), "join": (6, 8), "add_days": (0, 6),
     "add_days_each": (0, 6), "add_months": (14, 7), "days_between": (0, 5), "from_unix_days": (0, 5), "to_unix_days": (0, 3),
-    "first_on": (0, 0),
+    "first_on": (0, 0), "add_days_in_place": (0, 6), "add_days_each_in_place": (0, 6), "add_months_in_place": (14, 7), "count_dates": (0, 3),
 }
 
 MULTIPLICATION = r"v?pmul\w+"

@@ -360,7 +360,7 @@ def words(tree):
     for span, part in spans(tree.documents):
         yield from (f"{part.path}: {it} is not told in docs/DEFINITIONS.md" for it in set(NAME.findall(span)) & defined - in_code - told)
     for section in re.split(r"^(?=## )", text, flags=re.M)[1:]:
-        crates = re.findall(r"`((?:chrono|cal)\w+)`", section.partition("\n| Word")[0])
+        crates = re.findall(r"`((?:chrono|cal|dates_)\w+)`", section.partition("\n| Word")[0])
         here = set(re.findall(r"\w+", " ".join(specs_of(tree, it) for it in crates)))
         rows = SPAN.findall(" ".join(re.findall(r"^\|([^|]*)\|", section, re.M)))
         yield from (f"docs/DEFINITIONS.md: {it} is no word of {' or '.join(crates)}" for it in rows if not here & set(NAME.findall(it)[:1]))

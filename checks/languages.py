@@ -120,8 +120,8 @@ def sources(folder):
 
 def of_rattle():
     """The functions that crates/calendar_c exports."""
-    head = r"#\[unsafe\(no_mangle\)\]\s+pub (?:unsafe )?extern \"C\" fn (\w+)\(([^)]*)\) -> (\w+)"
-    return of_rust(it for path in sources(CRATE) for it in re.findall(head, read(path)))
+    head = r"#\[unsafe\(no_mangle\)\]\s+pub (?:unsafe )?extern \"C\" fn (\w+)\(([^)]*)\)(?: -> (\w+))?"
+    return of_rust((*it[:2], it[2] or "void") for path in sources(CRATE) for it in re.findall(head, read(path)))
 
 
 def of_crate():

@@ -216,12 +216,21 @@ bool calendar_column_join(const int32_t *years, size_t years_length, const uint8
 /* The date so many days after each, or before it for a negative number. */
 bool calendar_column_add_days(const int32_t *dates, size_t dates_length, int32_t days, int32_t *moved, size_t moved_length);
 
+/* The same with each date in the place of the one that it is moved from. */
+void calendar_column_add_days_in_place(int32_t *dates, size_t dates_length, int32_t days);
+
 /* The same with a number of days of its own for each date; CALENDAR_NONE days lead nowhere. */
 bool calendar_column_add_days_each(const int32_t *dates, size_t dates_length, const int32_t *days, size_t days_length,
                                    int32_t *moved, size_t moved_length);
 
+/* The same with each date in the place of the one that it is moved from. */
+bool calendar_column_add_days_each_in_place(int32_t *dates, size_t dates_length, const int32_t *days, size_t days_length);
+
 /* The date so many months after each, or before it for a negative number, or the last day of that month if it is shorter. */
 bool calendar_column_add_months(const int32_t *dates, size_t dates_length, int32_t months, int32_t *moved, size_t moved_length);
+
+/* The same with each date in the place of the one that it is moved from. */
+void calendar_column_add_months_in_place(int32_t *dates, size_t dates_length, int32_t months);
 
 /* The days from each date of the second column to that beside it in the first. */
 bool calendar_column_days_between(const int32_t *dates, size_t dates_length, const int32_t *bases, size_t bases_length,
@@ -235,6 +244,9 @@ bool calendar_column_from_unix_days(const int64_t *days, size_t days_length, int
 
 /* The days from 1 January 1970 to each date. */
 bool calendar_column_to_unix_days(const int32_t *dates, size_t dates_length, int64_t *days, size_t days_length);
+
+/* How many numbers of the column are dates. */
+size_t calendar_column_count_dates(const int32_t *dates, size_t dates_length);
 
 #ifdef __cplusplus
 }

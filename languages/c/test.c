@@ -519,6 +519,22 @@ static void columns(void)
     IS(calendar_column_years(dates, 3, years, 2), false);
 }
 
+/* Each column call that writes over what it reads, and the count of dates. */
+static void columns_in_place(void)
+{
+    int32_t dates[] = {738945, CALENDAR_MAX + 1, 719163};
+    const int32_t days[] = {1, 1, NONE};
+    IS(calendar_column_count_dates(dates, 3), 2);
+    calendar_column_add_months_in_place(dates, 3, 12);
+    count(dates[0] == 739310 && dates[1] == NONE && dates[2] == 719528, __LINE__, "calendar_column_add_months_in_place");
+    calendar_column_add_days_in_place(dates, 3, -365);
+    count(dates[0] == 738945 && dates[1] == NONE && dates[2] == 719163, __LINE__, "calendar_column_add_days_in_place");
+    IS(calendar_column_add_days_each_in_place(dates, 3, days, 3), true);
+    count(dates[0] == 738946 && dates[1] == NONE && dates[2] == NONE, __LINE__, "calendar_column_add_days_each_in_place");
+    IS(calendar_column_add_days_each_in_place(dates, 3, days, 2), false);
+    IS(calendar_column_count_dates(dates, 3), 1);
+}
+
 int main(void)
 {
     calendar_names();
@@ -540,6 +556,7 @@ int main(void)
     texts_of_date_times();
     near_misses_of_date_times();
     columns();
+    columns_in_place();
     printf("%d passed, %d failed\n", passed, failed);
     return failed != 0;
 }

@@ -1,9 +1,9 @@
 -- What stands in a number of C for an answer, and for that there is none.
-use Rattle.std.specs.Prelude.{ℕ, ℤ, pos, neg_ℤ, Option, Some, None}
+use Rattle.std.specs.Prelude.{ℕ, ◌^◌, ℤ, pos, neg_ℤ, Option, Some, None}
 
 -- the least i32, which is no date, stands for none
 abbrev pub none_number : ℤ
-none_number = neg_ℤ (pos 2_147_483_648)
+none_number = neg_ℤ (pos (2 ^ 31))
 
 -- the number that stands for a number, if there is one
 abbrev pub or_none : Option ℤ → ℤ

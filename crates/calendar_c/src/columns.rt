@@ -3,8 +3,9 @@
 //! A column is a pointer and a length. Where the columns have not all the same length nothing is written, and `false` answered.
 //! In a column the least `i32` stands for a date, a year or a distance that there is not, the least `i64` for days since 1970,
 //! and 0 for a month, a day, an ordinal, a week or a weekday.
-ghost use Rattle.std.specs.Prelude.{◌≡◌, ◌==◌, ◌&&◌, ℕ, ◌<◌, true, false, length, map, pos, slice_index, slice_index_or};
+ghost use Rattle.std.specs.Prelude.{◌≡◌, ◌==◌, ◌&&◌, ℕ, ◌<◌, true, false, count_by, length, map, pos, slice_index, slice_index_or};
 ghost use Rattle.chrono_units.specs.SetDigits.{set_at};
+ghost use Rattle.chrono_calendar.specs.Days.{is_date};
 ghost use Rattle.chrono_columns.specs.Columns.{date_entry, day_entry, distance_entry, first_on_entry, iso_week_entry, iso_year_entry, later_entry, month_entry, months_later_entry, ordinal_entry, unix_date_entry, unix_days_entry, weekday_entry, year_entry};
 
 use crate::arguments::set_of;
@@ -143,6 +144,14 @@ pub extern "C" fn calendar_column_add_days(dates: &[i32], days: i32, moved: &mut
     true
 }
 
+/// The same with each date in the place of the one that it is moved from.
+#[unsafe(no_mangle)]
+pub extern "C" fn calendar_column_add_days_in_place(dates: &mut [i32], days: i32)
+    ensures { dates.new ≡ map (later_entry days) dates.old }
+{
+    chrono_columns::add_days_in_place(dates, days);
+}
+
 /// The same with a number of days of its own for each date.
 #[unsafe(no_mangle)]
 pub extern "C" fn calendar_column_add_days_each(
@@ -165,6 +174,21 @@ pub extern "C" fn calendar_column_add_days_each(
     true
 }
 
+/// The same with each date in the place of the one that it is moved from.
+#[unsafe(no_mangle)]
+pub extern "C" fn calendar_column_add_days_each_in_place(dates: &mut [i32], days: &[i32]) -> bool
+    ensures answer { result ≡ (length days.now == length dates.old) }
+    ensures filled { result ≡ true → (i : ℕ) → i < length dates.old → slice_index_or dates.new i (pos 0)
+        ≡ later_entry (slice_index_or days.now i (pos 0)) (slice_index_or dates.old i (pos 0)) }
+    ensures kept { result ≡ false → dates.new ≡ dates.old }
+{
+    if days.len() != dates.len() {
+        return false;
+    }
+    chrono_columns::add_days_each_in_place(dates, days);
+    true
+}
+
 /// The date so many months after each, or before it for a negative number, or the last day of that month if it is
 /// shorter.
 #[unsafe(no_mangle)]
@@ -178,6 +202,14 @@ pub extern "C" fn calendar_column_add_months(dates: &[i32], months: i32, moved: 
     }
     chrono_columns::add_months(dates, months, moved);
     true
+}
+
+/// The same with each date in the place of the one that it is moved from.
+#[unsafe(no_mangle)]
+pub extern "C" fn calendar_column_add_months_in_place(dates: &mut [i32], months: i32)
+    ensures { dates.new ≡ map (months_later_entry months) dates.old }
+{
+    chrono_columns::add_months_in_place(dates, months);
 }
 
 /// The days from each date of the second column to that beside it in the first.
@@ -242,4 +274,12 @@ pub extern "C" fn calendar_column_first_on(dates: &[i32], weekdays: u8, found: &
     }
     chrono_columns::first_on(dates, set_of(weekdays), found);
     true
+}
+
+/// How many numbers of the column are dates.
+#[unsafe(no_mangle)]
+pub extern "C" fn calendar_column_count_dates(dates: &[i32]) -> usize
+    ensures { result ≡ count_by is_date dates.now }
+{
+    chrono_columns::count_dates(dates)
 }

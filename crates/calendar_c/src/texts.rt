@@ -1,6 +1,7 @@
 //! The texts of dates and date-times, written into the caller's bytes and read.
 ghost use Rattle.std.specs.Prelude.{◌≡◌, ◌≢◌, ◌⊎◌, ◌<◌, ◌≤◌, ℤ, pos, None, Some, length};
 ghost use Rattle.std.specs.Option.{option_map};
+ghost use Rattle.std.specs.Str.{byte};
 ghost use Rattle.chrono_datetime.specs.Days.{IsDate, date_of_day};
 ghost use Rattle.chrono_datetime.specs.DateText.{date_text};
 ghost use Rattle.chrono_datetime.specs.Moment.{Moment};
@@ -54,11 +55,11 @@ pub extern "C" fn calendar_read_date(text: &[u8]) -> i32
 #[unsafe(no_mangle)]
 pub extern "C" fn calendar_write_date_time(moment: CalendarDateTime, text: &mut [u8]) -> i32
     ensures length { result ≡ count_or_none
-        (length_of (text_within (length text.old) (option_map (moment_text 84) (moment_named moment)))) }
+        (length_of (text_within (length text.old) (option_map (moment_text (byte "T")) (moment_named moment)))) }
     ensures enough { (m : Moment) → moment_named moment ≡ Some m → 32 ≤ length text.old
-        → result ≡ pos (length (moment_text 84 m)) }
+        → result ≡ pos (length (moment_text (byte "T") m)) }
     ensures bytes { text.new
-        ≡ overwritten (text_within (length text.old) (option_map (moment_text 84) (moment_named moment))) text.old }
+        ≡ overwritten (text_within (length text.old) (option_map (moment_text (byte "T")) (moment_named moment))) text.old }
 {
     let Some(moment) = date_time_of(moment) else {
         return NONE;

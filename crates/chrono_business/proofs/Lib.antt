@@ -8,3 +8,5 @@ mod Workdays
 mod WeekTables
 mod Checked
 mod EasterLemmas
+mod OpenLists
+mod MonthDayCounts

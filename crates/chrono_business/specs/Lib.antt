@@ -4,3 +4,4 @@ pub mod WrongHolidays
 pub mod Rolls
 pub mod DayCounts
 pub mod Easter
+pub mod OpenDayLists

@@ -3,6 +3,7 @@
 ghost use Rattle.std.specs.Prelude.{◌≡◌, ◌≤◌, ℕ, ℤ, true, false, pos, neg_ℤ, ◌+ℤ◌, ◌≤ℤ◌, ◌<ℤ◌, [], ◌∷◌};
 ghost use Rattle.chrono_datetime.specs.WeekdaySet.{set_of};
 ghost use Rattle.chrono_datetime.specs.declared.Weekday.TheVariants.{Fri, Sat, Sun};
+ghost use Rattle.chrono_business.specs.Easter.{easter_day};
 ghost use Rattle.chrono_business.specs.OpenDays.{Closed, IsNthOpenBack, IsNthOpenFrom, closed, is_open, open_days, open_days_signed};
 
 /// From an open day so many open days on, and from there as many back, one is at the day again; and back, and on.
@@ -43,4 +44,16 @@ pub fn known_open_days()
         (pos 738_886) (pos 738_893) ≡ 4 }
     ensures back { open_days_signed (closed (set_of (Sat ∷ Sun ∷ [])) (pos 738_886 ∷ []))
         (pos 738_893) (pos 738_886) ≡ neg_ℤ (pos 4) }
+{}
+
+/// Easters that are known: 31 March 2024, day 738,976; of the years 1818 and 1943 the earliest and the latest, 22 March
+/// and 25 April; of 1954 and 1981 18 and 19 April, where the last two epacts stand a day earlier; and 14 April 1974, a
+/// week after a full moon on a Sunday.
+pub fn known_easters()
+    ensures in_2024 { easter_day (pos 2_024) ≡ pos 738_976 }
+    ensures earliest { easter_day (pos 1_818) ≡ pos 663_726 }
+    ensures latest { easter_day (pos 1_943) ≡ pos 709_415 }
+    ensures in_1954 { easter_day (pos 1_954) ≡ pos 713_426 }
+    ensures in_1981 { easter_day (pos 1_981) ≡ pos 723_289 }
+    ensures full_moon_on_sunday { easter_day (pos 1_974) ≡ pos 720_727 }
 {}

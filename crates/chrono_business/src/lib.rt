@@ -11,6 +11,7 @@ mod computus;
 mod day_count;
 mod holiday_error;
 pub mod law;
+mod open_days_iterator;
 mod roll;
 mod workweek;
 
@@ -18,4 +19,5 @@ pub use calendar::Calendar;
 pub use computus::easter;
 pub use day_count::{Fraction, actual_360, actual_365_fixed, thirty_360, thirty_e_360};
 pub use holiday_error::HolidayError;
+pub use open_days_iterator::OpenDaysIterator;
 pub use roll::Roll;

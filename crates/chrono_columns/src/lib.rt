@@ -9,6 +9,7 @@
 #![tactic(auto)]
 
 mod conversion;
+mod counts;
 mod fields;
 pub mod law;
 mod months;
@@ -22,7 +23,11 @@ mod occasions;
 mod unix;
 mod week;
 
-pub use moves::{add_days, add_days_each, add_months, days_between};
+pub use counts::count_dates;
+pub use moves::{
+    add_days, add_days_each, add_days_each_in_place, add_days_in_place, add_months,
+    add_months_in_place, days_between,
+};
 pub use names::{join_dates, ordinals, split_dates, years};
 pub use none::{NONE, NOT_A_TIME};
 pub use occasions::first_on;

@@ -15,6 +15,15 @@ pub fn add_days(dates: &[i32], days: i32, out: &mut [i32])
     }
 }
 
+/// The same with each date in the place of the one that it is moved from.
+pub fn add_days_in_place(dates: &mut [i32], days: i32)
+    ensures { dates.new ≡ map (later_entry days) dates.old }
+{
+    for i in 0..dates.len() {
+        dates[i] = days_later(dates[i], days);
+    }
+}
+
 /// The same with a number of days of its own for each date. [`NONE`](crate::NONE) days lead nowhere.
 pub fn add_days_each(dates: &[i32], days: &[i32], out: &mut [i32])
     requires days { length days.now ≡ length dates.now }
@@ -24,6 +33,17 @@ pub fn add_days_each(dates: &[i32], days: &[i32], out: &mut [i32])
 {
     for i in 0..dates.len() {
         out[i] = days_later(dates[i], days[i]);
+    }
+}
+
+/// The same with each date in the place of the one that it is moved from.
+pub fn add_days_each_in_place(dates: &mut [i32], days: &[i32])
+    requires { length days.now ≡ length dates.old }
+    ensures { (i : ℕ) → i < length dates.old → slice_index_or dates.new i (pos 0)
+        ≡ later_entry (slice_index_or days.now i (pos 0)) (slice_index_or dates.old i (pos 0)) }
+{
+    for i in 0..dates.len() {
+        dates[i] = days_later(dates[i], days[i]);
     }
 }
 
@@ -47,5 +67,14 @@ pub fn add_months(dates: &[i32], months: i32, out: &mut [i32])
 {
     for i in 0..dates.len() {
         out[i] = months_later(dates[i], months);
+    }
+}
+
+/// The same with each date in the place of the one that it is moved from.
+pub fn add_months_in_place(dates: &mut [i32], months: i32)
+    ensures { dates.new ≡ map (months_later_entry months) dates.old }
+{
+    for i in 0..dates.len() {
+        dates[i] = months_later(dates[i], months);
     }
 }

@@ -5,3 +5,4 @@ mod Minutes
 mod MonthSets
 mod Months
 mod Order
+mod Steps

@@ -1,3 +1,5 @@
 pub mod Due
 pub mod DueMoments
 pub mod KnownMonthDays
+pub mod KnownSchedules
+pub mod Steps

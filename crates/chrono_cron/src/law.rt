@@ -1,6 +1,8 @@
 //! Days that are known, each as a clause of a function that does nothing.
-ghost use Rattle.std.specs.Prelude.{◌≡◌, ◌^◌, true, false, pos};
+ghost use Rattle.std.specs.Prelude.{◌≡◌, ◌+◌, ◌^◌, true, false, pos};
+ghost use Rattle.chrono_cron.specs.Due.{is_due};
 ghost use Rattle.chrono_cron.specs.KnownMonthDays.{is_named, named};
+ghost use Rattle.chrono_cron.specs.KnownSchedules.{fields, moment_at};
 
 /// Days of 2024 that are known: 31 May is `L` and the 30th is not, 28 February is `L-1`; 29 March, a Friday, is `LW`, and so is Tuesday,
 /// 30 April; 14 June, a Friday, is `14W` and `15W`, and 16 September, a Monday, is `15W`; 3 June, a Monday, is `1W`, 29 March is `31W`,
@@ -25,4 +27,26 @@ pub fn known_month_days()
     ensures fifth_friday { is_named (named 0 0 false 0 (2 ^ 33)) (pos 738_974) ≡ true }
     ensures fourth_friday { is_named (named 0 0 false 0 (2 ^ 33)) (pos 738_967) ≡ false }
     ensures second_sunday { is_named (named 0 0 false 0 (2 ^ 7)) (pos 738_955) ≡ true }
+{}
+
+/// Moments of 2024 at which schedules are known to be due or not. `0 0 29 2 *` is due on 29 February at midnight, and neither on the day
+/// before, on 29 March, a minute or an hour later, nor within that minute. `30 4 1,15 * 5` goes by either field: it is due on Friday,
+/// 9 February, and on Thursday the 15th, and not on Wednesday between them. `0 0 */2 * 1` goes by both: it is due on Monday, 11 March,
+/// and neither on Monday the 4th nor on Sunday the 3rd, on which `0 0 * * 0` is due.
+pub fn known_schedules()
+    ensures leap_day { is_due (fields 1 1 (2 ^ 29) (2 ^ 2) 127 false) (moment_at (pos 738_945) 0 0 0 0) ≡ true }
+    ensures day_before { is_due (fields 1 1 (2 ^ 29) (2 ^ 2) 127 false) (moment_at (pos 738_944) 0 0 0 0) ≡ false }
+    ensures month_after { is_due (fields 1 1 (2 ^ 29) (2 ^ 2) 127 false) (moment_at (pos 738_974) 0 0 0 0) ≡ false }
+    ensures minute_after { is_due (fields 1 1 (2 ^ 29) (2 ^ 2) 127 false) (moment_at (pos 738_945) 0 1 0 0) ≡ false }
+    ensures hour_after { is_due (fields 1 1 (2 ^ 29) (2 ^ 2) 127 false) (moment_at (pos 738_945) 1 0 0 0) ≡ false }
+    ensures within_the_minute { is_due (fields 1 1 (2 ^ 29) (2 ^ 2) 127 false) (moment_at (pos 738_945) 0 0 1 0) ≡ false }
+    ensures within_the_second { is_due (fields 1 1 (2 ^ 29) (2 ^ 2) 127 false) (moment_at (pos 738_945) 0 0 0 1) ≡ false }
+    ensures friday { is_due (fields (2 ^ 30) (2 ^ 4) (2 ^ 1 + 2 ^ 15) 8_190 (2 ^ 5) true) (moment_at (pos 738_925) 4 30 0 0) ≡ true }
+    ensures fifteenth { is_due (fields (2 ^ 30) (2 ^ 4) (2 ^ 1 + 2 ^ 15) 8_190 (2 ^ 5) true) (moment_at (pos 738_931) 4 30 0 0) ≡ true }
+    ensures neither { is_due (fields (2 ^ 30) (2 ^ 4) (2 ^ 1 + 2 ^ 15) 8_190 (2 ^ 5) true) (moment_at (pos 738_930) 4 30 0 0) ≡ false }
+    ensures hour_and_minute_swapped { is_due (fields (2 ^ 30) (2 ^ 4) (2 ^ 1 + 2 ^ 15) 8_190 (2 ^ 5) true) (moment_at (pos 738_925) 6 4 0 0) ≡ false }
+    ensures odd_monday { is_due (fields 1 1 2_863_311_530 8_190 (2 ^ 1) false) (moment_at (pos 738_956) 0 0 0 0) ≡ true }
+    ensures even_monday { is_due (fields 1 1 2_863_311_530 8_190 (2 ^ 1) false) (moment_at (pos 738_949) 0 0 0 0) ≡ false }
+    ensures odd_sunday { is_due (fields 1 1 2_863_311_530 8_190 (2 ^ 1) false) (moment_at (pos 738_948) 0 0 0 0) ≡ false }
+    ensures sunday { is_due (fields 1 1 4_294_967_294 8_190 1 false) (moment_at (pos 738_948) 0 0 0 0) ≡ true }
 {}

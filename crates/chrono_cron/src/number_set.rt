@@ -2,6 +2,7 @@
 ghost use Rattle.std.specs.Prelude.{◌≡◌, ◌<◌, ◌≤◌, ◌+◌, ◌-◌, ◌%◌, ◌==◌, nat_le, nat_lt, ◌&&◌, ◌||◌, ℕ, false, IsTrue, IfSome, IfNone};
 ghost use Rattle.std.specs.Int.{bit_at};
 ghost use Rattle.chrono_cron.specs.Due.{has};
+ghost use Rattle.chrono_cron.specs.Steps.{is_by_steps};
 
 // The digits of a set of weekdays.
 const WEEK: u64 = 0b111_1111;
@@ -26,6 +27,33 @@ impl NumberSet {
         ensures { (k : ℕ) → has result k ≡ (bit_at digits k == 1) }
     {
         NumberSet { digits }
+    }
+
+    /// The numbers from `first` to `last` that lie a whole number of steps behind `first`, as a field lists them by `a-b/n`: 9, 11 and 13
+    /// from 9 to 14 by steps of 2. None if `last` is below `first`.
+    pub fn by_steps(first: u32, last: u32, step: u32) -> NumberSet
+        requires last { last < 64 }
+        requires step { 0 < step }
+        ensures { (k : ℕ) → k < 64 → has result k ≡ is_by_steps first last step k }
+    {
+        let mut set = NumberSet::from_digits(0);
+        let mut number = first;
+        while number <= last {
+            if (number - first) % step == 0 {
+                set = set.with(number);
+            }
+            number += 1;
+        }
+        set
+    }
+
+    // The members and that number.
+    #[inline]
+    fn with(self, number: u32) -> NumberSet
+        requires { number < 64 }
+        ensures { (k : ℕ) → k < 64 → has result k ≡ (has self k || (k == number)) }
+    {
+        self.union(NumberSet::from_digits(1).raised(number))
     }
 
     /// Whether the number is a member.

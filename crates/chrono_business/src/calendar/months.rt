@@ -1,8 +1,8 @@
 //! Open days of a month.
-ghost use Rattle.std.specs.Prelude.{◌≡◌, ◌-◌, ◌<◌, ◌⊎◌, ℤ, pos, ◌+ℤ◌, ◌<ℤ◌, true, false, IfSome, IfNone};
+ghost use Rattle.std.specs.Prelude.{◌≡◌, ◌-◌, ◌<◌, ◌≤◌, ◌⊎◌, ℤ, pos, ◌+ℤ◌, ◌<ℤ◌, true, false, IfSome, IfNone};
 ghost use Rattle.chrono_datetime.specs.Days.{IsDate};
 ghost use Rattle.chrono_datetime.specs.MonthMoves.{InSameMonth, month_first_of, month_last_of};
-ghost use Rattle.chrono_business.specs.OpenDays.{IsNthOpenFrom, open_days};
+ghost use Rattle.chrono_business.specs.OpenDays.{IsNthOpenBack, IsNthOpenFrom, is_open, open_days};
 ghost use Rattle.chrono_business.specs.Rolls.{IsLastOpen, IsNextOpen, MonthBeginsClosed, MonthEndsClosed};
 
 use crate::calendar::Calendar;
@@ -25,6 +25,38 @@ impl<'a> Calendar<'a> {
         ensures none { IfNone result (MonthBeginsClosed self.now (month_last_of date)) }
     {
         self.last_open_in_month(date.last_day_of_month())
+    }
+
+    /// The `n`-th open day of the date's month, counted from 0; `None` exactly if no more than `n` days of the month are
+    /// open.
+    pub fn nth_open_of_month(&self, date: NaiveDate, n: u64) -> Option<NaiveDate>
+        ensures passes { IfSome result (λ e. is_open self.now e ≡ true) }
+        ensures month { IfSome result (λ e. InSameMonth e date) }
+        ensures nth { IfSome result (λ e. IsNthOpenFrom self.now (month_first_of date) n e) }
+        ensures none { IfNone result (open_days self.now (month_first_of date) (month_last_of date +ℤ pos 1) ≤ n) }
+    {
+        let last = date.last_day_of_month();
+        let nth = self.nth_open_from(date.first_day_of_month(), n)?;
+        if nth.num_days_from_ce() > last.num_days_from_ce() {
+            return None;
+        }
+        Some(nth)
+    }
+
+    /// The `n`-th open day of the date's month from its end, counted from 0; `None` exactly if no more than `n` days of
+    /// the month are open.
+    pub fn nth_last_open_of_month(&self, date: NaiveDate, n: u64) -> Option<NaiveDate>
+        ensures passes { IfSome result (λ e. is_open self.now e ≡ true) }
+        ensures month { IfSome result (λ e. InSameMonth e date) }
+        ensures nth { IfSome result (λ e. IsNthOpenBack self.now (month_last_of date) n e) }
+        ensures none { IfNone result (open_days self.now (month_first_of date) (month_last_of date +ℤ pos 1) ≤ n) }
+    {
+        let first = date.first_day_of_month();
+        let nth = self.nth_open_back(date.last_day_of_month(), n)?;
+        if nth.num_days_from_ce() < first.num_days_from_ce() {
+            return None;
+        }
+        Some(nth)
     }
 
     /// The first open day from the date on, if it is in the date's month; `None` exactly if the rest of the month is

@@ -1,0 +1,7 @@
+use Rattle.std.proofs.Common.{◌≡◌, ◌++◌, take, drop, map}
+use Rattle.chrono_columns.specs.Columns.{later_entry}
+use Rattle.chrono_columns.proofs.moves.add_days_in_place.Given as goal
+
+-- the dates that are moved, and the others as they will be
+abbrev pub invariant-loop-i : goal.invariant-loop-i
+invariant-loop-i l = take l.i l.dates ++ map (later_entry l.days) (drop l.i l.dates) ≡ map (later_entry l.days) l.initial.dates

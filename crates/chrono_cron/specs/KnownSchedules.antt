@@ -1,0 +1,15 @@
+-- Words for moments at which a schedule is known to be due or not.
+use Rattle.std.specs.Prelude.{ℕ, Bool, false, ℤ}
+use Rattle.chrono_datetime.specs.Moment.{Moment, moment}
+use Rattle.chrono_datetime.specs.Time.{time_at}
+use Rattle.chrono_cron.specs.declared.sets.Sets.{Sets}
+use Rattle.chrono_cron.specs.KnownMonthDays.{named, set_of_digits}
+
+-- what five fields list, each as the number whose binary digits tell its members, with no days that are named
+abbrev pub fields : ℕ → ℕ → ℕ → ℕ → ℕ → Bool → Sets
+fields minutes hours days months weekdays either =
+    record { minutes = set_of_digits minutes; hours = set_of_digits hours; days = set_of_digits days; months = set_of_digits months; weekdays = set_of_digits weekdays; month_days = named 0 0 false 0 0; either = either }
+
+-- the moment of a day at an hour, a minute, a second and a fraction of it in nanoseconds
+abbrev pub moment_at : ℤ → ℕ → ℕ → ℕ → ℕ → Moment
+moment_at n hour minute second fraction = moment n (time_at hour minute second fraction)

@@ -1,0 +1,6 @@
+//! What the arguments of `dates` ask for: days, spans, and the request that they make, or which argument is wrong and why.
+#![tactic(auto)]
+
+mod day;
+
+pub use day::{NoDay, read_day};
