@@ -4,4 +4,5 @@ pub mod WrongHolidays
 pub mod Rolls
 pub mod DayCounts
 pub mod Easter
+pub mod HolidayRules
 pub mod OpenDayLists
