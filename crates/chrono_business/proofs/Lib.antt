@@ -10,3 +10,4 @@ mod Checked
 mod EasterLemmas
 mod OpenLists
 mod MonthDayCounts
+mod LeapDayCounts

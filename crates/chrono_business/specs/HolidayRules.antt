@@ -1,5 +1,5 @@
 -- Holidays by rules: which day a rule names in a year, where it goes from a weekend, and the holidays of a year.
-use Rattle.std.specs.Prelude.{◌≡◌, ℕ, ◌<◌, Bool, ◌&&◌, ◌==◌, int_le, if◌then◌else◌, ℤ, pos, neg_ℤ, ◌+ℤ◌, List, length, slice_index_or, slice_get, Option, Some, None}
+use Rattle.std.specs.Prelude.{ℕ, Bool, ◌&&◌, ◌==◌, int_le, if◌then◌else◌, ℤ, pos, neg_ℤ, ◌+ℤ◌, Option, Some, None}
 use Rattle.std.specs.Option.{option_and_then}
 use Rattle.chrono_datetime.specs.declared.Weekday.{Weekday}
 use Rattle.chrono_datetime.specs.Month.{number_from_month}
@@ -58,9 +58,3 @@ holds_in r y = int_le r.first_year y && int_le y r.last_year
 unfoldable pub date_of_rule : HolidayRule → ℤ → Option ℤ
 date_of_rule r y =
     if holds_in r y then option_and_then (λ n. date_of_day (n +ℤ moved_by r.moved n)) (date_named r.day y) else None
-
--- the day e is that of one of the rules in the year y
-pub record IsOfRules (rules : List HolidayRule) (y e : ℤ) : Type 0 where
-  pub place : ℕ
-  pub within : place < length rules
-  pub day : (d : HolidayRule) → date_of_rule (slice_index_or rules place d) y ≡ Some e

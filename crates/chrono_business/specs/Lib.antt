@@ -6,3 +6,4 @@ pub mod DayCounts
 pub mod Easter
 pub mod HolidayRules
 pub mod OpenDayLists
+pub mod LeapDays

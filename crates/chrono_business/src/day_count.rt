@@ -1,8 +1,10 @@
 //! Day counts: which part of a year lies between two dates, as an exact fraction (ISDA 2006 Definitions, section
 //! 4.16).
-ghost use Rattle.std.specs.Prelude.{◌≡◌, ◌≤◌, ◌==◌, ◌&&◌, nat_lt, if◌then◌else◌, pos, ◌+ℤ◌, ◌-ℤ◌, ◌*ℤ◌};
-ghost use Rattle.chrono_datetime.specs.Days.{month_of, year_of};
-ghost use Rattle.chrono_business.specs.DayCounts.{at_most_30 as up_to_30, days_30_360, days_30e_360, days_of_360 as days_of_months};
+ghost use Rattle.std.specs.Prelude.{◌≡◌, ◌≤◌, ◌==◌, ◌&&◌, nat_lt, if◌then◌else◌, pos, neg_ℤ, ◌+ℤ◌, ◌-ℤ◌, ◌*ℤ◌, ◌≤ℤ◌};
+ghost use Rattle.chrono_datetime.specs.Days.{month_of, ordinal_of, year_of};
+ghost use Rattle.chrono_datetime.specs.Years.{is_leap_year};
+ghost use Rattle.chrono_business.specs.LeapDays.{leap_before};
+ghost use Rattle.chrono_business.specs.DayCounts.{at_most_30 as up_to_30, days_30_360, days_30e_360, days_actual_actual, days_of_360 as days_of_months};
 
 use chrono_datetime::{Datelike, NaiveDate};
 
@@ -13,6 +15,19 @@ pub struct Fraction {
     pub numerator: i64,
     /// The number below it, which is positive.
     pub denominator: i64,
+}
+
+/// "Actual/Actual" or "Actual/Actual (ISDA)" (4.16(b)): the days that lie in leap years over 366, and the other days over
+/// 365. The first day counts and the last does not; where `to` is earlier the days count from `to` on, with a minus sign.
+pub fn actual_actual_isda(from: NaiveDate, to: NaiveDate) -> Fraction
+    ensures numerator { result.numerator ≡ days_actual_actual from to }
+    ensures denominator { result.denominator ≡ pos 133_590 }
+{
+    let leap = leap_days_before(to) - leap_days_before(from);
+    Fraction {
+        numerator: 366 * days_between(from, to) - leap,
+        denominator: 365 * 366,
+    }
 }
 
 /// "Actual/360" (4.16(e)): the days from one date to another over 360.
@@ -63,9 +78,42 @@ pub fn thirty_e_360(from: NaiveDate, to: NaiveDate) -> Fraction
 
 // The days from one date to another.
 fn days_between(from: NaiveDate, to: NaiveDate) -> i64
-    ensures { result ≡ to -ℤ from }
+    ensures value { result ≡ to -ℤ from }
+    ensures low { neg_ℤ (pos 200_000_000) ≤ℤ result }
+    ensures high { result ≤ℤ pos 200_000_000 }
 {
     i64::from(to.num_days_from_ce() - from.num_days_from_ce())
+}
+
+// The days of leap years before a date, less those before year 1: 366 for each leap year, and those of its own year.
+fn leap_days_before(date: NaiveDate) -> i64
+    ensures value { result ≡ leap_before date }
+    ensures low { neg_ℤ (pos 80_000_000_000) ≤ℤ result }
+    ensures high { result ≤ℤ pos 80_000_000_000 }
+{
+    366 * leap_years_before(date) + leap_days_in_year(date)
+}
+
+// The leap years before a date's year, less those before year 1: the days before its year that 365 for each leave over.
+fn leap_years_before(date: NaiveDate) -> i64
+    ensures value { result ≡ (date -ℤ pos (ordinal_of date)) -ℤ pos 365 *ℤ (year_of date -ℤ pos 1) }
+    ensures low { neg_ℤ (pos 200_000_000) ≤ℤ result }
+    ensures high { result ≤ℤ pos 200_000_000 }
+{
+    let whole_years = 365 * (date.year() - 1);
+    i64::from(date.num_days_from_ce() - date.ordinal() as i32) - i64::from(whole_years)
+}
+
+// The days before a date in its year, if that is a leap year.
+fn leap_days_in_year(date: NaiveDate) -> i64
+    ensures value { result ≡ (if is_leap_year (year_of date) then pos (ordinal_of date) -ℤ pos 1 else pos 0) }
+    ensures low { pos 0 ≤ℤ result }
+    ensures high { result ≤ℤ pos 365 }
+{
+    if date.leap_year() {
+        return i64::from(date.ordinal0());
+    }
+    0
 }
 
 // 360 days for each year between two dates, 30 for each month, and the days from one of its days to another.

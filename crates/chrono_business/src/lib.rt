@@ -19,7 +19,9 @@ mod workweek;
 
 pub use calendar::Calendar;
 pub use computus::easter;
-pub use day_count::{Fraction, actual_360, actual_365_fixed, thirty_360, thirty_e_360};
+pub use day_count::{
+    Fraction, actual_360, actual_365_fixed, actual_actual_isda, thirty_360, thirty_e_360,
+};
 pub use given::{england_and_wales, target, us_federal};
 pub use holiday_error::HolidayError;
 pub use holiday_rule::{HolidayDay, HolidayRule, Moved};
