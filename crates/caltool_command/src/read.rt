@@ -141,7 +141,18 @@ fn week(numbers: &[i64]) -> Option<Command>
 fn moved(numbers: &[i64]) -> Option<Command>
     ensures { result ≡ command_from Name.Move numbers.now }
 {
-    let [year, month, day, hour, minute, second, fraction, seconds, nanoseconds] = numbers else {
+    let [
+        year,
+        month,
+        day,
+        hour,
+        minute,
+        second,
+        fraction,
+        seconds,
+        nanoseconds,
+    ] = numbers
+    else {
         return None;
     };
     let date = calendar_date(*year, *month, *day)?;
@@ -160,15 +171,34 @@ fn moved(numbers: &[i64]) -> Option<Command>
 fn diff(numbers: &[i64]) -> Option<Command>
     ensures { result ≡ command_from Name.Diff numbers.now }
 {
-    let [year, month, day, hour, minute, second, fraction, year_2, month_2, day_2, hour_2, minute_2, second_2, fraction_2] = numbers else {
+    let [
+        year,
+        month,
+        day,
+        hour,
+        minute,
+        second,
+        fraction,
+        year_2,
+        month_2,
+        day_2,
+        hour_2,
+        minute_2,
+        second_2,
+        fraction_2,
+    ] = numbers
+    else {
         return None;
     };
     let date = calendar_date(*year, *month, *day)?;
     let time = clock_time(*hour, *minute, *second, *fraction)?;
+    let date_2 = calendar_date(*year_2, *month_2, *day_2)?;
+    let time_2 = clock_time(*hour_2, *minute_2, *second_2, *fraction_2)?;
     let first = DateAndTime { date, time };
-    let date = calendar_date(*year_2, *month_2, *day_2)?;
-    let time = clock_time(*hour_2, *minute_2, *second_2, *fraction_2)?;
-    let second = DateAndTime { date, time };
+    let second = DateAndTime {
+        date: date_2,
+        time: time_2,
+    };
     Some(Command::Diff { first, second })
 }
 

@@ -11,4 +11,4 @@ pub returns : goal.returns
 returns c = sym (
     days_of c.args.numbers.now (omega arith)
     ∙ rw (date_at c.args.numbers.now 0 (search rules) (search rules) (search rules) c.calendar_date.ensures ∙ c.in_ok-date.was, number_at c.args.numbers.now to_i64 3 (search rules) (sym (i64_written _ (search rules)))) refl
-)
+    )
