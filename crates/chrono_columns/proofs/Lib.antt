@@ -3,3 +3,5 @@ mod Entries
 mod InPlace
 mod MonthTests
 mod NameTests
+mod TextEntries
+mod TextNames
