@@ -4,6 +4,7 @@
 #![tactic(auto)]
 
 pub mod law;
+mod members;
 mod parts;
 mod periods;
 mod pieces;
