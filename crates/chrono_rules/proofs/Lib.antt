@@ -1,0 +1,3 @@
+-- These serve this crate's own proofs alone.
+mod Cycles
+mod Counts

@@ -4,6 +4,9 @@
 #![tactic(auto)]
 
 pub mod law;
+mod members;
+mod parts;
+mod periods;
 mod places;
 mod rule;
 
