@@ -1,3 +1,5 @@
 -- These serve this crate's own proofs alone.
-mod Cycles
 mod Counts
+mod Cycles
+mod LetterLemmas
+mod PieceLemmas
