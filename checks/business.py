@@ -9,7 +9,8 @@ federal holidays of the United States from 2020 to 2030 (5 U.S.C. 6103, each fou
 random weekdays with random holidays, never closed and never open. The walk goes over 400 years of each of two calendars, and asks of
 each day whether it is open and how many open days lie before it; all other calls are asked at random dates. numpy answers 100,000
 queries of `busday_offset`, with each of its rolls, and of `busday_count`. Day counts are held to the texts of ISDA 2006,
-4.16(e), (f) and (g), in calendar fields of `datetime`.
+4.16(b), (e), (f) and (g), in calendar fields of `datetime`, the days of leap years one by one. Lists of holidays that are none are refused
+with what is wrong first.
 
 It needs crates/business_rows/out/business_rows, which `rt run` and `rt ci` leave there.
 """
@@ -83,6 +84,11 @@ class Calendar:
         """How many open days of the walk come before a day."""
         return bisect.bisect_left(self.open, day)
 
+    def of_month(self, day):
+        """The open days of the month of a day."""
+        date = Date.fromordinal(day)
+        return [it for it in range(day - date.day + 1, day - date.day + 1 + months.monthrange(date.year, date.month)[1]) if it in self.is_open]
+
     def next(self, day, n=0):
         place = self.before(day) + n
         return self.open[place] if place < len(self.open) else None
@@ -142,6 +148,12 @@ def in_row(calendar, name, day, last=None):
         end = first + months.monthrange(date.year, date.month)[1] - 1
         answer = calendar.next(first) if name == "first_of_month" else calendar.last_up_to(end)
         answer = answer if in_month(answer, day) else None
+    elif name in ("nth_of_month", "nth_last_of_month"):
+        found = calendar.of_month(day)[:: 1 if name == "nth_of_month" else -1]
+        answer = found[last] if last < len(found) else None
+    elif name in ("each", "each_back"):
+        found = calendar.open[calendar.before(day) : max(calendar.before(last), calendar.before(day))]
+        answer = sum(place * it for place, it in enumerate(found if name == "each" else reversed(found), 1))
     else:
         answer = rolled(calendar, name, day)
     return f"{name} {day}{'' if last is None else f' {last}'} = {shown(answer)}"
@@ -158,9 +170,28 @@ def day_counts(chance, count):
         first, last = min(start.day, 30), min(end.day, 30)
         bond = last if start.day > 29 else end.day
         pair = f"{start.toordinal()} {end.toordinal()}"
+        apart = [Date.fromordinal(it).year for it in range(min(start, end).toordinal(), max(start, end).toordinal())]
+        leap = sum(months.isleap(it) for it in apart)
+        yield f"actual_actual {pair} = {(365 * leap + 366 * (len(apart) - leap)) * (-1 if end < start else 1)}"
         yield f"actual_360 {pair} = {end.toordinal() - start.toordinal()}"
         yield f"thirty_360 {pair} = {months_apart + bond - first}"
         yield f"thirty_e_360 {pair} = {months_apart + last - first}"
+
+
+def refused(chance, count):
+    """Rows of lists of holidays, each with what is wrong at the first place where something is."""
+    for _ in range(count):
+        week = "".join(chance.choice("0111") for _ in range(7))
+        days = sorted(chance.randrange(738_000, 738_200) for _ in range(chance.randrange(2, 12)))
+        if chance.random() < 0.5:
+            days = [it for it in days if week[(it - 1) % 7] == "1"]
+            chance.shuffle(days)
+        for place, it in enumerate(days):
+            wrong = "on_weekend" if week[(it - 1) % 7] == "0" else "not_rising" if place > 0 and it <= days[place - 1] else None
+            if wrong:
+                yield " ".join(["calendar", week, *map(str, days)])
+                yield f"refused {wrong} {place}"
+                break
 
 
 def calendars(chance):
@@ -191,6 +222,11 @@ def questions(chance, calendar, count):
         other = chance.randrange(725_000, 745_000)
         yield in_row(calendar, "count", day, other)
         yield in_row(calendar, "both", day, other)
+        yield in_row(calendar, "nth_of_month", day, chance.randrange(25))
+        yield in_row(calendar, "nth_last_of_month", day, chance.randrange(25))
+        near = day + chance.randrange(-5, 60)
+        yield in_row(calendar, "each", day, near)
+        yield in_row(calendar, "each_back", day, near)
 
 
 def walked(calendar):
@@ -267,6 +303,7 @@ def main():
     for it in made:
         few += [it.row(), *questions(chance, it, 20)]
     few += day_counts(chance, 100)
+    few += refused(chance, 60)
     if given.write:
         with open(STDIN, "w", encoding="utf-8") as it:
             it.write("\n".join(few) + "\n")

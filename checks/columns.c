@@ -64,11 +64,20 @@ static int64_t to_unix(int32_t date)
     return is_date(date) ? (int64_t)date - CALENDAR_UNIX_EPOCH : INT64_MIN;
 }
 
+/* The ten bytes of a date in a column of texts. */
+static void text_of(int32_t date, uint8_t *text)
+{
+    uint8_t written[13];
+    memset(text, 0, 10);
+    if (calendar_write_date(date, written, 13) == 10) memcpy(text, written, 10);
+}
+
 /* Fields of one column, of BLOCK dates at most. */
 static int32_t dates[BLOCK], bases[BLOCK], counts[BLOCK], numbers[BLOCK], years[BLOCK];
 static uint8_t months[BLOCK], days[BLOCK], small[BLOCK];
 static uint16_t ordinals[BLOCK];
 static int64_t wide[BLOCK];
+static uint8_t texts[10 * BLOCK];
 
 /* The columns of n dates that stand in `dates`, each element beside the single call. */
 static void compare_block(size_t n, int32_t days_on, int32_t months_on)
@@ -119,6 +128,14 @@ static void compare_block(size_t n, int32_t days_on, int32_t months_on)
     for (size_t i = 0; i < n; i++) wide[i] = (int64_t)dates[i] - CALENDAR_UNIX_EPOCH;
     answered &= calendar_column_from_unix_days(wide, n, numbers, n);
     for (size_t i = 0; i < n; i++) wrong += numbers[i] != from_unix(wide[i]);
+    answered &= calendar_column_write_dates(dates, n, texts, n);
+    for (size_t i = 0; i < n; i++) {
+        uint8_t one[10];
+        text_of(dates[i], one);
+        wrong += memcmp(texts + 10 * i, one, 10) != 0;
+    }
+    answered &= calendar_column_read_dates(texts, n, numbers, n);
+    for (size_t i = 0; i < n; i++) wrong += numbers[i] != (texts[10 * i] ? dates[i] : NONE);
     count(answered && !wrong, "columns beside single calls, from the number", dates[0]);
 }
 
@@ -160,6 +177,25 @@ static void hostile_numbers(void)
     }
 }
 
+/* Texts of ten bytes that are a date's but for a byte or two, and bytes of any kind, each beside the single call. */
+static void hostile_texts(void)
+{
+    static const char likely[] = "00112233456789999-//::+ T";
+    for (int turn = 0; turn < 2000; turn++) {
+        for (size_t i = 0; i < BLOCK; i++) {
+            uint8_t *text = texts + 10 * i;
+            text_of((int32_t)(draw() % 3652425) - 365, text);
+            for (uint64_t left = draw() % 4; left; left--) {
+                uint64_t it = draw();
+                text[it % 10] = it % 3 ? (uint8_t)likely[(it >> 8) % (sizeof likely - 1)] : (uint8_t)(it >> 16);
+            }
+        }
+        long wrong = !calendar_column_read_dates(texts, BLOCK, numbers, BLOCK);
+        for (size_t i = 0; i < BLOCK; i++) wrong += numbers[i] != calendar_read_date(texts + 10 * i, 10);
+        count(!wrong, "texts of ten bytes", turn);
+    }
+}
+
 /* All months and days of a byte, in years of each kind and at the ends. */
 static void hostile_names(void)
 {
@@ -186,10 +222,10 @@ typedef struct {
 
 static room room_of(size_t n, size_t size, size_t place)
 {
-    room made = {malloc(2 * GUARD + PLACES * 8 + n * size), NULL, n * size};
+    room made = {malloc(2 * GUARD + PLACES * 10 + n * size), NULL, n * size};
     if (!made.whole) exit(2);
     made.at = made.whole + GUARD + place * size;
-    memset(made.whole, 0xA5, 2 * GUARD + PLACES * 8 + n * size);
+    memset(made.whole, 0xA5, 2 * GUARD + PLACES * 10 + n * size);
     return made;
 }
 
@@ -248,9 +284,14 @@ static void one_length(size_t n, size_t place)
     right &= calendar_column_add_days_each_in_place((int32_t *)each_moved.at, n, counts, n);
     for (size_t i = 0; i < n; i++) numbers[i] = calendar_add_days(dates[i], counts[i]);
     right &= holds(each_moved, numbers);
+    room written = room_of(n, 10, place), found = room_of(n, 4, place);
+    for (size_t i = 0; i < n; i++) dates[i] = (int32_t)(draw() % 4000000) - 200000, text_of(dates[i], texts + 10 * i);
+    right &= calendar_column_write_dates(dates, n, written.at, n) & calendar_column_read_dates(texts, n, (int32_t *)found.at, n);
+    for (size_t i = 0; i < n; i++) numbers[i] = texts[10 * i] ? dates[i] : NONE;
+    right &= holds(written, texts) & holds(found, numbers);
     size_t there = 0;
     for (size_t i = 0; i < n; i++) there += is_date(dates[i]);
-    right &= calendar_column_count_dates(from, n) == there;
+    right &= calendar_column_count_dates(dates, n) == there;
     free(in.whole);
     count(right, "a column at a place, with length", (long long)n);
 }
@@ -273,6 +314,9 @@ static void unequal(void)
             any |= calendar_column_join(of_dates, n, few, n, more, n, of_years, m);
             any |= calendar_column_days_between(of_dates, n, of_dates, m, of_years, n);
             any |= calendar_column_add_days_each_in_place(of_years, n, of_dates, m);
+            uint8_t of_texts[40] = {0};
+            any |= calendar_column_write_dates(of_dates, n, of_texts, m) | calendar_column_read_dates(of_texts, n, of_years, m);
+            for (int i = 0; i < 40; i++) any |= of_texts[i] != 0;
             for (int i = 0; i < 4; i++) any |= few[i] != 9 || more[i] != 9 || of_years[i] != 9;
             count(!any, "columns of unequal lengths", (long long)n);
         }
@@ -287,6 +331,7 @@ int main(void)
     }
     hostile_names();
     hostile_numbers();
+    hostile_texts();
     sweep();
     printf("%ld passed, %ld failed\n", passed, failed);
     return failed != 0;

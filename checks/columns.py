@@ -24,12 +24,13 @@ from languages import TOP, Results, find_library, run
 SOURCE = f"{TOP}/checks/columns.c"
 HEADERS = f"{TOP}/languages/c"
 
-# How many packed multiplications and comparisons the loop of each column has at least. The loop of `first_on` asks a set of each date
-# and is no vector code.
+# How many packed multiplications and comparisons the loop of each column has at least. The loop of `first_on` asks a set of each date,
+# those of texts put ten bytes together or take them apart: these are no vector code.
 NEEDED = {
     "weekdays": (2, 3), "years": (4, 3), "ordinals": (4, 3), "split": (8, 4), "iso_weeks": (8, 4), "join": (6, 8), "add_days": (0, 6),
     "add_days_each": (0, 6), "add_months": (14, 7), "days_between": (0, 5), "from_unix_days": (0, 5), "to_unix_days": (0, 3),
     "first_on": (0, 0), "add_days_in_place": (0, 6), "add_days_each_in_place": (0, 6), "add_months_in_place": (14, 7), "count_dates": (0, 3),
+    "write_dates": (0, 0), "read_dates": (0, 0),
 }
 
 MULTIPLICATION = r"v?pmul\w+"
@@ -154,6 +155,12 @@ def beside_numpy(path):
         last = (moved + np.timedelta64(1, "M")).astype("datetime64[D]") - np.timedelta64(1, "D")
         wanted = np.minimum(moved.astype("datetime64[D]") + (days - of_months), last).astype("int64") + 719_163
         results.count((again == wanted).all(), f"add_months by {count}")
+    texts = np.zeros(n, "S10")
+    results.count(call(library, "write_dates", dates, texts), "write_dates answers")
+    results.count((texts == days.astype("S10")).all(), "write_dates")
+    again[:] = 0
+    call(library, "read_dates", days.astype("S10"), again)
+    results.count((again == dates).all(), "read_dates")
     nat = np.array(["NaT", "1970-01-01"], "datetime64[D]")
     two = np.zeros(2, "int32")
     call(library, "from_unix_days", nat.astype("int64"), two)

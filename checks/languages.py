@@ -48,8 +48,9 @@ TYPES = {
 # What is for C alone: columns, and the struct of a date's names. No other language has declarations or tests of these.
 C_ALONE = r"calendar_(?:column_\w+|split|ymd)"
 
-# How a slice of Rattle crosses: its first byte, and how many bytes there are; and likewise for a column.
-COLUMN = r"&(mut )?\[(\w+)\]"
+# How a slice of Rattle crosses: its first byte, and how many bytes there are; and likewise for a column, of numbers or of texts of
+# ten bytes.
+COLUMN = r"&(mut )?\[(\w+|\[u8; 10\])\]"
 SLICES = {"&[u8]": (("*const u8", "text"), ("usize", "length")), "&mut [u8]": (("*mut u8", "text"), ("usize", "room"))}
 
 # How a function is used, in the sources of a folder.
@@ -105,7 +106,7 @@ def of_rust(declared):
             parameter, kind = (part.strip() for part in it.split(":"))
             column = re.fullmatch(COLUMN, kind)
             if column and parameter != "text":
-                pointer = f"*{'mut' if column[1] else 'const'} {column[2]}"
+                pointer = f"*{'mut' if column[1] else 'const'} {column[2].strip('[]').partition(';')[0]}"
                 parameters += [(pointer, parameter), ("usize", f"{parameter}_length")]
             else:
                 parameters += SLICES.get(kind, [(plain(kind), parameter)])

@@ -245,6 +245,14 @@ bool calendar_column_from_unix_days(const int64_t *days, size_t days_length, int
 /* The days from 1 January 1970 to each date. */
 bool calendar_column_to_unix_days(const int32_t *dates, size_t dates_length, int64_t *days, size_t days_length);
 
+/* The text of each date as 2024-02-29 (ISO 8601 calendar date), ten bytes one text behind another with nothing between, and ten
+ * zero bytes for what is no date or has a year before 0 or after 9999. texts_length counts the texts. */
+bool calendar_column_write_dates(const int32_t *dates, size_t dates_length, uint8_t *texts, size_t texts_length);
+
+/* The date whose text each ten bytes are, as calendar_column_write_dates writes it; none for any other bytes. texts_length counts
+ * the texts. */
+bool calendar_column_read_dates(const uint8_t *texts, size_t texts_length, int32_t *dates, size_t dates_length);
+
 /* How many numbers of the column are dates. */
 size_t calendar_column_count_dates(const int32_t *dates, size_t dates_length);
 

@@ -519,6 +519,25 @@ static void columns(void)
     IS(calendar_column_years(dates, 3, years, 2), false);
 }
 
+/* Columns of texts of ten bytes: what is no date, or has no such text, has ten zero bytes, and these are no text of a date. */
+static void columns_of_texts(void)
+{
+    const int32_t dates[] = {738945, NONE, 366, 3652060, 3652059, 0, -365, -366};
+    const char *wanted = "2024-02-29\0\0\0\0\0\0\0\0\0\0" "0002-01-01\0\0\0\0\0\0\0\0\0\0" "9999-12-31" "0000-12-31" "0000-01-01\0\0\0\0\0\0\0\0\0\0";
+    const char *hostile = "2023-02-29" "2024-13-01" "2024-00-01" "2024-01-00" "2024/02/29" "2024-2-029" "-024-02-29" "+024-02-29";
+    uint8_t texts[80];
+    int32_t read[8];
+    IS(calendar_column_write_dates(dates, 8, texts, 8), true);
+    count(!memcmp(texts, wanted, 80), __LINE__, "calendar_column_write_dates");
+    IS(calendar_column_read_dates(texts, 8, read, 8), true);
+    count(read[0] == 738945 && read[1] == NONE && read[2] == 366 && read[3] == NONE, __LINE__, "calendar_column_read_dates");
+    count(read[4] == 3652059 && read[5] == 0 && read[6] == -365 && read[7] == NONE, __LINE__, "calendar_column_read_dates");
+    IS(calendar_column_read_dates((const uint8_t *)hostile, 8, read, 8), true);
+    for (int i = 0; i < 8; i++) IS(read[i], NONE);
+    IS(calendar_column_write_dates(dates, 8, texts, 7), false);
+    IS(calendar_column_read_dates(texts, 7, read, 8), false);
+}
+
 /* Each column call that writes over what it reads, and the count of dates. */
 static void columns_in_place(void)
 {
@@ -557,6 +576,7 @@ int main(void)
     near_misses_of_date_times();
     columns();
     columns_in_place();
+    columns_of_texts();
     printf("%d passed, %d failed\n", passed, failed);
     return failed != 0;
 }

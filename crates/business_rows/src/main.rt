@@ -3,11 +3,14 @@
 //!
 //! A line is a calendar, as `calendar 1111100 738886 738900`: of each weekday from Monday on whether it is worked,
 //! and the holidays; or `call numbers = answer`, as `add 738886 3 = 738890`. A date is its day number, a count has a
-//! sign, a roll is a word, `none` is no date. Each line with another answer is printed with its number, and at the
-//! end their count.
+//! sign, a roll is a word, `none` is no date. On a calendar that is refused a line is `refused on_weekend 2`: what is
+//! wrong, and at which place of the list. Each line with another answer is printed with its number, and at the end their
+//! count.
 #![tactic(auto)]
 
-use chrono_business::{Calendar, Roll, actual_360, thirty_360, thirty_e_360};
+use chrono_business::{
+    Calendar, HolidayError, Roll, actual_360, actual_actual_isda, thirty_360, thirty_e_360,
+};
 use chrono_datetime::{Datelike, NaiveDate, Weekday, WeekdaySet};
 use std::io::{self, BufRead, BufReader};
 
@@ -55,8 +58,9 @@ fn date_of(word: &str) -> Option<NaiveDate> {
 
 // Whether the call of the line gives the answer behind it.
 fn is_answered(weekend: WeekdaySet, holidays: &[NaiveDate], line: &str) -> bool {
-    let Ok(calendar) = Calendar::try_new(weekend, holidays) else {
-        return line == "refused";
+    let calendar = match Calendar::try_new(weekend, holidays) {
+        Ok(calendar) => calendar,
+        Err(wrong) => return is_refused(wrong, line),
     };
     let Some((call, answer)) = line.split_once(" = ") else {
         return false;
@@ -73,6 +77,18 @@ fn is_answered(weekend: WeekdaySet, holidays: &[NaiveDate], line: &str) -> bool 
     }
 }
 
+// Whether the line says what is wrong with the holidays.
+fn is_refused(wrong: HolidayError, line: &str) -> bool {
+    let (name, place) = match wrong {
+        HolidayError::NotRising(place) => ("refused not_rising ", place),
+        HolidayError::OnWeekend(place) => ("refused on_weekend ", place),
+    };
+    match line.strip_prefix(name) {
+        Some(number) => number.parse() == Ok(place),
+        None => false,
+    }
+}
+
 // What the call answers, a date by its number and a day count by its numerator.
 fn answer_of(calendar: &Calendar<'_>, name: &str, date: NaiveDate, last: &str) -> Option<i64> {
     match name {
@@ -84,11 +100,36 @@ fn answer_of(calendar: &Calendar<'_>, name: &str, date: NaiveDate, last: &str) -
         "add" => number_of(calendar.add_open_days(date, last.parse().ok()?)),
         "count" => Some(calendar.open_days(date, date_of(last)?)),
         "both" => Some(calendar.open_days_inclusive(date, date_of(last)?)),
+        "nth_of_month" => number_of(calendar.nth_open_of_month(date, last.parse().ok()?)),
+        "nth_last_of_month" => number_of(calendar.nth_last_open_of_month(date, last.parse().ok()?)),
+        "each" => Some(weighed(calendar, date, date_of(last)?)),
+        "each_back" => Some(weighed_back(calendar, date, date_of(last)?)),
+        "actual_actual" => Some(actual_actual_isda(date, date_of(last)?).numerator),
         "actual_360" => Some(actual_360(date, date_of(last)?).numerator),
         "thirty_360" => Some(thirty_360(date, date_of(last)?).numerator),
         "thirty_e_360" => Some(thirty_e_360(date, date_of(last)?).numerator),
         _ => number_of(calendar.roll(date, roll_of(name)?)),
     }
+}
+
+// The numbers of the open days between two dates, the first of them once, the second twice and so on.
+fn weighed(calendar: &Calendar<'_>, from: NaiveDate, to: NaiveDate) -> i64 {
+    let (mut sum, mut place) = (0i64, 0i64);
+    for day in calendar.iter_open_days(from, to) {
+        place = place.wrapping_add(1);
+        sum = sum.wrapping_add(place.wrapping_mul(i64::from(day.num_days_from_ce())));
+    }
+    sum
+}
+
+// The same with the last of them once.
+fn weighed_back(calendar: &Calendar<'_>, from: NaiveDate, to: NaiveDate) -> i64 {
+    let (mut sum, mut place) = (0i64, 0i64);
+    for day in calendar.iter_open_days(from, to).rev() {
+        place = place.wrapping_add(1);
+        sum = sum.wrapping_add(place.wrapping_mul(i64::from(day.num_days_from_ce())));
+    }
+    sum
 }
 
 fn roll_of(name: &str) -> Option<Roll> {

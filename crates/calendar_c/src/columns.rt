@@ -2,11 +2,11 @@
 //!
 //! A column is a pointer and a length. Where the columns have not all the same length nothing is written, and `false` answered.
 //! In a column the least `i32` stands for a date, a year or a distance that there is not, the least `i64` for days since 1970,
-//! and 0 for a month, a day, an ordinal, a week or a weekday.
-ghost use Rattle.std.specs.Prelude.{◌≡◌, ◌==◌, ◌&&◌, ℕ, ◌<◌, true, false, count_by, length, map, pos, slice_index, slice_index_or};
+//! and 0 for a month, a day, an ordinal, a week or a weekday. A text has ten bytes, and for none ten zero bytes.
+ghost use Rattle.std.specs.Prelude.{◌≡◌, ◌==◌, ◌&&◌, ℕ, ◌<◌, [], true, false, count_by, length, map, pos, slice_index, slice_index_or};
 ghost use Rattle.chrono_units.specs.SetDigits.{set_at};
 ghost use Rattle.chrono_calendar.specs.Days.{is_date};
-ghost use Rattle.chrono_columns.specs.Columns.{date_entry, day_entry, distance_entry, first_on_entry, iso_week_entry, iso_year_entry, later_entry, month_entry, months_later_entry, ordinal_entry, unix_date_entry, unix_days_entry, weekday_entry, year_entry};
+ghost use Rattle.chrono_columns.specs.Columns.{IsTextEntry, date_entry, day_entry, distance_entry, first_on_entry, iso_week_entry, iso_year_entry, later_entry, month_entry, months_later_entry, ordinal_entry, text_entry, unix_date_entry, unix_days_entry, weekday_entry, year_entry};
 
 use crate::arguments::set_of;
 
@@ -282,4 +282,33 @@ pub extern "C" fn calendar_column_count_dates(dates: &[i32]) -> usize
     ensures { result ≡ count_by is_date dates.now }
 {
     chrono_columns::count_dates(dates)
+}
+
+/// The text of each date in ten bytes (ISO 8601 calendar date), and ten zero bytes where its year is not from 0 to 9999.
+#[unsafe(no_mangle)]
+pub extern "C" fn calendar_column_write_dates(dates: &[i32], texts: &mut [[u8; 10]]) -> bool
+    ensures answer { result ≡ (length texts.old == length dates.now) }
+    ensures filled { result ≡ true → texts.new ≡ map text_entry dates.now }
+    ensures kept { result ≡ false → texts.new ≡ texts.old }
+{
+    if texts.len() != dates.len() {
+        return false;
+    }
+    chrono_columns::write_dates(dates, texts);
+    true
+}
+
+/// The date whose text each ten bytes are, as [`calendar_column_write_dates`] writes it.
+#[unsafe(no_mangle)]
+pub extern "C" fn calendar_column_read_dates(texts: &[[u8; 10]], dates: &mut [i32]) -> bool
+    ensures answer { result ≡ (length dates.old == length texts.now) }
+    ensures filled { result ≡ true → (i : ℕ) → i < length texts.now
+        → IsTextEntry (slice_index_or texts.now i []) (slice_index_or dates.new i (pos 0)) }
+    ensures kept { result ≡ false → dates.new ≡ dates.old }
+{
+    if dates.len() != texts.len() {
+        return false;
+    }
+    chrono_columns::read_dates(texts, dates);
+    true
 }

@@ -1,8 +1,11 @@
 //! Laws of open days, each as the contract of a function that does nothing: behind a call of it its clauses are
-//! known; and open days that are known.
-ghost use Rattle.std.specs.Prelude.{◌≡◌, ◌≤◌, ℕ, ℤ, true, false, pos, neg_ℤ, ◌+ℤ◌, ◌≤ℤ◌, ◌<ℤ◌, [], ◌∷◌};
+//! known; and open days, rolls and day counts that are known.
+ghost use Rattle.std.specs.Prelude.{◌≡◌, ◌+◌, ◌<◌, ◌≤◌, ℕ, ℤ, true, false, pos, neg_ℤ, ◌+ℤ◌, ◌-ℤ◌, ◌*ℤ◌, ◌≤ℤ◌, ◌<ℤ◌, [], ◌∷◌};
 ghost use Rattle.chrono_datetime.specs.WeekdaySet.{set_of};
 ghost use Rattle.chrono_datetime.specs.declared.Weekday.TheVariants.{Fri, Sat, Sun};
+ghost use Rattle.chrono_business.specs.DayCounts.{days_30_360, days_30e_360, days_actual_actual};
+ghost use Rattle.chrono_business.specs.Rolls.{RollsTo};
+ghost use Rattle.chrono_business.specs.declared.roll.Roll.TheVariants.{Following, ModifiedFollowing, ModifiedPreceding, Nearest, Preceding, Unadjusted};
 ghost use Rattle.chrono_business.specs.OpenDays.{Closed, IsNthOpenBack, IsNthOpenFrom, closed, is_open, open_days, open_days_signed};
 
 /// From an open day so many open days on, and from there as many back, one is at the day again; and back, and on.
@@ -43,4 +46,56 @@ pub fn known_open_days()
         (pos 738_886) (pos 738_893) ≡ 4 }
     ensures back { open_days_signed (closed (set_of (Sat ∷ Sun ∷ [])) (pos 738_886 ∷ []))
         (pos 738_893) (pos 738_886) ≡ neg_ℤ (pos 4) }
+{}
+
+/// Day counts that are known. From 1 November 2003, day 731,520, to 1 May 2004, day 731,702, there are 61 days in a common
+/// year and 121 in a leap year, and a year that begins on 1 January 2024, day 738,886, is 1 by ACT/ACT. From 28 February to
+/// 31 August 2007, days 732,735 and 732,919, there are 184 days, 183 by 30/360, which keeps the 31st, and 182 by 30E/360,
+/// and back to 28 February from 31 August 2006, day 732,554, 178 by both; from 29 January to 31 March 2024, days 738,914 and
+/// 738,976, there are 62 by 30/360.
+pub fn known_day_counts()
+    ensures actual { pos 732_919 -ℤ pos 732_735 ≡ pos 184 }
+    ensures actual_actual { days_actual_actual (pos 731_520) (pos 731_702)
+        ≡ pos 366 *ℤ pos 61 +ℤ pos 365 *ℤ pos 121 }
+    ensures actual_actual_back { days_actual_actual (pos 731_702) (pos 731_520) ≡ neg_ℤ (pos 66_491) }
+    ensures leap_year { days_actual_actual (pos 738_886) (pos 739_252) ≡ pos 133_590 }
+    ensures bond { days_30_360 (pos 732_735) (pos 732_919) ≡ pos 183 }
+    ensures eurobond { days_30e_360 (pos 732_735) (pos 732_919) ≡ pos 182 }
+    ensures bond_to_february { days_30_360 (pos 732_554) (pos 732_735) ≡ pos 178 }
+    ensures eurobond_to_february { days_30e_360 (pos 732_554) (pos 732_735) ≡ pos 178 }
+    ensures bond_from_29th { days_30_360 (pos 738_914) (pos 738_976) ≡ pos 62 }
+{}
+
+/// Rolls that are known, of a calendar closed on Saturday and Sunday: of Saturday, 30 March 2024, day 738,975, to Monday,
+/// 1 April, or within the month to Friday, 29 March; of Saturday, 1 June, day 739,038, to Friday, 31 May, or within the month
+/// to Monday, 3 June; to the nearer day; and of Sunday, 31 December 2023, if 1 January is closed too, to Tuesday, which is as
+/// near as Friday and later.
+pub fn known_rolls()
+    ensures unadjusted { RollsTo (closed (set_of (Sat ∷ Sun ∷ [])) []) Unadjusted (pos 738_975) (pos 738_975) }
+    ensures following { RollsTo (closed (set_of (Sat ∷ Sun ∷ [])) []) Following (pos 738_975) (pos 738_977) }
+    ensures preceding { RollsTo (closed (set_of (Sat ∷ Sun ∷ [])) []) Preceding (pos 739_038) (pos 739_037) }
+    ensures modified_following { RollsTo (closed (set_of (Sat ∷ Sun ∷ [])) []) ModifiedFollowing
+        (pos 738_975) (pos 738_974) }
+    ensures not_into_april { RollsTo (closed (set_of (Sat ∷ Sun ∷ [])) []) ModifiedFollowing
+        (pos 738_975) (pos 738_977) → ⊥ }
+    ensures modified_preceding { RollsTo (closed (set_of (Sat ∷ Sun ∷ [])) []) ModifiedPreceding
+        (pos 739_038) (pos 739_040) }
+    ensures not_into_may { RollsTo (closed (set_of (Sat ∷ Sun ∷ [])) []) ModifiedPreceding
+        (pos 739_038) (pos 739_037) → ⊥ }
+    ensures nearest { RollsTo (closed (set_of (Sat ∷ Sun ∷ [])) []) Nearest (pos 738_975) (pos 738_974) }
+    ensures nearest_later { RollsTo (closed (set_of (Sat ∷ Sun ∷ [])) (pos 738_886 ∷ [])) Nearest
+        (pos 738_885) (pos 738_887) }
+{}
+
+/// An open day counts for one and a closed one for none; the open days of two stretches in a row are those of both; and the
+/// n-th open day from a day on is the first up to which, itself counted, more than n days are open.
+pub fn open_days_are_in_order()
+    ensures open { (c : Closed) (a b : ℤ) → a ≤ℤ b → is_open c b ≡ true →
+        open_days c a (b +ℤ pos 1) ≡ open_days c a b + 1 }
+    ensures closed { (c : Closed) (a b : ℤ) → a ≤ℤ b → is_open c b ≡ false →
+        open_days c a (b +ℤ pos 1) ≡ open_days c a b }
+    ensures parts { (c : Closed) (a b e : ℤ) → a ≤ℤ b → b ≤ℤ e →
+        open_days c a e ≡ open_days c a b + open_days c b e }
+    ensures nth { (c : Closed) (d e : ℤ) (n : ℕ) → IsNthOpenFrom c d n e →
+        (open_days c d (e +ℤ pos 1) ≡ n + 1) × ((f : ℤ) → d ≤ℤ f → n < open_days c d (f +ℤ pos 1) → e ≤ℤ f) }
 {}

@@ -15,7 +15,9 @@ mod roll;
 mod workweek;
 
 pub use calendar::Calendar;
-pub use day_count::{Fraction, actual_360, actual_365_fixed, thirty_360, thirty_e_360};
+pub use day_count::{
+    Fraction, actual_360, actual_365_fixed, actual_actual_isda, thirty_360, thirty_e_360,
+};
 pub use holiday_error::HolidayError;
 pub use open_days_iterator::OpenDaysIterator;
 pub use roll::Roll;

@@ -3,3 +3,4 @@ mod Entries
 mod InPlace
 mod MonthTests
 mod NameTests
+mod TextEntries

@@ -1,5 +1,5 @@
 -- What stands in a column for each number, date or name, and for that there is none.
-use Rattle.std.specs.Prelude.{ℕ, ℤ, pos, neg_ℤ, ◌+ℤ◌, ◌-ℤ◌, Option, Some, None}
+use Rattle.std.specs.Prelude.{◌≡◌, ◌≢◌, ◌&&◌, Bool, ℕ, ℤ, pos, neg_ℤ, ◌+ℤ◌, ◌-ℤ◌, int_le, if◌then◌else◌, List, replicate, Option, Some, None}
 use Rattle.std.specs.Option.{option_and_then, option_map}
 use Rattle.chrono_units.specs.Weekday.{number_from_monday}
 use Rattle.chrono_units.specs.WeekdaySet.{DaySet}
@@ -7,7 +7,9 @@ use Rattle.chrono_calendar.specs.Days.{date_of_day, date_of_ymd, year_of, ordina
 use Rattle.chrono_calendar.specs.Weeks.{iso_week_of, iso_year_of, weekday_of}
 use Rattle.chrono_calendar.specs.MonthMoves.{month_move}
 use Rattle.chrono_calendar.specs.Recurrence.{date_on}
+use Rattle.chrono_datetime.specs.DateText.{date_text}
 use Rattle.chrono_datetime.specs.Fields.{unix_epoch_day}
+use Rattle.chrono_reading.specs.DateTexts.{IsDateText}
 
 -- a date, a year or a distance, and for none the least i32, which is no such number
 abbrev pub number_entry : Option ℤ → ℤ
@@ -73,3 +75,21 @@ unix_date_entry z = number_entry (date_of_day (z +ℤ unix_epoch_day))
 
 unfoldable pub unix_days_entry : ℤ → ℤ
 unix_days_entry n = wide_entry (option_map (λ d. d -ℤ unix_epoch_day) (date_of_day n))
+
+-- a text of ten bytes, and for none ten zero bytes
+abbrev pub bytes_entry : Option (List ℕ) → List ℕ
+bytes_entry (Some text) = text
+bytes_entry None = replicate 10 0
+
+-- a year of four digits and no sign, whose dates have ten bytes
+abbrev pub has_four_digits : ℤ → Bool
+has_four_digits y = int_le (pos 0) y && int_le y (pos 9_999)
+
+-- the text of the date n, if its year has four digits
+unfoldable pub text_entry : ℤ → List ℕ
+text_entry n = bytes_entry (option_and_then (λ d. if has_four_digits (year_of d) then Some (date_text d) else None) (date_of_day n))
+
+-- the date whose text it is, and for a text of no date what stands for none
+pub record IsTextEntry (text : List ℕ) (n : ℤ) : Type 0 where
+  pub read : n ≢ number_entry None → IsDateText text n
+  pub every : (m : ℤ) → IsDateText text m → n ≡ m

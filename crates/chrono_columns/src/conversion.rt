@@ -122,7 +122,7 @@ pub(crate) fn year_month_day(date: i32) -> (i32, u32, u32)
     ensures year { result.0 ≡ year_of date }
     ensures month { result.1 ≡ month_of date }
     ensures day { result.2 ≡ day_of date }
-    ensures few { (result.1 < 256) × (result.2 < 256) }
+    ensures few { (result.1 < 100) × (result.2 < 100) }
 {
     let (years, place) = years_and_place(days_before(date) + DAYS_FROM_MARCH);
     let (month, day) = month_from_march(place);

@@ -20,8 +20,11 @@ mod names;
 mod nearest;
 mod none;
 mod occasions;
+mod read;
+mod texts;
 mod unix;
 mod week;
+mod written;
 
 pub use counts::count_dates;
 pub use moves::{
@@ -31,5 +34,6 @@ pub use moves::{
 pub use names::{join_dates, ordinals, split_dates, years};
 pub use none::{NONE, NOT_A_TIME};
 pub use occasions::first_on;
+pub use texts::{read_dates, write_dates};
 pub use unix::{from_unix_days, to_unix_days};
 pub use week::{iso_weeks, weekdays};

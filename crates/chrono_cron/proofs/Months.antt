@@ -32,6 +32,9 @@ weekday_number : (n : ℤ) → days_from_sunday (weekday_of n) ≡ days_from_sun
 weekday_number n =
     eqb-true _ _ (agree_below_at (λ k. days_from_sunday (weekday_from_sunday k) == k) (λ k. true) 7 (days_from_sunday_of n) refl (omega (arith, signed)))
 
+pub weekday_small : (n : ℤ) → days_from_sunday (weekday_of n) < 7
+weekday_small n = omega (arith, signed, weekday_number n)
+
 -- the weekday of a day, by its place in the month
 pub weekday_at : (n d : ℤ) (before : ℕ) → InSameMonth d n → before ≡ (days_from_sunday (weekday_of n) + 35 - day_of n) % 7 → (day_of d + before) % 7 ≡ days_from_sunday (weekday_of d)
 weekday_at n d before same is =

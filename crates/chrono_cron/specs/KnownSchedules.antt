@@ -1,5 +1,5 @@
 -- Words for moments at which a schedule is known to be due or not.
-use Rattle.std.specs.Prelude.{ℕ, Bool, false, ℤ}
+use Rattle.std.specs.Prelude.{ℕ, ◌-◌, ◌^◌, Bool, false, ℤ}
 use Rattle.chrono_datetime.specs.Moment.{Moment, moment}
 use Rattle.chrono_datetime.specs.Time.{time_at}
 use Rattle.chrono_cron.specs.declared.sets.Sets.{Sets}
@@ -13,3 +13,7 @@ fields minutes hours days months weekdays either =
 -- the moment of a day at an hour, a minute, a second and a fraction of it in nanoseconds
 abbrev pub moment_at : ℤ → ℕ → ℕ → ℕ → ℕ → Moment
 moment_at n hour minute second fraction = moment n (time_at hour minute second fraction)
+
+-- `* * * * *`
+abbrev pub each_minute : Sets
+each_minute = fields (2 ^ 60 - 1) (2 ^ 24 - 1) (2 ^ 32 - 2) (2 ^ 13 - 2) 127 false

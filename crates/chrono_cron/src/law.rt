@@ -1,8 +1,9 @@
 //! Days that are known, each as a clause of a function that does nothing.
-ghost use Rattle.std.specs.Prelude.{◌≡◌, ◌+◌, ◌^◌, true, false, pos};
+ghost use Rattle.std.specs.Prelude.{◌≡◌, ◌+◌, ◌^◌, true, false, pos, [], ◌∷◌};
 ghost use Rattle.chrono_cron.specs.Due.{is_due};
+ghost use Rattle.chrono_cron.specs.DueMoments.{dues_after};
 ghost use Rattle.chrono_cron.specs.KnownMonthDays.{is_named, named};
-ghost use Rattle.chrono_cron.specs.KnownSchedules.{fields, moment_at};
+ghost use Rattle.chrono_cron.specs.KnownSchedules.{each_minute, fields, moment_at};
 
 /// Days of 2024 that are known: 31 May is `L` and the 30th is not, 28 February is `L-1`; 29 March, a Friday, is `LW`, and so is Tuesday,
 /// 30 April; 14 June, a Friday, is `14W` and `15W`, and 16 September, a Monday, is `15W`; 3 June, a Monday, is `1W`, 29 March is `31W`,
@@ -49,4 +50,12 @@ pub fn known_schedules()
     ensures even_monday { is_due (fields 1 1 2_863_311_530 8_190 (2 ^ 1) false) (moment_at (pos 738_949) 0 0 0 0) ≡ false }
     ensures odd_sunday { is_due (fields 1 1 2_863_311_530 8_190 (2 ^ 1) false) (moment_at (pos 738_948) 0 0 0 0) ≡ false }
     ensures sunday { is_due (fields 1 1 4_294_967_294 8_190 1 false) (moment_at (pos 738_948) 0 0 0 0) ≡ true }
+{}
+
+/// After 23:57:30 on the calendar's last date, 31 December 262142, `* * * * *` is due at 23:58 and at 23:59, and after the second of
+/// these no more.
+pub fn known_last_dues()
+    ensures two { dues_after each_minute (moment_at (pos 95_745_399) 23 57 30 0) ≡
+        (moment_at (pos 95_745_399) 23 58 0 0 ∷ moment_at (pos 95_745_399) 23 59 0 0 ∷ []) }
+    ensures none { dues_after each_minute (moment_at (pos 95_745_399) 23 59 0 0) ≡ [] }
 {}

@@ -1,7 +1,9 @@
 //! `Sets`: what the five fields of a schedule list, and the days and minutes that they make.
-ghost use Rattle.std.specs.Prelude.{◌≡◌, ◌+◌, ◌/◌, ◌≤◌, ◌<◌, ◌⊎◌, ◌↔◌, ℕ, ℤ, ◌≤ℤ◌, ◌<ℤ◌, IfSome, IfNone, IsTrue, false};
+ghost use Rattle.std.specs.Prelude.{◌≡◌, ◌+◌, ◌-◌, ◌/◌, ◌%◌, ◌≤◌, ◌<◌, ◌⊎◌, ◌↔◌, ℕ, ℤ, ◌≤ℤ◌, ◌<ℤ◌, IfSome, IfNone, IsTrue, false};
 ghost use Rattle.chrono_datetime.specs.Days.{IsDate, day_of, month_of};
 ghost use Rattle.chrono_datetime.specs.MonthMoves.{InSameMonth};
+ghost use Rattle.chrono_datetime.specs.Weekday.{days_from_sunday};
+ghost use Rattle.chrono_datetime.specs.Weeks.{weekday_of};
 ghost use Rattle.chrono_cron.specs.Due.{IsNeverDue, NotDueOn, either_or_both, has, is_day, is_listed, is_minute, is_named_by_place, is_named_by_weekday};
 
 use crate::month_days::MonthDays;
@@ -48,7 +50,7 @@ impl Sets {
         let is_listed = if self.month_days.is_none() {
             self.is_listed_plainly(date, day)
         } else {
-            self.listed_in_month(date).contains(day)
+            self.is_listed_in_month(date)
         };
         self.months.contains(month) && is_listed
     }
@@ -66,6 +68,14 @@ impl Sets {
             .weekdays
             .contains(date.weekday().num_days_from_sunday());
         self.is_enough(by_day, by_weekday)
+    }
+
+    // Whether the date is listed, where days are named: called seldom, and so kept out of the way of a plain schedule.
+    #[cold]
+    fn is_listed_in_month(&self, date: NaiveDate) -> bool
+        ensures { result ≡ is_listed self.now date }
+    {
+        self.listed_in_month(date).contains(date.day())
     }
 
     // Whether a day is listed that is so by its place in the month, by its weekday, or by both.
@@ -96,10 +106,20 @@ impl Sets {
         ensures { (d : ℤ) → InSameMonth d date → has result (day_of d) ≡ is_listed self.now d }
     {
         let before = (date.weekday().num_days_from_sunday() + 35 - date.day()) % 7;
-        let weekly = self.weekdays.every_week(before);
         if self.month_days.is_none() {
-            return self.together(self.days, weekly);
+            return self.together(self.days, self.weekdays.every_week(before));
         }
+        self.listed_or_named(date, before)
+    }
+
+    // The same, where days are named; `before` is the weekday of the day before the month's first.
+    #[cold]
+    fn listed_or_named(&self, date: NaiveDate, before: u32) -> NumberSet
+        requires weekday { before ≡ (days_from_sunday (weekday_of date) + 35 - day_of date) % 7 }
+        requires small { before < 7 }
+        ensures { (d : ℤ) → InSameMonth d date → has result (day_of d) ≡ is_listed self.now d }
+    {
+        let weekly = self.weekdays.every_week(before);
         let length = date.last_day_of_month().day();
         let by_day = self.days.union(self.month_days.by_place(length, before));
         let by_weekday = weekly.union(self.month_days.by_weekday(length, before));

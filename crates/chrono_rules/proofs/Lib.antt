@@ -1,0 +1,2 @@
+-- These serve this crate's own proofs alone.
+mod Cycles

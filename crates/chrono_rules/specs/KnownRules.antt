@@ -1,5 +1,4 @@
 -- Words for rules whose instances are known.
-use Rattle.std.specs.Prelude.{ℕ, [], ◌∷◌}
 use Rattle.chrono_datetime.specs.declared.Weekday.{Weekday}
 use Rattle.chrono_rules.specs.declared.rule.End.TheVariants.{Count}
 use Rattle.chrono_rules.specs.declared.rule.Frequency.TheVariants.{Daily, Weekly}

@@ -4,6 +4,8 @@
 #![tactic(auto)]
 
 pub mod law;
+mod parts;
+mod periods;
 mod places;
 mod rule;
 

@@ -1,7 +1,7 @@
 //! The sets that the BY parts of a rule list, at a fixed size.
-ghost use Rattle.std.specs.Prelude.{◌≡◌, ◌<◌, ◌==◌, ℕ};
+ghost use Rattle.std.specs.Prelude.{◌≡◌, ◌<◌, ◌==◌, ◌&&◌, ℕ};
 ghost use Rattle.std.specs.Int.{bit_at};
-ghost use Rattle.chrono_rules.specs.Instances.{has, no_numbers, no_places, no_weekdays};
+ghost use Rattle.chrono_rules.specs.Instances.{are_zero, has, has_place, no_numbers, no_places, no_weekdays};
 
 /// A set of numbers from 0 to 63, stored as binary digits.
 #[derive(Clone, Copy, PartialEq, Eq, Debug)]
@@ -28,6 +28,14 @@ impl NumberSet {
     {
         (self.digits >> number) & 1 == 1
     }
+
+    /// Whether there is no member.
+    #[inline]
+    pub fn is_empty(self) -> bool
+        ensures { result ≡ (self.digits == 0) }
+    {
+        self.digits == 0
+    }
 }
 
 /// A set of numbers from 0 to 383, wide enough for the days of a year.
@@ -47,6 +55,36 @@ impl PlaceSet {
             words: [0, 0, 0, 0, 0, 0],
         }
     }
+
+    /// Whether the number is a member.
+    #[inline]
+    #[tactic(auto, using(std::proofs::lemmas::Nat::Bits::shr_and_one), unfolding(crate::specs::Instances::has_place))]
+    pub fn contains(&self, number: u32) -> bool
+        requires { number < 384 }
+        ensures { result ≡ has_place self.now number }
+    {
+        (self.words[(number / 64) as usize] >> (number % 64)) & 1 == 1
+    }
+
+    /// Whether there is no member.
+    #[inline]
+    pub fn is_empty(&self) -> bool
+        ensures { result ≡ are_zero self.now.words }
+    {
+        are_zero(&self.words)
+    }
+}
+
+// Whether all of the words are 0.
+fn are_zero(words: &[u64]) -> bool
+    ensures { result ≡ are_zero words.now }
+{
+    for word in words {
+        if *word != 0 {
+            return false;
+        }
+    }
+    true
 }
 
 /// Weekdays, each of its days or the k-th of them, from the front or from the back; weekdays count from 0 for Monday.
@@ -71,5 +109,13 @@ impl WeekdayPlaces {
             front: [0, 0, 0, 0, 0, 0, 0],
             back: [0, 0, 0, 0, 0, 0, 0],
         }
+    }
+
+    /// Whether it names no day.
+    #[inline]
+    pub fn is_empty(&self) -> bool
+        ensures { result ≡ ((self.now.every.digits == 0) && (are_zero self.now.front && are_zero self.now.back)) }
+    {
+        self.every.is_empty() && are_zero(&self.front) && are_zero(&self.back)
     }
 }

@@ -1,4 +1,4 @@
-use Rattle.std.proofs.Common.{◌≡◌, true, false, refl, pos}
+use Rattle.std.proofs.Common.{refl}
 use Rattle.chrono_datetime.specs.Recurrence.{count_between, count_where}
 use Rattle.chrono_rules.specs.Instances.{is_instance, is_counted, is_member, not_after, in_interval, in_positions, passes, on_weekday, has_numbers, has, fills_weekday, fills_day, fills_month, period_of}
 use Rattle.chrono_rules.proofs.law.known_rules.Goals as goal

@@ -1,0 +1,102 @@
+use Rattle.std.proofs.Common.{◌≡◌, ℕ, ◌-◌, [], ◌∷◌, inl, inr, refl, sym, ◌∙◌, arith, ℤ, pos, ◌+ℤ◌, ◌-ℤ◌, ◌≤ℤ◌, true, Some}
+use Rattle.chrono_datetime.specs.declared.Weekday.TheVariants.{Sat, Sun}
+use Rattle.chrono_datetime.specs.WeekdaySet.{set_of}
+use Rattle.chrono_datetime.specs.Years.{month_length}
+use Rattle.chrono_datetime.specs.Days.{date_of_ymd, days_before_year, days_of_months_in, days_of_years}
+use Rattle.chrono_datetime.specs.MonthMoves.{InSameMonth, month_first_of, month_last_of}
+use Rattle.chrono_datetime.specs.Recurrence.{count_between, count_where}
+use Rattle.chrono_datetime.proofs.Signed.{signed}
+use Rattle.chrono_datetime.proofs.NamedDates.{date_of_ymd-name}
+use Rattle.chrono_business.specs.OpenDays.{Closed, closed, is_open, open_days}
+use Rattle.chrono_business.specs.Rolls.{IsLastOpen, IsNextOpen}
+use Rattle.chrono_business.proofs.Ranks.{closed-between}
+use Rattle.chrono_business.proofs.RollLemmas.{begins_closed-early, ends_closed-late, nearest-last, nearest-next}
+use Rattle.chrono_business.proofs.law.known_rolls.Goals as goal
+
+next : (c : Closed) (d e : ℤ) → is_open c e ≡ true → d ≤ℤ e → open_days c d e ≡ 0 → IsNextOpen c d e
+next c d e is low none = record { passes = is; not_before = low; least = λ f from to. closed-between c d e f none from to }
+
+last : (c : Closed) (d e : ℤ) → is_open c e ≡ true → e ≤ℤ d → open_days c (e +ℤ pos 1) (d +ℤ pos 1) ≡ 0 → IsLastOpen c d e
+last c d e is high none = record {
+  passes = is;
+  not_after = high;
+  greatest = λ f from to. closed-between c (e +ℤ pos 1) (d +ℤ pos 1) f none (omega (arith, signed, from)) (omega (arith, signed, to));
+}
+
+abbrev weekends : Closed
+weekends = closed (set_of (Sat ∷ Sun ∷ [])) []
+
+abbrev new_year : Closed
+new_year = closed (set_of (Sat ∷ Sun ∷ [])) (pos 738_886 ∷ [])
+
+-- the ends of the two months
+last_named : (n y : ℤ) (m d : ℕ) → date_of_ymd y m d ≡ Some n → month_last_of n ≡ n +ℤ pos (month_length y m - d)
+last_named n y m d e = let name = date_of_ymd-name n y m d e in rw (name.0, name.1, name.2) refl
+
+first_named : (n y : ℤ) (m d : ℕ) → date_of_ymd y m d ≡ Some n → month_first_of n ≡ n -ℤ pos (d - 1)
+first_named n y m d e = let name = date_of_ymd-name n y m d e in rw name.2 refl
+
+march_ends : month_last_of (pos 738_975) ≡ pos 738_976
+unfolding date_of_ymd days_before_year days_of_years days_of_months_in
+march_ends = last_named (pos 738_975) (pos 2024) 3 30 refl
+
+june_begins : month_first_of (pos 739_038) ≡ pos 739_038
+unfolding date_of_ymd days_before_year days_of_years days_of_months_in
+june_begins = first_named (pos 739_038) (pos 2024) 6 1 refl
+
+to_april : IsNextOpen weekends (pos 738_975) (pos 738_977)
+unfolding is_open count_between count_where
+to_april = next weekends (pos 738_975) (pos 738_977) refl (omega (arith, signed)) refl
+
+to_march : IsLastOpen weekends (pos 738_975) (pos 738_974)
+unfolding is_open count_between count_where
+to_march = last weekends (pos 738_975) (pos 738_974) refl (omega (arith, signed)) refl
+
+to_june : IsNextOpen weekends (pos 739_038) (pos 739_040)
+unfolding is_open count_between count_where
+to_june = next weekends (pos 739_038) (pos 739_040) refl (omega (arith, signed)) refl
+
+to_may : IsLastOpen weekends (pos 739_038) (pos 739_037)
+unfolding is_open count_between count_where
+to_may = last weekends (pos 739_038) (pos 739_037) refl (omega (arith, signed)) refl
+
+months_differ : (n m y z : ℤ) (p q d e : ℕ) → date_of_ymd y p d ≡ Some n → date_of_ymd z q e ≡ Some m → (p ≡ q → ⊥) → InSameMonth n m → ⊥
+months_differ n m y z p q d e first second differ same =
+    differ ((date_of_ymd-name n y p d first).1 ∙ (same.1 ∙ sym (date_of_ymd-name m z q e second).1))
+
+pub returns-clause-following : goal.returns-clause-following
+returns-clause-following c = to_april
+
+pub returns-clause-preceding : goal.returns-clause-preceding
+returns-clause-preceding c = to_may
+
+pub returns-clause-modified_following : goal.returns-clause-modified_following
+returns-clause-modified_following c =
+    inr (to_march, ends_closed-late weekends (pos 738_975) (pos 738_977) to_april.least (omega (arith, signed, march_ends)))
+
+pub returns-clause-not_into_april : goal.returns-clause-not_into_april
+unfolding date_of_ymd days_before_year days_of_years days_of_months_in
+returns-clause-not_into_april c = elim [
+  | inl h ↦ months_differ (pos 738_977) (pos 738_975) (pos 2024) (pos 2024) 4 3 1 30 refl refl (λ e. omega (arith, e)) h.1
+  | inr h ↦ omega (arith, signed, h.0.not_after)
+]
+
+pub returns-clause-modified_preceding : goal.returns-clause-modified_preceding
+returns-clause-modified_preceding c =
+    inr (to_june, begins_closed-early weekends (pos 739_038) (pos 739_037) to_may.greatest (omega (arith, signed, june_begins)))
+
+pub returns-clause-not_into_may : goal.returns-clause-not_into_may
+unfolding date_of_ymd days_before_year days_of_years days_of_months_in
+returns-clause-not_into_may c = elim [
+  | inl h ↦ months_differ (pos 739_037) (pos 739_038) (pos 2024) (pos 2024) 5 6 31 1 refl refl (λ e. omega (arith, e)) h.1
+  | inr h ↦ omega (arith, signed, h.0.not_before)
+]
+
+pub returns-clause-nearest : goal.returns-clause-nearest
+returns-clause-nearest c =
+    nearest-last weekends (pos 738_975) (pos 738_977) (pos 738_974) to_april to_march (omega (arith, signed))
+
+pub returns-clause-nearest_later : goal.returns-clause-nearest_later
+unfolding is_open count_between count_where
+returns-clause-nearest_later c =
+    nearest-next new_year (pos 738_885) (pos 738_887) (pos 738_883) (next new_year (pos 738_885) (pos 738_887) refl (omega (arith, signed)) refl) (last new_year (pos 738_885) (pos 738_883) refl (omega (arith, signed)) refl) (omega (arith, signed))

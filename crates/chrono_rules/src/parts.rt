@@ -1,0 +1,240 @@
+//! The tests that the BY parts of a rule are.
+ghost use Rattle.std.specs.Prelude.{◌≡◌, ◌==◌, ◌<◌};
+ghost use Rattle.std.specs.Int.{IsInRange, bit_at};
+ghost use Rattle.chrono_datetime.specs.Days.{year_of};
+ghost use Rattle.chrono_datetime.specs.Years.{year_length};
+ghost use Rattle.chrono_rules.specs.Instances.{counts_in_month, days_behind, fills_day, fills_month, fills_weekday, filled, has_numbers, in_week, lacks_month_days, lacks_months, lacks_positions, lacks_weekdays, lacks_weeks, lacks_year_days, on_weekday, on_year_day, passes, place_of};
+
+use crate::periods::like_fourth_of_week;
+use crate::rule::{Frequency, Rule};
+use chrono_datetime::{Datelike, NaiveDate};
+
+impl Rule {
+    // Which parts the rule does not have.
+    #[inline]
+    fn lacks_months(&self) -> bool
+        ensures { result ≡ lacks_months self.now }
+    {
+        self.months.is_empty()
+    }
+
+    #[inline]
+    fn lacks_month_days(&self) -> bool
+        ensures { result ≡ lacks_month_days self.now }
+    {
+        self.month_days.is_empty() && self.month_days_from_end.is_empty()
+    }
+
+    #[inline]
+    fn lacks_weekdays(&self) -> bool
+        ensures { result ≡ lacks_weekdays self.now }
+    {
+        self.weekdays.is_empty()
+    }
+
+    #[inline]
+    fn lacks_year_days(&self) -> bool
+        ensures { result ≡ lacks_year_days self.now }
+    {
+        self.year_days.is_empty() && self.year_days_from_end.is_empty()
+    }
+
+    #[inline]
+    fn lacks_weeks(&self) -> bool
+        ensures { result ≡ lacks_weeks self.now }
+    {
+        self.weeks.is_empty() && self.weeks_from_end.is_empty()
+    }
+
+    #[inline]
+    pub(crate) fn lacks_positions(&self) -> bool
+        ensures { result ≡ lacks_positions self.now }
+    {
+        self.positions.is_empty() && self.positions_from_end.is_empty()
+    }
+
+    // Whether the start's weekday stands for BYDAY.
+    #[inline]
+    #[tactic(auto, unfolding(crate::specs::Instances::fills_weekday))]
+    fn fills_weekday(&self) -> bool
+        ensures { result ≡ fills_weekday self.now.frequency self.now }
+    {
+        match self.frequency {
+            Frequency::Daily => false,
+            Frequency::Weekly => self.lacks_weekdays(),
+            Frequency::Monthly => false,
+            Frequency::Yearly => {
+                !self.lacks_weeks()
+                    && (self.lacks_weekdays()
+                        && (self.lacks_month_days() && self.lacks_year_days()))
+            }
+        }
+    }
+
+    // Whether the start's day stands for BYMONTHDAY.
+    #[inline]
+    #[tactic(auto, unfolding(crate::specs::Instances::fills_day))]
+    fn fills_day(&self) -> bool
+        ensures { result ≡ fills_day self.now.frequency self.now }
+    {
+        match self.frequency {
+            Frequency::Daily => false,
+            Frequency::Weekly => false,
+            Frequency::Monthly => self.lacks_month_days() && self.lacks_weekdays(),
+            Frequency::Yearly => {
+                (self.lacks_month_days() && self.lacks_weekdays())
+                    && (self.lacks_year_days() && self.lacks_weeks())
+            }
+        }
+    }
+
+    // Whether the start's month stands for BYMONTH.
+    #[inline]
+    #[tactic(auto, unfolding(crate::specs::Instances::fills_month, crate::specs::Instances::fills_day))]
+    fn fills_month(&self) -> bool
+        ensures { result ≡ fills_month self.now.frequency self.now }
+    {
+        match self.frequency {
+            Frequency::Daily => false,
+            Frequency::Weekly => false,
+            Frequency::Monthly => false,
+            Frequency::Yearly => self.lacks_months() && self.fills_day(),
+        }
+    }
+
+    // Whether the date has what the start says where the rule does not.
+    fn filled(&self, start: NaiveDate, date: NaiveDate) -> bool
+        ensures { result ≡ filled self.now start date }
+    {
+        let weekday = !self.fills_weekday()
+            || date.weekday().num_days_from_monday() == start.weekday().num_days_from_monday();
+        let day = !self.fills_day() || date.day() == start.day();
+        let month = !self.fills_month() || date.month() == start.month();
+        weekday && (day && month)
+    }
+
+    // Whether a numbered weekday counts in the month.
+    #[inline]
+    #[tactic(auto, unfolding(crate::specs::Instances::counts_in_month))]
+    fn counts_in_month(&self) -> bool
+        ensures { result ≡ counts_in_month self.now.frequency self.now }
+    {
+        match self.frequency {
+            Frequency::Daily => true,
+            Frequency::Weekly => true,
+            Frequency::Monthly => true,
+            Frequency::Yearly => !self.lacks_months(),
+        }
+    }
+
+    // Whether a weekday may have a number.
+    #[inline]
+    #[tactic(auto, unfolding(crate::specs::Instances::has_numbers))]
+    fn has_numbers(&self) -> bool
+        ensures { result ≡ has_numbers self.now.frequency }
+    {
+        match self.frequency {
+            Frequency::Daily => false,
+            Frequency::Weekly => false,
+            Frequency::Monthly => true,
+            Frequency::Yearly => true,
+        }
+    }
+
+    // The date's place where numbered weekdays count.
+    #[inline]
+    fn place_of(&self, date: NaiveDate) -> u32
+        ensures value { result ≡ place_of self.now date }
+        ensures in_range { IsInRange 1 366 result }
+    {
+        if self.counts_in_month() {
+            date.day()
+        } else {
+            date.ordinal()
+        }
+    }
+
+    // The days behind it there.
+    #[inline]
+    fn days_behind(&self, date: NaiveDate) -> u32
+        ensures value { result ≡ days_behind self.now date }
+        ensures in_range { result < 366 }
+    {
+        if self.counts_in_month() {
+            u32::from(date.num_days_in_month()) - date.day()
+        } else {
+            days_of_year(date) - date.ordinal()
+        }
+    }
+
+    /// Whether the date is one of the days that BYDAY names: each of its weekday, or the k-th of them in its month or year, from either
+    /// end.
+    #[tactic(auto, unfolding(crate::specs::Instances::on_weekday))]
+    pub fn on_weekday(&self, date: NaiveDate) -> bool
+        ensures { result ≡ on_weekday self.now date }
+    {
+        let weekday = date.weekday().num_days_from_monday();
+        self.weekdays.every.contains(weekday)
+            || (self.has_numbers()
+                && (has_digit(
+                    self.weekdays.front[weekday as usize],
+                    1 + (self.place_of(date) - 1) / 7,
+                ) || has_digit(
+                    self.weekdays.back[weekday as usize],
+                    1 + self.days_behind(date) / 7,
+                )))
+    }
+
+    /// Whether the date's week is one of those that BYWEEKNO names, from either end of the week's year.
+    #[tactic(auto, unfolding(crate::specs::Instances::in_week))]
+    pub fn in_week(&self, date: NaiveDate) -> bool
+        ensures { result ≡ in_week self.now date }
+    {
+        let fourth = like_fourth_of_week(date, self.week_start);
+        let place = fourth.ordinal();
+        let behind = days_of_year(fourth) - place;
+        self.weeks.contains(1 + (place - 1) / 7) || self.weeks_from_end.contains(1 + behind / 7)
+    }
+
+    /// Whether the date passes each BY part that the rule has, BYSETPOS aside, and has what the start says where the rule does not.
+    #[tactic(auto, unfolding(crate::specs::Instances::passes))]
+    pub fn passes(&self, start: NaiveDate, date: NaiveDate) -> bool
+        ensures { result ≡ passes self.now start date }
+    {
+        self.filled(start, date)
+            && ((self.lacks_months() || self.months.contains(date.month()))
+                && ((self.lacks_month_days() || self.on_month_day(date))
+                    && ((self.lacks_weekdays() || self.on_weekday(date))
+                        && ((self.lacks_year_days() || self.on_year_day(date))
+                            && (self.lacks_weeks() || self.in_week(date))))))
+    }
+
+    /// Whether the date is one of the days that BYYEARDAY names, from either end of the year.
+    #[tactic(auto, unfolding(crate::specs::Instances::on_year_day))]
+    pub fn on_year_day(&self, date: NaiveDate) -> bool
+        ensures { result ≡ on_year_day self.now date }
+    {
+        let place = date.ordinal();
+        let length = days_of_year(date);
+        self.year_days.contains(place) || self.year_days_from_end.contains(length - place + 1)
+    }
+}
+
+// The days of the date's year.
+#[inline]
+fn days_of_year(date: NaiveDate) -> u32
+    ensures value { result ≡ year_length (year_of date) }
+    ensures in_range { IsInRange 365 366 result }
+{
+    if date.leap_year() { 366 } else { 365 }
+}
+
+// Whether the word has that digit.
+#[inline]
+#[tactic(auto, using(std::proofs::lemmas::Nat::Bits::shr_and_one))]
+fn has_digit(word: u64, place: u32) -> bool
+    requires { place < 64 }
+    ensures { result ≡ (bit_at word place == 1) }
+{
+    (word >> place) & 1 == 1
+}
