@@ -44,7 +44,7 @@ ABSENT = {
     "of Python": "OverflowError True TypeError ValueError datetime operator strftime timedelta fold __slots__ __getstate__",
     "of JavaScript": "PlainTime RangeError Temporal overflow round toLocaleString",
     "of C": "INT64_MIN gmtime_r memcpy strptime timegm",
-    "of Rust's compiler and of the kit's options": "ConversionError cpu serde target_feature wasm64",
+    "of Rust's compiler and of the kit's options": "ConversionError serde target_feature wasm64",
     "read from the environment": "CALENDAR_FOLDER CMAKE_PREFIX_PATH PKG_CONFIG_PATH",
     "of chrono, and left out here": """parse_from_str parse_and_remainder ParseMonthError ParseWeekdayError format_with_items
         format_localized format_localized_with_items and_utc and_local_timezone checked_add_offset checked_sub_offset FixedOffset
@@ -64,7 +64,7 @@ ABSENT = {
 # Files and folders that are rightly not there, by the reason.
 NO_FILES = {
     "left by a build": "dist crates/caltool/out/caltool out out/libcalendar_c.a out/incremental",
-    "where a package is installed": "include/calendar.h lib/libcalendar.a lib/libcalendar.so.0 lib/pkgconfig lib/pkgconfig/calendar.pc lib/cmake/calendar libcalendar.so",
+    "where a package is installed": "include/calendar.h lib/libcalendar-v3.a lib/libcalendar.a lib/libcalendar.so.0 libcalendar-v3.a lib/pkgconfig lib/pkgconfig/calendar.pc lib/cmake/calendar libcalendar.so",
     "an option of a compiler": "-Ilanguages/c",
     "of the kit": "docs/WALKS.md",
     "of the reader": "main.c",

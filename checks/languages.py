@@ -9,7 +9,7 @@ what is proved of them, as checks/outside.py does.
 
 Compared are names, results and parameters, each way: those of calendar.h with the exports of crates/calendar_c, with the symbols
 of the library and with the declarations of the Rust crate; the fields of both structs; the processors that texts and header name,
-with one another and with the library's instructions; and the versions of all packages. The header is then compiled, alone, by each
+with one another and with the library's instructions; the same of the second library, for processors with AVX2; and the versions of all packages. The header is then compiled, alone, by each
 compiler that is found. The packages for C and Python are made by the modules of tools/packages in a temporary folder, installed as
 their users would, and tested there by checks/from_c.py and checks/from_python.py, and so is that for Rust by checks/from_rust.py. Each export
 has to be called in C's tests, and to have a test of its name in the other two, but for columns and what belongs to them, which C
@@ -28,7 +28,7 @@ sys.path.insert(0, f"{TOP}/tools")
 import from_c  # noqa: E402
 import from_python  # noqa: E402
 import from_rust  # noqa: E402
-from library import find_library  # noqa: E402
+from library import HIGHER, build_higher, find_library  # noqa: E402
 from results import LANGUAGES, Results, example, read, run  # noqa: E402
 
 CRATE = f"{TOP}/crates/calendar_c"
@@ -206,8 +206,8 @@ def compare_processors(results):
         results.count(named == wanted, f"{place} names the processors {sorted(named)}, and calendar.h {level_of_header()}")
 
 
-def compare_instructions(results, library):
-    """The highest level of which the library has an instruction is that of the header."""
+def compare_instructions(results, library, wanted):
+    """The highest level of which a library has an instruction is the one that it is for."""
     if not shutil.which("objdump"):
         print("not run: the instructions of the library, since there is no objdump")
         return
@@ -215,7 +215,19 @@ def compare_instructions(results, library):
     used = set(re.findall(r"^ +[\da-f]+:\t(\w+)", listed, re.M))
     needed = [level for level, names in INSTRUCTIONS.items() if any(re.fullmatch(names, it) for it in used)]
     level = max(needed, default="x86-64")
-    results.count(used and level == level_of_header(), f"the library is for {level}, and calendar.h says {level_of_header()}")
+    results.count(used and level == wanted, f"{os.path.basename(library)} is for {level}, and not for {wanted}")
+
+
+def compare_higher(results, header, library, path):
+    """The second library of the package for C has the same names, and instructions of a higher level."""
+    if not shutil.which("rt"):
+        print("not run: the library for higher processors, since there is no rt")
+        return
+    built = build_higher(library, path)
+    results.count(built, "`rt lib --cpu` does not build the library for higher processors")
+    if built:
+        compare_symbols(results, header, path)
+        compare_instructions(results, path, HIGHER)
 
 
 def compare_uses(results, header):
@@ -292,7 +304,8 @@ def main():
         results.count(library, "there is no libcalendar_c.a, and `rt lib` does not build it")
         if library:
             compare_symbols(results, header, library)
-            compare_instructions(results, library)
+            compare_instructions(results, library, level_of_header())
+            compare_higher(results, header, library, f"{room}/higher.a")
             from_rust.test(results, room, library)
         if library and shutil.which("cc"):
             from_c.test(results, room, library, sorted(header))

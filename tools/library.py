@@ -10,6 +10,9 @@ from outside import below, copy_crates, listed_crates, load_rt, take_proved, tim
 
 HERE = "crates/calendar_c/out/libcalendar_c.a"
 
+# The level of processors of the second library: those with AVX2 and both families of BMI.
+HIGHER = "x86-64-v3"
+
 
 def is_newer(library, libraries):
     """Whether the static library is newer than what it is made from."""
@@ -50,3 +53,20 @@ def find_library(room):
         print(ran.stdout.decode(errors="replace")[-3000:], flush=True)
         return None
     return f"{top}/{HERE}"
+
+
+def build_higher(library, path):
+    """Builds the library for processors of the level HIGHER and puts it at the path; whether that went well.
+
+    `rt lib` leaves both in one place, so the library that is there is put back afterwards.
+    """
+    kept = f"{library}.kept"
+    os.replace(library, kept)
+    words = ["rt", "lib", "--cpu", HIGHER, "--jobs", "1"]
+    try:
+        ran = subprocess.run(words, cwd=os.path.dirname(os.path.dirname(library)), stdout=subprocess.PIPE, stderr=subprocess.STDOUT)
+        if not ran.returncode:
+            shutil.copy(library, path)
+    finally:
+        os.replace(kept, library)
+    return not ran.returncode

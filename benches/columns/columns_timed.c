@@ -11,13 +11,16 @@ void limit_weekdays(const int32_t *, uint8_t *, size_t);
 void limit_split(const int32_t *, int32_t *, uint8_t *, uint8_t *, size_t);
 void limit_join(const int32_t *, const uint8_t *, const uint8_t *, int32_t *, size_t);
 void limit_add_months(const int32_t *, int32_t, int32_t *, size_t);
+void limit_write_dates(const int32_t *, uint8_t *, size_t);
+void limit_read_dates(const uint8_t *, int32_t *, size_t);
+void copy_text(const int32_t *, uint8_t *, size_t);
 void copy_1(const int32_t *, uint8_t *, size_t);
 void copy_4(const int32_t *, int32_t *, size_t);
 void copy_split(const int32_t *, int32_t *, uint8_t *, uint8_t *, size_t);
 void copy_join(const int32_t *, const uint8_t *, const uint8_t *, int32_t *, size_t);
 
 static int32_t *dates, *years, *numbers, *wanted;
-static uint8_t *months, *days, *small;
+static uint8_t *months, *days, *small, *texts;
 static uint16_t *ordinals;
 static int64_t *wide;
 static size_t n;
@@ -81,6 +84,17 @@ static void add_months_copy(void) { copy_4(dates, numbers, n); }
 static void days_between_ours(void) { calendar_column_days_between(dates, n, years, n, numbers, n); }
 static void to_unix_days_ours(void) { calendar_column_to_unix_days(dates, n, wide, n); }
 static void from_unix_days_ours(void) { calendar_column_from_unix_days(wide, n, numbers, n); }
+static void add_days_in_place_ours(void) { calendar_column_add_days_in_place(numbers, n, 1); }
+static void add_months_in_place_ours(void) { calendar_column_add_months_in_place(numbers, n, 1); }
+static volatile size_t there;
+static void count_dates_ours(void) { there = calendar_column_count_dates(dates, n); }
+static void write_dates_ours(void) { calendar_column_write_dates(dates, n, texts, n); }
+static void write_dates_limit(void) { limit_write_dates(dates, texts, n); }
+static void write_dates_copy(void) { copy_text(dates, texts, n); }
+static void write_dates_single(void) { for (size_t i = 0; i < n; i++) calendar_write_date(dates[i], texts + 10 * i, 10); }
+static void read_dates_ours(void) { calendar_column_read_dates(texts, n, numbers, n); }
+static void read_dates_limit(void) { limit_read_dates(texts, numbers, n); }
+static void read_dates_single(void) { for (size_t i = 0; i < n; i++) numbers[i] = calendar_read_date(texts + 10 * i, 10); }
 
 typedef struct {
     const char *call, *who;
@@ -99,6 +113,11 @@ static const timed all[] = {
     {"add_months", "limit", add_months_limit}, {"add_months", "copy", add_months_copy},
     {"days_between", "ours", days_between_ours}, {"to_unix_days", "ours", to_unix_days_ours},
     {"from_unix_days", "ours", from_unix_days_ours},
+    {"add_days_in_place", "ours", add_days_in_place_ours}, {"add_months_in_place", "ours", add_months_in_place_ours},
+    {"count_dates", "ours", count_dates_ours},
+    {"write_dates", "ours", write_dates_ours}, {"write_dates", "single", write_dates_single},
+    {"write_dates", "copy", write_dates_copy}, {"write_dates", "limit", write_dates_limit},
+    {"read_dates", "ours", read_dates_ours}, {"read_dates", "single", read_dates_single}, {"read_dates", "limit", read_dates_limit},
 };
 
 #define CALLS (sizeof all / sizeof *all)
@@ -117,6 +136,12 @@ static void compare(void)
     split_single(), join_single(), same &= !memcmp(dates, numbers, 4 * n);
     split_ours(), join_ours(), same &= !memcmp(dates, numbers, 4 * n);
     to_unix_days_ours(), from_unix_days_ours(), same &= !memcmp(dates, numbers, 4 * n);
+    void (*const writers[])(void) = {write_dates_ours, write_dates_limit, write_dates_single};
+    void (*const readers[])(void) = {read_dates_ours, read_dates_limit, read_dates_single};
+    for (int i = 0; i < 3; i++) {
+        memset(texts, 0, 10 * n), writers[i]();
+        for (int j = 0; j < 3; j++) memset(numbers, 0, 4 * n), readers[j](), same &= !memcmp(dates, numbers, 4 * n);
+    }
     if (!same) {
         fprintf(stderr, "the answers are not the same, so nothing was timed\n");
         exit(1);
@@ -128,7 +153,7 @@ int main(int argc, char **argv)
     n = strtoull(argc > 1 ? argv[1] : "32768", NULL, 10);
     int rounds = argc > 2 ? atoi(argv[2]) : 100, repeats = n < 1000000 ? (int)(1000000 / n) : 1;
     dates = room(4), years = room(4), numbers = room(4), wanted = room(4), wide = room(8);
-    months = room(1), days = room(1), small = room(1), ordinals = room(2);
+    months = room(1), days = room(1), small = room(1), ordinals = room(2), texts = room(10);
     for (size_t i = 0; i < n; i++) dates[i] = 657073 + (int32_t)(draw() % 146097);
     compare();
     double best[CALLS];

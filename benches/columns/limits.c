@@ -5,6 +5,7 @@ typedef __INT32_TYPE__ int32_t;
 typedef __UINT32_TYPE__ uint32_t;
 typedef __UINT64_TYPE__ uint64_t;
 typedef __UINT8_TYPE__ uint8_t;
+typedef __UINT16_TYPE__ uint16_t;
 typedef __SIZE_TYPE__ size_t;
 
 #define NONE (-2147483647 - 1)
@@ -77,6 +78,61 @@ void limit_add_months(const int32_t *restrict dates, int32_t months, int32_t *re
         uint32_t next = (979 * month - 1940) / 32, end = next < length ? next : length, at = (979 * month - 2919) / 32 + day;
         int32_t moved = (int32_t)(start + (at < end ? at : end)) - (DAYS_TO_ONE + FROM_MARCH);
         out[i] = ((date == dates[i]) & (near == wanted)) ? moved : NONE;
+    }
+}
+
+/* Texts in blocks: the names of each date side by side, then its digits as one number of 64 bits. */
+enum { BLOCK = 256 };
+
+void limit_write_dates(const int32_t *restrict dates, uint8_t *restrict texts, size_t n)
+{
+    int32_t years[BLOCK];
+    uint8_t months[BLOCK], days[BLOCK];
+    for (size_t i = 0; i < n; i += BLOCK) {
+        size_t left = n - i < BLOCK ? n - i : BLOCK;
+        limit_split(dates + i, years, months, days, left);
+        for (size_t j = 0; j < left; j++) {
+            uint32_t year = (uint32_t)years[j], hundreds = year / 100;
+            uint64_t pairs = (uint64_t)hundreds | (uint64_t)(year - 100 * hundreds) << 16 | (uint64_t)months[j] << 32 | (uint64_t)days[j] << 48;
+            uint64_t tens = (pairs * 103 >> 10) & 0x000f000f000f000full, digits = tens + ((pairs - 10 * tens) << 8) + 0x3030303030303030ull;
+            uint64_t front = (digits & 0xffffffff) | 0x2dull << 32 | (digits >> 32 & 0xffff) << 40 | 0x2dull << 56;
+            uint16_t end = (uint16_t)(digits >> 48);
+            if (year > 9999) front = 0, end = 0;
+            __builtin_memcpy(texts + 10 * (i + j), &front, 8);
+            __builtin_memcpy(texts + 10 * (i + j) + 8, &end, 2);
+        }
+    }
+}
+
+void limit_read_dates(const uint8_t *restrict texts, int32_t *restrict dates, size_t n)
+{
+    int32_t years[BLOCK];
+    uint8_t months[BLOCK], days[BLOCK];
+    for (size_t i = 0; i < n; i += BLOCK) {
+        size_t left = n - i < BLOCK ? n - i : BLOCK;
+        for (size_t j = 0; j < left; j++) {
+            uint64_t front;
+            uint16_t end;
+            __builtin_memcpy(&front, texts + 10 * (i + j), 8);
+            __builtin_memcpy(&end, texts + 10 * (i + j) + 8, 2);
+            uint64_t codes = (front & 0xffffffff) | (front >> 40 & 0xffff) << 32 | (uint64_t)end << 48, digits = codes - 0x3030303030303030ull;
+            uint32_t right = (front & 0xff0000ff00000000ull) == 0x2d00002d00000000ull;
+            right &= ((codes | (codes + 0x0606060606060606ull)) & 0xf0f0f0f0f0f0f0f0ull) == 0x3030303030303030ull;
+            uint64_t pairs = digits * 10 + (digits >> 8);
+            years[j] = (int32_t)((uint32_t)(pairs & 0xff) * 100 + (uint32_t)(pairs >> 16 & 0xff));
+            months[j] = right ? (uint8_t)(pairs >> 32) : 0;
+            days[j] = (uint8_t)(pairs >> 48);
+        }
+        limit_join(years, months, days, dates + i, left);
+    }
+}
+
+void copy_text(const int32_t *restrict dates, uint8_t *restrict texts, size_t n)
+{
+    for (size_t i = 0; i < n; i++) {
+        uint64_t front = (uint32_t)dates[i] * 0x100000001ull;
+        __builtin_memcpy(texts + 10 * i, &front, 8);
+        __builtin_memcpy(texts + 10 * i + 8, &dates[i], 2);
     }
 }
 

@@ -6,6 +6,7 @@ import numpy as np
 
 n, rounds = int(sys.argv[1]), int(sys.argv[2])
 days = np.random.default_rng(7).integers(657_073 - 719_163, 803_170 - 719_163, n).astype("datetime64[D]")
+texts = days.astype("S10")
 years, months = days.astype("datetime64[Y]"), days.astype("datetime64[M]")
 
 
@@ -22,6 +23,8 @@ CALLS = {
     "split": split,
     "join": lambda: (months + (days - months)).astype("int64"),
     "add_days": lambda: days + np.timedelta64(1000, "D"),
+    "write_dates": lambda: days.astype("S10"),
+    "read_dates": lambda: texts.astype("datetime64[D]"),
 }
 
 for name, call in CALLS.items():

@@ -1,6 +1,6 @@
 """What users of each language install: a module for each, with `make(top, built, dist)`.
 
-`top` is this repository, `built` a folder with `libcalendar.a` and `libcalendar.so.0`, and `dist` the folder to fill. `make`
+`top` is this repository, `built` a folder with `libcalendar.a` and `libcalendar.so.0`, and for C with HIGHER too, and `dist` the folder to fill. `make`
 answers the paths that it made. It raises `Missing` where a program or a package that it needs is not there.
 """
 import re
@@ -9,6 +9,10 @@ import subprocess
 
 # What each package holds beside what it is made of.
 LICENCES = ("LICENSE-APACHE", "LICENSE-MIT")
+
+
+# The static library for processors with AVX2.
+HIGHER = "libcalendar-v3.a"
 
 
 class Missing(Exception):

@@ -2,7 +2,7 @@
 import os
 import shutil
 
-from . import LICENCES, version
+from . import HIGHER, LICENCES, version
 
 PKG_CONFIG = """\
 prefix=${{pcfiledir}}/../..
@@ -59,6 +59,8 @@ def make(top, built, dist):
         f"{built}/libcalendar.so.0": "lib/libcalendar.so.0",
         **{f"{top}/{it}": f"share/doc/calendar/{it}" for it in LICENCES},
     }
+    if os.path.exists(f"{built}/{HIGHER}"):
+        copied[f"{built}/{HIGHER}"] = f"lib/{HIGHER}"
     written = {
         "lib/pkgconfig/calendar.pc": PKG_CONFIG.format(version=version(top)),
         "lib/cmake/calendar/calendar-config.cmake": CMAKE,

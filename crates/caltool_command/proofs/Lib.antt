@@ -5,4 +5,5 @@ mod Splits
 mod Reading
 mod Weekdays
 mod Commands
+mod Counts
 mod Laws

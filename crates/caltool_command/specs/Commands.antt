@@ -1,5 +1,5 @@
 -- The commands: which numbers each of them takes, and what they ask for.
-use Rattle.std.specs.Prelude.{ℕ, ℤ, List, [], ◌∷◌, take, drop, Option, Some, None, Bool, length, nat_lt, codes, if◌then◌else◌}
+use Rattle.std.specs.Prelude.{ℕ, ℤ, List, [], ◌∷◌, Option, Some, None, Bool, length, nat_lt, codes, if◌then◌else◌}
 use Rattle.std.specs.Str.{bytes_eq}
 use Rattle.std.specs.Option.{option_map, option_and_then}
 use Rattle.chrono_units.specs.declared.weekday.Weekday.{Weekday}
@@ -22,28 +22,20 @@ None · a = None
 Some f · None = None
 Some f · Some a = Some (f a)
 
--- a single number
-unfoldable pub only : List ℤ → Option ℤ
-only (number ∷ []) = Some number
-only _ = None
-
 -- a year, a month and a day
-unfoldable pub calendar_date : List ℤ → Option CalendarDate
-calendar_date (year ∷ month ∷ day ∷ []) =
+unfoldable pub calendar_date : ℤ → ℤ → ℤ → Option CalendarDate
+calendar_date year month day =
     Some (λ y m d. record { year = y; month = m; day = d }) · to_i32 year · to_u32 month · to_u32 day
-calendar_date _ = None
 
 -- an hour, a minute, a second and a nanosecond
-unfoldable pub clock_time : List ℤ → Option ClockTime
-clock_time (hour ∷ minute ∷ second ∷ nanosecond ∷ []) =
+unfoldable pub clock_time : ℤ → ℤ → ℤ → ℤ → Option ClockTime
+clock_time hour minute second nanosecond =
     Some (λ h m s n. record { hour = h; minute = m; second = s; nanosecond = n })
     · to_u32 hour · to_u32 minute · to_u32 second · to_u32 nanosecond
-clock_time _ = None
 
 -- a date and a time of day
-unfoldable pub date_and_time : List ℤ → Option DateAndTime
-date_and_time numbers =
-    Some (λ d t. record { date = d; time = t }) · calendar_date (take 3 numbers) · clock_time (drop 3 numbers)
+unfoldable pub date_and_time : Option CalendarDate → Option ClockTime → Option DateAndTime
+date_and_time date time = Some (λ d t. record { date = d; time = t }) · date · time
 
 -- weekdays
 unfoldable pub weekdays : List ℤ → Option (List Weekday)
@@ -56,30 +48,31 @@ weekday_set numbers = option_map set_of (weekdays numbers)
 
 -- the command of this name and these numbers, if they are as many as it takes and each is in its range
 unfoldable pub command_from : Name → List ℤ → Option Command
-command_from name.Ymd numbers = Some (λ date. Ymd date) · calendar_date numbers
+command_from name.Ymd (year ∷ month ∷ day ∷ []) = Some (λ date. Ymd date) · calendar_date year month day
 command_from name.Yo (year ∷ ordinal ∷ []) = Some (λ y o. Yo y o) · to_i32 year · to_u32 ordinal
 command_from name.Iwd (year ∷ week ∷ day ∷ []) = Some (λ y w d. Iwd y w d) · to_i32 year · to_u32 week · to_weekday day
-command_from name.Day numbers = Some (λ n. Day n) · option_and_then to_i32 (only numbers)
+command_from name.Day (number ∷ []) = Some (λ n. Day n) · to_i32 number
 command_from name.Wom (year ∷ month ∷ day ∷ nth ∷ []) =
     Some (λ y m d n. Wom y m d n) · to_i32 year · to_u32 month · to_weekday day · to_u8 nth
-command_from name.Days numbers =
-    Some (λ date count. Days date count) · calendar_date (take 3 numbers) · option_and_then to_i64 (only (drop 3 numbers))
-command_from name.Months numbers =
-    Some (λ date span. Months date span) · calendar_date (take 3 numbers) · option_and_then to_months (only (drop 3 numbers))
-command_from name.Week numbers =
-    Some (λ date start. Week date start) · calendar_date (take 3 numbers) · option_and_then to_weekday (only (drop 3 numbers))
-command_from name.Move numbers =
-    Some (λ from seconds nanoseconds. Move from seconds nanoseconds)
-    · date_and_time (take 7 numbers) · option_and_then to_i64 (only (take 1 (drop 7 numbers))) · option_and_then to_u32 (only (drop 8 numbers))
-command_from name.Diff numbers =
-    Some (λ first second. Diff first second) · date_and_time (take 7 numbers) · date_and_time (drop 7 numbers)
-command_from name.Since numbers =
-    Some (λ date base. Since date base) · calendar_date (take 3 numbers) · calendar_date (drop 3 numbers)
+command_from name.Days (year ∷ month ∷ day ∷ count ∷ []) =
+    Some (λ date n. Days date n) · calendar_date year month day · to_i64 count
+command_from name.Months (year ∷ month ∷ day ∷ months ∷ []) =
+    Some (λ date span. Months date span) · calendar_date year month day · to_months months
+command_from name.Week (year ∷ month ∷ day ∷ start ∷ []) =
+    Some (λ date first. Week date first) · calendar_date year month day · to_weekday start
+command_from name.Move (year ∷ month ∷ day ∷ hour ∷ minute ∷ second ∷ fraction ∷ seconds ∷ nanoseconds ∷ []) =
+    Some (λ from s n. Move from s n)
+    · date_and_time (calendar_date year month day) (clock_time hour minute second fraction) · to_i64 seconds · to_u32 nanoseconds
+command_from name.Diff (year ∷ month ∷ day ∷ hour ∷ minute ∷ second ∷ fraction ∷ year_2 ∷ month_2 ∷ day_2 ∷ hour_2 ∷ minute_2 ∷ second_2 ∷ fraction_2 ∷ []) =
+    Some (λ from to. Diff from to)
+    · date_and_time (calendar_date year month day) (clock_time hour minute second fraction)
+    · date_and_time (calendar_date year_2 month_2 day_2) (clock_time hour_2 minute_2 second_2 fraction_2)
+command_from name.Since (year ∷ month ∷ day ∷ year_2 ∷ month_2 ∷ day_2 ∷ []) =
+    Some (λ date base. Since date base) · calendar_date year month day · calendar_date year_2 month_2 day_2
 command_from name.Set (start ∷ numbers) = Some (λ day days. Set day days) · to_weekday start · weekday_set numbers
-command_from name.On numbers = Some (λ date days. On date days) · calendar_date (take 3 numbers) · weekday_set (drop 3 numbers)
-command_from name.Every numbers =
-    Some (λ date months times. Every date months times)
-    · calendar_date (take 3 numbers) · option_and_then to_i32 (only (take 1 (drop 3 numbers))) · option_and_then to_u32 (only (drop 4 numbers))
+command_from name.On (year ∷ month ∷ day ∷ numbers) = Some (λ date days. On date days) · calendar_date year month day · weekday_set numbers
+command_from name.Every (year ∷ month ∷ day ∷ months ∷ times ∷ []) =
+    Some (λ date m t. Every date m t) · calendar_date year month day · to_i32 months · to_u32 times
 command_from _ _ = None
 
 -- the command word that these bytes are

@@ -1,8 +1,6 @@
 //! The commands that names and numbers ask for.
-ghost use Rattle.std.specs.Prelude.{◌≡◌, take, drop};
-ghost use Rattle.std.specs.Option.{option_and_then};
-ghost use Rattle.chrono_text.specs.Numbers.{to_i64};
-ghost use Rattle.caltool_command.specs.Commands.{command_from, only, calendar_date, clock_time, date_and_time, weekday_set};
+ghost use Rattle.std.specs.Prelude.{◌≡◌};
+ghost use Rattle.caltool_command.specs.Commands.{command_from, calendar_date, clock_time, date_and_time, weekday_set};
 
 use crate::arguments::{CalendarDate, ClockTime, DateAndTime};
 use crate::command::Command;
@@ -37,7 +35,10 @@ pub fn command_from(name: Name, numbers: &[i64]) -> Option<Command>
 fn ymd(numbers: &[i64]) -> Option<Command>
     ensures { result ≡ command_from Name.Ymd numbers.now }
 {
-    let date = calendar_date(numbers)?;
+    let [year, month, day] = numbers else {
+        return None;
+    };
+    let date = calendar_date(*year, *month, *day)?;
     Some(Command::Ymd { date })
 }
 
@@ -74,7 +75,10 @@ fn iwd(numbers: &[i64]) -> Option<Command>
 fn day(numbers: &[i64]) -> Option<Command>
     ensures { result ≡ command_from Name.Day numbers.now }
 {
-    let number = to_i32(only(numbers)?)?;
+    let [number] = numbers else {
+        return None;
+    };
+    let number = to_i32(*number)?;
     Some(Command::Day { number })
 }
 
@@ -97,13 +101,15 @@ fn wom(numbers: &[i64]) -> Option<Command>
     })
 }
 
-#[tactic(auto, unfolding(crate::specs::Commands::command_from))]
+#[tactic(auto, using(crate::proofs::Counts::no_days))]
 fn days(numbers: &[i64]) -> Option<Command>
     ensures { result ≡ command_from Name.Days numbers.now }
 {
-    let (date, count) = cut(numbers, 3);
-    let date = calendar_date(date)?;
-    let count = only_i64(count)?;
+    let [year, month, day, count] = numbers else {
+        return None;
+    };
+    let date = calendar_date(*year, *month, *day)?;
+    let count = *count;
     Some(Command::Days { date, count })
 }
 
@@ -111,9 +117,11 @@ fn days(numbers: &[i64]) -> Option<Command>
 fn months(numbers: &[i64]) -> Option<Command>
     ensures { result ≡ command_from Name.Months numbers.now }
 {
-    let (date, span) = cut(numbers, 3);
-    let date = calendar_date(date)?;
-    let span = to_months(only(span)?)?;
+    let [year, month, day, span] = numbers else {
+        return None;
+    };
+    let date = calendar_date(*year, *month, *day)?;
+    let span = to_months(*span)?;
     Some(Command::Months { date, span })
 }
 
@@ -121,21 +129,37 @@ fn months(numbers: &[i64]) -> Option<Command>
 fn week(numbers: &[i64]) -> Option<Command>
     ensures { result ≡ command_from Name.Week numbers.now }
 {
-    let (date, start) = cut(numbers, 3);
-    let date = calendar_date(date)?;
-    let start = to_weekday(only(start)?)?;
+    let [year, month, day, start] = numbers else {
+        return None;
+    };
+    let date = calendar_date(*year, *month, *day)?;
+    let start = to_weekday(*start)?;
     Some(Command::Week { date, start })
 }
 
-#[tactic(auto, unfolding(crate::specs::Commands::command_from))]
+#[tactic(auto, using(crate::proofs::Counts::no_moved))]
 fn moved(numbers: &[i64]) -> Option<Command>
     ensures { result ≡ command_from Name.Move numbers.now }
 {
-    let (from, by) = cut(numbers, 7);
-    let (seconds, nanoseconds) = cut(by, 1);
-    let from = date_and_time(from)?;
-    let seconds = only_i64(seconds)?;
-    let nanoseconds = to_u32(only(nanoseconds)?)?;
+    let [
+        year,
+        month,
+        day,
+        hour,
+        minute,
+        second,
+        fraction,
+        seconds,
+        nanoseconds,
+    ] = numbers
+    else {
+        return None;
+    };
+    let date = calendar_date(*year, *month, *day)?;
+    let time = clock_time(*hour, *minute, *second, *fraction)?;
+    let from = DateAndTime { date, time };
+    let seconds = *seconds;
+    let nanoseconds = to_u32(*nanoseconds)?;
     Some(Command::Move {
         from,
         seconds,
@@ -143,23 +167,50 @@ fn moved(numbers: &[i64]) -> Option<Command>
     })
 }
 
-#[tactic(auto, unfolding(crate::specs::Commands::command_from))]
+#[tactic(auto, using(crate::proofs::Counts::no_diff))]
 fn diff(numbers: &[i64]) -> Option<Command>
     ensures { result ≡ command_from Name.Diff numbers.now }
 {
-    let (first, second) = cut(numbers, 7);
-    let first = date_and_time(first)?;
-    let second = date_and_time(second)?;
+    let [
+        year,
+        month,
+        day,
+        hour,
+        minute,
+        second,
+        fraction,
+        year_2,
+        month_2,
+        day_2,
+        hour_2,
+        minute_2,
+        second_2,
+        fraction_2,
+    ] = numbers
+    else {
+        return None;
+    };
+    let date = calendar_date(*year, *month, *day)?;
+    let time = clock_time(*hour, *minute, *second, *fraction)?;
+    let date_2 = calendar_date(*year_2, *month_2, *day_2)?;
+    let time_2 = clock_time(*hour_2, *minute_2, *second_2, *fraction_2)?;
+    let first = DateAndTime { date, time };
+    let second = DateAndTime {
+        date: date_2,
+        time: time_2,
+    };
     Some(Command::Diff { first, second })
 }
 
-#[tactic(auto, unfolding(crate::specs::Commands::command_from))]
+#[tactic(auto, using(crate::proofs::Counts::no_since))]
 fn since(numbers: &[i64]) -> Option<Command>
     ensures { result ≡ command_from Name.Since numbers.now }
 {
-    let (date, base) = cut(numbers, 3);
-    let date = calendar_date(date)?;
-    let base = calendar_date(base)?;
+    let [year, month, day, year_2, month_2, day_2] = numbers else {
+        return None;
+    };
+    let date = calendar_date(*year, *month, *day)?;
+    let base = calendar_date(*year_2, *month_2, *day_2)?;
     Some(Command::Since { date, base })
 }
 
@@ -175,25 +226,28 @@ fn set(numbers: &[i64]) -> Option<Command>
     Some(Command::Set { start, days })
 }
 
-#[tactic(auto, unfolding(crate::specs::Commands::command_from))]
+#[tactic(auto, using(crate::proofs::Counts::no_on))]
 fn on(numbers: &[i64]) -> Option<Command>
     ensures { result ≡ command_from Name.On numbers.now }
 {
-    let (date, days) = cut(numbers, 3);
-    let date = calendar_date(date)?;
+    let [year, month, day, days @ ..] = numbers else {
+        return None;
+    };
+    let date = calendar_date(*year, *month, *day)?;
     let days = weekday_set(days)?;
     Some(Command::On { date, days })
 }
 
-#[tactic(auto, unfolding(crate::specs::Commands::command_from))]
+#[tactic(auto, using(crate::proofs::Counts::no_every))]
 fn every(numbers: &[i64]) -> Option<Command>
     ensures { result ≡ command_from Name.Every numbers.now }
 {
-    let (date, steps) = cut(numbers, 3);
-    let (months, times) = cut(steps, 1);
-    let date = calendar_date(date)?;
-    let months = to_i32(only(months)?)?;
-    let times = to_u32(only(times)?)?;
+    let [year, month, day, months, times] = numbers else {
+        return None;
+    };
+    let date = calendar_date(*year, *month, *day)?;
+    let months = to_i32(*months)?;
+    let times = to_u32(*times)?;
     Some(Command::Every {
         date,
         months,
@@ -201,74 +255,32 @@ fn every(numbers: &[i64]) -> Option<Command>
     })
 }
 
-// The first numbers, and the others.
-fn cut(numbers: &[i64], count: usize) -> (&[i64], &[i64])
-    ensures first { result.0.now ≡ take count numbers.now }
-    ensures others { result.1.now ≡ drop count numbers.now }
-{
-    numbers.split_at(count.min(numbers.len()))
-}
-
+// A year, a month and a day.
 #[tactic(auto, unfolding(crate::specs::Commands::calendar_date))]
-fn calendar_date(numbers: &[i64]) -> Option<CalendarDate>
-    ensures { result ≡ calendar_date numbers.now }
+fn calendar_date(year: i64, month: i64, day: i64) -> Option<CalendarDate>
+    ensures { result ≡ calendar_date year month day }
 {
-    let [year, month, day] = numbers else {
-        return None;
-    };
-    let year = to_i32(*year)?;
-    let month = to_u32(*month)?;
-    let day = to_u32(*day)?;
+    let year = to_i32(year)?;
+    let month = to_u32(month)?;
+    let day = to_u32(day)?;
     Some(CalendarDate { year, month, day })
 }
 
+// An hour, a minute, a second and a nanosecond.
 #[tactic(auto, unfolding(crate::specs::Commands::clock_time))]
-fn clock_time(numbers: &[i64]) -> Option<ClockTime>
-    ensures { result ≡ clock_time numbers.now }
+fn clock_time(hour: i64, minute: i64, second: i64, nanosecond: i64) -> Option<ClockTime>
+    ensures { result ≡ clock_time hour minute second nanosecond }
 {
-    let [hour, minute, second, nanosecond] = numbers else {
-        return None;
-    };
-    let hour = to_u32(*hour)?;
-    let minute = to_u32(*minute)?;
-    let second = to_u32(*second)?;
-    let nanosecond = to_u32(*nanosecond)?;
+    let hour = to_u32(hour)?;
+    let minute = to_u32(minute)?;
+    let second = to_u32(second)?;
+    let nanosecond = to_u32(nanosecond)?;
     Some(ClockTime {
         hour,
         minute,
         second,
         nanosecond,
     })
-}
-
-#[tactic(auto, unfolding(crate::specs::Commands::date_and_time))]
-fn date_and_time(numbers: &[i64]) -> Option<DateAndTime>
-    ensures { result ≡ date_and_time numbers.now }
-{
-    let (date, time) = cut(numbers, 3);
-    let date = calendar_date(date)?;
-    let time = clock_time(time)?;
-    Some(DateAndTime { date, time })
-}
-
-// A single number.
-#[tactic(auto, unfolding(crate::specs::Commands::only))]
-fn only(numbers: &[i64]) -> Option<i64>
-    ensures { result ≡ only numbers.now }
-{
-    let [number] = numbers else {
-        return None;
-    };
-    Some(*number)
-}
-
-// A single number, which fits an `i64` as all do.
-#[tactic(auto, using(chrono_text::proofs::Types::i64_written))]
-fn only_i64(numbers: &[i64]) -> Option<i64>
-    ensures { result ≡ option_and_then to_i64 (only numbers.now) }
-{
-    let number = only(numbers)?;
-    Some(number)
 }
 
 // The set of these weekdays.

@@ -7,6 +7,7 @@ mod Early
 mod Workdays
 mod WeekTables
 mod Checked
+mod EasterLemmas
 mod OpenLists
 mod MonthDayCounts
 mod LeapDayCounts

@@ -3,5 +3,7 @@ pub mod Workweeks
 pub mod WrongHolidays
 pub mod Rolls
 pub mod DayCounts
+pub mod Easter
+pub mod HolidayRules
 pub mod OpenDayLists
 pub mod LeapDays

@@ -3,6 +3,7 @@
 ghost use Rattle.std.specs.Prelude.{◌≡◌, ◌+◌, ◌<◌, ◌≤◌, ℕ, ℤ, true, false, pos, neg_ℤ, ◌+ℤ◌, ◌-ℤ◌, ◌*ℤ◌, ◌≤ℤ◌, ◌<ℤ◌, [], ◌∷◌};
 ghost use Rattle.chrono_datetime.specs.WeekdaySet.{set_of};
 ghost use Rattle.chrono_datetime.specs.declared.Weekday.TheVariants.{Fri, Sat, Sun};
+ghost use Rattle.chrono_business.specs.Easter.{easter_day};
 ghost use Rattle.chrono_business.specs.DayCounts.{days_30_360, days_30e_360, days_actual_actual};
 ghost use Rattle.chrono_business.specs.Rolls.{RollsTo};
 ghost use Rattle.chrono_business.specs.declared.roll.Roll.TheVariants.{Following, ModifiedFollowing, ModifiedPreceding, Nearest, Preceding, Unadjusted};
@@ -98,4 +99,16 @@ pub fn open_days_are_in_order()
         open_days c a e ≡ open_days c a b + open_days c b e }
     ensures nth { (c : Closed) (d e : ℤ) (n : ℕ) → IsNthOpenFrom c d n e →
         (open_days c d (e +ℤ pos 1) ≡ n + 1) × ((f : ℤ) → d ≤ℤ f → n < open_days c d (f +ℤ pos 1) → e ≤ℤ f) }
+{}
+
+/// Easters that are known: 31 March 2024, day 738,976; of the years 1818 and 1943 the earliest and the latest, 22 March
+/// and 25 April; of 1954 and 1981 18 and 19 April, where the last two epacts stand a day earlier; and 14 April 1974, a
+/// week after a full moon on a Sunday.
+pub fn known_easters()
+    ensures in_2024 { easter_day (pos 2_024) ≡ pos 738_976 }
+    ensures earliest { easter_day (pos 1_818) ≡ pos 663_726 }
+    ensures latest { easter_day (pos 1_943) ≡ pos 709_415 }
+    ensures in_1954 { easter_day (pos 1_954) ≡ pos 713_426 }
+    ensures in_1981 { easter_day (pos 1_981) ≡ pos 723_289 }
+    ensures full_moon_on_sunday { easter_day (pos 1_974) ≡ pos 720_727 }
 {}

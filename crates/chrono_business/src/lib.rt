@@ -7,17 +7,23 @@
 #![tactic(auto)]
 
 mod calendar;
+mod computus;
 mod day_count;
+mod given;
 mod holiday_error;
+mod holiday_rule;
 pub mod law;
 mod open_days_iterator;
 mod roll;
 mod workweek;
 
 pub use calendar::Calendar;
+pub use computus::easter;
 pub use day_count::{
     Fraction, actual_360, actual_365_fixed, actual_actual_isda, thirty_360, thirty_e_360,
 };
+pub use given::{england_and_wales, target, us_federal};
 pub use holiday_error::HolidayError;
+pub use holiday_rule::{HolidayDay, HolidayRule, Moved};
 pub use open_days_iterator::OpenDaysIterator;
 pub use roll::Roll;

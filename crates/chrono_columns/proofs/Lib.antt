@@ -4,3 +4,4 @@ mod InPlace
 mod MonthTests
 mod NameTests
 mod TextEntries
+mod TextNames

@@ -1,9 +1,9 @@
 //! Known entries of columns, each as the contract of a function.
-ghost use Rattle.std.specs.Prelude.{◌≡◌, pos, neg_ℤ};
-ghost use Rattle.chrono_columns.specs.Columns.{date_entry, day_entry, distance_entry, iso_week_entry, iso_year_entry, later_entry, month_entry, months_later_entry, ordinal_entry, unix_date_entry, unix_days_entry, weekday_entry, year_entry};
+ghost use Rattle.std.specs.Prelude.{◌≡◌, pos, neg_ℤ, replicate};
+ghost use Rattle.chrono_columns.specs.Columns.{date_entry, day_entry, distance_entry, iso_week_entry, iso_year_entry, later_entry, month_entry, months_later_entry, ordinal_entry, text_entry, unix_date_entry, unix_days_entry, weekday_entry, year_entry};
 
 /// What stands for none has no names; no date is a day or a month later than it, and it is no distance from a date.
-#[tactic(auto, unfolding(chrono_calendar::specs::Days::date_of_day, crate::specs::Columns::year_entry, crate::specs::Columns::ordinal_entry, crate::specs::Columns::month_entry, crate::specs::Columns::day_entry, crate::specs::Columns::weekday_entry, crate::specs::Columns::iso_year_entry, crate::specs::Columns::iso_week_entry, crate::specs::Columns::later_entry, crate::specs::Columns::months_later_entry, crate::specs::Columns::distance_entry, crate::specs::Columns::unix_days_entry))]
+#[tactic(auto, unfolding(chrono_calendar::specs::Days::date_of_day, crate::specs::Columns::year_entry, crate::specs::Columns::ordinal_entry, crate::specs::Columns::month_entry, crate::specs::Columns::day_entry, crate::specs::Columns::weekday_entry, crate::specs::Columns::iso_year_entry, crate::specs::Columns::iso_week_entry, crate::specs::Columns::later_entry, crate::specs::Columns::months_later_entry, crate::specs::Columns::distance_entry, crate::specs::Columns::unix_days_entry, crate::specs::Columns::text_entry))]
 pub fn none_comes_of_none()
     ensures year { year_entry (neg_ℤ (pos 2_147_483_648)) ≡ neg_ℤ (pos 2_147_483_648) }
     ensures ordinal { ordinal_entry (neg_ℤ (pos 2_147_483_648)) ≡ 0 }
@@ -16,6 +16,7 @@ pub fn none_comes_of_none()
     ensures months_later { months_later_entry (pos 1) (neg_ℤ (pos 2_147_483_648)) ≡ neg_ℤ (pos 2_147_483_648) }
     ensures distance { distance_entry (neg_ℤ (pos 2_147_483_648)) (pos 1) ≡ neg_ℤ (pos 2_147_483_648) }
     ensures unix_days { unix_days_entry (neg_ℤ (pos 2_147_483_648)) ≡ neg_ℤ (pos 9_223_372_036_854_775_808) }
+    ensures text { text_entry (neg_ℤ (pos 2_147_483_648)) ≡ replicate 10 0 }
 {}
 
 /// Entries of known dates: 1 January of year 1 is a Monday, 1970 begins at 0 days, and 2023 had no 29 February.

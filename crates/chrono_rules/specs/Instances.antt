@@ -3,7 +3,7 @@ use Rattle.std.specs.Prelude.{ℕ, ◌+◌, ◌-◌, ◌/◌, ◌%◌, ◌==◌,
 use Rattle.std.specs.Int.{bit_at, int_div_euclid, int_rem_euclid}
 use Rattle.std.specs.List.{list_any}
 use Rattle.chrono_datetime.specs.Years.{year_length}
-use Rattle.chrono_datetime.specs.Days.{day_of, month_of, ordinal_of, year_of}
+use Rattle.chrono_datetime.specs.Days.{day_of, is_date, month_of, ordinal_of, year_of}
 use Rattle.chrono_datetime.specs.MonthMoves.{month_first_of, month_index_of, month_last_of, month_length_of}
 use Rattle.chrono_datetime.specs.Recurrence.{count_between}
 use Rattle.chrono_datetime.specs.Weekday.{days_from_monday}
@@ -160,12 +160,16 @@ passes r start n =
     && ((lacks_weekdays r || on_weekday r n)
     && ((lacks_year_days r || on_year_day r n) && (lacks_weeks r || in_week r n)))))
 
+-- a day outside the calendar does not pass
+unfoldable pub date_passes : Rule → ℤ → ℤ → Bool
+date_passes r start n = is_date n && passes r start n
+
 -- of the days of its period that pass, the day is one by its place among them, from the front or from the back
 unfoldable pub in_positions : Rule → ℤ → ℤ → Bool
 in_positions r start n =
     lacks_positions r
-    || (has_place r.positions (count_between (passes r start) (period_first r.frequency r.week_start n) (n +ℤ pos 1))
-    || has_place r.positions_from_end (count_between (passes r start) n (period_end r.frequency r.week_start n)))
+    || (has_place r.positions (count_between (date_passes r start) (period_first r.frequency r.week_start n) (n +ℤ pos 1))
+    || has_place r.positions_from_end (count_between (date_passes r start) n (period_end r.frequency r.week_start n)))
 
 -- periods are whole intervals apart; an interval of 0 is read as 1
 unfoldable pub in_interval : Rule → ℤ → ℤ → Bool

@@ -1,2 +1,4 @@
 pub mod Instances
 pub mod KnownRules
+pub mod Pieces
+pub mod Places

@@ -4,10 +4,16 @@
 #![tactic(auto)]
 
 pub mod law;
+mod members;
 mod parts;
 mod periods;
+mod pieces;
+mod place_text;
 mod places;
 mod rule;
+mod weekday_text;
 
+pub use place_text::{BothEnds, Place, read_month_days, read_weeks};
 pub use places::{NumberSet, PlaceSet, WeekdayPlaces};
 pub use rule::{End, Frequency, Rule};
+pub use weekday_text::read_weekdays;

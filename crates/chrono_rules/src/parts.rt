@@ -222,7 +222,7 @@ impl Rule {
 
 // The days of the date's year.
 #[inline]
-fn days_of_year(date: NaiveDate) -> u32
+pub(crate) fn days_of_year(date: NaiveDate) -> u32
     ensures value { result ≡ year_length (year_of date) }
     ensures in_range { IsInRange 365 366 result }
 {

@@ -83,7 +83,7 @@ pub(crate) fn like_fourth_of_week(date: NaiveDate, start: Weekday) -> NaiveDate
 
 // The date so many days later.
 #[inline]
-fn moved(date: NaiveDate, days: i64) -> NaiveDate
+pub(crate) fn moved(date: NaiveDate, days: i64) -> NaiveDate
     requires { IsDate (date +ℤ days) }
     ensures { result ≡ date +ℤ days }
 {

@@ -1,8 +1,9 @@
 //! The answers: a day by all its names, the days between two, and why a text is no day.
 
 use crate::ordinal_name::OrdinalName;
-use chrono_datetime::{Datelike, Month, NaiveDate};
-use dates_request::{NoDay, read_day};
+use chrono_datetime::{Datelike, Month, Months, NaiveDate};
+use dates_request::{NoDay, Span, Unit, read_day, read_span};
+use std::alloc::Allocator;
 use std::io::{self, BufRead, BufReader, Eprint};
 
 // The exit statuses: of an answer, of a question that has none, and of a wrong command.
@@ -39,6 +40,57 @@ pub(crate) fn answer_distance(
     };
     println!(rt; "{}", to.signed_duration_since(from).num_days())?;
     Ok(ANSWERED)
+}
+
+// The day moved by the spans, one after another, or `none` where one of them leads out of the calendar.
+pub(crate) fn answer_move(
+    rt: &(impl Print + Eprint),
+    day: &str,
+    spans: &[String<impl Allocator>],
+) -> io::Result<u8> {
+    let mut date = match read_day(day.as_bytes()) {
+        Ok(date) => date,
+        Err(why) => return refuse(rt, 2, day, why),
+    };
+    let mut place: u64 = 2;
+    for span in spans {
+        place = place.saturating_add(1);
+        let Some(read) = read_span(span.as_str().as_bytes()) else {
+            eprintln!(rt;
+                "dates: argument {place}, {}: expected a span as 3d, -2w, 1m or 4y",
+                span.as_str()
+            )?;
+            return Ok(WRONG);
+        };
+        let Some(moved) = moved(date, read) else {
+            println!(rt; "none")?;
+            eprintln!(rt; "{date} {}: past the calendar's end", span.as_str())?;
+            return Ok(NONE);
+        };
+        date = moved;
+    }
+    println!(rt; "{date}")?;
+    Ok(ANSWERED)
+}
+
+// The date that is a span away.
+fn moved(date: NaiveDate, span: Span) -> Option<NaiveDate> {
+    match span.unit {
+        Unit::Days => date.moved_by_days(span.count),
+        Unit::Weeks => date.moved_by_days(span.count.checked_mul(7)?),
+        Unit::Months => moved_by_months(date, span.count),
+        Unit::Years => moved_by_months(date, span.count.checked_mul(12)?),
+    }
+}
+
+// The date that is so many months away.
+fn moved_by_months(date: NaiveDate, count: i64) -> Option<NaiveDate> {
+    let size = Months::new(u32::try_from(count.unsigned_abs()).ok()?);
+    if count < 0 {
+        date.checked_sub_months(size)
+    } else {
+        date.checked_add_months(size)
+    }
 }
 
 // Each line of the input by all names of its day, or `none`.

@@ -4,7 +4,7 @@
 mod answer;
 mod ordinal_name;
 
-use answer::{answer_day, answer_distance, answer_lines};
+use answer::{answer_day, answer_distance, answer_lines, answer_move};
 use std::env::{self, Env};
 use std::io::{self, Eprint, ErrorKind};
 use std::process::ExitCode;
@@ -33,7 +33,9 @@ fn run(rt: &(impl Env + Alloc + Print + Eprint + Input)) -> io::Result<u8> {
         [] => answer_lines(rt),
         [only] => match only.as_str() {
             "--help" => {
-                println!(rt; "dates DAY | dates diff DAY DAY | dates [-] | dates --version")?;
+                println!(rt;
+                    "dates DAY | dates add DAY SPAN.. | dates diff DAY DAY | dates [-] | dates --version"
+                )?;
                 Ok(0)
             }
             "--version" => {
@@ -46,9 +48,12 @@ fn run(rt: &(impl Env + Alloc + Print + Eprint + Input)) -> io::Result<u8> {
         [command, first, second] if command.as_str() == "diff" => {
             answer_distance(rt, first.as_str(), second.as_str())
         }
+        [command, day, spans @ ..] if command.as_str() == "add" => {
+            answer_move(rt, day.as_str(), spans)
+        }
         [first, ..] => {
             eprintln!(rt;
-                "dates: argument 1, {}: expected one day, or diff and two days",
+                "dates: argument 1, {}: expected one day, diff and two days, or add, a day and spans",
                 first.as_str()
             )?;
             Ok(WRONG)

@@ -1,1 +1,2 @@
 pub mod DayTexts
+pub mod SpanTexts

@@ -2,5 +2,7 @@
 #![tactic(auto)]
 
 mod day;
+mod span;
 
 pub use day::{NoDay, read_day};
+pub use span::{Span, Unit, read_span};

@@ -2,7 +2,7 @@
 //!
 //! A rank is the workdays before the day, by whole weeks, less the holidays before it, by a search. The open day of a
 //! rank comes behind the holidays that have no larger one, and they say which workday it is.
-ghost use Rattle.std.specs.Prelude.{◌≡◌, ◌<◌, ◌≤◌, ◌≤ℤ◌, ◌<ℤ◌, ◌+ℤ◌, ℕ, ℤ, true, pos, length, slice_index_or, IfSome, IfNone};
+ghost use Rattle.std.specs.Prelude.{◌≡◌, ◌<◌, ◌≤◌, ◌≤ℤ◌, ◌<ℤ◌, ◌+ℤ◌, ◌-ℤ◌, ℕ, ℤ, true, pos, neg_ℤ, length, slice_index_or, IfSome, IfNone};
 ghost use Rattle.std.specs.List.{AllWithin};
 ghost use Rattle.std.specs.List.Sorted.{IsPartitionPoint};
 ghost use Rattle.chrono_datetime.specs.Days.{IsDate};
@@ -62,8 +62,8 @@ impl<'a> Calendar<'a> {
         let mut left = holidays.len();
         while left > 0 {
             let half = left - left / 2;
-            let is_before = holidays[place + half - 1].num_days_from_ce() < day;
-            place += if is_before { half } else { 0 };
+            let holiday = holidays[place + half - 1].num_days_from_ce();
+            place += step_if_less(half, i64::from(holiday), i64::from(day));
             left /= 2;
         }
         place
@@ -138,3 +138,30 @@ impl<'a> Calendar<'a> {
         self.week.workdays(days) - place as u32
     }
 }
+
+// The step of a search if the first number is less than the second, and else 0: with no branch, since a processor cannot
+// guess which of them is the less.
+#[inline]
+fn step_if_less(step: usize, first: i64, second: i64) -> usize
+    requires least { neg_ℤ (pos 10_000_000_000) ≤ℤ (second -ℤ first) }
+    requires most { (second -ℤ first) ≤ℤ pos 10_000_000_000 }
+    ensures less { first <ℤ second → result ≡ step }
+    ensures other { second ≤ℤ first → result ≡ 0 }
+    ensures few { result ≤ step }
+{
+    step * is_less(first, second)
+}
+
+// 1 if the first number is less than the second, and else 0.
+#[inline]
+fn is_less(first: i64, second: i64) -> usize
+    requires least { neg_ℤ (pos 10_000_000_000) ≤ℤ (second -ℤ first) }
+    requires most { (second -ℤ first) ≤ℤ pos 10_000_000_000 }
+    ensures less { first <ℤ second → result ≡ 1 }
+    ensures other { second ≤ℤ first → result ≡ 0 }
+{
+    ((second - first + (HALF - 1)) as u64 / HALF as u64) as usize
+}
+
+// A number that is larger than each difference, and half of what an `i64` holds.
+const HALF: i64 = 4_611_686_018_427_387_904;

@@ -2,9 +2,9 @@ use Rattle.std.proofs.Common.{refl}
 use Rattle.chrono_text.specs.Numbers.{natural_of, number_of, to_i64, to_i32, to_u32, to_u8}
 use Rattle.caltool_command.specs.Types.{to_months, to_weekday}
 use Rattle.caltool_command.specs.Grammar.{arguments_of, numbers_of}
-use Rattle.caltool_command.specs.Commands.{only, calendar_date, clock_time, date_and_time, weekdays, weekday_set, command_from, name_of, command_named, command_of}
+use Rattle.caltool_command.specs.Commands.{calendar_date, clock_time, date_and_time, weekdays, weekday_set, command_from, name_of, command_named, command_of}
 use Rattle.caltool_command.proofs.law.known_errors.Goals as goal
 
 pub returns : goal.returns
-unfolding command_of arguments_of numbers_of number_of natural_of to_i64 to_i32 to_u32 to_u8 to_months to_weekday command_named name_of command_from only calendar_date clock_time date_and_time weekdays weekday_set
+unfolding command_of arguments_of numbers_of number_of natural_of to_i64 to_i32 to_u32 to_u8 to_months to_weekday command_named name_of command_from calendar_date clock_time date_and_time weekdays weekday_set
 returns c = record { name = refl; too_few = refl; too_many = refl; past_i32 = refl; past_u32 = refl; no_weekday = refl; plus = refl; two_spaces = refl; last_space = refl; nothing = refl; too_long = refl }

@@ -13,7 +13,7 @@ use Rattle.chrono_calendar.proofs.Signed.{signed}
 use Rattle.chrono_calendar.proofs.FirstOn.{date_of_day-on}
 use Rattle.caltool_command.specs.Types.{to_months, to_weekday}
 use Rattle.caltool_command.specs.Grammar.{arguments_of, numbers_of}
-use Rattle.caltool_command.specs.Commands.{only, calendar_date, clock_time, date_and_time, weekdays, weekday_set, command_from, name_of, command_named, command_of}
+use Rattle.caltool_command.specs.Commands.{calendar_date, clock_time, date_and_time, weekdays, weekday_set, command_from, name_of, command_named, command_of}
 use Rattle.caltool_form.specs.Named.{date_named, time_named, moment_named, duration_named, reach}
 use Rattle.caltool_form.specs.Answers.{names_of, date_line, week_line, answer_to, answer_of}
 use Rattle.caltool_form.proofs.law.known_answers.Goals as goal
@@ -31,7 +31,7 @@ unfolding answer_of command_of arguments_of numbers_of number_of natural_of to_i
 returns-clause-iwd c = refl
 
 pub returns-clause-day : goal.returns-clause-day
-unfolding answer_of command_of arguments_of numbers_of number_of natural_of to_i64 command_named name_of command_from only to_i32 answer_to date_of_day days_of_months_in names_of ordinal_name_of days_after_zero days_before_zero month_of_ordinal day_of_ordinal digits
+unfolding answer_of command_of arguments_of numbers_of number_of natural_of to_i64 command_named name_of command_from to_i32 answer_to date_of_day days_of_months_in names_of ordinal_name_of days_after_zero days_before_zero month_of_ordinal day_of_ordinal digits
 returns-clause-day c = refl
 
 pub returns-clause-wom : goal.returns-clause-wom
@@ -39,19 +39,19 @@ unfolding answer_of command_of arguments_of numbers_of number_of natural_of to_i
 returns-clause-wom c = refl
 
 pub returns-clause-days : goal.returns-clause-days
-unfolding answer_of command_of arguments_of numbers_of number_of natural_of to_i64 command_named name_of command_from to_i32 to_u32 calendar_date date_named date_of_ymd days_before_year days_of_years days_of_months_in only answer_to date_of_day names_of ordinal_name_of days_after_zero days_before_zero month_of_ordinal day_of_ordinal digits
+unfolding answer_of command_of arguments_of numbers_of number_of natural_of to_i64 command_named name_of command_from to_i32 to_u32 calendar_date date_named date_of_ymd days_before_year days_of_years days_of_months_in answer_to date_of_day names_of ordinal_name_of days_after_zero days_before_zero month_of_ordinal day_of_ordinal digits
 returns-clause-days c = refl
 
 pub returns-clause-months : goal.returns-clause-months
-unfolding answer_of command_of arguments_of numbers_of number_of natural_of to_i64 command_named name_of command_from to_i32 to_u32 calendar_date date_named date_of_ymd days_before_year days_of_years days_of_months_in only to_months answer_to month_move names_of ordinal_name_of days_after_zero days_before_zero month_of_ordinal day_of_ordinal digits
+unfolding answer_of command_of arguments_of numbers_of number_of natural_of to_i64 command_named name_of command_from to_i32 to_u32 calendar_date date_named date_of_ymd days_before_year days_of_years days_of_months_in to_months answer_to month_move names_of ordinal_name_of days_after_zero days_before_zero month_of_ordinal day_of_ordinal digits
 returns-clause-months c = refl
 
 pub returns-clause-week : goal.returns-clause-week
-unfolding answer_of command_of arguments_of numbers_of number_of natural_of to_i64 command_named name_of command_from to_i32 to_u32 calendar_date date_named date_of_ymd days_before_year days_of_years days_of_months_in only to_weekday answer_to week_line date_of_day names_of ordinal_name_of days_after_zero days_before_zero month_of_ordinal day_of_ordinal digits
+unfolding answer_of command_of arguments_of numbers_of number_of natural_of to_i64 command_named name_of command_from to_i32 to_u32 calendar_date date_named date_of_ymd days_before_year days_of_years days_of_months_in to_weekday answer_to week_line date_of_day names_of ordinal_name_of days_after_zero days_before_zero month_of_ordinal day_of_ordinal digits
 returns-clause-week c = refl
 
 pub returns-clause-moved : goal.returns-clause-moved
-unfolding answer_of command_of arguments_of numbers_of number_of natural_of to_i64 command_named name_of command_from to_i32 to_u32 calendar_date date_named date_of_ymd days_before_year days_of_years days_of_months_in clock_time date_and_time time_named moment_named only duration_named reach land date_of_day answer_to names_of ordinal_name_of days_after_zero days_before_zero month_of_ordinal day_of_ordinal digits
+unfolding answer_of command_of arguments_of numbers_of number_of natural_of to_i64 command_named name_of command_from to_i32 to_u32 calendar_date date_named date_of_ymd days_before_year days_of_years days_of_months_in clock_time date_and_time time_named moment_named duration_named reach land date_of_day answer_to names_of ordinal_name_of days_after_zero days_before_zero month_of_ordinal day_of_ordinal digits
 returns-clause-moved c = refl
 
 pub returns-clause-diff : goal.returns-clause-diff
@@ -75,7 +75,7 @@ returns-clause-on c =
     ap date_line (sym (date_of_day-on (pos 6) days 1 (omega (arith, signed), omega (arith, signed)) refl (λ j below. let none : j ≡ 0 = omega (arith, below) in ap on none)))
 
 pub returns-clause-every : goal.returns-clause-every
-unfolding answer_of command_of arguments_of numbers_of number_of natural_of to_i64 command_named name_of command_from to_i32 to_u32 calendar_date date_named date_of_ymd days_before_year days_of_years days_of_months_in only month_move answer_to names_of ordinal_name_of days_after_zero days_before_zero month_of_ordinal day_of_ordinal digits
+unfolding answer_of command_of arguments_of numbers_of number_of natural_of to_i64 command_named name_of command_from to_i32 to_u32 calendar_date date_named date_of_ymd days_before_year days_of_years days_of_months_in month_move answer_to names_of ordinal_name_of days_after_zero days_before_zero month_of_ordinal day_of_ordinal digits
 returns-clause-every c = refl
 
 pub returns-clause-none : goal.returns-clause-none

@@ -1,0 +1,60 @@
+-- Holidays by rules: which day a rule names in a year, where it goes from a weekend, and the holidays of a year.
+use Rattle.std.specs.Prelude.{ℕ, Bool, ◌&&◌, ◌==◌, int_le, if◌then◌else◌, ℤ, pos, neg_ℤ, ◌+ℤ◌, Option, Some, None}
+use Rattle.std.specs.Option.{option_and_then}
+use Rattle.chrono_datetime.specs.declared.Weekday.{Weekday}
+use Rattle.chrono_datetime.specs.Month.{number_from_month}
+use Rattle.chrono_datetime.specs.Weekday.{days_from_monday}
+use Rattle.chrono_datetime.specs.Days.{date_of_day, date_of_ymd}
+use Rattle.chrono_datetime.specs.MonthMoves.{month_last_of}
+use Rattle.chrono_datetime.specs.Weeks.{date_of_nth_weekday, week_first_of, weekday_of}
+use Rattle.chrono_business.specs.Easter.{date_of_easter}
+use Rattle.chrono_business.specs.declared.holiday_rule.HolidayDay.{HolidayDay}
+use Rattle.chrono_business.specs.declared.holiday_rule.HolidayDay.TheVariants.{Fixed, NthWeekday, LastWeekday, EasterPlus}
+use Rattle.chrono_business.specs.declared.holiday_rule.Moved.{Moved}
+use Rattle.chrono_business.specs.declared.holiday_rule.Moved.TheVariants.{Stays, SundayToMonday, ToMonday, ToNearer, TwoDaysOn}
+use Rattle.chrono_business.specs.declared.holiday_rule.HolidayRule.{HolidayRule}
+
+-- the last day of the month m of the year y that has the weekday, if the library has that month
+abbrev pub date_of_last_weekday : ℤ → ℕ → Weekday → Option ℤ
+date_of_last_weekday y m weekday = option_and_then (λ first. date_of_day (week_first_of (month_last_of first) weekday)) (date_of_ymd y m 1)
+
+-- the date so many days after Easter, or before it
+abbrev pub date_of_easter_plus : ℤ → ℤ → Option ℤ
+date_of_easter_plus y days = option_and_then (λ e. date_of_day (e +ℤ days)) (date_of_easter y)
+
+-- the date that is named in the year y
+unfoldable pub date_named : HolidayDay → ℤ → Option ℤ
+date_named (Fixed month day) y = date_of_ymd y (number_from_month month) day
+date_named (NthWeekday n weekday month) y = date_of_nth_weekday y (number_from_month month) weekday n
+date_named (LastWeekday weekday month) y = date_of_last_weekday y (number_from_month month) weekday
+date_named (EasterPlus days) y = date_of_easter_plus y days
+
+-- the days by which a holiday on Saturday is moved, and one on Sunday
+unfoldable pub from_saturday : Moved → ℤ
+from_saturday Stays = pos 0
+from_saturday SundayToMonday = pos 0
+from_saturday ToMonday = pos 2
+from_saturday ToNearer = neg_ℤ (pos 1)
+from_saturday TwoDaysOn = pos 2
+
+unfoldable pub from_sunday : Moved → ℤ
+from_sunday Stays = pos 0
+from_sunday SundayToMonday = pos 1
+from_sunday ToMonday = pos 1
+from_sunday ToNearer = pos 1
+from_sunday TwoDaysOn = pos 2
+
+-- the days by which a holiday on the day n is moved
+abbrev pub moved_by : Moved → ℤ → ℤ
+moved_by moved n =
+    if days_from_monday (weekday_of n) == 5 then from_saturday moved
+    else (if days_from_monday (weekday_of n) == 6 then from_sunday moved else pos 0)
+
+-- the rule holds in the year y
+abbrev pub holds_in : HolidayRule → ℤ → Bool
+holds_in r y = int_le r.first_year y && int_le y r.last_year
+
+-- the date of the rule of the year y: the date that is named there, moved
+unfoldable pub date_of_rule : HolidayRule → ℤ → Option ℤ
+date_of_rule r y =
+    if holds_in r y then option_and_then (λ n. date_of_day (n +ℤ moved_by r.moved n)) (date_named r.day y) else None

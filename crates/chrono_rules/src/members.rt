@@ -1,0 +1,212 @@
+//! The instances of a rule.
+ghost use Rattle.std.specs.Prelude.{◌≡◌, ◌≤◌, ◌<◌, ◌+◌, if◌then◌else◌, ◌≤ℤ◌, ◌<ℤ◌, ◌+ℤ◌, ℤ, neg_ℤ, pos, true, false, IsTrue, IfSome, IfNone};
+ghost use Rattle.chrono_datetime.specs.Days.{IsDate};
+ghost use Rattle.chrono_datetime.specs.Recurrence.{count_between};
+ghost use Rattle.chrono_rules.specs.Instances.{date_passes, in_positions, is_counted, is_instance, is_member, period_end, period_first};
+
+use crate::parts::days_of_year;
+use crate::periods::moved;
+use crate::rule::{End, Frequency, Rule};
+use chrono_datetime::{Datelike, NaiveDate};
+
+impl Rule {
+    // Whether the day that lies so many days later is a date that passes.
+    #[inline]
+    #[tactic(auto, unfolding(crate::specs::Instances::date_passes))]
+    fn passes_later(&self, start: NaiveDate, date: NaiveDate, later: i64) -> bool
+        ensures { result ≡ date_passes self.now start (date +ℤ later) }
+    {
+        match date.moved_by_days(later) {
+            Some(day) => self.passes(start, day),
+            None => false,
+        }
+    }
+
+    // How many dates pass from the day that lies `first` days later to before the one that lies `end` days later.
+    fn count_passing(&self, start: NaiveDate, date: NaiveDate, first: i64, end: i64) -> u32
+        requires order { first ≤ℤ end }
+        requires first { neg_ℤ (pos 400) ≤ℤ first }
+        requires end { end ≤ℤ pos 400 }
+        ensures value { result ≡ count_between (date_passes self.now start) (date +ℤ first) (date +ℤ end) }
+        ensures few { (first +ℤ pos result) ≤ℤ end }
+    {
+        let mut count = 0;
+        let mut later = first;
+        while later < end {
+            count = self.and_later(start, date, later, count);
+            later += 1;
+        }
+        count
+    }
+
+    // The count, and one more if the day that lies so many days later is a date that passes.
+    #[inline]
+    fn and_later(&self, start: NaiveDate, date: NaiveDate, later: i64, count: u32) -> u32
+        requires { count ≤ 1000 }
+        ensures value { result ≡ count + (if date_passes self.now start (date +ℤ later) then 1 else 0) }
+        ensures step { result ≤ count + 1 }
+    {
+        if self.passes_later(start, date, later) {
+            count + 1
+        } else {
+            count
+        }
+    }
+
+    // How many days later the first day of the date's period lies, 0 or less.
+    #[inline]
+    #[tactic(auto, unfolding(crate::specs::Instances::period_first))]
+    fn to_period_first(&self, date: NaiveDate) -> i64
+        ensures value { date +ℤ result ≡ period_first self.now.frequency self.now.week_start date }
+        ensures low { neg_ℤ (pos 366) ≤ℤ result }
+        ensures high { result ≤ℤ pos 0 }
+    {
+        match self.frequency {
+            Frequency::Daily => 0,
+            Frequency::Weekly => 0 - i64::from(date.weekday().days_since(self.week_start)),
+            Frequency::Monthly => 0 - i64::from(date.day() - 1),
+            Frequency::Yearly => 1 - i64::from(date.ordinal()),
+        }
+    }
+
+    // How many days later the day after the last of the date's period lies, 1 or more.
+    #[inline]
+    #[tactic(auto, unfolding(crate::specs::Instances::period_end))]
+    fn to_period_end(&self, date: NaiveDate) -> i64
+        ensures value { date +ℤ result ≡ period_end self.now.frequency self.now.week_start date }
+        ensures low { pos 1 ≤ℤ result }
+        ensures high { result ≤ℤ pos 366 }
+    {
+        match self.frequency {
+            Frequency::Daily => 1,
+            Frequency::Weekly => 7 - i64::from(date.weekday().days_since(self.week_start)),
+            Frequency::Monthly => 1 + i64::from(u32::from(date.num_days_in_month()) - date.day()),
+            Frequency::Yearly => 1 + i64::from(days_of_year(date) - date.ordinal()),
+        }
+    }
+
+    // The date's place among the days of its period that pass, and its place from the last of them.
+    fn place(&self, start: NaiveDate, date: NaiveDate) -> u32
+        ensures value { result ≡ count_between (date_passes self.now start)
+            (period_first self.now.frequency self.now.week_start date) (date +ℤ pos 1) }
+        ensures few { result < 384 }
+    {
+        let first = self.to_period_first(date);
+        self.count_passing(start, date, first, 1)
+    }
+
+    fn place_from_end(&self, start: NaiveDate, date: NaiveDate) -> u32
+        ensures value { result ≡ count_between (date_passes self.now start) date
+            (period_end self.now.frequency self.now.week_start date) }
+        ensures few { result < 384 }
+    {
+        let end = self.to_period_end(date);
+        self.count_passing(start, date, 0, end)
+    }
+
+    /// Whether the date's place among the days of its period that pass, from the front or from the back, is one that BYSETPOS names; true
+    /// where the rule has none.
+    #[tactic(auto, unfolding(crate::specs::Instances::in_positions))]
+    pub fn in_positions(&self, start: NaiveDate, date: NaiveDate) -> bool
+        ensures { result ≡ in_positions self.now start date }
+    {
+        self.lacks_positions()
+            || (self.positions.contains(self.place(start, date))
+                || self
+                    .positions_from_end
+                    .contains(self.place_from_end(start, date)))
+    }
+
+    /// Whether the date is an instance of the rule from the start on, but for COUNT.
+    #[tactic(auto, unfolding(crate::specs::Instances::is_member))]
+    pub fn is_member(&self, start: NaiveDate, date: NaiveDate) -> bool
+        ensures { result ≡ is_member self.now start date }
+    {
+        start <= date
+            && (self.not_after(date)
+                && (self.in_interval(start, date)
+                    && (self.passes(start, date) && self.in_positions(start, date))))
+    }
+
+    // The count, and one more if the date is a member.
+    #[inline]
+    fn and_member(&self, start: NaiveDate, date: NaiveDate, count: u32) -> u32
+        requires { count ≤ 1_000_000_000 }
+        ensures value { result ≡ count + (if is_member self.now start date then 1 else 0) }
+        ensures step { result ≤ count + 1 }
+    {
+        if self.is_member(start, date) {
+            count + 1
+        } else {
+            count
+        }
+    }
+
+    // How many members lie from the start to before the date.
+    fn count_members(&self, start: NaiveDate, date: NaiveDate) -> u32
+        ensures { result ≡ count_between (is_member self.now start) start date }
+    {
+        let end = date.num_days_from_ce();
+        if end <= start.num_days_from_ce() {
+            return 0;
+        }
+        let mut count = 0;
+        let mut day = start;
+        while day.num_days_from_ce() < end {
+            count = self.and_member(start, day, count);
+            day = moved(day, 1);
+        }
+        count
+    }
+
+    // Whether COUNT lets the date be an instance.
+    #[inline]
+    #[tactic(auto, unfolding(crate::specs::Instances::is_counted))]
+    fn is_counted(&self, start: NaiveDate, date: NaiveDate) -> bool
+        ensures { result ≡ is_counted self.now.end self.now start date }
+    {
+        match self.end {
+            End::Never => true,
+            End::Until(_) => true,
+            End::Count(count) => self.count_members(start, date) < count,
+        }
+    }
+
+    /// Whether the date is an instance of the rule from the start on. A start that does not pass is none.
+    #[tactic(auto, unfolding(crate::specs::Instances::is_instance))]
+    pub fn is_instance(&self, start: NaiveDate, date: NaiveDate) -> bool
+        ensures { result ≡ is_instance self.now start date }
+    {
+        self.is_member(start, date) && self.is_counted(start, date)
+    }
+
+    // The first member from the date on.
+    fn first_member(&self, start: NaiveDate, date: NaiveDate) -> Option<NaiveDate>
+        ensures member { IfSome result (λ e. is_member self.now start e ≡ true) }
+        ensures not_before { IfSome result (λ e. date ≤ℤ e) }
+        ensures least { IfSome result (λ e. (d : ℤ) → date ≤ℤ d → d <ℤ e → is_member self.now start d ≡ false) }
+        ensures none { IfNone result ((d : ℤ) → date ≤ℤ d → IsDate d → is_member self.now start d ≡ false) }
+    {
+        let mut day = date;
+        while !self.is_member(start, day) {
+            day = day.succ_opt()?;
+        }
+        Some(day)
+    }
+
+    /// The first instance after the day, of the rule from the start on; `None` exactly if there is none in the calendar.
+    #[tactic(auto, unfolding(crate::specs::Instances::is_instance))]
+    pub fn next_after(&self, start: NaiveDate, day: NaiveDate) -> Option<NaiveDate>
+        ensures member { IfSome result (λ e. IsTrue (is_instance self.now start e)) }
+        ensures later { IfSome result (λ e. day <ℤ e) }
+        ensures least { IfSome result (λ e. (d : ℤ) → day <ℤ d → d <ℤ e → is_instance self.now start d ≡ false) }
+        ensures none { IfNone result ((d : ℤ) → day <ℤ d → IsDate d → is_instance self.now start d ≡ false) }
+    {
+        let next = self.first_member(start, day.succ_opt()?)?;
+        if self.is_counted(start, next) {
+            Some(next)
+        } else {
+            None
+        }
+    }
+}

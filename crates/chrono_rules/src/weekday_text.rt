@@ -1,0 +1,94 @@
+//! The weekdays that BYDAY lists, as texts.
+ghost use Rattle.std.specs.Prelude.{◌≡◌, ◌<◌, IfSome, [], length, take, drop};
+ghost use Rattle.chrono_rules.specs.Places.{weekday_of_letters, weekdays_of, with_each, with_nth, with_weekday, with_weekday_text};
+
+use crate::pieces::first_piece;
+use crate::place_text::{Place, read_place, with_number};
+use crate::places::WeekdayPlaces;
+
+/// The weekdays that the text lists between commas, each by its two letters and with a number from 1 to 53 in front or none (BYDAY):
+/// `TU,SU`, `1MO,-1FR`; `None` exactly if one of them is not written so.
+pub fn read_weekdays(text: &[u8]) -> Option<WeekdayPlaces>
+    ensures { result ≡ weekdays_of text.now }
+{
+    let mut days = WeekdayPlaces::none();
+    let mut rest = text;
+    loop {
+        let (first, behind) = first_piece(rest, b',');
+        days = with_text(days, first)?;
+        match behind {
+            [_, next @ ..] => rest = next,
+            [] => return Some(days),
+        }
+    }
+}
+
+// The days and those that the text names.
+#[tactic(auto, unfolding(crate::specs::Places::with_weekday_text))]
+fn with_text(days: WeekdayPlaces, text: &[u8]) -> Option<WeekdayPlaces>
+    ensures { result ≡ with_weekday_text days text.now }
+{
+    let (number, letters) = text.split_at(text.len().saturating_sub(2));
+    match weekday_of_letters(letters) {
+        Some(weekday) => with_weekday(days, number, weekday),
+        None => None,
+    }
+}
+
+// The weekday that two letters name, from 0 for Monday.
+#[tactic(auto, unfolding(crate::specs::Places::weekday_of_letters))]
+fn weekday_of_letters(text: &[u8]) -> Option<usize>
+    ensures value { result ≡ weekday_of_letters text.now }
+    ensures small { IfSome result (λ w. w < 7) }
+{
+    match text {
+        b"MO" => Some(0),
+        b"TU" => Some(1),
+        b"WE" => Some(2),
+        b"TH" => Some(3),
+        b"FR" => Some(4),
+        b"SA" => Some(5),
+        b"SU" => Some(6),
+        _ => None,
+    }
+}
+
+// The days and those of the weekday that the number names: each, or that one.
+#[tactic(auto, unfolding(crate::specs::Places::with_weekday))]
+fn with_weekday(days: WeekdayPlaces, number: &[u8], weekday: usize) -> Option<WeekdayPlaces>
+    requires { weekday < 7 }
+    ensures { result ≡ with_weekday days number.now weekday }
+{
+    if number.is_empty() {
+        return Some(with_each(days, weekday));
+    }
+    match read_place(number, 2, 53) {
+        Some(place) => Some(with_nth(days, weekday, place)),
+        None => None,
+    }
+}
+
+// The days and each of the weekday.
+fn with_each(days: WeekdayPlaces, weekday: usize) -> WeekdayPlaces
+    requires { weekday < 7 }
+    ensures { result ≡ with_each days weekday }
+{
+    let mut days = days;
+    days.every = with_number(days.every, weekday as u32);
+    days
+}
+
+// The days and the one of the weekday in that place.
+fn with_nth(days: WeekdayPlaces, weekday: usize, place: Place) -> WeekdayPlaces
+    requires weekday { weekday < 7 }
+    requires small { place.number < 64 }
+    ensures { result ≡ with_nth days weekday place }
+{
+    let mut days = days;
+    if place.from_end {
+        days.back[weekday] = days.back[weekday] | (1 << place.number);
+    } else {
+        days.front[weekday] = days.front[weekday] | (1 << place.number);
+    }
+    days
+}
