@@ -1,6 +1,7 @@
 mod Again
 mod Digits
 mod DueLists
+mod FieldLemmas
 mod Minutes
 mod MonthSets
 mod Months

@@ -7,6 +7,7 @@
 #![tactic(auto)]
 
 mod after;
+mod field;
 pub mod law;
 mod month_days;
 mod number_set;
@@ -14,6 +15,7 @@ mod schedule;
 mod sets;
 
 pub use after::After;
+pub use field::read_field;
 pub use month_days::MonthDays;
 pub use number_set::NumberSet;
 pub use schedule::Schedule;

@@ -1,0 +1,142 @@
+//! The reading of one field of a schedule's text.
+ghost use Rattle.std.specs.Prelude.{◌≡◌, ◌<◌, ◌≤◌, ◌+◌, ◌==◌, ℕ, drop, length, IfSome};
+ghost use Rattle.std.specs.Option.{option_map};
+ghost use Rattle.std.specs.List.{position_or_len};
+ghost use Rattle.chrono_cron.specs.Due.{has};
+ghost use Rattle.chrono_cron.specs.FieldTexts.{field_lists, is_star, item_lists, number_in, range_of, short_number_of, span_of};
+
+use crate::number_set::NumberSet;
+
+const COMMA: u8 = b',';
+
+const SLASH: u8 = b'/';
+
+const DASH: u8 = b'-';
+
+const STAR: u8 = b'*';
+
+// The greatest number of two digits.
+const MOST: u32 = 99;
+
+/// The numbers that a field lists, each of them from `low` to `high`; `None` exactly if its text is no such field.
+///
+/// A field is one item or more with commas between: `*`, a number, a range `a-b` whose end is not below its beginning, or `*` or a range by
+/// steps, `*/n` and `a-b/n`, counted from the range's beginning and above 0. Numbers have one digit or two.
+pub fn read_field(text: &[u8], low: u32, high: u32) -> Option<NumberSet>
+    requires { high < 64 }
+    ensures { (k : ℕ) → k < 64 → option_map (λ set. has set k) result ≡ field_lists low high text.now k }
+{
+    let mut set = NumberSet::from_digits(0);
+    let mut rest = text;
+    let mut len = place_of(rest, COMMA);
+    while len < rest.len() {
+        let item = read_item(&rest[..len], low, high)?;
+        set = set.union(item);
+        rest = text_behind(rest, len);
+        len = place_of(rest, COMMA);
+    }
+    let item = read_item(rest, low, high)?;
+    Some(set.union(item))
+}
+
+// The numbers that an item of a field lists.
+fn read_item(text: &[u8], low: u32, high: u32) -> Option<NumberSet>
+    requires { high < 64 }
+    ensures { (k : ℕ) → k < 64 → option_map (λ set. has set k) result ≡ item_lists low high text.now k }
+{
+    let len = place_of(text, SLASH);
+    if len == text.len() {
+        let (first, last) = read_span(text, low, high)?;
+        return Some(NumberSet::by_steps(first, last, 1));
+    }
+    let (first, last) = read_range(&text[..len], low, high)?;
+    let step = read_number(text_behind(text, len), 1, MOST)?;
+    Some(NumberSet::by_steps(first, last, step))
+}
+
+// The first and the last number of an item without steps.
+fn read_span(text: &[u8], low: u32, high: u32) -> Option<(u32, u32)>
+    requires { high < 64 }
+    ensures span { result ≡ span_of low high text.now }
+    ensures small { IfSome result (λ span. span.1 < 64) }
+{
+    if let Some(number) = read_number(text, low, high) {
+        return Some((number, number));
+    }
+    read_range(text, low, high)
+}
+
+// The first and the last number of `*` or `a-b`.
+fn read_range(text: &[u8], low: u32, high: u32) -> Option<(u32, u32)>
+    requires { high < 64 }
+    ensures range { result ≡ range_of low high text.now }
+    ensures small { IfSome result (λ span. span.1 < 64) }
+{
+    if is_star(text) {
+        return Some((low, high));
+    }
+    let len = place_of(text, DASH);
+    if len == text.len() {
+        return None;
+    }
+    let first = read_number(&text[..len], low, high)?;
+    let last = read_number(text_behind(text, len), first, high)?;
+    Some((first, last))
+}
+
+// Whether the text is `*`.
+fn is_star(text: &[u8]) -> bool
+    ensures { result ≡ is_star text.now }
+{
+    text.len() == 1 && text[0] == STAR
+}
+
+// The number from `low` to `high` that one digit or two write.
+fn read_number(text: &[u8], low: u32, high: u32) -> Option<u32>
+    ensures number { result ≡ number_in low high text.now }
+    ensures low { IfSome result (λ n. low ≤ n) }
+    ensures high { IfSome result (λ n. n ≤ high) }
+{
+    let number = short_number(text)?;
+    if low <= number && number <= high {
+        Some(number)
+    } else {
+        None
+    }
+}
+
+// The number that one digit or two write.
+fn short_number(text: &[u8]) -> Option<u32>
+    ensures { result ≡ short_number_of text.now }
+{
+    match text {
+        [ones] if ones.is_ascii_digit() => Some(u32::from(*ones - b'0')),
+        [tens, ones] if tens.is_ascii_digit() && ones.is_ascii_digit() => {
+            Some(u32::from(*tens - b'0') * 10 + u32::from(*ones - b'0'))
+        }
+        _ => None,
+    }
+}
+
+// What stands behind a place of a text.
+fn text_behind(text: &[u8], place: usize) -> &[u8]
+    requires { place < length text.now }
+    ensures { result.now ≡ drop (place + 1) text.now }
+{
+    &text[place + 1..]
+}
+
+// Where the first byte of a kind stands, or how long the text is if there is none.
+fn place_of(text: &[u8], byte: u8) -> usize
+    ensures within { result ≤ length text.now }
+    ensures place { position_or_len (λ x. x == byte) text.now ≡ result }
+{
+    let mut place = 0;
+    while place < text.len() {
+        if text[place] == byte {
+            return place;
+        }
+        place += 1;
+    }
+    place
+}
