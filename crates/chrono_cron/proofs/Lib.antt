@@ -5,4 +5,5 @@ mod Minutes
 mod MonthSets
 mod Months
 mod Order
+mod SameDues
 mod Steps

@@ -10,6 +10,7 @@ mod after;
 pub mod law;
 mod month_days;
 mod number_set;
+mod same;
 mod schedule;
 mod sets;
 
