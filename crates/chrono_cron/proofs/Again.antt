@@ -42,7 +42,7 @@ day_at s month p length w =
 day_at-same : (s : Sets) (month other p q length k w v : ℕ) → month ≡ other → p ≡ q → length ≡ k → w ≡ v → day_at s month p length w ≡ day_at s other q k v
 day_at-same s month other p q length k w v months places lengths weekdays = rw (months, places, lengths, weekdays) refl
 
-is_day-again : (s : Sets) (n m : ℤ) → m ≡ n +ℤ pos 146_097 → is_day s m ≡ is_day s n
+pub is_day-again : (s : Sets) (n m : ℤ) → m ≡ n +ℤ pos 146_097 → is_day s m ≡ is_day s n
 unfolding is_day is_listed
 is_day-again s n m e =
     let name = calendar_name-again n m e in

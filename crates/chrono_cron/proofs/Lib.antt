@@ -6,4 +6,5 @@ mod Minutes
 mod MonthSets
 mod Months
 mod Order
+mod SameDues
 mod Steps

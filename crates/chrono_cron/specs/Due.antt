@@ -78,6 +78,10 @@ begins_minute m = m.time.second % 60 == 0 && m.time.fraction == 0
 unfoldable pub is_due : Sets → Moment → Bool
 is_due s m = is_day s m.date && (is_minute s (m.time.second / 60) && begins_minute m)
 
+-- two schedules are due at the same moments
+abbrev pub MeanTheSame : Sets → Sets → Type 0
+MeanTheSame s t = (m : Moment) → IsMoment m → is_due s m ≡ is_due t m
+
 -- the schedule is due at no moment
 abbrev pub IsNeverDue : Sets → Type 0
 IsNeverDue s = (m : Moment) → IsMoment m → is_due s m ≡ false

@@ -11,6 +11,7 @@ mod field;
 pub mod law;
 mod month_days;
 mod number_set;
+mod same;
 mod schedule;
 mod sets;
 

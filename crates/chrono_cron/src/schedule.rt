@@ -4,10 +4,11 @@ ghost use Rattle.std.specs.Iterator.{YieldsFirst};
 ghost use Rattle.std.specs.Iterator.Runs.{YieldsInOrder};
 ghost use Rattle.chrono_datetime.specs.Moment.{Moment, IsBefore, IsMoment};
 ghost use Rattle.chrono_datetime.specs.Time.{IsEarlier, time_at};
-ghost use Rattle.chrono_cron.specs.Due.{IsNeverDue, is_due};
+ghost use Rattle.chrono_cron.specs.Due.{IsNeverDue, MeanTheSame, is_due};
 ghost use Rattle.chrono_cron.specs.DueMoments.{dues_after, dues_left};
 
 use crate::after::{After, lies_in_calendar};
+use crate::same::mean_the_same;
 use crate::sets::Sets;
 use chrono_datetime::{NaiveDateTime, NaiveTime, Timelike};
 
@@ -41,6 +42,16 @@ impl Schedule {
         ensures { IsTrue result ↔ IsNeverDue self.now.sets }
     {
         self.sets.is_never_due()
+    }
+
+    /// Whether the two schedules mean the same minutes: whether they are due at the same moments. `==` says instead whether their
+    /// fields list the same numbers.
+    ///
+    /// It looks at each day of 400 years, after which the calendar comes again, up to the first that one of the two has alone.
+    pub fn same_minutes(&self, other: &Schedule) -> bool
+        ensures { IsTrue result ↔ MeanTheSame self.now.sets other.now.sets }
+    {
+        mean_the_same(&self.sets, &other.sets)
     }
 
     /// The first moment after `start` at which the schedule is due; `None` exactly if it is not due any more in the calendar.

@@ -12,7 +12,7 @@ use chrono_datetime::law::{dates_are_days_of_years, first_date, last_date};
 use chrono_datetime::{Datelike, NaiveDate};
 
 // The days of 400 years, after which the calendar comes again.
-const CYCLE: i64 = 146_097;
+pub(crate) const CYCLE: i64 = 146_097;
 
 // The hours of a day.
 const HOURS: u32 = 24;
