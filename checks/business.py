@@ -10,7 +10,8 @@ random weekdays with random holidays, never closed and never open. The walk goes
 each day whether it is open and how many open days lie before it; all other calls are asked at random dates. numpy answers 100,000
 queries of `busday_offset`, with each of its rolls, and of `busday_count`. Day counts are held to the texts of ISDA 2006,
 4.16(b), (e), (f) and (g), in calendar fields of `datetime`, the days of leap years one by one. Lists of holidays that are none are refused
-with what is wrong first.
+with what is wrong first. Easter is held to the method of Meeus, Jones and Butcher over 200,000 years, and from 326 to 4099 to dateutil
+where it is installed; each holiday of the given calendars up to 2049 to a reading of its own here.
 
 It needs crates/business_rows/out/business_rows, which `rt run` and `rt ci` leave there.
 """
@@ -33,6 +34,11 @@ try:
     import numpy
 except ImportError:
     numpy = None
+
+try:
+    from dateutil.easter import easter as dateutil_easter
+except ImportError:
+    dateutil_easter = None
 
 Date = datetime.date
 
@@ -261,6 +267,75 @@ def by_numpy(chance, calendar, count):
         yield f"count {last} {first} = {-answer}"
 
 
+# ---- holidays by rules
+
+
+def easter(year):
+    """Easter by the method of Meeus, Jones and Butcher, as the day number."""
+    a, b, c = year % 19, year // 100, year % 100
+    h = (19 * a + b - b // 4 - (b - (b + 8) // 25 + 1) // 3 + 15) % 30
+    k = (32 + 2 * (b % 4) + 2 * (c // 4) - h - c % 4) % 7
+    n = h + k - 7 * ((a + 11 * h + 22 * k) // 451) + 114
+    leaps = (year - 1) // 4 - (year - 1) // 100 + (year - 1) // 400
+    before = 365 * (year - 1) + leaps + (59 + months.isleap(year)) + (31 if n // 31 == 4 else 0)
+    return before + n % 31 + 1
+
+
+def moved(date, saturday, sunday):
+    return date + datetime.timedelta({5: saturday, 6: sunday}.get(date.weekday(), 0))
+
+
+def federal_from_1971(year):
+    found = [it for it in federal(year) if year >= 2021 or it != observed(Date(year, 6, 19))]
+    if year < 1986:
+        found.remove(weekdays_of_month(year, 1, 0)[2])
+    if year < 1978:
+        found.remove(observed(Date(year, 11, 11)))
+        found.append(weekdays_of_month(year, 10, 0)[3])
+    return found
+
+
+def target(year):
+    sunday, found = Date.fromordinal(easter(year)), [Date(year, 1, 1), Date(year, 12, 25)]
+    if year >= 2000:
+        day = datetime.timedelta(1)
+        found += [sunday - 2 * day, sunday + day, Date(year, 5, 1), Date(year, 12, 26)]
+    return found + [Date(year, 12, 31)] * (year in (1999, 2001))
+
+
+ENGLISH_DAYS = {1981: [(7, 29)], 1999: [(12, 31)], 2002: [(6, 3), (6, 4)], 2011: [(4, 29)], 2012: [(6, 4), (6, 5)],
+                2022: [(6, 2), (6, 3), (9, 19)], 2023: [(5, 8)]}
+
+
+def england(year):
+    sunday, day = Date.fromordinal(easter(year)), datetime.timedelta(1)
+    found = [moved(Date(year, 1, 1), 2, 1), sunday - 2 * day, sunday + day, weekdays_of_month(year, 8, 0)[-1]]
+    found += [moved(Date(year, 12, it), 2, 2) for it in (25, 26)]
+    found.append(Date(year, 5, 8) if year in (1995, 2020) else weekdays_of_month(year, 5, 0)[0])
+    if year not in (2002, 2012, 2022):
+        found.append(weekdays_of_month(year, 5, 0)[-1])
+    return found + [Date(year, *it) for it in ENGLISH_DAYS.get(year, [])]
+
+
+def by_rules():
+    """Rows of each holiday of the given calendars, and of how many there are in a year."""
+    for name, of, first in (("us_federal", federal_from_1971, 1971), ("target", target, 1999), ("england", england, 1978)):
+        for year in range(first, 2050):
+            for it in of(year):
+                yield f"{name} {it.toordinal()} {year} = 1"
+            yield f"{name}_days 1 {year} = {len(of(year))}"
+
+
+def easters(first, last):
+    for year in range(first, last):
+        yield f"easter 1 {year} = {easter(year)}"
+
+
+def by_dateutil():
+    for year in range(326, 4100):
+        yield f"easter 1 {year} = {dateutil_easter(year).toordinal()}"
+
+
 # Rows of a page, not of this walk: federal holidays of 2024 and 2025, and the ends of the calendar.
 KNOWN = """count 738886 739252 = 251
 add 739244 1 = 739246
@@ -304,6 +379,7 @@ def main():
         few += [it.row(), *questions(chance, it, 20)]
     few += day_counts(chance, 100)
     few += refused(chance, 60)
+    few += [made[1].row(), *by_rules(), *easters(1900, 2100)]
     if given.write:
         with open(STDIN, "w", encoding="utf-8") as it:
             it.write("\n".join(few) + "\n")
@@ -316,6 +392,11 @@ def main():
     parts = {"the rows of business_rows": few}
     for place, it in enumerate(made[:2]):
         parts[f"400 years day by day, calendar {place + 1}"] = [it.row(), *walked(it)]
+    parts["Easter of 200,000 years"] = [made[1].row(), *easters(-100_000, 100_000)]
+    if dateutil_easter is None:
+        print("not run: the rows of dateutil, since there is no dateutil")
+    else:
+        parts["dateutil"] = [made[1].row(), *by_dateutil()]
     parts["random questions"] = [row for it in made for row in (it.row(), *questions(chance, it, 500))]
     if numpy is None:
         print("not run: the rows of numpy, since there is no numpy")

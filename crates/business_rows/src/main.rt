@@ -8,6 +8,8 @@
 //! count.
 #![tactic(auto)]
 
+mod rules;
+
 use chrono_business::{
     Calendar, HolidayError, Roll, actual_360, actual_actual_isda, thirty_360, thirty_e_360,
 };
@@ -108,7 +110,10 @@ fn answer_of(calendar: &Calendar<'_>, name: &str, date: NaiveDate, last: &str) -
         "actual_360" => Some(actual_360(date, date_of(last)?).numerator),
         "thirty_360" => Some(thirty_360(date, date_of(last)?).numerator),
         "thirty_e_360" => Some(thirty_e_360(date, date_of(last)?).numerator),
-        _ => number_of(calendar.roll(date, roll_of(name)?)),
+        _ => match roll_of(name) {
+            Some(roll) => number_of(calendar.roll(date, roll)),
+            None => rules::answer_of(name, date, last.parse().ok()?),
+        },
     }
 }
 
