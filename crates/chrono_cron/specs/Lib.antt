@@ -4,3 +4,4 @@ pub mod FieldTexts
 pub mod KnownMonthDays
 pub mod KnownSchedules
 pub mod Steps
+pub mod WrittenTexts

@@ -14,6 +14,7 @@ mod number_set;
 mod same;
 mod schedule;
 mod sets;
+mod text;
 
 pub use after::After;
 pub use field::read_field;
