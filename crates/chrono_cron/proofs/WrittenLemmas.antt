@@ -1,5 +1,5 @@
 -- The ranges, the names and the items of a field, as they are written one after another.
-use Rattle.std.proofs.Common.{◌≡◌, ℕ, zero, suc, ◌+◌, ◌-◌, ◌*◌, ◌<◌, ◌≤◌, ◌==◌, Bool, true, false, not, ◌&&◌, List, [], ◌∷◌, ◌++◌, length, drop, if◌then◌else◌, inl, inr, refl, sym, ap, ◌∙◌, arith, append_assoc, append-nil, eq-eqb, ne_eqb}
+use Rattle.std.proofs.Common.{◌≡◌, ℕ, zero, suc, ◌+◌, ◌-◌, ◌<◌, ◌≤◌, ◌==◌, Bool, true, false, ◌&&◌, List, [], ◌∷◌, ◌++◌, drop, if◌then◌else◌, inl, inr, refl, sym, ap, ◌∙◌, arith, append_assoc, append-nil, eq-eqb, ne_eqb}
 use Rattle.std.specs.Prelude.{map, codes, ⊤}
 use Rattle.std.specs.List.{join_with_byte}
 use Rattle.std.proofs.lemmas.Bool.{cases_lt}
@@ -166,6 +166,9 @@ item_put old new item items put = ap (λ text. text ++ behind_commas items) put 
 
 pub field_put : (old new items : List ℕ) (list : List (List ℕ)) → new ≡ old ++ drop 1 items → items ≡ behind_commas list → new ≡ old ++ field_text list
 field_put old new items list put are = put ∙ ap (λ text. old ++ drop 1 text) are ∙ ap (λ text. old ++ text) (without_comma list)
+
+pub first_put : (old new : List ℕ) (items : List (List ℕ)) → old ≡ [] → new ≡ old ++ behind_commas items → new ≡ behind_commas items
+first_put old new items none put = put ∙ ap (λ front. front ++ behind_commas items) none
 
 pub items_put : (old new : List ℕ) (list more : List (List ℕ)) → old ≡ behind_commas list → new ≡ old ++ behind_commas more → new ≡ behind_commas (list ++ more)
 items_put old new list more are put = put ∙ ap (λ text. text ++ behind_commas more) are ∙ sym (behind_commas-append list more)

@@ -65,7 +65,7 @@ pub fn known_last_dues()
 /// ranges as long as can be; where both fields have to match, one begins with `*`, by the 1st or by Sunday; and names stand behind numbers.
 pub fn known_texts()
     ensures stars { schedule_text each_minute ≡ codes "* * * * *" }
-    ensures ranges { schedule_text (fields 1_073_741_825 261_632 4_294_967_294 5_100 62 false) ≡ codes "0,30 9-17 * 2-3,5-10,12 1-5" }
+    ensures ranges { schedule_text (fields 1_073_741_825 261_632 4_294_967_294 5_100 62 false) ≡ codes "0,30 9-17 * 2-3,5-9,12 1-5" }
     ensures either { schedule_text (fields 1 1 (2 ^ 1 + 2 ^ 15) 8_190 127 true) ≡ codes "0 0 1,15 * 0-6" }
     ensures both_by_first { schedule_text (fields 1 1 (2 ^ 1 + 2 ^ 15) 8_190 (2 ^ 5) false) ≡ codes "0 0 */31,1,15 * 5" }
     ensures both_by_sunday { schedule_text (fields 1 1 (2 ^ 13) 8_190 (2 ^ 0 + 2 ^ 5) false) ≡ codes "0 0 13 * */7,0,5" }

@@ -1,4 +1,4 @@
-use Rattle.std.proofs.Common.{◌≡◌, ◌+◌, ◌-◌, ◌*◌, ◌++◌, ◌∷◌, true, false, length, length-append, append_assoc, append-nil, ap, sym, ◌∙◌, refl, rules, arith}
+use Rattle.std.proofs.Common.{◌+◌, ◌-◌, ◌++◌, true, false, length, length-append, append-nil, ap, sym, ◌∙◌, arith}
 use Rattle.chrono_cron.specs.WrittenTexts.{behind_commas, name_text, names_from}
 use Rattle.chrono_cron.proofs.WrittenLemmas.{item_put, names_at, names_end}
 use Rattle.chrono_cron.proofs.text.put_names.Goals as goal

@@ -1,4 +1,4 @@
-use Rattle.std.proofs.Common.{◌≡◌, ◌-◌, ◌++◌, ◌∷◌, [], append_assoc, ap, sym, ◌∙◌, refl}
+use Rattle.std.proofs.Common.{◌≡◌, ◌-◌, ◌++◌, ◌∷◌, append_assoc, ap, sym, ◌∙◌, refl}
 use Rattle.std.specs.Prelude.{map, codes}
 use Rattle.chrono_cron.specs.WrittenTexts.{behind_commas, number_text, range_text, ranges_from}
 use Rattle.chrono_cron.proofs.WrittenLemmas.{numbers_all, numbers_stepped, numbers_unstarred}
