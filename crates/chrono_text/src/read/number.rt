@@ -2,6 +2,7 @@
 ghost use Rattle.std.specs.Prelude.{◌≡◌, ◌≢◌, ◌<◌, ◌≤◌, ◌↔◌, ℕ, Some, None, IfSome, IfNone, IsTrue, length, take, slice_index};
 ghost use Rattle.std.specs.Bool.{MatchBool};
 ghost use Rattle.std.specs.Int.{IsInRange};
+ghost use Rattle.std.specs.Str.{byte};
 ghost use Rattle.std.specs.Str.Parse.{AllDigits, digits_value};
 ghost use Rattle.chrono_text.specs.Numbers.{StandsBefore, i64_of, signed, to_i64};
 
@@ -17,7 +18,7 @@ const MINUS: u8 = b'-';
 /// Example: of `-42 7`, before a space, the number is -42, which takes 3 bytes.
 #[inline(always)]
 pub fn read_number(text: &Line<'_>, stop: u8, way: Way) -> Option<(i64, usize)>
-    requires { ¬ (IsInRange 48 57 stop) }
+    requires { ¬ (IsInRange (byte "0") (byte "9") stop) }
     ensures number { IfSome result (λ read. i64_of (take read.1 text.now) ≡ Some read.0) }
     ensures end { IfSome result (λ read. StandsBefore stop text.now read.1) }
     ensures none { IfNone result ((len : ℕ) → StandsBefore stop text.now len
