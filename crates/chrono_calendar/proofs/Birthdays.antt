@@ -13,8 +13,8 @@ use Rattle.chrono_calendar.proofs.Signed.{signed}
 use Rattle.chrono_calendar.proofs.Tests.{passes_below, passes_below-at}
 use Rattle.chrono_calendar.proofs.Names.{day_number-lt_year, ordinal_name_of-number}
 use Rattle.chrono_calendar.proofs.NamedDates.{calendar_name-exists, number-calendar_name}
-use Rattle.chrono_calendar.proofs.Order.{IsMonthAndDay, month_ends}
-use Rattle.chrono_calendar.proofs.Months.{month_length_in-bounds, month_of_ordinal-exists}
+use Rattle.chrono_calendar.proofs.Order.{month_ends}
+use Rattle.chrono_calendar.proofs.Months.{IsMonthAndDay, month_length_in-bounds, month_of_ordinal-exists}
 use Rattle.chrono_calendar.proofs.MonthOrder.{before_month, day_at-exists, month_index-parts, month_of-range}
 use Rattle.chrono_calendar.proofs.MonthMoveLaws.{month_move-parts}
 use Rattle.chrono_calendar.proofs.WholeYears.{place, years_counted, years_between-None, years_between-Some}

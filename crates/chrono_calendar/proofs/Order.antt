@@ -11,14 +11,8 @@ use Rattle.chrono_calendar.specs.Days.{days_before_year, days_of_months_in, year
 use Rattle.chrono_calendar.specs.Order.{ordinal_cmp, calendar_cmp}
 use Rattle.chrono_calendar.proofs.Signed.{signed}
 use Rattle.chrono_calendar.proofs.Tests.{passes_below, passes_below-at}
-use Rattle.chrono_calendar.proofs.Months.{month_of_ordinal-exists}
+use Rattle.chrono_calendar.proofs.Months.{IsMonthAndDay, month_of_ordinal-exists}
 use Rattle.chrono_calendar.proofs.Names.{ordinal_name_of-number, day_number-lt_year}
-
--- the day d of the month m of a leap year or of a common year is its o-th day
-pub record IsMonthAndDay (leap : Bool) (m d o : ℕ) : Type 0 where
-  pub month : IsInRange 1 12 m
-  pub day : IsInRange 1 (month_length_in leap m) d
-  pub ordinal : days_of_months_in leap (m - 1) + d ≡ o
 
 -- an earlier month of a year ends before a later one begins
 ends_before : Bool → ℕ → ℕ → Bool

@@ -7,7 +7,7 @@ use Rattle.std.specs.declared.cmp.Ordering.{Ordering}
 use Rattle.std.specs.declared.cmp.Ordering.TheVariants.{Less, Greater}
 use Rattle.chrono_clock.specs.Duration.{nanos_per_day, nanos_per_second}
 
--- the seconds of a day
+-- the seconds of a day, leap seconds left out
 abbrev pub seconds_per_day : ℕ
 seconds_per_day = 24 * 60 * 60
 
