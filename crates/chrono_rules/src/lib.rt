@@ -3,6 +3,7 @@
 //! A rule is of a fixed size and takes no memory. Days are the dates of `chrono_datetime`; no zone is known here.
 #![tactic(auto)]
 
+mod before;
 pub mod law;
 mod members;
 mod parts;

@@ -130,7 +130,7 @@ impl Rule {
 
     // The count, and one more if the date is a member.
     #[inline]
-    fn and_member(&self, start: NaiveDate, date: NaiveDate, count: u32) -> u32
+    pub(crate) fn and_member(&self, start: NaiveDate, date: NaiveDate, count: u32) -> u32
         requires { count ≤ 1_000_000_000 }
         ensures value { result ≡ count + (if is_member self.now start date then 1 else 0) }
         ensures step { result ≤ count + 1 }
