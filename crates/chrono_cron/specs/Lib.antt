@@ -3,4 +3,5 @@ pub mod DueMoments
 pub mod FieldTexts
 pub mod KnownMonthDays
 pub mod KnownSchedules
+pub mod ScheduleTexts
 pub mod Steps
