@@ -7,6 +7,8 @@ mod Early
 mod Workdays
 mod WeekTables
 mod Checked
+mod HolidayInserts
+mod HolidayUnions
 mod EasterLemmas
 mod OpenLists
 mod MonthDayCounts
