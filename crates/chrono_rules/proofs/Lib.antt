@@ -1,5 +1,7 @@
 -- These serve this crate's own proofs alone.
 mod Counts
 mod Cycles
+mod DayLists
 mod LetterLemmas
 mod PieceLemmas
+mod Walks

@@ -1,3 +1,4 @@
+pub mod InstanceLists
 pub mod Instances
 pub mod KnownRules
 pub mod Pieces
