@@ -15,6 +15,7 @@ mod number_set;
 mod same;
 mod schedule;
 mod sets;
+mod text;
 
 pub use after::After;
 pub use field::read_field;
