@@ -3,5 +3,6 @@ mod Counts
 mod Cycles
 mod DayLists
 mod LetterLemmas
+mod Moments
 mod PieceLemmas
 mod Walks

@@ -4,6 +4,7 @@
 #![tactic(auto)]
 
 mod before;
+mod date_times;
 mod iterator;
 pub mod law;
 mod members;
