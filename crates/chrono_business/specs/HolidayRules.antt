@@ -1,5 +1,5 @@
 -- Holidays by rules: which day a rule names in a year, where it goes from a weekend, and the holidays of a year.
-use Rattle.std.specs.Prelude.{ℕ, Bool, ◌&&◌, ◌==◌, int_le, if◌then◌else◌, ℤ, pos, neg_ℤ, ◌+ℤ◌, Option, Some, None}
+use Rattle.std.specs.Prelude.{ℕ, Bool, ◌&&◌, ◌==◌, int_le, if◌then◌else◌, ℤ, pos, neg_ℤ, ◌+ℤ◌, Option, None}
 use Rattle.std.specs.Option.{option_and_then}
 use Rattle.chrono_datetime.specs.declared.Weekday.{Weekday}
 use Rattle.chrono_datetime.specs.Month.{number_from_month}
@@ -49,6 +49,10 @@ abbrev pub moved_by : Moved → ℤ → ℤ
 moved_by moved n =
     if days_from_monday (weekday_of n) == 5 then from_saturday moved
     else (if days_from_monday (weekday_of n) == 6 then from_sunday moved else pos 0)
+
+-- the rule of these
+abbrev pub rule_of : HolidayDay → Moved → ℤ → ℤ → HolidayRule
+rule_of day moved first last = record { day = day; moved = moved; first_year = first; last_year = last }
 
 -- the rule holds in the year y
 abbrev pub holds_in : HolidayRule → ℤ → Bool

@@ -1,4 +1,5 @@
 -- All serve this crate's own proofs alone.
+mod Blocks
 mod Entries
 mod InPlace
 mod MonthTests

@@ -1,16 +1,17 @@
 -- What stands in a column for the text of a date, and for a text.
-use Rattle.std.proofs.Common.{◌≡◌, ◌∙◌, ℕ, ◌+◌, ◌<◌, ℤ, pos, neg_ℤ, ◌≤ℤ◌, Bool, true, false, ◌&&◌, cond, List, [], length, replicate, get_or, slice_set, Option, Some, None, inl, inr, ap, sym, refl, arith}
-use Rattle.std.proofs.lemmas.Bool.{cases_lt, false≢true}
+use Rattle.std.proofs.Common.{◌≡◌, ◌∙◌, ℕ, ◌+◌, ◌<◌, ℤ, pos, neg_ℤ, ◌≤ℤ◌, true, false, cond, List, [], length, replicate, get_or, slice_set, Option, Some, None, inl, inr, ap, sym, refl, arith}
+use Rattle.std.proofs.lemmas.Bool.{cases_lt}
 use Rattle.std.proofs.lemmas.Int.{ints}
 use Rattle.std.proofs.lemmas.List.{get_or-set_same, get_or-set_other}
-use Rattle.std.specs.Option.{option_and_then}
-use Rattle.chrono_calendar.specs.Days.{IsDate, is_date, year_of}
-use Rattle.chrono_calendar.proofs.NamedDates.{date_of_day-Some}
+use Rattle.std.specs.Option.{option_and_then, option_map}
+use Rattle.chrono_calendar.specs.Days.{date_of_day, date_of_ymd, year_of, month_of, day_of}
+use Rattle.chrono_calendar.proofs.Months.{month_length_in-bounds}
+use Rattle.chrono_calendar.proofs.NamedDates.{calendar_name-exists, date_of_ymd-name}
+use Rattle.chrono_units.specs.Years.{is_leap_year}
 use Rattle.chrono_text.specs.Text.{calendar_text}
 use Rattle.chrono_datetime.specs.DateText.{date_text}
 use Rattle.chrono_reading.specs.DateTexts.{IsDateText}
-use Rattle.chrono_columns.specs.Columns.{IsTextEntry, bytes_entry, has_four_digits, text_entry}
-use Rattle.chrono_columns.proofs.Entries.{a_date, no_date}
+use Rattle.chrono_columns.specs.Columns.{IsTextEntry, bytes_entry, count_entry, number_entry, has_four_digits, name_text_entry, text_entry, year_entry, month_entry, day_entry}
 
 pub four_digits : (y : ℤ) → has_four_digits y ≡ true → (pos 0 ≤ℤ y) × (y ≤ℤ pos 9_999)
 four_digits y e = (grind (arith, ints), grind (arith, ints))
@@ -19,23 +20,42 @@ four_digits y e = (grind (arith, ints), grind (arith, ints))
 if_short : ℤ → Option (List ℕ)
 if_short d = cond (has_four_digits (year_of d)) (Some (date_text d)) None
 
-pub text-there : (n : ℤ) → true ≡ is_date n → true ≡ has_four_digits (year_of n) → date_text n ≡ text_entry n
-unfolding text_entry if_short
-text-there n there short =
-    ap (λ b. bytes_entry (cond b (Some (date_text n)) None)) short
-    ∙ ap (λ o. bytes_entry (option_and_then if_short o)) (sym (date_of_day-Some n (a_date n there)))
+-- the text of a name, by whether the year has four digits
+pub name-short : (y z : ℤ) (m k d j : ℕ) → z ≡ y → k ≡ m → j ≡ d → has_four_digits y ≡ true → calendar_text z k j ≡ name_text_entry y m d
+name-short y z m k d j year month day short = rw (year, month, day) (ap (λ b. bytes_entry (cond b (Some (calendar_text y m d)) None)) (sym short))
 
-pub text-none : (n : ℤ) (a b : Bool) → (a && b) ≡ false → a ≡ is_date n → (IsDate n → b ≡ has_four_digits (year_of n)) → replicate 10 0 ≡ text_entry n
-unfolding text_entry if_short
-text-none n false b e from short = ap (λ o. bytes_entry (option_and_then if_short o)) (no_date n from)
-text-none n true false e from short =
-    ap (λ b. bytes_entry (cond b (Some (date_text n)) None)) (short (a_date n from))
-    ∙ ap (λ o. bytes_entry (option_and_then if_short o)) (sym (date_of_day-Some n (a_date n from)))
-text-none n true true e from short = absurd (false≢true (sym e))
+pub name-long : (y : ℤ) (m d : ℕ) → has_four_digits y ≡ false → replicate 10 0 ≡ name_text_entry y m d
+name-long y m d long = ap (λ b. bytes_entry (cond b (Some (calendar_text y m d)) None)) (sym long)
 
--- a text by the names of a date
-pub text-named : (y z : ℤ) (m k d j : ℕ) → y ≡ z → m ≡ k → d ≡ j → calendar_text y m d ≡ calendar_text z k j
-text-named y z m k d j year month day = rw (year, month, day) refl
+-- the text of a date is that of its names
+of_names : (o : Option ℤ) → name_text_entry (number_entry (option_map year_of o)) (count_entry (option_map month_of o)) (count_entry (option_map day_of o)) ≡ bytes_entry (option_and_then if_short o)
+unfolding if_short
+of_names None = refl
+of_names (Some n) = refl
+
+pub text-named : (n : ℤ) → name_text_entry (year_entry n) (month_entry n) (day_entry n) ≡ text_entry n
+unfolding text_entry year_entry month_entry day_entry if_short
+text-named n = of_names (date_of_day n)
+
+-- the text of a date that is known by its name
+same_names : (y z : ℤ) (m k d j : ℕ) → y ≡ z → m ≡ k → d ≡ j → name_text_entry y m d ≡ name_text_entry z k j
+same_names y z m k d j year month day = rw (year, month, day) refl
+
+pub text-of-name : (n y : ℤ) (m d : ℕ) → date_of_day n ≡ Some n → date_of_ymd y m d ≡ Some n → name_text_entry y m d ≡ text_entry n
+unfolding text_entry if_short
+text-of-name n y m d there named =
+    let name = date_of_ymd-name n y m d named in
+    same_names y (year_of n) m (month_of n) d (day_of n) name.0 name.1 name.2
+    ∙ ap (λ o. bytes_entry (option_and_then if_short o)) (sym there)
+
+-- no month and no day of a date has three digits
+small : (o : Option ℤ) → (count_entry (option_map month_of o) < 100) × (count_entry (option_map day_of o) < 100)
+small None = (omega arith, omega arith)
+small (Some n) = let name = calendar_name-exists n in (omega (arith, name.0), omega (arith, name.1, month_length_in-bounds (is_leap_year (year_of n)) (month_of n)))
+
+pub small-named : (n : ℤ) → (month_entry n < 100) × (day_entry n < 100)
+unfolding month_entry day_entry
+small-named n = small (date_of_day n)
 
 -- a date that was found is the entry of its text, and where none was found it is what stands for none
 pub entry-found : (text : List ℕ) (n z : ℤ) → z ≡ n → IsDateText text n → ((m : ℤ) → IsDateText text m → Some n ≡ Some m) → IsTextEntry text z

@@ -7,6 +7,7 @@ use Rattle.chrono_calendar.specs.Days.{date_of_day, date_of_ymd, year_of, ordina
 use Rattle.chrono_calendar.specs.Weeks.{iso_week_of, iso_year_of, weekday_of}
 use Rattle.chrono_calendar.specs.MonthMoves.{month_move}
 use Rattle.chrono_calendar.specs.Recurrence.{date_on}
+use Rattle.chrono_text.specs.Text.{calendar_text}
 use Rattle.chrono_datetime.specs.DateText.{date_text}
 use Rattle.chrono_datetime.specs.Fields.{unix_epoch_day}
 use Rattle.chrono_reading.specs.DateTexts.{IsDateText}
@@ -84,6 +85,10 @@ bytes_entry None = replicate 10 0
 -- a year of four digits and no sign, whose dates have ten bytes
 abbrev pub has_four_digits : ℤ → Bool
 has_four_digits y = int_le (pos 0) y && int_le y (pos 9_999)
+
+-- the text of a year, a month and a day, if the year has four digits
+abbrev pub name_text_entry : ℤ → ℕ → ℕ → List ℕ
+name_text_entry y m d = bytes_entry (if has_four_digits y then Some (calendar_text y m d) else None)
 
 -- the text of the date n, if its year has four digits
 unfoldable pub text_entry : ℤ → List ℕ

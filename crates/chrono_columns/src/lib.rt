@@ -8,6 +8,7 @@
 //! what comes of it is then chosen or not. So a compiler turns their loops into vector code. No call takes memory.
 #![tactic(auto)]
 
+mod codes;
 mod conversion;
 mod counts;
 mod fields;

@@ -1,17 +1,57 @@
 //! Between a column of dates and one of their texts, of ten bytes each.
-ghost use Rattle.std.specs.Prelude.{◌≡◌, ℕ, ◌<◌, [], length, map, pos, slice_index_or};
-ghost use Rattle.chrono_columns.specs.Columns.{IsTextEntry, text_entry};
+ghost use Rattle.std.specs.Prelude.{◌≡◌, ℕ, ◌<◌, ◌≤◌, [], length, map, pos, slice_index, slice_index_or};
+ghost use Rattle.chrono_columns.specs.Columns.{IsTextEntry, name_text_entry, text_entry};
 
+use crate::names::split_dates;
 use crate::read::date_of_text;
-use crate::written::text_of_number;
+use crate::written::text_of_name_entry;
+
+// How many dates are named before their texts are written.
+const BLOCK: usize = 256;
+
+// The text of each year, month and day.
+fn write_names(years: &[i32], months: &[u8], days: &[u8], texts: &mut [[u8; 10]])
+    requires months { length months.now ≡ length years.now }
+    requires days { length days.now ≡ length years.now }
+    requires texts { length texts.old ≡ length years.now }
+    requires two_digits { (i : ℕ) → i < length years.now → (slice_index months.now i < 100) × (slice_index days.now i < 100) }
+    ensures { (i : ℕ) → i < length years.now → slice_index_or texts.new i []
+        ≡ name_text_entry (slice_index_or years.now i (pos 0)) (slice_index months.now i) (slice_index days.now i) }
+{
+    for i in 0..years.len() {
+        texts[i] = text_of_name_entry(years[i], months[i], days[i]);
+    }
+}
+
+// The text of each date of a block, by the names of all of them.
+fn write_block(dates: &[i32], texts: &mut [[u8; 10]])
+    requires few { length dates.now ≤ 256 }
+    requires texts { length texts.old ≡ length dates.now }
+    ensures { texts.new ≡ map text_entry dates.now }
+{
+    let count = dates.len();
+    let mut years = [0; BLOCK];
+    let mut months = [0; BLOCK];
+    let mut days = [0; BLOCK];
+    split_dates(
+        dates,
+        &mut years[..count],
+        &mut months[..count],
+        &mut days[..count],
+    );
+    write_names(&years[..count], &months[..count], &days[..count], texts);
+}
 
 /// The text of each date (ISO 8601 calendar date), and ten zero bytes where there is none or its year is not from 0 to 9999.
 pub fn write_dates(dates: &[i32], texts: &mut [[u8; 10]])
     requires { length texts.old ≡ length dates.now }
     ensures { texts.new ≡ map text_entry dates.now }
 {
-    for i in 0..dates.len() {
-        texts[i] = text_of_number(dates[i]);
+    let mut begun = 0;
+    while begun < dates.len() {
+        let end = begun + BLOCK.min(dates.len() - begun);
+        write_block(&dates[begun..end], &mut texts[begun..end]);
+        begun = end;
     }
 }
 

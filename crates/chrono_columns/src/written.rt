@@ -1,10 +1,9 @@
-//! The texts of single dates: ten bytes in a year from 0 to 9999 (ISO 8601 calendar date).
-ghost use Rattle.std.specs.Prelude.{◌≡◌, ◌+◌, ◌/◌, ◌%◌, ◌<◌, pos, ◌≤ℤ◌};
+//! The texts of single names: ten bytes in a year from 0 to 9999 (ISO 8601 calendar date).
+ghost use Rattle.std.specs.Prelude.{◌≡◌, ◌<◌, pos, ◌≤ℤ◌};
 ghost use Rattle.chrono_text.specs.Text.{calendar_text};
-ghost use Rattle.chrono_columns.specs.Columns.{has_four_digits, text_entry};
+ghost use Rattle.chrono_columns.specs.Columns.{has_four_digits, name_text_entry};
 
-use crate::conversion::year_month_day;
-use crate::nearest::{is_date, nearest_date};
+use crate::codes::codes_of_two;
 
 // The year nearest to another, of those from 0 to 9999.
 #[inline]
@@ -21,16 +20,6 @@ fn is_short_year(year: i32) -> bool
     ensures { result ≡ has_four_digits year }
 {
     (year >= 0) & (year <= 9_999)
-}
-
-// The two digits of a number below 100, as ASCII codes.
-#[inline]
-fn codes_of_two(number: u32) -> (u8, u8)
-    requires { number < 100 }
-    ensures tens { result.0 ≡ 48 + number / 10 }
-    ensures ones { result.1 ≡ 48 + number % 10 }
-{
-    (b'0' + (number / 10) as u8, b'0' + (number % 10) as u8)
 }
 
 // The text of a year of four digits, a month and a day.
@@ -50,16 +39,13 @@ fn text_of_name(year: u32, month: u32, day: u32) -> [u8; 10]
     ]
 }
 
-/// The text of a date in a year from 0 to 9999, or ten zero bytes.
+/// The text of a year from 0 to 9999, a month and a day; of another year ten zero bytes.
 #[inline]
-pub(crate) fn text_of_number(number: i32) -> [u8; 10]
-    ensures { result ≡ text_entry number }
+pub(crate) fn text_of_name_entry(year: i32, month: u8, day: u8) -> [u8; 10]
+    requires month { month < 100 }
+    requires day { day < 100 }
+    ensures { result ≡ name_text_entry year month day }
 {
-    let (year, month, day) = year_month_day(nearest_date(number));
-    let text = text_of_name(nearest_short_year(year), month, day);
-    if is_date(number) & is_short_year(year) {
-        text
-    } else {
-        [0; 10]
-    }
+    let text = text_of_name(nearest_short_year(year), u32::from(month), u32::from(day));
+    if is_short_year(year) { text } else { [0; 10] }
 }

@@ -3,8 +3,9 @@ ghost use Rattle.std.specs.Prelude.{◌≡◌, ◌<◌, ◌≤◌, ◌+◌, ◌=
 ghost use Rattle.std.specs.Option.{option_map};
 ghost use Rattle.std.specs.List.{position_or_len};
 ghost use Rattle.chrono_cron.specs.Due.{has};
-ghost use Rattle.chrono_cron.specs.FieldTexts.{field_lists, is_star, item_lists, number_in, range_of, short_number_of, span_of};
+ghost use Rattle.chrono_cron.specs.FieldTexts.{field_lists, is_star, item_lists, number_in, range_of, short_number_of, span_of, spelled_number};
 
+use crate::names::Names;
 use crate::number_set::NumberSet;
 
 const COMMA: u8 = b',';
@@ -21,55 +22,56 @@ const MOST: u32 = 99;
 /// The numbers that a field lists, each of them from `low` to `high`; `None` exactly if its text is no such field.
 ///
 /// A field is one item or more with commas between: `*`, a number, a range `a-b` whose end is not below its beginning, or `*` or a range by
-/// steps, `*/n` and `a-b/n`, counted from the range's beginning and above 0. Numbers have one digit or two.
-pub fn read_field(text: &[u8], low: u32, high: u32) -> Option<NumberSet>
+/// steps, `*/n` and `a-b/n`, counted from the range's beginning and above 0. Numbers have one digit or two; where the field has names, in
+/// letters of any case, one may stand for its number, in a range too, but not for a step.
+pub fn read_field(text: &[u8], names: Names, low: u32, high: u32) -> Option<NumberSet>
     requires { high < 64 }
-    ensures { (k : ℕ) → k < 64 → option_map (λ set. has set k) result ≡ field_lists low high text.now k }
+    ensures { (k : ℕ) → k < 64 → option_map (λ set. has set k) result ≡ field_lists names low high text.now k }
 {
     let mut set = NumberSet::from_digits(0);
     let mut rest = text;
     let mut len = place_of(rest, COMMA);
     while len < rest.len() {
-        let item = read_item(&rest[..len], low, high)?;
+        let item = read_item(&rest[..len], names, low, high)?;
         set = set.union(item);
         rest = text_behind(rest, len);
         len = place_of(rest, COMMA);
     }
-    let item = read_item(rest, low, high)?;
+    let item = read_item(rest, names, low, high)?;
     Some(set.union(item))
 }
 
 // The numbers that an item of a field lists.
-fn read_item(text: &[u8], low: u32, high: u32) -> Option<NumberSet>
+fn read_item(text: &[u8], names: Names, low: u32, high: u32) -> Option<NumberSet>
     requires { high < 64 }
-    ensures { (k : ℕ) → k < 64 → option_map (λ set. has set k) result ≡ item_lists low high text.now k }
+    ensures { (k : ℕ) → k < 64 → option_map (λ set. has set k) result ≡ item_lists names low high text.now k }
 {
     let len = place_of(text, SLASH);
     if len == text.len() {
-        let (first, last) = read_span(text, low, high)?;
+        let (first, last) = read_span(text, names, low, high)?;
         return Some(NumberSet::by_steps(first, last, 1));
     }
-    let (first, last) = read_range(&text[..len], low, high)?;
-    let step = read_number(text_behind(text, len), 1, MOST)?;
+    let (first, last) = read_range(&text[..len], names, low, high)?;
+    let step = read_number(text_behind(text, len), Names::Numbers, 1, MOST)?;
     Some(NumberSet::by_steps(first, last, step))
 }
 
 // The first and the last number of an item without steps.
-fn read_span(text: &[u8], low: u32, high: u32) -> Option<(u32, u32)>
+fn read_span(text: &[u8], names: Names, low: u32, high: u32) -> Option<(u32, u32)>
     requires { high < 64 }
-    ensures span { result ≡ span_of low high text.now }
+    ensures span { result ≡ span_of names low high text.now }
     ensures small { IfSome result (λ span. span.1 < 64) }
 {
-    if let Some(number) = read_number(text, low, high) {
+    if let Some(number) = read_number(text, names, low, high) {
         return Some((number, number));
     }
-    read_range(text, low, high)
+    read_range(text, names, low, high)
 }
 
 // The first and the last number of `*` or `a-b`.
-fn read_range(text: &[u8], low: u32, high: u32) -> Option<(u32, u32)>
+fn read_range(text: &[u8], names: Names, low: u32, high: u32) -> Option<(u32, u32)>
     requires { high < 64 }
-    ensures range { result ≡ range_of low high text.now }
+    ensures range { result ≡ range_of names low high text.now }
     ensures small { IfSome result (λ span. span.1 < 64) }
 {
     if is_star(text) {
@@ -79,8 +81,8 @@ fn read_range(text: &[u8], low: u32, high: u32) -> Option<(u32, u32)>
     if len == text.len() {
         return None;
     }
-    let first = read_number(&text[..len], low, high)?;
-    let last = read_number(text_behind(text, len), first, high)?;
+    let first = read_number(&text[..len], names, low, high)?;
+    let last = read_number(text_behind(text, len), names, first, high)?;
     Some((first, last))
 }
 
@@ -91,18 +93,28 @@ fn is_star(text: &[u8]) -> bool
     text.len() == 1 && text[0] == STAR
 }
 
-// The number from `low` to `high` that one digit or two write.
-fn read_number(text: &[u8], low: u32, high: u32) -> Option<u32>
-    ensures number { result ≡ number_in low high text.now }
+// The number from `low` to `high` that a text writes or names.
+fn read_number(text: &[u8], names: Names, low: u32, high: u32) -> Option<u32>
+    ensures number { result ≡ number_in names low high text.now }
     ensures low { IfSome result (λ n. low ≤ n) }
     ensures high { IfSome result (λ n. n ≤ high) }
 {
-    let number = short_number(text)?;
+    let number = spelled_number(text, names)?;
     if low <= number && number <= high {
         Some(number)
     } else {
         None
     }
+}
+
+// The number that one digit or two write, or that has the name.
+fn spelled_number(text: &[u8], names: Names) -> Option<u32>
+    ensures { result ≡ spelled_number names text.now }
+{
+    if let Some(number) = short_number(text) {
+        return Some(number);
+    }
+    names.number_of(text)
 }
 
 // The number that one digit or two write.

@@ -10,14 +10,17 @@ mod after;
 mod field;
 pub mod law;
 mod month_days;
+mod names;
 mod number_set;
 mod same;
 mod schedule;
 mod sets;
+mod text;
 
 pub use after::After;
 pub use field::read_field;
 pub use month_days::MonthDays;
+pub use names::Names;
 pub use number_set::NumberSet;
 pub use schedule::Schedule;
 pub use sets::Sets;

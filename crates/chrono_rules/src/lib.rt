@@ -3,6 +3,9 @@
 //! A rule is of a fixed size and takes no memory. Days are the dates of `chrono_datetime`; no zone is known here.
 #![tactic(auto)]
 
+mod before;
+mod date_times;
+mod iterator;
 pub mod law;
 mod members;
 mod parts;
@@ -13,6 +16,7 @@ mod places;
 mod rule;
 mod weekday_text;
 
+pub use iterator::Instances;
 pub use place_text::{BothEnds, Place, read_month_days, read_weeks};
 pub use places::{NumberSet, PlaceSet, WeekdayPlaces};
 pub use rule::{End, Frequency, Rule};

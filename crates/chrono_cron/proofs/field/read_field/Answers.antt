@@ -9,7 +9,7 @@ pub returns-in_err-item : goal.returns-in_err-item
 returns-in_err-item c = λ k lt.
     let is = sym (c.read_item.ensures k lt) ∙ ap (option_map (λ s. has s k)) c.in_err-item.was in
     rw c.from_residual.ensures
-    (sym (no_item c.args.low c.args.high c.loop-len.len c.loop-len.rest.now k (has c.loop-len.set k) (field_lists c.args.low c.args.high c.args.text.now k) c.loop-len.invariant.place (omega (arith, c.loop-len-test.true)) (c.loop-len.invariant.so_far k lt) is))
+    (sym (no_item c.args.names c.args.low c.args.high c.loop-len.len c.loop-len.rest.now k (has c.loop-len.set k) (field_lists c.args.names c.args.low c.args.high c.args.text.now k) c.loop-len.invariant.place (omega (arith, c.loop-len-test.true)) (c.loop-len.invariant.so_far k lt) is))
 
 pub loop-len-preserved : goal.loop-len-preserved
 loop-len-preserved c = record {
@@ -19,19 +19,19 @@ loop-len-preserved c = record {
       let low = c.args.low in
       let high = c.args.high in
       let is = sym (c.read_item.ensures k lt) ∙ ap (option_map (λ s. has s k)) c.in_ok-item.was in
-      more_items low high c.loop-len.len c.loop-len.rest.now k (has c.loop-len.set k) (has c.in_ok-item.item k) (field_lists low high c.args.text.now k) c.loop-len.invariant.place (omega (arith, c.loop-len-test.true)) (c.loop-len.invariant.so_far k lt) is
-      ∙ ap (λ b. onto b (field_lists low high (drop (c.loop-len.len + 1) c.loop-len.rest.now) k)) (sym (c.union-set.ensures k))
-      ∙ ap (λ text. onto (has c.union-set.result k) (field_lists low high text k)) (sym c.text_behind-rest.ensures);
+      more_items c.args.names low high c.loop-len.len c.loop-len.rest.now k (has c.loop-len.set k) (has c.in_ok-item.item k) (field_lists c.args.names low high c.args.text.now k) c.loop-len.invariant.place (omega (arith, c.loop-len-test.true)) (c.loop-len.invariant.so_far k lt) is
+      ∙ ap (λ b. onto b (field_lists c.args.names low high (drop (c.loop-len.len + 1) c.loop-len.rest.now) k)) (sym (c.union-set.ensures k))
+      ∙ ap (λ text. onto (has c.union-set.result k) (field_lists c.args.names low high text k)) (sym c.text_behind-rest.ensures);
 }
 
 pub returns-in_err-item-2 : goal.returns-in_err-item-2
 returns-in_err-item-2 c = λ k lt.
     let is = sym (c.read_item-2.ensures k lt) ∙ ap (option_map (λ s. has s k)) c.in_err-item-2.was in
     rw c.from_residual-in_err-item-2.ensures
-    (sym (no_last_item c.args.low c.args.high c.loop-len.len c.loop-len.rest.now k (has c.loop-len.set k) (field_lists c.args.low c.args.high c.args.text.now k) c.loop-len.invariant.place (omega (arith, c.loop-len-test.false)) (c.loop-len.invariant.so_far k lt) is))
+    (sym (no_last_item c.args.names c.args.low c.args.high c.loop-len.len c.loop-len.rest.now k (has c.loop-len.set k) (field_lists c.args.names c.args.low c.args.high c.args.text.now k) c.loop-len.invariant.place (omega (arith, c.loop-len-test.false)) (c.loop-len.invariant.so_far k lt) is))
 
 pub returns : goal.returns
 returns c = λ k lt.
     let is = sym (c.read_item-2.ensures k lt) ∙ ap (option_map (λ s. has s k)) c.in_ok-item-2.was in
     ap Some (c.union.ensures k)
-    ∙ sym (last_item c.args.low c.args.high c.loop-len.len c.loop-len.rest.now k (has c.loop-len.set k) (has c.in_ok-item-2.item k) (field_lists c.args.low c.args.high c.args.text.now k) c.loop-len.invariant.place (omega (arith, c.loop-len-test.false)) (c.loop-len.invariant.so_far k lt) is)
+    ∙ sym (last_item c.args.names c.args.low c.args.high c.loop-len.len c.loop-len.rest.now k (has c.loop-len.set k) (has c.in_ok-item-2.item k) (field_lists c.args.names c.args.low c.args.high c.args.text.now k) c.loop-len.invariant.place (omega (arith, c.loop-len-test.false)) (c.loop-len.invariant.so_far k lt) is)

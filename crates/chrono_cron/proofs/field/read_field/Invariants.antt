@@ -9,7 +9,7 @@ abbrev pub invariant-loop-len : goal.invariant-loop-len
 invariant-loop-len l = record {
   place : position_or_len (λ x. x == 44) l.rest ≡ l.len;
   within : l.len ≤ length l.rest;
-  so_far : (k : ℕ) → k < 64 → field_lists l.fn.low l.fn.high l.fn.text k ≡ onto (has l.set k) (field_lists l.fn.low l.fn.high l.rest k);
+  so_far : (k : ℕ) → k < 64 → field_lists l.fn.names l.fn.low l.fn.high l.fn.text k ≡ onto (has l.set k) (field_lists l.fn.names l.fn.low l.fn.high l.rest k);
 }
 
 abbrev pub decreases-loop-len : goal.decreases-loop-len

@@ -1,0 +1,164 @@
+-- The texts of schedules, and what they list: five fields with blanks between, or a nickname that stands for such fields.
+use Rattle.std.specs.Prelude.{◌≡◌, ℕ, ◌+◌, ◌-◌, ◌*◌, ◌%◌, ◌<◌, ◌==◌, nat_lt, Bool, true, false, not, ◌&&◌, ◌||◌, if◌then◌else◌, List, [], ◌∷◌, length, take, drop, slice_index, Option, Some, None, codes, is_some, refl}
+use Rattle.std.specs.Char.{to_ascii_lowercase}
+use Rattle.std.specs.Option.{option_map, option_and_then}
+use Rattle.std.specs.List.{filter, list_any, slice_split}
+use Rattle.std.specs.Str.{bytes_eq, str_eq_ignore_ascii_case}
+use Rattle.chrono_cron.specs.Due.{has}
+use Rattle.chrono_text.specs.Numbers.{natural_of}
+use Rattle.chrono_cron.specs.FieldTexts.{before, behind, field_lists, item_lists, items_list, number_in, number_of_name, place_of_name, range_of, short_number_of, span_of, spelled_number}
+use Rattle.chrono_cron.specs.declared.month_days.MonthDays.{MonthDays}
+use Rattle.chrono_cron.specs.declared.names.Names.TheVariants.{Numbers, Months, Weekdays}
+use Rattle.chrono_cron.specs.declared.number_set.NumberSet.{NumberSet}
+use Rattle.chrono_cron.specs.declared.sets.Sets.{Sets}
+
+-- a space or a tab
+abbrev pub is_blank : ℕ → Bool
+is_blank x = x == 32 || x == 9
+
+abbrev pub is_some_text : List ℕ → Bool
+is_some_text [] = false
+is_some_text (x ∷ rest) = true
+
+-- what stands between the blanks of a text, before them and behind them
+unfoldable pub words : List ℕ → List (List ℕ)
+words text = filter is_some_text (slice_split is_blank text)
+
+-- the five fields that a nickname stands for; any other word stands for itself
+unfoldable pub meaning_of : List ℕ → List ℕ
+meaning_of word =
+    if bytes_eq word (codes "@yearly") || bytes_eq word (codes "@annually") then codes "0 0 1 1 *"
+    else if bytes_eq word (codes "@monthly") then codes "0 0 1 * *"
+    else if bytes_eq word (codes "@weekly") then codes "0 0 * * 0"
+    else if bytes_eq word (codes "@daily") || bytes_eq word (codes "@midnight") then codes "0 0 * * *"
+    else if bytes_eq word (codes "@hourly") then codes "0 * * * *"
+    else word
+
+-- the words of a text, or those that its one word stands for
+abbrev pub spelled_out : List (List ℕ) → List (List ℕ)
+spelled_out [] = []
+spelled_out (word ∷ []) = words (meaning_of word)
+spelled_out (word ∷ next ∷ more) = word ∷ next ∷ more
+
+unfoldable pub fields_of : List ℕ → List (List ℕ)
+fields_of text = spelled_out (words text)
+
+-- what stands before a letter with which a text ends, in either case; none if it ends otherwise
+abbrev pub before_letter : ℕ → List ℕ → Option (List ℕ)
+before_letter letter text =
+    if to_ascii_lowercase (slice_index text (length text - 1)) == letter then Some (take (length text - 1) text) else None
+
+-- the weekday that a number or a name says, from 0 for Sunday, for which 7 stands too
+abbrev pub weekday_of_text : List ℕ → Option ℕ
+weekday_of_text text = option_map (λ d. d % 7) (number_in Weekdays 0 7 text)
+
+-- `L`, the month's last day, and `L-k`: how many days of the month follow it
+unfoldable pub from_end_of : List ℕ → Option ℕ
+from_end_of text =
+    if str_eq_ignore_ascii_case text (codes "L") then Some 0
+    else if str_eq_ignore_ascii_case (take 2 text) (codes "L-") then number_in Numbers 1 30 (drop 2 text)
+    else None
+
+-- `LW`, the month's last workday
+unfoldable pub is_last_workday_text : List ℕ → Bool
+is_last_workday_text text = str_eq_ignore_ascii_case text (codes "LW")
+
+-- `kW`, the workday that is nearest to the month's k-th day: k
+unfoldable pub nearest_workday_of : List ℕ → Option ℕ
+nearest_workday_of text = option_and_then (number_in Numbers 1 31) (before_letter 119 text)
+
+-- `dL`, the month's last day with the weekday d: d
+unfoldable pub last_weekday_of : List ℕ → Option ℕ
+last_weekday_of text = option_and_then weekday_of_text (before_letter 108 text)
+
+-- `d#k`, the month's k-th day with the weekday d: the number 7 * (k - 1) + d
+unfoldable pub nth_weekday_of : List ℕ → Option ℕ
+nth_weekday_of text = option_and_then (λ d. option_map (λ k. 7 * (k - 1) + d) (number_in Numbers 1 5 (behind 35 text))) (weekday_of_text (before 35 text))
+
+-- the item of a field names a day of the month by its place, or by its weekday
+unfoldable pub names_day : List ℕ → Bool
+names_day item = is_some (from_end_of item) || (is_last_workday_text item || is_some (nearest_workday_of item))
+
+unfoldable pub names_weekday : List ℕ → Bool
+names_weekday item = is_some (last_weekday_of item) || is_some (nth_weekday_of item)
+
+-- the items of a field, with commas between
+abbrev pub items_of : List ℕ → List (List ℕ)
+items_of text = slice_split (λ x. x == 44) text
+
+-- those of them that fail a test
+abbrev pub other_items : (List ℕ → Bool) → List ℕ → List (List ℕ)
+other_items names text = filter (λ item. not (names item)) (items_of text)
+
+-- whether the field of days lists k by an item that names no day; none if one of the items is none
+unfoldable pub days_list : List ℕ → ℕ → Option Bool
+days_list text k = items_list Numbers 1 31 (other_items names_day text) k
+
+-- the same of the field of weekdays, in which 7 stands for Sunday too
+abbrev pub weekday_items_list : List ℕ → ℕ → Option Bool
+weekday_items_list text k = items_list Weekdays 0 7 (other_items names_weekday text) k
+
+unfoldable pub weekdays_list : List ℕ → ℕ → Option Bool
+weekdays_list text k =
+    option_and_then (λ here. option_map (λ again. nat_lt k 7 && (here || again)) (weekday_items_list text (k + 7))) (weekday_items_list text k)
+
+-- whether an item of the field has the number k by a reading of items
+abbrev pub is_number : ℕ → Option ℕ → Bool
+is_number k None = false
+is_number k (Some n) = n == k
+
+unfoldable pub an_item_is : (List ℕ → Option ℕ) → List ℕ → ℕ → Bool
+an_item_is number text k = list_any (λ item. is_number k (number item)) (items_of text)
+
+unfoldable pub begins_with_star : List ℕ → Bool
+begins_with_star text = slice_index text 0 == 42
+
+-- the set has the numbers that are listed
+abbrev pub AreListed : NumberSet → (ℕ → Option Bool) → Type 0
+AreListed set listed = (k : ℕ) → k < 64 → listed k ≡ Some (has set k)
+
+abbrev pub AreNamed : NumberSet → (ℕ → Bool) → Type 0
+AreNamed set named = (k : ℕ) → k < 64 → named k ≡ has set k
+
+-- the days that the items of the two fields of days name
+pub record AreNamedDays (day weekday : List ℕ) (m : MonthDays) : Type 0 where
+  pub from_end : AreNamed m.from_end (an_item_is from_end_of day)
+  pub nearest_workdays : AreNamed m.nearest_workdays (an_item_is nearest_workday_of day)
+  pub last_workday : list_any is_last_workday_text (items_of day) ≡ m.last_workday
+  pub last_weekdays : AreNamed m.last_weekdays (an_item_is last_weekday_of weekday)
+  pub nth_weekdays : AreNamed m.nth_weekdays (an_item_is nth_weekday_of weekday)
+
+-- a text of the schedule that lists these sets: its fields are minutes, hours, days of the month, months and weekdays; either field of
+-- days will do if neither begins with `*`
+pub record IsScheduleText (text : List ℕ) (s : Sets) : Type 0 where
+  pub minute : List ℕ
+  pub hour : List ℕ
+  pub day : List ℕ
+  pub month : List ℕ
+  pub weekday : List ℕ
+  pub written : fields_of text ≡ minute ∷ hour ∷ day ∷ month ∷ weekday ∷ []
+  pub minutes : AreListed s.minutes (field_lists Numbers 0 59 minute)
+  pub hours : AreListed s.hours (field_lists Numbers 0 23 hour)
+  pub days : AreListed s.days (days_list day)
+  pub months : AreListed s.months (field_lists Months 1 12 month)
+  pub weekdays : AreListed s.weekdays (weekdays_list weekday)
+  pub month_days : AreNamedDays day weekday s.month_days
+  pub either : (not (begins_with_star day) && not (begins_with_star weekday)) ≡ s.either
+
+-- known values: blanks before, between and behind the words, and a nickname with blanks about it
+fields_of-blanks : fields_of (codes "  5 \t4  * * 7 ") ≡ codes "5" ∷ codes "4" ∷ codes "*" ∷ codes "*" ∷ codes "7" ∷ []
+unfolding fields_of words
+fields_of-blanks = refl
+
+fields_of-hourly : fields_of (codes " @hourly ") ≡ codes "0" ∷ codes "*" ∷ codes "*" ∷ codes "*" ∷ codes "*" ∷ []
+unfolding fields_of words meaning_of
+fields_of-hourly = refl
+
+-- names in letters of any case, in ranges too; 7 stands for Sunday, and a range may end with it
+month-name : field_lists Months 1 12 (codes "jAn-Mar") 2 ≡ Some true
+unfolding field_lists item_lists span_of range_of number_in spelled_number short_number_of number_of_name place_of_name natural_of
+month-name = refl
+
+weekdays_list-seven : weekdays_list (codes "5-7") 0 ≡ Some true
+unfolding weekdays_list names_weekday last_weekday_of nth_weekday_of item_lists span_of range_of number_in spelled_number short_number_of number_of_name place_of_name natural_of
+weekdays_list-seven = refl
