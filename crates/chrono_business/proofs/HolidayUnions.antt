@@ -1,9 +1,12 @@
 -- Holidays to which the dates of rules are added, one rule after another and year after year.
-use Rattle.std.proofs.Common.{◌≡◌, ℕ, ◌+◌, ◌<◌, ◌≤◌, true, ◌⊎◌, inl, inr, List, [], length, Some, sym, ap, ◌∙◌, arith, ℤ, pos, ◌+ℤ◌, ◌≤ℤ◌, ◌<ℤ◌}
+use Rattle.std.proofs.Common.{◌≡◌, ℕ, ◌+◌, ◌<◌, ◌≤◌, Bool, true, false, ◌||◌, ◌⊎◌, inl, inr, List, [], length, drop, take, Some, refl, sym, ap, ◌∙◌, arith, ℤ, pos, ◌+ℤ◌, ◌≤ℤ◌, ◌<ℤ◌}
 use Rattle.std.specs.Prelude.{slice_index_or}
+use Rattle.std.specs.Ordering.{int_eq}
 use Rattle.std.proofs.lemmas.Bool.{false≢true}
+use Rattle.std.proofs.lemmas.Bool.Decides.{Decides-int_eq}
 use Rattle.std.proofs.lemmas.Int.{by_lt_z}
-use Rattle.std.proofs.lemmas.List.{get_or_default}
+use Rattle.std.proofs.lemmas.List.{get_or_default, take-append-drop}
+use Rattle.std.proofs.lemmas.List.Folds.{list_any-append, list_any_at, list_any_more}
 use Rattle.chrono_datetime.specs.WeekdaySet.{DaySet}
 use Rattle.chrono_datetime.proofs.Signed.{signed}
 use Rattle.chrono_business.specs.declared.holiday_rule.HolidayRule.{HolidayRule}
@@ -146,3 +149,53 @@ only-new weekend P xs w d h = elim (w.only d h) [ inl none ↦ absurd (false≢t
 pub too_many-new : (weekend : DaySet) (P : ℤ → Type 0) (n : ℕ) → AreTooMany (λ d. (is_holiday [] d ≡ true) ⊎ (P d × (is_workday weekend d ≡ true))) n → AreTooMany (λ d. P d × (is_workday weekend d ≡ true)) n
 too_many-new weekend P n many = λ xs rise all.
     many xs rise (λ d e. elim e [ inl none ↦ absurd (false≢true none) | inr p ↦ all d p ])
+
+-- ---- the days of a list, one after another
+
+pub with-day : (weekend : DaySet) (zs xs : List ℤ) (x : ℤ) → AreHolidays weekend xs → ((d : ℤ) → is_holiday xs d ≡ true → (is_holiday zs d ≡ true) ⊎ ((d ≡ x) × (is_workday weekend x ≡ true))) → ((d : ℤ) → is_holiday zs d ≡ true → is_holiday xs d ≡ true) → (is_workday weekend x ≡ true → is_holiday xs x ≡ true) → AreHolidaysWith weekend zs (λ d. d ≡ x) xs
+with-day weekend zs xs x are only kept here = record {
+  holidays = are;
+  only = λ d h. elim (only d h) [ inl was ↦ inl was | inr new ↦ inr (new.0, ap (is_workday weekend) new.0 ∙ new.1) ];
+  kept = kept;
+  each = λ d same workday. ap (is_holiday xs) same ∙ here (ap (is_workday weekend) (sym same) ∙ workday);
+}
+
+either : (a b : Bool) → (a || b) ≡ true → (a ≡ true) ⊎ (b ≡ true)
+either true b h = inl refl
+either false b h = inr h
+
+or_first : (a b : Bool) → a ≡ true → (a || b) ≡ true
+or_first true b h = refl
+or_first false b h = absurd (false≢true h)
+
+or_second : (a b : Bool) → b ≡ true → (a || b) ≡ true
+or_second true b h = refl
+or_second false b h = h
+
+pub list-parts : (xs : List ℤ) (i : ℕ) (r d : ℤ) → i < length xs → r ≡ slice_index_or xs i r → is_holiday (take (i + 1) xs) d ≡ true → (is_holiday (take i xs) d ≡ true) ⊎ (d ≡ r)
+list-parts xs i r d within is h =
+    elim (either (is_holiday (take i xs) d) (int_eq (slice_index_or xs i r) d) (sym (list_any_more (λ e. int_eq e d) xs i r within) ∙ h)) [
+      | inl was ↦ inl was
+      | inr here ↦ inr (sym (is ∙ (Decides-int_eq (slice_index_or xs i r) d).0 here))
+    ]
+
+pub list-more : (xs : List ℤ) (i : ℕ) (r d : ℤ) → i < length xs → is_holiday (take i xs) d ≡ true → is_holiday (take (i + 1) xs) d ≡ true
+list-more xs i r d within h = list_any_more (λ e. int_eq e d) xs i r within ∙ or_first (is_holiday (take i xs) d) (int_eq (slice_index_or xs i r) d) h
+
+pub list-next : (xs : List ℤ) (i : ℕ) (r d : ℤ) → i < length xs → d ≡ slice_index_or xs i r → is_holiday (take (i + 1) xs) d ≡ true
+list-next xs i r d within same =
+    list_any_more (λ e. int_eq e d) xs i r within
+    ∙ or_second (is_holiday (take i xs) d) (int_eq (slice_index_or xs i r) d) ((Decides-int_eq (slice_index_or xs i r) d).1 (sym same))
+
+-- a day that stands in the list is one of it
+pub list-in : (xs : List ℤ) (i : ℕ) (r d : ℤ) → i < length xs → d ≡ slice_index_or xs i r → is_holiday xs d ≡ true
+list-in xs i r d within same = list_any_at (λ e. int_eq e d) xs i r within ((Decides-int_eq (slice_index_or xs i r) d).1 (sym same))
+
+pub list-front : (xs : List ℤ) (i : ℕ) (d : ℤ) → is_holiday (take i xs) d ≡ true → is_holiday xs d ≡ true
+list-front xs i d h =
+    ap (λ (l : List ℤ). is_holiday l d) (sym (take-append-drop i xs))
+    ∙ (list_any-append (λ e. int_eq e d) (take i xs) (drop i xs) ∙ or_first (is_holiday (take i xs) d) (is_holiday (drop i xs) d) h)
+
+pub too_many-day : (weekend : DaySet) (zs : List ℤ) (x : ℤ) (n : ℕ) → AreTooMany (λ d. (is_holiday zs d ≡ true) ⊎ ((d ≡ x) × (is_workday weekend x ≡ true))) n → AreTooMany (λ d. (is_holiday zs d ≡ true) ⊎ ((d ≡ x) × (is_workday weekend d ≡ true))) n
+too_many-day weekend zs x n many = λ xs rise all.
+    many xs rise (λ d e. elim e [ inl was ↦ all d (inl was) | inr new ↦ all d (inr (new.0, ap (is_workday weekend) new.0 ∙ new.1)) ])

@@ -9,6 +9,8 @@ mod WeekTables
 mod Checked
 mod HolidayInserts
 mod HolidayUnions
+mod HolidayFilters
+mod JoinedCalendars
 mod EasterLemmas
 mod OpenLists
 mod MonthDayCounts

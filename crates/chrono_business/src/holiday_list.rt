@@ -1,6 +1,6 @@
 //! Lists of holidays in the caller's memory, which rise and have each day once.
-ghost use Rattle.std.specs.Prelude.{◌≡◌, ◌≤◌, ◌<◌, ◌⊎◌, ◌+◌, ◌++◌, ◌∷◌, ℤ, true, false, length, take, drop, Some, IfSome, IfNone};
-ghost use Rattle.chrono_business.specs.OpenDays.{AreHolidays, is_holiday, is_workday};
+ghost use Rattle.std.specs.Prelude.{◌≡◌, ◌≤◌, ◌<◌, ◌⊎◌, ◌+◌, ◌++◌, ◌∷◌, ℤ, true, false, length, take, drop, filter, Some, IfSome, IfNone};
+ghost use Rattle.chrono_business.specs.OpenDays.{AreHolidays, AreRising, is_holiday, is_workday};
 ghost use Rattle.chrono_business.specs.HolidayRules.{date_of_rule};
 ghost use Rattle.chrono_business.specs.HolidayLists.{AreHolidaysWith, AreTooMany, IsOfRules};
 
@@ -33,6 +33,27 @@ pub fn holidays_of(
         len = insert_year(rules, year, weekend, out, len)?;
     }
     Some(len)
+}
+
+/// Takes the days on the weekend out of a slice: those that are left stand at its beginning, in their order; how many
+/// there are.
+///
+/// So days that rise are holidays of a calendar then. What stands behind them in the slice is not said.
+pub fn without_weekends(weekend: WeekdaySet, dates: &mut [NaiveDate]) -> usize
+    ensures bound { result ≤ length dates.old }
+    ensures left { take result dates.new ≡ filter (is_workday weekend) dates.old }
+    ensures holidays { AreRising dates.old → AreHolidays weekend (take result dates.new) }
+{
+    let mut count = 0;
+    for place in 0..dates.len() {
+        let date = dates[place];
+        prove!(date.num_days_from_ce() <= LAST_DAY);
+        if !weekend.contains(date.weekday()) {
+            dates[count] = date;
+            count += 1;
+        }
+    }
+    count
 }
 
 // Puts the dates of the rules of a year among the first `len` of a slice, which are holidays; how many there are then,
@@ -80,6 +101,29 @@ fn insert_rule(
         Some(date) => insert(weekend, dates, len, date),
         None => Some(len),
     }
+}
+
+// Puts the days of a list among the first `len` of a slice, which are holidays, but for those on the weekend; how many
+// there are then, and `None` exactly if there is no room.
+pub(crate) fn insert_all(
+    weekend: WeekdaySet,
+    more: &[NaiveDate],
+    dates: &mut [NaiveDate],
+    len: usize,
+) -> Option<usize>
+    requires bound { len ≤ length dates.old }
+    requires holidays { AreHolidays weekend (take len dates.old) }
+    ensures bound { IfSome result (λ n. n ≤ length dates.old) }
+    ensures some { IfSome result (λ n. AreHolidaysWith weekend (take len dates.old)
+        (λ d. is_holiday more.now d ≡ true) (take n dates.new)) }
+    ensures none { IfNone result (AreTooMany (λ d. (is_holiday (take len dates.old) d ≡ true) ⊎
+        ((is_holiday more.now d ≡ true) × (is_workday weekend d ≡ true))) (length dates.old)) }
+{
+    let mut count = len;
+    for date in more {
+        count = insert(weekend, dates, count, *date)?;
+    }
+    Some(count)
 }
 
 // Puts a date among the first `len` of a slice, which are holidays, unless it is there or on the weekend; how many there

@@ -25,7 +25,7 @@ pub use day_count::{
 };
 pub use given::{england_and_wales, target, us_federal};
 pub use holiday_error::HolidayError;
-pub use holiday_list::holidays_of;
+pub use holiday_list::{holidays_of, without_weekends};
 pub use holiday_rule::{HolidayDay, HolidayRule, Moved};
 pub use open_days_iterator::OpenDaysIterator;
 pub use roll::Roll;

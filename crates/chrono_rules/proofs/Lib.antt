@@ -1,5 +1,9 @@
 -- These serve this crate's own proofs alone.
 mod Counts
 mod Cycles
+mod DayLists
 mod LetterLemmas
+mod Moments
+mod Passed
 mod PieceLemmas
+mod Walks

@@ -4,6 +4,8 @@
 #![tactic(auto)]
 
 mod before;
+mod date_times;
+mod iterator;
 pub mod law;
 mod members;
 mod parts;
@@ -12,8 +14,10 @@ mod pieces;
 mod place_text;
 mod places;
 mod rule;
+mod skips;
 mod weekday_text;
 
+pub use iterator::Instances;
 pub use place_text::{BothEnds, Place, read_month_days, read_weeks};
 pub use places::{NumberSet, PlaceSet, WeekdayPlaces};
 pub use rule::{End, Frequency, Rule};
