@@ -8,3 +8,5 @@ mod Months
 mod Order
 mod SameDues
 mod Steps
+mod WordLemmas
+mod DayLemmas
