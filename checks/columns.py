@@ -25,12 +25,12 @@ SOURCE = f"{TOP}/checks/columns.c"
 HEADERS = f"{TOP}/languages/c"
 
 # How many packed multiplications and comparisons the loop of each column has at least. The loop of `first_on` asks a set of each date,
-# those of texts put ten bytes together or take them apart: these are no vector code.
+# which is no vector code. Of texts that are written it is the loop that names the dates of a block.
 NEEDED = {
-    "weekdays": (2, 3), "years": (4, 3), "ordinals": (4, 3), "split": (8, 4), "iso_weeks": (8, 4), "join": (6, 8), "add_days": (0, 6),
+    "weekdays": (2, 3), "years": (4, 3), "ordinals": (4, 3), "split": (7, 4), "iso_weeks": (8, 4), "join": (6, 8), "add_days": (0, 6),
     "add_days_each": (0, 6), "add_months": (14, 7), "days_between": (0, 5), "from_unix_days": (0, 5), "to_unix_days": (0, 3),
     "first_on": (0, 0), "add_days_in_place": (0, 6), "add_days_each_in_place": (0, 6), "add_months_in_place": (14, 7), "count_dates": (0, 3),
-    "write_dates": (0, 0), "read_dates": (0, 0),
+    "write_dates": (7, 4), "read_dates": (6, 8),
 }
 
 MULTIPLICATION = r"v?pmul\w+"

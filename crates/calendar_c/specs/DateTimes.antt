@@ -2,15 +2,12 @@
 use Rattle.std.specs.Prelude.{ℕ, ◌-◌, ◌*◌, ◌^◌, ◌%◌, ◌==◌, ◌&&◌, ◌||◌, Bool, nat_lt, if◌then◌else◌, ℤ, pos, ◌+ℤ◌, ◌-ℤ◌, ◌*ℤ◌, unsigned_abs, Option, Some, None}
 use Rattle.std.specs.Int.{int_div_euclid, int_rem_euclid}
 use Rattle.chrono_clock.specs.Duration.{nanos_per_second, duration_named as duration_of_parts, floor_secs, past_floor}
+use Rattle.chrono_clock.specs.Time.{seconds_per_day}
 use Rattle.chrono_datetime.specs.Days.{date_of_day}
 use Rattle.chrono_datetime.specs.Fields.{unix_epoch_day}
 use Rattle.chrono_datetime.specs.Moment.{Moment, moment_on}
 use Rattle.calendar_c.specs.declared.date_time_numbers.CalendarDateTime.{CalendarDateTime}
 use Rattle.calendar_c.specs.declared.date_time_numbers.CalendarDuration.{CalendarDuration}
-
--- the seconds of a day, leap seconds left out
-abbrev pub seconds_per_day : ℕ
-seconds_per_day = 24 * 60 * 60
 
 -- a second of the day, and nanoseconds past it: a second and more of them lie in the leap second after the last of a minute
 abbrev pub is_time_named : ℕ → ℕ → Bool

@@ -4,7 +4,8 @@ use Rattle.std.specs.Option.{option_map, option_and_then}
 use Rattle.std.proofs.lemmas.Bool.{cond-true, cond-false}
 use Rattle.std.proofs.lemmas.Bool.Decides.{nat_tests}
 use Rattle.caltool_command.specs.Words.{words}
-use Rattle.caltool_command.specs.Grammar.{arguments_from, arguments_of, numbers_behind}
+use Rattle.caltool_command.specs.Grammar.{arguments_from, arguments_of}
+use Rattle.caltool_command.specs.Private.{numbers_behind}
 use Rattle.chrono_units.specs.declared.weekday.Weekday.{Weekday}
 use Rattle.chrono_units.specs.WeekdaySet.{DaySet}
 use Rattle.caltool_command.specs.Types.{to_weekday}

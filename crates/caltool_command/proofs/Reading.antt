@@ -4,8 +4,9 @@ use Rattle.std.specs.Option.{option_map, option_and_then}
 use Rattle.std.proofs.lemmas.Bool.{eq-eqb}
 use Rattle.chrono_text.specs.Numbers.{StandsBefore, i64_of}
 use Rattle.chrono_text.proofs.NumberLemmas.{i64_of-read}
-use Rattle.caltool_command.specs.Words.{words, IsWord, EndsWord}
-use Rattle.caltool_command.specs.Grammar.{numbers_of, numbers_behind}
+use Rattle.caltool_command.specs.Words.{words, IsWord}
+use Rattle.caltool_command.specs.Grammar.{numbers_of}
+use Rattle.caltool_command.specs.Private.{EndsWord, numbers_behind}
 use Rattle.caltool_command.proofs.Splits.{ends_at, first_word, word_of_number, words_at}
 
 -- the numbers of words, by what the first of them writes

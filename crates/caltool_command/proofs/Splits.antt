@@ -7,7 +7,8 @@ use Rattle.std.proofs.lemmas.Bool.{cases_eq, eq-eqb, ne_eqb}
 use Rattle.std.proofs.lemmas.List.Splits.{slice_split_none, slice_split_at, slice_split-cons_yes}
 use Rattle.std.proofs.lemmas.List.Elements.{All-cons, All-nil}
 use Rattle.chrono_text.specs.Numbers.{StandsBefore, WritesNumber}
-use Rattle.caltool_command.specs.Words.{words, IsWord, EndsWord}
+use Rattle.caltool_command.specs.Words.{words, IsWord}
+use Rattle.caltool_command.specs.Private.{EndsWord}
 
 abbrev pub NotSpace : ℕ → Type 0
 NotSpace x = x ≢ 32

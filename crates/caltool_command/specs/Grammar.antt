@@ -1,5 +1,5 @@
 -- The lines that are a command word and whole numbers.
-use Rattle.std.specs.Prelude.{◌≡◌, ℕ, ℤ, FitsSigned, List, [], ◌∷◌, ◌++◌, drop, Option, Some, None}
+use Rattle.std.specs.Prelude.{◌≡◌, ℕ, ℤ, FitsSigned, List, [], ◌∷◌, ◌++◌, codes, Option, Some, None}
 use Rattle.std.specs.Int.{w64}
 use Rattle.std.specs.Option.{option_map, option_and_then}
 use Rattle.caltool_command.specs.Words.{words, IsWord}
@@ -10,10 +10,6 @@ unfoldable pub numbers_of : List (List ℕ) → Option (List ℤ)
 numbers_of [] = Some []
 numbers_of (text ∷ texts) =
     option_and_then (λ number. option_map (λ numbers. number ∷ numbers) (numbers_of texts)) (i64_of text)
-
--- the numbers behind the first space of a text
-abbrev pub numbers_behind : List ℕ → Option (List ℤ)
-numbers_behind text = numbers_of (drop 1 (words text))
 
 -- the first of the words, and the numbers that the others write
 abbrev pub arguments_from : List (List ℕ) → Option (List ℕ × List ℤ)
@@ -28,7 +24,7 @@ arguments_of line = arguments_from (words line)
 abbrev pub WritesNumbers : List ℕ → List ℤ → Type 0
 WritesNumbers rest [] = rest ≡ []
 WritesNumbers rest (number ∷ numbers) =
-    (text : List ℕ) × (others : List ℕ) × (rest ≡ 32 ∷ text ++ others) × WritesNumber text number × FitsSigned w64 number × WritesNumbers others numbers
+    (text : List ℕ) × (others : List ℕ) × (rest ≡ codes " " ++ text ++ others) × WritesNumber text number × FitsSigned w64 number × WritesNumbers others numbers
 
 -- a command word without a space, and then numbers with one space before each
 pub record IsCommandLine (line name : List ℕ) (numbers : List ℤ) : Type 0 where

@@ -3,3 +3,4 @@ pub mod Words
 pub mod Types
 pub mod Grammar
 pub mod Commands
+pub mod Private

@@ -34,6 +34,7 @@ fn read_command(line: &Line<'_>, numbers: &mut Numbers) -> Option<Command>
 /// The name that a line begins with, if nothing but numbers follows it; these go into the given room. With them it makes the
 /// command of the line ([`command_from`]).
 pub fn read_line(line: &Line<'_>, numbers: &mut Numbers) -> Option<Name>
+    // With the name that is answered the numbers in the room make the line's command; with none it has no command.
     ensures { command_of line.now ≡ option_and_then (λ name. the_command_from name numbers.new) result }
 {
     if line.len() > LONGEST_LINE {

@@ -1,5 +1,6 @@
 //! What words and command lines are, each as a law that a caller can cite.
 ghost use Rattle.std.specs.Prelude.{◌≡◌, ◌++◌, ◌∷◌, [], ℕ, ℤ, List, Some, None, pos, neg_ℤ, codes, replicate};
+ghost use Rattle.std.specs.Str.{byte};
 ghost use Rattle.chrono_units.specs.declared.weekday.Weekday.TheVariants.{Fri, Sat, Sun, Thu, Tue};
 ghost use Rattle.chrono_units.specs.WeekdaySet.{set_of};
 ghost use Rattle.caltool_command.specs.declared.arguments.MonthSpan.TheVariants.{Earlier, Later};
@@ -61,7 +62,7 @@ pub fn known_commands()
         ≡ Some (On (record { year = pos 3; month = 4; day = 5 }) (set_of (Sun ∷ []))) }
     ensures every { command_of (codes "every 3 1 31 -2 6")
         ≡ Some (Every (record { year = pos 3; month = 1; day = 31 }) (neg_ℤ (pos 2)) 6) }
-    ensures longest { command_of (codes "day " ++ replicate 115 48 ++ codes "5") ≡ Some (Day (pos 5)) }
+    ensures longest { command_of (codes "day " ++ replicate 115 (byte "0") ++ codes "5") ≡ Some (Day (pos 5)) }
 {}
 
 /// Lines that are known to be no command: a name in another case, a number too few or too many, one past the end of its type, a
@@ -77,5 +78,5 @@ pub fn known_errors()
     ensures two_spaces { command_of (codes "day  1") ≡ None }
     ensures last_space { command_of (codes "set 1 ") ≡ None }
     ensures nothing { command_of [] ≡ None }
-    ensures too_long { command_of (codes "day " ++ replicate 116 48 ++ codes "5") ≡ None }
+    ensures too_long { command_of (codes "day " ++ replicate 116 (byte "0") ++ codes "5") ≡ None }
 {}

@@ -1,8 +1,7 @@
 //! The numbers of a line.
 ghost use Rattle.std.specs.Prelude.{◌≡◌, ◌<◌, ◌≤◌, ◌++◌, ◌∷◌, ℤ, List, [], length, take};
 ghost use Rattle.std.specs.Option.{option_map};
-ghost use Rattle.caltool_command.specs.Words.{EndsWord};
-ghost use Rattle.caltool_command.specs.Grammar.{numbers_behind};
+ghost use Rattle.caltool_command.specs.Private.{EndsWord, numbers_behind};
 
 use crate::ways::Ways;
 use crate::words::next_number;

@@ -1,8 +1,10 @@
 //! The words of a line: its name, and the numbers behind it.
 ghost use Rattle.std.specs.Prelude.{◌≡◌, ◌<◌, ◌≤◌, ◌∷◌, length, take, drop, slice_index, IfSome, IfNone, None};
 ghost use Rattle.std.specs.Option.{option_map};
-ghost use Rattle.caltool_command.specs.Words.{words, IsWord, EndsWord};
-ghost use Rattle.caltool_command.specs.Grammar.{numbers_of, numbers_behind};
+ghost use Rattle.std.specs.Str.{byte};
+ghost use Rattle.caltool_command.specs.Words.{words, IsWord};
+ghost use Rattle.caltool_command.specs.Grammar.{numbers_of};
+ghost use Rattle.caltool_command.specs.Private.{EndsWord, numbers_behind};
 
 use chrono_text::{Line, Way, read_number};
 
@@ -25,7 +27,7 @@ pub(crate) fn split_name<'a>(line: &Line<'a>) -> (&'a [u8], Line<'a>)
 fn word_len(line: &[u8]) -> usize
     ensures within { result ≤ length line.now }
     ensures word { IsWord (take result line.now) }
-    ensures space { result < length line.now → slice_index line.now result ≡ 32 }
+    ensures space { result < length line.now → slice_index line.now result ≡ byte " " }
 {
     for (len, byte) in line.iter().enumerate() {
         if *byte == SPACE {

@@ -8,5 +8,4 @@ pub use Rattle.caltool_form.specs.Named
 pub use Rattle.caltool_form.specs.Texts
 pub use Rattle.caltool_form.specs.Answers
 pub use Rattle.caltool_form.specs.Runs
-pub use Rattle.caltool_form.specs.Marks
 pub use Rattle.caltool_form.specs.Faults

@@ -9,7 +9,8 @@ use Rattle.std.proofs.lemmas.Grind.{flat_map-append}
 use Rattle.std.proofs.Math.Seq.{take-append-add}
 use Rattle.std.proofs.KnownBytes.{Appends-trans}
 use Rattle.std.specs.Io.KnownBytes.{Appends}
-use Rattle.caltool_form.specs.Lines.{pieces, but_last, last_part, ended_lines, rest_of, onto_front, pieces_after, last_line, IsPiece}
+use Rattle.caltool_form.specs.Lines.{pieces, but_last, last_part, ended_lines, rest_of, last_line, IsPiece}
+use Rattle.caltool_form.specs.Private.{onto_front, pieces_after}
 use Rattle.caltool_form.specs.Answers.{answer_of, answer_to, answers_of}
 use Rattle.caltool_command.specs.Commands.{is_long, command_of}
 

@@ -4,7 +4,8 @@ use Rattle.std.proofs.lemmas.List.{take-take}
 use Rattle.std.proofs.lemmas.Grind.{flat_map-append}
 use Rattle.std.proofs.KnownBytes.{Appends-trans, Appends-nil, Consumes-trans}
 use Rattle.std.specs.Io.KnownBytes.{Appends, Consumes, IsAtEnd}
-use Rattle.caltool_form.specs.Lines.{but_last, last_part, pieces_after, ended_lines, rest_of, last_line, IsPiece}
+use Rattle.caltool_form.specs.Lines.{but_last, last_part, ended_lines, rest_of, last_line, IsPiece}
+use Rattle.caltool_form.specs.Private.{pieces_after}
 use Rattle.caltool_form.specs.Answers.{answers_of, answer_of, output_of}
 use Rattle.caltool_form.specs.Runs.{AnsweredAll, AnsweredPart}
 use Rattle.caltool_form.proofs.Pieces.{pieces_after-piece, but_last-line, last_part-line, begun_within, ended_more, rest_more, same_last}

@@ -1,8 +1,9 @@
 -- The text that answers an input, by what the calendar and the clock count. No stored form of dates is named here.
-use Rattle.std.specs.Prelude.{ℕ, List, [], ◌∷◌, ◌++◌, ℤ, pos, ◌+ℤ◌, Option, codes}
+use Rattle.std.specs.Prelude.{ℕ, List, ◌++◌, ℤ, pos, ◌+ℤ◌, Option, codes}
 use Rattle.std.specs.Fmt.{decimal, signed_decimal}
 use Rattle.std.specs.List.{flat_map}
 use Rattle.std.specs.Option.{option_map, option_map_or, option_and_then}
+use Rattle.std.specs.Str.{byte}
 use Rattle.chrono_units.specs.WeekdaySet.{walk}
 use Rattle.chrono_units.specs.WeekdayText.{weekday_text, set_text}
 use Rattle.chrono_clock.specs.Moment.{moment_distance}
@@ -44,7 +45,7 @@ answer_to (Days date count) = date_line (option_and_then (λ n. date_of_day (n +
 answer_to (Months date span) = date_line (option_and_then (λ n. month_move n (months_of span)) (date_named date))
 answer_to (Week date start) = text_or_none (λ n. week_line (week_first_of n start)) (date_named date)
 answer_to (Move from seconds nanoseconds) =
-    text_or_none (moment_text 84)
+    text_or_none (moment_text (byte "T"))
     (option_and_then (λ m. option_and_then (λ x. reach m x) (duration_named seconds nanoseconds)) (moment_named from))
 answer_to (Diff first second) =
     text_or_none duration_text (option_and_then (λ a. option_map (λ b. moment_distance a b) (moment_named second)) (moment_named first))
@@ -60,7 +61,7 @@ answer_of line = option_map_or answer_to (command_of line) (codes "error")
 
 -- the answers of these lines, each ended by a newline
 abbrev pub answers_of : (List ℕ → List ℕ) → List (List ℕ) → List ℕ
-answers_of answer lines = flat_map (λ line. answer line ++ 10 ∷ []) lines
+answers_of answer lines = flat_map (λ line. answer line ++ codes "\n") lines
 
 -- what is written for an input
 abbrev pub output_of : (List ℕ → List ℕ) → List ℕ → List ℕ

@@ -9,5 +9,5 @@ pub mod Named
 pub mod Texts
 pub mod Answers
 pub mod Runs
-pub mod Marks
+pub mod Private
 pub mod Faults

@@ -1,10 +1,11 @@
 -- The lines of an input.
-use Rattle.std.specs.Prelude.{◌≡◌, ◌==◌, ◌≢◌, ℕ, All, List, [], ◌∷◌, ◌++◌}
+use Rattle.std.specs.Prelude.{◌≡◌, ◌==◌, ◌≢◌, ℕ, All, List, [], ◌∷◌, ◌++◌, codes}
 use Rattle.std.specs.List.{flat_map, slice_split, AllByRecursion}
+use Rattle.std.specs.Str.{byte}
 
 -- the parts of the bytes between the newlines
 abbrev pub pieces : List ℕ → List (List ℕ)
-pieces bytes = slice_split (λ x. x == 10) bytes
+pieces bytes = slice_split (λ x. x == byte "\n") bytes
 
 -- all parts but the last
 abbrev pub but_last : List (List ℕ) → List (List ℕ)
@@ -35,21 +36,12 @@ last_line (x ∷ line) = (x ∷ line) ∷ []
 abbrev pub lines : List ℕ → List (List ℕ)
 lines bytes = ended_lines bytes ++ last_line (rest_of bytes)
 
--- bytes before the first part
-abbrev pub onto_front : List ℕ → List (List ℕ) → List (List ℕ)
-onto_front line [] = line ∷ []
-onto_front line (part ∷ parts) = (line ++ part) ∷ parts
-
--- the parts of bytes that come after the beginning of a line
-abbrev pub pieces_after : List ℕ → List ℕ → List (List ℕ)
-pieces_after line bytes = onto_front line (pieces bytes)
-
 -- no byte is a newline
 abbrev pub IsPiece : List ℕ → Type 0
-IsPiece bytes = All (λ x. x ≢ 10) bytes
+IsPiece bytes = All (λ x. x ≢ byte "\n") bytes
 
 -- the bytes are these lines, each ended by a newline, and then a rest
 pub record IsCut (bytes : List ℕ) (cut : List (List ℕ)) (rest : List ℕ) : Type 0 where
-  pub joined : bytes ≡ flat_map (λ line. line ++ 10 ∷ []) cut ++ rest
+  pub joined : bytes ≡ flat_map (λ line. line ++ codes "\n") cut ++ rest
   pub lines : AllByRecursion IsPiece cut
   pub last : IsPiece rest

@@ -1,5 +1,5 @@
 -- What the numbers of a command name: a date, a time of day, a date-time, a duration, a number of months.
-use Rattle.std.specs.Prelude.{◌==◌, nat_lt, ◌&&◌, ◌||◌, if◌then◌else◌, ℤ, pos, neg_ℤ, Option, Some, None}
+use Rattle.std.specs.Prelude.{◌==◌, ◌*◌, nat_lt, ◌&&◌, ◌||◌, if◌then◌else◌, ℤ, pos, neg_ℤ, Option, Some, None}
 use Rattle.std.specs.Option.{option_map, option_and_then}
 use Rattle.chrono_clock.specs.Duration.{nanos_per_second}
 use Rattle.chrono_clock.specs.Time.{TimeOfDay, time_at}
@@ -20,7 +20,7 @@ date_named d = date_of_ymd d.year d.month d.day
 unfoldable pub time_named : ClockTime → Option TimeOfDay
 time_named t =
     if (nat_lt t.hour 24 && nat_lt t.minute 60 && nat_lt t.second 60)
-    && (nat_lt t.nanosecond 2_000_000_000 && (nat_lt t.nanosecond nanos_per_second || (t.second == 59)))
+    && (nat_lt t.nanosecond (2 * nanos_per_second) && (nat_lt t.nanosecond nanos_per_second || (t.second == 59)))
     then Some (time_at t.hour t.minute t.second t.nanosecond) else None
 
 -- the date-time of both, if both exist

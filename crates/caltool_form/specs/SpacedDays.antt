@@ -7,7 +7,7 @@ use Rattle.chrono_units.specs.WeekdayText.{weekday_text}
 -- each day after a space
 abbrev pub spaced_days_text : List Weekday → List ℕ
 spaced_days_text [] = []
-spaced_days_text (d ∷ ds) = 32 ∷ weekday_text d ++ spaced_days_text ds
+spaced_days_text (d ∷ ds) = codes " " ++ weekday_text d ++ spaced_days_text ds
 
 -- known values
 spaced_days_text-three_days : spaced_days_text (Thu ∷ Sun ∷ Mon ∷ []) ≡ codes " Thu Sun Mon"

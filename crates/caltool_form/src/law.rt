@@ -1,5 +1,6 @@
 //! What the lines of an input are, and answers that are known, as laws that a caller can cite.
 ghost use Rattle.std.specs.Prelude.{◌≡◌, ◌++◌, ◌∷◌, [], ℕ, List, codes, replicate};
+ghost use Rattle.std.specs.Str.{byte};
 ghost use Rattle.caltool_form.specs.Answers.{answer_of, output_of};
 ghost use Rattle.caltool_form.specs.Lines.{IsCut, ended_lines, rest_of};
 
@@ -35,14 +36,14 @@ pub fn known_answers()
     ensures every { answer_of (codes "every 1 1 31 1 2") ≡ codes "0001-03-31 90 Sat 0001-W13 90" }
     ensures none { answer_of (codes "ymd 1 2 29") ≡ codes "none" }
     ensures error { answer_of (codes "yo 4") ≡ codes "error" }
-    ensures too_long { answer_of (codes "day " ++ replicate 116 48 ++ codes "5") ≡ codes "error" }
+    ensures too_long { answer_of (codes "day " ++ replicate 116 (byte "0") ++ codes "5") ≡ codes "error" }
 {}
 
 /// Outputs that are known: of nothing nothing; of a line that nothing ends, of an empty line, and of two, each answered.
 pub fn known_outputs()
     ensures nothing { output_of answer_of [] ≡ [] }
-    ensures unended { output_of answer_of (codes "set 7 7") ≡ codes "[Sun] Sun" ++ 10 ∷ [] }
-    ensures empty { output_of answer_of (10 ∷ []) ≡ codes "error" ++ 10 ∷ [] }
-    ensures two { output_of answer_of (codes "set 7 7" ++ 10 ∷ codes "set 1" ++ 10 ∷ [])
-        ≡ codes "[Sun] Sun" ++ 10 ∷ codes "[]" ++ 10 ∷ [] }
+    ensures unended { output_of answer_of (codes "set 7 7") ≡ codes "[Sun] Sun\n" }
+    ensures empty { output_of answer_of (codes "\n") ≡ codes "error\n" }
+    ensures two { output_of answer_of (codes "set 7 7\nset 1\n")
+        ≡ codes "[Sun] Sun\n[]\n" }
 {}

@@ -1,5 +1,6 @@
 //! Where a line ends.
 ghost use Rattle.std.specs.Prelude.{◌≡◌, ◌≢◌, ◌+◌, ◌<◌, ◌≤◌, ◌∷◌, ◌++◌, ℕ, take, length, slice_index, IfSome, IfNone};
+ghost use Rattle.std.specs.Str.{byte};
 ghost use Rattle.caltool_form.specs.Lines.{IsPiece};
 
 use caltool_command::Line;
@@ -13,7 +14,7 @@ const LANES: usize = 16;
 // The bytes before the first newline, and those after it.
 #[inline]
 pub(crate) fn first_line(bytes: &[u8]) -> Option<(Line<'_>, &[u8])>
-    ensures some { IfSome result (λ parts. bytes.now ≡ parts.0 ++ 10 ∷ parts.1.now) }
+    ensures some { IfSome result (λ parts. bytes.now ≡ parts.0 ++ byte "\n" ∷ parts.1.now) }
     ensures first { IfSome result (λ parts. IsPiece parts.0) }
     ensures none { IfNone result (IsPiece bytes.now) }
 {
@@ -29,7 +30,7 @@ pub(crate) fn first_line(bytes: &[u8]) -> Option<(Line<'_>, &[u8])>
 fn newline_at(bytes: &[u8]) -> usize
     ensures within { result ≤ length bytes.now }
     ensures before { IsPiece (take result bytes.now) }
-    ensures here { result < length bytes.now → slice_index bytes.now result ≡ 10 }
+    ensures here { result < length bytes.now → slice_index bytes.now result ≡ byte "\n" }
 {
     let mut at = 0;
     while at + LANES <= bytes.len() {
@@ -48,7 +49,7 @@ fn newline_from(bytes: &[u8], start: usize) -> usize
     requires before { IsPiece (take start bytes.now) }
     ensures within { result ≤ length bytes.now }
     ensures before { IsPiece (take result bytes.now) }
-    ensures here { result < length bytes.now → slice_index bytes.now result ≡ 10 }
+    ensures here { result < length bytes.now → slice_index bytes.now result ≡ byte "\n" }
 {
     let mut at = start;
     while at < bytes.len() {
@@ -66,8 +67,8 @@ fn newline_from(bytes: &[u8], start: usize) -> usize
 fn lanes_before_newline(bytes: &[u8], at: usize) -> usize
     requires { at + 16 ≤ length bytes.now }
     ensures within { result ≤ 16 }
-    ensures before { (k : ℕ) → at ≤ k → k < at + result → slice_index bytes.now k ≢ 10 }
-    ensures here { result < 16 → slice_index bytes.now (at + result) ≡ 10 }
+    ensures before { (k : ℕ) → at ≤ k → k < at + result → slice_index bytes.now k ≢ byte "\n" }
+    ensures here { result < 16 → slice_index bytes.now (at + result) ≡ byte "\n" }
 {
     let newlines = u8x16::from_slice(&bytes[at..])
         .simd_eq(u8x16::splat(NEWLINE))

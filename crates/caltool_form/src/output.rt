@@ -1,7 +1,7 @@
 //! The answers that wait to be written.
-ghost use Rattle.std.specs.Prelude.{◌≡◌, ◌+◌, ◌≤◌, ◌<◌, ◌++◌, ◌∷◌, ℕ, List, [], length, take, OnOk, OnErr, IfErr};
+ghost use Rattle.std.specs.Prelude.{◌≡◌, ◌+◌, ◌≤◌, ◌<◌, ◌++◌, codes, ℕ, List, [], length, take, OnOk, OnErr, IfErr};
 ghost use Rattle.std.specs.Io.KnownBytes.{Appends};
-ghost use Rattle.caltool_form.specs.Marks.{mark_of_write};
+ghost use Rattle.caltool_form.specs.Private.{mark_of_write};
 ghost use Rattle.caltool_form.specs.declared.watch.Mark.{Mark};
 ghost use Rattle.caltool_form.specs.Answers.{answer_of};
 
@@ -47,7 +47,7 @@ impl Output {
     // Adds the answer to a line, and its newline.
     pub(crate) fn answer<A: CommandAnswers>(&mut self, line: &Line<'_>)
         requires { length self.old + 63 < 65536 }
-        ensures { self.new ≡ self.old ++ answer_of line.now ++ 10 ∷ [] }
+        ensures { self.new ≡ self.old ++ answer_of line.now ++ codes "\n" }
     {
         read_and_answer::<A, ROOM>(&mut self.text, line, &mut self.numbers);
         self.text.push(b'\n');
@@ -61,7 +61,7 @@ impl Output {
         end: &Line<'_>,
     )
         requires { length self.old + 63 < 65536 }
-        ensures answer { self.new ≡ self.old ++ answer_of (carried.old ++ end.now) ++ 10 ∷ [] }
+        ensures answer { self.new ≡ self.old ++ answer_of (carried.old ++ end.now) ++ codes "\n" }
         ensures nothing { carried.new ≡ [] }
     {
         if carried.is_empty() {

@@ -3,8 +3,8 @@ ghost use Rattle.std.specs.Prelude.{◌≡◌, ◌⊎◌, ◌+◌, ◌-◌, ◌^
 ghost use Rattle.std.specs.Io.KnownBytes.{Appends, ReadConsumes};
 ghost use Rattle.std.specs.Io.{ReadsAtMost};
 ghost use Rattle.caltool_form.specs.Answers.{answer_of, answers_of};
-ghost use Rattle.caltool_form.specs.Lines.{but_last, last_part, pieces_after, last_line};
-ghost use Rattle.caltool_form.specs.Marks.{mark_of_read, mark_of_write, mark_of_flush};
+ghost use Rattle.caltool_form.specs.Lines.{but_last, last_part, last_line};
+ghost use Rattle.caltool_form.specs.Private.{pieces_after, mark_of_read, mark_of_write, mark_of_flush};
 ghost use Rattle.caltool_form.specs.Runs.{AnsweredAll, AnsweredEnded, AnsweredPart};
 ghost use Rattle.caltool_form.specs.declared.watch.Mark.{Mark};
 

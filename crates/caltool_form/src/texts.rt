@@ -2,6 +2,7 @@
 ghost use Rattle.std.specs.Prelude.{◌≡◌, ◌≤◌, ◌+◌, ◌*◌, ◌++◌, length, codes};
 ghost use Rattle.std.specs.Fmt.{decimal, signed_decimal};
 ghost use Rattle.std.specs.Option.{option_map};
+ghost use Rattle.std.specs.Str.{byte};
 ghost use Rattle.chrono_units.specs.WeekdaySet.{walk};
 ghost use Rattle.chrono_units.specs.WeekdayText.{weekday_text, set_text};
 ghost use Rattle.chrono_clock.specs.Moment.{moment};
@@ -94,7 +95,7 @@ pub(crate) fn push_moment<A: CommandAnswers, const N: usize>(
 )
     requires { length out.old + 63 ≤ N }
     ensures text { out.new ≡ out.old
-        ++ text_or_none (moment_text 84) (option_map (λ m. moment (A.number m.0) m.1) reached) }
+        ++ text_or_none (moment_text (byte "T")) (option_map (λ m. moment (A.number m.0) m.1) reached) }
     ensures fits { length out.new ≤ length out.old + 63 }
 {
     match reached {
@@ -208,7 +209,7 @@ fn push_date_and_time<A: CommandAnswers, const N: usize>(
     time: NaiveTime,
 )
     requires { length out.old + 63 ≤ N }
-    ensures text { out.new ≡ out.old ++ moment_text 84 (moment (A.number date) time) }
+    ensures text { out.new ≡ out.old ++ moment_text (byte "T") (moment (A.number date) time) }
     ensures fits { length out.new ≤ length out.old + 63 }
 {
     push_date::<A, N>(out, date);

@@ -3,7 +3,7 @@
 ghost use Rattle.std.specs.Prelude.{◌≡◌, ◌+◌, ◌-◌, ◌^◌, ◌<◌, ◌≤◌, ◌↔◌, length, IfOk, IfErr, IsTrue};
 ghost use Rattle.std.specs.Io.KnownBytes.{Keeps, ReadConsumes, WriteAppends};
 ghost use Rattle.std.specs.Io.{ReadsAtMost};
-ghost use Rattle.caltool_form.specs.Marks.{mark_of_read, mark_of_write, mark_of_flush};
+ghost use Rattle.caltool_form.specs.Private.{mark_of_read, mark_of_write, mark_of_flush};
 
 use crate::fault::RunFault;
 use std::io::{Read, Write};

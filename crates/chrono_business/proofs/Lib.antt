@@ -7,6 +7,10 @@ mod Early
 mod Workdays
 mod WeekTables
 mod Checked
+mod HolidayInserts
+mod HolidayUnions
+mod HolidayFilters
+mod JoinedCalendars
 mod EasterLemmas
 mod OpenLists
 mod MonthDayCounts

@@ -1,5 +1,5 @@
 -- Holidays by rules: which day a rule names in a year, where it goes from a weekend, and the holidays of a year.
-use Rattle.std.specs.Prelude.{ℕ, Bool, ◌&&◌, ◌==◌, int_le, if◌then◌else◌, ℤ, pos, neg_ℤ, ◌+ℤ◌, Option, Some, None}
+use Rattle.std.specs.Prelude.{ℕ, Bool, ◌&&◌, ◌==◌, int_le, if◌then◌else◌, ℤ, pos, neg_ℤ, ◌+ℤ◌, Option, None}
 use Rattle.std.specs.Option.{option_and_then}
 use Rattle.chrono_datetime.specs.declared.Weekday.{Weekday}
 use Rattle.chrono_datetime.specs.Month.{number_from_month}

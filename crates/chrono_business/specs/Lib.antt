@@ -5,5 +5,6 @@ pub mod Rolls
 pub mod DayCounts
 pub mod Easter
 pub mod HolidayRules
+pub mod HolidayLists
 pub mod OpenDayLists
 pub mod LeapDays

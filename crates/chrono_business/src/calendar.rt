@@ -6,6 +6,7 @@ ghost use Rattle.std.specs.Prelude.{◌≡◌};
 ghost use Rattle.chrono_business.specs.OpenDays.{AreHolidays};
 
 mod checked;
+mod joined;
 mod months;
 mod open_days;
 mod ranks;

@@ -11,6 +11,7 @@ mod computus;
 mod day_count;
 mod given;
 mod holiday_error;
+mod holiday_list;
 mod holiday_rule;
 pub mod law;
 mod open_days_iterator;
@@ -24,6 +25,7 @@ pub use day_count::{
 };
 pub use given::{england_and_wales, target, us_federal};
 pub use holiday_error::HolidayError;
+pub use holiday_list::{holidays_of, without_weekends};
 pub use holiday_rule::{HolidayDay, HolidayRule, Moved};
 pub use open_days_iterator::OpenDaysIterator;
 pub use roll::Roll;

@@ -45,6 +45,14 @@ impl Workweek {
         }
     }
 
+    // The weekend.
+    #[inline]
+    pub(crate) fn weekend(&self) -> WeekdaySet
+        ensures { result ≡ self.now }
+    {
+        self.weekend
+    }
+
     // Whether the date is not on the weekend.
     #[inline]
     pub(crate) fn is_workday(&self, date: NaiveDate) -> bool

@@ -5,7 +5,7 @@ use Rattle.std.proofs.lemmas.Bool.Decides.{nat_tests}
 use Rattle.std.proofs.lemmas.Int.{ints, by_lt_z}
 use Rattle.std.specs.Int.{IsInRange}
 use Rattle.chrono_units.specs.Years.{is_leap_year, month_length_in}
-use Rattle.chrono_calendar.specs.Days.{days_of_months_in, IsMonthAndDay, IsOrdinalName, ordinal_of_ymd, year_of, ordinal_of, month_of, day_of}
+use Rattle.chrono_calendar.specs.Days.{days_of_months_in, IsOrdinalName, ordinal_of_ymd, year_of, ordinal_of, month_of, day_of}
 use Rattle.chrono_calendar.specs.MonthMoves.{month_index, month_index_of, month_length_of}
 use Rattle.chrono_calendar.specs.Recurrence.{IsLeapDay, date_every}
 use Rattle.chrono_calendar.specs.YearsBetween.{birthday, years_between}
@@ -14,7 +14,7 @@ use Rattle.chrono_calendar.proofs.Tests.{passes_below, passes_below-at}
 use Rattle.chrono_calendar.proofs.Names.{day_number-lt_year, ordinal_name_of-number}
 use Rattle.chrono_calendar.proofs.NamedDates.{calendar_name-exists, number-calendar_name}
 use Rattle.chrono_calendar.proofs.Order.{month_ends}
-use Rattle.chrono_calendar.proofs.Months.{month_length_in-bounds, month_of_ordinal-exists}
+use Rattle.chrono_calendar.proofs.Months.{IsMonthAndDay, month_length_in-bounds, month_of_ordinal-exists}
 use Rattle.chrono_calendar.proofs.MonthOrder.{before_month, day_at-exists, month_index-parts, month_of-range}
 use Rattle.chrono_calendar.proofs.MonthMoveLaws.{month_move-parts}
 use Rattle.chrono_calendar.proofs.WholeYears.{place, years_counted, years_between-None, years_between-Some}

@@ -2,9 +2,15 @@
 use Rattle.std.proofs.Common.{◌≡◌, ℕ, ◌+◌, ◌-◌, ◌≤◌, Bool, true, false, ◌&&◌, ◌||◌, cond, nat_eq, nat_lt, nat_le, refl, arith}
 use Rattle.std.proofs.lemmas.Bool.Decides.{nat_tests}
 use Rattle.chrono_units.specs.Years.{month_length_in}
-use Rattle.chrono_calendar.specs.Days.{days_of_months_in, month_of_ordinal, day_of_ordinal, IsMonthAndDay}
+use Rattle.chrono_calendar.specs.Days.{days_of_months_in, month_of_ordinal, day_of_ordinal}
 use Rattle.chrono_calendar.proofs.Tests.{passes_below, passes_below-at}
 use Rattle.std.specs.Int.{IsInRange}
+
+-- the day d of the month m of a leap year or of a common year is its o-th day
+pub record IsMonthAndDay (leap : Bool) (m d o : ℕ) : Type 0 where
+  pub month : IsInRange 1 12 m
+  pub day : IsInRange 1 (month_length_in leap m) d
+  pub ordinal : days_of_months_in leap (m - 1) + d ≡ o
 
 -- the months of a year have its days
 pub days_of_months_in-year : (leap : Bool) → days_of_months_in leap 12 ≡ cond leap 366 365

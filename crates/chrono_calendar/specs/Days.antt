@@ -1,5 +1,5 @@
 -- Days of the proleptic Gregorian calendar as whole numbers: 1 January of year 1 is 1.
-use Rattle.std.specs.Prelude.{◌≡◌, ℕ, zero, suc, ◌+◌, ◌-◌, Bool, ◌&&◌, if◌then◌else◌, nat_lt, nat_le, ℤ, pos, negsuc, neg_ℤ, ◌+ℤ◌, ◌-ℤ◌, ◌≤ℤ◌, int_le, List, [], ◌∷◌, count_by, Option, Some, None}
+use Rattle.std.specs.Prelude.{ℕ, zero, suc, ◌+◌, ◌-◌, Bool, ◌&&◌, if◌then◌else◌, nat_lt, nat_le, ℤ, pos, negsuc, neg_ℤ, ◌+ℤ◌, ◌-ℤ◌, ◌≤ℤ◌, int_le, List, [], ◌∷◌, count_by, Option, Some, None}
 use Rattle.std.specs.Int.{IsInRange}
 use Rattle.chrono_units.specs.Years.{is_leap_year, year_length, month_length_in, month_length, is_year}
 
@@ -125,9 +125,3 @@ month_of n = month_of_ordinal (is_leap_year (year_of n)) (ordinal_of n)
 
 abbrev pub day_of : ℤ → ℕ
 day_of n = day_of_ordinal (is_leap_year (year_of n)) (ordinal_of n)
-
--- the day d of the month m of a leap year or of a common year is its o-th day
-pub record IsMonthAndDay (leap : Bool) (m d o : ℕ) : Type 0 where
-  pub month : IsInRange 1 12 m
-  pub day : IsInRange 1 (month_length_in leap m) d
-  pub ordinal : days_of_months_in leap (m - 1) + d ≡ o

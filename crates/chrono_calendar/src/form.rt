@@ -94,6 +94,7 @@ pub trait DayForm: Copy + Ord + Hash {
     fn iso_name(&self) -> (i32, u32)
         ensures year { result.0 ≡ iso_year_of (number self.now) }
         ensures week { result.1 ≡ iso_week_of (number self.now) }
+        // One year more than dates have: their last days may be in a week of the next year.
         ensures year_in_range { (neg_ℤ (pos 262_143) ≤ℤ result.0) × (result.0 ≤ℤ pos 262_143) }
         ensures week_in_range { IsInRange 1 53 result.1 }
     {

@@ -84,6 +84,7 @@ pub fn every_months<F: DayForm>(f: F, k: i32, i: u32) -> Option<F>
 pub fn iso_name<F: DayForm>(f: &F) -> (i32, u32)
     ensures year { result.0 ≡ iso_year_of (F.number f.now) }
     ensures week { result.1 ≡ iso_week_of (F.number f.now) }
+    // One year more than dates have: their last days may be in a week of the next year.
     ensures year_in_range { (neg_ℤ (pos 262_143) ≤ℤ result.0) × (result.0 ≤ℤ pos 262_143) }
     ensures week_in_range { IsInRange 1 53 result.1 }
 {

@@ -4,31 +4,34 @@ use Rattle.std.specs.Int.{int_div_euclid, int_rem_euclid}
 pub use Rattle.chrono_text.specs.Text.{nanos_per_second}
 
 -- the nanoseconds of each unit
-abbrev pub nanos_per_week : ℕ
-nanos_per_week = 604_800_000_000_000
-
-abbrev pub nanos_per_day : ℕ
-nanos_per_day = 86_400_000_000_000
+abbrev pub nanos_per_minute : ℕ
+nanos_per_minute = 60 * nanos_per_second
 
 abbrev pub nanos_per_hour : ℕ
-nanos_per_hour = 3_600_000_000_000
+nanos_per_hour = 60 * nanos_per_minute
 
-abbrev pub nanos_per_minute : ℕ
-nanos_per_minute = 60_000_000_000
+abbrev pub nanos_per_day : ℕ
+nanos_per_day = 24 * nanos_per_hour
 
-abbrev pub nanos_per_milli : ℕ
-nanos_per_milli = 1_000_000
+abbrev pub nanos_per_week : ℕ
+nanos_per_week = 7 * nanos_per_day
 
 abbrev pub nanos_per_micro : ℕ
 nanos_per_micro = 1_000
 
--- the size of the longest durations, in nanoseconds
-abbrev pub longest : ℕ
-longest = 9_223_372_036_854_775_807_000_000
+abbrev pub nanos_per_milli : ℕ
+nanos_per_milli = 1_000 * nanos_per_micro
 
--- which is as many milliseconds as an i64 can count
-longest-milliseconds : longest ≡ (2 ^ 63 - 1) * nanos_per_milli
-longest-milliseconds = refl
+-- the size of the longest durations, in nanoseconds: as many milliseconds as an i64 can count
+abbrev pub longest : ℕ
+longest = (2 ^ 63 - 1) * nanos_per_milli
+
+-- known values: a week, and the longest durations
+nanos_per_week-digits : nanos_per_week ≡ 604_800_000_000_000
+nanos_per_week-digits = refl
+
+longest-digits : longest ≡ 9_223_372_036_854_775_807_000_000
+longest-digits = refl
 
 -- a number of nanoseconds that a duration may have
 abbrev pub IsDuration : ℤ → Type 0

@@ -7,6 +7,10 @@ use Rattle.std.specs.declared.cmp.Ordering.{Ordering}
 use Rattle.std.specs.declared.cmp.Ordering.TheVariants.{Less, Greater}
 use Rattle.chrono_clock.specs.Duration.{nanos_per_day, nanos_per_second}
 
+-- the seconds of a day, leap seconds left out
+abbrev pub seconds_per_day : ℕ
+seconds_per_day = 24 * 60 * 60
+
 -- a second of the day, and the nanoseconds past it, of which a leap second has 1_000_000_000 or more
 pub record TimeOfDay : Type 0 where
   pub second : ℕ
@@ -14,8 +18,8 @@ pub record TimeOfDay : Type 0 where
 
 -- the ranges of the two parts
 pub record IsTime (t : TimeOfDay) : Type 0 where
-  pub second : t.second < 86_400
-  pub fraction : t.fraction < 2_000_000_000
+  pub second : t.second < seconds_per_day
+  pub fraction : t.fraction < 2 * nanos_per_second
 
 -- the time lies in a leap second, or in no leap second
 abbrev pub is_leap : TimeOfDay → Bool
@@ -49,7 +53,7 @@ pub record IsClock (hour minute second : ℕ) : Type 0 where
 
 -- a fraction that a new time may have at a second of its minute: a leap one at 59 alone
 abbrev pub FractionFits : ℕ → ℕ → Type 0
-FractionFits second fraction = (fraction < 2_000_000_000) × (nanos_per_second ≤ fraction → second ≡ 59)
+FractionFits second fraction = (fraction < 2 * nanos_per_second) × (nanos_per_second ≤ fraction → second ≡ 59)
 
 -- the time of some parts
 abbrev pub time_at : ℕ → ℕ → ℕ → ℕ → TimeOfDay

@@ -3,8 +3,8 @@
 //! The operators stand in `ops`, the order in `order`, and the texts in `text`.
 ghost use Rattle.std.specs.Prelude.{◌≡◌, ℕ, ℤ, pos, ◌<◌, ◌≤◌, ◌^◌, ◌+◌, ◌*◌, ◌%◌, ◌<ℤ◌, ◌⊎◌, ◌+ℤ◌, ◌*ℤ◌, neg_ℤ, unsigned_abs};
 ghost use Rattle.std.specs.Option.{SomeIff};
-ghost use Rattle.chrono_clock.specs.Duration.{nanos_of, nanos_per_second};
-ghost use Rattle.chrono_clock.specs.Time.{IsTime, IsClock, FractionFits, TimeOfDay, SameWay, TimeMovesAddUp, IsEarlier, IsEarlierLanding, IsLeap, IsPlain, landing_of, is_leap, place, place_beside, plain_landing, leap_landing, land, distance, time_at};
+ghost use Rattle.chrono_clock.specs.Duration.{nanos_of, nanos_per_second, nanos_per_milli, nanos_per_micro};
+ghost use Rattle.chrono_clock.specs.Time.{IsTime, seconds_per_day, IsClock, FractionFits, TimeOfDay, SameWay, TimeMovesAddUp, IsEarlier, IsEarlierLanding, IsLeap, IsPlain, landing_of, is_leap, place, place_beside, plain_landing, leap_landing, land, distance, time_at};
 
 use crate::TimeDelta;
 use crate::carry::carried;
@@ -74,8 +74,8 @@ impl NaiveTime {
     #[inline]
     pub fn from_hms_milli_opt(hour: u32, minute: u32, second: u32, milli: u32) -> Option<NaiveTime>
         ensures { SomeIff result
-            (IsClock hour minute second × FractionFits second (milli * 1_000_000))
-            (time_at hour minute second (milli * 1_000_000)) }
+            (IsClock hour minute second × FractionFits second (milli * nanos_per_milli))
+            (time_at hour minute second (milli * nanos_per_milli)) }
     {
         NaiveTime::from_hms_nano_opt(hour, minute, second, milli.checked_mul(NANOS_PER_MILLI)?)
     }
@@ -86,8 +86,8 @@ impl NaiveTime {
     /// second 59, and else up to 999,999.
     #[inline]
     pub fn from_hms_micro_opt(hour: u32, minute: u32, second: u32, micro: u32) -> Option<NaiveTime>
-        ensures { SomeIff result (IsClock hour minute second × FractionFits second (micro * 1_000))
-            (time_at hour minute second (micro * 1_000)) }
+        ensures { SomeIff result (IsClock hour minute second × FractionFits second (micro * nanos_per_micro))
+            (time_at hour minute second (micro * nanos_per_micro)) }
     {
         NaiveTime::from_hms_nano_opt(hour, minute, second, micro.checked_mul(NANOS_PER_MICRO)?)
     }
@@ -114,7 +114,7 @@ impl NaiveTime {
     /// and `secs` is not the last second of a minute.
     #[inline]
     pub fn from_num_seconds_from_midnight_opt(secs: u32, nano: u32) -> Option<NaiveTime>
-        ensures { SomeIff result ((secs < 86_400) × FractionFits (secs % 60) nano)
+        ensures { SomeIff result ((secs < seconds_per_day) × FractionFits (secs % 60) nano)
             (record { second = secs; fraction = nano }) }
     {
         if secs >= SECS_PER_DAY || nano >= 2 * NANOS_PER_SEC {
@@ -134,7 +134,7 @@ impl NaiveTime {
     #[inline]
     pub fn overflowing_add_signed(&self, rhs: TimeDelta) -> (NaiveTime, i64)
         ensures time { result.0 ≡ (land self.now rhs).time }
-        ensures seconds { result.1 ≡ (land self.now rhs).day *ℤ pos 86_400 }
+        ensures seconds { result.1 ≡ (land self.now rhs).day *ℤ pos seconds_per_day }
         ensures start { IsTime self.now }
         ensures end { IsTime result.0 }
         // From a time in no leap second it leads to one in none.
@@ -143,8 +143,10 @@ impl NaiveTime {
         // A second move ends where the one move by the sum ends.
         ensures adds_up { (y : ℤ) → IsPlain self.now ⊎ SameWay rhs y →
             TimeMovesAddUp self.now rhs y }
+        // By a duration above zero the clock comes to a later time of the day, or to a later day.
         ensures forward { pos 0 <ℤ rhs →
             IsEarlierLanding (landing_of self.now) (land self.now rhs) }
+        // By one below zero it comes to an earlier time of the day, or to an earlier day.
         ensures backward { rhs <ℤ pos 0 →
             IsEarlierLanding (land self.now rhs) (landing_of self.now) }
     {
@@ -170,8 +172,10 @@ impl NaiveTime {
         // A second move ends where the one move by the sum ends.
         ensures adds_up { (y : ℤ) → IsPlain self.now ⊎ SameWay rhs y →
             TimeMovesAddUp self.now rhs y }
+        // By a duration above zero the clock comes to a later time of the day, or to a later day.
         ensures forward { pos 0 <ℤ rhs →
             IsEarlierLanding (landing_of self.now) (land self.now rhs) }
+        // By one below zero it comes to an earlier time of the day, or to an earlier day.
         ensures backward { rhs <ℤ pos 0 →
             IsEarlierLanding (land self.now rhs) (landing_of self.now) }
     {
@@ -189,7 +193,7 @@ impl NaiveTime {
     #[inline]
     pub fn overflowing_sub_signed(&self, rhs: TimeDelta) -> (NaiveTime, i64)
         ensures time { result.0 ≡ (land self.now (neg_ℤ rhs)).time }
-        ensures seconds { result.1 ≡ neg_ℤ ((land self.now (neg_ℤ rhs)).day *ℤ pos 86_400) }
+        ensures seconds { result.1 ≡ neg_ℤ ((land self.now (neg_ℤ rhs)).day *ℤ pos seconds_per_day) }
         // From a time in no leap second it leads to one in none.
         ensures plain { IsPlain self.now → IsPlain result.0 }
     {
@@ -204,10 +208,11 @@ impl NaiveTime {
     #[inline]
     pub fn signed_duration_since(self, rhs: NaiveTime) -> TimeDelta
         ensures value { result ≡ distance self rhs }
+        // So many nanoseconds are a little more than three days.
         ensures bound { unsigned_abs result < 2 ^ 48 }
         ensures times { IsTime self × IsTime rhs }
 
-        // A move from `rhs` by the answer ends at this time.
+        // A move from `rhs` by the answer ends at this time, if this one is in no leap second or both are in the same.
         ensures back { IsPlain self ⊎ (IsLeap self × IsLeap rhs × (self.second ≡ rhs.second))
             → land rhs result ≡ landing_of self }
         ensures later { IsEarlier rhs self → pos 0 <ℤ result }
@@ -229,7 +234,7 @@ impl NaiveTime {
     #[inline]
     pub(crate) fn second_of_day(&self) -> u32
         ensures value { result ≡ self.now.second }
-        ensures bound { result < 86_400 }
+        ensures bound { result < seconds_per_day }
     {
         self.secs
     }
@@ -238,7 +243,7 @@ impl NaiveTime {
     #[inline]
     pub(crate) fn fraction(&self) -> u32
         ensures value { result ≡ self.now.fraction }
-        ensures bound { result < 2_000_000_000 }
+        ensures bound { result < 2 * nanos_per_second }
     {
         self.frac
     }
@@ -246,7 +251,7 @@ impl NaiveTime {
     // This fraction at another second of the day.
     #[inline]
     pub(crate) fn at_second_of_day(&self, secs: u32) -> NaiveTime
-        requires { secs < 86_400 }
+        requires { secs < seconds_per_day }
         ensures { result ≡ record { second = secs; fraction = self.now.fraction } }
     {
         NaiveTime {
@@ -258,7 +263,7 @@ impl NaiveTime {
     // Another fraction at this second of the day.
     #[inline]
     pub(crate) fn at_fraction(&self, frac: u32) -> NaiveTime
-        requires { frac < 2_000_000_000 }
+        requires { frac < 2 * nanos_per_second }
         ensures { result ≡ record { second = self.now.second; fraction = frac } }
     {
         NaiveTime {
@@ -280,7 +285,7 @@ impl NaiveTime {
     #[inline]
     fn second_beside(&self, other: &NaiveTime) -> u32
         ensures value { result * nanos_per_second + self.now.fraction ≡ place_beside self.now other.now }
-        ensures bound { result ≤ 86_400 }
+        ensures bound { result ≤ seconds_per_day }
         ensures time { IsTime self.now }
     {
         self.secs + (other.frac >= NANOS_PER_SEC && other.secs < self.secs) as u32
@@ -340,7 +345,7 @@ fn landed(secs: i64, nanos: u32) -> (NaiveTime, i64)
 // The landing of a point on the line that holds a leap second after `start`.
 #[inline]
 fn landed_on_leap_line(start: u32, secs: i64, nanos: u32) -> (NaiveTime, i64)
-    requires in_day { start < 86_400 }
+    requires in_day { start < seconds_per_day }
     requires near { unsigned_abs secs + 1 < 2 ^ 55 }
     requires past_second { nanos < nanos_per_second }
     ensures time { result.0 ≡ (leap_landing start (nanos_of secs nanos)).time }

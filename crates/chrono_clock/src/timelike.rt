@@ -1,6 +1,7 @@
 //! The fields of a time of day, read and replaced one by one.
-ghost use Rattle.std.specs.Prelude.{◌≡◌, ℕ, ℤ, List, [], ◌<◌, ◌≤◌, ◌↔◌, IsTrue, IsSome, IfSome};
-ghost use Rattle.chrono_clock.specs.Time.{TimeOfDay, hour_of, minute_of, second_of, hour12_of, time_with_hour, time_with_minute, time_with_second, time_with_fraction};
+ghost use Rattle.std.specs.Prelude.{◌≡◌, ◌*◌, ℕ, ℤ, List, [], ◌<◌, ◌≤◌, ◌↔◌, IsTrue, IsSome, IfSome};
+ghost use Rattle.chrono_clock.specs.Duration.{nanos_per_second};
+ghost use Rattle.chrono_clock.specs.Time.{TimeOfDay, seconds_per_day, hour_of, minute_of, second_of, hour12_of, time_with_hour, time_with_minute, time_with_second, time_with_fraction};
 
 use crate::NaiveTime;
 use crate::lengths::{NANOS_PER_SEC, SECS_PER_HOUR, SECS_PER_MINUTE};
@@ -42,7 +43,7 @@ pub trait Timelike: Sized {
     /// The nanoseconds past the second, from 0 to 1,999,999,999; 1,000,000,000 and more lie in a leap second.
     fn nanosecond(&self) -> u32
         ensures value { result ≡ (time self.now).fraction }
-        ensures bound { result < 2_000_000_000 };
+        ensures bound { result < 2 * nanos_per_second };
 
     /// The value with another hour; `None` exactly if `hour` is 24 or more.
     fn with_hour(&self, hour: u32) -> Option<Self>
@@ -64,7 +65,7 @@ pub trait Timelike: Sized {
 
     /// The value with other nanoseconds past the second; `None` exactly if `nano` is 2,000,000,000 or more.
     fn with_nanosecond(&self, nano: u32) -> Option<Self>
-        ensures some { IsSome result ↔ (nano < 2_000_000_000) }
+        ensures some { IsSome result ↔ (nano < 2 * nanos_per_second) }
         ensures replaced { IfSome result (λ t. time t ≡ time_with_fraction (time self.now) nano) }
         ensures rest_stays { IfSome result (λ t. rest t ≡ rest self.now) };
 
@@ -72,7 +73,7 @@ pub trait Timelike: Sized {
     #[inline]
     fn num_seconds_from_midnight(&self) -> u32
         ensures value { result ≡ (time self.now).second }
-        ensures bound { result < 86_400 }
+        ensures bound { result < seconds_per_day }
     {
         self.hour() * SECS_PER_HOUR + self.minute() * SECS_PER_MINUTE + self.second()
     }

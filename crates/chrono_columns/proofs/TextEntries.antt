@@ -1,12 +1,12 @@
 -- What stands in a column for the text of a date, and for a text.
-use Rattle.std.proofs.Common.{◌≡◌, ℕ, ◌+◌, ◌<◌, ℤ, pos, neg_ℤ, ◌≤ℤ◌, true, false, cond, List, [], length, replicate, get_or, slice_set, Option, Some, None, inl, inr, ap, sym, refl, arith}
+use Rattle.std.proofs.Common.{◌≡◌, ◌∙◌, ℕ, ◌+◌, ◌<◌, ℤ, pos, neg_ℤ, ◌≤ℤ◌, true, false, cond, List, [], length, replicate, get_or, slice_set, Option, Some, None, inl, inr, ap, sym, refl, arith}
 use Rattle.std.proofs.lemmas.Bool.{cases_lt}
 use Rattle.std.proofs.lemmas.Int.{ints}
 use Rattle.std.proofs.lemmas.List.{get_or-set_same, get_or-set_other}
 use Rattle.std.specs.Option.{option_and_then, option_map}
-use Rattle.chrono_calendar.specs.Days.{date_of_day, year_of, month_of, day_of}
+use Rattle.chrono_calendar.specs.Days.{date_of_day, date_of_ymd, year_of, month_of, day_of}
 use Rattle.chrono_calendar.proofs.Months.{month_length_in-bounds}
-use Rattle.chrono_calendar.proofs.NamedDates.{calendar_name-exists}
+use Rattle.chrono_calendar.proofs.NamedDates.{calendar_name-exists, date_of_ymd-name}
 use Rattle.chrono_units.specs.Years.{is_leap_year}
 use Rattle.chrono_text.specs.Text.{calendar_text}
 use Rattle.chrono_datetime.specs.DateText.{date_text}
@@ -36,6 +36,17 @@ of_names (Some n) = refl
 pub text-named : (n : ℤ) → name_text_entry (year_entry n) (month_entry n) (day_entry n) ≡ text_entry n
 unfolding text_entry year_entry month_entry day_entry if_short
 text-named n = of_names (date_of_day n)
+
+-- the text of a date that is known by its name
+same_names : (y z : ℤ) (m k d j : ℕ) → y ≡ z → m ≡ k → d ≡ j → name_text_entry y m d ≡ name_text_entry z k j
+same_names y z m k d j year month day = rw (year, month, day) refl
+
+pub text-of-name : (n y : ℤ) (m d : ℕ) → date_of_day n ≡ Some n → date_of_ymd y m d ≡ Some n → name_text_entry y m d ≡ text_entry n
+unfolding text_entry if_short
+text-of-name n y m d there named =
+    let name = date_of_ymd-name n y m d named in
+    same_names y (year_of n) m (month_of n) d (day_of n) name.0 name.1 name.2
+    ∙ ap (λ o. bytes_entry (option_and_then if_short o)) (sym there)
 
 -- no month and no day of a date has three digits
 small : (o : Option ℤ) → (count_entry (option_map month_of o) < 100) × (count_entry (option_map day_of o) < 100)

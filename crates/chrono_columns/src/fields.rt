@@ -33,31 +33,19 @@ pub(crate) fn ordinal_of_number(number: i32) -> u16
     if is_date(number) { ordinal as u16 } else { 0 }
 }
 
-/// The year by the conversion that tells month and day too, or [`NONE`].
+/// The year, the month and the day of the month, or [`NONE`] and twice 0.
 #[inline]
-pub(crate) fn year_with_month(number: i32) -> i32
-    ensures { result ≡ year_entry number }
+pub(crate) fn name_of_number(number: i32) -> (i32, u8, u8)
+    ensures year { result.0 ≡ year_entry number }
+    ensures month { result.1 ≡ month_entry number }
+    ensures day { result.2 ≡ day_entry number }
 {
-    let (year, _, _) = year_month_day(nearest_date(number));
-    if is_date(number) { year } else { NONE }
-}
-
-/// The month, or 0.
-#[inline]
-pub(crate) fn month_of_number(number: i32) -> u8
-    ensures { result ≡ month_entry number }
-{
-    let (_, month, _) = year_month_day(nearest_date(number));
-    if is_date(number) { month as u8 } else { 0 }
-}
-
-/// The day of the month, or 0.
-#[inline]
-pub(crate) fn day_of_number(number: i32) -> u8
-    ensures { result ≡ day_entry number }
-{
-    let (_, _, day) = year_month_day(nearest_date(number));
-    if is_date(number) { day as u8 } else { 0 }
+    let (year, month, day) = year_month_day(nearest_date(number));
+    if is_date(number) {
+        (year, month as u8, day as u8)
+    } else {
+        (NONE, 0, 0)
+    }
 }
 
 /// The ISO year, or [`NONE`].

@@ -1,5 +1,5 @@
 //! Known entries of columns, each as the contract of a function.
-ghost use Rattle.std.specs.Prelude.{◌≡◌, pos, neg_ℤ, replicate};
+ghost use Rattle.std.specs.Prelude.{◌≡◌, codes, pos, neg_ℤ, replicate};
 ghost use Rattle.chrono_columns.specs.Columns.{date_entry, day_entry, distance_entry, iso_week_entry, iso_year_entry, later_entry, month_entry, months_later_entry, ordinal_entry, text_entry, unix_date_entry, unix_days_entry, weekday_entry, year_entry};
 
 /// What stands for none has no names; no date is a day or a month later than it, and it is no distance from a date.
@@ -28,4 +28,13 @@ pub fn known_entries()
     ensures distance { distance_entry (pos 3) (pos 1) ≡ pos 2 }
     ensures unix_date { unix_date_entry (pos 0) ≡ pos 719_163 }
     ensures unix_days { unix_days_entry (pos 719_163) ≡ pos 0 }
+{}
+
+/// Texts of known dates: 29 February 2024, the first and the last day of the years from 0 to 9999, and the days beside these, which have none.
+pub fn known_texts()
+    ensures leap_day { text_entry (pos 738_945) ≡ codes "2024-02-29" }
+    ensures first { text_entry (neg_ℤ (pos 365)) ≡ codes "0000-01-01" }
+    ensures before_first { text_entry (neg_ℤ (pos 366)) ≡ replicate 10 0 }
+    ensures last { text_entry (pos 3_652_059) ≡ codes "9999-12-31" }
+    ensures after_last { text_entry (pos 3_652_060) ≡ replicate 10 0 }
 {}

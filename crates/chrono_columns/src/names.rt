@@ -2,9 +2,7 @@
 ghost use Rattle.std.specs.Prelude.{◌≡◌, ℕ, ◌<◌, length, map, pos, slice_index, slice_index_or};
 ghost use Rattle.chrono_columns.specs.Columns.{date_entry, day_entry, month_entry, ordinal_entry, year_entry};
 
-use crate::fields::{
-    day_of_number, month_of_number, ordinal_of_number, year_of_number, year_with_month,
-};
+use crate::fields::{name_of_number, ordinal_of_number, year_of_number};
 use crate::named::date_of_name;
 
 /// The year of each date, and [`NONE`](crate::NONE) where there is none.
@@ -38,10 +36,10 @@ pub fn split_dates(dates: &[i32], years: &mut [i32], months: &mut [u8], days: &m
     ensures days { days.new ≡ map day_entry dates.now }
 {
     for i in 0..dates.len() {
-        let date = dates[i];
-        years[i] = year_with_month(date);
-        months[i] = month_of_number(date);
-        days[i] = day_of_number(date);
+        let (year, month, day) = name_of_number(dates[i]);
+        years[i] = year;
+        months[i] = month;
+        days[i] = day;
     }
 }
 

@@ -10,3 +10,5 @@ mod SameDues
 mod Steps
 mod WordLemmas
 mod DayLemmas
+mod WrittenLemmas
+mod WrittenAscii

@@ -5,3 +5,4 @@ pub mod KnownMonthDays
 pub mod KnownSchedules
 pub mod ScheduleTexts
 pub mod Steps
+pub mod WrittenTexts

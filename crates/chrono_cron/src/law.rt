@@ -1,9 +1,10 @@
 //! Days that are known, each as a clause of a function that does nothing.
-ghost use Rattle.std.specs.Prelude.{◌≡◌, ◌+◌, ◌^◌, true, false, pos, [], ◌∷◌};
+ghost use Rattle.std.specs.Prelude.{◌≡◌, ◌+◌, ◌^◌, true, false, pos, [], ◌∷◌, codes};
 ghost use Rattle.chrono_cron.specs.Due.{is_due};
 ghost use Rattle.chrono_cron.specs.DueMoments.{dues_after};
 ghost use Rattle.chrono_cron.specs.KnownMonthDays.{is_named, named};
-ghost use Rattle.chrono_cron.specs.KnownSchedules.{each_minute, fields, moment_at};
+ghost use Rattle.chrono_cron.specs.KnownSchedules.{each_minute, fields, fields_with, moment_at};
+ghost use Rattle.chrono_cron.specs.WrittenTexts.{schedule_text};
 
 /// Days of 2024 that are known: 31 May is `L` and the 30th is not, 28 February is `L-1`; 29 March, a Friday, is `LW`, and so is Tuesday,
 /// 30 April; 14 June, a Friday, is `14W` and `15W`, and 16 September, a Monday, is `15W`; 3 June, a Monday, is `1W`, 29 March is `31W`,
@@ -58,4 +59,15 @@ pub fn known_last_dues()
     ensures two { dues_after each_minute (moment_at (pos 95_745_399) 23 57 30 0) ≡
         (moment_at (pos 95_745_399) 23 58 0 0 ∷ moment_at (pos 95_745_399) 23 59 0 0 ∷ []) }
     ensures none { dues_after each_minute (moment_at (pos 95_745_399) 23 59 0 0) ≡ [] }
+{}
+
+/// Schedules that are known in text: each minute is all stars, and all days are ranges if either field of days will do; numbers stand in
+/// ranges as long as can be; where both fields have to match, one begins with `*`, by the 1st or by Sunday; and names stand behind numbers.
+pub fn known_texts()
+    ensures stars { schedule_text each_minute ≡ codes "* * * * *" }
+    ensures ranges { schedule_text (fields 1_073_741_825 261_632 4_294_967_294 5_100 62 false) ≡ codes "0,30 9-17 * 2-3,5-9,12 1-5" }
+    ensures either { schedule_text (fields 1 1 (2 ^ 1 + 2 ^ 15) 8_190 127 true) ≡ codes "0 0 1,15 * 0-6" }
+    ensures both_by_first { schedule_text (fields 1 1 (2 ^ 1 + 2 ^ 15) 8_190 (2 ^ 5) false) ≡ codes "0 0 */31,1,15 * 5" }
+    ensures both_by_sunday { schedule_text (fields 1 1 (2 ^ 13) 8_190 (2 ^ 0 + 2 ^ 5) false) ≡ codes "0 0 13 * */7,0,5" }
+    ensures names { schedule_text (fields_with 0 8_190 0 9 (2 ^ 15) true (2 ^ 5) (2 ^ 12)) ≡ codes "0 0 L,L-3,LW,15W * 5L,5#2" }
 {}

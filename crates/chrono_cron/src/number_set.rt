@@ -1,5 +1,5 @@
 //! `NumberSet`: a set of small numbers, as one field of a schedule lists them.
-ghost use Rattle.std.specs.Prelude.{◌≡◌, ◌<◌, ◌≤◌, ◌+◌, ◌-◌, ◌%◌, ◌==◌, nat_le, nat_lt, ◌&&◌, ◌||◌, ℕ, false, IsTrue, IfSome, IfNone};
+ghost use Rattle.std.specs.Prelude.{◌≡◌, ◌<◌, ◌≤◌, ◌+◌, ◌-◌, ◌%◌, ◌==◌, nat_le, nat_lt, ◌&&◌, ◌||◌, ℕ, true, false, IsTrue, IfSome, IfNone};
 ghost use Rattle.std.specs.Int.{bit_at};
 ghost use Rattle.chrono_cron.specs.Due.{has};
 ghost use Rattle.chrono_cron.specs.Steps.{is_by_steps};
@@ -100,6 +100,25 @@ impl NumberSet {
         }
         let last = 63 - rest.leading_zeros();
         if from <= last { Some(last) } else { None }
+    }
+
+    // The first number from `from` on, below `end`, that is no member, or `end` if there is none.
+    pub(crate) fn first_gap(self, from: u32, end: u32) -> u32
+        requires order { from ≤ end }
+        requires end { end < 64 }
+        ensures not_before { from ≤ result }
+        ensures within { result ≤ end }
+        ensures members { (k : ℕ) → from ≤ k → k < result → has self k ≡ true }
+        ensures gap { result < end → has self result ≡ false }
+    {
+        let mut number = from;
+        while number < end {
+            if !self.contains(number) {
+                return number;
+            }
+            number += 1;
+        }
+        end
     }
 
     // Of the days of a month, by their places in it, those with a weekday of this set, from 0 for Sunday; `before` is the weekday of the

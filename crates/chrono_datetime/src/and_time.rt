@@ -1,6 +1,7 @@
 //! `AndTime`: a date put together with a time of day.
 ghost use Rattle.std.specs.Prelude.{◌≡◌, ℤ, ◌*◌};
 ghost use Rattle.std.specs.Option.{SomeIff};
+ghost use Rattle.chrono_clock.specs.Duration.{nanos_per_milli, nanos_per_micro};
 ghost use Rattle.chrono_clock.specs.Time.{FractionFits, IsClock, time_at};
 ghost use Rattle.chrono_datetime.specs.Moment.{moment};
 
@@ -36,8 +37,8 @@ pub trait AndTime: Sized {
     /// up to 999.
     #[inline]
     fn and_hms_milli_opt(&self, hour: u32, min: u32, sec: u32, milli: u32) -> Option<NaiveDateTime>
-        ensures { SomeIff result (IsClock hour min sec × FractionFits sec (milli * 1_000_000))
-            (moment (day self.now) (time_at hour min sec (milli * 1_000_000))) }
+        ensures { SomeIff result (IsClock hour min sec × FractionFits sec (milli * nanos_per_milli))
+            (moment (day self.now) (time_at hour min sec (milli * nanos_per_milli))) }
     {
         Some(self.and_time(NaiveTime::from_hms_milli_opt(hour, min, sec, milli)?))
     }
@@ -48,8 +49,8 @@ pub trait AndTime: Sized {
     /// else up to 999,999.
     #[inline]
     fn and_hms_micro_opt(&self, hour: u32, min: u32, sec: u32, micro: u32) -> Option<NaiveDateTime>
-        ensures { SomeIff result (IsClock hour min sec × FractionFits sec (micro * 1_000))
-            (moment (day self.now) (time_at hour min sec (micro * 1_000))) }
+        ensures { SomeIff result (IsClock hour min sec × FractionFits sec (micro * nanos_per_micro))
+            (moment (day self.now) (time_at hour min sec (micro * nanos_per_micro))) }
     {
         Some(self.and_time(NaiveTime::from_hms_micro_opt(hour, min, sec, micro)?))
     }

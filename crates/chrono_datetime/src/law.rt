@@ -1,6 +1,7 @@
 //! The ends of the date-times and values that are known, each as the contract of a function; and the laws of the crates
 //! below.
 ghost use Rattle.std.specs.Prelude.{◌≡◌, pos, neg_ℤ, Some, None, codes};
+ghost use Rattle.std.specs.Str.{byte};
 ghost use Rattle.std.proofs.Common.{Less};
 ghost use Rattle.chrono_clock.specs.Time.{time_at};
 ghost use Rattle.chrono_datetime.specs.Moment.{moment, moment_cmp, moment_distance, reach};
@@ -81,8 +82,8 @@ pub fn known_moment_order()
 
 /// Texts that are known, with a space and with a `T`: in a leap second, and with a fraction of six digits.
 pub fn known_moment_texts()
-    ensures leap { moment_text 32 (moment (pos 736_153) (time_at 23 59 59 1_500_000_000))
+    ensures leap { moment_text (byte " ") (moment (pos 736_153) (time_at 23 59 59 1_500_000_000))
         ≡ codes "2016-07-08 23:59:60.500" }
-    ensures six_digits { moment_text 84 (moment (pos 719_163) (time_at 1 2 3 1_000))
+    ensures six_digits { moment_text (byte "T") (moment (pos 719_163) (time_at 1 2 3 1_000))
         ≡ codes "1970-01-01T01:02:03.000001" }
 {}

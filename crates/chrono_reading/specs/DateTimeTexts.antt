@@ -1,12 +1,13 @@
 -- The texts of date-times.
 use Rattle.std.specs.Prelude.{◌≡◌, ◌⊎◌, ℕ, List, ◌∷◌, ◌++◌}
+use Rattle.std.specs.Str.{byte}
 use Rattle.chrono_datetime.specs.Moment.{Moment}
 use Rattle.chrono_reading.specs.DateTexts.{IsDateText}
 use Rattle.chrono_reading.specs.TimeTexts.{IsTimeText, SameClock}
 
 -- what stands between a date and a time: a `T` or a space
 abbrev pub IsSeparator : ℕ → Type 0
-IsSeparator c = (c ≡ 84) ⊎ (c ≡ 32)
+IsSeparator c = (c ≡ byte "T") ⊎ (c ≡ byte " ")
 
 -- a text of the date-time: a text of its date, a `T` or a space, and a text of its time (ISO 8601 date and time of day)
 pub record IsDateTimeText (text : List ℕ) (m : Moment) : Type 0 where

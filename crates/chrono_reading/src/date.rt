@@ -1,5 +1,6 @@
 //! Dates.
 ghost use Rattle.std.specs.Prelude.{◌≡◌, ◌<◌, ◌∷◌, ◌++◌, ℕ, ℤ, Some, IfSome};
+ghost use Rattle.std.specs.Str.{byte};
 ghost use Rattle.chrono_text.specs.Text.{two_digits};
 ghost use Rattle.chrono_reading.specs.DateTexts.{IsDateText};
 
@@ -14,6 +15,7 @@ use chrono_text::{read_two, read_year};
 #[inline]
 pub fn read_date(text: &[u8]) -> Option<NaiveDate>
     ensures read { IfSome result (λ n. IsDateText text.now n) }
+    // Whatever date has this text is the answer: no text is refused, and none has two meanings.
     ensures every { (n : ℤ) → IsDateText text.now n → result ≡ Some n }
 {
     let (front, end) = text.split_last_chunk::<6>()?;
@@ -25,8 +27,8 @@ pub fn read_date(text: &[u8]) -> Option<NaiveDate>
 // The month and the day that stand behind a year, each behind a `-`.
 #[inline]
 fn month_and_day(text: [u8; 6]) -> Option<(u32, u32)>
-    ensures some { IfSome result (λ read. 45 ∷ two_digits read.0 ++ 45 ∷ two_digits read.1 ≡ text) }
-    ensures every { (m d : ℕ) → m < 100 → d < 100 → 45 ∷ two_digits m ++ 45 ∷ two_digits d ≡ text
+    ensures some { IfSome result (λ read. byte "-" ∷ two_digits read.0 ++ byte "-" ∷ two_digits read.1 ≡ text) }
+    ensures every { (m d : ℕ) → m < 100 → d < 100 → byte "-" ∷ two_digits m ++ byte "-" ∷ two_digits d ≡ text
         → result ≡ Some (m, d) }
 {
     if let [b'-', month_tens, month_ones, b'-', day_tens, day_ones] = text {

@@ -14,6 +14,7 @@ use chrono_datetime::NaiveDateTime;
 #[inline]
 pub fn read_date_time(text: &[u8]) -> Option<NaiveDateTime>
     ensures read { IfSome result (λ m. IsDateTimeText text.now m) }
+    // Whatever date-time has this text is the answer: no text is refused, and none has two meanings.
     ensures every { (m : Moment) → IsDateTimeText text.now m → result ≡ Some m }
 {
     let at = separator_at(text)?;

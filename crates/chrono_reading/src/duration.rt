@@ -2,6 +2,7 @@
 ghost use Rattle.std.specs.Prelude.{◌≡◌, ◌≢◌, ◌<◌, ◌≤◌, ◌+◌, ◌*◌, ◌^◌, ◌++◌, ◌<ℤ◌, ℕ, ℤ, pos, Some, IfSome, IfNone, IsSomeAnd, IsTrue, ◌↔◌, ◌∷◌, List, codes, length, slice_index, unsigned_abs};
 ghost use Rattle.std.specs.Fmt.{decimal};
 ghost use Rattle.std.specs.Option.{SomeIff};
+ghost use Rattle.std.specs.Str.{byte};
 ghost use Rattle.chrono_datetime.specs.Duration.{IsDuration, longest, nanos_per_second};
 ghost use Rattle.chrono_reading.specs.DurationTexts.{IsDurationText, IsSecondsText};
 ghost use Rattle.chrono_text.specs.Fractions.{IsFractionText};
@@ -17,6 +18,7 @@ use chrono_text::{read_decimal, read_fraction};
 #[inline]
 pub fn read_duration(text: &[u8]) -> Option<TimeDelta>
     ensures read { IfSome result (λ x. IsDurationText text.now x) }
+    // Whatever duration has this text is the answer: no text is refused, and none has two meanings.
     ensures every { (x : ℤ) → IsDurationText text.now x → result ≡ Some x }
 {
     if is_zero(text) {
@@ -39,8 +41,8 @@ fn is_zero(text: &[u8]) -> bool
 // What stands behind a `-`, if the text begins with one.
 #[inline]
 fn without_minus(text: &[u8]) -> Option<&[u8]>
-    ensures some { IfSome result (λ size. 45 ∷ size.now ≡ text.now) }
-    ensures none { IfNone result ((size : List ℕ) → 45 ∷ size ≢ text.now) }
+    ensures some { IfSome result (λ size. byte "-" ∷ size.now ≡ text.now) }
+    ensures none { IfNone result ((size : List ℕ) → byte "-" ∷ size ≢ text.now) }
 {
     if let [b'-', size @ ..] = text {
         Some(size)
@@ -109,8 +111,8 @@ fn between_pt_and_s(text: &[u8]) -> Option<&[u8]>
 #[inline]
 fn point_at(text: &[u8]) -> usize
     ensures within { result ≤ length text.now }
-    ensures first { (k : ℕ) → k < result → slice_index text.now k ≢ 46 }
-    ensures point { result < length text.now → slice_index text.now result ≡ 46 }
+    ensures first { (k : ℕ) → k < result → slice_index text.now k ≢ byte "." }
+    ensures point { result < length text.now → slice_index text.now result ≡ byte "." }
 {
     for (at, byte) in text.iter().enumerate() {
         if *byte == b'.' {

@@ -1,5 +1,6 @@
 //! Ordinal dates.
 ghost use Rattle.std.specs.Prelude.{◌≡◌, ◌<◌, ◌∷◌, ℕ, ℤ, Some, IfSome};
+ghost use Rattle.std.specs.Str.{byte};
 ghost use Rattle.chrono_text.specs.Text.{all_digits};
 ghost use Rattle.chrono_reading.specs.DateTexts.{IsOrdinalDateText};
 
@@ -13,6 +14,7 @@ use chrono_text::{read_three, read_year};
 #[inline]
 pub fn read_ordinal_date(text: &[u8]) -> Option<NaiveDate>
     ensures read { IfSome result (λ n. IsOrdinalDateText text.now n) }
+    // Whatever date has this text is the answer: no text is refused, and none has two meanings.
     ensures every { (n : ℤ) → IsOrdinalDateText text.now n → result ≡ Some n }
 {
     let (front, end) = text.split_last_chunk::<4>()?;
@@ -24,8 +26,8 @@ pub fn read_ordinal_date(text: &[u8]) -> Option<NaiveDate>
 // The ordinal that stands behind a year and a `-`.
 #[inline]
 fn read_ordinal(text: [u8; 4]) -> Option<u32>
-    ensures some { IfSome result (λ ordinal. 45 ∷ all_digits 3 ordinal ≡ text) }
-    ensures every { (ordinal : ℕ) → ordinal < 1_000 → 45 ∷ all_digits 3 ordinal ≡ text
+    ensures some { IfSome result (λ ordinal. byte "-" ∷ all_digits 3 ordinal ≡ text) }
+    ensures every { (ordinal : ℕ) → ordinal < 1_000 → byte "-" ∷ all_digits 3 ordinal ≡ text
         → result ≡ Some ordinal }
 {
     if let [b'-', hundreds, tens, ones] = text {

@@ -1,6 +1,7 @@
 //! Times of day.
 ghost use Rattle.std.specs.Prelude.{◌≡◌, ◌<◌, ◌≤◌, ◌∷◌, ◌++◌, ℕ, Some, IfSome};
 ghost use Rattle.std.specs.Option.{SomeIff};
+ghost use Rattle.std.specs.Str.{byte};
 ghost use Rattle.chrono_datetime.specs.Duration.{nanos_per_second};
 ghost use Rattle.chrono_text.specs.Text.{two_digits};
 ghost use Rattle.chrono_datetime.specs.Time.{TimeOfDay};
@@ -20,6 +21,7 @@ const LEAP_SECOND: u32 = 60;
 #[inline]
 pub fn read_time(text: &[u8]) -> Option<NaiveTime>
     ensures read { IfSome result (λ t. IsTimeText text.now t) }
+    // Whatever time of day has this text is the answer: no text is refused, and none has two meanings.
     ensures every { (t : TimeOfDay) → IsTimeText text.now t → result ≡ Some t }
 {
     let (clock, fraction) = text.split_first_chunk::<8>()?;
@@ -31,9 +33,9 @@ pub fn read_time(text: &[u8]) -> Option<NaiveTime>
 #[inline]
 fn read_clock(text: [u8; 8]) -> Option<(u32, u32, u32)>
     ensures some { IfSome result (λ read.
-        two_digits read.0 ++ 58 ∷ two_digits read.1 ++ 58 ∷ two_digits read.2 ≡ text) }
+        two_digits read.0 ++ byte ":" ∷ two_digits read.1 ++ byte ":" ∷ two_digits read.2 ≡ text) }
     ensures every { (hour minute second : ℕ) → hour < 100 → minute < 100 → second < 100
-        → two_digits hour ++ 58 ∷ two_digits minute ++ 58 ∷ two_digits second ≡ text
+        → two_digits hour ++ byte ":" ∷ two_digits minute ++ byte ":" ∷ two_digits second ≡ text
         → result ≡ Some (hour, minute, second) }
 {
     if let [

@@ -1,6 +1,7 @@
 //! Week dates.
 ghost use Rattle.std.specs.Prelude.{◌≡◌, ◌+◌, ◌∷◌, ◌++◌, [], ℕ, ℤ, Some, IfSome};
 ghost use Rattle.std.specs.Int.{IsInRange};
+ghost use Rattle.std.specs.Str.{byte};
 ghost use Rattle.chrono_datetime.specs.Fields.{IsIsoYear};
 ghost use Rattle.chrono_text.specs.Text.{two_digits, year_text};
 ghost use Rattle.chrono_datetime.specs.Weekday.{number_from_monday};
@@ -24,6 +25,7 @@ const MOST_YEARS: u32 = 262_143;
 #[inline]
 pub fn read_week_date(text: &[u8]) -> Option<NaiveDate>
     ensures read { IfSome result (λ n. IsWeekDateText text.now n) }
+    // Whatever date has this text is the answer: no text is refused, and none has two meanings.
     ensures every { (n : ℤ) → IsWeekDateText text.now n → result ≡ Some n }
 {
     let (front, end) = text.split_last_chunk::<6>()?;
@@ -49,10 +51,10 @@ fn read_iso_year(text: &[u8]) -> Option<i32>
 #[inline]
 fn week_and_weekday(text: [u8; 6]) -> Option<(u32, Weekday)>
     ensures range { IfSome result (λ read. IsInRange 1 53 read.0) }
-    ensures some { IfSome result (λ read. 45 ∷ 87 ∷ two_digits read.0
-        ++ 45 ∷ (48 + number_from_monday read.1) ∷ [] ≡ text) }
+    ensures some { IfSome result (λ read. byte "-" ∷ byte "W" ∷ two_digits read.0
+        ++ byte "-" ∷ (byte "0" + number_from_monday read.1) ∷ [] ≡ text) }
     ensures every { (week : ℕ) (weekday : Weekday) → IsInRange 1 53 week
-        → 45 ∷ 87 ∷ two_digits week ++ 45 ∷ (48 + number_from_monday weekday) ∷ [] ≡ text
+        → byte "-" ∷ byte "W" ∷ two_digits week ++ byte "-" ∷ (byte "0" + number_from_monday weekday) ∷ [] ≡ text
         → result ≡ Some (week, weekday) }
 {
     if let [b'-', b'W', tens, ones, b'-', number] = text {
@@ -70,8 +72,8 @@ fn week_and_weekday(text: [u8; 6]) -> Option<(u32, Weekday)>
 // The weekday of this digit, from 1 for Monday to 7 for Sunday.
 #[inline]
 fn weekday_of(number: u8) -> Option<Weekday>
-    ensures some { IfSome result (λ weekday. 48 + number_from_monday weekday ≡ number) }
-    ensures every { (weekday : Weekday) → 48 + number_from_monday weekday ≡ number
+    ensures some { IfSome result (λ weekday. byte "0" + number_from_monday weekday ≡ number) }
+    ensures every { (weekday : Weekday) → byte "0" + number_from_monday weekday ≡ number
         → result ≡ Some weekday }
 {
     Weekday::from_u32(u32::from(number.wrapping_sub(b'1')))

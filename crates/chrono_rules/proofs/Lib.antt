@@ -1,5 +1,8 @@
 -- These serve this crate's own proofs alone.
 mod Counts
 mod Cycles
+mod DayLists
 mod LetterLemmas
+mod Moments
 mod PieceLemmas
+mod Walks

@@ -1,3 +1,5 @@
+pub mod InstanceLists
+pub mod InstanceMoments
 pub mod Instances
 pub mod KnownRules
 pub mod Pieces

@@ -4,6 +4,8 @@
 #![tactic(auto)]
 
 mod before;
+mod date_times;
+mod iterator;
 pub mod law;
 mod members;
 mod parts;
@@ -14,6 +16,7 @@ mod places;
 mod rule;
 mod weekday_text;
 
+pub use iterator::Instances;
 pub use place_text::{BothEnds, Place, read_month_days, read_weeks};
 pub use places::{NumberSet, PlaceSet, WeekdayPlaces};
 pub use rule::{End, Frequency, Rule};

@@ -1,7 +1,7 @@
 //! The instances of a rule.
 ghost use Rattle.std.specs.Prelude.{◌≡◌, ◌≤◌, ◌<◌, ◌+◌, if◌then◌else◌, ◌≤ℤ◌, ◌<ℤ◌, ◌+ℤ◌, ℤ, neg_ℤ, pos, true, false, IsTrue, IfSome, IfNone};
 ghost use Rattle.chrono_datetime.specs.Days.{IsDate};
-ghost use Rattle.chrono_datetime.specs.Recurrence.{count_between};
+ghost use Rattle.chrono_datetime.specs.Recurrence.{count_between, dates_before};
 ghost use Rattle.chrono_rules.specs.Instances.{date_passes, in_positions, is_counted, is_instance, is_member, period_end, period_first};
 
 use crate::parts::days_of_year;
@@ -143,8 +143,9 @@ impl Rule {
     }
 
     // How many members lie from the start to before the date.
-    fn count_members(&self, start: NaiveDate, date: NaiveDate) -> u32
-        ensures { result ≡ count_between (is_member self.now start) start date }
+    pub(crate) fn count_members(&self, start: NaiveDate, date: NaiveDate) -> u32
+        ensures value { result ≡ count_between (is_member self.now start) start date }
+        ensures few { result ≤ dates_before date }
     {
         let end = date.num_days_from_ce();
         if end <= start.num_days_from_ce() {
@@ -157,6 +158,19 @@ impl Rule {
             day = moved(day, 1);
         }
         count
+    }
+
+    /// How many instances lie from the start up to the date, itself counted if it is one.
+    pub fn count_to(&self, start: NaiveDate, date: NaiveDate) -> u32
+        ensures { result ≡ count_between (is_instance self.now start) start (date +ℤ pos 1) }
+    {
+        let members = self.and_member(start, date, self.count_members(start, date));
+        match self.end {
+            End::Never => members,
+            End::Until(_) => members,
+            End::Count(count) if count < members => count,
+            End::Count(_) => members,
+        }
     }
 
     // Whether COUNT lets the date be an instance.
@@ -181,7 +195,7 @@ impl Rule {
     }
 
     // The first member from the date on.
-    fn first_member(&self, start: NaiveDate, date: NaiveDate) -> Option<NaiveDate>
+    pub(crate) fn first_member(&self, start: NaiveDate, date: NaiveDate) -> Option<NaiveDate>
         ensures member { IfSome result (λ e. is_member self.now start e ≡ true) }
         ensures not_before { IfSome result (λ e. date ≤ℤ e) }
         ensures least { IfSome result (λ e. (d : ℤ) → date ≤ℤ d → d <ℤ e → is_member self.now start d ≡ false) }

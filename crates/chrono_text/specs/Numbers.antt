@@ -1,14 +1,14 @@
 -- Whole numbers in text.
-use Rattle.std.specs.Prelude.{◌≡◌, ◌<◌, ◌≤◌, ◌==◌, ℕ, ◌+◌, ◌-◌, ◌*◌, ◌^◌, Bool, ◌&&◌, ◌⊎◌, List, [], ◌∷◌, length, slice_index, ℤ, pos, negsuc, neg_ℤ, unsigned_abs, Option, Some, None, true, false, if◌then◌else◌, int_le, codes, refl}
+use Rattle.std.specs.Prelude.{◌≡◌, ◌<◌, ◌≤◌, ◌==◌, ℕ, ◌+◌, ◌-◌, ◌*◌, ◌^◌, Bool, ◌&&◌, ◌⊎◌, List, [], ◌∷◌, ◌++◌, length, slice_index, ℤ, pos, negsuc, neg_ℤ, unsigned_abs, Option, Some, None, true, false, if◌then◌else◌, int_le, codes, refl}
 use Rattle.std.specs.Option.{option_map, option_and_then}
 use Rattle.std.specs.List.{AllByRecursion}
 use Rattle.std.specs.Int.{IsInRange}
-use Rattle.std.specs.Str.{all_ascii_digits}
+use Rattle.std.specs.Str.{all_ascii_digits, byte}
 
 -- what digits are worth: each its own value times ten to the number of digits behind it
 abbrev pub value_of : List ℕ → ℕ
 value_of [] = 0
-value_of (digit ∷ digits) = (digit - 48) * 10 ^ length digits + value_of digits
+value_of (digit ∷ digits) = (digit - byte "0") * 10 ^ length digits + value_of digits
 
 -- the value of one digit or more
 unfoldable pub natural_of : List ℕ → Option ℕ
@@ -22,18 +22,18 @@ signed negative size = if negative then neg_ℤ (pos size) else pos size
 -- the value of an optional `-` and one digit or more
 unfoldable pub number_of : List ℕ → Option ℤ
 number_of [] = None
-number_of (first ∷ rest) = if first == 45 then option_map (signed true) (natural_of rest) else option_map (signed false) (natural_of (first ∷ rest))
+number_of (first ∷ rest) = if first == byte "-" then option_map (signed true) (natural_of rest) else option_map (signed false) (natural_of (first ∷ rest))
 
 -- one digit or more, from `0` to `9`
 pub record AreDigits (text : List ℕ) : Type 0 where
   pub some : 0 < length text
-  pub digits : AllByRecursion (IsInRange 48 57) text
+  pub digits : AllByRecursion (IsInRange (byte "0") (byte "9")) text
 
 -- the text writes the number: digits, or `-` and digits
 abbrev pub WritesNumber : List ℕ → ℤ → Type 0
 WritesNumber text z =
     (AreDigits text × (z ≡ pos (value_of text)))
-    ⊎ ((digits : List ℕ) × (text ≡ 45 ∷ digits) × AreDigits digits × (z ≡ neg_ℤ (pos (value_of digits))))
+    ⊎ ((digits : List ℕ) × (text ≡ codes "-" ++ digits) × AreDigits digits × (z ≡ neg_ℤ (pos (value_of digits))))
 
 -- the number, if it is from `low` to `high`
 abbrev pub within : ℤ → ℤ → ℤ → Option ℤ

@@ -2,6 +2,7 @@
 use Rattle.std.specs.Prelude.{◌≡◌, ℕ, zero, suc, ◌+◌, ◌-◌, ◌/◌, ◌%◌, ◌^◌, ◌==◌, nat_lt, nat_le, Bool, List, [], ◌∷◌, ◌++◌, if◌then◌else◌, codes, ℤ, pos, neg_ℤ, unsigned_abs, refl}
 use Rattle.std.specs.Fmt.{decimal, digits, sign_text}
 use Rattle.std.specs.Int.{is_negative}
+use Rattle.std.specs.Str.{byte}
 use Rattle.std.specs.Int.RustNames.{int_lt}
 use Rattle.std.specs.Ordering.{int_eq}
 
@@ -12,7 +13,7 @@ nanos_per_second = 1_000_000_000
 -- the digits of a fraction of so many places, up to the last that is not 0
 abbrev pub fraction_digits : ℕ → ℕ → List ℕ
 fraction_digits zero n = []
-fraction_digits (suc places) n = if n == 0 then [] else (48 + n / 10 ^ places) ∷ fraction_digits places (n % 10 ^ places)
+fraction_digits (suc places) n = if n == 0 then [] else (byte "0" + n / 10 ^ places) ∷ fraction_digits places (n % 10 ^ places)
 
 -- a point and those nine digits of a second, or nothing for a fraction of 0
 abbrev pub fraction_text : ℕ → List ℕ
@@ -31,12 +32,12 @@ duration_text x =
 
 -- n in two digits
 abbrev pub two_digits : ℕ → List ℕ
-two_digits n = (48 + n / 10) ∷ (48 + n % 10) ∷ []
+two_digits n = (byte "0" + n / 10) ∷ (byte "0" + n % 10) ∷ []
 
 -- all the digits of a number of so many places
 abbrev pub all_digits : ℕ → ℕ → List ℕ
 all_digits zero n = []
-all_digits (suc places) n = (48 + n / 10 ^ places) ∷ all_digits places (n % 10 ^ places)
+all_digits (suc places) n = (byte "0" + n / 10 ^ places) ∷ all_digits places (n % 10 ^ places)
 
 -- the size of a year in at least four digits
 abbrev pub year_digits : ℕ → List ℕ
@@ -62,7 +63,7 @@ week_text y w = year_text y ++ codes "-W" ++ two_digits w
 
 -- a year, a week of it and a weekday from 1 for Monday (ISO 8601 week date)
 abbrev pub week_date_text : ℤ → ℕ → ℕ → List ℕ
-week_date_text y w d = week_text y w ++ codes "-" ++ (48 + d) ∷ []
+week_date_text y w d = week_text y w ++ codes "-" ++ (byte "0" + d) ∷ []
 
 -- a point and the nanoseconds past a second in three, six or nine digits, the fewest that hold them, or nothing for 0
 abbrev pub subsecond_text : ℕ → List ℕ

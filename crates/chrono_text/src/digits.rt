@@ -1,5 +1,6 @@
 //! Numbers in a fixed number of digits.
 ghost use Rattle.std.specs.Prelude.{◌≡◌, ◌+◌, ◌/◌, ◌%◌, ◌<◌, ◌≤◌, ◌++◌, length};
+ghost use Rattle.std.specs.Str.{byte};
 ghost use Rattle.chrono_text.specs.Text.{two_digits, all_digits};
 
 use crate::text::Text;
@@ -20,8 +21,8 @@ const TWO_DIGITS: [u8; 200] = *b"00010203040506070809\
 #[inline]
 pub(crate) fn codes_of_two(n: u32) -> (u8, u8)
     requires { n < 100 }
-    ensures tens { result.0 ≡ 48 + n / 10 }
-    ensures ones { result.1 ≡ 48 + n % 10 }
+    ensures tens { result.0 ≡ byte "0" + n / 10 }
+    ensures ones { result.1 ≡ byte "0" + n % 10 }
 {
     let place = 2 * n as usize;
     (TWO_DIGITS[place], TWO_DIGITS[place + 1])

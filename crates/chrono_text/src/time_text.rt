@@ -1,7 +1,7 @@
 //! Times of day as ISO 8601 writes them.
-ghost use Rattle.std.specs.Prelude.{◌≡◌, ◌+◌, ◌<◌, ◌≤◌, ◌++◌, length};
+ghost use Rattle.std.specs.Prelude.{◌≡◌, ◌+◌, ◌*◌, ◌<◌, ◌≤◌, ◌++◌, length};
 ghost use Rattle.std.specs.Str.{IsAscii};
-ghost use Rattle.chrono_text.specs.Text.{subsecond_text, clock_text};
+ghost use Rattle.chrono_text.specs.Text.{nanos_per_second, subsecond_text, clock_text};
 
 use crate::text::Text;
 
@@ -24,7 +24,7 @@ impl<const N: usize> Text<N> {
         requires hour { hour < 24 }
         requires minute { minute < 60 }
         requires second { second < 60 }
-        requires fraction { fraction < 2_000_000_000 }
+        requires fraction { fraction < 2 * nanos_per_second }
         requires room { length self.old + 18 ≤ N }
         ensures text { self.new ≡ self.old ++ clock_text hour minute second fraction }
         ensures ascii { IsAscii (clock_text hour minute second fraction) }
@@ -45,7 +45,7 @@ impl<const N: usize> Text<N> {
     // Puts a point and the fraction of a second in three, six or nine digits, or nothing for 0.
     #[tactic(auto, using(crate::proofs::Decimals::fractions))]
     fn push_subsecond(&mut self, nanos: u32)
-        requires nanos { nanos < 1_000_000_000 }
+        requires nanos { nanos < nanos_per_second }
         requires room { length self.old + 10 ≤ N }
         ensures text { self.new ≡ self.old ++ subsecond_text nanos }
         ensures fits { length self.new ≤ length self.old + 10 }

@@ -73,6 +73,7 @@ impl WeekdaySet {
     pub fn from_iter<I: Iterator<Item = Weekday>>(iter: I) -> WeekdaySet
         requires callable { I.can_next iter }
         requires ends { IsFinite (I.remaining iter) }
+        // The run of the iterator to its end gives some days, and the answer is the set of these.
         ensures { WholeRun I.next_gives iter (λ run. result ≡ set.set_of run.items) }
     {
         let mut members = WeekdaySet::EMPTY;
@@ -95,6 +96,7 @@ impl WeekdaySet {
     /// The day, if the set has just one member; `None` for any other set.
     #[inline]
     pub fn single_day(self) -> Option<Weekday>
+        // A day is answered exactly if the set has that day alone.
         ensures { (d : Weekday) → (result ≡ Some d) ↔ (self ≡ set.single d) }
     {
         if self.digits.count_ones() == 1 {
@@ -108,6 +110,7 @@ impl WeekdaySet {
     #[inline]
     pub fn insert(&mut self, day: Weekday) -> bool
         ensures is_new { result ≡ not (set.contains self.old day) }
+        // False stands exactly for a set that stays as it was.
         ensures changed { (result ≡ false) ↔ (self.new ≡ self.old) }
         ensures after { self.new ≡ set.union self.old (set.single day) }
     {
@@ -120,6 +123,7 @@ impl WeekdaySet {
     #[inline]
     pub fn remove(&mut self, day: Weekday) -> bool
         ensures was_member { result ≡ set.contains self.old day }
+        // False stands exactly for a set that stays as it was.
         ensures changed { (result ≡ false) ↔ (self.new ≡ self.old) }
         ensures after { self.new ≡ set.difference self.old (set.single day) }
     {

@@ -1,2 +1,4 @@
 mod DayLemmas
 mod SpanLemmas
+mod WeekLemmas
+mod WordLemmas

@@ -1,2 +1,3 @@
 pub mod DayTexts
 pub mod SpanTexts
+pub mod Requests

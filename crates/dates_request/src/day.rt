@@ -1,5 +1,5 @@
 //! Days by any of their names, and why a text names none.
-ghost use Rattle.std.specs.Prelude.{◌≡◌, ◌++◌, ℤ, Some, IfSome, IfOk, IfErr, Ok};
+ghost use Rattle.std.specs.Prelude.{◌≡◌, ◌<◌, ◌++◌, ℤ, length, Some, IfSome, IfNone, IfOk, IfErr, Ok};
 ghost use Rattle.dates_request.specs.DayTexts.{IsDayText, IsInMonth, IsReason};
 
 use chrono_datetime::NaiveDate;
@@ -70,8 +70,9 @@ fn month_of(text: &[u8]) -> Option<NaiveDate>
 }
 
 // The text with this end, if it is no longer than a name of a day.
-fn joined(front: &[u8], end: &[u8]) -> Option<Text<LONGEST>>
-    ensures { IfSome result (λ name. name ≡ front.now ++ end.now) }
+pub(crate) fn joined(front: &[u8], end: &[u8]) -> Option<Text<LONGEST>>
+    ensures some { IfSome result (λ name. name ≡ front.now ++ end.now) }
+    ensures none { IfNone result (13 < length (front.now ++ end.now)) }
 {
     if front.len() > LONGEST || end.len() > LONGEST - front.len() {
         return None;

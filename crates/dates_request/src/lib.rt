@@ -1,8 +1,19 @@
-//! What the arguments of `dates` ask for: days, spans, and the request that they make, or which argument is wrong and why.
+//! What the arguments of `dates` ask for: days, spans, weeks, and the request that they make, or which argument is wrong and why.
 #![tactic(auto)]
 
+mod command;
 mod day;
+mod read;
+mod request;
 mod span;
+mod week;
+mod word;
+mod wrong;
 
+pub use command::Command;
 pub use day::{NoDay, read_day};
+pub use read::read_request;
+pub use request::Request;
 pub use span::{Span, Unit, read_span};
+pub use week::read_week;
+pub use wrong::{Why, Wrong};

@@ -14,6 +14,7 @@ impl TimeDelta {
     pub fn checked_sum<I: Iterator<Item = TimeDelta> + Drop>(iter: I) -> Option<TimeDelta>
         requires can { I.can_next iter }
         requires ends { IsFinite (I.remaining iter) }
+        // Either the sum of a beginning is no duration, or none of them leaves the range and the answer is the sum of all.
         ensures { MatchOption result
             (SomeRun I.next_gives iter (λ p. ¬ IsDuration (total p.items)))
             (λ sum. WholeRun I.next_gives iter (λ p. StaysInRange p.items × (sum ≡ total p.items))) }
@@ -31,6 +32,7 @@ impl TimeDelta {
     ) -> Option<TimeDelta>
         requires can { I.can_next iter }
         requires ends { IsFinite (I.remaining iter) }
+        // Either the sum of a beginning is no duration, or none of them leaves the range and the answer is the sum of all.
         ensures { MatchOption result
             (SomeRun I.next_gives iter (λ p. ¬ IsDuration (total (map (λ r. r.now) p.items))))
             (λ sum. WholeRun I.next_gives iter

@@ -1,7 +1,7 @@
 //! The texts of a date-time.
 ghost use Rattle.std.specs.Prelude.{◌≡◌, ◌+◌, ◌<◌, ◌≤◌, ◌++◌, Some, length};
 ghost use Rattle.std.specs.Fmt.{WritesOnOk, WritesStyledOnOk};
-ghost use Rattle.std.specs.Str.{IsAscii};
+ghost use Rattle.std.specs.Str.{IsAscii, byte};
 ghost use Rattle.chrono_datetime.specs.MomentText.{moment_text};
 
 use crate::NaiveDateTime;
@@ -28,9 +28,9 @@ impl NaiveDateTime {
 }
 
 impl fmt::Display for NaiveDateTime {
-    ghost output = { λ m. Some (moment_text 32 m) };
+    ghost output = { λ m. Some (moment_text (byte " ") m) };
 
-    ghost styled_output = { λ m _. Some (moment_text 32 m) };
+    ghost styled_output = { λ m _. Some (moment_text (byte " ") m) };
 
     /// Writes the date, a space and the time of day, as `2024-02-29 23:59:60.500`.
     ///
@@ -43,14 +43,14 @@ impl fmt::Display for NaiveDateTime {
 }
 
 impl fmt::Debug for NaiveDateTime {
-    ghost debug_output = { λ m. Some (moment_text 84 m) };
+    ghost debug_output = { λ m. Some (moment_text (byte "T") m) };
 
     /// Writes the date, `T` and the time of day (ISO 8601 date and time of day), as `2024-02-29T23:59:60.500`.
     ///
     /// A width, a fill, an alignment, a sign or a precision makes no difference.
     fn fmt<W: fmt::Write>(&self, f: &mut fmt::Formatter<W>) -> fmt::Result
-        ensures writes { WritesOnOk W.write_str_gives f.old result (moment_text 84 self.now) f.new }
-        ensures styled { WritesStyledOnOk W.write_str_gives f.old result (moment_text 84 self.now) f.new }
+        ensures writes { WritesOnOk W.write_str_gives f.old result (moment_text (byte "T") self.now) f.new }
+        ensures styled { WritesStyledOnOk W.write_str_gives f.old result (moment_text (byte "T") self.now) f.new }
     {
         let mut text = Text::<LONGEST>::new();
         self.put_into(&mut text, b'T');

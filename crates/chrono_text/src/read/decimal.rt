@@ -1,6 +1,7 @@
 //! Numbers read as they are printed.
 ghost use Rattle.std.specs.Prelude.{◌≡◌, ◌≢◌, ◌<◌, ◌≤◌, ◌^◌, ℕ, Some, IfSome, IsTrue, ◌↔◌, length, slice_index};
 ghost use Rattle.std.specs.Fmt.{decimal};
+ghost use Rattle.std.specs.Str.{byte};
 
 use crate::read::places::value_of_all;
 
@@ -8,6 +9,7 @@ use crate::read::places::value_of_all;
 #[inline]
 pub fn read_decimal(text: &[u8]) -> Option<u64>
     ensures some { IfSome result (λ n. (n < 10 ^ 18) × (decimal n ≡ text.now)) }
+    // Whatever number has this text is the answer.
     ensures every { (n : ℕ) → n < 10 ^ 18 → decimal n ≡ text.now → result ≡ Some n }
 {
     if !has_decimal_form(text) {
@@ -20,7 +22,7 @@ pub fn read_decimal(text: &[u8]) -> Option<u64>
 #[inline]
 fn has_decimal_form(text: &[u8]) -> bool
     ensures { IsTrue result ↔ ((0 < length text.now) × (length text.now ≤ 18)
-        × (1 < length text.now → slice_index text.now 0 ≢ 48)) }
+        × (1 < length text.now → slice_index text.now 0 ≢ byte "0")) }
 {
     match text {
         [] => false,

@@ -1,5 +1,5 @@
 //! Fractions of a second.
-ghost use Rattle.std.specs.Prelude.{◌≡◌, ◌<◌, ◌∷◌, ℕ, Some, IfSome};
+ghost use Rattle.std.specs.Prelude.{◌≡◌, ◌<◌, ◌++◌, codes, ℕ, Some, IfSome};
 ghost use Rattle.chrono_text.specs.Text.{nanos_per_second};
 ghost use Rattle.chrono_text.specs.Fractions.{IsFractionText, IsPointText};
 
@@ -13,6 +13,7 @@ const MOST_PLACES: usize = 9;
 #[inline]
 pub fn read_fraction(text: &[u8]) -> Option<u32>
     ensures some { IfSome result (λ n. (n < nanos_per_second) × IsFractionText text.now n) }
+    // Whatever number of nanoseconds has this text is the answer.
     ensures every { (n : ℕ) → IsFractionText text.now n → result ≡ Some n }
 {
     match text {
@@ -25,8 +26,8 @@ pub fn read_fraction(text: &[u8]) -> Option<u32>
 // The nanoseconds that one to nine digits write behind a point.
 #[inline]
 fn read_places(digits: &[u8]) -> Option<u32>
-    ensures some { IfSome result (λ n. (n < nanos_per_second) × IsPointText (46 ∷ digits.now) n) }
-    ensures every { (n : ℕ) → IsPointText (46 ∷ digits.now) n → result ≡ Some n }
+    ensures some { IfSome result (λ n. (n < nanos_per_second) × IsPointText (codes "." ++ digits.now) n) }
+    ensures every { (n : ℕ) → IsPointText (codes "." ++ digits.now) n → result ≡ Some n }
 {
     if digits.is_empty() || digits.len() > MOST_PLACES {
         return None;

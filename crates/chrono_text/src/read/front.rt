@@ -3,6 +3,7 @@
 //! A value past a `u64` counts as its greatest number.
 ghost use Rattle.std.specs.Prelude.{◌≡◌, ◌-◌, ◌^◌, ◌<◌, ◌≤◌, min, length, take, slice_index};
 ghost use Rattle.std.specs.Int.{IsInRange};
+ghost use Rattle.std.specs.Str.{byte};
 ghost use Rattle.std.specs.Str.Parse.{AllDigits, digits_value};
 
 use crate::line::Line;
@@ -21,7 +22,7 @@ const ALWAYS_FIT: usize = 18;
 pub(crate) fn digits_in_front(text: &Line<'_>, way: Way) -> (u64, usize)
     ensures within { result.1 ≤ length text.now }
     ensures digits { AllDigits 10 (take result.1 text.now) }
-    ensures end { result.1 < length text.now → ¬ (IsInRange 48 57 (slice_index text.now result.1)) }
+    ensures end { result.1 < length text.now → ¬ (IsInRange (byte "0") (byte "9") (slice_index text.now result.1)) }
     ensures value { result.0 ≡ min (digits_value 10 (take result.1 text.now)) (2 ^ 64 - 1) }
 {
     if let Way::DigitByDigit = way {
@@ -42,7 +43,7 @@ pub(crate) fn digits_in_front(text: &Line<'_>, way: Way) -> (u64, usize)
 pub(crate) fn leading_digits(text: &[u8]) -> (u64, usize)
     ensures within { result.1 ≤ length text.now }
     ensures digits { AllDigits 10 (take result.1 text.now) }
-    ensures end { result.1 < length text.now → ¬ (IsInRange 48 57 (slice_index text.now result.1)) }
+    ensures end { result.1 < length text.now → ¬ (IsInRange (byte "0") (byte "9") (slice_index text.now result.1)) }
     ensures value { result.0 ≡ min (digits_value 10 (take result.1 text.now)) (2 ^ 64 - 1) }
 {
     let most = text.len().min(ALWAYS_FIT);
@@ -66,7 +67,7 @@ fn further_digits(text: &[u8], value: u64, start: usize) -> (u64, usize)
     requires value { value ≡ digits_value 10 (take start text.now) }
     ensures within { result.1 ≤ length text.now }
     ensures digits { AllDigits 10 (take result.1 text.now) }
-    ensures end { result.1 < length text.now → ¬ (IsInRange 48 57 (slice_index text.now result.1)) }
+    ensures end { result.1 < length text.now → ¬ (IsInRange (byte "0") (byte "9") (slice_index text.now result.1)) }
     ensures value { result.0 ≡ min (digits_value 10 (take result.1 text.now)) (2 ^ 64 - 1) }
 {
     let mut total = value;

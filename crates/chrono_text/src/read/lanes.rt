@@ -1,6 +1,7 @@
 //! Digits read together.
 ghost use Rattle.std.specs.Prelude.{◌≡◌, ◌-◌, ◌*◌, ◌^◌, ◌<◌, ◌≤◌, ℕ, length, take, slice_index};
 ghost use Rattle.std.specs.Int.{IsInRange};
+ghost use Rattle.std.specs.Str.{byte};
 ghost use Rattle.std.specs.Str.Parse.{AllDigits, digits_value};
 
 use crate::read::digit::digit;
@@ -22,8 +23,8 @@ const WEIGHTS: [u32; 16] = [
 pub(crate) fn digits_in_lanes(bytes: &[u8]) -> usize
     requires { 16 ≤ length bytes.now }
     ensures within { result ≤ 16 }
-    ensures digits { (k : ℕ) → k < result → IsInRange 48 57 (slice_index bytes.now k) }
-    ensures end { result < 16 → ¬ (IsInRange 48 57 (slice_index bytes.now result)) }
+    ensures digits { (k : ℕ) → k < result → IsInRange (byte "0") (byte "9") (slice_index bytes.now k) }
+    ensures end { result < 16 → ¬ (IsInRange (byte "0") (byte "9") (slice_index bytes.now result)) }
 {
     // Counted from the byte behind `9`, and on from 0 after 255, the ten digits come last.
     let others = (u8x16::from_slice(bytes) - u8x16::splat(b'9' + 1))

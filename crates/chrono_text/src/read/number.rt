@@ -2,6 +2,7 @@
 ghost use Rattle.std.specs.Prelude.{◌≡◌, ◌≢◌, ◌<◌, ◌≤◌, ◌↔◌, ℕ, Some, None, IfSome, IfNone, IsTrue, length, take, slice_index};
 ghost use Rattle.std.specs.Bool.{MatchBool};
 ghost use Rattle.std.specs.Int.{IsInRange};
+ghost use Rattle.std.specs.Str.{byte};
 ghost use Rattle.std.specs.Str.Parse.{AllDigits, digits_value};
 ghost use Rattle.chrono_text.specs.Numbers.{StandsBefore, i64_of, signed, to_i64};
 
@@ -17,9 +18,10 @@ const MINUS: u8 = b'-';
 /// Example: of `-42 7`, before a space, the number is -42, which takes 3 bytes.
 #[inline(always)]
 pub fn read_number(text: &Line<'_>, stop: u8, way: Way) -> Option<(i64, usize)>
-    requires { ¬ (IsInRange 48 57 stop) }
+    requires { ¬ (IsInRange (byte "0") (byte "9") stop) }
     ensures number { IfSome result (λ read. i64_of (take read.1 text.now) ≡ Some read.0) }
     ensures end { IfSome result (λ read. StandsBefore stop text.now read.1) }
+    // No front of the text that ends before `stop` or at the end is a number that fits.
     ensures none { IfNone result ((len : ℕ) → StandsBefore stop text.now len
         → i64_of (take len text.now) ≡ None) }
 {
@@ -50,9 +52,10 @@ fn short_number(text: &Line<'_>, stop: u8) -> Option<(u32, usize)>
 // The same, of any length.
 #[inline(always)]
 fn long_number(text: &Line<'_>, stop: u8, way: Way) -> Option<(i64, usize)>
-    requires { ¬ (IsInRange 48 57 stop) }
+    requires { ¬ (IsInRange (byte "0") (byte "9") stop) }
     ensures number { IfSome result (λ read. i64_of (take read.1 text.now) ≡ Some read.0) }
     ensures end { IfSome result (λ read. StandsBefore stop text.now read.1) }
+    // No front of the text that ends before `stop` or at the end is a number that fits.
     ensures none { IfNone result ((len : ℕ) → StandsBefore stop text.now len
         → i64_of (take len text.now) ≡ None) }
 {
@@ -70,8 +73,8 @@ fn long_number(text: &Line<'_>, stop: u8, way: Way) -> Option<(i64, usize)>
 // Whether a `-` stands in front.
 #[inline]
 fn has_minus(text: &Line<'_>) -> bool
-    ensures { MatchBool result ((0 < length text.now) × (slice_index text.now 0 ≡ 45))
-        (0 < length text.now → slice_index text.now 0 ≢ 45) }
+    ensures { MatchBool result ((0 < length text.now) × (slice_index text.now 0 ≡ byte "-"))
+        (0 < length text.now → slice_index text.now 0 ≢ byte "-") }
 {
     !text.is_empty() && text.byte(0) == MINUS
 }

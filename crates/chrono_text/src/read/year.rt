@@ -11,6 +11,7 @@ use crate::read::places::read_four;
 #[inline]
 pub fn read_year(text: &[u8]) -> Option<i32>
     ensures some { IfSome result (λ y. (unsigned_abs y < 1_000_000) × (year_text y ≡ text.now)) }
+    // Whatever year has this text is the answer.
     ensures every { (y : ℤ) → unsigned_abs y < 1_000_000 → year_text y ≡ text.now
         → result ≡ Some y }
 {

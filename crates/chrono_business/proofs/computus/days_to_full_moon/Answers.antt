@@ -1,5 +1,5 @@
-use Rattle.std.proofs.Common.{◌≡◌, ap, arith, pos}
-use Rattle.chrono_datetime.proofs.Signed.{casts, signed}
+use Rattle.std.proofs.Common.{arith}
+use Rattle.chrono_datetime.proofs.Signed.{casts}
 use Rattle.chrono_business.proofs.EasterLemmas.{moon-is}
 use Rattle.chrono_business.proofs.computus.days_to_full_moon.Goals as goal
 

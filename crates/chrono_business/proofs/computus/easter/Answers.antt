@@ -1,6 +1,6 @@
-use Rattle.std.proofs.Common.{◌≡◌, refl, arith, rules, ◌∙◌, FitsSigned, ◌+ℤ◌, of_z, to_z, w32}
+use Rattle.std.proofs.Common.{refl, arith, rules, ◌∙◌, FitsSigned, ◌+ℤ◌, of_z, to_z, w32}
 use Rattle.std.proofs.lemmas.Int.{to_z-of_z}
-use Rattle.chrono_datetime.proofs.Signed.{casts, signed}
+use Rattle.chrono_datetime.proofs.Signed.{casts}
 use Rattle.chrono_business.proofs.EasterLemmas.{IsEasterOf, easter-none, easter-some, equinox-number}
 use Rattle.chrono_business.proofs.computus.easter.Goals as goal
 

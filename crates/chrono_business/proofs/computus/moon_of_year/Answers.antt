@@ -1,4 +1,4 @@
-use Rattle.std.proofs.Common.{◌≡◌, refl}
+use Rattle.std.proofs.Common.{refl}
 use Rattle.chrono_business.specs.Easter.{days_to_moon}
 use Rattle.chrono_business.proofs.computus.moon_of_year.Goals as goal
 

@@ -1,6 +1,5 @@
-use Rattle.std.proofs.Common.{◌≡◌, ℤ, Some, ap, sym, ◌∙◌, pos, neg_ℤ, arith, w64, rules}
+use Rattle.std.proofs.Common.{Some, ap, arith, rules}
 use Rattle.std.proofs.lemmas.Option.{none-some, same_Some}
-use Rattle.dates_request.specs.SpanTexts.{IsCountText}
 use Rattle.dates_request.proofs.SpanLemmas.{minus_count, some_count}
 use Rattle.dates_request.proofs.span.read_count.Goals as goal
 

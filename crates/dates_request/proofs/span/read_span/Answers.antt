@@ -1,9 +1,7 @@
-use Rattle.std.proofs.Common.{◌≡◌, ℤ, Some, ℕ, List, pos, ap₂, sym, ◌∙◌, w64, rules}
+use Rattle.std.proofs.Common.{ℤ, Some, ap₂, sym, ◌∙◌, w64, rules}
 use Rattle.std.proofs.lemmas.Int.{to_z-of_z}
 use Rattle.std.proofs.lemmas.Option.{none-some, same_Some}
-use Rattle.dates_request.specs.declared.span.Span.{Span}
 use Rattle.dates_request.specs.declared.span.Unit.{Unit}
-use Rattle.dates_request.specs.SpanTexts.{IsCountText, IsSpanText, unit_named}
 use Rattle.dates_request.proofs.SpanLemmas.{cut_at_end}
 use Rattle.dates_request.proofs.span.read_span.Goals as goal
 

@@ -1,7 +1,6 @@
 -- The numbers so far stand before those of the rest.
 use Rattle.std.proofs.Common.{◌≡◌, ◌+◌, ◌*◌, ◌≤◌, length}
-use Rattle.caltool_command.specs.Words.{EndsWord}
-use Rattle.caltool_command.specs.Grammar.{numbers_behind}
+use Rattle.caltool_command.specs.Private.{EndsWord, numbers_behind}
 use Rattle.caltool_command.proofs.Reading.{before}
 use Rattle.caltool_command.proofs.numbers.Numbers.read.Given as goal
 

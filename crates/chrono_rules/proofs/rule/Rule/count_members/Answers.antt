@@ -5,8 +5,8 @@ use Rattle.chrono_rules.specs.Instances.{is_member}
 use Rattle.chrono_rules.proofs.Counts.{counted-next}
 use Rattle.chrono_rules.proofs.rule.Rule.count_members.Goals as goal
 
-pub returns-then-end-num_days_from_ce : goal.returns-then-end-num_days_from_ce
-returns-then-end-num_days_from_ce c =
+pub returns-then-end-num_days_from_ce-clause-value : goal.returns-then-end-num_days_from_ce-clause-value
+returns-then-end-num_days_from_ce-clause-value c =
     sym (count_between-empty (is_member c.args.self.now c.args.start) c.args.start c.args.date (omega (arith, signed, c.if-end-num_days_from_ce.true, c.num_days_from_ce-end.ensures.value, c.num_days_from_ce.ensures.value)))
 
 pub loop-start-init : goal.loop-start-init

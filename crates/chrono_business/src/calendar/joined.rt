@@ -1,0 +1,28 @@
+//! Two calendars as one.
+ghost use Rattle.std.specs.Prelude.{◌≡◌, ◌&&◌, ◌⊎◌, ℤ, true, length, IfSome, IfNone};
+ghost use Rattle.chrono_datetime.specs.WeekdaySet.{union};
+ghost use Rattle.chrono_business.specs.OpenDays.{is_holiday, is_open, is_workday};
+ghost use Rattle.chrono_business.specs.HolidayLists.{AreTooMany};
+
+use crate::calendar::Calendar;
+use crate::holiday_list::insert_all;
+use chrono_datetime::NaiveDate;
+
+impl<'a> Calendar<'a> {
+    /// The calendar that is closed on each day on which this one is or another, and open on all others.
+    ///
+    /// Its holidays are written at the beginning of a slice; `None` exactly if the slice is too short for them.
+    pub fn joined<'b>(&self, other: &Calendar<'_>, out: &'b mut [NaiveDate]) -> Option<Calendar<'b>>
+        ensures weekend { IfSome result (λ c. c.weekend ≡ union self.now.weekend other.now.weekend) }
+        ensures open { IfSome result (λ c. (d : ℤ) →
+            is_open c d ≡ (is_open self.now d && is_open other.now d)) }
+        ensures none { IfNone result (AreTooMany (λ d.
+            ((is_holiday self.now.holidays d ≡ true) ⊎ (is_holiday other.now.holidays d ≡ true)) ×
+            (is_workday (union self.now.weekend other.now.weekend) d ≡ true)) (length out.old)) }
+    {
+        let weekend = self.week.weekend().union(other.week.weekend());
+        let own = insert_all(weekend, self.holidays, out, 0)?;
+        let all = insert_all(weekend, other.holidays, out, own)?;
+        Some(Calendar::new(weekend, &out[..all]))
+    }
+}

@@ -1,0 +1,74 @@
+-- Instances at a time of day, by those of days.
+use Rattle.std.proofs.Common.{◌≡◌, ◌==◌, ℕ, Bool, true, false, ◌&&◌, inl, inr, refl, sym, ap, ◌∙◌, arith, ℤ, ◌<ℤ◌}
+use Rattle.std.proofs.lemmas.Bool.Decides.{nat_tests}
+use Rattle.chrono_datetime.specs.Moment.{IsBefore, Moment, moment}
+use Rattle.chrono_datetime.specs.Time.{IsEarlier, TimeOfDay}
+use Rattle.chrono_datetime.proofs.Signed.{signed}
+use Rattle.chrono_rules.specs.Instances.{is_instance}
+use Rattle.chrono_rules.specs.InstanceMoments.{earlier_time, is_instance_at, same_time}
+use Rattle.chrono_rules.specs.declared.rule.Rule.{Rule}
+
+and-by : (a b : Bool) → (b ≡ true → a ≡ false) → (a && b) ≡ false
+and-by true true h = h refl
+and-by true false h = refl
+and-by false b h = refl
+
+and-first : (a b : Bool) → (a && b) ≡ true → a ≡ true
+and-first true b h = refl
+and-first false b h = h
+
+pub and-second : (a b : Bool) → (a && b) ≡ true → b ≡ true
+and-second true b h = h
+and-second false true h = refl
+and-second false false h = h
+
+same-numbers : (x y u v : ℕ) → ((x == y) && (u == v)) ≡ true → (x ≡ y) × (u ≡ v)
+same-numbers x y u v h = (grind (arith, nat_tests, and-first (x == y) (u == v) h), grind (arith, nat_tests, and-second (x == y) (u == v) h))
+
+same_time-self : (t : TimeOfDay) → same_time t t ≡ true
+same_time-self t = grind (arith, nat_tests)
+
+-- no instance but at the start's time, of a day that is one
+not_at : (r : Rule) (start q : Moment) → (start.time.second ≡ q.time.second → start.time.fraction ≡ q.time.fraction → is_instance r start.date q.date ≡ false) → is_instance_at r start q ≡ false
+unfolding is_instance_at
+not_at r start q none =
+    and-by (is_instance r start.date q.date) (same_time start.time q.time)
+    (λ same. let e = same-numbers start.time.second q.time.second start.time.fraction q.time.fraction same in none e.0 e.1)
+
+pub instance_at : (r : Rule) (start : Moment) (d : ℤ) → is_instance r start.date d ≡ true → is_instance_at r start (moment d start.time) ≡ true
+unfolding is_instance_at
+instance_at r start d is = rw (is, same_time-self start.time) refl
+
+earlier-is : (a b : TimeOfDay) → IsEarlier a b → earlier_time a b ≡ true
+earlier-is a b (inl less) = grind (arith, nat_tests, less)
+earlier-is a b (inr (same, less)) = grind (arith, nat_tests, same, less)
+
+-- between a moment and the instance of its own day
+pub none_on_day : (r : Rule) (start m q : Moment) → IsBefore m q → IsBefore q (moment m.date start.time) → is_instance_at r start q ≡ false
+none_on_day r start m q (inl later) (inl earlier) = absurd (omega (arith, signed, later, earlier))
+none_on_day r start m q (inr (date, time)) (inl earlier) = absurd (omega (arith, signed, date, earlier))
+none_on_day r start m q behind (inr (date, inl less)) = not_at r start q (λ second fraction. absurd (omega (arith, less, second)))
+none_on_day r start m q behind (inr (date, inr (same, less))) = not_at r start q (λ second fraction. absurd (omega (arith, less, fraction)))
+
+and-rest : (a b : Bool) → a ≡ true → (a && b) ≡ false → b ≡ false
+and-rest true b is none = none
+and-rest false true is none = sym is
+and-rest false false is none = refl
+
+at_time : (a b t : TimeOfDay) → IsEarlier a b → t.second ≡ b.second → t.fraction ≡ b.fraction → IsEarlier a t
+at_time a b t (inl less) second fraction = inl (omega (arith, less, second))
+at_time a b t (inr (same, less)) second fraction = inr (omega (arith, same, second), omega (arith, less, fraction))
+
+-- behind a moment whose own day has no instance left
+pub none_later : (r : Rule) (start m q : Moment) → (earlier_time m.time start.time && is_instance r start.date m.date) ≡ false → (m.date <ℤ q.date → is_instance r start.date q.date ≡ false) → IsBefore m q → is_instance_at r start q ≡ false
+none_later r start m q today days (inl later) = not_at r start q (λ second fraction. days later)
+none_later r start m q today days (inr (date, time)) =
+    not_at r start q
+    (λ second fraction.
+    ap (is_instance r start.date) (sym date)
+    ∙ and-rest (earlier_time m.time start.time) (is_instance r start.date m.date) (earlier-is m.time start.time (at_time m.time q.time start.time time second fraction)) today)
+
+pub least_later : (r : Rule) (start m q : Moment) (e : ℤ) → (earlier_time m.time start.time && is_instance r start.date m.date) ≡ false → ((d : ℤ) → m.date <ℤ d → d <ℤ e → is_instance r start.date d ≡ false) → IsBefore m q → IsBefore q (moment e start.time) → is_instance_at r start q ≡ false
+least_later r start m q e today days after (inl less) = none_later r start m q today (λ later. days q.date later less) after
+least_later r start m q e today days after (inr (date, inl less)) = not_at r start q (λ second fraction. absurd (omega (arith, less, second)))
+least_later r start m q e today days after (inr (date, inr (same, less))) = not_at r start q (λ second fraction. absurd (omega (arith, less, fraction)))

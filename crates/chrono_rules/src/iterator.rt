@@ -1,0 +1,141 @@
+//! `Instances`: the instances of a rule, one after another.
+ghost use Rattle.std.specs.Prelude.{◌≡◌, ◌≤◌, IfSome};
+ghost use Rattle.std.specs.Iterator.{UpTo, YieldsFirst, item_count};
+ghost use Rattle.std.specs.Iterator.SizeHint.{IsWithinCount};
+ghost use Rattle.chrono_datetime.specs.Recurrence.{dates_before};
+ghost use Rattle.chrono_rules.specs.InstanceLists.{instances_from, may_follow, seen_before, seen_with};
+
+use crate::rule::{End, Rule};
+use chrono_datetime::{Datelike, NaiveDate};
+use std::iter::FusedIterator;
+use std::marker::Model;
+
+// The number after that of the last date.
+const PAST_LAST_DAY: i32 = 95_745_400;
+
+/// The instances of a rule from a start on, in order and each once, up to the last in the calendar. From [`Rule::instances`] and
+/// [`Rule::instances_from`].
+///
+/// Contracts see it as the list of the days that are left, by their numbers. Once none is left it gives `None` from then on.
+#[derive(Drop)]
+pub struct Instances {
+    rule: Rule,
+    start: NaiveDate,
+    // The day from which on instances are left.
+    from: i32,
+    // Where the rule has COUNT, how many members came before that day.
+    seen: u32,
+}
+
+impl Model for Instances {
+    ghost use Rattle.std.specs.Prelude.{◌≡◌, ◌≤◌, ◌≤ℤ◌, List, ℤ};
+    ghost use Rattle.chrono_datetime.specs.Recurrence.{dates_before, first_date, past_last_date};
+    ghost use Rattle.chrono_rules.specs.InstanceLists.{instances_from, seen_before};
+
+    ghost Value = { List ℤ };
+
+    ghost view = { λ it. instances_from it.rule it.start it.from };
+
+    ghost invariant = { λ it. (first_date ≤ℤ it.from) × (it.from ≤ℤ past_last_date)
+        × (it.seen ≡ seen_before it.rule.end it.rule it.start it.from)
+        × (it.seen ≤ dates_before it.from) };
+}
+
+impl Rule {
+    /// The instances of the rule from the start on, in order, up to the last in the calendar.
+    #[inline]
+    pub fn instances(&self, start: NaiveDate) -> Instances
+        ensures { result ≡ instances_from self.now start start }
+    {
+        self.instances_from(start, start)
+    }
+
+    /// The instances of the rule from the day on, itself among them if it is one; COUNT is counted from the start.
+    #[inline]
+    pub fn instances_from(&self, start: NaiveDate, day: NaiveDate) -> Instances
+        ensures { result ≡ instances_from self.now start day }
+    {
+        Instances {
+            rule: *self,
+            start,
+            from: day.num_days_from_ce(),
+            seen: self.seen_before(start, day),
+        }
+    }
+
+    // Where the rule has COUNT, how many members come before the day.
+    #[tactic(auto, unfolding(crate::specs::InstanceLists::seen_before))]
+    fn seen_before(&self, start: NaiveDate, day: NaiveDate) -> u32
+        ensures value { result ≡ seen_before self.now.end self.now start day }
+        ensures few { result ≤ dates_before day }
+    {
+        match self.end {
+            End::Never => 0,
+            End::Until(_) => 0,
+            End::Count(_) => self.count_members(start, day),
+        }
+    }
+
+    // Whether a member may follow so many.
+    #[inline]
+    #[tactic(auto, unfolding(crate::specs::InstanceLists::may_follow))]
+    fn may_follow(&self, seen: u32) -> bool
+        ensures { result ≡ may_follow self.now.end seen }
+    {
+        match self.end {
+            End::Never => true,
+            End::Until(_) => true,
+            End::Count(count) => seen < count,
+        }
+    }
+
+    // What is kept of the past behind one more member.
+    #[inline]
+    #[tactic(auto, unfolding(crate::specs::InstanceLists::seen_with))]
+    fn seen_with(&self, seen: u32) -> u32
+        requires { seen ≤ 1_000_000_000 }
+        ensures { result ≡ seen_with self.now.end seen }
+    {
+        match self.end {
+            End::Never => seen,
+            End::Until(_) => seen,
+            End::Count(_) => seen + 1,
+        }
+    }
+}
+
+impl Iterator for Instances {
+    type Item = NaiveDate;
+
+    ghost next_gives = { YieldsFirst (λ left. left) };
+
+    ghost remaining = { item_count (λ left. left) };
+
+    /// The first of the instances that are left; `None` once none is.
+    fn next(&mut self) -> Option<NaiveDate> {
+        if !self.rule.may_follow(self.seen) {
+            return None;
+        }
+        let from = NaiveDate::from_num_days_from_ce_opt(self.from)?;
+        let Some(day) = self.rule.first_member(self.start, from) else {
+            self.from = PAST_LAST_DAY;
+            return None;
+        };
+        self.from = day.num_days_from_ce() + 1;
+        self.seen = self.rule.seen_with(self.seen);
+        Some(day)
+    }
+
+    /// At least none, and at most as many instances as dates are left.
+    #[inline]
+    fn size_hint(&self) -> (usize, Option<usize>)
+        ensures lower { IsWithinCount result.0 (item_count (λ left. left) self.now) }
+        ensures upper { IfSome result.1 (UpTo (item_count (λ left. left) self.now)) }
+        ensures least { result.0 ≡ 0 }
+        ensures few { IfSome result.1 (λ most. most ≤ 191_491_529) }
+    {
+        (0, Some((PAST_LAST_DAY - self.from) as usize))
+    }
+}
+
+impl FusedIterator for Instances {}

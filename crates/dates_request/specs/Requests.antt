@@ -1,0 +1,173 @@
+-- What arguments ask for: the words of each request, one behind another.
+use Rattle.std.specs.Prelude.{◌≡◌, ◌<◌, if◌then◌else◌, ℕ, ℤ, List, [], ◌∷◌, ◌++◌, codes, length, map, bytes_eq, unsigned_abs, Option, Some, None, All}
+use Rattle.std.specs.Borrow.{Bor}
+use Rattle.chrono_text.specs.Text.{year_text}
+use Rattle.chrono_reading.specs.DateTexts.{IsWeekDateText}
+use Rattle.dates_request.specs.DayTexts.{IsDayText}
+use Rattle.dates_request.specs.SpanTexts.{IsSpanText}
+use Rattle.dates_request.specs.declared.span.Span.{Span}
+use Rattle.dates_request.specs.declared.span.Unit.{Unit}
+use Rattle.dates_request.specs.declared.span.Unit.TheVariants.{Days, Weeks, Months, Years}
+use Rattle.dates_request.specs.declared.command.Command.{Command}
+use Rattle.dates_request.specs.declared.command.Command.TheVariants as command
+use Rattle.dates_request.specs.declared.request.Request.{Request}
+use Rattle.dates_request.specs.declared.request.Request.TheVariants as request
+
+-- the bytes of the words
+abbrev pub texts : List (Bor (List ℕ)) → List (List ℕ)
+texts words = map (λ word. word.now) words
+
+-- the command that a word names
+unfoldable pub command_named : List ℕ → Option Command
+command_named word =
+    if bytes_eq word (codes "-") then Some command.Lines
+    else if bytes_eq word (codes "--help") then Some command.Help
+    else if bytes_eq word (codes "--version") then Some command.Version
+    else if bytes_eq word (codes "add") then Some command.Add
+    else if bytes_eq word (codes "diff") then Some command.Diff
+    else if bytes_eq word (codes "seq") then Some command.Seq
+    else if bytes_eq word (codes "week") then Some command.Week
+    else if bytes_eq word (codes "easter") then Some command.Easter
+    else if bytes_eq word (codes "leap") then Some command.Leap
+    else if bytes_eq word (codes "check") then Some command.Check
+    else None
+
+-- the text of the year y, as it is printed (ISO 8601)
+pub record IsYearText (text : List ℕ) (y : ℤ) : Type 0 where
+  pub small : unsigned_abs y < 1_000_000
+  pub written : year_text y ≡ text
+
+-- a text of the week that begins on the day n: the week date of n but for its `-1` (ISO 8601)
+pub record IsWeekText (text : List ℕ) (n : ℤ) : Type 0 where
+  pub monday : IsWeekDateText (text ++ codes "-1") n
+
+-- the unit that a word names, by its letter
+unfoldable pub unit_word : List ℕ → Option Unit
+unit_word word =
+    if bytes_eq word (codes "d") then Some Days
+    else if bytes_eq word (codes "w") then Some Weeks
+    else if bytes_eq word (codes "m") then Some Months
+    else if bytes_eq word (codes "y") then Some Years
+    else None
+
+-- the text writes a span
+abbrev pub WritesSpan : List ℕ → Type 0
+WritesSpan text = (s : Span) × IsSpanText text s
+
+-- the text names a day
+pub record NamesDay (text : List ℕ) (n : ℤ) : Type 0 where
+  pub is : IsDayText text n
+
+-- a day, and spans behind it
+pub record IsAdd (words : List (List ℕ)) (r : Request) : Type 0 where
+  pub day : List ℕ
+  pub spans : List (List ℕ)
+  pub date : ℤ
+  pub is_day : NamesDay day date
+  pub are_spans : All WritesSpan spans
+  pub written : words ≡ day ∷ spans
+  pub is : r ≡ request.Add date
+
+-- `in` and a unit, behind two days
+pub record IsIn (words : List (List ℕ)) (from to : ℤ) (r : Request) : Type 0 where
+  pub letter : List ℕ
+  pub unit : Unit
+  pub is_unit : unit_word letter ≡ Some unit
+  pub written : words ≡ codes "in" ∷ letter ∷ []
+  pub is : r ≡ request.DistanceIn from to unit
+
+-- a span, behind two days
+pub record IsBy (words : List (List ℕ)) (from to : ℤ) (r : Request) : Type 0 where
+  pub span : List ℕ
+  pub step : Span
+  pub is_span : IsSpanText span step
+  pub written : words ≡ span ∷ []
+  pub is : r ≡ request.SequenceBy from to step
+
+-- how far it is between two days, by what stands behind them: in days, or in a unit
+abbrev pub IsDistance : List (List ℕ) → ℤ → ℤ → Request → Type 0
+IsDistance [] from to r = r ≡ request.Distance from to
+IsDistance (word ∷ words) from to r = IsIn (word ∷ words) from to r
+
+-- the days from one to another, by what stands behind them: one after another, or by a span
+abbrev pub IsSequence : List (List ℕ) → ℤ → ℤ → Request → Type 0
+IsSequence [] from to r = r ≡ request.Sequence from to
+IsSequence (word ∷ words) from to r = IsBy (word ∷ words) from to r
+
+-- two days, and what is asked of them by what stands behind
+pub record IsOfTwoDays (asks : List (List ℕ) → ℤ → ℤ → Request → Type 0) (words : List (List ℕ)) (r : Request) : Type 0 where
+  pub first : List ℕ
+  pub second : List ℕ
+  pub rest : List (List ℕ)
+  pub from : ℤ
+  pub to : ℤ
+  pub is_first : NamesDay first from
+  pub is_second : NamesDay second to
+  pub written : words ≡ first ∷ second ∷ rest
+  pub is : asks rest from to r
+
+-- a week
+pub record IsWeek (words : List (List ℕ)) (r : Request) : Type 0 where
+  pub text : List ℕ
+  pub first : ℤ
+  pub is_week : IsWeekText text first
+  pub written : words ≡ text ∷ []
+  pub is : r ≡ request.Week first
+
+-- a year, of which Easter is asked
+pub record IsEaster (words : List (List ℕ)) (r : Request) : Type 0 where
+  pub text : List ℕ
+  pub year : ℤ
+  pub is_year : IsYearText text year
+  pub written : words ≡ text ∷ []
+  pub is : r ≡ request.Easter year
+
+-- a year, of which it is asked whether it is a leap year
+pub record IsLeap (words : List (List ℕ)) (r : Request) : Type 0 where
+  pub text : List ℕ
+  pub year : ℤ
+  pub is_year : IsYearText text year
+  pub written : words ≡ text ∷ []
+  pub is : r ≡ request.Leap year
+
+-- the name of a file, which is not empty
+pub record IsCheck (words : List (List ℕ)) (r : Request) : Type 0 where
+  pub file : List ℕ
+  pub some : 0 < length file
+  pub written : words ≡ file ∷ []
+  pub is : r ≡ request.Check
+
+-- no words
+pub record IsAlone (words : List (List ℕ)) (asked : Request) (r : Request) : Type 0 where
+  pub written : words ≡ []
+  pub is : r ≡ asked
+
+-- what a command asks for with the words behind it
+abbrev pub HasArguments : Command → List (List ℕ) → Request → Type 0
+HasArguments command.Lines words r = IsAlone words request.Lines r
+HasArguments command.Help words r = IsAlone words request.Help r
+HasArguments command.Version words r = IsAlone words request.Version r
+HasArguments command.Add words r = IsAdd words r
+HasArguments command.Diff words r = IsOfTwoDays IsDistance words r
+HasArguments command.Seq words r = IsOfTwoDays IsSequence words r
+HasArguments command.Week words r = IsWeek words r
+HasArguments command.Easter words r = IsEaster words r
+HasArguments command.Leap words r = IsLeap words r
+HasArguments command.Check words r = IsCheck words r
+
+-- a day, where the first word is no command
+pub record IsDay (word : List ℕ) (words : List (List ℕ)) (r : Request) : Type 0 where
+  pub date : ℤ
+  pub is_day : NamesDay word date
+  pub written : words ≡ []
+  pub is : r ≡ request.Day date
+
+-- what the first word, which may be a command, and the words behind it ask for
+abbrev pub AsksFor : Option Command → List ℕ → List (List ℕ) → Request → Type 0
+AsksFor (Some command) word words r = HasArguments command words r
+AsksFor None word words r = IsDay word words r
+
+-- what words ask for; none ask for the lines of the input
+abbrev pub IsRequest : List (List ℕ) → Request → Type 0
+IsRequest [] r = r ≡ request.Lines
+IsRequest (word ∷ words) r = AsksFor (command_named word) word words r

@@ -1,0 +1,48 @@
+//! The words that commands begin with.
+ghost use Rattle.std.specs.Prelude.{◌≡◌};
+ghost use Rattle.dates_request.specs.Requests.{command_named};
+
+/// What the first argument names, where it names no day.
+#[derive(Clone, Copy, Debug, PartialEq, Eq)]
+pub enum Command {
+    /// `-`: the lines of the input.
+    Lines,
+    /// `--help`.
+    Help,
+    /// `--version`.
+    Version,
+    /// `add`: a day moved by spans.
+    Add,
+    /// `diff`: how far it is from one day to another.
+    Diff,
+    /// `seq`: the days from one to another.
+    Seq,
+    /// `week`: the days of a week.
+    Week,
+    /// `easter`: Easter Sunday of a year.
+    Easter,
+    /// `leap`: whether a year is a leap year.
+    Leap,
+    /// `check`: the lines of a file that are no days.
+    Check,
+}
+
+// The command that the word names.
+#[tactic(auto, unfolding(crate::specs::Requests::command_named))]
+pub(crate) fn command_named(word: &[u8]) -> Option<Command>
+    ensures { result ≡ command_named word.now }
+{
+    match word {
+        b"-" => Some(Command::Lines),
+        b"--help" => Some(Command::Help),
+        b"--version" => Some(Command::Version),
+        b"add" => Some(Command::Add),
+        b"diff" => Some(Command::Diff),
+        b"seq" => Some(Command::Seq),
+        b"week" => Some(Command::Week),
+        b"easter" => Some(Command::Easter),
+        b"leap" => Some(Command::Leap),
+        b"check" => Some(Command::Check),
+        _ => None,
+    }
+}

@@ -1,0 +1,270 @@
+//! The request that arguments make.
+ghost use Rattle.std.specs.Prelude.{◌≡◌, ◌∷◌, [], ℤ, Ok, Some, IfOk, IfSome, IfNone, All, true, false, codes};
+ghost use Rattle.dates_request.specs.declared.request.Request.{Request};
+ghost use Rattle.dates_request.specs.declared.request.Request.TheVariants as request;
+ghost use Rattle.dates_request.specs.declared.command.Command.TheVariants as command;
+ghost use Rattle.dates_request.specs.Requests.{AsksFor, HasArguments, IsAdd, IsAlone, IsCheck, IsDay, IsDistance, IsEaster, IsLeap, IsOfTwoDays, IsRequest, IsSequence, IsWeek, WritesSpan, texts};
+
+use crate::command::{Command, command_named};
+use crate::day::NoDay;
+use crate::request::Request;
+use crate::span::read_span;
+use crate::word::{day_at, span_at, unit_at, week_at, year_at};
+use crate::wrong::{Why, Wrong};
+use chrono_datetime::NaiveDate;
+
+/// What the words behind the program's name ask for, or which of them is wrong and why.
+///
+/// None ask for the lines of the input; a word that is no command has to be a day and the only one.
+pub fn read_request(words: &[&[u8]]) -> Result<Request, Wrong>
+    ensures read { IfOk result (λ r. IsRequest (texts words.now) r) }
+    ensures every { (r : Request) → IsRequest (texts words.now) r → result ≡ Ok r }
+{
+    let [first, rest @ ..] = words else {
+        return Ok(Request::Lines);
+    };
+    match command_named(first) {
+        Some(command) => arguments(command, rest),
+        None => one_day(first, rest),
+    }
+}
+
+// A day, where the first word is no command.
+fn one_day(first: &[u8], rest: &[&[u8]]) -> Result<Request, Wrong>
+    ensures read { IfOk result (λ r. IsDay first.now (texts rest.now) r) }
+    ensures every { (r : Request) → IsDay first.now (texts rest.now) r → result ≡ Ok r }
+{
+    let date = day_at(1, first)?;
+    if rest.is_empty() {
+        Ok(Request::Day { date })
+    } else {
+        Err(wrong_at(2, Why::End))
+    }
+}
+
+// What a command asks for with the words behind it.
+fn arguments(command: Command, words: &[&[u8]]) -> Result<Request, Wrong>
+    ensures read { IfOk result (λ r. HasArguments command (texts words.now) r) }
+    ensures every { (r : Request) → HasArguments command (texts words.now) r → result ≡ Ok r }
+{
+    match command {
+        Command::Lines => alone(words, Request::Lines),
+        Command::Help => alone(words, Request::Help),
+        Command::Version => alone(words, Request::Version),
+        Command::Add => add(words),
+        Command::Diff => diff(words),
+        Command::Seq => seq(words),
+        Command::Week => week(words),
+        Command::Easter => easter(words),
+        Command::Leap => leap(words),
+        Command::Check => check(words),
+    }
+}
+
+// That request, if no word follows.
+fn alone(words: &[&[u8]], asked: Request) -> Result<Request, Wrong>
+    ensures read { IfOk result (λ r. IsAlone (texts words.now) asked r) }
+    ensures every { (r : Request) → IsAlone (texts words.now) asked r → result ≡ Ok r }
+{
+    if words.is_empty() {
+        Ok(asked)
+    } else {
+        Err(wrong_at(2, Why::End))
+    }
+}
+
+// A day and spans.
+fn add(words: &[&[u8]]) -> Result<Request, Wrong>
+    ensures read { IfOk result (λ r. IsAdd (texts words.now) r) }
+    ensures every { (r : Request) → IsAdd (texts words.now) r → result ≡ Ok r }
+{
+    let [day, spans @ ..] = words else {
+        return Err(wrong_at(2, NO_DAY));
+    };
+    let date = day_at(2, day)?;
+    match place_of_no_span(spans) {
+        Some(place) => Err(wrong_at(place.saturating_add(3), Why::Span)),
+        None => Ok(Request::Add { date }),
+    }
+}
+
+// The place of the first word that writes no span, from 0 on.
+fn place_of_no_span(words: &[&[u8]]) -> Option<usize>
+    ensures some { IfSome result (λ place. All WritesSpan (texts words.now) → ⊥) }
+    ensures none { IfNone result (All WritesSpan (texts words.now)) }
+{
+    for place in 0..words.len() {
+        if !writes_span(words[place]) {
+            return Some(place);
+        }
+    }
+    None
+}
+
+// Whether the word writes a span.
+fn writes_span(word: &[u8]) -> bool
+    ensures yes { result ≡ true → WritesSpan word.now }
+    ensures no { result ≡ false → WritesSpan word.now → ⊥ }
+{
+    match read_span(word) {
+        Some(_) => true,
+        None => false,
+    }
+}
+
+// Two days, and `in` and a unit where they follow.
+fn diff(words: &[&[u8]]) -> Result<Request, Wrong>
+    ensures read { IfOk result (λ r. IsOfTwoDays IsDistance (texts words.now) r) }
+    ensures every { (r : Request) → IsOfTwoDays IsDistance (texts words.now) r → result ≡ Ok r }
+{
+    let [first, second, rest @ ..] = words else {
+        return Err(too_few_days(words));
+    };
+    let from = day_at(2, first)?;
+    let to = day_at(3, second)?;
+    distance(from, to, rest)
+}
+
+// How far it is from one day to another, by what stands behind them.
+fn distance(from: NaiveDate, to: NaiveDate, words: &[&[u8]]) -> Result<Request, Wrong>
+    ensures read { IfOk result (λ r. IsDistance (texts words.now) from to r) }
+    ensures every { (r : Request) → IsDistance (texts words.now) from to r → result ≡ Ok r }
+{
+    match words {
+        [] => Ok(Request::Distance { from, to }),
+        [word, letter] => {
+            if !is_in(word) {
+                return Err(wrong_at(4, Why::In));
+            }
+            let unit = unit_at(5, letter)?;
+            Ok(Request::DistanceIn { from, to, unit })
+        }
+        [word] => Err(after_in(word)),
+        [_, _, ..] => Err(wrong_at(6, Why::End)),
+    }
+}
+
+// Whether the word is `in`.
+fn is_in(word: &[u8]) -> bool
+    ensures yes { result ≡ true → word.now ≡ codes "in" }
+    ensures no { result ≡ false → word.now ≡ codes "in" → ⊥ }
+{
+    match word {
+        b"in" => true,
+        _ => false,
+    }
+}
+
+// The fault where one word stands behind two days: it is not `in`, or no unit follows it.
+fn after_in(word: &[u8]) -> Wrong {
+    if is_in(word) {
+        wrong_at(5, Why::Unit)
+    } else {
+        wrong_at(4, Why::In)
+    }
+}
+
+// Two days, and a span where one follows.
+fn seq(words: &[&[u8]]) -> Result<Request, Wrong>
+    ensures read { IfOk result (λ r. IsOfTwoDays IsSequence (texts words.now) r) }
+    ensures every { (r : Request) → IsOfTwoDays IsSequence (texts words.now) r → result ≡ Ok r }
+{
+    let [first, second, rest @ ..] = words else {
+        return Err(too_few_days(words));
+    };
+    let from = day_at(2, first)?;
+    let to = day_at(3, second)?;
+    sequence(from, to, rest)
+}
+
+// The days from one to another, by what stands behind them.
+fn sequence(from: NaiveDate, to: NaiveDate, words: &[&[u8]]) -> Result<Request, Wrong>
+    ensures read { IfOk result (λ r. IsSequence (texts words.now) from to r) }
+    ensures every { (r : Request) → IsSequence (texts words.now) from to r → result ≡ Ok r }
+{
+    match words {
+        [] => Ok(Request::Sequence { from, to }),
+        [span] => {
+            let step = span_at(4, span)?;
+            Ok(Request::SequenceBy { from, to, step })
+        }
+        _ => Err(wrong_at(5, Why::End)),
+    }
+}
+
+// The fault where two days are wanted and fewer words follow: the first is no day, or one is missing.
+fn too_few_days(words: &[&[u8]]) -> Wrong {
+    let Some(first) = words.first() else {
+        return wrong_at(2, NO_DAY);
+    };
+    match day_at(2, first) {
+        Ok(_) => wrong_at(3, NO_DAY),
+        Err(wrong) => wrong,
+    }
+}
+
+// A week.
+fn week(words: &[&[u8]]) -> Result<Request, Wrong>
+    ensures read { IfOk result (λ r. IsWeek (texts words.now) r) }
+    ensures every { (r : Request) → IsWeek (texts words.now) r → result ≡ Ok r }
+{
+    let [only] = words else {
+        return Err(not_one(words, Why::Week));
+    };
+    let first = week_at(2, only)?;
+    Ok(Request::Week { first })
+}
+
+// A year, of which Easter is asked.
+fn easter(words: &[&[u8]]) -> Result<Request, Wrong>
+    ensures read { IfOk result (λ r. IsEaster (texts words.now) r) }
+    ensures every { (r : Request) → IsEaster (texts words.now) r → result ≡ Ok r }
+{
+    let [only] = words else {
+        return Err(not_one(words, Why::Year));
+    };
+    let year = year_at(2, only)?;
+    Ok(Request::Easter { year })
+}
+
+// A year, of which it is asked whether it is a leap year.
+fn leap(words: &[&[u8]]) -> Result<Request, Wrong>
+    ensures read { IfOk result (λ r. IsLeap (texts words.now) r) }
+    ensures every { (r : Request) → IsLeap (texts words.now) r → result ≡ Ok r }
+{
+    let [only] = words else {
+        return Err(not_one(words, Why::Year));
+    };
+    let year = year_at(2, only)?;
+    Ok(Request::Leap { year })
+}
+
+// The name of a file.
+fn check(words: &[&[u8]]) -> Result<Request, Wrong>
+    ensures read { IfOk result (λ r. IsCheck (texts words.now) r) }
+    ensures every { (r : Request) → IsCheck (texts words.now) r → result ≡ Ok r }
+{
+    let [file] = words else {
+        return Err(not_one(words, Why::File));
+    };
+    if file.is_empty() {
+        return Err(wrong_at(2, Why::File));
+    }
+    Ok(Request::Check)
+}
+
+// The fault where one word is wanted, and none follows or more do.
+fn not_one(words: &[&[u8]], why: Why) -> Wrong {
+    if words.is_empty() {
+        wrong_at(2, why)
+    } else {
+        wrong_at(3, Why::End)
+    }
+}
+
+fn wrong_at(place: usize, why: Why) -> Wrong {
+    Wrong { place, why }
+}
+
+// What was expected where a day is missing.
+const NO_DAY: Why = Why::Day(NoDay::Form);

@@ -1,0 +1,74 @@
+//! `Request`: what the arguments ask for.
+
+use crate::span::{Span, Unit};
+use chrono_datetime::NaiveDate;
+
+/// What the arguments ask for.
+#[derive(Clone, Copy, Debug, PartialEq, Eq)]
+pub enum Request {
+    /// Each line of standard input, by all names of its day.
+    Lines,
+    /// How the program is used.
+    Help,
+    /// Which version it is.
+    Version,
+    /// A day by all its names.
+    Day {
+        /// The day.
+        date: NaiveDate,
+    },
+    /// A day moved by the spans that the words from the third on write.
+    Add {
+        /// The day.
+        date: NaiveDate,
+    },
+    /// The days from one day to another.
+    Distance {
+        /// The first day.
+        from: NaiveDate,
+        /// The second day.
+        to: NaiveDate,
+    },
+    /// How many whole units lie between two days.
+    DistanceIn {
+        /// The first day.
+        from: NaiveDate,
+        /// The second day.
+        to: NaiveDate,
+        /// The unit.
+        unit: Unit,
+    },
+    /// The days from one to another, day by day, back where the second is the earlier.
+    Sequence {
+        /// The first day.
+        from: NaiveDate,
+        /// The last day.
+        to: NaiveDate,
+    },
+    /// The days from one to another by a span.
+    SequenceBy {
+        /// The first day.
+        from: NaiveDate,
+        /// The day that none is past.
+        to: NaiveDate,
+        /// The span.
+        step: Span,
+    },
+    /// The first and the last day of a week.
+    Week {
+        /// Its Monday.
+        first: NaiveDate,
+    },
+    /// Easter Sunday of a year.
+    Easter {
+        /// The year.
+        year: i32,
+    },
+    /// Whether a year is a leap year.
+    Leap {
+        /// The year.
+        year: i32,
+    },
+    /// The lines of a file that are no days: the file that the second word names.
+    Check,
+}

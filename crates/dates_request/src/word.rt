@@ -1,0 +1,97 @@
+//! One argument, at its place: a day, a span, a year, a week or a unit.
+ghost use Rattle.std.specs.Prelude.{◌≡◌, ℤ, Ok, Some, IfOk, IfSome, IfNone, None};
+ghost use Rattle.dates_request.specs.SpanTexts.{IsSpanText};
+ghost use Rattle.dates_request.specs.Requests.{IsWeekText, IsYearText, NamesDay, unit_word};
+ghost use Rattle.dates_request.specs.declared.span.Span.{Span};
+ghost use Rattle.dates_request.specs.declared.span.Unit.{Unit};
+
+use crate::day::read_day;
+use crate::span::{Span, Unit, read_span};
+use crate::week::read_week;
+use crate::wrong::{Why, Wrong};
+use chrono_datetime::NaiveDate;
+use chrono_text::read_year;
+
+// The day that the word at this place names.
+pub(crate) fn day_at(place: usize, word: &[u8]) -> Result<NaiveDate, Wrong>
+    ensures read { IfOk result (λ n. NamesDay word.now n) }
+    ensures every { (n : ℤ) → NamesDay word.now n → result ≡ Ok n }
+{
+    match read_day(word) {
+        Ok(date) => Ok(date),
+        Err(why) => Err(Wrong {
+            place,
+            why: Why::Day(why),
+        }),
+    }
+}
+
+// The span that the word at this place writes.
+pub(crate) fn span_at(place: usize, word: &[u8]) -> Result<Span, Wrong>
+    ensures read { IfOk result (λ s. IsSpanText word.now s) }
+    ensures every { (s : Span) → IsSpanText word.now s → result ≡ Ok s }
+{
+    match read_span(word) {
+        Some(span) => Ok(span),
+        None => Err(Wrong {
+            place,
+            why: Why::Span,
+        }),
+    }
+}
+
+// The year that the word at this place writes.
+pub(crate) fn year_at(place: usize, word: &[u8]) -> Result<i32, Wrong>
+    ensures read { IfOk result (λ y. IsYearText word.now y) }
+    ensures every { (y : ℤ) → IsYearText word.now y → result ≡ Ok y }
+{
+    match read_year(word) {
+        Some(year) => Ok(year),
+        None => Err(Wrong {
+            place,
+            why: Why::Year,
+        }),
+    }
+}
+
+// The Monday of the week that the word at this place names.
+pub(crate) fn week_at(place: usize, word: &[u8]) -> Result<NaiveDate, Wrong>
+    ensures read { IfOk result (λ n. IsWeekText word.now n) }
+    ensures every { (n : ℤ) → IsWeekText word.now n → result ≡ Ok n }
+{
+    match read_week(word) {
+        Some(first) => Ok(first),
+        None => Err(Wrong {
+            place,
+            why: Why::Week,
+        }),
+    }
+}
+
+// The unit that the word at this place names.
+pub(crate) fn unit_at(place: usize, word: &[u8]) -> Result<Unit, Wrong>
+    ensures read { IfOk result (λ u. unit_word word.now ≡ Some u) }
+    ensures every { (u : Unit) → unit_word word.now ≡ Some u → result ≡ Ok u }
+{
+    match unit_word(word) {
+        Some(unit) => Ok(unit),
+        None => Err(Wrong {
+            place,
+            why: Why::Unit,
+        }),
+    }
+}
+
+// The unit whose letter the word is.
+#[tactic(auto, unfolding(crate::specs::Requests::unit_word))]
+fn unit_word(word: &[u8]) -> Option<Unit>
+    ensures { result ≡ unit_word word.now }
+{
+    match word {
+        b"d" => Some(Unit::Days),
+        b"w" => Some(Unit::Weeks),
+        b"m" => Some(Unit::Months),
+        b"y" => Some(Unit::Years),
+        _ => None,
+    }
+}

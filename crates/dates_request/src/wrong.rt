@@ -1,0 +1,33 @@
+//! `Wrong`: which argument is wrong, and why.
+
+use crate::day::NoDay;
+
+/// Which argument is wrong, and why.
+#[derive(Clone, Copy, Debug, PartialEq, Eq)]
+pub struct Wrong {
+    /// Its place, from 1 on; the place behind the last where one is missing.
+    pub place: usize,
+    /// What was expected there.
+    pub why: Why,
+}
+
+/// What was expected of an argument.
+#[derive(Clone, Copy, Debug, PartialEq, Eq)]
+pub enum Why {
+    /// A day, or at the first place a command; and why it is no day.
+    Day(NoDay),
+    /// A span.
+    Span,
+    /// A year.
+    Year,
+    /// A week.
+    Week,
+    /// A unit: d, w, m or y.
+    Unit,
+    /// The word `in`.
+    In,
+    /// The name of a file.
+    File,
+    /// No further argument.
+    End,
+}
