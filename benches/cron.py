@@ -5,7 +5,8 @@
 
 It needs crates/cron_rows/out/cron_rows, which `rt run` leaves there. A row `year` of it finds the next due moment after each of the
 525,600 minutes of 365 days; what a row costs beyond one that only asks whether a moment is due, divided by them, is the time of a
-call, the making of the start and the sum included. The best of seven runs counts, by processor time. The schedules that are due
+call, the making of the start and the sum included. A row `walk` of it does the same by trying one day of `iter_days` after another, but for a
+schedule that is never due, for which that goes to the end of the calendar. The best of seven runs counts, by processor time. The schedules that are due
 seldom begin a search at most of these starts, and the others mostly find the day's next minute.
 """
 import os
@@ -70,6 +71,9 @@ def main():
         idle = seconds_of(f"due {words} {FIRST} 0 0")
         nanos = (seconds_of(f"year {words} {FIRST} 0 0") - idle) / MINUTES * 1e9
         line = f"{text:20} {nanos:8.1f} ns a call"
+        if not Schedule(text).is_never:
+            walk = (seconds_of(f"walk {words} {FIRST} 0 0") - idle) / MINUTES * 1e9
+            line += f"; a walk {walk:,.1f} ns, {walk / nanos:,.2f} times as long"
         if with_croniter:
             other = croniter_nanos(text)
             line += "; croniter has no answer" if other is None else f"; croniter {other:,.0f} ns, {other / nanos:,.0f} times as long"

@@ -11,7 +11,8 @@ each day whether it is open and how many open days lie before it; all other call
 queries of `busday_offset`, with each of its rolls, and of `busday_count`. Day counts are held to the texts of ISDA 2006,
 4.16(b), (e), (f) and (g), in calendar fields of `datetime`, the days of leap years one by one. Lists of holidays that are none are refused
 with what is wrong first. Easter is held to the method of Meeus, Jones and Butcher over 200,000 years, and from 326 to 4099 to dateutil
-where it is installed; each holiday of the given calendars up to 2049 to a reading of its own here.
+where it is installed; each holiday of the given calendars up to 2049 to a reading of its own here, and so are the holidays of random rules in random years,
+listed with room for them or too little, lists without weekends, and two random calendars joined.
 
 It needs crates/business_rows/out/business_rows, which `rt run` and `rt ci` leave there.
 """
@@ -336,6 +337,87 @@ def by_dateutil():
         yield f"easter 1 {year} = {dateutil_easter(year).toordinal()}"
 
 
+# ---- lists of holidays
+
+MOVES = {"stays": (0, 0), "sunday_to_monday": (0, 1), "to_monday": (2, 1), "to_nearer": (-1, 1), "two_days_on": (2, 2)}
+
+
+def random_rule(chance):
+    """A rule as the words of a row: its kind, three numbers, where it goes from a weekend, and its years."""
+    kind = chance.choice(("fixed", "fixed", "nth", "last", "easter"))
+    first = chance.randrange(-60, 60) if kind == "easter" else chance.randrange(0, 7)
+    second = chance.choice((chance.randrange(1, 32), 29, 31, 1)) if kind == "fixed" else chance.randrange(7)
+    years = sorted(chance.randrange(1990, 2040) for _ in range(2))
+    return kind, first, second, chance.randrange(12), chance.choice(list(MOVES)), *years
+
+
+def named(rule, year):
+    """The date that a rule names in a year, or None."""
+    kind, first, second, month = rule[:4]
+    if kind == "easter":
+        return Date.fromordinal(easter(year) + first)
+    if kind == "fixed":
+        return Date(year, month + 1, second) if 1 <= second <= months.monthrange(year, month + 1)[1] else None
+    days = weekdays_of_month(year, month + 1, second)
+    place = len(days) if kind == "last" else first
+    return days[place - 1] if 1 <= place <= len(days) else None
+
+
+def holidays_of(rules, first, last, week):
+    """The workdays on which the rules fall in the years, in order."""
+    found = set()
+    for rule in rules:
+        for year in range(max(first, rule[5]), min(last, rule[6]) + 1):
+            date = named(rule, year)
+            if date is not None:
+                found.add(moved(date, *MOVES[rule[4]]).toordinal())
+    return sorted(it for it in found if week[(it - 1) % 7] == "1")
+
+
+def weighed(days):
+    return sum(place * it for place, it in enumerate(days, 1))
+
+
+def with_room(chance, days, answer):
+    """A room for the days, or one that is too small, and what is answered then."""
+    if days and chance.random() < 0.3:
+        return chance.choice((len(days) - 1, chance.randrange(len(days)))), "none"
+    return chance.choice((len(days), len(days) + chance.randrange(20))), answer
+
+
+def lists(chance, count):
+    """Rows of holidays by random rules, of lists without weekends, and of two calendars joined."""
+    for _ in range(count):
+        week, other = ("".join(chance.choice("0111") for _ in range(7)) for _ in range(2))
+        rules = [random_rule(chance) for _ in range(chance.randrange(12))]
+        yield f"calendar {week}"
+        yield "rules"
+        for rule in rules:
+            yield "rule " + " ".join(map(str, rule))
+        for _ in range(4):
+            first = chance.randrange(1985, 2045)
+            last = first + chance.randrange(-2, 30)
+            days = holidays_of(rules, first, last, week)
+            room, answer = with_room(chance, days, weighed(days))
+            yield f"listed {first} {last} {room} = {answer}"
+        days = sorted({chance.randrange(738_000, 738_400) for _ in range(chance.randrange(90))})
+        if chance.random() < 0.3:
+            chance.shuffle(days)
+        yield " ".join(["calendar", week, *map(str, days)])
+        yield f"left = {weighed([it for it in days if week[(it - 1) % 7] == '1'])}"
+        low, high = 737_900, 738_500
+        first, second = (Calendar(it, [chance.randrange(738_000, 738_400) for _ in range(chance.randrange(90))], low, high) for it in (week, other))
+        both = sorted(it for it in {*first.holidays, *second.holidays} if week[(it - 1) % 7] == other[(it - 1) % 7] == "1")
+        yield first.row()
+        yield second.row().replace("calendar", "other", 1)
+        for _ in range(4):
+            start, end = chance.randrange(low, high), chance.randrange(low, high)
+            opened = [it for it in first.open if it in second.is_open]
+            number = bisect.bisect_left(opened, end) - bisect.bisect_left(opened, start)
+            room, answer = with_room(chance, both, number)
+            yield f"joined {start} {end} {room} = {answer}"
+
+
 # Rows of a page, not of this walk: federal holidays of 2024 and 2025, and the ends of the calendar.
 KNOWN = """count 738886 739252 = 251
 add 739244 1 = 739246
@@ -380,6 +462,7 @@ def main():
     few += day_counts(chance, 100)
     few += refused(chance, 60)
     few += [made[1].row(), *by_rules(), *easters(1900, 2100)]
+    few += lists(chance, 40)
     if given.write:
         with open(STDIN, "w", encoding="utf-8") as it:
             it.write("\n".join(few) + "\n")
@@ -397,6 +480,7 @@ def main():
         print("not run: the rows of dateutil, since there is no dateutil")
     else:
         parts["dateutil"] = [made[1].row(), *by_dateutil()]
+    parts["random rules, lists and joined calendars"] = [*lists(chance, 1_000)]
     parts["random questions"] = [row for it in made for row in (it.row(), *questions(chance, it, 500))]
     if numpy is None:
         print("not run: the rows of numpy, since there is no numpy")

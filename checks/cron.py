@@ -1,7 +1,7 @@
 #!/usr/bin/env python3
 """Holds chrono_cron to a second reading of schedules, which tries days and minutes one after another.
 
-    checks/cron.py [--rows N] [--seed N]      (20,000 generated rows from seed 1, if left out)
+    checks/cron.py [--rows N] [--seed N]      (20,000 generated rows, and ten times as many texts of fields, from seed 1, if left out)
     checks/cron.py --write                    (crates/cron_rows/stdin made again)
 
 A schedule is read here from its text of five fields, and a moment is due by the definition: its month, its hour and its minute are
@@ -13,6 +13,10 @@ no day passes in 400 years, in which days and weekdays come again, is never due.
 The rows of crates/cron_rows/stdin are held to it, some answers that are written out, and generated ones: schedules with wide and with narrow fields, starts at
 both ends of the calendar, in leap seconds, at due moments and beside them; and for twelve schedules the next moment after every minute of
 a year, and all that the iterator gives, held to the minutes of a year that are due by the definition.
+
+Texts of fields, and texts near to these, are read here by a grammar of its own, which spells each number of the field, and the sets are held to those that
+`read_field` reads. The text of a schedule is written here a second time; each that tells its schedule is read back here, by a reader of whole texts with
+names, nicknames and named days, and has to give the same sets.
 """
 import argparse
 import os
@@ -30,6 +34,13 @@ PROGRAM = os.path.join(TOP, "crates", "cron_rows", "out", "cron_rows")
 
 FIELDS = ((0, 59), (0, 23), (1, 31), (1, 12), (0, 7))
 CYCLE = 146_097
+MONTHS = "jan feb mar apr may jun jul aug sep oct nov dec".split()
+WEEKDAYS = "sun mon tue wed thu fri sat".split()
+# The names of a field's numbers, and the number of the first.
+NAMES = {"numbers": ([], 0), "months": (MONTHS, 1), "weekdays": (WEEKDAYS, 0)}
+FIELD_NAMES = ("numbers", "numbers", "numbers", "months", "weekdays")
+NICKNAMES = {"@yearly": "0 0 1 1 *", "@annually": "0 0 1 1 *", "@monthly": "0 0 1 * *", "@weekly": "0 0 * * 0"}
+NICKNAMES |= {"@daily": "0 0 * * *", "@midnight": "0 0 * * *", "@hourly": "0 * * * *"}
 
 # Texts of crontab(5)'s manual page, and days that are rare, late or never.
 KNOWN = (
@@ -67,6 +78,16 @@ KNOWN = (
     "0 0 1,LW * 1#1,7L",
     "45 23 L * */2",
 )
+# Texts of single fields, by the place of the field: those of the manual page, and some that are none.
+FIELD_TEXTS = (
+    (0, "*/5 1-5,10-20/5 0-59 00 59 60 5, ,5 5-3 5/2 */0 */99 */100 005 -5 5- 1-2-3 * ** *,* +5 1,,2"),
+    (1, "0-23/2 1,2,3 0-4,8-12 0-23 24 8-11 23-24"),
+    (2, "8-14 1,15 0 31 32 1-31/2 */7 mon"),
+    (3, "jan DEC jan-mar Jan,Jul 1-12/3 0 13 sun january j 1-mar jan-feb-mar */jan"),
+    (4, "sun mon-fri MON,wed 5-7 fri-7 sat-sun fri-sun 7 8 0-7 1-5 tues */2 jan"),
+)
+# Schedules that are due seldom, of which 400 years are gone through: of the first, all leap days.
+CYCLES = ("0 0 29 2 *", "0 0 29 2 1", "0 0 13 * 5", "59 23 31 12 *", "0 0 * 2 1#5", "0 0 LW 2 *")
 YEARS = KNOWN[:1] + KNOWN[3:4] + KNOWN[7:11] + KNOWN[12:14] + KNOWN[17:19] + KNOWN[26:27] + KNOWN[31:32]
 # Items that name days: of the field of days, and of that of weekdays.
 NAMED = re.compile(r"L(?:-\d+)?|LW|\d+W|\dL|\d#\d")
@@ -80,6 +101,182 @@ def numbers_of(text, low, high):
         first, last = (low, high) if span == "*" else (int(it) for it in (span.split("-") * 2)[:2])
         listed |= set(range(first, last + 1, int(step or 1)))
     return listed
+
+
+def spellings(low, high, names):
+    """Which number of a range each text spells: in one digit or two, or by its name in small letters."""
+    listed, first = NAMES[names]
+    found = {}
+    for number in range(low, high + 1):
+        found[str(number)] = found[f"{number:02}"] = number
+        if first <= number < first + len(listed):
+            found[listed[number - first]] = number
+    return found
+
+
+def item_numbers(item, low, high, names):
+    """The numbers that an item of a field lists, or None if it is none: `*`, a number, a range, or steps through one of the last two kinds of span."""
+    spelled = spellings(low, high, names)
+    span, slash, step = item.partition("/")
+    if slash and step not in spellings(1, 99, "numbers"):
+        return None
+    if span == "*":
+        first, last = low, high
+    elif "-" in span:
+        first, _, last = span.partition("-")
+        first, last = spelled.get(first.lower(), high + 1), spelled.get(last.lower(), -1)
+    else:
+        first = last = spelled.get(span.lower(), -1) if not slash else -1
+    if not low <= first <= last <= high:
+        return None
+    return {it for it in range(first, last + 1) if (it - first) % int(step or 1) == 0}
+
+
+def field_numbers(text, low, high, names):
+    """The numbers that a field lists, or None if its text is no field."""
+    items = [item_numbers(it, low, high, names) for it in text.split(",")]
+    return None if None in items else set().union(*items)
+
+
+def named_number(item, place):
+    """What an item of the field of days (2) or of weekdays (4) names, as the set it belongs to and a number there, or None."""
+    small, days, weekdays = item.lower(), spellings(1, 31, "numbers"), spellings(0, 7, "weekdays")
+    if place == 2:
+        if small in ("l", "lw"):
+            return ("ends", 0) if small == "l" else ("last", 0)
+        if small[:2] == "l-" and small[2:] in spellings(1, 30, "numbers"):
+            return "ends", int(small[2:])
+        return ("nearest", days[small[:-1]]) if small[-1:] == "w" and small[:-1] in days else None
+    if small[-1:] == "l" and small[:-1] in weekdays:
+        return "lasts", weekdays[small[:-1]] % 7
+    day, mark, nth = small.partition("#")
+    if mark and day in weekdays and nth in spellings(1, 5, "numbers"):
+        return "nths", 7 * (int(nth) - 1) + weekdays[day] % 7
+    return None
+
+
+def read_schedule(text):
+    """The eleven numbers of the schedule that a text tells, as a row has them, or None if the text is none."""
+    words = [it for it in re.split("[ \t]", text) if it]
+    if len(words) == 1:
+        words = NICKNAMES.get(words[0], words[0]).split()
+    if len(words) != 5:
+        return None
+    sets, named = [], {"ends": set(), "nearest": set(), "last": set(), "lasts": set(), "nths": set()}
+    for place, word in enumerate(words):
+        plain = []
+        for item in word.split(","):
+            found = named_number(item, place) if place in (2, 4) else None
+            if found:
+                named[found[0]].add(found[1])
+            else:
+                plain.append(item)
+        numbers = [item_numbers(it, *FIELDS[place], FIELD_NAMES[place]) for it in plain]
+        if None in numbers:
+            return None
+        sets.append(set().union(*numbers))
+    sets[4] = {it % 7 for it in sets[4]}
+    either = words[2][0] != "*" and words[4][0] != "*"
+    return row_words(sets, named["ends"], named["nearest"], named["lasts"], named["nths"], bool(named["last"]), either)
+
+
+def row_words(sets, ends, nearest, lasts, nths, last, either):
+    """A schedule as the numbers of a row: each set as the number whose binary digits are its members."""
+    words = [str(sum(1 << it for it in numbers)) for numbers in (*sets, ends, nearest, lasts, nths)]
+    return " ".join([*words, str(int(last)), str(int(either))])
+
+
+def written(words):
+    """The text of the schedule that the numbers of a row tell, as it is to be written."""
+    *digits, last, either = map(int, words.split())
+    minutes, hours, days, months, weekdays, ends, nearest, lasts, nths = ([it for it in range(64) if number >> it & 1] for number in digits)
+    full = [set(range(low, min(high, 6 if low == 0 and high == 7 else high) + 1)) <= set(it) for (low, high), it in zip(FIELDS, (minutes, hours, days, months, weekdays))]
+    by_day, by_weekday = full[2], full[4]
+    if not by_day and not by_weekday:
+        by_day = 1 in days
+        by_weekday = not by_day and 0 in weekdays
+    texts = []
+    for place, (numbers, starred) in enumerate(((minutes, full[0]), (hours, full[1]), (days, by_day and not either), (months, full[3]), (weekdays, by_weekday and not either))):
+        low, high = FIELDS[place] if place < 4 else (0, 6)
+        items, numbers = [], [it for it in numbers if low <= it <= high]
+        if starred:
+            items = ["*" if full[place] else f"*/{high - low + 1}"]
+        if items != ["*"]:
+            begins = [it for it in numbers if it - 1 not in numbers]
+            stops = [it for it in numbers if it + 1 not in numbers]
+            items += [f"{first}" if first == stop else f"{first}-{stop}" for first, stop in zip(begins, stops)]
+        if place == 2:
+            items += ["L" if it == 0 else f"L-{it}" for it in ends if it < 31] + ["LW"] * last + [f"{it}W" for it in nearest if 1 <= it <= 31]
+        if place == 4:
+            items += [f"{it}L" for it in lasts if it < 7] + [f"{it % 7}#{it // 7 + 1}" for it in nths if it < 35]
+        texts.append(",".join(items))
+    return " ".join(texts)
+
+
+def mutated(chosen, text):
+    """A text that is near to another: bytes taken away, put in, doubled or turned, or two texts mixed."""
+    text = list(text)
+    for _ in range(chosen.choice((0, 1, 1, 1, 2, 3))):
+        place = chosen.randrange(len(text) + 1)
+        kind = chosen.randrange(4)
+        if kind == 0:
+            del text[place : place + 1]
+        elif kind == 1:
+            text.insert(place, chosen.choice("0123456789*-/,#LWljanfrisu@?~ "))
+        elif kind == 2:
+            text[place : place + 1] = chosen.choice(("*", "/", "-", ",", "0", "7", "31", "60", "00", "jan", "SUN", "L", "W"))
+        elif text:
+            turned = text[place % len(text)]
+            text[place % len(text)] = turned.swapcase() if turned.isalpha() else chr(ord(turned) ^ 1)
+    return "".join(text)
+
+
+def field_row(place, text):
+    low, high = FIELDS[place]
+    numbers = field_numbers(text, low, high, FIELD_NAMES[place])
+    answer = "none" if numbers is None else sum(1 << it for it in numbers)
+    return f"field {low} {high} {FIELD_NAMES[place]} {text} = {answer}"
+
+
+def field_rows(count, seed):
+    """Rows of texts of fields and of texts near to these; of these the number that are fields."""
+    chosen, rows, fields = random.Random(seed), [], 0
+    while len(rows) < count:
+        place = chosen.randrange(5)
+        text = field_text(chosen, *FIELDS[place])
+        if place > 2:
+            listed, first = NAMES[FIELD_NAMES[place]]
+            text = re.sub(r"(?<![/\d])\d+", lambda it: listed[int(it[0]) - first] if int(it[0]) < first + len(listed) and chosen.random() < 0.5 else it[0], text)
+        text = mutated(chosen, text).replace(" ", "")
+        rows.append(field_row(place, text))
+        fields += not rows[-1].endswith("none")
+    return rows, fields
+
+
+def is_told(words):
+    """Whether a text tells the schedule of a row: no field is empty, and where both fields of days have to match, one can begin with `*`."""
+    *digits, last, either = map(int, words.split())
+    minutes, hours, days, months, weekdays, ends, nearest, lasts, nths = digits
+    some = minutes and hours and months and (days or ends or nearest or last) and (weekdays or lasts or nths)
+    return bool(some and (either or days == 2**32 - 2 or days & 2 or weekdays & 1))
+
+
+def text_rows(count, seed):
+    """Rows of schedules and their texts: of schedules that texts tell, and of any sets. Each text that tells its schedule is read back here."""
+    chosen, rows, back = random.Random(seed), [], 0
+    while len(rows) < count:
+        words = Schedule(schedule_text(chosen), False).words()
+        if chosen.random() < 0.5:
+            sets = [{it for it in range(low, min(high, 6 if high == 7 else high) + 1) if chosen.random() < wide} for (low, high), wide in zip(FIELDS, [chosen.choice((0.03, 0.3, 0.9, 1)) for _ in FIELDS])]
+            named = [{it for it in range(first, last) if chosen.random() < rare} for (first, last), rare in zip(((0, 31), (1, 32), (0, 7), (0, 35)), [chosen.choice((0, 0, 0.1, 0.9)) for _ in range(4)])]
+            words = row_words(sets, *named, chosen.random() < 0.3, chosen.random() < 0.5)
+        text = written(words)
+        if is_told(words):
+            back += 1
+            if read_schedule(text) != words:
+                sys.exit(f"{text}: is read back as {read_schedule(text)}, and not as {words}")
+        rows.append(f"text {words} = {text}")
+    return rows, back
 
 
 def month_of(day):
@@ -112,7 +309,7 @@ def named_day(item, days):
 class Schedule:
     """A schedule by its text."""
 
-    def __init__(self, text):
+    def __init__(self, text, whole=True):
         fields = text.split()
         self.named = [[it for it in fields[place].split(",") if NAMED.fullmatch(it)] for place in (2, 4)]
         self.months = {}
@@ -122,7 +319,7 @@ class Schedule:
         fields = text.split()
         self.either = not fields[2].startswith("*") and not fields[4].startswith("*")
         self.minutes = [it for it in range(1440) if it // 60 in self.sets[1] and it % 60 in self.sets[0]]
-        self.is_never = not any(self.is_day(it) for it in range(1, CYCLE + 1))
+        self.is_never = whole and not any(self.is_day(it) for it in range(1, CYCLE + 1))
 
     def words(self):
         by_day, by_weekday = self.named
@@ -130,8 +327,7 @@ class Schedule:
         nearest = {int(it[:-1]) for it in by_day if it[0] != "L"}
         lasts = {int(it[0]) % 7 for it in by_weekday if it[1] == "L"}
         nths = {7 * (int(it[2]) - 1) + int(it[0]) % 7 for it in by_weekday if it[1] == "#"}
-        words = [str(sum(1 << it for it in numbers)) for numbers in (*self.sets, ends, nearest, lasts, nths)]
-        return " ".join([*words, str(int("LW" in by_day)), str(int(self.either))])
+        return row_words(self.sets, ends, nearest, lasts, nths, "LW" in by_day, self.either)
 
     def named_in_month(self, day):
         """The days of a day's month that the items of each of the two fields name."""
@@ -179,11 +375,14 @@ class Schedule:
                 next_one = minute
         return (total + 2**63) % 2**64 - 2**63
 
+    def cycle(self, day, second, fraction):
+        """The same as `dues` over 400 years."""
+        return self.dues(day, second, fraction, CYCLE)
 
-    def dues(self, day, second, fraction):
-        """The due moments after a start up to 365 days past its date, each added to 31 times what came before, in 64 digits with a sign."""
+    def dues(self, day, second, fraction, days=365):
+        """The due moments after a start up to so many days past its date, each added to 31 times what came before, in 64 digits with a sign."""
         total = 0
-        for later in range(day, min(day + 365, LAST_DAY) + 1):
+        for later in range(day, min(day + days, LAST_DAY) + 1):
             if self.is_day(later):
                 for minute in self.minutes:
                     if (later, 60 * minute, 0) > (day, second, fraction):
@@ -242,7 +441,7 @@ def start_of(chosen, schedule):
 
 
 def row_of(call, schedule, start):
-    if call == "year":
+    if call in ("year", "walk"):
         answer = schedule.year(start[0])
     elif call == "due":
         answer = int(schedule.is_due(*start))
@@ -274,6 +473,8 @@ def known():
     schedules = [Schedule(it) for it in KNOWN]
     rows = [row_of(call, schedule, start) for schedule in schedules for start in starts for call in ("next", "prev", "due")]
     rows += [row_of("never", schedule, starts[0]) for schedule in schedules]
+    rows += [field_row(place, text) for place, texts in FIELD_TEXTS for text in texts.split(" ")]
+    rows += [f"text {schedule.words()} = {written(schedule.words())}" for schedule in schedules]
     # The iterator from the ends of the calendar and from within it: past the last due moment it has to have ended.
     return rows + [row_of("dues", schedule, start) for schedule in schedules for start in starts[:1] + starts[3:8]]
 
@@ -326,6 +527,48 @@ def written_out():
         yield f"{call} {Schedule(text).words()} {start} = {answer}"
 
 
+# Texts written out with the text that their schedule is written as, or `none`.
+READ_OUT = """\
+@hourly | 0 * * * *
+@yearly | 0 0 1 1 *
+@weekly | 0 0 * * 0
+@reboot | none
+*/15 9-17 * jan,MAR mon-fri | 0,15,30,45 9-17 * 1,3 1-5
+5 4 * * sun | 5 4 * * 0
+5 4 * * fri-7 | 5 4 * * 0,5-6
+0 0 */2 * 1 | 0 0 */31,1,3,5,7,9,11,13,15,17,19,21,23,25,27,29,31 * 1
+0 0 1-7 * */7 | 0 0 */31,1-7 * 0
+0 0 1-31 * 1 | 0 0 1-31 * 1
+30 6 l,3,lw,15w,L-3 * 5L,fri#2 | 30 6 3,L,L-3,LW,15W * 5L,5#2
+0 0 L-31 * * | none
+0 0 * * 1#6 | none
+0 0 * * | none
+0 0 * * * * | none
+60 0 * * * | none
+0 0 * * fri-mon | none
+0 0 ? * * | none"""
+
+
+def are_leap_days():
+    """Whether the due moments of `0 0 29 2 *` in 400 years are the 97 leap days, each counted by its year."""
+    leap_days = [day_of(it, 2, 29) for it in range(2000, 2400) if it % 4 == 0 and (it % 100 or it % 400 == 0)]
+    total = 0
+    for day in leap_days:
+        total = (total * 31 + day * 1440) % 2**64
+    return len(leap_days) == 97 and (total + 2**63) % 2**64 - 2**63 == Schedule(CYCLES[0]).cycle(day_of(2000, 1, 1), 0, 0)
+
+
+def are_read_out():
+    """Whether the reader here reads these texts so."""
+    for line in READ_OUT.splitlines():
+        text, expected = line.split(" | ")
+        words = read_schedule(text)
+        if (written(words) if words else "none") != expected:
+            print(f"{text}: is read as {words and written(words)}, and not as {expected}")
+            return False
+    return all(read_schedule(it) == Schedule(it, False).words() for it in KNOWN)
+
+
 def answered(rows):
     """Runs the program over rows; how many it answers, and what it prints of the others."""
     text = "".join(f"{it}\n" for it in rows)
@@ -350,17 +593,25 @@ def main():
     passed, failed = int(standing == known()), int(standing != known())
     if failed:
         print("the rows of crates/cron_rows/stdin are others than this reading gives")
+    read_out = are_read_out() and are_leap_days()
+    passed, failed = passed + int(read_out), failed + int(not read_out)
     if not os.path.exists(PROGRAM):
         print("not run: the rows by the program, since there is no crates/cron_rows/out/cron_rows")
         print(f"{passed} passed, {failed} failed")
         return failed
     start = (day_of(2023, 11, 15), 0, 0)
     chosen, named = generated(arguments.rows, arguments.seed)
+    near, fields = field_rows(10 * arguments.rows, arguments.seed)
+    texts, back = text_rows(arguments.rows, arguments.seed)
     for name, rows in (
         ("standing rows", standing),
         ("answers written out", list(written_out())),
         (f"generated rows, {named} with days that are named", chosen),
+        (f"fields and near misses, {fields} of them fields", near),
+        (f"texts of schedules, {back} of them read back here", texts),
         ("years of minutes", [row_of("year", Schedule(it), start) for it in YEARS]),
+        ("years of minutes by walks", [row_of("walk", Schedule(it), start) for it in YEARS[:3]]),
+        ("iterators over 400 years", [row_of("cycle", Schedule(it), start) for it in CYCLES]),
         ("iterators over years", [row_of("dues", Schedule(it), start) for it in YEARS]),
     ):
         right, others = answered(rows)

@@ -3,15 +3,19 @@
 //!
 //! A line is a calendar, as `calendar 1111100 738886 738900`: of each weekday from Monday on whether it is worked,
 //! and the holidays; or `call numbers = answer`, as `add 738886 3 = 738890`. A date is its day number, a count has a
-//! sign, a roll is a word, `none` is no date. On a calendar that is refused a line is `refused on_weekend 2`: what is
+//! sign, a roll is a word, `none` is no date. Lines `rule ..` are rules of holidays, those behind a line `rules` alone, and a line
+//! `other ..` is a second calendar; `listed 2020 2030 99 = 12`, `left = 12` and `joined 738886 738900 99 = 12` are the holidays of the
+//! rules, the list without weekends and the two calendars joined, by lists of so many places (see `lists`). On a calendar that is refused a line is `refused on_weekend 2`: what is
 //! wrong, and at which place of the list. Each line with another answer is printed with its number, and at the end their
 //! count.
 #![tactic(auto)]
 
+mod lists;
 mod rules;
 
 use chrono_business::{
-    Calendar, HolidayError, Roll, actual_360, actual_actual_isda, thirty_360, thirty_e_360,
+    Calendar, HolidayError, HolidayRule, Roll, actual_360, actual_actual_isda, thirty_360,
+    thirty_e_360,
 };
 use chrono_datetime::{Datelike, NaiveDate, Weekday, WeekdaySet};
 use std::io::{self, BufRead, BufReader};
@@ -20,6 +24,9 @@ fn main(rt: HostRuntime) -> io::Result<()> {
     let (mut lines, mut others) = (0u64, 0u64);
     let mut weekend = WeekdaySet::EMPTY;
     let mut holidays: Vec<NaiveDate, _> = Vec::new(rt.alloc());
+    let mut other_weekend = WeekdaySet::EMPTY;
+    let mut other_holidays: Vec<NaiveDate, _> = Vec::new(rt.alloc());
+    let mut rules: Vec<HolidayRule, _> = Vec::new(rt.alloc());
     for line in BufReader::new(rt.alloc(), rt.reader())?.lines(rt.alloc()) {
         let line = line?;
         lines = lines.wrapping_add(1);
@@ -31,6 +38,43 @@ fn main(rt: HostRuntime) -> io::Result<()> {
                 if let Some(date) = date_of(word) {
                     holidays.push(date)?;
                 }
+            }
+        } else if let Some(days) = line.as_str().strip_prefix("other ") {
+            let mut words = days.split_ascii_whitespace();
+            other_weekend = weekend_of(words.next().unwrap_or(""));
+            other_holidays.clear();
+            for word in words {
+                if let Some(date) = date_of(word) {
+                    other_holidays.push(date)?;
+                }
+            }
+        } else if line.as_str() == "rules" {
+            rules.clear();
+        } else if let Some(words) = line.as_str().strip_prefix("rule ") {
+            if let Some(rule) = lists::rule_of(words) {
+                rules.push(rule)?;
+            }
+        } else if let Some(call) = line.as_str().strip_prefix("listed ") {
+            let (words, answer) = call.split_once(" = ").unwrap_or(("", ""));
+            if !is_said(lists::listed(rules.as_slice(), weekend, words), answer) {
+                others = others.wrapping_add(1);
+                println!(rt; "line {lines} is answered otherwise: {line}")?;
+            }
+        } else if let Some(answer) = line.as_str().strip_prefix("left = ") {
+            if !is_said(lists::left(weekend, holidays.as_slice()), answer) {
+                others = others.wrapping_add(1);
+                println!(rt; "line {lines} is answered otherwise: {line}")?;
+            }
+        } else if let Some(call) = line.as_str().strip_prefix("joined ") {
+            let (words, answer) = call.split_once(" = ").unwrap_or(("", ""));
+            let second = Calendar::try_new(other_weekend, other_holidays.as_slice());
+            let number = match (Calendar::try_new(weekend, holidays.as_slice()), second) {
+                (Ok(first), Ok(second)) => lists::joined(&first, &second, words),
+                _ => None,
+            };
+            if !is_said(number, answer) {
+                others = others.wrapping_add(1);
+                println!(rt; "line {lines} is answered otherwise: {line}")?;
             }
         } else if !is_answered(weekend, holidays.as_slice(), line.as_str()) {
             others = others.wrapping_add(1);
@@ -73,7 +117,12 @@ fn is_answered(weekend: WeekdaySet, holidays: &[NaiveDate], line: &str) -> bool 
         return false;
     };
     let last = words.next().unwrap_or("");
-    match answer_of(&calendar, name, date, last) {
+    is_said(answer_of(&calendar, name, date, last), answer)
+}
+
+// Whether the words say the number, or that there is none.
+fn is_said(number: Option<i64>, answer: &str) -> bool {
+    match number {
         Some(number) => answer.parse() == Ok(number),
         None => answer == "none",
     }

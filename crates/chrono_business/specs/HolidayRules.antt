@@ -50,6 +50,10 @@ moved_by moved n =
     if days_from_monday (weekday_of n) == 5 then from_saturday moved
     else (if days_from_monday (weekday_of n) == 6 then from_sunday moved else pos 0)
 
+-- the rule of these
+abbrev pub rule_of : HolidayDay → Moved → ℤ → ℤ → HolidayRule
+rule_of day moved first last = record { day = day; moved = moved; first_year = first; last_year = last }
+
 -- the rule holds in the year y
 abbrev pub holds_in : HolidayRule → ℤ → Bool
 holds_in r y = int_le r.first_year y && int_le y r.last_year

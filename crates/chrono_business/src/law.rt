@@ -1,9 +1,13 @@
 //! Laws of open days, each as the contract of a function that does nothing: behind a call of it its clauses are
-//! known; and open days, rolls and day counts that are known.
-ghost use Rattle.std.specs.Prelude.{◌≡◌, ◌+◌, ◌<◌, ◌≤◌, ℕ, ℤ, true, false, pos, neg_ℤ, ◌+ℤ◌, ◌-ℤ◌, ◌*ℤ◌, ◌≤ℤ◌, ◌<ℤ◌, [], ◌∷◌};
+//! known; and open days, rolls, day counts and holidays that are known.
+ghost use Rattle.std.specs.Prelude.{◌≡◌, ◌+◌, ◌<◌, ◌≤◌, ℕ, ℤ, true, false, pos, neg_ℤ, ◌+ℤ◌, ◌-ℤ◌, ◌*ℤ◌, ◌≤ℤ◌, ◌<ℤ◌, [], ◌∷◌, Some, None};
 ghost use Rattle.chrono_datetime.specs.WeekdaySet.{set_of};
-ghost use Rattle.chrono_datetime.specs.declared.Weekday.TheVariants.{Fri, Sat, Sun};
+ghost use Rattle.chrono_datetime.specs.declared.Weekday.TheVariants.{Fri, Mon, Sat, Sun, Thu};
+ghost use Rattle.chrono_datetime.specs.declared.Month.TheVariants.{December, February, January, July, June, May, November};
 ghost use Rattle.chrono_business.specs.Easter.{easter_day};
+ghost use Rattle.chrono_business.specs.HolidayRules.{date_of_rule, rule_of};
+ghost use Rattle.chrono_business.specs.declared.holiday_rule.HolidayDay.TheVariants.{EasterPlus, Fixed, LastWeekday, NthWeekday};
+ghost use Rattle.chrono_business.specs.declared.holiday_rule.Moved.TheVariants.{Stays, ToNearer, TwoDaysOn};
 ghost use Rattle.chrono_business.specs.DayCounts.{days_30_360, days_30e_360, days_actual_actual};
 ghost use Rattle.chrono_business.specs.Rolls.{RollsTo};
 ghost use Rattle.chrono_business.specs.declared.roll.Roll.TheVariants.{Following, ModifiedFollowing, ModifiedPreceding, Nearest, Preceding, Unadjusted};
@@ -111,4 +115,34 @@ pub fn known_easters()
     ensures in_1954 { easter_day (pos 1_954) ≡ pos 713_426 }
     ensures in_1981 { easter_day (pos 1_981) ≡ pos 723_289 }
     ensures full_moon_on_sunday { easter_day (pos 1_974) ≡ pos 720_727 }
+{}
+
+/// Holidays by rules that are known: of the United States Juneteenth of 2022, a Sunday, on Monday, 20 June, day 738,326, and
+/// none before the law; Independence Day of 2021, a Sunday, on 5 July, day 737,976; New Year's Day of 2022, a Saturday, on
+/// 31 December 2021, day 738,155; Thanksgiving of 2024 on 28 November, day 739,218, and Memorial Day on 27 May, day 739,033;
+/// Good Friday of 2024 on 29 March, day 738,974; of England the first Monday in May of 2024 on the 6th, day 739,012, and
+/// Boxing Day of 2021, a Sunday, on 28 December, day 738,152. No rule falls on a fifth Monday or a 29th of February 2023.
+pub fn known_holidays()
+    ensures juneteenth { date_of_rule (rule_of (Fixed June 19) ToNearer (pos 2_021) (pos 262_142))
+        (pos 2_022) ≡ Some (pos 738_326) }
+    ensures before_the_law { date_of_rule (rule_of (Fixed June 19) ToNearer (pos 2_021) (pos 262_142))
+        (pos 2_020) ≡ None }
+    ensures independence_day { date_of_rule (rule_of (Fixed July 4) ToNearer (pos 1_971) (pos 262_142))
+        (pos 2_021) ≡ Some (pos 737_976) }
+    ensures new_year { date_of_rule (rule_of (Fixed January 1) ToNearer (pos 1_971) (pos 262_142))
+        (pos 2_022) ≡ Some (pos 738_155) }
+    ensures thanksgiving { date_of_rule (rule_of (NthWeekday 4 Thu November) Stays (pos 1_971) (pos 262_142))
+        (pos 2_024) ≡ Some (pos 739_218) }
+    ensures memorial_day { date_of_rule (rule_of (LastWeekday Mon May) Stays (pos 1_971) (pos 262_142))
+        (pos 2_024) ≡ Some (pos 739_033) }
+    ensures good_friday { date_of_rule (rule_of (EasterPlus (neg_ℤ (pos 2))) Stays (pos 1_978) (pos 262_142))
+        (pos 2_024) ≡ Some (pos 738_974) }
+    ensures early_may { date_of_rule (rule_of (NthWeekday 1 Mon May) Stays (pos 2_021) (pos 262_142))
+        (pos 2_024) ≡ Some (pos 739_012) }
+    ensures boxing_day { date_of_rule (rule_of (Fixed December 26) TwoDaysOn (pos 1_978) (pos 262_142))
+        (pos 2_021) ≡ Some (pos 738_152) }
+    ensures no_fifth_monday { date_of_rule (rule_of (NthWeekday 5 Mon February) Stays (pos 2_000) (pos 2_100))
+        (pos 2_023) ≡ None }
+    ensures no_leap_day { date_of_rule (rule_of (Fixed February 29) Stays (pos 2_000) (pos 2_100))
+        (pos 2_023) ≡ None }
 {}

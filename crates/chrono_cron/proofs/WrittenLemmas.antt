@@ -1,12 +1,12 @@
 -- The ranges, the names and the items of a field, as they are written one after another.
-use Rattle.std.proofs.Common.{◌≡◌, ℕ, zero, suc, ◌+◌, ◌-◌, ◌<◌, ◌≤◌, ◌==◌, Bool, true, false, ◌&&◌, List, [], ◌∷◌, ◌++◌, drop, if◌then◌else◌, inl, inr, refl, sym, ap, ◌∙◌, arith, append_assoc, append-nil, eq-eqb, ne_eqb}
-use Rattle.std.specs.Prelude.{map, codes, ⊤}
+use Rattle.std.proofs.Common.{◌≡◌, ℕ, zero, suc, ◌+◌, ◌-◌, ◌<◌, ◌≤◌, ◌==◌, Bool, true, false, ◌&&◌, ◌||◌, List, [], ◌∷◌, ◌++◌, drop, if◌then◌else◌, inl, inr, refl, sym, ap, ◌∙◌, arith, append_assoc, append-nil, eq-eqb, ne_eqb}
+use Rattle.std.specs.Prelude.{map, codes, nat_le, ⊤}
 use Rattle.std.specs.List.{join_with_byte}
-use Rattle.std.proofs.lemmas.Bool.{cases_lt}
+use Rattle.std.proofs.lemmas.Bool.{cases_lt, eqb-true, le-leb, lt-leb}
 use Rattle.chrono_cron.specs.declared.number_set.NumberSet.{NumberSet}
 use Rattle.chrono_cron.specs.declared.text.Naming.{Naming}
 use Rattle.chrono_cron.specs.Due.{has}
-use Rattle.chrono_cron.specs.WrittenTexts.{are_all, behind_commas, field_text, in_front, name_text, names_from, number_items, number_text, range_text, ranges_from}
+use Rattle.chrono_cron.specs.WrittenTexts.{are_all, behind_commas, field_text, in_front, name_text, names_from, number_items, number_text, one_lists, range_text, ranges_from}
 
 -- ranges one behind another, from `low` on and below `end`
 abbrev pub AreRanges : ℕ → ℕ → List (ℕ × ℕ) → Type 0
@@ -191,3 +191,54 @@ pub numbers_stepped : (starred : Bool) (set : NumberSet) (count low : ℕ) → s
     → (codes "*/" ++ number_text count) ∷ map range_text (ranges_from set count low) ≡ number_items starred set count low
 unfolding number_items
 numbers_stepped starred set count low e some = sym (ap (λ b. listed set count low b (are_all set count low)) e ∙ ap (listed set count low true) some)
+
+-- the ranges list the members, and no other number
+one_from : (low end k : ℕ) (ranges : List (ℕ × ℕ)) → AreRanges low end ranges → k < low → one_lists ranges k ≡ false
+one_from low end k [] are less = refl
+one_from low end k (range ∷ ranges) (from, order, to, others) less =
+    ap (λ b. (b && nat_le k range.1) || one_lists ranges k) (lt-leb range.0 k (omega (arith, from, less))) ∙ one_from low end k ranges others less
+
+none_behind : (n k : ℕ) (others : Bool) → n < k → ((nat_le n k && nat_le k n) || others) ≡ others
+none_behind n k others less = ap (λ b. (nat_le n k && b) || others) (lt-leb k n less) ∙ ap (λ b. b || others) (and_false (nat_le n k))
+
+joined_later : (n k : ℕ) (range : ℕ × ℕ) (ranges : List (ℕ × ℕ)) (touches : Bool) → n < k → (range.0 == n + 1) ≡ touches
+    → one_lists (joined n range ranges touches) k ≡ one_lists (range ∷ ranges) k
+joined_later n k range ranges true less e =
+    let begins = eqb-true range.0 (n + 1) e in
+    ap (λ b. (b && nat_le k range.1) || one_lists ranges k) (le-leb n k (omega (arith, less)) ∙ sym (le-leb range.0 k (omega (arith, begins, less))))
+joined_later n k range ranges false less e = none_behind n k (one_lists (range ∷ ranges) k) less
+
+later : (n k : ℕ) (ranges : List (ℕ × ℕ)) → n < k → one_lists (in_front n ranges) k ≡ one_lists ranges k
+later n k [] less = none_behind n k false less
+later n k (range ∷ ranges) less = joined_later n k range ranges (range.0 == n + 1) less refl
+
+self_listed : (n last : ℕ) (others : Bool) → n ≤ last → ((nat_le n n && nat_le n last) || others) ≡ true
+self_listed n last others le =
+    ap (λ b. (b && nat_le n last) || others) (le-leb n n (omega arith)) ∙ ap (λ b. b || others) (le-leb n last le)
+
+joined_first : (n : ℕ) (range : ℕ × ℕ) (ranges : List (ℕ × ℕ)) (touches : Bool) → n ≤ range.1 → one_lists (joined n range ranges touches) n ≡ true
+joined_first n range ranges true le = self_listed n range.1 (one_lists ranges n) le
+joined_first n range ranges false le = self_listed n n (one_lists (range ∷ ranges) n) (omega arith)
+
+first : (n end : ℕ) (ranges : List (ℕ × ℕ)) → AreRanges (n + 1) end ranges → one_lists (in_front n ranges) n ≡ true
+first n end [] are = self_listed n n false (omega arith)
+first n end (range ∷ ranges) (from, order, to, others) = joined_first n range ranges (range.0 == n + 1) (omega (arith, from, order))
+
+with_number_later : (set : NumberSet) (count n k : ℕ) (member : Bool) → n < k → one_lists (with_number set count n member) k ≡ one_lists (ranges_from set count (n + 1)) k
+with_number_later set count n k true less = later n k (ranges_from set count (n + 1)) less
+with_number_later set count n k false less = refl
+
+with_number_first : (set : NumberSet) (count n : ℕ) (member : Bool) → one_lists (with_number set count n member) n ≡ member
+with_number_first set count n true = first n (n + 1 + count) (ranges_from set count (n + 1)) (ranges_are set count (n + 1) (n + 1 + count) (omega arith))
+with_number_first set count n false =
+    one_from (n + 1) (n + 1 + count) n (ranges_from set count (n + 1)) (ranges_are set count (n + 1) (n + 1 + count) (omega arith)) (omega arith)
+
+pub ranges_list : (set : NumberSet) (count n k : ℕ) → n ≤ k → k < n + count → one_lists (ranges_from set count n) k ≡ has set k
+unfolding ranges_from
+ranges_list set zero n k low high = absurd (omega (arith, low, high))
+ranges_list set (suc count) n k low high = elim (cases_lt n k) [
+  | inl less ↦ with_number_later set count n k (has set n) less ∙ ranges_list set count (n + 1) k (omega (arith, less)) (omega (arith, high))
+  | inr ge ↦
+      let at : n ≡ k = omega (arith, low, ge) in
+      ap (one_lists (with_number set count n (has set n))) (sym at) ∙ with_number_first set count n (has set n) ∙ ap (has set) at
+]

@@ -1,5 +1,5 @@
 -- The text that is written for a schedule.
-use Rattle.std.specs.Prelude.{ℕ, zero, suc, ◌+◌, ◌/◌, ◌%◌, ◌==◌, nat_lt, Bool, true, not, ◌&&◌, ◌||◌, if◌then◌else◌, List, [], ◌∷◌, ◌++◌, map, codes}
+use Rattle.std.specs.Prelude.{ℕ, zero, suc, ◌+◌, ◌/◌, ◌%◌, ◌==◌, nat_le, nat_lt, Bool, true, false, not, ◌&&◌, ◌||◌, if◌then◌else◌, List, [], ◌∷◌, ◌++◌, map, codes}
 use Rattle.std.specs.List.{join_with_byte}
 use Rattle.chrono_text.specs.Text.{two_digits}
 use Rattle.chrono_cron.specs.declared.number_set.NumberSet.{NumberSet}
@@ -25,6 +25,11 @@ in_front n (range ∷ ranges) = if range.0 == n + 1 then (n, range.1) ∷ ranges
 unfoldable pub ranges_from : NumberSet → ℕ → ℕ → List (ℕ × ℕ)
 ranges_from set zero n = []
 ranges_from set (suc count) n = if has set n then in_front n (ranges_from set count (n + 1)) else ranges_from set count (n + 1)
+
+-- whether one of the ranges lists k
+abbrev pub one_lists : List (ℕ × ℕ) → ℕ → Bool
+one_lists [] k = false
+one_lists (range ∷ ranges) k = (nat_le range.0 k && nat_le k range.1) || one_lists ranges k
 
 -- whether all of so many numbers from n on are members
 unfoldable pub are_all : NumberSet → ℕ → ℕ → Bool

@@ -1,10 +1,12 @@
-//! Days that are known, each as a clause of a function that does nothing.
-ghost use Rattle.std.specs.Prelude.{◌≡◌, ◌+◌, ◌^◌, true, false, pos, [], ◌∷◌, codes};
-ghost use Rattle.chrono_cron.specs.Due.{is_due};
+//! Days, moments and texts that are known, and what holds of all, each as a clause of a function that does nothing.
+ghost use Rattle.std.specs.Prelude.{◌≡◌, ◌<◌, ◌≤◌, ◌-◌, ℕ, ◌+◌, ◌^◌, true, false, pos, [], ◌∷◌, codes};
+ghost use Rattle.chrono_cron.specs.Due.{has, is_due};
 ghost use Rattle.chrono_cron.specs.DueMoments.{dues_after};
 ghost use Rattle.chrono_cron.specs.KnownMonthDays.{is_named, named};
 ghost use Rattle.chrono_cron.specs.KnownSchedules.{each_minute, fields, fields_with, moment_at};
-ghost use Rattle.chrono_cron.specs.WrittenTexts.{schedule_text};
+ghost use Rattle.chrono_cron.specs.WrittenTexts.{one_lists, ranges_from, schedule_text};
+
+use crate::number_set::NumberSet;
 
 /// Days of 2024 that are known: 31 May is `L` and the 30th is not, 28 February is `L-1`; 29 March, a Friday, is `LW`, and so is Tuesday,
 /// 30 April; 14 June, a Friday, is `14W` and `15W`, and 16 September, a Monday, is `15W`; 3 June, a Monday, is `1W`, 29 March is `31W`,
@@ -70,4 +72,9 @@ pub fn known_texts()
     ensures both_by_first { schedule_text (fields 1 1 (2 ^ 1 + 2 ^ 15) 8_190 (2 ^ 5) false) ≡ codes "0 0 */31,1,15 * 5" }
     ensures both_by_sunday { schedule_text (fields 1 1 (2 ^ 13) 8_190 (2 ^ 0 + 2 ^ 5) false) ≡ codes "0 0 13 * */7,0,5" }
     ensures names { schedule_text (fields_with 0 8_190 0 9 (2 ^ 15) true (2 ^ 5) (2 ^ 12)) ≡ codes "0 0 L,L-3,LW,15W * 5L,5#2" }
+{}
+
+/// The ranges that are written for the numbers of a field list its members, and no other of these numbers.
+pub fn ranges_list_the_members(set: NumberSet, low: u32, end: u32)
+    ensures { (k : ℕ) → low ≤ k → k < end → one_lists (ranges_from set (end - low) low) k ≡ has set k }
 {}

@@ -4,5 +4,6 @@ mod Cycles
 mod DayLists
 mod LetterLemmas
 mod Moments
+mod Passed
 mod PieceLemmas
 mod Walks

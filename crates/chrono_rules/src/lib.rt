@@ -14,6 +14,7 @@ mod pieces;
 mod place_text;
 mod places;
 mod rule;
+mod skips;
 mod weekday_text;
 
 pub use iterator::Instances;

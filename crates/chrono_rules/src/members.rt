@@ -203,7 +203,7 @@ impl Rule {
     {
         let mut day = date;
         while !self.is_member(start, day) {
-            day = day.succ_opt()?;
+            day = self.later(start, day)?;
         }
         Some(day)
     }

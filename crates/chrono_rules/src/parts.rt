@@ -12,7 +12,7 @@ use chrono_datetime::{Datelike, NaiveDate};
 impl Rule {
     // Which parts the rule does not have.
     #[inline]
-    fn lacks_months(&self) -> bool
+    pub(crate) fn lacks_months(&self) -> bool
         ensures { result ≡ lacks_months self.now }
     {
         self.months.is_empty()

@@ -5,20 +5,31 @@
 //! is named, `either` where a day of the month or a weekday is enough, and the start is a day number, a second
 //! of the day and the nanoseconds past it. The calls are `next` and `prev`, answered by the number of minutes from day 0 to the moment,
 //! `due` and `never`, by 1 or 0, `year`, by the sum of those numbers of minutes over the next moments after each minute of 365 days,
-//! in 64 binary digits, and `dues`, by those of the moments that the iterator gives up to 365 days past the start's, each added to 31
-//! times what came before. `none` is no moment. Each line that is answered otherwise is printed with its number, and at the end their count.
+//! in 64 binary digits, `walk`, the same by trying one day after another, and `dues`, by those of the moments that the iterator gives up to 365 days past the start's, each added to 31
+//! times what came before, and `cycle`, the same over 400 years. `none` is no moment. Each line that is answered otherwise is printed
+//! with its number, and at the end their count.
+//!
+//! Two calls have other lines. `text` has the eleven numbers of a schedule alone, and is answered by its text. `field low high names text = number`
+//! reads the text of a field, with the names of `months` or `weekdays` or with `numbers` alone, and is answered by its set.
 #![tactic(auto)]
 
-use chrono_cron::{MonthDays, NumberSet, Schedule, Sets};
+use chrono_cron::{MonthDays, Names, NumberSet, Schedule, Sets, read_field};
 use chrono_datetime::{Datelike, NaiveDate, NaiveDateTime, NaiveTime, Timelike};
+use chrono_text::Text;
 use std::io::{self, BufRead, BufReader};
+use std::str::SplitAsciiWhitespace;
 
-// The seconds of a minute, the minutes of a day, and the days of a year.
+// The seconds of a minute, the minutes of a day, the days of a year, and those of 400 years.
 const SECONDS: u32 = 60;
 
 const MINUTES: u32 = 1_440;
 
-const DAYS: u32 = 365;
+const YEAR: i32 = 365;
+
+const CYCLE: i32 = 146_097;
+
+// No text of a schedule is longer.
+const LONGEST: usize = 1_000;
 
 fn main(rt: HostRuntime) -> io::Result<()> {
     let (mut lines, mut others) = (0u64, 0u64);
@@ -42,6 +53,54 @@ fn is_answered(line: &str) -> bool {
     let Some((call, arguments)) = row.split_once(' ') else {
         return false;
     };
+    match call {
+        "field" => is_field_read(arguments, expected),
+        "text" => is_written(arguments, expected),
+        _ => is_found(call, arguments, expected),
+    }
+}
+
+// Whether the text of a field is read as the set behind it.
+fn is_field_read(arguments: &str, expected: &str) -> bool {
+    let Some(read) = field_of(arguments) else {
+        return false;
+    };
+    match read {
+        Some(set) => set_of(expected) == Some(set),
+        None => expected == "none",
+    }
+}
+
+// What is read of a field between two numbers; none if the line is no such row.
+fn field_of(arguments: &str) -> Option<Option<NumberSet>> {
+    let (low, rest) = arguments.split_once(' ')?;
+    let (high, rest) = rest.split_once(' ')?;
+    let (names, text) = rest.split_once(' ')?;
+    let names = match names {
+        "numbers" => Names::Numbers,
+        "months" => Names::Months,
+        "weekdays" => Names::Weekdays,
+        _ => return None,
+    };
+    let high: u32 = high.parse().ok()?;
+    if high > 63 {
+        return None;
+    }
+    Some(read_field(text.as_bytes(), names, low.parse().ok()?, high))
+}
+
+// Whether a schedule has the text behind it.
+fn is_written(arguments: &str, expected: &str) -> bool {
+    let Some(sets) = sets_of(&mut arguments.split_ascii_whitespace()) else {
+        return false;
+    };
+    let mut text = Text::<LONGEST>::new();
+    Schedule { sets }.put_into(&mut text);
+    text.as_bytes() == expected.as_bytes()
+}
+
+// Whether the moment, the truth or the sum that a call finds is the number behind it.
+fn is_found(call: &str, arguments: &str, expected: &str) -> bool {
     let Some((schedule, start)) = arguments_of(arguments) else {
         return false;
     };
@@ -50,8 +109,10 @@ fn is_answered(line: &str) -> bool {
         "prev" => schedule.prev_before(start).map(|moment| minutes_to(moment)),
         "due" => Some(i64::from(schedule.is_due(start))),
         "never" => Some(i64::from(schedule.never_due())),
-        "dues" => all_dues(&schedule, start),
-        "year" => Some(sum_of_year(&schedule, start.date())),
+        "dues" => all_dues(&schedule, start, YEAR),
+        "cycle" => all_dues(&schedule, start, CYCLE),
+        "year" => Some(sum_of_year(&schedule, start.date(), false)),
+        "walk" => Some(sum_of_year(&schedule, start.date(), true)),
         _ => return false,
     };
     match answer {
@@ -63,7 +124,17 @@ fn is_answered(line: &str) -> bool {
 // The schedule and the start that stand in a row.
 fn arguments_of(text: &str) -> Option<(Schedule, NaiveDateTime)> {
     let mut words = text.split_ascii_whitespace();
-    let sets = Sets {
+    let sets = sets_of(&mut words)?;
+    let date = NaiveDate::from_num_days_from_ce_opt(words.next()?.parse().ok()?)?;
+    let second = words.next()?.parse().ok()?;
+    let fraction = words.next()?.parse().ok()?;
+    let time = NaiveTime::from_num_seconds_from_midnight_opt(second, fraction)?;
+    Some((Schedule { sets }, NaiveDateTime::new(date, time)))
+}
+
+// The sets of a schedule, and whether one field of days is enough.
+fn sets_of(words: &mut SplitAsciiWhitespace) -> Option<Sets> {
+    Some(Sets {
         minutes: set_of(words.next()?)?,
         hours: set_of(words.next()?)?,
         days: set_of(words.next()?)?,
@@ -77,12 +148,7 @@ fn arguments_of(text: &str) -> Option<(Schedule, NaiveDateTime)> {
             last_workday: words.next()? == "1",
         },
         either: words.next()? == "1",
-    };
-    let date = NaiveDate::from_num_days_from_ce_opt(words.next()?.parse().ok()?)?;
-    let second = words.next()?.parse().ok()?;
-    let fraction = words.next()?.parse().ok()?;
-    let time = NaiveTime::from_num_seconds_from_midnight_opt(second, fraction)?;
-    Some((Schedule { sets }, NaiveDateTime::new(date, time)))
+    })
 }
 
 // The set whose digits a word writes as a number.
@@ -97,8 +163,8 @@ fn minutes_to(moment: NaiveDateTime) -> i64 {
 }
 
 // The minutes to the moments that the iterator gives, as one number; none if it gives one more after its end.
-fn all_dues(schedule: &Schedule, start: NaiveDateTime) -> Option<i64> {
-    let end = start.date().num_days_from_ce() + DAYS as i32;
+fn all_dues(schedule: &Schedule, start: NaiveDateTime, days: i32) -> Option<i64> {
+    let end = start.date().num_days_from_ce().wrapping_add(days);
     let mut sum: i64 = 0;
     let mut moments = schedule.after(start);
     while let Some(moment) = moments.next() {
@@ -113,14 +179,41 @@ fn all_dues(schedule: &Schedule, start: NaiveDateTime) -> Option<i64> {
     }
 }
 
+// The next moment, as `next_after` finds it or by trying one day after another.
+fn next_one(schedule: &Schedule, start: NaiveDateTime, by_walk: bool) -> Option<NaiveDateTime> {
+    if !by_walk {
+        return schedule.next_after(start);
+    }
+    let begun = start.time().num_seconds_from_midnight() / SECONDS;
+    if let Some(next) = first_on(schedule, start.date(), begun + 1) {
+        return Some(next);
+    }
+    for date in start.date().succ_opt()?.iter_days() {
+        if let Some(next) = first_on(schedule, date, 0) {
+            return Some(next);
+        }
+    }
+    None
+}
+
+// The first moment of a day, from a minute of it on.
+fn first_on(schedule: &Schedule, date: NaiveDate, from: u32) -> Option<NaiveDateTime> {
+    if from > MINUTES || !schedule.sets.is_day(date) {
+        return None;
+    }
+    let minute = schedule.sets.first_minute(from)?;
+    let time = NaiveTime::from_num_seconds_from_midnight_opt(minute * SECONDS, 0)?;
+    Some(NaiveDateTime::new(date, time))
+}
+
 // The sum of the minutes to the next moment, of each minute of so many days from a date on.
-fn sum_of_year(schedule: &Schedule, first: NaiveDate) -> i64 {
+fn sum_of_year(schedule: &Schedule, first: NaiveDate, by_walk: bool) -> i64 {
     let mut sum: i64 = 0;
     let mut date = first;
-    for _ in 0..DAYS {
+    for _ in 0..YEAR {
         for minute in 0..MINUTES {
             if let Some(time) = NaiveTime::from_num_seconds_from_midnight_opt(minute * SECONDS, 0) {
-                if let Some(next) = schedule.next_after(NaiveDateTime::new(date, time)) {
+                if let Some(next) = next_one(schedule, NaiveDateTime::new(date, time), by_walk) {
                     sum = sum.wrapping_add(minutes_to(next));
                 }
             }

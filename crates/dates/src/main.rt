@@ -2,15 +2,24 @@
 #![tactic(auto)]
 
 mod answer;
+mod day_names;
+mod distance;
+mod fault;
+mod file;
+mod lines;
+mod moved;
 mod ordinal_name;
+mod sequence;
+mod year;
 
-use answer::{answer_day, answer_distance, answer_lines, answer_move};
+use answer::answer;
+use dates_request::{Request, Wrong, read_request};
+use fault::{WRONG, refuse};
+use std::alloc::Allocator;
 use std::env::{self, Env};
 use std::io::{self, Eprint, ErrorKind};
 use std::process::ExitCode;
-
-// The exit status after a wrong command, or after a read or a write that failed.
-const WRONG: u8 = 2;
+use std::rt::Files;
 
 fn main(rt: HostRuntime) -> ExitCode {
     match run(&rt) {
@@ -27,36 +36,22 @@ fn main(rt: HostRuntime) -> ExitCode {
 }
 
 // Answers what the arguments ask for; the exit status.
-fn run(rt: &(impl Env + Alloc + Print + Eprint + Input)) -> io::Result<u8> {
+fn run(rt: &(impl Env + Alloc + Print + Eprint + Input + Files)) -> io::Result<u8> {
     let words: Vec<_, _> = env::args(rt)?.skip(1).collect(rt.alloc())?;
-    match words.as_slice() {
-        [] => answer_lines(rt),
-        [only] => match only.as_str() {
-            "--help" => {
-                println!(rt;
-                    "dates DAY | dates add DAY SPAN.. | dates diff DAY DAY | dates [-] | dates --version"
-                )?;
-                Ok(0)
-            }
-            "--version" => {
-                println!(rt; "dates 0.1.0")?;
-                Ok(0)
-            }
-            "-" => answer_lines(rt),
-            day => answer_day(rt, day),
-        },
-        [command, first, second] if command.as_str() == "diff" => {
-            answer_distance(rt, first.as_str(), second.as_str())
-        }
-        [command, day, spans @ ..] if command.as_str() == "add" => {
-            answer_move(rt, day.as_str(), spans)
-        }
-        [first, ..] => {
-            eprintln!(rt;
-                "dates: argument 1, {}: expected one day, diff and two days, or add, a day and spans",
-                first.as_str()
-            )?;
-            Ok(WRONG)
-        }
+    match request_of(rt, words.as_slice())? {
+        Ok(request) => answer(rt, request, words.as_slice()),
+        Err(wrong) => refuse(rt, words.as_slice(), wrong),
     }
+}
+
+// What the words ask for, or which of them is wrong.
+fn request_of(
+    rt: &impl Alloc,
+    words: &[String<impl Allocator>],
+) -> io::Result<Result<Request, Wrong>> {
+    let texts: Vec<&[u8], _> = words
+        .iter()
+        .map(|word| word.as_str().as_bytes())
+        .collect(rt.alloc())?;
+    Ok(read_request(texts.as_slice()))
 }

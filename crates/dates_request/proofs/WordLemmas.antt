@@ -5,8 +5,7 @@ use Rattle.std.specs.Prelude.{All}
 use Rattle.std.proofs.lemmas.List.{take_all}
 use Rattle.std.proofs.lemmas.List.Elements.{All-from_get_or, All-map}
 use Rattle.chrono_text.proofs.DigitLemmas.{by_size}
-use Rattle.dates_request.specs.SpanTexts.{IsSpanText}
-use Rattle.dates_request.specs.Requests.{IsRequest, AsksFor, IsBy, IsDistance, IsIn, IsSequence, IsWeekText, NamesDay, WritesSpan, command_named, texts}
+use Rattle.dates_request.specs.Requests.{IsRequest, AsksFor, IsBy, IsDistance, IsIn, IsSequence, IsStepText, IsWeekText, NamesDay, WritesSpan, command_named, texts}
 use Rattle.dates_request.specs.declared.command.Command.{Command}
 use Rattle.dates_request.specs.declared.request.Request.{Request}
 use Rattle.dates_request.specs.declared.span.Span.{Span}
@@ -49,8 +48,8 @@ cut_two words first second rest two e = let parts = sym e ∙ ahead_two words tw
 pub named : {a b : List ℕ} {n : ℤ} → a ≡ b → NamesDay a n → NamesDay b n
 named {n = n} e is = subst (λ t. NamesDay t n) e is
 
-pub written : {a b : List ℕ} {s : Span} → a ≡ b → IsSpanText a s → IsSpanText b s
-written {s = s} e is = subst (λ t. IsSpanText t s) e is
+pub written : {a b : List ℕ} {s : Span} → a ≡ b → IsStepText a s → IsStepText b s
+written {s = s} e is = subst (λ t. IsStepText t s) e is
 
 pub of_week : {a b : List ℕ} {n : ℤ} → a ≡ b → IsWeekText a n → IsWeekText b n
 of_week {n = n} e is = subst (λ t. IsWeekText t n) e is

@@ -1,5 +1,5 @@
 -- What arguments ask for: the words of each request, one behind another.
-use Rattle.std.specs.Prelude.{◌≡◌, ◌<◌, if◌then◌else◌, ℕ, ℤ, List, [], ◌∷◌, ◌++◌, codes, length, map, bytes_eq, unsigned_abs, Option, Some, None, All}
+use Rattle.std.specs.Prelude.{◌≡◌, ◌<◌, if◌then◌else◌, ℕ, ℤ, pos, List, [], ◌∷◌, ◌++◌, codes, length, map, bytes_eq, unsigned_abs, Option, Some, None, All}
 use Rattle.std.specs.Borrow.{Bor}
 use Rattle.chrono_text.specs.Text.{year_text}
 use Rattle.chrono_reading.specs.DateTexts.{IsWeekDateText}
@@ -76,11 +76,16 @@ pub record IsIn (words : List (List ℕ)) (from to : ℤ) (r : Request) : Type 0
   pub written : words ≡ codes "in" ∷ letter ∷ []
   pub is : r ≡ request.DistanceIn from to unit
 
--- a span, behind two days
+-- the text writes a span that is not 0
+pub record IsStepText (text : List ℕ) (s : Span) : Type 0 where
+  pub is : IsSpanText text s
+  pub moves : s.count ≡ pos 0 → ⊥
+
+-- a span that is not 0, behind two days
 pub record IsBy (words : List (List ℕ)) (from to : ℤ) (r : Request) : Type 0 where
   pub span : List ℕ
   pub step : Span
-  pub is_span : IsSpanText span step
+  pub is_step : IsStepText span step
   pub written : words ≡ span ∷ []
   pub is : r ≡ request.SequenceBy from to step
 

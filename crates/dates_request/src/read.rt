@@ -9,7 +9,7 @@ use crate::command::{Command, command_named};
 use crate::day::NoDay;
 use crate::request::Request;
 use crate::span::read_span;
-use crate::word::{day_at, span_at, unit_at, week_at, year_at};
+use crate::word::{day_at, step_at, unit_at, week_at, year_at};
 use crate::wrong::{Why, Wrong};
 use chrono_datetime::NaiveDate;
 
@@ -185,7 +185,7 @@ fn sequence(from: NaiveDate, to: NaiveDate, words: &[&[u8]]) -> Result<Request, 
     match words {
         [] => Ok(Request::Sequence { from, to }),
         [span] => {
-            let step = span_at(4, span)?;
+            let step = step_at(4, span)?;
             Ok(Request::SequenceBy { from, to, step })
         }
         _ => Err(wrong_at(5, Why::End)),

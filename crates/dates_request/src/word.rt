@@ -1,7 +1,7 @@
 //! One argument, at its place: a day, a span, a year, a week or a unit.
 ghost use Rattle.std.specs.Prelude.{◌≡◌, ℤ, Ok, Some, IfOk, IfSome, IfNone, None};
 ghost use Rattle.dates_request.specs.SpanTexts.{IsSpanText};
-ghost use Rattle.dates_request.specs.Requests.{IsWeekText, IsYearText, NamesDay, unit_word};
+ghost use Rattle.dates_request.specs.Requests.{IsStepText, IsWeekText, IsYearText, NamesDay, unit_word};
 ghost use Rattle.dates_request.specs.declared.span.Span.{Span};
 ghost use Rattle.dates_request.specs.declared.span.Unit.{Unit};
 
@@ -38,6 +38,21 @@ pub(crate) fn span_at(place: usize, word: &[u8]) -> Result<Span, Wrong>
             why: Why::Span,
         }),
     }
+}
+
+// The span that the word at this place writes, which is not 0.
+pub(crate) fn step_at(place: usize, word: &[u8]) -> Result<Span, Wrong>
+    ensures read { IfOk result (λ s. IsStepText word.now s) }
+    ensures every { (s : Span) → IsStepText word.now s → result ≡ Ok s }
+{
+    let step = span_at(place, word)?;
+    if step.count == 0 {
+        return Err(Wrong {
+            place,
+            why: Why::Step,
+        });
+    }
+    Ok(step)
 }
 
 // The year that the word at this place writes.

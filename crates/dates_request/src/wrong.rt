@@ -18,6 +18,8 @@ pub enum Why {
     Day(NoDay),
     /// A span.
     Span,
+    /// A span that is not 0.
+    Step,
     /// A year.
     Year,
     /// A week.

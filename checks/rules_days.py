@@ -1,0 +1,290 @@
+#!/usr/bin/env python3
+"""Holds the instances of chrono_rules to a reading of its own, day by day, and to dateutil where it is installed.
+
+    checks/rules_days.py [--seed N] [--rules N]      (seed 1 and 600 rules, if left out)
+
+The program crates/rules_rows answers rows; here they are made. dateutil's rrule gives the first instances of random rules, of the parts that
+RFC 5545 allows together. A walk by RFC 5545, 3.3.10, asks of each day of 400 years whether it is an instance of some rules.
+
+Where dateutil reads the RFC otherwise, no such rule is made for it, and the walk alone answers:
+
+- BYDAY with numbered and plain weekdays in one list. dateutil asks for both; the RFC lists "days of the week", and any of a list will do.
+- BYWEEKNO with neither BYDAY nor days. dateutil gives all days of the week; by the RFC "information, not contained in the rule" is "derived
+  from the DTSTART", so it is the start's weekday.
+- BYSETPOS in the week of a start in its midst. dateutil counts from the start; by the RFC it is "the nth occurrence within the set", that of
+  "one interval of the recurrence rule", so of the whole week.
+- BYWEEKNO=-52 and -53. dateutil leaves out the days before 1 January of a first week that is named from the end.
+
+A start that is no instance is none for both: dateutil does not give it either, and COUNT does not count it.
+It needs crates/rules_rows/out/rules_rows, which `rt run` and `rt ci` leave there.
+"""
+import argparse
+import calendar
+import datetime
+import itertools
+import os
+import random
+import re
+import subprocess
+import sys
+
+TOP = os.path.dirname(os.path.dirname(os.path.abspath(__file__)))
+ROWS = os.path.join(TOP, "crates", "rules_rows", "out", "rules_rows")
+DEBIAN = "/usr/bin/python3"
+DAILY, WEEKLY, MONTHLY, YEARLY = range(4)
+FIRST = 30
+
+try:
+    from dateutil import rrule
+except ImportError:
+    rrule = None
+
+Date = datetime.date
+
+
+class Rule:
+    """A rule: lists of numbers by part, weekdays as pairs of a number or None and 0 for Monday to 6."""
+
+    def __init__(self, frequency, **parts):
+        self.frequency, self.interval, self.count, self.until, self.week_start = frequency, 1, None, None, 0
+        self.months, self.month_days, self.weekdays, self.year_days, self.weeks, self.positions = [], [], [], [], [], []
+        for name, it in parts.items():
+            setattr(self, name, it)
+
+    def row(self, start, days, ended):
+        """A row of rules_rows; at most one weekday has numbers."""
+        numbered = [it for it in self.weekdays if it[0]]
+        year_words = [digits(it - 64 * word for it in self.year_days if it // 64 == word) for word in (0, 1, 3)]
+        words = [
+            "rule", self.frequency, self.interval, self.count or 0, self.until.toordinal() if self.until else 0, self.week_start,
+            digits(self.months), *ends(self.month_days), digits(day for number, day in self.weekdays if not number),
+            numbered[0][1] if numbered else 0, *ends([number for number, _ in numbered]), *year_words, *ends(self.weeks), *ends(self.positions),
+            start.toordinal(), "=", *(it.toordinal() for it in days), *(["end"] if ended else []),
+        ]
+        return " ".join(map(str, words))
+
+
+def digits(numbers):
+    return sum(1 << it for it in set(numbers))
+
+
+def ends(numbers):
+    return digits(it for it in numbers if it > 0), digits(-it for it in numbers if it < 0)
+
+
+# ---- the walk
+
+
+def week_first(date, start):
+    return date.toordinal() - (date.weekday() - start) % 7
+
+
+def period(rule, date):
+    """The number of a date's period."""
+    if rule.frequency == DAILY:
+        return date.toordinal()
+    if rule.frequency == WEEKLY:
+        return week_first(date, rule.week_start) // 7
+    return date.year * 12 + date.month if rule.frequency == MONTHLY else date.year
+
+
+def in_list(numbers, place, length):
+    """Whether the place is listed, from the front or from the back."""
+    return place in numbers or place - length - 1 in numbers
+
+
+def weeks_of(year, start):
+    """The first day of a year's first week, which has four days of it, and how many weeks it has."""
+    firsts = []
+    for it in (year, year + 1):
+        fourth = Date(it, 1, 4)
+        firsts.append(week_first(fourth, start))
+    return firsts[0], (firsts[1] - firsts[0]) // 7
+
+
+def in_week(rule, date):
+    first = week_first(date, rule.week_start)
+    year = Date.fromordinal(first + 3).year
+    of_year, length = weeks_of(year, rule.week_start)
+    return in_list(rule.weeks, (first - of_year) // 7 + 1, length)
+
+
+def on_weekday(rule, date):
+    year_length = 366 if calendar.isleap(date.year) else 365
+    in_month = rule.frequency == MONTHLY or rule.months
+    length = calendar.monthrange(date.year, date.month)[1] if in_month else year_length
+    place = date.day if in_month else date.timetuple().tm_yday
+    front, back = (place - 1) // 7 + 1, -((length - place) // 7 + 1)
+    return any(day == date.weekday() and number in (None, front, back) for number, day in rule.weekdays)
+
+
+def derived(rule, start, date):
+    """What the start says where the rule does not."""
+    names_days = rule.month_days or rule.weekdays or rule.year_days
+    if rule.frequency == WEEKLY and not rule.weekdays or rule.frequency == YEARLY and rule.weeks and not names_days:
+        return date.weekday() == start.weekday()
+    if rule.frequency in (MONTHLY, YEARLY) and not names_days:
+        month = rule.frequency == MONTHLY or rule.months or date.month == start.month
+        return date.day == start.day and month
+    return True
+
+
+def passes(rule, start, date):
+    length = calendar.monthrange(date.year, date.month)[1]
+    year_length = 366 if calendar.isleap(date.year) else 365
+    return (
+        derived(rule, start, date)
+        and (not rule.months or date.month in rule.months)
+        and (not rule.month_days or in_list(rule.month_days, date.day, length))
+        and (not rule.weekdays or on_weekday(rule, date))
+        and (not rule.year_days or in_list(rule.year_days, date.timetuple().tm_yday, year_length))
+        and (not rule.weeks or in_week(rule, date))
+    )
+
+
+def walked(rule, start, end):
+    """The instances from the start to before a date, by a walk over all its days, a period at a time."""
+    day = Date.fromordinal(week_first(start, rule.week_start)) if rule.frequency == WEEKLY else start.replace(month=1, day=1)
+    days = (Date.fromordinal(it) for it in range(day.toordinal(), end.toordinal()))
+    found = []
+    for number, dates in itertools.groupby(days, lambda it: period(rule, it)):
+        if (number - period(rule, start)) % rule.interval:
+            continue
+        passing = [it for it in dates if passes(rule, start, it)]
+        chosen = [it for place, it in enumerate(passing, 1) if not rule.positions or in_list(rule.positions, place, len(passing))]
+        found += [it for it in chosen if it >= start and (rule.until is None or it <= rule.until)]
+    return found[: rule.count]
+
+
+# ---- rules
+
+
+def of_walk():
+    """Rules of 400 years, and those that dateutil reads otherwise."""
+    friday, monday, sunday = 4, 0, 6
+    yield Rule(MONTHLY, weekdays=[(-1, friday)]), Date(2000, 1, 1)
+    yield Rule(MONTHLY, weekdays=[(5, friday)]), Date(2000, 1, 1)
+    yield Rule(YEARLY, months=[2], month_days=[29]), Date(2000, 1, 1)
+    yield Rule(YEARLY, months=[2], month_days=[-1]), Date(2000, 1, 1)
+    yield Rule(YEARLY), Date(2000, 2, 29)
+    yield Rule(MONTHLY, month_days=[31]), Date(2000, 1, 31)
+    yield Rule(MONTHLY), Date(2000, 1, 30)
+    yield Rule(MONTHLY, weekdays=[(None, it) for it in range(5)], positions=[-1]), Date(2000, 1, 1)
+    yield Rule(YEARLY, weekdays=[(53, monday)]), Date(2000, 1, 1)
+    yield Rule(YEARLY, weeks=[53], weekdays=[(None, monday)]), Date(2000, 1, 1)
+    yield Rule(YEARLY, weeks=[1], weekdays=[(None, monday)]), Date(2000, 1, 1)
+    yield Rule(YEARLY, weeks=[1, -1], week_start=sunday), Date(2000, 1, 5)
+    yield Rule(YEARLY, weeks=[-52, -53], weekdays=[(None, monday)]), Date(2000, 1, 1)
+    yield Rule(MONTHLY, weekdays=[(None, monday), (1, friday)]), Date(2000, 1, 1)
+    yield Rule(WEEKLY, interval=26, weekdays=[(None, it) for it in (1, 3, 5)], positions=[2]), Date(2000, 1, 6)
+    yield Rule(WEEKLY, interval=2, weekdays=[(None, 1), (None, sunday)], week_start=sunday, count=300), Date(1997, 8, 5)
+    yield Rule(DAILY, interval=97), Date(2000, 1, 1)
+    yield Rule(DAILY, months=[2], month_days=[29]), Date(2000, 1, 1)
+
+
+def some(chance, least, most, count):
+    return sorted(chance.sample(range(least, most + 1), chance.randint(1, count)))
+
+
+def signed(chance, most, count):
+    return sorted({it * chance.choice((1, 1, -1)) for it in some(chance, 1, most, count)})
+
+
+def given_days(chance, rule):
+    """Parts that name days, of those that the frequency allows."""
+    kind = chance.choice(("weekdays", "numbered", "month_days", "both", "year_days", "weeks", "none"))
+    if kind in ("weekdays", "both") or kind == "numbered" and rule.frequency in (DAILY, WEEKLY):
+        rule.weekdays = [(None, it) for it in some(chance, 0, 6, 4)]
+    elif kind == "numbered":
+        most = 5 if rule.frequency == MONTHLY or rule.months else 53
+        day = chance.randint(0, 6)
+        rule.weekdays = [(it, day) for it in signed(chance, most, 3)]
+    if kind in ("month_days", "both") and rule.frequency != WEEKLY:
+        rule.month_days = signed(chance, 31, 6)
+    if kind == "year_days" and rule.frequency == YEARLY:
+        rule.year_days = sorted(chance.sample([*range(1, 128), *range(192, 256)], 5))
+    if kind == "weeks" and rule.frequency == YEARLY:
+        rule.weeks = sorted({it * chance.choice((1, -1)) for it in some(chance, 1, 51, 4)})
+        rule.weekdays = [(None, it) for it in some(chance, 0, 6, 3)]
+
+
+def at_random(chance):
+    """A rule and a start."""
+    start = Date.fromordinal(chance.randrange(Date(1990, 1, 1).toordinal(), Date(2040, 1, 1).toordinal()))
+    start = chance.choice((start, Date(start.year, 12, 31), Date(2024, 2, 29), Date(start.year, 1, 30)))
+    rule = Rule(chance.randint(DAILY, YEARLY), interval=chance.choice((1, 1, 2, 3, 5)), week_start=chance.choice((0, 0, 6, 3)))
+    if chance.random() < 0.3:
+        rule.months = some(chance, 1, 12, 4)
+    given_days(chance, rule)
+    if (rule.weekdays or rule.month_days) and rule.frequency != DAILY and chance.random() < 0.3:
+        rule.positions = signed(chance, 4, 2)
+        if rule.frequency == WEEKLY:
+            start = Date.fromordinal(week_first(start, rule.week_start))
+    rule.until = start + datetime.timedelta(chance.choice((400, 4000, 15000)))
+    return rule, start
+
+
+def of_dateutil(rule, start):
+    """The instances up to the rule's UNTIL, by dateutil."""
+    weekdays = [rrule.weekday(day, number) for number, day in rule.weekdays]
+    begin, end = (datetime.datetime(it.year, it.month, it.day) for it in (start, rule.until))
+    made = rrule.rrule(
+        3 - rule.frequency, begin, rule.interval, rule.week_start, None, end, rule.positions or None, rule.months or None,
+        rule.month_days or None, rule.year_days or None, None, rule.weeks or None, weekdays or None,
+    )
+    return [it.date() for it in made]
+
+
+def cut(chance, rule, start, days):
+    """A row of the first of them, some with COUNT in place of UNTIL."""
+    if days and chance.random() < 0.4:
+        rule.count, rule.until = chance.randint(1, min(len(days), FIRST)), None
+        return rule.row(start, days[: rule.count], True)
+    return rule.row(start, days[:FIRST], len(days) <= FIRST)
+
+
+def asked(name, rows):
+    """How many rows hold and how many do not; those that do not are printed."""
+    ran = subprocess.run([ROWS], input="".join(row + "\n" for row in rows), capture_output=True, text=True, check=False)
+    last = re.fullmatch(r"(\d+) lines, (\d+) of them answered otherwise", ran.stdout.splitlines()[-1] if ran.stdout else "")
+    failed = int(last[2]) if last and int(last[1]) == len(rows) and ran.returncode == 0 else max(len(rows), 1)
+    for line in ran.stdout.splitlines()[: min(failed, 10)]:
+        print(line[:300])
+    print(f"{name}: {len(rows) - failed} of {len(rows)} rules")
+    return len(rows) - failed, failed
+
+
+def main():
+    wanted = argparse.ArgumentParser()
+    wanted.add_argument("--seed", type=int, default=1)
+    wanted.add_argument("--rules", type=int, default=600)
+    options = wanted.parse_args()
+    if not os.path.exists(ROWS):
+        print("not run: everything, since there is no crates/rules_rows/out/rules_rows")
+        return 0
+    if not rrule and sys.executable != DEBIAN and subprocess.run([DEBIAN, "-c", "import dateutil"], capture_output=True, check=False).returncode == 0:
+        os.execv(DEBIAN, [DEBIAN, *sys.argv])
+    chance = random.Random(options.seed)
+    rows = []
+    for rule, start in of_walk():
+        end = start.replace(year=start.year + 400, day=1)
+        rule.until = None if rule.count else end - datetime.timedelta(1)
+        rows.append(rule.row(start, walked(rule, start, end), True))
+    results = [asked("400 years, day by day", rows)]
+    near = []
+    for _ in range(options.rules // 10):
+        rule, start = at_random(chance)
+        rule.until = min(rule.until, start + datetime.timedelta(4000))
+        near.append(cut(chance, rule, start, walked(rule, start, rule.until + datetime.timedelta(40))))
+    results.append(asked("random rules, day by day", near))
+    if rrule:
+        made = [at_random(chance) for _ in range(options.rules)]
+        results.append(asked("random rules beside dateutil", [cut(chance, rule, start, of_dateutil(rule, start)) for rule, start in made]))
+    else:
+        print("not run: dateutil's rules, since it is not installed")
+    print(f"{sum(it[0] for it in results)} passed, {sum(it[1] for it in results)} failed")
+    return 1 if any(it[1] for it in results) else 0
+
+
+if __name__ == "__main__":
+    sys.exit(main())

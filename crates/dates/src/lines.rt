@@ -1,0 +1,21 @@
+//! Standard input, line by line.
+
+use crate::day_names::print_names;
+use crate::fault::{ANSWERED, NONE};
+use dates_request::read_day;
+use std::io::{self, BufRead, BufReader};
+
+// Each line of the input by all names of its day, or `none`.
+pub(crate) fn answer_lines(rt: &(impl Alloc + Print + Input)) -> io::Result<u8> {
+    let mut status = ANSWERED;
+    for line in BufReader::new(rt.alloc(), rt.reader())?.split(rt.alloc(), b'\n') {
+        match read_day(line?.as_slice()) {
+            Ok(date) => print_names(rt, date)?,
+            Err(_) => {
+                println!(rt; "none")?;
+                status = NONE;
+            }
+        }
+    }
+    Ok(status)
+}
