@@ -121,7 +121,7 @@ unfolding number_in
 number_high names low high text n e from more =
     ap (option_and_then (within low high)) e ∙ ap (λ a. tested n a (nat_le n high)) (le-leb low n from) ∙ ap (tested n true) (lt-leb n high more)
 
-number_in-nothing : (names : Names) (low high : ℕ) → number_in names low high [] ≡ None
+pub number_in-nothing : (names : Names) (low high : ℕ) → number_in names low high [] ≡ None
 unfolding number_in spelled_number short_number_of number_of_name place_of_name natural_of
 number_in-nothing Numbers low high = refl
 number_in-nothing Months low high = refl
@@ -218,7 +218,7 @@ pub onto-false : (others : Option Bool) → others ≡ onto false others
 onto-false None = refl
 onto-false (Some b) = refl
 
-onto-more : (so_far here : Bool) (others : Option Bool) → onto so_far (onto here others) ≡ onto (so_far || here) others
+pub onto-more : (so_far here : Bool) (others : Option Bool) → onto so_far (onto here others) ≡ onto (so_far || here) others
 onto-more so_far here None = refl
 onto-more true here (Some b) = refl
 onto-more false here (Some b) = refl

@@ -8,5 +8,7 @@ mod Months
 mod Order
 mod SameDues
 mod Steps
+mod WordLemmas
+mod DayLemmas
 mod WrittenLemmas
 mod WrittenAscii

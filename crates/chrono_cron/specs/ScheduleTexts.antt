@@ -7,7 +7,10 @@ use Rattle.std.specs.Str.{bytes_eq, str_eq_ignore_ascii_case}
 use Rattle.chrono_cron.specs.Due.{has}
 use Rattle.chrono_text.specs.Numbers.{natural_of}
 use Rattle.chrono_cron.specs.FieldTexts.{before, behind, field_lists, item_lists, items_list, number_in, number_of_name, place_of_name, range_of, short_number_of, span_of, spelled_number}
+use Rattle.chrono_cron.specs.declared.day_names.DayName.{DayName}
+use Rattle.chrono_cron.specs.declared.day_names.DayName.TheVariants.{FromEnd, LastWorkday, NearestWorkday, LastWeekday, NthWeekday}
 use Rattle.chrono_cron.specs.declared.month_days.MonthDays.{MonthDays}
+use Rattle.chrono_cron.specs.declared.names.Names.{Names}
 use Rattle.chrono_cron.specs.declared.names.Names.TheVariants.{Numbers, Months, Weekdays}
 use Rattle.chrono_cron.specs.declared.number_set.NumberSet.{NumberSet}
 use Rattle.chrono_cron.specs.declared.sets.Sets.{Sets}
@@ -59,9 +62,12 @@ from_end_of text =
     else if str_eq_ignore_ascii_case (take 2 text) (codes "L-") then number_in Numbers 1 30 (drop 2 text)
     else None
 
--- `LW`, the month's last workday
+-- `LW`, the month's last workday; told as the number 0
 unfoldable pub is_last_workday_text : List ℕ → Bool
 is_last_workday_text text = str_eq_ignore_ascii_case text (codes "LW")
+
+abbrev pub last_workday_of : List ℕ → Option ℕ
+last_workday_of text = if is_last_workday_text text then Some 0 else None
 
 -- `kW`, the workday that is nearest to the month's k-th day: k
 unfoldable pub nearest_workday_of : List ℕ → Option ℕ
@@ -75,12 +81,26 @@ last_weekday_of text = option_and_then weekday_of_text (before_letter 108 text)
 unfoldable pub nth_weekday_of : List ℕ → Option ℕ
 nth_weekday_of text = option_and_then (λ d. option_map (λ k. 7 * (k - 1) + d) (number_in Numbers 1 5 (behind 35 text))) (weekday_of_text (before 35 text))
 
+-- the number of a name by its kind
+abbrev pub number_by : DayName → List ℕ → Option ℕ
+number_by FromEnd = from_end_of
+number_by LastWorkday = last_workday_of
+number_by NearestWorkday = nearest_workday_of
+number_by LastWeekday = last_weekday_of
+number_by NthWeekday = nth_weekday_of
+
 -- the item of a field names a day of the month by its place, or by its weekday
 unfoldable pub names_day : List ℕ → Bool
 names_day item = is_some (from_end_of item) || (is_last_workday_text item || is_some (nearest_workday_of item))
 
 unfoldable pub names_weekday : List ℕ → Bool
 names_weekday item = is_some (last_weekday_of item) || is_some (nth_weekday_of item)
+
+-- an item of a field with these names names days: of the field of days, which has none, and of that of weekdays
+unfoldable pub names_by : Names → List ℕ → Bool
+names_by Numbers item = names_day item
+names_by Months item = false
+names_by Weekdays item = names_weekday item
 
 -- the items of a field, with commas between
 abbrev pub items_of : List ℕ → List (List ℕ)
@@ -92,20 +112,20 @@ other_items names text = filter (λ item. not (names item)) (items_of text)
 
 -- whether the field of days lists k by an item that names no day; none if one of the items is none
 unfoldable pub days_list : List ℕ → ℕ → Option Bool
-days_list text k = items_list Numbers 1 31 (other_items names_day text) k
+days_list text k = items_list Numbers 1 31 (other_items (names_by Numbers) text) k
 
 -- the same of the field of weekdays, in which 7 stands for Sunday too
 abbrev pub weekday_items_list : List ℕ → ℕ → Option Bool
-weekday_items_list text k = items_list Weekdays 0 7 (other_items names_weekday text) k
+weekday_items_list text k = items_list Weekdays 0 7 (other_items (names_by Weekdays) text) k
 
 unfoldable pub weekdays_list : List ℕ → ℕ → Option Bool
 weekdays_list text k =
-    option_and_then (λ here. option_map (λ again. nat_lt k 7 && (here || again)) (weekday_items_list text (k + 7))) (weekday_items_list text k)
+    option_and_then (λ here. option_map (λ seven. nat_lt k 7 && (here || (k == 0 && seven))) (weekday_items_list text 7)) (weekday_items_list text k)
 
 -- whether an item of the field has the number k by a reading of items
 abbrev pub is_number : ℕ → Option ℕ → Bool
 is_number k None = false
-is_number k (Some n) = n == k
+is_number k (Some n) = k == n
 
 unfoldable pub an_item_is : (List ℕ → Option ℕ) → List ℕ → ℕ → Bool
 an_item_is number text k = list_any (λ item. is_number k (number item)) (items_of text)
@@ -124,7 +144,7 @@ AreNamed set named = (k : ℕ) → k < 64 → named k ≡ has set k
 pub record AreNamedDays (day weekday : List ℕ) (m : MonthDays) : Type 0 where
   pub from_end : AreNamed m.from_end (an_item_is from_end_of day)
   pub nearest_workdays : AreNamed m.nearest_workdays (an_item_is nearest_workday_of day)
-  pub last_workday : list_any is_last_workday_text (items_of day) ≡ m.last_workday
+  pub last_workday : an_item_is last_workday_of day 0 ≡ m.last_workday
   pub last_weekdays : AreNamed m.last_weekdays (an_item_is last_weekday_of weekday)
   pub nth_weekdays : AreNamed m.nth_weekdays (an_item_is nth_weekday_of weekday)
 
@@ -160,5 +180,40 @@ unfolding field_lists item_lists span_of range_of number_in spelled_number short
 month-name = refl
 
 weekdays_list-seven : weekdays_list (codes "5-7") 0 ≡ Some true
-unfolding weekdays_list names_weekday last_weekday_of nth_weekday_of item_lists span_of range_of number_in spelled_number short_number_of number_of_name place_of_name natural_of
+unfolding weekdays_list names_by names_weekday last_weekday_of nth_weekday_of item_lists span_of range_of number_in spelled_number short_number_of number_of_name place_of_name natural_of
 weekdays_list-seven = refl
+
+-- a week has no day 7, and Sunday is listed where either of its numbers is
+weekdays_list-sunday : weekdays_list (codes "SUN") 0 ≡ Some true
+unfolding weekdays_list names_by names_weekday last_weekday_of nth_weekday_of item_lists span_of range_of number_in spelled_number short_number_of number_of_name place_of_name natural_of
+weekdays_list-sunday = refl
+
+weekdays_list-no_seven : weekdays_list (codes "7") 7 ≡ Some false
+unfolding weekdays_list names_by names_weekday last_weekday_of nth_weekday_of item_lists span_of range_of number_in spelled_number short_number_of number_of_name place_of_name natural_of
+weekdays_list-no_seven = refl
+
+-- a name is read in a list beside a number, and lists none; `L` alone is no weekday
+days_list-named : days_list (codes "L-3,15") 15 ≡ Some true
+unfolding days_list names_by names_day from_end_of is_last_workday_text nearest_workday_of item_lists span_of range_of number_in spelled_number short_number_of number_of_name place_of_name natural_of
+days_list-named = refl
+
+weekdays_list-no_weekday : weekdays_list (codes "L") 0 ≡ None
+unfolding weekdays_list names_by names_weekday last_weekday_of nth_weekday_of item_lists span_of range_of number_in spelled_number short_number_of number_of_name place_of_name natural_of
+weekdays_list-no_weekday = refl
+
+-- names of days
+from_end_of-three : from_end_of (codes "l-3") ≡ Some 3
+unfolding from_end_of number_in spelled_number short_number_of number_of_name natural_of
+from_end_of-three = refl
+
+nearest_workday_of-fifteen : nearest_workday_of (codes "15W") ≡ Some 15
+unfolding nearest_workday_of number_in spelled_number short_number_of number_of_name natural_of
+nearest_workday_of-fifteen = refl
+
+last_weekday_of-friday : last_weekday_of (codes "friL") ≡ Some 5
+unfolding last_weekday_of number_in spelled_number short_number_of number_of_name place_of_name natural_of
+last_weekday_of-friday = refl
+
+nth_weekday_of-second_sunday : nth_weekday_of (codes "7#2") ≡ Some 7
+unfolding nth_weekday_of number_in spelled_number short_number_of number_of_name place_of_name natural_of
+nth_weekday_of-second_sunday = refl

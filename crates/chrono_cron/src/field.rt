@@ -8,7 +8,7 @@ ghost use Rattle.chrono_cron.specs.FieldTexts.{field_lists, is_star, item_lists,
 use crate::names::Names;
 use crate::number_set::NumberSet;
 
-const COMMA: u8 = b',';
+pub(crate) const COMMA: u8 = b',';
 
 const SLASH: u8 = b'/';
 
@@ -42,7 +42,7 @@ pub fn read_field(text: &[u8], names: Names, low: u32, high: u32) -> Option<Numb
 }
 
 // The numbers that an item of a field lists.
-fn read_item(text: &[u8], names: Names, low: u32, high: u32) -> Option<NumberSet>
+pub(crate) fn read_item(text: &[u8], names: Names, low: u32, high: u32) -> Option<NumberSet>
     requires { high < 64 }
     ensures { (k : ℕ) → k < 64 → option_map (λ set. has set k) result ≡ item_lists names low high text.now k }
 {
@@ -94,7 +94,7 @@ fn is_star(text: &[u8]) -> bool
 }
 
 // The number from `low` to `high` that a text writes or names.
-fn read_number(text: &[u8], names: Names, low: u32, high: u32) -> Option<u32>
+pub(crate) fn read_number(text: &[u8], names: Names, low: u32, high: u32) -> Option<u32>
     ensures number { result ≡ number_in names low high text.now }
     ensures low { IfSome result (λ n. low ≤ n) }
     ensures high { IfSome result (λ n. n ≤ high) }
@@ -131,7 +131,7 @@ fn short_number(text: &[u8]) -> Option<u32>
 }
 
 // What stands behind a place of a text.
-fn text_behind(text: &[u8], place: usize) -> &[u8]
+pub(crate) fn text_behind(text: &[u8], place: usize) -> &[u8]
     requires { place < length text.now }
     ensures { result.now ≡ drop (place + 1) text.now }
 {
@@ -139,7 +139,7 @@ fn text_behind(text: &[u8], place: usize) -> &[u8]
 }
 
 // Where the first byte of a kind stands, or how long the text is if there is none.
-fn place_of(text: &[u8], byte: u8) -> usize
+pub(crate) fn place_of(text: &[u8], byte: u8) -> usize
     ensures within { result ≤ length text.now }
     ensures place { position_or_len (λ x. x == byte) text.now ≡ result }
 {

@@ -49,7 +49,7 @@ impl NumberSet {
 
     // The members and that number.
     #[inline]
-    fn with(self, number: u32) -> NumberSet
+    pub(crate) fn with(self, number: u32) -> NumberSet
         requires { number < 64 }
         ensures { (k : ℕ) → k < 64 → has result k ≡ (has self k || (k == number)) }
     {

@@ -1,0 +1,152 @@
+//! Items of the two fields of days that name days of a month: `L`, `L-k`, `LW`, `kW`, `dL` and `d#k`.
+ghost use Rattle.std.specs.Prelude.{◌≡◌, ◌≤◌, ◌<◌, ◌-◌, ◌==◌, ℕ, length, take, drop, slice_index, IfSome, IfNone, is_some};
+ghost use Rattle.std.specs.Char.{to_ascii_lowercase};
+ghost use Rattle.std.specs.Str.{str_eq_ignore_ascii_case};
+ghost use Rattle.chrono_cron.specs.ScheduleTexts.{before_letter, from_end_of, is_last_workday_text, last_weekday_of, last_workday_of, names_day, names_weekday, nearest_workday_of, nth_weekday_of, number_by, weekday_of_text};
+
+use crate::field::{place_of, read_number, text_behind};
+use crate::names::Names;
+
+const SHARP: u8 = b'#';
+
+// A kind of name for days of a month.
+#[derive(Clone, Copy, PartialEq, Eq, Debug)]
+pub(crate) enum DayName {
+    // `L` and `L-k`.
+    FromEnd,
+    // `LW`.
+    LastWorkday,
+    // `kW`.
+    NearestWorkday,
+    // `dL`.
+    LastWeekday,
+    // `d#k`.
+    NthWeekday,
+}
+
+impl DayName {
+    // The number of a name of this kind; 0 for `LW`.
+    pub(crate) fn number_of(self, item: &[u8]) -> Option<u32>
+        ensures number { result ≡ number_by self item.now }
+        ensures small { IfSome result (λ n. n < 64) }
+    {
+        match self {
+            DayName::FromEnd => from_end_of(item),
+            DayName::LastWorkday => last_workday_of(item),
+            DayName::NearestWorkday => nearest_workday_of(item),
+            DayName::LastWeekday => last_weekday_of(item),
+            DayName::NthWeekday => nth_weekday_of(item),
+        }
+    }
+}
+
+// `LW` as 0.
+fn last_workday_of(text: &[u8]) -> Option<u32>
+    ensures number { result ≡ last_workday_of text.now }
+    ensures small { IfSome result (λ n. n < 64) }
+{
+    if is_last_workday(text) { Some(0) } else { None }
+}
+
+// `L` as 0 and `L-k` as k: how many days of the month follow the day.
+#[tactic(auto, unfolding(crate::specs::ScheduleTexts::from_end_of))]
+fn from_end_of(text: &[u8]) -> Option<u32>
+    ensures number { result ≡ from_end_of text.now }
+    ensures small { IfSome result (λ n. n < 64) }
+{
+    if is_same_text(text, b"L") {
+        return Some(0);
+    }
+    let len = text.len().min(2);
+    if is_same_text(&text[..len], b"L-") {
+        return read_number(&text[len..], Names::Numbers, 1, 30);
+    }
+    None
+}
+
+// Whether the text is `LW`.
+#[tactic(auto, unfolding(crate::specs::ScheduleTexts::is_last_workday_text))]
+fn is_last_workday(text: &[u8]) -> bool
+    ensures { result ≡ is_last_workday_text text.now }
+{
+    is_same_text(text, b"LW")
+}
+
+// `kW` as k: the day whose nearest workday it is.
+#[tactic(auto, unfolding(crate::specs::ScheduleTexts::nearest_workday_of))]
+fn nearest_workday_of(text: &[u8]) -> Option<u32>
+    ensures number { result ≡ nearest_workday_of text.now }
+    ensures small { IfSome result (λ n. n < 64) }
+{
+    read_number(before_letter(text, b'w')?, Names::Numbers, 1, 31)
+}
+
+// `dL` as d: the weekday, from 0 for Sunday.
+#[tactic(auto, unfolding(crate::specs::ScheduleTexts::last_weekday_of))]
+fn last_weekday_of(text: &[u8]) -> Option<u32>
+    ensures number { result ≡ last_weekday_of text.now }
+    ensures small { IfSome result (λ n. n < 64) }
+{
+    weekday_of_text(before_letter(text, b'l')?)
+}
+
+// `d#k` as 7 * (k - 1) + d.
+#[tactic(auto, unfolding(crate::specs::ScheduleTexts::nth_weekday_of))]
+fn nth_weekday_of(text: &[u8]) -> Option<u32>
+    ensures number { result ≡ nth_weekday_of text.now }
+    ensures small { IfSome result (λ n. n < 64) }
+{
+    let len = place_of(text, SHARP);
+    if len == text.len() {
+        return None;
+    }
+    let weekday = weekday_of_text(&text[..len])?;
+    let nth = read_number(text_behind(text, len), Names::Numbers, 1, 5)?;
+    Some(7 * (nth - 1) + weekday)
+}
+
+// Whether an item names a day by its place in the month.
+#[tactic(auto, unfolding(crate::specs::ScheduleTexts::names_day))]
+pub(crate) fn names_day(item: &[u8]) -> bool
+    ensures { result ≡ names_day item.now }
+{
+    from_end_of(item).is_some() || is_last_workday(item) || nearest_workday_of(item).is_some()
+}
+
+// Whether an item names a day by its weekday.
+#[tactic(auto, unfolding(crate::specs::ScheduleTexts::names_weekday))]
+pub(crate) fn names_weekday(item: &[u8]) -> bool
+    ensures { result ≡ names_weekday item.now }
+{
+    last_weekday_of(item).is_some() || nth_weekday_of(item).is_some()
+}
+
+// The weekday of a number or a name, from 0 for Sunday, for which 7 stands too.
+fn weekday_of_text(text: &[u8]) -> Option<u32>
+    ensures number { result ≡ weekday_of_text text.now }
+    ensures small { IfSome result (λ d. d < 7) }
+{
+    let number = read_number(text, Names::Weekdays, 0, 7)?;
+    Some(number % 7)
+}
+
+// What stands before a letter that ends the text, in either case.
+fn before_letter(text: &[u8], letter: u8) -> Option<&[u8]>
+    requires { 0 < letter }
+    ensures some { IfSome result (λ front. before_letter letter text.now ≡ Some front.now) }
+    ensures none { IfNone result (before_letter letter text.now ≡ None) }
+{
+    if let [front @ .., last] = text {
+        if last.to_ascii_lowercase() == letter {
+            return Some(front);
+        }
+    }
+    None
+}
+
+// Whether two texts are the same but for the case of their letters.
+fn is_same_text(text: &[u8], other: &[u8]) -> bool
+    ensures { result ≡ str_eq_ignore_ascii_case text.now other.now }
+{
+    text.eq_ignore_ascii_case(other)
+}
