@@ -25,7 +25,8 @@ SOURCES = os.path.join(TOP, "benches", "columns")
 LIBRARIES = {"x86-64-v2": f"{OUT}/libcalendar_c.a", "x86-64-v3": f"{OUT}/libcalendar_c-v3.a"}
 CALLS = (
     "weekdays", "years", "ordinals", "split", "iso_weeks", "join", "add_days", "add_months", "days_between", "from_unix_days",
-    "to_unix_days", "add_days_in_place", "add_months_in_place", "count_dates", "write_dates", "read_dates",
+    "to_unix_days", "add_days_in_place", "add_months_in_place", "count_dates", "write_dates", "read_dates", "add_days_each",
+    "add_days_each_in_place", "first_on",
 )
 SHORT, ROUNDS = 32_768, 60
 INTERPRETERS = (sys.executable, "/usr/bin/python3")

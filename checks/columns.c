@@ -296,6 +296,34 @@ static void one_length(size_t n, size_t place)
     count(right, "a column at a place, with length", (long long)n);
 }
 
+/* The other columns of a length at a place, with what they read at other places, which has to stay as it is. */
+static void one_length_elsewhere(size_t n, size_t place)
+{
+    for (size_t i = 0; i < n; i++) dates[i] = i % 5 == 3 ? hostile() : (int32_t)(draw() % 191491529) + CALENDAR_MIN;
+    for (size_t i = 0; i < n; i++) counts[i] = (int32_t)(draw() % 200000001) - 100000000;
+    room in = room_of(n, 4, (5 * place + 3) % PLACES), by = room_of(n, 4, (3 * place + 1) % PLACES);
+    memcpy(in.at, dates, 4 * n), memcpy(by.at, counts, 4 * n);
+    const int32_t *from = (const int32_t *)in.at, *on = (const int32_t *)by.at;
+    room of_years = room_of(n, 4, place), iso_years = room_of(n, 4, place), iso_weeks = room_of(n, 1, place);
+    bool right = calendar_column_years(from, n, (int32_t *)of_years.at, n);
+    right &= calendar_column_iso_weeks(from, n, (int32_t *)iso_years.at, n, iso_weeks.at, n);
+    for (size_t i = 0; i < n; i++) {
+        years[i] = calendar_year(dates[i]), numbers[i] = calendar_iso_year(dates[i]), small[i] = (uint8_t)or_zero(calendar_iso_week(dates[i]));
+    }
+    right &= holds(of_years, years) & holds(iso_years, numbers) & holds(iso_weeks, small);
+    room moved = room_of(n, 4, place), apart = room_of(n, 4, place), found = room_of(n, 4, place);
+    right &= calendar_column_add_days_each(from, n, on, n, (int32_t *)moved.at, n);
+    for (size_t i = 0; i < n; i++) numbers[i] = calendar_add_days(dates[i], counts[i]);
+    right &= holds(moved, numbers);
+    right &= calendar_column_days_between(from, n, on, n, (int32_t *)apart.at, n);
+    for (size_t i = 0; i < n; i++) numbers[i] = distance(dates[i], counts[i]);
+    right &= holds(apart, numbers);
+    right &= calendar_column_first_on(from, n, 0x24, (int32_t *)found.at, n);
+    for (size_t i = 0; i < n; i++) numbers[i] = calendar_first_on(dates[i], 0x24);
+    right &= holds(found, numbers) & holds(in, dates) & holds(by, counts);
+    count(right, "a column that reads from another place, with length", (long long)n);
+}
+
 /* Columns of unequal lengths are not written. */
 static void unequal(void)
 {
@@ -314,6 +342,15 @@ static void unequal(void)
             any |= calendar_column_join(of_dates, n, few, n, more, n, of_years, m);
             any |= calendar_column_days_between(of_dates, n, of_dates, m, of_years, n);
             any |= calendar_column_add_days_each_in_place(of_years, n, of_dates, m);
+            any |= calendar_column_iso_weeks(of_dates, n, of_years, m, few, n) | calendar_column_iso_weeks(of_dates, n, of_years, n, few, m);
+            any |= calendar_column_first_on(of_dates, n, 1, of_years, m) | calendar_column_days_between(of_dates, n, of_dates, n, of_years, m);
+            any |= calendar_column_add_days_each(of_dates, n, of_dates, m, of_years, n);
+            any |= calendar_column_add_days_each(of_dates, n, of_dates, n, of_years, m);
+            uint16_t of_ordinals[4] = {9, 9, 9, 9};
+            int64_t of_days[4] = {9, 9, 9, 9};
+            any |= calendar_column_ordinals(of_dates, n, of_ordinals, m) | calendar_column_to_unix_days(of_dates, n, of_days, m);
+            any |= calendar_column_from_unix_days(of_days, n, of_years, m);
+            for (int i = 0; i < 4; i++) any |= of_ordinals[i] != 9 || of_days[i] != 9;
             uint8_t of_texts[40] = {0};
             any |= calendar_column_write_dates(of_dates, n, of_texts, m) | calendar_column_read_dates(of_texts, n, of_years, m);
             for (int i = 0; i < 40; i++) any |= of_texts[i] != 0;
@@ -327,7 +364,7 @@ int main(void)
 {
     unequal();
     for (size_t n = 0; n <= LONGEST; n++) {
-        for (size_t place = 0; place < PLACES; place++) one_length(n, place);
+        for (size_t place = 0; place < PLACES; place++) one_length(n, place), one_length_elsewhere(n, place);
     }
     hostile_names();
     hostile_numbers();

@@ -9,7 +9,8 @@ count finds one is tried on two loops of C that differ by `&&` for `&`, the one 
 
 Then checks/columns.c is built and run: all 191,491,529 dates and 100,000 numbers beyond each end by columns beside single calls,
 names and counts at the ends of their types, and columns of 0 to 70 elements at each place in memory, between bytes that have to
-stay. Last, all 3,652,059 days of Python's datetime are split, joined and moved beside numpy, by a shared object of the library.
+stay. The same is asked of the second library, for x86-64-v3, where the processor has AVX2. Last, all 3,652,059 days of Python's
+datetime are split, joined and moved beside numpy, by a shared object of the first library.
 """
 import ctypes
 import os
@@ -19,7 +20,7 @@ import subprocess
 import sys
 import tempfile
 
-from languages import TOP, Results, find_library, run
+from languages import TOP, Results, build_higher, find_library, run
 
 SOURCE = f"{TOP}/checks/columns.c"
 HEADERS = f"{TOP}/languages/c"
@@ -27,10 +28,10 @@ HEADERS = f"{TOP}/languages/c"
 # How many packed multiplications and comparisons the loop of each column has at least. The loop of `first_on` asks a set of each date,
 # which is no vector code. Of texts that are written it is the loop that names the dates of a block.
 NEEDED = {
-    "weekdays": (2, 3), "years": (4, 3), "ordinals": (4, 3), "split": (7, 4), "iso_weeks": (8, 4), "join": (6, 8), "add_days": (0, 6),
-    "add_days_each": (0, 6), "add_months": (14, 7), "days_between": (0, 5), "from_unix_days": (0, 5), "to_unix_days": (0, 3),
-    "first_on": (0, 0), "add_days_in_place": (0, 6), "add_days_each_in_place": (0, 6), "add_months_in_place": (14, 7), "count_dates": (0, 3),
-    "write_dates": (7, 4), "read_dates": (6, 8),
+    "weekdays": (2, 3), "years": (4, 3), "ordinals": (4, 3), "split": (7, 4), "iso_weeks": (8, 4), "join": (6, 13), "add_days": (0, 8),
+    "add_days_each": (0, 6), "add_months": (14, 7), "days_between": (0, 5), "from_unix_days": (0, 5), "to_unix_days": (0, 6),
+    "first_on": (0, 0), "add_days_in_place": (0, 8), "add_days_each_in_place": (0, 6), "add_months_in_place": (14, 7), "count_dates": (0, 3),
+    "write_dates": (7, 4), "read_dates": (10, 20),
 }
 
 MULTIPLICATION = r"v?pmul\w+"
@@ -183,6 +184,29 @@ def compare_numpy(results, room, library):
     print("not run: the columns beside numpy, since there is no numpy")
 
 
+def compare_library(results, room, library):
+    """Whether the columns of a library are vector code, and answer what its single calls do."""
+    if shutil.which("objdump"):
+        compare_machine_code(results, library)
+    words = ["cc", "-std=c99", "-O2", "-Wall", "-Wextra", f"-I{HEADERS}", SOURCE, library, "-o", f"{room}/columns"]
+    subprocess.run(words, check=True)
+    run(results, f"{os.path.basename(library)} beside single calls", [f"{room}/columns"], (r"^(\d+) passed", r"(\d+) failed$"))
+
+
+def compare_higher(results, room, library):
+    """The same of the second library of the package for C, where the processor has what it needs."""
+    with open("/proc/cpuinfo", encoding="utf-8") as it:
+        has_vectors = " avx2 " in it.read()
+    if not has_vectors or not shutil.which("rt"):
+        print("not run: the columns of the library for higher processors, since there is no rt or no AVX2")
+        return
+    higher = f"{room}/libcalendar-v3.a"
+    built = build_higher(library, higher)
+    results.count(built, "`rt lib --cpu` does not build the library for higher processors")
+    if built:
+        compare_library(results, room, higher)
+
+
 def main():
     if sys.argv[1:2] == ["--numpy"]:
         beside_numpy(sys.argv[2])
@@ -199,13 +223,11 @@ def main():
             print("0 passed, 0 failed")
             return 0
         if shutil.which("objdump"):
-            compare_machine_code(results, library)
             try_plant(results, room)
         else:
             print("not run: the machine code of the columns, since there is no objdump")
-        words = ["cc", "-std=c99", "-O2", "-Wall", "-Wextra", f"-I{HEADERS}", SOURCE, library, "-o", f"{room}/columns"]
-        subprocess.run(words, check=True)
-        run(results, "beside single calls", [f"{room}/columns"], (r"^(\d+) passed", r"(\d+) failed$"))
+        compare_library(results, room, library)
+        compare_higher(results, room, library)
         compare_numpy(results, room, library)
     print(f"{results.passed} passed, {results.failed} failed")
     return 1 if results.failed else 0

@@ -19,6 +19,9 @@ void copy_4(const int32_t *, int32_t *, size_t);
 void copy_split(const int32_t *, int32_t *, uint8_t *, uint8_t *, size_t);
 void copy_join(const int32_t *, const uint8_t *, const uint8_t *, int32_t *, size_t);
 
+/* A set of weekdays, Monday as its lowest bit. */
+enum { MONDAY_AND_FRIDAY = 1 | 1 << 4 };
+
 static int32_t *dates, *years, *numbers, *wanted;
 static uint8_t *months, *days, *small, *texts;
 static uint16_t *ordinals;
@@ -77,6 +80,10 @@ static void join_copy(void) { copy_join(years, months, days, numbers, n); }
 static void add_days_ours(void) { calendar_column_add_days(dates, n, 1000, numbers, n); }
 static void add_days_single(void) { for (size_t i = 0; i < n; i++) numbers[i] = calendar_add_days(dates[i], 1000); }
 static void add_days_copy(void) { copy_4(dates, numbers, n); }
+static void add_days_each_ours(void) { calendar_column_add_days_each(dates, n, years, n, numbers, n); }
+static void add_days_each_single(void) { for (size_t i = 0; i < n; i++) numbers[i] = calendar_add_days(dates[i], years[i]); }
+static void first_on_ours(void) { calendar_column_first_on(dates, n, MONDAY_AND_FRIDAY, numbers, n); }
+static void first_on_single(void) { for (size_t i = 0; i < n; i++) numbers[i] = calendar_first_on(dates[i], MONDAY_AND_FRIDAY); }
 static void add_months_ours(void) { calendar_column_add_months(dates, n, 7, numbers, n); }
 static void add_months_single(void) { for (size_t i = 0; i < n; i++) numbers[i] = calendar_add_months(dates[i], 7); }
 static void add_months_limit(void) { limit_add_months(dates, 7, numbers, n); }
@@ -85,6 +92,7 @@ static void days_between_ours(void) { calendar_column_days_between(dates, n, yea
 static void to_unix_days_ours(void) { calendar_column_to_unix_days(dates, n, wide, n); }
 static void from_unix_days_ours(void) { calendar_column_from_unix_days(wide, n, numbers, n); }
 static void add_days_in_place_ours(void) { calendar_column_add_days_in_place(numbers, n, 1); }
+static void add_days_each_in_place_ours(void) { calendar_column_add_days_each_in_place(numbers, n, years, n); }
 static void add_months_in_place_ours(void) { calendar_column_add_months_in_place(numbers, n, 1); }
 static volatile size_t there;
 static void count_dates_ours(void) { there = calendar_column_count_dates(dates, n); }
@@ -109,11 +117,14 @@ static const timed all[] = {
     {"split", "ours", split_ours}, {"split", "single", split_single}, {"split", "limit", split_limit}, {"split", "copy", split_copy},
     {"join", "ours", join_ours}, {"join", "single", join_single}, {"join", "limit", join_limit}, {"join", "copy", join_copy},
     {"add_days", "ours", add_days_ours}, {"add_days", "single", add_days_single}, {"add_days", "copy", add_days_copy},
+    {"add_days_each", "ours", add_days_each_ours}, {"add_days_each", "single", add_days_each_single},
+    {"first_on", "ours", first_on_ours}, {"first_on", "single", first_on_single},
     {"add_months", "ours", add_months_ours}, {"add_months", "single", add_months_single},
     {"add_months", "limit", add_months_limit}, {"add_months", "copy", add_months_copy},
     {"days_between", "ours", days_between_ours}, {"to_unix_days", "ours", to_unix_days_ours},
     {"from_unix_days", "ours", from_unix_days_ours},
     {"add_days_in_place", "ours", add_days_in_place_ours}, {"add_months_in_place", "ours", add_months_in_place_ours},
+    {"add_days_each_in_place", "ours", add_days_each_in_place_ours},
     {"count_dates", "ours", count_dates_ours},
     {"write_dates", "ours", write_dates_ours}, {"write_dates", "single", write_dates_single},
     {"write_dates", "copy", write_dates_copy}, {"write_dates", "limit", write_dates_limit},
@@ -130,6 +141,10 @@ static void compare(void)
     weekdays_single(), same &= !memcmp(wanted, small, n);
     years_ours(), memcpy(wanted, numbers, 4 * n), years_single(), same &= !memcmp(wanted, numbers, 4 * n);
     add_days_ours(), memcpy(wanted, numbers, 4 * n), add_days_single(), same &= !memcmp(wanted, numbers, 4 * n);
+    split_limit();
+    add_days_each_ours(), memcpy(wanted, numbers, 4 * n), add_days_each_single(), same &= !memcmp(wanted, numbers, 4 * n);
+    memcpy(numbers, dates, 4 * n), add_days_each_in_place_ours(), same &= !memcmp(wanted, numbers, 4 * n);
+    first_on_ours(), memcpy(wanted, numbers, 4 * n), first_on_single(), same &= !memcmp(wanted, numbers, 4 * n);
     add_months_ours(), memcpy(wanted, numbers, 4 * n), add_months_single(), same &= !memcmp(wanted, numbers, 4 * n);
     add_months_limit(), same &= !memcmp(wanted, numbers, 4 * n);
     split_limit(), join_limit(), same &= !memcmp(dates, numbers, 4 * n);

@@ -187,9 +187,10 @@ calendar_ymd calendar_split(int32_t date);
 
 /* ---- columns of dates
  *
- * A column is a pointer to its first element and the number of its elements. Where the columns of a call have not all the same
- * number, nothing is written and false answered; else each element of the last columns is written, and true answered. No column
- * that is written may overlap another one. In a column CALENDAR_NONE stands for a date, a year or a distance that there is not,
+ * A column is a pointer to its first element and the number of its elements. The pointer is not null, even for no elements; it is
+ * aligned for its type, and so many elements lie at it. Where the columns of a call have not all the same number, nothing is
+ * written and false answered; else each element of the columns that are not const is written, and true answered (where a call
+ * has one column alone, nothing is answered). No column that is written may overlap another one. In a column CALENDAR_NONE stands for a date, a year or a distance that there is not,
  * INT64_MIN for days since 1970, and 0 for a month, a day, an ordinal, a week or a weekday; what is no date has none of these. */
 
 /* The weekday of each date, from 1 for Monday to 7. */
