@@ -6,6 +6,7 @@ use crate::fault::{ANSWERED, WRONG};
 use crate::file::answer_file;
 use crate::lines::answer_lines;
 use crate::moved::answer_move;
+use crate::open::{answer_open, answer_roll};
 use crate::sequence::{answer_days, answer_sequence};
 use crate::year::{answer_easter, answer_leap, answer_week};
 use dates_request::{Request, Unit};
@@ -38,6 +39,12 @@ pub(crate) fn answer(
         Request::Week { first } => answer_week(rt, first),
         Request::Easter { year } => answer_easter(rt, year),
         Request::Leap { year } => answer_leap(rt, year),
+        Request::Open { date, options } => answer_open(rt, words, date, options),
+        Request::Rolled {
+            date,
+            convention,
+            options,
+        } => answer_roll(rt, words, date, convention, options),
         Request::Check => match words {
             [_, file, ..] => answer_file(rt, file.as_str()),
             _ => Ok(WRONG),
@@ -54,10 +61,20 @@ fn answer_help(rt: &impl Print) -> io::Result<u8> {
     println!(rt; "dates week WEEK              the first and the last day of a week: 2024-W09")?;
     println!(rt; "dates easter YEAR            Easter Sunday")?;
     println!(rt; "dates leap YEAR              whether it is a leap year")?;
+    println!(rt; "dates open DAY [OPTION..]    whether it is an open day")?;
+    println!(rt; "dates roll DAY CONVENTION [OPTION..]")?;
+    println!(rt; "                             where a closed day goes: following, preceding,")?;
+    println!(rt;
+        "                             modified-following, modified-preceding, nearest, unadjusted"
+    )?;
     println!(rt; "dates check FILE             the lines that are no days, and why")?;
     println!(rt;
         "dates [-]                    each line of standard input by all names of its day"
     )?;
     println!(rt; "dates --help | --version")?;
+    println!(rt; "")?;
+    println!(rt; "--weekend fri,sat            closed weekdays, one or two, or none: sat,sun")?;
+    println!(rt; "--calendar NAME              holidays by rules: us-federal, target, england")?;
+    println!(rt; "--holidays FILE              holidays of a file, a day a line")?;
     Ok(ANSWERED)
 }

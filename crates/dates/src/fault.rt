@@ -38,10 +38,19 @@ fn refuse_word(rt: &(impl Print + Eprint), word: &str, wrong: Wrong) -> io::Resu
         Why::Week => refuse_form(rt, place, word, "a week as 2024-W09"),
         Why::Unit => refuse_form(rt, place, word, "d, w, m or y"),
         Why::In => refuse_form(rt, place, word, "in"),
+        Why::Convention => refuse_form(rt, place, word, CONVENTIONS),
+        Why::Option => refuse_form(rt, place, word, "--weekend, --calendar or --holidays"),
+        Why::Once => refuse_form(rt, place, word, "each option once"),
+        Why::Weekend => refuse_form(rt, place, word, "a weekend as fri,sat, sun or none"),
+        Why::Calendar => refuse_form(rt, place, word, "us-federal, target or england"),
         Why::File => refuse_form(rt, place, word, "the name of a file"),
         Why::End => refuse_form(rt, place, word, "no further argument"),
     }
 }
+
+// The conventions by which a closed day rolls.
+const CONVENTIONS: &str =
+    "following, preceding, modified-following, modified-preceding, nearest or unadjusted";
 
 // Says why a word is no day; the first one may be a command, too.
 fn refuse_day(rt: &(impl Print + Eprint), place: usize, word: &str, why: NoDay) -> io::Result<u8> {
@@ -58,7 +67,7 @@ fn refuse_day(rt: &(impl Print + Eprint), place: usize, word: &str, why: NoDay) 
 // What stands where a day does.
 fn day_or_command(place: usize) -> &'static str {
     if place == 1 {
-        "a day as 2024-02-29, add, diff, seq, week, easter, leap or check"
+        "a day as 2024-02-29, add, diff, seq, week, easter, leap, open, roll or check"
     } else {
         "a day as 2024-02-29, 2024-060 or 2024-W09-4"
     }

@@ -2,12 +2,14 @@
 #![tactic(auto)]
 
 mod answer;
+mod closed;
 mod day_names;
 mod distance;
 mod fault;
 mod file;
 mod lines;
 mod moved;
+mod open;
 mod ordinal_name;
 mod sequence;
 mod year;

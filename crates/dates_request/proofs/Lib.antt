@@ -1,4 +1,5 @@
 mod DayLemmas
+mod OptionLemmas
 mod SpanLemmas
 mod WeekLemmas
 mod WordLemmas

@@ -5,13 +5,14 @@ use Rattle.std.specs.Prelude.{All}
 use Rattle.std.proofs.lemmas.List.{take_all}
 use Rattle.std.proofs.lemmas.List.Elements.{All-from_get_or, All-map}
 use Rattle.chrono_text.proofs.DigitLemmas.{by_size}
-use Rattle.dates_request.specs.Requests.{IsRequest, AsksFor, IsBy, IsDistance, IsIn, IsSequence, IsStepText, IsWeekText, NamesDay, WritesSpan, command_named, texts}
+use Rattle.dates_request.specs.DayTexts.{NamesDay}
+use Rattle.dates_request.specs.Requests.{IsRequest, AsksFor, IsBy, IsDistance, IsIn, IsSequence, IsStepText, IsWeekText, WritesSpan, command_named, texts}
 use Rattle.dates_request.specs.declared.command.Command.{Command}
 use Rattle.dates_request.specs.declared.request.Request.{Request}
 use Rattle.dates_request.specs.declared.span.Span.{Span}
 use Rattle.dates_request.specs.declared.wrong.Wrong.{Wrong}
 
-abbrev Words : Type 0
+abbrev pub Words : Type 0
 Words = List (Bor (List ℕ))
 
 -- no word, which stands for one past the end

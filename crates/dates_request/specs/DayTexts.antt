@@ -21,3 +21,7 @@ pub record IsInMonth (text : List ℕ) (first : ℤ) : Type 0 where
 abbrev pub IsReason : List ℕ → NoDay → Type 0
 IsReason text (PastMonth first) = IsInMonth text first
 IsReason text Form = (n : ℤ) → ¬ IsDayText text n
+
+-- the text names a day
+pub record NamesDay (text : List ℕ) (n : ℤ) : Type 0 where
+  pub is : IsDayText text n

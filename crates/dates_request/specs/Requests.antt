@@ -3,7 +3,8 @@ use Rattle.std.specs.Prelude.{◌≡◌, ◌<◌, if◌then◌else◌, ℕ, ℤ,
 use Rattle.std.specs.Borrow.{Bor}
 use Rattle.chrono_text.specs.Text.{year_text}
 use Rattle.chrono_reading.specs.DateTexts.{IsWeekDateText}
-use Rattle.dates_request.specs.DayTexts.{IsDayText}
+use Rattle.dates_request.specs.DayTexts.{NamesDay}
+use Rattle.dates_request.specs.OpenRequests.{IsOpen, IsRoll}
 use Rattle.dates_request.specs.SpanTexts.{IsSpanText}
 use Rattle.dates_request.specs.declared.span.Span.{Span}
 use Rattle.dates_request.specs.declared.span.Unit.{Unit}
@@ -29,6 +30,8 @@ command_named word =
     else if bytes_eq word (codes "week") then Some command.Week
     else if bytes_eq word (codes "easter") then Some command.Easter
     else if bytes_eq word (codes "leap") then Some command.Leap
+    else if bytes_eq word (codes "open") then Some command.Open
+    else if bytes_eq word (codes "roll") then Some command.Roll
     else if bytes_eq word (codes "check") then Some command.Check
     else None
 
@@ -53,10 +56,6 @@ unit_word word =
 -- the text writes a span
 abbrev pub WritesSpan : List ℕ → Type 0
 WritesSpan text = (s : Span) × IsSpanText text s
-
--- the text names a day
-pub record NamesDay (text : List ℕ) (n : ℤ) : Type 0 where
-  pub is : IsDayText text n
 
 -- a day, and spans behind it
 pub record IsAdd (words : List (List ℕ)) (r : Request) : Type 0 where
@@ -158,6 +157,8 @@ HasArguments command.Seq words r = IsOfTwoDays IsSequence words r
 HasArguments command.Week words r = IsWeek words r
 HasArguments command.Easter words r = IsEaster words r
 HasArguments command.Leap words r = IsLeap words r
+HasArguments command.Open words r = IsOpen words r
+HasArguments command.Roll words r = IsRoll words r
 HasArguments command.Check words r = IsCheck words r
 
 -- a day, where the first word is no command

@@ -23,6 +23,10 @@ pub enum Command {
     Easter,
     /// `leap`: whether a year is a leap year.
     Leap,
+    /// `open`: whether a day is open.
+    Open,
+    /// `roll`: the open day that a day rolls to.
+    Roll,
     /// `check`: the lines of a file that are no days.
     Check,
 }
@@ -42,6 +46,8 @@ pub(crate) fn command_named(word: &[u8]) -> Option<Command>
         b"week" => Some(Command::Week),
         b"easter" => Some(Command::Easter),
         b"leap" => Some(Command::Leap),
+        b"open" => Some(Command::Open),
+        b"roll" => Some(Command::Roll),
         b"check" => Some(Command::Check),
         _ => None,
     }

@@ -3,6 +3,8 @@
 
 mod command;
 mod day;
+mod open;
+mod options;
 mod read;
 mod request;
 mod span;
@@ -12,6 +14,8 @@ mod wrong;
 
 pub use command::Command;
 pub use day::{NoDay, read_day};
+pub use open::Convention;
+pub use options::{HolidayCalendar, Options};
 pub use read::read_request;
 pub use request::Request;
 pub use span::{Span, Unit, read_span};

@@ -7,6 +7,7 @@ ghost use Rattle.dates_request.specs.Requests.{AsksFor, HasArguments, IsAdd, IsA
 
 use crate::command::{Command, command_named};
 use crate::day::NoDay;
+use crate::open::{open, roll};
 use crate::request::Request;
 use crate::span::read_span;
 use crate::word::{day_at, step_at, unit_at, week_at, year_at};
@@ -57,6 +58,8 @@ fn arguments(command: Command, words: &[&[u8]]) -> Result<Request, Wrong>
         Command::Week => week(words),
         Command::Easter => easter(words),
         Command::Leap => leap(words),
+        Command::Open => open(words),
+        Command::Roll => roll(words),
         Command::Check => check(words),
     }
 }

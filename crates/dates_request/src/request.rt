@@ -1,5 +1,7 @@
 //! `Request`: what the arguments ask for.
 
+use crate::open::Convention;
+use crate::options::Options;
 use crate::span::{Span, Unit};
 use chrono_datetime::NaiveDate;
 
@@ -68,6 +70,22 @@ pub enum Request {
     Leap {
         /// The year.
         year: i32,
+    },
+    /// Whether a day is open.
+    Open {
+        /// The day.
+        date: NaiveDate,
+        /// Which days are closed.
+        options: Options,
+    },
+    /// The open day that a day rolls to.
+    Rolled {
+        /// The day.
+        date: NaiveDate,
+        /// Where a closed day goes.
+        convention: Convention,
+        /// Which days are closed.
+        options: Options,
     },
     /// The lines of a file that are no days: the file that the second word names.
     Check,

@@ -28,6 +28,16 @@ pub enum Why {
     Unit,
     /// The word `in`.
     In,
+    /// A convention by which a closed day rolls.
+    Convention,
+    /// An option.
+    Option,
+    /// Each option once.
+    Once,
+    /// A weekend.
+    Weekend,
+    /// A calendar of holidays.
+    Calendar,
     /// The name of a file.
     File,
     /// No further argument.

@@ -1,0 +1,68 @@
+//! What is asked of open days.
+
+use crate::closed::{put_holidays, weekend_of, years_of};
+use crate::fault::{ANSWERED, NONE, WRONG};
+use chrono_business::{Calendar, Roll};
+use chrono_datetime::NaiveDate;
+use dates_request::{Convention, Options};
+use std::alloc::Allocator;
+use std::io::{self, Eprint};
+use std::rt::Files;
+
+// `yes` where the day is open, and else `no`.
+pub(crate) fn answer_open(
+    rt: &(impl Alloc + Print + Eprint + Files),
+    words: &[String<impl Allocator>],
+    date: NaiveDate,
+    options: Options,
+) -> io::Result<u8> {
+    let mut days: Vec<NaiveDate, _> = Vec::new(rt.alloc());
+    if !put_holidays(rt, words, options, years_of(date, date), &mut days)? {
+        return Ok(WRONG);
+    }
+    let Ok(calendar) = Calendar::try_new(weekend_of(options), days.as_slice()) else {
+        return Ok(WRONG);
+    };
+    println!(rt; "{}", if calendar.is_open(date) { "yes" } else { "no" })?;
+    Ok(ANSWERED)
+}
+
+// The day that the day rolls to, or `none` where the calendar ends before.
+pub(crate) fn answer_roll(
+    rt: &(impl Alloc + Print + Eprint + Files),
+    words: &[String<impl Allocator>],
+    date: NaiveDate,
+    convention: Convention,
+    options: Options,
+) -> io::Result<u8> {
+    let mut days: Vec<NaiveDate, _> = Vec::new(rt.alloc());
+    if !put_holidays(rt, words, options, years_of(date, date), &mut days)? {
+        return Ok(WRONG);
+    }
+    let Ok(calendar) = Calendar::try_new(weekend_of(options), days.as_slice()) else {
+        return Ok(WRONG);
+    };
+    match calendar.roll(date, roll_of(convention)) {
+        Some(rolled) => {
+            println!(rt; "{rolled}")?;
+            Ok(ANSWERED)
+        }
+        None => {
+            println!(rt; "none")?;
+            eprintln!(rt; "{date}: past the calendar's end")?;
+            Ok(NONE)
+        }
+    }
+}
+
+// The roll of a convention.
+fn roll_of(convention: Convention) -> Roll {
+    match convention {
+        Convention::Unadjusted => Roll::Unadjusted,
+        Convention::Following => Roll::Following,
+        Convention::Preceding => Roll::Preceding,
+        Convention::ModifiedFollowing => Roll::ModifiedFollowing,
+        Convention::ModifiedPreceding => Roll::ModifiedPreceding,
+        Convention::Nearest => Roll::Nearest,
+    }
+}

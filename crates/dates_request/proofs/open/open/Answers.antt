@@ -1,0 +1,34 @@
+use Rattle.std.proofs.Common.{refl}
+use Rattle.dates_request.specs.OptionTexts.{no_options}
+use Rattle.dates_request.proofs.OptionLemmas.{gave}
+use Rattle.dates_request.proofs.WordLemmas.{ahead, cut_one, named}
+use Rattle.dates_request.proofs.open.open.Goals as goal
+
+pub returns-in_err-date-clause-every : goal.returns-in_err-date-clause-every
+returns-in_err-date-clause-every c = λ r is.
+    let cut = cut_one c.args.words.now is.day is.rest c.in-len1-up.len_at_least is.written in
+    let e = c.in_err-date.ensures.every is.date (named cut.0 is.is_day) in cc
+
+pub returns-in_err-options-clause-every : goal.returns-in_err-options-clause-every
+returns-in_err-options-clause-every c = λ r is.
+    let cut = cut_one c.args.words.now is.day is.rest c.in-len1-up.len_at_least is.written in
+    let e = c.in_err-options.ensures.every is.options (gave is.rest _ no_options is.options cut.1 is.are_options) in cc
+
+pub returns-clause-read : goal.returns-clause-read
+returns-clause-read c = record {
+  day = _;
+  rest = _;
+  date = c.in_ok-date.date;
+  options = c.in_ok-options.options;
+  is_day = c.in_ok-date.ensures.read;
+  are_options = c.in_ok-options.ensures.read;
+  written = ahead c.args.words.now c.in-len1-up.len_at_least;
+  is = refl;
+}
+
+pub returns-clause-every : goal.returns-clause-every
+returns-clause-every c = λ r is.
+    let cut = cut_one c.args.words.now is.day is.rest c.in-len1-up.len_at_least is.written in
+    let date = c.in_ok-date.ensures.every is.date (named cut.0 is.is_day) in
+    let options = c.in_ok-options.ensures.every is.options (gave is.rest _ no_options is.options cut.1 is.are_options) in
+    let asked = is.is in cc
