@@ -1,5 +1,5 @@
 -- Options, two words at a time, and the texts of weekends.
-use Rattle.std.proofs.Common.{◌≡◌, ◌<◌, ◌≤◌, ◌⊎◌, ℕ, List, [], ◌∷◌, ◌++◌, ◌-◌, suc, length, take, drop, get_or, codes, inl, inr, Option, Some, None, refl, sym, ap, subst, ◌∙◌, arith}
+use Rattle.std.proofs.Common.{◌≡◌, ◌<◌, ◌≤◌, ◌⊎◌, ℕ, List, [], ◌∷◌, ◌++◌, ◌+◌, ◌-◌, suc, length, take, drop, get_or, codes, inl, inr, Option, Some, None, Result, Ok, refl, sym, ap, subst, ◌∙◌, arith}
 use Rattle.std.proofs.lemmas.List.{take_all, length-append}
 use Rattle.std.proofs.lemmas.Option.{same_Some}
 use Rattle.chrono_datetime.specs.WeekdaySet.{DaySet}
@@ -7,6 +7,7 @@ use Rattle.dates_request.specs.Requests.{texts}
 use Rattle.dates_request.specs.OptionTexts.{AreOptions, AreTwoDays, HasValue, IsNoDay, IsOneDay, IsOption, IsWeekendText, option_named}
 use Rattle.dates_request.specs.declared.options.OptionName.{OptionName}
 use Rattle.dates_request.specs.declared.options.Options.{Options}
+use Rattle.dates_request.specs.declared.wrong.Wrong.{Wrong}
 use Rattle.dates_request.proofs.WordLemmas.{Words, behind, no_word}
 
 length-texts : (words : Words) → length (texts words) ≡ length words
@@ -16,15 +17,15 @@ length-texts (w ∷ words) = ap suc (length-texts words)
 pub gave : (a b : List (List ℕ)) (o p : Options) → a ≡ b → AreOptions a o p → AreOptions b o p
 gave a b o p e are = subst (λ t. AreOptions t o p) e are
 
--- no words write no option, and one alone none
-pub none_more : (words : Words) (before after : Options) → length words < 1 → AreOptions (texts words) before after → after ≡ before
-none_more [] before after few are = are
-none_more (w ∷ words) before after few are = absurd (omega arith)
+-- behind the same options
+pub gave_behind : (words : List (List ℕ)) (o p after : Options) → o ≡ p → AreOptions words o after → AreOptions words p after
+gave_behind words o p after e are = subst (λ q. AreOptions words q after) e are
 
-pub not_alone : (words : Words) (before after : Options) → 1 ≤ length words → length words < 2 → AreOptions (texts words) before after → ⊥
-not_alone [] before after some few are = absurd (omega arith)
-not_alone (w ∷ []) before after some few are = are
-not_alone (w ∷ v ∷ words) before after some few are = absurd (omega arith)
+abbrev read_as : Options → Result Options Wrong
+read_as o = Ok o
+
+pub same_options : (o p : Options) → read_as o ≡ read_as p → o ≡ p
+same_options o p e = cc
 
 -- two words write an option, and those behind them the others
 pub apart : (words : Words) (before after : Options) → 2 ≤ length words → AreOptions (texts words) before after
@@ -59,7 +60,8 @@ of_name name value n option before after e is =
 -- which text a weekend has, by its length
 pub long_two : (text : List ℕ) (days : DaySet) → AreTwoDays text days → length text ≡ 7
 long_two text days are =
-    omega (arith, are.three, are.also_three, ap (λ (c : List ℕ). length c) are.written, length-append are.front (44 ∷ are.back))
+    let whole : length text ≡ length are.front + suc (length are.back) = sym (ap (λ (c : List ℕ). length c) are.written) ∙ length-append are.front (codes "," ++ are.back) in
+    omega (arith, whole, are.three, are.also_three)
 
 pub by_three : (text : List ℕ) (days : DaySet) → length text ≡ 3 → IsWeekendText text days → IsOneDay text days
 by_three text days three (inl is) = absurd (omega (arith, three, ap (λ (c : List ℕ). length c) is.written))
@@ -93,3 +95,9 @@ joined_at_comma (a ∷ b ∷ []) four comma = absurd (omega arith)
 joined_at_comma (a ∷ b ∷ c ∷ []) four comma = absurd (omega arith)
 joined_at_comma (a ∷ b ∷ c ∷ d ∷ back) four comma =
     ap (λ (rest : List ℕ). a ∷ b ∷ c ∷ 44 ∷ rest) (take_all _ back (omega arith)) ∙ ap (λ (k : ℕ). a ∷ b ∷ c ∷ k ∷ back) (sym comma)
+
+pub three_in_front : (text : List ℕ) → 4 ≤ length text → length (take 3 text) ≡ 3
+three_in_front [] four = absurd (omega arith)
+three_in_front (a ∷ []) four = absurd (omega arith)
+three_in_front (a ∷ b ∷ []) four = absurd (omega arith)
+three_in_front (a ∷ b ∷ c ∷ text) four = refl

@@ -1,7 +1,7 @@
 use Rattle.std.proofs.Common.{◌≡◌, ap, sym, ◌∙◌, arith}
 use Rattle.std.proofs.lemmas.Option.{same_Some}
 use Rattle.dates_request.specs.OptionTexts.{weekday_named}
-use Rattle.dates_request.proofs.OptionLemmas.{cut_at_comma, joined_at_comma}
+use Rattle.dates_request.proofs.OptionLemmas.{cut_at_comma, joined_at_comma, three_in_front}
 use Rattle.dates_request.proofs.options.two_days.Goals as goal
 
 pub returns-clause-read : goal.returns-clause-read
@@ -10,7 +10,7 @@ returns-clause-read c = record {
   back = _;
   first = c.in_ok-first.first;
   second = c.in_ok-second.second;
-  three = omega (arith, c.in-len4-up.len_at_least);
+  three = three_in_front c.args.text.now c.in-len4-up.len_at_least;
   also_three = omega (arith, c.if-back-ne3.false);
   named_first = sym c.in_ok-first.ensures;
   named_second = sym c.in_ok-second.ensures;
