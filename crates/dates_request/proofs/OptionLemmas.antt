@@ -1,6 +1,6 @@
 -- Options, two words at a time, and the texts of weekends.
 use Rattle.std.proofs.Common.{◌≡◌, ◌<◌, ◌≤◌, ◌⊎◌, ℕ, List, [], ◌∷◌, ◌++◌, ◌+◌, ◌-◌, suc, length, take, drop, get_or, codes, inl, inr, Option, Some, None, Result, Ok, refl, sym, ap, subst, ◌∙◌, arith}
-use Rattle.std.proofs.lemmas.List.{take_all, length-append}
+use Rattle.std.proofs.lemmas.List.{take_all}
 use Rattle.std.proofs.lemmas.Option.{same_Some}
 use Rattle.chrono_datetime.specs.WeekdaySet.{DaySet}
 use Rattle.dates_request.specs.Requests.{texts}
@@ -58,10 +58,15 @@ of_name name value n option before after e is =
     subst (λ (k : OptionName). HasValue k value n before after) (sym (same_Some option is.option (e ∙ is.named))) is.has_value
 
 -- which text a weekend has, by its length
-pub long_two : (text : List ℕ) (days : DaySet) → AreTwoDays text days → length text ≡ 7
-long_two text days are =
-    let whole : length text ≡ length are.front + suc (length are.back) = sym (ap (λ (c : List ℕ). length c) are.written) ∙ length-append are.front (codes "," ++ are.back) in
-    omega (arith, whole, are.three, are.also_three)
+long_front : (text front back : List ℕ) → length front ≡ 3 → front ++ codes "," ++ back ≡ text → length text ≡ suc (suc (suc (suc (length back))))
+long_front text [] back three e = absurd (omega arith)
+long_front text (a ∷ []) back three e = absurd (omega arith)
+long_front text (a ∷ b ∷ []) back three e = absurd (omega arith)
+long_front text (a ∷ b ∷ c ∷ d ∷ more) back three e = absurd (omega arith)
+long_front text (a ∷ b ∷ c ∷ []) back three e = subst (λ (t : List ℕ). length t ≡ suc (suc (suc (suc (length back))))) e refl
+
+long_two : (text : List ℕ) (days : DaySet) → AreTwoDays text days → length text ≡ 7
+long_two text days are = omega (arith, long_front text are.front are.back are.three are.written, are.also_three)
 
 pub by_three : (text : List ℕ) (days : DaySet) → length text ≡ 3 → IsWeekendText text days → IsOneDay text days
 by_three text days three (inl is) = absurd (omega (arith, three, ap (λ (c : List ℕ). length c) is.written))
