@@ -2,8 +2,8 @@
 mod Counts
 mod Cycles
 mod DayLists
-mod LetterLemmas
 mod Moments
 mod Passed
 mod PieceLemmas
+mod RuleTextLemmas
 mod Walks
