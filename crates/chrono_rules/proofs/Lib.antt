@@ -5,5 +5,4 @@ mod DayLists
 mod Moments
 mod Passed
 mod PieceLemmas
-mod RuleTextLemmas
 mod Walks

@@ -21,16 +21,16 @@ first_piece sep (suc n) (b ∷ bs) none within at =
     ∙ ap (begun false b) (first_piece sep n bs (λ k lt. none (suc k) (omega arith)) (omega arith) (λ lt. at (omega arith)))
 
 -- behind a separator the next piece begins
-pub behind_one : (sep : ℕ) (text : List ℕ) → 1 ≤ length text → pieces_behind sep text ≡ pieces sep (drop 1 text)
+behind_one : (sep : ℕ) (text : List ℕ) → 1 ≤ length text → pieces_behind sep text ≡ pieces sep (drop 1 text)
 behind_one sep [] some = absurd (omega arith)
 behind_one sep (b ∷ bs) some = refl
 
-pub behind_none : (sep : ℕ) (text : List ℕ) → length text < 1 → pieces_behind sep text ≡ []
+behind_none : (sep : ℕ) (text : List ℕ) → length text < 1 → pieces_behind sep text ≡ []
 behind_none sep [] none = refl
 behind_none sep (b ∷ bs) none = absurd (omega arith)
 
 -- what is behind the first byte
-pub rest_is : (text : List ℕ) → take (length text - 1) (drop 1 text) ≡ drop 1 text
+rest_is : (text : List ℕ) → take (length text - 1) (drop 1 text) ≡ drop 1 text
 rest_is [] = refl
 rest_is (b ∷ bs) = take_all (length (b ∷ bs) - 1) bs (omega arith)
 
@@ -100,9 +100,3 @@ large_step false v text more = refl
 pub too_large : (v : ℕ) (text : List ℕ) → 4_294_967_295 < v → option_and_then (up_to 4_294_967_295) (with_digits v text) ≡ None
 too_large v [] large = ap (λ t. if t then Some v else None) (lt-leb v 4_294_967_295 large)
 too_large v (b ∷ bs) large = large_step (nat_le 48 b && nat_le b 57) (v * 10 + (b - 48)) bs (too_large (v * 10 + (b - 48)) bs (omega (arith, large)))
-
-pub no_digit_left : (v : ℕ) (text : List ℕ) → length text < 1 → v ≤ 4_294_967_295 → option_and_then (up_to 4_294_967_295) (with_digits v text) ≡ Some v
-no_digit_left v [] none few =
-    let t : nat_le v 4_294_967_295 ≡ true = grind arith in
-    ap (λ t. if t then Some v else None) t
-no_digit_left v (b ∷ bs) none few = absurd (omega (arith, none))

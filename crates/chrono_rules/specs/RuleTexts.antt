@@ -1,6 +1,6 @@
 -- The texts of rules (RFC 5545, section 3.3.10), as `FREQ=MONTHLY;BYDAY=-1FR`.
-use Rattle.std.specs.Prelude.{◌≡◌, ℕ, ◌+◌, ◌-◌, ◌*◌, ◌/◌, ◌%◌, ◌==◌, nat_le, Bool, true, false, not, ◌&&◌, ◌||◌, List, [], ◌∷◌, length, take, drop, if◌then◌else◌, Option, Some, None, ℤ, pos, codes, refl}
-use Rattle.std.specs.List.{list_all, list_any}
+use Rattle.std.specs.Prelude.{◌≡◌, ℕ, ◌/◌, ◌%◌, ◌==◌, Bool, true, false, not, ◌&&◌, ◌||◌, List, [], ◌∷◌, length, take, drop, if◌then◌else◌, Option, Some, None, ℤ, pos, codes, refl}
+use Rattle.std.specs.List.{list_all}
 use Rattle.std.specs.Option.{option_and_then, option_map}
 use Rattle.std.specs.Str.{str_eq_ignore_ascii_case}
 use Rattle.chrono_datetime.specs.Days.{date_of_ymd}
@@ -10,7 +10,6 @@ use Rattle.chrono_datetime.specs.declared.Weekday.TheVariants.{Mon}
 use Rattle.chrono_rules.specs.Instances.{are_zero, has_numbers, lacks_month_days, lacks_months, lacks_positions, lacks_weekdays, lacks_weeks, lacks_year_days, no_numbers, no_places, no_weekdays}
 use Rattle.chrono_rules.specs.Pieces.{count_of, digits_of, pieces, through}
 use Rattle.chrono_rules.specs.Places.{ends_of, no_ends, number_of, place_of, weekday_of_letters, weekdays_of, with_number, with_word}
-use Rattle.chrono_rules.specs.declared.place_text.BothEnds.{BothEnds}
 use Rattle.chrono_rules.specs.declared.place_text.Place.{Place}
 use Rattle.chrono_rules.specs.declared.places.NumberSet.{NumberSet}
 use Rattle.chrono_rules.specs.declared.places.PlaceSet.{PlaceSet}
@@ -70,7 +69,7 @@ frequency_of text =
 unfoldable pub date_of : List ℕ → Option ℤ
 date_of text =
     if length text == 8 then
-        option_and_then (λ y. option_and_then (λ m. option_and_then (date_of_ymd (pos y) m) (digits_of 2 (drop 6 text))) (digits_of 2 (take 2 (drop 4 text)))) (digits_of 4 (take 4 text))
+    option_and_then (λ y. option_and_then (λ m. option_and_then (date_of_ymd (pos y) m) (digits_of 2 (drop 6 text))) (digits_of 2 (take 2 (drop 4 text)))) (digits_of 4 (take 4 text))
     else None
 
 -- where a rule ends: at one of the two, or nowhere
@@ -162,3 +161,65 @@ pub record IsRuleText (text : List ℕ) (r : Rule) : Type 0 where
   pub named : list_all is_part (parts text) ≡ true
   pub says : Says text r
   pub fitting : fits r ≡ true
+
+-- known values: what stands behind a name, in letters of either case, once, nowhere and twice
+values-one : values_in (codes "FREQ=YEARLY;bymonth=3") (codes "BYMONTH=") ≡ codes "3" ∷ []
+values-one = refl
+
+values-none : values_in (codes "FREQ=MONTHLY;BYMONTHDAY=3") (codes "BYMONTH=") ≡ []
+values-none = refl
+
+values-two : values_in (codes "COUNT=3;FREQ=DAILY;COUNT=4") (codes "COUNT=") ≡ codes "3" ∷ codes "4" ∷ []
+values-two = refl
+
+-- numbers with zeros in front, and nothing
+interval_of-zeros : interval_of (codes "0010") ≡ Some 10
+unfolding interval_of count_of
+interval_of-zeros = refl
+
+interval_of-zero : interval_of (codes "0") ≡ None
+unfolding interval_of count_of
+interval_of-zero = refl
+
+count_of-nothing : count_of [] ≡ None
+unfolding count_of
+count_of-nothing = refl
+
+-- months have no sign, days of the year have three digits and one
+months_of-two : months_of (codes "6,07") ≡ Some (record { digits = 192 })
+unfolding months_of with_month_text number_of digits_of
+months_of-two = refl
+
+months_of-signed : months_of (codes "-1") ≡ None
+unfolding months_of with_month_text number_of digits_of
+months_of-signed = refl
+
+year_ends_of-both : year_ends_of (codes "1,200,-1") ≡ Some (record { front = record { words = 2 ∷ 0 ∷ 0 ∷ 256 ∷ 0 ∷ 0 ∷ [] }; back = record { words = 2 ∷ 0 ∷ 0 ∷ 0 ∷ 0 ∷ 0 ∷ [] } })
+unfolding year_ends_of with_year_text place_of number_of digits_of
+year_ends_of-both = refl
+
+year_ends_of-past : year_ends_of (codes "367") ≡ None
+unfolding year_ends_of with_year_text place_of number_of digits_of
+year_ends_of-past = refl
+
+-- a day of 1997, none of 1997, and a time of day
+date_of-christmas : date_of (codes "19971224") ≡ date_of_ymd (pos 1997) 12 24
+unfolding date_of digits_of
+date_of-christmas = refl
+
+date_of-leap_day : date_of (codes "19970229") ≡ None
+unfolding date_of digits_of date_of_ymd
+date_of-leap_day = refl
+
+date_of-time : date_of (codes "19971224T000000Z") ≡ None
+unfolding date_of digits_of
+date_of-time = refl
+
+-- a rule ends once
+end_of-both : end_of (codes "3" ∷ []) (codes "19971224" ∷ []) ≡ None
+unfolding end_of
+end_of-both = refl
+
+end_of-count : end_of (codes "3" ∷ []) [] ≡ Some (Count 3)
+unfolding end_of count_of
+end_of-count = refl

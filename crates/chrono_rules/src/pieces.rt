@@ -1,5 +1,5 @@
 //! Texts in pieces, and numbers from the left.
-ghost use Rattle.std.specs.Prelude.{◌≡◌, ◌∷◌, ◌≤◌, ◌<◌, IfSome, length, take, drop};
+ghost use Rattle.std.specs.Prelude.{◌≡◌, ◌∷◌, ◌≤◌, ◌<◌, IfSome, length};
 ghost use Rattle.std.specs.Option.{option_and_then};
 ghost use Rattle.chrono_rules.specs.Pieces.{count_of, digits_of, pieces, pieces_behind, up_to, with_digits};
 

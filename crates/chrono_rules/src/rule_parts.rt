@@ -1,12 +1,9 @@
 //! What the parts of a rule's text say, each found by its name.
 ghost use Rattle.std.specs.Prelude.{◌≡◌, Some, None, codes};
-ghost use Rattle.std.specs.Option.{option_map};
 ghost use Rattle.chrono_datetime.specs.declared.Weekday.TheVariants.{Mon};
 ghost use Rattle.chrono_rules.specs.Instances.{no_numbers, no_weekdays};
-ghost use Rattle.chrono_rules.specs.Pieces.{count_of};
 ghost use Rattle.chrono_rules.specs.Places.{ends_of, no_ends, weekdays_of};
 ghost use Rattle.chrono_rules.specs.RuleTexts.{date_of, end_of, frequency_of, interval_of, months_of, no_year_ends, said, values_in, weekday_of_text, year_ends_of};
-ghost use Rattle.chrono_rules.specs.declared.rule.End.TheVariants.{Never, Count, Until};
 
 use crate::month_text::read_months;
 use crate::pieces::{read_count, read_digits};

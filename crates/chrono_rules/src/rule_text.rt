@@ -1,12 +1,13 @@
 //! The texts of rules.
 ghost use Rattle.std.specs.Prelude.{◌≡◌, Some, IfSome};
-ghost use Rattle.chrono_rules.specs.Instances.{lacks_month_days, lacks_weeks, lacks_year_days};
 ghost use Rattle.chrono_rules.specs.RuleTexts.{IsRuleText, Says, fits, has_month_days, has_year_parts, lacks_lists, lacks_numbers, may_have_numbers};
 ghost use Rattle.chrono_rules.specs.declared.rule.Rule.{Rule};
 
-use crate::rule::{Frequency, Rule};
-use crate::rule_parts::{end, frequency, interval, month_days, months, positions, week_start, weekdays, weeks, year_days};
 use crate::places::are_zero;
+use crate::rule::{Frequency, Rule};
+use crate::rule_parts::{
+    end, frequency, interval, month_days, months, positions, week_start, weekdays, weeks, year_days,
+};
 use crate::values::are_parts;
 
 /// The rule that the text writes (RFC 5545, section 3.3.10), as `FREQ=MONTHLY;BYDAY=-1FR`; `None` exactly if it writes none.

@@ -106,8 +106,7 @@ fn is_part(part: &[u8]) -> bool
     is_named(part, b"FREQ=")
         || (is_named(part, b"INTERVAL=")
             || (is_named(part, b"COUNT=")
-                || (is_named(part, b"UNTIL=")
-                    || (is_named(part, b"WKST=") || is_list_part(part)))))
+                || (is_named(part, b"UNTIL=") || (is_named(part, b"WKST=") || is_list_part(part)))))
 }
 
 // Whether it has the name of a list.

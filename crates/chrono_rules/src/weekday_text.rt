@@ -1,5 +1,5 @@
 //! The weekdays that BYDAY lists, as texts.
-ghost use Rattle.std.specs.Prelude.{◌≡◌, ◌<◌, IfSome, [], length, take, drop};
+ghost use Rattle.std.specs.Prelude.{◌≡◌, ◌<◌, IfSome};
 ghost use Rattle.chrono_rules.specs.Places.{weekday_of_letters, weekdays_of, with_each, with_nth, with_weekday, with_weekday_text};
 
 use crate::pieces::first_piece;
