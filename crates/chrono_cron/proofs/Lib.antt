@@ -5,6 +5,7 @@ mod FieldLemmas
 mod Minutes
 mod MonthSets
 mod Months
+mod OneReading
 mod Order
 mod SameDues
 mod Steps

@@ -1,6 +1,6 @@
 //! The reading of whole texts of schedules.
-ghost use Rattle.std.specs.Prelude.{◌≡◌, not, ◌&&◌, ◌==◌, ◌<◌, ℕ, slice_index, IfSome, IfNone};
-ghost use Rattle.chrono_cron.specs.ScheduleTexts.{IsScheduleText, begins_with_star};
+ghost use Rattle.std.specs.Prelude.{◌≡◌, not, ◌&&◌, ◌==◌, ◌<◌, ℕ, slice_index, Some, IfSome, IfNone};
+ghost use Rattle.chrono_cron.specs.ScheduleTexts.{AreNumberSets, IsScheduleText, begins_with_star};
 ghost use Rattle.chrono_cron.specs.declared.sets.Sets.{Sets};
 
 use crate::day_fields::{named_days, read_days, read_weekdays};
@@ -21,6 +21,8 @@ use crate::words::fields_of;
 /// both have to list it.
 pub fn read_schedule(text: &[u8]) -> Option<Schedule>
     ensures read { IfSome result (λ s. IsScheduleText text.now s.sets) }
+    // Whatever sets the text lists are the answer's: no text is refused, and none has two meanings.
+    ensures every { (s : Sets) → AreNumberSets s → IsScheduleText text.now s → result ≡ Some (record { sets = s }) }
     ensures none { IfNone result ((s : Sets) → ¬ IsScheduleText text.now s) }
 {
     let fields = fields_of(text)?;

@@ -1,6 +1,8 @@
-use Rattle.std.proofs.Common.{◌∙◌, ap, sym}
+use Rattle.std.proofs.Common.{◌∙◌, Some, ap, sym, arith}
 use Rattle.std.specs.Option.{option_map}
 use Rattle.chrono_cron.specs.Due.{has}
+use Rattle.chrono_cron.specs.ScheduleTexts.{AreNumberSets}
+use Rattle.chrono_cron.proofs.OneReading.{one_reading}
 use Rattle.chrono_cron.proofs.reading.read_schedule.Goals as goal
 
 pub returns-clause-read : goal.returns-clause-read
@@ -19,3 +21,18 @@ returns-clause-read c = record {
   month_days = c.named_days.ensures;
   either = c.is_either_enough.ensures;
 }
+
+pub returns-clause-every : goal.returns-clause-every
+returns-clause-every c = λ s below is.
+    let sets : AreNumberSets _ = record {
+      minutes = omega arith;
+      hours = omega arith;
+      days = omega arith;
+      months = omega arith;
+      weekdays = omega arith;
+      from_end = omega arith;
+      nearest_workdays = omega arith;
+      last_weekdays = omega arith;
+      nth_weekdays = omega arith;
+    } in
+    ap (λ t. Some (record { sets = t })) (one_reading c.args.text.now _ s sets below (returns-clause-read c) is)
