@@ -1,11 +1,11 @@
 -- What options give, by the values that were found.
-use Rattle.std.proofs.Common.{◌≡◌, ℕ, List, Option, Some, None, refl, sym, subst}
+use Rattle.std.proofs.Common.{◌≡◌, ℕ, List, false, Result, Ok, refl, ap, subst}
 use Rattle.chrono_datetime.specs.Moment.{Moment}
-use Rattle.dates_request.specs.DueRequests.{IsAmountText, IsCount, IsFrom, WritesSchedule}
-use Rattle.dates_request.specs.MomentTexts.{IsMomentText}
-
-pub schedule_of : {a b : List ℕ} → a ≡ b → WritesSchedule a → WritesSchedule b
-schedule_of e is = subst WritesSchedule e is
+use Rattle.chrono_reading.specs.DateTimeTexts.{IsDateTimeText}
+use Rattle.dates_request.specs.DueRequests.{IsFrom}
+use Rattle.dates_request.specs.MomentTexts.{IsMomentText, ends_in_minute, with_second}
+use Rattle.dates_request.specs.declared.request.Request.{Request}
+use Rattle.dates_request.specs.declared.wrong.Wrong.{Wrong}
 
 pub from_in : {a b : List (List ℕ)} {m : Moment} → a ≡ b → IsFrom a m → IsFrom b m
 from_in {m = m} e is = subst (λ options. IsFrom options m) e is
@@ -13,5 +13,27 @@ from_in {m = m} e is = subst (λ options. IsFrom options m) e is
 pub moment_in : {a b : List ℕ} {m : Moment} → a ≡ b → IsMomentText a m → IsMomentText b m
 moment_in {m = m} e is = subst (λ text. IsMomentText text m) e is
 
-pub counted : {o p : Option (List ℕ)} {n : ℕ} → o ≡ p → IsCount o n → IsCount p n
-counted {n = n} e is = subst (λ value. IsCount value n) e is
+-- a text that does not end in a minute stands as it is
+kept : (text : List ℕ) → ends_in_minute text ≡ false → with_second text ≡ text
+unfolding with_second
+kept text other = rw other refl
+
+pub as_written : (text : List ℕ) (m : Moment) → ends_in_minute text ≡ false → IsMomentText text m → IsDateTimeText text m
+as_written text m other is = subst (λ t. IsDateTimeText t m) (kept text other) is.is
+
+abbrev read_pair : Moment × ℕ → Result (Moment × ℕ) Wrong
+read_pair pair = Ok pair
+
+abbrev made : Request → Result Request Wrong
+made r = Ok r
+
+same_pair : (a b : Moment × ℕ) → read_pair a ≡ read_pair b → a ≡ b
+same_pair a b e = cc
+
+-- the same moment and count ask for the same
+pub same_asked : (asked : Moment → ℕ → Request) (m k : Moment) (n j : ℕ) (r : Request) → read_pair (m, n) ≡ read_pair (k, j) → r ≡ asked k j → made (asked m n) ≡ made r
+same_asked asked m k n j r e is =
+    let pair = same_pair (m, n) (k, j) e in
+    let moment : m ≡ k = ap (λ (p : Moment × ℕ). p.0) pair in
+    let count : n ≡ j = ap (λ (p : Moment × ℕ). p.1) pair in
+    rw (is, moment, count) refl

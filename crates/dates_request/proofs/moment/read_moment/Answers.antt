@@ -1,5 +1,10 @@
-use Rattle.std.proofs.Common.{ℕ, ap, length, length-append, arith, rules}
+use Rattle.std.proofs.Common.{ℕ, ap, length, length-append, sym, ◌∙◌, arith, rules}
+use Rattle.dates_request.proofs.DueLemmas.{as_written}
 use Rattle.dates_request.proofs.moment.read_moment.Goals as goal
+
+pub returns-then-not-ends_in_minute-clause-every : goal.returns-then-not-ends_in_minute-clause-every
+returns-then-not-ends_in_minute-clause-every c = λ m is.
+    c.read_date_time.ensures.every m (as_written c.args.text.now m (sym c.ends_in_minute.ensures.is ∙ c.if-not-ends_in_minute.true) is)
 
 pub push_text-requires : goal.push_text-requires
 push_text-requires c =
