@@ -58,8 +58,8 @@ fn answer_help(rt: &impl Print) -> io::Result<u8> {
     println!(rt; "dates easter YEAR            Easter Sunday")?;
     println!(rt; "dates leap YEAR              whether it is a leap year")?;
     println!(rt; "dates check FILE             the lines that are no days, and why")?;
-    println!(rt; "dates next CRON --from T       when a schedule is due next: '30 4 1,15 * 5'")?;
-    println!(rt; "dates prev CRON --from T       when it was due before; --count N: so many")?;
+    println!(rt; "dates next CRON --from T     when a schedule is due next: '30 4 1,15 * 5'")?;
+    println!(rt; "dates prev CRON --from T     when it was due before; --count N: so many")?;
     println!(rt;
         "dates [-]                    each line of standard input by all names of its day"
     )?;
