@@ -1,4 +1,4 @@
-use Rattle.std.proofs.Common.{ℕ, ap, length, length-append, sym, ◌∙◌, arith, rules}
+use Rattle.std.proofs.Common.{ℕ, refl, ap, length, length-append, sym, ◌∙◌, arith, rules}
 use Rattle.dates_request.proofs.DueLemmas.{as_completed, as_written}
 use Rattle.dates_request.proofs.moment.read_moment.Goals as goal
 
