@@ -6,6 +6,7 @@ mod Minutes
 mod MonthSets
 mod Months
 mod Order
+mod ReadBack
 mod SameDues
 mod Steps
 mod WordLemmas

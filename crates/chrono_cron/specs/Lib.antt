@@ -5,4 +5,5 @@ pub mod KnownMonthDays
 pub mod KnownSchedules
 pub mod ScheduleTexts
 pub mod Steps
+pub mod ToldSchedules
 pub mod WrittenTexts
