@@ -262,8 +262,10 @@ fn next(words: &[&[u8]]) -> Result<Request, Wrong>
     ensures read { IfOk result (λ r. IsOfSchedule request.Next (texts words.now) r) }
     ensures every { (r : Request) → IsOfSchedule request.Next (texts words.now) r → result ≡ Ok r }
 {
-    let (from, count) = due(words)?;
-    Ok(Request::Next { from, count })
+    match due(words) {
+        Ok((from, count)) => Ok(Request::Next { from, count }),
+        Err(wrong) => Err(wrong),
+    }
 }
 
 // A schedule, of which it is asked when it was due before.
@@ -271,8 +273,10 @@ fn prev(words: &[&[u8]]) -> Result<Request, Wrong>
     ensures read { IfOk result (λ r. IsOfSchedule request.Prev (texts words.now) r) }
     ensures every { (r : Request) → IsOfSchedule request.Prev (texts words.now) r → result ≡ Ok r }
 {
-    let (from, count) = due(words)?;
-    Ok(Request::Prev { from, count })
+    match due(words) {
+        Ok((from, count)) => Ok(Request::Prev { from, count }),
+        Err(wrong) => Err(wrong),
+    }
 }
 
 // The fault where one word is wanted, and none follows or more do.
