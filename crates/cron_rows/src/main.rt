@@ -11,7 +11,11 @@
 //!
 //! Two calls have other lines. `text` has the eleven numbers of a schedule alone, and is answered by its text. `field low high names text = number`
 //! reads the text of a field, with the names of `months` or `weekdays` or with `numbers` alone, and is answered by its set.
+//!
+//! `error text = field byte fault` is a text that is no schedule's: see `errors`.
 #![tactic(auto)]
+
+mod errors;
 
 use chrono_cron::{MonthDays, Names, NumberSet, Schedule, Sets, read_field};
 use chrono_datetime::{Datelike, NaiveDate, NaiveDateTime, NaiveTime, Timelike};
@@ -54,6 +58,7 @@ fn is_answered(line: &str) -> bool {
         return false;
     };
     match call {
+        "error" => errors::is_refused(arguments, expected),
         "field" => is_field_read(arguments, expected),
         "text" => is_written(arguments, expected),
         _ => is_found(call, arguments, expected),
