@@ -14,8 +14,8 @@ OWNER = re.compile(r"^(?:pub )?(impl|trait)\b([^{]*)\{", re.M)
 VERDICT = re.compile(r"^fn ([\w:]+): (.*)$", re.M)
 # Of a function that was proved, or is left only since one that it calls was not: that says nothing of its own body.
 STANDS = re.compile(r"proved|no proof: it calls ")
-# Of an error in a proof file that names what an edit took away.
-LOST_NAME = re.compile(r"has no field|is not in scope|has no `|was not admitted|^`[^`]*`: record `")
+# Of an error in a proof file that names what an edit took away, or that was not looked at since it cites such a proof.
+LOST_NAME = re.compile(r"has no field|is not in scope|has no `|was not admitted|^`[^`]*`: record `|which was rejected, was not checked")
 
 Place = collections.namedtuple("Place", "path start end new")
 

@@ -2,7 +2,6 @@
 mod Counts
 mod Cycles
 mod DayLists
-mod LetterLemmas
 mod Moments
 mod Passed
 mod PieceLemmas

@@ -19,28 +19,28 @@ impl Rule {
     }
 
     #[inline]
-    fn lacks_month_days(&self) -> bool
+    pub(crate) fn lacks_month_days(&self) -> bool
         ensures { result ≡ lacks_month_days self.now }
     {
         self.month_days.is_empty() && self.month_days_from_end.is_empty()
     }
 
     #[inline]
-    fn lacks_weekdays(&self) -> bool
+    pub(crate) fn lacks_weekdays(&self) -> bool
         ensures { result ≡ lacks_weekdays self.now }
     {
         self.weekdays.is_empty()
     }
 
     #[inline]
-    fn lacks_year_days(&self) -> bool
+    pub(crate) fn lacks_year_days(&self) -> bool
         ensures { result ≡ lacks_year_days self.now }
     {
         self.year_days.is_empty() && self.year_days_from_end.is_empty()
     }
 
     #[inline]
-    fn lacks_weeks(&self) -> bool
+    pub(crate) fn lacks_weeks(&self) -> bool
         ensures { result ≡ lacks_weeks self.now }
     {
         self.weeks.is_empty() && self.weeks_from_end.is_empty()
@@ -130,7 +130,7 @@ impl Rule {
     // Whether a weekday may have a number.
     #[inline]
     #[tactic(auto, unfolding(crate::specs::Instances::has_numbers))]
-    fn has_numbers(&self) -> bool
+    pub(crate) fn has_numbers(&self) -> bool
         ensures { result ≡ has_numbers self.now.frequency }
     {
         match self.frequency {
