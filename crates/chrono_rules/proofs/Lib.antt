@@ -2,8 +2,10 @@
 mod Counts
 mod Cycles
 mod DayLists
+mod Digits
 mod LetterLemmas
 mod Moments
 mod Passed
 mod PieceLemmas
+mod Skipped
 mod Walks
