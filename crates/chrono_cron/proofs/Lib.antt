@@ -2,9 +2,11 @@ mod Again
 mod Digits
 mod DueLists
 mod FieldLemmas
+mod FirstWrong
 mod Minutes
 mod MonthSets
 mod Months
+mod OneReading
 mod Order
 mod SameDues
 mod Steps

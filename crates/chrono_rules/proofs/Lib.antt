@@ -3,7 +3,6 @@ mod Counts
 mod Cycles
 mod DayLists
 mod Digits
-mod LetterLemmas
 mod Moments
 mod Passed
 mod PieceLemmas

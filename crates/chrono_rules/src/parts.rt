@@ -33,14 +33,14 @@ impl Rule {
     }
 
     #[inline]
-    fn lacks_year_days(&self) -> bool
+    pub(crate) fn lacks_year_days(&self) -> bool
         ensures { result ≡ lacks_year_days self.now }
     {
         self.year_days.is_empty() && self.year_days_from_end.is_empty()
     }
 
     #[inline]
-    fn lacks_weeks(&self) -> bool
+    pub(crate) fn lacks_weeks(&self) -> bool
         ensures { result ≡ lacks_weeks self.now }
     {
         self.weeks.is_empty() && self.weeks_from_end.is_empty()
