@@ -8,6 +8,7 @@ mod MonthSets
 mod Months
 mod OneReading
 mod Order
+mod ReadBack
 mod SameDues
 mod Steps
 mod WordLemmas

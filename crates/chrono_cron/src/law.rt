@@ -4,7 +4,11 @@ ghost use Rattle.chrono_cron.specs.Due.{has, is_due};
 ghost use Rattle.chrono_cron.specs.DueMoments.{dues_after};
 ghost use Rattle.chrono_cron.specs.KnownMonthDays.{is_named, named};
 ghost use Rattle.chrono_cron.specs.KnownSchedules.{each_minute, fields, fields_with, moment_at};
-ghost use Rattle.chrono_cron.specs.WrittenTexts.{one_lists, ranges_from, schedule_text};
+ghost use Rattle.chrono_cron.specs.FieldTexts.{field_lists};
+ghost use Rattle.chrono_cron.specs.ScheduleTexts.{AreListed};
+ghost use Rattle.chrono_cron.specs.ToldSchedules.{LieBetween, Member};
+ghost use Rattle.chrono_cron.specs.WrittenTexts.{one_lists, plain_text, ranges_from, schedule_text};
+ghost use Rattle.chrono_cron.specs.declared.names.Names.TheVariants.{Months, Numbers};
 
 use crate::number_set::NumberSet;
 
@@ -77,4 +81,12 @@ pub fn known_texts()
 /// The ranges that are written for the numbers of a field list its members, and no other of these numbers.
 pub fn ranges_list_the_members(set: NumberSet, low: u32, end: u32)
     ensures { (k : ℕ) → low ≤ k → k < end → one_lists (ranges_from set (end - low) low) k ≡ has set k }
+{}
+
+/// A field of minutes, of hours or of months that is written is read back: the text that is written for a set with a member, and with none
+/// but the field's own numbers, is a field that lists that set.
+pub fn written_fields_are_read(set: NumberSet)
+    ensures minutes { LieBetween set 0 60 → Member set → AreListed set (field_lists Numbers 0 59 (plain_text set 60 0)) }
+    ensures hours { LieBetween set 0 24 → Member set → AreListed set (field_lists Numbers 0 23 (plain_text set 24 0)) }
+    ensures months { LieBetween set 1 13 → Member set → AreListed set (field_lists Months 1 12 (plain_text set 12 1)) }
 {}
