@@ -1,21 +1,21 @@
 -- Items that are written are read back: numbers in ranges, and `*` with or without steps.
-use Rattle.std.proofs.Common.{◌≡◌, ℕ, zero, suc, ◌+◌, ◌-◌, ◌%◌, ◌<◌, ◌≤◌, ◌==◌, Bool, true, false, not, ◌&&◌, ◌||◌, if◌then◌else◌, List, [], ◌∷◌, ◌++◌, length, Option, Some, None, inl, inr, refl, sym, ap, ap₂, ◌∙◌, arith, eq-eqb, ne_eqb}
-use Rattle.std.specs.Prelude.{map, codes, nat_le, nat_lt, slice_index}
-use Rattle.std.specs.List.{join_with_byte, list_all, list_any, onto_first, position_or_len, slice_split}
-use Rattle.std.specs.Option.{option_and_then, option_map}
+use Rattle.std.proofs.Common.{◌≡◌, ℕ, zero, suc, ◌+◌, ◌-◌, ◌%◌, ◌<◌, ◌≤◌, ◌==◌, Bool, true, false, not, ◌&&◌, ◌||◌, List, [], ◌∷◌, ◌++◌, length, Option, Some, None, inl, inr, refl, sym, ap, ap₂, ◌∙◌, arith, eq-eqb}
+use Rattle.std.specs.Prelude.{map, codes, nat_le}
+use Rattle.std.specs.List.{list_all, list_any, onto_first, position_or_len, slice_split}
+use Rattle.std.specs.Option.{option_and_then}
 use Rattle.std.proofs.lemmas.Bool.{agree_below, agree_below_at, and_parts, cases_lt, eqb-true, false_from_ne_true, false≢true, le-leb, lt-leb, or_parts}
-use Rattle.std.proofs.lemmas.List.Folds.{list_all-append, list_any-append}
+use Rattle.std.proofs.lemmas.List.Folds.{list_any-append}
 use Rattle.std.proofs.lemmas.List.Splits.{slice_split-cons_no, slice_split-cons_yes}
 use Rattle.chrono_text.specs.Numbers.{natural_of}
 use Rattle.chrono_cron.specs.Steps.{is_by_steps}
 use Rattle.chrono_cron.specs.declared.names.Names.{Names}
-use Rattle.chrono_cron.specs.declared.names.Names.TheVariants.{Numbers, Months, Weekdays}
+use Rattle.chrono_cron.specs.declared.names.Names.TheVariants.{Numbers, Months}
 use Rattle.chrono_cron.specs.declared.number_set.NumberSet.{NumberSet}
 use Rattle.chrono_cron.specs.Due.{has}
 use Rattle.chrono_cron.specs.FieldTexts.{field_lists, item_lists, items_list, number_in, number_of_name, onto, place_of_name, range_of, short_number_of, span_of, spelled_number}
 use Rattle.chrono_cron.specs.ScheduleTexts.{AreListed, is_blank, is_some_text}
 use Rattle.chrono_cron.specs.ToldSchedules.{LieBetween, Member}
-use Rattle.chrono_cron.specs.WrittenTexts.{are_all, field_text, number_items, number_text, one_lists, plain_text, range_text, ranges_from}
+use Rattle.chrono_cron.specs.WrittenTexts.{are_all, field_text, number_items, one_lists, plain_text, range_text, ranges_from}
 use Rattle.chrono_cron.proofs.FieldLemmas.{item_plain}
 use Rattle.chrono_cron.proofs.WrittenLemmas.{AreRanges, numbers_all, numbers_unstarred, one_from, ranges_are, ranges_list}
 
@@ -280,3 +280,49 @@ hours_back set lie some = plain_back Numbers set 0 24 23 hours_read hours_star r
 
 pub months_back : (set : NumberSet) → LieBetween set 1 13 → Member set → AreListed set (field_lists Months 1 12 (plain_text set 12 1))
 months_back set lie some = plain_back Months set 1 12 12 months_read months_star refl lie some
+
+-- ---- fields as words
+
+-- some text without a blank
+abbrev pub IsWord : List ℕ → Type 0
+IsWord text = (is_some_text text ≡ true) × (list_any is_blank text ≡ false)
+
+field_lacks_blank : (items : List (List ℕ)) → list_all is_item items ≡ true → list_any is_blank (field_text items) ≡ false
+field_lacks_blank [] are = refl
+field_lacks_blank (item ∷ []) are = lacks_blank item (and_parts (is_item item) true are).0
+field_lacks_blank (item ∷ next ∷ items) are =
+    let parts = and_parts (is_item item) (list_all is_item (next ∷ items)) are in
+    list_any-append is_blank item (44 ∷ field_text (next ∷ items)) ∙ ap₂ (λ a b. a || b) (lacks_blank item parts.0) (field_lacks_blank (next ∷ items) parts.1)
+
+field_is_some : (item : List ℕ) (items : List (List ℕ)) → is_item item ≡ true → is_some_text (field_text (item ∷ items)) ≡ true
+field_is_some [] items is = absurd (false≢true is)
+field_is_some (x ∷ item) [] is = refl
+field_is_some (x ∷ item) (next ∷ items) is = refl
+
+pub field_is_word : (items : List (List ℕ)) → (items ≡ [] → ⊥) → list_all is_item items ≡ true → IsWord (field_text items)
+field_is_word [] some are = absurd (some refl)
+field_is_word (item ∷ items) some are = (field_is_some item items (and_parts (is_item item) (list_all is_item items) are).0, field_lacks_blank (item ∷ items) are)
+
+pub field_items : (items : List (List ℕ)) → (items ≡ [] → ⊥) → list_all is_item items ≡ true → slice_split (λ x. x == 44) (field_text items) ≡ items
+field_items [] some are = absurd (some refl)
+field_items (item ∷ items) some are = items_back item items are
+
+pub lists_some : (names : Names) (low high k : ℕ) (items : List (List ℕ)) → items_list names low high items k ≡ Some true → items ≡ [] → ⊥
+lists_some names low high k items is none = false≢true (sym (ap (λ i. given (items_list names low high i k)) none) ∙ ap given is)
+
+plain_word : (names : Names) (set : NumberSet) (low count high : ℕ) → are_read names low high (low + count) ≡ true → StarReads names low high → low + count ≡ high + 1
+    → LieBetween set low (low + count) → Member set → IsWord (plain_text set count low)
+unfolding plain_text
+plain_word names set low count high read star ends lie (m, lt, member) =
+    field_is_word (plain_items set count low)
+    (lists_some names low high m (plain_items set count low) (plain_reads names set low count high (are_all set count low) refl read star ends lie m lt ∙ ap Some member))
+    (plain_are_items names set low count high (are_all set count low) refl read)
+
+pub minutes_word : (set : NumberSet) → LieBetween set 0 60 → Member set → IsWord (plain_text set 60 0)
+minutes_word set lie some = plain_word Numbers set 0 60 59 minutes_read minutes_star refl lie some
+
+pub hours_word : (set : NumberSet) → LieBetween set 0 24 → Member set → IsWord (plain_text set 24 0)
+hours_word set lie some = plain_word Numbers set 0 24 23 hours_read hours_star refl lie some
+
+pub months_word : (set : NumberSet) → LieBetween set 1 13 → Member set → IsWord (plain_text set 12 1)
+months_word set lie some = plain_word Months set 1 12 12 months_read months_star refl lie some
