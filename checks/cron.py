@@ -17,7 +17,7 @@ a year, and all that the iterator gives, held to the minutes of a year that are 
 Texts of fields, and texts near to these, are read here by a grammar of its own, which spells each number of the field, and the sets are held to those that
 `read_field` reads. Whole texts, those of crontab(5)'s manual page among them, and texts that differ from right ones by a byte changed, put in or left out, are
 read here and by `read_schedule`. The text of a schedule is written here a second time; each that tells its schedule is read back here, by a reader of whole texts with
-names, nicknames and named days, and has to give the same sets.
+names, nicknames and named days, and has to give the same sets. What is told of a text that is none stands in a table: the field, the byte and the fault.
 """
 import argparse
 import functools
@@ -478,7 +478,7 @@ def known():
     rows += [row_of("never", schedule, starts[0]) for schedule in schedules]
     rows += [field_row(place, text) for place, texts in FIELD_TEXTS for text in texts.split(" ")]
     rows += [f"text {schedule.words()} = {written(schedule.words())}" for schedule in schedules]
-    rows += read_rows()
+    rows += [*read_rows(), *error_rows()]
     # The iterator from the ends of the calendar and from within it: past the last due moment it has to have ended.
     return rows + [row_of("dues", schedule, start) for schedule in schedules for start in starts[:1] + starts[3:8]]
 
@@ -672,6 +672,78 @@ def are_due_out():
 
 # Right texts that near misses begin with, beside those that are made.
 RIGHT = [*NICKNAMES, *KNOWN, *dict.fromkeys(it for it, _, _ in due_out())]
+
+
+# Texts that are no schedule's, each with the field, the byte and the fault that are told of it, and right ones, with `none`.
+ERROR_OUT = """\
+ | none 0 empty
+  \t | none 3 empty
+@reboot | none 0 nickname
+ @Daily | none 1 nickname
+@daily 0 | none 8 few
+* | none 1 few
+* * * * | none 7 few
+* * * *\t | none 8 few
+* * * * * * | none 10 many
+0 0 * * *  # daily | none 11 many
+60 * * * * | minute 0 range
+ 5 24 * * * | hour 3 range
+* * 0 * * | day 4 range
+* * 1,32 * * | day 6 range
+* * * 13 * | month 6 range
+* * * 1-13 * | month 8 range
+* * * * 8 | weekday 8 range
+61 24 32 13 8 | minute 0 range
+0\t24 32 13 8 | hour 2 range
+0  0  32 13 8 | day 6 range
+0 0 1 13 8 | month 6 range
+*/0 * * * * | minute 2 zero
+0,0-30/00 * * * * | minute 7 zero
+*/100 * * * * | minute 2 number
+*/ * * * * | minute 2 empty
+* */x * * * | hour 4 name
+*/2/3 * * * * | minute 2 number
+5/2 * * * * | minute 1 step
+* * * jan/2 * | month 9 step
+60/2 * * * * | minute 0 range
+5-3 * * * * | minute 2 turned
+5-3/2 * * * * | minute 2 turned
+5-60/2 * * * * | minute 2 range
+60-70 * * * * | minute 0 range
+1-2-3 * * * * | minute 2 number
+1- * * * * | minute 2 empty
+-1 * * * * | minute 0 empty
+1,,2 * * * * | minute 2 empty
+1, * * * * | minute 2 empty
+, * * * * | minute 0 empty
++1 * * * * | minute 0 number
+005 * * * * | minute 0 number
+** * * * * | minute 0 number
+* * ? * * | day 4 number
+* * * feb-jan * | month 10 turned
+* * * january * | month 6 name
+* * mon * * | day 4 name
+* L * * * | hour 2 name
+* * * * mon-sun | weekday 12 turned
+* * * * 1,sunday | weekday 10 name
+* * L,L-31 * * | day 6 name
+* * LW,32W * * | day 7 number
+* * 15W,L,32 * * | day 10 range
+* * * * 5L,5#6 | weekday 11 number
+* * * * L | weekday 8 name
+* * * * 5#2,8 | weekday 12 range
+* * * * * | none
+ @daily | none
+0 0 L,15W jan-mar 5#2,7L | none"""
+
+
+def error_rows():
+    """The rows of these texts, each of which the reader here takes for a schedule's or not as the row does."""
+    for line in ERROR_OUT.splitlines():
+        text, _, answer = line.rpartition(" | ")
+        if (read_schedule(text) is None) == (answer == "none"):
+            sys.exit(f"{text}: is not to be answered by {answer}")
+        yield f"error {text} = {answer}"
 
 
 def are_leap_days():

@@ -14,7 +14,10 @@
 //!
 //! Two calls read whole texts. `read text = numbers` is answered by the eleven numbers of the schedule, and by `none` where the text is none.
 //! `dues_of day second fraction text = numbers` is answered by the minutes to as many moments that are due after the start as there are numbers.
+//! `error text = field byte fault` is a text that is no schedule's: see `errors`.
 #![tactic(auto)]
+
+mod errors;
 
 use chrono_cron::{MonthDays, Names, NumberSet, Schedule, Sets, read_field, read_schedule};
 use chrono_datetime::{Datelike, NaiveDate, NaiveDateTime, NaiveTime, Timelike};
@@ -57,6 +60,7 @@ fn is_answered(line: &str) -> bool {
         return false;
     };
     match call {
+        "error" => errors::is_refused(arguments, expected),
         "field" => is_field_read(arguments, expected),
         "text" => is_written(arguments, expected),
         "read" => is_read(arguments, expected),
