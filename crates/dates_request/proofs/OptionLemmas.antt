@@ -1,10 +1,9 @@
 -- Options, pair by pair.
-use Rattle.std.proofs.Common.{◌≡◌, ◌<◌, ◌≤◌, ℕ, Bool, true, false, not, ◌&&◌, ◌||◌, List, [], ◌∷◌, length, get_or, Option, Some, None, refl, ap, ◌∙◌, arith}
-use Rattle.std.specs.Prelude.{if◌then◌else◌, bytes_eq, is_some}
-use Rattle.std.specs.List.{list_any}
+use Rattle.std.proofs.Common.{◌≡◌, ◌<◌, ◌≤◌, ℕ, true, false, List, [], ◌∷◌, length, get_or, Some, None, refl, ap, ◌∙◌, arith}
+use Rattle.std.specs.Prelude.{bytes_eq}
 use Rattle.dates_request.specs.Options.{are_options, is_option, value_named}
 use Rattle.dates_request.specs.Requests.{texts}
-use Rattle.dates_request.proofs.WordLemmas.{Words, ahead, ahead_two, behind, no_word}
+use Rattle.dates_request.proofs.WordLemmas.{Words, ahead_two, behind, no_word}
 
 pub value_here : (name : List ℕ) (words : Words) → 2 ≤ length words → bytes_eq (get_or words 0 no_word).now name ≡ true
     → value_named name (texts words) ≡ Some (get_or words 1 no_word).now
