@@ -17,4 +17,4 @@ push_text-requires-2 c =
 pub returns-clause-every : goal.returns-clause-every
 returns-clause-every c = λ m is.
     c.read_date_time-2.ensures.every m (as_completed c.args.text.now c.as_bytes.result.now m (sym c.ends_in_minute.ensures.is ∙ c.if-not-ends_in_minute.false)
-        (rw (c.as_bytes.ensures.value, c.push_text-2.ensures, c.push_text.ensures, c.new-whole.ensures) refl) is)
+    (rw (c.as_bytes.ensures.value, c.push_text-2.ensures, c.push_text.ensures, c.new-whole.ensures) refl) is)
