@@ -8,6 +8,11 @@ mod MonthSets
 mod Months
 mod OneReading
 mod Order
+mod DaysBack
+mod NamedBack
+mod ReadBack
+mod ScheduleBack
+mod WeekBack
 mod SameDues
 mod Steps
 mod WordLemmas

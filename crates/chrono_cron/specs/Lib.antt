@@ -6,4 +6,5 @@ pub mod KnownSchedules
 pub mod ScheduleErrors
 pub mod ScheduleTexts
 pub mod Steps
+pub mod ToldSchedules
 pub mod WrittenTexts

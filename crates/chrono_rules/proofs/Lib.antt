@@ -2,7 +2,9 @@
 mod Counts
 mod Cycles
 mod DayLists
+mod Digits
 mod Moments
 mod Passed
 mod PieceLemmas
+mod Skipped
 mod Walks

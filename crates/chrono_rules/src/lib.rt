@@ -5,6 +5,7 @@
 
 mod before;
 mod date_times;
+mod gaps;
 mod iterator;
 pub mod law;
 mod members;

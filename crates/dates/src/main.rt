@@ -4,6 +4,7 @@
 mod answer;
 mod day_names;
 mod distance;
+mod due;
 mod fault;
 mod file;
 mod lines;

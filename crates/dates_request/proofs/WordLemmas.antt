@@ -11,7 +11,7 @@ use Rattle.dates_request.specs.declared.request.Request.{Request}
 use Rattle.dates_request.specs.declared.span.Span.{Span}
 use Rattle.dates_request.specs.declared.wrong.Wrong.{Wrong}
 
-abbrev Words : Type 0
+abbrev pub Words : Type 0
 Words = List (Bor (List ℕ))
 
 -- no word, which stands for one past the end

@@ -1,3 +1,6 @@
 pub mod DayTexts
 pub mod SpanTexts
+pub mod MomentTexts
+pub mod Options
+pub mod DueRequests
 pub mod Requests

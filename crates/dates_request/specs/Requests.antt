@@ -4,6 +4,7 @@ use Rattle.std.specs.Borrow.{Bor}
 use Rattle.chrono_text.specs.Text.{year_text}
 use Rattle.chrono_reading.specs.DateTexts.{IsWeekDateText}
 use Rattle.dates_request.specs.DayTexts.{IsDayText}
+use Rattle.dates_request.specs.DueRequests.{IsOfSchedule}
 use Rattle.dates_request.specs.SpanTexts.{IsSpanText}
 use Rattle.dates_request.specs.declared.span.Span.{Span}
 use Rattle.dates_request.specs.declared.span.Unit.{Unit}
@@ -30,6 +31,8 @@ command_named word =
     else if bytes_eq word (codes "easter") then Some command.Easter
     else if bytes_eq word (codes "leap") then Some command.Leap
     else if bytes_eq word (codes "check") then Some command.Check
+    else if bytes_eq word (codes "next") then Some command.Next
+    else if bytes_eq word (codes "prev") then Some command.Prev
     else None
 
 -- the text of the year y, as it is printed (ISO 8601)
@@ -159,6 +162,8 @@ HasArguments command.Week words r = IsWeek words r
 HasArguments command.Easter words r = IsEaster words r
 HasArguments command.Leap words r = IsLeap words r
 HasArguments command.Check words r = IsCheck words r
+HasArguments command.Next words r = IsOfSchedule request.Next words r
+HasArguments command.Prev words r = IsOfSchedule request.Prev words r
 
 -- a day, where the first word is no command
 pub record IsDay (word : List ℕ) (words : List (List ℕ)) (r : Request) : Type 0 where

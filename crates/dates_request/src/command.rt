@@ -25,6 +25,10 @@ pub enum Command {
     Leap,
     /// `check`: the lines of a file that are no days.
     Check,
+    /// `next`: when a schedule is due after a moment.
+    Next,
+    /// `prev`: when it was due before one.
+    Prev,
 }
 
 // The command that the word names.
@@ -43,6 +47,8 @@ pub(crate) fn command_named(word: &[u8]) -> Option<Command>
         b"easter" => Some(Command::Easter),
         b"leap" => Some(Command::Leap),
         b"check" => Some(Command::Check),
+        b"next" => Some(Command::Next),
+        b"prev" => Some(Command::Prev),
         _ => None,
     }
 }

@@ -1,8 +1,11 @@
-//! What the arguments of `dates` ask for: days, spans, weeks, and the request that they make, or which argument is wrong and why.
+//! What the arguments of `dates` ask for: days, moments, spans, weeks, and the request that they make, or which argument is wrong and why.
 #![tactic(auto)]
 
 mod command;
 mod day;
+mod due;
+mod moment;
+mod option;
 mod read;
 mod request;
 mod span;
@@ -12,6 +15,7 @@ mod wrong;
 
 pub use command::Command;
 pub use day::{NoDay, read_day};
+pub use moment::read_moment;
 pub use read::read_request;
 pub use request::Request;
 pub use span::{Span, Unit, read_span};
