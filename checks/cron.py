@@ -1,7 +1,7 @@
 #!/usr/bin/env python3
 """Holds chrono_cron to a second reading of schedules, which tries days and minutes one after another.
 
-    checks/cron.py [--rows N] [--seed N]      (20,000 generated rows, and ten times as many texts of fields, from seed 1, if left out)
+    checks/cron.py [--rows N] [--seed N]      (20,000 generated rows, and ten times as many texts of fields and of schedules, from seed 1, if left out)
     checks/cron.py --write                    (crates/cron_rows/stdin made again)
 
 A schedule is read here from its text of five fields, and a moment is due by the definition: its month, its hour and its minute are
@@ -15,10 +15,12 @@ both ends of the calendar, in leap seconds, at due moments and beside them; and 
 a year, and all that the iterator gives, held to the minutes of a year that are due by the definition.
 
 Texts of fields, and texts near to these, are read here by a grammar of its own, which spells each number of the field, and the sets are held to those that
-`read_field` reads. The text of a schedule is written here a second time; each that tells its schedule is read back here, by a reader of whole texts with
-names, nicknames and named days, and has to give the same sets.
+`read_field` reads. Whole texts, those of crontab(5)'s manual page among them, and texts that differ from right ones by a byte changed, put in or left out, are
+read here and by `read_schedule`. The text of a schedule is written here a second time; each that tells its schedule is read back here, by a reader of whole texts with
+names, nicknames and named days, and has to give the same sets. What is told of a text that is none stands in a table: the field, the byte and the fault.
 """
 import argparse
+import functools
 import os
 import random
 import re
@@ -103,6 +105,7 @@ def numbers_of(text, low, high):
     return listed
 
 
+@functools.cache
 def spellings(low, high, names):
     """Which number of a range each text spells: in one digit or two, or by its name in small letters."""
     listed, first = NAMES[names]
@@ -159,7 +162,7 @@ def read_schedule(text):
     """The eleven numbers of the schedule that a text tells, as a row has them, or None if the text is none."""
     words = [it for it in re.split("[ \t]", text) if it]
     if len(words) == 1:
-        words = NICKNAMES.get(words[0], words[0]).split()
+        words = NICKNAMES.get(words[0], words[0]).split(" ")
     if len(words) != 5:
         return None
     sets, named = [], {"ends": set(), "nearest": set(), "last": set(), "lasts": set(), "nths": set()}
@@ -475,6 +478,7 @@ def known():
     rows += [row_of("never", schedule, starts[0]) for schedule in schedules]
     rows += [field_row(place, text) for place, texts in FIELD_TEXTS for text in texts.split(" ")]
     rows += [f"text {schedule.words()} = {written(schedule.words())}" for schedule in schedules]
+    rows += [*read_rows(), *error_rows()]
     # The iterator from the ends of the calendar and from within it: past the last due moment it has to have ended.
     return rows + [row_of("dues", schedule, start) for schedule in schedules for start in starts[:1] + starts[3:8]]
 
@@ -549,6 +553,199 @@ READ_OUT = """\
 0 0 ? * * | none"""
 
 
+# Whole texts with a start and the next moments that are due after it, by what the manual page says that they mean, or by a calendar: all its examples, its
+# nicknames, names in either case, both numbers of Sunday, and days that are named.
+DUE_OUT = """\
+5 0 * * * | 2024-02-28 00:05 | 2024-02-29 00:05, 2024-03-01 00:05
+15 14 1 * * | 2024-02-01 14:15 | 2024-03-01 14:15, 2024-04-01 14:15
+0 22 * * 1-5 | 2024-03-01 22:00 | 2024-03-04 22:00, 2024-03-05 22:00
+23 0-23/2 * * * | 2024-02-28 22:22 | 2024-02-28 22:23, 2024-02-29 00:23, 2024-02-29 02:23
+5 4 * * sun | 2024-02-25 04:05 | 2024-03-03 04:05, 2024-03-10 04:05
+0 */4 1 * mon | 2024-02-29 12:00 | 2024-03-01 00:00, 2024-03-01 04:00
+0 */4 1 * mon | 2024-03-01 16:00 | 2024-03-01 20:00, 2024-03-04 00:00, 2024-03-04 04:00
+0 0 */2 * sun | 2024-03-01 00:00 | 2024-03-03 00:00, 2024-03-17 00:00, 2024-03-31 00:00
+0 4 8-14 * * | 2024-03-13 04:00 | 2024-03-14 04:00, 2024-04-08 04:00
+30 4 1,15 * 5 | 2024-03-01 04:30 | 2024-03-08 04:30, 2024-03-15 04:30, 2024-03-22 04:30
+30 4 1,15 * 5 | 2024-06-28 04:30 | 2024-07-01 04:30, 2024-07-05 04:30
+@yearly | 2024-02-28 23:59 | 2025-01-01 00:00, 2026-01-01 00:00
+@annually | 2024-02-28 23:59 | 2025-01-01 00:00, 2026-01-01 00:00
+@monthly | 2024-02-28 23:59 | 2024-03-01 00:00, 2024-04-01 00:00
+@weekly | 2024-02-28 23:59 | 2024-03-03 00:00, 2024-03-10 00:00
+@daily | 2024-02-28 23:59 | 2024-02-29 00:00, 2024-03-01 00:00
+@midnight | 2024-02-28 23:59 | 2024-02-29 00:00, 2024-03-01 00:00
+@hourly | 2024-02-28 22:59 | 2024-02-28 23:00, 2024-02-29 00:00, 2024-02-29 01:00
+0 1,2,5,9 * * * | 2024-02-28 05:00 | 2024-02-28 09:00, 2024-02-29 01:00, 2024-02-29 02:00
+0 0-4,8-12 * * * | 2024-02-28 03:00 | 2024-02-28 04:00, 2024-02-28 08:00, 2024-02-28 09:00
+0 8-11 * * * | 2024-02-28 10:00 | 2024-02-28 11:00, 2024-02-29 08:00
+0 0-23/2 * * * | 2024-02-28 20:00 | 2024-02-28 22:00, 2024-02-29 00:00
+0 */2 * * * | 2024-02-28 20:00 | 2024-02-28 22:00, 2024-02-29 00:00
+0 0,2,4,6,8,10,12,14,16,18,20,22 * * * | 2024-02-28 20:00 | 2024-02-28 22:00, 2024-02-29 00:00
+1-9/2 * * * * | 2024-02-28 23:06 | 2024-02-28 23:07, 2024-02-28 23:09, 2024-02-29 00:01
+0 0 1 JAN,jul * | 2024-02-28 23:59 | 2024-07-01 00:00, 2025-01-01 00:00
+0 0 1 Nov-dec * | 2024-02-28 23:59 | 2024-11-01 00:00, 2024-12-01 00:00, 2025-11-01 00:00
+0 12 * * mON-Fri | 2024-02-29 12:00 | 2024-03-01 12:00, 2024-03-04 12:00
+0 0 * * 0 | 2024-02-28 23:59 | 2024-03-03 00:00, 2024-03-10 00:00
+0 0 * * 7 | 2024-02-28 23:59 | 2024-03-03 00:00, 2024-03-10 00:00
+0 0 * * 5-7 | 2024-02-28 23:59 | 2024-03-01 00:00, 2024-03-02 00:00, 2024-03-03 00:00, 2024-03-08 00:00
+0 0 L * * | 2024-02-01 00:00 | 2024-02-29 00:00, 2024-03-31 00:00
+0 0 L-3 * * | 2024-02-01 00:00 | 2024-02-26 00:00, 2024-03-28 00:00
+0 0 LW * * | 2024-03-01 00:00 | 2024-03-29 00:00, 2024-04-30 00:00
+0 0 15W * * | 2024-06-01 00:00 | 2024-06-14 00:00, 2024-07-15 00:00, 2024-08-15 00:00
+0 0 * * 5L | 2024-02-01 00:00 | 2024-02-23 00:00, 2024-03-29 00:00
+0 0 * * 5#2 | 2024-02-01 00:00 | 2024-02-09 00:00, 2024-03-08 00:00
+0 0 lw * FRIl | 2024-04-01 00:00 | 2024-04-26 00:00, 2024-04-30 00:00
+\t  0\t0 1,15w,l  * * | 2024-06-01 00:00 | 2024-06-14 00:00, 2024-06-30 00:00, 2024-07-01 00:00"""
+
+# Whole texts that are none: no time to tell, a nickname in other case, too few fields and too many, numbers past a field's range, ranges backwards, steps
+# behind a number, empty items, names in the wrong field or too long, and days that no month names.
+NONE_OUT = """@reboot;;@Daily;@;@daily 0;;  ;*;* * * *;* * * * * *;0 0 * * * # daily;60 * * * *;* 24 * * *;* * 0 * *;* * 32 * *;* * * 0 *;* * * 13 *;* * * * 8\
+;*/0 * * * *;*/100 * * * *;5/2 * * * *;5-3 * * * *;0-60 * * * *;1,,2 * * * *;1, * * * *;,1 * * * *;1- * * * *;-1 * * * *;+1 * * * *;1.5 * * * *;005 * * * *\
+;** * * * *;~ * * * *;* * ? * *;* * * feb-jan *;* * * january *;* * * mon *;* * mon * *;* * * * jan;* * * * sunday;* * * * sat-sun;mon * * * *;* L * * *;L * * * *\
+;* * L-0 * *;* * L-31 * *;* * L- * *;* * L/2 * *;* * 0W * *;* * 32W * *;* * W * *;* * WL * *;* * 1-5W * *;* * 5L * *;* * 5#2 * *;* * * L *;* * * * L;* * * * LW\
+;* * * * 8L;* * * * 5#0;* * * * 5#6;* * * * #2;* * * * 5#;* * * * 5W;* * * * 1-5L;0 0 * * 0,""".split(";")
+
+
+def minutes_from(text):
+    """The minutes from day 0 to a moment that is written out."""
+    date, clock = text.split()
+    return Date.fromisoformat(date).toordinal() * 1440 + int(clock[:2]) * 60 + int(clock[3:])
+
+
+def due_out():
+    """The texts that are written out, each with the minutes to its start and to the moments behind it."""
+    for line in DUE_OUT.splitlines():
+        text, start, dues = line.split(" | ")
+        yield text, minutes_from(start), [minutes_from(it) for it in dues.split(", ")]
+
+
+def read_rows():
+    """The rows of whole texts that stand in the repository."""
+    for text, start, dues in due_out():
+        yield f"dues_of {start // 1440} {start % 1440 * 60} 0 {text} = {' '.join(map(str, dues))}"
+    texts = [*KNOWN, *dict.fromkeys(it for it, _, _ in due_out()), *(it.split(" | ")[0] for it in READ_OUT.splitlines())]
+    for text in dict.fromkeys(texts + NONE_OUT):
+        yield read_row(text)
+
+
+def read_row(text):
+    return f"read {text} = {read_schedule(text) or 'none'}"
+
+
+def near_rows(count, seed):
+    """Rows of whole texts, each of a right one with a byte changed, put in or left out; of these the number that are right."""
+    chosen, rows, right = random.Random(seed), [], 0
+    others = [chr(it) for it in range(32, 127)] + list("\t\v\f\0\x1f\x7f\xe9")
+    likely = list("0123456789*-/,#@LWlwjanfrisu \t")
+    while len(rows) < count:
+        words = (chosen.choice(RIGHT) if chosen.random() < 0.2 else schedule_text(chosen)).split(" ")
+        for place, first in ((3, 1), (4, 0)):
+            if len(words) == 5 and chosen.random() < 0.5:
+                words[place] = named_numbers(chosen, words[place], NAMES[FIELD_NAMES[place]][0], first)
+        text = chosen.choice((" ", " ", " ", "  ", "\t")).join(words)
+        place, byte = chosen.randrange(len(text) + 1), chosen.choice(chosen.choice((likely, others)))
+        kind = chosen.randrange(3)
+        text = text[:place] + byte * (kind < 2) + text[place + (kind != 1) :]
+        rows.append(read_row(text))
+        right += not rows[-1].endswith("= none")
+    return rows, right
+
+
+def named_numbers(chosen, text, names, first):
+    """A field in which some numbers are written as names, and some of these in other case."""
+    case = chosen.choice((str.lower, str.upper, str.title))
+    some = lambda it: case(names[int(it[0]) - first]) if 0 <= int(it[0]) - first < len(names) and chosen.random() < 0.5 else it[0]
+    return re.sub(r"(?<![/\d#])\d+(?!\d)", some, text)
+
+
+def are_due_out():
+    """Whether the reader here reads these texts so, and those that are none."""
+    for text, start, dues in due_out():
+        schedule, found = Schedule(written(read_schedule(text))), []
+        while len(found) < len(dues):
+            start = schedule.next(start // 1440, start % 1440 * 60, 0)
+            found.append(start)
+        if found != dues:
+            print(f"{text}: is due at {found}, and not at {dues}")
+            return False
+    return not any(read_schedule(it) for it in NONE_OUT)
+
+
+# Right texts that near misses begin with, beside those that are made.
+RIGHT = [*NICKNAMES, *KNOWN, *dict.fromkeys(it for it, _, _ in due_out())]
+
+
+# Texts that are no schedule's, each with the field, the byte and the fault that are told of it, and right ones, with `none`.
+ERROR_OUT = """\
+ | none 0 empty
+  \t | none 3 empty
+@reboot | none 0 nickname
+ @Daily | none 1 nickname
+@daily 0 | none 8 few
+* | none 1 few
+* * * * | none 7 few
+* * * *\t | none 8 few
+* * * * * * | none 10 many
+0 0 * * *  # daily | none 11 many
+60 * * * * | minute 0 range
+ 5 24 * * * | hour 3 range
+* * 0 * * | day 4 range
+* * 1,32 * * | day 6 range
+* * * 13 * | month 6 range
+* * * 1-13 * | month 8 range
+* * * * 8 | weekday 8 range
+61 24 32 13 8 | minute 0 range
+0\t24 32 13 8 | hour 2 range
+0  0  32 13 8 | day 6 range
+0 0 1 13 8 | month 6 range
+*/0 * * * * | minute 2 zero
+0,0-30/00 * * * * | minute 7 zero
+*/100 * * * * | minute 2 number
+*/ * * * * | minute 2 empty
+* */x * * * | hour 4 name
+*/2/3 * * * * | minute 2 number
+5/2 * * * * | minute 1 step
+* * * jan/2 * | month 9 step
+60/2 * * * * | minute 0 range
+5-3 * * * * | minute 2 turned
+5-3/2 * * * * | minute 2 turned
+5-60/2 * * * * | minute 2 range
+60-70 * * * * | minute 0 range
+1-2-3 * * * * | minute 2 number
+1- * * * * | minute 2 empty
+-1 * * * * | minute 0 empty
+1,,2 * * * * | minute 2 empty
+1, * * * * | minute 2 empty
+, * * * * | minute 0 empty
++1 * * * * | minute 0 number
+005 * * * * | minute 0 number
+** * * * * | minute 0 number
+* * ? * * | day 4 number
+* * * feb-jan * | month 10 turned
+* * * january * | month 6 name
+* * mon * * | day 4 name
+* L * * * | hour 2 name
+* * * * mon-sun | weekday 12 turned
+* * * * 1,sunday | weekday 10 name
+* * L,L-31 * * | day 6 name
+* * LW,32W * * | day 7 number
+* * 15W,L,32 * * | day 10 range
+* * * * 5L,5#6 | weekday 11 number
+* * * * L | weekday 8 name
+* * * * 5#2,8 | weekday 12 range
+* * * * * | none
+ @daily | none
+0 0 L,15W jan-mar 5#2,7L | none"""
+
+
+def error_rows():
+    """The rows of these texts, each of which the reader here takes for a schedule's or not as the row does."""
+    for line in ERROR_OUT.splitlines():
+        text, _, answer = line.rpartition(" | ")
+        if (read_schedule(text) is None) == (answer == "none"):
+            sys.exit(f"{text}: is not to be answered by {answer}")
+        yield f"error {text} = {answer}"
+
+
 def are_leap_days():
     """Whether the due moments of `0 0 29 2 *` in 400 years are the 97 leap days, each counted by its year."""
     leap_days = [day_of(it, 2, 29) for it in range(2000, 2400) if it % 4 == 0 and (it % 100 or it % 400 == 0)]
@@ -593,7 +790,7 @@ def main():
     passed, failed = int(standing == known()), int(standing != known())
     if failed:
         print("the rows of crates/cron_rows/stdin are others than this reading gives")
-    read_out = are_read_out() and are_leap_days()
+    read_out = are_read_out() and are_due_out() and are_leap_days()
     passed, failed = passed + int(read_out), failed + int(not read_out)
     if not os.path.exists(PROGRAM):
         print("not run: the rows by the program, since there is no crates/cron_rows/out/cron_rows")
@@ -603,12 +800,14 @@ def main():
     chosen, named = generated(arguments.rows, arguments.seed)
     near, fields = field_rows(10 * arguments.rows, arguments.seed)
     texts, back = text_rows(arguments.rows, arguments.seed)
+    misses, right_ones = near_rows(10 * arguments.rows, arguments.seed)
     for name, rows in (
         ("standing rows", standing),
         ("answers written out", list(written_out())),
         (f"generated rows, {named} with days that are named", chosen),
         (f"fields and near misses, {fields} of them fields", near),
         (f"texts of schedules, {back} of them read back here", texts),
+        (f"whole texts with a byte changed, put in or left out, {right_ones} of them right", misses),
         ("years of minutes", [row_of("year", Schedule(it), start) for it in YEARS]),
         ("years of minutes by walks", [row_of("walk", Schedule(it), start) for it in YEARS[:3]]),
         ("iterators over 400 years", [row_of("cycle", Schedule(it), start) for it in CYCLES]),

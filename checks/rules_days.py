@@ -32,6 +32,8 @@ TOP = os.path.dirname(os.path.dirname(os.path.abspath(__file__)))
 ROWS = os.path.join(TOP, "crates", "rules_rows", "out", "rules_rows")
 DEBIAN = "/usr/bin/python3"
 DAILY, WEEKLY, MONTHLY, YEARLY = range(4)
+FREQUENCIES = ("DAILY", "WEEKLY", "MONTHLY", "YEARLY")
+WEEKDAYS = ("MO", "TU", "WE", "TH", "FR", "SA", "SU")
 FIRST = 30
 
 try:
@@ -51,25 +53,24 @@ class Rule:
         for name, it in parts.items():
             setattr(self, name, it)
 
-    def row(self, start, days, ended):
-        """A row of rules_rows; at most one weekday has numbers."""
-        numbered = [it for it in self.weekdays if it[0]]
-        year_words = [digits(it - 64 * word for it in self.year_days if it // 64 == word) for word in (0, 1, 3)]
-        words = [
-            "rule", self.frequency, self.interval, self.count or 0, self.until.toordinal() if self.until else 0, self.week_start,
-            digits(self.months), *ends(self.month_days), digits(day for number, day in self.weekdays if not number),
-            numbered[0][1] if numbered else 0, *ends([number for number, _ in numbered]), *year_words, *ends(self.weeks), *ends(self.positions),
-            start.toordinal(), "=", *(it.toordinal() for it in days), *(["end"] if ended else []),
+    def text(self):
+        """The rule's text."""
+        parts = [
+            ("FREQ", FREQUENCIES[self.frequency]), ("INTERVAL", self.interval), ("COUNT", self.count),
+            ("UNTIL", self.until and self.until.strftime("%Y%m%d")), ("WKST", WEEKDAYS[self.week_start]), ("BYMONTH", listed(self.months)),
+            ("BYWEEKNO", listed(self.weeks)), ("BYYEARDAY", listed(self.year_days)), ("BYMONTHDAY", listed(self.month_days)),
+            ("BYDAY", listed(f"{number or ''}{WEEKDAYS[day]}" for number, day in self.weekdays)), ("BYSETPOS", listed(self.positions)),
         ]
+        return ";".join(f"{name}={value}" for name, value in parts if value)
+
+    def row(self, start, days, ended):
+        """A row of rules_rows."""
+        words = ["rule", self.text(), start.toordinal(), "=", *(it.toordinal() for it in days), *(["end"] if ended else [])]
         return " ".join(map(str, words))
 
 
-def digits(numbers):
-    return sum(1 << it for it in set(numbers))
-
-
-def ends(numbers):
-    return digits(it for it in numbers if it > 0), digits(-it for it in numbers if it < 0)
+def listed(values):
+    return ",".join(map(str, values))
 
 
 # ---- the walk

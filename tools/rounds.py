@@ -8,12 +8,14 @@ import collections
 import os
 import re
 
-FUNCTION = re.compile(r'^( *)(?:pub |unsafe |const |extern "C" )*fn (\w+)', re.M)
+FUNCTION = re.compile(r'^( *)(?:pub(?:\(\w+\))? |unsafe |const |extern "C" )*fn (\w+)', re.M)
 OWNER = re.compile(r"^(?:pub )?(impl|trait)\b([^{]*)\{", re.M)
 # What the check says of a function.
 VERDICT = re.compile(r"^fn ([\w:]+): (.*)$", re.M)
-# Of an error in a proof file that names what an edit took away.
-LOST_NAME = re.compile(r"has no field|is not in scope|has no `|was not admitted")
+# Of a function that was proved, or is left only since one that it calls was not: that says nothing of its own body.
+STANDS = re.compile(r"proved|no proof: it calls ")
+# Of an error in a proof file that names what an edit took away, or that was not looked at since it cites such a proof.
+LOST_NAME = re.compile(r"has no field|is not in scope|has no `|was not admitted|^`[^`]*`: record `|which was rejected, was not checked")
 
 Place = collections.namedtuple("Place", "path start end new")
 
@@ -125,11 +127,11 @@ def texts_with(edits, sources):
 
 
 def refused_in(printed, functions):
-    """Of the edits of a round, by name with their functions: those of which a function was left unproved, and of these whether for a lost name alone."""
+    """Of the edits of a round, by name with their functions: those that left a body unproved, and of these whether for a lost name alone."""
     verdicts = dict(VERDICT.findall(printed))
     refused = {}
     for name, those in functions.items():
-        left = [it for it in those if not verdicts.get(it, "proved").startswith("proved")]
+        left = [it for it in those if not STANDS.match(verdicts.get(it, "proved"))]
         if left:
             folders = "|".join(re.escape("/".join(it.split("::")[1:])) for it in left)
             errors = re.findall(rf"^(?:\./)?proofs/(?:{folders})/\w+\.antt:\S+ error: (.*)$", printed, re.M)

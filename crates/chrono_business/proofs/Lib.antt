@@ -14,4 +14,6 @@ mod JoinedCalendars
 mod EasterLemmas
 mod OpenLists
 mod MonthDayCounts
+mod RollLaws
+mod LastWeekdays
 mod LeapDayCounts

@@ -10,7 +10,7 @@ use Rattle.chrono_business.specs.declared.roll.Roll.TheVariants.{ModifiedFollowi
 use Rattle.chrono_business.specs.OpenDays.{Closed, is_open}
 use Rattle.chrono_business.specs.Rolls.{IsLastOpen, IsNearestOpen, IsNextOpen, MonthBeginsClosed, MonthEndsClosed, RollsTo}
 
-open_and_closed : (c : Closed) (d : ℤ) → is_open c d ≡ true → is_open c d ≡ false → ⊥
+pub open_and_closed : (c : Closed) (d : ℤ) → is_open c d ≡ true → is_open c d ≡ false → ⊥
 open_and_closed c d is not = false≢true (sym not ∙ is)
 
 -- no open day lies before the next one, or behind the last one

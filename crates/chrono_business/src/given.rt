@@ -1,6 +1,11 @@
 //! Given calendars: the rules of holidays that laws and notices name.
 //!
 //! Each rule has its source beside it. What was proclaimed for a single day is a rule of one year.
+ghost use Rattle.std.specs.Prelude.{◌≡◌, pos};
+ghost use Rattle.chrono_business.specs.GivenCalendars.{england_and_wales_rules, target_rules, us_federal_rules};
+ghost use Rattle.chrono_business.specs.HolidayRules.{rule_of};
+ghost use Rattle.chrono_business.specs.declared.holiday_rule.HolidayDay.TheVariants.{EasterPlus, Fixed, LastWeekday, NthWeekday};
+ghost use Rattle.chrono_business.specs.declared.holiday_rule.Moved.TheVariants.{Stays};
 
 use crate::holiday_rule::{HolidayDay, HolidayRule, Moved};
 use chrono_datetime::{Month, Weekday};
@@ -12,8 +17,12 @@ const STILL: i32 = 262_142;
 /// Executive Order 11582, by which a holiday on Saturday is kept on Friday, and one on Sunday on Monday.
 ///
 /// New Year's Day on a Saturday is kept on 31 December of the year before, so that a calendar of a year takes the rules
-/// of the next year too.
-pub fn us_federal() -> [HolidayRule; 12] {
+/// of the next year too. Left out are Inauguration Day, which is a holiday in and about Washington alone (6103(c)), and
+/// single days on which offices were closed by an executive order, such as 24 December 2024.
+#[tactic(auto, unfolding(crate::specs::GivenCalendars::us_federal_rules))]
+pub fn us_federal() -> [HolidayRule; 12]
+    ensures rules { result ≡ us_federal_rules }
+{
     [
         // New Year's Day, 1 January.
         fixed(Month::January, 1, Moved::ToNearer, 1971, STILL),
@@ -44,7 +53,10 @@ pub fn us_federal() -> [HolidayRule; 12] {
 
 /// The days other than Saturday and Sunday on which TARGET is closed, from 1999 on: the closing days that the European
 /// Central Bank set for the years 1999, 2000 and 2001, and its long-term calendar from 2002 on (ECB, 14 December 2000).
-pub fn target() -> [HolidayRule; 8] {
+#[tactic(auto, unfolding(crate::specs::GivenCalendars::target_rules))]
+pub fn target() -> [HolidayRule; 8]
+    ensures rules { result ≡ target_rules }
+{
     [
         // New Year's Day and Christmas Day.
         fixed(Month::January, 1, Moved::Stays, 1999, STILL),
@@ -63,7 +75,10 @@ pub fn target() -> [HolidayRule; 8] {
 
 /// The bank holidays of England and Wales from 1978 on, with Good Friday and Christmas Day, which are holidays by common
 /// law: the Banking and Financial Dealings Act 1971, schedule 1, and royal proclamations under its section 1.
-pub fn england_and_wales() -> [HolidayRule; 26] {
+#[tactic(auto, unfolding(crate::specs::GivenCalendars::england_and_wales_rules))]
+pub fn england_and_wales() -> [HolidayRule; 26]
+    ensures rules { result ≡ england_and_wales_rules }
+{
     [
         // New Year's Day, or the Monday after it: by proclamation, from 1974 on.
         fixed(Month::January, 1, Moved::ToMonday, 1978, STILL),
@@ -101,26 +116,36 @@ pub fn england_and_wales() -> [HolidayRule; 26] {
     ]
 }
 
-fn fixed(month: Month, day: u32, moved: Moved, first_year: i32, last_year: i32) -> HolidayRule {
+fn fixed(month: Month, day: u32, moved: Moved, first_year: i32, last_year: i32) -> HolidayRule
+    ensures { result ≡ rule_of (Fixed month day) moved first_year last_year }
+{
     rule(HolidayDay::Fixed(month, day), moved, first_year, last_year)
 }
 
-fn nth(n: u8, weekday: Weekday, month: Month, first_year: i32, last_year: i32) -> HolidayRule {
+fn nth(n: u8, weekday: Weekday, month: Month, first_year: i32, last_year: i32) -> HolidayRule
+    ensures { result ≡ rule_of (NthWeekday n weekday month) Stays first_year last_year }
+{
     let day = HolidayDay::NthWeekday(n, weekday, month);
     rule(day, Moved::Stays, first_year, last_year)
 }
 
-fn last(weekday: Weekday, month: Month, first_year: i32, last_year: i32) -> HolidayRule {
+fn last(weekday: Weekday, month: Month, first_year: i32, last_year: i32) -> HolidayRule
+    ensures { result ≡ rule_of (LastWeekday weekday month) Stays first_year last_year }
+{
     let day = HolidayDay::LastWeekday(weekday, month);
     rule(day, Moved::Stays, first_year, last_year)
 }
 
-fn easter(days: i32, first_year: i32) -> HolidayRule {
+fn easter(days: i32, first_year: i32) -> HolidayRule
+    ensures { result ≡ rule_of (EasterPlus days) Stays first_year (pos 262_142) }
+{
     let day = HolidayDay::EasterPlus(days);
     rule(day, Moved::Stays, first_year, STILL)
 }
 
-fn rule(day: HolidayDay, moved: Moved, first_year: i32, last_year: i32) -> HolidayRule {
+fn rule(day: HolidayDay, moved: Moved, first_year: i32, last_year: i32) -> HolidayRule
+    ensures { result ≡ rule_of day moved first_year last_year }
+{
     HolidayRule {
         day,
         moved,

@@ -1,15 +1,22 @@
 //! Laws of open days, each as the contract of a function that does nothing: behind a call of it its clauses are
 //! known; and open days, rolls, day counts and holidays that are known.
-ghost use Rattle.std.specs.Prelude.{◌≡◌, ◌+◌, ◌<◌, ◌≤◌, ℕ, ℤ, true, false, pos, neg_ℤ, ◌+ℤ◌, ◌-ℤ◌, ◌*ℤ◌, ◌≤ℤ◌, ◌<ℤ◌, [], ◌∷◌, Some, None};
-ghost use Rattle.chrono_datetime.specs.WeekdaySet.{set_of};
+ghost use Rattle.std.specs.Prelude.{◌≡◌, ◌≢◌, ◌+◌, ◌<◌, ◌≤◌, ℕ, ℤ, true, false, pos, neg_ℤ, ◌+ℤ◌, ◌-ℤ◌, ◌*ℤ◌, ◌≤ℤ◌, ◌<ℤ◌, List, [], ◌∷◌, Some, None};
+ghost use Rattle.chrono_datetime.specs.WeekdaySet.{DaySet, set_of};
+ghost use Rattle.chrono_datetime.specs.Days.{IsDate, month_of, year_of};
+ghost use Rattle.chrono_datetime.specs.MonthMoves.{InSameMonth};
+ghost use Rattle.chrono_datetime.specs.Weeks.{weekday_of};
+ghost use Rattle.chrono_datetime.specs.declared.Weekday.{Weekday};
 ghost use Rattle.chrono_datetime.specs.declared.Weekday.TheVariants.{Fri, Mon, Sat, Sun, Thu};
 ghost use Rattle.chrono_datetime.specs.declared.Month.TheVariants.{December, February, January, July, June, May, November};
 ghost use Rattle.chrono_business.specs.Easter.{easter_day};
-ghost use Rattle.chrono_business.specs.HolidayRules.{date_of_rule, rule_of};
+ghost use Rattle.chrono_business.specs.HolidayRules.{date_of_last_weekday, date_of_rule, rule_of};
 ghost use Rattle.chrono_business.specs.declared.holiday_rule.HolidayDay.TheVariants.{EasterPlus, Fixed, LastWeekday, NthWeekday};
 ghost use Rattle.chrono_business.specs.declared.holiday_rule.Moved.TheVariants.{Stays, ToNearer, TwoDaysOn};
 ghost use Rattle.chrono_business.specs.DayCounts.{days_30_360, days_30e_360, days_actual_actual};
 ghost use Rattle.chrono_business.specs.Rolls.{RollsTo};
+ghost use Rattle.chrono_business.specs.WrongHolidays.{IsWrong};
+ghost use Rattle.chrono_business.specs.declared.holiday_error.HolidayError.{HolidayError};
+ghost use Rattle.chrono_business.specs.declared.roll.Roll.{Roll};
 ghost use Rattle.chrono_business.specs.declared.roll.Roll.TheVariants.{Following, ModifiedFollowing, ModifiedPreceding, Nearest, Preceding, Unadjusted};
 ghost use Rattle.chrono_business.specs.OpenDays.{Closed, IsNthOpenBack, IsNthOpenFrom, closed, is_open, open_days, open_days_signed};
 
@@ -90,6 +97,35 @@ pub fn known_rolls()
     ensures nearest { RollsTo (closed (set_of (Sat ∷ Sun ∷ [])) []) Nearest (pos 738_975) (pos 738_974) }
     ensures nearest_later { RollsTo (closed (set_of (Sat ∷ Sun ∷ [])) (pos 738_886 ∷ [])) Nearest
         (pos 738_885) (pos 738_887) }
+{}
+
+/// What a date rolls to is open, but for unadjusted; an open date stays, whatever the roll; and a modified roll stays in the
+/// month, if any day of the month is open.
+pub fn rolls_are_open()
+    ensures open { (c : Closed) (roll : Roll) (d e : ℤ) → roll ≢ Unadjusted → RollsTo c roll d e →
+        is_open c e ≡ true }
+    ensures stays { (c : Closed) (roll : Roll) (d e : ℤ) → IsDate d → is_open c d ≡ true → RollsTo c roll d e →
+        e ≡ d }
+    ensures following_in_month { (c : Closed) (d e f : ℤ) → RollsTo c ModifiedFollowing d e →
+        InSameMonth f d → is_open c f ≡ true → InSameMonth e d }
+    ensures preceding_in_month { (c : Closed) (d e f : ℤ) → RollsTo c ModifiedPreceding d e →
+        InSameMonth f d → is_open c f ≡ true → InSameMonth e d }
+{}
+
+/// A list of holidays has at most one error: the first holiday that is wrong, and of its faults one.
+pub fn wrong_holidays_are_one()
+    ensures { (weekend : DaySet) (xs : List ℤ) (e f : HolidayError) → IsWrong weekend xs e →
+        IsWrong weekend xs f → e ≡ f }
+{}
+
+/// The last day of a month that has a weekday lies in the month and has the weekday, and no later day of the month does.
+pub fn last_weekdays_are_last()
+    ensures month { (y e : ℤ) (m : ℕ) (weekday : Weekday) → date_of_last_weekday y m weekday ≡ Some e →
+        (year_of e ≡ y) × (month_of e ≡ m) }
+    ensures weekday { (y e : ℤ) (m : ℕ) (weekday : Weekday) → date_of_last_weekday y m weekday ≡ Some e →
+        weekday_of e ≡ weekday }
+    ensures last { (y e f : ℤ) (m : ℕ) (weekday : Weekday) → date_of_last_weekday y m weekday ≡ Some e →
+        InSameMonth f e → weekday_of f ≡ weekday → f ≤ℤ e }
 {}
 
 /// An open day counts for one and a closed one for none; the open days of two stretches in a row are those of both; and the

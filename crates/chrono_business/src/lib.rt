@@ -3,7 +3,8 @@
 //! them.
 //!
 //! A [`Calendar`] is a weekend and a slice of holidays, and takes no memory. Each answer is what counting day by day
-//! gives; it is found by whole weeks and two searches through the holidays.
+//! gives. How many days are open is found by whole weeks and a search through the holidays for each of the two ends, the
+//! n-th open day by two searches, and whether a day is open by its weekday and one.
 #![tactic(auto)]
 
 mod calendar;

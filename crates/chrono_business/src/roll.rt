@@ -2,7 +2,8 @@
 
 /// Where a date goes that is no open day, as the conventions of markets name it.
 ///
-/// An open date stays, whatever the roll.
+/// An open date stays, whatever the roll. What a date goes to is open, but for `Unadjusted`, and by a modified roll it is in
+/// the date's month wherever a day of that month is open: [`law::rolls_are_open`](crate::law::rolls_are_open).
 #[derive(Clone, Copy, PartialEq, Eq, Hash, Debug)]
 pub enum Roll {
     /// Nowhere: the date stays, open or not.

@@ -2,10 +2,17 @@ mod Again
 mod Digits
 mod DueLists
 mod FieldLemmas
+mod FirstWrong
 mod Minutes
 mod MonthSets
 mod Months
+mod OneReading
 mod Order
+mod DaysBack
+mod NamedBack
+mod ReadBack
+mod ScheduleBack
+mod WeekBack
 mod SameDues
 mod Steps
 mod WordLemmas

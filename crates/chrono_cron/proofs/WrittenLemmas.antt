@@ -193,7 +193,7 @@ unfolding number_items
 numbers_stepped starred set count low e some = sym (ap (λ b. listed set count low b (are_all set count low)) e ∙ ap (listed set count low true) some)
 
 -- the ranges list the members, and no other number
-one_from : (low end k : ℕ) (ranges : List (ℕ × ℕ)) → AreRanges low end ranges → k < low → one_lists ranges k ≡ false
+pub one_from : (low end k : ℕ) (ranges : List (ℕ × ℕ)) → AreRanges low end ranges → k < low → one_lists ranges k ≡ false
 one_from low end k [] are less = refl
 one_from low end k (range ∷ ranges) (from, order, to, others) less =
     ap (λ b. (b && nat_le k range.1) || one_lists ranges k) (lt-leb range.0 k (omega (arith, from, less))) ∙ one_from low end k ranges others less

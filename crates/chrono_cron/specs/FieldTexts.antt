@@ -2,7 +2,7 @@
 use Rattle.std.specs.Prelude.{◌≡◌, ℕ, ◌+◌, ◌==◌, nat_le, nat_lt, Bool, true, false, ◌&&◌, ◌||◌, if◌then◌else◌, List, [], ◌∷◌, length, Option, Some, None, codes, refl}
 use Rattle.std.specs.Option.{option_map, option_and_then, option_or}
 use Rattle.std.specs.List.{slice_split, position_or_len, before_first, after_first}
-use Rattle.std.specs.Str.{str_eq_ignore_ascii_case}
+use Rattle.std.specs.Str.{byte, str_eq_ignore_ascii_case}
 use Rattle.chrono_text.specs.Numbers.{natural_of}
 use Rattle.chrono_cron.specs.Steps.{is_by_steps}
 use Rattle.chrono_cron.specs.declared.names.Names.{Names}
@@ -10,13 +10,13 @@ use Rattle.chrono_cron.specs.declared.names.Names.TheVariants.{Numbers, Months, 
 
 -- what stands before and behind the first byte of a kind, and whether there is one
 abbrev pub before : ℕ → List ℕ → List ℕ
-before byte text = before_first (λ x. x == byte) text
+before sign text = before_first (λ x. x == sign) text
 
 abbrev pub behind : ℕ → List ℕ → List ℕ
-behind byte text = after_first (λ x. x == byte) text
+behind sign text = after_first (λ x. x == sign) text
 
 abbrev pub stands_in : ℕ → List ℕ → Bool
-stands_in byte text = nat_lt (position_or_len (λ x. x == byte) text) (length text)
+stands_in sign text = nat_lt (position_or_len (λ x. x == sign) text) (length text)
 
 -- the number that one digit or two write
 unfoldable pub short_number_of : List ℕ → Option ℕ
@@ -47,14 +47,14 @@ number_in names low high text = option_and_then (within low high) (spelled_numbe
 -- `*` alone
 abbrev pub is_star : List ℕ → Bool
 is_star [] = false
-is_star (x ∷ []) = x == 42
+is_star (x ∷ []) = x == byte "*"
 is_star (x ∷ y ∷ rest) = false
 
 -- the first and the last number of a range: of `*` those of the field, of `a-b` a and b, which is not below a
 unfoldable pub range_of : Names → ℕ → ℕ → List ℕ → Option (ℕ × ℕ)
 range_of names low high text =
     if is_star text then Some (low, high)
-    else option_and_then (λ first. option_map (λ last. (first, last)) (number_in names first high (behind 45 text))) (number_in names low high (before 45 text))
+    else option_and_then (λ first. option_map (λ last. (first, last)) (number_in names first high (behind (byte "-") text))) (number_in names low high (before (byte "-") text))
 
 -- those of a number alone, or of a range
 unfoldable pub span_of : Names → ℕ → ℕ → List ℕ → Option (ℕ × ℕ)
@@ -63,7 +63,7 @@ span_of names low high text = option_or (option_map (λ n. (n, n)) (number_in na
 -- whether an item lists k: a range by the steps behind a `/`, from 1 to 99, or a number or a range by steps of 1; none if the text is no item
 unfoldable pub item_lists : Names → ℕ → ℕ → List ℕ → ℕ → Option Bool
 item_lists names low high text k =
-    if stands_in 47 text then option_and_then (λ span. option_map (λ step. is_by_steps span.0 span.1 step k) (number_in Numbers 1 99 (behind 47 text))) (range_of names low high (before 47 text))
+    if stands_in (byte "/") text then option_and_then (λ span. option_map (λ step. is_by_steps span.0 span.1 step k) (number_in Numbers 1 99 (behind (byte "/") text))) (range_of names low high (before (byte "/") text))
     else option_map (λ span. is_by_steps span.0 span.1 1 k) (span_of names low high text)
 
 -- whether one of the items lists k; none if one of the texts is no item
@@ -76,7 +76,7 @@ items_list names low high (item ∷ items) k = option_and_then (λ here. onto he
 
 -- whether a field of the numbers from `low` to `high` lists k: it is items with commas between; none if the text is no field
 unfoldable pub field_lists : Names → ℕ → ℕ → List ℕ → ℕ → Option Bool
-field_lists names low high text k = items_list names low high (slice_split (λ x. x == 44) text) k
+field_lists names low high text k = items_list names low high (slice_split (λ x. x == byte ",") text) k
 
 -- known values: 9-14/2 lists 13 and not 14, `*` both ends of the field, */20 counts from the field's first number, and 5,7 lists 7 and not 6
 field_lists-thirteen : field_lists Numbers 0 23 (codes "9-14/2") 13 ≡ Some true

@@ -3,6 +3,8 @@ pub mod DueMoments
 pub mod FieldTexts
 pub mod KnownMonthDays
 pub mod KnownSchedules
+pub mod ScheduleErrors
 pub mod ScheduleTexts
 pub mod Steps
+pub mod ToldSchedules
 pub mod WrittenTexts

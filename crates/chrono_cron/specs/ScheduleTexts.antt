@@ -1,9 +1,9 @@
 -- The texts of schedules, and what they list: five fields with blanks between, or a nickname that stands for such fields.
-use Rattle.std.specs.Prelude.{◌≡◌, ℕ, ◌+◌, ◌-◌, ◌*◌, ◌%◌, ◌<◌, ◌==◌, nat_lt, Bool, true, false, not, ◌&&◌, ◌||◌, if◌then◌else◌, List, [], ◌∷◌, length, take, drop, slice_index, Option, Some, None, codes, is_some, refl}
+use Rattle.std.specs.Prelude.{◌≡◌, ℕ, ◌+◌, ◌-◌, ◌*◌, ◌%◌, ◌^◌, ◌<◌, ◌==◌, nat_lt, Bool, true, false, not, ◌&&◌, ◌||◌, if◌then◌else◌, List, [], ◌∷◌, length, take, drop, slice_index, Option, Some, None, codes, is_some, refl}
 use Rattle.std.specs.Char.{to_ascii_lowercase}
 use Rattle.std.specs.Option.{option_map, option_and_then}
 use Rattle.std.specs.List.{filter, list_any, slice_split}
-use Rattle.std.specs.Str.{bytes_eq, str_eq_ignore_ascii_case}
+use Rattle.std.specs.Str.{byte, bytes_eq, str_eq_ignore_ascii_case}
 use Rattle.chrono_cron.specs.Due.{has}
 use Rattle.chrono_text.specs.Numbers.{natural_of}
 use Rattle.chrono_cron.specs.FieldTexts.{before, behind, field_lists, item_lists, items_list, number_in, number_of_name, place_of_name, range_of, short_number_of, span_of, spelled_number}
@@ -17,7 +17,7 @@ use Rattle.chrono_cron.specs.declared.sets.Sets.{Sets}
 
 -- a space or a tab
 abbrev pub is_blank : ℕ → Bool
-is_blank x = x == 32 || x == 9
+is_blank x = x == byte " " || x == byte "\t"
 
 abbrev pub is_some_text : List ℕ → Bool
 is_some_text [] = false
@@ -71,15 +71,15 @@ last_workday_of text = if is_last_workday_text text then Some 0 else None
 
 -- `kW`, the workday that is nearest to the month's k-th day: k
 unfoldable pub nearest_workday_of : List ℕ → Option ℕ
-nearest_workday_of text = option_and_then (number_in Numbers 1 31) (before_letter 119 text)
+nearest_workday_of text = option_and_then (number_in Numbers 1 31) (before_letter (byte "w") text)
 
 -- `dL`, the month's last day with the weekday d: d
 unfoldable pub last_weekday_of : List ℕ → Option ℕ
-last_weekday_of text = option_and_then weekday_of_text (before_letter 108 text)
+last_weekday_of text = option_and_then weekday_of_text (before_letter (byte "l") text)
 
 -- `d#k`, the month's k-th day with the weekday d: the number 7 * (k - 1) + d
 unfoldable pub nth_weekday_of : List ℕ → Option ℕ
-nth_weekday_of text = option_and_then (λ d. option_map (λ k. 7 * (k - 1) + d) (number_in Numbers 1 5 (behind 35 text))) (weekday_of_text (before 35 text))
+nth_weekday_of text = option_and_then (λ d. option_map (λ k. 7 * (k - 1) + d) (number_in Numbers 1 5 (behind (byte "#") text))) (weekday_of_text (before (byte "#") text))
 
 -- the number of a name by its kind
 abbrev pub number_by : DayName → List ℕ → Option ℕ
@@ -104,7 +104,7 @@ names_by Weekdays item = names_weekday item
 
 -- the items of a field, with commas between
 abbrev pub items_of : List ℕ → List (List ℕ)
-items_of text = slice_split (λ x. x == 44) text
+items_of text = slice_split (λ x. x == byte ",") text
 
 -- those of them that fail a test
 abbrev pub other_items : (List ℕ → Bool) → List ℕ → List (List ℕ)
@@ -131,7 +131,7 @@ unfoldable pub an_item_is : (List ℕ → Option ℕ) → List ℕ → ℕ → B
 an_item_is number text k = list_any (λ item. is_number k (number item)) (items_of text)
 
 unfoldable pub begins_with_star : List ℕ → Bool
-begins_with_star text = slice_index text 0 == 42
+begins_with_star text = slice_index text 0 == byte "*"
 
 -- the set has the numbers that are listed
 abbrev pub AreListed : NumberSet → (ℕ → Option Bool) → Type 0
@@ -139,6 +139,21 @@ AreListed set listed = (k : ℕ) → k < 64 → listed k ≡ Some (has set k)
 
 abbrev pub AreNamed : NumberSet → (ℕ → Bool) → Type 0
 AreNamed set named = (k : ℕ) → k < 64 → named k ≡ has set k
+
+-- a set of numbers below 64, as every `NumberSet` is, and the sets of a schedule are such
+abbrev pub IsNumberSet : NumberSet → Type 0
+IsNumberSet set = set.digits < 2 ^ 64
+
+pub record AreNumberSets (s : Sets) : Type 0 where
+  pub minutes : IsNumberSet s.minutes
+  pub hours : IsNumberSet s.hours
+  pub days : IsNumberSet s.days
+  pub months : IsNumberSet s.months
+  pub weekdays : IsNumberSet s.weekdays
+  pub from_end : IsNumberSet s.month_days.from_end
+  pub nearest_workdays : IsNumberSet s.month_days.nearest_workdays
+  pub last_weekdays : IsNumberSet s.month_days.last_weekdays
+  pub nth_weekdays : IsNumberSet s.month_days.nth_weekdays
 
 -- the days that the items of the two fields of days name
 pub record AreNamedDays (day weekday : List ℕ) (m : MonthDays) : Type 0 where

@@ -94,7 +94,7 @@ fn read_other_items(text: &[u8], names: Names, low: u32, high: u32) -> Option<Nu
 }
 
 // The numbers that an item lists: none if it names days.
-fn read_other_item(text: &[u8], names: Names, low: u32, high: u32) -> Option<NumberSet>
+pub(crate) fn read_other_item(text: &[u8], names: Names, low: u32, high: u32) -> Option<NumberSet>
     requires { high < 64 }
     ensures { (k : ℕ) → k < 64 → option_map (λ set. has set k) result
         ≡ (if names_by names text.now then Some false else item_lists names low high text.now k) }

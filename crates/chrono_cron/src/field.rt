@@ -10,9 +10,9 @@ use crate::number_set::NumberSet;
 
 pub(crate) const COMMA: u8 = b',';
 
-const SLASH: u8 = b'/';
+pub(crate) const SLASH: u8 = b'/';
 
-const DASH: u8 = b'-';
+pub(crate) const DASH: u8 = b'-';
 
 const STAR: u8 = b'*';
 
@@ -69,7 +69,7 @@ fn read_span(text: &[u8], names: Names, low: u32, high: u32) -> Option<(u32, u32
 }
 
 // The first and the last number of `*` or `a-b`.
-fn read_range(text: &[u8], names: Names, low: u32, high: u32) -> Option<(u32, u32)>
+pub(crate) fn read_range(text: &[u8], names: Names, low: u32, high: u32) -> Option<(u32, u32)>
     requires { high < 64 }
     ensures range { result ≡ range_of names low high text.now }
     ensures small { IfSome result (λ span. span.1 < 64) }
@@ -108,7 +108,7 @@ pub(crate) fn read_number(text: &[u8], names: Names, low: u32, high: u32) -> Opt
 }
 
 // The number that one digit or two write, or that has the name.
-fn spelled_number(text: &[u8], names: Names) -> Option<u32>
+pub(crate) fn spelled_number(text: &[u8], names: Names) -> Option<u32>
     ensures { result ≡ spelled_number names text.now }
 {
     if let Some(number) = short_number(text) {

@@ -4,9 +4,14 @@ ghost use Rattle.chrono_cron.specs.Due.{has, is_due};
 ghost use Rattle.chrono_cron.specs.DueMoments.{dues_after};
 ghost use Rattle.chrono_cron.specs.KnownMonthDays.{is_named, named};
 ghost use Rattle.chrono_cron.specs.KnownSchedules.{each_minute, fields, fields_with, moment_at};
-ghost use Rattle.chrono_cron.specs.WrittenTexts.{one_lists, ranges_from, schedule_text};
+ghost use Rattle.chrono_cron.specs.FieldTexts.{field_lists};
+ghost use Rattle.chrono_cron.specs.ScheduleTexts.{AreListed, IsScheduleText};
+ghost use Rattle.chrono_cron.specs.ToldSchedules.{IsTold, LieBetween, Member};
+ghost use Rattle.chrono_cron.specs.WrittenTexts.{one_lists, plain_text, ranges_from, schedule_text};
+ghost use Rattle.chrono_cron.specs.declared.names.Names.TheVariants.{Months, Numbers};
 
 use crate::number_set::NumberSet;
+use crate::schedule::Schedule;
 
 /// Days of 2024 that are known: 31 May is `L` and the 30th is not, 28 February is `L-1`; 29 March, a Friday, is `LW`, and so is Tuesday,
 /// 30 April; 14 June, a Friday, is `14W` and `15W`, and 16 September, a Monday, is `15W`; 3 June, a Monday, is `1W`, 29 March is `31W`,
@@ -77,4 +82,19 @@ pub fn known_texts()
 /// The ranges that are written for the numbers of a field list its members, and no other of these numbers.
 pub fn ranges_list_the_members(set: NumberSet, low: u32, end: u32)
     ensures { (k : ℕ) → low ≤ k → k < end → one_lists (ranges_from set (end - low) low) k ≡ has set k }
+{}
+
+/// A field of minutes, of hours or of months that is written is read back: the text that is written for a set with a member, and with none
+/// but the field's own numbers, is a field that lists that set.
+pub fn written_fields_are_read(set: NumberSet)
+    ensures minutes { LieBetween set 0 60 → Member set → AreListed set (field_lists Numbers 0 59 (plain_text set 60 0)) }
+    ensures hours { LieBetween set 0 24 → Member set → AreListed set (field_lists Numbers 0 23 (plain_text set 24 0)) }
+    ensures months { LieBetween set 1 13 → Member set → AreListed set (field_lists Months 1 12 (plain_text set 12 1)) }
+{}
+
+/// A schedule that is written is read back: the text that is written for it is a text of it, so that `read_schedule` gives these sets. It has to be
+/// one that a text tells: with numbers of its fields alone, with no empty field, and, where both fields of days have to match, with the 1st or
+/// Sunday listed.
+pub fn written_schedules_are_read(schedule: &Schedule)
+    ensures { IsTold schedule.now.sets → IsScheduleText (schedule_text schedule.now.sets) schedule.now.sets }
 {}

@@ -82,7 +82,7 @@ fn next_word(text: &[u8]) -> Option<(&[u8], &[u8])>
 }
 
 // Where the first blank stands, or how long the text is if there is none.
-fn blank_place(text: &[u8]) -> usize
+pub(crate) fn blank_place(text: &[u8]) -> usize
     ensures within { result ≤ length text.now }
     ensures place { position_or_len is_blank text.now ≡ result }
 {
@@ -97,7 +97,7 @@ fn blank_place(text: &[u8]) -> usize
 }
 
 // Whether a byte is a space or a tab.
-fn is_blank(byte: u8) -> bool
+pub(crate) fn is_blank(byte: u8) -> bool
     ensures { result ≡ is_blank byte }
 {
     byte == b' ' || byte == b'\t'

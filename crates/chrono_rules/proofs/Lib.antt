@@ -2,8 +2,9 @@
 mod Counts
 mod Cycles
 mod DayLists
-mod LetterLemmas
+mod Digits
 mod Moments
 mod Passed
 mod PieceLemmas
+mod Skipped
 mod Walks

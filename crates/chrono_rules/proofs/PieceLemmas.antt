@@ -1,8 +1,9 @@
 -- Pieces of texts, and digits from the left.
-use Rattle.std.proofs.Common.{◌≡◌, ◌≢◌, ℕ, zero, suc, ◌+◌, ◌-◌, ◌*◌, ◌^◌, ◌<◌, ◌≤◌, ◌==◌, nat_le, add-zero, true, false, List, [], ◌∷◌, length, get_or, take, drop, Some, None, Option, arith, refl, sym, ap, ◌∙◌}
+use Rattle.std.proofs.Common.{◌≡◌, ◌≢◌, Bool, ◌&&◌, if◌then◌else◌, ℕ, zero, suc, ◌+◌, ◌-◌, ◌*◌, ◌^◌, ◌<◌, ◌≤◌, ◌==◌, nat_le, add-zero, true, false, List, [], ◌∷◌, length, get_or, take, drop, Some, None, Option, arith, refl, sym, ap, ◌∙◌}
+use Rattle.std.proofs.lemmas.Bool.{lt-leb}
 use Rattle.std.proofs.lemmas.List.{take_all}
 use Rattle.std.specs.Option.{option_and_then}
-use Rattle.chrono_rules.specs.Pieces.{begun, pieces, pieces_behind, through, with_digits}
+use Rattle.chrono_rules.specs.Pieces.{begun, pieces, pieces_behind, through, up_to, with_digits}
 
 -- the bytes before the first separator are the first piece
 pub first_piece : (sep n : ℕ) (text : List ℕ) → ((k : ℕ) → k < n → get_or text k 0 ≢ sep) → n ≤ length text → (n < length text → get_or text n 0 ≡ sep)
@@ -89,3 +90,13 @@ digit_fits v d m some few small below =
     let more = more_digit v d m (m - 1) few (omega arith) small below in
     let e : (9 - (m - 1)) + (m - 1) ≡ 9 = omega arith in
     omega (arith, more, pow_most (9 - (m - 1)) (m - 1), ap (λ k. 10 ^ k) e)
+
+-- what is too large stays so with more digits
+large_step : (t : Bool) (v : ℕ) (text : List ℕ) → option_and_then (up_to 4_294_967_295) (with_digits v text) ≡ None
+    → option_and_then (up_to 4_294_967_295) (if t then with_digits v text else None) ≡ None
+large_step true v text more = more
+large_step false v text more = refl
+
+pub too_large : (v : ℕ) (text : List ℕ) → 4_294_967_295 < v → option_and_then (up_to 4_294_967_295) (with_digits v text) ≡ None
+too_large v [] large = ap (λ t. if t then Some v else None) (lt-leb v 4_294_967_295 large)
+too_large v (b ∷ bs) large = large_step (nat_le 48 b && nat_le b 57) (v * 10 + (b - 48)) bs (too_large (v * 10 + (b - 48)) bs (omega (arith, large)))

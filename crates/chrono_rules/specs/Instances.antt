@@ -130,14 +130,16 @@ has_numbers Weekly = false
 has_numbers Monthly = true
 has_numbers Yearly = true
 
--- each of its weekday, or the k-th of them, from the front or from the back
-unfoldable pub on_weekday : Rule → ℤ → Bool
-on_weekday r n =
-    let w = days_from_monday (weekday_of n) in
+-- a day of the weekday w at a place, with so many days behind it: each of its weekday, or the k-th of them, from the front or from the back
+abbrev pub names_weekday : Rule → ℕ → ℕ → ℕ → Bool
+names_weekday r w place behind =
     has r.weekdays.every w
     || (has_numbers r.frequency
-    && ((bit_at (slice_index_or r.weekdays.front w 0) (1 + (place_of r n - 1) / 7) == 1)
-    || (bit_at (slice_index_or r.weekdays.back w 0) (1 + days_behind r n / 7) == 1)))
+    && ((bit_at (slice_index_or r.weekdays.front w 0) (1 + (place - 1) / 7) == 1)
+    || (bit_at (slice_index_or r.weekdays.back w 0) (1 + behind / 7) == 1)))
+
+unfoldable pub on_weekday : Rule → ℤ → Bool
+on_weekday r n = names_weekday r (days_from_monday (weekday_of n)) (place_of r n) (days_behind r n)
 
 unfoldable pub on_month_day : Rule → ℤ → Bool
 on_month_day r n = has r.month_days (day_of n) || has r.month_days_from_end ((month_length_of n - day_of n) + 1)

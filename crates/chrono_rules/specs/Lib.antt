@@ -4,3 +4,4 @@ pub mod Instances
 pub mod KnownRules
 pub mod Pieces
 pub mod Places
+pub mod RuleTexts

@@ -32,6 +32,13 @@ with_digits value (b ∷ bs) = if nat_le 48 b && nat_le b 57 then with_digits (v
 unfoldable pub digits_of : ℕ → List ℕ → Option ℕ
 digits_of most text = if nat_le 1 (length text) && nat_le (length text) most then with_digits 0 text else None
 
+-- the number that one digit or more write, if it is below 2^32
+abbrev pub up_to : ℕ → ℕ → Option ℕ
+up_to most n = if nat_le n most then Some n else None
+
+unfoldable pub count_of : List ℕ → Option ℕ
+count_of text = if nat_le 1 (length text) then option_and_then (up_to 4_294_967_295) (with_digits 0 text) else None
+
 -- known values
 pieces-two : pieces 44 (codes "MO,TU") ≡ codes "MO" ∷ codes "TU" ∷ []
 pieces-two = refl

@@ -1,6 +1,7 @@
 -- The numbers that the BY parts of a rule list.
 use Rattle.std.specs.Prelude.{◌≡◌, ℕ, ◌+◌, ◌-◌, ◌^◌, ◌==◌, nat_le, bit_or, ◌&&◌, Bool, true, false, List, [], ◌∷◌, length, take, drop, slice_index_or, slice_set, if◌then◌else◌, Option, Some, None, codes, refl}
 use Rattle.std.specs.Option.{option_and_then, option_map}
+use Rattle.std.specs.Str.{str_eq_ignore_ascii_case}
 use Rattle.chrono_rules.specs.Instances.{no_numbers, no_weekdays}
 use Rattle.chrono_rules.specs.Pieces.{digits_of, pieces, through}
 use Rattle.chrono_rules.specs.declared.places.NumberSet.{NumberSet}
@@ -47,23 +48,16 @@ with_place_text digits most ends text = option_map (with_place ends) (place_of d
 unfoldable pub ends_of : ℕ → ℕ → List ℕ → Option BothEnds
 ends_of digits most text = through (with_place_text digits most) no_ends (pieces 44 text)
 
--- the same bytes
-abbrev pub same : List ℕ → List ℕ → Bool
-same [] [] = true
-same [] (b ∷ bs) = false
-same (b ∷ bs) [] = false
-same (a ∷ text) (b ∷ bs) = same text bs && (a == b)
-
--- the weekday that two letters name, from 0 for Monday
+-- the weekday that two letters name, of either case, from 0 for Monday
 unfoldable pub weekday_of_letters : List ℕ → Option ℕ
 weekday_of_letters text =
-    if same text (codes "MO") then Some 0
-    else if same text (codes "TU") then Some 1
-    else if same text (codes "WE") then Some 2
-    else if same text (codes "TH") then Some 3
-    else if same text (codes "FR") then Some 4
-    else if same text (codes "SA") then Some 5
-    else if same text (codes "SU") then Some 6
+    if str_eq_ignore_ascii_case text (codes "MO") then Some 0
+    else if str_eq_ignore_ascii_case text (codes "TU") then Some 1
+    else if str_eq_ignore_ascii_case text (codes "WE") then Some 2
+    else if str_eq_ignore_ascii_case text (codes "TH") then Some 3
+    else if str_eq_ignore_ascii_case text (codes "FR") then Some 4
+    else if str_eq_ignore_ascii_case text (codes "SA") then Some 5
+    else if str_eq_ignore_ascii_case text (codes "SU") then Some 6
     else None
 
 -- each day of a weekday, or the n-th of them
@@ -127,7 +121,7 @@ weekdays_of-past : weekdays_of (codes "54MO") ≡ None
 unfolding weekdays_of with_weekday_text with_weekday weekday_of_letters place_of number_of digits_of
 weekdays_of-past = refl
 
-weekdays_of-small_letters : weekdays_of (codes "mo") ≡ None
+weekdays_of-small_letters : weekdays_of (codes "tu,Su") ≡ weekdays_of (codes "TU,SU")
 unfolding weekdays_of with_weekday_text with_weekday weekday_of_letters
 weekdays_of-small_letters = refl
 

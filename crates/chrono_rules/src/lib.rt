@@ -5,20 +5,29 @@
 
 mod before;
 mod date_times;
+mod gaps;
 mod iterator;
 pub mod law;
 mod members;
+mod month_text;
 mod parts;
 mod periods;
 mod pieces;
 mod place_text;
 mod places;
 mod rule;
+mod rule_parts;
+mod rule_text;
 mod skips;
+mod values;
 mod weekday_text;
+mod year_text;
 
 pub use iterator::Instances;
+pub use month_text::read_months;
 pub use place_text::{BothEnds, Place, read_month_days, read_weeks};
 pub use places::{NumberSet, PlaceSet, WeekdayPlaces};
 pub use rule::{End, Frequency, Rule};
+pub use rule_text::read_rule;
 pub use weekday_text::read_weekdays;
+pub use year_text::{YearEnds, read_year_days};

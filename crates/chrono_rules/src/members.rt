@@ -201,7 +201,8 @@ impl Rule {
         ensures least { IfSome result (λ e. (d : ℤ) → date ≤ℤ d → d <ℤ e → is_member self.now start d ≡ false) }
         ensures none { IfNone result ((d : ℤ) → date ≤ℤ d → IsDate d → is_member self.now start d ≡ false) }
     {
-        let mut day = date;
+        let first = self.candidate(start, date)?;
+        let mut day = first;
         while !self.is_member(start, day) {
             day = self.later(start, day)?;
         }

@@ -19,28 +19,28 @@ impl Rule {
     }
 
     #[inline]
-    fn lacks_month_days(&self) -> bool
+    pub(crate) fn lacks_month_days(&self) -> bool
         ensures { result ≡ lacks_month_days self.now }
     {
         self.month_days.is_empty() && self.month_days_from_end.is_empty()
     }
 
     #[inline]
-    fn lacks_weekdays(&self) -> bool
+    pub(crate) fn lacks_weekdays(&self) -> bool
         ensures { result ≡ lacks_weekdays self.now }
     {
         self.weekdays.is_empty()
     }
 
     #[inline]
-    fn lacks_year_days(&self) -> bool
+    pub(crate) fn lacks_year_days(&self) -> bool
         ensures { result ≡ lacks_year_days self.now }
     {
         self.year_days.is_empty() && self.year_days_from_end.is_empty()
     }
 
     #[inline]
-    fn lacks_weeks(&self) -> bool
+    pub(crate) fn lacks_weeks(&self) -> bool
         ensures { result ≡ lacks_weeks self.now }
     {
         self.weeks.is_empty() && self.weeks_from_end.is_empty()
@@ -56,7 +56,7 @@ impl Rule {
     // Whether the start's weekday stands for BYDAY.
     #[inline]
     #[tactic(auto, unfolding(crate::specs::Instances::fills_weekday))]
-    fn fills_weekday(&self) -> bool
+    pub(crate) fn fills_weekday(&self) -> bool
         ensures { result ≡ fills_weekday self.now.frequency self.now }
     {
         match self.frequency {
@@ -74,7 +74,7 @@ impl Rule {
     // Whether the start's day stands for BYMONTHDAY.
     #[inline]
     #[tactic(auto, unfolding(crate::specs::Instances::fills_day))]
-    fn fills_day(&self) -> bool
+    pub(crate) fn fills_day(&self) -> bool
         ensures { result ≡ fills_day self.now.frequency self.now }
     {
         match self.frequency {
@@ -91,7 +91,7 @@ impl Rule {
     // Whether the start's month stands for BYMONTH.
     #[inline]
     #[tactic(auto, unfolding(crate::specs::Instances::fills_month, crate::specs::Instances::fills_day))]
-    fn fills_month(&self) -> bool
+    pub(crate) fn fills_month(&self) -> bool
         ensures { result ≡ fills_month self.now.frequency self.now }
     {
         match self.frequency {
@@ -116,7 +116,7 @@ impl Rule {
     // Whether a numbered weekday counts in the month.
     #[inline]
     #[tactic(auto, unfolding(crate::specs::Instances::counts_in_month))]
-    fn counts_in_month(&self) -> bool
+    pub(crate) fn counts_in_month(&self) -> bool
         ensures { result ≡ counts_in_month self.now.frequency self.now }
     {
         match self.frequency {
@@ -130,7 +130,7 @@ impl Rule {
     // Whether a weekday may have a number.
     #[inline]
     #[tactic(auto, unfolding(crate::specs::Instances::has_numbers))]
-    fn has_numbers(&self) -> bool
+    pub(crate) fn has_numbers(&self) -> bool
         ensures { result ≡ has_numbers self.now.frequency }
     {
         match self.frequency {
@@ -143,7 +143,7 @@ impl Rule {
 
     // The date's place where numbered weekdays count.
     #[inline]
-    fn place_of(&self, date: NaiveDate) -> u32
+    pub(crate) fn place_of(&self, date: NaiveDate) -> u32
         ensures value { result ≡ place_of self.now date }
         ensures in_range { IsInRange 1 366 result }
     {
@@ -156,7 +156,7 @@ impl Rule {
 
     // The days behind it there.
     #[inline]
-    fn days_behind(&self, date: NaiveDate) -> u32
+    pub(crate) fn days_behind(&self, date: NaiveDate) -> u32
         ensures value { result ≡ days_behind self.now date }
         ensures in_range { result < 366 }
     {
@@ -232,7 +232,7 @@ pub(crate) fn days_of_year(date: NaiveDate) -> u32
 // Whether the word has that digit.
 #[inline]
 #[tactic(auto, using(std::proofs::lemmas::Nat::Bits::shr_and_one))]
-fn has_digit(word: u64, place: u32) -> bool
+pub(crate) fn has_digit(word: u64, place: u32) -> bool
     requires { place < 64 }
     ensures { result ≡ (bit_at word place == 1) }
 {

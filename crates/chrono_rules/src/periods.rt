@@ -53,7 +53,7 @@ impl Rule {
     pub fn in_interval(&self, start: NaiveDate, date: NaiveDate) -> bool
         ensures { result ≡ in_interval self.now start date }
     {
-        remainder(self.periods_apart(start, date), self.step()) == 0
+        self.interval <= 1 || remainder(self.periods_apart(start, date), self.step()) == 0
     }
 }
 

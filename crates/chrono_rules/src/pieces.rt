@@ -1,6 +1,10 @@
 //! Texts in pieces, and numbers from the left.
-ghost use Rattle.std.specs.Prelude.{◌≡◌, ◌∷◌, ◌≤◌, length, take, drop};
-ghost use Rattle.chrono_rules.specs.Pieces.{digits_of, pieces, pieces_behind, with_digits};
+ghost use Rattle.std.specs.Prelude.{◌≡◌, ◌∷◌, ◌≤◌, ◌<◌, IfSome, length};
+ghost use Rattle.std.specs.Option.{option_and_then};
+ghost use Rattle.chrono_rules.specs.Pieces.{count_of, digits_of, pieces, pieces_behind, up_to, with_digits};
+
+// The greatest `u32`.
+const MOST_COUNT: u64 = 4_294_967_295;
 
 // The text up to the first separator, if one stands in it, and the rest, in front of which that separator stands.
 pub(crate) fn first_piece(text: &[u8], separator: u8) -> (&[u8], &[u8])
@@ -19,7 +23,8 @@ pub(crate) fn first_piece(text: &[u8], separator: u8) -> (&[u8], &[u8])
 #[tactic(auto, unfolding(crate::specs::Pieces::digits_of))]
 pub(crate) fn read_digits(text: &[u8], most: usize) -> Option<u32>
     requires { most ≤ 9 }
-    ensures { result ≡ digits_of most text.now }
+    ensures value { result ≡ digits_of most text.now }
+    ensures small { IfSome result (λ n. n < 1_000_000_000) }
 {
     if text.is_empty() || text.len() > most {
         return None;
@@ -30,7 +35,8 @@ pub(crate) fn read_digits(text: &[u8], most: usize) -> Option<u32>
 // The number that the digits write.
 fn all_digits(text: &[u8]) -> Option<u32>
     requires { length text.now ≤ 9 }
-    ensures { result ≡ with_digits 0 text.now }
+    ensures value { result ≡ with_digits 0 text.now }
+    ensures small { IfSome result (λ n. n < 1_000_000_000) }
 {
     let mut value = 0;
     let mut rest = text;
@@ -43,4 +49,35 @@ fn all_digits(text: &[u8]) -> Option<u32>
         rest = others;
     }
     Some(value)
+}
+
+// The number below 2^32 that one digit or more write.
+#[tactic(auto, unfolding(crate::specs::Pieces::count_of))]
+pub(crate) fn read_count(text: &[u8]) -> Option<u32>
+    ensures { result ≡ count_of text.now }
+{
+    if text.is_empty() {
+        return None;
+    }
+    count_of_digits(text)
+}
+
+// The number below 2^32 that the digits write.
+fn count_of_digits(text: &[u8]) -> Option<u32>
+    ensures { result ≡ option_and_then (up_to 4_294_967_295) (with_digits 0 text.now) }
+{
+    let mut value = 0u64;
+    let mut rest = text;
+    while let [first, others @ ..] = rest {
+        let byte = *first;
+        if byte < b'0' || byte > b'9' {
+            return None;
+        }
+        value = value * 10 + u64::from(byte - b'0');
+        if value > MOST_COUNT {
+            return None;
+        }
+        rest = others;
+    }
+    Some(value as u32)
 }

@@ -26,7 +26,7 @@ pub struct BothEnds {
 
 impl BothEnds {
     // No number.
-    fn none() -> BothEnds
+    pub(crate) fn none() -> BothEnds
         ensures { result ≡ no_ends }
     {
         BothEnds {

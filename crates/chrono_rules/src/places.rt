@@ -76,7 +76,7 @@ impl PlaceSet {
 }
 
 // Whether all of the words are 0.
-fn are_zero(words: &[u64]) -> bool
+pub(crate) fn are_zero(words: &[u64]) -> bool
     ensures { result ≡ are_zero words.now }
 {
     for word in words {

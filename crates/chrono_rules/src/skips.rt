@@ -1,22 +1,175 @@
 //! What a search for a member passes over at once.
-ghost use Rattle.std.specs.Prelude.{◌≡◌, ◌||◌, ◌<ℤ◌, ℤ, false, IfSome, IfNone};
-ghost use Rattle.chrono_datetime.specs.Days.{IsDate, month_of};
-ghost use Rattle.chrono_rules.specs.Instances.{has, is_member, lacks_months};
+ghost use Rattle.std.specs.Prelude.{◌≡◌, ◌≤◌, ◌<◌, ◌+◌, ◌-◌, ◌%◌, ◌==◌, ◌≤ℤ◌, ◌<ℤ◌, ◌+ℤ◌, ℤ, ℕ, pos, true, false, IfSome, IfNone};
+ghost use Rattle.std.specs.Int.{IsInRange};
+ghost use Rattle.chrono_datetime.specs.Days.{IsDate, day_of, month_of};
+ghost use Rattle.chrono_datetime.specs.MonthMoves.{month_index_of};
+ghost use Rattle.chrono_rules.specs.Instances.{counts_in_month, is_member, names_weekday, on_month_day, on_weekday};
 
+use crate::gaps::{gap_around, gap_down, gap_up};
+use crate::parts::has_digit;
 use crate::rule::Rule;
 use chrono_datetime::{Datelike, NaiveDate};
 
 impl Rule {
-    // Whether the date's month is one that BYMONTH names, or the rule has none.
-    #[inline]
-    pub(crate) fn in_months(&self, date: NaiveDate) -> bool
-        ensures { result ≡ (lacks_months self.now || has self.now.months (month_of date)) }
+    // How many months in a row, from one on, are none of the rule's.
+    fn months_passed(&self, start: NaiveDate, month: u32) -> u32
+        requires { IsInRange 1 12 month }
+        ensures passed { (d : ℤ) (j : ℕ) → j < result → month_of d ≡ 1 + (month - 1 + j) % 12 → is_member self.now start d ≡ false }
+        ensures few { result ≤ 12 }
     {
-        self.lacks_months() || self.months.contains(date.month())
+        if !self.lacks_months() {
+            return gap_around(self.months.digits, 1, month, 13);
+        }
+        if self.fills_month() {
+            return (start.month() + 12 - month) % 12;
+        }
+        0
     }
 
-    // A later date, between which and this one no member lies: that of the next month where this month has none, else the next day, and
-    // none behind UNTIL.
+    // How many days from this one on lie in months that are none of the rule's.
+    #[inline]
+    fn passed_by_month(&self, start: NaiveDate, day: NaiveDate) -> i64
+        ensures passed { (d : ℤ) → day ≤ℤ d → d <ℤ (day +ℤ result) → is_member self.now start d ≡ false }
+        ensures low { pos 0 ≤ℤ result }
+        ensures high { result ≤ℤ pos 1_000_000_000 }
+    {
+        let months = self.months_passed(start, day.month());
+        days_to_month(day, months)
+    }
+
+    // How many days from this one on, in its month, are none that BYMONTHDAY names.
+    #[inline]
+    fn passed_by_month_day(&self, start: NaiveDate, day: NaiveDate) -> u32
+        ensures passed { (d : ℤ) → day ≤ℤ d → d <ℤ (day +ℤ pos result) → is_member self.now start d ≡ false }
+        ensures few { result ≤ 31 }
+    {
+        if !self.lacks_month_days() {
+            return self.days_to_month_day(day);
+        }
+        if self.fills_day() {
+            return days_to_place(start.day(), day);
+        }
+        0
+    }
+
+    // How many days from this one on to one that BYMONTHDAY names, or to the end of its month.
+    fn days_to_month_day(&self, day: NaiveDate) -> u32
+        ensures passed { (d : ℤ) → day ≤ℤ d → d <ℤ (day +ℤ pos result) → on_month_day self.now d ≡ false }
+        ensures few { result ≤ 31 }
+    {
+        let (place, length) = (day.day(), u32::from(day.num_days_in_month()));
+        let front = gap_up(self.month_days.digits, place);
+        let back = gap_down(self.month_days_from_end.digits, length - place + 1);
+        front.min(back).min(length - place + 1)
+    }
+
+    // How many days from this one on are none that BYDAY names: in its month, where numbered weekdays count there, and else itself at most.
+    fn passed_by_weekday(&self, start: NaiveDate, day: NaiveDate) -> u32
+        ensures passed { (d : ℤ) → day ≤ℤ d → d <ℤ (day +ℤ pos result) → is_member self.now start d ≡ false }
+        ensures few { result ≤ 31 }
+    {
+        if self.fills_weekday() {
+            return start.weekday().days_since(day.weekday());
+        }
+        if self.lacks_weekdays() {
+            return 0;
+        }
+        if self.counts_in_month() {
+            return self.days_to_weekday(day);
+        }
+        if self.on_weekday(day) { 0 } else { 1 }
+    }
+
+    // How many days from this one on to one that BYDAY names, or to the end of its month, where numbered weekdays count there.
+    fn days_to_weekday(&self, day: NaiveDate) -> u32
+        requires { counts_in_month self.now.frequency self.now ≡ true }
+        ensures passed { (d : ℤ) → day ≤ℤ d → d <ℤ (day +ℤ pos result) → on_weekday self.now d ≡ false }
+        ensures few { result ≤ 31 }
+    {
+        let place = day.day();
+        let behind = u32::from(day.num_days_in_month()) - place;
+        let weekday = day.weekday().num_days_from_monday();
+        let mut later = 0;
+        while later <= behind {
+            if self.names_weekday((weekday + later) % 7, place + later, behind - later) {
+                return later;
+            }
+            later += 1;
+        }
+        later
+    }
+
+    // Whether BYDAY names a day of that weekday, at a place with so many days behind it.
+    #[inline]
+    fn names_weekday(&self, weekday: u32, place: u32, behind: u32) -> bool
+        requires weekday { weekday < 7 }
+        requires place { IsInRange 1 366 place }
+        requires behind { behind < 366 }
+        ensures { result ≡ names_weekday self.now weekday place behind }
+    {
+        self.weekdays.every.contains(weekday)
+            || (self.has_numbers()
+                && (has_digit(self.weekdays.front[weekday as usize], 1 + (place - 1) / 7)
+                    || has_digit(self.weekdays.back[weekday as usize], 1 + behind / 7)))
+    }
+
+    // How many days from this one on one of the rule's parts passes over, 0 if none does.
+    fn days_passed(&self, start: NaiveDate, day: NaiveDate) -> i64
+        ensures passed { (d : ℤ) → day ≤ℤ d → d <ℤ (day +ℤ result) → is_member self.now start d ≡ false }
+        ensures low { pos 0 ≤ℤ result }
+        ensures high { result ≤ℤ pos 1_000_000_000 }
+        ensures in_range { IsDate day }
+    {
+        let here = day.num_days_from_ce();
+        let before = i64::from(start.num_days_from_ce()) - i64::from(here);
+        if before > 0 {
+            return before;
+        }
+        let months = self.passed_by_month(start, day);
+        if months > 0 {
+            return months;
+        }
+        let days = self.passed_by_month_day(start, day);
+        if days > 0 {
+            return i64::from(days);
+        }
+        i64::from(self.passed_by_weekday(start, day))
+    }
+
+    // The date so many days later, of which none is a member; none behind UNTIL.
+    #[inline]
+    fn behind_passed(&self, start: NaiveDate, day: NaiveDate, days: i64) -> Option<NaiveDate>
+        requires passed { (d : ℤ) → day ≤ℤ d → d <ℤ (day +ℤ days) → is_member self.now start d ≡ false }
+        requires low { pos 0 ≤ℤ days }
+        ensures moved { IfSome result (λ e. e ≡ day +ℤ days) }
+        ensures in_range { IfSome result (λ e. IsDate e) }
+        ensures none { IfNone result ((d : ℤ) → day ≤ℤ d → IsDate d → is_member self.now start d ≡ false) }
+    {
+        if self.not_after(day) {
+            day.moved_by_days(days)
+        } else {
+            None
+        }
+    }
+
+    // The first date from this one on that no part passes over, before which none is a member.
+    pub(crate) fn candidate(&self, start: NaiveDate, date: NaiveDate) -> Option<NaiveDate>
+        ensures in_range { IfSome result (λ e. IsDate e) }
+        ensures not_before { IfSome result (λ e. date ≤ℤ e) }
+        ensures passed { IfSome result (λ e. (d : ℤ) → date ≤ℤ d → d <ℤ e → is_member self.now start d ≡ false) }
+        ensures none { IfNone result ((d : ℤ) → date ≤ℤ d → IsDate d → is_member self.now start d ≡ false) }
+    {
+        let mut day = date;
+        loop {
+            let days = self.days_passed(start, day);
+            if days == 0 {
+                return Some(day);
+            }
+            day = self.behind_passed(start, day, days)?;
+        }
+    }
+
+    // A later date, between which and this one no member lies.
     #[inline]
     pub(crate) fn later(&self, start: NaiveDate, day: NaiveDate) -> Option<NaiveDate>
         ensures in_range { IfSome result (λ e. IsDate e) }
@@ -24,12 +177,37 @@ impl Rule {
         ensures passed { IfSome result (λ e. (d : ℤ) → day <ℤ d → d <ℤ e → is_member self.now start d ≡ false) }
         ensures none { IfNone result ((d : ℤ) → day <ℤ d → IsDate d → is_member self.now start d ≡ false) }
     {
-        if !self.not_after(day) {
-            return None;
-        }
-        if !self.in_months(day) {
-            return day.last_day_of_month().succ_opt();
-        }
-        day.succ_opt()
+        let next = day.succ_opt()?;
+        self.candidate(start, next)
     }
+}
+
+// How many days from this one on lie before the month that is so many months later; those of its own month if the calendar has none.
+#[inline]
+fn days_to_month(day: NaiveDate, months: u32) -> i64
+    requires { months ≤ 12 }
+    ensures earlier { (d : ℤ) → day ≤ℤ d → d <ℤ (day +ℤ result) → month_index_of d <ℤ (month_index_of day +ℤ pos months) }
+    ensures low { pos 0 ≤ℤ result }
+    ensures high { result ≤ℤ pos 1_000_000_000 }
+{
+    if months == 0 {
+        return 0;
+    }
+    match day.first_day_of_month().moved_by_months(i64::from(months)) {
+        Some(first) => i64::from(first.num_days_from_ce()) - i64::from(day.num_days_from_ce()),
+        None => 1 + i64::from(u32::from(day.num_days_in_month()) - day.day()),
+    }
+}
+
+// How many days from this one on to the day of its month at a place, or to the end of its month.
+#[inline]
+fn days_to_place(place: u32, day: NaiveDate) -> u32
+    ensures passed { (d : ℤ) → day ≤ℤ d → d <ℤ (day +ℤ pos result) → (day_of d == place) ≡ false }
+    ensures few { result ≤ 31 }
+{
+    let (here, end) = (day.day(), u32::from(day.num_days_in_month()) + 1);
+    if place < here {
+        return end - here;
+    }
+    place.min(end) - here
 }

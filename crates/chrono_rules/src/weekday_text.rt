@@ -1,12 +1,13 @@
 //! The weekdays that BYDAY lists, as texts.
-ghost use Rattle.std.specs.Prelude.{◌≡◌, ◌<◌, IfSome, [], length, take, drop};
+ghost use Rattle.std.specs.Prelude.{◌≡◌, ◌<◌, IfSome};
 ghost use Rattle.chrono_rules.specs.Places.{weekday_of_letters, weekdays_of, with_each, with_nth, with_weekday, with_weekday_text};
 
 use crate::pieces::first_piece;
 use crate::place_text::{Place, read_place, with_number};
 use crate::places::WeekdayPlaces;
+use crate::values::is_same_text;
 
-/// The weekdays that the text lists between commas, each by its two letters and with a number from 1 to 53 in front or none (BYDAY):
+/// The weekdays that the text lists between commas, each by its two letters, of either case, and with a number from 1 to 53 in front or none (BYDAY):
 /// `TU,SU`, `1MO,-1FR`; `None` exactly if one of them is not written so.
 pub fn read_weekdays(text: &[u8]) -> Option<WeekdayPlaces>
     ensures { result ≡ weekdays_of text.now }
@@ -30,26 +31,33 @@ fn with_text(days: WeekdayPlaces, text: &[u8]) -> Option<WeekdayPlaces>
 {
     let (number, letters) = text.split_at(text.len().saturating_sub(2));
     match weekday_of_letters(letters) {
-        Some(weekday) => with_weekday(days, number, weekday),
+        Some(weekday) => with_weekday(days, number, weekday as usize),
         None => None,
     }
 }
 
-// The weekday that two letters name, from 0 for Monday.
+// The weekday that two letters name, of either case, from 0 for Monday.
 #[tactic(auto, unfolding(crate::specs::Places::weekday_of_letters))]
-fn weekday_of_letters(text: &[u8]) -> Option<usize>
+pub(crate) fn weekday_of_letters(text: &[u8]) -> Option<u32>
     ensures value { result ≡ weekday_of_letters text.now }
     ensures small { IfSome result (λ w. w < 7) }
 {
-    match text {
-        b"MO" => Some(0),
-        b"TU" => Some(1),
-        b"WE" => Some(2),
-        b"TH" => Some(3),
-        b"FR" => Some(4),
-        b"SA" => Some(5),
-        b"SU" => Some(6),
-        _ => None,
+    if is_same_text(text, b"MO") {
+        Some(0)
+    } else if is_same_text(text, b"TU") {
+        Some(1)
+    } else if is_same_text(text, b"WE") {
+        Some(2)
+    } else if is_same_text(text, b"TH") {
+        Some(3)
+    } else if is_same_text(text, b"FR") {
+        Some(4)
+    } else if is_same_text(text, b"SA") {
+        Some(5)
+    } else if is_same_text(text, b"SU") {
+        Some(6)
+    } else {
+        None
     }
 }
 

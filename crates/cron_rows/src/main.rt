@@ -9,11 +9,17 @@
 //! times what came before, and `cycle`, the same over 400 years. `none` is no moment. Each line that is answered otherwise is printed
 //! with its number, and at the end their count.
 //!
-//! Two calls have other lines. `text` has the eleven numbers of a schedule alone, and is answered by its text. `field low high names text = number`
+//! Other calls have other lines. `text` has the eleven numbers of a schedule alone, and is answered by its text. `field low high names text = number`
 //! reads the text of a field, with the names of `months` or `weekdays` or with `numbers` alone, and is answered by its set.
+//!
+//! Two calls read whole texts. `read text = numbers` is answered by the eleven numbers of the schedule, and by `none` where the text is none.
+//! `dues_of day second fraction text = numbers` is answered by the minutes to as many moments that are due after the start as there are numbers.
+//! `error text = field byte fault` is a text that is no schedule's: see `errors`.
 #![tactic(auto)]
 
-use chrono_cron::{MonthDays, Names, NumberSet, Schedule, Sets, read_field};
+mod errors;
+
+use chrono_cron::{MonthDays, Names, NumberSet, Schedule, Sets, read_field, read_schedule};
 use chrono_datetime::{Datelike, NaiveDate, NaiveDateTime, NaiveTime, Timelike};
 use chrono_text::Text;
 use std::io::{self, BufRead, BufReader};
@@ -47,15 +53,18 @@ fn main(rt: HostRuntime) -> io::Result<()> {
 
 // Whether the call of the line is answered by the number behind it.
 fn is_answered(line: &str) -> bool {
-    let Some((row, expected)) = line.split_once(" = ") else {
+    let Some((row, expected)) = line.rsplit_once(" = ") else {
         return false;
     };
     let Some((call, arguments)) = row.split_once(' ') else {
         return false;
     };
     match call {
+        "error" => errors::is_refused(arguments, expected),
         "field" => is_field_read(arguments, expected),
         "text" => is_written(arguments, expected),
+        "read" => is_read(arguments, expected),
+        "dues_of" => are_dues(arguments, expected).unwrap_or(false),
         _ => is_found(call, arguments, expected),
     }
 }
@@ -97,6 +106,37 @@ fn is_written(arguments: &str, expected: &str) -> bool {
     let mut text = Text::<LONGEST>::new();
     Schedule { sets }.put_into(&mut text);
     text.as_bytes() == expected.as_bytes()
+}
+
+// Whether a text is read as the schedule of the numbers behind it.
+fn is_read(text: &str, expected: &str) -> bool {
+    match read_schedule(text.as_bytes()) {
+        Some(schedule) => {
+            let mut words = expected.split_ascii_whitespace();
+            sets_of(&mut words) == Some(schedule.sets) && words.next().is_none()
+        }
+        None => expected == "none",
+    }
+}
+
+// Whether the moments at which a text's schedule is due after a start are those behind it; none if the line is no such row.
+fn are_dues(arguments: &str, expected: &str) -> Option<bool> {
+    let (day, rest) = arguments.split_once(' ')?;
+    let (second, rest) = rest.split_once(' ')?;
+    let (fraction, text) = rest.split_once(' ')?;
+    let date = NaiveDate::from_num_days_from_ce_opt(day.parse().ok()?)?;
+    let time = NaiveTime::from_num_seconds_from_midnight_opt(
+        second.parse().ok()?,
+        fraction.parse().ok()?,
+    )?;
+    let mut moments = read_schedule(text.as_bytes())?.after(NaiveDateTime::new(date, time));
+    for word in expected.split_ascii_whitespace() {
+        let minutes: i64 = word.parse().ok()?;
+        if minutes_to(moments.next()?) != minutes {
+            return Some(false);
+        }
+    }
+    Some(true)
 }
 
 // Whether the moment, the truth or the sum that a call finds is the number behind it.

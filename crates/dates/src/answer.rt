@@ -2,6 +2,7 @@
 
 use crate::day_names::print_names;
 use crate::distance::answer_distance;
+use crate::due::{Way, answer_due};
 use crate::fault::{ANSWERED, WRONG};
 use crate::file::answer_file;
 use crate::lines::answer_lines;
@@ -49,6 +50,8 @@ pub(crate) fn answer(
             [_, file, ..] => answer_file(rt, file.as_str()),
             _ => Ok(WRONG),
         },
+        Request::Next { from, count } => answer_due(rt, from, count, Way::On, words),
+        Request::Prev { from, count } => answer_due(rt, from, count, Way::Back, words),
     }
 }
 
@@ -68,6 +71,8 @@ fn answer_help(rt: &impl Print) -> io::Result<u8> {
         "                             modified-following, modified-preceding, nearest, unadjusted"
     )?;
     println!(rt; "dates check FILE             the lines that are no days, and why")?;
+    println!(rt; "dates next CRON --from T     when a schedule is due next: '30 4 1,15 * 5'")?;
+    println!(rt; "dates prev CRON --from T     when it was due before; --count N: so many")?;
     println!(rt;
         "dates [-]                    each line of standard input by all names of its day"
     )?;

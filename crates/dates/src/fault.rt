@@ -44,6 +44,12 @@ fn refuse_word(rt: &(impl Print + Eprint), word: &str, wrong: Wrong) -> io::Resu
         Why::Weekend => refuse_form(rt, place, word, "a weekend as fri,sat, sun or none"),
         Why::Calendar => refuse_form(rt, place, word, "us-federal, target or england"),
         Why::File => refuse_form(rt, place, word, "the name of a file"),
+        Why::Schedule => refuse_form(rt, place, word, "a schedule as '30 4 1,15 * 5'"),
+        Why::Moment => refuse_form(rt, place, word, "a date-time as 2024-02-29T04:30"),
+        Why::Amount => refuse_form(rt, place, word, "a number from 1 on"),
+        Why::From => refuse_form(rt, place, word, "--from and a date-time"),
+        Why::DueOption => refuse_form(rt, place, word, "--from or --count, each once"),
+        Why::Value => refuse_form(rt, place, word, "a value of the option"),
         Why::End => refuse_form(rt, place, word, "no further argument"),
     }
 }
@@ -67,7 +73,7 @@ fn refuse_day(rt: &(impl Print + Eprint), place: usize, word: &str, why: NoDay) 
 // What stands where a day does.
 fn day_or_command(place: usize) -> &'static str {
     if place == 1 {
-        "a day as 2024-02-29, add, diff, seq, week, easter, leap, open, roll or check"
+        "a day as 2024-02-29, add, diff, seq, week, easter, leap, open, roll, check, next or prev"
     } else {
         "a day as 2024-02-29, 2024-060 or 2024-W09-4"
     }

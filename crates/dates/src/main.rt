@@ -5,6 +5,7 @@ mod answer;
 mod closed;
 mod day_names;
 mod distance;
+mod due;
 mod fault;
 mod file;
 mod lines;

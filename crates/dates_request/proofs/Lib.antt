@@ -1,4 +1,6 @@
+mod CalendarOptionLemmas
 mod DayLemmas
+mod DueLemmas
 mod OptionLemmas
 mod SpanLemmas
 mod WeekLemmas

@@ -4,6 +4,7 @@ use Rattle.std.specs.Borrow.{Bor}
 use Rattle.chrono_text.specs.Text.{year_text}
 use Rattle.chrono_reading.specs.DateTexts.{IsWeekDateText}
 use Rattle.dates_request.specs.DayTexts.{NamesDay}
+use Rattle.dates_request.specs.DueRequests.{IsOfSchedule}
 use Rattle.dates_request.specs.OpenRequests.{IsOpen, IsRoll}
 use Rattle.dates_request.specs.SpanTexts.{IsSpanText}
 use Rattle.dates_request.specs.declared.span.Span.{Span}
@@ -33,6 +34,8 @@ command_named word =
     else if bytes_eq word (codes "open") then Some command.Open
     else if bytes_eq word (codes "roll") then Some command.Roll
     else if bytes_eq word (codes "check") then Some command.Check
+    else if bytes_eq word (codes "next") then Some command.Next
+    else if bytes_eq word (codes "prev") then Some command.Prev
     else None
 
 -- the text of the year y, as it is printed (ISO 8601)
@@ -160,6 +163,8 @@ HasArguments command.Leap words r = IsLeap words r
 HasArguments command.Open words r = IsOpen words r
 HasArguments command.Roll words r = IsRoll words r
 HasArguments command.Check words r = IsCheck words r
+HasArguments command.Next words r = IsOfSchedule request.Next words r
+HasArguments command.Prev words r = IsOfSchedule request.Prev words r
 
 -- a day, where the first word is no command
 pub record IsDay (word : List ℕ) (words : List (List ℕ)) (r : Request) : Type 0 where

@@ -29,6 +29,10 @@ pub enum Command {
     Roll,
     /// `check`: the lines of a file that are no days.
     Check,
+    /// `next`: when a schedule is due after a moment.
+    Next,
+    /// `prev`: when it was due before one.
+    Prev,
 }
 
 // The command that the word names.
@@ -49,6 +53,8 @@ pub(crate) fn command_named(word: &[u8]) -> Option<Command>
         b"open" => Some(Command::Open),
         b"roll" => Some(Command::Roll),
         b"check" => Some(Command::Check),
+        b"next" => Some(Command::Next),
+        b"prev" => Some(Command::Prev),
         _ => None,
     }
 }

@@ -1,9 +1,12 @@
-//! What the arguments of `dates` ask for: days, spans, weeks, and the request that they make, or which argument is wrong and why.
+//! What the arguments of `dates` ask for: days, moments, spans, weeks, and the request that they make, or which argument is wrong and why.
 #![tactic(auto)]
 
 mod command;
 mod day;
+mod due;
+mod moment;
 mod open;
+mod option;
 mod options;
 mod read;
 mod request;
@@ -14,6 +17,7 @@ mod wrong;
 
 pub use command::Command;
 pub use day::{NoDay, read_day};
+pub use moment::read_moment;
 pub use open::Convention;
 pub use options::{HolidayCalendar, Options};
 pub use read::read_request;

@@ -3,15 +3,17 @@ ghost use Rattle.std.specs.Prelude.{◌≡◌, ◌∷◌, [], ℤ, Ok, Some, IfO
 ghost use Rattle.dates_request.specs.declared.request.Request.{Request};
 ghost use Rattle.dates_request.specs.declared.request.Request.TheVariants as request;
 ghost use Rattle.dates_request.specs.declared.command.Command.TheVariants as command;
+ghost use Rattle.dates_request.specs.DueRequests.{IsOfSchedule};
 ghost use Rattle.dates_request.specs.Requests.{AsksFor, HasArguments, IsAdd, IsAlone, IsCheck, IsDay, IsDistance, IsEaster, IsLeap, IsOfTwoDays, IsRequest, IsSequence, IsWeek, WritesSpan, texts};
 
 use crate::command::{Command, command_named};
 use crate::day::NoDay;
+use crate::due::due;
 use crate::open::{open, roll};
 use crate::request::Request;
 use crate::span::read_span;
 use crate::word::{day_at, step_at, unit_at, week_at, year_at};
-use crate::wrong::{Why, Wrong};
+use crate::wrong::{Why, Wrong, wrong_at};
 use chrono_datetime::NaiveDate;
 
 /// What the words behind the program's name ask for, or which of them is wrong and why.
@@ -61,6 +63,8 @@ fn arguments(command: Command, words: &[&[u8]]) -> Result<Request, Wrong>
         Command::Open => open(words),
         Command::Roll => roll(words),
         Command::Check => check(words),
+        Command::Next => next(words),
+        Command::Prev => prev(words),
     }
 }
 
@@ -256,6 +260,28 @@ fn check(words: &[&[u8]]) -> Result<Request, Wrong>
     Ok(Request::Check)
 }
 
+// A schedule, of which it is asked when it is due next.
+fn next(words: &[&[u8]]) -> Result<Request, Wrong>
+    ensures read { IfOk result (λ r. IsOfSchedule request.Next (texts words.now) r) }
+    ensures every { (r : Request) → IsOfSchedule request.Next (texts words.now) r → result ≡ Ok r }
+{
+    match due(words) {
+        Ok((from, count)) => Ok(Request::Next { from, count }),
+        Err(wrong) => Err(wrong),
+    }
+}
+
+// A schedule, of which it is asked when it was due before.
+fn prev(words: &[&[u8]]) -> Result<Request, Wrong>
+    ensures read { IfOk result (λ r. IsOfSchedule request.Prev (texts words.now) r) }
+    ensures every { (r : Request) → IsOfSchedule request.Prev (texts words.now) r → result ≡ Ok r }
+{
+    match due(words) {
+        Ok((from, count)) => Ok(Request::Prev { from, count }),
+        Err(wrong) => Err(wrong),
+    }
+}
+
 // The fault where one word is wanted, and none follows or more do.
 fn not_one(words: &[&[u8]], why: Why) -> Wrong {
     if words.is_empty() {
@@ -263,10 +289,6 @@ fn not_one(words: &[&[u8]], why: Why) -> Wrong {
     } else {
         wrong_at(3, Why::End)
     }
-}
-
-fn wrong_at(place: usize, why: Why) -> Wrong {
-    Wrong { place, why }
 }
 
 // What was expected where a day is missing.

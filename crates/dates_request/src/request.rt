@@ -3,7 +3,7 @@
 use crate::open::Convention;
 use crate::options::Options;
 use crate::span::{Span, Unit};
-use chrono_datetime::NaiveDate;
+use chrono_datetime::{NaiveDate, NaiveDateTime};
 
 /// What the arguments ask for.
 #[derive(Clone, Copy, Debug, PartialEq, Eq)]
@@ -89,4 +89,18 @@ pub enum Request {
     },
     /// The lines of a file that are no days: the file that the second word names.
     Check,
+    /// The moments after one at which the schedule is due that the second word writes.
+    Next {
+        /// The moment.
+        from: NaiveDateTime,
+        /// How many, from 1 on.
+        count: u64,
+    },
+    /// The moments before one at which the schedule is due that the second word writes, the last first.
+    Prev {
+        /// The moment.
+        from: NaiveDateTime,
+        /// How many, from 1 on.
+        count: u64,
+    },
 }

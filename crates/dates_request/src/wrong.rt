@@ -40,6 +40,23 @@ pub enum Why {
     Calendar,
     /// The name of a file.
     File,
+    /// A schedule of cron.
+    Schedule,
+    /// A date-time.
+    Moment,
+    /// A number from 1 on.
+    Amount,
+    /// The option `--from`, which has to be given.
+    From,
+    /// `--from` or `--count`, each once.
+    DueOption,
+    /// The value of an option.
+    Value,
     /// No further argument.
     End,
+}
+
+// That fault at this place.
+pub(crate) fn wrong_at(place: usize, why: Why) -> Wrong {
+    Wrong { place, why }
 }

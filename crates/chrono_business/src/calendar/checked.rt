@@ -10,6 +10,9 @@ use chrono_datetime::{Datelike, NaiveDate, WeekdaySet};
 impl<'a> Calendar<'a> {
     /// The calendar that is closed on these weekdays and on these days; an error if the days do not rise, or if one
     /// of them is on the weekend.
+    ///
+    /// The error names the first day that is wrong. Of a day that is both on the weekend and not later than the one in
+    /// front of it, it says that it is on the weekend.
     pub fn try_new(
         weekend: WeekdaySet,
         holidays: &'a [NaiveDate],
@@ -25,7 +28,7 @@ impl<'a> Calendar<'a> {
     }
 }
 
-// A holiday of a list that cannot be one of a calendar.
+// The first holiday of a list that cannot be one of a calendar.
 fn wrong_holiday(weekend: WeekdaySet, holidays: &[NaiveDate]) -> Option<HolidayError>
     ensures some { IfSome result (λ e. IsWrong weekend holidays.now e) }
     ensures none { IfNone result (AreHolidays weekend holidays.now) }

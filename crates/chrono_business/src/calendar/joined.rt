@@ -1,5 +1,5 @@
 //! Two calendars as one.
-ghost use Rattle.std.specs.Prelude.{◌≡◌, ◌&&◌, ◌⊎◌, ℤ, true, length, IfSome, IfNone};
+ghost use Rattle.std.specs.Prelude.{◌≡◌, ◌≤◌, ◌&&◌, ◌⊎◌, ℤ, true, length, IfSome, IfNone};
 ghost use Rattle.chrono_datetime.specs.WeekdaySet.{union};
 ghost use Rattle.chrono_business.specs.OpenDays.{is_holiday, is_open, is_workday};
 ghost use Rattle.chrono_business.specs.HolidayLists.{AreTooMany};
@@ -16,6 +16,7 @@ impl<'a> Calendar<'a> {
         ensures weekend { IfSome result (λ c. c.weekend ≡ union self.now.weekend other.now.weekend) }
         ensures open { IfSome result (λ c. (d : ℤ) →
             is_open c d ≡ (is_open self.now d && is_open other.now d)) }
+        ensures room { IfSome result (λ c. length c.holidays ≤ length out.old) }
         ensures none { IfNone result (AreTooMany (λ d.
             ((is_holiday self.now.holidays d ≡ true) ⊎ (is_holiday other.now.holidays d ≡ true)) ×
             (is_workday (union self.now.weekend other.now.weekend) d ≡ true)) (length out.old)) }

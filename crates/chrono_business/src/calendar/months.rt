@@ -1,5 +1,5 @@
 //! Open days of a month.
-ghost use Rattle.std.specs.Prelude.{◌≡◌, ◌-◌, ◌<◌, ◌≤◌, ◌⊎◌, ℤ, pos, ◌+ℤ◌, ◌<ℤ◌, true, false, IfSome, IfNone};
+ghost use Rattle.std.specs.Prelude.{◌≡◌, ◌↔◌, ◌-◌, ◌<◌, ◌≤◌, ◌⊎◌, ℤ, pos, ◌+ℤ◌, ◌<ℤ◌, true, false, IsSome, IfSome, IfNone};
 ghost use Rattle.chrono_datetime.specs.Days.{IsDate};
 ghost use Rattle.chrono_datetime.specs.MonthMoves.{InSameMonth, month_first_of, month_last_of};
 ghost use Rattle.chrono_business.specs.OpenDays.{IsNthOpenBack, IsNthOpenFrom, is_open, open_days};
@@ -11,6 +11,7 @@ use chrono_datetime::{Datelike, NaiveDate};
 impl<'a> Calendar<'a> {
     /// The first open day of the date's month; `None` exactly if the whole month is closed.
     pub fn first_open_of_month(&self, date: NaiveDate) -> Option<NaiveDate>
+        ensures exists { IsSome result ↔ 0 < open_days self.now (month_first_of date) (month_last_of date +ℤ pos 1) }
         ensures first { IfSome result (λ e. IsNextOpen self.now (month_first_of date) e) }
         ensures month { IfSome result (λ e. InSameMonth e (month_first_of date)) }
         ensures none { IfNone result (MonthEndsClosed self.now (month_first_of date)) }
@@ -20,6 +21,7 @@ impl<'a> Calendar<'a> {
 
     /// The last open day of the date's month; `None` exactly if the whole month is closed.
     pub fn last_open_of_month(&self, date: NaiveDate) -> Option<NaiveDate>
+        ensures exists { IsSome result ↔ 0 < open_days self.now (month_first_of date) (month_last_of date +ℤ pos 1) }
         ensures last { IfSome result (λ e. IsLastOpen self.now (month_last_of date) e) }
         ensures month { IfSome result (λ e. InSameMonth e (month_last_of date)) }
         ensures none { IfNone result (MonthBeginsClosed self.now (month_last_of date)) }
@@ -30,6 +32,7 @@ impl<'a> Calendar<'a> {
     /// The `n`-th open day of the date's month, counted from 0; `None` exactly if no more than `n` days of the month are
     /// open.
     pub fn nth_open_of_month(&self, date: NaiveDate, n: u64) -> Option<NaiveDate>
+        ensures exists { IsSome result ↔ n < open_days self.now (month_first_of date) (month_last_of date +ℤ pos 1) }
         ensures passes { IfSome result (λ e. is_open self.now e ≡ true) }
         ensures month { IfSome result (λ e. InSameMonth e date) }
         ensures nth { IfSome result (λ e. IsNthOpenFrom self.now (month_first_of date) n e) }
@@ -46,6 +49,7 @@ impl<'a> Calendar<'a> {
     /// The `n`-th open day of the date's month from its end, counted from 0; `None` exactly if no more than `n` days of
     /// the month are open.
     pub fn nth_last_open_of_month(&self, date: NaiveDate, n: u64) -> Option<NaiveDate>
+        ensures exists { IsSome result ↔ n < open_days self.now (month_first_of date) (month_last_of date +ℤ pos 1) }
         ensures passes { IfSome result (λ e. is_open self.now e ≡ true) }
         ensures month { IfSome result (λ e. InSameMonth e date) }
         ensures nth { IfSome result (λ e. IsNthOpenBack self.now (month_last_of date) n e) }

@@ -1,21 +1,6 @@
-use Rattle.std.proofs.Common.{◌∙◌, ap, sym}
-use Rattle.std.specs.Option.{option_map}
-use Rattle.chrono_cron.specs.Due.{has}
+use Rattle.std.proofs.Common.{◌∙◌, ap}
+use Rattle.std.specs.Result.{result_ok}
 use Rattle.chrono_cron.proofs.reading.read_schedule.Goals as goal
 
-pub returns-clause-read : goal.returns-clause-read
-returns-clause-read c = record {
-  minute = c.in_ok-fields.fields.minute.now;
-  hour = c.in_ok-fields.fields.hour.now;
-  day = c.in_ok-fields.fields.day.now;
-  month = c.in_ok-fields.fields.month.now;
-  weekday = c.in_ok-fields.fields.weekday.now;
-  written = c.in_ok-fields.ensures.some;
-  minutes = λ k lt. sym (c.read_field.ensures k lt) ∙ ap (option_map (λ s. has s k)) c.in_ok-minutes.was;
-  hours = λ k lt. sym (c.read_field-2.ensures k lt) ∙ ap (option_map (λ s. has s k)) c.in_ok-hours.was;
-  days = λ k lt. sym (c.read_days.ensures k lt) ∙ ap (option_map (λ s. has s k)) c.in_ok-days.was;
-  months = λ k lt. sym (c.read_field-3.ensures k lt) ∙ ap (option_map (λ s. has s k)) c.in_ok-months.was;
-  weekdays = λ k lt. sym (c.read_weekdays.ensures k lt) ∙ ap (option_map (λ s. has s k)) c.in_ok-weekdays.was;
-  month_days = c.named_days.ensures;
-  either = c.is_either_enough.ensures;
-}
+pub returns-clause-every : goal.returns-clause-every
+returns-clause-every c = λ s below is. c.ok.ensures.value ∙ ap result_ok (c.check_schedule.ensures.every s below is)

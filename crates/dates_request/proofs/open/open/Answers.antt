@@ -1,6 +1,6 @@
 use Rattle.std.proofs.Common.{refl}
 use Rattle.dates_request.specs.OptionTexts.{no_options}
-use Rattle.dates_request.proofs.OptionLemmas.{gave}
+use Rattle.dates_request.proofs.CalendarOptionLemmas.{gave}
 use Rattle.dates_request.proofs.WordLemmas.{ahead, cut_one, named}
 use Rattle.dates_request.proofs.open.open.Goals as goal
 

@@ -1,7 +1,7 @@
 use Rattle.std.proofs.Common.{refl, sym, ap, ◌∙◌}
 use Rattle.dates_request.specs.OpenRequests.{convention_named}
 use Rattle.dates_request.specs.OptionTexts.{no_options}
-use Rattle.dates_request.proofs.OptionLemmas.{gave}
+use Rattle.dates_request.proofs.CalendarOptionLemmas.{gave}
 use Rattle.dates_request.proofs.WordLemmas.{ahead_two, cut_two, named}
 use Rattle.dates_request.proofs.open.roll.Goals as goal
 

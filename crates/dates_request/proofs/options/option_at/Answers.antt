@@ -1,6 +1,6 @@
 use Rattle.std.proofs.lemmas.Result.{IfOk-weaker}
 use Rattle.std.proofs.Common.{sym}
-use Rattle.dates_request.proofs.OptionLemmas.{of_name}
+use Rattle.dates_request.proofs.CalendarOptionLemmas.{of_name}
 use Rattle.dates_request.proofs.options.option_at.Goals as goal
 
 pub returns-in-Some-clause-read : goal.returns-in-Some-clause-read

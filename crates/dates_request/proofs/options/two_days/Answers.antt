@@ -1,7 +1,7 @@
 use Rattle.std.proofs.Common.{◌≡◌, ap, sym, ◌∙◌, arith}
 use Rattle.std.proofs.lemmas.Option.{same_Some}
 use Rattle.dates_request.specs.OptionTexts.{weekday_named}
-use Rattle.dates_request.proofs.OptionLemmas.{cut_at_comma, joined_at_comma, three_in_front}
+use Rattle.dates_request.proofs.CalendarOptionLemmas.{cut_at_comma, joined_at_comma, three_in_front}
 use Rattle.dates_request.proofs.options.two_days.Goals as goal
 
 pub returns-clause-read : goal.returns-clause-read

@@ -1,5 +1,5 @@
 use Rattle.std.proofs.Common.{arith}
-use Rattle.dates_request.proofs.OptionLemmas.{by_four, by_seven, by_three}
+use Rattle.dates_request.proofs.CalendarOptionLemmas.{by_four, by_seven, by_three}
 use Rattle.dates_request.proofs.options.weekend_of.Goals as goal
 
 pub returns-then-text-eq3-clause-every : goal.returns-then-text-eq3-clause-every

@@ -1,10 +1,11 @@
-use Rattle.std.proofs.Common.{◌≡◌, ℕ, ◌<◌, true, not, length, sym, ap, ◌∙◌, arith, ℤ, ◌<ℤ◌}
+use Rattle.std.proofs.Common.{◌≡◌, ℕ, ◌-◌, ◌<◌, true, not, length, sym, ap, ◌∙◌, arith, ℤ, ◌<ℤ◌}
 use Rattle.std.specs.Prelude.{slice_index_or}
 use Rattle.chrono_datetime.specs.Days.{IsDate}
 use Rattle.chrono_datetime.specs.WeekdaySet.{contains}
 use Rattle.chrono_datetime.proofs.Signed.{signed}
 use Rattle.chrono_business.specs.OpenDays.{is_workday}
-use Rattle.chrono_business.proofs.Checked.{all-next, later_than_all, rising-next}
+use Rattle.chrono_business.proofs.Checked.{all-next, at_place, later_than_all, right_so_far, rising-next}
+use Rattle.std.proofs.lemmas.List.{get_or_default}
 use Rattle.chrono_business.proofs.calendar.checked.wrong_holiday.Goals as goal
 use Rattle.chrono_business.proofs.calendar.checked.wrong_holiday.Goals.{else-place-gt0-via-then-place-gt0+else-number-num_days_from_ce, else-place-gt0-via-else-place-gt0}
 
@@ -28,3 +29,25 @@ loop-place-preserved c =
       rising = rising-next xs i x within is behind inv.rising;
       workdays = all-next (λ h. is_workday c.args.weekend h ≡ true) xs i x within is workday inv.workdays;
     }
+
+-- those before it are right, so it is a workday that is not later
+pub returns-then-number-num_days_from_ce-clause-some : goal.returns-then-number-num_days_from_ce-clause-some
+returns-then-number-num_days_from_ce-clause-some c =
+    let xs = c.args.holidays.now in
+    let i = c.loop-place.place in
+    let x : ℤ = c.index-holidays-place.result in
+    let last : ℤ = c.index-holidays-place-then-place-gt0.result in
+    let inv = c.loop-place.invariant in
+    let is = c.index-holidays-place.is in
+    let number : c.num_days_from_ce-number.result ≡ x = c.num_days_from_ce-number.ensures.value in
+    let within : i < length xs = omega (arith, c.loop-place-test.true, c.loop-place.auto.place-end) in
+    let some : 0 < i = omega (arith, c.if-place-gt0.true) in
+    let workday : is_workday c.args.weekend x ≡ true = ap not (ap (contains c.args.weekend) (sym c.weekday.ensures.value) ∙ (sym c.contains.ensures ∙ c.if-contains.false)) in (
+      right_so_far c.args.weekend xs i within inv.dates inv.rising inv.workdays,
+      some,
+      at_place (λ h. is_workday c.args.weekend h ≡ true) xs i x within is workday,
+      λ d.
+          let here : x ≡ slice_index_or xs i d = is ∙ get_or_default xs i x d within in
+          let before : last ≡ slice_index_or xs (i - 1) d = c.index-holidays-place-then-place-gt0.is ∙ get_or_default xs (i - 1) last d (omega (arith, within)) in
+          omega (arith, signed, here, before, number, c.num_days_from_ce.ensures.value, c.if-number-num_days_from_ce.true),
+    )

@@ -5,7 +5,7 @@ use Rattle.chrono_rules.proofs.rule.Rule.first_member.Goals as goal
 
 pub returns-in_err-day-clause-none : goal.returns-in_err-day-clause-none
 returns-in_err-day-clause-none c =
-    rw c.from_residual.ensures
+    rw c.from_residual-in_err-day.ensures
     (λ d low date.
     passed_on c.args.self.now c.args.start c.args.date c.loop-start.day d c.loop-start.invariant.1 (sym c.is_member.ensures ∙ c.loop-start-test.true) (λ behind. c.in_err-day.ensures.none d behind date) low)
 
@@ -15,3 +15,6 @@ loop-start-preserved c = (
   λ d low high.
       passed_on c.args.self.now c.args.start c.args.date c.loop-start.day d c.loop-start.invariant.1 (sym c.is_member.ensures ∙ c.loop-start-test.true) (λ behind. c.in_ok-day.ensures.passed d behind high) low,
 )
+
+pub loop-start-init : goal.loop-start-init
+loop-start-init c = (c.in_ok-first.ensures.not_before, c.in_ok-first.ensures.passed)

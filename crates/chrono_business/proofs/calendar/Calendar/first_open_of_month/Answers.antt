@@ -1,0 +1,6 @@
+use Rattle.chrono_business.proofs.MonthDayCounts.{exists-first}
+use Rattle.chrono_business.proofs.calendar.Calendar.first_open_of_month.Goals as goal
+
+pub returns-clause-exists : goal.returns-clause-exists
+returns-clause-exists c =
+    exists-first c.next_open_in_month.result c.args.self.now c.args.date (rw c.first_day_of_month.ensures.first at c.next_open_in_month.ensures.next) (rw c.first_day_of_month.ensures.first at c.next_open_in_month.ensures.month) (rw c.first_day_of_month.ensures.first at c.next_open_in_month.ensures.none)

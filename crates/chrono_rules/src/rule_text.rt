@@ -1,0 +1,129 @@
+//! The texts of rules.
+ghost use Rattle.std.specs.Prelude.{◌≡◌, Some, IfSome};
+ghost use Rattle.chrono_rules.specs.RuleTexts.{IsRuleText, Says, fits, has_month_days, has_year_parts, lacks_lists, lacks_numbers, may_have_numbers};
+ghost use Rattle.chrono_rules.specs.declared.rule.Rule.{Rule};
+
+use crate::places::are_zero;
+use crate::rule::{Frequency, Rule};
+use crate::rule_parts::{
+    end, frequency, interval, month_days, months, positions, week_start, weekdays, weeks, year_days,
+};
+use crate::values::are_parts;
+
+/// The rule that the text writes (RFC 5545, section 3.3.10), as `FREQ=MONTHLY;BYDAY=-1FR`; `None` exactly if it writes none.
+///
+/// It is parts `NAME=VALUE` with `;` between, in any order and each at most once, FREQ always: FREQ (`DAILY`, `WEEKLY`, `MONTHLY`, `YEARLY`),
+/// INTERVAL (1 to 4294967295), COUNT (0 to 4294967295) or UNTIL (a date, as `19971224`), BYMONTH, BYMONTHDAY, BYDAY, BYYEARDAY, BYWEEKNO,
+/// BYSETPOS and WKST. Names, and the words of values, may be in letters of either case, as strings of an ABNF are.
+///
+/// None is read that RFC 5545 forbids: BYMONTHDAY does not go with WEEKLY, BYYEARDAY and BYWEEKNO go with YEARLY alone, numbers of weekdays
+/// go with MONTHLY and YEARLY and not beside BYWEEKNO, and BYSETPOS has to stand beside another list. Rules of hours, minutes and seconds,
+/// and an UNTIL with a time of day, are not over days and are not read.
+pub fn read_rule(text: &[u8]) -> Option<Rule>
+    ensures read { IfSome result (λ r. IsRuleText text.now r) }
+    // Whatever rule the text writes is the answer: no text is refused, and none has two meanings.
+    ensures every { (r : Rule) → IsRuleText text.now r → result ≡ Some r }
+{
+    if !are_parts(text) {
+        return None;
+    }
+    let rule = read_parts(text)?;
+    if !rule.fits() {
+        return None;
+    }
+    Some(rule)
+}
+
+// What the parts say.
+fn read_parts(text: &[u8]) -> Option<Rule>
+    ensures read { IfSome result (λ r. Says text.now r) }
+    ensures every { (r : Rule) → Says text.now r → result ≡ Some r }
+{
+    let frequency = frequency(text)?;
+    let interval = interval(text)?;
+    let end = end(text)?;
+    let months = months(text)?;
+    let month_days = month_days(text)?;
+    let weekdays = weekdays(text)?;
+    let year_days = year_days(text)?;
+    let weeks = weeks(text)?;
+    let positions = positions(text)?;
+    let week_start = week_start(text)?;
+    Some(Rule {
+        frequency,
+        interval,
+        end,
+        months,
+        month_days: month_days.front,
+        month_days_from_end: month_days.back,
+        weekdays,
+        year_days: year_days.front,
+        year_days_from_end: year_days.back,
+        weeks: weeks.front,
+        weeks_from_end: weeks.back,
+        positions: positions.front,
+        positions_from_end: positions.back,
+        week_start,
+    })
+}
+
+impl Rule {
+    // Whether each part that the rule has goes with the others.
+    fn fits(&self) -> bool
+        ensures { result ≡ fits self.now }
+    {
+        (has_month_days(self.frequency) || self.lacks_month_days())
+            && ((has_year_parts(self.frequency) || (self.lacks_year_days() && self.lacks_weeks()))
+                && ((self.may_have_numbers() || self.lacks_numbers())
+                    && (self.lacks_positions() || !self.lacks_lists())))
+    }
+
+    // Whether weekdays may have numbers.
+    fn may_have_numbers(&self) -> bool
+        ensures { result ≡ may_have_numbers self.now }
+    {
+        self.has_numbers() && self.lacks_weeks()
+    }
+
+    // Whether no weekday has a number.
+    fn lacks_numbers(&self) -> bool
+        ensures { result ≡ lacks_numbers self.now }
+    {
+        are_zero(&self.weekdays.front) && are_zero(&self.weekdays.back)
+    }
+
+    // Whether it lists nothing but positions.
+    fn lacks_lists(&self) -> bool
+        ensures { result ≡ lacks_lists self.now }
+    {
+        self.lacks_months()
+            && (self.lacks_month_days()
+                && (self.lacks_weekdays() && (self.lacks_year_days() && self.lacks_weeks())))
+    }
+}
+
+// Whether days of the month go with the frequency.
+#[tactic(auto, unfolding(crate::specs::RuleTexts::has_month_days))]
+fn has_month_days(frequency: Frequency) -> bool
+    ensures { result ≡ has_month_days frequency }
+{
+    match frequency {
+        Frequency::Daily => true,
+        Frequency::Weekly => false,
+        Frequency::Monthly => true,
+        Frequency::Yearly => true,
+    }
+}
+
+// Whether days of the year and weeks go with the frequency.
+#[tactic(auto, unfolding(crate::specs::RuleTexts::has_year_parts))]
+fn has_year_parts(frequency: Frequency) -> bool
+    ensures { result ≡ has_year_parts frequency }
+{
+    match frequency {
+        Frequency::Daily => false,
+        Frequency::Weekly => false,
+        Frequency::Monthly => false,
+        Frequency::Yearly => true,
+    }
+}

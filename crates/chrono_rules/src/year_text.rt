@@ -1,0 +1,86 @@
+//! The days of the year and the positions that a rule lists, as texts.
+ghost use Rattle.std.specs.Prelude.{◌≡◌, ◌<◌, ◌/◌, ◌%◌};
+ghost use Rattle.chrono_rules.specs.RuleTexts.{no_year_ends, with_day, with_year_place, with_year_text, year_ends_of};
+
+use crate::pieces::first_piece;
+use crate::place_text::{Place, read_place};
+use crate::places::PlaceSet;
+
+/// Numbers from 1 to 366 that count from the front, and others that count from the end.
+#[derive(Clone, Copy, PartialEq, Eq, Debug)]
+pub struct YearEnds {
+    /// The numbers without a sign, or with a `+`.
+    pub front: PlaceSet,
+    /// The numbers with a `-`.
+    pub back: PlaceSet,
+}
+
+impl YearEnds {
+    // No number.
+    pub(crate) fn none() -> YearEnds
+        ensures { result ≡ no_year_ends }
+    {
+        YearEnds {
+            front: PlaceSet::none(),
+            back: PlaceSet::none(),
+        }
+    }
+
+    // These numbers and that.
+    fn with(self, place: Place) -> YearEnds
+        requires { place.number < 384 }
+        ensures { result ≡ with_year_place self place }
+    {
+        if place.from_end {
+            YearEnds {
+                front: self.front,
+                back: with_day(self.back, place.number),
+            }
+        } else {
+            YearEnds {
+                front: with_day(self.front, place.number),
+                back: self.back,
+            }
+        }
+    }
+}
+
+// The set and a number.
+fn with_day(set: PlaceSet, number: u32) -> PlaceSet
+    requires { number < 384 }
+    ensures { result ≡ with_day set number }
+{
+    let mut set = set;
+    let word = (number / 64) as usize;
+    set.words[word] = set.words[word] | (1 << (number % 64));
+    set
+}
+
+/// The days of the year that BYYEARDAY lists, or the positions that BYSETPOS lists, as `1,-1`: numbers of one digit to three from 1 to 366
+/// between commas, each with a sign or none, of which `-` counts from the end; `None` exactly if the text is no such list (RFC 5545, section
+/// 3.3.10).
+pub fn read_year_days(text: &[u8]) -> Option<YearEnds>
+    ensures { result ≡ year_ends_of text.now }
+{
+    let mut ends = YearEnds::none();
+    let mut rest = text;
+    loop {
+        let (first, behind) = first_piece(rest, b',');
+        ends = with_text(ends, first)?;
+        match behind {
+            [_, next @ ..] => rest = next,
+            [] => return Some(ends),
+        }
+    }
+}
+
+// The numbers and the one that the text writes.
+#[tactic(auto, unfolding(crate::specs::RuleTexts::with_year_text))]
+fn with_text(ends: YearEnds, text: &[u8]) -> Option<YearEnds>
+    ensures { result ≡ with_year_text ends text.now }
+{
+    match read_place(text, 3, 366) {
+        Some(place) => Some(ends.with(place)),
+        None => None,
+    }
+}

@@ -1,0 +1,60 @@
+//! When a schedule is due.
+
+use crate::fault::{ANSWERED, NONE, WRONG};
+use chrono_cron::{Schedule, read_schedule};
+use chrono_datetime::NaiveDateTime;
+use std::alloc::Allocator;
+use std::io;
+
+/// Which way one goes from a moment.
+#[derive(Clone, Copy)]
+pub(crate) enum Way {
+    On,
+    Back,
+}
+
+// The moments at which the schedule of the second word is due from a moment on or back, so many of them; `none` where there are fewer.
+pub(crate) fn answer_due(
+    rt: &impl Print,
+    from: NaiveDateTime,
+    count: u64,
+    way: Way,
+    words: &[String<impl Allocator>],
+) -> io::Result<u8> {
+    let schedule = match words {
+        [_, text, ..] => read_schedule(text.as_str().as_bytes()),
+        _ => None,
+    };
+    match schedule {
+        Some(schedule) => print_due(rt, &schedule, from, count, way),
+        None => Ok(WRONG),
+    }
+}
+
+// The same of the schedule.
+fn print_due(
+    rt: &impl Print,
+    schedule: &Schedule,
+    from: NaiveDateTime,
+    count: u64,
+    way: Way,
+) -> io::Result<u8> {
+    let mut last = from;
+    for _ in 0..count {
+        let Some(moment) = neighbour(schedule, last, way) else {
+            println!(rt; "none")?;
+            return Ok(NONE);
+        };
+        println!(rt; "{moment:?}")?;
+        last = moment;
+    }
+    Ok(ANSWERED)
+}
+
+// The moment next to another at which the schedule is due.
+fn neighbour(schedule: &Schedule, moment: NaiveDateTime, way: Way) -> Option<NaiveDateTime> {
+    match way {
+        Way::On => schedule.next_after(moment),
+        Way::Back => schedule.prev_before(moment),
+    }
+}
