@@ -63,7 +63,7 @@ ABSENT = {
 }
 # Files and folders that are rightly not there, by the reason.
 NO_FILES = {
-    "left by a build": "dist crates/caltool/out/caltool out out/libcalendar_c.a out/incremental",
+    "left by a build": "dist crates/caltool/out/caltool crates/dates/out/dates out out/libcalendar_c.a out/incremental",
     "where a package is installed": "include/calendar.h lib/libcalendar-v3.a lib/libcalendar.a lib/libcalendar.so.0 libcalendar-v3.a lib/pkgconfig lib/pkgconfig/calendar.pc lib/cmake/calendar libcalendar.so",
     "an option of a compiler": "-Ilanguages/c",
     "of the kit": "docs/WALKS.md",
