@@ -46,7 +46,11 @@ pub(crate) fn put_holidays(
             return Ok(false);
         }
     }
-    put_calendar(options.calendar, with_years_of(years, days.as_slice()), days)?;
+    put_calendar(
+        options.calendar,
+        with_years_of(years, days.as_slice()),
+        days,
+    )?;
     days.as_mut_slice().sort_unstable();
     days.dedup();
     let count = without_weekends(weekend_of(options), days.as_mut_slice());

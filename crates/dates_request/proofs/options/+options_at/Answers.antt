@@ -1,6 +1,5 @@
-use Rattle.std.proofs.Common.{Ok, ap, sym, ◌∙◌, ◌≡◌}
+use Rattle.std.proofs.Common.{sym, ◌≡◌}
 use Rattle.std.proofs.lemmas.Result.{IfOk-weaker}
-use Rattle.dates_request.specs.declared.options.Options.{Options}
 use Rattle.dates_request.proofs.CalendarOptionLemmas.{apart, gave_behind, same_options, together}
 use Rattle.dates_request.proofs.options.+options_at.Goals as goal
 
