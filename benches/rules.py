@@ -1,0 +1,87 @@
+#!/usr/bin/env python3
+"""Measures the next instance of a recurrence rule, beside python3-dateutil where it is installed, in one run.
+
+    benches/rules.py
+
+It needs crates/rules_rows/out/rules_rows, which `rt run` and `rt ci` leave there. A row of it holds all instances of 400 years, which a walk
+over the days has found before: each is looked for by `next_after`, read and tested by `is_instance`, and that is the time of an instance here, so
+that of the call alone is less. dateutil gives the same instances one after another, which are compared first. The best of seven runs counts, by processor time.
+"""
+import datetime
+import os
+import resource
+import subprocess
+import sys
+import time
+
+TOP = os.path.dirname(os.path.dirname(os.path.abspath(__file__)))
+sys.path.insert(0, os.path.join(TOP, "checks"))
+import rules_days
+from rules_days import DAILY, DEBIAN, MONTHLY, ROWS, WEEKLY, YEARLY, Date, Rule, of_dateutil, walked
+
+COPIES = 20
+ROUNDS = 7
+FRIDAY = 4
+
+
+def rules():
+    """Rules with their starts."""
+    yield Rule(MONTHLY, weekdays=[(-1, FRIDAY)]), Date(2000, 1, 1)
+    yield Rule(YEARLY, months=[2], month_days=[29]), Date(2000, 1, 1)
+    yield Rule(MONTHLY, month_days=[31]), Date(2000, 1, 31)
+    yield Rule(WEEKLY, interval=2, weekdays=[(None, 1), (None, FRIDAY)]), Date(2000, 1, 4)
+    yield Rule(MONTHLY, weekdays=[(None, it) for it in range(5)], positions=[-1]), Date(2000, 1, 1)
+    yield Rule(DAILY, interval=97), Date(2000, 1, 1)
+
+
+def seconds_of(text):
+    """The least processor time of the program over these rows, which have to be answered as they say."""
+    best = None
+    for _ in range(ROUNDS):
+        before = resource.getrusage(resource.RUSAGE_CHILDREN)
+        ran = subprocess.run([ROWS], input=text, capture_output=True, text=True, check=True)
+        after = resource.getrusage(resource.RUSAGE_CHILDREN)
+        if not ran.stdout.endswith(" 0 of them answered otherwise\n"):
+            sys.exit(ran.stdout[:300])
+        took = after.ru_utime + after.ru_stime - before.ru_utime - before.ru_stime
+        best = took if best is None else min(best, took)
+    return best
+
+
+def seconds_of_dateutil(rule, start, days):
+    """The least processor time in which dateutil gives the same days."""
+    best = None
+    for _ in range(ROUNDS):
+        begun = time.process_time()
+        given = of_dateutil(rule, start)
+        took = time.process_time() - begun
+        if given != days:
+            return None
+        best = took if best is None else min(best, took)
+    return best
+
+
+def main():
+    if not os.path.exists(ROWS):
+        print("not run: everything, since there is no crates/rules_rows/out/rules_rows")
+        return
+    if not rules_days.rrule and sys.executable != DEBIAN and os.path.exists(DEBIAN):
+        os.execv(DEBIAN, [DEBIAN, *sys.argv])
+    if not rules_days.rrule:
+        print("not run: dateutil, since it is not installed")
+    alone = seconds_of("")
+    print("| Rule | nanoseconds an instance | dateutil | times as fast |\n|---|---|---|---|")
+    for rule, start in rules():
+        text = rule.text().replace(";WKST=MO", "").replace(";INTERVAL=1;", ";")
+        end = start.replace(year=start.year + 400, day=1)
+        rule.until = end - datetime.timedelta(1)
+        days = walked(rule, start, end)
+        rows = (rule.row(start, days, True) + "\n") * COPIES
+        nanos = (seconds_of(rows) - alone) / COPIES / len(days) * 1e9
+        other = seconds_of_dateutil(rule, start, days) if rules_days.rrule else None
+        beside = f"{other / len(days) * 1e9:,.0f} | {other / len(days) * 1e9 / nanos:,.0f}" if other else " | "
+        print(f"| `{text}` | {nanos:,.0f} | {beside} |")
+
+
+if __name__ == "__main__":
+    main()
