@@ -11,72 +11,23 @@
 #![tactic(auto)]
 
 mod lists;
+mod named;
 mod rules;
 
 use chrono_business::{
-    Calendar, HolidayError, HolidayRule, Roll, actual_360, actual_actual_isda, thirty_360,
-    thirty_e_360,
+    Calendar, HolidayError, Roll, actual_360, actual_actual_isda, thirty_360, thirty_e_360,
 };
-use chrono_datetime::{Datelike, NaiveDate, Weekday, WeekdaySet};
+use chrono_datetime::{Datelike, NaiveDate};
+use named::Named;
 use std::io::{self, BufRead, BufReader};
 
 fn main(rt: HostRuntime) -> io::Result<()> {
     let (mut lines, mut others) = (0u64, 0u64);
-    let mut weekend = WeekdaySet::EMPTY;
-    let mut holidays: Vec<NaiveDate, _> = Vec::new(rt.alloc());
-    let mut other_weekend = WeekdaySet::EMPTY;
-    let mut other_holidays: Vec<NaiveDate, _> = Vec::new(rt.alloc());
-    let mut rules: Vec<HolidayRule, _> = Vec::new(rt.alloc());
+    let mut named = Named::new(rt.alloc(), rt.alloc(), rt.alloc());
     for line in BufReader::new(rt.alloc(), rt.reader())?.lines(rt.alloc()) {
         let line = line?;
         lines = lines.wrapping_add(1);
-        if let Some(days) = line.as_str().strip_prefix("calendar ") {
-            let mut words = days.split_ascii_whitespace();
-            weekend = weekend_of(words.next().unwrap_or(""));
-            holidays.clear();
-            for word in words {
-                if let Some(date) = date_of(word) {
-                    holidays.push(date)?;
-                }
-            }
-        } else if let Some(days) = line.as_str().strip_prefix("other ") {
-            let mut words = days.split_ascii_whitespace();
-            other_weekend = weekend_of(words.next().unwrap_or(""));
-            other_holidays.clear();
-            for word in words {
-                if let Some(date) = date_of(word) {
-                    other_holidays.push(date)?;
-                }
-            }
-        } else if line.as_str() == "rules" {
-            rules.clear();
-        } else if let Some(words) = line.as_str().strip_prefix("rule ") {
-            if let Some(rule) = lists::rule_of(words) {
-                rules.push(rule)?;
-            }
-        } else if let Some(call) = line.as_str().strip_prefix("listed ") {
-            let (words, answer) = call.split_once(" = ").unwrap_or(("", ""));
-            if !is_said(lists::listed(rules.as_slice(), weekend, words), answer) {
-                others = others.wrapping_add(1);
-                println!(rt; "line {lines} is answered otherwise: {line}")?;
-            }
-        } else if let Some(answer) = line.as_str().strip_prefix("left = ") {
-            if !is_said(lists::left(weekend, holidays.as_slice()), answer) {
-                others = others.wrapping_add(1);
-                println!(rt; "line {lines} is answered otherwise: {line}")?;
-            }
-        } else if let Some(call) = line.as_str().strip_prefix("joined ") {
-            let (words, answer) = call.split_once(" = ").unwrap_or(("", ""));
-            let second = Calendar::try_new(other_weekend, other_holidays.as_slice());
-            let number = match (Calendar::try_new(weekend, holidays.as_slice()), second) {
-                (Ok(first), Ok(second)) => lists::joined(&first, &second, words),
-                _ => None,
-            };
-            if !is_said(number, answer) {
-                others = others.wrapping_add(1);
-                println!(rt; "line {lines} is answered otherwise: {line}")?;
-            }
-        } else if !is_answered(weekend, holidays.as_slice(), line.as_str()) {
+        if !named.names(line.as_str())? && !named.is_answered(line.as_str()) {
             others = others.wrapping_add(1);
             println!(rt; "line {lines} is answered otherwise: {line}")?;
         }
@@ -85,43 +36,12 @@ fn main(rt: HostRuntime) -> io::Result<()> {
     Ok(())
 }
 
-// The weekdays whose digit, from Monday on, is 0.
-fn weekend_of(week: &str) -> WeekdaySet {
-    let mut weekend = WeekdaySet::EMPTY;
-    let mut weekday = Weekday::Mon;
-    for digit in week.bytes() {
-        if digit == b'0' {
-            weekend.insert(weekday);
-        }
-        weekday = weekday.succ();
-    }
-    weekend
-}
-
-fn date_of(word: &str) -> Option<NaiveDate> {
+pub(crate) fn date_of(word: &str) -> Option<NaiveDate> {
     NaiveDate::from_num_days_from_ce_opt(word.parse().ok()?)
 }
 
-// Whether the call of the line gives the answer behind it.
-fn is_answered(weekend: WeekdaySet, holidays: &[NaiveDate], line: &str) -> bool {
-    let calendar = match Calendar::try_new(weekend, holidays) {
-        Ok(calendar) => calendar,
-        Err(wrong) => return is_refused(wrong, line),
-    };
-    let Some((call, answer)) = line.split_once(" = ") else {
-        return false;
-    };
-    let mut words = call.split_ascii_whitespace();
-    let name = words.next().unwrap_or("");
-    let Some(date) = date_of(words.next().unwrap_or("")) else {
-        return false;
-    };
-    let last = words.next().unwrap_or("");
-    is_said(answer_of(&calendar, name, date, last), answer)
-}
-
 // Whether the words say the number, or that there is none.
-fn is_said(number: Option<i64>, answer: &str) -> bool {
+pub(crate) fn is_said(number: Option<i64>, answer: &str) -> bool {
     match number {
         Some(number) => answer.parse() == Ok(number),
         None => answer == "none",
@@ -129,7 +49,7 @@ fn is_said(number: Option<i64>, answer: &str) -> bool {
 }
 
 // Whether the line says what is wrong with the holidays.
-fn is_refused(wrong: HolidayError, line: &str) -> bool {
+pub(crate) fn is_refused(wrong: HolidayError, line: &str) -> bool {
     let (name, place) = match wrong {
         HolidayError::NotRising(place) => ("refused not_rising ", place),
         HolidayError::OnWeekend(place) => ("refused on_weekend ", place),
@@ -141,7 +61,12 @@ fn is_refused(wrong: HolidayError, line: &str) -> bool {
 }
 
 // What the call answers, a date by its number and a day count by its numerator.
-fn answer_of(calendar: &Calendar<'_>, name: &str, date: NaiveDate, last: &str) -> Option<i64> {
+pub(crate) fn answer_of(
+    calendar: &Calendar<'_>,
+    name: &str,
+    date: NaiveDate,
+    last: &str,
+) -> Option<i64> {
     match name {
         "is_open" => Some(i64::from(calendar.is_open(date))),
         "next" => number_of(calendar.next_open(date)),

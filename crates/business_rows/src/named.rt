@@ -1,0 +1,118 @@
+//! What the lines so far have named: a calendar, a second one, and rules of holidays.
+
+use crate::{answer_of, date_of, is_refused, is_said, lists};
+use chrono_business::{Calendar, HolidayRule};
+use chrono_datetime::{NaiveDate, Weekday, WeekdaySet};
+use std::alloc::Allocator;
+use std::io;
+
+/// The last calendar of each kind and the rules, each list in memory of its own.
+#[derive(Drop)]
+pub struct Named<A: Allocator> {
+    weekend: WeekdaySet,
+    holidays: Vec<NaiveDate, A>,
+    other_weekend: WeekdaySet,
+    other_holidays: Vec<NaiveDate, A>,
+    rules: Vec<HolidayRule, A>,
+}
+
+impl<A: Allocator> Named<A> {
+    /// Nothing named yet.
+    pub fn new(first: A, second: A, third: A) -> Named<A> {
+        Named {
+            weekend: WeekdaySet::EMPTY,
+            holidays: Vec::new(first),
+            other_weekend: WeekdaySet::EMPTY,
+            other_holidays: Vec::new(second),
+            rules: Vec::new(third),
+        }
+    }
+
+    /// Takes what the line names; whether it names anything.
+    pub fn names(&mut self, line: &str) -> io::Result<bool> {
+        if let Some(days) = line.strip_prefix("calendar ") {
+            self.weekend = take_days(&mut self.holidays, days)?;
+        } else if let Some(days) = line.strip_prefix("other ") {
+            self.other_weekend = take_days(&mut self.other_holidays, days)?;
+        } else if line == "rules" {
+            self.rules.clear();
+        } else if let Some(words) = line.strip_prefix("rule ") {
+            if let Some(rule) = lists::rule_of(words) {
+                self.rules.push(rule)?;
+            }
+        } else {
+            return Ok(false);
+        }
+        Ok(true)
+    }
+
+    /// Whether the call of the line has the answer behind it.
+    pub fn is_answered(&self, line: &str) -> bool {
+        if let Some(call) = line.strip_prefix("listed ") {
+            let (words, answer) = call.split_once(" = ").unwrap_or(("", ""));
+            return is_said(
+                lists::listed(self.rules.as_slice(), self.weekend, words),
+                answer,
+            );
+        }
+        if let Some(answer) = line.strip_prefix("left = ") {
+            return is_said(lists::left(self.weekend, self.holidays.as_slice()), answer);
+        }
+        if let Some(call) = line.strip_prefix("joined ") {
+            let (words, answer) = call.split_once(" = ").unwrap_or(("", ""));
+            return is_said(self.joined(words), answer);
+        }
+        is_call_answered(self.weekend, self.holidays.as_slice(), line)
+    }
+
+    // The open days of the two calendars joined.
+    fn joined(&self, words: &str) -> Option<i64> {
+        let first = Calendar::try_new(self.weekend, self.holidays.as_slice()).ok()?;
+        let second = Calendar::try_new(self.other_weekend, self.other_holidays.as_slice()).ok()?;
+        lists::joined(&first, &second, words)
+    }
+}
+
+// Takes the days behind a week's digits in place of those of the list; the weekend that the digits name.
+fn take_days(list: &mut Vec<NaiveDate, impl Allocator>, days: &str) -> io::Result<WeekdaySet> {
+    let mut words = days.split_ascii_whitespace();
+    let weekend = weekend_of(words.next().unwrap_or(""));
+    list.clear();
+    for word in words {
+        if let Some(date) = date_of(word) {
+            list.push(date)?;
+        }
+    }
+    Ok(weekend)
+}
+
+// The weekdays whose digit, from Monday on, is 0.
+fn weekend_of(week: &str) -> WeekdaySet {
+    let mut weekend = WeekdaySet::EMPTY;
+    let mut weekday = Weekday::Mon;
+    for digit in week.bytes() {
+        if digit == b'0' {
+            weekend.insert(weekday);
+        }
+        weekday = weekday.succ();
+    }
+    weekend
+}
+
+// Whether the call of the line gives the answer behind it.
+fn is_call_answered(weekend: WeekdaySet, holidays: &[NaiveDate], line: &str) -> bool {
+    let calendar = match Calendar::try_new(weekend, holidays) {
+        Ok(calendar) => calendar,
+        Err(wrong) => return is_refused(wrong, line),
+    };
+    let Some((call, answer)) = line.split_once(" = ") else {
+        return false;
+    };
+    let mut words = call.split_ascii_whitespace();
+    let name = words.next().unwrap_or("");
+    let Some(date) = date_of(words.next().unwrap_or("")) else {
+        return false;
+    };
+    let last = words.next().unwrap_or("");
+    is_said(answer_of(&calendar, name, date, last), answer)
+}
