@@ -3,8 +3,12 @@ mod Counts
 mod Cycles
 mod DayLists
 mod Digits
+mod GivenDays
+mod Kept
 mod Moments
 mod Passed
 mod PieceLemmas
+mod RecurrenceWalks
+mod RisingLists
 mod Skipped
 mod Walks
