@@ -1,8 +1,10 @@
 pub mod Due
 pub mod DueMoments
+pub mod ErrorTexts
 pub mod FieldTexts
 pub mod KnownMonthDays
 pub mod KnownSchedules
+pub mod PlacedWords
 pub mod ScheduleErrors
 pub mod ScheduleTexts
 pub mod Steps

@@ -3,6 +3,7 @@ mod Counts
 mod Cycles
 mod DayLists
 mod Digits
+mod ErrorLines
 mod GivenDays
 mod Kept
 mod Moments

@@ -5,4 +5,5 @@ pub mod KnownRules
 pub mod Pieces
 pub mod Places
 pub mod RecurrenceSets
+pub mod RuleErrors
 pub mod RuleTexts
