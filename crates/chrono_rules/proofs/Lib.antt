@@ -4,8 +4,10 @@ mod Cycles
 mod DayLists
 mod Digits
 mod ErrorLines
+mod ListLemmas
 mod Moments
 mod Passed
 mod PieceLemmas
+mod RuleAscii
 mod Skipped
 mod Walks

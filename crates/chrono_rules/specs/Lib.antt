@@ -6,3 +6,4 @@ pub mod Pieces
 pub mod Places
 pub mod RuleErrors
 pub mod RuleTexts
+pub mod WrittenRules

@@ -10,6 +10,7 @@ mod faults;
 mod gaps;
 mod iterator;
 pub mod law;
+mod listing;
 mod members;
 mod month_text;
 mod parts;
@@ -23,6 +24,7 @@ mod rule_text;
 mod skips;
 mod values;
 mod weekday_text;
+mod written;
 mod year_text;
 
 pub use error::{RuleError, RuleFault, RulePart};
