@@ -4,10 +4,14 @@ mod Cycles
 mod DayLists
 mod Digits
 mod ErrorLines
+mod GivenDays
+mod Kept
 mod ListLemmas
 mod Moments
 mod Passed
 mod PieceLemmas
+mod RecurrenceWalks
+mod RisingLists
 mod RuleAscii
 mod Skipped
 mod Walks

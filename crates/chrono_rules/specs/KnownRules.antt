@@ -1,9 +1,10 @@
 -- Words for rules whose instances are known.
-use Rattle.std.specs.Prelude.{◌+◌, ◌^◌, [], ◌∷◌, pos}
+use Rattle.std.specs.Prelude.{ℕ, List, [], ◌∷◌, ℤ}
 use Rattle.chrono_datetime.specs.declared.Weekday.{Weekday}
-use Rattle.chrono_datetime.specs.declared.Weekday.TheVariants.{Sun}
-use Rattle.chrono_rules.specs.declared.rule.End.TheVariants.{Count, Until}
-use Rattle.chrono_rules.specs.declared.rule.Frequency.TheVariants.{Daily, Weekly, Monthly, Yearly}
+use Rattle.chrono_datetime.specs.declared.Weekday.TheVariants.{Mon}
+use Rattle.chrono_rules.specs.declared.rule.End.TheVariants.{Count, Never, Until}
+use Rattle.chrono_rules.specs.declared.rule.Frequency.{Frequency}
+use Rattle.chrono_rules.specs.declared.rule.Frequency.TheVariants.{Daily, Monthly, Weekly, Yearly}
 use Rattle.chrono_rules.specs.declared.rule.Rule.{Rule}
 use Rattle.chrono_rules.specs.Instances.{no_numbers, no_places, no_weekdays, plain}
 
@@ -15,48 +16,26 @@ fortnightly start = record { frequency = Weekly; interval = 2; end = Count 4; mo
 abbrev pub daily : Rule
 daily = record { frequency = Daily; interval = 10; end = Count 5; months = no_numbers; month_days = no_numbers; month_days_from_end = no_numbers; weekdays = no_weekdays; year_days = no_places; year_days_from_end = no_places; weeks = no_numbers; weeks_from_end = no_numbers; positions = no_places; positions_from_end = no_places; week_start = (plain Daily).week_start }
 
--- rules of RFC 5545's examples (3.8.5.3): every other day; each day until 24 December 1997
-abbrev pub every_other_day : Rule
-every_other_day = record (plain Daily) { interval = 2 }
+-- FREQ=YEARLY with BYWEEKNO from the front and from the back, BYDAY and WKST, each list by its digits
+abbrev pub by_weeks : Weekday → ℕ → ℕ → ℕ → Rule
+by_weeks start front back days = record { frequency = Yearly; interval = 1; end = Never; months = no_numbers; month_days = no_numbers; month_days_from_end = no_numbers; weekdays = record { every = record { digits = days }; front = no_weekdays.front; back = no_weekdays.back }; year_days = no_places; year_days_from_end = no_places; weeks = record { digits = front }; weeks_from_end = record { digits = back }; positions = no_places; positions_from_end = no_places; week_start = start }
 
-abbrev pub until_christmas : Rule
-until_christmas = record (plain Daily) { end = Until (pos 729_382) }
+-- FREQ=YEARLY with INTERVAL and BYYEARDAY from the front and from the back
+abbrev pub by_year_days : ℕ → List ℕ → List ℕ → Rule
+by_year_days years front back = record { frequency = Yearly; interval = years; end = Never; months = no_numbers; month_days = no_numbers; month_days_from_end = no_numbers; weekdays = no_weekdays; year_days = record { words = front }; year_days_from_end = record { words = back }; weeks = no_numbers; weeks_from_end = no_numbers; positions = no_places; positions_from_end = no_places; week_start = Mon }
 
--- Tuesdays and Thursdays of every other week, eight times, with weeks that begin on Sunday
-abbrev pub every_other_week : Rule
-every_other_week = record (plain Weekly) { interval = 2; end = Count 8; weekdays = record { every = record { digits = 2 ^ 1 + 2 ^ 3 }; front = no_weekdays.front; back = no_weekdays.back }; week_start = Sun }
+-- a FREQ with BYMONTH and numbered weekdays from the front and from the back
+abbrev pub by_weekdays : Frequency → ℕ → List ℕ → List ℕ → Rule
+by_weekdays frequency months front back = record { frequency = frequency; interval = 1; end = Never; months = record { digits = months }; month_days = no_numbers; month_days_from_end = no_numbers; weekdays = record { every = no_numbers; front = front; back = back }; year_days = no_places; year_days_from_end = no_places; weeks = no_numbers; weeks_from_end = no_numbers; positions = no_places; positions_from_end = no_places; week_start = Mon }
 
--- the first Friday of the month, the first and the last Sunday of every other, and the last Monday but one, ten times, ten and six
-abbrev pub first_friday : Rule
-first_friday = record (plain Monthly) { end = Count 10; weekdays = record { every = no_numbers; front = 0 ∷ 0 ∷ 0 ∷ 0 ∷ 2 ∷ 0 ∷ 0 ∷ []; back = no_weekdays.back } }
+-- a FREQ with BYMONTH, and BYMONTHDAY from the front and from the back
+abbrev pub by_month_days : Frequency → ℕ → ℕ → ℕ → Rule
+by_month_days frequency months front back = record { frequency = frequency; interval = 1; end = Never; months = record { digits = months }; month_days = record { digits = front }; month_days_from_end = record { digits = back }; weekdays = no_weekdays; year_days = no_places; year_days_from_end = no_places; weeks = no_numbers; weeks_from_end = no_numbers; positions = no_places; positions_from_end = no_places; week_start = Mon }
 
-abbrev pub both_sundays : Rule
-both_sundays = record (plain Monthly) { interval = 2; end = Count 10; weekdays = record { every = no_numbers; front = 0 ∷ 0 ∷ 0 ∷ 0 ∷ 0 ∷ 0 ∷ 2 ∷ []; back = 0 ∷ 0 ∷ 0 ∷ 0 ∷ 0 ∷ 0 ∷ 2 ∷ [] } }
+-- FREQ=MONTHLY with BYDAY, and BYSETPOS from the front and from the back
+abbrev pub by_positions : ℕ → ℕ → ℕ → Rule
+by_positions days front back = record { frequency = Monthly; interval = 1; end = Never; months = no_numbers; month_days = no_numbers; month_days_from_end = no_numbers; weekdays = record { every = record { digits = days }; front = no_weekdays.front; back = no_weekdays.back }; year_days = no_places; year_days_from_end = no_places; weeks = no_numbers; weeks_from_end = no_numbers; positions = record { words = front ∷ 0 ∷ 0 ∷ 0 ∷ 0 ∷ 0 ∷ [] }; positions_from_end = record { words = back ∷ 0 ∷ 0 ∷ 0 ∷ 0 ∷ 0 ∷ [] }; week_start = Mon }
 
-abbrev pub last_monday_but_one : Rule
-last_monday_but_one = record (plain Monthly) { end = Count 6; weekdays = record { every = no_numbers; front = no_weekdays.front; back = 4 ∷ 0 ∷ 0 ∷ 0 ∷ 0 ∷ 0 ∷ 0 ∷ [] } }
-
--- the third day from the month's end; its first and its last day, ten times
-abbrev pub third_to_last : Rule
-third_to_last = record (plain Monthly) { month_days_from_end = record { digits = 2 ^ 3 } }
-
-abbrev pub first_and_last : Rule
-first_and_last = record (plain Monthly) { end = Count 10; month_days = record { digits = 2 ^ 1 }; month_days_from_end = record { digits = 2 ^ 1 } }
-
--- June and July; the 1st, 100th and 200th day of every third year; Monday of week 20
-abbrev pub june_and_july : Rule
-june_and_july = record (plain Yearly) { end = Count 10; months = record { digits = 2 ^ 6 + 2 ^ 7 } }
-
-abbrev pub days_of_the_year : Rule
-days_of_the_year = record (plain Yearly) { interval = 3; end = Count 10; year_days = record { words = 2 ^ 1 ∷ 2 ^ 36 ∷ 0 ∷ 2 ^ 8 ∷ 0 ∷ 0 ∷ [] } }
-
-abbrev pub monday_of_week_20 : Rule
-monday_of_week_20 = record (plain Yearly) { weekdays = record { every = record { digits = 1 }; front = no_weekdays.front; back = no_weekdays.back }; weeks = record { digits = 2 ^ 20 } }
-
--- the second-to-last of the days from Monday to Friday of the month
-abbrev pub last_workday_but_one : Rule
-last_workday_but_one = record (plain Monthly) { weekdays = record { every = record { digits = 31 }; front = no_weekdays.front; back = no_weekdays.back }; positions_from_end = record { words = 2 ^ 2 ∷ 0 ∷ 0 ∷ 0 ∷ 0 ∷ 0 ∷ [] } }
-
--- the Tuesday behind the first Monday of November in every fourth year
-abbrev pub election_day : Rule
-election_day = record (plain Yearly) { interval = 4; months = record { digits = 2 ^ 11 }; month_days = record { digits = 508 }; weekdays = record { every = record { digits = 2 }; front = no_weekdays.front; back = no_weekdays.back } }
+-- FREQ=DAILY with UNTIL
+abbrev pub daily_until : ℤ → Rule
+daily_until last = record { frequency = Daily; interval = 1; end = Until last; months = no_numbers; month_days = no_numbers; month_days_from_end = no_numbers; weekdays = no_weekdays; year_days = no_places; year_days_from_end = no_places; weeks = no_numbers; weeks_from_end = no_numbers; positions = no_places; positions_from_end = no_places; week_start = Mon }
