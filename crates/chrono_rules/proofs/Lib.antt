@@ -7,9 +7,11 @@ mod ErrorLines
 mod GivenDays
 mod Kept
 mod ListLemmas
+mod ListsBack
 mod Moments
 mod Passed
 mod PieceLemmas
+mod PlacesBack
 mod RecurrenceWalks
 mod RisingLists
 mod RuleAscii

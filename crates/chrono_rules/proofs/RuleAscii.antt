@@ -56,7 +56,7 @@ pub year_ascii : (y : ℤ) → FitsSigned w32 y → IsAscii (four_digits y)
 year_ascii (pos n) fits =
     if_ascii (int_le (pos 0) (pos n) && int_le (pos n) (pos 9_999)) (two_digits (n / 100) ++ two_digits (n % 100)) (decimal n)
     (λ is. let few : n ≤ 9_999 = leb-true n 9_999 (and_parts (int_le (pos 0) (pos n)) (int_le (pos n) (pos 9_999)) is).1 in
-      IsAscii-append (two_digits (n / 100)) (two_digits (n % 100)) (two_ascii (n / 100) (omega (arith, few))) (two_ascii (n % 100) (omega arith)))
+    IsAscii-append (two_digits (n / 100)) (two_digits (n % 100)) (two_ascii (n / 100) (omega (arith, few))) (two_ascii (n % 100) (omega arith)))
     (IsAscii-decimal n (omega (arith, fits)))
 year_ascii (negsuc n) fits = IsAscii-signed (negsuc n) (omega (arith, fits))
 
@@ -142,8 +142,8 @@ rule_ascii r interval end =
     let start = part_unless (days_from_monday r.week_start == 0) (codes "WKST=") (weekday_letters (days_from_monday r.week_start)) in
     let others = list_parts r ++ start in
     let is : rule_text r ≡ name ++ (behind 59 first ++ (behind 59 (end_parts r.end) ++ behind 59 others)) =
-        join_behind 59 name (later_parts r) ∙ ap (λ text. name ++ text) (behind_append 59 first (end_parts r.end ++ others))
-        ∙ ap (λ text. name ++ (behind 59 first ++ text)) (behind_append 59 (end_parts r.end) others) in
+    join_behind 59 name (later_parts r) ∙ ap (λ text. name ++ text) (behind_append 59 first (end_parts r.end ++ others))
+    ∙ ap (λ text. name ++ (behind 59 first ++ text)) (behind_append 59 (end_parts r.end) others) in
     subst IsAscii (sym is)
     (IsAscii-append name _ (IsAscii-append (codes "FREQ=") (frequency_text r.frequency) (low_ascii (codes "FREQ=") refl) (frequency_ascii r.frequency))
     (IsAscii-append (behind 59 first) _ (behind_ascii 59 first (omega arith) (part_ascii (nat_le r.interval 1) (codes "INTERVAL=") (decimal r.interval) (low_ascii (codes "INTERVAL=") refl) interval))

@@ -8,4 +8,5 @@ pub mod Places
 pub mod RecurrenceSets
 pub mod RuleErrors
 pub mod RuleTexts
+pub mod ToldRules
 pub mod WrittenRules

@@ -1,12 +1,18 @@
 //! Instances that are known, each as a clause of a function that does nothing.
-ghost use Rattle.std.specs.Prelude.{◌≡◌, ◌+◌, ◌^◌, true, false, [], ◌∷◌, neg_ℤ, pos, codes};
+ghost use Rattle.std.specs.Prelude.{◌≡◌, ◌+◌, ◌^◌, ◌==◌, ◌&&◌, true, false, Some, [], ◌∷◌, neg_ℤ, pos, codes};
 ghost use Rattle.chrono_datetime.specs.declared.Weekday.TheVariants.{Mon, Sun};
-ghost use Rattle.chrono_rules.specs.Instances.{is_instance, no_places, no_weekdays};
+ghost use Rattle.chrono_rules.specs.Instances.{are_zero, is_instance, no_places, no_weekdays};
 ghost use Rattle.chrono_rules.specs.KnownRules.{by_month_days, by_positions, by_weekdays, by_weeks, by_year_days, daily, daily_until, fortnightly};
 ghost use Rattle.chrono_rules.specs.KnownTexts.{both_sundays, days_of_the_year, election_day, every_other_day, every_other_week, first_and_last, first_friday, june_and_july, last_monday_but_one, last_workday_but_one, monday_of_week_20, third_to_last, until_christmas};
-ghost use Rattle.chrono_rules.specs.RuleTexts.{IsRuleText};
-ghost use Rattle.chrono_rules.specs.WrittenRules.{rule_text};
+ghost use Rattle.chrono_rules.specs.Places.{ends_of};
+ghost use Rattle.chrono_rules.specs.RuleTexts.{IsRuleText, months_of, year_ends_of};
+ghost use Rattle.chrono_rules.specs.ToldRules.{lie_within, places_within};
+ghost use Rattle.chrono_rules.specs.WrittenRules.{both_items, items, list_text, rule_text};
+ghost use Rattle.chrono_rules.specs.declared.listing.Listed.TheVariants.{Numbers, Places};
+ghost use Rattle.chrono_rules.specs.declared.listing.Naming.TheVariants.{Number};
 ghost use Rattle.chrono_rules.specs.declared.rule.Frequency.TheVariants.{Monthly, Yearly};
+
+use crate::places::{NumberSet, PlaceSet};
 
 /// Instances that RFC 5545 gives in section 3.8.5.3. Every other week on Tuesday and Sunday, four times from Tuesday, 5 August 1997: with
 /// weeks that begin on Monday the 10th, the 19th and the 24th, with weeks that begin on Sunday the 17th, the 19th and the 31st; no fifth
@@ -103,6 +109,7 @@ pub fn known_positions()
 pub fn known_ends()
     ensures until_itself { is_instance (daily_until (neg_ℤ (pos 1104))) (neg_ℤ (pos 1216)) (neg_ℤ (pos 1104)) ≡ true }
     ensures until_behind { is_instance (daily_until (neg_ℤ (pos 1104))) (neg_ℤ (pos 1216)) (neg_ℤ (pos 1103)) ≡ false }
+{}
 
 /// What texts say that RFC 5545 gives in section 3.8.5.3, an UNTIL as its date: every other day; each day until Christmas Eve; Tuesday and
 /// Thursday of every other week, by weeks from Sunday on; the first Friday, both the first and the last Sunday, and the last Monday but one of
@@ -132,4 +139,21 @@ pub fn known_written_rules()
     ensures monday_of_week_20 { rule_text monday_of_week_20 ≡ codes "FREQ=YEARLY;BYDAY=MO;BYWEEKNO=20" }
     ensures last_workday_but_one { rule_text last_workday_but_one ≡ codes "FREQ=MONTHLY;BYDAY=MO,TU,WE,TH,FR;BYSETPOS=-2" }
     ensures election_day { rule_text election_day ≡ codes "FREQ=YEARLY;INTERVAL=4;BYMONTH=11;BYMONTHDAY=2,3,4,5,6,7,8;BYDAY=TU" }
+{}
+
+/// A list of months, of days of the month or of weeks that is written is read back as its numbers: those from the front and those from the end,
+/// of which there is one, and none that the list cannot have.
+pub fn written_numbers_are_read(front: NumberSet, back: NumberSet)
+    ensures months { lie_within 12 front.digits ≡ true → (front.digits == 0) ≡ false
+        → months_of (list_text (items (Numbers front) Number false 12 1)) ≡ Some front }
+    ensures month_days { lie_within 31 front.digits ≡ true → lie_within 31 back.digits ≡ true → ((front.digits == 0) && (back.digits == 0)) ≡ false
+        → ends_of 2 31 (list_text (both_items (Numbers front) (Numbers back) 31)) ≡ Some (record { front = front; back = back }) }
+    ensures weeks { lie_within 53 front.digits ≡ true → lie_within 53 back.digits ≡ true → ((front.digits == 0) && (back.digits == 0)) ≡ false
+        → ends_of 2 53 (list_text (both_items (Numbers front) (Numbers back) 53)) ≡ Some (record { front = front; back = back }) }
+{}
+
+/// A list of days of the year, or of positions, that is written is read back, likewise.
+pub fn written_year_days_are_read(front: &PlaceSet, back: &PlaceSet)
+    ensures { places_within front.now.words ≡ true → places_within back.now.words ≡ true → (are_zero front.now.words && are_zero back.now.words) ≡ false
+        → year_ends_of (list_text (both_items (Places front.now) (Places back.now) 366)) ≡ Some (record { front = front.now; back = back.now }) }
 {}

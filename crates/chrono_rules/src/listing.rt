@@ -170,7 +170,12 @@ pub(crate) fn put_both<const N: usize>(text: &mut Text<N>, front: Listed, back: 
 }
 
 // Puts the numbered weekdays, behind other weekdays or as the first of a list; whether there is one so far.
-pub(crate) fn put_numbered<const N: usize>(text: &mut Text<N>, begun: bool, words: &[u64; 7], from_end: bool) -> bool
+pub(crate) fn put_numbered<const N: usize>(
+    text: &mut Text<N>,
+    begun: bool,
+    words: &[u64; 7],
+    from_end: bool,
+) -> bool
     requires { length text.old + 2700 ≤ N }
     ensures text { text.new ≡ text.old ++ listed_on begun (numbered_items from_end words.now 0) }
     ensures begun { result ≡ (begun || some_in (numbered_items from_end words.now 0)) }
@@ -187,7 +192,13 @@ pub(crate) fn put_numbered<const N: usize>(text: &mut Text<N>, begun: bool, word
 
 // Puts those of one weekday.
 #[tactic(auto, unfolding(crate::specs::WrittenRules::limit))]
-fn put_nth<const N: usize>(text: &mut Text<N>, begun: bool, digits: u64, weekday: u32, from_end: bool) -> bool
+fn put_nth<const N: usize>(
+    text: &mut Text<N>,
+    begun: bool,
+    digits: u64,
+    weekday: u32,
+    from_end: bool,
+) -> bool
     requires { length text.old + 400 ≤ N }
     ensures text { text.new ≡ text.old ++ listed_on begun (items (Numbers (record { digits = digits })) (Numbered weekday) from_end 53 1) }
     ensures begun { result ≡ (begun || some_in (items (Numbers (record { digits = digits })) (Numbered weekday) from_end 53 1)) }

@@ -17,6 +17,6 @@ returns-clause-text g c =
     let first = c.put_into-begun.ensures in
     let second = c.put_numbered-begun.ensures in
     let all =
-        c.put_numbered.ensures.text ∙ put_next c.put_into-begun.new.text c.put_numbered-begun.new.text c.put_into-begun.result c.put_numbered-begun.result front back second.text second.begun
-        ∙ put_next named c.put_into-begun.new.text false c.put_into-begun.result each (front ++ back) first.text first.begun in
+    c.put_numbered.ensures.text ∙ put_next c.put_into-begun.new.text c.put_numbered-begun.new.text c.put_into-begun.result c.put_numbered-begun.result front back second.text second.begun
+    ∙ put_next named c.put_into-begun.new.text false c.put_into-begun.result each (front ++ back) first.text first.begun in
     part_put c.args.text.now named c.put_numbered.new.text (codes ";BYDAY=") (list_text (weekday_items r)) (lacks_weekdays r) (sym c.lacks_weekdays.ensures ∙ c.if-lacks_weekdays.false) c.push_text.ensures all
