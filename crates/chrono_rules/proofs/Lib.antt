@@ -10,8 +10,10 @@ mod ListLemmas
 mod ListsBack
 mod Moments
 mod Passed
+mod PeriodsLeftOut
 mod PieceLemmas
 mod PlacesBack
+mod PlacesInPeriods
 mod RecurrenceWalks
 mod RisingLists
 mod RuleAscii

@@ -1,8 +1,7 @@
 //! Rows of texts: `text TEXT = LINE`, with the text that is written for the rule of a text, or with the line that says what is wrong with it.
 use chrono_rules::Rule;
 use std::alloc::Allocator;
-use std::fmt;
-use std::io;
+use std::{fmt, io};
 
 // Whether the line is what is written for the text.
 pub fn is_written(text: &str, line: &str, alloc: impl Allocator) -> io::Result<bool> {
