@@ -12,6 +12,7 @@ mod lines;
 mod moved;
 mod open;
 mod ordinal_name;
+mod recurring;
 mod sequence;
 mod year;
 

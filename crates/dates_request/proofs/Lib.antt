@@ -1,7 +1,9 @@
 mod CalendarOptionLemmas
 mod DayLemmas
 mod DueLemmas
+mod FormLemmas
 mod OptionLemmas
+mod RuleLemmas
 mod SpanLemmas
 mod WeekLemmas
 mod WordLemmas

@@ -1,8 +1,10 @@
 pub mod DayTexts
+pub mod FormTexts
 pub mod SpanTexts
 pub mod OptionTexts
 pub mod OpenRequests
 pub mod MomentTexts
 pub mod Options
 pub mod DueRequests
+pub mod RuleRequests
 pub mod Requests
