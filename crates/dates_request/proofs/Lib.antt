@@ -1,6 +1,8 @@
+mod AddLemmas
 mod CalendarOptionLemmas
 mod DayLemmas
 mod DueLemmas
+mod MoveLemmas
 mod OptionLemmas
 mod SpanLemmas
 mod WeekLemmas

@@ -1,12 +1,9 @@
 -- The words of arguments, cut where the reader cuts them.
 use Rattle.std.proofs.Common.{◌≡◌, ◌<◌, ◌≤◌, ◌+◌, ◌-◌, ℕ, zero, suc, ℤ, List, [], ◌∷◌, length, take, drop, get_or, Option, Result, Ok, refl, sym, ap, subst, ◌∙◌, arith}
 use Rattle.std.specs.Borrow.{Bor}
-use Rattle.std.specs.Prelude.{All}
 use Rattle.std.proofs.lemmas.List.{take_all}
-use Rattle.std.proofs.lemmas.List.Elements.{All-from_get_or, All-map}
-use Rattle.chrono_text.proofs.DigitLemmas.{by_size}
 use Rattle.dates_request.specs.DayTexts.{NamesDay}
-use Rattle.dates_request.specs.Requests.{IsRequest, AsksFor, IsBy, IsDistance, IsIn, IsSequence, IsStepText, IsWeekText, WritesSpan, command_named, texts}
+use Rattle.dates_request.specs.Requests.{IsRequest, AsksFor, IsBy, IsDistance, IsIn, IsSequence, IsStepText, IsWeekText, command_named, texts}
 use Rattle.dates_request.specs.declared.command.Command.{Command}
 use Rattle.dates_request.specs.declared.request.Request.{Request}
 use Rattle.dates_request.specs.declared.span.Span.{Span}
@@ -83,18 +80,3 @@ by_first words first rest o r e named is = subst (λ v. IsRequest v r) (sym e) (
 pub of_first : (words : List (List ℕ)) (first : List ℕ) (rest : List (List ℕ)) (o : Option Command) (r : Request) → words ≡ first ∷ rest → command_named first ≡ o
     → IsRequest words r → AsksFor o first rest r
 of_first words first rest o r e named is = subst (λ v. AsksFor v first rest r) named (subst (λ v. IsRequest v r) e is)
-
--- whether all words write spans, word by word
-pub all_write : (words : Words) → ((k : ℕ) → k < length words → WritesSpan (get_or words k no_word).now) → All WritesSpan (texts words)
-all_write words each = All-map WritesSpan (λ (w : Bor (List ℕ)). w.now) words (All-from_get_or (λ (w : Bor (List ℕ)). WritesSpan w.now) words no_word each)
-
-pub one_writes : (words : Words) (k : ℕ) → k < length words → All WritesSpan (texts words) → WritesSpan (get_or words k no_word).now
-one_writes [] k below all = absurd (omega arith)
-one_writes (w ∷ words) zero below all = all 0 [] (omega arith)
-one_writes (w ∷ words) (suc k) below all = one_writes words k (omega arith) (λ j d h. all (suc j) d (omega arith))
-
--- the first words write spans, and the next one does
-pub one_more : (words : Words) (n : ℕ) → ((k : ℕ) → k < n → WritesSpan (get_or words k no_word).now) → WritesSpan (get_or words n no_word).now
-    → (k : ℕ) → k < n + 1 → WritesSpan (get_or words k no_word).now
-one_more words n before here k below = by_size n k (before k) (λ late.
-    let last : n ≡ k = omega arith in subst (λ j. WritesSpan (get_or words j no_word).now) last here)

@@ -3,6 +3,8 @@ pub mod SpanTexts
 pub mod OptionTexts
 pub mod OpenRequests
 pub mod MomentTexts
+pub mod MoveTexts
 pub mod Options
+pub mod AddRequests
 pub mod DueRequests
 pub mod Requests

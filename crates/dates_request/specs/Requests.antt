@@ -1,8 +1,9 @@
 -- What arguments ask for: the words of each request, one behind another.
-use Rattle.std.specs.Prelude.{◌≡◌, ◌<◌, if◌then◌else◌, ℕ, ℤ, pos, List, [], ◌∷◌, ◌++◌, codes, length, map, bytes_eq, unsigned_abs, Option, Some, None, All}
+use Rattle.std.specs.Prelude.{◌≡◌, ◌<◌, if◌then◌else◌, ℕ, ℤ, pos, List, [], ◌∷◌, ◌++◌, codes, length, map, bytes_eq, unsigned_abs, Option, Some, None}
 use Rattle.std.specs.Borrow.{Bor}
 use Rattle.chrono_text.specs.Text.{year_text}
 use Rattle.chrono_reading.specs.DateTexts.{IsWeekDateText}
+use Rattle.dates_request.specs.AddRequests.{IsAdd}
 use Rattle.dates_request.specs.DayTexts.{NamesDay}
 use Rattle.dates_request.specs.DueRequests.{IsOfSchedule}
 use Rattle.dates_request.specs.OpenRequests.{IsOpen, IsRoll}
@@ -55,20 +56,6 @@ unit_word word =
     else if bytes_eq word (codes "m") then Some Months
     else if bytes_eq word (codes "y") then Some Years
     else None
-
--- the text writes a span
-abbrev pub WritesSpan : List ℕ → Type 0
-WritesSpan text = (s : Span) × IsSpanText text s
-
--- a day, and spans behind it
-pub record IsAdd (words : List (List ℕ)) (r : Request) : Type 0 where
-  pub day : List ℕ
-  pub spans : List (List ℕ)
-  pub date : ℤ
-  pub is_day : NamesDay day date
-  pub are_spans : All WritesSpan spans
-  pub written : words ≡ day ∷ spans
-  pub is : r ≡ request.Add date
 
 -- `in` and a unit, behind two days
 pub record IsIn (words : List (List ℕ)) (from to : ℤ) (r : Request) : Type 0 where

@@ -1,10 +1,12 @@
 //! What the arguments of `dates` ask for: days, moments, spans, weeks, and the request that they make, or which argument is wrong and why.
 #![tactic(auto)]
 
+mod add;
 mod command;
 mod day;
 mod due;
 mod moment;
+mod moves;
 mod open;
 mod option;
 mod options;
@@ -18,6 +20,7 @@ mod wrong;
 pub use command::Command;
 pub use day::{NoDay, read_day};
 pub use moment::read_moment;
+pub use moves::{Move, Start, read_move};
 pub use open::Convention;
 pub use options::{HolidayCalendar, Options};
 pub use read::read_request;

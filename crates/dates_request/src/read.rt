@@ -1,17 +1,17 @@
 //! The request that arguments make.
-ghost use Rattle.std.specs.Prelude.{◌≡◌, ◌∷◌, [], ℤ, Ok, Some, IfOk, IfSome, IfNone, All, true, false, codes};
+ghost use Rattle.std.specs.Prelude.{◌≡◌, ◌∷◌, [], ℤ, Ok, Some, IfOk, true, false, codes};
 ghost use Rattle.dates_request.specs.declared.request.Request.{Request};
 ghost use Rattle.dates_request.specs.declared.request.Request.TheVariants as request;
 ghost use Rattle.dates_request.specs.declared.command.Command.TheVariants as command;
 ghost use Rattle.dates_request.specs.DueRequests.{IsOfSchedule};
-ghost use Rattle.dates_request.specs.Requests.{AsksFor, HasArguments, IsAdd, IsAlone, IsCheck, IsDay, IsDistance, IsEaster, IsLeap, IsOfTwoDays, IsRequest, IsSequence, IsWeek, WritesSpan, texts};
+ghost use Rattle.dates_request.specs.Requests.{AsksFor, HasArguments, IsAlone, IsCheck, IsDay, IsDistance, IsEaster, IsLeap, IsOfTwoDays, IsRequest, IsSequence, IsWeek, texts};
 
+use crate::add::add;
 use crate::command::{Command, command_named};
 use crate::day::NoDay;
 use crate::due::due;
 use crate::open::{open, roll};
 use crate::request::Request;
-use crate::span::read_span;
 use crate::word::{day_at, step_at, unit_at, week_at, year_at};
 use crate::wrong::{Why, Wrong, wrong_at};
 use chrono_datetime::NaiveDate;
@@ -77,45 +77,6 @@ fn alone(words: &[&[u8]], asked: Request) -> Result<Request, Wrong>
         Ok(asked)
     } else {
         Err(wrong_at(2, Why::End))
-    }
-}
-
-// A day and spans.
-fn add(words: &[&[u8]]) -> Result<Request, Wrong>
-    ensures read { IfOk result (λ r. IsAdd (texts words.now) r) }
-    ensures every { (r : Request) → IsAdd (texts words.now) r → result ≡ Ok r }
-{
-    let [day, spans @ ..] = words else {
-        return Err(wrong_at(2, NO_DAY));
-    };
-    let date = day_at(2, day)?;
-    match place_of_no_span(spans) {
-        Some(place) => Err(wrong_at(place.saturating_add(3), Why::Span)),
-        None => Ok(Request::Add { date }),
-    }
-}
-
-// The place of the first word that writes no span, from 0 on.
-fn place_of_no_span(words: &[&[u8]]) -> Option<usize>
-    ensures some { IfSome result (λ place. All WritesSpan (texts words.now) → ⊥) }
-    ensures none { IfNone result (All WritesSpan (texts words.now)) }
-{
-    for place in 0..words.len() {
-        if !writes_span(words[place]) {
-            return Some(place);
-        }
-    }
-    None
-}
-
-// Whether the word writes a span.
-fn writes_span(word: &[u8]) -> bool
-    ensures yes { result ≡ true → WritesSpan word.now }
-    ensures no { result ≡ false → WritesSpan word.now → ⊥ }
-{
-    match read_span(word) {
-        Some(_) => true,
-        None => false,
     }
 }
 

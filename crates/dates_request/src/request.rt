@@ -1,5 +1,6 @@
 //! `Request`: what the arguments ask for.
 
+use crate::moves::Start;
 use crate::open::Convention;
 use crate::options::Options;
 use crate::span::{Span, Unit};
@@ -19,10 +20,14 @@ pub enum Request {
         /// The day.
         date: NaiveDate,
     },
-    /// A day moved by the spans that the words from the third on write.
+    /// A day or a date-time, moved by what the words from the third on write.
     Add {
-        /// The day.
-        date: NaiveDate,
+        /// What is moved.
+        start: Start,
+        /// How many words write moves.
+        moves: usize,
+        /// Which days are closed.
+        options: Options,
     },
     /// The days from one day to another.
     Distance {
