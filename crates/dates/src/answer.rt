@@ -8,6 +8,7 @@ use crate::fault::{ANSWERED, WRONG};
 use crate::file::answer_file;
 use crate::lines::answer_lines;
 use crate::open::{answer_open, answer_roll};
+use crate::recurring::{Wanted, answer_instances};
 use crate::sequence::{answer_days, answer_sequence};
 use crate::year::{answer_easter, answer_leap, answer_week};
 use dates_request::{Request, Unit};
@@ -56,6 +57,9 @@ pub(crate) fn answer(
         },
         Request::Next { from, count } => answer_due(rt, from, count, Way::On, words),
         Request::Prev { from, count } => answer_due(rt, from, count, Way::Back, words),
+        Request::Instances { start, from, most } => {
+            answer_instances(rt, Wanted { start, from, most }, words)
+        }
     }
 }
 
@@ -83,6 +87,10 @@ fn answer_help(rt: &impl Print) -> io::Result<u8> {
     println!(rt; "dates check FILE             the lines that are no days, and why")?;
     println!(rt; "dates next CRON --from T     when a schedule is due next: '30 4 1,15 * 5'")?;
     println!(rt; "dates prev CRON --from T     when it was due before; --count N: so many")?;
+    println!(rt; "dates rule RRULE --start D   the instances of a recurrence rule:")?;
+    println!(rt;
+        "                             'FREQ=MONTHLY;BYDAY=-1FR'; --from D, --count N at most"
+    )?;
     println!(rt;
         "dates [-]                    each line of standard input by all names of its day"
     )?;

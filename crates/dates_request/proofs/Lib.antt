@@ -2,8 +2,10 @@ mod AddLemmas
 mod CalendarOptionLemmas
 mod DayLemmas
 mod DueLemmas
+mod FormLemmas
 mod MoveLemmas
 mod OptionLemmas
+mod RuleLemmas
 mod SpanLemmas
 mod WeekLemmas
 mod WordLemmas

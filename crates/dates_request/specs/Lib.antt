@@ -1,4 +1,5 @@
 pub mod DayTexts
+pub mod FormTexts
 pub mod SpanTexts
 pub mod OptionTexts
 pub mod OpenRequests
@@ -7,4 +8,5 @@ pub mod MoveTexts
 pub mod Options
 pub mod AddRequests
 pub mod DueRequests
+pub mod RuleRequests
 pub mod Requests

@@ -7,6 +7,7 @@ use Rattle.dates_request.specs.AddRequests.{IsAdd}
 use Rattle.dates_request.specs.DayTexts.{NamesDay}
 use Rattle.dates_request.specs.DueRequests.{IsOfSchedule}
 use Rattle.dates_request.specs.OpenRequests.{IsOpen, IsRoll}
+use Rattle.dates_request.specs.RuleRequests.{IsRecurrence}
 use Rattle.dates_request.specs.SpanTexts.{IsSpanText}
 use Rattle.dates_request.specs.declared.span.Span.{Span}
 use Rattle.dates_request.specs.declared.span.Unit.{Unit}
@@ -37,6 +38,7 @@ command_named word =
     else if bytes_eq word (codes "check") then Some command.Check
     else if bytes_eq word (codes "next") then Some command.Next
     else if bytes_eq word (codes "prev") then Some command.Prev
+    else if bytes_eq word (codes "rule") then Some command.Rule
     else None
 
 -- the text of the year y, as it is printed (ISO 8601)
@@ -152,6 +154,7 @@ HasArguments command.Roll words r = IsRoll words r
 HasArguments command.Check words r = IsCheck words r
 HasArguments command.Next words r = IsOfSchedule request.Next words r
 HasArguments command.Prev words r = IsOfSchedule request.Prev words r
+HasArguments command.Rule words r = IsRecurrence words r
 
 -- a day, where the first word is no command
 pub record IsDay (word : List ℕ) (words : List (List ℕ)) (r : Request) : Type 0 where

@@ -11,6 +11,7 @@ use crate::command::{Command, command_named};
 use crate::day::NoDay;
 use crate::due::due;
 use crate::open::{open, roll};
+use crate::recurrence::recurrence;
 use crate::request::Request;
 use crate::word::{day_at, step_at, unit_at, week_at, year_at};
 use crate::wrong::{Why, Wrong, wrong_at};
@@ -65,6 +66,7 @@ fn arguments(command: Command, words: &[&[u8]]) -> Result<Request, Wrong>
         Command::Check => check(words),
         Command::Next => next(words),
         Command::Prev => prev(words),
+        Command::Rule => recurrence(words),
     }
 }
 
