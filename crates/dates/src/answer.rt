@@ -2,12 +2,13 @@
 
 use crate::add::answer_add;
 use crate::day_names::print_names;
-use crate::distance::answer_distance;
+use crate::distance::{answer_distance, answer_duration};
 use crate::due::{Way, answer_due};
 use crate::fault::{ANSWERED, WRONG};
 use crate::file::answer_file;
 use crate::lines::answer_lines;
-use crate::open::{answer_open, answer_roll};
+use crate::open::{answer_open, answer_open_days, answer_roll};
+use crate::parts::answer_parts;
 use crate::recurring::{Wanted, answer_instances};
 use crate::sequence::{answer_days, answer_sequence};
 use crate::year::{answer_easter, answer_leap, answer_week};
@@ -40,6 +41,11 @@ pub(crate) fn answer(
         } => answer_add(rt, words, start, moves, options),
         Request::Distance { from, to } => answer_distance(rt, from, to, Unit::Days),
         Request::DistanceIn { from, to, unit } => answer_distance(rt, from, to, unit),
+        Request::DistanceInOpenDays { from, to, options } => {
+            answer_open_days(rt, words, from, to, options)
+        }
+        Request::DistanceInParts { from, to } => answer_parts(rt, from, to),
+        Request::Duration { from, to } => answer_duration(rt, from, to),
         Request::Sequence { from, to } => answer_days(rt, from, to),
         Request::SequenceBy { from, to, step } => answer_sequence(rt, from, to, step),
         Request::Week { first } => answer_week(rt, first),
@@ -73,7 +79,8 @@ fn answer_help(rt: &impl Print) -> io::Result<u8> {
     println!(rt;
         "                             or a date-time, by times too: 36h, 90min, 15s, PT1.5S"
     )?;
-    println!(rt; "dates diff DAY DAY [in UNIT] how many days, or whole d, w, m, y")?;
+    println!(rt; "dates diff DAY DAY [in UNIT] how many days, or whole d, w, m, y; open days: b;")?;
+    println!(rt; "                             ymd; or how long from one date-time to another")?;
     println!(rt; "dates seq DAY DAY [SPAN]     the days from one to another")?;
     println!(rt; "dates week WEEK              the first and the last day of a week: 2024-W09")?;
     println!(rt; "dates easter YEAR            Easter Sunday")?;

@@ -54,7 +54,7 @@ fn refuse_word(rt: &(impl Print + Eprint), word: &str, wrong: Wrong) -> io::Resu
         Why::Step => refuse_form(rt, place, word, "a span that is not 0"),
         Why::Year => refuse_form(rt, place, word, "a year as 2024"),
         Why::Week => refuse_form(rt, place, word, "a week as 2024-W09"),
-        Why::Unit => refuse_form(rt, place, word, "d, w, m or y"),
+        Why::Measure => refuse_form(rt, place, word, "d, w, m, y, b or ymd"),
         Why::In => refuse_form(rt, place, word, "in"),
         Why::Convention => refuse_form(rt, place, word, CONVENTIONS),
         Why::Option => refuse_form(rt, place, word, "--weekend, --calendar or --holidays"),

@@ -139,10 +139,10 @@ one_more timed words n below all here =
 pub begins : (a b : List ℕ) (s : Start) → a ≡ b → NamesStart a s → NamesStart b s
 begins a b s e names = subst (λ t. NamesStart t s) e names
 
-abbrev begun : Start → Result Start Wrong
+abbrev pub begun : Start → Result Start Wrong
 begun s = Ok s
 
-same_start : (s t : Start) → begun s ≡ begun t → s ≡ t
+pub same_start : (s t : Start) → begun s ≡ begun t → s ≡ t
 same_start s t e = cc
 
 -- moves of the start that was read, in the words behind it

@@ -1,6 +1,7 @@
 mod AddLemmas
 mod CalendarOptionLemmas
 mod DayLemmas
+mod DiffLemmas
 mod DueLemmas
 mod FormLemmas
 mod MoveLemmas

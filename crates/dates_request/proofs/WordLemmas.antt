@@ -3,7 +3,7 @@ use Rattle.std.proofs.Common.{◌≡◌, ◌<◌, ◌≤◌, ◌+◌, ◌-◌, �
 use Rattle.std.specs.Borrow.{Bor}
 use Rattle.std.proofs.lemmas.List.{take_all}
 use Rattle.dates_request.specs.DayTexts.{NamesDay}
-use Rattle.dates_request.specs.Requests.{IsRequest, AsksFor, IsBy, IsDistance, IsIn, IsSequence, IsStepText, IsWeekText, command_named, texts}
+use Rattle.dates_request.specs.Requests.{IsRequest, AsksFor, IsBy, IsSequence, IsStepText, IsWeekText, command_named, texts}
 use Rattle.dates_request.specs.declared.command.Command.{Command}
 use Rattle.dates_request.specs.declared.request.Request.{Request}
 use Rattle.dates_request.specs.declared.span.Span.{Span}
@@ -29,12 +29,6 @@ ahead_two [] two = absurd (omega arith)
 ahead_two (w ∷ []) two = absurd (omega arith)
 ahead_two (w ∷ v ∷ words) two = ap (λ (rest : Words). w.now ∷ v.now ∷ texts rest) (sym (take_all _ words (omega arith)))
 
-pub exactly_two : (words : Words) → 2 ≤ length words → length words < 3 → texts words ≡ (get_or words 0 no_word).now ∷ (get_or words 1 no_word).now ∷ []
-exactly_two [] two few = absurd (omega arith)
-exactly_two (w ∷ []) two few = absurd (omega arith)
-exactly_two (w ∷ v ∷ []) two few = refl
-exactly_two (w ∷ v ∷ u ∷ words) two few = absurd (omega arith)
-
 pub cut_one : (words : Words) (first : List ℕ) (rest : List (List ℕ)) → 1 ≤ length words → texts words ≡ first ∷ rest
     → (first ≡ (get_or words 0 no_word).now) × (rest ≡ texts (behind 1 words))
 cut_one words first rest some e = let parts = sym e ∙ ahead words some in (cc, cc)
@@ -52,10 +46,10 @@ written {s = s} e is = subst (λ t. IsStepText t s) e is
 pub of_week : {a b : List ℕ} {n : ℤ} → a ≡ b → IsWeekText a n → IsWeekText b n
 of_week {n = n} e is = subst (λ t. IsWeekText t n) e is
 
-abbrev read_as : ℤ → Result ℤ Wrong
+abbrev pub read_as : ℤ → Result ℤ Wrong
 read_as z = Ok z
 
-same_ok : (a b : ℤ) → read_as a ≡ read_as b → a ≡ b
+pub same_ok : (a b : ℤ) → read_as a ≡ read_as b → a ≡ b
 same_ok a b e = cc
 
 -- what is asked of two days that were read, of the words behind them
@@ -67,10 +61,6 @@ asked asks words rest from to first second r e f t is =
 pub by_of : (words : Words) (from to : ℤ) (r : Request) → 1 ≤ length words → IsSequence (texts words) from to r → IsBy (texts words) from to r
 by_of [] from to r some is = absurd (omega arith)
 by_of (w ∷ words) from to r some is = is
-
-pub in_of : (words : Words) (from to : ℤ) (r : Request) → 1 ≤ length words → IsIn (texts words) from to r → IsDistance (texts words) from to r
-in_of [] from to r some is = absurd (omega arith)
-in_of (w ∷ words) from to r some is = is
 
 -- a request by its first word
 pub by_first : (words : List (List ℕ)) (first : List ℕ) (rest : List (List ℕ)) (o : Option Command) (r : Request) → words ≡ first ∷ rest → command_named first ≡ o

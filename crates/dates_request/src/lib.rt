@@ -4,6 +4,8 @@
 mod add;
 mod command;
 mod day;
+mod diff;
+mod distance;
 mod due;
 mod form;
 mod moment;

@@ -45,6 +45,29 @@ pub enum Request {
         /// The unit.
         unit: Unit,
     },
+    /// How many open days lie between two days.
+    DistanceInOpenDays {
+        /// The first day.
+        from: NaiveDate,
+        /// The second day.
+        to: NaiveDate,
+        /// Which days are closed.
+        options: Options,
+    },
+    /// How many years, months and days lie between two days.
+    DistanceInParts {
+        /// The first day.
+        from: NaiveDate,
+        /// The second day.
+        to: NaiveDate,
+    },
+    /// How long it is from one date-time to another.
+    Duration {
+        /// The first date-time.
+        from: NaiveDateTime,
+        /// The second date-time.
+        to: NaiveDateTime,
+    },
     /// The days from one to another, day by day, back where the second is the earlier.
     Sequence {
         /// The first day.

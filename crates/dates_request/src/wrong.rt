@@ -30,8 +30,8 @@ pub enum Why {
     Year,
     /// A week.
     Week,
-    /// A unit: d, w, m or y.
-    Unit,
+    /// A measure: d, w, m, y, b or ymd.
+    Measure,
     /// The word `in`.
     In,
     /// A convention by which a closed day rolls.
