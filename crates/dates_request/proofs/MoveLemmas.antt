@@ -1,5 +1,5 @@
 -- The texts of moves end in different bytes, and none begins with two hyphens.
-use Rattle.std.proofs.Common.{◌≡◌, ◌<◌, ◌-◌, ℕ, ℤ, Bool, true, false, List, [], ◌∷◌, ◌++◌, codes, length, get_or, Option, Some, None, Result, Ok, Err, IfSome, inl, inr, refl, sym, ap, subst, ◌∙◌, append_assoc, arith}
+use Rattle.std.proofs.Common.{◌≡◌, ◌<◌, ◌-◌, ℕ, ℤ, Bool, List, [], ◌∷◌, ◌++◌, codes, length, get_or, Option, Some, None, Result, Ok, Err, IfSome, inl, inr, refl, sym, ap, subst, ◌∙◌, append_assoc, arith}
 use Rattle.std.specs.Prelude.{◌⊎◌, is_err}
 use Rattle.std.specs.Fmt.{decimal, sign_text}
 use Rattle.std.specs.Int.{is_negative}

@@ -1,6 +1,4 @@
-use Rattle.std.proofs.Common.{sym, subst, length, arith}
-use Rattle.std.proofs.lemmas.List.{length-map}
-use Rattle.std.specs.Borrow.{Bor}
+use Rattle.std.proofs.Common.{subst, arith}
 use Rattle.dates_request.specs.MoveTexts.{WritesMove}
 use Rattle.dates_request.proofs.AddLemmas.{one_more, word_of}
 use Rattle.dates_request.proofs.add.moves_in_front.Goals as goal
