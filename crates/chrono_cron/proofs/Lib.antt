@@ -2,6 +2,7 @@ mod Again
 mod Digits
 mod DueLists
 mod FieldLemmas
+mod FaultLemmas
 mod FirstWrong
 mod Minutes
 mod MonthSets
