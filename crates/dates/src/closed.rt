@@ -69,7 +69,7 @@ pub(crate) fn put_holidays(
     if !put_listed(rt, words, options, days)? {
         return Ok(false);
     }
-    put_ruled(options, years, days)?;
+    let _weekend = put_ruled(options, years, days)?;
     Ok(true)
 }
 
@@ -87,12 +87,12 @@ pub(crate) fn put_listed(
 }
 
 // Puts the holidays of the options' rules in these years, in the years of days that are listed, and in a year before and behind
-// them into the list of these, which it leaves in order and without the days on the weekend.
+// them into the list of these, which it leaves in order and without the days on the weekend; the weekend.
 pub(crate) fn put_ruled(
     options: Options,
     years: Years,
     days: &mut Vec<NaiveDate, impl Allocator>,
-) -> io::Result<()> {
+) -> io::Result<WeekdaySet> {
     put_calendar(
         options.calendar,
         with_years_of(years, days.as_slice()),
@@ -100,9 +100,10 @@ pub(crate) fn put_ruled(
     )?;
     days.as_mut_slice().sort_unstable();
     days.dedup();
-    let count = without_weekends(weekend_of(options), days.as_mut_slice());
+    let weekend = weekend_of(options);
+    let count = without_weekends(weekend, days.as_mut_slice());
     days.truncate(count);
-    Ok(())
+    Ok(weekend)
 }
 
 // The word behind which so many words stand.
