@@ -87,7 +87,7 @@ nothing_stepped names low high place text at less range number =
     sym (item_at names low high place text true false false at (lt-ltb place (length text) less) range number)
 
 -- the items of a field, of which there is always one
-some_items : (text : List ℕ) → (first : List ℕ) × (more : List (List ℕ)) × (items_of text ≡ first ∷ more)
+pub some_items : (text : List ℕ) → (first : List ℕ) × (more : List (List ℕ)) × (items_of text ≡ first ∷ more)
 some_items text =
     let place = position_or_len (λ x. x == 44) text in
     elim (cases_lt place (length text)) [

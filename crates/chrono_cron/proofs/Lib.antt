@@ -15,6 +15,8 @@ mod ReadBack
 mod ScheduleBack
 mod WeekBack
 mod SameDues
+mod ToldBack
+mod ToldFields
 mod Steps
 mod WordLemmas
 mod DayLemmas

@@ -1,8 +1,19 @@
 //! Instances that are known, each as a clause of a function that does nothing.
-ghost use Rattle.std.specs.Prelude.{◌≡◌, true, false, pos};
+ghost use Rattle.std.specs.Prelude.{◌≡◌, ◌+◌, ◌^◌, ◌==◌, ◌&&◌, true, false, Some, [], ◌∷◌, neg_ℤ, pos, codes};
 ghost use Rattle.chrono_datetime.specs.declared.Weekday.TheVariants.{Mon, Sun};
-ghost use Rattle.chrono_rules.specs.Instances.{is_instance};
-ghost use Rattle.chrono_rules.specs.KnownRules.{daily, fortnightly};
+ghost use Rattle.chrono_rules.specs.Instances.{are_zero, is_instance, no_places, no_weekdays, plain};
+ghost use Rattle.chrono_rules.specs.KnownRules.{by_month_days, by_positions, by_weekdays, by_weeks, by_year_days, daily, daily_until, fortnightly, tenths};
+ghost use Rattle.chrono_rules.specs.KnownTexts.{both_sundays, days_of_the_year, election_day, every_other_day, every_other_week, first_and_last, first_friday, june_and_july, last_monday_but_one, last_workday_but_one, monday_of_week_20, third_to_last, until_christmas};
+ghost use Rattle.chrono_rules.specs.Places.{ends_of};
+ghost use Rattle.chrono_rules.specs.RecurrenceSets.{is_in_recurrence};
+ghost use Rattle.chrono_rules.specs.RuleTexts.{IsRuleText, months_of, year_ends_of};
+ghost use Rattle.chrono_rules.specs.ToldRules.{lie_within, places_within};
+ghost use Rattle.chrono_rules.specs.WrittenRules.{both_items, items, list_text, rule_text};
+ghost use Rattle.chrono_rules.specs.declared.listing.Listed.TheVariants.{Numbers, Places};
+ghost use Rattle.chrono_rules.specs.declared.listing.Naming.TheVariants.{Number};
+ghost use Rattle.chrono_rules.specs.declared.rule.Frequency.TheVariants.{Monthly, Weekly, Yearly};
+
+use crate::places::{NumberSet, PlaceSet};
 
 /// Instances that RFC 5545 gives in section 3.8.5.3. Every other week on Tuesday and Sunday, four times from Tuesday, 5 August 1997: with
 /// weeks that begin on Monday the 10th, the 19th and the 24th, with weeks that begin on Sunday the 17th, the 19th and the 31st; no fifth
@@ -21,4 +32,146 @@ pub fn known_rules()
     ensures day_12 { is_instance daily (pos 729_269) (pos 729_279) ≡ true }
     ensures october_12 { is_instance daily (pos 729_269) (pos 729_309) ≡ true }
     ensures october_22 { is_instance daily (pos 729_269) (pos 729_319) ≡ false }
+{}
+
+/// Weeks of the year (BYWEEKNO): Monday of the 20th from 12 May 1997 (RFC 5545, 3.8.5.3), the week's Monday where no weekday is named;
+/// Monday of the last one, which is the 52nd of 1997 and the 53rd of 1998 (ISO 8601); and Sunday of the first week of 2000, by weeks
+/// that begin on Sunday and on Monday (WKST). Each is 2,000 years earlier here, by five whole cycles of 400 years, so that little is to
+/// be counted.
+pub fn known_weeks()
+    ensures week_20_1998 { is_instance (by_weeks Mon (2 ^ 20) 0 1) (neg_ℤ (pos 1329)) (neg_ℤ (pos 965)) ≡ true }
+    ensures week_20_1999 { is_instance (by_weeks Mon (2 ^ 20) 0 1) (neg_ℤ (pos 1329)) (neg_ℤ (pos 594)) ≡ true }
+    ensures week_20_1999_early { is_instance (by_weeks Mon (2 ^ 20) 0 1) (neg_ℤ (pos 1329)) (neg_ℤ (pos 601)) ≡ false }
+    ensures week_20_alone_monday { is_instance (by_weeks Mon (2 ^ 20) 0 0) (neg_ℤ (pos 1329)) (neg_ℤ (pos 965)) ≡ true }
+    ensures week_20_alone_tuesday { is_instance (by_weeks Mon (2 ^ 20) 0 0) (neg_ℤ (pos 1329)) (neg_ℤ (pos 964)) ≡ false }
+    ensures last_week_1997 { is_instance (by_weeks Mon 0 2 1) (neg_ℤ (pos 1329)) (neg_ℤ (pos 1105)) ≡ true }
+    ensures last_week_1998_early { is_instance (by_weeks Mon 0 2 1) (neg_ℤ (pos 1329)) (neg_ℤ (pos 741)) ≡ false }
+    ensures last_week_1998 { is_instance (by_weeks Mon 0 2 1) (neg_ℤ (pos 1329)) (neg_ℤ (pos 734)) ≡ true }
+    ensures sunday_weeks_first { is_instance (by_weeks Sun 2 0 64) (neg_ℤ (pos 1329)) (neg_ℤ (pos 364)) ≡ true }
+    ensures sunday_weeks_second { is_instance (by_weeks Sun 2 0 64) (neg_ℤ (pos 1329)) (neg_ℤ (pos 357)) ≡ false }
+    ensures monday_weeks_before { is_instance (by_weeks Mon 2 0 64) (neg_ℤ (pos 1329)) (neg_ℤ (pos 364)) ≡ false }
+    ensures monday_weeks_first { is_instance (by_weeks Mon 2 0 64) (neg_ℤ (pos 1329)) (neg_ℤ (pos 357)) ≡ true }
+{}
+
+/// Days of the year (BYYEARDAY): every third year on the 1st, the 100th and the 200th from 1 January 1997 (3.8.5.3), and from the end
+/// -1, which is 31 December, and -306, which is 1 March (3.3.10), in leap years too. Each is 2,000 years earlier here, by five whole
+/// cycles of 400 years, so that little is to be counted.
+pub fn known_year_days()
+    ensures front_1997 { is_instance (by_year_days 3 (2 ∷ 2 ^ 36 ∷ 0 ∷ 256 ∷ 0 ∷ 0 ∷ []) no_places.words) (neg_ℤ (pos 1460)) (neg_ℤ (pos 1361)) ≡ true }
+    ensures front_1998 { is_instance (by_year_days 3 (2 ∷ 2 ^ 36 ∷ 0 ∷ 256 ∷ 0 ∷ 0 ∷ []) no_places.words) (neg_ℤ (pos 1460)) (neg_ℤ (pos 996)) ≡ false }
+    ensures front_2000 { is_instance (by_year_days 3 (2 ∷ 2 ^ 36 ∷ 0 ∷ 256 ∷ 0 ∷ 0 ∷ []) no_places.words) (neg_ℤ (pos 1460)) (neg_ℤ (pos 266)) ≡ true }
+    ensures front_2000_late { is_instance (by_year_days 3 (2 ∷ 2 ^ 36 ∷ 0 ∷ 256 ∷ 0 ∷ 0 ∷ []) no_places.words) (neg_ℤ (pos 1460)) (neg_ℤ (pos 265)) ≡ false }
+    ensures back_march_1997 { is_instance (by_year_days 1 no_places.words (2 ∷ 0 ∷ 0 ∷ 0 ∷ 2 ^ 50 ∷ 0 ∷ [])) (neg_ℤ (pos 1460)) (neg_ℤ (pos 1401)) ≡ true }
+    ensures back_december_1997 { is_instance (by_year_days 1 no_places.words (2 ∷ 0 ∷ 0 ∷ 0 ∷ 2 ^ 50 ∷ 0 ∷ [])) (neg_ℤ (pos 1460)) (neg_ℤ (pos 1096)) ≡ true }
+    ensures back_february_2000 { is_instance (by_year_days 1 no_places.words (2 ∷ 0 ∷ 0 ∷ 0 ∷ 2 ^ 50 ∷ 0 ∷ [])) (neg_ℤ (pos 1460)) (neg_ℤ (pos 306)) ≡ false }
+    ensures back_march_2000 { is_instance (by_year_days 1 no_places.words (2 ∷ 0 ∷ 0 ∷ 0 ∷ 2 ^ 50 ∷ 0 ∷ [])) (neg_ℤ (pos 1460)) (neg_ℤ (pos 305)) ≡ true }
+    ensures back_december_2000 { is_instance (by_year_days 1 no_places.words (2 ∷ 0 ∷ 0 ∷ 0 ∷ 2 ^ 50 ∷ 0 ∷ [])) (neg_ℤ (pos 1460)) (pos 0) ≡ true }
+{}
+
+/// Numbered weekdays (BYDAY): the 20th Monday of the year, the first Friday of the month and the last Monday but one of it (3.8.5.3),
+/// and the last Sunday of October, which counts in its month though the rule is one by years (3.6.5). Each is 2,000 years earlier here,
+/// by five whole cycles of 400 years, so that little is to be counted.
+pub fn known_weekdays()
+    ensures of_year_early { is_instance (by_weekdays Yearly 0 (2 ^ 20 ∷ 0 ∷ 0 ∷ 0 ∷ 0 ∷ 0 ∷ 0 ∷ []) no_weekdays.back) (neg_ℤ (pos 1322)) (neg_ℤ (pos 965)) ≡ false }
+    ensures of_year_monday { is_instance (by_weekdays Yearly 0 (2 ^ 20 ∷ 0 ∷ 0 ∷ 0 ∷ 0 ∷ 0 ∷ 0 ∷ []) no_weekdays.back) (neg_ℤ (pos 1322)) (neg_ℤ (pos 958)) ≡ true }
+    ensures of_month_friday { is_instance (by_weekdays Monthly 0 (0 ∷ 0 ∷ 0 ∷ 0 ∷ 2 ∷ 0 ∷ 0 ∷ []) no_weekdays.back) (neg_ℤ (pos 1213)) (neg_ℤ (pos 1185)) ≡ true }
+    ensures of_month_late { is_instance (by_weekdays Monthly 0 (0 ∷ 0 ∷ 0 ∷ 0 ∷ 2 ∷ 0 ∷ 0 ∷ []) no_weekdays.back) (neg_ℤ (pos 1213)) (neg_ℤ (pos 1178)) ≡ false }
+    ensures of_month_seventh { is_instance (by_weekdays Monthly 0 (0 ∷ 0 ∷ 0 ∷ 0 ∷ 2 ∷ 0 ∷ 0 ∷ []) no_weekdays.back) (neg_ℤ (pos 1213)) (neg_ℤ (pos 1150)) ≡ true }
+    ensures of_month_back_monday { is_instance (by_weekdays Monthly 0 no_weekdays.front (4 ∷ 0 ∷ 0 ∷ 0 ∷ 0 ∷ 0 ∷ 0 ∷ [])) (neg_ℤ (pos 1196)) (neg_ℤ (pos 1168)) ≡ true }
+    ensures of_month_back_late { is_instance (by_weekdays Monthly 0 no_weekdays.front (4 ∷ 0 ∷ 0 ∷ 0 ∷ 0 ∷ 0 ∷ 0 ∷ [])) (neg_ℤ (pos 1196)) (neg_ℤ (pos 1161)) ≡ false }
+    ensures of_month_back_november { is_instance (by_weekdays Monthly 0 no_weekdays.front (4 ∷ 0 ∷ 0 ∷ 0 ∷ 0 ∷ 0 ∷ 0 ∷ [])) (neg_ℤ (pos 1196)) (neg_ℤ (pos 1140)) ≡ true }
+    ensures of_october_early { is_instance (by_weekdays Yearly (2 ^ 10) no_weekdays.front (0 ∷ 0 ∷ 0 ∷ 0 ∷ 0 ∷ 0 ∷ 2 ∷ [])) (neg_ℤ (pos 1460)) (neg_ℤ (pos 1169)) ≡ false }
+    ensures of_october_sunday { is_instance (by_weekdays Yearly (2 ^ 10) no_weekdays.front (0 ∷ 0 ∷ 0 ∷ 0 ∷ 0 ∷ 0 ∷ 2 ∷ [])) (neg_ℤ (pos 1460)) (neg_ℤ (pos 1162)) ≡ true }
+{}
+
+/// Days of the month (BYMONTHDAY): the third to the last; and the start's day where none is named: the 10th in June and July (3.8.5.3),
+/// and, of a rule by months, weeks or years alone, its day of the month, of the week or of the year (3.3.10). Each is 2,000 years
+/// earlier here, by five whole cycles of 400 years, so that little is to be counted.
+pub fn known_month_days()
+    ensures third_to_last_october { is_instance (by_month_days Monthly 0 0 8) (neg_ℤ (pos 1190)) (neg_ℤ (pos 1159)) ≡ true }
+    ensures third_to_last_february { is_instance (by_month_days Monthly 0 0 8) (neg_ℤ (pos 1190)) (neg_ℤ (pos 1039)) ≡ true }
+    ensures third_to_last_late { is_instance (by_month_days Monthly 0 0 8) (neg_ℤ (pos 1190)) (neg_ℤ (pos 1038)) ≡ false }
+    ensures in_july_tenth { is_instance (by_month_days Yearly (2 ^ 6 + 2 ^ 7) 0 0) (neg_ℤ (pos 1300)) (neg_ℤ (pos 1270)) ≡ true }
+    ensures in_july_ninth { is_instance (by_month_days Yearly (2 ^ 6 + 2 ^ 7) 0 0) (neg_ℤ (pos 1300)) (neg_ℤ (pos 1271)) ≡ false }
+    ensures each_month_second { is_instance (plain Monthly) (neg_ℤ (pos 1216)) (neg_ℤ (pos 1186)) ≡ true }
+    ensures each_month_third { is_instance (plain Monthly) (neg_ℤ (pos 1216)) (neg_ℤ (pos 1185)) ≡ false }
+    ensures each_week_tuesday { is_instance (plain Weekly) (neg_ℤ (pos 1216)) (neg_ℤ (pos 1209)) ≡ true }
+    ensures each_week_wednesday { is_instance (plain Weekly) (neg_ℤ (pos 1216)) (neg_ℤ (pos 1208)) ≡ false }
+    ensures each_year_next_month { is_instance (by_month_days Yearly 0 0 0) (neg_ℤ (pos 1216)) (neg_ℤ (pos 1186)) ≡ false }
+    ensures each_year_next_year { is_instance (by_month_days Yearly 0 0 0) (neg_ℤ (pos 1216)) (neg_ℤ (pos 851)) ≡ true }
+{}
+
+/// Days by their place in the month (BYSETPOS): the third of its Tuesdays, Wednesdays and Thursdays, and the last workday but one
+/// (3.8.5.3). Each is 2,000 years earlier here, by five whole cycles of 400 years, so that little is to be counted.
+pub fn known_positions()
+    ensures third_october { is_instance (by_positions 14 8 0) (neg_ℤ (pos 1214)) (neg_ℤ (pos 1181)) ≡ true }
+    ensures third_late { is_instance (by_positions 14 8 0) (neg_ℤ (pos 1214)) (neg_ℤ (pos 1180)) ≡ false }
+    ensures third_november { is_instance (by_positions 14 8 0) (neg_ℤ (pos 1214)) (neg_ℤ (pos 1151)) ≡ true }
+    ensures last_but_one_october { is_instance (by_positions 31 0 4) (neg_ℤ (pos 1189)) (neg_ℤ (pos 1158)) ≡ true }
+    ensures last_but_one_late { is_instance (by_positions 31 0 4) (neg_ℤ (pos 1189)) (neg_ℤ (pos 1157)) ≡ false }
+{}
+
+/// The day of an UNTIL is an instance, and none is behind it (3.3.10). Each is 2,000 years earlier here, by five whole cycles of 400
+/// years, so that little is to be counted.
+pub fn known_ends()
+    ensures until_itself { is_instance (daily_until (neg_ℤ (pos 1104))) (neg_ℤ (pos 1216)) (neg_ℤ (pos 1104)) ≡ true }
+    ensures until_behind { is_instance (daily_until (neg_ℤ (pos 1104))) (neg_ℤ (pos 1216)) (neg_ℤ (pos 1103)) ≡ false }
+{}
+
+/// Every tenth day from 2 September 1997 with the two days behind it as dates beside the instances, and the second of these and the second instance as
+/// exceptions: what RDATE and EXDATE mean (RFC 5545, 3.8.5.1 and 3.8.5.2).
+pub fn known_recurrence()
+    ensures instance { is_in_recurrence tenths (pos 729269) ≡ true }
+    ensures date { is_in_recurrence tenths (pos 729270) ≡ true }
+    ensures date_excepted { is_in_recurrence tenths (pos 729271) ≡ false }
+    ensures neither { is_in_recurrence tenths (pos 729272) ≡ false }
+    ensures instance_excepted { is_in_recurrence tenths (pos 729279) ≡ false }
+    ensures next { is_in_recurrence tenths (pos 729289) ≡ true }
+{}
+
+/// What texts say that RFC 5545 gives in section 3.8.5.3, an UNTIL as its date: every other day; each day until Christmas Eve; Tuesday and
+/// Thursday of every other week, by weeks from Sunday on; the first Friday, both the first and the last Sunday, and the last Monday but one of
+/// the month; its third day from the end, and its first and its last; June and July; days of the year; Monday of week 20; the last workday
+/// but one of the month; and the Tuesday behind the first Monday of November.
+pub fn known_rule_texts()
+    ensures every_other_day { IsRuleText (codes "FREQ=DAILY;INTERVAL=2") every_other_day }
+    ensures until_christmas { IsRuleText (codes "FREQ=DAILY;UNTIL=19971224") until_christmas }
+    ensures every_other_week { IsRuleText (codes "FREQ=WEEKLY;INTERVAL=2;COUNT=8;WKST=SU;BYDAY=TU,TH") every_other_week }
+    ensures first_friday { IsRuleText (codes "FREQ=MONTHLY;COUNT=10;BYDAY=1FR") first_friday }
+    ensures both_sundays { IsRuleText (codes "FREQ=MONTHLY;INTERVAL=2;COUNT=10;BYDAY=1SU,-1SU") both_sundays }
+    ensures last_monday_but_one { IsRuleText (codes "FREQ=MONTHLY;COUNT=6;BYDAY=-2MO") last_monday_but_one }
+    ensures third_to_last { IsRuleText (codes "FREQ=MONTHLY;BYMONTHDAY=-3") third_to_last }
+    ensures first_and_last { IsRuleText (codes "FREQ=MONTHLY;COUNT=10;BYMONTHDAY=1,-1") first_and_last }
+    ensures june_and_july { IsRuleText (codes "FREQ=YEARLY;COUNT=10;BYMONTH=6,7") june_and_july }
+    ensures days_of_the_year { IsRuleText (codes "FREQ=YEARLY;INTERVAL=3;COUNT=10;BYYEARDAY=1,100,200") days_of_the_year }
+    ensures monday_of_week_20 { IsRuleText (codes "FREQ=YEARLY;BYWEEKNO=20;BYDAY=MO") monday_of_week_20 }
+    ensures last_workday_but_one { IsRuleText (codes "FREQ=MONTHLY;BYDAY=MO,TU,WE,TH,FR;BYSETPOS=-2") last_workday_but_one }
+    ensures election_day { IsRuleText (codes "FREQ=YEARLY;INTERVAL=4;BYMONTH=11;BYDAY=TU;BYMONTHDAY=2,3,4,5,6,7,8") election_day }
+{}
+
+/// What is written for some of these rules: parts in one order, and numbers too.
+pub fn known_written_rules()
+    ensures every_other_week { rule_text every_other_week ≡ codes "FREQ=WEEKLY;INTERVAL=2;COUNT=8;BYDAY=TU,TH;WKST=SU" }
+    ensures both_sundays { rule_text both_sundays ≡ codes "FREQ=MONTHLY;INTERVAL=2;COUNT=10;BYDAY=1SU,-1SU" }
+    ensures days_of_the_year { rule_text days_of_the_year ≡ codes "FREQ=YEARLY;INTERVAL=3;COUNT=10;BYYEARDAY=1,100,200" }
+    ensures monday_of_week_20 { rule_text monday_of_week_20 ≡ codes "FREQ=YEARLY;BYDAY=MO;BYWEEKNO=20" }
+    ensures last_workday_but_one { rule_text last_workday_but_one ≡ codes "FREQ=MONTHLY;BYDAY=MO,TU,WE,TH,FR;BYSETPOS=-2" }
+    ensures election_day { rule_text election_day ≡ codes "FREQ=YEARLY;INTERVAL=4;BYMONTH=11;BYMONTHDAY=2,3,4,5,6,7,8;BYDAY=TU" }
+{}
+
+/// A list of months, of days of the month or of weeks that is written is read back as its numbers: those from the front and those from the end,
+/// of which there is one, and none that the list cannot have.
+pub fn written_numbers_are_read(front: NumberSet, back: NumberSet)
+    ensures months { lie_within 12 front.digits ≡ true → (front.digits == 0) ≡ false
+        → months_of (list_text (items (Numbers front) Number false 12 1)) ≡ Some front }
+    ensures month_days { lie_within 31 front.digits ≡ true → lie_within 31 back.digits ≡ true → ((front.digits == 0) && (back.digits == 0)) ≡ false
+        → ends_of 2 31 (list_text (both_items (Numbers front) (Numbers back) 31)) ≡ Some (record { front = front; back = back }) }
+    ensures weeks { lie_within 53 front.digits ≡ true → lie_within 53 back.digits ≡ true → ((front.digits == 0) && (back.digits == 0)) ≡ false
+        → ends_of 2 53 (list_text (both_items (Numbers front) (Numbers back) 53)) ≡ Some (record { front = front; back = back }) }
+{}
+
+/// A list of days of the year, or of positions, that is written is read back, likewise.
+pub fn written_year_days_are_read(front: &PlaceSet, back: &PlaceSet)
+    ensures { places_within front.now.words ≡ true → places_within back.now.words ≡ true → (are_zero front.now.words && are_zero back.now.words) ≡ false
+        → year_ends_of (list_text (both_items (Places front.now) (Places back.now) 366)) ≡ Some (record { front = front.now; back = back.now }) }
 {}

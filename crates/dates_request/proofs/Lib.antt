@@ -1,7 +1,12 @@
+mod AddLemmas
 mod CalendarOptionLemmas
 mod DayLemmas
+mod DiffLemmas
 mod DueLemmas
+mod FormLemmas
+mod MoveLemmas
 mod OptionLemmas
+mod RuleLemmas
 mod SpanLemmas
 mod WeekLemmas
 mod WordLemmas

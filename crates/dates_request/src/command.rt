@@ -33,6 +33,8 @@ pub enum Command {
     Next,
     /// `prev`: when it was due before one.
     Prev,
+    /// `rule`: the instances of a recurrence rule.
+    Rule,
 }
 
 // The command that the word names.
@@ -55,6 +57,7 @@ pub(crate) fn command_named(word: &[u8]) -> Option<Command>
         b"check" => Some(Command::Check),
         b"next" => Some(Command::Next),
         b"prev" => Some(Command::Prev),
+        b"rule" => Some(Command::Rule),
         _ => None,
     }
 }
