@@ -171,7 +171,8 @@ fn joined<T: AndTime>(name: &str, own: &T, words: &mut Words<'_>) -> Option<Opti
     Some(match name {
         "and_hms_milli_opt" => own.and_hms_milli_opt(hour, minute, second, fraction),
         "and_hms_micro_opt" => own.and_hms_micro_opt(hour, minute, second, fraction),
-        _ => own.and_hms_nano_opt(hour, minute, second, fraction),
+        "and_hms_nano_opt" => own.and_hms_nano_opt(hour, minute, second, fraction),
+        _ => return None,
     })
 }
 
