@@ -1,13 +1,14 @@
 //! The answer to a request.
 
+use crate::add::answer_add;
 use crate::day_names::print_names;
-use crate::distance::answer_distance;
+use crate::distance::{answer_distance, answer_duration};
 use crate::due::{Way, answer_due};
 use crate::fault::{ANSWERED, WRONG};
 use crate::file::answer_file;
 use crate::lines::answer_lines;
-use crate::moved::answer_move;
-use crate::open::{answer_open, answer_roll};
+use crate::open::{answer_open, answer_open_days, answer_roll};
+use crate::parts::answer_parts;
 use crate::recurring::{Wanted, answer_instances};
 use crate::sequence::{answer_days, answer_sequence};
 use crate::year::{answer_easter, answer_leap, answer_week};
@@ -33,9 +34,18 @@ pub(crate) fn answer(
             print_names(rt, date)?;
             Ok(ANSWERED)
         }
-        Request::Add { date } => answer_move(rt, date, words),
+        Request::Add {
+            start,
+            moves,
+            options,
+        } => answer_add(rt, words, start, moves, options),
         Request::Distance { from, to } => answer_distance(rt, from, to, Unit::Days),
         Request::DistanceIn { from, to, unit } => answer_distance(rt, from, to, unit),
+        Request::DistanceInOpenDays { from, to, options } => {
+            answer_open_days(rt, words, from, to, options)
+        }
+        Request::DistanceInParts { from, to } => answer_parts(rt, from, to),
+        Request::Duration { from, to } => answer_duration(rt, from, to),
         Request::Sequence { from, to } => answer_days(rt, from, to),
         Request::SequenceBy { from, to, step } => answer_sequence(rt, from, to, step),
         Request::Week { first } => answer_week(rt, first),
@@ -62,8 +72,15 @@ pub(crate) fn answer(
 // The commands, a line each.
 fn answer_help(rt: &impl Print) -> io::Result<u8> {
     println!(rt; "dates DAY                    the day by all its names")?;
-    println!(rt; "dates add DAY SPAN..         the day moved by spans: 3d, -2w, 1m, 4y")?;
-    println!(rt; "dates diff DAY DAY [in UNIT] how many days, or whole d, w, m, y")?;
+    println!(rt; "dates add DAY SPAN.. [OPTION..]")?;
+    println!(rt;
+        "                             the day moved by spans: 3d, -2w, 1m, 4y, open days: 5b;"
+    )?;
+    println!(rt;
+        "                             or a date-time, by times too: 36h, 90min, 15s, PT1.5S"
+    )?;
+    println!(rt; "dates diff DAY DAY [in UNIT] how many days, or whole d, w, m, y; open days: b;")?;
+    println!(rt; "                             ymd; or how long from one date-time to another")?;
     println!(rt; "dates seq DAY DAY [SPAN]     the days from one to another")?;
     println!(rt; "dates week WEEK              the first and the last day of a week: 2024-W09")?;
     println!(rt; "dates easter YEAR            Easter Sunday")?;

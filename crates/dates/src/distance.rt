@@ -2,7 +2,7 @@
 ghost use Rattle.std.specs.Prelude.{◌≡◌, ◌-ℤ◌, ◌≤ℤ◌, neg_ℤ, pos};
 
 use crate::fault::ANSWERED;
-use chrono_datetime::{Datelike, NaiveDate};
+use chrono_datetime::{Datelike, NaiveDate, NaiveDateTime};
 use dates_request::Unit;
 use std::io;
 
@@ -17,8 +17,18 @@ pub(crate) fn answer_distance(
     Ok(ANSWERED)
 }
 
+// How long it is from the first date-time to the second, with a minus sign where it is the earlier.
+pub(crate) fn answer_duration(
+    rt: &impl Print,
+    from: NaiveDateTime,
+    to: NaiveDateTime,
+) -> io::Result<u8> {
+    println!(rt; "{}", to.signed_duration_since(from))?;
+    Ok(ANSWERED)
+}
+
 // The whole units from one day to another; parts of a unit count for none, also back.
-fn distance(from: NaiveDate, to: NaiveDate, unit: Unit) -> i64 {
+pub(crate) fn distance(from: NaiveDate, to: NaiveDate, unit: Unit) -> i64 {
     match unit {
         Unit::Days => days_between(from, to),
         Unit::Weeks => days_between(from, to) / 7,

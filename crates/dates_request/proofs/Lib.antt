@@ -1,7 +1,10 @@
+mod AddLemmas
 mod CalendarOptionLemmas
 mod DayLemmas
+mod DiffLemmas
 mod DueLemmas
 mod FormLemmas
+mod MoveLemmas
 mod OptionLemmas
 mod RuleLemmas
 mod SpanLemmas
