@@ -3,9 +3,9 @@
 
     benches/rules.py
 
-It needs crates/rules_rows/out/rules_rows, which `rt run` and `rt ci` leave there. A row of it holds all instances of 400 years, which a walk
-over the days has found before: each is looked for by `next_after`, read and tested by `is_instance`, and that is the time of an instance here, so
-that of the call alone is less. dateutil gives the same instances one after another, which are compared first. The best of seven runs counts, by processor time.
+It needs crates/rules_rows/out/rules_rows, which `rt run` and `rt ci` leave there. A row of it says how many calls of `next_after`, each from the day that the last one
+gave, lead to the last instance of 400 years, which a walk over the days has found before: that is the call alone. In another row all of these instances are looked for by
+`next_after`, read and tested by `is_instance`. dateutil gives the same instances one after another, which are compared first. The best of seven runs counts, by processor time.
 """
 import datetime
 import os
@@ -32,6 +32,7 @@ def rules():
     yield Rule(WEEKLY, interval=2, weekdays=[(None, 1), (None, FRIDAY)]), Date(2000, 1, 4)
     yield Rule(MONTHLY, weekdays=[(None, it) for it in range(5)], positions=[-1]), Date(2000, 1, 1)
     yield Rule(DAILY, interval=97), Date(2000, 1, 1)
+    yield Rule(YEARLY, interval=4), Date(2000, 2, 29)
 
 
 def seconds_of(text):
@@ -70,7 +71,7 @@ def main():
     if not rules_days.rrule:
         print("not run: dateutil, since it is not installed")
     alone = seconds_of("")
-    print("| Rule | nanoseconds an instance | dateutil | times as fast |\n|---|---|---|---|")
+    print("| Rule | nanoseconds a call | an instance looked for, read and tested | dateutil | times as fast as that, by the call |\n|---|---|---|---|---|")
     for rule, start in rules():
         text = rule.text().replace(";WKST=MO", "").replace(";INTERVAL=1;", ";")
         end = start.replace(year=start.year + 400, day=1)
@@ -78,9 +79,11 @@ def main():
         days = walked(rule, start, end)
         rows = (rule.row(start, days, True) + "\n") * COPIES
         nanos = (seconds_of(rows) - alone) / COPIES / len(days) * 1e9
+        rows = f"call {rule.text()} {start.toordinal()} *{len(days)} = {days[-1].toordinal()}\n" * COPIES
+        call = (seconds_of(rows) - alone) / COPIES / len(days) * 1e9
         other = seconds_of_dateutil(rule, start, days) if rules_days.rrule else None
-        beside = f"{other / len(days) * 1e9:,.0f} | {other / len(days) * 1e9 / nanos:,.0f}" if other else " | "
-        print(f"| `{text}` | {nanos:,.0f} | {beside} |")
+        beside = f"{other / len(days) * 1e9:,.0f} | {other / len(days) * 1e9 / call:,.0f}" if other else " | "
+        print(f"| `{text}` | {call:,.0f} | {nanos:,.0f} | {beside} |")
 
 
 if __name__ == "__main__":

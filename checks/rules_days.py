@@ -4,7 +4,8 @@
     checks/rules_days.py [--seed N] [--rules N]      (seed 1 and 600 rules, if left out)
 
 The program crates/rules_rows answers rows; here they are made. dateutil's rrule gives the first instances of random rules, of the parts that
-RFC 5545 allows together. A walk by RFC 5545, 3.3.10, asks of each day of 400 years whether it is an instance of some rules.
+RFC 5545 allows together, and its rruleset those of the same with dates beside them and exceptions (RDATE, EXDATE). A walk by RFC 5545, 3.3.10, asks of each day of
+400 years whether it is an instance of some rules.
 
 Where dateutil reads the RFC otherwise, no such rule is made for it, and the walk alone answers:
 
@@ -63,9 +64,10 @@ class Rule:
         ]
         return ";".join(f"{name}={value}" for name, value in parts if value)
 
-    def row(self, start, days, ended):
+    def row(self, start, days, ended, dates=(), exceptions=()):
         """A row of rules_rows."""
-        words = ["rule", self.text(), start.toordinal(), "=", *(it.toordinal() for it in days), *(["end"] if ended else [])]
+        beside = [f"+{it.toordinal()}" for it in dates] + [f"-{it.toordinal()}" for it in exceptions]
+        words = ["rule", self.text(), start.toordinal(), *beside, "=", *(it.toordinal() for it in days), *(["end"] if ended else [])]
         return " ".join(map(str, words))
 
 
@@ -225,15 +227,39 @@ def at_random(chance):
     return rule, start
 
 
-def of_dateutil(rule, start):
-    """The instances up to the rule's UNTIL, by dateutil."""
+def at_midnight(date):
+    return datetime.datetime(date.year, date.month, date.day)
+
+
+def made_by_dateutil(rule, start):
+    """The rule up to its UNTIL, as dateutil has it."""
     weekdays = [rrule.weekday(day, number) for number, day in rule.weekdays]
-    begin, end = (datetime.datetime(it.year, it.month, it.day) for it in (start, rule.until))
-    made = rrule.rrule(
-        3 - rule.frequency, begin, rule.interval, rule.week_start, None, end, rule.positions or None, rule.months or None,
+    return rrule.rrule(
+        3 - rule.frequency, at_midnight(start), rule.interval, rule.week_start, None, at_midnight(rule.until), rule.positions or None, rule.months or None,
         rule.month_days or None, rule.year_days or None, None, rule.weeks or None, weekdays or None,
     )
-    return [it.date() for it in made]
+
+
+def of_dateutil(rule, start):
+    """Its instances."""
+    return [it.date() for it in made_by_dateutil(rule, start)]
+
+
+def with_dates(chance, rule, start):
+    """A row of the rule with dates beside its instances and exceptions from both, by dateutil."""
+    days = of_dateutil(rule, start)[:FIRST]
+    near = [start + datetime.timedelta(chance.randint(-40, 400)) for _ in range(chance.randint(0, 5))]
+    dates = sorted({*near, *chance.sample(days, min(len(days), 2))})
+    some_days = [*days[:10], *dates]
+    exceptions = sorted({*chance.sample(some_days, min(len(some_days), chance.randint(0, 4))), start + datetime.timedelta(chance.randint(-40, 400))})
+    made = rrule.rruleset()
+    made.rrule(made_by_dateutil(rule, start))
+    for it in dates:
+        made.rdate(at_midnight(it))
+    for it in exceptions:
+        made.exdate(at_midnight(it))
+    given = [it.date() for it in itertools.islice(made, FIRST + 1)]
+    return rule.row(start, given[:FIRST], len(given) <= FIRST, dates, exceptions)
 
 
 def cut(chance, rule, start, days):
@@ -281,6 +307,8 @@ def main():
     if rrule:
         made = [at_random(chance) for _ in range(options.rules)]
         results.append(asked("random rules beside dateutil", [cut(chance, rule, start, of_dateutil(rule, start)) for rule, start in made]))
+        made = [at_random(chance) for _ in range(options.rules // 3)]
+        results.append(asked("with dates and exceptions", [with_dates(chance, rule, start) for rule, start in made]))
     else:
         print("not run: dateutil's rules, since it is not installed")
     print(f"{sum(it[0] for it in results)} passed, {sum(it[1] for it in results)} failed")

@@ -2,11 +2,15 @@
 //!
 //! A line is `name rule start = days`, with the rule's text, as `FREQ=DAILY;COUNT=10`. Days are day numbers; `end` behind them says that
 //! the rule ends there, and `none` in their place that the text writes no rule. Each line that is answered otherwise is printed with its
-//! number, and at the end their count. Other lines are rows of texts that are written: see `texts`.
+//! number, and at the end their count. Words `+day` and `-day` behind the start are dates beside the instances and exceptions, and `refused`
+//! in place of the days says that these do not rise. A word `*times` there says that so many calls of `next_after`, each from the day that the
+//! last one gave, lead to the day. Other lines are rows of texts that are written: see `texts`.
 #![tactic(auto)]
 
+mod beside;
 mod texts;
 
+use beside::Beside;
 use chrono_datetime::NaiveDate;
 use chrono_rules::{End, Rule, read_rule};
 use std::alloc::Allocator;
@@ -14,10 +18,11 @@ use std::io::{self, BufRead, BufReader};
 
 fn main(rt: HostRuntime) -> io::Result<()> {
     let (mut lines, mut others) = (0u64, 0u64);
+    let mut beside = Beside::new(rt.alloc(), rt.alloc());
     for line in BufReader::new(rt.alloc(), rt.reader())?.lines(rt.alloc()) {
         let line = line?;
         lines = lines.wrapping_add(1);
-        if !is_answered(line.as_str(), rt.alloc())? {
+        if !is_answered(line.as_str(), &mut beside, rt.alloc())? {
             others = others.wrapping_add(1);
             println!(rt; "line {lines} is answered otherwise: {line}")?;
         }
@@ -27,21 +32,42 @@ fn main(rt: HostRuntime) -> io::Result<()> {
 }
 
 // Whether the line's rule is answered as the line says.
-fn is_answered(line: &str, alloc: impl Allocator) -> io::Result<bool> {
+fn is_answered<A: Allocator>(
+    line: &str,
+    beside: &mut Beside<A>,
+    alloc: impl Allocator,
+) -> io::Result<bool> {
     let Some((row, answer)) = line.split_once(" = ") else {
         return Ok(false);
     };
     match row.split_once(' ') {
         Some(("text", text)) => texts::is_written(text, answer, alloc),
-        Some(_) => Ok(has_days(row, answer)),
+        Some(_) => {
+            if beside.takes(row)? {
+                Ok(has_recurrence(beside, row, answer).unwrap_or(false))
+            } else {
+                Ok(has_days(row, answer))
+            }
+        }
         None => Ok(false),
     }
+}
+
+// Whether these are days of the row's rule with what it has beside it.
+fn has_recurrence<A: Allocator>(beside: &Beside<A>, row: &str, days: &str) -> Option<bool> {
+    let Some((text, start)) = arguments_of(row) else {
+        return None;
+    };
+    beside.has_days(read_rule(text.as_bytes())?, start, days)
 }
 
 // Whether the rule of the row has these days, or its text writes none.
 fn has_days(row: &str, days: &str) -> bool {
     match arguments_of(row) {
-        Some((text, start)) => has_instances(text, start, days).unwrap_or(false),
+        Some((text, start)) => match times_of(row) {
+            Some(times) => leads_to(text, start, times, days).unwrap_or(false),
+            None => has_instances(text, start, days).unwrap_or(false),
+        },
         None => false,
     }
 }
@@ -52,6 +78,26 @@ fn arguments_of(row: &str) -> Option<(&str, NaiveDate)> {
     let _ = words.next()?;
     let text = words.next()?;
     Some((text, day_of(words.next()?)?))
+}
+
+// The word `*times` of a row.
+fn times_of(row: &str) -> Option<u32> {
+    for word in row.split_ascii_whitespace() {
+        if let Some(times) = word.strip_prefix("*") {
+            return times.parse().ok();
+        }
+    }
+    None
+}
+
+// Whether so many calls of `next_after`, from the day before the start on, lead to the day.
+fn leads_to(text: &str, start: NaiveDate, times: u32, day: &str) -> Option<bool> {
+    let rule = read_rule(text.as_bytes())?;
+    let mut last = start.pred_opt()?;
+    for _ in 0..times {
+        last = rule.next_after(start, last)?;
+    }
+    Some(last == day_of(day)?)
 }
 
 // Whether these are instances of the rule that the text writes, or `none` where it writes none.
