@@ -8,11 +8,13 @@ mod distance;
 mod due;
 mod fault;
 mod file;
+mod help;
 mod lines;
 mod moved;
 mod open;
 mod ordinal_name;
 mod sequence;
+mod sheet;
 mod year;
 
 use answer::answer;

@@ -2,39 +2,46 @@
 
 use crate::fault::{ANSWERED, NONE, WRONG};
 use chrono_datetime::NaiveDate;
-use dates_request::{Span, Unit, read_span};
+use dates_answer::{Stop, moved_by_all};
+use dates_request::{Span, read_span};
 use std::alloc::Allocator;
 use std::io::{self, Eprint};
 
 // The day moved by the spans that the words from the third on write, one after another, or `none` where one of them leads
 // out of the calendar.
 pub(crate) fn answer_move(
-    rt: &(impl Print + Eprint),
+    rt: &(impl Alloc + Print + Eprint),
     day: NaiveDate,
     words: &[String<impl Allocator>],
 ) -> io::Result<u8> {
-    let mut date = day;
+    let mut spans: Vec<Span, _> = Vec::new(rt.alloc());
     for word in words.iter().skip(2) {
-        let Some(span) = read_span(word.as_str().as_bytes()) else {
-            return Ok(WRONG);
-        };
-        let Some(reached) = moved(date, span) else {
-            println!(rt; "none")?;
-            eprintln!(rt; "{date} {}: past the calendar's end", word.as_str())?;
-            return Ok(NONE);
-        };
-        date = reached;
+        match read_span(word.as_str().as_bytes()) {
+            Some(span) => spans.push(span)?,
+            None => return Ok(WRONG),
+        }
     }
-    println!(rt; "{date}")?;
-    Ok(ANSWERED)
+    match moved_by_all(day, spans.as_slice()) {
+        Ok(date) => {
+            println!(rt; "{date}")?;
+            Ok(ANSWERED)
+        }
+        Err(stop) => refuse_step(rt, stop, words),
+    }
 }
 
-// The date that is a span away.
-pub(crate) fn moved(date: NaiveDate, span: Span) -> Option<NaiveDate> {
-    match span.unit {
-        Unit::Days => date.moved_by_days(span.count),
-        Unit::Weeks => date.moved_by_days(span.count.checked_mul(7)?),
-        Unit::Months => date.moved_by_months(span.count),
-        Unit::Years => date.moved_by_months(span.count.checked_mul(12)?),
-    }
+// Says which span leads out of the calendar.
+fn refuse_step(
+    rt: &(impl Print + Eprint),
+    stop: Stop,
+    words: &[String<impl Allocator>],
+) -> io::Result<u8> {
+    println!(rt; "none")?;
+    let date = stop.date;
+    let span = match words.iter().skip(2).nth(stop.step) {
+        Some(word) => word.as_str(),
+        None => "",
+    };
+    eprintln!(rt; "{date} {span}: past the calendar's end")?;
+    Ok(NONE)
 }

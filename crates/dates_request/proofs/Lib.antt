@@ -1,7 +1,9 @@
 mod CalendarOptionLemmas
 mod DayLemmas
 mod DueLemmas
+mod HelpLemmas
 mod OptionLemmas
 mod SpanLemmas
 mod WeekLemmas
 mod WordLemmas
+mod SheetLemmas

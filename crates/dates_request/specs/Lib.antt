@@ -5,4 +5,6 @@ pub mod OpenRequests
 pub mod MomentTexts
 pub mod Options
 pub mod DueRequests
+pub mod YearTexts
+pub mod SheetRequests
 pub mod Requests

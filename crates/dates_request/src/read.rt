@@ -1,16 +1,17 @@
 //! The request that arguments make.
-ghost use Rattle.std.specs.Prelude.{◌≡◌, ◌∷◌, [], ℤ, Ok, Some, IfOk, IfSome, IfNone, All, true, false, codes};
+ghost use Rattle.std.specs.Prelude.{◌≡◌, ◌∷◌, [], ℤ, Ok, Some, IfOk, IfSome, IfNone, All, true, false, bytes_eq, codes};
 ghost use Rattle.dates_request.specs.declared.request.Request.{Request};
 ghost use Rattle.dates_request.specs.declared.request.Request.TheVariants as request;
 ghost use Rattle.dates_request.specs.declared.command.Command.TheVariants as command;
 ghost use Rattle.dates_request.specs.DueRequests.{IsOfSchedule};
-ghost use Rattle.dates_request.specs.Requests.{AsksFor, HasArguments, IsAdd, IsAlone, IsCheck, IsDay, IsDistance, IsEaster, IsLeap, IsOfTwoDays, IsRequest, IsSequence, IsWeek, WritesSpan, texts};
+ghost use Rattle.dates_request.specs.Requests.{AsksFor, CommandAsks, HasArguments, IsAdd, IsAlone, IsCheck, IsDay, IsDistance, IsEaster, IsLeap, IsOfTwoDays, IsRequest, IsSequence, IsWeek, WritesSpan, is_help_alone, texts};
 
 use crate::command::{Command, command_named};
 use crate::day::NoDay;
 use crate::due::due;
 use crate::open::{open, roll};
 use crate::request::Request;
+use crate::sheet::sheet_asked;
 use crate::span::read_span;
 use crate::word::{day_at, step_at, unit_at, week_at, year_at};
 use crate::wrong::{Why, Wrong, wrong_at};
@@ -45,8 +46,40 @@ fn one_day(first: &[u8], rest: &[&[u8]]) -> Result<Request, Wrong>
     }
 }
 
-// What a command asks for with the words behind it.
+// How a command is used, where `--help` stands alone behind it, and else what it asks for with the words there.
 fn arguments(command: Command, words: &[&[u8]]) -> Result<Request, Wrong>
+    ensures read { IfOk result (λ r. CommandAsks (is_help_alone (texts words.now)) command (texts words.now) r) }
+    ensures every { (r : Request) → CommandAsks (is_help_alone (texts words.now)) command (texts words.now) r → result ≡ Ok r }
+{
+    if is_help_alone(words) {
+        Ok(Request::HelpOf { command })
+    } else {
+        other_arguments(command, words)
+    }
+}
+
+// Whether the words are `--help` alone.
+fn is_help_alone(words: &[&[u8]]) -> bool
+    ensures { result ≡ is_help_alone (texts words.now) }
+{
+    match words {
+        [word] => is_help(word),
+        _ => false,
+    }
+}
+
+// Whether the word is `--help`.
+fn is_help(word: &[u8]) -> bool
+    ensures { result ≡ bytes_eq word.now (codes "--help") }
+{
+    match word {
+        b"--help" => true,
+        _ => false,
+    }
+}
+
+// What a command asks for with the words behind it.
+fn other_arguments(command: Command, words: &[&[u8]]) -> Result<Request, Wrong>
     ensures read { IfOk result (λ r. HasArguments command (texts words.now) r) }
     ensures every { (r : Request) → HasArguments command (texts words.now) r → result ≡ Ok r }
 {
@@ -65,6 +98,7 @@ fn arguments(command: Command, words: &[&[u8]]) -> Result<Request, Wrong>
         Command::Check => check(words),
         Command::Next => next(words),
         Command::Prev => prev(words),
+        Command::Cal => sheet_asked(words),
     }
 }
 

@@ -52,6 +52,12 @@ pub enum Why {
     DueOption,
     /// The value of an option.
     Value,
+    /// A month or a year.
+    Sheet,
+    /// An option of a sheet.
+    SheetOption,
+    /// A weekday.
+    Weekday,
     /// No further argument.
     End,
 }

@@ -1,0 +1,131 @@
+//! A month or a year as a sheet.
+
+use crate::closed::{Years, put_holidays, weekend_of};
+use crate::fault::{ANSWERED, WRONG};
+use crate::year::no_such_year;
+use chrono_business::Calendar;
+use chrono_datetime::{Datelike, Month, NaiveDate, Weekday};
+use dates_answer::MonthSheet;
+use dates_request::{SheetOptions, SheetTime};
+use std::alloc::Allocator;
+use std::io::{self, Eprint};
+use std::rt::Files;
+
+// The month, or the months of the year, as sheets with closed days marked; `none` where the calendar has no such year.
+pub(crate) fn answer_sheet(
+    rt: &(impl Alloc + Print + Eprint + Files),
+    words: &[String<impl Allocator>],
+    time: SheetTime,
+    options: SheetOptions,
+) -> io::Result<u8> {
+    let start = options.start.unwrap_or(Weekday::Mon);
+    let (month, whole_year) = match time {
+        SheetTime::Month { first } => (first, false),
+        SheetTime::Year { year } => match NaiveDate::from_ymd_opt(year, 1, 1) {
+            Some(first) => (first, true),
+            None => return no_such_year(rt, year),
+        },
+    };
+    let years = Years {
+        first: month.year(),
+        last: month.year(),
+    };
+    let mut days: Vec<NaiveDate, _> = Vec::new(rt.alloc());
+    if !put_holidays(rt, words, options.closed, years, &mut days)? {
+        return Ok(WRONG);
+    }
+    let Ok(calendar) = Calendar::try_new(weekend_of(options.closed), days.as_slice()) else {
+        return Ok(WRONG);
+    };
+    if whole_year {
+        print_year(rt, month, start, &calendar)?;
+    } else {
+        print_month(rt, MonthSheet { month, start }, &calendar)?;
+    }
+    Ok(ANSWERED)
+}
+
+// A month alone.
+fn print_month(rt: &impl Print, sheet: MonthSheet, calendar: &Calendar) -> io::Result<()> {
+    println!(rt; "    {} {}", name_of(sheet), sheet.month.year())?;
+    println!(rt; "{}", heading(sheet.start))?;
+    for row in 0..6 {
+        if sheet.has_days(row) {
+            println!(rt; "{}", sheet.row(row, calendar))?;
+        }
+    }
+    Ok(())
+}
+
+// The months of the year that begins on a day, three side by side.
+fn print_year(
+    rt: &impl Print,
+    first: NaiveDate,
+    start: Weekday,
+    calendar: &Calendar,
+) -> io::Result<()> {
+    println!(rt; "{:>41}", first.year())?;
+    for quarter in 0..4 {
+        println!(rt; "")?;
+        let sheets = [
+            month_of(first, 3 * quarter, start),
+            month_of(first, 3 * quarter + 1, start),
+            month_of(first, 3 * quarter + 2, start),
+        ];
+        print_quarter(rt, sheets, calendar)?;
+    }
+    Ok(())
+}
+
+// The sheet of the month so many months on.
+fn month_of(first: NaiveDate, months: i64, start: Weekday) -> MonthSheet {
+    MonthSheet {
+        month: first.moved_by_months(months).unwrap_or(first),
+        start,
+    }
+}
+
+// Three months side by side.
+fn print_quarter(
+    rt: &impl Print,
+    [left, middle, right]: [MonthSheet; 3],
+    calendar: &Calendar,
+) -> io::Result<()> {
+    println!(rt;
+        "    {:<23}    {:<23}    {}",
+        name_of(left),
+        name_of(middle),
+        name_of(right)
+    )?;
+    let heading = heading(left.start);
+    println!(rt; "{heading}  {heading}  {heading}")?;
+    for row in 0..6 {
+        if left.has_days(row) || middle.has_days(row) || right.has_days(row) {
+            println!(rt;
+                "{}  {}  {}",
+                left.row(row, calendar),
+                middle.row(row, calendar),
+                right.row(row, calendar)
+            )?;
+        }
+    }
+    Ok(())
+}
+
+// The name of a sheet's month.
+fn name_of(sheet: MonthSheet) -> &'static str {
+    Month::from_u32(sheet.month.month()).map_or("", |month| month.name())
+}
+
+// The weekdays above the columns of a sheet whose weeks begin on one, 25 columns wide.
+fn heading(start: Weekday) -> &'static str {
+    match start {
+        Weekday::Mon => "    Mo Tu We Th Fr Sa Su ",
+        Weekday::Tue => "    Tu We Th Fr Sa Su Mo ",
+        Weekday::Wed => "    We Th Fr Sa Su Mo Tu ",
+        Weekday::Thu => "    Th Fr Sa Su Mo Tu We ",
+        Weekday::Fri => "    Fr Sa Su Mo Tu We Th ",
+        Weekday::Sat => "    Sa Su Mo Tu We Th Fr ",
+        Weekday::Sun => "    Su Mo Tu We Th Fr Sa ",
+    }
+}

@@ -1,0 +1,4 @@
+mod FarMoves
+mod MonthDistances
+mod Distances
+mod SpanWalks

@@ -1,0 +1,4 @@
+pub mod Moves
+pub mod Distances
+pub mod Sequences
+pub mod Sheets
