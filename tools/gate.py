@@ -2,7 +2,10 @@
 """Measures the gate: the processor seconds of each command that `rt ci` runs, on a copy of what is committed.
 
   tools/gate.py                  the whole gate: a table by crate (proof, tests, edits, programs), the slowest edits by name
-  tools/gate.py --no-edits       the same without the must-fail edits
+  tools/gate.py NAME ..          the same of these crates and of those below them, which is not the gate
+  tools/gate.py --no-edits ..    the same without the must-fail edits
+  tools/gate.py --kept ..        only what no earlier run on this machine passed
+  tools/gate.py --table LOG ..   the table of what runs wrote to these files (by --log), of each part of a crate from the last run that did it
   tools/gate.py --functions NAME the check of one crate from nothing, as time passes from function to function
 
 Processor time says what a run costs whatever else the machine does; the wall time is of this machine and this run.
@@ -118,18 +121,29 @@ def copy_of_head(room):
     return copy
 
 
-def measure_gate(rt, room, with_edits, keep):
+def lines_of(logs):
+    """Returns the lines of several logs: of each part of a crate those of the last log that has it."""
+    last = {}
+    for path in logs:
+        with open(path) as it:
+            lines = [json.loads(line) for line in it]
+        parts = collections.defaultdict(list)
+        for it in lines:
+            parts[part_of(it)].append(it)
+        last |= parts
+    return [line for lines in last.values() for line in lines]
+
+
+def measure_gate(rt, room, names, with_edits, anew, keep):
     copy, log = copy_of_head(room), watch(rt, room)
     if not with_edits:
         for name in os.listdir(f"{copy}/crates"):
             shutil.rmtree(f"{copy}/crates/{name}/must-fail", ignore_errors=True)
     os.chdir(copy)
     began = time.time()
-    status = rt.ci()
-    with open(log) as it:
-        lines = [json.loads(line) for line in it]
+    status = rt.ci(anew, names)
     print(f"\nThe gate ended with status {status} after {(time.time() - began) / 60:.1f} minutes on {rt.processors()} processors.\n")
-    print_table(lines)
+    print_table(lines_of([log]))
     if keep:
         shutil.copyfile(log, keep)
     return status
@@ -158,19 +172,25 @@ def measure_functions(room, name):
 
 def main():
     words = argparse.ArgumentParser(description=__doc__, formatter_class=argparse.RawDescriptionHelpFormatter)
+    words.add_argument("names", nargs="*", metavar="NAME")
     words.add_argument("--no-edits", action="store_true")
+    words.add_argument("--kept", action="store_true", help="proves and tries only what no earlier run on this machine passed")
+    words.add_argument("--table", nargs="+", metavar="LOG")
     words.add_argument("--functions", metavar="NAME")
     words.add_argument("--log", metavar="FILE", help="keeps the line of each call of the prover")
     words.add_argument("--at", metavar="FOLDER", help="makes the copy in that folder, which must not exist yet and stays")
     said = words.parse_args()
     keep = os.path.abspath(said.log) if said.log else None
+    if said.table:
+        return print_table(lines_of(said.table))
+    how = said.names, not said.no_edits, not said.kept, keep
     if said.at:
         os.makedirs(said.at)
-        return measure_gate(load_rt(), os.path.abspath(said.at), not said.no_edits, keep)
+        return measure_gate(load_rt(), os.path.abspath(said.at), *how)
     with tempfile.TemporaryDirectory(prefix="gate-") as room:
         if said.functions:
             return measure_functions(room, said.functions)
-        return measure_gate(load_rt(), room, not said.no_edits, keep)
+        return measure_gate(load_rt(), room, *how)
 
 
 if __name__ == "__main__":

@@ -145,8 +145,8 @@ def try_crate(copy, name):
         refused = try_rounds(rt, crate, rounds, kept)
         said += [f"{name}/{it}: refused, but only because a proof file names what the edit took away" for it, lost in refused.items() if lost]
         for it in [*alone, *(it for each in rounds for it in each if it not in refused)]:
-            well, text = rt.must_fail(crate, f"{crate.folder}/must-fail/{it}.edit", FLAGS, kept)
-            well = well or LEMMA_FELL in text
+            kind, text = rt.must_fail(crate, f"{crate.folder}/must-fail/{it}.edit", FLAGS, kept)
+            well = kind == rt.REFUSED or LEMMA_FELL in text
             refused |= {it: False} if well else {}
             said += [text] if not well or FOR_A_NAME.search(text) else []
     used = resource.getrusage(resource.RUSAGE_CHILDREN)

@@ -1,5 +1,6 @@
 pub mod Due
 pub mod DueMoments
+pub mod ErrorTexts
 pub mod FieldTexts
 pub mod KnownMonthDays
 pub mod KnownSchedules

@@ -3,6 +3,7 @@ mod Counts
 mod Cycles
 mod DayLists
 mod Digits
+mod ErrorLines
 mod Moments
 mod Passed
 mod PieceLemmas

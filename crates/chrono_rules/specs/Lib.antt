@@ -4,4 +4,5 @@ pub mod Instances
 pub mod KnownRules
 pub mod Pieces
 pub mod Places
+pub mod RuleErrors
 pub mod RuleTexts

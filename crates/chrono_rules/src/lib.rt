@@ -5,6 +5,8 @@
 
 mod before;
 mod date_times;
+mod error;
+mod faults;
 mod gaps;
 mod iterator;
 pub mod law;
@@ -23,11 +25,12 @@ mod values;
 mod weekday_text;
 mod year_text;
 
+pub use error::{RuleError, RuleFault, RulePart};
 pub use iterator::Instances;
 pub use month_text::read_months;
 pub use place_text::{BothEnds, Place, read_month_days, read_weeks};
 pub use places::{NumberSet, PlaceSet, WeekdayPlaces};
 pub use rule::{End, Frequency, Rule};
-pub use rule_text::read_rule;
+pub use rule_text::{check_rule, read_rule};
 pub use weekday_text::read_weekdays;
 pub use year_text::{YearEnds, read_year_days};

@@ -1,14 +1,19 @@
 //! The texts of rules.
-ghost use Rattle.std.specs.Prelude.{◌≡◌, Some, IfSome};
+ghost use Rattle.std.specs.Prelude.{◌≡◌, ◌↔◌, true, false, Some, None, Ok, Err, IfSome, IfNone, IfOk, IsErr};
+ghost use Rattle.chrono_rules.specs.RuleErrors.{IsChecked, are_named, unfit_error, unread_error};
 ghost use Rattle.chrono_rules.specs.RuleTexts.{IsRuleText, Says, fits, has_month_days, has_year_parts, lacks_lists, lacks_numbers, may_have_numbers};
+ghost use Rattle.chrono_rules.specs.declared.error.RuleFault.TheVariants.{Unknown};
 ghost use Rattle.chrono_rules.specs.declared.rule.Rule.{Rule};
 
+use crate::error::{RuleError, RuleFault, RulePart};
+use crate::faults::unread_error;
 use crate::places::are_zero;
 use crate::rule::{Frequency, Rule};
 use crate::rule_parts::{
     end, frequency, interval, month_days, months, positions, week_start, weekdays, weeks, year_days,
 };
 use crate::values::are_parts;
+use std::str::FromStr;
 
 /// The rule that the text writes (RFC 5545, section 3.3.10), as `FREQ=MONTHLY;BYDAY=-1FR`; `None` exactly if it writes none.
 ///
@@ -23,15 +28,50 @@ pub fn read_rule(text: &[u8]) -> Option<Rule>
     ensures read { IfSome result (λ r. IsRuleText text.now r) }
     // Whatever rule the text writes is the answer: no text is refused, and none has two meanings.
     ensures every { (r : Rule) → IsRuleText text.now r → result ≡ Some r }
+    ensures none { IfNone result ((r : Rule) → ¬ IsRuleText text.now r) }
+{
+    match check_rule(text) {
+        Ok(rule) => Some(rule),
+        Err(_) => None,
+    }
+}
+
+/// The rule that the text writes, as [`read_rule`] reads it, or what is wrong with the text, and in which part.
+///
+/// Told first is a part whose name no rule has; then, in the order of [`RulePart`], the first part that cannot be read; and where each can, the
+/// first that does not go with the others.
+pub fn check_rule(text: &[u8]) -> Result<Rule, RuleError>
+    ensures read { IfOk result (λ r. IsRuleText text.now r) }
+    ensures every { (r : Rule) → IsRuleText text.now r → result ≡ Ok r }
+    ensures found { IsErr result ↔ ((r : Rule) → ¬ IsRuleText text.now r) }
+    ensures unknown { are_named text.now ≡ false → result ≡ Err (record { part = None; fault = Unknown }) }
+    ensures unread { are_named text.now ≡ true → ((r : Rule) → ¬ Says text.now r) → result ≡ Err (unread_error text.now) }
+    ensures unfit { (r : Rule) → are_named text.now ≡ true → Says text.now r → fits r ≡ false → result ≡ Err (unfit_error r) }
 {
     if !are_parts(text) {
-        return None;
+        return Err(RuleError {
+            part: None,
+            fault: RuleFault::Unknown,
+        });
     }
-    let rule = read_parts(text)?;
+    let Some(rule) = read_parts(text) else {
+        return Err(unread_error(text));
+    };
     if !rule.fits() {
-        return None;
+        return Err(rule.unfit_error());
     }
-    Some(rule)
+    Ok(rule)
+}
+
+impl FromStr for Rule {
+    type Err = RuleError;
+
+    ghost from_str_gives = { IsChecked };
+
+    /// The rule that the text writes, as [`check_rule`] reads it.
+    fn from_str(text: &str) -> Result<Rule, RuleError> {
+        check_rule(text.as_bytes())
+    }
 }
 
 // What the parts say.
@@ -78,6 +118,29 @@ impl Rule {
                     && (self.lacks_positions() || !self.lacks_lists())))
     }
 
+    // Why the parts do not go together.
+    #[tactic(auto, unfolding(crate::specs::RuleErrors::unfit_error))]
+    fn unfit_error(&self) -> RuleError
+        ensures { result ≡ unfit_error self.now }
+    {
+        if !has_month_days(self.frequency) && !self.lacks_month_days() {
+            return error(RulePart::ByMonthDay, RuleFault::NotWith(self.frequency));
+        }
+        if !has_year_parts(self.frequency) && !self.lacks_year_days() {
+            return error(RulePart::ByYearDay, RuleFault::NotWith(self.frequency));
+        }
+        if !has_year_parts(self.frequency) && !self.lacks_weeks() {
+            return error(RulePart::ByWeekNo, RuleFault::NotWith(self.frequency));
+        }
+        if !self.has_numbers() && !self.lacks_numbers() {
+            return error(RulePart::ByDay, RuleFault::NumbersNotWith(self.frequency));
+        }
+        if !self.may_have_numbers() && !self.lacks_numbers() {
+            return error(RulePart::ByDay, RuleFault::NumbersBesideWeeks);
+        }
+        error(RulePart::BySetPos, RuleFault::Alone)
+    }
+
     // Whether weekdays may have numbers.
     fn may_have_numbers(&self) -> bool
         ensures { result ≡ may_have_numbers self.now }
@@ -99,6 +162,16 @@ impl Rule {
         self.lacks_months()
             && (self.lacks_month_days()
                 && (self.lacks_weekdays() && (self.lacks_year_days() && self.lacks_weeks())))
+    }
+}
+
+// The part with what is wrong with it.
+fn error(part: RulePart, fault: RuleFault) -> RuleError
+    ensures { result ≡ record { part = Some part; fault = fault } }
+{
+    RuleError {
+        part: Some(part),
+        fault,
     }
 }
 

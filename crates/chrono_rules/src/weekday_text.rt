@@ -26,7 +26,7 @@ pub fn read_weekdays(text: &[u8]) -> Option<WeekdayPlaces>
 
 // The days and those that the text names.
 #[tactic(auto, unfolding(crate::specs::Places::with_weekday_text))]
-fn with_text(days: WeekdayPlaces, text: &[u8]) -> Option<WeekdayPlaces>
+pub(crate) fn with_text(days: WeekdayPlaces, text: &[u8]) -> Option<WeekdayPlaces>
     ensures { result ≡ with_weekday_text days text.now }
 {
     let (number, letters) = text.split_at(text.len().saturating_sub(2));

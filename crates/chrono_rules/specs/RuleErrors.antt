@@ -1,0 +1,253 @@
+-- What is told of a text that no rule has, and why a rule's parts do not go together.
+use Rattle.std.specs.Prelude.{◌≡◌, ◌↔◌, ◌==◌, ℕ, ◌-◌, nat_le, Bool, true, false, not, ◌&&◌, ◌||◌, List, [], ◌∷◌, ◌++◌, length, take, drop, if◌then◌else◌, Option, Some, None, Result, Ok, Err, IfOk, IsErr, codes, refl}
+use Rattle.std.specs.List.{list_all}
+use Rattle.std.specs.Option.{is_some}
+use Rattle.std.specs.Str.{all_ascii_digits}
+use Rattle.chrono_datetime.specs.declared.Weekday.TheVariants.{Mon}
+use Rattle.chrono_rules.specs.Instances.{has_numbers, lacks_month_days, lacks_year_days, lacks_weeks, no_numbers, no_weekdays, plain}
+use Rattle.chrono_rules.specs.Pieces.{count_of, digits_of, pieces}
+use Rattle.chrono_rules.specs.Places.{ends_of, no_ends, number_of, place_of, weekday_of_letters, weekdays_of, with_weekday, with_weekday_text}
+use Rattle.chrono_rules.specs.RuleTexts.{IsRuleText, Says, date_of, end_of, fits, frequency_of, has_month_days, has_year_parts, interval_of, is_part, lacks_numbers, months_of, may_have_numbers, no_year_ends, parts, said, values_in, weekday_of_text, year_ends_of}
+use Rattle.chrono_rules.specs.declared.error.RuleError.{RuleError}
+use Rattle.chrono_rules.specs.declared.error.RuleFault.{RuleFault}
+use Rattle.chrono_rules.specs.declared.error.RuleFault.TheVariants.{Unknown, Missing, Twice, Empty, NotAFrequency, NotANumber, OutOfRange, NotADate, NotAWeekday, BesideCount, NotWith, NumbersNotWith, NumbersBesideWeeks, Alone}
+use Rattle.chrono_rules.specs.declared.error.RulePart.{RulePart}
+use Rattle.chrono_rules.specs.declared.error.RulePart.TheVariants.{Freq, Interval, Count, Until, ByMonth, ByMonthDay, ByDay, ByYearDay, ByWeekNo, BySetPos, Wkst}
+use Rattle.chrono_rules.specs.declared.rule.Frequency.{Frequency}
+use Rattle.chrono_rules.specs.declared.rule.Frequency.TheVariants.{Daily, Weekly, Monthly, Yearly}
+use Rattle.chrono_rules.specs.declared.rule.Rule.{Rule}
+
+-- the name of a part
+unfoldable pub part_name : RulePart → List ℕ
+part_name Freq = codes "FREQ"
+part_name Interval = codes "INTERVAL"
+part_name Count = codes "COUNT"
+part_name Until = codes "UNTIL"
+part_name ByMonth = codes "BYMONTH"
+part_name ByMonthDay = codes "BYMONTHDAY"
+part_name ByDay = codes "BYDAY"
+part_name ByYearDay = codes "BYYEARDAY"
+part_name ByWeekNo = codes "BYWEEKNO"
+part_name BySetPos = codes "BYSETPOS"
+part_name Wkst = codes "WKST"
+
+-- the values that the part has in a text
+abbrev pub values_by : List ℕ → RulePart → List (List ℕ)
+values_by text part = values_in text (part_name part ++ codes "=")
+
+-- whether the part can be read: its one value, or that it lacks. An UNTIL cannot beside a COUNT
+unfoldable pub is_read : List ℕ → RulePart → Bool
+is_read text Freq = is_some (said frequency_of None (values_in text (codes "FREQ=")))
+is_read text Interval = is_some (said interval_of (Some 1) (values_in text (codes "INTERVAL=")))
+is_read text Count = is_some (said count_of (Some 0) (values_in text (codes "COUNT=")))
+is_read text Until = is_some (end_of (values_in text (codes "COUNT=")) (values_in text (codes "UNTIL=")))
+is_read text ByMonth = is_some (said months_of (Some no_numbers) (values_in text (codes "BYMONTH=")))
+is_read text ByMonthDay = is_some (said (ends_of 2 31) (Some no_ends) (values_in text (codes "BYMONTHDAY=")))
+is_read text ByDay = is_some (said weekdays_of (Some no_weekdays) (values_in text (codes "BYDAY=")))
+is_read text ByYearDay = is_some (said year_ends_of (Some no_year_ends) (values_in text (codes "BYYEARDAY=")))
+is_read text ByWeekNo = is_some (said (ends_of 2 53) (Some no_ends) (values_in text (codes "BYWEEKNO=")))
+is_read text BySetPos = is_some (said year_ends_of (Some no_year_ends) (values_in text (codes "BYSETPOS=")))
+is_read text Wkst = is_some (said weekday_of_text (Some Mon) (values_in text (codes "WKST=")))
+
+-- one digit or more
+abbrev pub are_digits : List ℕ → Bool
+are_digits text = nat_le 1 (length text) && all_ascii_digits text
+
+-- why a text is no number that a part may have: it is not digits, or another number or too many digits
+abbrev pub digits_fault : List ℕ → RuleFault
+digits_fault text = if are_digits text then OutOfRange else NotANumber
+
+unfoldable pub number_fault : List ℕ → RuleFault
+number_fault [] = Empty
+number_fault (b ∷ bs) = digits_fault (b ∷ bs)
+
+-- with a sign in front, or none
+unfoldable pub place_fault : List ℕ → RuleFault
+place_fault [] = Empty
+place_fault (b ∷ bs) = if (b == 45) || (b == 43) then digits_fault bs else digits_fault (b ∷ bs)
+
+-- a weekday, behind a number or not: letters that are none, or what stands in front
+unfoldable pub weekday_fault : List ℕ → RuleFault
+weekday_fault [] = Empty
+weekday_fault (b ∷ bs) =
+    if is_some (weekday_of_letters (drop (length (b ∷ bs) - 2) (b ∷ bs))) then place_fault (take (length (b ∷ bs) - 2) (b ∷ bs)) else NotAWeekday
+
+-- whether an item of a list can be read, and why not
+unfoldable pub reads_item : RulePart → List ℕ → Bool
+reads_item ByMonth item = is_some (number_of 2 12 item)
+reads_item ByMonthDay item = is_some (place_of 2 31 item)
+reads_item ByDay item = is_some (with_weekday_text no_weekdays item)
+reads_item ByWeekNo item = is_some (place_of 2 53 item)
+reads_item part item = is_some (place_of 3 366 item)
+
+unfoldable pub item_fault : RulePart → List ℕ → RuleFault
+item_fault ByMonth item = number_fault item
+item_fault ByDay item = weekday_fault item
+item_fault part item = place_fault item
+
+-- why a list cannot be read: by the first item that cannot
+abbrev pub list_fault : RulePart → List (List ℕ) → RuleFault
+list_fault part [] = Empty
+list_fault part (item ∷ items) = if reads_item part item then list_fault part items else item_fault part item
+
+-- why a value is not the part's
+abbrev pub word_fault : RuleFault → List ℕ → RuleFault
+word_fault fault text = if length text == 0 then Empty else fault
+
+unfoldable pub value_fault : RulePart → List ℕ → RuleFault
+value_fault Freq text = word_fault NotAFrequency text
+value_fault Interval text = number_fault text
+value_fault Count text = number_fault text
+value_fault Until text = word_fault NotADate text
+value_fault Wkst text = word_fault NotAWeekday text
+value_fault part text = list_fault part (pieces 44 text)
+
+-- why a part cannot be read: by its values, none, one or more
+abbrev pub values_fault : RulePart → List (List ℕ) → RuleFault
+values_fault part [] = Missing
+values_fault part (v ∷ []) = value_fault part v
+values_fault part (v ∷ w ∷ more) = Twice
+
+-- an UNTIL beside a COUNT
+abbrev pub until_fault : List (List ℕ) → List (List ℕ) → RuleFault
+until_fault [] untils = values_fault Until untils
+until_fault (c ∷ counts) untils = BesideCount
+
+unfoldable pub part_fault : List ℕ → RulePart → RuleFault
+part_fault text Until = until_fault (values_in text (codes "COUNT=")) (values_in text (codes "UNTIL="))
+part_fault text part = values_fault part (values_by text part)
+
+-- the first of some parts that cannot be read; the last of them if all before it can
+abbrev pub part_error : List ℕ → RulePart → RuleError
+part_error text part = record { part = Some part; fault = part_fault text part }
+
+abbrev pub first_unread : List ℕ → List RulePart → RulePart → RuleError
+first_unread text [] last = part_error text last
+first_unread text (p ∷ ps) last = if is_read text p then first_unread text ps last else part_error text p
+
+-- the parts in their order, and the last
+abbrev pub parts_but_last : List RulePart
+parts_but_last = Freq ∷ Interval ∷ Count ∷ Until ∷ ByMonth ∷ ByMonthDay ∷ ByDay ∷ ByYearDay ∷ ByWeekNo ∷ BySetPos ∷ []
+
+unfoldable pub unread_error : List ℕ → RuleError
+unread_error text = first_unread text parts_but_last Wkst
+
+-- why the parts of a rule do not go together: the first that does not go with FREQ, numbers of weekdays, positions alone
+unfoldable pub unfit_error : Rule → RuleError
+unfit_error r =
+    if not (has_month_days r.frequency) && not (lacks_month_days r) then record { part = Some ByMonthDay; fault = NotWith r.frequency }
+    else if not (has_year_parts r.frequency) && not (lacks_year_days r) then record { part = Some ByYearDay; fault = NotWith r.frequency }
+    else if not (has_year_parts r.frequency) && not (lacks_weeks r) then record { part = Some ByWeekNo; fault = NotWith r.frequency }
+    else if not (has_numbers r.frequency) && not (lacks_numbers r) then record { part = Some ByDay; fault = NumbersNotWith r.frequency }
+    else if not (may_have_numbers r) && not (lacks_numbers r) then record { part = Some ByDay; fault = NumbersBesideWeeks }
+    else record { part = Some BySetPos; fault = Alone }
+
+-- each part has a name that rules have
+abbrev pub are_named : List ℕ → Bool
+are_named text = list_all is_part (parts text)
+
+-- what a reading with errors answers
+pub record IsChecked (text : List ℕ) (result : Result Rule RuleError) : Type 0 where
+  pub read : IfOk result (λ r. IsRuleText text r)
+  pub every : (r : Rule) → IsRuleText text r → result ≡ Ok r
+  pub found : IsErr result ↔ ((r : Rule) → ¬ IsRuleText text r)
+  pub unknown : are_named text ≡ false → result ≡ Err (record { part = None; fault = Unknown })
+  pub unread : are_named text ≡ true → ((r : Rule) → ¬ Says text r) → result ≡ Err (unread_error text)
+  pub unfit : (r : Rule) → are_named text ≡ true → Says text r → fits r ≡ false → result ≡ Err (unfit_error r)
+
+-- the line that is told of an error: FREQ's words
+unfoldable pub frequency_text : Frequency → List ℕ
+frequency_text Daily = codes "DAILY"
+frequency_text Weekly = codes "WEEKLY"
+frequency_text Monthly = codes "MONTHLY"
+frequency_text Yearly = codes "YEARLY"
+
+-- what is wrong, and which word of FREQ stands behind that
+unfoldable pub fault_words : RuleFault → List ℕ
+fault_words Unknown = codes "unknown part"
+fault_words Missing = codes "missing"
+fault_words Twice = codes "stands twice"
+fault_words Empty = codes "empty"
+fault_words NotAFrequency = codes "not DAILY, WEEKLY, MONTHLY or YEARLY"
+fault_words NotANumber = codes "not a number"
+fault_words OutOfRange = codes "number out of range"
+fault_words NotADate = codes "not a date as 19971224"
+fault_words NotAWeekday = codes "not a weekday as MO"
+fault_words BesideCount = codes "does not go with COUNT"
+fault_words (NotWith f) = codes "does not go with "
+fault_words (NumbersNotWith f) = codes "number does not go with "
+fault_words NumbersBesideWeeks = codes "number does not go with BYWEEKNO"
+fault_words Alone = codes "needs another BY part"
+
+unfoldable pub fault_frequency : RuleFault → Option Frequency
+fault_frequency (NotWith f) = Some f
+fault_frequency (NumbersNotWith f) = Some f
+fault_frequency fault = None
+
+abbrev pub frequency_behind : Option Frequency → List ℕ
+frequency_behind None = []
+frequency_behind (Some f) = frequency_text f
+
+abbrev pub fault_text : RuleFault → List ℕ
+fault_text fault = fault_words fault ++ frequency_behind (fault_frequency fault)
+
+-- behind the part's name, if there is one
+abbrev pub in_front : Option RulePart → List ℕ
+in_front None = []
+in_front (Some part) = part_name part ++ codes ": "
+
+unfoldable pub error_text : RuleError → List ℕ
+error_text e = in_front e.part ++ fault_text e.fault
+
+-- known values: a text that lacks FREQ, one that has it twice, and the first of two parts that cannot be read
+unread_error-missing : unread_error (codes "COUNT=3") ≡ record { part = Some Freq; fault = Missing }
+unfolding unread_error is_read part_fault part_name
+unread_error-missing = refl
+
+unread_error-twice : unread_error (codes "FREQ=DAILY;freq=DAILY") ≡ record { part = Some Freq; fault = Twice }
+unfolding unread_error is_read part_fault part_name
+unread_error-twice = refl
+
+unread_error-first : unread_error (codes "FREQ=DAILY;WKST=XX;INTERVAL=0") ≡ record { part = Some Interval; fault = OutOfRange }
+unfolding unread_error is_read part_fault part_name value_fault number_fault frequency_of interval_of count_of
+unread_error-first = refl
+
+-- an UNTIL beside a COUNT
+part_fault-until : part_fault (codes "FREQ=DAILY;COUNT=3;UNTIL=19971224") Until ≡ BesideCount
+unfolding part_fault
+part_fault-until = refl
+
+-- a list by the first item that cannot be read: past its last number, without a digit, with nothing, and no weekday
+list_fault-past : value_fault ByMonthDay (codes "1,32,x") ≡ OutOfRange
+unfolding value_fault reads_item item_fault place_fault place_of number_of digits_of
+list_fault-past = refl
+
+list_fault-sign : value_fault BySetPos (codes "-") ≡ NotANumber
+unfolding value_fault reads_item item_fault place_fault place_of number_of digits_of
+list_fault-sign = refl
+
+list_fault-comma : value_fault ByMonth (codes "1,,13") ≡ Empty
+unfolding value_fault reads_item item_fault number_fault number_of digits_of
+list_fault-comma = refl
+
+list_fault-weekday : value_fault ByDay (codes "MO,2XX") ≡ NotAWeekday
+unfolding value_fault reads_item item_fault weekday_fault with_weekday_text with_weekday weekday_of_letters
+list_fault-weekday = refl
+
+list_fault-numbered : value_fault ByDay (codes "54MO") ≡ OutOfRange
+unfolding value_fault reads_item item_fault weekday_fault with_weekday_text with_weekday weekday_of_letters place_fault place_of number_of digits_of
+list_fault-numbered = refl
+
+-- days of the month in a rule by weeks
+unfit_error-month_day : unfit_error (record (plain Weekly) { month_days = record { digits = 8_192 } }) ≡ record { part = Some ByMonthDay; fault = NotWith Weekly }
+unfolding unfit_error has_month_days
+unfit_error-month_day = refl
+
+-- lines
+error_text-with : error_text (record { part = Some ByMonthDay; fault = NotWith Weekly }) ≡ codes "BYMONTHDAY: does not go with WEEKLY"
+unfolding error_text fault_words fault_frequency part_name frequency_text
+error_text-with = refl
+
+error_text-unknown : error_text (record { part = None; fault = Unknown }) ≡ codes "unknown part"
+unfolding error_text fault_words fault_frequency
+error_text-unknown = refl

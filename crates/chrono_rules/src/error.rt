@@ -1,0 +1,210 @@
+//! `RuleError`: what is wrong with a text that writes no rule, and in which of its parts.
+ghost use Rattle.std.specs.Prelude.{◌≡◌, ◌+◌, ◌≤◌, ◌++◌, Some, length};
+ghost use Rattle.chrono_rules.specs.RuleErrors.{error_text, fault_frequency, fault_text, fault_words, frequency_text, in_front, part_name};
+
+use crate::rule::Frequency;
+use chrono_text::Text;
+use std::fmt;
+
+// No line of an error is longer.
+const LONGEST: usize = 64;
+
+/// A part of a rule's text.
+#[derive(Clone, Copy, PartialEq, Eq, Debug)]
+pub enum RulePart {
+    /// What the rule's periods are (FREQ).
+    Freq,
+    /// Each how-many-th period counts (INTERVAL).
+    Interval,
+    /// How many instances there are (COUNT).
+    Count,
+    /// The last day (UNTIL).
+    Until,
+    /// Months (BYMONTH).
+    ByMonth,
+    /// Days of the month (BYMONTHDAY).
+    ByMonthDay,
+    /// Weekdays (BYDAY).
+    ByDay,
+    /// Days of the year (BYYEARDAY).
+    ByYearDay,
+    /// Weeks of the year (BYWEEKNO).
+    ByWeekNo,
+    /// Positions among the days of a period (BYSETPOS).
+    BySetPos,
+    /// The weekday on which weeks begin (WKST).
+    Wkst,
+}
+
+/// Why a text writes no rule.
+#[derive(Clone, Copy, PartialEq, Eq, Debug)]
+pub enum RuleFault {
+    /// A part has no name that rules over days have.
+    Unknown,
+    /// The part has to stand there, and does not.
+    Missing,
+    /// The part stands there more than once.
+    Twice,
+    /// Nothing stands behind its name, or nothing where an item of its list should.
+    Empty,
+    /// It is none of the four words of FREQ.
+    NotAFrequency,
+    /// It is not written by digits.
+    NotANumber,
+    /// It is a number that the part cannot have, or one of more digits than its numbers have.
+    OutOfRange,
+    /// It is no date of eight digits.
+    NotADate,
+    /// It does not end with a weekday's two letters.
+    NotAWeekday,
+    /// COUNT stands there, too.
+    BesideCount,
+    /// The part does not go with this FREQ.
+    NotWith(Frequency),
+    /// A weekday with a number does not go with this FREQ.
+    NumbersNotWith(Frequency),
+    /// A weekday with a number does not go with BYWEEKNO.
+    NumbersBesideWeeks,
+    /// No other list stands there.
+    Alone,
+}
+
+/// What is wrong with a text that writes no rule. It prints as one line: `BYMONTHDAY: does not go with WEEKLY`.
+#[derive(Clone, Copy, PartialEq, Eq, Debug)]
+pub struct RuleError {
+    /// The part that is wrong; `None` where a part has no name that rules have.
+    pub part: Option<RulePart>,
+    /// What is wrong with it.
+    pub fault: RuleFault,
+}
+
+impl RuleError {
+    // Puts the line behind a text.
+    #[tactic(auto, unfolding(crate::specs::RuleErrors::error_text))]
+    fn put_into<const N: usize>(&self, text: &mut Text<N>)
+        requires { length text.old + 64 ≤ N }
+        ensures text { text.new ≡ text.old ++ error_text self.now }
+        ensures fits { length text.new ≤ length text.old + 64 }
+    {
+        put_part(text, self.part);
+        put_fault(text, self.fault);
+    }
+}
+
+impl fmt::Display for RuleError {
+    ghost output = { λ e. Some (error_text e) };
+
+    ghost styled_output = { λ e _. Some (error_text e) };
+
+    /// Writes the part's name and what is wrong with it, as `BYMONTHDAY: does not go with WEEKLY`, whatever width or precision is asked for.
+    fn fmt<W: fmt::Write>(&self, f: &mut fmt::Formatter<W>) -> fmt::Result {
+        let mut text = Text::<LONGEST>::new();
+        self.put_into(&mut text);
+        text.print(f)
+    }
+}
+
+// Puts the part's name and a colon, if there is one.
+fn put_part<const N: usize>(text: &mut Text<N>, part: Option<RulePart>)
+    requires { length text.old + 12 ≤ N }
+    ensures text { text.new ≡ text.old ++ in_front part }
+    ensures fits { length text.new ≤ length text.old + 12 }
+{
+    if let Some(part) = part {
+        text.push_text(name_of(part).as_bytes());
+        text.push_text(b": ");
+    }
+}
+
+// Puts what is wrong with it.
+fn put_fault<const N: usize>(text: &mut Text<N>, fault: RuleFault)
+    requires { length text.old + 45 ≤ N }
+    ensures text { text.new ≡ text.old ++ fault_text fault }
+    ensures fits { length text.new ≤ length text.old + 45 }
+{
+    text.push_text(words_of(fault).as_bytes());
+    if let Some(frequency) = frequency_of(fault) {
+        text.push_text(frequency_name(frequency).as_bytes());
+    }
+}
+
+// What is wrong, without the word of FREQ behind it.
+#[tactic(auto, unfolding(crate::specs::RuleErrors::fault_words))]
+fn words_of(fault: RuleFault) -> &'static str
+    ensures words { result.now ≡ fault_words fault }
+    ensures short { length result.now ≤ 36 }
+{
+    match fault {
+        RuleFault::Unknown => "unknown part",
+        RuleFault::Missing => "missing",
+        RuleFault::Twice => "stands twice",
+        RuleFault::Empty => "empty",
+        RuleFault::NotAFrequency => "not DAILY, WEEKLY, MONTHLY or YEARLY",
+        RuleFault::NotANumber => "not a number",
+        RuleFault::OutOfRange => "number out of range",
+        RuleFault::NotADate => "not a date as 19971224",
+        RuleFault::NotAWeekday => "not a weekday as MO",
+        RuleFault::BesideCount => "does not go with COUNT",
+        RuleFault::NotWith(_) => "does not go with ",
+        RuleFault::NumbersNotWith(_) => "number does not go with ",
+        RuleFault::NumbersBesideWeeks => "number does not go with BYWEEKNO",
+        RuleFault::Alone => "needs another BY part",
+    }
+}
+
+// The word of FREQ that stands behind it.
+#[tactic(auto, unfolding(crate::specs::RuleErrors::fault_frequency))]
+fn frequency_of(fault: RuleFault) -> Option<Frequency>
+    ensures { result ≡ fault_frequency fault }
+{
+    match fault {
+        RuleFault::NotWith(frequency) | RuleFault::NumbersNotWith(frequency) => Some(frequency),
+        RuleFault::Unknown
+        | RuleFault::Missing
+        | RuleFault::Twice
+        | RuleFault::Empty
+        | RuleFault::NotAFrequency
+        | RuleFault::NotANumber
+        | RuleFault::OutOfRange
+        | RuleFault::NotADate
+        | RuleFault::NotAWeekday
+        | RuleFault::BesideCount
+        | RuleFault::NumbersBesideWeeks
+        | RuleFault::Alone => None,
+    }
+}
+
+// The part's name.
+#[tactic(auto, unfolding(crate::specs::RuleErrors::part_name))]
+pub(crate) fn name_of(part: RulePart) -> &'static str
+    ensures name { result.now ≡ part_name part }
+    ensures short { length result.now ≤ 10 }
+{
+    match part {
+        RulePart::Freq => "FREQ",
+        RulePart::Interval => "INTERVAL",
+        RulePart::Count => "COUNT",
+        RulePart::Until => "UNTIL",
+        RulePart::ByMonth => "BYMONTH",
+        RulePart::ByMonthDay => "BYMONTHDAY",
+        RulePart::ByDay => "BYDAY",
+        RulePart::ByYearDay => "BYYEARDAY",
+        RulePart::ByWeekNo => "BYWEEKNO",
+        RulePart::BySetPos => "BYSETPOS",
+        RulePart::Wkst => "WKST",
+    }
+}
+
+// The word of FREQ.
+#[tactic(auto, unfolding(crate::specs::RuleErrors::frequency_text))]
+pub(crate) fn frequency_name(frequency: Frequency) -> &'static str
+    ensures name { result.now ≡ frequency_text frequency }
+    ensures short { length result.now ≤ 7 }
+{
+    match frequency {
+        Frequency::Daily => "DAILY",
+        Frequency::Weekly => "WEEKLY",
+        Frequency::Monthly => "MONTHLY",
+        Frequency::Yearly => "YEARLY",
+    }
+}
