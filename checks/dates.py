@@ -2,7 +2,7 @@
 """The examples of docs/DATES.md and of each command's help, run as they stand, and what a pipe that closes early leaves.
 
 Builds `dates` by `rt run`, puts it on the path as `dates`, and compares output and exit status of each line behind `$`, but for spaces at a line's
-end. The man page and the completion of tools/shell have to be those that tools/dates_help.py makes of the help, and the completion has to complete.
+end and blank lines. The man page and the completion of tools/shell have to be those that tools/dates_help.py makes of the help, and the completion has to complete.
 """
 import os
 import subprocess
@@ -24,7 +24,7 @@ def examples(lines):
             found.append([line[2:].rstrip(), [], 0])
         elif line.startswith("status "):
             found[-1][2] = int(line.split()[1])
-        elif found:
+        elif found and line.strip():
             found[-1][1].append(line.rstrip())
     return found
 
@@ -58,7 +58,7 @@ def run(command, place):
     """What a command writes, its errors behind its output, and its status."""
     path = place + os.pathsep + os.environ["PATH"]
     ran = subprocess.run(["bash", "-c", command], env={**os.environ, "PATH": path}, capture_output=True, text=True, timeout=60)
-    return [line.rstrip() for line in (ran.stdout + ran.stderr).splitlines()], ran.returncode
+    return [line.rstrip() for line in (ran.stdout + ran.stderr).splitlines() if line.strip()], ran.returncode
 
 
 def main():

@@ -2,3 +2,5 @@ mod FarMoves
 mod MonthDistances
 mod Distances
 mod SpanWalks
+mod RowLemmas
+mod CellLemmas

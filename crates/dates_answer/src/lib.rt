@@ -2,6 +2,7 @@
 #![tactic(auto)]
 
 mod between;
+pub mod law;
 mod moves;
 mod row;
 mod sequence;

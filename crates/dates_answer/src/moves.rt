@@ -8,7 +8,7 @@ use chrono_datetime::{Datelike, NaiveDate};
 use dates_request::{Span, Unit};
 
 /// A span that leads out of the calendar, among spans one after another.
-#[derive(Clone, Copy, Debug, PartialEq, Eq)]
+#[derive(Clone, Copy)]
 pub struct Stop {
     /// Which of the spans it is, from 0 on.
     pub step: usize,
@@ -52,7 +52,10 @@ pub(crate) fn moved_by(date: NaiveDate, unit: Unit, count: i64) -> Option<NaiveD
 {
     prove!(date.num_days_from_ce() >= -95_746_129);
     prove!(date.num_days_from_ce() <= 95_745_399);
-    if count < -FAR || count > FAR {
+    if count < -FAR {
+        return None;
+    }
+    if count > FAR {
         return None;
     }
     match unit {

@@ -7,7 +7,7 @@ use chrono_text::Text;
 use std::fmt;
 
 /// A cell of a sheet.
-#[derive(Clone, Copy, Debug, PartialEq, Eq)]
+#[derive(Clone, Copy)]
 pub struct Cell {
     /// The day of the month, from 1 to 31; `None` where the cell is empty.
     pub day: Option<u32>,
@@ -16,7 +16,7 @@ pub struct Cell {
 }
 
 /// A row of a sheet, as `W09 26 27 28 29  1  2* 3*`: 25 bytes.
-#[derive(Clone, Copy, Debug, PartialEq, Eq)]
+#[derive(Clone, Copy)]
 pub struct SheetRow {
     /// The number of its ISO week.
     pub week: Option<u32>,

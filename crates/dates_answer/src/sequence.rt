@@ -8,7 +8,7 @@ use chrono_datetime::NaiveDate;
 use dates_request::{Span, Unit};
 
 /// The days from one to another by a span.
-#[derive(Clone, Copy, Debug, PartialEq, Eq)]
+#[derive(Clone, Copy)]
 pub struct Sequence {
     /// The first day.
     pub from: NaiveDate,

@@ -8,7 +8,7 @@ use chrono_business::Calendar;
 use chrono_datetime::{Datelike, NaiveDate, Weekday};
 
 /// A month as a sheet of seven columns: its weeks below one another.
-#[derive(Clone, Copy, Debug, PartialEq, Eq)]
+#[derive(Clone, Copy)]
 pub struct MonthSheet {
     /// A day of the month.
     pub month: NaiveDate,
@@ -18,12 +18,16 @@ pub struct MonthSheet {
 
 impl MonthSheet {
     /// The day in a row and a column, each counted from 0; `None` exactly where the cell is empty, since its day lies in another month.
-    #[tactic(auto, unfolding(crate::specs::Sheets::sheet_day))]
     pub fn day(self, row: u32, column: u32) -> Option<NaiveDate>
         ensures { result ≡ sheet_day self.month self.start row column }
     {
+        let first = self.month.first_day_of_month();
+        let last = self.month.last_day_of_month();
         let date = self.date(row, column)?;
-        if date < self.month.first_day_of_month() || date > self.month.last_day_of_month() {
+        if date < first {
+            return None;
+        }
+        if date > last {
             return None;
         }
         Some(date)

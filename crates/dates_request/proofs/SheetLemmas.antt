@@ -40,18 +40,20 @@ timed a b t e is = subst (λ c. IsSheetTime c t) e is
 abbrev pub time_read : SheetTime → Result SheetTime Wrong
 time_read t = Ok t
 
+abbrev year_read : ℤ → Result ℤ Wrong
+year_read y = Ok y
+
+pub same_year : (a b : ℤ) → year_read a ≡ year_read b → a ≡ b
+same_year a b e = cc
+
 -- a month, where the text names one, and else a year
 pub by_month : (text : List ℕ) (first : ℤ) (t : SheetTime) → IsMonthText text first → ((n : ℤ) → IsMonthText text n → Some first ≡ Some n) → IsSheetTime text t → time_read (Month first) ≡ time_read t
 by_month text first (Month n) read every is = ap (λ k. time_read (Month k)) (same_Some first n (every n is))
 by_month text first (Year y) read every is = absurd (is.no_month first read)
 
-pub by_year : (text : List ℕ) (year : ℤ) (t : SheetTime) → ((n : ℤ) → IsMonthText text n → None ≡ Some n) → ((y : ℤ) → IsYearText text y → Some year ≡ Some y) → IsSheetTime text t → time_read (Year year) ≡ time_read t
-by_year text year (Month n) none every is = absurd (none-some n (none n is))
-by_year text year (Year y) none every is = ap (λ k. time_read (Year k)) (same_Some year y (every y is.is_year))
-
-pub by_none : (text : List ℕ) (t : SheetTime) → ((n : ℤ) → IsMonthText text n → None ≡ Some n) → ((y : ℤ) → IsYearText text y → None ≡ Some y) → IsSheetTime text t → ⊥
-by_none text (Month n) none also is = none-some n (none n is)
-by_none text (Year y) none also is = none-some y (also y is.is_year)
+pub year_of_time : (text : List ℕ) (t : SheetTime) → ((n : ℤ) → IsMonthText text n → ⊥) → IsSheetTime text t → (y : ℤ) × IsYearText text y × (time_read (Year y) ≡ time_read t)
+year_of_time text (Month n) never is = absurd (never n is)
+year_of_time text (Year y) never is = (y, is.is_year, refl)
 
 pub no_month : (text : List ℕ) → ((n : ℤ) → IsMonthText text n → None ≡ Some n) → (n : ℤ) → IsMonthText text n → ⊥
 no_month text none n is = none-some n (none n is)

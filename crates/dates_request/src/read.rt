@@ -72,10 +72,8 @@ fn is_help_alone(words: &[&[u8]]) -> bool
 fn is_help(word: &[u8]) -> bool
     ensures { result ≡ bytes_eq word.now (codes "--help") }
 {
-    match word {
-        b"--help" => true,
-        _ => false,
-    }
+    let name: &[u8] = b"--help";
+    word == name
 }
 
 // What a command asks for with the words behind it.

@@ -1,5 +1,5 @@
 //! What is asked of a sheet of days: a month or a year, and options.
-ghost use Rattle.std.specs.Prelude.{◌≡◌, ℤ, ℕ, Ok, Some, IfOk, IfSome, bytes_eq, codes};
+ghost use Rattle.std.specs.Prelude.{◌≡◌, ℤ, Ok, Some, IfOk, IfSome, bytes_eq, codes};
 ghost use Rattle.dates_request.specs.Requests.{texts};
 ghost use Rattle.dates_request.specs.SheetRequests.{AreSheetOptions, GivesClosed, GivesStart, HasSheetValue, IsMonthText, IsSheet, IsSheetTime};
 ghost use Rattle.dates_request.specs.declared.request.Request.{Request};
@@ -9,10 +9,10 @@ ghost use Rattle.dates_request.specs.declared.sheet.SheetTime.{SheetTime};
 use crate::day::joined;
 use crate::options::{NO_OPTIONS, Options, option_at, weekday_named, without_value};
 use crate::request::Request;
+use crate::word::year_at;
 use crate::wrong::{Why, Wrong, wrong_at};
 use chrono_datetime::{NaiveDate, Weekday};
 use chrono_reading::read_date;
-use chrono_text::read_year;
 
 /// What a sheet shows.
 #[derive(Clone, Copy, Debug, PartialEq, Eq)]
@@ -62,12 +62,21 @@ fn time_at(place: usize, text: &[u8]) -> Result<SheetTime, Wrong>
     ensures read { IfOk result (λ t. IsSheetTime text.now t) }
     ensures every { (t : SheetTime) → IsSheetTime text.now t → result ≡ Ok t }
 {
-    if let Some(first) = read_month(text) {
-        return Ok(SheetTime::Month { first });
+    match read_month(text) {
+        Some(first) => Ok(SheetTime::Month { first }),
+        None => year_alone_at(place, text),
     }
-    match read_year(text) {
-        Some(year) => Ok(SheetTime::Year { year }),
-        None => Err(wrong_at(place, Why::Sheet)),
+}
+
+// The year that the word at this place names, which names no month.
+fn year_alone_at(place: usize, text: &[u8]) -> Result<SheetTime, Wrong>
+    requires { (n : ℤ) → ¬ IsMonthText text.now n }
+    ensures read { IfOk result (λ t. IsSheetTime text.now t) }
+    ensures every { (t : SheetTime) → IsSheetTime text.now t → result ≡ Ok t }
+{
+    match year_at(place, text) {
+        Ok(year) => Ok(SheetTime::Year { year }),
+        Err(_) => Err(wrong_at(place, Why::Sheet)),
     }
 }
 
@@ -120,10 +129,8 @@ fn of_sheet(wrong: Wrong) -> Wrong {
 fn is_start(name: &[u8]) -> bool
     ensures { result ≡ bytes_eq name.now (codes "--first") }
 {
-    match name {
-        b"--first" => true,
-        _ => false,
-    }
+    let first: &[u8] = b"--first";
+    name == first
 }
 
 // The option at this place and its value, with so many words behind it, together with those that are given.
