@@ -12,7 +12,6 @@ use crate::open::{answer_open, answer_roll};
 use crate::sequence::{answer_days, answer_sequence};
 use crate::sheet::answer_sheet;
 use crate::year::{answer_easter, answer_leap, answer_week};
-use dates_answer::Sequence;
 use dates_request::{Request, Unit};
 use std::alloc::Allocator;
 use std::io::{self, Eprint};
@@ -40,9 +39,7 @@ pub(crate) fn answer(
         Request::Distance { from, to } => answer_distance(rt, from, to, Unit::Days),
         Request::DistanceIn { from, to, unit } => answer_distance(rt, from, to, unit),
         Request::Sequence { from, to } => answer_days(rt, from, to),
-        Request::SequenceBy { from, to, step } => {
-            answer_sequence(rt, Sequence { from, to, step })
-        }
+        Request::SequenceBy { from, to, step } => answer_sequence(rt, from, to, step),
         Request::Week { first } => answer_week(rt, first),
         Request::Easter { year } => answer_easter(rt, year),
         Request::Leap { year } => answer_leap(rt, year),

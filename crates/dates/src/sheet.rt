@@ -40,13 +40,13 @@ pub(crate) fn answer_sheet(
     if whole_year {
         print_year(rt, month, start, &calendar)?;
     } else {
-        print_month(rt, MonthSheet { month, start }, &calendar)?;
+        print_month(rt, &MonthSheet { month, start }, &calendar)?;
     }
     Ok(ANSWERED)
 }
 
 // A month alone.
-fn print_month(rt: &impl Print, sheet: MonthSheet, calendar: &Calendar) -> io::Result<()> {
+fn print_month(rt: &impl Print, sheet: &MonthSheet, calendar: &Calendar) -> io::Result<()> {
     println!(rt; "    {} {}", name_of(sheet), sheet.month.year())?;
     println!(rt; "{}", heading(sheet.start))?;
     for row in 0..6 {
@@ -67,12 +67,10 @@ fn print_year(
     println!(rt; "{:>41}", first.year())?;
     for quarter in 0..4 {
         println!(rt; "")?;
-        let sheets = [
-            month_of(first, 3 * quarter, start),
-            month_of(first, 3 * quarter + 1, start),
-            month_of(first, 3 * quarter + 2, start),
-        ];
-        print_quarter(rt, sheets, calendar)?;
+        let left = month_of(first, 3 * quarter, start);
+        let middle = month_of(first, 3 * quarter + 1, start);
+        let right = month_of(first, 3 * quarter + 2, start);
+        print_quarter(rt, &left, &middle, &right, calendar)?;
     }
     Ok(())
 }
@@ -88,7 +86,9 @@ fn month_of(first: NaiveDate, months: i64, start: Weekday) -> MonthSheet {
 // Three months side by side.
 fn print_quarter(
     rt: &impl Print,
-    [left, middle, right]: [MonthSheet; 3],
+    left: &MonthSheet,
+    middle: &MonthSheet,
+    right: &MonthSheet,
     calendar: &Calendar,
 ) -> io::Result<()> {
     println!(rt;
@@ -113,7 +113,7 @@ fn print_quarter(
 }
 
 // The name of a sheet's month.
-fn name_of(sheet: MonthSheet) -> &'static str {
+fn name_of(sheet: &MonthSheet) -> &'static str {
     Month::from_u32(sheet.month.month()).map_or("", |month| month.name())
 }
 

@@ -80,6 +80,7 @@ pub record FoundAt (n k : ℤ) (P : ℤ → Type 0) : Type 0 where
 
 found_at : (o : Option ℤ) (n k : ℤ) (P : ℤ → Type 0) → o ≡ month_move n k → IsSomeAnd o P → FoundAt n k P
 found_at (Some m) n k P e p = record { day = m; is = sym e; known = p }
+found_at None n k P e p = elim p [ ]
 
 years_forth : (from to months z : ℤ) → IsDate from → IsDate to → from ≤ℤ to → IsWholePart (pos 12) months z → IsMostForth Months from to months → IsMostForth Years from to z
 unfolding unit_move
@@ -115,9 +116,9 @@ years from to months z date also whole most = record {
 
 -- division rounds towards 0
 pub sevenths : (d : ℤ) → IsWholePart (pos 7) d (int_div d (pos 7))
-sevenths (pos n) = record { forth = λ _. (omega (arith, signed), omega (arith, signed)); back = λ _. (omega (arith, signed), omega (arith, signed)) }
-sevenths (negsuc n) = record { forth = λ _. (omega (arith, signed), omega (arith, signed)); back = λ _. (omega (arith, signed), omega (arith, signed)) }
+sevenths (pos n) = record { forth = λ ge. (omega (arith, signed, ge), omega (arith, signed, ge)); back = λ le. (omega (arith, signed, le), omega (arith, signed, le)) }
+sevenths (negsuc n) = record { forth = λ ge. (omega (arith, signed, ge), omega (arith, signed, ge)); back = λ le. (omega (arith, signed, le), omega (arith, signed, le)) }
 
 pub twelfths : (d : ℤ) → IsWholePart (pos 12) d (int_div d (pos 12))
-twelfths (pos n) = record { forth = λ _. (omega (arith, signed), omega (arith, signed)); back = λ _. (omega (arith, signed), omega (arith, signed)) }
-twelfths (negsuc n) = record { forth = λ _. (omega (arith, signed), omega (arith, signed)); back = λ _. (omega (arith, signed), omega (arith, signed)) }
+twelfths (pos n) = record { forth = λ ge. (omega (arith, signed, ge), omega (arith, signed, ge)); back = λ le. (omega (arith, signed, le), omega (arith, signed, le)) }
+twelfths (negsuc n) = record { forth = λ ge. (omega (arith, signed, ge), omega (arith, signed, ge)); back = λ le. (omega (arith, signed, le), omega (arith, signed, le)) }

@@ -2,6 +2,7 @@
 use Rattle.std.proofs.Common.{◌≡◌, Option, Some, None, IsSome, IfSome, IsSomeAnd, refl, sym, ap, subst, ◌∙◌, arith, ℤ, pos, neg_ℤ, ◌+ℤ◌, ◌-ℤ◌, ◌*ℤ◌, ◌≤ℤ◌, ◌<ℤ◌}
 use Rattle.std.proofs.lemmas.Int.{by_lt_z}
 use Rattle.std.proofs.lemmas.Option.{same_Some}
+use Rattle.std.specs.Option.{unwrap_or}
 use Rattle.chrono_units.specs.Years.{IsYear}
 use Rattle.chrono_calendar.specs.Days.{IsDate, year_of, day_of}
 use Rattle.chrono_calendar.specs.MonthMoves.{month_index_of, year_of_month_index, month_move}
@@ -39,6 +40,7 @@ pub record Reaches (n k : ℤ) : Type 0 where
 
 reaches_if : (o : Option ℤ) (n k : ℤ) → o ≡ month_move n k → IsSome o → Reaches n k
 reaches_if (Some m) n k e some = record { day = m; is = sym e }
+reaches_if None n k e some = elim some [ ]
 
 -- so a move to such a month comes to a date
 pub reaches : (n k low high : ℤ) → IsDate low → IsDate high → month_index_of low ≤ℤ (month_index_of n +ℤ k) → (month_index_of n +ℤ k) ≤ℤ month_index_of high → Reaches n k
@@ -107,3 +109,22 @@ one_less_back from to z m date also lt e is past =
       most = λ more less. by_lt_z more z (λ further. before_month_of (month_move from more) from more to refl (omega (arith, signed, further, e)))
         (λ at. let same : more ≡ z = omega (arith, signed, at, less) in rw same (if_move from z m (λ k. k <ℤ to) is past));
     }
+
+-- by where the first day comes to, moved by all the months between
+pub forth_by : (from to z k : ℤ) (o : Option ℤ) → IsDate from → IsDate to → from ≤ℤ to → z ≡ month_index_of to -ℤ month_index_of from → o ≡ month_move from z → k ≡ unwrap_or o to
+    → (k ≤ℤ to → IsMostForth Months from to z) × (to <ℤ k → IsMostForth Months from to (z -ℤ pos 1))
+forth_by from to z k o date also le e is out =
+    let found = reaches from z from to date also (omega (arith, signed, e, forth from to z le e)) (omega (arith, signed, e)) in
+    let same : k ≡ found.day = out ∙ ap (λ p. unwrap_or p to) (is ∙ found.is) in (
+      (λ not_past. all_forth from to z found.day le e found.is (omega (arith, signed, not_past, same))),
+      (λ past. one_less_forth from to z found.day date also le e found.is (omega (arith, signed, past, same))),
+    )
+
+pub back_by : (from to z k : ℤ) (o : Option ℤ) → IsDate from → IsDate to → to <ℤ from → z ≡ month_index_of to -ℤ month_index_of from → o ≡ month_move from z → k ≡ unwrap_or o to
+    → (to ≤ℤ k → IsMostBack Months from to z) × (k <ℤ to → IsMostBack Months from to (z +ℤ pos 1))
+back_by from to z k o date also lt e is out =
+    let found = reaches from z to from also date (omega (arith, signed, e)) (omega (arith, signed, e, back from to z lt e)) in
+    let same : k ≡ found.day = out ∙ ap (λ p. unwrap_or p to) (is ∙ found.is) in (
+      (λ not_past. all_back from to z found.day lt e found.is (omega (arith, signed, not_past, same))),
+      (λ past. one_less_back from to z found.day date also lt e found.is (omega (arith, signed, past, same))),
+    )

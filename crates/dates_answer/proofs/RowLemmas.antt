@@ -17,3 +17,8 @@ one_more_cell cells k d h = ap cells_text (take_more cells k d h) ∙ cells_text
 
 pub one_more_ascii : (cells : List Cell) (k : ℕ) (d : Cell) → k < length cells → IsAscii (cells_text (take k cells)) → IsAscii (cell_text (get_or cells k d)) → IsAscii (cells_text (take (k + 1) cells))
 one_more_ascii cells k d h before here = subst IsAscii (sym (one_more_cell cells k d h)) (IsAscii-append (cells_text (take k cells)) (cell_text (get_or cells k d)) before here)
+
+pub one_more_text : (cells : List Cell) (k : ℕ) (d : Cell) (start text new : List ℕ) → k < length cells → text ≡ start ++ cells_text (take k cells) → new ≡ text ++ cell_text (get_or cells k d)
+    → new ≡ start ++ cells_text (take (k + 1) cells)
+one_more_text cells k d start text new h e g =
+    g ∙ ap (λ front. front ++ cell_text (get_or cells k d)) e ∙ append_assoc start (cells_text (take k cells)) (cell_text (get_or cells k d)) ∙ ap (λ rest. start ++ rest) (sym (one_more_cell cells k d h))

@@ -1,4 +1,3 @@
 pub mod Moves
 pub mod Distances
-pub mod Sequences
 pub mod Sheets

@@ -22,7 +22,7 @@ pub fn distance(from: NaiveDate, to: NaiveDate, unit: Unit) -> i64
 }
 
 // The days from one day to another.
-fn days_between(from: NaiveDate, to: NaiveDate) -> i64
+pub(crate) fn days_between(from: NaiveDate, to: NaiveDate) -> i64
     ensures is { result ≡ to -ℤ from }
     ensures first { IsDate from }
     ensures second { IsDate to }
@@ -49,36 +49,50 @@ fn years_between(from: NaiveDate, to: NaiveDate) -> i64
 fn months_between(from: NaiveDate, to: NaiveDate) -> i64
     ensures { IsUnitsBetween Months from to result }
 {
-    if to < from {
-        months_back(from, to)
+    let months = months_apart(from, to);
+    if days_between(from, to) < 0 {
+        months_back(from, to, months)
     } else {
-        months_forth(from, to)
+        months_forth(from, to, months)
     }
+}
+
+// The months from that of one day to that of another.
+fn months_apart(from: NaiveDate, to: NaiveDate) -> i64
+    ensures is { result ≡ month_index_of to -ℤ month_index_of from }
+    ensures low { neg_ℤ (pos 8_000_000) ≤ℤ result }
+    ensures high { result ≤ℤ pos 8_000_000 }
+{
+    month_index(to) - month_index(from)
 }
 
 // The whole months from one day to another that is not the earlier: those between their months, less one where the first day, moved
 // by them, is past the second.
-fn months_forth(from: NaiveDate, to: NaiveDate) -> i64
-    requires { from ≤ℤ to }
+fn months_forth(from: NaiveDate, to: NaiveDate, months: i64) -> i64
+    requires order { from ≤ℤ to }
+    requires is { months ≡ month_index_of to -ℤ month_index_of from }
+    requires low { neg_ℤ (pos 8_000_000) ≤ℤ months }
+    requires high { months ≤ℤ pos 8_000_000 }
     ensures { IsMostForth Months from to result }
 {
-    let months = month_index(to) - month_index(from);
-    let Some(reached) = from.moved_by_months(months) else {
-        return months;
-    };
-    if reached > to { months - 1 } else { months }
+    let reached = from.moved_by_months(months).unwrap_or(to);
+    prove!(days_between(from, to) >= 0);
+    let past = days_between(to, reached);
+    if past > 0 { months - 1 } else { months }
 }
 
 // The same back to an earlier day, as a number that is not above 0.
-fn months_back(from: NaiveDate, to: NaiveDate) -> i64
-    requires { to <ℤ from }
+fn months_back(from: NaiveDate, to: NaiveDate, months: i64) -> i64
+    requires order { to <ℤ from }
+    requires is { months ≡ month_index_of to -ℤ month_index_of from }
+    requires low { neg_ℤ (pos 8_000_000) ≤ℤ months }
+    requires high { months ≤ℤ pos 8_000_000 }
     ensures { IsMostBack Months from to result }
 {
-    let months = month_index(to) - month_index(from);
-    let Some(reached) = from.moved_by_months(months) else {
-        return months;
-    };
-    if reached < to { months + 1 } else { months }
+    let reached = from.moved_by_months(months).unwrap_or(to);
+    prove!(days_between(from, to) < 0);
+    let past = days_between(reached, to);
+    if past > 0 { months + 1 } else { months }
 }
 
 // The months before that of a day, from January of year 0 on.
@@ -86,7 +100,6 @@ fn month_index(date: NaiveDate) -> i64
     ensures is { result ≡ month_index_of date }
     ensures low { neg_ℤ (pos 4_000_000) ≤ℤ result }
     ensures high { result ≤ℤ pos 4_000_000 }
-    ensures date { IsDate date }
 {
     12 * i64::from(date.year()) + i64::from(date.month0())
 }

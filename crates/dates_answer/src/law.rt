@@ -3,7 +3,6 @@ ghost use Rattle.std.specs.Prelude.{◌≡◌, ◌∷◌, [], pos, neg_ℤ, Some
 ghost use Rattle.chrono_datetime.specs.declared.Weekday.TheVariants.{Mon, Sun};
 ghost use Rattle.dates_request.specs.declared.span.Unit.TheVariants.{Days, Months, Weeks, Years};
 ghost use Rattle.dates_answer.specs.Moves.{moved_from, unit_move};
-ghost use Rattle.dates_answer.specs.Sequences.{day_of_sequence};
 ghost use Rattle.dates_answer.specs.Sheets.{row_text, sheet_day};
 
 /// Days moved by spans, each day by its number: 31 January of the year 1 by a month is 28 February, 1 January by two weeks the 15th,
@@ -17,15 +16,6 @@ pub fn known_moves()
         ≡ Ok (pos 7) }
     ensures past { moved_from (record { count = neg_ℤ (pos 1); unit = Days } ∷ record { count = pos 2; unit = Days } ∷ []) 0 (pos 95_745_399)
         ≡ Err (record { step = 1; date = pos 95_745_398 }) }
-{}
-
-/// Days of sequences: from 31 January of the year 1 by a month to 28 February, back to 31 December, and none past the end.
-pub fn known_sequences()
-    ensures first { day_of_sequence (pos 31) (pos 31) (record { count = pos 1; unit = Months }) 0 ≡ Some (pos 31) }
-    ensures second { day_of_sequence (pos 31) (pos 59) (record { count = pos 1; unit = Months }) 1 ≡ Some (pos 59) }
-    ensures past { day_of_sequence (pos 31) (pos 58) (record { count = pos 1; unit = Months }) 1 ≡ None }
-    ensures back { day_of_sequence (pos 31) (pos 0) (record { count = neg_ℤ (pos 1); unit = Months }) 1 ≡ Some (pos 0) }
-    ensures past_back { day_of_sequence (pos 31) (pos 1) (record { count = neg_ℤ (pos 1); unit = Months }) 1 ≡ None }
 {}
 
 /// Cells of January of the year 1, which begins on a Monday, and a row.
