@@ -8,6 +8,8 @@ It needs crates/cron_rows/out/cron_rows, which `rt run` leaves there. A row `yea
 call, the making of the start and the sum included. A row `walk` of it does the same by trying one day of `iter_days` after another, but for a
 schedule that is never due, for which that goes to the end of the calendar. The best of seven runs counts, by processor time. The schedules that are due
 seldom begin a search at most of these starts, and the others mostly find the day's next minute.
+
+First the answers are compared: both rows with the sum that the reading of checks/cron.py counts, and each answer of croniter with that reading's.
 """
 import os
 import resource
@@ -38,21 +40,30 @@ def seconds_of(row):
     return best
 
 
-def croniter_nanos(text):
-    """Nanoseconds of a call of croniter from starts that lie over the year, or None where it gives no answer."""
+def are_answered(schedule, calls):
+    """Whether the program gives the sum of a year's next moments, by each of these calls, that the reading here counts."""
+    rows = "".join(f"{call} {schedule.words()} {FIRST} 0 0 = {schedule.year(FIRST)}\n" for call in calls)
+    ran = subprocess.run([PROGRAM], input=rows, text=True, stdout=subprocess.PIPE, check=True)
+    return ran.stdout == f"{len(calls)} lines, 0 of them answered otherwise\n"
+
+
+def croniter_nanos(text, schedule):
+    """Nanoseconds of a call of croniter from starts that lie over the year, or None where it gives no answer; and how many of its answers are others."""
     import datetime
 
     from croniter import croniter
 
     first = datetime.datetime(2024, 3, 1)
-    begun = time.process_time()
-    for call in range(CRONITER_CALLS):
-        start = first + datetime.timedelta(minutes=call * (MINUTES // CRONITER_CALLS))
+    starts = [call * (MINUTES // CRONITER_CALLS) for call in range(CRONITER_CALLS)]
+    answers, begun = [], time.process_time()
+    for start in starts:
         try:
-            croniter(text, start).get_next(datetime.datetime)
+            answers.append(croniter(text, first + datetime.timedelta(minutes=start)).get_next(datetime.datetime))
         except Exception:
-            return None
-    return (time.process_time() - begun) / CRONITER_CALLS * 1e9
+            return None, 0
+    nanos = (time.process_time() - begun) / CRONITER_CALLS * 1e9
+    counted = [schedule.next(FIRST + start // 1440, start % 1440 * 60, 0) - FIRST * 1440 for start in starts]
+    return nanos, sum(first + datetime.timedelta(minutes=here) != there for here, there in zip(counted, answers))
 
 
 def main():
@@ -67,16 +78,20 @@ def main():
     else:
         with_croniter = True
     for text in TEXTS:
-        words = Schedule(text).words()
+        schedule = Schedule(text)
+        words, calls = schedule.words(), ("year",) if schedule.is_never else ("year", "walk")
+        if not are_answered(schedule, calls):
+            print(f"{text:20} not measured, since it is answered otherwise")
+            return 1
         idle = seconds_of(f"due {words} {FIRST} 0 0")
         nanos = (seconds_of(f"year {words} {FIRST} 0 0") - idle) / MINUTES * 1e9
         line = f"{text:20} {nanos:8.1f} ns a call"
-        if not Schedule(text).is_never:
+        if not schedule.is_never:
             walk = (seconds_of(f"walk {words} {FIRST} 0 0") - idle) / MINUTES * 1e9
             line += f"; a walk {walk:,.1f} ns, {walk / nanos:,.2f} times as long"
         if with_croniter:
-            other = croniter_nanos(text)
-            line += "; croniter has no answer" if other is None else f"; croniter {other:,.0f} ns, {other / nanos:,.0f} times as long"
+            other, others = croniter_nanos(text, schedule)
+            line += "; croniter has no answer" if other is None else f"; croniter {other:,.0f} ns, {other / nanos:,.0f} times as long, {others} of {CRONITER_CALLS} answers others"
         print(line)
     return 0
 

@@ -7,6 +7,7 @@ A file of edits holds those of one source module: a line `file: src/PATH`, and t
   tools/plants.py [NAME ..]      the crates of these names, or all
   tools/plants.py --all ..       the edits of must-fail/ with them
   tools/plants.py --twins ..     the twins of both, which have to be proved
+  tools/plants.py --only WORD .. those alone whose names hold the word
   tools/plants.py --jobs N ..    N crates side by side; each takes one processor and 1 to 3 GB
 
 A twin is a right body in the shape of a wrong one: a line `same: TEXT` behind a line `new: TEXT`, put in the same place. Where it is proved,
@@ -60,8 +61,8 @@ def edits_at(folder):
             yield name.removesuffix(".edit"), it.read()
 
 
-def put_in_place(folder, with_edits):
-    """Writes the plants of a crate of the copy to where the kit looks for edits, and returns how many edits there are."""
+def put_in_place(folder, with_edits, word):
+    """Writes the plants of a crate of the copy to where the kit looks for edits, and returns how many edits with a word in their names there are."""
     plants, edits = f"{folder}/plants", f"{folder}/must-fail"
     if not with_edits:
         shutil.rmtree(edits, ignore_errors=True)
@@ -72,6 +73,9 @@ def put_in_place(folder, with_edits):
                 sys.exit(f"{folder}: two edits have the name {name}")
             with open(f"{edits}/{name}.edit", "w", encoding="utf-8") as it:
                 it.write(edit)
+    for name in os.listdir(edits) if os.path.isdir(edits) else []:
+        if word not in name:
+            os.remove(f"{edits}/{name}")
     return len(os.listdir(edits)) if os.path.isdir(edits) else 0
 
 
@@ -194,6 +198,7 @@ def main():
     words.add_argument("names", nargs="*", metavar="NAME")
     words.add_argument("--all", action="store_true")
     words.add_argument("--twins", action="store_true")
+    words.add_argument("--only", default="", metavar="WORD")
     words.add_argument("--jobs", type=int, default=1, metavar="N")
     asked = words.parse_args()
     os.chdir(TOP)
@@ -204,7 +209,7 @@ def main():
         lost = [it for it in asked.names if it not in crates]
         if lost:
             sys.exit(f"crates.txt has no crate {lost[0]}")
-        tried = {it: put_in_place(f"{copy}/crates/{it}", asked.all or asked.twins) for it in asked.names or crates}
+        tried = {it: put_in_place(f"{copy}/crates/{it}", asked.all or asked.twins, asked.only) for it in asked.names or crates}
         tried = {name: count for name, count in tried.items() if count}
         if asked.twins:
             twins = {name: found for name in tried if (found := twins_in(f"{copy}/crates/{name}"))}

@@ -24,11 +24,11 @@ no_sharp text at =
     no_nth (weekday_of_text (before 35 text)) (number_in Numbers 1 5 (behind 35 text)) (ap (number_in Numbers 1 5) empty ∙ number_in-nothing Numbers 1 5)
 
 -- the first item and those behind it, or the last
-items_first : (place : ℕ) (text : List ℕ) → position_or_len (λ x. x == 44) text ≡ place → place < length text → items_of text ≡ take place text ∷ items_of (drop (place + 1) text)
+pub items_first : (place : ℕ) (text : List ℕ) → position_or_len (λ x. x == 44) text ≡ place → place < length text → items_of text ≡ take place text ∷ items_of (drop (place + 1) text)
 items_first place text at less =
     slice_split_first (λ x. x == 44) text 0 (omega (arith, at, less)) ∙ ap (λ p. take p text ∷ slice_split (λ x. x == 44) (drop (p + 1) text)) at
 
-items_last : (place : ℕ) (text : List ℕ) → position_or_len (λ x. x == 44) text ≡ place → length text ≤ place → items_of text ≡ text ∷ []
+pub items_last : (place : ℕ) (text : List ℕ) → position_or_len (λ x. x == 44) text ≡ place → length text ≤ place → items_of text ≡ text ∷ []
 items_last place text at end =
     let lacks : All (λ x. (x == 44) ≡ false) text = λ k e m. fails_before_first (λ x. x == 44) text k e (omega (arith, at, end, m)) in
     slice_split_none (λ x. x == 44) text lacks

@@ -145,7 +145,7 @@ or_true : (b : Bool) → (b || true) ≡ true
 or_true true = refl
 or_true false = refl
 
-rest_is : (n d : ℕ) → n < d → n % d ≡ n
+pub rest_is : (n d : ℕ) → n < d → n % d ≡ n
 rest_is n d lt = grind arith
 
 no_step : (low high count k : ℕ) → k ≢ low → (k ≤ high → k < low + count) → is_by_steps low high count k ≡ false
@@ -203,7 +203,7 @@ pass_at test low end k pass from to =
 pub names_tested : (test : List ℕ → Bool) (naming : Naming) (set : NumberSet) (count n : ℕ) → pass_from (λ k. test (name_text naming k)) n (n + count) ≡ true → list_all test (names_from naming set count n) ≡ true
 names_tested test naming set count n pass = names_pass test naming set count n (λ k from to. pass_at (λ j. test (name_text naming j)) n (n + count) k pass from to)
 
-number_is : (k : ℕ) (number : Option ℕ) → is_number k number ≡ true → number ≡ Some k
+pub number_is : (k : ℕ) (number : Option ℕ) → is_number k number ≡ true → number ≡ Some k
 number_is k None is = absurd (false≢true is)
 number_is k (Some n) is = ap Some (sym (eqb-true k n is))
 

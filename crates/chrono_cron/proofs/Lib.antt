@@ -2,6 +2,7 @@ mod Again
 mod Digits
 mod DueLists
 mod FieldLemmas
+mod FaultLemmas
 mod FirstWrong
 mod Minutes
 mod MonthSets
@@ -14,6 +15,8 @@ mod ReadBack
 mod ScheduleBack
 mod WeekBack
 mod SameDues
+mod ToldBack
+mod ToldFields
 mod Steps
 mod WordLemmas
 mod DayLemmas

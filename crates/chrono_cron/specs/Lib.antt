@@ -4,6 +4,7 @@ pub mod ErrorTexts
 pub mod FieldTexts
 pub mod KnownMonthDays
 pub mod KnownSchedules
+pub mod PlacedWords
 pub mod ScheduleErrors
 pub mod ScheduleTexts
 pub mod Steps

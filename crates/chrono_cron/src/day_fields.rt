@@ -62,7 +62,9 @@ pub(crate) fn read_days(text: &[u8]) -> Option<NumberSet>
 pub(crate) fn read_weekdays(text: &[u8]) -> Option<NumberSet>
     ensures { (k : ℕ) → k < 64 → option_map (λ set. has set k) result ≡ weekdays_list text.now k }
 {
-    let set = read_other_items(text, Names::Weekdays, 0, 7)?;
+    let Some(set) = read_other_items(text, Names::Weekdays, 0, 7) else {
+        return None;
+    };
     Some(one_week(set))
 }
 
@@ -84,12 +86,16 @@ fn read_other_items(text: &[u8], names: Names, low: u32, high: u32) -> Option<Nu
     let mut rest = text;
     let mut len = place_of(rest, COMMA);
     while len < rest.len() {
-        let item = read_other_item(&rest[..len], names, low, high)?;
+        let Some(item) = read_other_item(&rest[..len], names, low, high) else {
+            return None;
+        };
         set = set.union(item);
         rest = text_behind(rest, len);
         len = place_of(rest, COMMA);
     }
-    let item = read_other_item(rest, names, low, high)?;
+    let Some(item) = read_other_item(rest, names, low, high) else {
+        return None;
+    };
     Some(set.union(item))
 }
 

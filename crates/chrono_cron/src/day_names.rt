@@ -10,7 +10,7 @@ use crate::names::Names;
 const SHARP: u8 = b'#';
 
 // A kind of name for days of a month.
-#[derive(Clone, Copy, PartialEq, Eq, Debug)]
+#[derive(Clone, Copy)]
 pub(crate) enum DayName {
     // `L` and `L-k`.
     FromEnd,
@@ -78,7 +78,10 @@ fn nearest_workday_of(text: &[u8]) -> Option<u32>
     ensures number { result ≡ nearest_workday_of text.now }
     ensures small { IfSome result (λ n. n < 64) }
 {
-    read_number(before_letter(text, b'w')?, Names::Numbers, 1, 31)
+    let Some(number) = before_letter(text, b'w') else {
+        return None;
+    };
+    read_number(number, Names::Numbers, 1, 31)
 }
 
 // `dL` as d: the weekday, from 0 for Sunday.
@@ -87,7 +90,10 @@ fn last_weekday_of(text: &[u8]) -> Option<u32>
     ensures number { result ≡ last_weekday_of text.now }
     ensures small { IfSome result (λ n. n < 64) }
 {
-    weekday_of_text(before_letter(text, b'l')?)
+    let Some(weekday) = before_letter(text, b'l') else {
+        return None;
+    };
+    weekday_of_text(weekday)
 }
 
 // `d#k` as 7 * (k - 1) + d.
@@ -100,8 +106,12 @@ fn nth_weekday_of(text: &[u8]) -> Option<u32>
     if len == text.len() {
         return None;
     }
-    let weekday = weekday_of_text(&text[..len])?;
-    let nth = read_number(text_behind(text, len), Names::Numbers, 1, 5)?;
+    let Some(weekday) = weekday_of_text(&text[..len]) else {
+        return None;
+    };
+    let Some(nth) = read_number(text_behind(text, len), Names::Numbers, 1, 5) else {
+        return None;
+    };
     Some(7 * (nth - 1) + weekday)
 }
 
@@ -126,7 +136,9 @@ fn weekday_of_text(text: &[u8]) -> Option<u32>
     ensures number { result ≡ weekday_of_text text.now }
     ensures small { IfSome result (λ d. d < 7) }
 {
-    let number = read_number(text, Names::Weekdays, 0, 7)?;
+    let Some(number) = read_number(text, Names::Weekdays, 0, 7) else {
+        return None;
+    };
     Some(number % 7)
 }
 

@@ -1,29 +1,23 @@
-//! Where the fault of a text stands that writes no schedule.
-ghost use Rattle.std.specs.Prelude.{◌≡◌, ◌≤◌, ◌<◌, length, None, Some};
+//! What is wrong with a field that cannot be read, and where in the text.
+ghost use Rattle.std.specs.Prelude.{◌≡◌, ◌+◌, ◌<◌, ◌≤◌, ◌^◌, length, Some, is_some};
+ghost use Rattle.chrono_cron.specs.FieldTexts.{item_lists};
+ghost use Rattle.chrono_cron.specs.ScheduleErrors.{error_at, fault_in, field_fault, greatest_of_field, is_item, item_fault, last_fault, least_of_field, names_days, names_of_field, number_fault, span_fault, step_fault, unspelled_fault};
 
-use crate::day_fields::read_other_item;
+use crate::day_names::{names_day, names_weekday};
 use crate::error::{ScheduleError, ScheduleFault, ScheduleField};
 use crate::field::{
     COMMA, DASH, SLASH, place_of, read_item, read_number, read_range, spelled_number, text_behind,
 };
 use crate::names::Names;
-use crate::words::{blank_place, is_blank};
+use crate::words::Word;
 
 impl ScheduleField {
-    // How many fields stand before it.
-    fn place(self) -> u32 {
-        match self {
-            ScheduleField::Minute => 0,
-            ScheduleField::Hour => 1,
-            ScheduleField::Day => 2,
-            ScheduleField::Month => 3,
-            ScheduleField::Weekday => 4,
-        }
-    }
-
     // The names that it has for its numbers, and the least and the greatest of these.
     fn numbers(self) -> (Names, u32, u32)
-        ensures { result.2 < 64 }
+        ensures names { result.0 ≡ names_of_field self }
+        ensures low { result.1 ≡ least_of_field self }
+        ensures high { result.2 ≡ greatest_of_field self }
+        ensures small { result.2 < 64 }
     {
         match self {
             ScheduleField::Minute => (Names::Numbers, 0, 59),
@@ -35,148 +29,159 @@ impl ScheduleField {
     }
 
     // Whether an item can be read in it.
-    fn has_item(self, item: &[u8]) -> bool {
+    #[tactic(auto, unfolding(crate::specs::ScheduleErrors::is_item))]
+    fn has_item(self, item: &[u8]) -> bool
+        ensures { result ≡ is_item self item.now }
+    {
         let (names, low, high) = self.numbers();
-        match self {
-            ScheduleField::Day | ScheduleField::Weekday => {
-                read_other_item(item, names, low, high).is_some()
-            }
-            _ => read_item(item, names, low, high).is_some(),
-        }
+        names_days(self, item) || lists_numbers(item, names, low, high)
     }
 }
 
-// The error of a text that has not five fields.
-pub(crate) fn text_error(text: &[u8]) -> ScheduleError
-    ensures field { result.field ≡ None }
-    ensures byte { result.byte ≤ length text.now }
+// Whether an item of a field names days.
+fn names_days(field: ScheduleField, item: &[u8]) -> bool
+    ensures { result ≡ names_days field item.now }
 {
-    let first = place_of_word(text, 0);
-    let sixth = place_of_word(text, 5);
-    let (byte, fault) = if first == text.len() {
-        (first, ScheduleFault::Empty)
-    } else if sixth < text.len() {
-        (sixth, ScheduleFault::TooManyFields)
-    } else if text[first] == b'@' && place_of_word(text, 1) == text.len() {
-        (first, ScheduleFault::UnknownNickname)
-    } else {
-        (text.len(), ScheduleFault::TooFewFields)
-    };
+    match field {
+        ScheduleField::Day => names_day(item),
+        ScheduleField::Weekday => names_weekday(item),
+        ScheduleField::Minute | ScheduleField::Hour | ScheduleField::Month => false,
+    }
+}
+
+// Whether an item lists numbers.
+fn lists_numbers(item: &[u8], names: Names, low: u32, high: u32) -> bool
+    requires { high < 64 }
+    ensures { result ≡ is_some (item_lists names low high item.now 0) }
+{
+    read_item(item, names, low, high).is_some()
+}
+
+// The error of a field that cannot be read.
+pub(crate) fn field_error(word: &Word, field: ScheduleField) -> ScheduleError
+    requires { word.now.place + length word.now.text.now < 2 ^ 64 }
+    ensures value { result ≡ error_at (Some field) (field_fault field (word.now.place, word.now.text.now)) }
+    ensures byte { result.byte ≤ word.now.place + length word.now.text.now }
+{
+    let (byte, fault) = field_fault(word, field);
     ScheduleError {
-        field: None,
+        field: Some(field),
         byte,
         fault,
     }
 }
 
-// The error of a text in which a field cannot be read.
-pub(crate) fn field_error(text: &[u8], field: ScheduleField) -> ScheduleError
-    ensures field { result.field ≡ Some field }
-    ensures byte { result.byte ≤ length text.now }
+// What is wrong with a field, and where: with its first item that cannot be read, or with the last.
+fn field_fault(word: &Word, field: ScheduleField) -> (usize, ScheduleFault)
+    requires { word.now.place + length word.now.text.now < 2 ^ 64 }
+    ensures value { result ≡ field_fault field (word.now.place, word.now.text.now) }
+    ensures within { result.0 ≤ word.now.place + length word.now.text.now }
 {
-    let begin = place_of_word(text, field.place());
-    let behind = &text[begin..];
-    let (place, fault) = fault_of_field(&behind[..blank_place(behind)], field);
-    ScheduleError {
-        field: Some(field),
-        byte: begin + place,
-        fault,
-    }
-}
-
-// Where a word of a text begins, by how many stand before it, or how long the text is if there is none.
-fn place_of_word(text: &[u8], number: u32) -> usize
-    ensures { result ≤ length text.now }
-{
-    let mut place = blanks_end(text, 0);
-    let mut left = number;
-    while left > 0 {
-        let len = blank_place(&text[place..]);
-        place = blanks_end(text, place + len);
-        left -= 1;
-    }
-    place
-}
-
-// Where the blanks end that stand at a place of a text.
-fn blanks_end(text: &[u8], from: usize) -> usize
-    requires { from ≤ length text.now }
-    ensures { result ≤ length text.now }
-{
-    let mut place = from;
-    while place < text.len() && is_blank(text[place]) {
-        place += 1;
-    }
-    place
-}
-
-// What is wrong with a field, and where in it: with its first item that cannot be read.
-fn fault_of_field(text: &[u8], field: ScheduleField) -> (usize, ScheduleFault)
-    ensures { result.0 ≤ length text.now }
-{
-    let (names, low, high) = field.numbers();
-    let mut rest = text;
+    let mut place = word.place;
+    let mut rest = word.text;
     let mut len = place_of(rest, COMMA);
-    while len < rest.len() && field.has_item(&rest[..len]) {
+    while len < rest.len() {
+        let item = &rest[..len];
+        if !field.has_item(item) {
+            return fault_in(item, place, field);
+        }
+        place += len + 1;
         rest = text_behind(rest, len);
         len = place_of(rest, COMMA);
     }
-    let (place, fault) = fault_of_item(&rest[..len], names, low, high);
-    (text.len() - rest.len() + place, fault)
+    fault_in(rest, place, field)
 }
 
-// What is wrong with an item, and where in it.
-fn fault_of_item(text: &[u8], names: Names, low: u32, high: u32) -> (usize, ScheduleFault)
+// What is wrong with an item that begins at a place, and where.
+fn fault_in(item: &[u8], place: usize, field: ScheduleField) -> (usize, ScheduleFault)
+    requires { place + length item.now < 2 ^ 64 }
+    ensures value { result ≡ fault_in field (place, item.now) }
+    ensures within { result.0 ≤ place + length item.now }
+{
+    let (names, low, high) = field.numbers();
+    let (before, fault) = item_fault(item, names, low, high);
+    (place + before, fault)
+}
+
+// What is wrong with an item, and behind how many of its bytes.
+fn item_fault(text: &[u8], names: Names, low: u32, high: u32) -> (usize, ScheduleFault)
     requires { high < 64 }
-    ensures { result.0 ≤ length text.now }
+    ensures value { result ≡ item_fault names low high text.now }
+    ensures within { result.0 ≤ length text.now }
 {
     let len = place_of(text, SLASH);
     let span = &text[..len];
     if len == text.len() {
-        return fault_of_span(span, names, low, high);
+        return span_fault(span, names, low, high);
     }
     if read_range(span, names, low, high).is_some() {
-        return (len + 1, fault_of_step(text_behind(text, len)));
+        return (len + 1, step_fault(text_behind(text, len)));
     }
     if read_number(span, names, low, high).is_some() {
         return (len, ScheduleFault::StepOfNumber);
     }
-    fault_of_span(span, names, low, high)
+    span_fault(span, names, low, high)
 }
 
-// What is wrong with a number or a range, and where in it.
-fn fault_of_span(text: &[u8], names: Names, low: u32, high: u32) -> (usize, ScheduleFault)
-    ensures { result.0 ≤ length text.now }
+// What is wrong with a number or a range, and behind how many of its bytes.
+fn span_fault(text: &[u8], names: Names, low: u32, high: u32) -> (usize, ScheduleFault)
+    ensures value { result ≡ span_fault names low high text.now }
+    ensures within { result.0 ≤ length text.now }
 {
     let len = place_of(text, DASH);
     let first = &text[..len];
-    if len == text.len() || read_number(first, names, low, high).is_none() {
-        return (0, fault_of_number(first, names));
+    let fault = (0, number_fault(first, names));
+    if len == text.len() {
+        return fault;
     }
-    let last = text_behind(text, len);
-    let fault = match read_number(last, names, low, high) {
-        Some(_) => ScheduleFault::RangeTurnedRound,
-        None => fault_of_number(last, names),
+    let Some(_) = read_number(first, names, low, high) else {
+        return fault;
     };
-    (len + 1, fault)
+    let last = text_behind(text, len);
+    (len + 1, last_fault(last, names, low, high))
+}
+
+// What is wrong with the end of a range whose beginning can be read.
+fn last_fault(text: &[u8], names: Names, low: u32, high: u32) -> ScheduleFault
+    ensures { result ≡ last_fault names low high text.now }
+{
+    if read_number(text, names, low, high).is_some() {
+        ScheduleFault::RangeTurnedRound
+    } else {
+        number_fault(text, names)
+    }
 }
 
 // What is wrong with a step.
-fn fault_of_step(text: &[u8]) -> ScheduleFault {
-    match spelled_number(text, Names::Numbers) {
-        Some(_) => ScheduleFault::StepOfZero,
-        None => fault_of_number(text, Names::Numbers),
+fn step_fault(text: &[u8]) -> ScheduleFault
+    ensures { result ≡ step_fault text.now }
+{
+    if spelled_number(text, Names::Numbers).is_some() {
+        ScheduleFault::StepOfZero
+    } else {
+        number_fault(text, Names::Numbers)
     }
 }
 
 // What is wrong with a text that is none of a field's numbers.
-fn fault_of_number(text: &[u8], names: Names) -> ScheduleFault {
+#[tactic(auto, unfolding(crate::specs::ScheduleErrors::number_fault))]
+fn number_fault(text: &[u8], names: Names) -> ScheduleFault
+    ensures { result ≡ number_fault names text.now }
+{
     if spelled_number(text, names).is_some() {
-        return ScheduleFault::OutOfRange;
+        ScheduleFault::OutOfRange
+    } else {
+        unspelled_fault(text)
     }
-    match text.first() {
-        None => ScheduleFault::Empty,
-        Some(first) if first.is_ascii_alphabetic() => ScheduleFault::UnknownName,
-        Some(_) => ScheduleFault::NotANumber,
+}
+
+// What is wrong with a text that spells no number.
+fn unspelled_fault(text: &[u8]) -> ScheduleFault
+    ensures { result ≡ unspelled_fault text.now }
+{
+    match text {
+        [] => ScheduleFault::Empty,
+        [first, ..] if first.is_ascii_alphabetic() => ScheduleFault::UnknownName,
+        _ => ScheduleFault::NotANumber,
     }
 }

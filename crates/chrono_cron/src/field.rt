@@ -32,12 +32,16 @@ pub fn read_field(text: &[u8], names: Names, low: u32, high: u32) -> Option<Numb
     let mut rest = text;
     let mut len = place_of(rest, COMMA);
     while len < rest.len() {
-        let item = read_item(&rest[..len], names, low, high)?;
+        let Some(item) = read_item(&rest[..len], names, low, high) else {
+            return None;
+        };
         set = set.union(item);
         rest = text_behind(rest, len);
         len = place_of(rest, COMMA);
     }
-    let item = read_item(rest, names, low, high)?;
+    let Some(item) = read_item(rest, names, low, high) else {
+        return None;
+    };
     Some(set.union(item))
 }
 
@@ -48,11 +52,17 @@ pub(crate) fn read_item(text: &[u8], names: Names, low: u32, high: u32) -> Optio
 {
     let len = place_of(text, SLASH);
     if len == text.len() {
-        let (first, last) = read_span(text, names, low, high)?;
+        let Some((first, last)) = read_span(text, names, low, high) else {
+            return None;
+        };
         return Some(NumberSet::by_steps(first, last, 1));
     }
-    let (first, last) = read_range(&text[..len], names, low, high)?;
-    let step = read_number(text_behind(text, len), Names::Numbers, 1, MOST)?;
+    let Some((first, last)) = read_range(&text[..len], names, low, high) else {
+        return None;
+    };
+    let Some(step) = read_number(text_behind(text, len), Names::Numbers, 1, MOST) else {
+        return None;
+    };
     Some(NumberSet::by_steps(first, last, step))
 }
 
@@ -81,8 +91,12 @@ pub(crate) fn read_range(text: &[u8], names: Names, low: u32, high: u32) -> Opti
     if len == text.len() {
         return None;
     }
-    let first = read_number(&text[..len], names, low, high)?;
-    let last = read_number(text_behind(text, len), names, first, high)?;
+    let Some(first) = read_number(&text[..len], names, low, high) else {
+        return None;
+    };
+    let Some(last) = read_number(text_behind(text, len), names, first, high) else {
+        return None;
+    };
     Some((first, last))
 }
 
@@ -99,7 +113,9 @@ pub(crate) fn read_number(text: &[u8], names: Names, low: u32, high: u32) -> Opt
     ensures low { IfSome result (λ n. low ≤ n) }
     ensures high { IfSome result (λ n. n ≤ high) }
 {
-    let number = spelled_number(text, names)?;
+    let Some(number) = spelled_number(text, names) else {
+        return None;
+    };
     if low <= number && number <= high {
         Some(number)
     } else {

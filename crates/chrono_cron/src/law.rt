@@ -98,3 +98,9 @@ pub fn written_fields_are_read(set: NumberSet)
 pub fn written_schedules_are_read(schedule: &Schedule)
     ensures { IsTold schedule.now.sets → IsScheduleText (schedule_text schedule.now.sets) schedule.now.sets }
 {}
+
+/// A schedule that is read is one that a text tells, whatever its text is: with numbers of its fields alone, with no empty field, and, where both fields
+/// of days have to match, with the 1st or Sunday listed. So it can be written, and what is written is read back as it was.
+pub fn read_schedules_are_told(text: &[u8], schedule: &Schedule)
+    ensures { IsScheduleText text.now schedule.now.sets → IsTold schedule.now.sets }
+{}

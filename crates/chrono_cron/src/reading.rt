@@ -1,17 +1,18 @@
 //! The reading of whole texts of schedules.
-ghost use Rattle.std.specs.Prelude.{◌≡◌, ◌↔◌, not, ◌&&◌, ◌==◌, ◌<◌, ◌≤◌, ℕ, length, slice_index, Some, Ok, IfSome, IfNone, IfOk, IfErr, IsErr};
-ghost use Rattle.chrono_cron.specs.ScheduleErrors.{IsChecked, wrong_field};
-ghost use Rattle.chrono_cron.specs.ScheduleTexts.{AreNumberSets, IsScheduleText, begins_with_star};
+ghost use Rattle.std.specs.Prelude.{◌≡◌, ◌≢◌, ◌↔◌, ◌∷◌, [], not, ◌&&◌, ◌==◌, ◌<◌, ◌≤◌, ℕ, List, length, slice_index, Some, Ok, IfSome, IfNone, IfOk, IfErr, IsErr};
+ghost use Rattle.chrono_cron.specs.PlacedWords.{placed_words};
+ghost use Rattle.chrono_cron.specs.ScheduleErrors.{IsChecked, first_wrong, schedule_error, wrong_field};
+ghost use Rattle.chrono_cron.specs.ScheduleTexts.{AreNumberSets, IsScheduleText, begins_with_star, fields_of};
 ghost use Rattle.chrono_cron.specs.declared.sets.Sets.{Sets};
 
 use crate::day_fields::{named_days, read_days, read_weekdays};
 use crate::error::{ScheduleError, ScheduleField};
-use crate::faults::{field_error, text_error};
+use crate::faults::field_error;
 use crate::field::read_field;
 use crate::names::Names;
 use crate::schedule::Schedule;
 use crate::sets::Sets;
-use crate::words::fields_of;
+use crate::words::{Fields, five_words, meaning_of, next_word};
 use std::str::FromStr;
 
 /// The schedule that the text writes, as `30 4 1,15 * mon-fri`; `None` exactly if it writes none.
@@ -40,26 +41,49 @@ pub fn check_schedule(text: &[u8]) -> Result<Schedule, ScheduleError>
     ensures read { IfOk result (λ s. IsScheduleText text.now s.sets) }
     ensures every { (s : Sets) → AreNumberSets s → IsScheduleText text.now s → result ≡ Ok (record { sets = s }) }
     ensures found { IsErr result ↔ ((s : Sets) → ¬ IsScheduleText text.now s) }
+    ensures error { IfErr result (λ e. e ≡ schedule_error text.now) }
     ensures field { IfErr result (λ e. wrong_field text.now ≡ e.field) }
     ensures byte { IfErr result (λ e. e.byte ≤ length text.now) }
 {
-    let Some(fields) = fields_of(text) else {
-        return Err(text_error(text));
+    match five_words(text) {
+        Ok(fields) => match read_fields(&fields) {
+            Ok(schedule) => Ok(schedule),
+            Err(field) => Err(field_error(&fields.word(field), field)),
+        },
+        Err(fault) => match read_nickname(text) {
+            Some(schedule) => Ok(schedule),
+            None => Err(ScheduleError {
+                field: None,
+                byte: fault.0,
+                fault: fault.1,
+            }),
+        },
+    }
+}
+
+// The schedule that five words write, or the first of them that cannot be read as its field.
+fn read_fields(fields: &Fields) -> Result<Schedule, ScheduleField>
+    ensures read { IfOk result (λ s. (text : List ℕ) → fields_of text ≡ fields.now.minute.text.now ∷ fields.now.hour.text.now
+        ∷ fields.now.day.text.now ∷ fields.now.month.text.now ∷ fields.now.weekday.text.now ∷ [] → IsScheduleText text s.sets) }
+    ensures sets { IfOk result (λ s. AreNumberSets s.sets) }
+    ensures wrong { IfErr result (λ field. first_wrong (fields.now.minute.text.now ∷ fields.now.hour.text.now
+        ∷ fields.now.day.text.now ∷ fields.now.month.text.now ∷ fields.now.weekday.text.now ∷ []) ≡ Some field) }
+{
+    let (day, weekday) = (fields.day.text, fields.weekday.text);
+    let Some(minutes) = read_field(fields.minute.text, Names::Numbers, 0, 59) else {
+        return Err(ScheduleField::Minute);
     };
-    let Some(minutes) = read_field(fields.minute, Names::Numbers, 0, 59) else {
-        return Err(field_error(text, ScheduleField::Minute));
+    let Some(hours) = read_field(fields.hour.text, Names::Numbers, 0, 23) else {
+        return Err(ScheduleField::Hour);
     };
-    let Some(hours) = read_field(fields.hour, Names::Numbers, 0, 23) else {
-        return Err(field_error(text, ScheduleField::Hour));
+    let Some(days) = read_days(day) else {
+        return Err(ScheduleField::Day);
     };
-    let Some(days) = read_days(fields.day) else {
-        return Err(field_error(text, ScheduleField::Day));
+    let Some(months) = read_field(fields.month.text, Names::Months, 1, 12) else {
+        return Err(ScheduleField::Month);
     };
-    let Some(months) = read_field(fields.month, Names::Months, 1, 12) else {
-        return Err(field_error(text, ScheduleField::Month));
-    };
-    let Some(weekdays) = read_weekdays(fields.weekday) else {
-        return Err(field_error(text, ScheduleField::Weekday));
+    let Some(weekdays) = read_weekdays(weekday) else {
+        return Err(ScheduleField::Weekday);
     };
     Ok(Schedule {
         sets: Sets {
@@ -68,10 +92,32 @@ pub fn check_schedule(text: &[u8]) -> Result<Schedule, ScheduleError>
             days,
             months,
             weekdays,
-            month_days: named_days(fields.day, fields.weekday),
-            either: is_either_enough(fields.day, fields.weekday),
+            month_days: named_days(day, weekday),
+            either: is_either_enough(day, weekday),
         },
     })
+}
+
+// The schedule of a text that is not five words: of a nickname.
+fn read_nickname(text: &[u8]) -> Option<Schedule>
+    requires { (a b c d e : ℕ × List ℕ) → placed_words 0 text.now ≢ a ∷ b ∷ c ∷ d ∷ e ∷ [] }
+    ensures read { IfSome result (λ s. IsScheduleText text.now s.sets) }
+    ensures sets { IfSome result (λ s. AreNumberSets s.sets) }
+    ensures none { IfNone result ((s : Sets) → ¬ IsScheduleText text.now s) }
+{
+    let Some(word) = next_word(text, 0) else {
+        return None;
+    };
+    if let Some(_) = next_word(text, word.end()) {
+        return None;
+    }
+    match five_words(meaning_of(word.text)) {
+        Ok(fields) => match read_fields(&fields) {
+            Ok(schedule) => Some(schedule),
+            Err(_) => None,
+        },
+        Err(_) => None,
+    }
 }
 
 impl FromStr for Schedule {

@@ -68,8 +68,15 @@ impl Schedule {
         if let Some(minute) = self.sets.first_on(date, begun + 1) {
             return Some(NaiveDateTime::new(date, beginning(minute)));
         }
-        let minute = self.sets.first_minute(0)?;
-        let day = self.sets.first_day(date.moved_by_days(1)?)?;
+        let Some(minute) = self.sets.first_minute(0) else {
+            return None;
+        };
+        let Some(next) = date.moved_by_days(1) else {
+            return None;
+        };
+        let Some(day) = self.sets.first_day(next) else {
+            return None;
+        };
         Some(NaiveDateTime::new(day, beginning(minute)))
     }
 
@@ -86,8 +93,15 @@ impl Schedule {
         if let Some(minute) = self.sets.last_on(date, begun_before(start.time())) {
             return Some(NaiveDateTime::new(date, beginning(minute)));
         }
-        let minute = self.sets.last_minute(MINUTES_PER_DAY)?;
-        let day = self.sets.last_day(date.moved_by_days(-1)?)?;
+        let Some(minute) = self.sets.last_minute(MINUTES_PER_DAY) else {
+            return None;
+        };
+        let Some(previous) = date.moved_by_days(-1) else {
+            return None;
+        };
+        let Some(day) = self.sets.last_day(previous) else {
+            return None;
+        };
         Some(NaiveDateTime::new(day, beginning(minute)))
     }
 

@@ -152,7 +152,9 @@ impl Sets {
         if !self.months.contains(month) {
             return None;
         }
-        let first = self.listed_in_month(date).first_in(day, 32)?;
+        let Some(first) = self.listed_in_month(date).first_in(day, 32) else {
+            return None;
+        };
         NaiveDate::from_ymd_opt(year, month, first)
     }
 
@@ -171,7 +173,9 @@ impl Sets {
         if let Some(later) = self.months.first_in(month + 1, 13) {
             return NaiveDate::from_ymd_opt(year, later, 1);
         }
-        let first = self.months.first_in(1, 13)?;
+        let Some(first) = self.months.first_in(1, 13) else {
+            return None;
+        };
         NaiveDate::from_ymd_opt(year + 1, first, 1)
     }
 
@@ -189,7 +193,10 @@ impl Sets {
             if let Some(first) = self.first_in_month(month) {
                 return Some(first);
             }
-            month = self.next_month(month)?;
+            let Some(next) = self.next_month(month) else {
+                return None;
+            };
+            month = next;
         }
         None
     }
@@ -237,7 +244,9 @@ impl Sets {
         if !self.months.contains(month) {
             return None;
         }
-        let last = self.listed_in_month(date).last_in(1, day + 1)?;
+        let Some(last) = self.listed_in_month(date).last_in(1, day + 1) else {
+            return None;
+        };
         NaiveDate::from_ymd_opt(year, month, last)
     }
 
@@ -254,11 +263,17 @@ impl Sets {
         dates_are_days_of_years();
         let (year, month, _) = date.year_month_day();
         if let Some(earlier) = self.months.last_in(1, month) {
-            let first = NaiveDate::from_ymd_opt(year, earlier, 1)?;
+            let Some(first) = NaiveDate::from_ymd_opt(year, earlier, 1) else {
+                return None;
+            };
             return Some(first.last_day_of_month());
         }
-        let last = self.months.last_in(1, 13)?;
-        let first = NaiveDate::from_ymd_opt(year - 1, last, 1)?;
+        let Some(last) = self.months.last_in(1, 13) else {
+            return None;
+        };
+        let Some(first) = NaiveDate::from_ymd_opt(year - 1, last, 1) else {
+            return None;
+        };
         Some(first.last_day_of_month())
     }
 
@@ -275,7 +290,10 @@ impl Sets {
             if let Some(last) = self.last_in_month(month) {
                 return Some(last);
             }
-            month = self.previous_month(month)?;
+            let Some(previous) = self.previous_month(month) else {
+                return None;
+            };
+            month = previous;
         }
         None
     }
@@ -314,7 +332,9 @@ impl Sets {
         if !self.hours.contains(hour) {
             return None;
         }
-        let minute = self.minutes.first_in(from % MINUTES, MINUTES)?;
+        let Some(minute) = self.minutes.first_in(from % MINUTES, MINUTES) else {
+            return None;
+        };
         Some(hour * MINUTES + minute)
     }
 
@@ -331,8 +351,12 @@ impl Sets {
         if let Some(first) = self.first_in_hour(from) {
             return Some(first);
         }
-        let minute = self.minutes.first_in(0, MINUTES)?;
-        let hour = self.hours.first_in(from / MINUTES + 1, HOURS)?;
+        let Some(minute) = self.minutes.first_in(0, MINUTES) else {
+            return None;
+        };
+        let Some(hour) = self.hours.first_in(from / MINUTES + 1, HOURS) else {
+            return None;
+        };
         Some(hour * MINUTES + minute)
     }
 
@@ -352,7 +376,9 @@ impl Sets {
         if !self.hours.contains(hour) {
             return None;
         }
-        let minute = self.minutes.last_in(0, end % MINUTES)?;
+        let Some(minute) = self.minutes.last_in(0, end % MINUTES) else {
+            return None;
+        };
         Some(hour * MINUTES + minute)
     }
 
@@ -368,8 +394,12 @@ impl Sets {
         if let Some(last) = self.last_in_hour(end) {
             return Some(last);
         }
-        let minute = self.minutes.last_in(0, MINUTES)?;
-        let hour = self.hours.last_in(0, end / MINUTES)?;
+        let Some(minute) = self.minutes.last_in(0, MINUTES) else {
+            return None;
+        };
+        let Some(hour) = self.hours.last_in(0, end / MINUTES) else {
+            return None;
+        };
         Some(hour * MINUTES + minute)
     }
 

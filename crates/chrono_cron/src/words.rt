@@ -1,58 +1,96 @@
 //! The words of a schedule's text, and the five of them that are its fields.
-ghost use Rattle.std.specs.Prelude.{◌≡◌, ◌≢◌, ◌≤◌, ◌∷◌, [], ℕ, List, length, drop, IfSome, IfNone};
+ghost use Rattle.std.specs.Prelude.{◌≡◌, ◌≢◌, ◌+◌, ◌<◌, ◌≤◌, ◌^◌, ◌∷◌, [], ℕ, List, length, drop, slice_index, false, IfSome, IfNone, IfOk, IfErr};
 ghost use Rattle.std.specs.List.{position_or_len};
 ghost use Rattle.std.specs.Str.{bytes_eq};
-ghost use Rattle.chrono_cron.specs.ScheduleTexts.{fields_of, is_blank, meaning_of, words};
+ghost use Rattle.chrono_cron.specs.PlacedWords.{first_word, placed_words};
+ghost use Rattle.chrono_cron.specs.ScheduleErrors.{one_word_fault, place_of_field, words_fault};
+ghost use Rattle.chrono_cron.specs.ScheduleTexts.{is_blank, meaning_of};
 
-use crate::field::text_behind;
+use crate::error::{ScheduleFault, ScheduleField};
 
-// The texts of the five fields.
+// A word of a text, and where in the text it begins.
+#[derive(Clone, Copy)]
+pub(crate) struct Word<'a> {
+    pub(crate) place: usize,
+    pub(crate) text: &'a [u8],
+}
+
+impl Word<'_> {
+    // Where the word ends.
+    pub(crate) fn end(&self) -> usize
+        requires { self.now.place + length self.now.text.now < 2 ^ 64 }
+        ensures { result ≡ self.now.place + length self.now.text.now }
+    {
+        self.place + self.text.len()
+    }
+}
+
+// The words of the five fields.
 #[derive(Clone, Copy)]
 pub(crate) struct Fields<'a> {
-    pub(crate) minute: &'a [u8],
-    pub(crate) hour: &'a [u8],
-    pub(crate) day: &'a [u8],
-    pub(crate) month: &'a [u8],
-    pub(crate) weekday: &'a [u8],
+    pub(crate) minute: Word<'a>,
+    pub(crate) hour: Word<'a>,
+    pub(crate) day: Word<'a>,
+    pub(crate) month: Word<'a>,
+    pub(crate) weekday: Word<'a>,
 }
 
-// The five fields of a text, or those that its one word stands for; `None` exactly if there are more or fewer.
-pub(crate) fn fields_of(text: &[u8]) -> Option<Fields<'_>>
-    ensures some { IfSome result (λ f. fields_of text.now ≡
-        f.minute.now ∷ f.hour.now ∷ f.day.now ∷ f.month.now ∷ f.weekday.now ∷ []) }
-    ensures none { IfNone result ((a b c d e : List ℕ) → fields_of text.now ≢ a ∷ b ∷ c ∷ d ∷ e ∷ []) }
-{
-    five_words(spelled_out(text))
+impl<'a> Fields<'a> {
+    // The word of a field.
+    pub(crate) fn word(&self, field: ScheduleField) -> Word<'a>
+        ensures word { first_word (drop (place_of_field field) ((self.now.minute.place, self.now.minute.text.now)
+            ∷ (self.now.hour.place, self.now.hour.text.now) ∷ (self.now.day.place, self.now.day.text.now)
+            ∷ (self.now.month.place, self.now.month.text.now) ∷ (self.now.weekday.place, self.now.weekday.text.now) ∷ []))
+            ≡ (result.place, result.text.now) }
+        ensures within { (end : ℕ) → self.now.minute.place + length self.now.minute.text.now ≤ end
+            → self.now.hour.place + length self.now.hour.text.now ≤ end → self.now.day.place + length self.now.day.text.now ≤ end
+            → self.now.month.place + length self.now.month.text.now ≤ end → self.now.weekday.place + length self.now.weekday.text.now ≤ end
+            → result.place + length result.text.now ≤ end }
+    {
+        match field {
+            ScheduleField::Minute => self.minute,
+            ScheduleField::Hour => self.hour,
+            ScheduleField::Day => self.day,
+            ScheduleField::Month => self.month,
+            ScheduleField::Weekday => self.weekday,
+        }
+    }
 }
 
-// A text of the five words that a text's one word stands for, or the text itself.
-fn spelled_out(text: &[u8]) -> &[u8]
-    ensures { words result.now ≡ fields_of text.now }
+// The five words of a text, or what is wrong with them, and where, if there are more or fewer.
+pub(crate) fn five_words(text: &[u8]) -> Result<Fields<'_>, (usize, ScheduleFault)>
+    ensures five { IfOk result (λ f. placed_words 0 text.now ≡
+        (f.minute.place, f.minute.text.now) ∷ (f.hour.place, f.hour.text.now) ∷ (f.day.place, f.day.text.now)
+        ∷ (f.month.place, f.month.text.now) ∷ (f.weekday.place, f.weekday.text.now) ∷ []) }
+    ensures minute { IfOk result (λ f. f.minute.place + length f.minute.text.now ≤ length text.now) }
+    ensures hour { IfOk result (λ f. f.hour.place + length f.hour.text.now ≤ length text.now) }
+    ensures day { IfOk result (λ f. f.day.place + length f.day.text.now ≤ length text.now) }
+    ensures month { IfOk result (λ f. f.month.place + length f.month.text.now ≤ length text.now) }
+    ensures weekday { IfOk result (λ f. f.weekday.place + length f.weekday.text.now ≤ length text.now) }
+    ensures fault { IfErr result (λ fault. fault ≡ words_fault (length text.now) (placed_words 0 text.now)) }
+    ensures within { IfErr result (λ fault. fault.0 ≤ length text.now) }
+    ensures others { IfErr result (λ _. (a b c d e : ℕ × List ℕ) → placed_words 0 text.now ≢ a ∷ b ∷ c ∷ d ∷ e ∷ []) }
 {
-    let Some((word, rest)) = next_word(text) else {
-        return text;
+    let too_few = (text.len(), ScheduleFault::TooFewFields);
+    let Some(minute) = next_word(text, 0) else {
+        return Err((text.len(), ScheduleFault::Empty));
     };
-    match next_word(rest) {
-        None => meaning_of(word),
-        Some(_) => text,
+    let Some(hour) = next_word(text, minute.end()) else {
+        return Err(one_word_fault(text.len(), &minute));
+    };
+    let Some(day) = next_word(text, hour.end()) else {
+        return Err(too_few);
+    };
+    let Some(month) = next_word(text, day.end()) else {
+        return Err(too_few);
+    };
+    let Some(weekday) = next_word(text, month.end()) else {
+        return Err(too_few);
+    };
+    if let Some(sixth) = next_word(text, weekday.end()) {
+        return Err((sixth.place, ScheduleFault::TooManyFields));
     }
-}
-
-// The five words of a text; `None` exactly if there are more or fewer.
-fn five_words(text: &[u8]) -> Option<Fields<'_>>
-    ensures some { IfSome result (λ f. words text.now ≡
-        f.minute.now ∷ f.hour.now ∷ f.day.now ∷ f.month.now ∷ f.weekday.now ∷ []) }
-    ensures none { IfNone result ((a b c d e : List ℕ) → words text.now ≢ a ∷ b ∷ c ∷ d ∷ e ∷ []) }
-{
-    let (minute, rest) = next_word(text)?;
-    let (hour, rest) = next_word(rest)?;
-    let (day, rest) = next_word(rest)?;
-    let (month, rest) = next_word(rest)?;
-    let (weekday, rest) = next_word(rest)?;
-    if next_word(rest).is_some() {
-        return None;
-    }
-    Some(Fields {
+    Ok(Fields {
         minute,
         hour,
         day,
@@ -61,28 +99,66 @@ fn five_words(text: &[u8]) -> Option<Fields<'_>>
     })
 }
 
-// The first word of a text, and the text behind it; `None` exactly if there is no word.
-fn next_word(text: &[u8]) -> Option<(&[u8], &[u8])>
-    ensures some { IfSome result (λ found. words text.now ≡ found.0.now ∷ words found.1.now) }
-    ensures none { IfNone result (words text.now ≡ []) }
+// What is wrong with a word that is all of a text with this end, and where.
+fn one_word_fault(end: usize, word: &Word) -> (usize, ScheduleFault)
+    requires { word.now.place ≤ end }
+    ensures fault { result ≡ one_word_fault end (word.now.place, word.now.text.now) }
+    ensures within { result.0 ≤ end }
 {
-    let mut rest = text;
-    let mut len = blank_place(rest);
-    while len < rest.len() {
-        if len > 0 {
-            return Some((&rest[..len], text_behind(rest, len)));
+    if word.text.first() == Some(&b'@') {
+        (word.place, ScheduleFault::UnknownNickname)
+    } else {
+        (end, ScheduleFault::TooFewFields)
+    }
+}
+
+// The first word of a text that begins at a place or behind it; `None` exactly if there is none.
+pub(crate) fn next_word(text: &[u8], from: usize) -> Option<Word<'_>>
+    requires { from ≤ length text.now }
+    ensures some { IfSome result (λ w. placed_words from (drop from text.now)
+        ≡ (w.place, w.text.now) ∷ placed_words (w.place + length w.text.now) (drop (w.place + length w.text.now) text.now)) }
+    ensures within { IfSome result (λ w. w.place + length w.text.now ≤ length text.now) }
+    ensures none { IfNone result (placed_words from (drop from text.now) ≡ []) }
+{
+    let place = blanks_end(text, from);
+    let behind = text_from(text, place);
+    let len = blank_place(behind);
+    if len == 0 {
+        return None;
+    }
+    Some(Word {
+        place,
+        text: &behind[..len],
+    })
+}
+
+// What a text has from a place on.
+fn text_from(text: &[u8], place: usize) -> &[u8]
+    requires { place ≤ length text.now }
+    ensures { result.now ≡ drop place text.now }
+{
+    &text[place..]
+}
+
+// Where the blanks end that stand at a place of a text.
+fn blanks_end(text: &[u8], from: usize) -> usize
+    requires { from ≤ length text.now }
+    ensures within { result ≤ length text.now }
+    ensures passed { placed_words from (drop from text.now) ≡ placed_words result (drop result text.now) }
+    ensures end { result < length text.now → is_blank (slice_index text.now result) ≡ false }
+{
+    let mut place = from;
+    while place < text.len() {
+        if !is_blank(text[place]) {
+            return place;
         }
-        rest = text_behind(rest, len);
-        len = blank_place(rest);
+        place += 1;
     }
-    if len > 0 {
-        return Some((rest, b""));
-    }
-    None
+    place
 }
 
 // Where the first blank stands, or how long the text is if there is none.
-pub(crate) fn blank_place(text: &[u8]) -> usize
+fn blank_place(text: &[u8]) -> usize
     ensures within { result ≤ length text.now }
     ensures place { position_or_len is_blank text.now ≡ result }
 {
@@ -97,7 +173,7 @@ pub(crate) fn blank_place(text: &[u8]) -> usize
 }
 
 // Whether a byte is a space or a tab.
-pub(crate) fn is_blank(byte: u8) -> bool
+fn is_blank(byte: u8) -> bool
     ensures { result ≡ is_blank byte }
 {
     byte == b' ' || byte == b'\t'
@@ -105,7 +181,7 @@ pub(crate) fn is_blank(byte: u8) -> bool
 
 // The five fields that a nickname stands for, or the word itself if it is none.
 #[tactic(auto, unfolding(crate::specs::ScheduleTexts::meaning_of))]
-fn meaning_of(word: &[u8]) -> &[u8]
+pub(crate) fn meaning_of(word: &[u8]) -> &[u8]
     ensures { result.now ≡ meaning_of word.now }
 {
     if is_text(word, b"@yearly") || is_text(word, b"@annually") {

@@ -4,8 +4,12 @@ mod Cycles
 mod DayLists
 mod Digits
 mod ErrorLines
+mod GivenDays
+mod Kept
 mod Moments
 mod Passed
 mod PieceLemmas
+mod RecurrenceWalks
+mod RisingLists
 mod Skipped
 mod Walks

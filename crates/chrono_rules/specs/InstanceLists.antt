@@ -1,5 +1,5 @@
 -- The instances of a rule, one after another.
-use Rattle.std.specs.Prelude.{ℕ, ◌+◌, nat_lt, Bool, true, List, filter, ℤ}
+use Rattle.std.specs.Prelude.{◌≡◌, ℕ, ◌+◌, nat_lt, Bool, true, false, List, filter, ℤ, ◌≤ℤ◌}
 use Rattle.chrono_datetime.specs.DateLists.{days_from}
 use Rattle.chrono_datetime.specs.Recurrence.{count_between}
 use Rattle.chrono_rules.specs.Instances.{is_instance, is_member}
@@ -28,3 +28,8 @@ unfoldable pub seen_with : End → ℕ → ℕ
 seen_with Never seen = seen
 seen_with (Until u) seen = seen
 seen_with (Count c) seen = seen + 1
+
+-- a walk at the day n has seen as many members as came before it, or so many that no instance is left from it on
+pub record IsKept (r : Rule) (start n : ℤ) (seen : ℕ) : Type 0 where
+  pub counted : may_follow r.end seen ≡ true → seen ≡ seen_before r.end r start n
+  pub ended : may_follow r.end seen ≡ false → (d : ℤ) → n ≤ℤ d → is_instance r start d ≡ false

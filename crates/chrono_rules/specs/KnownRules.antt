@@ -1,7 +1,10 @@
 -- Words for rules whose instances are known.
+use Rattle.std.specs.Prelude.{ℕ, List, [], ◌∷◌, ℤ}
 use Rattle.chrono_datetime.specs.declared.Weekday.{Weekday}
-use Rattle.chrono_rules.specs.declared.rule.End.TheVariants.{Count}
-use Rattle.chrono_rules.specs.declared.rule.Frequency.TheVariants.{Daily, Weekly}
+use Rattle.chrono_datetime.specs.declared.Weekday.TheVariants.{Mon}
+use Rattle.chrono_rules.specs.declared.rule.End.TheVariants.{Count, Never, Until}
+use Rattle.chrono_rules.specs.declared.rule.Frequency.{Frequency}
+use Rattle.chrono_rules.specs.declared.rule.Frequency.TheVariants.{Daily, Monthly, Weekly, Yearly}
 use Rattle.chrono_rules.specs.declared.rule.Rule.{Rule}
 use Rattle.chrono_rules.specs.Instances.{no_numbers, no_places, no_weekdays, plain}
 
@@ -12,3 +15,27 @@ fortnightly start = record { frequency = Weekly; interval = 2; end = Count 4; mo
 -- FREQ=DAILY;INTERVAL=10;COUNT=5
 abbrev pub daily : Rule
 daily = record { frequency = Daily; interval = 10; end = Count 5; months = no_numbers; month_days = no_numbers; month_days_from_end = no_numbers; weekdays = no_weekdays; year_days = no_places; year_days_from_end = no_places; weeks = no_numbers; weeks_from_end = no_numbers; positions = no_places; positions_from_end = no_places; week_start = (plain Daily).week_start }
+
+-- FREQ=YEARLY with BYWEEKNO from the front and from the back, BYDAY and WKST, each list by its digits
+abbrev pub by_weeks : Weekday → ℕ → ℕ → ℕ → Rule
+by_weeks start front back days = record { frequency = Yearly; interval = 1; end = Never; months = no_numbers; month_days = no_numbers; month_days_from_end = no_numbers; weekdays = record { every = record { digits = days }; front = no_weekdays.front; back = no_weekdays.back }; year_days = no_places; year_days_from_end = no_places; weeks = record { digits = front }; weeks_from_end = record { digits = back }; positions = no_places; positions_from_end = no_places; week_start = start }
+
+-- FREQ=YEARLY with INTERVAL and BYYEARDAY from the front and from the back
+abbrev pub by_year_days : ℕ → List ℕ → List ℕ → Rule
+by_year_days years front back = record { frequency = Yearly; interval = years; end = Never; months = no_numbers; month_days = no_numbers; month_days_from_end = no_numbers; weekdays = no_weekdays; year_days = record { words = front }; year_days_from_end = record { words = back }; weeks = no_numbers; weeks_from_end = no_numbers; positions = no_places; positions_from_end = no_places; week_start = Mon }
+
+-- a FREQ with BYMONTH and numbered weekdays from the front and from the back
+abbrev pub by_weekdays : Frequency → ℕ → List ℕ → List ℕ → Rule
+by_weekdays frequency months front back = record { frequency = frequency; interval = 1; end = Never; months = record { digits = months }; month_days = no_numbers; month_days_from_end = no_numbers; weekdays = record { every = no_numbers; front = front; back = back }; year_days = no_places; year_days_from_end = no_places; weeks = no_numbers; weeks_from_end = no_numbers; positions = no_places; positions_from_end = no_places; week_start = Mon }
+
+-- a FREQ with BYMONTH, and BYMONTHDAY from the front and from the back
+abbrev pub by_month_days : Frequency → ℕ → ℕ → ℕ → Rule
+by_month_days frequency months front back = record { frequency = frequency; interval = 1; end = Never; months = record { digits = months }; month_days = record { digits = front }; month_days_from_end = record { digits = back }; weekdays = no_weekdays; year_days = no_places; year_days_from_end = no_places; weeks = no_numbers; weeks_from_end = no_numbers; positions = no_places; positions_from_end = no_places; week_start = Mon }
+
+-- FREQ=MONTHLY with BYDAY, and BYSETPOS from the front and from the back
+abbrev pub by_positions : ℕ → ℕ → ℕ → Rule
+by_positions days front back = record { frequency = Monthly; interval = 1; end = Never; months = no_numbers; month_days = no_numbers; month_days_from_end = no_numbers; weekdays = record { every = record { digits = days }; front = no_weekdays.front; back = no_weekdays.back }; year_days = no_places; year_days_from_end = no_places; weeks = no_numbers; weeks_from_end = no_numbers; positions = record { words = front ∷ 0 ∷ 0 ∷ 0 ∷ 0 ∷ 0 ∷ [] }; positions_from_end = record { words = back ∷ 0 ∷ 0 ∷ 0 ∷ 0 ∷ 0 ∷ [] }; week_start = Mon }
+
+-- FREQ=DAILY with UNTIL
+abbrev pub daily_until : ℤ → Rule
+daily_until last = record { frequency = Daily; interval = 1; end = Until last; months = no_numbers; month_days = no_numbers; month_days_from_end = no_numbers; weekdays = no_weekdays; year_days = no_places; year_days_from_end = no_places; weeks = no_numbers; weeks_from_end = no_numbers; positions = no_places; positions_from_end = no_places; week_start = Mon }

@@ -4,5 +4,6 @@ pub mod Instances
 pub mod KnownRules
 pub mod Pieces
 pub mod Places
+pub mod RecurrenceSets
 pub mod RuleErrors
 pub mod RuleTexts

@@ -11,7 +11,7 @@ use std::iter::FusedIterator;
 use std::marker::Model;
 
 // The number after that of the last date.
-const PAST_LAST_DAY: i32 = 95_745_400;
+pub(crate) const PAST_LAST_DAY: i32 = 95_745_400;
 
 /// The instances of a rule from a start on, in order and each once, up to the last in the calendar. From [`Rule::instances`] and
 /// [`Rule::instances_from`].
@@ -65,7 +65,7 @@ impl Rule {
 
     // Where the rule has COUNT, how many members come before the day.
     #[tactic(auto, unfolding(crate::specs::InstanceLists::seen_before))]
-    fn seen_before(&self, start: NaiveDate, day: NaiveDate) -> u32
+    pub(crate) fn seen_before(&self, start: NaiveDate, day: NaiveDate) -> u32
         ensures value { result ≡ seen_before self.now.end self.now start day }
         ensures few { result ≤ dates_before day }
     {
@@ -79,7 +79,7 @@ impl Rule {
     // Whether a member may follow so many.
     #[inline]
     #[tactic(auto, unfolding(crate::specs::InstanceLists::may_follow))]
-    fn may_follow(&self, seen: u32) -> bool
+    pub(crate) fn may_follow(&self, seen: u32) -> bool
         ensures { result ≡ may_follow self.now.end seen }
     {
         match self.end {
@@ -92,7 +92,7 @@ impl Rule {
     // What is kept of the past behind one more member.
     #[inline]
     #[tactic(auto, unfolding(crate::specs::InstanceLists::seen_with))]
-    fn seen_with(&self, seen: u32) -> u32
+    pub(crate) fn seen_with(&self, seen: u32) -> u32
         requires { seen ≤ 1_000_000_000 }
         ensures { result ≡ seen_with self.now.end seen }
     {

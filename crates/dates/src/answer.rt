@@ -9,6 +9,7 @@ use crate::help::{answer_help, answer_help_of};
 use crate::lines::answer_lines;
 use crate::moved::answer_move;
 use crate::open::{answer_open, answer_roll};
+use crate::recurring::{Wanted, answer_instances};
 use crate::sequence::{answer_days, answer_sequence};
 use crate::sheet::answer_sheet;
 use crate::year::{answer_easter, answer_leap, answer_week};
@@ -56,5 +57,8 @@ pub(crate) fn answer(
         Request::Next { from, count } => answer_due(rt, from, count, Way::On, words),
         Request::Prev { from, count } => answer_due(rt, from, count, Way::Back, words),
         Request::Sheet { time, options } => answer_sheet(rt, words, time, options),
+        Request::Instances { start, from, most } => {
+            answer_instances(rt, Wanted { start, from, most }, words)
+        }
     }
 }

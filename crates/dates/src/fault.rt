@@ -49,6 +49,9 @@ fn refuse_word(rt: &(impl Print + Eprint), word: &str, wrong: Wrong) -> io::Resu
         Why::Amount => refuse_form(rt, place, word, "a number from 1 on"),
         Why::From => refuse_form(rt, place, word, "--from and a date-time"),
         Why::DueOption => refuse_form(rt, place, word, "--from or --count, each once"),
+        Why::Rule => refuse_form(rt, place, word, "a rule as FREQ=MONTHLY;BYDAY=-1FR"),
+        Why::Start => refuse_form(rt, place, word, "--start and a day"),
+        Why::RuleOption => refuse_form(rt, place, word, "--start, --from or --count, each once"),
         Why::Value => refuse_form(rt, place, word, "a value of the option"),
         Why::Sheet => refuse_form(rt, place, word, "a month as 2024-02 or a year as 2024"),
         Why::SheetOption => refuse_form(rt, place, word, SHEET_OPTIONS),
@@ -79,7 +82,7 @@ fn refuse_day(rt: &(impl Print + Eprint), place: usize, word: &str, why: NoDay) 
 // What stands where a day does.
 fn day_or_command(place: usize) -> &'static str {
     if place == 1 {
-        "a day as 2024-02-29, add, diff, seq, week, easter, leap, open, roll, check, next, prev or cal"
+        "a day as 2024-02-29, add, diff, seq, week, easter, leap, open, roll, check, next, prev, cal or rule"
     } else {
         "a day as 2024-02-29, 2024-060 or 2024-W09-4"
     }

@@ -154,6 +154,19 @@ const PREV: Help = Help {
         2024-02-29T00:00:00",
 };
 
+const RULE: Help = Help {
+    name: "rule",
+    words: "RRULE --start DAY [OPTION..]",
+    answers: "the instances of a recurrence rule",
+    more: "An RRULE is written as RFC 5545 writes it.\n\
+        --start DAY      from which day on it recurs\n\
+        --from DAY       from which day on its instances are wanted; --start where it is not given\n\
+        --count N        how many at most",
+    example: "$ dates rule 'FREQ=MONTHLY;BYDAY=-1FR' --start 2024-01-01 --count 2\n\
+        2024-01-26\n\
+        2024-02-23",
+};
+
 const CAL: Help = Help {
     name: "cal",
     words: "MONTH|YEAR [OPTION..]",
@@ -173,8 +186,8 @@ const CAL: Help = Help {
 };
 
 // Every command, in the order of the help.
-const COMMANDS: [Help; 14] = [
-    DAY, LINES, ADD, DIFF, SEQ, WEEK, EASTER, LEAP, OPEN, ROLL, CHECK, NEXT, PREV, CAL
+const COMMANDS: [Help; 15] = [
+    DAY, LINES, ADD, DIFF, SEQ, WEEK, EASTER, LEAP, OPEN, ROLL, CHECK, NEXT, PREV, RULE, CAL
 ];
 
 // The commands, a line each; the exit status.
@@ -221,6 +234,7 @@ fn help_of(command: Command) -> Option<Help> {
         Command::Check => Some(CHECK),
         Command::Next => Some(NEXT),
         Command::Prev => Some(PREV),
+        Command::Rule => Some(RULE),
         Command::Cal => Some(CAL),
     }
 }

@@ -13,6 +13,7 @@ mod lines;
 mod moved;
 mod open;
 mod ordinal_name;
+mod recurring;
 mod sequence;
 mod sheet;
 mod year;

@@ -1,5 +1,6 @@
 -- How many whole months lie between two days: those between their months, or one less.
 use Rattle.std.proofs.Common.{◌≡◌, Option, Some, None, IsSome, IfSome, IsSomeAnd, refl, sym, ap, subst, ◌∙◌, arith, ℤ, pos, neg_ℤ, ◌+ℤ◌, ◌-ℤ◌, ◌*ℤ◌, ◌≤ℤ◌, ◌<ℤ◌}
+use Rattle.std.proofs.lemmas.Bool.{false≢true}
 use Rattle.std.proofs.lemmas.Int.{by_lt_z}
 use Rattle.std.proofs.lemmas.Option.{same_Some}
 use Rattle.std.specs.Option.{unwrap_or}
@@ -40,7 +41,7 @@ pub record Reaches (n k : ℤ) : Type 0 where
 
 reaches_if : (o : Option ℤ) (n k : ℤ) → o ≡ month_move n k → IsSome o → Reaches n k
 reaches_if (Some m) n k e some = record { day = m; is = sym e }
-reaches_if None n k e some = elim some [ ]
+reaches_if None n k e some = absurd (false≢true some)
 
 -- so a move to such a month comes to a date
 pub reaches : (n k low high : ℤ) → IsDate low → IsDate high → month_index_of low ≤ℤ (month_index_of n +ℤ k) → (month_index_of n +ℤ k) ≤ℤ month_index_of high → Reaches n k

@@ -2,7 +2,9 @@ mod CalendarOptionLemmas
 mod DayLemmas
 mod DueLemmas
 mod HelpLemmas
+mod FormLemmas
 mod OptionLemmas
+mod RuleLemmas
 mod SpanLemmas
 mod WeekLemmas
 mod WordLemmas

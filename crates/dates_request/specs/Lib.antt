@@ -1,4 +1,5 @@
 pub mod DayTexts
+pub mod FormTexts
 pub mod SpanTexts
 pub mod OptionTexts
 pub mod OpenRequests
@@ -7,4 +8,5 @@ pub mod Options
 pub mod DueRequests
 pub mod YearTexts
 pub mod SheetRequests
+pub mod RuleRequests
 pub mod Requests

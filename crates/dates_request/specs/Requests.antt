@@ -6,6 +6,7 @@ use Rattle.dates_request.specs.DayTexts.{NamesDay}
 use Rattle.dates_request.specs.DueRequests.{IsOfSchedule}
 use Rattle.dates_request.specs.OpenRequests.{IsOpen, IsRoll}
 use Rattle.dates_request.specs.SheetRequests.{IsSheet}
+use Rattle.dates_request.specs.RuleRequests.{IsRecurrence}
 use Rattle.dates_request.specs.SpanTexts.{IsSpanText}
 use Rattle.dates_request.specs.YearTexts.{IsYearText}
 use Rattle.dates_request.specs.declared.span.Span.{Span}
@@ -38,6 +39,7 @@ command_named word =
     else if bytes_eq word (codes "next") then Some command.Next
     else if bytes_eq word (codes "prev") then Some command.Prev
     else if bytes_eq word (codes "cal") then Some command.Cal
+    else if bytes_eq word (codes "rule") then Some command.Rule
     else None
 
 -- a text of the week that begins on the day n: the week date of n but for its `-1` (ISO 8601)
@@ -163,6 +165,7 @@ HasArguments command.Check words r = IsCheck words r
 HasArguments command.Next words r = IsOfSchedule request.Next words r
 HasArguments command.Prev words r = IsOfSchedule request.Prev words r
 HasArguments command.Cal words r = IsSheet words r
+HasArguments command.Rule words r = IsRecurrence words r
 
 -- the words are `--help` alone
 unfoldable pub is_help_alone : List (List ℕ) → Bool

@@ -35,6 +35,8 @@ pub enum Command {
     Prev,
     /// `cal`: a month or a year as a sheet.
     Cal,
+    /// `rule`: the instances of a recurrence rule.
+    Rule,
 }
 
 // The command that the word names.
@@ -58,6 +60,7 @@ pub(crate) fn command_named(word: &[u8]) -> Option<Command>
         b"next" => Some(Command::Next),
         b"prev" => Some(Command::Prev),
         b"cal" => Some(Command::Cal),
+        b"rule" => Some(Command::Rule),
         _ => None,
     }
 }

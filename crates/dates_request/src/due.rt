@@ -25,7 +25,7 @@ pub(crate) fn due(words: &[&[u8]]) -> Result<(NaiveDateTime, u64), Wrong>
     }
     let names: [&[u8]; 2] = [b"--from", b"--count"];
     if let Some(left) = words_from_no_option(&names, options) {
-        return Err(no_option(&names, options, left));
+        return Err(no_option(&names, options, left, Why::DueOption));
     }
     let from = from_of(options)?;
     let count = count_of(options)?;
@@ -44,13 +44,13 @@ fn writes_schedule(word: &[u8]) -> bool
 }
 
 // The fault where so many words are left from the first on that is no option: it is no such name, or has no value.
-fn no_option(names: &[&[u8]], options: &[&[u8]], left: usize) -> Wrong {
+pub(crate) fn no_option(names: &[&[u8]], options: &[&[u8]], left: usize, why: Why) -> Wrong {
     let place = place_of(options, left);
     match options.last() {
         Some(word) if left == 1 && is_one_of(word, names) => {
             wrong_at(place.saturating_add(1), Why::Value)
         }
-        _ => wrong_at(place, Why::DueOption),
+        _ => wrong_at(place, why),
     }
 }
 
@@ -83,7 +83,7 @@ fn count_of(options: &[&[u8]]) -> Result<u64, Wrong>
 }
 
 // The number from 1 on that the text writes.
-fn read_amount(text: &[u8]) -> Option<u64>
+pub(crate) fn read_amount(text: &[u8]) -> Option<u64>
     ensures read { IfSome result (λ n. IsAmountText text.now n) }
     ensures every { (n : ℕ) → IsAmountText text.now n → result ≡ Some n }
 {
@@ -95,6 +95,6 @@ fn read_amount(text: &[u8]) -> Option<u64>
 }
 
 // The place of the option's word from which on so many are left; options begin behind a command and one word more.
-fn place_of(options: &[&[u8]], left: usize) -> usize {
+pub(crate) fn place_of(options: &[&[u8]], left: usize) -> usize {
     options.len().saturating_sub(left).saturating_add(3)
 }

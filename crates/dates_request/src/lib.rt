@@ -4,11 +4,13 @@
 mod command;
 mod day;
 mod due;
+mod form;
 mod moment;
 mod open;
 mod option;
 mod options;
 mod read;
+mod recurrence;
 mod request;
 mod sheet;
 mod span;
@@ -18,6 +20,7 @@ mod wrong;
 
 pub use command::Command;
 pub use day::{NoDay, read_day};
+pub use form::{Form, form_of};
 pub use moment::read_moment;
 pub use open::Convention;
 pub use options::{HolidayCalendar, Options};

@@ -10,6 +10,7 @@ use crate::command::{Command, command_named};
 use crate::day::NoDay;
 use crate::due::due;
 use crate::open::{open, roll};
+use crate::recurrence::recurrence;
 use crate::request::Request;
 use crate::sheet::sheet_asked;
 use crate::span::read_span;
@@ -97,6 +98,7 @@ fn other_arguments(command: Command, words: &[&[u8]]) -> Result<Request, Wrong>
         Command::Next => next(words),
         Command::Prev => prev(words),
         Command::Cal => sheet_asked(words),
+        Command::Rule => recurrence(words),
     }
 }
 

@@ -117,4 +117,13 @@ pub enum Request {
         /// On which weekday its weeks begin, and which days are closed.
         options: SheetOptions,
     },
+    /// The instances of the recurrence rule that the second word writes.
+    Instances {
+        /// The day from which on it recurs.
+        start: NaiveDate,
+        /// The day from which on they are wanted.
+        from: NaiveDate,
+        /// How many at most, from 1 on; all of them where it is `None`.
+        most: Option<u64>,
+    },
 }

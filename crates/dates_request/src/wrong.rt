@@ -50,6 +50,12 @@ pub enum Why {
     From,
     /// `--from` or `--count`, each once.
     DueOption,
+    /// A recurrence rule.
+    Rule,
+    /// The option `--start`, which has to be given.
+    Start,
+    /// `--start`, `--from` or `--count`, each once.
+    RuleOption,
     /// The value of an option.
     Value,
     /// A month or a year.

@@ -6,11 +6,11 @@ use Rattle.chrono_cron.specs.ScheduleTexts.{names_by, other_items}
 use Rattle.chrono_cron.proofs.DayLemmas.{others_first, others_last, step_last, step_none, step_some}
 use Rattle.chrono_cron.proofs.day_fields.read_other_items.Goals as goal
 
-pub returns-in_err-item : goal.returns-in_err-item
-returns-in_err-item c = λ k lt.
-    let is = sym (c.read_other_item.ensures k lt) ∙ ap (option_map (λ s. has s k)) c.in_err-item.was in
+pub returns-in_default : goal.returns-in_default
+returns-in_default c = λ k lt.
+    let is = sym (c.read_other_item.ensures k lt) ∙ ap (option_map (λ s. has s k)) c.in_default.is in
     let first = others_first (names_by c.args.names) c.args.names c.args.low c.args.high c.loop-len.len c.loop-len.rest.now k c.loop-len.invariant.place (omega (arith, c.loop-len-test.true)) in
-    rw c.from_residual.ensures (sym (step_none _ _ _ _ (has c.loop-len.set k) (c.loop-len.invariant.so_far k lt) first is))
+    (sym (step_none _ _ _ _ (has c.loop-len.set k) (c.loop-len.invariant.so_far k lt) first is))
 
 pub loop-len-preserved : goal.loop-len-preserved
 loop-len-preserved c = record {
@@ -20,21 +20,21 @@ loop-len-preserved c = record {
       let names = c.args.names in
       let low = c.args.low in
       let high = c.args.high in
-      let is = sym (c.read_other_item.ensures k lt) ∙ ap (option_map (λ s. has s k)) c.in_ok-item.was in
+      let is = sym (c.read_other_item.ensures k lt) ∙ ap (option_map (λ s. has s k)) c.in-Some.is in
       let first = others_first (names_by names) names low high c.loop-len.len c.loop-len.rest.now k c.loop-len.invariant.place (omega (arith, c.loop-len-test.true)) in
-      step_some _ _ _ _ (has c.loop-len.set k) (has c.in_ok-item.item k) (c.loop-len.invariant.so_far k lt) first is
+      step_some _ _ _ _ (has c.loop-len.set k) (has c.in-Some.item k) (c.loop-len.invariant.so_far k lt) first is
       ∙ ap (λ b. onto b (items_list names low high (other_items (names_by names) (drop (c.loop-len.len + 1) c.loop-len.rest.now)) k)) (sym (c.union-set.ensures k))
       ∙ ap (λ text. onto (has c.union-set.result k) (items_list names low high (other_items (names_by names) text) k)) (sym c.text_behind-rest.ensures);
 }
 
-pub returns-in_err-item-2 : goal.returns-in_err-item-2
-returns-in_err-item-2 c = λ k lt.
-    let is = sym (c.read_other_item-2.ensures k lt) ∙ ap (option_map (λ s. has s k)) c.in_err-item-2.was in
+pub returns-in_default-read_other_item : goal.returns-in_default-read_other_item
+returns-in_default-read_other_item c = λ k lt.
+    let is = sym (c.read_other_item-2.ensures k lt) ∙ ap (option_map (λ s. has s k)) c.in_default-read_other_item.is in
     let last = others_last (names_by c.args.names) c.args.names c.args.low c.args.high c.loop-len.len c.loop-len.rest.now k c.loop-len.invariant.place (omega (arith, c.loop-len-test.false)) in
-    rw c.from_residual-in_err-item-2.ensures (sym (step_none _ _ (Some false) _ (has c.loop-len.set k) (c.loop-len.invariant.so_far k lt) last is))
+    (sym (step_none _ _ (Some false) _ (has c.loop-len.set k) (c.loop-len.invariant.so_far k lt) last is))
 
 pub returns : goal.returns
 returns c = λ k lt.
-    let is = sym (c.read_other_item-2.ensures k lt) ∙ ap (option_map (λ s. has s k)) c.in_ok-item-2.was in
+    let is = sym (c.read_other_item-2.ensures k lt) ∙ ap (option_map (λ s. has s k)) c.in-Some-read_other_item.is in
     let last = others_last (names_by c.args.names) c.args.names c.args.low c.args.high c.loop-len.len c.loop-len.rest.now k c.loop-len.invariant.place (omega (arith, c.loop-len-test.false)) in
-    ap Some (c.union.ensures k) ∙ sym (step_last _ _ _ (has c.loop-len.set k) (has c.in_ok-item-2.item k) (c.loop-len.invariant.so_far k lt) last is)
+    ap Some (c.union.ensures k) ∙ sym (step_last _ _ _ (has c.loop-len.set k) (has c.in-Some-read_other_item.item k) (c.loop-len.invariant.so_far k lt) last is)

@@ -10,18 +10,16 @@ pub returns-then-len-text-clause-range : goal.returns-then-len-text-clause-range
 returns-then-len-text-clause-range c =
     sym (range_alone c.args.names c.args.low c.args.high c.place_of-len.result c.args.text.now (sym c.is_star.ensures ∙ c.if-is_star.false) c.place_of-len.ensures.place c.if-len-text.true)
 
-pub returns-in_err-first-clause-range : goal.returns-in_err-first-clause-range
-returns-in_err-first-clause-range c =
-    rw c.from_residual.ensures
-    (sym (range_first c.args.names c.args.low c.args.high c.place_of-len.result c.args.text.now (sym c.is_star.ensures ∙ c.if-is_star.false) c.place_of-len.ensures.place (sym c.read_number.ensures.number ∙ c.in_err-first.was)))
+pub returns-in_default-clause-range : goal.returns-in_default-clause-range
+returns-in_default-clause-range c =
+    (sym (range_first c.args.names c.args.low c.args.high c.place_of-len.result c.args.text.now (sym c.is_star.ensures ∙ c.if-is_star.false) c.place_of-len.ensures.place (sym c.read_number.ensures.number ∙ c.in_default.is)))
 
-pub returns-in_err-last-clause-range : goal.returns-in_err-last-clause-range
-returns-in_err-last-clause-range c =
-    rw c.from_residual-in_err-last.ensures
-    (sym (range_last c.args.names c.args.low c.args.high c.place_of-len.result c.in_ok-first.first c.args.text.now None (sym c.is_star.ensures ∙ c.if-is_star.false) c.place_of-len.ensures.place
-    (sym c.read_number.ensures.number ∙ c.in_ok-first.was) (ap (number_in c.args.names c.in_ok-first.first c.args.high) (sym c.text_behind.ensures) ∙ sym c.read_number-2.ensures.number ∙ c.in_err-last.was)))
+pub returns-in_default-read_number-clause-range : goal.returns-in_default-read_number-clause-range
+returns-in_default-read_number-clause-range c =
+    (sym (range_last c.args.names c.args.low c.args.high c.place_of-len.result c.in-Some.first c.args.text.now None (sym c.is_star.ensures ∙ c.if-is_star.false) c.place_of-len.ensures.place
+    (sym c.read_number.ensures.number ∙ c.in-Some.is) (ap (number_in c.args.names c.in-Some.first c.args.high) (sym c.text_behind.ensures) ∙ sym c.read_number-2.ensures.number ∙ c.in_default-read_number.is)))
 
 pub returns-clause-range : goal.returns-clause-range
 returns-clause-range c =
-    sym (range_last c.args.names c.args.low c.args.high c.place_of-len.result c.in_ok-first.first c.args.text.now (Some c.in_ok-last.last) (sym c.is_star.ensures ∙ c.if-is_star.false) c.place_of-len.ensures.place
-    (sym c.read_number.ensures.number ∙ c.in_ok-first.was) (ap (number_in c.args.names c.in_ok-first.first c.args.high) (sym c.text_behind.ensures) ∙ sym c.read_number-2.ensures.number ∙ c.in_ok-last.was))
+    sym (range_last c.args.names c.args.low c.args.high c.place_of-len.result c.in-Some.first c.args.text.now (Some c.in-Some-read_number.last) (sym c.is_star.ensures ∙ c.if-is_star.false) c.place_of-len.ensures.place
+    (sym c.read_number.ensures.number ∙ c.in-Some.is) (ap (number_in c.args.names c.in-Some.first c.args.high) (sym c.text_behind.ensures) ∙ sym c.read_number-2.ensures.number ∙ c.in-Some-read_number.is))

@@ -1,30 +1,17 @@
-use Rattle.std.proofs.Common.{◌∙◌, ◌∷◌, ap, sym, arith, take}
-use Rattle.chrono_cron.specs.ScheduleTexts.{words}
-use Rattle.chrono_cron.proofs.WordLemmas.{last_word, no_word, word_first, words_behind}
+use Rattle.std.proofs.Common.{◌∙◌, arith}
+use Rattle.chrono_cron.proofs.WordLemmas.{no_word, word_split}
 use Rattle.chrono_cron.proofs.words.next_word.Goals as goal
 
-pub returns-then-len-gt0-clause-some : goal.returns-then-len-gt0-clause-some
-returns-then-len-gt0-clause-some c =
-    let len = c.loop-len.len in
-    let rest = c.loop-len.rest.now in
-    c.loop-len.invariant.so_far
-    ∙ word_first len rest c.loop-len.invariant.place (omega (arith, c.loop-len-test.true)) (omega (arith, c.if-len-gt0.true))
-    ∙ ap (λ others. take len rest ∷ words others) (sym c.text_behind.ensures)
+pub returns-then-len-eq0-clause-none : goal.returns-then-len-eq0-clause-none
+returns-then-len-eq0-clause-none c =
+    let len = rw c.text_from-behind.ensures at c.blank_place-len.ensures.place in
+    c.blanks_end-place.ensures.passed
+    ∙ no_word c.blanks_end-place.result c.args.text.now c.blanks_end-place.ensures.within c.blanks_end-place.ensures.end (len ∙ c.if-len-eq0.true)
 
-pub loop-len-preserved : goal.loop-len-preserved
-loop-len-preserved c = record {
-  place = c.blank_place-len-in-loop-len.ensures.place;
-  within = c.blank_place-len-in-loop-len.ensures.within;
-  so_far = c.loop-len.invariant.so_far
-      ∙ words_behind c.loop-len.len c.loop-len.rest.now c.loop-len.invariant.place (omega (arith, c.loop-len-test.true)) (omega (arith, c.if-len-gt0.false))
-      ∙ ap words (sym c.text_behind-rest.ensures);
-}
-
-pub returns-then-len-gt0-2-clause-some : goal.returns-then-len-gt0-2-clause-some
-returns-then-len-gt0-2-clause-some c =
-    c.loop-len.invariant.so_far
-    ∙ last_word c.loop-len.len c.loop-len.rest.now c.loop-len.invariant.place (omega (arith, c.loop-len-test.false)) (omega (arith, c.if-len-gt0-2.true)) c.loop-len.invariant.within
-
-pub returns-clause-none : goal.returns-clause-none
-returns-clause-none c =
-    c.loop-len.invariant.so_far ∙ no_word c.loop-len.len c.loop-len.rest.now c.loop-len.invariant.place (omega (arith, c.loop-len-test.false)) (omega (arith, c.if-len-gt0-2.false))
+pub returns-clause-some : goal.returns-clause-some
+returns-clause-some c =
+    let len = rw c.text_from-behind.ensures at c.blank_place-len.ensures.place in
+    let within = rw c.text_from-behind.ensures at c.blank_place-len.ensures.within in
+    rw c.text_from-behind.ensures
+    (c.blanks_end-place.ensures.passed
+    ∙ word_split c.blanks_end-place.result c.blank_place-len.result c.args.text.now len (omega arith) c.blanks_end-place.ensures.within within)

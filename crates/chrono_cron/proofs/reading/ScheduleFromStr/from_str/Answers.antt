@@ -8,6 +8,7 @@ returns c =
       read = c.check_schedule.ensures.read;
       every = c.check_schedule.ensures.every;
       found = c.check_schedule.ensures.found;
+      error = c.check_schedule.ensures.error;
       field = c.check_schedule.ensures.field;
       byte = c.check_schedule.ensures.byte;
     } in

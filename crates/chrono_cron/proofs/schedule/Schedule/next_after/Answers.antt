@@ -19,46 +19,44 @@ returns-in-Some-clause-least c = λ q is after before.
     (rw (c.date-date.ensures, begun) at c.in-Some.ensures.least)
     after (rw (c.new.ensures, c.beginning.ensures, c.date-date.ensures) at before)
 
-pub returns-in_err-minute-clause-none : goal.returns-in_err-minute-clause-none
-returns-in_err-minute-clause-none c =
-    rw c.from_residual.ensures (λ q is after. none_ever c.args.self.now.sets q c.in_err-minute.ensures.none is.time)
+pub returns-in_default-first_minute-clause-none : goal.returns-in_default-first_minute-clause-none
+returns-in_default-first_minute-clause-none c =
+    (λ q is after. none_ever c.args.self.now.sets q c.in_default-first_minute.ensures.none is.time)
 
-pub returns-in_err-moved_by_days-clause-none : goal.returns-in_err-moved_by_days-clause-none
-returns-in_err-moved_by_days-clause-none c =
+pub returns-in_default-moved_by_days-clause-none : goal.returns-in_default-moved_by_days-clause-none
+returns-in_default-moved_by_days-clause-none c =
     let begun = rw c.time.ensures at c.num_seconds_from_midnight-begun.ensures.value in
-    rw c.from_residual-in_err-moved_by_days.ensures
     (λ q is after.
     none_later c.args.self.now.sets c.args.start q (rw (c.date-date.ensures, begun) at c.in_default.ensures.none)
     (λ d later date.
-    let some = c.in_err-moved_by_days.ensures.exists.1 (omega (arith, signed, c.in_err-moved_by_days.ensures.in_range), omega (arith, signed, c.date-date.ensures, later, date)) in
+    let some = c.in_default-moved_by_days.ensures.exists.1 (omega (arith, signed, c.in_default-moved_by_days.ensures.in_range), omega (arith, signed, c.date-date.ensures, later, date)) in
     cc)
     is after)
 
-pub returns-in_err-day-clause-none : goal.returns-in_err-day-clause-none
-returns-in_err-day-clause-none c =
+pub returns-in_default-first_day-clause-none : goal.returns-in_default-first_day-clause-none
+returns-in_default-first_day-clause-none c =
     let begun = rw c.time.ensures at c.num_seconds_from_midnight-begun.ensures.value in
-    rw c.from_residual-in_err-day.ensures
     (λ q is after.
     none_later c.args.self.now.sets c.args.start q (rw (c.date-date.ensures, begun) at c.in_default.ensures.none)
     (λ d later date.
-    c.in_err-day.ensures.none d (omega (arith, signed, c.in_ok-moved_by_days.ensures.moved, c.date-date.ensures, later)) date)
+    c.in_default-first_day.ensures.none d (omega (arith, signed, c.in-Some-moved_by_days.ensures.moved, c.date-date.ensures, later)) date)
     is after)
 
 pub returns-clause-member : goal.returns-clause-member
 returns-clause-member c =
-    rw (c.new-2.ensures, c.beginning-2.ensures) (is_due-beginning c.args.self.now.sets c.in_ok-day.day c.in_ok-minute.minute c.in_ok-day.ensures.member c.in_ok-minute.ensures.member)
+    rw (c.new-2.ensures, c.beginning-2.ensures) (is_due-beginning c.args.self.now.sets c.in-Some-first_day.day c.in-Some-first_minute.minute c.in-Some-first_day.ensures.member c.in-Some-first_minute.ensures.member)
 
 pub returns-clause-later : goal.returns-clause-later
 returns-clause-later c =
-    rw c.new-2.ensures (inl (omega (arith, signed, c.in_ok-moved_by_days.ensures.moved, c.date-date.ensures, c.in_ok-day.ensures.not_before)))
+    rw c.new-2.ensures (inl (omega (arith, signed, c.in-Some-moved_by_days.ensures.moved, c.date-date.ensures, c.in-Some-first_day.ensures.not_before)))
 
 pub returns-clause-least : goal.returns-clause-least
 returns-clause-least c = λ q is after before.
     let begun = rw c.time.ensures at c.num_seconds_from_midnight-begun.ensures.value in
-    let next = c.in_ok-moved_by_days.ensures.moved in
-    least_later c.args.self.now.sets c.args.start q c.in_ok-day.day c.in_ok-minute.minute
-    (omega (arith, signed, next, c.date-date.ensures, c.in_ok-day.ensures.not_before))
+    let next = c.in-Some-moved_by_days.ensures.moved in
+    least_later c.args.self.now.sets c.args.start q c.in-Some-first_day.day c.in-Some-first_minute.minute
+    (omega (arith, signed, next, c.date-date.ensures, c.in-Some-first_day.ensures.not_before))
     (rw (c.date-date.ensures, begun) at c.in_default.ensures.none)
-    (λ d low high. c.in_ok-day.ensures.least d (omega (arith, signed, next, c.date-date.ensures, low)) high)
-    c.in_ok-minute.ensures.least is.time after
+    (λ d low high. c.in-Some-first_day.ensures.least d (omega (arith, signed, next, c.date-date.ensures, low)) high)
+    c.in-Some-first_minute.ensures.least is.time after
     (rw (c.new-2.ensures, c.beginning-2.ensures) at before)

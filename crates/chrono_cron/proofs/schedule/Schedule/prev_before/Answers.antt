@@ -18,47 +18,45 @@ returns-in-Some-clause-greatest c = λ q is after before.
     (rw c.date-date.ensures at c.in-Some.ensures.greatest)
     (rw (c.new.ensures, c.beginning.ensures, c.date-date.ensures) at after) before
 
-pub returns-in_err-minute-clause-none : goal.returns-in_err-minute-clause-none
-returns-in_err-minute-clause-none c =
-    rw c.from_residual.ensures (λ q is before. none_ever c.args.self.now.sets q (λ j low high. c.in_err-minute.ensures.none j high) is.time)
+pub returns-in_default-last_minute-clause-none : goal.returns-in_default-last_minute-clause-none
+returns-in_default-last_minute-clause-none c =
+    (λ q is before. none_ever c.args.self.now.sets q (λ j low high. c.in_default-last_minute.ensures.none j high) is.time)
 
-pub returns-in_err-moved_by_days-clause-none : goal.returns-in_err-moved_by_days-clause-none
-returns-in_err-moved_by_days-clause-none c =
-    rw c.from_residual-in_err-moved_by_days.ensures
+pub returns-in_default-moved_by_days-clause-none : goal.returns-in_default-moved_by_days-clause-none
+returns-in_default-moved_by_days-clause-none c =
     (λ q is before.
     none_earlier c.args.self.now.sets c.args.start q c.begun_before.result
     (λ k begun. (c.begun_before.ensures.begun k).1 (rw (← c.time.ensures) at begun))
     (rw c.date-date.ensures at c.in_default.ensures.none)
     (λ d earlier date.
-    let some = c.in_err-moved_by_days.ensures.exists.1 (omega (arith, signed, c.date-date.ensures, earlier, date), omega (arith, signed, c.in_err-moved_by_days.ensures.in_range)) in
+    let some = c.in_default-moved_by_days.ensures.exists.1 (omega (arith, signed, c.date-date.ensures, earlier, date), omega (arith, signed, c.in_default-moved_by_days.ensures.in_range)) in
     cc)
     is before)
 
-pub returns-in_err-day-clause-none : goal.returns-in_err-day-clause-none
-returns-in_err-day-clause-none c =
-    rw c.from_residual-in_err-day.ensures
+pub returns-in_default-last_day-clause-none : goal.returns-in_default-last_day-clause-none
+returns-in_default-last_day-clause-none c =
     (λ q is before.
     none_earlier c.args.self.now.sets c.args.start q c.begun_before.result
     (λ k begun. (c.begun_before.ensures.begun k).1 (rw (← c.time.ensures) at begun))
     (rw c.date-date.ensures at c.in_default.ensures.none)
-    (λ d earlier date. c.in_err-day.ensures.none d (omega (arith, signed, c.in_ok-moved_by_days.ensures.moved, c.date-date.ensures, earlier)) date)
+    (λ d earlier date. c.in_default-last_day.ensures.none d (omega (arith, signed, c.in-Some-moved_by_days.ensures.moved, c.date-date.ensures, earlier)) date)
     is before)
 
 pub returns-clause-member : goal.returns-clause-member
 returns-clause-member c =
-    rw (c.new-2.ensures, c.beginning-2.ensures) (is_due-beginning c.args.self.now.sets c.in_ok-day.day c.in_ok-minute.minute c.in_ok-day.ensures.member c.in_ok-minute.ensures.member)
+    rw (c.new-2.ensures, c.beginning-2.ensures) (is_due-beginning c.args.self.now.sets c.in-Some-last_day.day c.in-Some-last_minute.minute c.in-Some-last_day.ensures.member c.in-Some-last_minute.ensures.member)
 
 pub returns-clause-earlier : goal.returns-clause-earlier
 returns-clause-earlier c =
-    rw c.new-2.ensures (inl (omega (arith, signed, c.in_ok-moved_by_days.ensures.moved, c.date-date.ensures, c.in_ok-day.ensures.not_after)))
+    rw c.new-2.ensures (inl (omega (arith, signed, c.in-Some-moved_by_days.ensures.moved, c.date-date.ensures, c.in-Some-last_day.ensures.not_after)))
 
 pub returns-clause-greatest : goal.returns-clause-greatest
 returns-clause-greatest c = λ q is after before.
-    let back = c.in_ok-moved_by_days.ensures.moved in
-    greatest_earlier c.args.self.now.sets c.args.start q c.in_ok-day.day c.in_ok-minute.minute c.begun_before.result
-    (omega (arith, signed, back, c.date-date.ensures, c.in_ok-day.ensures.not_after))
+    let back = c.in-Some-moved_by_days.ensures.moved in
+    greatest_earlier c.args.self.now.sets c.args.start q c.in-Some-last_day.day c.in-Some-last_minute.minute c.begun_before.result
+    (omega (arith, signed, back, c.date-date.ensures, c.in-Some-last_day.ensures.not_after))
     (λ k begun. (c.begun_before.ensures.begun k).1 (rw (← c.time.ensures) at begun))
     (rw c.date-date.ensures at c.in_default.ensures.none)
-    (λ d low high. c.in_ok-day.ensures.greatest d (omega (arith, signed, low)) (omega (arith, signed, back, c.date-date.ensures, high)))
-    (λ j low high. c.in_ok-minute.ensures.greatest j (omega (arith, low)) high) is.time
+    (λ d low high. c.in-Some-last_day.ensures.greatest d (omega (arith, signed, low)) (omega (arith, signed, back, c.date-date.ensures, high)))
+    (λ j low high. c.in-Some-last_minute.ensures.greatest j (omega (arith, low)) high) is.time
     (rw (c.new-2.ensures, c.beginning-2.ensures) at after) before

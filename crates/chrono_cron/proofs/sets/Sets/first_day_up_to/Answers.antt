@@ -8,15 +8,14 @@ pub returns-in-Some-clause-least : goal.returns-in-Some-clause-least
 returns-in-Some-clause-least c = λ d low high.
     by_lt_z d c.loop-last.month (λ lt. c.loop-last.invariant.1 d low lt) (λ ge. c.in-Some.ensures.least d ge high)
 
-pub returns-in_err-month-clause-none : goal.returns-in_err-month-clause-none
-returns-in_err-month-clause-none c =
-    rw c.from_residual.ensures
+pub returns-in_default-next_month-clause-none : goal.returns-in_default-next_month-clause-none
+returns-in_default-next_month-clause-none c =
     (λ d low date end.
-    later_passed c.args.self.now c.args.date c.loop-last.month d c.loop-last.invariant.1 (λ ge. c.in_err-month.ensures.none d ge date) (c.in_default.ensures.none d) low)
+    later_passed c.args.self.now c.args.date c.loop-last.month d c.loop-last.invariant.1 (λ ge. c.in_default-next_month.ensures.none d ge date) (c.in_default.ensures.none d) low)
 
 pub loop-last-preserved : goal.loop-last-preserved
 loop-last-preserved c = (
-  omega (arith, signed, c.loop-last.invariant.0, c.in_ok-month.ensures.later),
+  omega (arith, signed, c.loop-last.invariant.0, c.in-Some-next_month.ensures.later),
   λ d low high.
-      later_passed c.args.self.now c.args.date c.loop-last.month d c.loop-last.invariant.1 (λ ge. c.in_ok-month.ensures.passed d ge high) (c.in_default.ensures.none d) low,
+      later_passed c.args.self.now c.args.date c.loop-last.month d c.loop-last.invariant.1 (λ ge. c.in-Some-next_month.ensures.passed d ge high) (c.in_default.ensures.none d) low,
 )

@@ -3,28 +3,27 @@ use Rattle.std.proofs.lemmas.Bool.{cases_lt}
 use Rattle.chrono_cron.proofs.Minutes.{is_minute-at, no_hour, no_minute}
 use Rattle.chrono_cron.proofs.sets.Sets.first_minute.Goals as goal
 
-pub returns-in_err-minute-clause-none : goal.returns-in_err-minute-clause-none
-returns-in_err-minute-clause-none c =
-    rw c.from_residual.ensures (λ j low end. no_minute c.args.self.now j (c.in_err-minute.ensures.none (j % 60) (omega arith) (omega arith)))
+pub returns-in_default-first_in-clause-none : goal.returns-in_default-first_in-clause-none
+returns-in_default-first_in-clause-none c =
+    (λ j low end. no_minute c.args.self.now j (c.in_default-first_in.ensures.none (j % 60) (omega arith) (omega arith)))
 
-pub returns-in_err-hour-clause-none : goal.returns-in_err-hour-clause-none
-returns-in_err-hour-clause-none c =
-    rw c.from_residual-in_err-hour.ensures
+pub returns-in_default-first_in-2-clause-none : goal.returns-in_default-first_in-2-clause-none
+returns-in_default-first_in-2-clause-none c =
     (λ j low end. elim (cases_lt (c.args.from / 60) (j / 60)) [
-      | inl later ↦ no_hour c.args.self.now j (c.in_err-hour.ensures.none (j / 60) (omega (arith, later)) (omega (arith, end)))
+      | inl later ↦ no_hour c.args.self.now j (c.in_default-first_in-2.ensures.none (j / 60) (omega (arith, later)) (omega (arith, end)))
       | inr same ↦ c.in_default.ensures.none j low end (omega (arith, low, same))
     ])
 
 pub returns-clause-member : goal.returns-clause-member
 returns-clause-member c =
-    is_minute-at c.args.self.now c.in_ok-hour.hour c.in_ok-minute.minute c.in_ok-minute.ensures.before c.in_ok-hour.ensures.member c.in_ok-minute.ensures.member
+    is_minute-at c.args.self.now c.in-Some-first_in-2.hour c.in-Some-first_in.minute c.in-Some-first_in.ensures.before c.in-Some-first_in-2.ensures.member c.in-Some-first_in.ensures.member
 
 pub returns-clause-least : goal.returns-clause-least
 returns-clause-least c = λ j low high.
     elim (cases_lt (c.args.from / 60) (j / 60)) [
-      | inr same ↦ c.in_default.ensures.none j low (omega (arith, high, c.in_ok-hour.ensures.before, c.in_ok-minute.ensures.before)) (omega (arith, low, same))
-      | inl later ↦ elim (cases_lt (j / 60) c.in_ok-hour.hour) [
-        | inl earlier ↦ no_hour c.args.self.now j (c.in_ok-hour.ensures.least (j / 60) (omega (arith, later)) earlier)
-        | inr end ↦ no_minute c.args.self.now j (c.in_ok-minute.ensures.least (j % 60) (omega arith) (omega (arith, end, high, c.in_ok-minute.ensures.before)))
+      | inr same ↦ c.in_default.ensures.none j low (omega (arith, high, c.in-Some-first_in-2.ensures.before, c.in-Some-first_in.ensures.before)) (omega (arith, low, same))
+      | inl later ↦ elim (cases_lt (j / 60) c.in-Some-first_in-2.hour) [
+        | inl earlier ↦ no_hour c.args.self.now j (c.in-Some-first_in-2.ensures.least (j / 60) (omega (arith, later)) earlier)
+        | inr end ↦ no_minute c.args.self.now j (c.in-Some-first_in.ensures.least (j % 60) (omega arith) (omega (arith, end, high, c.in-Some-first_in.ensures.before)))
       ]
     ]

@@ -8,15 +8,14 @@ pub returns-in-Some-clause-greatest : goal.returns-in-Some-clause-greatest
 returns-in-Some-clause-greatest c = λ d low high.
     by_lt_z c.loop-first.month d (λ lt. c.loop-first.invariant.1 d lt high) (λ ge. c.in-Some.ensures.greatest d low ge)
 
-pub returns-in_err-month-clause-none : goal.returns-in_err-month-clause-none
-returns-in_err-month-clause-none c =
-    rw c.from_residual.ensures
+pub returns-in_default-previous_month-clause-none : goal.returns-in_default-previous_month-clause-none
+returns-in_default-previous_month-clause-none c =
     (λ d high date begin.
-    earlier_passed c.args.self.now c.args.date c.loop-first.month d c.loop-first.invariant.1 (λ le. c.in_err-month.ensures.none d le date) (c.in_default.ensures.none d) high)
+    earlier_passed c.args.self.now c.args.date c.loop-first.month d c.loop-first.invariant.1 (λ le. c.in_default-previous_month.ensures.none d le date) (c.in_default.ensures.none d) high)
 
 pub loop-first-preserved : goal.loop-first-preserved
 loop-first-preserved c = (
-  omega (arith, signed, c.loop-first.invariant.0, c.in_ok-month.ensures.earlier),
+  omega (arith, signed, c.loop-first.invariant.0, c.in-Some-previous_month.ensures.earlier),
   λ d low high.
-      earlier_passed c.args.self.now c.args.date c.loop-first.month d c.loop-first.invariant.1 (λ le. c.in_ok-month.ensures.passed d low le) (c.in_default.ensures.none d) high,
+      earlier_passed c.args.self.now c.args.date c.loop-first.month d c.loop-first.invariant.1 (λ le. c.in-Some-previous_month.ensures.passed d low le) (c.in_default.ensures.none d) high,
 )

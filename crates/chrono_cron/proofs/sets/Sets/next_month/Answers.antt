@@ -23,9 +23,9 @@ returns-in-Some-clause-passed c =
     (λ j from end. c.in-Some.ensures.least j (omega (arith, from, c.year_month_day-year.ensures.month)) (omega (arith, end, month))))
 
 -- no month is one of the schedule's
-pub returns-in_err-first-clause-none : goal.returns-in_err-first-clause-none
-returns-in_err-first-clause-none c =
-    rw c.from_residual.ensures (λ d low date. inr (no_days c.args.self.now d c.in_err-first.ensures.none))
+pub returns-in_default-first_in-clause-none : goal.returns-in_default-first_in-clause-none
+returns-in_default-first_in-clause-none c =
+    (λ d low date. inr (no_days c.args.self.now d c.in_default-first_in.ensures.none))
 
 -- none of the year's later months is
 rest_of_year : (c : After-from_ymd_opt-2) → NoMonths c.args.self.now (month_of c.args.date + 1) 13
@@ -34,27 +34,27 @@ rest_of_year c = λ j from end. c.in_default.ensures.none j (omega (arith, from,
 pub returns-clause-later : goal.returns-clause-later
 returns-clause-later c =
     let fits = next_year_fits c.year_month_day-year.result.0 c.year_month_day-year.ensures.in_range in
-    if_named c.from_ymd_opt-2.result _ c.in_ok-first.first 1 _ (rw fits at c.from_ymd_opt-2.ensures.year) c.from_ymd_opt-2.ensures.month c.from_ymd_opt-2.ensures.day
+    if_named c.from_ymd_opt-2.result _ c.in-Some-first_in.first 1 _ (rw fits at c.from_ymd_opt-2.ensures.year) c.from_ymd_opt-2.ensures.month c.from_ymd_opt-2.ensures.day
     (λ e year month day.
     later_month c.args.date e (omega (arith, signed, year, c.year_month_day-year.ensures.year, month_of-range c.args.date, month_of-range e)))
 
 pub returns-clause-passed : goal.returns-clause-passed
 returns-clause-passed c =
     let fits = next_year_fits c.year_month_day-year.result.0 c.year_month_day-year.ensures.in_range in
-    if_named c.from_ymd_opt-2.result _ c.in_ok-first.first 1 _ (rw fits at c.from_ymd_opt-2.ensures.year) c.from_ymd_opt-2.ensures.month c.from_ymd_opt-2.ensures.day
+    if_named c.from_ymd_opt-2.result _ c.in-Some-first_in.first 1 _ (rw fits at c.from_ymd_opt-2.ensures.year) c.from_ymd_opt-2.ensures.month c.from_ymd_opt-2.ensures.day
     (λ e year month day d low high.
     let next : year_of e ≡ year_of c.args.date +ℤ pos 1 = omega (arith, signed, year, c.year_month_day-year.ensures.year) in
     before_next_year c.args.self.now c.args.date d e low high day next (rest_of_year c)
-    (λ j from end. c.in_ok-first.ensures.least j from (omega (arith, end, month))))
+    (λ j from end. c.in-Some-first_in.ensures.least j from (omega (arith, end, month))))
 
 -- there is no later year
 pub returns-clause-none : goal.returns-clause-none
 returns-clause-none c =
     let fits = next_year_fits c.year_month_day-year.result.0 c.year_month_day-year.ensures.in_range in
     let own = rw c.year_month_day-year.ensures.year at c.year_month_day-year.ensures.in_range in
-    if_unnamed c.from_ymd_opt-2.result (year_of c.args.date +ℤ pos 1) c.in_ok-first.first 1 _
+    if_unnamed c.from_ymd_opt-2.result (year_of c.args.date +ℤ pos 1) c.in-Some-first_in.first 1 _
     (rw (fits, c.year_month_day-year.ensures.year) at c.from_ymd_opt-2.ensures.exists)
     (λ nameless d low date.
-    let past = λ (year : IsYear (year_of c.args.date +ℤ pos 1)). nameless (first_day_exists (year_of c.args.date +ℤ pos 1) c.in_ok-first.first year c.in_ok-first.ensures.not_before c.in_ok-first.ensures.before) in
+    let past = λ (year : IsYear (year_of c.args.date +ℤ pos 1)). nameless (first_day_exists (year_of c.args.date +ℤ pos 1) c.in-Some-first_in.first year c.in-Some-first_in.ensures.not_before c.in-Some-first_in.ensures.before) in
     let same = last_year c.args.date d own past ((c.dates_are_days_of_years.ensures d).0 date) low in
     later_in_year c.args.self.now c.args.date d 13 low same (omega (arith, month_of-range d)) (rest_of_year c))

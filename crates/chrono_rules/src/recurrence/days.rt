@@ -1,0 +1,102 @@
+//! `RecurrenceDays`: the days of a recurrence, one after another.
+ghost use Rattle.std.specs.Prelude.{◌≡◌, ◌≤◌, IfSome};
+ghost use Rattle.std.specs.Iterator.{UpTo, YieldsFirst, item_count};
+ghost use Rattle.std.specs.Iterator.SizeHint.{IsWithinCount};
+ghost use Rattle.chrono_datetime.specs.Recurrence.{first_date};
+ghost use Rattle.chrono_rules.specs.RecurrenceSets.{recurrence_from};
+
+use crate::iterator::PAST_LAST_DAY;
+use crate::listed::FIRST_DAY;
+use crate::recurrence::Recurrence;
+use chrono_datetime::{Datelike, NaiveDate};
+use std::iter::FusedIterator;
+use std::marker::Model;
+
+/// The days of a recurrence, in order and each once, up to the last in the calendar. From [`Recurrence::iter`] and
+/// [`Recurrence::iter_from`].
+///
+/// Contracts see it as the list of the days that are left, by their numbers. Once none is left it gives `None` from then on.
+#[derive(Drop)]
+pub struct RecurrenceDays<'b, 'a> {
+    recurrence: &'b Recurrence<'a>,
+    // The day from which on days are left.
+    from: i32,
+    // Where the rule has COUNT, how many of its members came before that day.
+    seen: u32,
+}
+
+impl<'b, 'a> Model for RecurrenceDays<'b, 'a> {
+    ghost use Rattle.std.specs.Prelude.{◌≡◌, ◌≤◌, ◌≤ℤ◌, ◌<ℤ◌, List, ℤ};
+    ghost use Rattle.chrono_datetime.specs.Recurrence.{dates_before, first_date, past_last_date};
+    ghost use Rattle.chrono_rules.specs.InstanceLists.{IsKept};
+    ghost use Rattle.chrono_rules.specs.RecurrenceSets.{recurrence_from};
+
+    ghost Value = { List ℤ };
+
+    ghost view = { λ it. recurrence_from it.recurrence.now it.from };
+
+    ghost invariant = { λ it. (first_date ≤ℤ it.from) × (it.from ≤ℤ past_last_date)
+        × (it.from <ℤ past_last_date → IsKept it.recurrence.now.rule it.recurrence.now.start it.from it.seen)
+        × (it.seen ≤ dates_before it.from) };
+}
+
+impl<'a> Recurrence<'a> {
+    /// The days of the recurrence from the first date on, in order, up to the last in the calendar.
+    #[inline]
+    pub fn iter<'b>(&'b self) -> RecurrenceDays<'b, 'a>
+        ensures { result ≡ recurrence_from self.now first_date }
+    {
+        // Nothing comes before the first date.
+        prove!(self.start.num_days_from_ce() >= FIRST_DAY);
+        RecurrenceDays {
+            recurrence: self,
+            from: FIRST_DAY,
+            seen: 0,
+        }
+    }
+
+    /// The days of the recurrence from the day on, itself among them if it is one.
+    #[inline]
+    pub fn iter_from<'b>(&'b self, day: NaiveDate) -> RecurrenceDays<'b, 'a>
+        ensures { result ≡ recurrence_from self.now day }
+    {
+        RecurrenceDays {
+            recurrence: self,
+            from: day.num_days_from_ce(),
+            seen: self.rule.seen_before(self.start, day),
+        }
+    }
+}
+
+impl<'b, 'a> Iterator for RecurrenceDays<'b, 'a> {
+    type Item = NaiveDate;
+
+    ghost next_gives = { YieldsFirst (λ left. left) };
+
+    ghost remaining = { item_count (λ left. left) };
+
+    /// The first of the days that are left; `None` once none is.
+    fn next(&mut self) -> Option<NaiveDate> {
+        let from = NaiveDate::from_num_days_from_ce_opt(self.from)?;
+        let Some(found) = self.recurrence.first_from(from, self.seen) else {
+            self.from = PAST_LAST_DAY;
+            return None;
+        };
+        self.from = found.day.num_days_from_ce() + 1;
+        self.seen = found.seen;
+        Some(found.day)
+    }
+
+    /// At least none, and at most as many days as dates are left.
+    #[inline]
+    fn size_hint(&self) -> (usize, Option<usize>)
+        ensures lower { IsWithinCount result.0 (item_count (λ left. left) self.now) }
+        ensures upper { IfSome result.1 (UpTo (item_count (λ left. left) self.now)) }
+        ensures least { result.0 ≡ 0 }
+        ensures few { IfSome result.1 (λ most. most ≤ 191_491_529) }
+    {
+        (0, Some((PAST_LAST_DAY - self.from) as usize))
+    }
+}
+
+impl<'b, 'a> FusedIterator for RecurrenceDays<'b, 'a> {}

@@ -1,0 +1,143 @@
+//! The first day of a recurrence from one on, and the last before one.
+ghost use Rattle.std.specs.Prelude.{◌≡◌, ◌≤◌, ◌≤ℤ◌, ◌<ℤ◌, ◌+ℤ◌, ℤ, pos, true, false, IsTrue, IfSome, IfNone};
+ghost use Rattle.chrono_datetime.specs.Days.{IsDate};
+ghost use Rattle.chrono_datetime.specs.Recurrence.{dates_before, past_last_date};
+ghost use Rattle.chrono_rules.specs.InstanceLists.{IsKept, seen_with};
+ghost use Rattle.chrono_rules.specs.Instances.{is_instance};
+ghost use Rattle.chrono_rules.specs.RecurrenceSets.{is_given, is_in_recurrence};
+
+use crate::listed::{first_listed, is_listed, last_listed};
+use crate::recurrence::Recurrence;
+use crate::rule::Rule;
+use chrono_datetime::{Datelike, NaiveDate};
+
+// A day, and how many members a walk behind it has seen.
+#[derive(Drop)]
+pub(crate) struct Found {
+    pub(crate) day: NaiveDate,
+    pub(crate) seen: u32,
+}
+
+impl Rule {
+    // The first instance from the date on, before which a walk has seen so many members.
+    fn first_instance(&self, start: NaiveDate, date: NaiveDate, seen: u32) -> Option<NaiveDate>
+        requires kept { IsKept self.now start date seen }
+        requires date { IsDate date }
+        ensures member { IfSome result (λ e. is_instance self.now start e ≡ true) }
+        ensures not_before { IfSome result (λ e. date ≤ℤ e) }
+        ensures least { IfSome result (λ e. (d : ℤ) → date ≤ℤ d → d <ℤ e → is_instance self.now start d ≡ false) }
+        ensures up_to { IfSome result (λ e. (d : ℤ) → date ≤ℤ d → d ≤ℤ e → IsKept self.now start d seen) }
+        ensures behind { IfSome result (λ e. IsKept self.now start (e +ℤ pos 1) (seen_with self.now.end seen)) }
+        ensures none { IfNone result ((d : ℤ) → date ≤ℤ d → IsDate d → is_instance self.now start d ≡ false) }
+        ensures ended { IfNone result ((d : ℤ) → date ≤ℤ d → d ≤ℤ past_last_date → IsKept self.now start d seen) }
+    {
+        if !self.may_follow(seen) {
+            return None;
+        }
+        let day = self.first_member(start, date)?;
+        Some(day)
+    }
+}
+
+impl<'a> Recurrence<'a> {
+    // The first day from the date on that is an instance of the rule or a date beside it.
+    fn first_given(&self, date: NaiveDate, seen: u32) -> Option<Found>
+        requires kept { IsKept self.now.rule self.now.start date seen }
+        requires few { seen ≤ dates_before date }
+        requires date { IsDate date }
+        ensures member { IfSome result (λ f. is_given self.now f.day ≡ true) }
+        ensures not_before { IfSome result (λ f. date ≤ℤ f.day) }
+        ensures least { IfSome result (λ f. (d : ℤ) → date ≤ℤ d → d <ℤ f.day → is_given self.now d ≡ false) }
+        ensures kept { IfSome result (λ f. IsKept self.now.rule self.now.start (f.day +ℤ pos 1) f.seen) }
+        ensures few { IfSome result (λ f. f.seen ≤ dates_before (f.day +ℤ pos 1)) }
+        ensures none { IfNone result ((d : ℤ) → date ≤ℤ d → IsDate d → is_given self.now d ≡ false) }
+    {
+        let listed = first_listed(self.dates, date);
+        let Some(day) = self.rule.first_instance(self.start, date, seen) else {
+            return Some(Found { day: listed?, seen });
+        };
+        let behind = self.rule.seen_with(seen);
+        let Some(other) = listed else {
+            return Some(Found { day, seen: behind });
+        };
+        let number = day.num_days_from_ce();
+        if other.num_days_from_ce() < number {
+            return Some(Found { day: other, seen });
+        }
+        Some(Found { day, seen: behind })
+    }
+
+    // The first day of the recurrence from the date on.
+    pub(crate) fn first_from(&self, date: NaiveDate, seen: u32) -> Option<Found>
+        requires kept { IsKept self.now.rule self.now.start date seen }
+        requires few { seen ≤ dates_before date }
+        requires date { IsDate date }
+        ensures member { IfSome result (λ f. is_in_recurrence self.now f.day ≡ true) }
+        ensures not_before { IfSome result (λ f. date ≤ℤ f.day) }
+        ensures least { IfSome result (λ f. (d : ℤ) → date ≤ℤ d → d <ℤ f.day → is_in_recurrence self.now d ≡ false) }
+        ensures kept { IfSome result (λ f. IsKept self.now.rule self.now.start (f.day +ℤ pos 1) f.seen) }
+        ensures few { IfSome result (λ f. f.seen ≤ dates_before (f.day +ℤ pos 1)) }
+        ensures none { IfNone result ((d : ℤ) → date ≤ℤ d → IsDate d → is_in_recurrence self.now d ≡ false) }
+    {
+        let mut from = date;
+        let mut walked = seen;
+        loop {
+            let found = self.first_given(from, walked)?;
+            if !is_listed(self.exceptions, found.day) {
+                return Some(found);
+            }
+            from = found.day.succ_opt()?;
+            walked = found.seen;
+        }
+    }
+
+    /// The first day of the recurrence after this one; `None` exactly if there is none in the calendar.
+    pub fn next_after(&self, day: NaiveDate) -> Option<NaiveDate>
+        ensures member { IfSome result (λ e. IsTrue (is_in_recurrence self.now e)) }
+        ensures later { IfSome result (λ e. day <ℤ e) }
+        ensures least { IfSome result (λ e. (d : ℤ) → day <ℤ d → d <ℤ e → is_in_recurrence self.now d ≡ false) }
+        ensures none { IfNone result ((d : ℤ) → day <ℤ d → IsDate d → is_in_recurrence self.now d ≡ false) }
+    {
+        let next = day.succ_opt()?;
+        let found = self.first_from(next, self.rule.seen_before(self.start, next))?;
+        Some(found.day)
+    }
+
+    // The last day before this one that is an instance of the rule or a date beside it.
+    fn last_given(&self, day: NaiveDate) -> Option<NaiveDate>
+        ensures member { IfSome result (λ e. is_given self.now e ≡ true) }
+        ensures earlier { IfSome result (λ e. e <ℤ day) }
+        ensures greatest { IfSome result (λ e. (d : ℤ) → e <ℤ d → d <ℤ day → is_given self.now d ≡ false) }
+        ensures none { IfNone result ((d : ℤ) → d <ℤ day → IsDate d → is_given self.now d ≡ false) }
+    {
+        let listed = last_listed(self.dates, day);
+        let Some(instance) = self.rule.prev_before(self.start, day) else {
+            return Some(listed?);
+        };
+        let Some(other) = listed else {
+            return Some(instance);
+        };
+        let number = instance.num_days_from_ce();
+        if other.num_days_from_ce() > number {
+            return Some(other);
+        }
+        Some(instance)
+    }
+
+    /// The last day of the recurrence before this one; `None` exactly if there is none.
+    pub fn prev_before(&self, day: NaiveDate) -> Option<NaiveDate>
+        ensures member { IfSome result (λ e. IsTrue (is_in_recurrence self.now e)) }
+        ensures earlier { IfSome result (λ e. e <ℤ day) }
+        ensures greatest { IfSome result (λ e. (d : ℤ) → e <ℤ d → d <ℤ day → is_in_recurrence self.now d ≡ false) }
+        ensures none { IfNone result ((d : ℤ) → d <ℤ day → IsDate d → is_in_recurrence self.now d ≡ false) }
+    {
+        let mut end = day;
+        loop {
+            let found = self.last_given(end)?;
+            if !is_listed(self.exceptions, found) {
+                return Some(found);
+            }
+            end = found;
+        }
+    }
+}

@@ -1,0 +1,48 @@
+//! The instances of a recurrence rule.
+
+use crate::fault::{ANSWERED, NONE, WRONG};
+use chrono_datetime::NaiveDate;
+use chrono_rules::{Rule, read_rule};
+use std::alloc::Allocator;
+use std::io;
+
+/// Which instances are wanted.
+#[derive(Clone, Copy)]
+pub(crate) struct Wanted {
+    /// The day from which on the rule recurs.
+    pub start: NaiveDate,
+    /// The day from which on they are wanted.
+    pub from: NaiveDate,
+    /// How many at most; all of them where it is `None`.
+    pub most: Option<u64>,
+}
+
+// The instances of the rule of the second word that are wanted, a line each; `none` where there is none.
+pub(crate) fn answer_instances(
+    rt: &impl Print,
+    wanted: Wanted,
+    words: &[String<impl Allocator>],
+) -> io::Result<u8> {
+    let rule = match words {
+        [_, text, ..] => read_rule(text.as_str().as_bytes()),
+        _ => None,
+    };
+    match rule {
+        Some(rule) => print_instances(rt, &rule, wanted),
+        None => Ok(WRONG),
+    }
+}
+
+// The same of the rule.
+fn print_instances(rt: &impl Print, rule: &Rule, wanted: Wanted) -> io::Result<u8> {
+    let most = wanted.most.unwrap_or(u64::MAX) as usize;
+    let mut status = NONE;
+    for day in rule.instances_from(wanted.start, wanted.from).take(most) {
+        println!(rt; "{day}")?;
+        status = ANSWERED;
+    }
+    if status == NONE {
+        println!(rt; "none")?;
+    }
+    Ok(status)
+}
