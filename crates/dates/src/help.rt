@@ -187,14 +187,17 @@ const CAL: Help = Help {
 
 // Every command, in the order of the help.
 const COMMANDS: [Help; 15] = [
-    DAY, LINES, ADD, DIFF, SEQ, WEEK, EASTER, LEAP, OPEN, ROLL, CHECK, NEXT, PREV, RULE, CAL
+    DAY, LINES, ADD, DIFF, SEQ, WEEK, EASTER, LEAP, OPEN, ROLL, CHECK, NEXT, PREV, RULE, CAL,
 ];
 
 // The commands, a line each; the exit status.
 pub(crate) fn answer_help(rt: &impl Print) -> io::Result<u8> {
     println!(rt; "dates answers what one asks of dates. It never asks what day it is.\n")?;
     for help in COMMANDS.iter() {
-        println!(rt; "  dates {:<6} {:<28} {}", help.name, help.words, help.answers)?;
+        println!(rt;
+            "  dates {:<6} {:<28} {}",
+            help.name, help.words, help.answers
+        )?;
     }
     println!(rt; "\n  dates COMMAND --help                more of a command, with an example")?;
     println!(rt; "  dates --help | --version")?;

@@ -49,19 +49,19 @@ pub weeks : (from to z : ℤ) → IsDate from → IsDate to → IsWholePart (pos
 unfolding unit_move
 weeks from to z date also whole = record {
   forth = λ le.
-    let part = whole.forth (omega (arith, signed, le)) in
-    record {
-      forth = omega (arith, signed, le, part.1);
-      reached = at_date (from +ℤ pos 7 *ℤ z) (λ m. m ≤ℤ to) (omega (arith, signed, le, date.0, part.1), omega (arith, signed, also.1, part.0)) (omega (arith, signed, part.0));
-      most = λ more lt. if_date (from +ℤ pos 7 *ℤ more) (λ m. to <ℤ m) (omega (arith, signed, lt, part.1));
-    };
+      let part = whole.forth (omega (arith, signed, le)) in
+      record {
+        forth = omega (arith, signed, le, part.1);
+        reached = at_date (from +ℤ pos 7 *ℤ z) (λ m. m ≤ℤ to) (omega (arith, signed, le, date.0, part.1), omega (arith, signed, also.1, part.0)) (omega (arith, signed, part.0));
+        most = λ more lt. if_date (from +ℤ pos 7 *ℤ more) (λ m. to <ℤ m) (omega (arith, signed, lt, part.1));
+      };
   back = λ lt.
-    let part = whole.back (omega (arith, signed, lt)) in
-    record {
-      back = omega (arith, signed, lt, part.1);
-      reached = at_date (from +ℤ pos 7 *ℤ z) (λ m. to ≤ℤ m) (omega (arith, signed, also.0, part.0), omega (arith, signed, lt, date.1, part.1)) (omega (arith, signed, part.0));
-      most = λ more less. if_date (from +ℤ pos 7 *ℤ more) (λ m. m <ℤ to) (omega (arith, signed, less, part.1));
-    };
+      let part = whole.back (omega (arith, signed, lt)) in
+      record {
+        back = omega (arith, signed, lt, part.1);
+        reached = at_date (from +ℤ pos 7 *ℤ z) (λ m. to ≤ℤ m) (omega (arith, signed, also.0, part.0), omega (arith, signed, lt, date.1, part.1)) (omega (arith, signed, part.0));
+        most = λ more less. if_date (from +ℤ pos 7 *ℤ more) (λ m. m <ℤ to) (omega (arith, signed, less, part.1));
+      };
 }
 
 -- of two moves that come to dates that of fewer months comes to no later one
@@ -69,9 +69,9 @@ no_later : (n k l a b : ℤ) → k ≤ℤ l → month_move n k ≡ Some a → mo
 no_later n k l a b le first second =
     by_lt_z k l (λ lt. omega (arith, signed, later_month a b (omega (arith, signed, lt, (month_move-parts n k a first).0, (month_move-parts n l b second).0))))
     (λ ge.
-      let same : k ≡ l = omega (arith, signed, le, ge) in
-      let equal : Some a ≡ Some b = sym first ∙ ap (month_move n) same ∙ second in
-      omega (arith, signed, same_Some a b equal))
+    let same : k ≡ l = omega (arith, signed, le, ge) in
+    let equal : Some a ≡ Some b = sym first ∙ ap (month_move n) same ∙ second in
+    omega (arith, signed, same_Some a b equal))
 
 pub record FoundAt (n k : ℤ) (P : ℤ → Type 0) : Type 0 where
   pub day : ℤ

@@ -96,7 +96,7 @@ one_less_forth from to z m date also le e is past =
       forth = omega (arith, signed, some);
       reached = at_move from (z -ℤ pos 1) short.day (λ k. k ≤ℤ to) short.is (omega (arith, signed, later_month short.day to (omega (arith, signed, e, (month_move-parts from (z -ℤ pos 1) short.day short.is).0))));
       most = λ more lt. by_lt_z z more (λ further. after_month (month_move from more) from more to refl (omega (arith, signed, further, e)))
-        (λ at. let same : more ≡ z = omega (arith, signed, at, lt) in rw same (if_move from z m (λ k. to <ℤ k) is past));
+          (λ at. let same : more ≡ z = omega (arith, signed, at, lt) in rw same (if_move from z m (λ k. to <ℤ k) is past));
     }
 
 pub one_less_back : (from to z m : ℤ) → IsDate from → IsDate to → to <ℤ from → z ≡ month_index_of to -ℤ month_index_of from → month_move from z ≡ Some m → m <ℤ to → IsMostBack Months from to (z +ℤ pos 1)
@@ -108,7 +108,7 @@ one_less_back from to z m date also lt e is past =
       back = omega (arith, signed, some);
       reached = at_move from (z +ℤ pos 1) short.day (λ k. to ≤ℤ k) short.is (omega (arith, signed, later_month to short.day (omega (arith, signed, e, (month_move-parts from (z +ℤ pos 1) short.day short.is).0))));
       most = λ more less. by_lt_z more z (λ further. before_month_of (month_move from more) from more to refl (omega (arith, signed, further, e)))
-        (λ at. let same : more ≡ z = omega (arith, signed, at, less) in rw same (if_move from z m (λ k. k <ℤ to) is past));
+          (λ at. let same : more ≡ z = omega (arith, signed, at, less) in rw same (if_move from z m (λ k. k <ℤ to) is past));
     }
 
 -- by where the first day comes to, moved by all the months between

@@ -7,5 +7,5 @@ abbrev pub invariant-loop-place : goal.invariant-loop-place
 invariant-loop-place l = record {
   text : l.text ≡ l.initial.text ++ cells_text (take l.place l.cells);
   ascii : IsAscii (cells_text (take l.place l.cells));
-  fits : length l.text ≡ length l.initial.text + 3 * l.place
+  fits : length l.text ≡ length l.initial.text + 3 * l.place;
 }
