@@ -40,6 +40,12 @@ def helped(program):
     return [case for name in dates_help.commands(program) for case in examples(dates_help.help_of(program, name)[3])]
 
 
+def apart(program):
+    """The commands whose words and answer in the help of all are not those of their own help."""
+    lines = {" ".join(line.split()) for line in dates_help.said(program, "--help").splitlines()}
+    return [name for name in dates_help.commands(program) if " ".join(" ".join(dates_help.help_of(program, name)[:2]).split()) not in lines]
+
+
 def stale(program):
     """The files made of the help that are not as tools/dates_help.py would make them now."""
     old = []
@@ -86,6 +92,9 @@ def main():
         for path in stale(program):
             failed += 1
             print(f"FAILED: {path} is not what tools/dates_help.py makes")
+        for name in apart(program):
+            failed += 1
+            print(f"FAILED: {name} --help has other words or another answer than --help")
     print(f"{passed} passed, {failed} failed")
     return 1 if failed else 0
 

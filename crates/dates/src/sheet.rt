@@ -1,6 +1,6 @@
 //! A month or a year as a sheet.
 
-use crate::closed::{Years, put_holidays, weekend_of};
+use crate::closed::{put_holidays, weekend_of, years_of};
 use crate::fault::{ANSWERED, WRONG};
 use crate::year::no_such_year;
 use chrono_business::Calendar;
@@ -18,31 +18,58 @@ pub(crate) fn answer_sheet(
     time: SheetTime,
     options: SheetOptions,
 ) -> io::Result<u8> {
-    let start = options.start.unwrap_or(Weekday::Mon);
-    let (month, whole_year) = match time {
-        SheetTime::Month { first } => (first, false),
+    match time {
+        SheetTime::Month { first } => answer_month(rt, words, first, options),
         SheetTime::Year { year } => match NaiveDate::from_ymd_opt(year, 1, 1) {
-            Some(first) => (first, true),
-            None => return no_such_year(rt, year),
+            Some(first) => answer_year(rt, words, first, options),
+            None => no_such_year(rt, year),
         },
-    };
-    let years = Years {
-        first: month.year(),
-        last: month.year(),
-    };
+    }
+}
+
+// The month that begins on a day.
+fn answer_month(
+    rt: &(impl Alloc + Print + Eprint + Files),
+    words: &[String<impl Allocator>],
+    month: NaiveDate,
+    options: SheetOptions,
+) -> io::Result<u8> {
+    let start = start_of(options);
     let mut days: Vec<NaiveDate, _> = Vec::new(rt.alloc());
-    if !put_holidays(rt, words, options.closed, years, &mut days)? {
+    if !put_holidays(rt, words, options.closed, years_of(month, month), &mut days)? {
         return Ok(WRONG);
     }
     let Ok(calendar) = Calendar::try_new(weekend_of(options.closed), days.as_slice()) else {
         return Ok(WRONG);
     };
-    if whole_year {
-        print_year(rt, month, start, &calendar)?;
-    } else {
-        print_month(rt, &MonthSheet { month, start }, &calendar)?;
-    }
+    print_month(rt, &MonthSheet { month, start }, &calendar)?;
     Ok(ANSWERED)
+}
+
+// The year that begins on a day.
+fn answer_year(
+    rt: &(impl Alloc + Print + Eprint + Files),
+    words: &[String<impl Allocator>],
+    first: NaiveDate,
+    options: SheetOptions,
+) -> io::Result<u8> {
+    let mut days: Vec<NaiveDate, _> = Vec::new(rt.alloc());
+    if !put_holidays(rt, words, options.closed, years_of(first, first), &mut days)? {
+        return Ok(WRONG);
+    }
+    let Ok(calendar) = Calendar::try_new(weekend_of(options.closed), days.as_slice()) else {
+        return Ok(WRONG);
+    };
+    print_year(rt, first, start_of(options), &calendar)?;
+    Ok(ANSWERED)
+}
+
+// The weekday on which weeks begin: Monday where none is given.
+fn start_of(options: SheetOptions) -> Weekday {
+    match options.start {
+        Some(day) => day,
+        None => Weekday::Mon,
+    }
 }
 
 // A month alone.
