@@ -92,11 +92,12 @@ fn print_year(
     calendar: &Calendar,
 ) -> io::Result<()> {
     println!(rt; "{:>41}", first.year())?;
-    for quarter in 0..4 {
+    for quarter in 0..4u32 {
         println!(rt; "")?;
-        let left = month_of(first, 3 * quarter, start);
-        let middle = month_of(first, 3 * quarter + 1, start);
-        let right = month_of(first, 3 * quarter + 2, start);
+        let months = 3 * i64::from(quarter);
+        let left = month_of(first, months, start);
+        let middle = month_of(first, months + 1, start);
+        let right = month_of(first, months + 2, start);
         print_quarter(rt, &left, &middle, &right, calendar)?;
     }
     Ok(())
