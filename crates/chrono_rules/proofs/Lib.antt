@@ -8,7 +8,9 @@ mod GivenDays
 mod Kept
 mod Moments
 mod Passed
+mod PeriodsLeftOut
 mod PieceLemmas
+mod PlacesInPeriods
 mod RecurrenceWalks
 mod RisingLists
 mod Skipped

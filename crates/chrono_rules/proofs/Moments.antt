@@ -72,3 +72,28 @@ pub least_later : (r : Rule) (start m q : Moment) (e : ℤ) → (earlier_time m.
 least_later r start m q e today days after (inl less) = none_later r start m q today (λ later. days q.date later less) after
 least_later r start m q e today days after (inr (date, inl less)) = not_at r start q (λ second fraction. absurd (omega (arith, less, second)))
 least_later r start m q e today days after (inr (date, inr (same, less))) = not_at r start q (λ second fraction. absurd (omega (arith, less, fraction)))
+
+-- ---- the same before a moment
+
+pub none_before_on_day : (r : Rule) (start m q : Moment) → IsBefore (moment m.date start.time) q → IsBefore q m → is_instance_at r start q ≡ false
+none_before_on_day r start m q (inl later) (inl earlier) = absurd (omega (arith, signed, later, earlier))
+none_before_on_day r start m q (inl later) (inr (date, time)) = absurd (omega (arith, signed, later, date))
+none_before_on_day r start m q (inr (date, inl less)) before = not_at r start q (λ second fraction. absurd (omega (arith, less, second)))
+none_before_on_day r start m q (inr (date, inr (same, less))) before = not_at r start q (λ second fraction. absurd (omega (arith, less, fraction)))
+
+from_time : (a b t : TimeOfDay) → IsEarlier a b → t.second ≡ a.second → t.fraction ≡ a.fraction → IsEarlier t b
+from_time a b t (inl less) second fraction = inl (omega (arith, less, second))
+from_time a b t (inr (same, less)) second fraction = inr (omega (arith, same, second), omega (arith, less, fraction))
+
+pub none_earlier : (r : Rule) (start m q : Moment) → (earlier_time start.time m.time && is_instance r start.date m.date) ≡ false → (q.date <ℤ m.date → is_instance r start.date q.date ≡ false) → IsBefore q m → is_instance_at r start q ≡ false
+none_earlier r start m q today days (inl earlier) = not_at r start q (λ second fraction. days earlier)
+none_earlier r start m q today days (inr (date, time)) =
+    not_at r start q
+    (λ second fraction.
+    ap (is_instance r start.date) date
+    ∙ and-rest (earlier_time start.time m.time) (is_instance r start.date m.date) (earlier-is start.time m.time (from_time q.time m.time start.time time second fraction)) today)
+
+pub greatest_earlier : (r : Rule) (start m q : Moment) (e : ℤ) → (earlier_time start.time m.time && is_instance r start.date m.date) ≡ false → ((d : ℤ) → e <ℤ d → d <ℤ m.date → is_instance r start.date d ≡ false) → IsBefore (moment e start.time) q → IsBefore q m → is_instance_at r start q ≡ false
+greatest_earlier r start m q e today days (inl more) before = none_earlier r start m q today (λ earlier. days q.date more earlier) before
+greatest_earlier r start m q e today days (inr (date, inl less)) before = not_at r start q (λ second fraction. absurd (omega (arith, less, second)))
+greatest_earlier r start m q e today days (inr (date, inr (same, less))) before = not_at r start q (λ second fraction. absurd (omega (arith, less, fraction)))

@@ -139,15 +139,15 @@ month_left_out digits m month j here lt at ahead around = elim (cases_lt (month 
 ]
 
 -- in its own month no day is in a later one
-pub own_month : (n d : ℤ) (k : ℕ) → n ≤ℤ d → d ≤ℤ month_last_of n → 0 < k → month_index_of d <ℤ (month_index_of n +ℤ pos k)
+pub own_month : (n d k : ℤ) → n ≤ℤ d → d ≤ℤ month_last_of n → pos 0 <ℤ k → month_index_of d <ℤ (month_index_of n +ℤ k)
 own_month n d k low high some =
     let same : InSameMonth d n = (month-days n d).1 (omega (arith, signed, low, day_of-bounds n), high) in
     omega (arith, signed, same.0, same.1, some)
 
 -- the first day of a month so many months later, found from the first of this one
-pub first_later : (n first e : ℤ) (k : ℕ) → InSameMonth first n → day_of first ≡ 1 → month_index_of e ≡ month_index_of first +ℤ pos k → day_of e ≡ min (day_of first) (month_length_of e) → (month_index_of e ≡ month_index_of n +ℤ pos k) × (day_of e ≡ 1)
+pub first_later : (n first e k : ℤ) → InSameMonth first n → day_of first ≡ 1 → month_index_of e ≡ month_index_of first +ℤ k → day_of e ≡ min (day_of first) (month_length_of e) → (month_index_of e ≡ month_index_of n +ℤ k) × (day_of e ≡ 1)
 first_later n first e k same one index day = (omega (arith, signed, same.0, same.1, index), omega (arith, one, day, day_of-bounds e))
 
-pub later_first : (n e : ℤ) (k : ℕ) → month_index_of e ≡ month_index_of n +ℤ pos k → 0 < k → n <ℤ e
+pub later_first : (n e k : ℤ) → month_index_of e ≡ month_index_of n +ℤ k → pos 0 <ℤ k → n <ℤ e
 later_first n e k index some =
     earlier_month n e (month_index_of n) (month_index_of e) (day_of n) (day_of e) (day_at-exists n) (day_at-exists e) (omega (arith, signed, index, some))

@@ -1,11 +1,12 @@
 -- Words for rules whose instances are known.
-use Rattle.std.specs.Prelude.{ℕ, List, [], ◌∷◌, ℤ}
+use Rattle.std.specs.Prelude.{ℕ, List, [], ◌∷◌, ℤ, pos}
 use Rattle.chrono_datetime.specs.declared.Weekday.{Weekday}
 use Rattle.chrono_datetime.specs.declared.Weekday.TheVariants.{Mon}
 use Rattle.chrono_rules.specs.declared.rule.End.TheVariants.{Count, Never, Until}
 use Rattle.chrono_rules.specs.declared.rule.Frequency.{Frequency}
 use Rattle.chrono_rules.specs.declared.rule.Frequency.TheVariants.{Daily, Monthly, Weekly, Yearly}
 use Rattle.chrono_rules.specs.declared.rule.Rule.{Rule}
+use Rattle.chrono_rules.specs.RecurrenceSets.{RecurrenceSet}
 use Rattle.chrono_rules.specs.Instances.{no_numbers, no_places, no_weekdays, plain}
 
 -- FREQ=WEEKLY;INTERVAL=2;COUNT=4;BYDAY=TU,SU with weeks that begin on a weekday
@@ -39,3 +40,7 @@ by_positions days front back = record { frequency = Monthly; interval = 1; end =
 -- FREQ=DAILY with UNTIL
 abbrev pub daily_until : ℤ → Rule
 daily_until last = record { frequency = Daily; interval = 1; end = Until last; months = no_numbers; month_days = no_numbers; month_days_from_end = no_numbers; weekdays = no_weekdays; year_days = no_places; year_days_from_end = no_places; weeks = no_numbers; weeks_from_end = no_numbers; positions = no_places; positions_from_end = no_places; week_start = Mon }
+
+-- `daily` from 2 September 1997 with the two days behind its start as dates beside its instances, and the second of these and the second instance as exceptions
+abbrev pub tenths : RecurrenceSet
+tenths = record { rule = daily; start = pos 729_269; dates = pos 729_270 ∷ pos 729_271 ∷ []; exceptions = pos 729_271 ∷ pos 729_279 ∷ [] }

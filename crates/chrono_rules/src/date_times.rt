@@ -46,6 +46,37 @@ impl Rule {
         let day = self.next_after(start.date(), date)?;
         Some(NaiveDateTime::new(day, start.time()))
     }
+
+    // Whether the moment's day has an instance earlier than the moment.
+    #[inline]
+    fn precedes_on_day(&self, start: NaiveDateTime, moment: NaiveDateTime) -> bool
+        ensures { result ≡ (earlier_time start.time moment.time && is_instance self.now start.date moment.date) }
+    {
+        is_earlier_time(start.time(), moment.time())
+            && self.is_instance(start.date(), moment.date())
+    }
+
+    /// The last instance before the moment, of the rule from the start on, at the start's time of day; `None` exactly if there is none. An
+    /// UNTIL of the rule is a day, and an instance on it counts whatever its time.
+    pub fn prev_date_time(
+        &self,
+        start: NaiveDateTime,
+        moment: NaiveDateTime,
+    ) -> Option<NaiveDateTime>
+        ensures member { IfSome result (λ m. IsTrue (is_instance_at self.now start m)) }
+        ensures earlier { IfSome result (λ m. IsBefore m moment) }
+        ensures greatest { IfSome result (λ m. (q : Moment) → IsMoment q → IsBefore m q → IsBefore q moment →
+            is_instance_at self.now start q ≡ false) }
+        ensures none { IfNone result ((q : Moment) → IsMoment q → IsBefore q moment →
+            is_instance_at self.now start q ≡ false) }
+    {
+        let date = moment.date();
+        if self.precedes_on_day(start, moment) {
+            return Some(NaiveDateTime::new(date, start.time()));
+        }
+        let day = self.prev_before(start.date(), date)?;
+        Some(NaiveDateTime::new(day, start.time()))
+    }
 }
 
 // Whether two times of day are one.

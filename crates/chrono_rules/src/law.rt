@@ -1,9 +1,10 @@
 //! Instances that are known, each as a clause of a function that does nothing.
 ghost use Rattle.std.specs.Prelude.{◌≡◌, ◌+◌, ◌^◌, true, false, [], ◌∷◌, neg_ℤ, pos};
 ghost use Rattle.chrono_datetime.specs.declared.Weekday.TheVariants.{Mon, Sun};
-ghost use Rattle.chrono_rules.specs.Instances.{is_instance, no_places, no_weekdays};
-ghost use Rattle.chrono_rules.specs.KnownRules.{by_month_days, by_positions, by_weekdays, by_weeks, by_year_days, daily, daily_until, fortnightly};
-ghost use Rattle.chrono_rules.specs.declared.rule.Frequency.TheVariants.{Monthly, Yearly};
+ghost use Rattle.chrono_rules.specs.Instances.{is_instance, no_places, no_weekdays, plain};
+ghost use Rattle.chrono_rules.specs.KnownRules.{by_month_days, by_positions, by_weekdays, by_weeks, by_year_days, daily, daily_until, fortnightly, tenths};
+ghost use Rattle.chrono_rules.specs.RecurrenceSets.{is_in_recurrence};
+ghost use Rattle.chrono_rules.specs.declared.rule.Frequency.TheVariants.{Monthly, Weekly, Yearly};
 
 /// Instances that RFC 5545 gives in section 3.8.5.3. Every other week on Tuesday and Sunday, four times from Tuesday, 5 August 1997: with
 /// weeks that begin on Monday the 10th, the 19th and the 24th, with weeks that begin on Sunday the 17th, the 19th and the 31st; no fifth
@@ -66,21 +67,27 @@ pub fn known_weekdays()
     ensures of_year_monday { is_instance (by_weekdays Yearly 0 (2 ^ 20 ∷ 0 ∷ 0 ∷ 0 ∷ 0 ∷ 0 ∷ 0 ∷ []) no_weekdays.back) (neg_ℤ (pos 1322)) (neg_ℤ (pos 958)) ≡ true }
     ensures of_month_friday { is_instance (by_weekdays Monthly 0 (0 ∷ 0 ∷ 0 ∷ 0 ∷ 2 ∷ 0 ∷ 0 ∷ []) no_weekdays.back) (neg_ℤ (pos 1213)) (neg_ℤ (pos 1185)) ≡ true }
     ensures of_month_late { is_instance (by_weekdays Monthly 0 (0 ∷ 0 ∷ 0 ∷ 0 ∷ 2 ∷ 0 ∷ 0 ∷ []) no_weekdays.back) (neg_ℤ (pos 1213)) (neg_ℤ (pos 1178)) ≡ false }
+    ensures of_month_seventh { is_instance (by_weekdays Monthly 0 (0 ∷ 0 ∷ 0 ∷ 0 ∷ 2 ∷ 0 ∷ 0 ∷ []) no_weekdays.back) (neg_ℤ (pos 1213)) (neg_ℤ (pos 1150)) ≡ true }
     ensures of_month_back_monday { is_instance (by_weekdays Monthly 0 no_weekdays.front (4 ∷ 0 ∷ 0 ∷ 0 ∷ 0 ∷ 0 ∷ 0 ∷ [])) (neg_ℤ (pos 1196)) (neg_ℤ (pos 1168)) ≡ true }
     ensures of_month_back_late { is_instance (by_weekdays Monthly 0 no_weekdays.front (4 ∷ 0 ∷ 0 ∷ 0 ∷ 0 ∷ 0 ∷ 0 ∷ [])) (neg_ℤ (pos 1196)) (neg_ℤ (pos 1161)) ≡ false }
+    ensures of_month_back_november { is_instance (by_weekdays Monthly 0 no_weekdays.front (4 ∷ 0 ∷ 0 ∷ 0 ∷ 0 ∷ 0 ∷ 0 ∷ [])) (neg_ℤ (pos 1196)) (neg_ℤ (pos 1140)) ≡ true }
     ensures of_october_early { is_instance (by_weekdays Yearly (2 ^ 10) no_weekdays.front (0 ∷ 0 ∷ 0 ∷ 0 ∷ 0 ∷ 0 ∷ 2 ∷ [])) (neg_ℤ (pos 1460)) (neg_ℤ (pos 1169)) ≡ false }
     ensures of_october_sunday { is_instance (by_weekdays Yearly (2 ^ 10) no_weekdays.front (0 ∷ 0 ∷ 0 ∷ 0 ∷ 0 ∷ 0 ∷ 2 ∷ [])) (neg_ℤ (pos 1460)) (neg_ℤ (pos 1162)) ≡ true }
 {}
 
-/// Days of the month (BYMONTHDAY): the third to the last; and the start's day where none is named: the 10th in June and July, and of a
-/// rule by years alone its day of the year (3.8.5.3). Each is 2,000 years earlier here, by five whole cycles of 400 years, so that
-/// little is to be counted.
+/// Days of the month (BYMONTHDAY): the third to the last; and the start's day where none is named: the 10th in June and July (3.8.5.3),
+/// and, of a rule by months, weeks or years alone, its day of the month, of the week or of the year (3.3.10). Each is 2,000 years
+/// earlier here, by five whole cycles of 400 years, so that little is to be counted.
 pub fn known_month_days()
     ensures third_to_last_october { is_instance (by_month_days Monthly 0 0 8) (neg_ℤ (pos 1190)) (neg_ℤ (pos 1159)) ≡ true }
     ensures third_to_last_february { is_instance (by_month_days Monthly 0 0 8) (neg_ℤ (pos 1190)) (neg_ℤ (pos 1039)) ≡ true }
     ensures third_to_last_late { is_instance (by_month_days Monthly 0 0 8) (neg_ℤ (pos 1190)) (neg_ℤ (pos 1038)) ≡ false }
     ensures in_july_tenth { is_instance (by_month_days Yearly (2 ^ 6 + 2 ^ 7) 0 0) (neg_ℤ (pos 1300)) (neg_ℤ (pos 1270)) ≡ true }
     ensures in_july_ninth { is_instance (by_month_days Yearly (2 ^ 6 + 2 ^ 7) 0 0) (neg_ℤ (pos 1300)) (neg_ℤ (pos 1271)) ≡ false }
+    ensures each_month_second { is_instance (plain Monthly) (neg_ℤ (pos 1216)) (neg_ℤ (pos 1186)) ≡ true }
+    ensures each_month_third { is_instance (plain Monthly) (neg_ℤ (pos 1216)) (neg_ℤ (pos 1185)) ≡ false }
+    ensures each_week_tuesday { is_instance (plain Weekly) (neg_ℤ (pos 1216)) (neg_ℤ (pos 1209)) ≡ true }
+    ensures each_week_wednesday { is_instance (plain Weekly) (neg_ℤ (pos 1216)) (neg_ℤ (pos 1208)) ≡ false }
     ensures each_year_next_month { is_instance (by_month_days Yearly 0 0 0) (neg_ℤ (pos 1216)) (neg_ℤ (pos 1186)) ≡ false }
     ensures each_year_next_year { is_instance (by_month_days Yearly 0 0 0) (neg_ℤ (pos 1216)) (neg_ℤ (pos 851)) ≡ true }
 {}
@@ -100,4 +107,15 @@ pub fn known_positions()
 pub fn known_ends()
     ensures until_itself { is_instance (daily_until (neg_ℤ (pos 1104))) (neg_ℤ (pos 1216)) (neg_ℤ (pos 1104)) ≡ true }
     ensures until_behind { is_instance (daily_until (neg_ℤ (pos 1104))) (neg_ℤ (pos 1216)) (neg_ℤ (pos 1103)) ≡ false }
+{}
+
+/// Every tenth day from 2 September 1997 with the two days behind it as dates beside the instances, and the second of these and the second instance as
+/// exceptions: what RDATE and EXDATE mean (RFC 5545, 3.8.5.1 and 3.8.5.2).
+pub fn known_recurrence()
+    ensures instance { is_in_recurrence tenths (pos 729269) ≡ true }
+    ensures date { is_in_recurrence tenths (pos 729270) ≡ true }
+    ensures date_excepted { is_in_recurrence tenths (pos 729271) ≡ false }
+    ensures neither { is_in_recurrence tenths (pos 729272) ≡ false }
+    ensures instance_excepted { is_in_recurrence tenths (pos 729279) ≡ false }
+    ensures next { is_in_recurrence tenths (pos 729289) ≡ true }
 {}

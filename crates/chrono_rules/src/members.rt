@@ -23,7 +23,13 @@ impl Rule {
     }
 
     // How many dates pass from the day that lies `first` days later to before the one that lies `end` days later.
-    fn count_passing(&self, start: NaiveDate, date: NaiveDate, first: i64, end: i64) -> u32
+    pub(crate) fn count_passing(
+        &self,
+        start: NaiveDate,
+        date: NaiveDate,
+        first: i64,
+        end: i64,
+    ) -> u32
         requires order { first ≤ℤ end }
         requires first { neg_ℤ (pos 400) ≤ℤ first }
         requires end { end ≤ℤ pos 400 }
@@ -56,7 +62,7 @@ impl Rule {
     // How many days later the first day of the date's period lies, 0 or less.
     #[inline]
     #[tactic(auto, unfolding(crate::specs::Instances::period_first))]
-    fn to_period_first(&self, date: NaiveDate) -> i64
+    pub(crate) fn to_period_first(&self, date: NaiveDate) -> i64
         ensures value { date +ℤ result ≡ period_first self.now.frequency self.now.week_start date }
         ensures low { neg_ℤ (pos 366) ≤ℤ result }
         ensures high { result ≤ℤ pos 0 }
@@ -72,7 +78,7 @@ impl Rule {
     // How many days later the day after the last of the date's period lies, 1 or more.
     #[inline]
     #[tactic(auto, unfolding(crate::specs::Instances::period_end))]
-    fn to_period_end(&self, date: NaiveDate) -> i64
+    pub(crate) fn to_period_end(&self, date: NaiveDate) -> i64
         ensures value { date +ℤ result ≡ period_end self.now.frequency self.now.week_start date }
         ensures low { pos 1 ≤ℤ result }
         ensures high { result ≤ℤ pos 366 }

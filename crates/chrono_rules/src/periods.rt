@@ -28,9 +28,10 @@ impl Rule {
 
     // How many periods lie from one that counts to the next.
     #[inline]
-    fn step(&self) -> i64
+    pub(crate) fn step(&self) -> i64
         ensures value { result ≡ pos (if self.now.interval == 0 then 1 else self.now.interval) }
         ensures positive { pos 0 <ℤ result }
+        ensures few { result ≤ℤ pos 4_294_967_295 }
     {
         if self.interval == 0 {
             1
@@ -41,9 +42,11 @@ impl Rule {
 
     // How many periods the date's lies behind the start's, negative before it.
     #[inline]
-    fn periods_apart(&self, start: NaiveDate, date: NaiveDate) -> i64
-        ensures { result ≡ period_of self.now.frequency self.now.week_start date
+    pub(crate) fn periods_apart(&self, start: NaiveDate, date: NaiveDate) -> i64
+        ensures value { result ≡ period_of self.now.frequency self.now.week_start date
             -ℤ period_of self.now.frequency self.now.week_start start }
+        ensures low { neg_ℤ (pos 200_000_000) ≤ℤ result }
+        ensures high { result ≤ℤ pos 200_000_000 }
     {
         self.period_of(date) - self.period_of(start)
     }
@@ -92,9 +95,10 @@ pub(crate) fn moved(date: NaiveDate, days: i64) -> NaiveDate
 
 // What is left of a number of periods behind whole intervals.
 #[inline]
-fn remainder(apart: i64, step: i64) -> u64
+pub(crate) fn remainder(apart: i64, step: i64) -> u64
     requires { pos 0 <ℤ step }
-    ensures { result ≡ unsigned_abs (int_rem_euclid apart step) }
+    ensures value { result ≡ unsigned_abs (int_rem_euclid apart step) }
+    ensures less { pos result <ℤ step }
 {
     apart.rem_euclid(step).unsigned_abs()
 }

@@ -34,7 +34,7 @@ impl Rule {
         ensures high { result ≤ℤ pos 1_000_000_000 }
     {
         let months = self.months_passed(start, day.month());
-        days_to_month(day, months)
+        days_to_month(day, i64::from(months))
     }
 
     // How many days from this one on, in its month, are none that BYMONTHDAY names.
@@ -117,13 +117,17 @@ impl Rule {
     fn days_passed(&self, start: NaiveDate, day: NaiveDate) -> i64
         ensures passed { (d : ℤ) → day ≤ℤ d → d <ℤ (day +ℤ result) → is_member self.now start d ≡ false }
         ensures low { pos 0 ≤ℤ result }
-        ensures high { result ≤ℤ pos 1_000_000_000 }
+        ensures high { result ≤ℤ pos 50_000_000_000 }
         ensures in_range { IsDate day }
     {
         let here = day.num_days_from_ce();
         let before = i64::from(start.num_days_from_ce()) - i64::from(here);
         if before > 0 {
             return before;
+        }
+        let periods = self.passed_by_interval(start, day);
+        if periods > 0 {
+            return periods;
         }
         let months = self.passed_by_month(start, day);
         if months > 0 {
@@ -133,7 +137,11 @@ impl Rule {
         if days > 0 {
             return i64::from(days);
         }
-        i64::from(self.passed_by_weekday(start, day))
+        let weekdays = self.passed_by_weekday(start, day);
+        if weekdays > 0 {
+            return i64::from(weekdays);
+        }
+        self.passed_by_position(start, day)
     }
 
     // The date so many days later, of which none is a member; none behind UNTIL.
@@ -184,16 +192,17 @@ impl Rule {
 
 // How many days from this one on lie before the month that is so many months later; those of its own month if the calendar has none.
 #[inline]
-fn days_to_month(day: NaiveDate, months: u32) -> i64
-    requires { months ≤ 12 }
-    ensures earlier { (d : ℤ) → day ≤ℤ d → d <ℤ (day +ℤ result) → month_index_of d <ℤ (month_index_of day +ℤ pos months) }
+pub(crate) fn days_to_month(day: NaiveDate, months: i64) -> i64
+    requires low { pos 0 ≤ℤ months }
+    requires high { months ≤ℤ pos 100_000_000_000 }
+    ensures earlier { (d : ℤ) → day ≤ℤ d → d <ℤ (day +ℤ result) → month_index_of d <ℤ (month_index_of day +ℤ months) }
     ensures low { pos 0 ≤ℤ result }
     ensures high { result ≤ℤ pos 1_000_000_000 }
 {
     if months == 0 {
         return 0;
     }
-    match day.first_day_of_month().moved_by_months(i64::from(months)) {
+    match day.first_day_of_month().moved_by_months(months) {
         Some(first) => i64::from(first.num_days_from_ce()) - i64::from(day.num_days_from_ce()),
         None => 1 + i64::from(u32::from(day.num_days_in_month()) - day.day()),
     }

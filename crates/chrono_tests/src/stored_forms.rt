@@ -1,9 +1,9 @@
-//! Both stored forms of a date against names that are known from outside, and against a walk over every month of
-//! the range.
+//! Both stored forms of a date against a walk over every month of the range, and the stored number of the packed form against
+//! those that are known from outside. Names that are known, those of no date and the order of dates are rows of
+//! `chrono_rows`, which asks both forms.
 
 use chrono_calendar::{DayForm, forms};
 use chrono_stored::{CountedForm, PackedForm};
-use std::hash::{DefaultHasher, Hash, Hasher};
 
 /// A day as a walk reaches it: its names, and its weekday from 0 for Monday.
 #[derive(Clone, Copy)]
@@ -70,12 +70,6 @@ fn agrees<F: DayForm>(days: i32, walk: &Walk) -> bool {
         && F::from_ymd(walk.year, walk.month, walk.day) == Some(form)
 }
 
-fn hash_of<T: Hash>(value: &T) -> u64 {
-    let mut state = DefaultHasher::new();
-    value.hash(&mut state);
-    state.finish()
-}
-
 // Whether both forms give the day so many days after the first of a month its names.
 fn both_agree(first: i32, walk: &Walk, later: u8) -> bool {
     let days = first.wrapping_add(i32::from(later));
@@ -109,112 +103,37 @@ fn a_walk_by_months_names_days_of_them(rt: HostRuntime) {
     assert_eq!(rt; (walk.year, walk.ordinal, days), (262_143, 1, 95_745_400));
 }
 
-// A date: year, month, day, day number, weekday from 0 for Monday, stored number.
-const KNOWN: [(i32, u32, u32, i32, u32, i32); 9] = [
-    (-262_143, 1, 1, -95_746_129, 3, -2_147_475_430),
-    (0, 12, 31, 0, 6, 5860),
-    (1, 1, 1, 1, 0, 8222),
-    (1900, 3, 1, 693_655, 3, 15_565_774),
-    (1970, 1, 1, 719_163, 3, 16_138_266),
-    (2000, 2, 29, 730_179, 1, 16_384_964),
-    (2024, 12, 31, 739_251, 1, 16_586_470),
-    (9999, 12, 31, 3_652_059, 4, 81_917_659),
-    (262_142, 12, 31, 95_745_399, 0, 2_147_473_118),
+// A date, by its year, month and day, and the stored number of its packed form.
+const KNOWN: [(i32, u32, u32, i32); 9] = [
+    (-262_143, 1, 1, -2_147_475_430),
+    (0, 12, 31, 5860),
+    (1, 1, 1, 8222),
+    (1900, 3, 1, 15_565_774),
+    (1970, 1, 1, 16_138_266),
+    (2000, 2, 29, 16_384_964),
+    (2024, 12, 31, 16_586_470),
+    (9999, 12, 31, 81_917_659),
+    (262_142, 12, 31, 2_147_473_118),
 ];
 
-// Whether the form has that day number and that weekday, and is the one of the number.
-fn is_known<F: DayForm>(form: &F, number: i32, weekday: u32) -> bool {
-    let again = forms::from_day::<F>(number);
-    form.day() == number
-        && form.weekday().num_days_from_monday() == weekday
-        && again.is_some_and(|again| again == *form)
-}
-
-// Whether both forms of a row are as it says.
-fn row_is_known((year, month, day, number, weekday, bits): (i32, u32, u32, i32, u32, i32)) -> bool {
-    let packed = PackedForm::from_ymd(year, month, day);
-    let counted = CountedForm::from_ymd(year, month, day);
-    match (packed, counted) {
-        (Some(packed), Some(counted)) => {
-            packed.bits() == bits
-                && is_known(&packed, number, weekday)
-                && is_known(&counted, number, weekday)
-        }
-        _ => false,
-    }
-}
-
-const NO_DATES: [(i32, u32, u32); 12] = [
-    (2023, 2, 29),
-    (1900, 2, 29),
-    (2024, 2, 30),
-    (2024, 4, 31),
-    (2024, 0, 1),
-    (2024, 13, 1),
-    (2024, 1, 0),
-    (2024, u32::MAX, u32::MAX),
-    (-262_144, 12, 31),
-    (262_143, 1, 1),
-    (i32::MIN, 1, 1),
-    (i32::MAX, 12, 31),
-];
-
-const NO_ORDINALS: [(i32, u32); 5] = [
-    (2023, 366),
-    (2024, 367),
-    (2024, 0),
-    (2024, u32::MAX),
-    (262_143, 1),
-];
-
-// Whether a form has no date of any of these names and of any number past the ends.
-fn refuses_others<F: DayForm>() -> bool {
-    for (year, month, day) in NO_DATES {
-        if F::from_ymd(year, month, day).is_some() {
-            return false;
-        }
-    }
-    for (year, ordinal) in NO_ORDINALS {
-        if F::from_yo(year, ordinal).is_some() {
-            return false;
-        }
-    }
-    for days in [-95_746_130, 95_745_400, i32::MIN, i32::MAX] {
-        if forms::from_day::<F>(days).is_some() {
-            return false;
-        }
-    }
-    true
-}
-
-/// Whether a date before year 0 comes between the ends and a date after them, and is equal and hashed alike by each of
-/// its names.
-fn is_ordered<F: DayForm>(first: F, last: F) -> bool {
-    let (Some(before), Some(same), Some(after)) = (
-        F::from_yo(-1, 365),
-        F::from_ymd(-1, 12, 31),
-        F::from_yo(1, 1),
-    ) else {
-        return false;
-    };
-    first < before
-        && before < after
-        && after < last
-        && same == before
-        && hash_of(&same) == hash_of(&before)
+// The stored number of the packed form of that date.
+fn stored((year, month, day): (i32, u32, u32)) -> Option<i32> {
+    Some(PackedForm::from_ymd(year, month, day)?.bits())
 }
 
 #[test]
-fn known_dates_are_stored_so_and_other_names_are_no_dates(rt: HostRuntime) {
-    for row in KNOWN {
-        assert!(rt; row_is_known(row), "in {}", row.0);
+fn known_dates_are_stored_so(rt: HostRuntime) {
+    for (year, month, day, bits) in KNOWN {
+        assert!(rt; stored((year, month, day)) == Some(bits), "in {year}");
     }
-    assert!(rt; refuses_others::<PackedForm>() && refuses_others::<CountedForm>());
-    let packed = (PackedForm::min_value(), PackedForm::max_value());
-    let counted = (CountedForm::min_value(), CountedForm::max_value());
-    assert!(rt; is_ordered(packed.0, packed.1) && is_ordered(counted.0, counted.1));
-    let bits = (packed.0.bits(), packed.1.bits());
+    let bits = (
+        PackedForm::min_value().bits(),
+        PackedForm::max_value().bits(),
+    );
     assert!(rt; bits == (-2_147_475_430, 2_147_473_118));
-    let names = (counted.0.year_month_day(), counted.1.year_month_day());
-    assert!(rt; names == ((-262_143, 1, 1), (262_142, 12, 31)));
+    let days = (
+        CountedForm::min_value().day(),
+        CountedForm::max_value().day(),
+    );
+    assert!(rt; days == (-95_746_129, 95_745_399));
 }

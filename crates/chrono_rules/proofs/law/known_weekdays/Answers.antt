@@ -20,6 +20,10 @@ pub returns-clause-of_month_late : goal.returns-clause-of_month_late
 unfolding is_instance is_counted is_member not_after in_interval in_positions passes date_passes on_weekday on_month_day on_year_day in_week has has_place has_numbers counts_in_month fills_weekday fills_day fills_month period_of period_first period_end count_between count_where ordinal_name_of days_after_zero days_before_zero month_of_ordinal day_of_ordinal days_of_months_in
 returns-clause-of_month_late c = refl
 
+pub returns-clause-of_month_seventh : goal.returns-clause-of_month_seventh
+unfolding is_instance is_counted is_member not_after in_interval in_positions passes date_passes on_weekday on_month_day on_year_day in_week has has_place has_numbers counts_in_month fills_weekday fills_day fills_month period_of period_first period_end count_between count_where ordinal_name_of days_after_zero days_before_zero month_of_ordinal day_of_ordinal days_of_months_in
+returns-clause-of_month_seventh c = refl
+
 pub returns-clause-of_month_back_monday : goal.returns-clause-of_month_back_monday
 unfolding is_instance is_counted is_member not_after in_interval in_positions passes date_passes on_weekday on_month_day on_year_day in_week has has_place has_numbers counts_in_month fills_weekday fills_day fills_month period_of period_first period_end count_between count_where ordinal_name_of days_after_zero days_before_zero month_of_ordinal day_of_ordinal days_of_months_in
 returns-clause-of_month_back_monday c = refl
@@ -27,6 +31,10 @@ returns-clause-of_month_back_monday c = refl
 pub returns-clause-of_month_back_late : goal.returns-clause-of_month_back_late
 unfolding is_instance is_counted is_member not_after in_interval in_positions passes date_passes on_weekday on_month_day on_year_day in_week has has_place has_numbers counts_in_month fills_weekday fills_day fills_month period_of period_first period_end count_between count_where ordinal_name_of days_after_zero days_before_zero month_of_ordinal day_of_ordinal days_of_months_in
 returns-clause-of_month_back_late c = refl
+
+pub returns-clause-of_month_back_november : goal.returns-clause-of_month_back_november
+unfolding is_instance is_counted is_member not_after in_interval in_positions passes date_passes on_weekday on_month_day on_year_day in_week has has_place has_numbers counts_in_month fills_weekday fills_day fills_month period_of period_first period_end count_between count_where ordinal_name_of days_after_zero days_before_zero month_of_ordinal day_of_ordinal days_of_months_in
+returns-clause-of_month_back_november c = refl
 
 pub returns-clause-of_october_early : goal.returns-clause-of_october_early
 unfolding is_instance is_counted is_member not_after in_interval in_positions passes date_passes on_weekday on_month_day on_year_day in_week has has_place has_numbers counts_in_month fills_weekday fills_day fills_month period_of period_first period_end count_between count_where ordinal_name_of days_after_zero days_before_zero month_of_ordinal day_of_ordinal days_of_months_in

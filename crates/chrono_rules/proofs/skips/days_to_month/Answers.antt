@@ -11,8 +11,8 @@ returns-in-Some-clause-earlier c = λ d low high.
 pub returns-in-Some-clause-low : goal.returns-in-Some-clause-low
 returns-in-Some-clause-low c =
     let found = first_later c.args.day c.first_day_of_month.result c.in-Some.first c.args.months c.first_day_of_month.ensures.month c.first_day_of_month.ensures.day (omega (arith, casts, c.in-Some.ensures.month)) c.in-Some.ensures.day in
-    omega (arith, casts, later_first c.args.day c.in-Some.first c.args.months found.0 (omega arith))
+    omega (arith, casts, later_first c.args.day c.in-Some.first c.args.months found.0 (omega (arith, casts, c.requires.low)))
 
 pub returns-in-None-clause-earlier : goal.returns-in-None-clause-earlier
 returns-in-None-clause-earlier c = λ d low high.
-    own_month c.args.day d c.args.months low (omega (arith, casts, high)) (omega arith)
+    own_month c.args.day d c.args.months low (omega (arith, casts, high)) (omega (arith, casts, c.requires.low))

@@ -9,8 +9,8 @@ returns-then-before-gt0-clause-passed c = λ d low high. before_start c.args.sel
 pub returns-then-days-gt0-clause-passed : goal.returns-then-days-gt0-clause-passed
 returns-then-days-gt0-clause-passed c = λ d low high. c.passed_by_month_day-days.ensures.passed d low (omega (arith, casts, high))
 
-pub returns-clause-passed : goal.returns-clause-passed
-returns-clause-passed c = λ d low high. c.passed_by_weekday.ensures.passed d low (omega (arith, casts, high))
+pub returns-then-weekdays-gt0-clause-passed : goal.returns-then-weekdays-gt0-clause-passed
+returns-then-weekdays-gt0-clause-passed c = λ d low high. c.passed_by_weekday-weekdays.ensures.passed d low (omega (arith, casts, high))
 
 pub returns-then-before-gt0-clause-in_range : goal.returns-then-before-gt0-clause-in_range
 returns-then-before-gt0-clause-in_range c = (omega (arith, signed, c.num_days_from_ce-here.ensures.value, c.num_days_from_ce-here.ensures.in_range), omega (arith, signed, c.num_days_from_ce-here.ensures.value, c.num_days_from_ce-here.ensures.in_range))

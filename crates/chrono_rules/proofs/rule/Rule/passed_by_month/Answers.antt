@@ -5,5 +5,5 @@ use Rattle.chrono_rules.proofs.rule.Rule.passed_by_month.Goals as goal
 
 pub returns-clause-passed : goal.returns-clause-passed
 returns-clause-passed c = λ d low high.
-    let on = month_on c.args.day d c.months_passed-months.result low (c.days_to_month.ensures.earlier d low (omega (arith, casts, high))) c.months_passed-months.ensures.few in
+    let on = month_on c.args.day d c.months_passed-months.result low (omega (arith, casts, c.days_to_month.ensures.earlier d low (omega (arith, casts, high)), c.from.ensures, c.months_passed-months.ensures.few)) c.months_passed-months.ensures.few in
     c.months_passed-months.ensures.passed d _ on.0 (omega (arith, on.1, c.month.ensures.value))

@@ -1,0 +1,187 @@
+-- The places of a period's passing days, of which BYSETPOS names some.
+use Rattle.std.proofs.Common.{◌≡◌, ◌==◌, ℕ, zero, suc, ◌+◌, ◌-◌, ◌/◌, ◌%◌, ◌≤◌, Bool, true, false, cond, not, ◌||◌, List, [], ◌∷◌, length, refl, sym, subst, ap, ◌∙◌, arith, ℤ, pos, ◌+ℤ◌, ◌-ℤ◌, ◌≤ℤ◌, ◌<ℤ◌, int_le, unsigned_abs}
+use Rattle.std.specs.Prelude.{slice_index_or}
+use Rattle.std.specs.Int.{bit_at}
+use Rattle.std.proofs.lemmas.Bool.{false≢true}
+use Rattle.std.proofs.lemmas.Bool.Decides.{nat_tests}
+use Rattle.std.proofs.lemmas.List.{get_or_past}
+use Rattle.std.proofs.lemmas.Nat.Bits.{bit_at-zero}
+use Rattle.chrono_datetime.specs.Days.{IsDate, day_of, days_before_year, is_date, month_of, ordinal_of, year_of}
+use Rattle.chrono_datetime.specs.MonthMoves.{month_first_of, month_last_of, month_length_of}
+use Rattle.chrono_datetime.specs.Recurrence.{count_between}
+use Rattle.chrono_datetime.specs.Years.{year_length}
+use Rattle.chrono_datetime.specs.Weekday.{days_since}
+use Rattle.chrono_datetime.specs.Weeks.{week_first_of, weekday_of}
+use Rattle.chrono_datetime.specs.declared.Weekday.{Weekday}
+use Rattle.chrono_datetime.proofs.CountBetween.{count_between-sum}
+use Rattle.chrono_datetime.proofs.MonthDays.{day_of-bounds, later_in_month}
+use Rattle.chrono_datetime.proofs.NamedDates.{IsCalendarName-ordinal, calendar_name-exists, number-calendar_name, number-ordinal_name}
+use Rattle.chrono_datetime.proofs.Signed.{signed}
+use Rattle.chrono_datetime.proofs.WeekDays.{week_first_of-only, week_first_of-place}
+use Rattle.chrono_rules.specs.Instances.{are_zero, date_passes, has_place, in_interval, in_positions, is_member, lacks_positions, not_after, passes, period_end, period_first}
+use Rattle.chrono_rules.specs.declared.places.PlaceSet.{PlaceSet}
+use Rattle.chrono_rules.specs.declared.rule.Frequency.{Frequency}
+use Rattle.chrono_rules.specs.declared.rule.Frequency.TheVariants.{Daily, Monthly, Weekly, Yearly}
+use Rattle.chrono_rules.specs.declared.rule.Rule.{Rule}
+use Rattle.chrono_rules.proofs.Counts.{counted-next}
+use Rattle.chrono_rules.proofs.Passed.{and-none, no_pass}
+
+-- ---- days of one period
+
+pub same_week : (n d : ℤ) (start : Weekday) → n ≤ℤ d → d <ℤ (n +ℤ (pos 7 -ℤ pos (days_since (weekday_of n) start))) → week_first_of d start ≡ week_first_of n start
+same_week n d start low high =
+    let m : ℤ = week_first_of n start in
+    let place = week_first_of-place n m start refl in
+    sym (week_first_of-only d m start place.0 (omega (arith, signed, place.1, low)) (omega (arith, signed, high)))
+
+record StandIn (n d : ℤ) (k : ℕ) : Type 0 where
+  year : year_of d ≡ year_of n
+  month : month_of d ≡ month_of n
+  number : d ≡ n +ℤ pos k
+  day : day_of d ≡ day_of n + k
+
+in_rest : (n d r : ℤ) → r ≡ pos (month_length_of n - day_of n) +ℤ pos 1 → n ≤ℤ d → d <ℤ (n +ℤ r) → StandIn n d (unsigned_abs (d -ℤ n))
+in_rest n d r e low high =
+    let k : ℕ = unsigned_abs (d -ℤ n) in
+    let at : d ≡ n +ℤ pos k = omega (arith, signed, low) in
+    let there = later_in_month n d k at (omega (arith, signed, e, low, high, day_of-bounds n)) in
+    record { year = there.month.0; month = there.month.1; number = at; day = there.day }
+
+same_month_length : (n d : ℤ) → year_of d ≡ year_of n → month_of d ≡ month_of n → month_length_of d ≡ month_length_of n
+same_month_length n d year month = cc
+
+pub same_month_first : (n d r : ℤ) → r ≡ pos (month_length_of n - day_of n) +ℤ pos 1 → n ≤ℤ d → d <ℤ (n +ℤ r) → month_first_of d ≡ month_first_of n
+same_month_first n d r e low high =
+    let it = in_rest n d r e low high in
+    omega (arith, signed, it.number, it.day, day_of-bounds n, day_of-bounds d)
+
+pub same_month_end : (n d r : ℤ) → r ≡ pos (month_length_of n - day_of n) +ℤ pos 1 → n ≤ℤ d → d <ℤ (n +ℤ r) → month_last_of d +ℤ pos 1 ≡ month_last_of n +ℤ pos 1
+same_month_end n d r e low high =
+    let it = in_rest n d r e low high in
+    omega (arith, signed, it.number, it.day, day_of-bounds n, day_of-bounds d, same_month_length n d it.year it.month)
+
+pub same_year_first : (n d r : ℤ) → r ≡ pos (month_length_of n - day_of n) +ℤ pos 1 → n ≤ℤ d → d <ℤ (n +ℤ r) → (d +ℤ pos 1) -ℤ pos (ordinal_of d) ≡ (n +ℤ pos 1) -ℤ pos (ordinal_of n)
+same_year_first n d r e low high =
+    let it = in_rest n d r e low high in
+    omega (arith, signed, number-ordinal_name n, number-ordinal_name d, ap (λ (y : ℤ). days_before_year y) it.year)
+
+pub same_year_end : (n d r : ℤ) → r ≡ pos (month_length_of n - day_of n) +ℤ pos 1 → n ≤ℤ d → d <ℤ (n +ℤ r) → ((d +ℤ pos 1) +ℤ pos (year_length (year_of d))) -ℤ pos (ordinal_of d) ≡ ((n +ℤ pos 1) +ℤ pos (year_length (year_of n))) -ℤ pos (ordinal_of n)
+same_year_end n d r e low high =
+    let it = in_rest n d r e low high in
+    omega (arith, signed, same_year_first n d r e low high, ap (λ (y : ℤ). year_length y) it.year)
+
+pub same_week_end : (n d : ℤ) (start : Weekday) → n ≤ℤ d → d <ℤ (n +ℤ (pos 7 -ℤ pos (days_since (weekday_of n) start))) → week_first_of d start +ℤ pos 7 ≡ week_first_of n start +ℤ pos 7
+same_week_end n d start low high = ap (λ (m : ℤ). m +ℤ pos 7) (same_week n d start low high)
+
+-- ---- a day stands in its period
+
+ordinal_of-bounds : (d : ℤ) → (1 ≤ ordinal_of d) × (ordinal_of d ≤ year_length (year_of d))
+ordinal_of-bounds d =
+    let name = IsCalendarName-ordinal (year_of d) (month_of d) (day_of d) (calendar_name-exists d) in
+    (omega (arith, signed, name.0, number-calendar_name d, number-ordinal_name d), omega (arith, signed, name.1, number-calendar_name d, number-ordinal_name d))
+
+pub from_period : (f : Frequency) (w : Weekday) (n : ℤ) → period_first f w n ≤ℤ n
+unfolding period_first
+from_period Daily w n = omega (arith, signed)
+from_period Weekly w n = omega (arith, signed)
+from_period Monthly w n = omega (arith, signed, day_of-bounds n)
+from_period Yearly w n = omega (arith, signed, ordinal_of-bounds n)
+
+pub to_period : (f : Frequency) (w : Weekday) (n : ℤ) → n <ℤ period_end f w n
+unfolding period_end
+to_period Daily w n = omega (arith, signed)
+to_period Weekly w n = omega (arith, signed, (week_first_of-place n (week_first_of n w) w refl).2)
+to_period Monthly w n = omega (arith, signed, day_of-bounds n)
+to_period Yearly w n = omega (arith, signed, ordinal_of-bounds n)
+
+-- ---- places that a set has
+
+split : (a b : Bool) → not (not a || b) ≡ true → (a ≡ true) × (not b ≡ true)
+split true true h = absurd (false≢true h)
+split true false h = (refl, refl)
+split false b h = absurd (false≢true h)
+
+zero_word : (words : List ℕ) (i : ℕ) → are_zero words ≡ true → slice_index_or words i 0 ≡ 0
+zero_word [] i is = get_or_past [] i 0 (omega arith)
+zero_word (w ∷ ws) zero is = grind (arith, nat_tests, (split (w == 0) _ is).0)
+zero_word (w ∷ ws) (suc i) is = zero_word ws i (split (w == 0) _ is).1
+
+no_word : (s : PlaceSet) (k : ℕ) → slice_index_or s.words (k / 64) 0 ≡ 0 → has_place s k ≡ false
+unfolding has_place
+no_word s k none =
+    ap (λ (w : ℕ). bit_at w (k % 64) == 1) none ∙ ap (λ (b : ℕ). b == 1) (bit_at-zero (k % 64))
+
+none_named : (s : PlaceSet) (k : ℕ) → are_zero s.words ≡ true → has_place s k ≡ false
+none_named s k is = no_word s k (zero_word s.words (k / 64) is)
+
+pub past_places : (s : PlaceSet) (k : ℕ) → length s.words ≡ 6 → 384 ≤ k → has_place s k ≡ false
+past_places s k long past = no_word s k (get_or_past s.words (k / 64) 0 (omega (arith, long, past)))
+
+not_at : (s : PlaceSet) (b : Bool) (k place : ℕ) → are_zero s.words ≡ b → (b ≡ false → k ≡ place) → has_place s k ≡ false → has_place s place ≡ false
+not_at s true k place is same none = none_named s place is
+not_at s false k place is same none = ap (has_place s) (sym (same refl)) ∙ none
+
+neither : (a b : Bool) → (a || b) ≡ false → (a ≡ false) × (b ≡ false)
+neither true b h = absurd (false≢true (sym h))
+neither false b h = (refl, h)
+
+-- ---- a day whose places are none that BYSETPOS names
+
+front_place : (p : ℤ → Bool) (first day e : ℤ) (before passed : ℕ) → first ≤ℤ day → day ≤ℤ e → before ≡ count_between p first day → passed ≡ count_between p day e → p e ≡ true → before + passed + 1 ≡ count_between p first (e +ℤ pos 1)
+front_place p first day e before passed low le before-is passed-is is =
+    let here : passed + 1 ≡ count_between p day (e +ℤ pos 1) = counted-next p day e (e +ℤ pos 1) passed (passed + 1) passed-is (ap (λ b. passed + cond b 1 0) (sym is)) le refl in
+    omega (arith, here, before-is, count_between-sum p first day (e +ℤ pos 1) low (omega (arith, signed, le)))
+
+back_place : (p : ℤ → Bool) (day e end : ℤ) (left passed : ℕ) → day ≤ℤ e → e ≤ℤ end → left ≡ count_between p day end → passed ≡ count_between p day e → left - passed ≡ count_between p e end
+back_place p day e end left passed le high left-is passed-is = omega (arith, left-is, passed-is, count_between-sum p day e end le high)
+
+before_or_at : (a b : ℤ) → a <ℤ b → a ≤ℤ b
+before_or_at a b less = omega (arith, signed, less)
+
+pub off_position : (r : Rule) (start day e : ℤ) (before left passed : ℕ) → lacks_positions r ≡ false → day ≤ℤ e → period_first r.frequency r.week_start e ≡ period_first r.frequency r.week_start day → period_end r.frequency r.week_start e ≡ period_end r.frequency r.week_start day → (are_zero r.positions.words ≡ false → before ≡ count_between (date_passes r start) (period_first r.frequency r.week_start day) day) → (are_zero r.positions_from_end.words ≡ false → left ≡ count_between (date_passes r start) day (period_end r.frequency r.week_start day)) → passed ≡ count_between (date_passes r start) day e → date_passes r start e ≡ true → (has_place r.positions (before + passed + 1) || has_place r.positions_from_end (left - passed)) ≡ false → is_member r start e ≡ false
+unfolding in_positions is_member
+off_position r start day e before left passed named le first end before-is left-is passed-is is none =
+    let p = date_passes r start in
+    let low : period_first r.frequency r.week_start day ≤ℤ day = from_period r.frequency r.week_start day in
+    let high : e ≤ℤ period_end r.frequency r.week_start day = rw end at (before_or_at e _ (to_period r.frequency r.week_start e)) in
+    let places = neither _ _ none in
+    let a : has_place r.positions (count_between p (period_first r.frequency r.week_start e) (e +ℤ pos 1)) ≡ false =
+    rw first (not_at r.positions (are_zero r.positions.words) (before + passed + 1) _ refl (λ some. front_place p _ day e before passed low le (before-is some) passed-is is) places.0) in
+    let b : has_place r.positions_from_end (count_between p e (period_end r.frequency r.week_start e)) ≡ false =
+    rw end (not_at r.positions_from_end (are_zero r.positions_from_end.words) (left - passed) _ refl (λ some. back_place p day e _ left passed le high (left-is some) passed-is) places.1) in
+    let off : in_positions r start e ≡ false = rw (named, a, b) refl in
+    and-none (int_le start e) _ (and-none (not_after r.end e) _ (and-none (in_interval r start e) _ (and-none (passes r start e) _ off)))
+
+-- of a date the test for dates says what the rule says
+pub date_passes-is : (r : Rule) (start e : ℤ) → IsDate e → date_passes r start e ≡ passes r start e
+unfolding date_passes
+date_passes-is r start e date =
+    let is : is_date e ≡ true = grind (arith, signed, date.0, date.1) in
+    rw is refl
+
+-- ---- by the frequency
+
+pub one_week : (f : Frequency) (w : Weekday) (n d : ℤ) → f ≡ Weekly → n ≤ℤ d → d <ℤ (n +ℤ (pos 7 -ℤ pos (days_since (weekday_of n) w))) → (period_first f w d ≡ period_first f w n) × (period_end f w d ≡ period_end f w n)
+unfolding period_first period_end
+one_week f w n d is low high =
+    subst (λ (g : Frequency). (period_first g w d ≡ period_first g w n) × (period_end g w d ≡ period_end g w n)) (sym is)
+    (same_week n d w low high, same_week_end n d w low high)
+
+pub one_month : (f : Frequency) (w : Weekday) (n d r : ℤ) → f ≡ Monthly → r ≡ pos (month_length_of n - day_of n) +ℤ pos 1 → n ≤ℤ d → d <ℤ (n +ℤ r) → (period_first f w d ≡ period_first f w n) × (period_end f w d ≡ period_end f w n)
+unfolding period_first period_end
+one_month f w n d r is e low high =
+    subst (λ (g : Frequency). (period_first g w d ≡ period_first g w n) × (period_end g w d ≡ period_end g w n)) (sym is)
+    (same_month_first n d r e low high, same_month_end n d r e low high)
+
+pub one_year : (f : Frequency) (w : Weekday) (n d r : ℤ) → f ≡ Yearly → r ≡ pos (month_length_of n - day_of n) +ℤ pos 1 → n ≤ℤ d → d <ℤ (n +ℤ r) → (period_first f w d ≡ period_first f w n) × (period_end f w d ≡ period_end f w n)
+unfolding period_first period_end
+one_year f w n d r is e low high =
+    subst (λ (g : Frequency). (period_first g w d ≡ period_first g w n) × (period_end g w d ≡ period_end g w n)) (sym is)
+    (same_year_first n d r e low high, same_year_end n d r e low high)
+
+-- ---- a day that does not pass, or has no place that is named
+
+pub off_day : (r : Rule) (start day e : ℤ) (before left passed : ℕ) (b : Bool) → passes r start e ≡ b → IsDate e → lacks_positions r ≡ false → day ≤ℤ e → period_first r.frequency r.week_start e ≡ period_first r.frequency r.week_start day → period_end r.frequency r.week_start e ≡ period_end r.frequency r.week_start day → (are_zero r.positions.words ≡ false → before ≡ count_between (date_passes r start) (period_first r.frequency r.week_start day) day) → (are_zero r.positions_from_end.words ≡ false → left ≡ count_between (date_passes r start) day (period_end r.frequency r.week_start day)) → passed ≡ count_between (date_passes r start) day e → (passes r start e ≡ true → (has_place r.positions (before + passed + 1) || has_place r.positions_from_end (left - passed)) ≡ false) → is_member r start e ≡ false
+off_day r start day e before left passed false out date named le first end before-is left-is passed-is none = no_pass r start e out
+off_day r start day e before left passed true is date named le first end before-is left-is passed-is none =
+    off_position r start day e before left passed named le first end before-is left-is passed-is (date_passes-is r start e date ∙ is) (none is)
