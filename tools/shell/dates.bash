@@ -7,6 +7,8 @@ _dates()
         return
     fi
     case ${COMP_WORDS[1]} in
+    add) COMPREPLY=($(compgen -W '--weekend --calendar --holidays --help' -- "$word")) ;;
+    diff) COMPREPLY=($(compgen -W '--weekend --calendar --holidays --help' -- "$word")) ;;
     open) COMPREPLY=($(compgen -W '--weekend --calendar --holidays --help' -- "$word")) ;;
     roll) COMPREPLY=($(compgen -W '--weekend --calendar --holidays --help' -- "$word")) ;;
     next) COMPREPLY=($(compgen -W '--from --count --help' -- "$word")) ;;

@@ -1,14 +1,15 @@
 //! The answer to a request.
 
+use crate::add::answer_add;
 use crate::day_names::print_names;
-use crate::distance::answer_distance;
+use crate::distance::{answer_distance, answer_duration};
 use crate::due::{Way, answer_due};
 use crate::fault::{ANSWERED, WRONG};
 use crate::file::answer_file;
 use crate::help::{answer_help, answer_help_of};
 use crate::lines::answer_lines;
-use crate::moved::answer_move;
-use crate::open::{answer_open, answer_roll};
+use crate::open::{answer_open, answer_open_days, answer_roll};
+use crate::parts::answer_parts;
 use crate::recurring::{Wanted, answer_instances};
 use crate::sequence::{answer_days, answer_sequence};
 use crate::sheet::answer_sheet;
@@ -36,9 +37,18 @@ pub(crate) fn answer(
             print_names(rt, date)?;
             Ok(ANSWERED)
         }
-        Request::Add { date } => answer_move(rt, date, words),
+        Request::Add {
+            start,
+            moves,
+            options,
+        } => answer_add(rt, words, start, moves, options),
         Request::Distance { from, to } => answer_distance(rt, from, to, Unit::Days),
         Request::DistanceIn { from, to, unit } => answer_distance(rt, from, to, unit),
+        Request::DistanceInOpenDays { from, to, options } => {
+            answer_open_days(rt, words, from, to, options)
+        }
+        Request::DistanceInParts { from, to } => answer_parts(rt, from, to),
+        Request::Duration { from, to } => answer_duration(rt, from, to),
         Request::Sequence { from, to } => answer_days(rt, from, to),
         Request::SequenceBy { from, to, step } => answer_sequence(rt, from, to, step),
         Request::Week { first } => answer_week(rt, first),

@@ -31,6 +31,31 @@ pub(crate) fn weekend_of(options: Options) -> WeekdaySet {
     }
 }
 
+// So many days at least are open in each year, where no file closes any: 365, less two weekdays of 53 weeks, less the 26 rules of
+// the calendar that has most.
+const OPEN_DAYS_OF_A_YEAR: u64 = 233;
+
+// The years up to which so many open days lead from a day, where a file lists so many days: each of these closes one more at most.
+pub(crate) fn years_of_open_days(date: NaiveDate, count: i64, listed: usize) -> Years {
+    let days = count.unsigned_abs().saturating_add(listed as u64);
+    let years = i32::try_from(days / OPEN_DAYS_OF_A_YEAR).unwrap_or(MOST_YEARS);
+    let year = date.year();
+    if count < 0 {
+        Years {
+            first: year.saturating_sub(years).saturating_sub(1),
+            last: year,
+        }
+    } else {
+        Years {
+            first: year,
+            last: year.saturating_add(years).saturating_add(1),
+        }
+    }
+}
+
+// No more years lie between two dates.
+const MOST_YEARS: i32 = 600_000;
+
 // Puts the holidays of the options into a list, in order and but for those on the weekend: all of their file, and those of
 // their rules in these years, in the file's years, and in a year before and behind them. False where a line of the file
 // is no day, which is said.
@@ -41,11 +66,33 @@ pub(crate) fn put_holidays(
     years: Years,
     days: &mut Vec<NaiveDate, impl Allocator>,
 ) -> io::Result<bool> {
-    if let Some(behind) = options.file {
-        if !put_file(rt, file_of(words, behind), days)? {
-            return Ok(false);
-        }
+    if !put_listed(rt, words, options, days)? {
+        return Ok(false);
     }
+    let _weekend = put_ruled(options, years, days)?;
+    Ok(true)
+}
+
+// Puts the days of the options' file into a list; false where a line of it is no day, which is said.
+pub(crate) fn put_listed(
+    rt: &(impl Alloc + Eprint + Files),
+    words: &[String<impl Allocator>],
+    options: Options,
+    days: &mut Vec<NaiveDate, impl Allocator>,
+) -> io::Result<bool> {
+    match options.file {
+        Some(behind) => put_file(rt, file_of(words, behind), days),
+        None => Ok(true),
+    }
+}
+
+// Puts the holidays of the options' rules in these years, in the years of days that are listed, and in a year before and behind
+// them into the list of these, which it leaves in order and without the days on the weekend; the weekend.
+pub(crate) fn put_ruled(
+    options: Options,
+    years: Years,
+    days: &mut Vec<NaiveDate, impl Allocator>,
+) -> io::Result<WeekdaySet> {
     put_calendar(
         options.calendar,
         with_years_of(years, days.as_slice()),
@@ -53,9 +100,10 @@ pub(crate) fn put_holidays(
     )?;
     days.as_mut_slice().sort_unstable();
     days.dedup();
-    let count = without_weekends(weekend_of(options), days.as_mut_slice());
+    let weekend = weekend_of(options);
+    let count = without_weekends(weekend, days.as_mut_slice());
     days.truncate(count);
-    Ok(true)
+    Ok(weekend)
 }
 
 // The word behind which so many words stand.
@@ -86,7 +134,12 @@ fn put_file(
     Ok(true)
 }
 
-// The years, and those of days, and a year before and behind them.
+// The years of the calendar.
+const FIRST_YEAR: i32 = -262_143;
+
+const LAST_YEAR: i32 = 262_142;
+
+// The years, and those of days, and a year before and behind them, as far as the calendar has them.
 fn with_years_of(years: Years, days: &[NaiveDate]) -> Years {
     let mut first = years.first;
     let mut last = years.last;
@@ -95,8 +148,8 @@ fn with_years_of(years: Years, days: &[NaiveDate]) -> Years {
         last = last.max(day.year());
     }
     Years {
-        first: first.saturating_sub(1),
-        last: last.saturating_add(1),
+        first: first.saturating_sub(1).max(FIRST_YEAR),
+        last: last.saturating_add(1).min(LAST_YEAR),
     }
 }
 

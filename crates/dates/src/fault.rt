@@ -32,11 +32,29 @@ fn refuse_word(rt: &(impl Print + Eprint), word: &str, wrong: Wrong) -> io::Resu
     let place = wrong.place;
     match wrong.why {
         Why::Day(why) => refuse_day(rt, place, word, why),
+        Why::Moved => refuse_form(
+            rt,
+            place,
+            word,
+            "a day as 2024-02-29 or a date-time as 2024-02-29T04:30",
+        ),
+        Why::Move => refuse_form(
+            rt,
+            place,
+            word,
+            "a span as 3d, -2w, 1m, 4y, 5b, 36h, 90min, 15s or PT1.5S",
+        ),
+        Why::DayMove => refuse_form(
+            rt,
+            place,
+            word,
+            "a span of days, or a date-time before it as 2024-02-29T00:00",
+        ),
         Why::Span => refuse_form(rt, place, word, "a span as 3d, -2w, 1m or 4y"),
         Why::Step => refuse_form(rt, place, word, "a span that is not 0"),
         Why::Year => refuse_form(rt, place, word, "a year as 2024"),
         Why::Week => refuse_form(rt, place, word, "a week as 2024-W09"),
-        Why::Unit => refuse_form(rt, place, word, "d, w, m or y"),
+        Why::Measure => refuse_form(rt, place, word, "d, w, m, y, b or ymd"),
         Why::In => refuse_form(rt, place, word, "in"),
         Why::Convention => refuse_form(rt, place, word, CONVENTIONS),
         Why::Option => refuse_form(rt, place, word, "--weekend, --calendar or --holidays"),

@@ -9,8 +9,8 @@ const COMMANDS: &str = "dates answers what one asks of dates. It never asks what
     \n\
     \x20 dates        DAY                          the day by all its names\n\
     \x20 dates -                                   each line of standard input by all its names\n\
-    \x20 dates add    DAY SPAN..                   the day moved by spans, one after another\n\
-    \x20 dates diff   DAY DAY [in UNIT]            how many days, or whole units, lie between\n\
+    \x20 dates add    DAY SPAN.. [OPTION..]        the day moved by spans, one after another\n\
+    \x20 dates diff   DAY DAY [in UNIT] [OPTION..] how many days, or whole units, lie between\n\
     \x20 dates seq    DAY DAY [SPAN]               the days from one to another\n\
     \x20 dates week   WEEK                         the first and the last day of a week\n\
     \x20 dates easter YEAR                         Easter Sunday\n\
@@ -39,22 +39,30 @@ const LINES: &str = "dates -\n\
     status 1";
 
 // Of `add` its words, what it answers, what there is to know, and an example.
-const ADD: &str = "dates add DAY SPAN..\n\
+const ADD: &str = "dates add DAY SPAN.. [OPTION..]\n\
     \n\
     the day moved by spans, one after another\n\
     \n\
-    A SPAN is a whole number of days, weeks, months or years, as 3d, -2w, 1m and 4y.\n\
+    A SPAN is a whole number of days, weeks, months or years, as 3d, -2w, 1m and 4y, or of open days, as 5b.\n\
     A month or a year leads to the same day of its month, or to its last where that is shorter.\n\
+    A date-time in place of the day is moved by times too: 36h, 90min, 15s, PT1.5S.\n\
+    --weekend DAYS   closed weekdays: fri,sat, sun or none; sat,sun where it is not given\n\
+    --calendar NAME  holidays by rules: us-federal, target or england\n\
+    --holidays FILE  holidays of a file, a day a line\n\
     \n\
     $ dates add 2024-01-31 1m\n\
     2024-02-29";
 
 // Of `diff` its words, what it answers, what there is to know, and an example.
-const DIFF: &str = "dates diff DAY DAY [in UNIT]\n\
+const DIFF: &str = "dates diff DAY DAY [in UNIT] [OPTION..]\n\
     \n\
     how many days, or whole units, lie between\n\
     \n\
-    A UNIT is d, w, m or y. It goes back where the second day is the earlier.\n\
+    A UNIT is d, w, m or y, b for open days, or ymd for years, months and days. It goes back where the second day is the earlier.\n\
+    Of two date-times in place of the days it is how long it is from one to the other.\n\
+    --weekend DAYS   closed weekdays: fri,sat, sun or none; sat,sun where it is not given\n\
+    --calendar NAME  holidays by rules: us-federal, target or england\n\
+    --holidays FILE  holidays of a file, a day a line\n\
     \n\
     $ dates diff 2024-02-29 2024-12-24 in w\n\
     42";

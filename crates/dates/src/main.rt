@@ -1,6 +1,7 @@
 //! `dates` answers what a person at a terminal asks of dates. `docs/DATES.md` has its commands.
 #![tactic(auto)]
 
+mod add;
 mod answer;
 mod closed;
 mod day_names;
@@ -10,9 +11,9 @@ mod fault;
 mod file;
 mod help;
 mod lines;
-mod moved;
 mod open;
 mod ordinal_name;
+mod parts;
 mod recurring;
 mod sequence;
 mod sheet;

@@ -27,6 +27,25 @@ pub(crate) fn answer_open(
     Ok(ANSWERED)
 }
 
+// How many open days there are from the first day on and before the second, with a minus sign where it is the earlier.
+pub(crate) fn answer_open_days(
+    rt: &(impl Alloc + Print + Eprint + Files),
+    words: &[String<impl Allocator>],
+    from: NaiveDate,
+    to: NaiveDate,
+    options: Options,
+) -> io::Result<u8> {
+    let mut days: Vec<NaiveDate, _> = Vec::new(rt.alloc());
+    if !put_holidays(rt, words, options, years_of(from, to), &mut days)? {
+        return Ok(WRONG);
+    }
+    let Ok(calendar) = Calendar::try_new(weekend_of(options), days.as_slice()) else {
+        return Ok(WRONG);
+    };
+    println!(rt; "{}", calendar.open_days(from, to))?;
+    Ok(ANSWERED)
+}
+
 // The day that the day rolls to, or `none` where the calendar ends before.
 pub(crate) fn answer_roll(
     rt: &(impl Alloc + Print + Eprint + Files),

@@ -1,8 +1,11 @@
+mod AddLemmas
 mod CalendarOptionLemmas
 mod DayLemmas
+mod DiffLemmas
 mod DueLemmas
 mod HelpLemmas
 mod FormLemmas
+mod MoveLemmas
 mod OptionLemmas
 mod RuleLemmas
 mod SpanLemmas

@@ -17,7 +17,7 @@ cut_at_end text number last e =
     )
 
 -- a decimal number begins with a digit
-first_digit : (n : ℕ) → n < 10 ^ 18 → 48 ≤ get_or (decimal n) 0 0
+pub first_digit : (n : ℕ) → n < 10 ^ 18 → 48 ≤ get_or (decimal n) 0 0
 first_digit zero below = omega (arith, ap (λ (c : List ℕ). get_or c 0 0) (decimal_digit 0 (omega arith)))
 first_digit (suc k) below = omega (arith, first_decimal (suc k) (omega arith) (omega arith))
 

@@ -1,12 +1,9 @@
 -- The words of arguments, cut where the reader cuts them.
-use Rattle.std.proofs.Common.{◌≡◌, ◌<◌, ◌≤◌, ◌+◌, ◌-◌, ℕ, zero, suc, ℤ, List, [], ◌∷◌, length, take, drop, get_or, Option, Result, Ok, refl, sym, ap, subst, ◌∙◌, arith}
+use Rattle.std.proofs.Common.{◌≡◌, ◌≤◌, ◌-◌, ℕ, ℤ, List, [], ◌∷◌, length, take, drop, get_or, Option, Result, Ok, sym, ap, subst, ◌∙◌, arith}
 use Rattle.std.specs.Borrow.{Bor}
-use Rattle.std.specs.Prelude.{All}
 use Rattle.std.proofs.lemmas.List.{take_all}
-use Rattle.std.proofs.lemmas.List.Elements.{All-from_get_or, All-map}
-use Rattle.chrono_text.proofs.DigitLemmas.{by_size}
 use Rattle.dates_request.specs.DayTexts.{NamesDay}
-use Rattle.dates_request.specs.Requests.{IsRequest, AsksFor, IsBy, IsDistance, IsIn, IsSequence, IsStepText, IsWeekText, WritesSpan, command_named, texts}
+use Rattle.dates_request.specs.Requests.{IsRequest, AsksFor, IsBy, IsSequence, IsStepText, IsWeekText, command_named, texts}
 use Rattle.dates_request.specs.declared.command.Command.{Command}
 use Rattle.dates_request.specs.declared.request.Request.{Request}
 use Rattle.dates_request.specs.declared.span.Span.{Span}
@@ -32,12 +29,6 @@ ahead_two [] two = absurd (omega arith)
 ahead_two (w ∷ []) two = absurd (omega arith)
 ahead_two (w ∷ v ∷ words) two = ap (λ (rest : Words). w.now ∷ v.now ∷ texts rest) (sym (take_all _ words (omega arith)))
 
-pub exactly_two : (words : Words) → 2 ≤ length words → length words < 3 → texts words ≡ (get_or words 0 no_word).now ∷ (get_or words 1 no_word).now ∷ []
-exactly_two [] two few = absurd (omega arith)
-exactly_two (w ∷ []) two few = absurd (omega arith)
-exactly_two (w ∷ v ∷ []) two few = refl
-exactly_two (w ∷ v ∷ u ∷ words) two few = absurd (omega arith)
-
 pub cut_one : (words : Words) (first : List ℕ) (rest : List (List ℕ)) → 1 ≤ length words → texts words ≡ first ∷ rest
     → (first ≡ (get_or words 0 no_word).now) × (rest ≡ texts (behind 1 words))
 cut_one words first rest some e = let parts = sym e ∙ ahead words some in (cc, cc)
@@ -55,10 +46,10 @@ written {s = s} e is = subst (λ t. IsStepText t s) e is
 pub of_week : {a b : List ℕ} {n : ℤ} → a ≡ b → IsWeekText a n → IsWeekText b n
 of_week {n = n} e is = subst (λ t. IsWeekText t n) e is
 
-abbrev read_as : ℤ → Result ℤ Wrong
+abbrev pub read_as : ℤ → Result ℤ Wrong
 read_as z = Ok z
 
-same_ok : (a b : ℤ) → read_as a ≡ read_as b → a ≡ b
+pub same_ok : (a b : ℤ) → read_as a ≡ read_as b → a ≡ b
 same_ok a b e = cc
 
 -- what is asked of two days that were read, of the words behind them
@@ -71,10 +62,6 @@ pub by_of : (words : Words) (from to : ℤ) (r : Request) → 1 ≤ length words
 by_of [] from to r some is = absurd (omega arith)
 by_of (w ∷ words) from to r some is = is
 
-pub in_of : (words : Words) (from to : ℤ) (r : Request) → 1 ≤ length words → IsIn (texts words) from to r → IsDistance (texts words) from to r
-in_of [] from to r some is = absurd (omega arith)
-in_of (w ∷ words) from to r some is = is
-
 -- a request by its first word
 pub by_first : (words : List (List ℕ)) (first : List ℕ) (rest : List (List ℕ)) (o : Option Command) (r : Request) → words ≡ first ∷ rest → command_named first ≡ o
     → AsksFor o first rest r → IsRequest words r
@@ -83,18 +70,3 @@ by_first words first rest o r e named is = subst (λ v. IsRequest v r) (sym e) (
 pub of_first : (words : List (List ℕ)) (first : List ℕ) (rest : List (List ℕ)) (o : Option Command) (r : Request) → words ≡ first ∷ rest → command_named first ≡ o
     → IsRequest words r → AsksFor o first rest r
 of_first words first rest o r e named is = subst (λ v. AsksFor v first rest r) named (subst (λ v. IsRequest v r) e is)
-
--- whether all words write spans, word by word
-pub all_write : (words : Words) → ((k : ℕ) → k < length words → WritesSpan (get_or words k no_word).now) → All WritesSpan (texts words)
-all_write words each = All-map WritesSpan (λ (w : Bor (List ℕ)). w.now) words (All-from_get_or (λ (w : Bor (List ℕ)). WritesSpan w.now) words no_word each)
-
-pub one_writes : (words : Words) (k : ℕ) → k < length words → All WritesSpan (texts words) → WritesSpan (get_or words k no_word).now
-one_writes [] k below all = absurd (omega arith)
-one_writes (w ∷ words) zero below all = all 0 [] (omega arith)
-one_writes (w ∷ words) (suc k) below all = one_writes words k (omega arith) (λ j d h. all (suc j) d (omega arith))
-
--- the first words write spans, and the next one does
-pub one_more : (words : Words) (n : ℕ) → ((k : ℕ) → k < n → WritesSpan (get_or words k no_word).now) → WritesSpan (get_or words n no_word).now
-    → (k : ℕ) → k < n + 1 → WritesSpan (get_or words k no_word).now
-one_more words n before here k below = by_size n k (before k) (λ late.
-    let last : n ≡ k = omega arith in subst (λ j. WritesSpan (get_or words j no_word).now) last here)

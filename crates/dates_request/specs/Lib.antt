@@ -4,7 +4,12 @@ pub mod SpanTexts
 pub mod OptionTexts
 pub mod OpenRequests
 pub mod MomentTexts
+pub mod MoveTexts
 pub mod Options
+pub mod AddRequests
+pub mod Alone
+pub mod DistanceRequests
+pub mod DiffRequests
 pub mod DueRequests
 pub mod YearTexts
 pub mod SheetRequests

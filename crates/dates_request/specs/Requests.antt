@@ -1,8 +1,11 @@
 -- What arguments ask for: the words of each request, one behind another.
-use Rattle.std.specs.Prelude.{◌≡◌, ◌<◌, if◌then◌else◌, Bool, true, false, ℕ, ℤ, pos, List, [], ◌∷◌, ◌++◌, codes, length, map, bytes_eq, Option, Some, None, All}
+use Rattle.std.specs.Prelude.{◌≡◌, ◌<◌, if◌then◌else◌, Bool, true, false, ℕ, ℤ, pos, List, [], ◌∷◌, ◌++◌, codes, length, map, bytes_eq, Option, Some, None}
 use Rattle.std.specs.Borrow.{Bor}
 use Rattle.chrono_reading.specs.DateTexts.{IsWeekDateText}
+use Rattle.dates_request.specs.AddRequests.{IsAdd}
+use Rattle.dates_request.specs.Alone.{IsAlone}
 use Rattle.dates_request.specs.DayTexts.{NamesDay}
+use Rattle.dates_request.specs.DiffRequests.{IsDiff}
 use Rattle.dates_request.specs.DueRequests.{IsOfSchedule}
 use Rattle.dates_request.specs.OpenRequests.{IsOpen, IsRoll}
 use Rattle.dates_request.specs.SheetRequests.{IsSheet}
@@ -10,8 +13,6 @@ use Rattle.dates_request.specs.RuleRequests.{IsRecurrence}
 use Rattle.dates_request.specs.SpanTexts.{IsSpanText}
 use Rattle.dates_request.specs.YearTexts.{IsYearText}
 use Rattle.dates_request.specs.declared.span.Span.{Span}
-use Rattle.dates_request.specs.declared.span.Unit.{Unit}
-use Rattle.dates_request.specs.declared.span.Unit.TheVariants.{Days, Weeks, Months, Years}
 use Rattle.dates_request.specs.declared.command.Command.{Command}
 use Rattle.dates_request.specs.declared.command.Command.TheVariants as command
 use Rattle.dates_request.specs.declared.request.Request.{Request}
@@ -46,37 +47,6 @@ command_named word =
 pub record IsWeekText (text : List ℕ) (n : ℤ) : Type 0 where
   pub monday : IsWeekDateText (text ++ codes "-1") n
 
--- the unit that a word names, by its letter
-unfoldable pub unit_word : List ℕ → Option Unit
-unit_word word =
-    if bytes_eq word (codes "d") then Some Days
-    else if bytes_eq word (codes "w") then Some Weeks
-    else if bytes_eq word (codes "m") then Some Months
-    else if bytes_eq word (codes "y") then Some Years
-    else None
-
--- the text writes a span
-abbrev pub WritesSpan : List ℕ → Type 0
-WritesSpan text = (s : Span) × IsSpanText text s
-
--- a day, and spans behind it
-pub record IsAdd (words : List (List ℕ)) (r : Request) : Type 0 where
-  pub day : List ℕ
-  pub spans : List (List ℕ)
-  pub date : ℤ
-  pub is_day : NamesDay day date
-  pub are_spans : All WritesSpan spans
-  pub written : words ≡ day ∷ spans
-  pub is : r ≡ request.Add date
-
--- `in` and a unit, behind two days
-pub record IsIn (words : List (List ℕ)) (from to : ℤ) (r : Request) : Type 0 where
-  pub letter : List ℕ
-  pub unit : Unit
-  pub is_unit : unit_word letter ≡ Some unit
-  pub written : words ≡ codes "in" ∷ letter ∷ []
-  pub is : r ≡ request.DistanceIn from to unit
-
 -- the text writes a span that is not 0
 pub record IsStepText (text : List ℕ) (s : Span) : Type 0 where
   pub is : IsSpanText text s
@@ -89,11 +59,6 @@ pub record IsBy (words : List (List ℕ)) (from to : ℤ) (r : Request) : Type 0
   pub is_step : IsStepText span step
   pub written : words ≡ span ∷ []
   pub is : r ≡ request.SequenceBy from to step
-
--- how far it is between two days, by what stands behind them: in days, or in a unit
-abbrev pub IsDistance : List (List ℕ) → ℤ → ℤ → Request → Type 0
-IsDistance [] from to r = r ≡ request.Distance from to
-IsDistance (word ∷ words) from to r = IsIn (word ∷ words) from to r
 
 -- the days from one to another, by what stands behind them: one after another, or by a span
 abbrev pub IsSequence : List (List ℕ) → ℤ → ℤ → Request → Type 0
@@ -143,18 +108,13 @@ pub record IsCheck (words : List (List ℕ)) (r : Request) : Type 0 where
   pub written : words ≡ file ∷ []
   pub is : r ≡ request.Check
 
--- no words
-pub record IsAlone (words : List (List ℕ)) (asked : Request) (r : Request) : Type 0 where
-  pub written : words ≡ []
-  pub is : r ≡ asked
-
 -- what a command asks for with the words behind it
 abbrev pub HasArguments : Command → List (List ℕ) → Request → Type 0
 HasArguments command.Lines words r = IsAlone words request.Lines r
 HasArguments command.Help words r = IsAlone words request.Help r
 HasArguments command.Version words r = IsAlone words request.Version r
 HasArguments command.Add words r = IsAdd words r
-HasArguments command.Diff words r = IsOfTwoDays IsDistance words r
+HasArguments command.Diff words r = IsDiff words r
 HasArguments command.Seq words r = IsOfTwoDays IsSequence words r
 HasArguments command.Week words r = IsWeek words r
 HasArguments command.Easter words r = IsEaster words r

@@ -1,11 +1,15 @@
 //! What the arguments of `dates` ask for: days, moments, spans, weeks, and the request that they make, or which argument is wrong and why.
 #![tactic(auto)]
 
+mod add;
 mod command;
 mod day;
+mod diff;
+mod distance;
 mod due;
 mod form;
 mod moment;
+mod moves;
 mod open;
 mod option;
 mod options;
@@ -22,6 +26,7 @@ pub use command::Command;
 pub use day::{NoDay, read_day};
 pub use form::{Form, form_of};
 pub use moment::read_moment;
+pub use moves::{Move, Start, read_move};
 pub use open::Convention;
 pub use options::{HolidayCalendar, Options};
 pub use read::read_request;

@@ -1,20 +1,22 @@
 //! The request that arguments make.
-ghost use Rattle.std.specs.Prelude.{◌≡◌, ◌∷◌, [], ℤ, Ok, Some, IfOk, IfSome, IfNone, All, true, false, bytes_eq, codes};
+ghost use Rattle.std.specs.Prelude.{◌≡◌, ◌∷◌, [], ℤ, Ok, Some, IfOk, bytes_eq, codes};
 ghost use Rattle.dates_request.specs.declared.request.Request.{Request};
 ghost use Rattle.dates_request.specs.declared.request.Request.TheVariants as request;
 ghost use Rattle.dates_request.specs.declared.command.Command.TheVariants as command;
+ghost use Rattle.dates_request.specs.Alone.{IsAlone};
 ghost use Rattle.dates_request.specs.DueRequests.{IsOfSchedule};
-ghost use Rattle.dates_request.specs.Requests.{AsksFor, CommandAsks, HasArguments, IsAdd, IsAlone, IsCheck, IsDay, IsDistance, IsEaster, IsLeap, IsOfTwoDays, IsRequest, IsSequence, IsWeek, WritesSpan, is_help_alone, texts};
+ghost use Rattle.dates_request.specs.Requests.{AsksFor, CommandAsks, HasArguments, IsCheck, IsDay, IsEaster, IsLeap, IsOfTwoDays, IsRequest, IsSequence, IsWeek, is_help_alone, texts};
 
+use crate::add::add;
 use crate::command::{Command, command_named};
 use crate::day::NoDay;
+use crate::diff::diff;
 use crate::due::due;
 use crate::open::{open, roll};
 use crate::recurrence::recurrence;
 use crate::request::Request;
 use crate::sheet::sheet_asked;
-use crate::span::read_span;
-use crate::word::{day_at, step_at, unit_at, week_at, year_at};
+use crate::word::{day_at, step_at, week_at, year_at};
 use crate::wrong::{Why, Wrong, wrong_at};
 use chrono_datetime::NaiveDate;
 
@@ -111,97 +113,6 @@ fn alone(words: &[&[u8]], asked: Request) -> Result<Request, Wrong>
         Ok(asked)
     } else {
         Err(wrong_at(2, Why::End))
-    }
-}
-
-// A day and spans.
-fn add(words: &[&[u8]]) -> Result<Request, Wrong>
-    ensures read { IfOk result (λ r. IsAdd (texts words.now) r) }
-    ensures every { (r : Request) → IsAdd (texts words.now) r → result ≡ Ok r }
-{
-    let [day, spans @ ..] = words else {
-        return Err(wrong_at(2, NO_DAY));
-    };
-    let date = day_at(2, day)?;
-    match place_of_no_span(spans) {
-        Some(place) => Err(wrong_at(place.saturating_add(3), Why::Span)),
-        None => Ok(Request::Add { date }),
-    }
-}
-
-// The place of the first word that writes no span, from 0 on.
-fn place_of_no_span(words: &[&[u8]]) -> Option<usize>
-    ensures some { IfSome result (λ place. All WritesSpan (texts words.now) → ⊥) }
-    ensures none { IfNone result (All WritesSpan (texts words.now)) }
-{
-    for place in 0..words.len() {
-        if !writes_span(words[place]) {
-            return Some(place);
-        }
-    }
-    None
-}
-
-// Whether the word writes a span.
-fn writes_span(word: &[u8]) -> bool
-    ensures yes { result ≡ true → WritesSpan word.now }
-    ensures no { result ≡ false → WritesSpan word.now → ⊥ }
-{
-    match read_span(word) {
-        Some(_) => true,
-        None => false,
-    }
-}
-
-// Two days, and `in` and a unit where they follow.
-fn diff(words: &[&[u8]]) -> Result<Request, Wrong>
-    ensures read { IfOk result (λ r. IsOfTwoDays IsDistance (texts words.now) r) }
-    ensures every { (r : Request) → IsOfTwoDays IsDistance (texts words.now) r → result ≡ Ok r }
-{
-    let [first, second, rest @ ..] = words else {
-        return Err(too_few_days(words));
-    };
-    let from = day_at(2, first)?;
-    let to = day_at(3, second)?;
-    distance(from, to, rest)
-}
-
-// How far it is from one day to another, by what stands behind them.
-fn distance(from: NaiveDate, to: NaiveDate, words: &[&[u8]]) -> Result<Request, Wrong>
-    ensures read { IfOk result (λ r. IsDistance (texts words.now) from to r) }
-    ensures every { (r : Request) → IsDistance (texts words.now) from to r → result ≡ Ok r }
-{
-    match words {
-        [] => Ok(Request::Distance { from, to }),
-        [word, letter] => {
-            if !is_in(word) {
-                return Err(wrong_at(4, Why::In));
-            }
-            let unit = unit_at(5, letter)?;
-            Ok(Request::DistanceIn { from, to, unit })
-        }
-        [word] => Err(after_in(word)),
-        [_, _, ..] => Err(wrong_at(6, Why::End)),
-    }
-}
-
-// Whether the word is `in`.
-fn is_in(word: &[u8]) -> bool
-    ensures yes { result ≡ true → word.now ≡ codes "in" }
-    ensures no { result ≡ false → word.now ≡ codes "in" → ⊥ }
-{
-    match word {
-        b"in" => true,
-        _ => false,
-    }
-}
-
-// The fault where one word stands behind two days: it is not `in`, or no unit follows it.
-fn after_in(word: &[u8]) -> Wrong {
-    if is_in(word) {
-        wrong_at(5, Why::Unit)
-    } else {
-        wrong_at(4, Why::In)
     }
 }
 

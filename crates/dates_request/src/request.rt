@@ -1,6 +1,7 @@
 //! `Request`: what the arguments ask for.
 
 use crate::command::Command;
+use crate::moves::Start;
 use crate::open::Convention;
 use crate::options::Options;
 use crate::sheet::{SheetOptions, SheetTime};
@@ -26,10 +27,14 @@ pub enum Request {
         /// The day.
         date: NaiveDate,
     },
-    /// A day moved by the spans that the words from the third on write.
+    /// A day or a date-time, moved by what the words from the third on write.
     Add {
-        /// The day.
-        date: NaiveDate,
+        /// What is moved.
+        start: Start,
+        /// How many words write moves.
+        moves: usize,
+        /// Which days are closed.
+        options: Options,
     },
     /// The days from one day to another.
     Distance {
@@ -46,6 +51,29 @@ pub enum Request {
         to: NaiveDate,
         /// The unit.
         unit: Unit,
+    },
+    /// How many open days lie between two days.
+    DistanceInOpenDays {
+        /// The first day.
+        from: NaiveDate,
+        /// The second day.
+        to: NaiveDate,
+        /// Which days are closed.
+        options: Options,
+    },
+    /// How many years, months and days lie between two days.
+    DistanceInParts {
+        /// The first day.
+        from: NaiveDate,
+        /// The second day.
+        to: NaiveDate,
+    },
+    /// How long it is from one date-time to another.
+    Duration {
+        /// The first date-time.
+        from: NaiveDateTime,
+        /// The second date-time.
+        to: NaiveDateTime,
     },
     /// The days from one to another, day by day, back where the second is the earlier.
     Sequence {

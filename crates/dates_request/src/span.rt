@@ -55,7 +55,7 @@ fn unit_of(byte: u8) -> Option<Unit>
 }
 
 // The number that the text writes.
-fn read_count(text: &[u8]) -> Option<i64>
+pub(crate) fn read_count(text: &[u8]) -> Option<i64>
     ensures read { IfSome result (λ z. IsCountText text.now z) }
     ensures every { (z : ℤ) → IsCountText text.now z → result ≡ Some z }
 {

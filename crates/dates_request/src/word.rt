@@ -1,14 +1,13 @@
-//! One argument, at its place: a day, a span, a year, a week or a unit.
+//! One argument, at its place: a day, a span, a year or a week.
 ghost use Rattle.std.specs.Prelude.{◌≡◌, ℤ, Ok, Some, IfOk, IfSome, IfNone, None};
 ghost use Rattle.dates_request.specs.DayTexts.{NamesDay};
 ghost use Rattle.dates_request.specs.SpanTexts.{IsSpanText};
-ghost use Rattle.dates_request.specs.Requests.{IsStepText, IsWeekText, unit_word};
+ghost use Rattle.dates_request.specs.Requests.{IsStepText, IsWeekText};
 ghost use Rattle.dates_request.specs.YearTexts.{IsYearText};
 ghost use Rattle.dates_request.specs.declared.span.Span.{Span};
-ghost use Rattle.dates_request.specs.declared.span.Unit.{Unit};
 
 use crate::day::read_day;
-use crate::span::{Span, Unit, read_span};
+use crate::span::{Span, read_span};
 use crate::week::read_week;
 use crate::wrong::{Why, Wrong};
 use chrono_datetime::NaiveDate;
@@ -82,33 +81,5 @@ pub(crate) fn week_at(place: usize, word: &[u8]) -> Result<NaiveDate, Wrong>
             place,
             why: Why::Week,
         }),
-    }
-}
-
-// The unit that the word at this place names.
-pub(crate) fn unit_at(place: usize, word: &[u8]) -> Result<Unit, Wrong>
-    ensures read { IfOk result (λ u. unit_word word.now ≡ Some u) }
-    ensures every { (u : Unit) → unit_word word.now ≡ Some u → result ≡ Ok u }
-{
-    match unit_word(word) {
-        Some(unit) => Ok(unit),
-        None => Err(Wrong {
-            place,
-            why: Why::Unit,
-        }),
-    }
-}
-
-// The unit whose letter the word is.
-#[tactic(auto, unfolding(crate::specs::Requests::unit_word))]
-fn unit_word(word: &[u8]) -> Option<Unit>
-    ensures { result ≡ unit_word word.now }
-{
-    match word {
-        b"d" => Some(Unit::Days),
-        b"w" => Some(Unit::Weeks),
-        b"m" => Some(Unit::Months),
-        b"y" => Some(Unit::Years),
-        _ => None,
     }
 }

@@ -16,6 +16,12 @@ pub struct Wrong {
 pub enum Why {
     /// A day, or at the first place a command; and why it is no day.
     Day(NoDay),
+    /// A day or a date-time.
+    Moved,
+    /// A move: a span, open days, or a time.
+    Move,
+    /// A move of days, since a day has no time.
+    DayMove,
     /// A span.
     Span,
     /// A span that is not 0.
@@ -24,8 +30,8 @@ pub enum Why {
     Year,
     /// A week.
     Week,
-    /// A unit: d, w, m or y.
-    Unit,
+    /// A measure: d, w, m, y, b or ymd.
+    Measure,
     /// The word `in`.
     In,
     /// A convention by which a closed day rolls.
