@@ -1,28 +1,41 @@
 //! Lists of holidays: those of rules, those left without weekends, and those of two calendars joined.
+ghost use Rattle.std.specs.Prelude.{◌≤◌, IfSome};
 
+use crate::date_of;
 use chrono_business::{Calendar, HolidayDay, HolidayRule, Moved, holidays_of, without_weekends};
 use chrono_datetime::{Datelike, MIN_DATE, Month, NaiveDate, Weekday, WeekdaySet};
+use std::str::SplitAsciiWhitespace;
 
 // How many holidays a list of a row may have.
 const ROOM: usize = 800;
 
 // The rule of a line: a kind with three numbers, where the holiday goes from a weekend, and two years.
 pub fn rule_of(words: &str) -> Option<HolidayRule> {
-    let mut words = words.split_ascii_whitespace();
+    let words = &mut words.split_ascii_whitespace();
     let kind = words.next()?;
-    let first: i32 = words.next()?.parse().ok()?;
-    let second: u32 = words.next()?.parse().ok()?;
-    let third: u32 = words.next()?.parse().ok()?;
-    let day = day_of(kind, first, second, third)?;
-    let moved = moved_of(words.next()?)?;
-    let first_year = words.next()?.parse().ok()?;
-    let last_year = words.next()?.parse().ok()?;
+    let (first, second, third) = (signed(words)?, unsigned(words)?, unsigned(words)?);
     Some(HolidayRule {
-        day,
-        moved,
-        first_year,
-        last_year,
+        day: day_of(kind, first, second, third)?,
+        moved: moved_of(words.next()?)?,
+        first_year: signed(words)?,
+        last_year: signed(words)?,
     })
+}
+
+fn signed(words: &mut SplitAsciiWhitespace<'_>) -> Option<i32> {
+    words.next()?.parse().ok()
+}
+
+fn unsigned(words: &mut SplitAsciiWhitespace<'_>) -> Option<u32> {
+    words.next()?.parse().ok()
+}
+
+// The number of places of a list.
+fn places(words: &mut SplitAsciiWhitespace<'_>) -> Option<usize>
+    ensures few { IfSome result (λ places. places ≤ ROOM) }
+{
+    let places = words.next()?.parse().ok()?;
+    if places <= ROOM { Some(places) } else { None }
 }
 
 fn day_of(kind: &str, first: i32, second: u32, third: u32) -> Option<HolidayDay> {
@@ -69,13 +82,9 @@ fn month_of(months: u32) -> Month {
 
 // The holidays of the rules in so many years in a slice of so many places, weighed by their places from 1 on.
 pub fn listed(rules: &[HolidayRule], weekend: WeekdaySet, words: &str) -> Option<i64> {
-    let mut words = words.split_ascii_whitespace();
-    let first = words.next()?.parse().ok()?;
-    let last = words.next()?.parse().ok()?;
-    let room: usize = words.next()?.parse().ok()?;
-    if room > ROOM {
-        return None;
-    }
+    let words = &mut words.split_ascii_whitespace();
+    let (first, last) = (signed(words)?, signed(words)?);
+    let room = places(words)?;
     let mut out = [MIN_DATE; ROOM];
     let count = holidays_of(rules, first, last, weekend, &mut out[..room])?;
     Some(weighed(&out[..count]))
@@ -94,13 +103,10 @@ pub fn left(weekend: WeekdaySet, days: &[NaiveDate]) -> Option<i64> {
 
 // The open days between two dates of two calendars joined in a slice of so many places.
 pub fn joined(first: &Calendar<'_>, second: &Calendar<'_>, words: &str) -> Option<i64> {
-    let mut words = words.split_ascii_whitespace();
-    let from = NaiveDate::from_num_days_from_ce_opt(words.next()?.parse().ok()?)?;
-    let to = NaiveDate::from_num_days_from_ce_opt(words.next()?.parse().ok()?)?;
-    let room: usize = words.next()?.parse().ok()?;
-    if room > ROOM {
-        return None;
-    }
+    let words = &mut words.split_ascii_whitespace();
+    let from = date_of(words.next()?)?;
+    let to = date_of(words.next()?)?;
+    let room = places(words)?;
     let mut out = [MIN_DATE; ROOM];
     let both = first.joined(second, &mut out[..room])?;
     Some(both.open_days(from, to))

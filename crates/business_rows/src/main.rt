@@ -67,28 +67,56 @@ pub(crate) fn answer_of(
     date: NaiveDate,
     last: &str,
 ) -> Option<i64> {
+    if let Some(found) = found(calendar, name, date) {
+        return number_of(found);
+    }
     match name {
         "is_open" => Some(i64::from(calendar.is_open(date))),
-        "next" => number_of(calendar.next_open(date)),
-        "last" => number_of(calendar.last_open(date)),
-        "first_of_month" => number_of(calendar.first_open_of_month(date)),
-        "last_of_month" => number_of(calendar.last_open_of_month(date)),
         "add" => number_of(calendar.add_open_days(date, last.parse().ok()?)),
-        "count" => Some(calendar.open_days(date, date_of(last)?)),
-        "both" => Some(calendar.open_days_inclusive(date, date_of(last)?)),
         "nth_of_month" => number_of(calendar.nth_open_of_month(date, last.parse().ok()?)),
         "nth_last_of_month" => number_of(calendar.nth_last_open_of_month(date, last.parse().ok()?)),
-        "each" => Some(weighed(calendar, date, date_of(last)?)),
-        "each_back" => Some(weighed_back(calendar, date, date_of(last)?)),
-        "actual_actual" => Some(actual_actual_isda(date, date_of(last)?).numerator),
-        "actual_360" => Some(actual_360(date, date_of(last)?).numerator),
-        "thirty_360" => Some(thirty_360(date, date_of(last)?).numerator),
-        "thirty_e_360" => Some(thirty_e_360(date, date_of(last)?).numerator),
-        _ => match roll_of(name) {
-            Some(roll) => number_of(calendar.roll(date, roll)),
-            None => rules::answer_of(name, date, last.parse().ok()?),
-        },
+        _ => with_number(calendar, name, date, last.parse().ok()?),
     }
+}
+
+// The date that is found from a date alone.
+fn found(calendar: &Calendar<'_>, name: &str, date: NaiveDate) -> Option<Option<NaiveDate>> {
+    Some(match name {
+        "next" => calendar.next_open(date),
+        "last" => calendar.last_open(date),
+        "first_of_month" => calendar.first_open_of_month(date),
+        "last_of_month" => calendar.last_open_of_month(date),
+        _ => calendar.roll(date, roll_of(name)?),
+    })
+}
+
+// What is answered of a date and a number, which is a year or a second date.
+fn with_number(calendar: &Calendar<'_>, name: &str, date: NaiveDate, number: i32) -> Option<i64> {
+    if let Some(count) = rules::answer_of(name, date, number) {
+        return Some(count);
+    }
+    let to = NaiveDate::from_num_days_from_ce_opt(number)?;
+    if let Some(numerator) = counted(name, date, to) {
+        return Some(numerator);
+    }
+    Some(match name {
+        "count" => calendar.open_days(date, to),
+        "both" => calendar.open_days_inclusive(date, to),
+        "each" => weighed(calendar, date, to),
+        "each_back" => weighed_back(calendar, date, to),
+        _ => return None,
+    })
+}
+
+// The days between two dates by a day count.
+fn counted(name: &str, from: NaiveDate, to: NaiveDate) -> Option<i64> {
+    Some(match name {
+        "actual_actual" => actual_actual_isda(from, to).numerator,
+        "actual_360" => actual_360(from, to).numerator,
+        "thirty_360" => thirty_360(from, to).numerator,
+        "thirty_e_360" => thirty_e_360(from, to).numerator,
+        _ => return None,
+    })
 }
 
 // The numbers of the open days between two dates, the first of them once, the second twice and so on.

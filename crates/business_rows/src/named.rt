@@ -30,39 +30,32 @@ impl<A: Allocator> Named<A> {
 
     /// Takes what the line names; whether it names anything.
     pub fn names(&mut self, line: &str) -> io::Result<bool> {
-        if let Some(days) = line.strip_prefix("calendar ") {
-            self.weekend = take_days(&mut self.holidays, days)?;
-        } else if let Some(days) = line.strip_prefix("other ") {
-            self.other_weekend = take_days(&mut self.other_holidays, days)?;
-        } else if line == "rules" {
-            self.rules.clear();
-        } else if let Some(words) = line.strip_prefix("rule ") {
-            if let Some(rule) = lists::rule_of(words) {
+        let (kind, rest) = line.split_once(' ').unwrap_or((line, ""));
+        match kind {
+            "calendar" => self.weekend = take_days(&mut self.holidays, rest)?,
+            "other" => self.other_weekend = take_days(&mut self.other_holidays, rest)?,
+            "rules" => self.rules.clear(),
+            "rule" => if let Some(rule) = lists::rule_of(rest) {
                 self.rules.push(rule)?;
-            }
-        } else {
-            return Ok(false);
+            },
+            _ => return Ok(false),
         }
         Ok(true)
     }
 
     /// Whether the call of the line has the answer behind it.
     pub fn is_answered(&self, line: &str) -> bool {
-        if let Some(call) = line.strip_prefix("listed ") {
-            let (words, answer) = call.split_once(" = ").unwrap_or(("", ""));
-            return is_said(
+        let (call, answer) = line.split_once(" = ").unwrap_or((line, ""));
+        let (name, words) = call.split_once(' ').unwrap_or((call, ""));
+        match name {
+            "listed" => is_said(
                 lists::listed(self.rules.as_slice(), self.weekend, words),
                 answer,
-            );
+            ),
+            "left" => is_said(lists::left(self.weekend, self.holidays.as_slice()), answer),
+            "joined" => is_said(self.joined(words), answer),
+            _ => is_call_answered(self.weekend, self.holidays.as_slice(), line),
         }
-        if let Some(answer) = line.strip_prefix("left = ") {
-            return is_said(lists::left(self.weekend, self.holidays.as_slice()), answer);
-        }
-        if let Some(call) = line.strip_prefix("joined ") {
-            let (words, answer) = call.split_once(" = ").unwrap_or(("", ""));
-            return is_said(self.joined(words), answer);
-        }
-        is_call_answered(self.weekend, self.holidays.as_slice(), line)
     }
 
     // The open days of the two calendars joined.

@@ -1,9 +1,10 @@
 //! Calls of `NaiveDateTime`.
 
 use crate::dates::{read_any, with_field};
-use crate::times::with_each;
+use crate::times::{with_each, with_one};
 use crate::words::{
-    Words, are, count, date, date_time, duration, is_date_time, is_duration, is_order, unsigned,
+    Words, alike, are, count, date, date_time, duration, is_date_time, is_duration, is_order, time,
+    unsigned,
 };
 use chrono_datetime::{
     Datelike, Days, MAX_DATETIME, MIN_DATETIME, Months, NaiveDate, NaiveDateTime, Timelike,
@@ -11,48 +12,67 @@ use chrono_datetime::{
 
 /// Whether the call of that name has that answer; `None` if there is no such call, or its arguments are not right.
 pub fn is_answered(name: &str, words: &mut Words<'_>, answer: &str) -> Option<bool> {
-    let named = match name {
-        "MIN" if MIN_DATETIME == NaiveDateTime::MIN => MIN_DATETIME,
-        "MAX" if MAX_DATETIME == NaiveDateTime::MAX => MAX_DATETIME,
-        "default" => NaiveDateTime::default(),
-        "from" => NaiveDateTime::from(date(words)?),
-        _ => return of_one(name, date_time(words)?, words, answer),
-    };
-    Some(is_date_time(answer, Some(named)))
+    if let Some(constant) = constant(name) {
+        return Some(is_date_time(answer, Some(constant)));
+    }
+    let date = date(words)?;
+    if name == "from" {
+        return Some(is_date_time(answer, Some(NaiveDateTime::from(date))));
+    }
+    of_one(name, NaiveDateTime::new(date, time(words)?), words, answer)
+}
+
+fn constant(name: &str) -> Option<NaiveDateTime> {
+    match name {
+        "MIN" => alike(MIN_DATETIME, NaiveDateTime::MIN),
+        "MAX" => alike(MAX_DATETIME, NaiveDateTime::MAX),
+        "default" => Some(NaiveDateTime::default()),
+        _ => None,
+    }
 }
 
 fn of_one(name: &str, own: NaiveDateTime, words: &mut Words<'_>, answer: &str) -> Option<bool> {
-    let moved = match name {
+    if name.starts_with("checked_") {
+        return Some(is_date_time(answer, moved(name, own, words)?));
+    }
+    if name.starts_with("with_") {
+        return Some(is_date_time(answer, with_any(name, &own, words)?));
+    }
+    match name {
+        "signed_duration_since" | "cmp" => of_two(name, own, date_time(words)?, answer),
+        "date_and_time" => Some(is_put_together(answer, own)),
+        "num_days_from_ce" => Some(are(answer, &[i64::from(own.num_days_from_ce())])),
+        "time" => Some(is_time_of(answer, own)),
+        _ => read_any(name, &own, answer),
+    }
+}
+
+// The date-time that lies apart by what further words say.
+fn moved(name: &str, own: NaiveDateTime, words: &mut Words<'_>) -> Option<Option<NaiveDateTime>> {
+    Some(match name {
         "checked_add_signed" => own.checked_add_signed(duration(words)?),
         "checked_sub_signed" => own.checked_sub_signed(duration(words)?),
         "checked_add_months" => own.checked_add_months(Months::new(unsigned(words)?)),
         "checked_sub_months" => own.checked_sub_months(Months::new(unsigned(words)?)),
         "checked_add_days" => own.checked_add_days(Days::new(count(words)?)),
         "checked_sub_days" => own.checked_sub_days(Days::new(count(words)?)),
-        "signed_duration_since" | "cmp" => {
-            return of_two(name, own, date_time(words)?, answer);
+        _ => return None,
+    })
+}
+
+// The same with one field of its time or of its date replaced, or with each of its time.
+fn with_any(
+    name: &str,
+    own: &NaiveDateTime,
+    words: &mut Words<'_>,
+) -> Option<Option<NaiveDateTime>> {
+    match name {
+        "with_each" => with_each(own, words),
+        "with_hour" | "with_minute" | "with_second" | "with_nanosecond" => {
+            with_one(name, own, unsigned(words)?)
         }
-        "with_year"
-        | "with_month"
-        | "with_month0"
-        | "with_day"
-        | "with_day0"
-        | "with_ordinal"
-        | "with_ordinal0" => with_field(name, &own, words)?,
-        "with_hour" => own.with_hour(unsigned(words)?),
-        "with_minute" => own.with_minute(unsigned(words)?),
-        "with_second" => own.with_second(unsigned(words)?),
-        "with_nanosecond" => own.with_nanosecond(unsigned(words)?),
-        "with_each" => {
-            let (hour, minute, second) = (unsigned(words)?, unsigned(words)?, unsigned(words)?);
-            with_each(&own, hour, minute, second, unsigned(words)?)
-        }
-        "date_and_time" => return Some(is_put_together(answer, own)),
-        "num_days_from_ce" => return Some(are(answer, &[i64::from(own.num_days_from_ce())])),
-        "time" => return Some(is_time_of(answer, own)),
-        _ => return read_any(name, &own, answer),
-    };
-    Some(is_date_time(answer, moved))
+        _ => with_field(name, own, words),
+    }
 }
 
 fn of_two(name: &str, own: NaiveDateTime, other: NaiveDateTime, answer: &str) -> Option<bool> {

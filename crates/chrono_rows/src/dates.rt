@@ -3,85 +3,138 @@
 use crate::date_walks::{is_walk_by_days, is_walk_by_weeks};
 use crate::sets::set;
 use crate::words::{
-    Words, are, count, date, duration, is_date, is_date_time, is_duration, is_number, is_order,
-    signed, time, unsigned, weekday, whole,
+    Words, alike, are, count, date, duration, is_date, is_date_time, is_duration, is_number,
+    is_order, signed, time, unsigned, weekday, whole,
 };
 use chrono_datetime::{
-    AndTime, Datelike, Days, MAX_DATE, MIN_DATE, Months, NaiveDate, NaiveDateTime,
+    AndTime, Datelike, Days, MAX_DATE, MIN_DATE, Months, NaiveDate, NaiveDateTime, TimeDelta,
 };
 
 /// Whether the call of that name has that answer; `None` if there is no such call, or its arguments are not right.
 pub fn is_answered(name: &str, words: &mut Words<'_>, answer: &str) -> Option<bool> {
-    let made = match name {
-        "MIN" => if MIN_DATE == NaiveDate::MIN {
-            Some(MIN_DATE)
-        } else {
-            None
-        },
-        "MAX" => if MAX_DATE == NaiveDate::MAX {
-            Some(MAX_DATE)
-        } else {
-            None
-        },
+    if let Some(constant) = constant(name) {
+        return Some(is_date(answer, Some(constant)));
+    }
+    let first = signed(words)?;
+    if name.starts_with("from_") {
+        return Some(is_date(answer, made(name, first, words)?));
+    }
+    of_one(
+        name,
+        NaiveDate::from_num_days_from_ce_opt(first)?,
+        words,
+        answer,
+    )
+}
+
+fn constant(name: &str) -> Option<NaiveDate> {
+    match name {
+        "MIN" => alike(MIN_DATE, NaiveDate::MIN),
+        "MAX" => alike(MAX_DATE, NaiveDate::MAX),
         "default" => Some(NaiveDate::default()),
-        "from_ymd_opt" => {
-            NaiveDate::from_ymd_opt(signed(words)?, unsigned(words)?, unsigned(words)?)
-        }
-        "from_yo_opt" => NaiveDate::from_yo_opt(signed(words)?, unsigned(words)?),
-        "from_isoywd_opt" => {
-            NaiveDate::from_isoywd_opt(signed(words)?, unsigned(words)?, weekday(words)?)
-        }
-        "from_num_days_from_ce_opt" => NaiveDate::from_num_days_from_ce_opt(signed(words)?),
-        "from_epoch_days" => NaiveDate::from_epoch_days(signed(words)?),
+        _ => None,
+    }
+}
+
+// The date of a number, or of a year and of what further words name in it.
+fn made(name: &str, first: i32, words: &mut Words<'_>) -> Option<Option<NaiveDate>> {
+    Some(match name {
+        "from_num_days_from_ce_opt" => NaiveDate::from_num_days_from_ce_opt(first),
+        "from_epoch_days" => NaiveDate::from_epoch_days(first),
+        _ => in_year(name, first, unsigned(words)?, words)?,
+    })
+}
+
+// The date of a year, its part and the day of that.
+fn in_year(name: &str, year: i32, part: u32, words: &mut Words<'_>) -> Option<Option<NaiveDate>> {
+    Some(match name {
+        "from_yo_opt" => NaiveDate::from_yo_opt(year, part),
+        "from_ymd_opt" => NaiveDate::from_ymd_opt(year, part, unsigned(words)?),
+        "from_isoywd_opt" => NaiveDate::from_isoywd_opt(year, part, weekday(words)?),
         "from_weekday_of_month_opt" => {
-            let (year, month, day) = (signed(words)?, unsigned(words)?, weekday(words)?);
-            NaiveDate::from_weekday_of_month_opt(
-                year,
-                month,
-                day,
-                u8::try_from(unsigned(words)?).ok()?,
-            )
+            let day = weekday(words)?;
+            let n = u8::try_from(unsigned(words)?).ok()?;
+            NaiveDate::from_weekday_of_month_opt(year, part, day, n)
         }
-        _ => return of_one(name, date(words)?, words, answer),
-    };
-    Some(is_date(answer, made))
+        _ => return None,
+    })
 }
 
 fn of_one(name: &str, own: NaiveDate, words: &mut Words<'_>, answer: &str) -> Option<bool> {
-    let moved = match name {
-        "succ_opt" => own.succ_opt(),
-        "pred_opt" => own.pred_opt(),
-        "checked_add_days" => own.checked_add_days(Days::new(count(words)?)),
-        "checked_sub_days" => own.checked_sub_days(Days::new(count(words)?)),
-        "checked_add_months" => own.checked_add_months(Months::new(unsigned(words)?)),
-        "checked_sub_months" => own.checked_sub_months(Months::new(unsigned(words)?)),
-        "moved_by_days" => own.moved_by_days(whole(words)?),
-        "moved_by_months" => own.moved_by_months(whole(words)?),
-        "every_months" => own.every_months(signed(words)?, unsigned(words)?),
-        "first_on" => own.first_on(set(words)?),
-        "checked_add_signed" => own.checked_add_signed(duration(words)?),
-        "checked_sub_signed" => own.checked_sub_signed(duration(words)?),
-        "with_year"
-        | "with_month"
-        | "with_month0"
-        | "with_day"
-        | "with_day0"
-        | "with_ordinal"
-        | "with_ordinal0" => with_field(name, &own, words)?,
-        "iter_days_last" => own.iter_days().last(),
-        "and_time"
-        | "and_hms_opt"
-        | "and_hms_milli_opt"
-        | "and_hms_micro_opt"
-        | "and_hms_nano_opt" => return Some(is_date_time(answer, joined(name, &own, words)?)),
-        "signed_duration_since" | "abs_diff" | "years_since" | "cmp" => {
-            return of_two(name, own, date(words)?, answer);
+    if let Some(is_same) = read(name, own, answer) {
+        return Some(is_same);
+    }
+    if let Some(next) = neighbour(name, own) {
+        return Some(is_date(answer, next));
+    }
+    if name.starts_with("with_") {
+        return Some(is_date(answer, with_field(name, &own, words)?));
+    }
+    if name.starts_with("and_") {
+        return Some(is_date_time(answer, joined(name, &own, words)?));
+    }
+    if let Some(moved) = moved(name, own, words) {
+        return Some(is_date(answer, moved));
+    }
+    match name {
+        "iter_days" => Some(is_walk_by_days(own, words.next()?, answer)),
+        "iter_weeks" => Some(is_walk_by_weeks(own, words.next()?, answer)),
+        _ => of_two(name, own, date(words)?, answer),
+    }
+}
+
+// The date beside a date, or the last that is counted from it.
+fn neighbour(name: &str, own: NaiveDate) -> Option<Option<NaiveDate>> {
+    match name {
+        "succ_opt" => Some(own.succ_opt()),
+        "pred_opt" => Some(own.pred_opt()),
+        "iter_days_last" => Some(own.iter_days().last()),
+        _ => None,
+    }
+}
+
+// The date that lies apart by what further words say.
+fn moved(name: &str, own: NaiveDate, words: &mut Words<'_>) -> Option<Option<NaiveDate>> {
+    match name {
+        "checked_add_days" | "checked_sub_days" => {
+            Some(by_days(name, own, Days::new(count(words)?)))
         }
-        "iter_days" => return Some(is_walk_by_days(own, words.next()?, answer)),
-        "iter_weeks" => return Some(is_walk_by_weeks(own, words.next()?, answer)),
-        _ => return read(name, own, answer),
-    };
-    Some(is_date(answer, moved))
+        "checked_add_months" | "checked_sub_months" => {
+            Some(by_months(name, own, Months::new(unsigned(words)?)))
+        }
+        "checked_add_signed" | "checked_sub_signed" => {
+            Some(by_duration(name, own, duration(words)?))
+        }
+        "moved_by_days" => Some(own.moved_by_days(whole(words)?)),
+        "moved_by_months" => Some(own.moved_by_months(whole(words)?)),
+        "every_months" => Some(own.every_months(signed(words)?, unsigned(words)?)),
+        "first_on" => Some(own.first_on(set(words)?)),
+        _ => None,
+    }
+}
+
+fn by_days(name: &str, own: NaiveDate, days: Days) -> Option<NaiveDate> {
+    if name == "checked_add_days" {
+        own.checked_add_days(days)
+    } else {
+        own.checked_sub_days(days)
+    }
+}
+
+fn by_months(name: &str, own: NaiveDate, months: Months) -> Option<NaiveDate> {
+    if name == "checked_add_months" {
+        own.checked_add_months(months)
+    } else {
+        own.checked_sub_months(months)
+    }
+}
+
+fn by_duration(name: &str, own: NaiveDate, by: TimeDelta) -> Option<NaiveDate> {
+    if name == "checked_add_signed" {
+        own.checked_add_signed(by)
+    } else {
+        own.checked_sub_signed(by)
+    }
 }
 
 /// The date, or what has one, with one field replaced, through the trait alone.
@@ -118,7 +171,8 @@ fn joined<T: AndTime>(name: &str, own: &T, words: &mut Words<'_>) -> Option<Opti
     Some(match name {
         "and_hms_milli_opt" => own.and_hms_milli_opt(hour, minute, second, fraction),
         "and_hms_micro_opt" => own.and_hms_micro_opt(hour, minute, second, fraction),
-        _ => own.and_hms_nano_opt(hour, minute, second, fraction),
+        "and_hms_nano_opt" => own.and_hms_nano_opt(hour, minute, second, fraction),
+        _ => return None,
     })
 }
 

@@ -1,28 +1,34 @@
 //! The calls of a date over each stored form: by the form's own, and by those of [`forms`].
 
-use crate::words::{Words, are, count, is_order, signed, unsigned, weekday, whole};
+use crate::words::{Words, are, count, is_number, is_order, signed, unsigned, weekday, whole};
 use chrono_calendar::{DayForm, forms};
 
 /// Whether the call of that name has that answer over a form; `None` if a form has no such call, or its arguments are not
 /// right.
 pub fn is_answered<F: DayForm>(name: &str, words: &mut Words<'_>, answer: &str) -> Option<bool> {
-    let made = match name {
-        "from_ymd_opt" => F::from_ymd(signed(words)?, unsigned(words)?, unsigned(words)?),
-        "from_yo_opt" => F::from_yo(signed(words)?, unsigned(words)?),
-        "from_isoywd_opt" => forms::from_iso(signed(words)?, unsigned(words)?, weekday(words)?),
-        "from_num_days_from_ce_opt" => forms::from_day(signed(words)?),
-        "from_weekday_of_month_opt" => {
-            let (year, month, day) = (signed(words)?, unsigned(words)?, weekday(words)?);
-            forms::nth_weekday(year, month, day, u8::try_from(unsigned(words)?).ok()?)
-        }
-        _ => return of_one(name, form::<F>(words)?, words, answer),
-    };
-    Some(is_form(answer, made))
+    let first = signed(words)?;
+    if name.starts_with("from_") {
+        return Some(is_form(answer, made::<F>(name, first, words)?));
+    }
+    of_one::<F>(name, forms::from_day(first)?, words, answer)
 }
 
-// The form of the day number of the next word.
-fn form<F: DayForm>(words: &mut Words<'_>) -> Option<F> {
-    forms::from_day(signed(words)?)
+// The form of a number, or of a year, its part and the day of that.
+fn made<F: DayForm>(name: &str, first: i32, words: &mut Words<'_>) -> Option<Option<F>> {
+    if name == "from_num_days_from_ce_opt" {
+        return Some(forms::from_day(first));
+    }
+    let part = unsigned(words)?;
+    Some(match name {
+        "from_ymd_opt" => F::from_ymd(first, part, unsigned(words)?),
+        "from_yo_opt" => F::from_yo(first, part),
+        "from_isoywd_opt" => forms::from_iso(first, part, weekday(words)?),
+        "from_weekday_of_month_opt" => {
+            let day = weekday(words)?;
+            forms::nth_weekday(first, part, day, u8::try_from(unsigned(words)?).ok()?)
+        }
+        _ => return None,
+    })
 }
 
 // Whether the answer is the day number of that form, or `none` where there is none.
@@ -34,33 +40,49 @@ fn is_form<F: DayForm>(answer: &str, form: Option<F>) -> bool {
 }
 
 fn of_one<F: DayForm>(name: &str, own: F, words: &mut Words<'_>, answer: &str) -> Option<bool> {
-    let moved = match name {
-        "succ_opt" => moved_by(own, 1),
-        "pred_opt" => moved_by(own, -1),
-        "checked_add_days" => moved_by(own, days(words)?),
-        "checked_sub_days" => moved_by(own, days(words)?.wrapping_neg()),
-        "checked_add_months" => forms::move_months(own, i64::from(unsigned(words)?)),
-        "checked_sub_months" => forms::move_months(own, -i64::from(unsigned(words)?)),
-        "moved_by_days" => moved_by(own, whole(words)?),
-        "moved_by_months" => forms::move_months(own, whole(words)?),
-        "years_since" => {
-            return match forms::years_between(&own, &form(words)?) {
-                Some(years) => Some(are(answer, &[i64::from(years)])),
-                None => Some(answer == "none"),
-            };
-        }
-        "cmp" => return Some(is_order(answer, &own, &form::<F>(words)?)),
+    if let Some(days) = days_of(name, words) {
+        return Some(is_form(answer, forms::days_later(own, days)));
+    }
+    if let Some(months) = months_of(name, words) {
+        return Some(is_form(answer, forms::move_months(own, months)));
+    }
+    match name {
+        "years_since" | "cmp" => of_two(name, own, forms::from_day(signed(words)?)?, answer),
         "checked_first_day" => {
             let first = forms::week_first(&own, weekday(words)?);
-            forms::from_day(first)
+            Some(is_form::<F>(answer, forms::from_day(first)))
         }
-        _ => return read(name, own, answer),
-    };
-    Some(is_form(answer, moved))
+        _ => read(name, own, answer),
+    }
 }
 
-fn moved_by<F: DayForm>(own: F, days: i64) -> Option<F> {
-    forms::days_later(own, days)
+fn of_two<F: DayForm>(name: &str, own: F, other: F, answer: &str) -> Option<bool> {
+    if name == "cmp" {
+        return Some(is_order(answer, &own, &other));
+    }
+    Some(is_number(answer, forms::years_between(&own, &other).map(i64::from)))
+}
+
+// How many days the call of that name moves by.
+fn days_of(name: &str, words: &mut Words<'_>) -> Option<i64> {
+    match name {
+        "succ_opt" => Some(1),
+        "pred_opt" => Some(-1),
+        "checked_add_days" => days(words),
+        "checked_sub_days" => Some(days(words)?.wrapping_neg()),
+        "moved_by_days" => whole(words),
+        _ => None,
+    }
+}
+
+// How many months the call of that name moves by.
+fn months_of(name: &str, words: &mut Words<'_>) -> Option<i64> {
+    match name {
+        "checked_add_months" => Some(i64::from(unsigned(words)?)),
+        "checked_sub_months" => Some(-i64::from(unsigned(words)?)),
+        "moved_by_months" => whole(words),
+        _ => None,
+    }
 }
 
 // The count of days of the next word, or one past every date if it does not fit.

@@ -23,6 +23,7 @@ mod words;
 
 use chrono_stored::{CountedForm, PackedForm};
 use std::io::{self, BufRead, BufReader};
+use words::Words;
 
 fn main(rt: HostRuntime) -> io::Result<()> {
     let (mut lines, mut others) = (0u64, 0u64);
@@ -47,22 +48,44 @@ fn is_answered(line: &str) -> bool {
     let Some((owner, name)) = arguments.next().and_then(|word| word.split_once('.')) else {
         return false;
     };
-    let is_same = match owner {
-        "TimeDelta" => durations::is_answered(name, arguments, answer),
-        "NaiveTime" => times::is_answered(name, arguments, answer),
+    let is_same = is_answered_by(owner, name, arguments, answer);
+    is_same == Some(true)
+        && arguments.next().is_none()
+        && is_answered_by_forms(owner, name, call, answer)
+}
+
+// Whether the call of that name of a type has that answer; `None` if there is no such call, or its arguments are not right.
+fn is_answered_by(
+    owner: &str,
+    name: &str,
+    arguments: &mut Words<'_>,
+    answer: &str,
+) -> Option<bool> {
+    match owner {
         "NaiveDate" => dates::is_answered(name, arguments, answer),
+        "NaiveTime" => times::is_answered(name, arguments, answer),
+        "NaiveDateTime" => date_times::is_answered(name, arguments, answer),
+        "TimeDelta" => durations::is_answered(name, arguments, answer),
+        _ => is_answered_by_part(owner, name, arguments, answer),
+    }
+}
+
+// The same of the types that a calendar is made of.
+fn is_answered_by_part(
+    owner: &str,
+    name: &str,
+    arguments: &mut Words<'_>,
+    answer: &str,
+) -> Option<bool> {
+    match owner {
         "NaiveWeek" => weeks::is_answered(name, arguments, answer),
         "IsoWeek" => weeks::is_answered_by_iso(name, arguments, answer),
-        "NaiveDateTime" => date_times::is_answered(name, arguments, answer),
         "Weekday" => weekdays::is_answered(name, arguments, answer),
         "WeekdaySet" => sets::is_answered(name, arguments, answer),
         "Month" => months::is_answered(name, arguments, answer),
         "Months" => months::is_answered_by_span(name, arguments, answer),
         _ => None,
-    };
-    is_same == Some(true)
-        && arguments.next().is_none()
-        && is_answered_by_forms(owner, name, call, answer)
+    }
 }
 
 // Whether both stored forms answer so, where they have the call.

@@ -6,36 +6,54 @@ use chrono_datetime::WeekdaySet;
 
 /// Whether the call of that name has that answer; `None` if there is no such call, or its arguments are not right.
 pub fn is_answered(name: &str, words: &mut Words<'_>, answer: &str) -> Option<bool> {
-    let own = match name {
-        "EMPTY" => return Some(are(answer, &[number_of(WeekdaySet::EMPTY)])),
-        "ALL" => return Some(are(answer, &[number_of(WeekdaySet::ALL)])),
-        "default" => return Some(are(answer, &[number_of(WeekdaySet::default())])),
-        "single" => {
-            let single = WeekdaySet::single(weekday(words)?);
-            return Some(are(answer, &[number_of(single)]));
+    if let Some(constant) = constant(name) {
+        return Some(are(answer, &[number_of(constant)]));
+    }
+    if name == "single" {
+        let single = WeekdaySet::single(weekday(words)?);
+        return Some(are(answer, &[number_of(single)]));
+    }
+    of_one(name, set(words)?, words, answer)
+}
+
+fn constant(name: &str) -> Option<WeekdaySet> {
+    match name {
+        "EMPTY" => Some(WeekdaySet::EMPTY),
+        "ALL" => Some(WeekdaySet::ALL),
+        "default" => Some(WeekdaySet::default()),
+        _ => None,
+    }
+}
+
+fn of_one(name: &str, own: WeekdaySet, words: &mut Words<'_>, answer: &str) -> Option<bool> {
+    match name {
+        "len" => Some(are(answer, &[i64::from(own.len())])),
+        "is_empty" => Some(are(answer, &[i64::from(own.is_empty())])),
+        "first" => Some(is_weekday(answer, own.first())),
+        "last" => Some(is_weekday(answer, own.last())),
+        "single_day" => Some(is_weekday(answer, own.single_day())),
+        "days_until" | "contains" | "insert" | "remove" => {
+            with_day(name, own, weekday(words)?, answer)
         }
-        _ => set(words)?,
-    };
+        "iter" => Some(is_walk(own, weekday(words)?, words.next()?, answer)),
+        _ => of_two(name, own, set(words)?, answer),
+    }
+}
+
+fn with_day(name: &str, own: WeekdaySet, day: Weekday, answer: &str) -> Option<bool> {
+    let mut changed = own;
     Some(match name {
-        "len" => are(answer, &[i64::from(own.len())]),
-        "is_empty" => are(answer, &[i64::from(own.is_empty())]),
-        "first" => is_weekday(answer, own.first()),
-        "last" => is_weekday(answer, own.last()),
-        "single_day" => is_weekday(answer, own.single_day()),
-        "days_until" => is_number(answer, days(own.days_until(weekday(words)?))),
-        "contains" => are(answer, &[i64::from(own.contains(weekday(words)?))]),
+        "days_until" => is_number(answer, days(own.days_until(day))),
+        "contains" => are(answer, &[i64::from(own.contains(day))]),
         "insert" => {
-            let mut grown = own;
-            let is_new = grown.insert(weekday(words)?);
-            are(answer, &[i64::from(is_new), number_of(grown)])
+            let is_new = changed.insert(day);
+            are(answer, &[i64::from(is_new), number_of(changed)])
         }
         "remove" => {
-            let mut shrunk = own;
-            let was_in = shrunk.remove(weekday(words)?);
-            are(answer, &[i64::from(was_in), number_of(shrunk)])
+            let was_in = changed.remove(day);
+            are(answer, &[i64::from(was_in), number_of(changed)])
         }
-        "iter" => is_walk(own, weekday(words)?, words.next()?, answer),
-        _ => return of_two(name, own, set(words)?, answer),
+        _ => return None,
     })
 }
 

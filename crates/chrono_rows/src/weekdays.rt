@@ -18,14 +18,21 @@ pub fn is_answered(name: &str, words: &mut Words<'_>, answer: &str) -> Option<bo
 }
 
 fn of_one(name: &str, own: Weekday, words: &mut Words<'_>, answer: &str) -> Option<bool> {
+    match name {
+        "succ" => Some(is_weekday(answer, Some(own.succ()))),
+        "pred" => Some(is_weekday(answer, Some(own.pred()))),
+        "days_since" => Some(are(answer, &[i64::from(own.days_since(weekday(words)?))])),
+        _ => Some(are(answer, &[i64::from(number(name, own)?)])),
+    }
+}
+
+// The number that the call of that name gives a weekday.
+fn number(name: &str, own: Weekday) -> Option<u32> {
     Some(match name {
-        "succ" => is_weekday(answer, Some(own.succ())),
-        "pred" => is_weekday(answer, Some(own.pred())),
-        "number_from_monday" => are(answer, &[i64::from(own.number_from_monday())]),
-        "number_from_sunday" => are(answer, &[i64::from(own.number_from_sunday())]),
-        "num_days_from_monday" => are(answer, &[i64::from(own.num_days_from_monday())]),
-        "num_days_from_sunday" => are(answer, &[i64::from(own.num_days_from_sunday())]),
-        "days_since" => are(answer, &[i64::from(own.days_since(weekday(words)?))]),
+        "number_from_monday" => own.number_from_monday(),
+        "number_from_sunday" => own.number_from_sunday(),
+        "num_days_from_monday" => own.num_days_from_monday(),
+        "num_days_from_sunday" => own.num_days_from_sunday(),
         _ => return None,
     })
 }

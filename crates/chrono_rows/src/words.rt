@@ -169,6 +169,11 @@ pub fn is_order<T: Ord + Hash>(answer: &str, own: &T, other: &T) -> bool {
         && (order != Equal || hash_of(own) == hash_of(other))
 }
 
+/// The value that two names stand for, where it is one.
+pub fn alike<T: Copy + PartialEq>(own: T, other: T) -> Option<T> {
+    if own == other { Some(own) } else { None }
+}
+
 /// The number that a hasher makes of the value.
 pub fn hash_of<T: Hash>(value: &T) -> u64 {
     let mut state = DefaultHasher::new();

@@ -6,12 +6,16 @@ mod Digits
 mod ErrorLines
 mod GivenDays
 mod Kept
+mod ListLemmas
+mod ListsBack
 mod Moments
 mod Passed
 mod PeriodsLeftOut
 mod PieceLemmas
+mod PlacesBack
 mod PlacesInPeriods
 mod RecurrenceWalks
 mod RisingLists
+mod RuleAscii
 mod Skipped
 mod Walks

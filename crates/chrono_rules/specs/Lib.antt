@@ -2,8 +2,11 @@ pub mod InstanceLists
 pub mod InstanceMoments
 pub mod Instances
 pub mod KnownRules
+pub mod KnownTexts
 pub mod Pieces
 pub mod Places
 pub mod RecurrenceSets
 pub mod RuleErrors
 pub mod RuleTexts
+pub mod ToldRules
+pub mod WrittenRules

@@ -7,7 +7,7 @@ use Rattle.chrono_datetime.specs.declared.Weekday.TheVariants.{Mon}
 use Rattle.chrono_rules.specs.Instances.{has_numbers, lacks_month_days, lacks_year_days, lacks_weeks, no_numbers, no_weekdays, plain}
 use Rattle.chrono_rules.specs.Pieces.{count_of, digits_of, pieces}
 use Rattle.chrono_rules.specs.Places.{ends_of, no_ends, number_of, place_of, weekday_of_letters, weekdays_of, with_weekday, with_weekday_text}
-use Rattle.chrono_rules.specs.RuleTexts.{IsRuleText, Says, date_of, end_of, fits, frequency_of, has_month_days, has_year_parts, interval_of, is_part, lacks_numbers, months_of, may_have_numbers, no_year_ends, parts, said, values_in, weekday_of_text, year_ends_of}
+use Rattle.chrono_rules.specs.RuleTexts.{IsRuleText, Says, end_of, fits, frequency_of, has_month_days, has_year_parts, interval_of, is_part, lacks_numbers, months_of, may_have_numbers, no_year_ends, parts, said, values_in, weekday_of_text, year_ends_of}
 use Rattle.chrono_rules.specs.declared.error.RuleError.{RuleError}
 use Rattle.chrono_rules.specs.declared.error.RuleFault.{RuleFault}
 use Rattle.chrono_rules.specs.declared.error.RuleFault.TheVariants.{Unknown, Missing, Twice, Empty, NotAFrequency, NotANumber, OutOfRange, NotADate, NotAWeekday, BesideCount, NotWith, NumbersNotWith, NumbersBesideWeeks, Alone}

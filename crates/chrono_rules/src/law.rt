@@ -1,10 +1,19 @@
 //! Instances that are known, each as a clause of a function that does nothing.
-ghost use Rattle.std.specs.Prelude.{◌≡◌, ◌+◌, ◌^◌, true, false, [], ◌∷◌, neg_ℤ, pos};
+ghost use Rattle.std.specs.Prelude.{◌≡◌, ◌+◌, ◌^◌, ◌==◌, ◌&&◌, true, false, Some, [], ◌∷◌, neg_ℤ, pos, codes};
 ghost use Rattle.chrono_datetime.specs.declared.Weekday.TheVariants.{Mon, Sun};
-ghost use Rattle.chrono_rules.specs.Instances.{is_instance, no_places, no_weekdays, plain};
+ghost use Rattle.chrono_rules.specs.Instances.{are_zero, is_instance, no_places, no_weekdays, plain};
 ghost use Rattle.chrono_rules.specs.KnownRules.{by_month_days, by_positions, by_weekdays, by_weeks, by_year_days, daily, daily_until, fortnightly, tenths};
+ghost use Rattle.chrono_rules.specs.KnownTexts.{both_sundays, days_of_the_year, election_day, every_other_day, every_other_week, first_and_last, first_friday, june_and_july, last_monday_but_one, last_workday_but_one, monday_of_week_20, third_to_last, until_christmas};
+ghost use Rattle.chrono_rules.specs.Places.{ends_of};
 ghost use Rattle.chrono_rules.specs.RecurrenceSets.{is_in_recurrence};
+ghost use Rattle.chrono_rules.specs.RuleTexts.{IsRuleText, months_of, year_ends_of};
+ghost use Rattle.chrono_rules.specs.ToldRules.{lie_within, places_within};
+ghost use Rattle.chrono_rules.specs.WrittenRules.{both_items, items, list_text, rule_text};
+ghost use Rattle.chrono_rules.specs.declared.listing.Listed.TheVariants.{Numbers, Places};
+ghost use Rattle.chrono_rules.specs.declared.listing.Naming.TheVariants.{Number};
 ghost use Rattle.chrono_rules.specs.declared.rule.Frequency.TheVariants.{Monthly, Weekly, Yearly};
+
+use crate::places::{NumberSet, PlaceSet};
 
 /// Instances that RFC 5545 gives in section 3.8.5.3. Every other week on Tuesday and Sunday, four times from Tuesday, 5 August 1997: with
 /// weeks that begin on Monday the 10th, the 19th and the 24th, with weeks that begin on Sunday the 17th, the 19th and the 31st; no fifth
@@ -118,4 +127,51 @@ pub fn known_recurrence()
     ensures neither { is_in_recurrence tenths (pos 729272) ≡ false }
     ensures instance_excepted { is_in_recurrence tenths (pos 729279) ≡ false }
     ensures next { is_in_recurrence tenths (pos 729289) ≡ true }
+{}
+
+/// What texts say that RFC 5545 gives in section 3.8.5.3, an UNTIL as its date: every other day; each day until Christmas Eve; Tuesday and
+/// Thursday of every other week, by weeks from Sunday on; the first Friday, both the first and the last Sunday, and the last Monday but one of
+/// the month; its third day from the end, and its first and its last; June and July; days of the year; Monday of week 20; the last workday
+/// but one of the month; and the Tuesday behind the first Monday of November.
+pub fn known_rule_texts()
+    ensures every_other_day { IsRuleText (codes "FREQ=DAILY;INTERVAL=2") every_other_day }
+    ensures until_christmas { IsRuleText (codes "FREQ=DAILY;UNTIL=19971224") until_christmas }
+    ensures every_other_week { IsRuleText (codes "FREQ=WEEKLY;INTERVAL=2;COUNT=8;WKST=SU;BYDAY=TU,TH") every_other_week }
+    ensures first_friday { IsRuleText (codes "FREQ=MONTHLY;COUNT=10;BYDAY=1FR") first_friday }
+    ensures both_sundays { IsRuleText (codes "FREQ=MONTHLY;INTERVAL=2;COUNT=10;BYDAY=1SU,-1SU") both_sundays }
+    ensures last_monday_but_one { IsRuleText (codes "FREQ=MONTHLY;COUNT=6;BYDAY=-2MO") last_monday_but_one }
+    ensures third_to_last { IsRuleText (codes "FREQ=MONTHLY;BYMONTHDAY=-3") third_to_last }
+    ensures first_and_last { IsRuleText (codes "FREQ=MONTHLY;COUNT=10;BYMONTHDAY=1,-1") first_and_last }
+    ensures june_and_july { IsRuleText (codes "FREQ=YEARLY;COUNT=10;BYMONTH=6,7") june_and_july }
+    ensures days_of_the_year { IsRuleText (codes "FREQ=YEARLY;INTERVAL=3;COUNT=10;BYYEARDAY=1,100,200") days_of_the_year }
+    ensures monday_of_week_20 { IsRuleText (codes "FREQ=YEARLY;BYWEEKNO=20;BYDAY=MO") monday_of_week_20 }
+    ensures last_workday_but_one { IsRuleText (codes "FREQ=MONTHLY;BYDAY=MO,TU,WE,TH,FR;BYSETPOS=-2") last_workday_but_one }
+    ensures election_day { IsRuleText (codes "FREQ=YEARLY;INTERVAL=4;BYMONTH=11;BYDAY=TU;BYMONTHDAY=2,3,4,5,6,7,8") election_day }
+{}
+
+/// What is written for some of these rules: parts in one order, and numbers too.
+pub fn known_written_rules()
+    ensures every_other_week { rule_text every_other_week ≡ codes "FREQ=WEEKLY;INTERVAL=2;COUNT=8;BYDAY=TU,TH;WKST=SU" }
+    ensures both_sundays { rule_text both_sundays ≡ codes "FREQ=MONTHLY;INTERVAL=2;COUNT=10;BYDAY=1SU,-1SU" }
+    ensures days_of_the_year { rule_text days_of_the_year ≡ codes "FREQ=YEARLY;INTERVAL=3;COUNT=10;BYYEARDAY=1,100,200" }
+    ensures monday_of_week_20 { rule_text monday_of_week_20 ≡ codes "FREQ=YEARLY;BYDAY=MO;BYWEEKNO=20" }
+    ensures last_workday_but_one { rule_text last_workday_but_one ≡ codes "FREQ=MONTHLY;BYDAY=MO,TU,WE,TH,FR;BYSETPOS=-2" }
+    ensures election_day { rule_text election_day ≡ codes "FREQ=YEARLY;INTERVAL=4;BYMONTH=11;BYMONTHDAY=2,3,4,5,6,7,8;BYDAY=TU" }
+{}
+
+/// A list of months, of days of the month or of weeks that is written is read back as its numbers: those from the front and those from the end,
+/// of which there is one, and none that the list cannot have.
+pub fn written_numbers_are_read(front: NumberSet, back: NumberSet)
+    ensures months { lie_within 12 front.digits ≡ true → (front.digits == 0) ≡ false
+        → months_of (list_text (items (Numbers front) Number false 12 1)) ≡ Some front }
+    ensures month_days { lie_within 31 front.digits ≡ true → lie_within 31 back.digits ≡ true → ((front.digits == 0) && (back.digits == 0)) ≡ false
+        → ends_of 2 31 (list_text (both_items (Numbers front) (Numbers back) 31)) ≡ Some (record { front = front; back = back }) }
+    ensures weeks { lie_within 53 front.digits ≡ true → lie_within 53 back.digits ≡ true → ((front.digits == 0) && (back.digits == 0)) ≡ false
+        → ends_of 2 53 (list_text (both_items (Numbers front) (Numbers back) 53)) ≡ Some (record { front = front; back = back }) }
+{}
+
+/// A list of days of the year, or of positions, that is written is read back, likewise.
+pub fn written_year_days_are_read(front: &PlaceSet, back: &PlaceSet)
+    ensures { places_within front.now.words ≡ true → places_within back.now.words ≡ true → (are_zero front.now.words && are_zero back.now.words) ≡ false
+        → year_ends_of (list_text (both_items (Places front.now) (Places back.now) 366)) ≡ Some (record { front = front.now; back = back.now }) }
 {}

@@ -12,6 +12,7 @@ mod intervals;
 mod iterator;
 pub mod law;
 mod listed;
+mod listing;
 mod members;
 mod month_text;
 mod parts;
@@ -27,6 +28,7 @@ mod rule_text;
 mod skips;
 mod values;
 mod weekday_text;
+mod written;
 mod year_text;
 
 pub use error::{RuleError, RuleFault, RulePart};

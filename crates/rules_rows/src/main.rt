@@ -2,11 +2,14 @@
 //!
 //! A line is `name rule start = days`, with the rule's text, as `FREQ=DAILY;COUNT=10`. Days are day numbers; `end` behind them says that
 //! the rule ends there, and `none` in their place that the text writes no rule. Each line that is answered otherwise is printed with its
-//! number, and at the end their count.
+//! number, and at the end their count. Other lines are rows of texts that are written: see `texts`.
 #![tactic(auto)]
+
+mod texts;
 
 use chrono_datetime::NaiveDate;
 use chrono_rules::{End, Rule, read_rule};
+use std::alloc::Allocator;
 use std::io::{self, BufRead, BufReader};
 
 fn main(rt: HostRuntime) -> io::Result<()> {
@@ -14,7 +17,7 @@ fn main(rt: HostRuntime) -> io::Result<()> {
     for line in BufReader::new(rt.alloc(), rt.reader())?.lines(rt.alloc()) {
         let line = line?;
         lines = lines.wrapping_add(1);
-        if !is_answered(line.as_str()) {
+        if !is_answered(line.as_str(), rt.alloc())? {
             others = others.wrapping_add(1);
             println!(rt; "line {lines} is answered otherwise: {line}")?;
         }
@@ -24,14 +27,23 @@ fn main(rt: HostRuntime) -> io::Result<()> {
 }
 
 // Whether the line's rule is answered as the line says.
-fn is_answered(line: &str) -> bool {
-    let Some((row, days)) = line.split_once(" = ") else {
-        return false;
+fn is_answered(line: &str, alloc: impl Allocator) -> io::Result<bool> {
+    let Some((row, answer)) = line.split_once(" = ") else {
+        return Ok(false);
     };
-    let Some((text, start)) = arguments_of(row) else {
-        return false;
-    };
-    has_instances(text, start, days).unwrap_or(false)
+    match row.split_once(' ') {
+        Some(("text", text)) => texts::is_written(text, answer, alloc),
+        Some(_) => Ok(has_days(row, answer)),
+        None => Ok(false),
+    }
+}
+
+// Whether the rule of the row has these days, or its text writes none.
+fn has_days(row: &str, days: &str) -> bool {
+    match arguments_of(row) {
+        Some((text, start)) => has_instances(text, start, days).unwrap_or(false),
+        None => false,
+    }
 }
 
 // The rule's text and the start that stand in a row.

@@ -1,0 +1,215 @@
+//! The items of a rule's lists, written.
+ghost use Rattle.std.specs.Prelude.{◌≡◌, ◌+◌, ◌-◌, ◌*◌, ◌<◌, ◌≤◌, ◌++◌, ◌||◌, false, length};
+ghost use Rattle.std.specs.Fmt.{decimal, sign_text};
+ghost use Rattle.chrono_rules.specs.WrittenRules.{both_items, item_at, item_text, items, limit, listed_on, lists, numbered_items, some_in, weekday_letters};
+ghost use Rattle.chrono_rules.specs.declared.listing.Listed.TheVariants.{Numbers};
+ghost use Rattle.chrono_rules.specs.declared.listing.Naming.TheVariants.{Numbered};
+
+use crate::places::{NumberSet, PlaceSet};
+use chrono_text::Text;
+
+// How the items of a list are named by numbers.
+#[derive(Clone, Copy)]
+pub(crate) enum Naming {
+    // By the number.
+    Number,
+    // By the weekday, from 0 for Monday.
+    Each,
+    // By the number and this weekday.
+    Numbered(u32),
+}
+
+// The numbers that a list has.
+#[derive(Clone, Copy)]
+pub(crate) enum Listed {
+    // Up to 63.
+    Numbers(NumberSet),
+    // Up to 383.
+    Places(PlaceSet),
+}
+
+impl Listed {
+    // Whether it has the number.
+    #[tactic(auto, unfolding(crate::specs::WrittenRules::lists, crate::specs::WrittenRules::limit))]
+    fn has(&self, number: u32) -> bool
+        requires { number < limit self.now }
+        ensures { result ≡ lists self.now number }
+    {
+        match self {
+            Listed::Numbers(set) => set.contains(number),
+            Listed::Places(set) => set.contains(number),
+        }
+    }
+}
+
+// Numbers of a list, from `low` to before `end`, and how they are written.
+#[derive(Clone, Copy)]
+pub(crate) struct Listing {
+    pub(crate) listed: Listed,
+    pub(crate) naming: Naming,
+    pub(crate) from_end: bool,
+    pub(crate) low: u32,
+    pub(crate) end: u32,
+}
+
+impl Listing {
+    // Puts the items, behind others or as the first of a list; whether there is one so far.
+    pub(crate) fn put_into<const N: usize>(&self, text: &mut Text<N>, begun: bool) -> bool
+        requires order { self.now.low ≤ self.now.end }
+        requires small { self.now.end ≤ limit self.now.listed }
+        requires room { length text.old + 7 * (self.now.end - self.now.low) + 24 ≤ N }
+        ensures text { text.new ≡ text.old ++ listed_on begun (items self.now.listed self.now.naming self.now.from_end (self.now.end - self.now.low) self.now.low) }
+        ensures begun { result ≡ (begun || some_in (items self.now.listed self.now.naming self.now.from_end (self.now.end - self.now.low) self.now.low)) }
+        ensures fits { length text.new ≤ length text.old + 7 * (self.now.end - self.now.low) }
+    {
+        let mut begun = begun;
+        let mut number = self.low;
+        while number < self.end {
+            begun = self.put_number(text, begun, number);
+            number += 1;
+        }
+        begun
+    }
+
+    // Puts the item of the number, if it is listed; whether there is one so far.
+    fn put_number<const N: usize>(&self, text: &mut Text<N>, begun: bool, number: u32) -> bool
+        requires small { number < limit self.now.listed }
+        requires room { length text.old + 24 ≤ N }
+        ensures text { text.new ≡ text.old ++ listed_on begun (item_at self.now.listed self.now.naming self.now.from_end number) }
+        ensures begun { result ≡ (begun || some_in (item_at self.now.listed self.now.naming self.now.from_end number)) }
+        ensures fits { length text.new ≤ length text.old + 7 }
+    {
+        if !self.listed.has(number) {
+            return begun;
+        }
+        text.push_if(begun, b',');
+        put_item(text, self.naming, self.from_end, number);
+        true
+    }
+}
+
+// Puts an item of a list.
+#[tactic(auto, unfolding(crate::specs::WrittenRules::item_text))]
+fn put_item<const N: usize>(text: &mut Text<N>, naming: Naming, from_end: bool, number: u32)
+    requires small { number < 384 }
+    requires room { length text.old + 23 ≤ N }
+    ensures text { text.new ≡ text.old ++ item_text naming from_end number }
+    ensures fits { length text.new ≤ length text.old + 6 }
+{
+    match naming {
+        Naming::Number => put_signed(text, from_end, number),
+        Naming::Each => put_weekday(text, number),
+        Naming::Numbered(weekday) => {
+            put_signed(text, from_end, number);
+            put_weekday(text, weekday);
+        }
+    }
+}
+
+// Puts a number, with a `-` if it counts from the end.
+fn put_signed<const N: usize>(text: &mut Text<N>, from_end: bool, number: u32)
+    requires small { number < 384 }
+    requires room { length text.old + 20 ≤ N }
+    ensures text { text.new ≡ text.old ++ (sign_text from_end ++ decimal number) }
+    ensures fits { length text.new ≤ length text.old + 4 }
+{
+    text.push_if(from_end, b'-');
+    text.push_short_u32(number);
+}
+
+// Puts a weekday in two letters, from 0 for Monday.
+#[tactic(auto, unfolding(crate::specs::WrittenRules::weekday_letters))]
+pub(crate) fn put_weekday<const N: usize>(text: &mut Text<N>, weekday: u32)
+    requires { length text.old + 2 ≤ N }
+    ensures text { text.new ≡ text.old ++ weekday_letters weekday }
+    ensures fits { length text.new ≤ length text.old + 2 }
+{
+    text.push_text(weekday_letters(weekday).as_bytes());
+}
+
+// A weekday's two letters, from 0 for Monday.
+#[tactic(auto, unfolding(crate::specs::WrittenRules::weekday_letters))]
+fn weekday_letters(weekday: u32) -> &'static str
+    ensures letters { result.now ≡ weekday_letters weekday }
+    ensures two { length result.now ≤ 2 }
+{
+    match weekday {
+        0 => "MO",
+        1 => "TU",
+        2 => "WE",
+        3 => "TH",
+        4 => "FR",
+        5 => "SA",
+        _ => "SU",
+    }
+}
+
+// Puts the numbers from 1 to `most` that one list has from the front and another from the end.
+#[tactic(auto, unfolding(crate::specs::WrittenRules::limit))]
+pub(crate) fn put_both<const N: usize>(text: &mut Text<N>, front: Listed, back: Listed, most: u32)
+    requires front { most < limit front }
+    requires back { most < limit back }
+    requires room { length text.old + 14 * most + 24 ≤ N }
+    ensures text { text.new ≡ text.old ++ listed_on false (both_items front back most) }
+    ensures fits { length text.new ≤ length text.old + 14 * most }
+{
+    let listing = Listing {
+        listed: front,
+        naming: Naming::Number,
+        from_end: false,
+        low: 1,
+        end: most + 1,
+    };
+    let begun = listing.put_into(text, false);
+    let listing = Listing {
+        listed: back,
+        from_end: true,
+        ..listing
+    };
+    let _ = listing.put_into(text, begun);
+}
+
+// Puts the numbered weekdays, behind other weekdays or as the first of a list; whether there is one so far.
+pub(crate) fn put_numbered<const N: usize>(
+    text: &mut Text<N>,
+    begun: bool,
+    words: &[u64; 7],
+    from_end: bool,
+) -> bool
+    requires { length text.old + 2700 ≤ N }
+    ensures text { text.new ≡ text.old ++ listed_on begun (numbered_items from_end words.now 0) }
+    ensures begun { result ≡ (begun || some_in (numbered_items from_end words.now 0)) }
+    ensures fits { length text.new ≤ length text.old + 2600 }
+{
+    let mut begun = begun;
+    let mut weekday = 0;
+    while weekday < 7 {
+        begun = put_nth(text, begun, words[weekday], weekday as u32, from_end);
+        weekday += 1;
+    }
+    begun
+}
+
+// Puts those of one weekday.
+#[tactic(auto, unfolding(crate::specs::WrittenRules::limit))]
+fn put_nth<const N: usize>(
+    text: &mut Text<N>,
+    begun: bool,
+    digits: u64,
+    weekday: u32,
+    from_end: bool,
+) -> bool
+    requires { length text.old + 400 ≤ N }
+    ensures text { text.new ≡ text.old ++ listed_on begun (items (Numbers (record { digits = digits })) (Numbered weekday) from_end 53 1) }
+    ensures begun { result ≡ (begun || some_in (items (Numbers (record { digits = digits })) (Numbered weekday) from_end 53 1)) }
+    ensures fits { length text.new ≤ length text.old + 371 }
+{
+    let listing = Listing {
+        listed: Listed::Numbers(NumberSet { digits }),
+        naming: Naming::Numbered(weekday),
+        from_end,
+        low: 1,
+        end: 54,
+    };
+    listing.put_into(text, begun)
+}
