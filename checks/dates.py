@@ -1,36 +1,70 @@
 #!/usr/bin/env python3
-"""The examples of docs/DATES.md, run as they stand, and what a pipe that closes early leaves.
+"""The examples of docs/DATES.md and of each command's help, run as they stand, and what a pipe that closes early leaves.
 
-Builds `dates` by `rt run`, puts it on the path as `dates`, and compares output and exit status of each line behind `$`.
+Builds `dates` by `rt run`, puts it on the path as `dates`, and compares output and exit status of each line behind `$`, but for spaces at a line's
+end and blank lines. The man page and the completion of tools/shell have to be those that tools/dates_help.py makes of the help, and the completion has to complete.
 """
 import os
 import subprocess
 import sys
 import tempfile
 
+sys.path.insert(0, os.path.join(os.path.dirname(os.path.dirname(os.path.abspath(__file__))), "tools"))
+import dates_help
+
 TOP = os.path.dirname(os.path.dirname(os.path.abspath(__file__)))
 CRATE = os.path.join(TOP, "crates", "dates")
 
 
-def examples():
-    """Each command of the document with the lines and the status that stand below it."""
+def examples(lines):
+    """Each command among lines, behind `$`, with the lines and the status that stand below it."""
     found = []
-    with open(os.path.join(TOP, "docs", "DATES.md")) as document:
-        for line in document:
-            if line.startswith("    $ "):
-                found.append([line[6:].rstrip("\n"), [], 0])
-            elif line.startswith("    status "):
-                found[-1][2] = int(line.split()[1])
-            elif line.startswith("    ") and found:
-                found[-1][1].append(line[4:].rstrip("\n"))
+    for line in lines:
+        if line.startswith("$ "):
+            found.append([line[2:].rstrip(), [], 0])
+        elif line.startswith("status "):
+            found[-1][2] = int(line.split()[1])
+        elif found and line.strip():
+            found[-1][1].append(line.rstrip())
     return found
+
+
+def documented():
+    """The examples of the document."""
+    with open(os.path.join(TOP, "docs", "DATES.md")) as document:
+        return examples(line[4:] for line in document if line.startswith("    "))
+
+
+def helped(program):
+    """The example of each command's help."""
+    return [case for name in dates_help.commands(program) for case in examples(dates_help.help_of(program, name)[3])]
+
+
+def apart(program):
+    """The commands whose words and answer in the help of all are not those of their own help."""
+    lines = {" ".join(line.split()) for line in dates_help.said(program, "--help").splitlines()}
+    return [name for name in dates_help.commands(program) if " ".join(" ".join(dates_help.help_of(program, name)[:2]).split()) not in lines]
+
+
+def stale(program):
+    """The files made of the help that are not as tools/dates_help.py would make them now."""
+    old = []
+    for path, text in dates_help.files(program).items():
+        try:
+            with open(os.path.join(TOP, path)) as kept:
+                same = kept.read() == text
+        except FileNotFoundError:
+            same = False
+        if not same:
+            old.append(path)
+    return old
 
 
 def run(command, place):
     """What a command writes, its errors behind its output, and its status."""
     path = place + os.pathsep + os.environ["PATH"]
     ran = subprocess.run(["bash", "-c", command], env={**os.environ, "PATH": path}, capture_output=True, text=True, timeout=60)
-    return (ran.stdout + ran.stderr).splitlines(), ran.returncode
+    return [line.rstrip() for line in (ran.stdout + ran.stderr).splitlines() if line.strip()], ran.returncode
 
 
 def main():
@@ -43,9 +77,11 @@ def main():
     passed = failed = 0
     with tempfile.TemporaryDirectory() as place:
         os.symlink(program, os.path.join(place, "dates"))
-        cases = examples()
+        cases = documented() + helped(program)
         cases.append(["set -o pipefail; yes 2024-02-29 | head -100000 | dates 2>&1 | head -1; exit ${PIPESTATUS[2]}",
                       ["2024-02-29 2024-060 2024-W09-4 Thu 738945 19782"], 0])
+        cases.append([f"source {TOP}/tools/shell/dates.bash; COMP_WORDS=(dates roll 2024-03-30 following --c); COMP_CWORD=4; _dates; echo ${{COMPREPLY[@]}}",
+                      ["--calendar"], 0])
         for command, lines, status in cases:
             got = run(command, place)
             if got == (lines, status):
@@ -53,6 +89,12 @@ def main():
             else:
                 failed += 1
                 print(f"FAILED: {command}\n  wanted {lines}, status {status}\n  got {got[0]}, status {got[1]}")
+        for path in stale(program):
+            failed += 1
+            print(f"FAILED: {path} is not what tools/dates_help.py makes")
+        for name in apart(program):
+            failed += 1
+            print(f"FAILED: {name} --help has other words or another answer than --help")
     print(f"{passed} passed, {failed} failed")
     return 1 if failed else 0
 

@@ -53,11 +53,10 @@ ABSENT = {
         from_num_seconds_from_midnight and_hms and_hms_milli and_hms_micro and_hms_nano NaiveDate::succ NaiveDate::pred""",
     "files and modules of chrono": "chrono traits naive internals isoweek",
     "what the kit prints of itself": "rattle-kit dac8208d650f15bf",
-    "words of the shell and of a line": "cc cd echo head pkg-config sha256sum",
+    "words of the shell and of a line": "cc cd head pkg-config sha256sum",
     "of numpy": "busday_offset",
     "digits of a number": "_294_967_297",
     "texts and digits of a text": "P0D PT PT59M59 PT90S PT007S PT1H30M PT5400S PT0S PT90M min YYYY-MM-DD YYYY-DDD YYYY-Www-D hh mm ss",
-    "an argument of a call": "stop",
     "made by tools/dist": "SHA256SUMS",
     "in the place of a name, or a part of names": "LAW ARGS condition with_ _opt",
 }

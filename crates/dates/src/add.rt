@@ -2,9 +2,9 @@
 
 use crate::closed::{put_listed, put_ruled, years_of_open_days};
 use crate::fault::{ANSWERED, NONE, WRONG};
-use crate::moved::moved;
 use chrono_business::Calendar;
 use chrono_datetime::{NaiveDate, NaiveDateTime, TimeDelta};
+use dates_answer::moved;
 use dates_request::{Move, Options, Start, read_move};
 use std::alloc::Allocator;
 use std::io::{self, Eprint};

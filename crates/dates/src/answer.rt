@@ -6,11 +6,13 @@ use crate::distance::{answer_distance, answer_duration};
 use crate::due::{Way, answer_due};
 use crate::fault::{ANSWERED, WRONG};
 use crate::file::answer_file;
+use crate::help::{answer_help, answer_help_of};
 use crate::lines::answer_lines;
 use crate::open::{answer_open, answer_open_days, answer_roll};
 use crate::parts::answer_parts;
 use crate::recurring::{Wanted, answer_instances};
 use crate::sequence::{answer_days, answer_sequence};
+use crate::sheet::answer_sheet;
 use crate::year::{answer_easter, answer_leap, answer_week};
 use dates_request::{Request, Unit};
 use std::alloc::Allocator;
@@ -26,6 +28,7 @@ pub(crate) fn answer(
     match request {
         Request::Lines => answer_lines(rt),
         Request::Help => answer_help(rt),
+        Request::HelpOf { command } => answer_help_of(rt, command),
         Request::Version => {
             println!(rt; "dates 0.1.0")?;
             Ok(ANSWERED)
@@ -63,48 +66,9 @@ pub(crate) fn answer(
         },
         Request::Next { from, count } => answer_due(rt, from, count, Way::On, words),
         Request::Prev { from, count } => answer_due(rt, from, count, Way::Back, words),
+        Request::Sheet { time, options } => answer_sheet(rt, words, time, options),
         Request::Instances { start, from, most } => {
             answer_instances(rt, Wanted { start, from, most }, words)
         }
     }
-}
-
-// The commands, a line each.
-fn answer_help(rt: &impl Print) -> io::Result<u8> {
-    println!(rt; "dates DAY                    the day by all its names")?;
-    println!(rt; "dates add DAY SPAN.. [OPTION..]")?;
-    println!(rt;
-        "                             the day moved by spans: 3d, -2w, 1m, 4y, open days: 5b;"
-    )?;
-    println!(rt;
-        "                             or a date-time, by times too: 36h, 90min, 15s, PT1.5S"
-    )?;
-    println!(rt; "dates diff DAY DAY [in UNIT] how many days, or whole d, w, m, y; open days: b;")?;
-    println!(rt; "                             ymd; or how long from one date-time to another")?;
-    println!(rt; "dates seq DAY DAY [SPAN]     the days from one to another")?;
-    println!(rt; "dates week WEEK              the first and the last day of a week: 2024-W09")?;
-    println!(rt; "dates easter YEAR            Easter Sunday")?;
-    println!(rt; "dates leap YEAR              whether it is a leap year")?;
-    println!(rt; "dates open DAY [OPTION..]    whether it is an open day")?;
-    println!(rt; "dates roll DAY CONVENTION [OPTION..]")?;
-    println!(rt; "                             where a closed day goes: following, preceding,")?;
-    println!(rt;
-        "                             modified-following, modified-preceding, nearest, unadjusted"
-    )?;
-    println!(rt; "dates check FILE             the lines that are no days, and why")?;
-    println!(rt; "dates next CRON --from T     when a schedule is due next: '30 4 1,15 * 5'")?;
-    println!(rt; "dates prev CRON --from T     when it was due before; --count N: so many")?;
-    println!(rt; "dates rule RRULE --start D   the instances of a recurrence rule:")?;
-    println!(rt;
-        "                             'FREQ=MONTHLY;BYDAY=-1FR'; --from D, --count N at most"
-    )?;
-    println!(rt;
-        "dates [-]                    each line of standard input by all names of its day"
-    )?;
-    println!(rt; "dates --help | --version")?;
-    println!(rt; "")?;
-    println!(rt; "--weekend fri,sat            closed weekdays, one or two, or none: sat,sun")?;
-    println!(rt; "--calendar NAME              holidays by rules: us-federal, target, england")?;
-    println!(rt; "--holidays FILE              holidays of a file, a day a line")?;
-    Ok(ANSWERED)
 }

@@ -71,6 +71,9 @@ fn refuse_word(rt: &(impl Print + Eprint), word: &str, wrong: Wrong) -> io::Resu
         Why::Start => refuse_form(rt, place, word, "--start and a day"),
         Why::RuleOption => refuse_form(rt, place, word, "--start, --from or --count, each once"),
         Why::Value => refuse_form(rt, place, word, "a value of the option"),
+        Why::Sheet => refuse_form(rt, place, word, "a month as 2024-02 or a year as 2024"),
+        Why::SheetOption => refuse_form(rt, place, word, SHEET_OPTIONS),
+        Why::Weekday => refuse_form(rt, place, word, "a weekday as mon"),
         Why::End => refuse_form(rt, place, word, "no further argument"),
     }
 }
@@ -78,6 +81,9 @@ fn refuse_word(rt: &(impl Print + Eprint), word: &str, wrong: Wrong) -> io::Resu
 // The conventions by which a closed day rolls.
 const CONVENTIONS: &str =
     "following, preceding, modified-following, modified-preceding, nearest or unadjusted";
+
+// The options of a sheet.
+const SHEET_OPTIONS: &str = "--first, --weekend, --calendar or --holidays";
 
 // Says why a word is no day; the first one may be a command, too.
 fn refuse_day(rt: &(impl Print + Eprint), place: usize, word: &str, why: NoDay) -> io::Result<u8> {
@@ -94,7 +100,7 @@ fn refuse_day(rt: &(impl Print + Eprint), place: usize, word: &str, why: NoDay) 
 // What stands where a day does.
 fn day_or_command(place: usize) -> &'static str {
     if place == 1 {
-        "a day as 2024-02-29, add, diff, seq, week, easter, leap, open, roll, check, next, prev or rule"
+        "a day as 2024-02-29, add, diff, seq, week, easter, leap, open, roll, check, next, prev, cal or rule"
     } else {
         "a day as 2024-02-29, 2024-060 or 2024-W09-4"
     }

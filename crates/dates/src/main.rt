@@ -9,13 +9,14 @@ mod distance;
 mod due;
 mod fault;
 mod file;
+mod help;
 mod lines;
-mod moved;
 mod open;
 mod ordinal_name;
 mod parts;
 mod recurring;
 mod sequence;
+mod sheet;
 mod year;
 
 use answer::answer;

@@ -1,9 +1,8 @@
 //! How many years, months and days lie between two days.
 
-use crate::distance::distance;
 use crate::fault::ANSWERED;
-use crate::moved::moved;
 use chrono_datetime::NaiveDate;
+use dates_answer::{distance, moved};
 use dates_request::{Span, Unit};
 use std::{fmt, io};
 

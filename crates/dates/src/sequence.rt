@@ -1,8 +1,8 @@
 //! The days from one to another.
 
 use crate::fault::{ANSWERED, NONE};
-use crate::moved::moved;
 use chrono_datetime::{Datelike, NaiveDate};
+use dates_answer::moved;
 use dates_request::{Span, Unit};
 use std::io;
 

@@ -39,7 +39,7 @@ pub(crate) fn answer_week(rt: &(impl Print + Eprint), first: NaiveDate) -> io::R
 }
 
 // Says that the calendar has no such year.
-fn no_such_year(rt: &(impl Print + Eprint), year: i32) -> io::Result<u8> {
+pub(crate) fn no_such_year(rt: &(impl Print + Eprint), year: i32) -> io::Result<u8> {
     println!(rt; "none")?;
     eprintln!(rt; "{year}: expected a year from -262143 to 262142")?;
     Ok(NONE)

@@ -10,7 +10,7 @@ use Rattle.dates_request.specs.declared.options.Options.{Options}
 use Rattle.dates_request.specs.declared.wrong.Wrong.{Wrong}
 use Rattle.dates_request.proofs.WordLemmas.{Words, behind, no_word}
 
-length-texts : (words : Words) → length (texts words) ≡ length words
+pub length-texts : (words : Words) → length (texts words) ≡ length words
 length-texts [] = refl
 length-texts (w ∷ words) = ap suc (length-texts words)
 

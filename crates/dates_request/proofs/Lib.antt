@@ -3,6 +3,7 @@ mod CalendarOptionLemmas
 mod DayLemmas
 mod DiffLemmas
 mod DueLemmas
+mod HelpLemmas
 mod FormLemmas
 mod MoveLemmas
 mod OptionLemmas
@@ -10,3 +11,4 @@ mod RuleLemmas
 mod SpanLemmas
 mod WeekLemmas
 mod WordLemmas
+mod SheetLemmas

@@ -11,5 +11,7 @@ pub mod Alone
 pub mod DistanceRequests
 pub mod DiffRequests
 pub mod DueRequests
+pub mod YearTexts
+pub mod SheetRequests
 pub mod RuleRequests
 pub mod Requests

@@ -1,7 +1,6 @@
 -- What arguments ask for: the words of each request, one behind another.
-use Rattle.std.specs.Prelude.{◌≡◌, ◌<◌, if◌then◌else◌, ℕ, ℤ, pos, List, [], ◌∷◌, ◌++◌, codes, length, map, bytes_eq, unsigned_abs, Option, Some, None}
+use Rattle.std.specs.Prelude.{◌≡◌, ◌<◌, if◌then◌else◌, Bool, true, false, ℕ, ℤ, pos, List, [], ◌∷◌, ◌++◌, codes, length, map, bytes_eq, Option, Some, None}
 use Rattle.std.specs.Borrow.{Bor}
-use Rattle.chrono_text.specs.Text.{year_text}
 use Rattle.chrono_reading.specs.DateTexts.{IsWeekDateText}
 use Rattle.dates_request.specs.AddRequests.{IsAdd}
 use Rattle.dates_request.specs.Alone.{IsAlone}
@@ -9,8 +8,10 @@ use Rattle.dates_request.specs.DayTexts.{NamesDay}
 use Rattle.dates_request.specs.DiffRequests.{IsDiff}
 use Rattle.dates_request.specs.DueRequests.{IsOfSchedule}
 use Rattle.dates_request.specs.OpenRequests.{IsOpen, IsRoll}
+use Rattle.dates_request.specs.SheetRequests.{IsSheet}
 use Rattle.dates_request.specs.RuleRequests.{IsRecurrence}
 use Rattle.dates_request.specs.SpanTexts.{IsSpanText}
+use Rattle.dates_request.specs.YearTexts.{IsYearText}
 use Rattle.dates_request.specs.declared.span.Span.{Span}
 use Rattle.dates_request.specs.declared.command.Command.{Command}
 use Rattle.dates_request.specs.declared.command.Command.TheVariants as command
@@ -38,13 +39,9 @@ command_named word =
     else if bytes_eq word (codes "check") then Some command.Check
     else if bytes_eq word (codes "next") then Some command.Next
     else if bytes_eq word (codes "prev") then Some command.Prev
+    else if bytes_eq word (codes "cal") then Some command.Cal
     else if bytes_eq word (codes "rule") then Some command.Rule
     else None
-
--- the text of the year y, as it is printed (ISO 8601)
-pub record IsYearText (text : List ℕ) (y : ℤ) : Type 0 where
-  pub small : unsigned_abs y < 1_000_000
-  pub written : year_text y ≡ text
 
 -- a text of the week that begins on the day n: the week date of n but for its `-1` (ISO 8601)
 pub record IsWeekText (text : List ℕ) (n : ℤ) : Type 0 where
@@ -127,7 +124,19 @@ HasArguments command.Roll words r = IsRoll words r
 HasArguments command.Check words r = IsCheck words r
 HasArguments command.Next words r = IsOfSchedule request.Next words r
 HasArguments command.Prev words r = IsOfSchedule request.Prev words r
+HasArguments command.Cal words r = IsSheet words r
 HasArguments command.Rule words r = IsRecurrence words r
+
+-- the words are `--help` alone
+unfoldable pub is_help_alone : List (List ℕ) → Bool
+is_help_alone [] = false
+is_help_alone (word ∷ []) = bytes_eq word (codes "--help")
+is_help_alone (word ∷ other ∷ words) = false
+
+-- what is asked of a command: how it is used, where the words behind it are `--help` alone, and else what it asks for with them
+abbrev pub CommandAsks : Bool → Command → List (List ℕ) → Request → Type 0
+CommandAsks true command words r = r ≡ request.HelpOf command
+CommandAsks false command words r = HasArguments command words r
 
 -- a day, where the first word is no command
 pub record IsDay (word : List ℕ) (words : List (List ℕ)) (r : Request) : Type 0 where
@@ -138,7 +147,7 @@ pub record IsDay (word : List ℕ) (words : List (List ℕ)) (r : Request) : Typ
 
 -- what the first word, which may be a command, and the words behind it ask for
 abbrev pub AsksFor : Option Command → List ℕ → List (List ℕ) → Request → Type 0
-AsksFor (Some command) word words r = HasArguments command words r
+AsksFor (Some command) word words r = CommandAsks (is_help_alone words) command words r
 AsksFor None word words r = IsDay word words r
 
 -- what words ask for; none ask for the lines of the input

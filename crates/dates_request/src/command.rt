@@ -33,6 +33,8 @@ pub enum Command {
     Next,
     /// `prev`: when it was due before one.
     Prev,
+    /// `cal`: a month or a year as a sheet.
+    Cal,
     /// `rule`: the instances of a recurrence rule.
     Rule,
 }
@@ -57,6 +59,7 @@ pub(crate) fn command_named(word: &[u8]) -> Option<Command>
         b"check" => Some(Command::Check),
         b"next" => Some(Command::Next),
         b"prev" => Some(Command::Prev),
+        b"cal" => Some(Command::Cal),
         b"rule" => Some(Command::Rule),
         _ => None,
     }

@@ -64,7 +64,7 @@ pub(crate) fn options_at(place: usize, words: &[&[u8]], given: Options) -> Resul
 }
 
 // The fault where one word stands alone: it is no option, or its value is missing.
-fn without_value(place: usize, name: &[u8]) -> Wrong {
+pub(crate) fn without_value(place: usize, name: &[u8]) -> Wrong {
     match option_named(name) {
         Some(option) => Wrong {
             place: place.saturating_add(1),
@@ -87,7 +87,7 @@ fn value_of(option: OptionName) -> Why {
 }
 
 // The option at this place and its value, with so many words behind it, together with those that are given.
-fn option_at(
+pub(crate) fn option_at(
     place: usize,
     name: &[u8],
     value: &[u8],
@@ -258,7 +258,7 @@ fn two_days(text: &[u8]) -> Option<WeekdaySet>
 
 // The weekday that the word names.
 #[tactic(auto, unfolding(crate::specs::OptionTexts::weekday_named))]
-fn weekday_named(word: &[u8]) -> Option<Weekday>
+pub(crate) fn weekday_named(word: &[u8]) -> Option<Weekday>
     ensures { result ≡ weekday_named word.now }
 {
     match word {

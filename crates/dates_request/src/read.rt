@@ -1,11 +1,11 @@
 //! The request that arguments make.
-ghost use Rattle.std.specs.Prelude.{◌≡◌, ◌∷◌, [], ℤ, Ok, Some, IfOk};
+ghost use Rattle.std.specs.Prelude.{◌≡◌, ◌∷◌, [], ℤ, Ok, Some, IfOk, bytes_eq, codes};
 ghost use Rattle.dates_request.specs.declared.request.Request.{Request};
 ghost use Rattle.dates_request.specs.declared.request.Request.TheVariants as request;
 ghost use Rattle.dates_request.specs.declared.command.Command.TheVariants as command;
 ghost use Rattle.dates_request.specs.Alone.{IsAlone};
 ghost use Rattle.dates_request.specs.DueRequests.{IsOfSchedule};
-ghost use Rattle.dates_request.specs.Requests.{AsksFor, HasArguments, IsCheck, IsDay, IsEaster, IsLeap, IsOfTwoDays, IsRequest, IsSequence, IsWeek, texts};
+ghost use Rattle.dates_request.specs.Requests.{AsksFor, CommandAsks, HasArguments, IsCheck, IsDay, IsEaster, IsLeap, IsOfTwoDays, IsRequest, IsSequence, IsWeek, is_help_alone, texts};
 
 use crate::add::add;
 use crate::command::{Command, command_named};
@@ -15,6 +15,7 @@ use crate::due::due;
 use crate::open::{open, roll};
 use crate::recurrence::recurrence;
 use crate::request::Request;
+use crate::sheet::sheet_asked;
 use crate::word::{day_at, step_at, week_at, year_at};
 use crate::wrong::{Why, Wrong, wrong_at};
 use chrono_datetime::NaiveDate;
@@ -48,8 +49,38 @@ fn one_day(first: &[u8], rest: &[&[u8]]) -> Result<Request, Wrong>
     }
 }
 
-// What a command asks for with the words behind it.
+// How a command is used, where `--help` stands alone behind it, and else what it asks for with the words there.
 fn arguments(command: Command, words: &[&[u8]]) -> Result<Request, Wrong>
+    ensures read { IfOk result (λ r. CommandAsks (is_help_alone (texts words.now)) command (texts words.now) r) }
+    ensures every { (r : Request) → CommandAsks (is_help_alone (texts words.now)) command (texts words.now) r → result ≡ Ok r }
+{
+    if is_help_alone(words) {
+        Ok(Request::HelpOf { command })
+    } else {
+        other_arguments(command, words)
+    }
+}
+
+// Whether the words are `--help` alone.
+fn is_help_alone(words: &[&[u8]]) -> bool
+    ensures { result ≡ is_help_alone (texts words.now) }
+{
+    match words {
+        [word] => is_help(word),
+        _ => false,
+    }
+}
+
+// Whether the word is `--help`.
+fn is_help(word: &[u8]) -> bool
+    ensures { result ≡ bytes_eq word.now (codes "--help") }
+{
+    let name: &[u8] = b"--help";
+    word == name
+}
+
+// What a command asks for with the words behind it.
+fn other_arguments(command: Command, words: &[&[u8]]) -> Result<Request, Wrong>
     ensures read { IfOk result (λ r. HasArguments command (texts words.now) r) }
     ensures every { (r : Request) → HasArguments command (texts words.now) r → result ≡ Ok r }
 {
@@ -68,6 +99,7 @@ fn arguments(command: Command, words: &[&[u8]]) -> Result<Request, Wrong>
         Command::Check => check(words),
         Command::Next => next(words),
         Command::Prev => prev(words),
+        Command::Cal => sheet_asked(words),
         Command::Rule => recurrence(words),
     }
 }

@@ -1,8 +1,10 @@
 //! `Request`: what the arguments ask for.
 
+use crate::command::Command;
 use crate::moves::Start;
 use crate::open::Convention;
 use crate::options::Options;
+use crate::sheet::{SheetOptions, SheetTime};
 use crate::span::{Span, Unit};
 use chrono_datetime::{NaiveDate, NaiveDateTime};
 
@@ -13,6 +15,11 @@ pub enum Request {
     Lines,
     /// How the program is used.
     Help,
+    /// How a command is used.
+    HelpOf {
+        /// The command.
+        command: Command,
+    },
     /// Which version it is.
     Version,
     /// A day by all its names.
@@ -130,6 +137,13 @@ pub enum Request {
         from: NaiveDateTime,
         /// How many, from 1 on.
         count: u64,
+    },
+    /// A month or a year as a sheet.
+    Sheet {
+        /// Which month or year.
+        time: SheetTime,
+        /// On which weekday its weeks begin, and which days are closed.
+        options: SheetOptions,
     },
     /// The instances of the recurrence rule that the second word writes.
     Instances {

@@ -2,7 +2,8 @@
 ghost use Rattle.std.specs.Prelude.{◌≡◌, ℤ, Ok, Some, IfOk, IfSome, IfNone, None};
 ghost use Rattle.dates_request.specs.DayTexts.{NamesDay};
 ghost use Rattle.dates_request.specs.SpanTexts.{IsSpanText};
-ghost use Rattle.dates_request.specs.Requests.{IsStepText, IsWeekText, IsYearText};
+ghost use Rattle.dates_request.specs.Requests.{IsStepText, IsWeekText};
+ghost use Rattle.dates_request.specs.YearTexts.{IsYearText};
 ghost use Rattle.dates_request.specs.declared.span.Span.{Span};
 
 use crate::day::read_day;

@@ -64,6 +64,12 @@ pub enum Why {
     RuleOption,
     /// The value of an option.
     Value,
+    /// A month or a year.
+    Sheet,
+    /// An option of a sheet.
+    SheetOption,
+    /// A weekday.
+    Weekday,
     /// No further argument.
     End,
 }

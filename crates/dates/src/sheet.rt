@@ -1,0 +1,159 @@
+//! A month or a year as a sheet.
+
+use crate::closed::{put_holidays, weekend_of, years_of};
+use crate::fault::{ANSWERED, WRONG};
+use crate::year::no_such_year;
+use chrono_business::Calendar;
+use chrono_datetime::{Datelike, Month, NaiveDate, Weekday};
+use dates_answer::MonthSheet;
+use dates_request::{SheetOptions, SheetTime};
+use std::alloc::Allocator;
+use std::io::{self, Eprint};
+use std::rt::Files;
+
+// The month, or the months of the year, as sheets with closed days marked; `none` where the calendar has no such year.
+pub(crate) fn answer_sheet(
+    rt: &(impl Alloc + Print + Eprint + Files),
+    words: &[String<impl Allocator>],
+    time: SheetTime,
+    options: SheetOptions,
+) -> io::Result<u8> {
+    match time {
+        SheetTime::Month { first } => answer_month(rt, words, first, options),
+        SheetTime::Year { year } => match NaiveDate::from_ymd_opt(year, 1, 1) {
+            Some(first) => answer_year(rt, words, first, options),
+            None => no_such_year(rt, year),
+        },
+    }
+}
+
+// The month that begins on a day.
+fn answer_month(
+    rt: &(impl Alloc + Print + Eprint + Files),
+    words: &[String<impl Allocator>],
+    month: NaiveDate,
+    options: SheetOptions,
+) -> io::Result<u8> {
+    let start = start_of(options);
+    let mut days: Vec<NaiveDate, _> = Vec::new(rt.alloc());
+    if !put_holidays(rt, words, options.closed, years_of(month, month), &mut days)? {
+        return Ok(WRONG);
+    }
+    let Ok(calendar) = Calendar::try_new(weekend_of(options.closed), days.as_slice()) else {
+        return Ok(WRONG);
+    };
+    print_month(rt, &MonthSheet { month, start }, &calendar)?;
+    Ok(ANSWERED)
+}
+
+// The year that begins on a day.
+fn answer_year(
+    rt: &(impl Alloc + Print + Eprint + Files),
+    words: &[String<impl Allocator>],
+    first: NaiveDate,
+    options: SheetOptions,
+) -> io::Result<u8> {
+    let mut days: Vec<NaiveDate, _> = Vec::new(rt.alloc());
+    if !put_holidays(rt, words, options.closed, years_of(first, first), &mut days)? {
+        return Ok(WRONG);
+    }
+    let Ok(calendar) = Calendar::try_new(weekend_of(options.closed), days.as_slice()) else {
+        return Ok(WRONG);
+    };
+    print_year(rt, first, start_of(options), &calendar)?;
+    Ok(ANSWERED)
+}
+
+// The weekday on which weeks begin: Monday where none is given.
+fn start_of(options: SheetOptions) -> Weekday {
+    match options.start {
+        Some(day) => day,
+        None => Weekday::Mon,
+    }
+}
+
+// A month alone.
+fn print_month(rt: &impl Print, sheet: &MonthSheet, calendar: &Calendar) -> io::Result<()> {
+    println!(rt; "    {} {}", name_of(sheet), sheet.month.year())?;
+    println!(rt; "{}", heading(sheet.start))?;
+    for row in 0..6 {
+        if sheet.has_days(row) {
+            println!(rt; "{}", sheet.row(row, calendar))?;
+        }
+    }
+    Ok(())
+}
+
+// The months of the year that begins on a day, three side by side.
+fn print_year(
+    rt: &impl Print,
+    first: NaiveDate,
+    start: Weekday,
+    calendar: &Calendar,
+) -> io::Result<()> {
+    println!(rt; "{:>41}", first.year())?;
+    for quarter in 0..4u32 {
+        println!(rt; "")?;
+        let months = 3 * i64::from(quarter);
+        let left = month_of(first, months, start);
+        let middle = month_of(first, months + 1, start);
+        let right = month_of(first, months + 2, start);
+        print_quarter(rt, &left, &middle, &right, calendar)?;
+    }
+    Ok(())
+}
+
+// The sheet of the month so many months on.
+fn month_of(first: NaiveDate, months: i64, start: Weekday) -> MonthSheet {
+    MonthSheet {
+        month: first.moved_by_months(months).unwrap_or(first),
+        start,
+    }
+}
+
+// Three months side by side.
+fn print_quarter(
+    rt: &impl Print,
+    left: &MonthSheet,
+    middle: &MonthSheet,
+    right: &MonthSheet,
+    calendar: &Calendar,
+) -> io::Result<()> {
+    println!(rt;
+        "    {:<23}    {:<23}    {}",
+        name_of(left),
+        name_of(middle),
+        name_of(right)
+    )?;
+    let heading = heading(left.start);
+    println!(rt; "{heading}  {heading}  {heading}")?;
+    for row in 0..6 {
+        if left.has_days(row) || middle.has_days(row) || right.has_days(row) {
+            println!(rt;
+                "{}  {}  {}",
+                left.row(row, calendar),
+                middle.row(row, calendar),
+                right.row(row, calendar)
+            )?;
+        }
+    }
+    Ok(())
+}
+
+// The name of a sheet's month.
+fn name_of(sheet: &MonthSheet) -> &'static str {
+    Month::from_u32(sheet.month.month()).map_or("", |month| month.name())
+}
+
+// The weekdays above the columns of a sheet whose weeks begin on one, 25 columns wide.
+fn heading(start: Weekday) -> &'static str {
+    match start {
+        Weekday::Mon => "    Mo Tu We Th Fr Sa Su ",
+        Weekday::Tue => "    Tu We Th Fr Sa Su Mo ",
+        Weekday::Wed => "    We Th Fr Sa Su Mo Tu ",
+        Weekday::Thu => "    Th Fr Sa Su Mo Tu We ",
+        Weekday::Fri => "    Fr Sa Su Mo Tu We Th ",
+        Weekday::Sat => "    Sa Su Mo Tu We Th Fr ",
+        Weekday::Sun => "    Su Mo Tu We Th Fr Sa ",
+    }
+}

@@ -1,0 +1,6 @@
+mod FarMoves
+mod MonthDistances
+mod Distances
+mod SpanWalks
+mod RowLemmas
+mod CellLemmas

@@ -1,0 +1,3 @@
+pub mod Moves
+pub mod Distances
+pub mod Sheets

@@ -1,0 +1,58 @@
+-- A month as a sheet: which day stands in which cell, and how a row is written.
+use Rattle.std.specs.Prelude.{ℕ, ◌+◌, ◌*◌, ◌/◌, ◌%◌, ◌&&◌, if◌then◌else◌, nat_lt, ℤ, pos, ◌+ℤ◌, int_le, List, [], ◌∷◌, ◌++◌, codes, Option, Some, None}
+use Rattle.std.specs.Option.{option_map}
+use Rattle.std.specs.Str.{byte}
+use Rattle.chrono_datetime.specs.declared.Weekday.{Weekday}
+use Rattle.chrono_datetime.specs.declared.Weekday.TheVariants.{Thu}
+use Rattle.chrono_datetime.specs.Days.{date_of_day, day_of}
+use Rattle.chrono_datetime.specs.MonthMoves.{month_first_of, month_last_of}
+use Rattle.chrono_datetime.specs.Weekday.{days_since}
+use Rattle.chrono_datetime.specs.Weeks.{iso_week_of, week_first_of}
+use Rattle.dates_answer.specs.declared.row.Cell.{Cell}
+use Rattle.dates_answer.specs.declared.row.SheetRow.{SheetRow}
+
+-- the day of a cell, whether it lies in the month or not: the first cell of the first row is the first day of the week, from the
+-- weekday start on, in which the month of the day n begins, and day follows day along the rows of seven
+abbrev pub day_of_cell : ℤ → Weekday → ℕ → ℕ → ℤ
+day_of_cell n start row column = week_first_of (month_first_of n) start +ℤ pos (7 * row + column)
+
+-- the day that stands in a cell: that of the cell, if it lies in the month of the day n
+unfoldable pub sheet_day : ℤ → Weekday → ℕ → ℕ → Option ℤ
+sheet_day n start row column =
+    let day = day_of_cell n start row column in
+    if int_le (month_first_of n) day && int_le day (month_last_of n) then Some day else None
+
+-- the ISO week of a row: that of its Thursday, if that is a date
+abbrev pub week_of_row : ℤ → Weekday → ℕ → Option ℕ
+week_of_row n start row = option_map iso_week_of (date_of_day (day_of_cell n start row (days_since Thu start)))
+
+-- the last digit of a number
+abbrev pub last_digit : ℕ → ℕ
+last_digit k = byte "0" + k % 10
+
+-- a day of the month in two bytes, with a space in front of one digit
+abbrev pub day_digits : ℕ → List ℕ
+day_digits d = (if nat_lt d 10 then byte " " else last_digit (d / 10)) ∷ last_digit d ∷ []
+
+-- what stands in a cell: its day, or spaces
+abbrev pub day_text : Option ℕ → List ℕ
+day_text None = codes "  "
+day_text (Some d) = day_digits d
+
+-- three bytes of a cell: its day, and behind it `*` where it is closed
+abbrev pub cell_text : Cell → List ℕ
+cell_text cell = day_text cell.day ++ (if cell.closed then byte "*" ∷ [] else byte " " ∷ [])
+
+-- those of cells one after another
+unfoldable pub cells_text : List Cell → List ℕ
+cells_text [] = []
+cells_text (cell ∷ cells) = cell_text cell ++ cells_text cells
+
+-- the week in front of a row, as `W09`, or spaces
+abbrev pub label_text : Option ℕ → List ℕ
+label_text None = codes "    "
+label_text (Some week) = byte "W" ∷ last_digit (week / 10) ∷ last_digit week ∷ byte " " ∷ []
+
+-- a row: its week and its cells
+abbrev pub row_text : SheetRow → List ℕ
+row_text row = label_text row.week ++ cells_text row.cells

@@ -1,0 +1,30 @@
+//! Values of the definitions that are known, each the contract of a function with an empty body.
+ghost use Rattle.std.specs.Prelude.{◌≡◌, ◌∷◌, [], pos, neg_ℤ, Some, None, Ok, Err, codes, true, false};
+ghost use Rattle.chrono_datetime.specs.declared.Weekday.TheVariants.{Mon, Sun};
+ghost use Rattle.dates_request.specs.declared.span.Unit.TheVariants.{Days, Months, Weeks, Years};
+ghost use Rattle.dates_answer.specs.Moves.{moved_from, unit_move};
+ghost use Rattle.dates_answer.specs.Sheets.{row_text, sheet_day};
+
+/// Days moved by spans, each day by its number: 31 January of the year 1 by a month is 28 February, 1 January by two weeks the 15th,
+/// 29 February of the year 4 by a year 28 February; by a week on and a day back 1 January is the 7th; a day behind the last date there is none.
+pub fn known_moves()
+    ensures month { unit_move Months (pos 31) (pos 1) ≡ Some (pos 59) }
+    ensures weeks { unit_move Weeks (pos 1) (pos 2) ≡ Some (pos 15) }
+    ensures day_back { unit_move Days (pos 1) (neg_ℤ (pos 1)) ≡ Some (pos 0) }
+    ensures year { unit_move Years (pos 1155) (pos 1) ≡ Some (pos 1520) }
+    ensures both { moved_from (record { count = pos 1; unit = Weeks } ∷ record { count = neg_ℤ (pos 1); unit = Days } ∷ []) 0 (pos 1)
+        ≡ Ok (pos 7) }
+    ensures past { moved_from (record { count = neg_ℤ (pos 1); unit = Days } ∷ record { count = pos 2; unit = Days } ∷ []) 0 (pos 95_745_399)
+        ≡ Err (record { step = 1; date = pos 95_745_398 }) }
+{}
+
+/// Cells of January of the year 1, which begins on a Monday, and a row.
+pub fn known_sheets()
+    ensures first { sheet_day (pos 15) Mon 0 0 ≡ Some (pos 1) }
+    ensures before_first { sheet_day (pos 15) Sun 0 0 ≡ None }
+    ensures second_column { sheet_day (pos 15) Sun 0 1 ≡ Some (pos 1) }
+    ensures last { sheet_day (pos 15) Mon 4 2 ≡ Some (pos 31) }
+    ensures behind_last { sheet_day (pos 15) Mon 4 3 ≡ None }
+    ensures row { row_text (record { week = Some 9; cells = record { day = Some 29; closed = false } ∷ record { day = Some 1; closed = true } ∷ record { day = None; closed = false } ∷ [] })
+        ≡ codes "W09 29  1*   " }
+{}

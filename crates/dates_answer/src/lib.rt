@@ -1,0 +1,13 @@
+//! What requests of `dates` are answered with: days moved by spans, how far two days lie apart, and months as sheets.
+#![tactic(auto)]
+
+mod between;
+pub mod law;
+mod moves;
+mod row;
+mod sheet;
+
+pub use between::distance;
+pub use moves::{Stop, moved, moved_by_all};
+pub use row::{Cell, SheetRow};
+pub use sheet::MonthSheet;

@@ -1,0 +1,67 @@
+//! Days moved by spans.
+ghost use Rattle.std.specs.Prelude.{◌≡◌, ◌*ℤ◌, pos};
+ghost use Rattle.chrono_datetime.specs.Days.{IsDate, date_of_day};
+ghost use Rattle.chrono_datetime.specs.MonthMoves.{month_move};
+ghost use Rattle.dates_answer.specs.Moves.{moved_from, span_move, unit_move};
+
+use chrono_datetime::{Datelike, NaiveDate};
+use dates_request::{Span, Unit};
+
+/// A span that leads out of the calendar, among spans one after another.
+#[derive(Clone, Copy)]
+pub struct Stop {
+    /// Which of the spans it is, from 0 on.
+    pub step: usize,
+    /// The date that it leads out from.
+    pub date: NaiveDate,
+}
+
+/// The date moved by spans, one after another, as 29 February 2024 by a year back and then three days on comes to 3 March 2023;
+/// an error exactly where one of them leads out of the calendar.
+pub fn moved_by_all(date: NaiveDate, spans: &[Span]) -> Result<NaiveDate, Stop>
+    ensures { result ≡ moved_from spans.now 0 date }
+{
+    let mut reached = date;
+    for step in 0..spans.len() {
+        let Some(next) = moved(reached, spans[step]) else {
+            return Err(Stop {
+                step,
+                date: reached,
+            });
+        };
+        reached = next;
+    }
+    Ok(reached)
+}
+
+/// The date that is a span away, which a month or a year on is the same day of its month or, where that is shorter, its last;
+/// `None` exactly where the span leads out of the calendar.
+pub fn moved(date: NaiveDate, span: Span) -> Option<NaiveDate>
+    ensures { result ≡ span_move date span }
+{
+    moved_by(date, span.unit, span.count)
+}
+
+// More days, weeks, months or years than this lead out of the calendar from every date.
+const FAR: i64 = 200_000_000;
+
+// The date that so many units are away.
+#[tactic(auto, unfolding(crate::specs::Moves::unit_move))]
+pub(crate) fn moved_by(date: NaiveDate, unit: Unit, count: i64) -> Option<NaiveDate>
+    ensures { result ≡ unit_move unit date count }
+{
+    prove!(date.num_days_from_ce() >= -95_746_129);
+    prove!(date.num_days_from_ce() <= 95_745_399);
+    if count < -FAR {
+        return None;
+    }
+    if count > FAR {
+        return None;
+    }
+    match unit {
+        Unit::Days => date.moved_by_days(count),
+        Unit::Weeks => date.moved_by_days(7 * count),
+        Unit::Months => date.moved_by_months(count),
+        Unit::Years => date.moved_by_months(12 * count),
+    }
+}

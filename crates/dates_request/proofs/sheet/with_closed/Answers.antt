@@ -1,0 +1,9 @@
+use Rattle.dates_request.proofs.sheet.with_closed.Goals as goal
+
+pub returns-in-Ok-clause-every : goal.returns-in-Ok-clause-every
+returns-in-Ok-clause-every c = λ o gives.
+    let e = c.in-Ok.ensures.every gives.closed gives.option in
+    let is = gives.is in cc
+
+pub returns-in-Err-clause-every : goal.returns-in-Err-clause-every
+returns-in-Err-clause-every c = λ o gives. let e = c.in-Err.ensures.every gives.closed gives.option in cc

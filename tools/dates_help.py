@@ -1,0 +1,92 @@
+#!/usr/bin/env python3
+"""The man page and the bash completion of `dates`, made of its own help.
+
+    tools/dates_help.py PROGRAM     writes tools/shell/dates.1 and tools/shell/dates.bash from what PROGRAM says
+
+Of `PROGRAM --help` the lines `  dates NAME WORDS  ANSWERS` are the commands, and `PROGRAM NAME --help` has the words of each, what it answers, what there
+is to know, and an example. An option stands there at the beginning of a line.
+"""
+import os
+import re
+import subprocess
+import sys
+
+TOP = os.path.dirname(os.path.dirname(os.path.abspath(__file__)))
+PLACE = os.path.join(TOP, "tools", "shell")
+
+
+def said(program, *words):
+    """What the program writes of these words."""
+    return subprocess.run([program, *words], stdin=subprocess.DEVNULL, capture_output=True, text=True, check=True).stdout
+
+
+def commands(program):
+    """The names of the commands that have a help of their own, in its order."""
+    names = re.findall(r"^  dates (\S+) ", said(program, "--help"), re.M)
+    return [name for name in names if not name[0].isupper() and not name.startswith("--")]
+
+
+def help_of(program, name):
+    """A command's words, what it answers, what there is to know, and its example."""
+    use, answers, more, example = said(program, name, "--help").rstrip("\n").split("\n\n", 3)
+    return use, answers, more.split("\n"), example.split("\n")
+
+
+def options(more):
+    """The options that stand at the beginning of a line."""
+    return [line.split()[0] for line in more if line.startswith("--")]
+
+
+def escaped(text):
+    """A line as troff takes it."""
+    text = text.replace("\\", "\\e").replace("-", "\\-")
+    return "\\&" + text if text.startswith((".", "'")) else text
+
+
+def page(program):
+    """The man page."""
+    lines = [".TH DATES 1", ".SH NAME", "dates \\- answers what one asks of dates", ".SH SYNOPSIS"]
+    helps = [(name, help_of(program, name)) for name in commands(program)]
+    uses = ["dates DAY"] + [use for _, (use, *_) in helps] + ["dates COMMAND --help"]
+    for use in uses:
+        lines += [".B " + escaped(use), ".br"]
+    lines += [".SH DESCRIPTION", "It takes ISO 8601 texts and writes them, and never asks what day it is.", ".SH COMMANDS"]
+    for name, (use, answers, more, example) in helps:
+        lines += [".TP", ".B " + escaped(use), escaped(answers[0].upper() + answers[1:]) + "."]
+        for line in more:
+            lines += [".br", escaped(line)]
+        lines += [".PP", ".RS", ".nf"] + [escaped(line) for line in example] + [".fi", ".RE"]
+    lines += [".SH EXIT STATUS", "0; 1 where a question has no answer, and then", ".B none", "is written; 2 after a wrong command, and after a read or a write that failed."]
+    return "\n".join(lines) + "\n"
+
+
+def completion(program):
+    """The completion for bash: a command, then its options."""
+    names = commands(program)
+    lines = ["# Completion of dates for bash, made by tools/dates_help.py.", "_dates()", "{",
+             "    local word=${COMP_WORDS[COMP_CWORD]}", "    if [ \"$COMP_CWORD\" -eq 1 ]; then",
+             f"        COMPREPLY=($(compgen -W '{' '.join(names)} --help --version' -- \"$word\"))", "        return", "    fi",
+             "    case ${COMP_WORDS[1]} in"]
+    for name in names:
+        known = options(help_of(program, name)[2])
+        if known:
+            lines.append(f"    {name}) COMPREPLY=($(compgen -W '{' '.join(known)} --help' -- \"$word\")) ;;")
+    lines += ["    check) COMPREPLY=($(compgen -f -- \"$word\")) ;;", "    *) COMPREPLY=($(compgen -W '--help' -- \"$word\")) ;;", "    esac", "}",
+              "complete -o default -F _dates dates"]
+    return "\n".join(lines) + "\n"
+
+
+def files(program):
+    """Each file that is made, by its path below the tree, with its text."""
+    return {"tools/shell/dates.1": page(program), "tools/shell/dates.bash": completion(program)}
+
+
+def main():
+    os.makedirs(PLACE, exist_ok=True)
+    for path, text in files(sys.argv[1]).items():
+        with open(os.path.join(TOP, path), "w") as out:
+            out.write(text)
+
+
+if __name__ == "__main__":
+    main()
