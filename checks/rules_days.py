@@ -5,7 +5,7 @@
 
 The program crates/rules_rows answers rows; here they are made. dateutil's rrule gives the first instances of random rules, of the parts that
 RFC 5545 allows together, and its rruleset those of the same with dates beside them and exceptions (RDATE, EXDATE). A walk by RFC 5545, 3.3.10, asks of each day of
-400 years whether it is an instance of some rules.
+400 years whether it is an instance of some rules. What is written for random rules is beside a second writing, and read again.
 
 Where dateutil reads the RFC otherwise, no such rule is made for it, and the walk alone answers:
 
@@ -64,6 +64,17 @@ class Rule:
         ]
         return ";".join(f"{name}={value}" for name, value in parts if value)
 
+    def written(self):
+        """The text that the library writes: parts in one order, none that says what its absence says, lists without one item twice and in order."""
+        weekdays = sorted(set(self.weekdays), key=lambda it: (place_order(it[0] or 0)[0], it[0] is not None, it[1], abs(it[0] or 0)))
+        parts = [
+            ("FREQ", FREQUENCIES[self.frequency]), ("INTERVAL", self.interval > 1 and self.interval), ("COUNT", self.count),
+            ("UNTIL", self.until and self.until.strftime("%Y%m%d")), ("BYMONTH", in_order(self.months)), ("BYMONTHDAY", in_order(self.month_days)),
+            ("BYDAY", listed(f"{number or ''}{WEEKDAYS[day]}" for number, day in weekdays)), ("BYYEARDAY", in_order(self.year_days)),
+            ("BYWEEKNO", in_order(self.weeks)), ("BYSETPOS", in_order(self.positions)), ("WKST", self.week_start and WEEKDAYS[self.week_start]),
+        ]
+        return ";".join(f"{name}={value}" for name, value in parts if value)
+
     def row(self, start, days, ended, dates=(), exceptions=()):
         """A row of rules_rows."""
         beside = [f"+{it.toordinal()}" for it in dates] + [f"-{it.toordinal()}" for it in exceptions]
@@ -73,6 +84,15 @@ class Rule:
 
 def listed(values):
     return ",".join(map(str, values))
+
+
+def place_order(number):
+    """By this, numbers from the front come first, each kind from its end on."""
+    return number < 0, abs(number)
+
+
+def in_order(numbers):
+    return listed(sorted(set(numbers), key=place_order))
 
 
 # ---- the walk
@@ -270,6 +290,11 @@ def cut(chance, rule, start, days):
     return rule.row(start, days[:FIRST], len(days) <= FIRST)
 
 
+def texts(rule):
+    """Rows of the rule's text and of the one that is written for it, which has to be read back and written again."""
+    return [f"text {rule.text()} = {rule.written()}", f"text {rule.written()} = {rule.written()}"]
+
+
 def asked(name, rows):
     """How many rows hold and how many do not; those that do not are printed."""
     ran = subprocess.run([ROWS], input="".join(row + "\n" for row in rows), capture_output=True, text=True, check=False)
@@ -277,7 +302,7 @@ def asked(name, rows):
     failed = int(last[2]) if last and int(last[1]) == len(rows) and ran.returncode == 0 else max(len(rows), 1)
     for line in ran.stdout.splitlines()[: min(failed, 10)]:
         print(line[:300])
-    print(f"{name}: {len(rows) - failed} of {len(rows)} rules")
+    print(f"{name}: {len(rows) - failed} of {len(rows)}")
     return len(rows) - failed, failed
 
 
@@ -304,6 +329,8 @@ def main():
         rule.until = min(rule.until, start + datetime.timedelta(4000))
         near.append(cut(chance, rule, start, walked(rule, start, rule.until + datetime.timedelta(40))))
     results.append(asked("random rules, day by day", near))
+    made = (at_random(chance)[0] for _ in range(20 * options.rules))
+    results.append(asked("texts that are written, and read back", [row for rule in made for row in texts(rule)]))
     if rrule:
         made = [at_random(chance) for _ in range(options.rules)]
         results.append(asked("random rules beside dateutil", [cut(chance, rule, start, of_dateutil(rule, start)) for rule, start in made]))

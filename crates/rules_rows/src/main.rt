@@ -58,14 +58,20 @@ fn has_recurrence<A: Allocator>(beside: &Beside<A>, row: &str, days: &str) -> Op
     let Some((text, start)) = arguments_of(row) else {
         return None;
     };
-    beside.has_days(read_rule(text.as_bytes())?, start, days)
+    match read_rule(text.as_bytes()) {
+        Some(rule) => beside.has_days(rule, start, days),
+        None => None,
+    }
 }
 
 // Whether the rule of the row has these days, or its text writes none.
 fn has_days(row: &str, days: &str) -> bool {
     match arguments_of(row) {
         Some((text, start)) => match times_of(row) {
-            Some(times) => leads_to(text, start, times, days).unwrap_or(false),
+            Some(times) => match read_rule(text.as_bytes()) {
+                Some(rule) => leads_to(&rule, start, times, days).unwrap_or(false),
+                None => false,
+            },
             None => has_instances(text, start, days).unwrap_or(false),
         },
         None => false,
@@ -90,9 +96,8 @@ fn times_of(row: &str) -> Option<u32> {
     None
 }
 
-// Whether so many calls of `next_after`, from the day before the start on, lead to the day.
-fn leads_to(text: &str, start: NaiveDate, times: u32, day: &str) -> Option<bool> {
-    let rule = read_rule(text.as_bytes())?;
+// Whether so many calls of the rule's `next_after`, from the day before the start on, lead to the day.
+fn leads_to(rule: &Rule, start: NaiveDate, times: u32, day: &str) -> Option<bool> {
     let mut last = start.pred_opt()?;
     for _ in 0..times {
         last = rule.next_after(start, last)?;
