@@ -57,6 +57,7 @@ ABSENT = {
     "of numpy": "busday_offset",
     "digits of a number": "_294_967_297",
     "texts and digits of a text": "P0D PT PT59M59 PT90S PT007S PT1H30M PT5400S PT0S PT90M min YYYY-MM-DD YYYY-DDD YYYY-Www-D hh mm ss",
+    "an argument of a call": "stop",
     "made by tools/dist": "SHA256SUMS",
     "in the place of a name, or a part of names": "LAW ARGS condition with_ _opt",
 }
