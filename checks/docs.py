@@ -38,7 +38,7 @@ COMMENTS = {".rt": r"//[^\n]*", ".rs": r"//[^\n]*", ".antt": r"--[^\n]*", ".c": 
 # Names that no source declares, by the reason.
 ABSENT = {
     "of Rust and its std": """Box Clone Copy Default Display DoubleEndedIterator Drop Eq FromIterator FromPrimitive FromStr Hash
-        IntoIterator Ok Result Some String Sum TryFrom Vec collect fmt::Write for format if mod requires self str u8 unsafe unwrap""",
+        IntoIterator Ok Result Some String Sum TryFrom Vec collect fmt::Write for format if match mod requires self str u8 unsafe unwrap""",
     "of the kit: its words, its tactics and its std": """SomeIff agree_below agree_below_at grind ints map num_traits omega refl subst
         unfoldable view_is write_str_gives ensures edited rtlib""",
     "of Python": "OverflowError True TypeError ValueError datetime operator strftime timedelta fold __slots__ __getstate__",
