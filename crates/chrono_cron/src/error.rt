@@ -49,8 +49,9 @@ pub enum ScheduleFault {
 pub struct ScheduleError {
     /// The first field that cannot be read; `None` where the text has not five fields.
     pub field: Option<ScheduleField>,
-    /// Where in the text the fault stands, in bytes from 0: the number, name or step of the field's first item that cannot be read. The word
-    /// behind the fifth field, or a nickname that is none; the text's length where something is missing at its end.
+    /// Where in the text the fault stands, in bytes from 0: the number, name or step of the field's first item that cannot be read, and the
+    /// slash itself where a step stands behind a number alone. The word behind the fifth field, or a nickname that is none; the text's length
+    /// where something is missing at its end.
     pub byte: usize,
     /// What is wrong there.
     pub fault: ScheduleFault,
