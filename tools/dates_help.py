@@ -3,8 +3,8 @@
 
     tools/dates_help.py PROGRAM     writes tools/shell/dates.1 and tools/shell/dates.bash from what PROGRAM says
 
-Of `PROGRAM --help` the lines `  dates NAME WORDS  ANSWERS` are the commands, and `PROGRAM NAME --help` has the words of each, what it answers, what there
-is to know, and an example. An option stands there at the beginning of a line.
+Of `PROGRAM --help` the lines `  dates NAME WORDS  ANSWERS` are the commands, and the line `  dates COMMAND .. --json  MEANING` is what may stand behind any of them.
+`PROGRAM NAME --help` has the words of each, what it answers, what there is to know, and an example. An option stands there at the beginning of a line.
 """
 import os
 import re
@@ -37,6 +37,16 @@ def options(more):
     return [line.split()[0] for line in more if line.startswith("--")]
 
 
+def of_all(program):
+    """The word that may stand behind any command, and what it means."""
+    return re.search(r"^  dates COMMAND \.\. (\S+) +(.+)$", said(program, "--help"), re.M).groups()
+
+
+def sentence(text):
+    """A text with a capital in front and a full stop behind."""
+    return text[0].upper() + text[1:] + "."
+
+
 def escaped(text):
     """A line as troff takes it."""
     text = text.replace("\\", "\\e").replace("-", "\\-")
@@ -47,15 +57,17 @@ def page(program):
     """The man page."""
     lines = [".TH DATES 1", ".SH NAME", "dates \\- answers what one asks of dates", ".SH SYNOPSIS"]
     helps = [(name, help_of(program, name)) for name in commands(program)]
-    uses = ["dates DAY"] + [use for _, (use, *_) in helps] + ["dates COMMAND --help"]
+    word, meaning = of_all(program)
+    uses = ["dates DAY"] + [use for _, (use, *_) in helps] + [f"dates COMMAND .. {word}", "dates COMMAND --help"]
     for use in uses:
         lines += [".B " + escaped(use), ".br"]
     lines += [".SH DESCRIPTION", "It takes ISO 8601 texts and writes them, and never asks what day it is.", ".SH COMMANDS"]
     for name, (use, answers, more, example) in helps:
-        lines += [".TP", ".B " + escaped(use), escaped(answers[0].upper() + answers[1:]) + "."]
+        lines += [".TP", ".B " + escaped(use), escaped(sentence(answers))]
         for line in more:
             lines += [".br", escaped(line)]
         lines += [".PP", ".RS", ".nf"] + [escaped(line) for line in example] + [".fi", ".RE"]
+    lines += [".SH OPTIONS", ".TP", ".B " + escaped(word), "Behind any command, as its last word: " + escaped(meaning) + "."]
     lines += [".SH EXIT STATUS", "0; 1 where a question has no answer, and then", ".B none", "is written; 2 after a wrong command, and after a read or a write that failed."]
     return "\n".join(lines) + "\n"
 
@@ -63,15 +75,17 @@ def page(program):
 def completion(program):
     """The completion for bash: a command, then its options."""
     names = commands(program)
+    last = of_all(program)[0]
     lines = ["# Completion of dates for bash, made by tools/dates_help.py.", "_dates()", "{",
              "    local word=${COMP_WORDS[COMP_CWORD]}", "    if [ \"$COMP_CWORD\" -eq 1 ]; then",
-             f"        COMPREPLY=($(compgen -W '{' '.join(names)} --help --version' -- \"$word\"))", "        return", "    fi",
+             f"        COMPREPLY=($(compgen -W '{' '.join(names)} {last} --help --version' -- \"$word\"))", "        return", "    fi",
              "    case ${COMP_WORDS[1]} in"]
     for name in names:
         known = options(help_of(program, name)[2])
         if known:
-            lines.append(f"    {name}) COMPREPLY=($(compgen -W '{' '.join(known)} --help' -- \"$word\")) ;;")
-    lines += ["    check) COMPREPLY=($(compgen -f -- \"$word\")) ;;", "    *) COMPREPLY=($(compgen -W '--help' -- \"$word\")) ;;", "    esac", "}",
+            lines.append(f"    {name}) COMPREPLY=($(compgen -W '{' '.join(known)} {last} --help' -- \"$word\")) ;;")
+    lines += [f"    check) COMPREPLY=($(compgen -f -W '{last} --help' -- \"$word\")) ;;",
+              f"    *) COMPREPLY=($(compgen -W '{last} --help' -- \"$word\")) ;;", "    esac", "}",
               "complete -o default -F _dates dates"]
     return "\n".join(lines) + "\n"
 

@@ -2,10 +2,11 @@
 
 use crate::closed::{put_listed, put_ruled, years_of_open_days};
 use crate::fault::{ANSWERED, NONE, WRONG};
+use crate::print::{print_date, print_moment, print_none};
 use chrono_business::Calendar;
 use chrono_datetime::{NaiveDate, NaiveDateTime, TimeDelta};
 use dates_answer::moved;
-use dates_request::{Move, Options, Start, read_move};
+use dates_request::{Form, Move, Options, Start, read_move};
 use std::alloc::Allocator;
 use std::io::{self, Eprint};
 use std::rt::Files;
@@ -13,6 +14,7 @@ use std::rt::Files;
 // The start moved by so many words from the third on, one after another, or `none` where one of them leads out of the calendar.
 pub(crate) fn answer_add(
     rt: &(impl Alloc + Print + Eprint + Files),
+    form: Form,
     words: &[String<impl Allocator>],
     start: Start,
     moves: usize,
@@ -28,29 +30,34 @@ pub(crate) fn answer_add(
             return Ok(WRONG);
         };
         let Some(reached) = moved_by(rt, &last, &by, options, listed.as_slice())? else {
-            return refuse_move(rt, &last, word.as_str());
+            return refuse_move(rt, form, &last, word.as_str());
         };
         last = reached;
     }
-    print_start(rt, &last)?;
+    print_start(rt, form, &last)?;
     Ok(ANSWERED)
 }
 
 // Says that a move leads out of the calendar.
-fn refuse_move(rt: &(impl Print + Eprint), from: &Start, word: &str) -> io::Result<u8> {
-    println!(rt; "none")?;
+fn refuse_move(rt: &(impl Print + Eprint), form: Form, from: &Start, word: &str) -> io::Result<u8> {
     match from {
-        Start::Day(date) => eprintln!(rt; "{date} {word}: past the calendar's end")?,
-        Start::DateTime(moment) => eprintln!(rt; "{moment:?} {word}: past the calendar's end")?,
+        Start::Day(date) => {
+            print_none(rt, form, "date")?;
+            eprintln!(rt; "{date} {word}: past the calendar's end")?;
+        }
+        Start::DateTime(moment) => {
+            print_none(rt, form, "moment")?;
+            eprintln!(rt; "{moment:?} {word}: past the calendar's end")?;
+        }
     }
     Ok(NONE)
 }
 
 // The day or the date-time.
-fn print_start(rt: &impl Print, reached: &Start) -> io::Result<()> {
+fn print_start(rt: &impl Print, form: Form, reached: &Start) -> io::Result<()> {
     match reached {
-        Start::Day(date) => println!(rt; "{date}"),
-        Start::DateTime(moment) => println!(rt; "{moment:?}"),
+        Start::Day(date) => print_date(rt, form, *date),
+        Start::DateTime(moment) => print_moment(rt, form, moment),
     }
 }
 

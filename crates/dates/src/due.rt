@@ -1,8 +1,10 @@
 //! When a schedule is due.
 
 use crate::fault::{ANSWERED, NONE, WRONG};
+use crate::print::{print_moment, print_none};
 use chrono_cron::{Schedule, read_schedule};
 use chrono_datetime::NaiveDateTime;
+use dates_request::Form;
 use std::alloc::Allocator;
 use std::io;
 
@@ -16,6 +18,7 @@ pub(crate) enum Way {
 // The moments at which the schedule of the second word is due from a moment on or back, so many of them; `none` where there are fewer.
 pub(crate) fn answer_due(
     rt: &impl Print,
+    form: Form,
     from: NaiveDateTime,
     count: u64,
     way: Way,
@@ -26,7 +29,7 @@ pub(crate) fn answer_due(
         _ => None,
     };
     match schedule {
-        Some(schedule) => print_due(rt, &schedule, from, count, way),
+        Some(schedule) => print_due(rt, form, &schedule, from, count, way),
         None => Ok(WRONG),
     }
 }
@@ -34,6 +37,7 @@ pub(crate) fn answer_due(
 // The same of the schedule.
 fn print_due(
     rt: &impl Print,
+    form: Form,
     schedule: &Schedule,
     from: NaiveDateTime,
     count: u64,
@@ -42,10 +46,10 @@ fn print_due(
     let mut last = from;
     for _ in 0..count {
         let Some(moment) = neighbour(schedule, last, way) else {
-            println!(rt; "none")?;
+            print_none(rt, form, "moment")?;
             return Ok(NONE);
         };
-        println!(rt; "{moment:?}")?;
+        print_moment(rt, form, &moment)?;
         last = moment;
     }
     Ok(ANSWERED)

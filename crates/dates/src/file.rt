@@ -1,19 +1,25 @@
 //! The lines of a file that are no days.
 
 use crate::fault::{ANSWERED, DaysOfMonth, NONE};
-use dates_request::{NoDay, read_day};
-use std::fs;
+use crate::quoted::Quoted;
+use dates_request::{Form, NoDay, read_day};
 use std::io::{self, BufRead, BufReader};
 use std::rt::Files;
+use std::{fmt, fs};
 
 // Each line of the file that is no day, by its number and why; the exit status.
-pub(crate) fn answer_file(rt: &(impl Alloc + Print + Files), file: &str) -> io::Result<u8> {
+pub(crate) fn answer_file(
+    rt: &(impl Alloc + Print + Files),
+    form: Form,
+    file: &str,
+) -> io::Result<u8> {
     let mut status = ANSWERED;
     let mut number: u64 = 0;
     for line in BufReader::new(rt.alloc(), fs::open(rt, file)?)?.split(rt.alloc(), b'\n') {
         number = number.saturating_add(1);
-        if let Err(why) = read_day(line?.as_slice()) {
-            print_reason(rt, number, why)?;
+        let line = line?;
+        if let Err(why) = read_day(line.as_slice()) {
+            print_fault(rt, form, number, line.as_slice(), why)?;
             status = NONE;
         }
     }
@@ -21,13 +27,36 @@ pub(crate) fn answer_file(rt: &(impl Alloc + Print + Files), file: &str) -> io::
 }
 
 // The line's number, and why it is no day.
-fn print_reason(rt: &impl Print, number: u64, why: NoDay) -> io::Result<()> {
-    match why {
-        NoDay::PastMonth { first } => println!(rt; "{number}: {}", DaysOfMonth { first }),
-        NoDay::Form => {
-            println!(rt;
-                "{number}: not written as 2024-02-29, 2024-060 or 2024-W09-4, or no such day"
-            )
+fn print_fault(
+    rt: &impl Print,
+    form: Form,
+    number: u64,
+    line: &[u8],
+    why: NoDay,
+) -> io::Result<()> {
+    let reason = Reason { why };
+    let text = Quoted { bytes: line };
+    match form {
+        Form::Text => println!(rt; "{number}: {reason}"),
+        Form::Json => {
+            println!(rt; "{{\"line\":{number},\"text\":{text},\"reason\":\"{reason}\"}}")
+        }
+    }
+}
+
+/// Why a text is no day.
+#[derive(Clone, Copy)]
+pub struct Reason {
+    why: NoDay,
+}
+
+impl fmt::Display for Reason {
+    fn fmt<W: fmt::Write>(&self, f: &mut fmt::Formatter<W>) -> fmt::Result {
+        match self.why {
+            NoDay::PastMonth { first } => write!(f, "{}", DaysOfMonth { first }),
+            NoDay::Form => {
+                f.write_str("not written as 2024-02-29, 2024-060 or 2024-W09-4, or no such day")
+            }
         }
     }
 }

@@ -1,7 +1,7 @@
 //! How the program is used. The man page and what a shell completes are made of these texts by a script.
 
 use crate::fault::ANSWERED;
-use dates_request::Command;
+use dates_request::{Command, Form};
 use std::io;
 
 // Every command: its words, and what it answers.
@@ -23,6 +23,7 @@ const COMMANDS: &str = "dates answers what one asks of dates. It never asks what
     \x20 dates rule   RRULE --start DAY [OPTION..] the instances of a recurrence rule\n\
     \x20 dates cal    MONTH|YEAR [OPTION..]        a month or a year as a sheet\n\
     \n\
+    \x20 dates COMMAND .. --json             the same answer in JSON, an object a line\n\
     \x20 dates COMMAND --help                more of a command, with an example\n\
     \x20 dates --help | --version";
 
@@ -215,6 +216,18 @@ pub(crate) fn answer_help_of(rt: &impl Print, command: Command) -> io::Result<u8
     println!(rt; "{}", help_of(command))?;
     Ok(ANSWERED)
 }
+
+// Which version it is; the exit status.
+pub(crate) fn answer_version(rt: &impl Print, form: Form) -> io::Result<u8> {
+    match form {
+        Form::Text => println!(rt; "dates {VERSION}")?,
+        Form::Json => println!(rt; "{{\"version\":\"{VERSION}\"}}")?,
+    }
+    Ok(ANSWERED)
+}
+
+// The program's version.
+const VERSION: &str = "0.1.0";
 
 // The help of a command.
 fn help_of(command: Command) -> &'static str {

@@ -2,17 +2,18 @@
 
 use crate::day_names::print_names;
 use crate::fault::{ANSWERED, NONE};
-use dates_request::read_day;
+use crate::print::print_none;
+use dates_request::{Form, read_day};
 use std::io::{self, BufRead, BufReader};
 
 // Each line of the input by all names of its day, or `none`.
-pub(crate) fn answer_lines(rt: &(impl Alloc + Print + Input)) -> io::Result<u8> {
+pub(crate) fn answer_lines(rt: &(impl Alloc + Print + Input), form: Form) -> io::Result<u8> {
     let mut status = ANSWERED;
     for line in BufReader::new(rt.alloc(), rt.reader())?.split(rt.alloc(), b'\n') {
         match read_day(line?.as_slice()) {
-            Ok(date) => print_names(rt, date)?,
+            Ok(date) => print_names(rt, form, date)?,
             Err(_) => {
-                println!(rt; "none")?;
+                print_none(rt, form, "date")?;
                 status = NONE;
             }
         }

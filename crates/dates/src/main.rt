@@ -14,13 +14,16 @@ mod lines;
 mod open;
 mod ordinal_name;
 mod parts;
+mod print;
+mod quoted;
 mod recurring;
 mod sequence;
 mod sheet;
+mod week_name;
 mod year;
 
 use answer::answer;
-use dates_request::{Request, Wrong, read_request};
+use dates_request::{Form, Request, Wrong, form_of, read_request};
 use fault::{WRONG, refuse};
 use std::alloc::Allocator;
 use std::env::{self, Env};
@@ -45,20 +48,35 @@ fn main(rt: HostRuntime) -> ExitCode {
 // Answers what the arguments ask for; the exit status.
 fn run(rt: &(impl Env + Alloc + Print + Eprint + Input + Files)) -> io::Result<u8> {
     let words: Vec<_, _> = env::args(rt)?.skip(1).collect(rt.alloc())?;
-    match request_of(rt, words.as_slice())? {
-        Ok(request) => answer(rt, request, words.as_slice()),
-        Err(wrong) => refuse(rt, words.as_slice(), wrong),
+    let asked = asked_by(rt, words.as_slice())?;
+    let words = &words.as_slice()[..asked.count];
+    match asked.request {
+        Ok(request) => answer(rt, asked.form, request, words),
+        Err(wrong) => refuse(rt, asked.form, words, wrong),
     }
 }
 
-// What the words ask for, or which of them is wrong.
-fn request_of(
-    rt: &impl Alloc,
-    words: &[String<impl Allocator>],
-) -> io::Result<Result<Request, Wrong>> {
+/// What the arguments ask for.
+#[derive(Clone, Copy)]
+struct Asked {
+    /// In which form.
+    form: Form,
+    /// How many of them ask for it: all but the one that names the form.
+    count: usize,
+    /// What it is, or which of these is wrong.
+    request: Result<Request, Wrong>,
+}
+
+// What the words ask for.
+fn asked_by(rt: &impl Alloc, words: &[String<impl Allocator>]) -> io::Result<Asked> {
     let texts: Vec<&[u8], _> = words
         .iter()
         .map(|word| word.as_str().as_bytes())
         .collect(rt.alloc())?;
-    Ok(read_request(texts.as_slice()))
+    let (form, asked) = form_of(texts.as_slice());
+    Ok(Asked {
+        form,
+        count: asked.len().min(words.len()),
+        request: read_request(asked),
+    })
 }

@@ -2,9 +2,10 @@
 
 use crate::closed::{put_holidays, weekend_of, years_of};
 use crate::fault::{ANSWERED, NONE, WRONG};
+use crate::print::{print_date, print_none, print_number, print_whether};
 use chrono_business::{Calendar, Roll};
 use chrono_datetime::NaiveDate;
-use dates_request::{Convention, Options};
+use dates_request::{Convention, Form, Options};
 use std::alloc::Allocator;
 use std::io::{self, Eprint};
 use std::rt::Files;
@@ -12,6 +13,7 @@ use std::rt::Files;
 // `yes` where the day is open, and else `no`.
 pub(crate) fn answer_open(
     rt: &(impl Alloc + Print + Eprint + Files),
+    form: Form,
     words: &[String<impl Allocator>],
     date: NaiveDate,
     options: Options,
@@ -23,13 +25,14 @@ pub(crate) fn answer_open(
     let Ok(calendar) = Calendar::try_new(weekend_of(options), days.as_slice()) else {
         return Ok(WRONG);
     };
-    println!(rt; "{}", if calendar.is_open(date) { "yes" } else { "no" })?;
+    print_whether(rt, form, "open", calendar.is_open(date))?;
     Ok(ANSWERED)
 }
 
 // How many open days there are from the first day on and before the second, with a minus sign where it is the earlier.
 pub(crate) fn answer_open_days(
     rt: &(impl Alloc + Print + Eprint + Files),
+    form: Form,
     words: &[String<impl Allocator>],
     from: NaiveDate,
     to: NaiveDate,
@@ -42,13 +45,14 @@ pub(crate) fn answer_open_days(
     let Ok(calendar) = Calendar::try_new(weekend_of(options), days.as_slice()) else {
         return Ok(WRONG);
     };
-    println!(rt; "{}", calendar.open_days(from, to))?;
+    print_number(rt, form, "open_days", calendar.open_days(from, to))?;
     Ok(ANSWERED)
 }
 
 // The day that the day rolls to, or `none` where the calendar ends before.
 pub(crate) fn answer_roll(
     rt: &(impl Alloc + Print + Eprint + Files),
+    form: Form,
     words: &[String<impl Allocator>],
     date: NaiveDate,
     convention: Convention,
@@ -63,11 +67,11 @@ pub(crate) fn answer_roll(
     };
     match calendar.roll(date, roll_of(convention)) {
         Some(rolled) => {
-            println!(rt; "{rolled}")?;
+            print_date(rt, form, rolled)?;
             Ok(ANSWERED)
         }
         None => {
-            println!(rt; "none")?;
+            print_none(rt, form, "date")?;
             eprintln!(rt; "{date}: past the calendar's end")?;
             Ok(NONE)
         }

@@ -3,7 +3,7 @@
 use crate::fault::ANSWERED;
 use chrono_datetime::NaiveDate;
 use dates_answer::{distance, moved};
-use dates_request::{Span, Unit};
+use dates_request::{Form, Span, Unit};
 use std::{fmt, io};
 
 // No more months than these are left where a year is not.
@@ -11,8 +11,20 @@ const MOST_MONTHS: i64 = 11;
 
 // The years, months and days from the first day to the second, as spans by which `add` leads from it to the second: the most whole years,
 // then the most whole months, and the days that are left.
-pub(crate) fn answer_parts(rt: &impl Print, from: NaiveDate, to: NaiveDate) -> io::Result<u8> {
-    println!(rt; "{}", parts_between(from, to))?;
+pub(crate) fn answer_parts(
+    rt: &impl Print,
+    form: Form,
+    from: NaiveDate,
+    to: NaiveDate,
+) -> io::Result<u8> {
+    let parts = parts_between(from, to);
+    match form {
+        Form::Text => println!(rt; "{parts}")?,
+        Form::Json => println!(rt;
+            "{{\"years\":{},\"months\":{},\"days\":{}}}",
+            parts.years, parts.months, parts.days
+        )?,
+    }
     Ok(ANSWERED)
 }
 

@@ -1,8 +1,10 @@
 //! The instances of a recurrence rule.
 
 use crate::fault::{ANSWERED, NONE, WRONG};
+use crate::print::{print_date, print_none};
 use chrono_datetime::NaiveDate;
 use chrono_rules::{Rule, read_rule};
+use dates_request::Form;
 use std::alloc::Allocator;
 use std::io;
 
@@ -20,6 +22,7 @@ pub(crate) struct Wanted {
 // The instances of the rule of the second word that are wanted, a line each; `none` where there is none.
 pub(crate) fn answer_instances(
     rt: &impl Print,
+    form: Form,
     wanted: Wanted,
     words: &[String<impl Allocator>],
 ) -> io::Result<u8> {
@@ -28,21 +31,21 @@ pub(crate) fn answer_instances(
         _ => None,
     };
     match rule {
-        Some(rule) => print_instances(rt, &rule, wanted),
+        Some(rule) => print_instances(rt, form, &rule, wanted),
         None => Ok(WRONG),
     }
 }
 
 // The same of the rule.
-fn print_instances(rt: &impl Print, rule: &Rule, wanted: Wanted) -> io::Result<u8> {
+fn print_instances(rt: &impl Print, form: Form, rule: &Rule, wanted: Wanted) -> io::Result<u8> {
     let most = wanted.most.unwrap_or(u64::MAX) as usize;
     let mut status = NONE;
     for day in rule.instances_from(wanted.start, wanted.from).take(most) {
-        println!(rt; "{day}")?;
+        print_date(rt, form, day)?;
         status = ANSWERED;
     }
     if status == NONE {
-        println!(rt; "none")?;
+        print_none(rt, form, "date")?;
     }
     Ok(status)
 }

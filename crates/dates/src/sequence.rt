@@ -1,16 +1,22 @@
 //! The days from one to another.
 
 use crate::fault::{ANSWERED, NONE};
+use crate::print::{print_date, print_none};
 use chrono_datetime::{Datelike, NaiveDate};
 use dates_answer::moved;
-use dates_request::{Span, Unit};
+use dates_request::{Form, Span, Unit};
 use std::io;
 
 // No more days lie between two dates.
 const MOST_DAYS: i64 = 191_491_529;
 
 // The days from one to another, one after another, back where the second is the earlier.
-pub(crate) fn answer_days(rt: &impl Print, from: NaiveDate, to: NaiveDate) -> io::Result<u8> {
+pub(crate) fn answer_days(
+    rt: &impl Print,
+    form: Form,
+    from: NaiveDate,
+    to: NaiveDate,
+) -> io::Result<u8> {
     let count = if to.num_days_from_ce() < from.num_days_from_ce() {
         -1
     } else {
@@ -20,13 +26,14 @@ pub(crate) fn answer_days(rt: &impl Print, from: NaiveDate, to: NaiveDate) -> io
         count,
         unit: Unit::Days,
     };
-    answer_sequence(rt, from, to, step)
+    answer_sequence(rt, form, from, to, step)
 }
 
 // The first day, moved by no span, one span, two and so on, as long as that is not past the second day; `none` where the first
 // day is past it.
 pub(crate) fn answer_sequence(
     rt: &impl Print,
+    form: Form,
     from: NaiveDate,
     to: NaiveDate,
     step: Span,
@@ -36,10 +43,10 @@ pub(crate) fn answer_sequence(
             Some(date) if !is_past(date, to, step) => date,
             _ => break,
         };
-        println!(rt; "{date}")?;
+        print_date(rt, form, date)?;
     }
     if is_past(from, to, step) {
-        println!(rt; "none")?;
+        print_none(rt, form, "date")?;
         return Ok(NONE);
     }
     Ok(ANSWERED)

@@ -1,12 +1,14 @@
 //! A month or a year as a sheet.
 
 use crate::closed::{put_holidays, weekend_of, years_of};
+use crate::day_names::weekday_name;
 use crate::fault::{ANSWERED, WRONG};
+use crate::week_name::WeekName;
 use crate::year::no_such_year;
 use chrono_business::Calendar;
 use chrono_datetime::{Datelike, Month, NaiveDate, Weekday};
 use dates_answer::MonthSheet;
-use dates_request::{SheetOptions, SheetTime};
+use dates_request::{Form, SheetOptions, SheetTime};
 use std::alloc::Allocator;
 use std::io::{self, Eprint};
 use std::rt::Files;
@@ -14,15 +16,16 @@ use std::rt::Files;
 // The month, or the months of the year, as sheets with closed days marked; `none` where the calendar has no such year.
 pub(crate) fn answer_sheet(
     rt: &(impl Alloc + Print + Eprint + Files),
+    form: Form,
     words: &[String<impl Allocator>],
     time: SheetTime,
     options: SheetOptions,
 ) -> io::Result<u8> {
     match time {
-        SheetTime::Month { first } => answer_month(rt, words, first, options),
+        SheetTime::Month { first } => answer_month(rt, form, words, first, options),
         SheetTime::Year { year } => match NaiveDate::from_ymd_opt(year, 1, 1) {
-            Some(first) => answer_year(rt, words, first, options),
-            None => no_such_year(rt, year),
+            Some(first) => answer_year(rt, form, words, first, options),
+            None => no_such_year(rt, form, "date", year),
         },
     }
 }
@@ -30,6 +33,7 @@ pub(crate) fn answer_sheet(
 // The month that begins on a day.
 fn answer_month(
     rt: &(impl Alloc + Print + Eprint + Files),
+    form: Form,
     words: &[String<impl Allocator>],
     month: NaiveDate,
     options: SheetOptions,
@@ -42,13 +46,17 @@ fn answer_month(
     let Ok(calendar) = Calendar::try_new(weekend_of(options.closed), days.as_slice()) else {
         return Ok(WRONG);
     };
-    print_month(rt, &MonthSheet { month, start }, &calendar)?;
+    match form {
+        Form::Text => print_month(rt, &MonthSheet { month, start }, &calendar)?,
+        Form::Json => print_days(rt, month, month.last_day_of_month().day(), &calendar)?,
+    }
     Ok(ANSWERED)
 }
 
 // The year that begins on a day.
 fn answer_year(
     rt: &(impl Alloc + Print + Eprint + Files),
+    form: Form,
     words: &[String<impl Allocator>],
     first: NaiveDate,
     options: SheetOptions,
@@ -60,7 +68,10 @@ fn answer_year(
     let Ok(calendar) = Calendar::try_new(weekend_of(options.closed), days.as_slice()) else {
         return Ok(WRONG);
     };
-    print_year(rt, first, start_of(options), &calendar)?;
+    match form {
+        Form::Text => print_year(rt, first, start_of(options), &calendar)?,
+        Form::Json => print_days(rt, first, days_of_year(first), &calendar)?,
+    }
     Ok(ANSWERED)
 }
 
@@ -138,6 +149,29 @@ fn print_quarter(
         }
     }
     Ok(())
+}
+
+// So many days from one on, each with its week, its weekday and whether it is open.
+fn print_days(
+    rt: &impl Print,
+    first: NaiveDate,
+    count: u32,
+    calendar: &Calendar,
+) -> io::Result<()> {
+    for date in first.iter_days().take(count as usize) {
+        let week = WeekName { date };
+        let weekday = weekday_name(date.weekday());
+        let open = calendar.is_open(date);
+        println!(rt;
+            "{{\"date\":\"{date}\",\"week\":\"{week}\",\"weekday\":\"{weekday}\",\"open\":{open}}}"
+        )?;
+    }
+    Ok(())
+}
+
+// How many days the year of a day has.
+fn days_of_year(date: NaiveDate) -> u32 {
+    if date.leap_year() { 366 } else { 365 }
 }
 
 // The name of a sheet's month.

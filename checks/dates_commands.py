@@ -1,0 +1,664 @@
+#!/usr/bin/env python3
+"""Holds the program dates to Python's datetime, dateutil and numpy, over commands that are made here.
+
+    checks/dates_commands.py [--commands N] [--seed N]      (10,000 commands from seed 1, if left out)
+
+Each command is run as it stands and with `--json` behind it. As it stands its output, its status and what it writes to standard error have to be
+those that are worked out here: days by datetime, months and years by dateutil's relativedelta, open days and rolls by numpy's busday calls over the
+holidays that checks/business.py reads, Easter by dateutil, rules by dateutil's rrule, schedules by trying the days and minutes as checks/cron.py
+reads them, days past the years of datetime by checks/counted.py, sheets cell by cell. With `--json` each line has to be the object that says the same,
+and status and standard error are the same. A fifth of the commands is spoiled: a word is turned to one that cannot stand there, what has to follow is cut off, a word too many
+is put behind, or a day is one that its month has not. What is said of them has to name that word, its place and what was expected.
+
+It needs crates/dates/out/dates, which `rt run` and `rt ci` leave there, and numpy and dateutil of Debian's Python.
+"""
+import argparse
+import calendar as months
+import datetime
+import json
+import os
+import random
+import re
+import subprocess
+import sys
+import tempfile
+from concurrent.futures import ThreadPoolExecutor
+
+import business
+import counted
+import cron
+import rules_days
+
+TOP = os.path.dirname(os.path.dirname(os.path.abspath(__file__)))
+DATES = os.path.join(TOP, "crates", "dates", "out", "dates")
+DEBIAN = "/usr/bin/python3"
+
+try:
+    import numpy
+    from dateutil.easter import easter
+    from dateutil.relativedelta import relativedelta
+except ImportError:
+    numpy = None
+
+Date, DateTime, Span = datetime.date, datetime.datetime, datetime.timedelta
+DAY = Span(1)
+WEEKDAYS = ("Monday", "Tuesday", "Wednesday", "Thursday", "Friday", "Saturday", "Sunday")
+MONTHS = months.month_name
+SHORT = [it[:3].lower() for it in WEEKDAYS]
+
+
+class Asked:
+    """A command: its words with the kind of each, how many are needed, and what it has to answer."""
+
+    def __init__(self, words, kinds, needed, lines, objects, status=0, error="", given=b""):
+        self.words, self.kinds, self.needed, self.lines, self.objects = words, kinds, needed, lines, objects
+        self.status, self.error, self.given = status, error, given
+
+
+# ---- days and their texts
+
+
+def any_day(chance, first=1583, last=9000):
+    """A day, most of them of our time, some at a month's end."""
+    year = chance.choice((chance.randint(first, last), chance.randint(1950, 2060), 2024))
+    number = Date(year, 1, 1).toordinal() + chance.randrange(365)
+    date = Date.fromordinal(number)
+    return date.replace(day=months.monthrange(date.year, date.month)[1]) if chance.random() < 0.25 else date
+
+
+def workday_time(chance):
+    """A day of the years in which the calendars have holidays."""
+    return Date.fromordinal(chance.randint(Date(2000, 1, 1).toordinal(), Date(2049, 12, 31).toordinal()))
+
+
+def year_text(year):
+    return f"{year:04}" if 0 <= year <= 9999 else f"{year:+05}"
+
+
+def names(number):
+    """The three names of a day number."""
+    year, month, day = counted.name_of(number)
+    week_year, week = counted.week_of(number)
+    return (f"{year_text(year)}-{month:02}-{day:02}", f"{year_text(year)}-{counted.ordinal_of(number):03}",
+            f"{year_text(week_year)}-W{week:02}-{counted.weekday_of(number) + 1}")
+
+
+def names_line(number):
+    return " ".join([*names(number), WEEKDAYS[counted.weekday_of(number)][:3], str(number), str(number - 719_163)])
+
+
+def names_object(number):
+    keys = ("date", "ordinal", "week", "weekday", "day_number", "unix_day")
+    return dict(zip(keys, (*names(number), WEEKDAYS[counted.weekday_of(number)], number, number - 719_163)))
+
+
+def moment_text(moment):
+    fraction = f".{moment.microsecond:06}" if moment.microsecond % 1000 else f".{moment.microsecond // 1000:03}" if moment.microsecond else ""
+    return f"{moment:%Y-%m-%dT%H:%M:%S}{fraction}".rjust(len("2024-02-29T00:00:00" + fraction), "0")
+
+
+def duration_text(apart):
+    """A duration in seconds."""
+    micros = apart // Span(microseconds=1)
+    seconds, fraction = divmod(abs(micros), 10**6)
+    text = f"{seconds}.{fraction:06}".rstrip("0").rstrip(".")
+    return f"{'-' * (micros < 0)}PT{text}S" if micros else "P0D"
+
+
+def any_moment(chance):
+    micros = chance.choice((0, 0, 0, 500_000, chance.randrange(1000) * 1000, chance.randrange(10**6)))
+    second = chance.choice((0, 0, chance.randrange(60)))
+    return DateTime.combine(any_day(chance), datetime.time(chance.randrange(24), chance.randrange(60), second, micros))
+
+
+def moment_word(chance, moment):
+    """A text of a date-time: with `T` or a space, without seconds where there are none."""
+    text = moment_text(moment)
+    if text.endswith(":00") and chance.random() < 0.7:
+        text = text[:-3]
+    return text.replace("T", " ") if chance.random() < 0.2 else text
+
+
+def day_word(chance, date):
+    return names(date.toordinal())[chance.choice((0, 0, 0, 1, 2))]
+
+
+# ---- closed days
+
+HOLIDAYS = {"us-federal": business.federal_from_1971, "target": business.target, "england": business.england}
+HOLIDAYS = {name: [day for year in range(1999, 2060) for day in of(year)] for name, of in HOLIDAYS.items()}
+WEEKENDS = ("sat,sun", "fri,sat", "thu,fri", "sun", "fri", "sat", "none")
+
+
+class Closed:
+    """Options that close days, as words with the kind of each, and the days that they close as numpy has them."""
+
+    def __init__(self, chance, files, first=()):
+        weekend, calendar, file = (it if chance.random() < 0.5 else None for it in (chance.choice(WEEKENDS), chance.choice(list(HOLIDAYS)), chance.choice(list(files))))
+        pairs = [("--weekend", weekend), ("--calendar", calendar), ("--holidays", file), *first]
+        pairs = [(name, value) for name, value in pairs if value]
+        chance.shuffle(pairs)
+        self.words = [word for pair in pairs for word in pair]
+        self.kinds = [kind for name, _ in pairs for kind in ("option", name)]
+        closed = {it for it in SHORT if it in (weekend or "sat,sun").split(",")}
+        holidays = [*files.get(file, ()), *HOLIDAYS.get(calendar, ())]
+        self.days = numpy.busdaycalendar([it not in closed for it in SHORT], holidays)
+
+    def on(self, date, count):
+        """So many open days on, or back."""
+        roll = "forward" if count >= 0 else "backward"
+        return numpy.busday_offset(date, count, roll, busdaycal=self.days).astype(Date)
+
+    def between(self, start, end):
+        low, high = sorted((start, end))
+        count = int(numpy.busday_count(low, high, busdaycal=self.days))
+        return count if start <= end else -count
+
+    def is_open(self, date):
+        return bool(numpy.is_busday(date, busdaycal=self.days))
+
+    def rolled(self, date, name):
+        if name == "unadjusted":
+            return date
+        if name == "nearest":
+            after, before = self.rolled(date, "following"), self.rolled(date, "preceding")
+            return after if after - date <= date - before else before
+        return numpy.busday_offset(date, 0, name.replace("-", ""), busdaycal=self.days).astype(Date)
+
+
+# ---- moves
+
+
+def moved(date, count, unit):
+    return date + relativedelta(**{{"d": "days", "w": "weeks", "m": "months", "y": "years"}[unit]: count})
+
+
+def apart(start, end, unit):
+    """The most whole units by which the start, moved, is not past the end, back where the end is before it."""
+    if unit in "dw":
+        days = (end - start).days
+        return (abs(days) // (7 if unit == "w" else 1)) * (1 if days >= 0 else -1)
+    sign = 1 if start <= end else -1
+    length = abs((end.year - start.year) * 12 + end.month - start.month) // (12 if unit == "y" else 1)
+    while length and (moved(start, sign * length, unit) - end) * sign > Span(0):
+        length -= 1
+    return sign * length
+
+
+def parts(start, end):
+    """Years, months and days between two days."""
+    years = apart(start, end, "y")
+    on = moved(start, years, "y")
+    whole = max(-11, min(11, apart(on, end, "m")))
+    return years, whole, (end - moved(on, whole, "m")).days
+
+
+def a_count(chance, wide):
+    return chance.choice((0, 1, -1, chance.randint(-wide, wide), chance.randint(1, 9)))
+
+
+def a_move(chance, timed, closed):
+    """A word that moves a start, and the move."""
+    unit = chance.choice(["d", "w", "m", "y"] + ["b"] * 2 * bool(closed) + ["h", "min", "s", "PT"] * timed)
+    if unit == "PT":
+        length = Span(microseconds=chance.choice((0, 1_500_000, chance.randint(-10**13, 10**13))))
+        return duration_text(length), lambda it: it + length
+    count = a_count(chance, {"d": 3000, "w": 500, "m": 300, "y": 40, "b": 300, "h": 9000, "min": 10**5, "s": 10**6}[unit])
+    if unit in ("h", "min", "s"):
+        length = Span(seconds=count * {"h": 3600, "min": 60, "s": 1}[unit])
+        return f"{count}{unit}", lambda it: it + length
+    if unit == "b":
+        return f"{count}b", lambda it: it + (closed.on(plain(it), count) - plain(it))
+    return f"{count}{unit}", lambda it: moved(it, count, unit)
+
+
+def plain(it):
+    """The day of a day or a date-time."""
+    return it.date() if isinstance(it, DateTime) else it
+
+
+# ---- commands, each with its answer
+
+
+def of_day(chance, _):
+    number = chance.choice((any_day(chance).toordinal(), chance.randint(counted.FIRST_DAY, counted.LAST_DAY)))
+    return Asked([chance.choice(names(number))], ["first"], 0, [names_line(number)], [names_object(number)])
+
+
+NO_DAYS = ("soon", "", "2024-2-29", "2023-W53-1", "2023-366", "2024-00-10", "2024-13-01", " 2024-02-29", "2024-02-29 ", "2024-02-29T00:00", "20240229", "+2024-02-29")
+
+
+def of_lines(chance, _):
+    texts, lines, objects = [], [], []
+    for _ in range(chance.randrange(12)):
+        number = chance.randint(counted.FIRST_DAY, counted.LAST_DAY)
+        wrong = chance.random() < 0.2
+        texts.append(chance.choice(NO_DAYS + ("2023-02-29", '"', "\\", "\t")) if wrong else chance.choice(names(number)))
+        lines.append("none" if wrong else names_line(number))
+        objects.append({"date": None} if wrong else names_object(number))
+    words = chance.choice(([], ["-"]))
+    given = "\n".join(texts) + "\n" * bool(texts)
+    return Asked(words, ["-"] * len(words), 0, lines, objects, int("none" in lines), given=given.encode())
+
+
+def of_add(chance, files):
+    timed = chance.random() < 0.4
+    closed = Closed(chance, files) if chance.random() < 0.4 else None
+    start = any_moment(chance) if timed else any_day(chance)
+    if closed:
+        start = DateTime.combine(workday_time(chance), start.time()) if timed else workday_time(chance)
+    made = [a_move(chance, timed, closed) for _ in range(chance.choice((0, 1, 1, 1, 2, 3)))]
+    reached = start
+    for _, move in made:
+        reached = move(reached)
+        if closed and not 2000 <= reached.year <= 2055:
+            return of_add(chance, files)
+    words = ["add", moment_word(chance, start) if timed else day_word(chance, start), *(it for it, _ in made), *(closed.words if closed else ())]
+    kinds = ["first", "start", *(["move"] * len(made)), *(closed.kinds if closed else ())]
+    text, key = (moment_text(reached), "moment") if timed else (str(reached), "date")
+    return Asked(words, kinds, 2, [text], [{key: text}])
+
+
+def of_diff(chance, files):
+    if chance.random() < 0.2:
+        start, end = any_moment(chance), any_moment(chance)
+        text = duration_text(end - start)
+        return Asked(["diff", moment_word(chance, start), moment_word(chance, end)], ["first", "start", "moment"], 3, [text], [{"duration": text}])
+    start = any_day(chance)
+    end = chance.choice((any_day(chance), start + Span(chance.randint(-900, 900)), moved(start, chance.randint(-20, 20), "m")))
+    unit = chance.choice((None, "d", "w", "m", "y", "b", "ymd", "ymd"))
+    closed = Closed(chance, files)
+    if unit == "b":
+        start, end = workday_time(chance), workday_time(chance)
+    words = ["diff", day_word(chance, start), day_word(chance, end), *(["in", unit] if unit else []), *(closed.words if unit == "b" else [])]
+    kinds = ["first", "start", "day", "in", "unit", *closed.kinds][: len(words)]
+    keys = {None: "days", "d": "days", "w": "weeks", "m": "months", "y": "years", "b": "open_days"}
+    if unit == "ymd":
+        numbers = parts(start, end)
+        shown = " ".join(f"{number}{it}" for number, it in zip(numbers, "ymd") if number) or "0d"
+        return Asked(words, kinds, 5, [shown], [dict(zip(("years", "months", "days"), numbers))])
+    count = closed.between(start, end) if unit == "b" else apart(start, end, unit or "d")
+    return Asked(words, kinds, 5 if unit else 3, [str(count)], [{keys[unit]: count}])
+
+
+def dated(days):
+    """Lines and objects of days."""
+    return [str(it) for it in days], [{"date": str(it)} for it in days]
+
+
+def of_seq(chance, _):
+    start, unit = any_day(chance), chance.choice(("d", "w", "m", "y"))
+    count = chance.choice((1, 2, 3, 7, 30, -1, -1, -2, -11))
+    step = None if chance.random() < 0.3 else f"{count}{unit}"
+    end = start + Span(chance.randint(-40, 40)) if not step else moved(start, count * chance.randint(-1, 30), unit) + Span(chance.randint(-3, 3))
+    sign = (1 if start <= end else -1) if not step else 1 if count > 0 else -1
+    days, times = [], 0
+    while (end - (it := start + sign * times * DAY if not step else moved(start, times * count, unit))) * sign >= Span(0):
+        days.append(it)
+        times += 1
+    lines, objects = dated(days)
+    words = ["seq", day_word(chance, start), day_word(chance, end), *([step] if step else [])]
+    kinds = ["first", "day", "day", "step"][: len(words)]
+    return Asked(words, kinds, 3, lines or ["none"], objects or [{"date": None}], int(not days))
+
+
+def of_week(chance, _):
+    first = any_day(chance)
+    year, week, day = first.isocalendar()
+    first -= (day - 1) * DAY
+    last = first + 6 * DAY
+    return Asked(["week", f"{year:04}-W{week:02}"], ["first", "week"], 2, [f"{first} {last}"], [{"first": str(first), "last": str(last)}])
+
+
+def no_year(chance, name, key):
+    year = chance.choice((-262_144, 262_143, 300_000, -999_999))
+    error = f"{year}: expected a year from -262143 to 262142"
+    return Asked([name, f"{year:+}"], ["first", "year"], 2, ["none"], [{key: None}], 1, error)
+
+
+def of_easter(chance, _):
+    if chance.random() < 0.05:
+        return no_year(chance, "easter", "date")
+    year = chance.choice((chance.randint(1583, 4099), chance.randint(-200_000, 200_000)))
+    text = str(easter(year)) if 1583 <= year <= 4099 else names(business.easter(year))[0]
+    return Asked(["easter", year_text(year)], ["first", "year"], 2, [text], [{"date": text}])
+
+
+def of_leap(chance, _):
+    if chance.random() < 0.05:
+        return no_year(chance, "leap", "leap")
+    year = chance.choice((chance.randint(counted.FIRST_YEAR, counted.LAST_YEAR), chance.randint(0, 9999), 100 * chance.randint(-2600, 2600)))
+    leap = months.isleap(year)
+    return Asked(["leap", year_text(year)], ["first", "year"], 2, ["yes" if leap else "no"], [{"leap": leap}])
+
+
+def of_open(chance, files):
+    date, closed = workday_time(chance), Closed(chance, files)
+    date = chance.choice((date, date.replace(month=12, day=chance.randint(23, 31)), date.replace(month=1, day=1)))
+    is_open = closed.is_open(date)
+    words = ["open", day_word(chance, date), *closed.words]
+    return Asked(words, ["first", "day", *closed.kinds], 2, ["yes" if is_open else "no"], [{"open": is_open}])
+
+
+ROLLS = ("unadjusted", "following", "preceding", "modified-following", "modified-preceding", "nearest")
+
+
+def of_roll(chance, files):
+    date, closed, name = workday_time(chance), Closed(chance, files), chance.choice(ROLLS)
+    date = chance.choice((date, date.replace(month=12, day=chance.randint(23, 31)), date.replace(day=1)))
+    lines, objects = dated([closed.rolled(date, name)])
+    return Asked(["roll", day_word(chance, date), name, *closed.words], ["first", "day", "convention", *closed.kinds], 3, lines, objects)
+
+
+def past_month(chance):
+    """The text of a day that its month has not, and what is said of it."""
+    date = any_day(chance)
+    length = months.monthrange(date.year, date.month)[1]
+    day = chance.choice((0, length + 1, 32, 99))
+    return f"{date:%Y-%m}-{day:02}".rjust(10, "0"), f"{MONTHS[date.month]} {date.year} has {length} days"
+
+
+NO_FORM = "not written as 2024-02-29, 2024-060 or 2024-W09-4, or no such day"
+ODD_LINES = (b"2024-02-29\r", b'"2024-02-29"', b"a\\b", b"\x00\x01\x1f\x7f", b"caf\xc3\xa9", b"\xff\xfe", b"\xe2\x82", b"\xf0\x9f\x93\x85 \xed\xa0\x80", b"/", b"\t\b\f")
+
+
+def of_check(chance, files):
+    """A file of lines, most of which are days."""
+    texts, lines, objects = [], [], []
+    for number in range(1, chance.randrange(1, 30)):
+        text = chance.choice(names(chance.randint(counted.FIRST_DAY, counted.LAST_DAY))).encode()
+        reason = None
+        if chance.random() < 0.15:
+            text, reason = chance.choice(ODD_LINES + tuple(it.encode() for it in NO_DAYS)), NO_FORM
+        elif chance.random() < 0.1:
+            text, reason = past_month(chance)
+            text = text.encode()
+        if reason:
+            lines.append(f"{number}: {reason}")
+            objects.append({"line": number, "text": text.decode(errors="replace"), "reason": reason})
+        texts.append(text)
+    end = b"\n" * (not texts or not texts[-1] or chance.random() < 0.7)
+    return Asked(["check", "/dev/stdin"], ["first", "file"], 2, lines, objects, int(bool(lines)), given=b"\n".join(texts) + end if texts else b"")
+
+
+def due_moments(schedule, start, count, back):
+    """The moments next to a start at which a schedule is due, or None where there is none within twenty years."""
+    found, day, sign = [], start.toordinal(), -1 if back else 1
+    for number in range(day, day + sign * 7500, sign):
+        if schedule.is_day(number):
+            for minute in schedule.minutes[::sign]:
+                moment = DateTime.combine(Date.fromordinal(number), datetime.time(*divmod(minute, 60)))
+                if (moment - start) * sign > Span(0):
+                    found.append(moment)
+                    if len(found) == count:
+                        return found
+    return None
+
+
+def of_due(chance, files):
+    text, back, start = cron.schedule_text(chance), chance.random() < 0.4, any_moment(chance)
+    if text == "0 0 30 2 *":
+        moments, count = [], chance.choice((None, 1, 5))
+    else:
+        count = chance.choice((None, 1, 2, 3, 7))
+        moments = due_moments(cron.Schedule(text, False), start, count or 1, back) if 1700 < start.year < 8900 else None
+    if moments is None:
+        return of_due(chance, files)
+    options = [["--from", moment_word(chance, start)], *([["--count", str(count)]] if count else [])]
+    chance.shuffle(options)
+    words = ["prev" if back else "next", text, *(word for it in options for word in it)]
+    kinds = ["first", "schedule", *(kind for name, _ in options for kind in ("due_option", "moment" if name == "--from" else "amount"))]
+    lines = [moment_text(it) for it in moments]
+    objects = [{"moment": it} for it in lines]
+    return Asked(words, kinds, len(words), lines or ["none"], objects or [{"moment": None}], int(not moments))
+
+
+def of_rule(chance, _):
+    rule, start = rules_days.at_random(chance)
+    days = rules_days.of_dateutil(rule, start)
+    since = start + Span(chance.randint(-100, 800)) if chance.random() < 0.4 else None
+    count = chance.choice((1, 2, 5, 20)) if len(days) > 40 or chance.random() < 0.5 else None
+    days = [it for it in days if it >= (since or start)][:count]
+    options = [["--start", day_word(chance, start)], *([["--from", day_word(chance, since)]] if since else []), *([["--count", str(count)]] if count else [])]
+    chance.shuffle(options)
+    words = ["rule", rule.text(), *(word for it in options for word in it)]
+    kinds = ["first", "rule", *(kind for name, _ in options for kind in ("rule_option", "amount" if name == "--count" else "day"))]
+    lines, objects = dated(days)
+    return Asked(words, kinds, len(words), lines or ["none"], objects or [{"date": None}], int(not days))
+
+
+# ---- sheets
+
+
+def sheet(year, month, start, closed):
+    """The rows of a month, each with the week of its Thursday in front."""
+    first = Date(year, month, 1)
+    row, rows = first - (first.weekday() - start) % 7 * DAY, []
+    while row <= Date(year, month, months.monthrange(year, month)[1]):
+        days = [row + it * DAY for it in range(7)]
+        week = next(it for it in days if it.weekday() == 3).isocalendar()[1]
+        cells = (f"{it.day:2}{' ' if closed.is_open(it) else '*'}" if it.month == month else "   " for it in days)
+        rows.append(f"W{week:02} " + "".join(cells))
+        row += 7 * DAY
+    return rows
+
+
+def heading(start):
+    return "    " + "".join(f"{WEEKDAYS[(start + it) % 7][:2]} " for it in range(7))
+
+
+def year_sheet(year, start, closed):
+    lines = [f"{year:>41}"]
+    for quarter in (1, 4, 7, 10):
+        three = [sheet(year, it, start, closed) for it in range(quarter, quarter + 3)]
+        lines += ["", "  ".join(f"    {MONTHS[it]:<21}" for it in range(quarter, quarter + 3)), "  ".join([heading(start)] * 3)]
+        lines += ["  ".join(it[row] if row < len(it) else " " * 25 for it in three) for row in range(max(map(len, three)))]
+    return lines
+
+
+def of_cal(chance, files):
+    date, start = workday_time(chance), chance.choice((None, *range(7)))
+    closed = Closed(chance, files, [("--first", SHORT[start] if start is not None else None)])
+    whole = chance.random() < 0.3
+    if whole:
+        lines, days = year_sheet(date.year, start or 0, closed), [Date(date.year, 1, 1) + it * DAY for it in range(365 + months.isleap(date.year))]
+    else:
+        lines = [f"    {MONTHS[date.month]} {date.year}", heading(start or 0), *sheet(date.year, date.month, start or 0, closed)]
+        days = [date.replace(day=it + 1) for it in range(months.monthrange(date.year, date.month)[1])]
+    objects = [{"date": str(it), "week": names(it.toordinal())[2], "weekday": WEEKDAYS[it.weekday()], "open": closed.is_open(it)} for it in days]
+    kinds = ["sheet_option" if it == "option" else it for it in closed.kinds]
+    return Asked(["cal", str(date.year) if whole else f"{date:%Y-%m}", *closed.words], ["first", "sheet", *kinds], 2, lines, objects)
+
+
+# ---- wrong commands
+
+OPTIONS = "--weekend, --calendar or --holidays"
+EXPECTED = {
+    "first": "a day as 2024-02-29, add, diff, seq, week, easter, leap, open, roll, check, next, prev, cal or rule",
+    "day": "a day as 2024-02-29, 2024-060 or 2024-W09-4",
+    "start": "a day as 2024-02-29 or a date-time as 2024-02-29T04:30",
+    "move": "a span as 3d, -2w, 1m, 4y, 5b, 36h, 90min, 15s or PT1.5S",
+    "step": "a span as 3d, -2w, 1m or 4y",
+    "year": "a year as 2024",
+    "week": "a week as 2024-W09",
+    "in": "in",
+    "unit": "d, w, m, y, b or ymd",
+    "convention": ", ".join(ROLLS[1:]) + " or unadjusted",
+    "option": OPTIONS,
+    "sheet_option": f"--first, {OPTIONS}",
+    "--weekend": "a weekend as fri,sat, sun or none",
+    "--calendar": "us-federal, target or england",
+    "--first": "a weekday as mon",
+    "--holidays": "the name of a file",
+    "file": "the name of a file",
+    "schedule": "a schedule as '30 4 1,15 * 5'",
+    "rule": "a rule as FREQ=MONTHLY;BYDAY=-1FR",
+    "moment": "a date-time as 2024-02-29T04:30",
+    "amount": "a number from 1 on",
+    "due_option": "--from or --count, each once",
+    "rule_option": "--start, --from or --count, each once",
+    "sheet": "a month as 2024-02 or a year as 2024",
+}
+EXPECTED["convention"] = "following, preceding, modified-following, modified-preceding, nearest or unadjusted"
+NO_WORDS = ("x", "soon", "2024-2-29", "1e3", "0x10", "é", "２０２４", "a b", "%", "-", "2024-02-29T24:00")
+NO_SCHEDULES = ("61 * * * *", "* * * *", "* * * * * *", "@dayly", "0 0 * * mom", "*/0 * * * *", "5-1 * * * *", "5/2 * * * *", ", * * * *", "", "0 0 32 * *", "x * * * *")
+NO_RULES = ("FREQ=HOURLY", "FREQ=DAILY;BYHOUR=9", "BYDAY=MO", "FREQ=DAILY;FREQ=DAILY", "FREQ=DAILY;INTERVAL=0", "FREQ=WEEKLY;BYMONTHDAY=1",
+            "FREQ=DAILY;UNTIL=20240230", "FREQ=MONTHLY;BYDAY=XX", "FREQ=DAILY;COUNT=1;UNTIL=20240101", "FREQ=YEARLY;BYSETPOS=1", "", "FREQ=YEARLY;BYWEEKNO=9;BYDAY=1MO")
+
+
+def refused(asked, words, error):
+    """The command with other words, which is wrong."""
+    return Asked(words, asked.kinds, asked.needed, [], [], 2, error, asked.given)
+
+
+def with_wrong_word(chance, asked):
+    """A word turned to one that cannot stand there."""
+    place = chance.randrange(len(asked.words))
+    kind = asked.kinds[place]
+    if kind in ("-", "file", "--holidays"):
+        return None
+    bad = chance.choice(("--x", "--calender", "--Count") if "option" in kind else NO_SCHEDULES if kind == "schedule" else NO_RULES if kind == "rule" else NO_WORDS)
+    if kind == "first" and bad == "-" or kind in ("amount", "sheet", "year") and bad == "２０２４":
+        return None
+    error = f"dates: argument {place + 1}, {bad}: expected {EXPECTED[kind]}"
+    if kind in ("schedule", "rule"):
+        error = re.compile(re.escape(f"dates: argument {place + 1}, {bad}: ") + r"[^;]+" + re.escape(f"; expected {EXPECTED[kind]}"))
+    return refused(asked, asked.words[:place] + [bad] + asked.words[place + 1 :], error)
+
+
+def with_words_missing(chance, asked):
+    """What has to follow cut off: a word that is needed, or an option's value."""
+    places = [it for it, kind in enumerate(asked.kinds) if it and (it < asked.needed or kind.startswith("--"))]
+    if not places:
+        return None
+    place = chance.choice(places)
+    kind, cut = asked.kinds[place], asked.words[:place]
+    expected = EXPECTED[kind]
+    if kind == "in" or place == 3 and kind == "unit":
+        return None
+    if kind in ("due_option", "rule_option"):
+        wanted = "--from" if kind == "due_option" else "--start"
+        if wanted in cut:
+            return None
+        expected = "--from and a date-time" if kind == "due_option" else "--start and a day"
+    elif kind in ("moment", "amount") and place > 2 or kind == "day" and place > 2 and asked.words[0] == "rule":
+        expected = "a value of the option"
+    return refused(asked, cut, f"dates: argument {place + 1}, which is missing: expected {expected}")
+
+
+def with_a_word_more(chance, asked):
+    """A word too many at the end."""
+    name, place = asked.words[0] if asked.words else "", len(asked.words) + 1
+    bad = chance.choice(("x", "soon", "é"))
+    if name in ("add", "diff") and "move" not in asked.kinds + ["move"] or not name or name == "-":
+        return None
+    options = {"add": OPTIONS if "option" in asked.kinds else EXPECTED["move"], "open": OPTIONS, "roll": OPTIONS, "cal": EXPECTED["sheet_option"],
+               "next": EXPECTED["due_option"], "prev": EXPECTED["due_option"], "rule": EXPECTED["rule_option"]}
+    expected = options.get(name, "no further argument")
+    if name == "diff" and len(asked.words) == 3:
+        expected = "no further argument" if asked.kinds[2] == "moment" else "in"
+    if name == "diff" and "b" in asked.words[4:5]:
+        expected = OPTIONS
+    if name == "seq" and len(asked.words) == 3:
+        expected = EXPECTED["step"]
+    return refused(asked, [*asked.words, bad], f"dates: argument {place}, {bad}: expected {expected}")
+
+
+KEYS = {"open": "open", "diff": "days"}
+UNITS = {"w": "weeks", "m": "months", "y": "years", "b": "open_days"}
+
+
+def with_no_such_day(chance, asked):
+    """A day that its month has not."""
+    places = [it for it, kind in enumerate(asked.kinds) if kind in ("day", "start") or kind == "first" and len(asked.words) == 1]
+    if not places:
+        return None
+    place, (bad, reason) = chance.choice(places), past_month(chance)
+    key = KEYS.get(asked.words[0], "date")
+    if asked.words[0] == "diff":
+        key = UNITS.get("".join(asked.words[4:5]), "days")
+    words = asked.words[:place] + [bad] + asked.words[place + 1 :]
+    return Asked(words, asked.kinds, asked.needed, ["none"], [{key: None}], 1, f"{bad}: {reason}", asked.given)
+
+
+SPOILERS = (with_wrong_word, with_wrong_word, with_words_missing, with_a_word_more, with_no_such_day)
+MAKERS = {of_day: 10, of_lines: 4, of_add: 16, of_diff: 16, of_seq: 10, of_week: 4, of_easter: 4, of_leap: 3, of_open: 8, of_roll: 9, of_check: 5, of_due: 9, of_rule: 9, of_cal: 5}
+
+
+def commands(chance, files, count):
+    """So many commands, a fifth of them spoiled."""
+    made = []
+    while len(made) < count:
+        asked = chance.choices(list(MAKERS), list(MAKERS.values()))[0](chance, files)
+        if asked.words and chance.random() < 0.2:
+            asked = chance.choice(SPOILERS)(chance, asked)
+        if asked:
+            made.append(asked)
+    return made
+
+
+# ---- answers
+
+
+def ran(asked, more=()):
+    """Output, status and what is written to standard error."""
+    done = subprocess.run([DATES, *asked.words, *more], input=asked.given, capture_output=True, timeout=60)
+    return done.stdout.decode(), done.returncode, done.stderr.decode()
+
+
+def fault(asked):
+    """What is wrong with the answer to a command, as it stands or as JSON; None where nothing is."""
+    for form in ((), ("--json",)):
+        output, status, error = ran(asked, form)
+        said = [it.rstrip() for it in output.splitlines()]
+        try:
+            answer = [json.loads(it) for it in said] if form else said
+        except ValueError as cause:
+            return f"{form}: {cause}: {output}"
+        wanted = asked.objects if form else [it.rstrip() for it in asked.lines]
+        errors = re.escape(asked.error) if isinstance(asked.error, str) else asked.error.pattern
+        if answer != wanted or status != asked.status or not re.fullmatch(errors + "\n" * bool(errors), error):
+            return f"{form}\n  wanted {wanted[:9]}, status {asked.status}, {asked.error}\n  got {answer[:9]}, status {status}, {error}"
+    return None
+
+
+def days_of_files(chance, place):
+    """Some files of holidays, and the days that each has."""
+    files = {}
+    for number in range(8):
+        days = [workday_time(chance) for _ in range(chance.choice((0, 1, 30, 400)))]
+        path = os.path.join(place, f"holidays{number}")
+        with open(path, "w", encoding="utf-8") as out:
+            out.write("".join(f"{day_word(chance, it)}\n" for it in days))
+        files[path] = days
+    return files
+
+
+def main():
+    wanted = argparse.ArgumentParser(description=__doc__, formatter_class=argparse.RawDescriptionHelpFormatter)
+    wanted.add_argument("--commands", type=int, default=10_000)
+    wanted.add_argument("--seed", type=int, default=1)
+    given = wanted.parse_args()
+    if not os.path.exists(DATES):
+        print("there is no crates/dates/out/dates: `rt run` in crates/dates builds it\n0 passed, 1 failed")
+        return 1
+    if numpy is None and sys.executable != DEBIAN and os.path.exists(DEBIAN):
+        return subprocess.run([DEBIAN, os.path.abspath(__file__), *sys.argv[1:]]).returncode
+    if numpy is None:
+        print("not run: the commands of dates, since there is no numpy or no dateutil\n0 passed, 0 failed")
+        return 0
+    chance = random.Random(given.seed)
+    with tempfile.TemporaryDirectory() as place:
+        made = commands(chance, days_of_files(chance, place), given.commands)
+        with ThreadPoolExecutor(os.cpu_count()) as runners:
+            faults = [(asked, it) for asked, it in zip(made, runners.map(fault, made)) if it]
+    for asked, it in faults[:10]:
+        print(f"FAILED: {asked.words} {it}")
+    spoiled = sum(it.status == 2 for it in made)
+    print(f"{len(made)} commands from seed {given.seed}, each with --json too; {spoiled} of them wrong")
+    print(f"{len(made) - len(faults)} passed, {len(faults)} failed")
+    return 1 if faults else 0
+
+
+if __name__ == "__main__":
+    sys.exit(main())
