@@ -1,5 +1,6 @@
 //! Which days are closed, by the options of a request.
 
+use crate::quoted::Word;
 use chrono_business::{HolidayRule, england_and_wales, target, us_federal, without_weekends};
 use chrono_datetime::{Datelike, NaiveDate, Weekday, WeekdaySet};
 use dates_request::{HolidayCalendar, Options, read_day};
@@ -126,6 +127,7 @@ fn put_file(
         match read_day(line?.as_slice()) {
             Ok(day) => days.push(day)?,
             Err(_) => {
+                let file = Word { text: file };
                 eprintln!(rt; "dates: {file}, line {number}: expected a day as 2024-02-29")?;
                 return Ok(false);
             }

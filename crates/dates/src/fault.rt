@@ -2,6 +2,7 @@
 
 use crate::distance::key_of_measure;
 use crate::print::print_none;
+use crate::quoted::Word;
 use chrono_cron::check_schedule;
 use chrono_datetime::{Datelike, Month, NaiveDate};
 use chrono_rules::check_rule;
@@ -43,11 +44,10 @@ pub(crate) fn refuse(
 
 // Says what was expected of a word.
 fn refuse_word(rt: &impl Eprint, word: &str, wrong: Wrong) -> io::Result<u8> {
-    eprintln!(rt;
-        "dates: argument {}, {word}: expected {}",
-        wrong.place,
-        expected(wrong)
-    )?;
+    let place = wrong.place;
+    let word = Word { text: word };
+    let expected = expected(wrong);
+    eprintln!(rt; "dates: argument {place}, {word}: expected {expected}")?;
     Ok(WRONG)
 }
 
@@ -75,10 +75,9 @@ fn refuse_text(
     fault: &impl fmt::Display,
 ) -> io::Result<u8> {
     let place = wrong.place;
-    eprintln!(rt;
-        "dates: argument {place}, {word}: {fault}; expected {}",
-        expected(wrong)
-    )?;
+    let word = Word { text: word };
+    let expected = expected(wrong);
+    eprintln!(rt; "dates: argument {place}, {word}: {fault}; expected {expected}")?;
     Ok(WRONG)
 }
 
@@ -127,7 +126,7 @@ const CONVENTIONS: &str =
     "following, preceding, modified-following, modified-preceding, nearest or unadjusted";
 
 // The key of what the words ask for, where one of them is no day.
-fn key_asked(words: &[String<impl Allocator>]) -> &'static str {
+pub(crate) fn key_asked(words: &[String<impl Allocator>]) -> &'static str {
     match words {
         [command, ..] if command.as_str() == "open" => "open",
         [command, _, _, _, measure] if command.as_str() == "diff" => key_of_measure(

@@ -1,4 +1,4 @@
-//! Bytes as a string of JSON.
+//! Texts without what would break a line: bytes as a string of JSON, and words as they are quoted.
 
 use std::fmt;
 
@@ -13,7 +13,11 @@ impl fmt::Display for Quoted<'_> {
         f.write_char('"')?;
         for chunk in self.bytes.utf8_chunks() {
             for character in chunk.valid().chars() {
-                put_escaped(f, character)?;
+                match character {
+                    '"' => f.write_str("\\\"")?,
+                    '\\' => f.write_str("\\\\")?,
+                    other => put_character(f, other)?,
+                }
             }
             if !chunk.invalid().is_empty() {
                 f.write_char('\u{fffd}')?;
@@ -23,12 +27,26 @@ impl fmt::Display for Quoted<'_> {
     }
 }
 
-// A character, or what stands for it in a string.
-fn put_escaped<W: fmt::Write>(f: &mut fmt::Formatter<W>, character: char) -> fmt::Result {
-    match character {
-        '"' => f.write_str("\\\""),
-        '\\' => f.write_str("\\\\"),
-        control if control < ' ' => write!(f, "\\u{:04x}", control as u32),
-        other => f.write_char(other),
+/// A word on one line: control characters, of which some break a line and some steer a terminal, stand there as `\u000a`.
+#[derive(Clone, Copy)]
+pub struct Word<'a> {
+    pub text: &'a str,
+}
+
+impl fmt::Display for Word<'_> {
+    fn fmt<W: fmt::Write>(&self, f: &mut fmt::Formatter<W>) -> fmt::Result {
+        for character in self.text.chars() {
+            put_character(f, character)?;
+        }
+        Ok(())
+    }
+}
+
+// A character, a control character as JSON writes it by its number.
+fn put_character<W: fmt::Write>(f: &mut fmt::Formatter<W>, character: char) -> fmt::Result {
+    if character.is_control() {
+        write!(f, "\\u{:04x}", character as u32)
+    } else {
+        f.write_char(character)
     }
 }
