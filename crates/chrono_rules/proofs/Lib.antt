@@ -10,6 +10,7 @@ mod JoinedTexts
 mod Kept
 mod ListLemmas
 mod ListsBack
+mod ListsTold
 mod Moments
 mod PartValues
 mod Passed
@@ -26,3 +27,4 @@ mod Skipped
 mod Walks
 mod WeekdaysBack
 mod WordBytes
+mod WrittenParts

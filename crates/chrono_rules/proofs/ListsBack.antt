@@ -43,7 +43,7 @@ digits_back most n fits short =
     let is = and_from (nat_le 1 (length (decimal n))) (nat_le (length (decimal n)) most) (le-leb 1 (length (decimal n)) (decimal_nonempty n fits)) (le-leb (length (decimal n)) most short) in
     ap (λ t. if t then with_digits 0 (decimal n) else None) is ∙ decimal_back n fits
 
-pub number_back : (digits most n : ℕ) → n < 2 ^ 64 → 1 ≤ n → n ≤ most → length (decimal n) ≤ digits → number_of digits most (decimal n) ≡ Some n
+number_back : (digits most n : ℕ) → n < 2 ^ 64 → 1 ≤ n → n ≤ most → length (decimal n) ≤ digits → number_of digits most (decimal n) ≡ Some n
 unfolding number_of
 number_back digits most n fits some within short =
     ap (option_and_then (from_one most)) (digits_back digits n fits short)

@@ -23,7 +23,7 @@ abbrev days_with : ℕ → List ℕ → List ℕ → WeekdayPlaces
 days_with every front back = record { every = record { digits = every }; front = front; back = back }
 
 -- a weekday's two letters name it
-pub letters_back : (w : ℕ) → w < 7 → (length (weekday_letters w) ≡ 2) × (weekday_of_letters (weekday_letters w) ≡ Some w)
+letters_back : (w : ℕ) → w < 7 → (length (weekday_letters w) ≡ 2) × (weekday_of_letters (weekday_letters w) ≡ Some w)
 unfolding weekday_letters weekday_of_letters
 letters_back zero less = (refl, refl)
 letters_back (suc zero) less = (refl, refl)

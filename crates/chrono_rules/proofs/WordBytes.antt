@@ -63,7 +63,7 @@ digit_is c is =
 pub is_digit : (c : ℕ) → 48 ≤ c → c ≤ 57 → is_word_byte c ≡ true
 is_digit c low high = digit_is c (and_from (nat_le 48 c) (nat_le c 57) (le-leb 48 c low) (le-leb c 57 high))
 
-pub digit_words : (ds : List ℕ) → all_ascii_digits ds ≡ true → are_word_bytes ds ≡ true
+digit_words : (ds : List ℕ) → all_ascii_digits ds ≡ true → are_word_bytes ds ≡ true
 digit_words [] are = refl
 digit_words (c ∷ cs) are =
     let parts = and_parts (is_ascii_digit c) (all_ascii_digits cs) are in
