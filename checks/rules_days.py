@@ -1,11 +1,11 @@
 #!/usr/bin/env python3
 """Holds the instances of chrono_rules to a reading of its own, day by day, and to dateutil where it is installed.
 
-    checks/rules_days.py [--seed N] [--rules N]      (seed 1 and 600 rules, if left out)
+    checks/rules_days.py [--seed N] [--rules N] [--walks N]      (seed 1, 600 rules and none walked besides, if left out)
 
 The program crates/rules_rows answers rows; here they are made. dateutil's rrule gives the first instances of random rules, of the parts that
 RFC 5545 allows together, and its rruleset those of the same with dates beside them and exceptions (RDATE, EXDATE). A walk by RFC 5545, 3.3.10, asks of each day of
-400 years whether it is an instance of some rules. What is written for random rules is beside a second writing, and read again.
+400 years whether it is an instance of some rules, and of as many random ones as --walks says. What is written for random rules is beside a second writing, and read again.
 
 Where dateutil reads the RFC otherwise, no such rule is made for it, and the walk alone answers:
 
@@ -310,6 +310,7 @@ def main():
     wanted = argparse.ArgumentParser()
     wanted.add_argument("--seed", type=int, default=1)
     wanted.add_argument("--rules", type=int, default=600)
+    wanted.add_argument("--walks", type=int, default=0)
     options = wanted.parse_args()
     if not os.path.exists(ROWS):
         print("not run: everything, since there is no crates/rules_rows/out/rules_rows")
@@ -318,7 +319,8 @@ def main():
         os.execv(DEBIAN, [DEBIAN, *sys.argv])
     chance = random.Random(options.seed)
     rows = []
-    for rule, start in of_walk():
+    walks = random.Random(options.seed)
+    for rule, start in [*of_walk(), *(at_random(walks) for _ in range(options.walks))]:
         end = start.replace(year=start.year + 400, day=1)
         rule.until = None if rule.count else end - datetime.timedelta(1)
         rows.append(rule.row(start, walked(rule, start, end), True))

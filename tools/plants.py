@@ -21,6 +21,7 @@ What is not refused is printed, then a count and the processor seconds by crate;
 """
 import argparse
 import concurrent.futures
+import contextlib
 import os
 import re
 import resource
@@ -112,11 +113,20 @@ def twins_in(folder):
     return {name: twin for name, twin in twins if twin}
 
 
+@contextlib.contextmanager
+def proved(rt, crate):
+    """Gives the folder of what a check of the crate as it stands proved, begun with what a check on this machine kept; none where that fails."""
+    room = rt.seeded(crate, FLAGS, rt.work_for(crate))
+    try:
+        yield room and f"{room}/seed"
+    finally:
+        shutil.rmtree(room or "", ignore_errors=True)
+
+
 def try_twins(rt, crate, twins):
     """Checks a crate with each twin; how many were proved, and what is to be said of the others."""
     said = []
-    with tempfile.TemporaryDirectory(prefix="twins-") as kept:
-        rt.checked(crate, {}, FLAGS, kept)
+    with proved(rt, crate) as kept:
         for name, twin in twins.items():
             texts, why = rt.edited(twin, crate.folder)
             ran = None if why else rt.checked(crate, texts, FLAGS, kept)
@@ -143,8 +153,8 @@ def try_crate(copy, name):
     crate = next(it for it in rt.rtlib.crates_below(copy) if it.name == name)
     edits = dict(edits_at(f"{crate.folder}/must-fail"))
     rounds, alone = rounds_of(edits.items(), name, Sources(crate.folder))
-    with tempfile.TemporaryDirectory(prefix="plants-kept-") as kept:
-        if rt.checked(crate, {}, FLAGS, kept).returncode:
+    with proved(rt, crate) as kept:
+        if not kept:
             return 0, 0, [f"{name} is not proved, so no edit of it was tried"]
         refused = try_rounds(rt, crate, rounds, kept)
         said += [f"{name}/{it}: refused, but only because a proof file names what the edit took away" for it, lost in refused.items() if lost]

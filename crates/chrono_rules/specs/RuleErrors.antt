@@ -2,7 +2,7 @@
 use Rattle.std.specs.Prelude.{◌≡◌, ◌↔◌, ◌==◌, ℕ, ◌-◌, nat_le, Bool, true, false, not, ◌&&◌, ◌||◌, List, [], ◌∷◌, ◌++◌, length, take, drop, if◌then◌else◌, Option, Some, None, Result, Ok, Err, IfOk, IsErr, codes, refl}
 use Rattle.std.specs.List.{list_all}
 use Rattle.std.specs.Option.{is_some}
-use Rattle.std.specs.Str.{all_ascii_digits}
+use Rattle.std.specs.Str.{all_ascii_digits, byte}
 use Rattle.chrono_datetime.specs.declared.Weekday.TheVariants.{Mon}
 use Rattle.chrono_rules.specs.Instances.{has_numbers, lacks_month_days, lacks_year_days, lacks_weeks, no_numbers, no_weekdays, plain}
 use Rattle.chrono_rules.specs.Pieces.{count_of, digits_of, pieces}
@@ -64,7 +64,7 @@ number_fault (b ∷ bs) = digits_fault (b ∷ bs)
 -- with a sign in front, or none
 unfoldable pub place_fault : List ℕ → RuleFault
 place_fault [] = Empty
-place_fault (b ∷ bs) = if (b == 45) || (b == 43) then digits_fault bs else digits_fault (b ∷ bs)
+place_fault (b ∷ bs) = if (b == byte "-") || (b == byte "+") then digits_fault bs else digits_fault (b ∷ bs)
 
 -- a weekday, behind a number or not: letters that are none, or what stands in front
 unfoldable pub weekday_fault : List ℕ → RuleFault
@@ -100,7 +100,7 @@ value_fault Interval text = number_fault text
 value_fault Count text = number_fault text
 value_fault Until text = word_fault NotADate text
 value_fault Wkst text = word_fault NotAWeekday text
-value_fault part text = list_fault part (pieces 44 text)
+value_fault part text = list_fault part (pieces (byte ",") text)
 
 -- why a part cannot be read: by its values, none, one or more
 abbrev pub values_fault : RulePart → List (List ℕ) → RuleFault

@@ -2,7 +2,7 @@
 use Rattle.std.specs.Prelude.{◌≡◌, ℕ, ◌/◌, ◌%◌, ◌==◌, Bool, true, false, not, ◌&&◌, ◌||◌, List, [], ◌∷◌, length, take, drop, if◌then◌else◌, Option, Some, None, ℤ, pos, codes, refl}
 use Rattle.std.specs.List.{list_all}
 use Rattle.std.specs.Option.{option_and_then, option_map}
-use Rattle.std.specs.Str.{str_eq_ignore_ascii_case}
+use Rattle.std.specs.Str.{byte, str_eq_ignore_ascii_case}
 use Rattle.chrono_datetime.specs.Days.{date_of_ymd}
 use Rattle.chrono_datetime.specs.Weekday.{weekday_from_monday}
 use Rattle.chrono_datetime.specs.declared.Weekday.{Weekday}
@@ -22,7 +22,7 @@ use Rattle.chrono_rules.specs.declared.rule.Rule.{Rule}
 
 -- the parts of a text stand between semicolons
 abbrev pub parts : List ℕ → List (List ℕ)
-parts text = pieces 59 text
+parts text = pieces (byte ";") text
 
 -- a part begins with its name and `=`, in letters of either case
 abbrev pub is_named : List ℕ → List ℕ → Bool
@@ -83,7 +83,7 @@ unfoldable pub with_month_text : NumberSet → List ℕ → Option NumberSet
 with_month_text set text = option_map (with_number set) (number_of 2 12 text)
 
 unfoldable pub months_of : List ℕ → Option NumberSet
-months_of text = through with_month_text no_numbers (pieces 44 text)
+months_of text = through with_month_text no_numbers (pieces (byte ",") text)
 
 -- numbers from 1 to 366, from the front and from the end
 abbrev pub no_year_ends : YearEnds
@@ -102,7 +102,7 @@ unfoldable pub with_year_text : YearEnds → List ℕ → Option YearEnds
 with_year_text ends text = option_map (with_year_place ends) (place_of 3 366 text)
 
 unfoldable pub year_ends_of : List ℕ → Option YearEnds
-year_ends_of text = through with_year_text no_year_ends (pieces 44 text)
+year_ends_of text = through with_year_text no_year_ends (pieces (byte ",") text)
 
 -- the weekday that two letters name
 unfoldable pub weekday_of_text : List ℕ → Option Weekday

@@ -200,21 +200,6 @@ impl Rule {
         self.is_member(start, date) && self.is_counted(start, date)
     }
 
-    // The first member from the date on.
-    pub(crate) fn first_member(&self, start: NaiveDate, date: NaiveDate) -> Option<NaiveDate>
-        ensures member { IfSome result (λ e. is_member self.now start e ≡ true) }
-        ensures not_before { IfSome result (λ e. date ≤ℤ e) }
-        ensures least { IfSome result (λ e. (d : ℤ) → date ≤ℤ d → d <ℤ e → is_member self.now start d ≡ false) }
-        ensures none { IfNone result ((d : ℤ) → date ≤ℤ d → IsDate d → is_member self.now start d ≡ false) }
-    {
-        let first = self.candidate(start, date)?;
-        let mut day = first;
-        while !self.is_member(start, day) {
-            day = self.later(start, day)?;
-        }
-        Some(day)
-    }
-
     /// The first instance after the day, of the rule from the start on; `None` exactly if there is none in the calendar.
     #[tactic(auto, unfolding(crate::specs::Instances::is_instance))]
     pub fn next_after(&self, start: NaiveDate, day: NaiveDate) -> Option<NaiveDate>

@@ -6,8 +6,9 @@ ghost use Rattle.chrono_datetime.specs.MonthMoves.{month_index_of};
 ghost use Rattle.chrono_rules.specs.Instances.{counts_in_month, is_member, names_weekday, on_month_day, on_weekday};
 
 use crate::gaps::{gap_around, gap_down, gap_up};
+use crate::iterator::PAST_LAST_DAY;
 use crate::parts::has_digit;
-use crate::rule::Rule;
+use crate::rule::{End, Rule};
 use chrono_datetime::{Datelike, NaiveDate};
 
 impl Rule {
@@ -144,49 +145,82 @@ impl Rule {
         self.passed_by_position(start, day)
     }
 
-    // The date so many days later, of which none is a member; none behind UNTIL.
+    // The number of the day from which on no date is a member: that after UNTIL, or that after the last date.
     #[inline]
-    fn behind_passed(&self, start: NaiveDate, day: NaiveDate, days: i64) -> Option<NaiveDate>
-        requires passed { (d : ℤ) → day ≤ℤ d → d <ℤ (day +ℤ days) → is_member self.now start d ≡ false }
-        requires low { pos 0 ≤ℤ days }
-        ensures moved { IfSome result (λ e. e ≡ day +ℤ days) }
-        ensures in_range { IfSome result (λ e. IsDate e) }
-        ensures none { IfNone result ((d : ℤ) → day ≤ℤ d → IsDate d → is_member self.now start d ≡ false) }
+    #[tactic(auto, unfolding(crate::specs::Instances::not_after))]
+    fn end_day(&self) -> i32
+        ensures behind { (start : ℤ) (d : ℤ) → result ≤ℤ d → IsDate d → is_member self.now start d ≡ false }
     {
-        if self.not_after(day) {
-            day.moved_by_days(days)
-        } else {
-            None
+        match self.end {
+            End::Never => PAST_LAST_DAY,
+            End::Count(_) => PAST_LAST_DAY,
+            End::Until(last) => last.num_days_from_ce() + 1,
         }
     }
 
-    // The first date from this one on that no part passes over, before which none is a member.
-    pub(crate) fn candidate(&self, start: NaiveDate, date: NaiveDate) -> Option<NaiveDate>
+    // The first date from this one on that no part passes over, before which none is a member; none from a day on.
+    fn candidate(&self, start: NaiveDate, date: NaiveDate, end: i32) -> Option<NaiveDate>
         ensures in_range { IfSome result (λ e. IsDate e) }
         ensures not_before { IfSome result (λ e. date ≤ℤ e) }
+        ensures before { IfSome result (λ e. e <ℤ end) }
         ensures passed { IfSome result (λ e. (d : ℤ) → date ≤ℤ d → d <ℤ e → is_member self.now start d ≡ false) }
-        ensures none { IfNone result ((d : ℤ) → date ≤ℤ d → IsDate d → is_member self.now start d ≡ false) }
+        ensures none { IfNone result ((d : ℤ) → date ≤ℤ d → d <ℤ end → IsDate d → is_member self.now start d ≡ false) }
     {
         let mut day = date;
-        loop {
+        while day.num_days_from_ce() < end {
             let days = self.days_passed(start, day);
             if days == 0 {
                 return Some(day);
             }
-            day = self.behind_passed(start, day, days)?;
+            day = day.moved_by_days(days)?;
         }
+        None
     }
 
-    // A later date, between which and this one no member lies.
+    // A later date, between which and this one no member lies; none from a day on.
     #[inline]
-    pub(crate) fn later(&self, start: NaiveDate, day: NaiveDate) -> Option<NaiveDate>
+    fn later(&self, start: NaiveDate, day: NaiveDate, end: i32) -> Option<NaiveDate>
         ensures in_range { IfSome result (λ e. IsDate e) }
         ensures later { IfSome result (λ e. day <ℤ e) }
+        ensures before { IfSome result (λ e. e <ℤ end) }
         ensures passed { IfSome result (λ e. (d : ℤ) → day <ℤ d → d <ℤ e → is_member self.now start d ≡ false) }
-        ensures none { IfNone result ((d : ℤ) → day <ℤ d → IsDate d → is_member self.now start d ≡ false) }
+        ensures none { IfNone result ((d : ℤ) → day <ℤ d → d <ℤ end → IsDate d → is_member self.now start d ≡ false) }
     {
         let next = day.succ_opt()?;
-        self.candidate(start, next)
+        self.candidate(start, next, end)
+    }
+
+    // The first member from the date on that lies before a day.
+    pub(crate) fn first_member_before(
+        &self,
+        start: NaiveDate,
+        date: NaiveDate,
+        end: i32,
+    ) -> Option<NaiveDate>
+        ensures member { IfSome result (λ e. is_member self.now start e ≡ true) }
+        ensures not_before { IfSome result (λ e. date ≤ℤ e) }
+        ensures before { IfSome result (λ e. e <ℤ end) }
+        ensures in_range { IfSome result (λ e. IsDate e) }
+        ensures least { IfSome result (λ e. (d : ℤ) → date ≤ℤ d → d <ℤ e → is_member self.now start d ≡ false) }
+        ensures none { IfNone result ((d : ℤ) → date ≤ℤ d → d <ℤ end → IsDate d → is_member self.now start d ≡ false) }
+    {
+        let first = self.candidate(start, date, end)?;
+        let mut day = first;
+        while !self.is_member(start, day) {
+            day = self.later(start, day, end)?;
+        }
+        Some(day)
+    }
+
+    // The first member from the date on.
+    #[inline]
+    pub(crate) fn first_member(&self, start: NaiveDate, date: NaiveDate) -> Option<NaiveDate>
+        ensures member { IfSome result (λ e. is_member self.now start e ≡ true) }
+        ensures not_before { IfSome result (λ e. date ≤ℤ e) }
+        ensures least { IfSome result (λ e. (d : ℤ) → date ≤ℤ d → d <ℤ e → is_member self.now start d ≡ false) }
+        ensures none { IfNone result ((d : ℤ) → date ≤ℤ d → IsDate d → is_member self.now start d ≡ false) }
+    {
+        self.first_member_before(start, date, self.end_day())
     }
 }
 
