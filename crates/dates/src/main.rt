@@ -7,6 +7,7 @@ mod closed;
 mod day_names;
 mod distance;
 mod due;
+mod each;
 mod fault;
 mod file;
 mod help;
@@ -21,7 +22,8 @@ mod year;
 
 use answer::answer;
 use dates_request::{Request, Wrong, read_request};
-use fault::{WRONG, refuse};
+use each::answer_each;
+use fault::WRONG;
 use std::alloc::Allocator;
 use std::env::{self, Env};
 use std::io::{self, Eprint, ErrorKind};
@@ -44,10 +46,10 @@ fn main(rt: HostRuntime) -> ExitCode {
 
 // Answers what the arguments ask for; the exit status.
 fn run(rt: &(impl Env + Alloc + Print + Eprint + Input + Files)) -> io::Result<u8> {
-    let words: Vec<_, _> = env::args(rt)?.skip(1).collect(rt.alloc())?;
+    let mut words: Vec<_, _> = env::args(rt)?.skip(1).collect(rt.alloc())?;
     match request_of(rt, words.as_slice())? {
         Ok(request) => answer(rt, request, words.as_slice()),
-        Err(wrong) => refuse(rt, words.as_slice(), wrong),
+        Err(wrong) => answer_each(rt, &mut words, wrong),
     }
 }
 
