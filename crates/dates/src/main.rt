@@ -7,6 +7,7 @@ mod closed;
 mod day_names;
 mod distance;
 mod due;
+mod each;
 mod fault;
 mod file;
 mod help;
@@ -24,7 +25,8 @@ mod year;
 
 use answer::answer;
 use dates_request::{Form, Request, Wrong, form_of, read_request};
-use fault::{WRONG, refuse};
+use each::answer_each;
+use fault::WRONG;
 use std::alloc::Allocator;
 use std::env::{self, Env};
 use std::io::{self, Eprint, ErrorKind};
@@ -47,12 +49,14 @@ fn main(rt: HostRuntime) -> ExitCode {
 
 // Answers what the arguments ask for; the exit status.
 fn run(rt: &(impl Env + Alloc + Print + Eprint + Input + Files)) -> io::Result<u8> {
-    let words: Vec<_, _> = env::args(rt)?.skip(1).collect(rt.alloc())?;
+    let mut words: Vec<_, _> = env::args(rt)?.skip(1).collect(rt.alloc())?;
     let (form, request) = asked_by(rt, words.as_slice())?;
-    let words = asking(form, words.as_slice());
+    if form == Form::Json {
+        let _ = words.pop();
+    }
     match request {
-        Ok(request) => answer(rt, form, request, words),
-        Err(wrong) => refuse(rt, form, words, wrong),
+        Ok(request) => answer(rt, form, request, words.as_slice()),
+        Err(wrong) => answer_each(rt, form, &mut words, wrong),
     }
 }
 
@@ -67,12 +71,4 @@ fn asked_by(
         .collect(rt.alloc())?;
     let (form, asking) = form_of(texts.as_slice());
     Ok((form, read_request(asking)))
-}
-
-// The words that ask for something: all but the last where that names the form.
-fn asking<A: Allocator>(form: Form, words: &[String<A>]) -> &[String<A>] {
-    match words {
-        [asking @ .., _] if form == Form::Json => asking,
-        _ => words,
-    }
 }
