@@ -48,35 +48,31 @@ fn main(rt: HostRuntime) -> ExitCode {
 // Answers what the arguments ask for; the exit status.
 fn run(rt: &(impl Env + Alloc + Print + Eprint + Input + Files)) -> io::Result<u8> {
     let words: Vec<_, _> = env::args(rt)?.skip(1).collect(rt.alloc())?;
-    let asked = asked_by(rt, words.as_slice())?;
-    let words = &words.as_slice()[..asked.count];
-    match asked.request {
-        Ok(request) => answer(rt, asked.form, request, words),
-        Err(wrong) => refuse(rt, asked.form, words, wrong),
+    let (form, request) = asked_by(rt, words.as_slice())?;
+    let words = asking(form, words.as_slice());
+    match request {
+        Ok(request) => answer(rt, form, request, words),
+        Err(wrong) => refuse(rt, form, words, wrong),
     }
 }
 
-/// What the arguments ask for.
-#[derive(Clone, Copy)]
-struct Asked {
-    /// In which form.
-    form: Form,
-    /// How many of them ask for it: all but the one that names the form.
-    count: usize,
-    /// What it is, or which of these is wrong.
-    request: Result<Request, Wrong>,
-}
-
-// What the words ask for.
-fn asked_by(rt: &impl Alloc, words: &[String<impl Allocator>]) -> io::Result<Asked> {
+// In which form the words want an answer, and what they ask for, or which of them is wrong.
+fn asked_by(
+    rt: &impl Alloc,
+    words: &[String<impl Allocator>],
+) -> io::Result<(Form, Result<Request, Wrong>)> {
     let texts: Vec<&[u8], _> = words
         .iter()
         .map(|word| word.as_str().as_bytes())
         .collect(rt.alloc())?;
-    let (form, asked) = form_of(texts.as_slice());
-    Ok(Asked {
-        form,
-        count: asked.len().min(words.len()),
-        request: read_request(asked),
-    })
+    let (form, asking) = form_of(texts.as_slice());
+    Ok((form, read_request(asking)))
+}
+
+// The words that ask for something: all but the last where that names the form.
+fn asking<A: Allocator>(form: Form, words: &[String<A>]) -> &[String<A>] {
+    match words {
+        [asking @ .., _] if form == Form::Json => asking,
+        _ => words,
+    }
 }
