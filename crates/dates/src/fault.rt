@@ -31,14 +31,32 @@ pub(crate) fn refuse(
         return refuse_word(rt, "which is missing", wrong);
     };
     match wrong.why {
-        Why::Day(NoDay::PastMonth { first }) => {
-            print_none(rt, form, key_asked(words))?;
-            eprintln!(rt; "{}: {}", word.as_str(), DaysOfMonth { first })?;
-            Ok(NONE)
+        Why::Day(why) => {
+            let key = key_asked(words);
+            refuse_day(rt, form, key, word.as_str(), wrong, why)
         }
         Why::Schedule => refuse_schedule(rt, word.as_str(), wrong),
         Why::Rule => refuse_rule(rt, word.as_str(), wrong),
         _ => refuse_word(rt, word.as_str(), wrong),
+    }
+}
+
+// Says why a word is no day: of one past the end of its month that there is no such day, under the key of what was asked.
+fn refuse_day(
+    rt: &(impl Print + Eprint),
+    form: Form,
+    key: &str,
+    word: &str,
+    wrong: Wrong,
+    why: NoDay,
+) -> io::Result<u8> {
+    match why {
+        NoDay::PastMonth { first } => {
+            print_none(rt, form, key)?;
+            eprintln!(rt; "{word}: {}", DaysOfMonth { first })?;
+            Ok(NONE)
+        }
+        NoDay::Form => refuse_word(rt, word, wrong),
     }
 }
 
