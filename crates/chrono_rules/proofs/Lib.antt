@@ -4,11 +4,15 @@ mod Cycles
 mod DayLists
 mod Digits
 mod ErrorLines
+mod EndsBack
 mod GivenDays
+mod JoinedTexts
 mod Kept
 mod ListLemmas
 mod ListsBack
+mod ListsTold
 mod Moments
+mod PartValues
 mod Passed
 mod PeriodsLeftOut
 mod PieceLemmas
@@ -17,5 +21,10 @@ mod PlacesInPeriods
 mod RecurrenceWalks
 mod RisingLists
 mod RuleAscii
+mod RuleBack
+mod RuleTold
 mod Skipped
 mod Walks
+mod WeekdaysBack
+mod WordBytes
+mod WrittenParts

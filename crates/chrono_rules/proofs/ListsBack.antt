@@ -1,74 +1,31 @@
 -- Lists of numbers that are written are read back.
-use Rattle.std.proofs.Common.{◌≡◌, ℕ, zero, suc, ◌+◌, ◌-◌, ◌*◌, ◌%◌, ◌^◌, ◌<◌, ◌≤◌, ◌==◌, nat_le, nat_lt, Bool, true, false, not, ◌&&◌, if◌then◌else◌, List, [], ◌∷◌, ◌++◌, length, Option, Some, None, refl, sym, ap, ◌∙◌, arith, rules, append-nil, bit_or, bit_and}
+use Rattle.std.proofs.Common.{◌≡◌, ℕ, zero, suc, ◌+◌, ◌-◌, ◌*◌, ◌%◌, ◌^◌, ◌<◌, ◌≤◌, ◌==◌, nat_le, nat_lt, Bool, true, false, ◌&&◌, if◌then◌else◌, List, [], ◌∷◌, ◌++◌, length, Option, Some, None, refl, sym, ap, ◌∙◌, arith, bit_or, bit_and}
 use Rattle.std.specs.Char.{is_ascii_digit}
 use Rattle.std.specs.Fmt.{decimal, sign_text}
 use Rattle.std.specs.Int.{bit_at}
-use Rattle.std.specs.List.{list_all}
 use Rattle.std.specs.Option.{option_and_then, option_map}
 use Rattle.std.specs.Str.{all_ascii_digits}
 use Rattle.std.proofs.Math.Nat.{mod-eq_of_lt, mod-lt}
-use Rattle.std.proofs.lemmas.Bool.{and_parts, eqb-true, eqb-false, false≢true, leb-true, ltb-true}
+use Rattle.std.proofs.lemmas.Bool.{and_from, and_parts, eqb-true, eqb-false, false≢true, le-leb, leb-true, ltb-true}
 use Rattle.std.proofs.lemmas.Fmt.{decimal_nonempty, digits_decimal, digits_value-decimal, length-decimal-le}
 use Rattle.std.proofs.lemmas.Option.{same_Some}
 use Rattle.std.proofs.lemmas.Nat.{mod-pow-add, or_disjoint, pow_pos}
 use Rattle.std.proofs.lemmas.Nat.Bits.{and_pow, bit_at-lt, bit_at_above}
-use Rattle.std.proofs.lemmas.Str.Parse.{IsNumeralModel, numerals_by_fold}
-use Rattle.chrono_rules.specs.declared.listing.Listed.{Listed}
 use Rattle.chrono_rules.specs.declared.listing.Listed.TheVariants.{Numbers}
+use Rattle.chrono_rules.specs.declared.listing.Naming.{Naming}
 use Rattle.chrono_rules.specs.declared.listing.Naming.TheVariants.{Number}
 use Rattle.chrono_rules.specs.declared.place_text.BothEnds.{BothEnds}
 use Rattle.chrono_rules.specs.declared.places.NumberSet.{NumberSet}
 use Rattle.chrono_rules.specs.Instances.{has, no_numbers}
-use Rattle.chrono_rules.specs.Pieces.{begun, digits_of, pieces, through, with_digits}
+use Rattle.chrono_rules.specs.Pieces.{digits_of, through, with_digits}
 use Rattle.chrono_rules.specs.Places.{ends_of, from_one, no_ends, number_of, place, place_of, with_number, with_place, with_place_text}
 use Rattle.chrono_rules.specs.RuleTexts.{months_of, with_month_text}
 use Rattle.chrono_rules.specs.ToldRules.{lie_within}
-use Rattle.chrono_rules.specs.WrittenRules.{behind, both_items, item_at, item_text, items, list_text, lists}
-use Rattle.chrono_rules.proofs.ListLemmas.{join_behind}
-
--- ---- pieces between separators
-
-abbrev pub lacks : ℕ → List ℕ → Bool
-lacks sep text = list_all (λ b. not (b == sep)) text
-
-not_false : (b : Bool) → not b ≡ true → b ≡ false
-not_false true e = sym e
-not_false false e = refl
-
-pieces_at : (sep : ℕ) (text rest : List ℕ) → lacks sep text ≡ true → pieces sep (text ++ sep ∷ rest) ≡ text ∷ pieces sep rest
-pieces_at sep [] rest none =
-    let same : (sep == sep) ≡ true = grind arith in
-    ap (λ t. begun t sep (pieces sep rest)) same
-pieces_at sep (b ∷ bs) rest none =
-    let parts = and_parts (not (b == sep)) (lacks sep bs) none in
-    ap (λ t. begun t b (pieces sep (bs ++ sep ∷ rest))) (not_false (b == sep) parts.0) ∙ ap (begun false b) (pieces_at sep bs rest parts.1)
-
-pieces_end : (sep : ℕ) (text : List ℕ) → lacks sep text ≡ true → pieces sep text ≡ text ∷ []
-pieces_end sep [] none = refl
-pieces_end sep (b ∷ bs) none =
-    let parts = and_parts (not (b == sep)) (lacks sep bs) none in
-    ap (λ t. begun t b (pieces sep bs)) (not_false (b == sep) parts.0) ∙ ap (begun false b) (pieces_end sep bs parts.1)
-
-pieces_joined : (sep : ℕ) (text : List ℕ) (texts : List (List ℕ)) → lacks sep text ≡ true → list_all (lacks sep) texts ≡ true → pieces sep (text ++ behind sep texts) ≡ text ∷ texts
-pieces_joined sep text [] first others = ap (pieces sep) (append-nil text) ∙ pieces_end sep text first
-pieces_joined sep text (next ∷ texts) first others =
-    let parts = and_parts (lacks sep next) (list_all (lacks sep) texts) others in
-    pieces_at sep text (next ++ behind sep texts) first ∙ ap (λ ps. text ∷ ps) (pieces_joined sep next texts parts.0 parts.1)
-
-pub pieces_list : (texts : List (List ℕ)) → (texts ≡ [] → ⊥) → list_all (lacks 44) texts ≡ true → pieces 44 (list_text texts) ≡ texts
-pieces_list [] some lack = absurd (some refl)
-pieces_list (text ∷ texts) some lack =
-    let parts = and_parts (lacks 44 text) (list_all (lacks 44) texts) lack in
-    ap (pieces 44) (join_behind 44 text texts) ∙ pieces_joined 44 text texts parts.0 parts.1
+use Rattle.chrono_rules.specs.WrittenRules.{both_items, item_text, items, list_text, lists}
+use Rattle.chrono_rules.proofs.JoinedTexts.{pieces_joined}
+use Rattle.chrono_rules.proofs.WordBytes.{both_words, items_words, own, read_on, words_lack}
 
 -- ---- numbers
-
-abbrev read_on : ℕ → List ℕ → ℕ
-read_on n [] = n
-read_on n (c ∷ cs) = read_on (10 * n + (c - 48)) cs
-
-own : IsNumeralModel (λ ds. all_ascii_digits ds ≡ true) (read_on 0)
-own = numerals_by_fold _ (search rules) read_on (search rules)
 
 with_read : (v : ℕ) (ds : List ℕ) → all_ascii_digits ds ≡ true → with_digits v ds ≡ Some (read_on v ds)
 with_read v [] are = refl
@@ -80,23 +37,17 @@ with_read v (c ∷ cs) are =
 pub decimal_back : (n : ℕ) → n < 2 ^ 64 → with_digits 0 (decimal n) ≡ Some n
 decimal_back n fits = with_read 0 (decimal n) (digits_decimal own n fits) ∙ ap Some (digits_value-decimal own n fits)
 
-yes : (a b : ℕ) → a ≤ b → nat_le a b ≡ true
-yes a b le = grind arith
-
-both_true : (a b : Bool) → a ≡ true → b ≡ true → (a && b) ≡ true
-both_true a b first second = ap (λ t. t && b) first ∙ second
-
 digits_back : (most n : ℕ) → n < 2 ^ 64 → length (decimal n) ≤ most → digits_of most (decimal n) ≡ Some n
 unfolding digits_of
 digits_back most n fits short =
-    let is = both_true (nat_le 1 (length (decimal n))) (nat_le (length (decimal n)) most) (yes 1 (length (decimal n)) (decimal_nonempty n fits)) (yes (length (decimal n)) most short) in
+    let is = and_from (nat_le 1 (length (decimal n))) (nat_le (length (decimal n)) most) (le-leb 1 (length (decimal n)) (decimal_nonempty n fits)) (le-leb (length (decimal n)) most short) in
     ap (λ t. if t then with_digits 0 (decimal n) else None) is ∙ decimal_back n fits
 
-pub number_back : (digits most n : ℕ) → n < 2 ^ 64 → 1 ≤ n → n ≤ most → length (decimal n) ≤ digits → number_of digits most (decimal n) ≡ Some n
+number_back : (digits most n : ℕ) → n < 2 ^ 64 → 1 ≤ n → n ≤ most → length (decimal n) ≤ digits → number_of digits most (decimal n) ≡ Some n
 unfolding number_of
 number_back digits most n fits some within short =
     ap (option_and_then (from_one most)) (digits_back digits n fits short)
-    ∙ ap (λ t. if t then Some n else None) (both_true (nat_le 1 n) (nat_le n most) (yes 1 n some) (yes n most within))
+    ∙ ap (λ t. if t then Some n else None) (and_from (nat_le 1 n) (nat_le n most) (le-leb 1 n some) (le-leb n most within))
 
 plain_place : (digits most : ℕ) (text : List ℕ) → all_ascii_digits text ≡ true → 0 < length text → place_of digits most text ≡ option_map (place false) (number_of digits most text)
 unfolding place_of
@@ -113,46 +64,6 @@ unfolding place_of
 place_back true digits most n fits some within short = ap (option_map (place true)) (number_back digits most n fits some within short)
 place_back false digits most n fits some within short =
     plain_place digits most (decimal n) (digits_decimal own n fits) (decimal_nonempty n fits) ∙ ap (option_map (place false)) (number_back digits most n fits some within short)
-
--- no comma stands in them
-digits_lack : (ds : List ℕ) → all_ascii_digits ds ≡ true → lacks 44 ds ≡ true
-digits_lack [] are = refl
-digits_lack (c ∷ cs) are =
-    let parts = and_parts (is_ascii_digit c) (all_ascii_digits cs) are in
-    let low = leb-true 48 c (and_parts (nat_le 48 c) (nat_le c 57) parts.0).0 in
-    let other : (c == 44) ≡ false = grind arith in
-    both_true (not (c == 44)) (lacks 44 cs) (ap not other) (digits_lack cs parts.1)
-
-lacks_append : (xs ys : List ℕ) → lacks 44 xs ≡ true → lacks 44 ys ≡ true → lacks 44 (xs ++ ys) ≡ true
-lacks_append [] ys first second = second
-lacks_append (x ∷ xs) ys first second =
-    let parts = and_parts (not (x == 44)) (lacks 44 xs) first in
-    both_true (not (x == 44)) (lacks 44 (xs ++ ys)) parts.0 (lacks_append xs ys parts.1 second)
-
-sign_lacks : (from_end : Bool) → lacks 44 (sign_text from_end) ≡ true
-sign_lacks true = refl
-sign_lacks false = refl
-
-number_lacks : (from_end : Bool) (n : ℕ) → n < 2 ^ 64 → lacks 44 (item_text Number from_end n) ≡ true
-unfolding item_text
-number_lacks from_end n fits = lacks_append (sign_text from_end) (decimal n) (sign_lacks from_end) (digits_lack (decimal n) (digits_decimal own n fits))
-
-pub all_append : (xs ys : List (List ℕ)) → list_all (lacks 44) xs ≡ true → list_all (lacks 44) ys ≡ true → list_all (lacks 44) (xs ++ ys) ≡ true
-all_append [] ys first second = second
-all_append (x ∷ xs) ys first second =
-    let parts = and_parts (lacks 44 x) (list_all (lacks 44) xs) first in
-    both_true (lacks 44 x) (list_all (lacks 44) (xs ++ ys)) parts.0 (all_append xs ys parts.1 second)
-
-one_lacks : (b : Bool) (text : List ℕ) → lacks 44 text ≡ true → list_all (lacks 44) (if b then text ∷ [] else []) ≡ true
-one_lacks true text lack = both_true (lacks 44 text) true lack refl
-one_lacks false text lack = refl
-
-pub numbers_lack : (listed : Listed) (from_end : Bool) (count n : ℕ) → n + count ≤ 384 → list_all (lacks 44) (items listed Number from_end count n) ≡ true
-unfolding items
-numbers_lack listed from_end zero n within = refl
-numbers_lack listed from_end (suc count) n within =
-    all_append (item_at listed Number from_end n) (items listed Number from_end count (n + 1))
-    (one_lacks (lists listed n) (item_text Number from_end n) (number_lacks from_end n (omega (arith, within)))) (numbers_lack listed from_end count (n + 1) (omega (arith, within)))
 
 -- ---- binary digits, one after another from the lowest
 
@@ -193,17 +104,17 @@ one_step step state item rest d n false is made =
     let none : bit_at d n ≡ 0 = omega (arith, other, bit_at-lt d n) in
     ap (λ a. through step (state a) rest) (without_bit d n none)
 
-pub through_bits : {S : Type 0} (step : S → List ℕ → Option S) (state : ℕ → S) (from_end : Bool) (d count n : ℕ)
-    → ((a k : ℕ) → n ≤ k → k < n + count → step (state a) (item_text Number from_end k) ≡ Some (state (bit_or a (2 ^ k))))
-    → through step (state (d % 2 ^ n)) (items (Numbers (record { digits = d })) Number from_end count n) ≡ Some (state (d % 2 ^ (n + count)))
+pub through_bits : {S : Type 0} (step : S → List ℕ → Option S) (state : ℕ → S) (naming : Naming) (from_end : Bool) (d count n : ℕ)
+    → ((a k : ℕ) → n ≤ k → k < n + count → step (state a) (item_text naming from_end k) ≡ Some (state (bit_or a (2 ^ k))))
+    → through step (state (d % 2 ^ n)) (items (Numbers (record { digits = d })) naming from_end count n) ≡ Some (state (d % 2 ^ (n + count)))
 unfolding items lists has
-through_bits step state from_end d zero n steps =
+through_bits step state naming from_end d zero n steps =
     let same : n ≡ n + 0 = omega arith in
     ap (λ k. Some (state (d % 2 ^ k))) same
-through_bits step state from_end d (suc count) n steps =
+through_bits step state naming from_end d (suc count) n steps =
     let more : (n + 1) + count ≡ n + suc count = omega arith in
-    one_step step state (item_text Number from_end n) (items (Numbers (record { digits = d })) Number from_end count (n + 1)) d n (bit_at d n == 1) refl (steps (d % 2 ^ n) n (omega arith) (omega arith))
-    ∙ through_bits step state from_end d count (n + 1) (λ a k from below. steps a k (omega (arith, from)) (omega (arith, below)))
+    one_step step state (item_text naming from_end n) (items (Numbers (record { digits = d })) naming from_end count (n + 1)) d n (bit_at d n == 1) refl (steps (d % 2 ^ n) n (omega arith) (omega arith))
+    ∙ through_bits step state naming from_end d count (n + 1) (λ a k from below. steps a k (omega (arith, from)) (omega (arith, below)))
     ∙ ap (λ k. Some (state (d % 2 ^ k))) more
 
 -- ---- sets of numbers from 1 to `most`
@@ -219,12 +130,12 @@ ends most d is =
     let turned : 1 + most ≡ most + 1 = omega arith in
     ap (λ k. d % 2 ^ k) turned ∙ mod-eq_of_lt (ltb-true d (2 ^ (most + 1)) (and_parts (d % 2 == 0) (nat_lt d (2 ^ (most + 1))) is).1)
 
-set_back : {S : Type 0} (step : S → List ℕ → Option S) (state : ℕ → S) (from_end : Bool) (most d : ℕ) → lie_within most d ≡ true
-    → ((a k : ℕ) → 1 ≤ k → k < 1 + most → step (state a) (item_text Number from_end k) ≡ Some (state (bit_or a (2 ^ k))))
-    → through step (state 0) (items (Numbers (record { digits = d })) Number from_end most 1) ≡ Some (state d)
-set_back step state from_end most d is steps =
-    ap (λ a. through step (state a) (items (Numbers (record { digits = d })) Number from_end most 1)) (starts most d is)
-    ∙ through_bits step state from_end d most 1 steps ∙ ap (λ a. Some (state a)) (ends most d is)
+pub set_back : {S : Type 0} (step : S → List ℕ → Option S) (state : ℕ → S) (naming : Naming) (from_end : Bool) (most d : ℕ) → lie_within most d ≡ true
+    → ((a k : ℕ) → 1 ≤ k → k < 1 + most → step (state a) (item_text naming from_end k) ≡ Some (state (bit_or a (2 ^ k))))
+    → through step (state 0) (items (Numbers (record { digits = d })) naming from_end most 1) ≡ Some (state d)
+set_back step state naming from_end most d is steps =
+    ap (λ a. through step (state a) (items (Numbers (record { digits = d })) naming from_end most 1)) (starts most d is)
+    ∙ through_bits step state naming from_end d most 1 steps ∙ ap (λ a. Some (state a)) (ends most d is)
 
 -- BYMONTH
 month_step : (a k : ℕ) → 1 ≤ k → k < 1 + 12 → with_month_text (record { digits = a }) (item_text Number false k) ≡ Some (record { digits = bit_or a (2 ^ k) })
@@ -239,9 +150,9 @@ pub months_back : (d : ℕ) → lie_within 12 d ≡ true → (d == 0) ≡ false 
 unfolding months_of
 months_back d is some =
     let texts = items (Numbers (set_of d)) Number false 12 1 in
-    let made = set_back with_month_text set_of false 12 d is month_step in
+    let made = set_back with_month_text set_of Number false 12 d is month_step in
     let differ : set_of 0 ≡ set_of d → ⊥ = λ e. eqb-false d 0 some (sym (ap (λ (s : NumberSet). s.digits) e)) in
-    ap (through with_month_text no_numbers) (pieces_list texts (some_of with_month_text (set_of 0) (set_of d) texts made differ) (numbers_lack (Numbers (set_of d)) false 12 1 (omega arith))) ∙ made
+    ap (through with_month_text no_numbers) (pieces_joined 44 texts (some_of with_month_text (set_of 0) (set_of d) texts made differ) (words_lack 44 texts refl (items_words (Numbers (set_of d)) Number false 12 1 (omega arith)))) ∙ made
 
 -- BYMONTHDAY and BYWEEKNO
 abbrev ends_with : ℕ → ℕ → BothEnds
@@ -264,10 +175,10 @@ ends_back most front back small is also some =
     let step = with_place_text 2 most in
     let xs = items (Numbers (set_of front)) Number false most 1 in
     let ys = items (Numbers (set_of back)) Number true most 1 in
-    let first = set_back step (λ a. ends_with a 0) false most front is (λ a k from within. front_step most 0 a k small from within) in
-    let second = set_back step (λ a. ends_with front a) true most back also (λ a k from within. back_step most front a k small from within) in
+    let first = set_back step (λ a. ends_with a 0) Number false most front is (λ a k from within. front_step most 0 a k small from within) in
+    let second = set_back step (λ a. ends_with front a) Number true most back also (λ a k from within. back_step most front a k small from within) in
     let made = through_append step (ends_with 0 0) xs ys ∙ ap (option_and_then (λ t. through step t ys)) first ∙ second in
     let differ : ends_with 0 0 ≡ ends_with front back → ⊥ =
     λ e. false≢true (sym some ∙ sym (ap (λ (t : BothEnds). (t.front.digits == 0) && (t.back.digits == 0)) e)) in
-    let lack = all_append xs ys (numbers_lack (Numbers (set_of front)) false most 1 (omega (arith, small))) (numbers_lack (Numbers (set_of back)) true most 1 (omega (arith, small))) in
-    ap (through step no_ends) (pieces_list (xs ++ ys) (some_of step (ends_with 0 0) (ends_with front back) (xs ++ ys) made differ) lack) ∙ made
+    let lack = words_lack 44 (xs ++ ys) refl (both_words (Numbers (set_of front)) (Numbers (set_of back)) most (omega (arith, small))) in
+    ap (through step no_ends) (pieces_joined 44 (xs ++ ys) (some_of step (ends_with 0 0) (ends_with front back) (xs ++ ys) made differ) lack) ∙ made

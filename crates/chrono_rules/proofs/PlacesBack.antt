@@ -17,7 +17,9 @@ use Rattle.chrono_rules.specs.Places.{with_word}
 use Rattle.chrono_rules.specs.RuleTexts.{no_year_ends, with_year_place, with_year_text, year_ends_of}
 use Rattle.chrono_rules.specs.ToldRules.{places_within}
 use Rattle.chrono_rules.specs.WrittenRules.{both_items, item_text, items, list_text, lists}
-use Rattle.chrono_rules.proofs.ListsBack.{all_append, numbers_lack, pieces_list, place_back, some_of, through_append, with_bit, without_bit}
+use Rattle.chrono_rules.proofs.JoinedTexts.{pieces_joined}
+use Rattle.chrono_rules.proofs.ListsBack.{place_back, some_of, through_append, with_bit, without_bit}
+use Rattle.chrono_rules.proofs.WordBytes.{both_words, words_lack}
 
 -- words with the digits for numbers below n alone
 abbrev low_words : List ℕ → ℕ → List ℕ
@@ -156,5 +158,5 @@ year_ends_back front back six also is too some =
     let made = through_append with_year_text (ends_of_words none none) xs ys ∙ ap (option_and_then (λ t. through with_year_text t ys)) first ∙ second in
     let differ : ends_of_words none none ≡ ends_of_words front back → ⊥ =
     λ e. false≢true (sym some ∙ sym (ap (λ (t : YearEnds). are_zero t.front.words && are_zero t.back.words) e)) in
-    let lack = all_append xs ys (numbers_lack (Places (record { words = front })) false 366 1 (omega arith)) (numbers_lack (Places (record { words = back })) true 366 1 (omega arith)) in
-    ap (through with_year_text no_year_ends) (pieces_list (xs ++ ys) (some_of with_year_text (ends_of_words none none) (ends_of_words front back) (xs ++ ys) made differ) lack) ∙ made
+    let lack = words_lack 44 (xs ++ ys) refl (both_words (Places (record { words = front })) (Places (record { words = back })) 366 (omega arith)) in
+    ap (through with_year_text no_year_ends) (pieces_joined 44 (xs ++ ys) (some_of with_year_text (ends_of_words none none) (ends_of_words front back) (xs ++ ys) made differ) lack) ∙ made

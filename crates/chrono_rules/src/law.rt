@@ -7,13 +7,14 @@ ghost use Rattle.chrono_rules.specs.KnownTexts.{both_sundays, days_of_the_year, 
 ghost use Rattle.chrono_rules.specs.Places.{ends_of};
 ghost use Rattle.chrono_rules.specs.RecurrenceSets.{is_in_recurrence};
 ghost use Rattle.chrono_rules.specs.RuleTexts.{IsRuleText, months_of, year_ends_of};
-ghost use Rattle.chrono_rules.specs.ToldRules.{lie_within, places_within};
+ghost use Rattle.chrono_rules.specs.ToldRules.{IsTold, lie_within, places_within};
 ghost use Rattle.chrono_rules.specs.WrittenRules.{both_items, items, list_text, rule_text};
 ghost use Rattle.chrono_rules.specs.declared.listing.Listed.TheVariants.{Numbers, Places};
 ghost use Rattle.chrono_rules.specs.declared.listing.Naming.TheVariants.{Number};
 ghost use Rattle.chrono_rules.specs.declared.rule.Frequency.TheVariants.{Monthly, Weekly, Yearly};
 
 use crate::places::{NumberSet, PlaceSet};
+use crate::rule::Rule;
 
 /// Instances that RFC 5545 gives in section 3.8.5.3. Every other week on Tuesday and Sunday, four times from Tuesday, 5 August 1997: with
 /// weeks that begin on Monday the 10th, the 19th and the 24th, with weeks that begin on Sunday the 17th, the 19th and the 31st; no fifth
@@ -174,4 +175,15 @@ pub fn written_numbers_are_read(front: NumberSet, back: NumberSet)
 pub fn written_year_days_are_read(front: &PlaceSet, back: &PlaceSet)
     ensures { places_within front.now.words ≡ true → places_within back.now.words ≡ true → (are_zero front.now.words && are_zero back.now.words) ≡ false
         → year_ends_of (list_text (both_items (Places front.now) (Places back.now) 366)) ≡ Some (record { front = front.now; back = back.now }) }
+{}
+
+/// A rule that is written is read back: the text that is written for it is a text of it, so that `read_rule` gives it again. It has to be one that a
+/// text tells: with an interval from 1 on, with an UNTIL in a year from 0 to 9999, with numbers of its parts alone, and with parts that go together.
+pub fn written_rules_are_read(rule: Rule)
+    ensures { IsTold rule → IsRuleText (rule_text rule) rule }
+{}
+
+/// A rule that is read is one that a text tells, whatever its text is. So it can be written, and what is written is read back as it was.
+pub fn read_rules_are_told(text: &[u8], rule: &Rule)
+    ensures { IsRuleText text.now rule.now → IsTold rule.now }
 {}

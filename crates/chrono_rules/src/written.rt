@@ -182,8 +182,8 @@ impl fmt::Display for Rule {
     /// the front first, each kind rising, and weekdays without a number before all others.
     ///
     /// Numbers that a part cannot have are left out. A part that has such numbers alone is written with no value, and an UNTIL outside the years 0
-    /// to 9999 with another year than of four digits; neither can be read. A width, a fill, an alignment, a sign or a precision makes no
-    /// difference.
+    /// to 9999 with another year than of four digits; neither can be read. A rule that was read is written so that it is read again. A width, a fill,
+    /// an alignment, a sign or a precision makes no difference.
     fn fmt<W: fmt::Write>(&self, f: &mut fmt::Formatter<W>) -> fmt::Result {
         let mut text = Text::<LONGEST>::new();
         self.put_into(&mut text);
