@@ -1,5 +1,5 @@
 -- Days that pass a test, counted one after another.
-use Rattle.std.proofs.Common.{◌≡◌, ℕ, zero, suc, ◌+◌, ◌≤◌, Bool, true, false, cond, refl, sym, ap, ◌∙◌, inl, inr, nat_lt, ◌&&◌, arith, ℤ, pos, ◌+ℤ◌, ◌-ℤ◌, ◌≤ℤ◌, ◌<ℤ◌, int_le, unsigned_abs, Option, Some, None, IfSome}
+use Rattle.std.proofs.Common.{◌≡◌, ℕ, zero, suc, ◌+◌, ◌≤◌, Bool, true, false, cond, min, refl, sym, ap, ◌∙◌, inl, inr, nat_lt, ◌&&◌, arith, ℤ, pos, ◌+ℤ◌, ◌-ℤ◌, ◌≤ℤ◌, ◌<ℤ◌, int_le, unsigned_abs, Option, Some, None, IfSome}
 use Rattle.std.proofs.lemmas.Int.{by_lt_z}
 use Rattle.std.proofs.lemmas.Bool.{cases_lt}
 use Rattle.std.proofs.lemmas.Bool.Decides.{nat_tests}
@@ -60,11 +60,17 @@ last_instance (Some e) r start last end before member high counted =
 
 -- ---- what a walk keeps of the past
 
-count-kept : (p : ℤ → Bool) (s a e : ℤ) → a ≤ℤ e → ((d : ℤ) → a ≤ℤ d → d <ℤ e → p d ≡ false) → count_between p s e ≡ count_between p s a
+pub count-kept : (p : ℤ → Bool) (s a e : ℤ) → a ≤ℤ e → ((d : ℤ) → a ≤ℤ d → d <ℤ e → p d ≡ false) → count_between p s e ≡ count_between p s a
 count-kept p s a e le none =
     by_lt_z a s
     (λ lt. omega (arith, count_between-empty p s a (omega (arith, signed, lt)), count_between-none p s e (λ d low high. none d (omega (arith, signed, lt, low)) high)))
     (λ ge. omega (arith, count_between-sum p s a e ge le, count_between-none p a e none))
+
+-- one member more, the first from the day on up to which they are counted
+pub count-member : (r : Rule) (s a e n : ℤ) (seen : ℕ) → seen ≡ count_between (is_member r s) s a → s ≤ℤ a → a ≤ℤ e → n ≡ e +ℤ pos 1 → is_member r s e ≡ true → ((d : ℤ) → a ≤ℤ d → d <ℤ e → is_member r s d ≡ false) → seen + 1 ≡ count_between (is_member r s) s n
+count-member r s a e n seen is start low at member none =
+    counted-next (is_member r s) s e n seen (seen + 1)
+    (is ∙ sym (count-kept (is_member r s) s a e low none)) (ap (λ b. seen + cond b 1 0) (sym member)) (omega (arith, signed, start, low)) at
 
 pub seen-kept : (f : End) (r : Rule) (s a e : ℤ) → a ≤ℤ e → ((d : ℤ) → a ≤ℤ d → d <ℤ e → is_member r s d ≡ false) → seen_before f r s e ≡ seen_before f r s a
 unfolding seen_before
@@ -146,6 +152,14 @@ are_counted r s d c end =
     let instances = count_between-empty (is_instance r s) s d (omega (arith, signed, lt)) in
     (λ h. omega (arith, members, instances), λ h. omega (arith, members, instances, h)))
     (λ ge. counted_on r s d c (unsigned_abs (d -ℤ s)) end (omega (arith, signed, ge)))
+
+pub most_counted : (r : Rule) (s d : ℤ) (c : ℕ) → r.end ≡ Count c → count_between (is_instance r s) s d ≡ min c (count_between (is_member r s) s d)
+most_counted r s d c end =
+    let both = are_counted r s d c end in
+    elim (cases_lt (count_between (is_member r s) s d) c) [
+      | inl lt ↦ omega (arith, lt, both.0 (omega (arith, lt)))
+      | inr ge ↦ omega (arith, ge, both.1 ge)
+    ]
 
 and-true : (b : Bool) → (b && true) ≡ b
 and-true true = refl

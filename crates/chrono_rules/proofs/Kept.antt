@@ -1,15 +1,58 @@
 -- What a walk keeps of the members that came before its day.
-use Rattle.std.proofs.Common.{◌≡◌, ℕ, true, false, refl, sym, ◌∙◌, arith, ℤ, pos, ◌+ℤ◌, ◌≤ℤ◌, ◌<ℤ◌}
+use Rattle.std.proofs.Common.{◌≡◌, ℕ, ◌≤◌, ◌<◌, true, false, min, nat_lt, refl, sym, ap, ◌∙◌, arith, ℤ, pos, ◌+ℤ◌, ◌≤ℤ◌, ◌<ℤ◌}
 use Rattle.std.proofs.lemmas.Bool.{false≢true}
+use Rattle.std.proofs.lemmas.Bool.Decides.{nat_tests}
+use Rattle.chrono_datetime.specs.Recurrence.{count_between}
 use Rattle.chrono_datetime.proofs.Signed.{signed}
-use Rattle.chrono_rules.specs.Instances.{is_instance, is_member}
+use Rattle.chrono_rules.specs.Instances.{is_counted, is_instance, is_member}
 use Rattle.chrono_rules.specs.InstanceLists.{IsKept, may_follow, seen_before, seen_with}
+use Rattle.chrono_rules.specs.declared.rule.End.{End}
+use Rattle.chrono_rules.specs.declared.rule.End.TheVariants.{Never, Count, Until}
 use Rattle.chrono_rules.specs.declared.rule.Rule.{Rule}
-use Rattle.chrono_rules.proofs.Counts.{first_follows, none_follows, seen-kept}
+use Rattle.chrono_rules.proofs.Counts.{ended-later, first_follows, none_follows, not_counted, seen-kept}
 use Rattle.chrono_rules.proofs.Walks.{walk-seen}
 
 pub kept-counted : (r : Rule) (s a : ℤ) (seen : ℕ) → seen ≡ seen_before r.end r s a → IsKept r s a seen
 kept-counted r s a seen is = record { counted = λ may. is; ended = λ full d low. none_follows r s a d seen is full low }
+
+-- where a rule begins to keep: without COUNT nothing, and with one as many members as came before, but no more than that
+pub kept-never : (r : Rule) (s a : ℤ) → r.end ≡ Never → IsKept r s a 0
+unfolding seen_before
+kept-never r s a is = kept-counted r s a 0 (ap (λ f. seen_before f r s a) (sym is))
+
+pub kept-until : (r : Rule) (s a u : ℤ) → r.end ≡ Until u → IsKept r s a 0
+unfolding seen_before
+kept-until r s a u is = kept-counted r s a 0 (ap (λ f. seen_before f r s a) (sym is))
+
+few-follow : (f : End) (c n : ℕ) → f ≡ Count c → may_follow f n ≡ true → n < c
+unfolding may_follow
+few-follow f c n is may =
+    let less : nat_lt n c ≡ true = ap (λ f. may_follow f n) (sym is) ∙ may in
+    grind (arith, nat_tests, less)
+
+full-follow : (f : End) (c n : ℕ) → f ≡ Count c → may_follow f n ≡ false → c ≤ n
+unfolding may_follow
+full-follow f c n is full =
+    let more : nat_lt n c ≡ false = ap (λ f. may_follow f n) (sym is) ∙ full in
+    grind (arith, nat_tests, more)
+
+full-counted : (f : End) (r : Rule) (s a : ℤ) (c : ℕ) → f ≡ Count c → c ≤ count_between (is_member r s) s a → is_counted f r s a ≡ false
+unfolding is_counted
+full-counted f r s a c is full =
+    let more : nat_lt (count_between (is_member r s) s a) c ≡ false = grind (arith, nat_tests, full) in
+    ap (λ f. is_counted f r s a) is ∙ more
+
+count-seen : (f : End) (r : Rule) (s a : ℤ) (c : ℕ) → f ≡ Count c → seen_before f r s a ≡ count_between (is_member r s) s a
+unfolding seen_before
+count-seen f r s a c is = ap (λ f. seen_before f r s a) is
+
+pub kept-most : (r : Rule) (s a : ℤ) (c seen : ℕ) → r.end ≡ Count c → seen ≡ min c (count_between (is_member r s) s a) → IsKept r s a seen
+kept-most r s a c seen end is = record {
+  counted = λ may. let less = few-follow r.end c seen end may in omega (arith, less, is, count-seen r.end r s a c end);
+  ended = λ full d low.
+      let all = full-follow r.end c seen end full in
+      not_counted r s d (ended-later r.end r s a d low (full-counted r.end r s a c end (omega (arith, all, is))));
+}
 
 -- once no member may follow, nothing is to be kept
 pub kept-full : (r : Rule) (s a e : ℤ) (seen : ℕ) → IsKept r s a seen → may_follow r.end seen ≡ false → a ≤ℤ e → IsKept r s e seen

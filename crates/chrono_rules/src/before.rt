@@ -4,7 +4,6 @@ ghost use Rattle.chrono_datetime.specs.Days.{IsDate};
 ghost use Rattle.chrono_datetime.specs.Recurrence.{count_between};
 ghost use Rattle.chrono_rules.specs.Instances.{is_counted, is_instance, is_member};
 
-use crate::periods::moved;
 use crate::rule::{End, Rule};
 use chrono_datetime::{Datelike, NaiveDate};
 
@@ -32,20 +31,14 @@ impl Rule {
         ensures fewer { (d : ℤ) → start ≤ℤ d → d <ℤ result → count_between (is_member self.now start) start d < count }
         ensures full { (d : ℤ) → result ≤ℤ d → d <ℤ day → count ≤ count_between (is_member self.now start) start d }
     {
-        let end = day.num_days_from_ce();
-        if end <= start.num_days_from_ce() {
+        if day.num_days_from_ce() <= start.num_days_from_ce() {
             return day;
         }
-        let mut seen = 0;
-        let mut last = start;
-        while last.num_days_from_ce() < end {
-            if seen >= count {
-                return last;
-            }
-            seen = self.and_member(start, last, seen);
-            last = moved(last, 1);
+        let walked = self.first_members(start, day, count);
+        if walked.seen < count {
+            return day;
         }
-        last
+        walked.day
     }
 
     // The day up to which COUNT lets days be instances; `day` if that is earlier.

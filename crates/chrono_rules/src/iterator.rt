@@ -1,9 +1,11 @@
 //! `Instances`: the instances of a rule, one after another.
-ghost use Rattle.std.specs.Prelude.{◌≡◌, ◌≤◌, IfSome};
+ghost use Rattle.std.specs.Prelude.{◌≡◌, ◌≤◌, ◌≤ℤ◌, ◌<ℤ◌, ◌+ℤ◌, ℤ, pos, true, false, IfSome, IfNone};
 ghost use Rattle.std.specs.Iterator.{UpTo, YieldsFirst, item_count};
 ghost use Rattle.std.specs.Iterator.SizeHint.{IsWithinCount};
-ghost use Rattle.chrono_datetime.specs.Recurrence.{dates_before};
-ghost use Rattle.chrono_rules.specs.InstanceLists.{instances_from, may_follow, seen_before, seen_with};
+ghost use Rattle.chrono_datetime.specs.Days.{IsDate};
+ghost use Rattle.chrono_datetime.specs.Recurrence.{dates_before, past_last_date};
+ghost use Rattle.chrono_rules.specs.Instances.{is_instance};
+ghost use Rattle.chrono_rules.specs.InstanceLists.{IsKept, instances_from, may_follow, seen_with};
 
 use crate::rule::{End, Rule};
 use chrono_datetime::{Datelike, NaiveDate};
@@ -23,21 +25,21 @@ pub struct Instances {
     start: NaiveDate,
     // The day from which on instances are left.
     from: i32,
-    // Where the rule has COUNT, how many members came before that day.
+    // Where the rule has COUNT, how many members came before that day, or COUNT if it were more.
     seen: u32,
 }
 
 impl Model for Instances {
-    ghost use Rattle.std.specs.Prelude.{◌≡◌, ◌≤◌, ◌≤ℤ◌, List, ℤ};
+    ghost use Rattle.std.specs.Prelude.{◌≡◌, ◌≤◌, ◌≤ℤ◌, ◌<ℤ◌, List, ℤ};
     ghost use Rattle.chrono_datetime.specs.Recurrence.{dates_before, first_date, past_last_date};
-    ghost use Rattle.chrono_rules.specs.InstanceLists.{instances_from, seen_before};
+    ghost use Rattle.chrono_rules.specs.InstanceLists.{IsKept, instances_from};
 
     ghost Value = { List ℤ };
 
     ghost view = { λ it. instances_from it.rule it.start it.from };
 
     ghost invariant = { λ it. (first_date ≤ℤ it.from) × (it.from ≤ℤ past_last_date)
-        × (it.seen ≡ seen_before it.rule.end it.rule it.start it.from)
+        × (it.from <ℤ past_last_date → IsKept it.rule it.start it.from it.seen)
         × (it.seen ≤ dates_before it.from) };
 }
 
@@ -63,16 +65,15 @@ impl Rule {
         }
     }
 
-    // Where the rule has COUNT, how many members come before the day.
-    #[tactic(auto, unfolding(crate::specs::InstanceLists::seen_before))]
+    // What a walk from the day on keeps of the past: where the rule has COUNT, how many members come before it, but no more than that.
     pub(crate) fn seen_before(&self, start: NaiveDate, day: NaiveDate) -> u32
-        ensures value { result ≡ seen_before self.now.end self.now start day }
+        ensures kept { IsKept self.now start day result }
         ensures few { result ≤ dates_before day }
     {
         match self.end {
             End::Never => 0,
             End::Until(_) => 0,
-            End::Count(_) => self.count_members(start, day),
+            End::Count(count) => self.count_members(start, day, count),
         }
     }
 
@@ -102,6 +103,30 @@ impl Rule {
             End::Count(_) => seen + 1,
         }
     }
+
+    // The first instance from the date on, before which a walk has seen so many members.
+    pub(crate) fn first_instance(
+        &self,
+        start: NaiveDate,
+        date: NaiveDate,
+        seen: u32,
+    ) -> Option<NaiveDate>
+        requires kept { IsKept self.now start date seen }
+        requires date { IsDate date }
+        ensures member { IfSome result (λ e. is_instance self.now start e ≡ true) }
+        ensures not_before { IfSome result (λ e. date ≤ℤ e) }
+        ensures least { IfSome result (λ e. (d : ℤ) → date ≤ℤ d → d <ℤ e → is_instance self.now start d ≡ false) }
+        ensures up_to { IfSome result (λ e. (d : ℤ) → date ≤ℤ d → d ≤ℤ e → IsKept self.now start d seen) }
+        ensures behind { IfSome result (λ e. IsKept self.now start (e +ℤ pos 1) (seen_with self.now.end seen)) }
+        ensures none { IfNone result ((d : ℤ) → date ≤ℤ d → IsDate d → is_instance self.now start d ≡ false) }
+        ensures ended { IfNone result ((d : ℤ) → date ≤ℤ d → d ≤ℤ past_last_date → IsKept self.now start d seen) }
+    {
+        if !self.may_follow(seen) {
+            return None;
+        }
+        let day = self.first_member(start, date)?;
+        Some(day)
+    }
 }
 
 impl Iterator for Instances {
@@ -113,11 +138,8 @@ impl Iterator for Instances {
 
     /// The first of the instances that are left; `None` once none is.
     fn next(&mut self) -> Option<NaiveDate> {
-        if !self.rule.may_follow(self.seen) {
-            return None;
-        }
         let from = NaiveDate::from_num_days_from_ce_opt(self.from)?;
-        let Some(day) = self.rule.first_member(self.start, from) else {
+        let Some(day) = self.rule.first_instance(self.start, from, self.seen) else {
             self.from = PAST_LAST_DAY;
             return None;
         };

@@ -27,6 +27,7 @@ mod rule_parts;
 mod rule_text;
 mod skips;
 mod values;
+mod walked;
 mod weekday_text;
 mod written;
 mod year_text;

@@ -1,11 +1,10 @@
 //! The instances of a rule.
-ghost use Rattle.std.specs.Prelude.{◌≡◌, ◌≤◌, ◌<◌, ◌+◌, if◌then◌else◌, ◌≤ℤ◌, ◌<ℤ◌, ◌+ℤ◌, ℤ, neg_ℤ, pos, true, false, IsTrue, IfSome, IfNone};
+ghost use Rattle.std.specs.Prelude.{◌≡◌, ◌≤◌, ◌<◌, ◌+◌, min, if◌then◌else◌, ◌≤ℤ◌, ◌<ℤ◌, ◌+ℤ◌, ℤ, neg_ℤ, pos, true, false, IsTrue, IfSome, IfNone};
 ghost use Rattle.chrono_datetime.specs.Days.{IsDate};
 ghost use Rattle.chrono_datetime.specs.Recurrence.{count_between, dates_before};
 ghost use Rattle.chrono_rules.specs.Instances.{date_passes, in_positions, is_counted, is_instance, is_member, period_end, period_first};
 
 use crate::parts::days_of_year;
-use crate::periods::moved;
 use crate::rule::{End, Frequency, Rule};
 use chrono_datetime::{Datelike, NaiveDate};
 
@@ -148,34 +147,39 @@ impl Rule {
         }
     }
 
-    // How many members lie from the start to before the date.
-    pub(crate) fn count_members(&self, start: NaiveDate, date: NaiveDate) -> u32
-        ensures value { result ≡ count_between (is_member self.now start) start date }
+    // How many members lie from the start to before the date, but at most so many.
+    pub(crate) fn count_members(&self, start: NaiveDate, date: NaiveDate, most: u32) -> u32
+        ensures value { result ≡ min most (count_between (is_member self.now start) start date) }
         ensures few { result ≤ dates_before date }
     {
-        let end = date.num_days_from_ce();
-        if end <= start.num_days_from_ce() {
+        if date.num_days_from_ce() <= start.num_days_from_ce() {
             return 0;
         }
-        let mut count = 0;
-        let mut day = start;
-        while day.num_days_from_ce() < end {
-            count = self.and_member(start, day, count);
-            day = moved(day, 1);
+        let walked = self.first_members(start, date, most);
+        walked.seen
+    }
+
+    // How many members lie from the start up to the date, but at most so many.
+    fn count_members_to(&self, start: NaiveDate, date: NaiveDate, most: u32) -> u32
+        ensures value { result ≡ min most (count_between (is_member self.now start) start (date +ℤ pos 1)) }
+        ensures few { result ≤ 1_000_000_000 }
+    {
+        let before = self.count_members(start, date, most);
+        if before < most {
+            self.and_member(start, date, before)
+        } else {
+            before
         }
-        count
     }
 
     /// How many instances lie from the start up to the date, itself counted if it is one.
     pub fn count_to(&self, start: NaiveDate, date: NaiveDate) -> u32
         ensures { result ≡ count_between (is_instance self.now start) start (date +ℤ pos 1) }
     {
-        let members = self.and_member(start, date, self.count_members(start, date));
         match self.end {
-            End::Never => members,
-            End::Until(_) => members,
-            End::Count(count) if count < members => count,
-            End::Count(_) => members,
+            End::Never => self.count_members_to(start, date, u32::MAX),
+            End::Until(_) => self.count_members_to(start, date, u32::MAX),
+            End::Count(count) => self.count_members_to(start, date, count),
         }
     }
 
@@ -188,7 +192,7 @@ impl Rule {
         match self.end {
             End::Never => true,
             End::Until(_) => true,
-            End::Count(count) => self.count_members(start, date) < count,
+            End::Count(count) => self.count_members(start, date, count) < count,
         }
     }
 

@@ -145,16 +145,19 @@ impl Rule {
         self.passed_by_position(start, day)
     }
 
-    // The number of the day from which on no date is a member: that after UNTIL, or that after the last date.
+    // The number of the day before which the members before a day lie: of that day, or of the one after UNTIL.
     #[inline]
-    #[tactic(auto, unfolding(crate::specs::Instances::not_after))]
-    fn end_day(&self) -> i32
-        ensures behind { (start : ℤ) (d : ℤ) → result ≤ℤ d → IsDate d → is_member self.now start d ≡ false }
+    pub(crate) fn end_before(&self, end: i32) -> i32
+        ensures not_behind { result ≤ℤ end }
+        ensures behind { (start : ℤ) (d : ℤ) → result ≤ℤ d → d <ℤ end → is_member self.now start d ≡ false }
     {
         match self.end {
-            End::Never => PAST_LAST_DAY,
-            End::Count(_) => PAST_LAST_DAY,
-            End::Until(last) => last.num_days_from_ce() + 1,
+            End::Never => end,
+            End::Count(_) => end,
+            End::Until(last) => {
+                let behind = last.num_days_from_ce() + 1;
+                if behind < end { behind } else { end }
+            }
         }
     }
 
@@ -204,10 +207,11 @@ impl Rule {
         ensures least { IfSome result (λ e. (d : ℤ) → date ≤ℤ d → d <ℤ e → is_member self.now start d ≡ false) }
         ensures none { IfNone result ((d : ℤ) → date ≤ℤ d → d <ℤ end → IsDate d → is_member self.now start d ≡ false) }
     {
-        let first = self.candidate(start, date, end)?;
+        let last = self.end_before(end);
+        let first = self.candidate(start, date, last)?;
         let mut day = first;
         while !self.is_member(start, day) {
-            day = self.later(start, day, end)?;
+            day = self.later(start, day, last)?;
         }
         Some(day)
     }
@@ -220,7 +224,7 @@ impl Rule {
         ensures least { IfSome result (λ e. (d : ℤ) → date ≤ℤ d → d <ℤ e → is_member self.now start d ≡ false) }
         ensures none { IfNone result ((d : ℤ) → date ≤ℤ d → IsDate d → is_member self.now start d ≡ false) }
     {
-        self.first_member_before(start, date, self.end_day())
+        self.first_member_before(start, date, PAST_LAST_DAY)
     }
 }
 

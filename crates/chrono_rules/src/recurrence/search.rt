@@ -18,27 +18,6 @@ pub(crate) struct Found {
     pub(crate) seen: u32,
 }
 
-impl Rule {
-    // The first instance from the date on, before which a walk has seen so many members.
-    fn first_instance(&self, start: NaiveDate, date: NaiveDate, seen: u32) -> Option<NaiveDate>
-        requires kept { IsKept self.now start date seen }
-        requires date { IsDate date }
-        ensures member { IfSome result (λ e. is_instance self.now start e ≡ true) }
-        ensures not_before { IfSome result (λ e. date ≤ℤ e) }
-        ensures least { IfSome result (λ e. (d : ℤ) → date ≤ℤ d → d <ℤ e → is_instance self.now start d ≡ false) }
-        ensures up_to { IfSome result (λ e. (d : ℤ) → date ≤ℤ d → d ≤ℤ e → IsKept self.now start d seen) }
-        ensures behind { IfSome result (λ e. IsKept self.now start (e +ℤ pos 1) (seen_with self.now.end seen)) }
-        ensures none { IfNone result ((d : ℤ) → date ≤ℤ d → IsDate d → is_instance self.now start d ≡ false) }
-        ensures ended { IfNone result ((d : ℤ) → date ≤ℤ d → d ≤ℤ past_last_date → IsKept self.now start d seen) }
-    {
-        if !self.may_follow(seen) {
-            return None;
-        }
-        let day = self.first_member(start, date)?;
-        Some(day)
-    }
-}
-
 impl<'a> Recurrence<'a> {
     // The first day from the date on that is an instance of the rule or a date beside it.
     fn first_given(&self, date: NaiveDate, seen: u32) -> Option<Found>

@@ -3,18 +3,10 @@ use Rattle.std.proofs.lemmas.Int.{by_lt_z}
 use Rattle.chrono_datetime.specs.Days.{IsDate}
 use Rattle.chrono_datetime.specs.Recurrence.{past_last_date}
 use Rattle.chrono_datetime.proofs.Signed.{casts, signed}
-use Rattle.chrono_rules.specs.InstanceLists.{instances_from, seen_before}
-use Rattle.chrono_rules.proofs.Counts.{seen-kept}
+use Rattle.chrono_rules.specs.InstanceLists.{instances_from}
 use Rattle.chrono_rules.proofs.DayLists.{first-goes}
-use Rattle.chrono_rules.proofs.Walks.{seen_with-few, walk-ended, walk-first, walk-none, walk-past, walk-seen}
+use Rattle.chrono_rules.proofs.Walks.{seen_with-few, walk-first, walk-none, walk-past}
 use Rattle.chrono_rules.proofs.iterator.InstancesIterator.next.Goals as goal
-
-pub returns-then-not-may_follow-clause-steps : goal.returns-then-not-may_follow-clause-steps
-returns-then-not-may_follow-clause-steps c =
-    let it = c.self.inside in
-    let inv = c.self.invariant in
-    let none = sym c.self.view_is ∙ walk-ended it.rule it.start it.from it.seen (inv.0, inv.1) inv.2 (sym c.may_follow.ensures ∙ c.if-not-may_follow.true) in
-    (none, none)
 
 -- there is a date with each number before that behind the last
 pub returns-in_err-from-clause-steps : goal.returns-in_err-from-clause-steps
@@ -26,17 +18,6 @@ returns-in_err-from-clause-steps c =
     (λ ge. ge) in
     let none = sym c.self.view_is ∙ walk-past it.rule it.start it.from (inv.0, inv.1) past in
     rw c.from_residual.ensures (none, none)
-
-pub invariant_of-self : goal.invariant_of-self
-invariant_of-self c =
-    let it = c.self.inside in
-    let inv = c.self.invariant in (
-      omega (arith, signed),
-      omega (arith, signed),
-      inv.2 ∙ sym (seen-kept it.rule.end it.rule it.start it.from past_last_date inv.1
-          (λ d low high. c.in_default.ensures.none d (omega (arith, casts, inv.0, low, c.in_ok-from.ensures.number)) (omega (arith, signed, inv.0, low), omega (arith, signed, high)))),
-      omega (arith, signed, inv.1, inv.3),
-    )
 
 pub returns-in_default-clause-steps : goal.returns-in_default-clause-steps
 returns-in_default-clause-steps c =
@@ -58,11 +39,10 @@ invariant_of-self-2 c =
     let day = c.num_days_from_ce.ensures in
     let found = c.in-Some.ensures in
     let from : c.in_ok-from.from ≡ it.from = omega (arith, casts, inv.0, inv.1, c.in_ok-from.ensures.number) in
-    let low : it.from ≤ℤ c.in-Some.day = omega (arith, signed, from, found.not_before) in
-    let seen = walk-seen it.rule it.start it.from c.in-Some.day (c.in-Some.day +ℤ pos 1) it.seen c.seen_with-self-inside.result inv.2 c.seen_with-self-inside.ensures low refl found.member (rw from at found.least) in (
+    let low : it.from ≤ℤ c.in-Some.day = omega (arith, signed, from, found.not_before) in (
       omega (arith, casts, day.value, day.in_range),
       omega (arith, casts, day.value, day.in_range),
-      seen ∙ ap (λ (d : ℤ). seen_before it.rule.end it.rule it.start d) (sym (next_day c.num_days_from_ce.result c.in-Some.day day.value day.in_range)),
+      λ lt. rw (next_day c.num_days_from_ce.result c.in-Some.day day.value day.in_range, c.seen_with-self-inside.ensures) found.behind,
       omega (arith, casts, day.value, day.in_range, low, inv.0, inv.3, c.seen_with-self-inside.ensures, seen_with-few it.rule.end it.seen),
     )
 
@@ -72,12 +52,13 @@ returns-clause-steps c =
     let inv = c.self.invariant in
     let day = c.num_days_from_ce.ensures in
     let found = c.in-Some.ensures in
+    let e : ℤ = c.in-Some.day in
     let from : c.in_ok-from.from ≡ it.from = omega (arith, casts, inv.0, inv.1, c.in_ok-from.ensures.number) in
-    let low : it.from ≤ℤ c.in-Some.day = omega (arith, signed, from, found.not_before) in
-    let date : IsDate c.in-Some.day = (omega (arith, signed, day.value, day.in_range), omega (arith, signed, day.value, day.in_range)) in
+    let low : it.from ≤ℤ e = omega (arith, signed, from, found.not_before) in
+    let date : IsDate e = (omega (arith, signed, day.value, day.in_range), omega (arith, signed, day.value, day.in_range)) in
     sym c.self.view_is
-    ∙ (walk-first it.rule it.start it.from c.in-Some.day (c.in-Some.day +ℤ pos 1) it.seen inv.2 (sym c.may_follow.ensures ∙ c.if-not-may_follow.false) low date refl found.member (rw from at found.least)
-    ∙ ap (λ (d : ℤ). c.in-Some.day ∷ instances_from it.rule it.start d) (sym (next_day c.num_days_from_ce.result c.in-Some.day day.value day.in_range)))
+    ∙ (walk-first it.rule it.start it.from e (e +ℤ pos 1) low date refl found.member (rw from at found.least)
+    ∙ ap (λ (d : ℤ). e ∷ instances_from it.rule it.start d) (sym (next_day c.num_days_from_ce.result e day.value day.in_range)))
 
 pub returns-clause-goes : goal.returns-clause-goes
 returns-clause-goes c = first-goes _ _ _ (returns-clause-steps c)

@@ -2,7 +2,6 @@ use Rattle.std.proofs.Common.{◌≡◌, subst, arith, to_z, of_z, w32}
 use Rattle.chrono_datetime.proofs.Signed.{casts}
 use Rattle.chrono_rules.specs.InstanceLists.{IsKept}
 use Rattle.chrono_rules.specs.RecurrenceSets.{RecurrenceSet}
-use Rattle.chrono_rules.proofs.Kept.{kept-counted}
 use Rattle.chrono_rules.proofs.recurrence.Recurrence.iter_from.Goals as goal
 
 pub invariant_of-result : goal.invariant_of-result
@@ -10,7 +9,7 @@ invariant_of-result c =
     let day = c.num_days_from_ce.ensures in
     let number : to_z w32 (of_z w32 c.num_days_from_ce.result) ≡ c.args.day = omega (arith, casts, day.value, day.in_range) in
     let kept : IsKept c.args.self.now.rule c.args.self.now.start c.args.day c.seen_before.result =
-    subst (λ (v : RecurrenceSet). IsKept v.rule v.start c.args.day c.seen_before.result) c.self.view_is (kept-counted _ _ _ _ c.seen_before.ensures.value) in (
+    subst (λ (v : RecurrenceSet). IsKept v.rule v.start c.args.day c.seen_before.result) c.self.view_is c.seen_before.ensures.kept in (
       omega (arith, casts, day.value, day.in_range),
       omega (arith, casts, day.value, day.in_range),
       λ lt. rw number kept,
