@@ -22,7 +22,8 @@ pub(crate) fn answer_each<R: Alloc + Print + Eprint + Input + Files>(
     wrong: Wrong,
 ) -> io::Result<u8> {
     if let Some(place) = place_left_out(rt, words.as_slice())? {
-        words.insert(place, String::from_str(rt.alloc(), "-")?)?;
+        let end = words.len();
+        words.insert(place.min(end), String::from_str(rt.alloc(), "-")?)?;
     }
     match place_of_lines(words.as_slice()) {
         Some(place) => answer_at(rt, form, words.as_slice(), place),
@@ -65,7 +66,9 @@ fn answer_at(
     words: &[String<impl Allocator>],
     place: usize,
 ) -> io::Result<u8> {
-    let (front, back) = (&words[..place], &words[place + 1..]);
+    let end = words.len();
+    let front = &words[..place.min(end)];
+    let back = &words[place.saturating_add(1).min(end)..];
     if let Err(wrong) = asked_of_lines(rt, front, back)? {
         return refuse(rt, form, words, wrong);
     }

@@ -30,11 +30,9 @@ pub(crate) fn refuse(
     let Some(word) = words.get(wrong.place.saturating_sub(1)) else {
         return refuse_word(rt, "which is missing", wrong);
     };
+    let place = wrong.place;
     match wrong.why {
-        Why::Day(why) => {
-            let key = key_asked(words);
-            refuse_day(rt, form, key, word.as_str(), wrong, why)
-        }
+        Why::Day(why) => refuse_day(rt, form, key_asked(words), word.as_str(), place, why),
         Why::Schedule => refuse_schedule(rt, word.as_str(), wrong),
         Why::Rule => refuse_rule(rt, word.as_str(), wrong),
         _ => refuse_word(rt, word.as_str(), wrong),
@@ -47,7 +45,7 @@ fn refuse_day(
     form: Form,
     key: &str,
     word: &str,
-    wrong: Wrong,
+    place: usize,
     why: NoDay,
 ) -> io::Result<u8> {
     match why {
@@ -56,7 +54,13 @@ fn refuse_day(
             eprintln!(rt; "{word}: {}", DaysOfMonth { first })?;
             Ok(NONE)
         }
-        NoDay::Form => refuse_word(rt, word, wrong),
+        NoDay::Form => {
+            let wrong = Wrong {
+                place,
+                why: Why::Day(why),
+            };
+            refuse_word(rt, word, wrong)
+        }
     }
 }
 
