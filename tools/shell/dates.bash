@@ -3,20 +3,20 @@ _dates()
 {
     local word=${COMP_WORDS[COMP_CWORD]}
     if [ "$COMP_CWORD" -eq 1 ]; then
-        COMPREPLY=($(compgen -W '- add diff seq week easter leap open roll check next prev rule cal --help --version' -- "$word"))
+        COMPREPLY=($(compgen -W '- add diff seq week easter leap open roll check next prev rule cal --json --help --version' -- "$word"))
         return
     fi
     case ${COMP_WORDS[1]} in
-    add) COMPREPLY=($(compgen -W '--weekend --calendar --holidays --help' -- "$word")) ;;
-    diff) COMPREPLY=($(compgen -W '--weekend --calendar --holidays --help' -- "$word")) ;;
-    open) COMPREPLY=($(compgen -W '--weekend --calendar --holidays --help' -- "$word")) ;;
-    roll) COMPREPLY=($(compgen -W '--weekend --calendar --holidays --help' -- "$word")) ;;
-    next) COMPREPLY=($(compgen -W '--from --count --help' -- "$word")) ;;
-    prev) COMPREPLY=($(compgen -W '--from --count --help' -- "$word")) ;;
-    rule) COMPREPLY=($(compgen -W '--start --from --count --help' -- "$word")) ;;
-    cal) COMPREPLY=($(compgen -W '--first --weekend --calendar --holidays --help' -- "$word")) ;;
-    check) COMPREPLY=($(compgen -f -- "$word")) ;;
-    *) COMPREPLY=($(compgen -W '--help' -- "$word")) ;;
+    add) COMPREPLY=($(compgen -W '--weekend --calendar --holidays --json --help' -- "$word")) ;;
+    diff) COMPREPLY=($(compgen -W '--weekend --calendar --holidays --json --help' -- "$word")) ;;
+    open) COMPREPLY=($(compgen -W '--weekend --calendar --holidays --json --help' -- "$word")) ;;
+    roll) COMPREPLY=($(compgen -W '--weekend --calendar --holidays --json --help' -- "$word")) ;;
+    next) COMPREPLY=($(compgen -W '--from --count --json --help' -- "$word")) ;;
+    prev) COMPREPLY=($(compgen -W '--from --count --json --help' -- "$word")) ;;
+    rule) COMPREPLY=($(compgen -W '--start --from --count --json --help' -- "$word")) ;;
+    cal) COMPREPLY=($(compgen -W '--first --weekend --calendar --holidays --json --help' -- "$word")) ;;
+    check) COMPREPLY=($(compgen -f -W '--json --help' -- "$word")) ;;
+    *) COMPREPLY=($(compgen -W '--json --help' -- "$word")) ;;
     esac
 }
 complete -o default -F _dates dates

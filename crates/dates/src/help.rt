@@ -33,6 +33,7 @@ const LINES: &str = "dates -\n\
     each line of standard input by all its names\n\
     \n\
     With no argument too. A line that is no day is answered by none.\n\
+    So it is with add, diff, open and roll, where - stands for a day or the day is left out.\n\
     \n\
     $ printf '2024-W09-4\\nsoon\\n' | dates -\n\
     2024-02-29 2024-060 2024-W09-4 Thu 738945 19782\n\
