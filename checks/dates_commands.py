@@ -397,6 +397,8 @@ def due_moments(schedule, start, count, back):
 
 def of_due(chance, files):
     text, back, start = cron.schedule_text(chance), chance.random() < 0.4, any_moment(chance)
+    if re.search(r"L-0\b", text):
+        return of_due(chance, files)
     if text == "0 0 30 2 *":
         moments, count = [], chance.choice((None, 1, 5))
     else:
@@ -581,6 +583,13 @@ def with_no_such_day(chance, asked):
     return Asked(words, asked.kinds, asked.needed, ["none"], [{key: None}], 1, f"{bad}: {reason}", asked.given)
 
 
+def asks_of_lines(words):
+    """Whether the words ask for lines of standard input, by `-` in the place of a day or by a day that is left out: checks/dates.py tries these."""
+    if words[:1] == ["diff"]:
+        return len(words) == 2 or "-" in words[1:3]
+    return words == ["open"] or words[:1] in (["add"], ["open"], ["roll"]) and words[1:2] == ["-"]
+
+
 SPOILERS = (with_wrong_word, with_wrong_word, with_words_missing, with_a_word_more, with_no_such_day)
 MAKERS = {of_day: 10, of_lines: 4, of_add: 16, of_diff: 16, of_seq: 10, of_week: 4, of_easter: 4, of_leap: 3, of_open: 8, of_roll: 9, of_check: 5, of_due: 9, of_rule: 9, of_cal: 5}
 
@@ -592,7 +601,7 @@ def commands(chance, files, count):
         asked = chance.choices(list(MAKERS), list(MAKERS.values()))[0](chance, files)
         if asked.words and chance.random() < 0.2:
             asked = chance.choice(SPOILERS)(chance, asked)
-        if asked:
+        if asked and not asks_of_lines(asked.words):
             made.append(asked)
     return made
 

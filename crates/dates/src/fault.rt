@@ -151,7 +151,7 @@ const CONVENTIONS: &str =
 pub(crate) fn key_asked(words: &[String<impl Allocator>]) -> &'static str {
     match words {
         [command, ..] if command.as_str() == "open" => "open",
-        [command, _, _, _, measure] if command.as_str() == "diff" => key_of_measure(
+        [command, _, _, _, measure, ..] if command.as_str() == "diff" => key_of_measure(
             measure.as_str(),
         ),
         [command, ..] if command.as_str() == "diff" => "days",
