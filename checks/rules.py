@@ -45,7 +45,7 @@ PLACES = {
 # The cases of a match that is a step.
 MANY = 13
 
-IGNORED = re.compile(r"""//[^\n]*|b?"(?:\\.|[^"\\])*"|b?'(?:\\.|[^'\\])'|\#!?\[[^\]]*\]""")
+IGNORED = re.compile(r"""//[^\n]*|b?"(?:\\[\s\S]|[^"\\])*"|b?'(?:\\.|[^'\\])'|\#!?\[[^\]]*\]""")
 CLAUSE = re.compile(r"\b(?:requires|ensures)(?:\s+\w+)?\s*$")
 ARRAY = re.compile(r"^ *(pub\S* )?(?:const|static) (\w+): [^=]*\[[^=]*=", re.M)
 # A call of a name, but of none of a machine's number.
