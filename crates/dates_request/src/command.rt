@@ -2,6 +2,8 @@
 ghost use Rattle.std.specs.Prelude.{◌≡◌};
 ghost use Rattle.dates_request.specs.Requests.{command_named};
 
+use crate::name::is_named;
+
 /// What the first argument names, where it names no day.
 #[derive(Clone, Copy, Debug, PartialEq, Eq)]
 pub enum Command {
@@ -44,23 +46,39 @@ pub enum Command {
 pub(crate) fn command_named(word: &[u8]) -> Option<Command>
     ensures { result ≡ command_named word.now }
 {
-    match word {
-        b"-" => Some(Command::Lines),
-        b"--help" => Some(Command::Help),
-        b"--version" => Some(Command::Version),
-        b"add" => Some(Command::Add),
-        b"diff" => Some(Command::Diff),
-        b"seq" => Some(Command::Seq),
-        b"week" => Some(Command::Week),
-        b"easter" => Some(Command::Easter),
-        b"leap" => Some(Command::Leap),
-        b"open" => Some(Command::Open),
-        b"roll" => Some(Command::Roll),
-        b"check" => Some(Command::Check),
-        b"next" => Some(Command::Next),
-        b"prev" => Some(Command::Prev),
-        b"cal" => Some(Command::Cal),
-        b"rule" => Some(Command::Rule),
-        _ => None,
+    if is_named(word, b"-") {
+        Some(Command::Lines)
+    } else if is_named(word, b"--help") {
+        Some(Command::Help)
+    } else if is_named(word, b"--version") {
+        Some(Command::Version)
+    } else if is_named(word, b"add") {
+        Some(Command::Add)
+    } else if is_named(word, b"diff") {
+        Some(Command::Diff)
+    } else if is_named(word, b"seq") {
+        Some(Command::Seq)
+    } else if is_named(word, b"week") {
+        Some(Command::Week)
+    } else if is_named(word, b"easter") {
+        Some(Command::Easter)
+    } else if is_named(word, b"leap") {
+        Some(Command::Leap)
+    } else if is_named(word, b"open") {
+        Some(Command::Open)
+    } else if is_named(word, b"roll") {
+        Some(Command::Roll)
+    } else if is_named(word, b"check") {
+        Some(Command::Check)
+    } else if is_named(word, b"next") {
+        Some(Command::Next)
+    } else if is_named(word, b"prev") {
+        Some(Command::Prev)
+    } else if is_named(word, b"cal") {
+        Some(Command::Cal)
+    } else if is_named(word, b"rule") {
+        Some(Command::Rule)
+    } else {
+        None
     }
 }

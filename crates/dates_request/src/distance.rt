@@ -5,6 +5,7 @@ ghost use Rattle.dates_request.specs.DistanceRequests.{AreOpenDays, InMeasure, I
 ghost use Rattle.dates_request.specs.Requests.{texts};
 ghost use Rattle.dates_request.specs.declared.request.Request.{Request};
 
+use crate::name::is_named;
 use crate::options::{NO_OPTIONS, options_at};
 use crate::request::Request;
 use crate::span::Unit;
@@ -105,13 +106,19 @@ fn open_days(from: NaiveDate, to: NaiveDate, words: &[&[u8]]) -> Result<Request,
 fn measure_named(word: &[u8]) -> Option<Measure>
     ensures { result ≡ measure_named word.now }
 {
-    match word {
-        b"d" => Some(Measure::Whole(Unit::Days)),
-        b"w" => Some(Measure::Whole(Unit::Weeks)),
-        b"m" => Some(Measure::Whole(Unit::Months)),
-        b"y" => Some(Measure::Whole(Unit::Years)),
-        b"b" => Some(Measure::OpenDays),
-        b"ymd" => Some(Measure::Parts),
-        _ => None,
+    if is_named(word, b"d") {
+        Some(Measure::Whole(Unit::Days))
+    } else if is_named(word, b"w") {
+        Some(Measure::Whole(Unit::Weeks))
+    } else if is_named(word, b"m") {
+        Some(Measure::Whole(Unit::Months))
+    } else if is_named(word, b"y") {
+        Some(Measure::Whole(Unit::Years))
+    } else if is_named(word, b"b") {
+        Some(Measure::OpenDays)
+    } else if is_named(word, b"ymd") {
+        Some(Measure::Parts)
+    } else {
+        None
     }
 }

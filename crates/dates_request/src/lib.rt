@@ -10,6 +10,7 @@ mod due;
 mod form;
 mod moment;
 mod moves;
+mod name;
 mod open;
 mod option;
 mod options;

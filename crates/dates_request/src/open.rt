@@ -6,6 +6,7 @@ ghost use Rattle.dates_request.specs.declared.open.Convention.{Convention};
 ghost use Rattle.dates_request.specs.declared.request.Request.{Request};
 
 use crate::day::NoDay;
+use crate::name::is_named;
 use crate::options::{NO_OPTIONS, options_at};
 use crate::request::Request;
 use crate::word::day_at;
@@ -100,13 +101,19 @@ fn convention_at(place: usize, word: &[u8]) -> Result<Convention, Wrong>
 fn convention_named(word: &[u8]) -> Option<Convention>
     ensures { result ≡ convention_named word.now }
 {
-    match word {
-        b"unadjusted" => Some(Convention::Unadjusted),
-        b"following" => Some(Convention::Following),
-        b"preceding" => Some(Convention::Preceding),
-        b"modified-following" => Some(Convention::ModifiedFollowing),
-        b"modified-preceding" => Some(Convention::ModifiedPreceding),
-        b"nearest" => Some(Convention::Nearest),
-        _ => None,
+    if is_named(word, b"unadjusted") {
+        Some(Convention::Unadjusted)
+    } else if is_named(word, b"following") {
+        Some(Convention::Following)
+    } else if is_named(word, b"preceding") {
+        Some(Convention::Preceding)
+    } else if is_named(word, b"modified-following") {
+        Some(Convention::ModifiedFollowing)
+    } else if is_named(word, b"modified-preceding") {
+        Some(Convention::ModifiedPreceding)
+    } else if is_named(word, b"nearest") {
+        Some(Convention::Nearest)
+    } else {
+        None
     }
 }

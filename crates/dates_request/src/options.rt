@@ -5,6 +5,7 @@ ghost use Rattle.dates_request.specs.OptionTexts.{AreOptions, AreTwoDays, GivesC
 ghost use Rattle.dates_request.specs.Requests.{texts};
 ghost use Rattle.dates_request.specs.declared.options.Options.{Options};
 
+use crate::name::is_named;
 use crate::wrong::{Why, Wrong};
 use chrono_datetime::{Weekday, WeekdaySet};
 
@@ -261,15 +262,22 @@ fn two_days(text: &[u8]) -> Option<WeekdaySet>
 pub(crate) fn weekday_named(word: &[u8]) -> Option<Weekday>
     ensures { result ≡ weekday_named word.now }
 {
-    match word {
-        b"mon" => Some(Weekday::Mon),
-        b"tue" => Some(Weekday::Tue),
-        b"wed" => Some(Weekday::Wed),
-        b"thu" => Some(Weekday::Thu),
-        b"fri" => Some(Weekday::Fri),
-        b"sat" => Some(Weekday::Sat),
-        b"sun" => Some(Weekday::Sun),
-        _ => None,
+    if is_named(word, b"mon") {
+        Some(Weekday::Mon)
+    } else if is_named(word, b"tue") {
+        Some(Weekday::Tue)
+    } else if is_named(word, b"wed") {
+        Some(Weekday::Wed)
+    } else if is_named(word, b"thu") {
+        Some(Weekday::Thu)
+    } else if is_named(word, b"fri") {
+        Some(Weekday::Fri)
+    } else if is_named(word, b"sat") {
+        Some(Weekday::Sat)
+    } else if is_named(word, b"sun") {
+        Some(Weekday::Sun)
+    } else {
+        None
     }
 }
 
@@ -278,11 +286,14 @@ pub(crate) fn weekday_named(word: &[u8]) -> Option<Weekday>
 fn calendar_named(word: &[u8]) -> Option<HolidayCalendar>
     ensures { result ≡ calendar_named word.now }
 {
-    match word {
-        b"us-federal" => Some(HolidayCalendar::UsFederal),
-        b"target" => Some(HolidayCalendar::Target),
-        b"england" => Some(HolidayCalendar::England),
-        _ => None,
+    if is_named(word, b"us-federal") {
+        Some(HolidayCalendar::UsFederal)
+    } else if is_named(word, b"target") {
+        Some(HolidayCalendar::Target)
+    } else if is_named(word, b"england") {
+        Some(HolidayCalendar::England)
+    } else {
+        None
     }
 }
 
@@ -291,10 +302,13 @@ fn calendar_named(word: &[u8]) -> Option<HolidayCalendar>
 pub(crate) fn option_named(word: &[u8]) -> Option<OptionName>
     ensures { result ≡ option_named word.now }
 {
-    match word {
-        b"--weekend" => Some(OptionName::Weekend),
-        b"--calendar" => Some(OptionName::Calendar),
-        b"--holidays" => Some(OptionName::Holidays),
-        _ => None,
+    if is_named(word, b"--weekend") {
+        Some(OptionName::Weekend)
+    } else if is_named(word, b"--calendar") {
+        Some(OptionName::Calendar)
+    } else if is_named(word, b"--holidays") {
+        Some(OptionName::Holidays)
+    } else {
+        None
     }
 }

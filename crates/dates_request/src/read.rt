@@ -1,5 +1,5 @@
 //! The request that arguments make.
-ghost use Rattle.std.specs.Prelude.{◌≡◌, ◌∷◌, [], ℤ, Ok, Some, IfOk, bytes_eq, codes};
+ghost use Rattle.std.specs.Prelude.{◌≡◌, ◌∷◌, [], ℤ, Ok, Some, IfOk};
 ghost use Rattle.dates_request.specs.declared.request.Request.{Request};
 ghost use Rattle.dates_request.specs.declared.request.Request.TheVariants as request;
 ghost use Rattle.dates_request.specs.declared.command.Command.TheVariants as command;
@@ -12,6 +12,7 @@ use crate::command::{Command, command_named};
 use crate::day::NoDay;
 use crate::diff::diff;
 use crate::due::due;
+use crate::name::is_named;
 use crate::open::{open, roll};
 use crate::recurrence::recurrence;
 use crate::request::Request;
@@ -66,17 +67,9 @@ fn is_help_alone(words: &[&[u8]]) -> bool
     ensures { result ≡ is_help_alone (texts words.now) }
 {
     match words {
-        [word] => is_help(word),
+        [word] => is_named(word, b"--help"),
         _ => false,
     }
-}
-
-// Whether the word is `--help`.
-fn is_help(word: &[u8]) -> bool
-    ensures { result ≡ bytes_eq word.now (codes "--help") }
-{
-    let name: &[u8] = b"--help";
-    word == name
 }
 
 // What a command asks for with the words behind it.

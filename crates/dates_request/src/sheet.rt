@@ -7,6 +7,7 @@ ghost use Rattle.dates_request.specs.declared.sheet.SheetOptions.{SheetOptions};
 ghost use Rattle.dates_request.specs.declared.sheet.SheetTime.{SheetTime};
 
 use crate::day::joined;
+use crate::name::is_named;
 use crate::options::{NO_OPTIONS, Options, option_at, weekday_named, without_value};
 use crate::request::Request;
 use crate::word::year_at;
@@ -111,7 +112,7 @@ fn sheet_options_at(
 
 // The fault where one word stands alone: it is no option, or its value is missing.
 fn without_sheet_value(place: usize, name: &[u8]) -> Wrong {
-    if is_start(name) {
+    if is_named(name, b"--first") {
         return wrong_at(place.saturating_add(1), Why::Weekday);
     }
     of_sheet(without_value(place, name))
@@ -125,14 +126,6 @@ fn of_sheet(wrong: Wrong) -> Wrong {
     }
 }
 
-// Whether the word is the name of the option that says where weeks begin.
-fn is_start(name: &[u8]) -> bool
-    ensures { result ≡ bytes_eq name.now (codes "--first") }
-{
-    let first: &[u8] = b"--first";
-    name == first
-}
-
 // The option at this place and its value, with so many words behind it, together with those that are given.
 fn sheet_option_at(
     place: usize,
@@ -144,7 +137,7 @@ fn sheet_option_at(
     ensures read { IfOk result (λ o. HasSheetValue (bytes_eq name.now (codes "--first")) name.now value.now behind given o) }
     ensures every { (o : SheetOptions) → HasSheetValue (bytes_eq name.now (codes "--first")) name.now value.now behind given o → result ≡ Ok o }
 {
-    if is_start(name) {
+    if is_named(name, b"--first") {
         with_start(place, value, given)
     } else {
         with_closed(place, name, value, behind, given)
