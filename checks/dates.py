@@ -3,14 +3,17 @@
 
 Builds `dates` by `rt run`, puts it on the path as `dates`, and compares output and exit status of each line behind `$`, but for spaces at a line's
 end and blank lines. The man page and the completion of tools/shell have to be those that tools/dates_help.py makes of the help, and the completion has to complete.
+The commands that a wrong first word is told of have to be those of the help, and the sessions at a terminal of checks/dates_terminal.py have to hold.
 """
 import os
+import re
 import subprocess
 import sys
 import tempfile
 
 sys.path.insert(0, os.path.join(os.path.dirname(os.path.dirname(os.path.abspath(__file__))), "tools"))
 import dates_help
+import dates_terminal
 
 TOP = os.path.dirname(os.path.dirname(os.path.abspath(__file__)))
 CRATE = os.path.join(TOP, "crates", "dates")
@@ -44,6 +47,13 @@ def apart(program):
     """The commands whose words and answer in the help of all are not those of their own help."""
     lines = {" ".join(line.split()) for line in dates_help.said(program, "--help").splitlines()}
     return [name for name in dates_help.commands(program) if " ".join(" ".join(dates_help.help_of(program, name)[:2]).split()) not in lines]
+
+
+def unnamed(program):
+    """The commands of the help that a wrong first word is not told of, and those that it is told of alone."""
+    told = subprocess.run([program, "no-command"], stdin=subprocess.DEVNULL, capture_output=True, text=True).stderr
+    named = re.split(", | or ", told.strip().partition("2024-02-29, ")[2])
+    return sorted(set(named) ^ {name for name in dates_help.commands(program) if name != "-"})
 
 
 def stale(program):
@@ -95,6 +105,14 @@ def main():
         for name in apart(program):
             failed += 1
             print(f"FAILED: {name} --help has other words or another answer than --help")
+        for name in unnamed(program):
+            failed += 1
+            print(f"FAILED: {name} is told of a wrong first word, or listed by --help, but not both")
+        sessions = dates_terminal.failures(program, place, f"{TOP}/tools/shell/dates.bash")
+        passed += 2 * len(dates_terminal.SESSIONS) - len(sessions)
+        failed += len(sessions)
+        for name in sessions:
+            print(f"FAILED: the session {name} at a terminal")
     print(f"{passed} passed, {failed} failed")
     return 1 if failed else 0
 
