@@ -3,12 +3,12 @@
 use crate::fault::{ANSWERED, NONE};
 use crate::print::{print_date, print_none};
 use chrono_datetime::{Datelike, NaiveDate};
-use dates_answer::moved;
+use dates_answer::sequence_day;
 use dates_request::{Form, Span, Unit};
 use std::io;
 
 // No more days lie between two dates.
-const MOST_DAYS: i64 = 191_491_529;
+const MOST_DAYS: u32 = 191_491_529;
 
 // The days from one to another, one after another, back where the second is the earlier.
 pub(crate) fn answer_days(
@@ -29,8 +29,7 @@ pub(crate) fn answer_days(
     answer_sequence(rt, form, from, to, step)
 }
 
-// The first day, moved by no span, one span, two and so on, as long as that is not past the second day; `none` where the first
-// day is past it.
+// The days of the sequence from the first day on, as long as they are not past the second day; `none` where the first day is past it.
 pub(crate) fn answer_sequence(
     rt: &impl Print,
     form: Form,
@@ -38,34 +37,15 @@ pub(crate) fn answer_sequence(
     to: NaiveDate,
     step: Span,
 ) -> io::Result<u8> {
-    for times in 0..MOST_DAYS {
-        let date = match moved_times(from, step, times) {
-            Some(date) if !is_past(date, to, step) => date,
-            _ => break,
+    for place in 0..MOST_DAYS {
+        let Some(date) = sequence_day(from, to, step, place) else {
+            break;
         };
         print_date(rt, form, date)?;
     }
-    if is_past(from, to, step) {
+    if sequence_day(from, to, step, 0).is_none() {
         print_none(rt, form, "date")?;
         return Ok(NONE);
     }
     Ok(ANSWERED)
-}
-
-// The date that is so many times a span away.
-fn moved_times(date: NaiveDate, step: Span, times: i64) -> Option<NaiveDate> {
-    let span = Span {
-        count: step.count.checked_mul(times)?,
-        unit: step.unit,
-    };
-    moved(date, span)
-}
-
-// Whether a date is past the end, in the span's direction.
-fn is_past(date: NaiveDate, end: NaiveDate, step: Span) -> bool {
-    if step.count < 0 {
-        date.num_days_from_ce() < end.num_days_from_ce()
-    } else {
-        date.num_days_from_ce() > end.num_days_from_ce()
-    }
 }

@@ -65,7 +65,7 @@ weeks from to z date also whole = record {
 }
 
 -- of two moves that come to dates that of fewer months comes to no later one
-no_later : (n k l a b : ℤ) → k ≤ℤ l → month_move n k ≡ Some a → month_move n l ≡ Some b → a ≤ℤ b
+pub no_later : (n k l a b : ℤ) → k ≤ℤ l → month_move n k ≡ Some a → month_move n l ≡ Some b → a ≤ℤ b
 no_later n k l a b le first second =
     by_lt_z k l (λ lt. omega (arith, signed, later_month a b (omega (arith, signed, lt, (month_move-parts n k a first).0, (month_move-parts n l b second).0))))
     (λ ge.
@@ -78,7 +78,7 @@ pub record FoundAt (n k : ℤ) (P : ℤ → Type 0) : Type 0 where
   pub is : month_move n k ≡ Some day
   pub known : P day
 
-found_at : (o : Option ℤ) (n k : ℤ) (P : ℤ → Type 0) → o ≡ month_move n k → IsSomeAnd o P → FoundAt n k P
+pub found_at : (o : Option ℤ) (n k : ℤ) (P : ℤ → Type 0) → o ≡ month_move n k → IsSomeAnd o P → FoundAt n k P
 found_at (Some m) n k P e p = record { day = m; is = sym e; known = p }
 found_at None n k P e p = elim p [ ]
 

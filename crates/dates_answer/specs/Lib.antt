@@ -1,3 +1,5 @@
 pub mod Moves
+pub mod Sequences
 pub mod Distances
+pub mod Parts
 pub mod Sheets

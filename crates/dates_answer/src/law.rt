@@ -3,6 +3,7 @@ ghost use Rattle.std.specs.Prelude.{◌≡◌, ◌∷◌, [], pos, neg_ℤ, Some
 ghost use Rattle.chrono_datetime.specs.declared.Weekday.TheVariants.{Mon, Sun};
 ghost use Rattle.dates_request.specs.declared.span.Unit.TheVariants.{Days, Months, Weeks, Years};
 ghost use Rattle.dates_answer.specs.Moves.{moved_from, unit_move};
+ghost use Rattle.dates_answer.specs.Sequences.{sequence_day};
 ghost use Rattle.dates_answer.specs.Sheets.{row_text, sheet_day};
 
 /// Days moved by spans, each day by its number: 31 January of the year 1 by a month is 28 February, 1 January by two weeks the 15th,
@@ -16,6 +17,15 @@ pub fn known_moves()
         ≡ Ok (pos 7) }
     ensures past { moved_from (record { count = neg_ℤ (pos 1); unit = Days } ∷ record { count = pos 2; unit = Days } ∷ []) 0 (pos 95_745_399)
         ≡ Err (record { step = 1; date = pos 95_745_398 }) }
+{}
+
+/// Days of sequences: by a month from 31 January of the year 1 there is 31 March at place 2, which may be the end, but not past it; by three
+/// days back from 10 January there is 4 January at place 2, and behind it none if that is the end.
+pub fn known_sequences()
+    ensures from_the_first { sequence_day (pos 31) (pos 90) (record { count = pos 1; unit = Months }) 2 ≡ Some (pos 90) }
+    ensures past_the_end { sequence_day (pos 31) (pos 89) (record { count = pos 1; unit = Months }) 2 ≡ None }
+    ensures back { sequence_day (pos 10) (pos 4) (record { count = neg_ℤ (pos 3); unit = Days }) 2 ≡ Some (pos 4) }
+    ensures back_past_the_end { sequence_day (pos 10) (pos 4) (record { count = neg_ℤ (pos 3); unit = Days }) 3 ≡ None }
 {}
 
 /// Cells of January of the year 1, which begins on a Monday, and a row.

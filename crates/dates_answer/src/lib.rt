@@ -4,10 +4,14 @@
 mod between;
 pub mod law;
 mod moves;
+mod parts;
 mod row;
+mod sequence;
 mod sheet;
 
 pub use between::distance;
 pub use moves::{Stop, moved, moved_by_all};
+pub use parts::{Parts, parts_between};
 pub use row::{Cell, SheetRow};
+pub use sequence::sequence_day;
 pub use sheet::MonthSheet;

@@ -1,0 +1,52 @@
+//! Sequences of days, each so many spans from the first.
+ghost use Rattle.std.specs.Prelude.{◌≡◌, ◌≤ℤ◌, SomeIff};
+ghost use Rattle.dates_answer.specs.Sequences.{moved_times, sequence_day, up_to};
+
+use crate::between::days_between;
+use crate::moves::moved_by;
+use chrono_datetime::NaiveDate;
+use dates_request::Span;
+
+/// The day of a sequence at a place, counted from 0: the first day moved by so many spans at once, so that 31 January 2024 by a month has
+/// 29 February at place 1 and 31 March at place 2. `None` exactly where there is no such date, or where it lies past the end: behind it, or
+/// before it where the span goes back.
+pub fn sequence_day(first: NaiveDate, end: NaiveDate, step: Span, place: u32) -> Option<NaiveDate>
+    ensures { result ≡ sequence_day first end step place }
+{
+    let count = step.count;
+    let date = moved_times(first, step, place)?;
+    up_to(date, end, count)
+}
+
+// The date moved by so many spans at once.
+fn moved_times(first: NaiveDate, step: Span, place: u32) -> Option<NaiveDate>
+    ensures { result ≡ moved_times first step place }
+{
+    prove!(days_between(first, first) == 0);
+    let unit = step.unit;
+    let Some(count) = step.count.checked_mul(i64::from(place)) else {
+        return None;
+    };
+    moved_by(first, unit, count)
+}
+
+// The date, if it does not lie past the end for one who goes on, or back where the number is below 0.
+fn up_to(date: NaiveDate, end: NaiveDate, count: i64) -> Option<NaiveDate>
+    ensures { result ≡ up_to count end date }
+{
+    if count < 0 {
+        in_order(date, end, date)
+    } else {
+        in_order(date, date, end)
+    }
+}
+
+// The date, if of two days the first is not the later.
+fn in_order(date: NaiveDate, first: NaiveDate, second: NaiveDate) -> Option<NaiveDate>
+    ensures { SomeIff result (first ≤ℤ second) date }
+{
+    if days_between(first, second) < 0 {
+        return None;
+    }
+    Some(date)
+}
