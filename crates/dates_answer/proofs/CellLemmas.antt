@@ -1,5 +1,5 @@
 -- Which day stands in a cell.
-use Rattle.std.proofs.Common.{◌≡◌, ℕ, ◌&&◌, cond, Option, Some, None, sym, refl, arith, ℤ, ◌≤ℤ◌, int_le}
+use Rattle.std.proofs.Common.{◌≡◌, ℕ, ◌&&◌, cond, Option, Some, None, sym, arith, ℤ, ◌≤ℤ◌, int_le}
 use Rattle.std.proofs.lemmas.Int.{ints}
 use Rattle.std.proofs.lemmas.Option.{cond_some}
 use Rattle.std.specs.Option.{SomeIff}

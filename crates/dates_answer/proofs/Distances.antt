@@ -1,9 +1,9 @@
 -- Whole days, weeks and years between two days.
-use Rattle.std.proofs.Common.{◌≡◌, Bool, true, false, cond, Option, Some, None, IfSome, IsSomeAnd, refl, sym, ap, ◌∙◌, arith, ℤ, pos, negsuc, neg_ℤ, ◌+ℤ◌, ◌-ℤ◌, ◌*ℤ◌, ◌≤ℤ◌, ◌<ℤ◌, int_div}
+use Rattle.std.proofs.Common.{◌≡◌, Bool, true, false, cond, Option, Some, None, IfSome, IsSomeAnd, refl, sym, ap, ◌∙◌, arith, ℤ, pos, negsuc, ◌+ℤ◌, ◌-ℤ◌, ◌*ℤ◌, ◌≤ℤ◌, ◌<ℤ◌, int_div}
 use Rattle.std.proofs.lemmas.Int.{by_lt_z}
 use Rattle.std.proofs.lemmas.Option.{same_Some}
 use Rattle.chrono_calendar.specs.Days.{IsDate, is_date, date_of_day}
-use Rattle.chrono_calendar.specs.MonthMoves.{month_index_of, month_move}
+use Rattle.chrono_calendar.specs.MonthMoves.{month_move}
 use Rattle.chrono_calendar.proofs.Signed.{signed}
 use Rattle.chrono_calendar.proofs.Dates.{date_of_day-SomeIff}
 use Rattle.chrono_calendar.proofs.MonthMoveLaws.{month_move-parts}
@@ -11,7 +11,7 @@ use Rattle.chrono_calendar.proofs.Rising.{month_index_of-rises}
 use Rattle.dates_request.specs.declared.span.Unit.TheVariants.{Days, Weeks, Months, Years}
 use Rattle.dates_answer.specs.Moves.{unit_move}
 use Rattle.dates_answer.specs.Distances.{IsMostBack, IsMostForth, IsUnitsBetween}
-use Rattle.dates_answer.proofs.MonthDistances.{later_month, Reaches, reaches, at_move}
+use Rattle.dates_answer.proofs.MonthDistances.{later_month, reaches, at_move}
 
 -- what is known of the date of a number
 if_tested : (b : Bool) (n : ℤ) (P : ℤ → Type 0) → P n → IfSome (cond b (Some n) None) P

@@ -1,8 +1,7 @@
 -- What moves a date too far leads out of the calendar.
 use Rattle.std.proofs.Common.{◌≡◌, ◌⊎◌, inl, inr, None, arith, ℤ, pos, neg_ℤ, ◌+ℤ◌, ◌*ℤ◌, ◌≤ℤ◌, ◌<ℤ◌}
-use Rattle.chrono_units.specs.Years.{IsYear}
-use Rattle.chrono_calendar.specs.Days.{IsDate, year_of, month_of, date_of_day}
-use Rattle.chrono_calendar.specs.MonthMoves.{month_index_of, year_of_month_index, month_move}
+use Rattle.chrono_calendar.specs.Days.{IsDate, date_of_day}
+use Rattle.chrono_calendar.specs.MonthMoves.{month_index_of, month_move}
 use Rattle.chrono_calendar.proofs.Signed.{signed}
 use Rattle.chrono_calendar.proofs.Dates.{date_of_day-SomeIff}
 use Rattle.chrono_calendar.proofs.MonthOrder.{month_of-range}

@@ -1,11 +1,11 @@
 -- How many whole months lie between two days: those between their months, or one less.
-use Rattle.std.proofs.Common.{◌≡◌, Option, Some, None, IsSome, IfSome, IsSomeAnd, refl, sym, ap, subst, ◌∙◌, arith, ℤ, pos, neg_ℤ, ◌+ℤ◌, ◌-ℤ◌, ◌*ℤ◌, ◌≤ℤ◌, ◌<ℤ◌}
+use Rattle.std.proofs.Common.{◌≡◌, Option, Some, None, IsSome, IfSome, IsSomeAnd, refl, sym, ap, ◌∙◌, arith, ℤ, pos, neg_ℤ, ◌+ℤ◌, ◌-ℤ◌, ◌≤ℤ◌, ◌<ℤ◌}
 use Rattle.std.proofs.lemmas.Bool.{false≢true}
 use Rattle.std.proofs.lemmas.Int.{by_lt_z}
 use Rattle.std.proofs.lemmas.Option.{same_Some}
 use Rattle.std.specs.Option.{unwrap_or}
 use Rattle.chrono_units.specs.Years.{IsYear}
-use Rattle.chrono_calendar.specs.Days.{IsDate, year_of, day_of}
+use Rattle.chrono_calendar.specs.Days.{IsDate}
 use Rattle.chrono_calendar.specs.MonthMoves.{month_index_of, year_of_month_index, month_move}
 use Rattle.chrono_calendar.proofs.Signed.{signed}
 use Rattle.chrono_calendar.proofs.MonthOrder.{day_at-exists, earlier_month}

@@ -1,21 +1,20 @@
 -- Months up to eleven, and how years, months and days add up.
-use Rattle.std.proofs.Common.{◌≡◌, Option, Some, None, IsSomeAnd, refl, sym, ap, ◌∙◌, arith, ℤ, pos, neg_ℤ, ◌+ℤ◌, ◌-ℤ◌, ◌≤ℤ◌, ◌<ℤ◌, List, [], ◌∷◌, Ok}
+use Rattle.std.proofs.Common.{◌≡◌, Option, Some, None, IsSomeAnd, refl, sym, ap, ◌∙◌, arith, ℤ, pos, neg_ℤ, ◌-ℤ◌, ◌≤ℤ◌, ◌<ℤ◌, [], ◌∷◌, Ok}
 use Rattle.std.proofs.lemmas.Int.{by_lt_z}
 use Rattle.std.specs.Option.{unwrap_or}
 use Rattle.chrono_calendar.specs.Days.{IsDate, date_of_day}
-use Rattle.chrono_calendar.specs.MonthMoves.{month_index_of, month_move}
+use Rattle.chrono_calendar.specs.MonthMoves.{month_move}
 use Rattle.chrono_calendar.proofs.Signed.{signed}
 use Rattle.chrono_calendar.proofs.Dates.{date_of_day-SomeIff}
 use Rattle.chrono_calendar.proofs.MonthMoveLaws.{month_move-parts}
 use Rattle.chrono_calendar.proofs.Rising.{month_index_of-rises}
 use Rattle.dates_request.specs.declared.span.Unit.{Unit}
 use Rattle.dates_request.specs.declared.span.Unit.TheVariants.{Days, Months, Years}
-use Rattle.dates_answer.specs.declared.parts.Parts.{Parts}
 use Rattle.dates_answer.specs.Moves.{moved_from, unit_move}
 use Rattle.dates_answer.specs.Distances.{IsMostBack, IsMostForth, IsUnitsBetween}
 use Rattle.dates_answer.specs.Parts.{IsMonthsBack, IsMonthsForth, IsMonthsLeft, IsPartsBetween}
 use Rattle.dates_answer.proofs.MonthDistances.{at_move, reaches}
-use Rattle.dates_answer.proofs.Distances.{FoundAt, found_at, no_later}
+use Rattle.dates_answer.proofs.Distances.{found_at, no_later}
 
 -- no more than eleven lie between
 pub all_left : (from to z : ℤ) → z ≤ℤ pos 11 → neg_ℤ (pos 11) ≤ℤ z → IsUnitsBetween Months from to z → IsMonthsLeft from to z

@@ -4,7 +4,7 @@ use Rattle.std.specs.Option.{option_map}
 use Rattle.std.specs.Str.{byte}
 use Rattle.chrono_datetime.specs.declared.Weekday.{Weekday}
 use Rattle.chrono_datetime.specs.declared.Weekday.TheVariants.{Thu}
-use Rattle.chrono_datetime.specs.Days.{date_of_day, day_of}
+use Rattle.chrono_datetime.specs.Days.{date_of_day}
 use Rattle.chrono_datetime.specs.MonthMoves.{month_first_of, month_last_of}
 use Rattle.chrono_datetime.specs.Weekday.{days_since}
 use Rattle.chrono_datetime.specs.Weeks.{iso_week_of, week_first_of}

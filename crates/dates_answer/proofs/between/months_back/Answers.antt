@@ -1,4 +1,4 @@
-use Rattle.std.proofs.Common.{ℤ, pos, ◌+ℤ◌, arith, w64, rules}
+use Rattle.std.proofs.Common.{pos, ◌+ℤ◌, arith, w64, rules}
 use Rattle.std.proofs.lemmas.Int.{to_z-of_z}
 use Rattle.std.specs.Int.RustNames.{FitsSigned}
 use Rattle.chrono_calendar.proofs.Signed.{signed}
