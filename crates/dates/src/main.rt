@@ -13,14 +13,12 @@ mod file;
 mod help;
 mod lines;
 mod open;
-mod ordinal_name;
 mod parts;
 mod print;
 mod quoted;
 mod recurring;
 mod sequence;
 mod sheet;
-mod week_name;
 mod year;
 
 use answer::answer;

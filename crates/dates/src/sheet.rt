@@ -3,11 +3,10 @@
 use crate::closed::{put_holidays, weekend_of, years_of};
 use crate::day_names::weekday_name;
 use crate::fault::{ANSWERED, WRONG};
-use crate::week_name::WeekName;
 use crate::year::no_such_year;
 use chrono_business::Calendar;
 use chrono_datetime::{Datelike, Month, NaiveDate, Weekday};
-use dates_answer::MonthSheet;
+use dates_answer::{MonthSheet, WeekName};
 use dates_request::{Form, SheetOptions, SheetTime};
 use std::alloc::Allocator;
 use std::io::{self, Eprint};

@@ -6,3 +6,4 @@ mod SequenceLemmas
 mod PartLemmas
 mod RowLemmas
 mod CellLemmas
+mod NameTexts

@@ -3,3 +3,4 @@ pub mod Sequences
 pub mod Distances
 pub mod Parts
 pub mod Sheets
+pub mod DayNames

@@ -2,6 +2,7 @@
 ghost use Rattle.std.specs.Prelude.{◌≡◌, ◌∷◌, [], pos, neg_ℤ, Some, None, Ok, Err, codes, true, false};
 ghost use Rattle.chrono_datetime.specs.declared.Weekday.TheVariants.{Mon, Sun};
 ghost use Rattle.dates_request.specs.declared.span.Unit.TheVariants.{Days, Months, Weeks, Years};
+ghost use Rattle.dates_answer.specs.DayNames.{names_text};
 ghost use Rattle.dates_answer.specs.Moves.{moved_from, unit_move};
 ghost use Rattle.dates_answer.specs.Sequences.{sequence_day};
 ghost use Rattle.dates_answer.specs.Sheets.{row_text, sheet_day};
@@ -26,6 +27,11 @@ pub fn known_sequences()
     ensures past_the_end { sequence_day (pos 31) (pos 89) (record { count = pos 1; unit = Months }) 2 ≡ None }
     ensures back { sequence_day (pos 10) (pos 4) (record { count = neg_ℤ (pos 3); unit = Days }) 2 ≡ Some (pos 4) }
     ensures back_past_the_end { sequence_day (pos 10) (pos 4) (record { count = neg_ℤ (pos 3); unit = Days }) 3 ≡ None }
+{}
+
+/// The line of 1 January of the year 1.
+pub fn known_names()
+    ensures first { names_text (pos 1) ≡ codes "0001-01-01 0001-001 0001-W01-1 Mon 1 -719162" }
 {}
 
 /// Cells of January of the year 1, which begins on a Monday, and a row.

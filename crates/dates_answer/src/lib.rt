@@ -4,6 +4,7 @@
 mod between;
 pub mod law;
 mod moves;
+mod names;
 mod parts;
 mod row;
 mod sequence;
@@ -11,6 +12,7 @@ mod sheet;
 
 pub use between::distance;
 pub use moves::{Stop, moved, moved_by_all};
+pub use names::{DayNames, OrdinalName, WeekName};
 pub use parts::{Parts, parts_between};
 pub use row::{Cell, SheetRow};
 pub use sequence::sequence_day;
