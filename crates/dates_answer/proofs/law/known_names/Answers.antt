@@ -4,6 +4,6 @@ use Rattle.chrono_calendar.specs.Days.{days_of_years, days_before_year, days_of_
 use Rattle.dates_answer.specs.DayNames.{dates_text, numbers_text}
 use Rattle.dates_answer.proofs.law.known_names.Goals as goal
 
-pub returns-clause-first : goal.returns-clause-first
+pub returns : goal.returns
 unfolding dates_text numbers_text digits days_before_year days_of_years days_of_months_in ordinal_name_of days_after_zero days_before_zero month_of_ordinal day_of_ordinal
-returns-clause-first c = refl
+returns c = record { first = refl }
