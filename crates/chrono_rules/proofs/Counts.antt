@@ -53,10 +53,10 @@ unfolding is_instance
 counted_member r start e member counted = rw (member, counted) refl
 
 -- the last member before the day up to which days are counted is an instance
-pub last_instance : (o : Option ℤ) (r : Rule) (start last end : ℤ) → last <ℤ end → IfSome o (λ e. is_member r start e ≡ true) → IfSome o (λ e. e ≤ℤ last) → ((d : ℤ) → start ≤ℤ d → d <ℤ end → is_counted r.end r start d ≡ true) → IfSome o (λ e. is_instance r start e ≡ true)
-last_instance None r start last end before member high counted = tt
-last_instance (Some e) r start last end before member high counted =
-    counted_member r start e member (counted e (from_start r start e member) (omega (arith, signed, high, before)))
+pub last_instance : (o : Option ℤ) (r : Rule) (start end : ℤ) → IfSome o (λ e. is_member r start e ≡ true) → IfSome o (λ e. e <ℤ end) → ((d : ℤ) → start ≤ℤ d → d <ℤ end → is_counted r.end r start d ≡ true) → IfSome o (λ e. is_instance r start e ≡ true)
+last_instance None r start end before member counted = tt
+last_instance (Some e) r start end member before counted =
+    counted_member r start e member (counted e (from_start r start e member) before)
 
 -- ---- what a walk keeps of the past
 

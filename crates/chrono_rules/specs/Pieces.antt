@@ -1,6 +1,7 @@
 -- Texts in pieces, and numbers from the left.
 use Rattle.std.specs.Prelude.{◌≡◌, ℕ, ◌+◌, ◌-◌, ◌*◌, ◌==◌, nat_le, ◌&&◌, Bool, true, false, List, [], ◌∷◌, length, if◌then◌else◌, Option, Some, None, codes, refl}
 use Rattle.std.specs.Option.{option_and_then}
+use Rattle.std.specs.Str.{byte}
 
 -- a byte in front of the first piece, or an empty piece where the byte is the separator
 abbrev pub begun : Bool → ℕ → List (List ℕ) → List (List ℕ)
@@ -26,7 +27,7 @@ through step s (p ∷ ps) = option_and_then (λ t. through step t ps) (step s p)
 -- digits behind a value, each worth ten times the one behind it
 abbrev pub with_digits : ℕ → List ℕ → Option ℕ
 with_digits value [] = Some value
-with_digits value (b ∷ bs) = if nat_le 48 b && nat_le b 57 then with_digits (value * 10 + (b - 48)) bs else None
+with_digits value (b ∷ bs) = if nat_le (byte "0") b && nat_le b (byte "9") then with_digits (value * 10 + (b - byte "0")) bs else None
 
 -- the number that one digit or more write, no more of them than so many
 unfoldable pub digits_of : ℕ → List ℕ → Option ℕ
@@ -40,10 +41,10 @@ unfoldable pub count_of : List ℕ → Option ℕ
 count_of text = if nat_le 1 (length text) then option_and_then (up_to 4_294_967_295) (with_digits 0 text) else None
 
 -- known values
-pieces-two : pieces 44 (codes "MO,TU") ≡ codes "MO" ∷ codes "TU" ∷ []
+pieces-two : pieces (byte ",") (codes "MO,TU") ≡ codes "MO" ∷ codes "TU" ∷ []
 pieces-two = refl
 
-pieces-empty : pieces 44 (codes "1,,") ≡ codes "1" ∷ [] ∷ [] ∷ []
+pieces-empty : pieces (byte ",") (codes "1,,") ≡ codes "1" ∷ [] ∷ [] ∷ []
 pieces-empty = refl
 
 digits_of-zeros : digits_of 3 (codes "031") ≡ Some 31

@@ -1,7 +1,7 @@
 -- The numbers that the BY parts of a rule list.
 use Rattle.std.specs.Prelude.{◌≡◌, ℕ, ◌+◌, ◌-◌, ◌^◌, ◌==◌, nat_le, bit_or, ◌&&◌, Bool, true, false, List, [], ◌∷◌, length, take, drop, slice_index_or, slice_set, if◌then◌else◌, Option, Some, None, codes, refl}
 use Rattle.std.specs.Option.{option_and_then, option_map}
-use Rattle.std.specs.Str.{str_eq_ignore_ascii_case}
+use Rattle.std.specs.Str.{byte, str_eq_ignore_ascii_case}
 use Rattle.chrono_rules.specs.Instances.{no_numbers, no_weekdays}
 use Rattle.chrono_rules.specs.Pieces.{digits_of, pieces, through}
 use Rattle.chrono_rules.specs.declared.places.NumberSet.{NumberSet}
@@ -25,8 +25,8 @@ place from_end n = record { from_end = from_end; number = n }
 unfoldable pub place_of : ℕ → ℕ → List ℕ → Option Place
 place_of digits most [] = None
 place_of digits most (sign ∷ text) =
-    if sign == 45 then option_map (place true) (number_of digits most text)
-    else if sign == 43 then option_map (place false) (number_of digits most text)
+    if sign == byte "-" then option_map (place true) (number_of digits most text)
+    else if sign == byte "+" then option_map (place false) (number_of digits most text)
     else option_map (place false) (number_of digits most (sign ∷ text))
 
 -- the set and a number
@@ -46,7 +46,7 @@ unfoldable pub with_place_text : ℕ → ℕ → BothEnds → List ℕ → Optio
 with_place_text digits most ends text = option_map (with_place ends) (place_of digits most text)
 
 unfoldable pub ends_of : ℕ → ℕ → List ℕ → Option BothEnds
-ends_of digits most text = through (with_place_text digits most) no_ends (pieces 44 text)
+ends_of digits most text = through (with_place_text digits most) no_ends (pieces (byte ",") text)
 
 -- the weekday that two letters name, of either case, from 0 for Monday
 unfoldable pub weekday_of_letters : List ℕ → Option ℕ
@@ -81,7 +81,7 @@ unfoldable pub with_weekday_text : WeekdayPlaces → List ℕ → Option Weekday
 with_weekday_text days text = option_and_then (with_weekday days (take (length text - 2) text)) (weekday_of_letters (drop (length text - 2) text))
 
 unfoldable pub weekdays_of : List ℕ → Option WeekdayPlaces
-weekdays_of text = through with_weekday_text no_weekdays (pieces 44 text)
+weekdays_of text = through with_weekday_text no_weekdays (pieces (byte ",") text)
 
 -- known values: days of the month, as BYMONTHDAY lists them
 ends_of-both : ends_of 2 31 (codes "1,-1,+31") ≡ Some (record { front = record { digits = 2 ^ 1 + 2 ^ 31 }; back = record { digits = 2 ^ 1 } })

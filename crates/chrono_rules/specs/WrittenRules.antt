@@ -2,6 +2,7 @@
 use Rattle.std.specs.Prelude.{◌≡◌, ℕ, zero, suc, ◌+◌, ◌/◌, ◌%◌, ◌^◌, ◌==◌, nat_le, Bool, true, false, ◌&&◌, if◌then◌else◌, List, [], ◌∷◌, ◌++◌, ℤ, pos, unsigned_abs, int_le, codes, refl}
 use Rattle.std.specs.Fmt.{decimal, digits, sign_text, signed_decimal}
 use Rattle.std.specs.List.{join_with_byte}
+use Rattle.std.specs.Str.{byte}
 use Rattle.chrono_text.specs.Text.{two_digits}
 use Rattle.chrono_datetime.specs.Days.{day_of, month_of, year_of}
 use Rattle.chrono_datetime.specs.Weekday.{days_from_monday}
@@ -60,7 +61,7 @@ weekday_items r = items (Numbers r.weekdays.every) Each false 7 0 ++ (numbered_i
 
 -- a list has a comma between each two items
 abbrev pub list_text : List (List ℕ) → List ℕ
-list_text items = join_with_byte 44 items
+list_text items = join_with_byte (byte ",") items
 
 -- texts, each behind a separator; items behind others, or the first of a list; whether there is one
 abbrev pub behind : ℕ → List (List ℕ) → List ℕ
@@ -68,7 +69,7 @@ behind sep [] = []
 behind sep (text ∷ texts) = (sep ∷ text) ++ behind sep texts
 
 abbrev pub listed_on : Bool → List (List ℕ) → List ℕ
-listed_on begun items = if begun then behind 44 items else list_text items
+listed_on begun items = if begun then behind (byte ",") items else list_text items
 
 abbrev pub some_in : List (List ℕ) → Bool
 some_in [] = false
@@ -116,7 +117,7 @@ later_parts r =
 
 -- the parts with a semicolon between each two, FREQ first
 unfoldable pub rule_text : Rule → List ℕ
-rule_text r = join_with_byte 59 ((codes "FREQ=" ++ frequency_text r.frequency) ∷ later_parts r)
+rule_text r = join_with_byte (byte ";") ((codes "FREQ=" ++ frequency_text r.frequency) ∷ later_parts r)
 
 -- known values: a plain rule has FREQ alone; numbers in their order, days of the year in up to three digits, a date, and weekdays with numbers
 rule_text-plain : rule_text (plain Daily) ≡ codes "FREQ=DAILY"

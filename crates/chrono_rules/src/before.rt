@@ -8,21 +8,65 @@ use crate::rule::{End, Rule};
 use chrono_datetime::{Datelike, NaiveDate};
 
 impl Rule {
-    // The last member up to the date.
-    fn last_member(&self, start: NaiveDate, date: NaiveDate) -> Option<NaiveDate>
+    // The first member after a day that lies before another.
+    #[inline]
+    fn member_after(&self, start: NaiveDate, day: NaiveDate, end: i32) -> Option<NaiveDate>
         ensures member { IfSome result (λ e. is_member self.now start e ≡ true) }
-        ensures not_after { IfSome result (λ e. e ≤ℤ date) }
-        ensures greatest { IfSome result (λ e. (d : ℤ) → e <ℤ d → d ≤ℤ date → is_member self.now start d ≡ false) }
-        ensures none { IfNone result ((d : ℤ) → d ≤ℤ date → IsDate d → is_member self.now start d ≡ false) }
+        ensures after { IfSome result (λ e. day <ℤ e) }
+        ensures before { IfSome result (λ e. e <ℤ end) }
+        ensures none { IfNone result ((d : ℤ) → day <ℤ d → d <ℤ end → IsDate d → is_member self.now start d ≡ false) }
     {
-        let mut day = date;
-        while !self.is_member(start, day) {
-            if day.num_days_from_ce() <= start.num_days_from_ce() {
-                return None;
-            }
-            day = day.pred_opt()?;
+        let next = day.succ_opt()?;
+        self.first_member_before(start, next, end)
+    }
+
+    // The last member from a day on that lies before another.
+    fn last_between(&self, start: NaiveDate, first: NaiveDate, end: i32) -> Option<NaiveDate>
+        ensures member { IfSome result (λ e. is_member self.now start e ≡ true) }
+        ensures not_before { IfSome result (λ e. first ≤ℤ e) }
+        ensures before { IfSome result (λ e. e <ℤ end) }
+        ensures greatest { IfSome result (λ e. (d : ℤ) → e <ℤ d → d <ℤ end → IsDate d → is_member self.now start d ≡ false) }
+        ensures none { IfNone result ((d : ℤ) → first ≤ℤ d → d <ℤ end → IsDate d → is_member self.now start d ≡ false) }
+    {
+        let found = self.first_member_before(start, first, end)?;
+        let mut last = found;
+        while let Some(member) = self.member_after(start, last, end) {
+            last = member;
         }
-        Some(day)
+        Some(last)
+    }
+
+    // The day before which the members before a day lie: that day, or the one after UNTIL.
+    fn end_of_until(&self, day: NaiveDate) -> NaiveDate
+        ensures not_after { result ≤ℤ day }
+        ensures behind { (start : ℤ) (d : ℤ) → result ≤ℤ d → d <ℤ day → is_member self.now start d ≡ false }
+    {
+        let End::Until(last) = self.end else {
+            return day;
+        };
+        match last.succ_opt() {
+            Some(next) if next < day => next,
+            _ => day,
+        }
+    }
+
+    // The last member before a day. It is looked for in stretches, each a day longer than all behind it.
+    fn last_member(&self, start: NaiveDate, end: NaiveDate) -> Option<NaiveDate>
+        ensures member { IfSome result (λ e. is_member self.now start e ≡ true) }
+        ensures before { IfSome result (λ e. e <ℤ end) }
+        ensures greatest { IfSome result (λ e. (d : ℤ) → e <ℤ d → d <ℤ end → is_member self.now start d ≡ false) }
+        ensures none { IfNone result ((d : ℤ) → d <ℤ end → IsDate d → is_member self.now start d ≡ false) }
+    {
+        let top = self.end_of_until(end);
+        let mut behind = top;
+        while start.num_days_from_ce() < behind.num_days_from_ce() {
+            let first = stretch_before(start, behind, top);
+            if let Some(last) = self.last_between(start, first, behind.num_days_from_ce()) {
+                return Some(last);
+            }
+            behind = first;
+        }
+        None
     }
 
     // The first day from the start on that has so many members before it, from the start on; `day` if that is earlier.
@@ -65,6 +109,20 @@ impl Rule {
         ensures none { IfNone result ((d : ℤ) → d <ℤ day → IsDate d → is_instance self.now start d ≡ false) }
     {
         let end = self.end_of_count(start, day);
-        self.last_member(start, end.pred_opt()?)
+        self.last_member(start, end)
+    }
+}
+
+// The day with which a stretch before a day begins, longer by a day than all from there to `top`; the start if it is later.
+fn stretch_before(start: NaiveDate, day: NaiveDate, top: NaiveDate) -> NaiveDate
+    requires some { start <ℤ day }
+    requires order { day ≤ℤ top }
+    ensures not_before { start ≤ℤ result }
+    ensures before { result <ℤ day }
+{
+    let behind = i64::from(top.num_days_from_ce()) - i64::from(day.num_days_from_ce());
+    match day.moved_by_days(-1 - behind) {
+        Some(first) if start < first => first,
+        _ => start,
     }
 }

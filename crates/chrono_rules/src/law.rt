@@ -1,8 +1,10 @@
 //! Instances that are known, each as a clause of a function that does nothing.
 ghost use Rattle.std.specs.Prelude.{◌≡◌, ◌+◌, ◌^◌, ◌==◌, ◌&&◌, true, false, Some, [], ◌∷◌, neg_ℤ, pos, codes};
 ghost use Rattle.chrono_datetime.specs.declared.Weekday.TheVariants.{Mon, Sun};
+ghost use Rattle.chrono_rules.specs.InstanceLists.{instances_from};
+ghost use Rattle.chrono_rules.specs.InstanceMoments.{is_instance_at};
 ghost use Rattle.chrono_rules.specs.Instances.{are_zero, is_instance, no_places, no_weekdays, plain};
-ghost use Rattle.chrono_rules.specs.KnownRules.{by_month_days, by_positions, by_weekdays, by_weeks, by_year_days, daily, daily_until, fortnightly, tenths};
+ghost use Rattle.chrono_rules.specs.KnownRules.{at_midnight, at_one, by_month_days, by_positions, by_week_days, by_week_years, by_weekdays, by_weeks, by_year_days, daily, daily_until, every_days, fortnightly, tenths};
 ghost use Rattle.chrono_rules.specs.KnownTexts.{both_sundays, days_of_the_year, election_day, every_other_day, every_other_week, first_and_last, first_friday, june_and_july, last_monday_but_one, last_workday_but_one, monday_of_week_20, third_to_last, until_christmas};
 ghost use Rattle.chrono_rules.specs.Places.{ends_of};
 ghost use Rattle.chrono_rules.specs.RecurrenceSets.{is_in_recurrence};
@@ -36,8 +38,10 @@ pub fn known_rules()
 {}
 
 /// Weeks of the year (BYWEEKNO): Monday of the 20th from 12 May 1997 (RFC 5545, 3.8.5.3), the week's Monday where no weekday is named;
-/// Monday of the last one, which is the 52nd of 1997 and the 53rd of 1998 (ISO 8601); and Sunday of the first week of 2000, by weeks
-/// that begin on Sunday and on Monday (WKST). Each is 2,000 years earlier here, by five whole cycles of 400 years, so that little is to
+/// Monday of the last one, which is the 52nd of 1997 and the 53rd of 1998 (ISO 8601); Sunday of the first week of 2000, by weeks
+/// that begin on Sunday and on Monday (WKST). A week is numbered in the year of its fourth day, and INTERVAL and BYSETPOS go by the year in
+/// which a day lies: Monday of week 1 of 2025 is a day of 2024, and the
+/// first Monday of weeks 1 and 2 in 1998 is that of week 2. Each is 2,000 years earlier here, by five whole cycles of 400 years, so that little is to
 /// be counted.
 pub fn known_weeks()
     ensures week_20_1998 { is_instance (by_weeks Mon (2 ^ 20) 0 1) (neg_ℤ (pos 1329)) (neg_ℤ (pos 965)) ≡ true }
@@ -52,6 +56,12 @@ pub fn known_weeks()
     ensures sunday_weeks_second { is_instance (by_weeks Sun 2 0 64) (neg_ℤ (pos 1329)) (neg_ℤ (pos 357)) ≡ false }
     ensures monday_weeks_before { is_instance (by_weeks Mon 2 0 64) (neg_ℤ (pos 1329)) (neg_ℤ (pos 364)) ≡ false }
     ensures monday_weeks_first { is_instance (by_weeks Mon 2 0 64) (neg_ℤ (pos 1329)) (neg_ℤ (pos 357)) ≡ true }
+    ensures week_53_december { is_instance (by_weeks Mon 0 (2 ^ 53) 1) (pos 5611) (pos 6938) ≡ true }
+    ensures other_years_week_1 { is_instance (by_week_years 2 2 0) (pos 8401) (pos 8765) ≡ true }
+    ensures other_years_next { is_instance (by_week_years 2 2 0) (pos 8401) (pos 9129) ≡ false }
+    ensures first_of_year { is_instance (by_week_years 1 (2 + 4) 2) (neg_ℤ (pos 1216)) (neg_ℤ (pos 1091)) ≡ true }
+    ensures week_20_15th { is_instance (by_week_days (2 ^ 20) (2 ^ 15) no_places.words) (neg_ℤ (pos 1329)) (neg_ℤ (pos 961)) ≡ true }
+    ensures week_20_day_135 { is_instance (by_week_days (2 ^ 20) 0 (0 ∷ 0 ∷ 2 ^ 7 ∷ 0 ∷ 0 ∷ 0 ∷ [])) (neg_ℤ (pos 1329)) (neg_ℤ (pos 961)) ≡ true }
 {}
 
 /// Days of the year (BYYEARDAY): every third year on the 1st, the 100th and the 200th from 1 January 1997 (3.8.5.3), and from the end
@@ -69,7 +79,7 @@ pub fn known_year_days()
     ensures back_december_2000 { is_instance (by_year_days 1 no_places.words (2 ∷ 0 ∷ 0 ∷ 0 ∷ 2 ^ 50 ∷ 0 ∷ [])) (neg_ℤ (pos 1460)) (pos 0) ≡ true }
 {}
 
-/// Numbered weekdays (BYDAY): the 20th Monday of the year, the first Friday of the month and the last Monday but one of it (3.8.5.3),
+/// Numbered weekdays (BYDAY): the 20th Monday of the year and the last, the first Friday of the month, the fifth, and the last Monday but one of it (3.8.5.3),
 /// and the last Sunday of October, which counts in its month though the rule is one by years (3.6.5). Each is 2,000 years earlier here,
 /// by five whole cycles of 400 years, so that little is to be counted.
 pub fn known_weekdays()
@@ -83,6 +93,11 @@ pub fn known_weekdays()
     ensures of_month_back_november { is_instance (by_weekdays Monthly 0 no_weekdays.front (4 ∷ 0 ∷ 0 ∷ 0 ∷ 0 ∷ 0 ∷ 0 ∷ [])) (neg_ℤ (pos 1196)) (neg_ℤ (pos 1140)) ≡ true }
     ensures of_october_early { is_instance (by_weekdays Yearly (2 ^ 10) no_weekdays.front (0 ∷ 0 ∷ 0 ∷ 0 ∷ 0 ∷ 0 ∷ 2 ∷ [])) (neg_ℤ (pos 1460)) (neg_ℤ (pos 1169)) ≡ false }
     ensures of_october_sunday { is_instance (by_weekdays Yearly (2 ^ 10) no_weekdays.front (0 ∷ 0 ∷ 0 ∷ 0 ∷ 0 ∷ 0 ∷ 2 ∷ [])) (neg_ℤ (pos 1460)) (neg_ℤ (pos 1162)) ≡ true }
+    ensures of_year_back_leap { is_instance (by_weekdays Yearly 0 no_weekdays.front (2 ∷ 0 ∷ 0 ∷ 0 ∷ 0 ∷ 0 ∷ 0 ∷ [])) (pos 3784) (pos 4376) ≡ false }
+    ensures of_year_back_last { is_instance (by_weekdays Yearly 0 no_weekdays.front (2 ∷ 0 ∷ 0 ∷ 0 ∷ 0 ∷ 0 ∷ 0 ∷ [])) (pos 3784) (pos 4383) ≡ true }
+    ensures fifth_friday { is_instance (by_weekdays Monthly 0 (0 ∷ 0 ∷ 0 ∷ 0 ∷ 2 ^ 5 ∷ 0 ∷ 0 ∷ []) no_weekdays.back) (neg_ℤ (pos 1213)) (neg_ℤ (pos 1157)) ≡ true }
+    ensures fifth_of_four { is_instance (by_weekdays Monthly 0 (0 ∷ 0 ∷ 0 ∷ 0 ∷ 2 ^ 5 ∷ 0 ∷ 0 ∷ []) no_weekdays.back) (neg_ℤ (pos 1213)) (neg_ℤ (pos 1192)) ≡ false }
+    ensures of_no_month { is_instance (by_weekdays Weekly 0 (0 ∷ 0 ∷ 0 ∷ 0 ∷ 2 ∷ 0 ∷ 0 ∷ []) no_weekdays.back) (neg_ℤ (pos 1213)) (neg_ℤ (pos 1213)) ≡ false }
 {}
 
 /// Days of the month (BYMONTHDAY): the third to the last; and the start's day where none is named: the 10th in June and July (3.8.5.3),
@@ -100,23 +115,64 @@ pub fn known_month_days()
     ensures each_week_wednesday { is_instance (plain Weekly) (neg_ℤ (pos 1216)) (neg_ℤ (pos 1208)) ≡ false }
     ensures each_year_next_month { is_instance (by_month_days Yearly 0 0 0) (neg_ℤ (pos 1216)) (neg_ℤ (pos 1186)) ≡ false }
     ensures each_year_next_year { is_instance (by_month_days Yearly 0 0 0) (neg_ℤ (pos 1216)) (neg_ℤ (pos 851)) ≡ true }
+    ensures fifteenth_october { is_instance (by_month_days Monthly 0 (2 ^ 15) 0) (neg_ℤ (pos 1216)) (neg_ℤ (pos 1173)) ≡ true }
+    ensures fifteenth_start { is_instance (by_month_days Monthly 0 (2 ^ 15) 0) (neg_ℤ (pos 1216)) (neg_ℤ (pos 1186)) ≡ false }
+    ensures of_year_fifteenth { is_instance (by_month_days Yearly 0 (2 ^ 15) 0) (neg_ℤ (pos 1216)) (neg_ℤ (pos 1173)) ≡ true }
 {}
 
-/// Days by their place in the month (BYSETPOS): the third of its Tuesdays, Wednesdays and Thursdays, and the last workday but one
-/// (3.8.5.3). Each is 2,000 years earlier here, by five whole cycles of 400 years, so that little is to be counted.
+/// What the start fills in where it is no day of each period: a rule by years from 29 February has instances in leap years alone, and one by
+/// months from the 31st in months of 31 days, as dates that do not exist are left out (3.3.10). Each is 2,000 years earlier here, by five
+/// whole cycles of 400 years, so that little is to be counted.
+pub fn known_gaps()
+    ensures leap_day_28 { is_instance (plain Yearly) (neg_ℤ (pos 306)) (pos 59) ≡ false }
+    ensures leap_day_march { is_instance (plain Yearly) (neg_ℤ (pos 306)) (pos 60) ≡ false }
+    ensures leap_day { is_instance (plain Yearly) (neg_ℤ (pos 306)) (pos 1155) ≡ true }
+    ensures day_31_april { is_instance (plain Monthly) (neg_ℤ (pos 335)) (neg_ℤ (pos 245)) ≡ false }
+    ensures day_31_may_first { is_instance (plain Monthly) (neg_ℤ (pos 335)) (neg_ℤ (pos 244)) ≡ false }
+    ensures day_31_may { is_instance (plain Monthly) (neg_ℤ (pos 335)) (neg_ℤ (pos 214)) ≡ true }
+{}
+
+/// Days by their place in the period (BYSETPOS): the third of the month's Tuesdays, Wednesdays and Thursdays, and its last workday but one
+/// (3.8.5.3); the first of Monday and Sunday in weeks that begin on either (WKST); the second Monday and the last of a year. Each is 2,000 years earlier here, by five whole cycles of 400 years, so that little is to be counted.
 pub fn known_positions()
-    ensures third_october { is_instance (by_positions 14 8 0) (neg_ℤ (pos 1214)) (neg_ℤ (pos 1181)) ≡ true }
-    ensures third_late { is_instance (by_positions 14 8 0) (neg_ℤ (pos 1214)) (neg_ℤ (pos 1180)) ≡ false }
-    ensures third_november { is_instance (by_positions 14 8 0) (neg_ℤ (pos 1214)) (neg_ℤ (pos 1151)) ≡ true }
-    ensures last_but_one_october { is_instance (by_positions 31 0 4) (neg_ℤ (pos 1189)) (neg_ℤ (pos 1158)) ≡ true }
-    ensures last_but_one_late { is_instance (by_positions 31 0 4) (neg_ℤ (pos 1189)) (neg_ℤ (pos 1157)) ≡ false }
+    ensures third_october { is_instance (by_positions Monthly Mon 14 8 0) (neg_ℤ (pos 1214)) (neg_ℤ (pos 1181)) ≡ true }
+    ensures third_late { is_instance (by_positions Monthly Mon 14 8 0) (neg_ℤ (pos 1214)) (neg_ℤ (pos 1180)) ≡ false }
+    ensures third_november { is_instance (by_positions Monthly Mon 14 8 0) (neg_ℤ (pos 1214)) (neg_ℤ (pos 1151)) ≡ true }
+    ensures last_but_one_october { is_instance (by_positions Monthly Mon 31 0 4) (neg_ℤ (pos 1189)) (neg_ℤ (pos 1158)) ≡ true }
+    ensures last_but_one_late { is_instance (by_positions Monthly Mon 31 0 4) (neg_ℤ (pos 1189)) (neg_ℤ (pos 1157)) ≡ false }
+    ensures sunday_weeks_sunday { is_instance (by_positions Weekly Sun 65 2 0) (neg_ℤ (pos 1216)) (neg_ℤ (pos 1211)) ≡ true }
+    ensures sunday_weeks_monday { is_instance (by_positions Weekly Sun 65 2 0) (neg_ℤ (pos 1216)) (neg_ℤ (pos 1210)) ≡ false }
+    ensures monday_weeks_monday { is_instance (by_positions Weekly Mon 65 2 0) (neg_ℤ (pos 1216)) (neg_ℤ (pos 1210)) ≡ true }
+    ensures monday_weeks_sunday { is_instance (by_positions Weekly Mon 65 2 0) (neg_ℤ (pos 1216)) (neg_ℤ (pos 1204)) ≡ false }
+    ensures year_second_monday { is_instance (by_positions Yearly Mon 1 4 0) (neg_ℤ (pos 1216)) (neg_ℤ (pos 1084)) ≡ true }
+    ensures year_february { is_instance (by_positions Yearly Mon 1 4 0) (neg_ℤ (pos 1216)) (neg_ℤ (pos 1056)) ≡ false }
+    ensures year_last_monday { is_instance (by_positions Yearly Mon 1 0 2) (neg_ℤ (pos 1216)) (neg_ℤ (pos 734)) ≡ true }
+    ensures year_november { is_instance (by_positions Yearly Mon 1 0 2) (neg_ℤ (pos 1216)) (neg_ℤ (pos 762)) ≡ false }
 {}
 
-/// The day of an UNTIL is an instance, and none is behind it (3.3.10). Each is 2,000 years earlier here, by five whole cycles of 400
-/// years, so that little is to be counted.
+/// The day of an UNTIL is an instance, and none is behind it; none is before the start; an interval of 0 is read as 1 (3.3.10). Each is 2,000
+/// years earlier here, by five whole cycles of 400 years, so that little is to be counted.
 pub fn known_ends()
     ensures until_itself { is_instance (daily_until (neg_ℤ (pos 1104))) (neg_ℤ (pos 1216)) (neg_ℤ (pos 1104)) ≡ true }
     ensures until_behind { is_instance (daily_until (neg_ℤ (pos 1104))) (neg_ℤ (pos 1216)) (neg_ℤ (pos 1103)) ≡ false }
+    ensures start { is_instance (every_days 1) (neg_ℤ (pos 1216)) (neg_ℤ (pos 1216)) ≡ true }
+    ensures before_start { is_instance (every_days 1) (neg_ℤ (pos 1216)) (neg_ℤ (pos 1217)) ≡ false }
+    ensures interval_0 { is_instance (every_days 0) (neg_ℤ (pos 1216)) (neg_ℤ (pos 1215)) ≡ true }
+    ensures interval_2 { is_instance (every_days 2) (neg_ℤ (pos 1216)) (neg_ℤ (pos 1215)) ≡ false }
+{}
+
+/// Every other day, behind its start, up to the last date of the calendar.
+pub fn known_lists()
+    ensures second { instances_from (every_days 2) (pos 95_745_395) (pos 95_745_396) ≡ pos 95_745_397 ∷ pos 95_745_399 ∷ [] }
+    ensures before_start { instances_from (every_days 1) (pos 95_745_399) (pos 95_745_397) ≡ pos 95_745_399 ∷ [] }
+{}
+
+/// Every other day at one o'clock from 2 September 1997: an instance has the start's second and fraction (3.3.10).
+pub fn known_moments()
+    ensures next { is_instance_at (every_days 2) (at_one (pos 729_269) 5) (at_one (pos 729_271) 5) ≡ true }
+    ensures between { is_instance_at (every_days 2) (at_one (pos 729_269) 5) (at_one (pos 729_270) 5) ≡ false }
+    ensures fraction { is_instance_at (every_days 2) (at_one (pos 729_269) 5) (at_one (pos 729_271) 6) ≡ false }
+    ensures second { is_instance_at (every_days 2) (at_midnight (pos 729_269)) (at_one (pos 729_271) 0) ≡ false }
 {}
 
 /// Every tenth day from 2 September 1997 with the two days behind it as dates beside the instances, and the second of these and the second instance as

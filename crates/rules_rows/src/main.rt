@@ -4,10 +4,12 @@
 //! the rule ends there, and `none` in their place that the text writes no rule. Each line that is answered otherwise is printed with its
 //! number, and at the end their count. Words `+day` and `-day` behind the start are dates beside the instances and exceptions, and `refused`
 //! in place of the days says that these do not rise. A word `*times` there says that so many calls of `next_after`, each from the day that the
-//! last one gave, lead to the day. Other lines are rows of texts that are written: see `texts`.
+//! last one gave, lead to the day, and a word `calls` that each other call of the rule is tried at each day: see `calls`. Other lines are rows of
+//! texts that are written: see `texts`.
 #![tactic(auto)]
 
 mod beside;
+mod calls;
 mod texts;
 
 use beside::Beside;
@@ -72,7 +74,7 @@ fn has_days(row: &str, days: &str) -> bool {
                 Some(rule) => leads_to(&rule, start, times, days).unwrap_or(false),
                 None => false,
             },
-            None => has_instances(text, start, days).unwrap_or(false),
+            None => has_instances(text, start, days, is_of_calls(row)).unwrap_or(false),
         },
         None => false,
     }
@@ -105,10 +107,26 @@ fn leads_to(rule: &Rule, start: NaiveDate, times: u32, day: &str) -> Option<bool
     Some(last == day_of(day)?)
 }
 
+// Whether the row has the word `calls`.
+fn is_of_calls(row: &str) -> bool {
+    for word in row.split_ascii_whitespace() {
+        if word == "calls" {
+            return true;
+        }
+    }
+    false
+}
+
 // Whether these are instances of the rule that the text writes, or `none` where it writes none.
-fn has_instances(text: &str, start: NaiveDate, days: &str) -> Option<bool> {
+fn has_instances(text: &str, start: NaiveDate, days: &str, by_calls: bool) -> Option<bool> {
     match read_rule(text.as_bytes()) {
-        Some(rule) => are_instances(&rule, start, days),
+        Some(rule) => {
+            if by_calls {
+                calls::are_instances(&rule, start, days)
+            } else {
+                are_instances(&rule, start, days)
+            }
+        }
         None => Some(days == "none"),
     }
 }

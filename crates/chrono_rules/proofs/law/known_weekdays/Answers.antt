@@ -43,3 +43,23 @@ returns-clause-of_october_early c = refl
 pub returns-clause-of_october_sunday : goal.returns-clause-of_october_sunday
 unfolding is_instance is_counted is_member not_after in_interval in_positions passes date_passes on_weekday on_month_day on_year_day in_week has has_place has_numbers counts_in_month fills_weekday fills_day fills_month period_of period_first period_end count_between count_where ordinal_name_of days_after_zero days_before_zero month_of_ordinal day_of_ordinal days_of_months_in
 returns-clause-of_october_sunday c = refl
+
+pub returns-clause-of_year_back_leap : goal.returns-clause-of_year_back_leap
+unfolding is_instance is_counted is_member not_after in_interval in_positions passes date_passes on_weekday on_month_day on_year_day in_week has has_place has_numbers counts_in_month fills_weekday fills_day fills_month period_of period_first period_end count_between count_where ordinal_name_of days_after_zero days_before_zero month_of_ordinal day_of_ordinal days_of_months_in
+returns-clause-of_year_back_leap c = refl
+
+pub returns-clause-of_year_back_last : goal.returns-clause-of_year_back_last
+unfolding is_instance is_counted is_member not_after in_interval in_positions passes date_passes on_weekday on_month_day on_year_day in_week has has_place has_numbers counts_in_month fills_weekday fills_day fills_month period_of period_first period_end count_between count_where ordinal_name_of days_after_zero days_before_zero month_of_ordinal day_of_ordinal days_of_months_in
+returns-clause-of_year_back_last c = refl
+
+pub returns-clause-fifth_friday : goal.returns-clause-fifth_friday
+unfolding is_instance is_counted is_member not_after in_interval in_positions passes date_passes on_weekday on_month_day on_year_day in_week has has_place has_numbers counts_in_month fills_weekday fills_day fills_month period_of period_first period_end count_between count_where ordinal_name_of days_after_zero days_before_zero month_of_ordinal day_of_ordinal days_of_months_in
+returns-clause-fifth_friday c = refl
+
+pub returns-clause-fifth_of_four : goal.returns-clause-fifth_of_four
+unfolding is_instance is_counted is_member not_after in_interval in_positions passes date_passes on_weekday on_month_day on_year_day in_week has has_place has_numbers counts_in_month fills_weekday fills_day fills_month period_of period_first period_end count_between count_where ordinal_name_of days_after_zero days_before_zero month_of_ordinal day_of_ordinal days_of_months_in
+returns-clause-fifth_of_four c = refl
+
+pub returns-clause-of_no_month : goal.returns-clause-of_no_month
+unfolding is_instance is_counted is_member not_after in_interval in_positions passes date_passes on_weekday on_month_day on_year_day in_week has has_place has_numbers counts_in_month fills_weekday fills_day fills_month period_of period_first period_end count_between count_where ordinal_name_of days_after_zero days_before_zero month_of_ordinal day_of_ordinal days_of_months_in
+returns-clause-of_no_month c = refl

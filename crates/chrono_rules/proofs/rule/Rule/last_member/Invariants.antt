@@ -5,7 +5,7 @@ use Rattle.chrono_rules.specs.Instances.{is_member}
 use Rattle.chrono_rules.proofs.rule.Rule.last_member.Given as goal
 
 abbrev pub invariant-loop-start : goal.invariant-loop-start
-invariant-loop-start l = (l.day ≤ℤ l.fn.date) × ((d : ℤ) → l.day <ℤ d → d ≤ℤ l.fn.date → is_member l.self l.fn.start d ≡ false)
+invariant-loop-start l = (l.behind ≤ℤ l.top) × ((d : ℤ) → l.behind ≤ℤ d → d <ℤ l.fn.end → is_member l.self l.fn.start d ≡ false)
 
 abbrev pub decreases-loop-start : goal.decreases-loop-start
-decreases-loop-start l = dates_before l.day
+decreases-loop-start l = dates_before l.behind
