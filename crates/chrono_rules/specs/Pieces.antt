@@ -33,10 +33,11 @@ with_digits value (b ∷ bs) = if nat_le (byte "0") b && nat_le b (byte "9") the
 unfoldable pub digits_of : ℕ → List ℕ → Option ℕ
 digits_of most text = if nat_le 1 (length text) && nat_le (length text) most then with_digits 0 text else None
 
--- the number that one digit or more write, if it is below 2^32
+-- the number, if it is no greater
 abbrev pub up_to : ℕ → ℕ → Option ℕ
 up_to most n = if nat_le n most then Some n else None
 
+-- the number that one digit or more write, if it is below 2^32
 unfoldable pub count_of : List ℕ → Option ℕ
 count_of text = if nat_le 1 (length text) then option_and_then (up_to 4_294_967_295) (with_digits 0 text) else None
 

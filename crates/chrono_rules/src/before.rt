@@ -100,7 +100,8 @@ impl Rule {
         }
     }
 
-    /// The last instance before the day, of the rule from the start on; `None` exactly if there is none.
+    /// The last instance before the day, of the rule from the start on; `None` exactly if there is none. COUNT is counted from the start by
+    /// each call.
     #[tactic(auto, unfolding(crate::specs::Instances::is_instance))]
     pub fn prev_before(&self, start: NaiveDate, day: NaiveDate) -> Option<NaiveDate>
         ensures member { IfSome result (λ e. IsTrue (is_instance self.now start e)) }

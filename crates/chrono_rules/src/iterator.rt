@@ -1,5 +1,5 @@
 //! `Instances`: the instances of a rule, one after another.
-ghost use Rattle.std.specs.Prelude.{◌≡◌, ◌≤◌, ◌≤ℤ◌, ◌<ℤ◌, ◌+ℤ◌, ℤ, pos, true, false, IfSome, IfNone};
+ghost use Rattle.std.specs.Prelude.{◌≡◌, ◌≤◌, ◌≤ℤ◌, ◌<ℤ◌, ◌+ℤ◌, ℤ, pos, true, false, IfSome, IfNone, IsSome};
 ghost use Rattle.std.specs.Iterator.{UpTo, YieldsFirst, item_count};
 ghost use Rattle.std.specs.Iterator.SizeHint.{IsWithinCount};
 ghost use Rattle.chrono_datetime.specs.Days.{IsDate};
@@ -154,6 +154,7 @@ impl Iterator for Instances {
         ensures lower { IsWithinCount result.0 (item_count (λ left. left) self.now) }
         ensures upper { IfSome result.1 (UpTo (item_count (λ left. left) self.now)) }
         ensures least { result.0 ≡ 0 }
+        ensures some { IsSome result.1 }
         ensures few { IfSome result.1 (λ most. most ≤ 191_491_529) }
     {
         (0, Some((PAST_LAST_DAY - self.from) as usize))

@@ -1,4 +1,4 @@
-//! Instances that are known, each as a clause of a function that does nothing.
+//! Instances and texts of rules that are known, and that what is written is read, each as a clause of a function that does nothing.
 ghost use Rattle.std.specs.Prelude.{◌≡◌, ◌+◌, ◌^◌, ◌==◌, ◌&&◌, true, false, Some, [], ◌∷◌, neg_ℤ, pos, codes};
 ghost use Rattle.chrono_datetime.specs.declared.Weekday.TheVariants.{Mon, Sun};
 ghost use Rattle.chrono_rules.specs.InstanceLists.{instances_from};

@@ -172,7 +172,7 @@ impl Rule {
         }
     }
 
-    /// How many instances lie from the start up to the date, itself counted if it is one.
+    /// How many instances lie from the start up to the date, itself counted if it is one. They are found one after another.
     pub fn count_to(&self, start: NaiveDate, date: NaiveDate) -> u32
         ensures { result ≡ count_between (is_instance self.now start) start (date +ℤ pos 1) }
     {
@@ -204,7 +204,8 @@ impl Rule {
         self.is_member(start, date) && self.is_counted(start, date)
     }
 
-    /// The first instance after the day, of the rule from the start on; `None` exactly if there is none in the calendar.
+    /// The first instance after the day, of the rule from the start on; `None` exactly if there is none in the calendar. Where no instance comes
+    /// the search goes on to the calendar's end, and COUNT is counted from the start by each call; [`Rule::instances`] counts it once.
     #[tactic(auto, unfolding(crate::specs::Instances::is_instance))]
     pub fn next_after(&self, start: NaiveDate, day: NaiveDate) -> Option<NaiveDate>
         ensures member { IfSome result (λ e. IsTrue (is_instance self.now start e)) }

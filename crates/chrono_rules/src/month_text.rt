@@ -3,7 +3,7 @@ ghost use Rattle.std.specs.Prelude.{◌≡◌};
 ghost use Rattle.chrono_rules.specs.RuleTexts.{months_of, with_month_text};
 
 use crate::pieces::first_piece;
-use crate::place_text::{read_from_one, with_number};
+use crate::place_text::read_from_one;
 use crate::places::NumberSet;
 
 /// The months that BYMONTH lists, as `6,7`: numbers of one digit or two from 1 to 12 between commas; `None` exactly if the text is no such
@@ -29,7 +29,7 @@ fn with_text(months: NumberSet, text: &[u8]) -> Option<NumberSet>
     ensures { result ≡ with_month_text months text.now }
 {
     match read_from_one(text, 2, 12) {
-        Some(month) => Some(with_number(months, month)),
+        Some(month) => Some(months.with(month)),
         None => None,
     }
 }

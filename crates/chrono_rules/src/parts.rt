@@ -167,8 +167,8 @@ impl Rule {
         }
     }
 
-    /// Whether the date is one of the days that BYDAY names: each of its weekday, or the k-th of them in its month or year, from either
-    /// end.
+    /// Whether the date is one of the days that BYDAY names: each of its weekday, or the k-th of them from either end of its month, in a rule
+    /// by months or one with BYMONTH, and else of its year. Numbers count in rules by months and years alone.
     #[tactic(auto, unfolding(crate::specs::Instances::on_weekday))]
     pub fn on_weekday(&self, date: NaiveDate) -> bool
         ensures { result ≡ on_weekday self.now date }
@@ -236,5 +236,5 @@ pub(crate) fn has_digit(word: u64, place: u32) -> bool
     requires { place < 64 }
     ensures { result ≡ (bit_at word place == 1) }
 {
-    (word >> place) & 1 == 1
+    word != 0 && (word >> place) & 1 == 1
 }

@@ -1,7 +1,7 @@
 //! The numbers that the BY parts of a rule list, as texts.
 ghost use Rattle.std.specs.Prelude.{◌≡◌, ◌≤◌, ◌<◌, ℕ, IfSome};
 ghost use Rattle.std.specs.Option.{option_map};
-ghost use Rattle.chrono_rules.specs.Places.{ends_of, no_ends, number_of, place, place_of, with_number, with_place, with_place_text};
+ghost use Rattle.chrono_rules.specs.Places.{ends_of, no_ends, number_of, place, place_of, with_place, with_place_text};
 
 use crate::pieces::{first_piece, read_digits};
 use crate::places::NumberSet;
@@ -43,24 +43,14 @@ impl BothEnds {
         if place.from_end {
             BothEnds {
                 front: self.front,
-                back: with_number(self.back, place.number),
+                back: self.back.with(place.number),
             }
         } else {
             BothEnds {
-                front: with_number(self.front, place.number),
+                front: self.front.with(place.number),
                 back: self.back,
             }
         }
-    }
-}
-
-// The set and a number.
-pub(crate) fn with_number(set: NumberSet, number: u32) -> NumberSet
-    requires { number < 64 }
-    ensures { result ≡ with_number set number }
-{
-    NumberSet {
-        digits: set.digits | (1 << number),
     }
 }
 

@@ -2,6 +2,8 @@
 ghost use Rattle.std.specs.Prelude.{◌≡◌, ◌<◌, ◌==◌, ◌&&◌, ℕ};
 ghost use Rattle.std.specs.Int.{bit_at};
 ghost use Rattle.chrono_rules.specs.Instances.{are_zero, has, has_place, no_numbers, no_places, no_weekdays};
+ghost use Rattle.chrono_rules.specs.Places.{with_number};
+ghost use Rattle.chrono_rules.specs.RuleTexts.{with_day};
 
 /// A set of numbers from 0 to 63, stored as binary digits.
 #[derive(Clone, Copy, PartialEq, Eq, Debug)]
@@ -19,7 +21,7 @@ impl NumberSet {
         NumberSet { digits: 0 }
     }
 
-    /// Whether the number is a member.
+    /// Whether the number, 0 to 63, is a member.
     #[inline]
     #[tactic(auto, using(std::proofs::lemmas::Nat::Bits::shr_and_one), unfolding(crate::specs::Instances::has))]
     pub fn contains(self, number: u32) -> bool
@@ -27,6 +29,17 @@ impl NumberSet {
         ensures { result ≡ has self number }
     {
         (self.digits >> number) & 1 == 1
+    }
+
+    /// The set and the number, 0 to 63.
+    #[inline]
+    pub fn with(self, number: u32) -> NumberSet
+        requires { number < 64 }
+        ensures { result ≡ with_number self number }
+    {
+        NumberSet {
+            digits: self.digits | (1 << number),
+        }
     }
 
     /// Whether there is no member.
@@ -56,7 +69,7 @@ impl PlaceSet {
         }
     }
 
-    /// Whether the number is a member.
+    /// Whether the number, 0 to 383, is a member.
     #[inline]
     #[tactic(auto, using(std::proofs::lemmas::Nat::Bits::shr_and_one), unfolding(crate::specs::Instances::has_place))]
     pub fn contains(&self, number: u32) -> bool
@@ -64,6 +77,18 @@ impl PlaceSet {
         ensures { result ≡ has_place self.now number }
     {
         (self.words[(number / 64) as usize] >> (number % 64)) & 1 == 1
+    }
+
+    /// The set and the number, 0 to 383.
+    #[inline]
+    pub fn with(self, number: u32) -> PlaceSet
+        requires { number < 384 }
+        ensures { result ≡ with_day self number }
+    {
+        let mut set = self;
+        let word = (number / 64) as usize;
+        set.words[word] = set.words[word] | (1 << (number % 64));
+        set
     }
 
     /// Whether there is no member.

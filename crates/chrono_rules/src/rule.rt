@@ -29,8 +29,8 @@ pub enum End {
     Until(NaiveDate),
 }
 
-/// A recurrence rule over days. A BY part with an empty set is one that the rule does not have; a number that a part cannot have counts
-/// for nothing.
+/// A recurrence rule over days (RFC 5545, 3.3.10). A BY part with an empty set is one that the rule does not have. A number that a part
+/// cannot have, as the month 13, names no day; a part with such numbers alone lets none pass.
 #[derive(Clone, Copy, PartialEq, Eq, Debug)]
 pub struct Rule {
     /// What its periods are.
@@ -51,11 +51,11 @@ pub struct Rule {
     pub year_days: PlaceSet,
     /// The same from the year's end, 1 for the last.
     pub year_days_from_end: PlaceSet,
-    /// The weeks of the year, 1 to 53 (BYWEEKNO).
+    /// The weeks of the year, 1 to 53 (BYWEEKNO): a week begins on `week_start`, and belongs to the year of its fourth day.
     pub weeks: NumberSet,
     /// The same from the end of the week's year, 1 for the last.
     pub weeks_from_end: NumberSet,
-    /// Of the days of a period that pass all other parts, the k-th, from 1 (BYSETPOS).
+    /// Of the days of a period that pass all other parts, the k-th, 1 to 366 (BYSETPOS). Days before the start take their places too.
     pub positions: PlaceSet,
     /// The same from the last of them, 1 for that.
     pub positions_from_end: PlaceSet,

@@ -3,7 +3,7 @@ ghost use Rattle.std.specs.Prelude.{◌≡◌, ◌<◌, IfSome};
 ghost use Rattle.chrono_rules.specs.Places.{weekday_of_letters, weekdays_of, with_each, with_nth, with_weekday, with_weekday_text};
 
 use crate::pieces::first_piece;
-use crate::place_text::{Place, read_place, with_number};
+use crate::place_text::{Place, read_place};
 use crate::places::WeekdayPlaces;
 use crate::values::is_same_text;
 
@@ -82,7 +82,7 @@ fn with_each(days: WeekdayPlaces, weekday: usize) -> WeekdayPlaces
     ensures { result ≡ with_each days weekday }
 {
     let mut days = days;
-    days.every = with_number(days.every, weekday as u32);
+    days.every = days.every.with(weekday as u32);
     days
 }
 

@@ -20,7 +20,7 @@ use std::fmt;
 const LONGEST: usize = 17_000;
 
 impl Rule {
-    /// Puts the rule's text, as `FREQ=MONTHLY;BYDAY=-1FR`, behind another text. There is room for 17,000 bytes.
+    /// Puts the rule's text, as `FREQ=MONTHLY;BYDAY=-1FR`, behind another text. Asks for room for 17,000 bytes.
     pub fn put_into<const N: usize>(&self, text: &mut Text<N>)
         requires { length text.old + 17000 ≤ N }
         ensures text { text.new ≡ text.old ++ rule_text self.now }

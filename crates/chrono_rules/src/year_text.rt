@@ -1,6 +1,6 @@
 //! The days of the year and the positions that a rule lists, as texts.
 ghost use Rattle.std.specs.Prelude.{◌≡◌, ◌<◌, ◌/◌, ◌%◌};
-ghost use Rattle.chrono_rules.specs.RuleTexts.{no_year_ends, with_day, with_year_place, with_year_text, year_ends_of};
+ghost use Rattle.chrono_rules.specs.RuleTexts.{no_year_ends, with_year_place, with_year_text, year_ends_of};
 
 use crate::pieces::first_piece;
 use crate::place_text::{Place, read_place};
@@ -34,26 +34,15 @@ impl YearEnds {
         if place.from_end {
             YearEnds {
                 front: self.front,
-                back: with_day(self.back, place.number),
+                back: self.back.with(place.number),
             }
         } else {
             YearEnds {
-                front: with_day(self.front, place.number),
+                front: self.front.with(place.number),
                 back: self.back,
             }
         }
     }
-}
-
-// The set and a number.
-fn with_day(set: PlaceSet, number: u32) -> PlaceSet
-    requires { number < 384 }
-    ensures { result ≡ with_day set number }
-{
-    let mut set = set;
-    let word = (number / 64) as usize;
-    set.words[word] = set.words[word] | (1 << (number % 64));
-    set
 }
 
 /// The days of the year that BYYEARDAY lists, or the positions that BYSETPOS lists, as `1,-1`: numbers of one digit to three from 1 to 366

@@ -1,5 +1,5 @@
 //! `RecurrenceDays`: the days of a recurrence, one after another.
-ghost use Rattle.std.specs.Prelude.{◌≡◌, ◌≤◌, IfSome};
+ghost use Rattle.std.specs.Prelude.{◌≡◌, ◌≤◌, IfSome, IsSome};
 ghost use Rattle.std.specs.Iterator.{UpTo, YieldsFirst, item_count};
 ghost use Rattle.std.specs.Iterator.SizeHint.{IsWithinCount};
 ghost use Rattle.chrono_datetime.specs.Recurrence.{first_date};
@@ -93,6 +93,7 @@ impl<'b, 'a> Iterator for RecurrenceDays<'b, 'a> {
         ensures lower { IsWithinCount result.0 (item_count (λ left. left) self.now) }
         ensures upper { IfSome result.1 (UpTo (item_count (λ left. left) self.now)) }
         ensures least { result.0 ≡ 0 }
+        ensures some { IsSome result.1 }
         ensures few { IfSome result.1 (λ most. most ≤ 191_491_529) }
     {
         (0, Some((PAST_LAST_DAY - self.from) as usize))
