@@ -1,5 +1,5 @@
 //! What a search for a member passes over at once.
-ghost use Rattle.std.specs.Prelude.{◌≡◌, ◌≤◌, ◌<◌, ◌+◌, ◌-◌, ◌%◌, ◌==◌, ◌≤ℤ◌, ◌<ℤ◌, ◌+ℤ◌, ℤ, ℕ, pos, true, false, IfSome, IfNone};
+ghost use Rattle.std.specs.Prelude.{◌≡◌, ◌≤◌, ◌<◌, ◌+◌, ◌-◌, ◌%◌, ◌==◌, ◌≤ℤ◌, ◌<ℤ◌, ◌+ℤ◌, ℤ, ℕ, pos, true, false, IsFalse, IfSome, IfNone};
 ghost use Rattle.std.specs.Int.{IsInRange};
 ghost use Rattle.chrono_datetime.specs.Days.{IsDate, day_of, month_of};
 ghost use Rattle.chrono_datetime.specs.MonthMoves.{month_index_of};
@@ -90,14 +90,48 @@ impl Rule {
         let place = day.day();
         let behind = u32::from(day.num_days_in_month()) - place;
         let weekday = day.weekday().num_days_from_monday();
-        let mut later = 0;
+        let mut days = behind + 1;
+        let mut first = 0;
+        while first < days.min(7) {
+            let one = self.days_to_one_weekday((weekday + first) % 7, first, place, behind);
+            days = one.min(days);
+            first += 1;
+        }
+        days
+    }
+
+    // How many days from a place on to a day of the weekday that BYDAY names, of which the first comes so many days later; to the end of the
+    // month if it names none there.
+    fn days_to_one_weekday(&self, weekday: u32, first: u32, place: u32, behind: u32) -> u32
+        requires weekday { weekday < 7 }
+        requires first { first < 7 }
+        requires place { IsInRange 1 31 place }
+        requires behind { behind < 31 }
+        ensures passed { (j : ℕ) → j < result → j ≤ behind → j % 7 ≡ first → names_weekday self.now weekday (place + j) (behind - j) ≡ false }
+        ensures few { result ≤ behind + 1 }
+    {
+        if !self.has_weekday(weekday) {
+            return behind + 1;
+        }
+        let mut later = first;
         while later <= behind {
-            if self.names_weekday((weekday + later) % 7, place + later, behind - later) {
+            if self.names_weekday(weekday, place + later, behind - later) {
                 return later;
             }
-            later += 1;
+            later += 7;
         }
-        later
+        behind + 1
+    }
+
+    // Whether BYDAY names days of the weekday at all.
+    #[inline]
+    fn has_weekday(&self, weekday: u32) -> bool
+        requires { weekday < 7 }
+        ensures { IsFalse result → (place : ℕ) (behind : ℕ) → names_weekday self.now weekday place behind ≡ false }
+    {
+        self.weekdays.every.contains(weekday)
+            || (self.weekdays.front[weekday as usize] != 0
+                || self.weekdays.back[weekday as usize] != 0)
     }
 
     // Whether BYDAY names a day of that weekday, at a place with so many days behind it.
