@@ -4,7 +4,7 @@
     benches/rules.py
 
 It needs crates/rules_rows/out/rules_rows, which `rt run` and `rt ci` leave there. A row of it says how many calls of `next_after`, each from the day that the last one
-gave, lead to the last instance of 400 years, which a walk over the days has found before: that is the call alone. In another row all of these instances are looked for by
+gave, lead to the last instance of 400 years, which a walk over the days has found before: that is the call alone, 100,000 times. In another row all of these instances are looked for by
 `next_after`, read and tested by `is_instance`. dateutil gives the same instances one after another, which are compared first. The best of seven runs counts, by processor time.
 """
 import datetime
@@ -19,7 +19,7 @@ sys.path.insert(0, os.path.join(TOP, "checks"))
 import rules_days
 from rules_days import DAILY, DEBIAN, MONTHLY, ROWS, WEEKLY, YEARLY, Date, Rule, of_dateutil, walked
 
-COPIES = 20
+CALLS = 100_000
 ROUNDS = 7
 FRIDAY = 4
 
@@ -77,10 +77,11 @@ def main():
         end = start.replace(year=start.year + 400, day=1)
         rule.until = end - datetime.timedelta(1)
         days = walked(rule, start, end)
-        rows = (rule.row(start, days, True) + "\n") * COPIES
-        nanos = (seconds_of(rows) - alone) / COPIES / len(days) * 1e9
-        rows = f"call {rule.text()} {start.toordinal()} *{len(days)} = {days[-1].toordinal()}\n" * COPIES
-        call = (seconds_of(rows) - alone) / COPIES / len(days) * 1e9
+        copies = max(1, CALLS // len(days))
+        rows = (rule.row(start, days, True) + "\n") * copies
+        nanos = (seconds_of(rows) - alone) / copies / len(days) * 1e9
+        rows = f"call {rule.text()} {start.toordinal()} *{len(days)} = {days[-1].toordinal()}\n" * copies
+        call = (seconds_of(rows) - alone) / copies / len(days) * 1e9
         other = seconds_of_dateutil(rule, start, days) if rules_days.rrule else None
         beside = f"{other / len(days) * 1e9:,.0f} | {other / len(days) * 1e9 / call:,.0f}" if other else " | "
         print(f"| `{text}` | {call:,.0f} | {nanos:,.0f} | {beside} |")
