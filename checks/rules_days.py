@@ -166,16 +166,16 @@ def passes(rule, start, date):
 
 
 def walked(rule, start, end):
-    """The instances from the start to before a date, by a walk over all its days, a period at a time."""
+    """The instances from the start to before a date, by a walk over all its days, a period at a time, the last one whole."""
     day = Date.fromordinal(week_first(start, rule.week_start)) if rule.frequency == WEEKLY else start.replace(month=1, day=1)
-    days = (Date.fromordinal(it) for it in range(day.toordinal(), end.toordinal()))
+    days = (Date.fromordinal(it) for it in range(day.toordinal(), end.toordinal() + 366))
     found = []
     for number, dates in itertools.groupby(days, lambda it: period(rule, it)):
         if (number - period(rule, start)) % rule.interval:
             continue
         passing = [it for it in dates if passes(rule, start, it)]
         chosen = [it for place, it in enumerate(passing, 1) if not rule.positions or in_list(rule.positions, place, len(passing))]
-        found += [it for it in chosen if it >= start and (rule.until is None or it <= rule.until)]
+        found += [it for it in chosen if start <= it < end and (rule.until is None or it <= rule.until)]
     return found[: rule.count]
 
 
