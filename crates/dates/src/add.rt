@@ -1,6 +1,6 @@
 //! Days and date-times, moved by spans, open days and times.
 
-use crate::closed::{put_listed, put_ruled, years_of_open_days};
+use crate::closed::{put_days, put_ruled, years_of_open_days};
 use crate::fault::{ANSWERED, NONE, WRONG};
 use crate::print::{print_date, print_moment, print_none};
 use chrono_business::Calendar;
@@ -9,27 +9,22 @@ use dates_answer::moved;
 use dates_request::{Form, Move, Options, Start, read_move};
 use std::alloc::Allocator;
 use std::io::{self, Eprint};
-use std::rt::Files;
 
-// The start moved by so many words from the third on, one after another, or `none` where one of them leads out of the calendar.
+// The start moved by what each of the words writes, one after another, or `none` where one of them leads out of the calendar.
 pub(crate) fn answer_add(
-    rt: &(impl Alloc + Print + Eprint + Files),
+    rt: &(impl Alloc + Print + Eprint),
     form: Form,
-    words: &[String<impl Allocator>],
+    listed: &[NaiveDate],
+    moves: &[String<impl Allocator>],
     start: Start,
-    moves: usize,
     options: Options,
 ) -> io::Result<u8> {
-    let mut listed: Vec<NaiveDate, _> = Vec::new(rt.alloc());
-    if !put_listed(rt, words, options, &mut listed)? {
-        return Ok(WRONG);
-    }
     let mut last = start;
-    for word in words.iter().skip(2).take(moves) {
+    for word in moves {
         let Some(by) = read_move(word.as_str().as_bytes()) else {
             return Ok(WRONG);
         };
-        let Some(reached) = moved_by(rt, &last, &by, options, listed.as_slice())? else {
+        let Some(reached) = moved_by(rt, &last, &by, options, listed)? else {
             return refuse_move(rt, form, &last, word.as_str());
         };
         last = reached;
@@ -141,12 +136,4 @@ fn open_day(
         return Ok(None);
     };
     Ok(calendar.add_open_days(date, count))
-}
-
-// Puts days into a list.
-fn put_days(listed: &[NaiveDate], days: &mut Vec<NaiveDate, impl Allocator>) -> io::Result<()> {
-    for day in listed {
-        days.push(*day)?;
-    }
-    Ok(())
 }

@@ -1,6 +1,7 @@
 //! The answer to a request.
 
 use crate::add::answer_add;
+use crate::closed::put_listed;
 use crate::day_names::print_names;
 use crate::distance::{answer_distance, answer_duration};
 use crate::due::{Way, answer_due};
@@ -14,17 +15,33 @@ use crate::recurring::{Wanted, answer_instances};
 use crate::sequence::{answer_days, answer_sequence};
 use crate::sheet::answer_sheet;
 use crate::year::{answer_easter, answer_leap, answer_week};
+use chrono_datetime::NaiveDate;
 use dates_request::{Form, Request, Unit};
 use std::alloc::Allocator;
 use std::io::{self, Eprint};
 use std::rt::Files;
 
-// Answers a request, which the words made; the exit status.
+// Reads the file of holidays that the words name, and answers the request that they make; the exit status.
+pub(crate) fn answer_words(
+    rt: &(impl Alloc + Print + Eprint + Input + Files),
+    form: Form,
+    request: Request,
+    words: &[String<impl Allocator>],
+) -> io::Result<u8> {
+    let mut listed: Vec<NaiveDate, _> = Vec::new(rt.alloc());
+    if !put_listed(rt, words, request, &mut listed)? {
+        return Ok(WRONG);
+    }
+    answer(rt, form, request, words, listed.as_slice())
+}
+
+// Answers a request, which the words made, where the file of holidays that they name lists these days; the exit status.
 pub(crate) fn answer(
     rt: &(impl Alloc + Print + Eprint + Input + Files),
     form: Form,
     request: Request,
     words: &[String<impl Allocator>],
+    listed: &[NaiveDate],
 ) -> io::Result<u8> {
     match request {
         Request::Lines => answer_lines(rt, form),
@@ -39,11 +56,11 @@ pub(crate) fn answer(
             start,
             moves,
             options,
-        } => answer_add(rt, form, words, start, moves, options),
+        } => answer_add(rt, form, listed, moves_of(words, moves), start, options),
         Request::Distance { from, to } => answer_distance(rt, form, from, to, Unit::Days),
         Request::DistanceIn { from, to, unit } => answer_distance(rt, form, from, to, unit),
         Request::DistanceInOpenDays { from, to, options } => {
-            answer_open_days(rt, form, words, from, to, options)
+            answer_open_days(rt, form, listed, from, to, options)
         }
         Request::DistanceInParts { from, to } => answer_parts(rt, form, from, to),
         Request::Duration { from, to } => answer_duration(rt, form, from, to),
@@ -52,21 +69,27 @@ pub(crate) fn answer(
         Request::Week { first } => answer_week(rt, form, first),
         Request::Easter { year } => answer_easter(rt, form, year),
         Request::Leap { year } => answer_leap(rt, form, year),
-        Request::Open { date, options } => answer_open(rt, form, words, date, options),
+        Request::Open { date, options } => answer_open(rt, form, listed, date, options),
         Request::Rolled {
             date,
             convention,
             options,
-        } => answer_roll(rt, form, words, date, convention, options),
+        } => answer_roll(rt, form, listed, date, convention, options),
         Request::Check => match words {
             [_, file, ..] => answer_file(rt, form, file.as_str()),
             _ => Ok(WRONG),
         },
         Request::Next { from, count } => answer_due(rt, form, from, count, Way::On, words),
         Request::Prev { from, count } => answer_due(rt, form, from, count, Way::Back, words),
-        Request::Sheet { time, options } => answer_sheet(rt, form, words, time, options),
+        Request::Sheet { time, options } => answer_sheet(rt, form, listed, time, options),
         Request::Instances { start, from, most } => {
             answer_instances(rt, form, Wanted { start, from, most }, words)
         }
     }
+}
+
+// So many words from the third on, which write moves.
+fn moves_of<'a, A: Allocator>(words: &'a [String<A>], moves: usize) -> &'a [String<A>] {
+    let end = moves.saturating_add(2).min(words.len());
+    &words[2.min(end)..end]
 }

@@ -1,9 +1,9 @@
 //! Which days are closed, by the options of a request.
 
-use crate::quoted::Word;
+use crate::source::{Source, refuse_source};
 use chrono_business::{HolidayRule, england_and_wales, target, us_federal, without_weekends};
 use chrono_datetime::{Datelike, NaiveDate, Weekday, WeekdaySet};
-use dates_request::{HolidayCalendar, Options, read_day};
+use dates_request::{HolidayCalendar, Options, Request, read_day};
 use std::alloc::Allocator;
 use std::fs;
 use std::io::{self, BufRead, BufReader, Eprint};
@@ -57,33 +57,65 @@ pub(crate) fn years_of_open_days(date: NaiveDate, count: i64, listed: usize) -> 
 // No more years lie between two dates.
 const MOST_YEARS: i32 = 600_000;
 
-// Puts the holidays of the options into a list, in order and but for those on the weekend: all of their file, and those of
-// their rules in these years, in the file's years, and in a year before and behind them. False where a line of the file
-// is no day, which is said.
+// Puts the holidays of the options into a list, in order and but for those on the weekend: those listed by their file, and those of
+// their rules in these years, in the file's years, and in a year before and behind them.
 pub(crate) fn put_holidays(
-    rt: &(impl Alloc + Eprint + Files),
-    words: &[String<impl Allocator>],
+    listed: &[NaiveDate],
     options: Options,
     years: Years,
     days: &mut Vec<NaiveDate, impl Allocator>,
-) -> io::Result<bool> {
-    if !put_listed(rt, words, options, days)? {
-        return Ok(false);
-    }
+) -> io::Result<()> {
+    put_days(listed, days)?;
     let _weekend = put_ruled(options, years, days)?;
-    Ok(true)
+    Ok(())
 }
 
-// Puts the days of the options' file into a list; false where a line of it is no day, which is said.
+// Puts days into a list.
+pub(crate) fn put_days(
+    listed: &[NaiveDate],
+    days: &mut Vec<NaiveDate, impl Allocator>,
+) -> io::Result<()> {
+    for day in listed {
+        days.push(*day)?;
+    }
+    Ok(())
+}
+
+// Puts the days of the file that the words of a request name into a list; false where it cannot be read or a line of it is no
+// day, which is said.
 pub(crate) fn put_listed(
     rt: &(impl Alloc + Eprint + Files),
     words: &[String<impl Allocator>],
-    options: Options,
+    request: Request,
     days: &mut Vec<NaiveDate, impl Allocator>,
 ) -> io::Result<bool> {
-    match options.file {
-        Some(behind) => put_file(rt, file_of(words, behind), days),
+    let Some(behind) = file_of(request) else {
+        return Ok(true);
+    };
+    let place = words.len().saturating_sub(behind);
+    match words.get(place.saturating_sub(1)) {
+        Some(file) => put_file(
+            rt,
+            Source::File {
+                place,
+                name: file.as_str(),
+            },
+            file.as_str(),
+            days,
+        ),
         None => Ok(true),
+    }
+}
+
+// Behind the name of its file of holidays so many words of a request stand.
+fn file_of(request: Request) -> Option<usize> {
+    match request {
+        Request::Add { options, .. }
+        | Request::DistanceInOpenDays { options, .. }
+        | Request::Open { options, .. }
+        | Request::Rolled { options, .. } => options.file,
+        Request::Sheet { options, .. } => options.closed.file,
+        _ => None,
     }
 }
 
@@ -107,33 +139,42 @@ pub(crate) fn put_ruled(
     Ok(weekend)
 }
 
-// The word behind which so many words stand.
-fn file_of<'a>(words: &'a [String<impl Allocator>], behind: usize) -> &'a str {
-    match words.iter().rev().nth(behind) {
-        Some(word) => word.as_str(),
-        None => "",
-    }
-}
-
-// Puts the day of each line of a file into the list; false where a line is no day, which is said.
+// Puts the day of each line of a file into the list; false where it cannot be read or a line is no day, which is said.
 fn put_file(
     rt: &(impl Alloc + Eprint + Files),
+    source: Source<'_>,
     file: &str,
     days: &mut Vec<NaiveDate, impl Allocator>,
 ) -> io::Result<bool> {
+    let opened = match fs::open(rt, file) {
+        Ok(opened) => opened,
+        Err(fault) => return say_unread(rt, source, &fault),
+    };
     let mut number: u64 = 0;
-    for line in BufReader::new(rt.alloc(), fs::open(rt, file)?)?.split(rt.alloc(), b'\n') {
+    for line in BufReader::new(rt.alloc(), opened)?.split(rt.alloc(), b'\n') {
         number = number.saturating_add(1);
-        match read_day(line?.as_slice()) {
+        let line = match line {
+            Ok(line) => line,
+            Err(fault) => return say_unread(rt, source, &fault),
+        };
+        match read_day(line.as_slice()) {
             Ok(day) => days.push(day)?,
-            Err(_) => {
-                let file = Word { text: file };
-                eprintln!(rt; "dates: {file}, line {number}: expected a day as 2024-02-29")?;
-                return Ok(false);
-            }
+            Err(_) => return say_no_day(rt, source, number),
         }
     }
     Ok(true)
+}
+
+// Says that a file could not be read, and why; false.
+fn say_unread(rt: &impl Eprint, source: Source<'_>, fault: &io::Error) -> io::Result<bool> {
+    let _status = refuse_source(rt, source, fault)?;
+    Ok(false)
+}
+
+// Says that a line of a file is no day; false.
+fn say_no_day(rt: &impl Eprint, source: Source<'_>, number: u64) -> io::Result<bool> {
+    eprintln!(rt; "dates: {source}, line {number}: expected a day as 2024-02-29")?;
+    Ok(false)
 }
 
 // The years of the calendar.

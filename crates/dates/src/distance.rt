@@ -1,6 +1,7 @@
 //! How far it is from one day to another.
 
 use crate::fault::ANSWERED;
+use crate::parts::PARTS;
 use crate::print::print_number;
 use chrono_datetime::{NaiveDate, NaiveDateTime};
 use dates_answer::distance;
@@ -35,7 +36,7 @@ pub(crate) fn answer_duration(
 }
 
 // The key of a number of units.
-fn key_of(unit: Unit) -> &'static str {
+pub(crate) fn key_of(unit: Unit) -> &'static str {
     match unit {
         Unit::Days => "days",
         Unit::Weeks => "weeks",
@@ -44,13 +45,14 @@ fn key_of(unit: Unit) -> &'static str {
     }
 }
 
-// The key of a number of what a measure names: days where it names nothing else.
+// The key of a number of what a measure names, or the keys: days where it names nothing else.
 pub(crate) fn key_of_measure(measure: &str) -> &'static str {
     match measure {
         "w" => "weeks",
         "m" => "months",
         "y" => "years",
         "b" => "open_days",
+        "ymd" => PARTS,
         _ => "days",
     }
 }

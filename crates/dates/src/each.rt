@@ -1,9 +1,14 @@
 //! Commands that are asked of each line of standard input.
 
 use crate::answer::answer;
+use crate::closed::put_listed;
+use crate::distance::key_of;
 use crate::fault::{ANSWERED, NONE, WRONG, refuse};
+use crate::parts::PARTS;
 use crate::print::print_none;
-use dates_request::{Form, Request, Wrong, read_request};
+use crate::source::{Source, refuse_source};
+use chrono_datetime::NaiveDate;
+use dates_request::{Form, Request, Start, Why, Wrong, read_request};
 use std::alloc::Allocator;
 use std::io::{self, BufRead, BufReader, Eprint};
 use std::rt::Files;
@@ -13,6 +18,13 @@ const DAY: &[u8] = b"2000-01-01";
 
 const MOMENT: &[u8] = b"2000-01-01T00:00";
 
+/// Where lines stand among words: behind so many, and in front of those from a place on.
+#[derive(Clone, Copy)]
+struct Lines {
+    front: usize,
+    back: usize,
+}
+
 // Answers each line of the input where the words have `-` in the place of a day, or lack a day, and else says which of them is wrong; the
 // exit status.
 pub(crate) fn answer_each<R: Alloc + Print + Eprint + Input + Files>(
@@ -21,27 +33,48 @@ pub(crate) fn answer_each<R: Alloc + Print + Eprint + Input + Files>(
     words: &mut Vec<String<R::A>, R::A>,
     wrong: Wrong,
 ) -> io::Result<u8> {
-    if let Some(place) = place_left_out(rt, words.as_slice())? {
+    let Some(lines) = lines_among(words.as_slice()) else {
+        return refuse(rt, form, words.as_slice(), wrong);
+    };
+    let request = match asked_of_lines(rt, words.as_slice(), lines)? {
+        Ok(request) => request,
+        Err(other) => {
+            let fault = fault_of(words.as_slice(), lines, wrong, other);
+            return refuse(rt, form, words.as_slice(), fault);
+        }
+    };
+    let mut listed: Vec<NaiveDate, _> = Vec::new(rt.alloc());
+    if !put_listed(rt, words.as_slice(), request, &mut listed)? {
+        return Ok(WRONG);
+    }
+    if is_left_out(lines) {
         let end = words.len();
-        words.insert(place.min(end), String::from_str(rt.alloc(), "-")?)?;
+        words.insert(lines.front.min(end), String::from_str(rt.alloc(), "-")?)?;
     }
-    match place_of_lines(words.as_slice()) {
-        Some(place) => answer_at(rt, form, words.as_slice(), place),
-        None => refuse(rt, form, words.as_slice(), wrong),
-    }
+    answer_at(
+        rt,
+        form,
+        words.as_slice(),
+        lines.front,
+        request,
+        listed.as_slice(),
+    )
 }
 
-// The place of a day that the words lack: they ask for something once one is put in there.
-fn place_left_out(rt: &impl Alloc, words: &[String<impl Allocator>]) -> io::Result<Option<usize>> {
-    let place = match words {
-        [command] if command.as_str() == "open" => 1,
-        [command, _, ..] if takes_day(command.as_str()) => 1,
-        [command, _, ..] if command.as_str() == "diff" => 2,
-        _ => return Ok(None),
-    };
-    let (front, back) = words.split_at(place);
-    let asked = asked_of_lines(rt, front, back)?;
-    Ok(asked.is_ok().then_some(place))
+// Where lines stand among the words: in the place of `-`, or where a day can be left out.
+fn lines_among(words: &[String<impl Allocator>]) -> Option<Lines> {
+    match words {
+        [command] if command.as_str() == "open" => Some(Lines { front: 1, back: 1 }),
+        [command, first, ..] if takes_day(command.as_str()) => Some(lines_at(1, first.as_str())),
+        [command, first, ..] if command.as_str() == "diff" && first.as_str() == "-" => {
+            Some(Lines { front: 1, back: 2 })
+        }
+        [command, _] if command.as_str() == "diff" => Some(Lines { front: 2, back: 2 }),
+        [command, _, second, ..] if command.as_str() == "diff" => {
+            Some(lines_at(2, second.as_str()))
+        }
+        _ => None,
+    }
 }
 
 // Whether the first argument of the command is a day, and the only one.
@@ -49,34 +82,81 @@ fn takes_day(command: &str) -> bool {
     command == "add" || command == "open" || command == "roll"
 }
 
-// The place of `-` among the words, where it stands for a day.
-fn place_of_lines(words: &[String<impl Allocator>]) -> Option<usize> {
-    match words {
-        [command, first, ..] if takes_day(command.as_str()) && first.as_str() == "-" => Some(1),
-        [command, first, ..] if command.as_str() == "diff" && first.as_str() == "-" => Some(1),
-        [command, _, second, ..] if command.as_str() == "diff" && second.as_str() == "-" => Some(2),
-        _ => None,
+// The lines behind so many words: in the place of this word where it is `-`, and else in front of it.
+fn lines_at(front: usize, word: &str) -> Lines {
+    if word == "-" {
+        let back = front.saturating_add(1);
+        Lines { front, back }
+    } else {
+        Lines { front, back: front }
     }
 }
 
-// Answers each line in the place of the word there; the exit status.
+// Whether no word stands for the lines.
+fn is_left_out(lines: Lines) -> bool {
+    lines.front == lines.back
+}
+
+// What to say where the words ask for nothing, by the first fault as they stand and by the second with a line among them: where a
+// day may be left out the one that lies further on.
+fn fault_of(words: &[String<impl Allocator>], lines: Lines, wrong: Wrong, other: Wrong) -> Wrong {
+    if !is_left_out(lines) {
+        return other;
+    }
+    let mut place = other.place;
+    if place > lines.front {
+        place = place.saturating_sub(1);
+    }
+    if place > wrong.place || (place == wrong.place && is_no_day(words, place, other.why)) {
+        Wrong {
+            place,
+            why: other.why,
+        }
+    } else {
+        wrong
+    }
+}
+
+// Whether the word at this place, which is no day and not what else was expected there, was meant for that: it begins as an
+// option does, or with a letter where a convention stands, or `in` in front of a unit.
+fn is_no_day(words: &[String<impl Allocator>], place: usize, expected: Why) -> bool {
+    let Some(word) = words.get(place.saturating_sub(1)) else {
+        return false;
+    };
+    let letter = word.as_str().starts_with(|c: char| c.is_ascii_alphabetic());
+    match expected {
+        Why::Convention => letter,
+        Why::In => letter && place < words.len(),
+        _ => word.as_str().starts_with("--"),
+    }
+}
+
+// Answers each line in the place of the word there, as words that ask for such a request; the exit status.
 fn answer_at(
     rt: &(impl Alloc + Print + Eprint + Input + Files),
     form: Form,
     words: &[String<impl Allocator>],
     place: usize,
+    example: Request,
+    listed: &[NaiveDate],
 ) -> io::Result<u8> {
     let end = words.len();
     let front = &words[..place.min(end)];
     let back = &words[place.saturating_add(1).min(end)..];
-    if let Err(wrong) = asked_of_lines(rt, front, back)? {
-        return refuse(rt, form, words, wrong);
-    }
     let mut status = ANSWERED;
     for line in BufReader::new(rt.alloc(), rt.reader())?.split(rt.alloc(), b'\n') {
-        let of_line = match asked_with(rt, front, line?.as_slice(), back)? {
-            Ok(Request::HelpOf { .. }) | Err(_) => answer_no_day(rt, form)?,
-            Ok(request) => answer(rt, form, request, words)?,
+        let line = match line {
+            Ok(line) => line,
+            Err(fault) => return refuse_source(rt, Source::Input, &fault),
+        };
+        let of_line = match asked_with(rt, front, line.as_slice(), back)? {
+            Ok(Request::HelpOf { .. }) | Err(_) => answer_no_day(
+                rt,
+                form,
+                line.as_slice(),
+                example,
+            )?,
+            Ok(request) => answer(rt, form, request, words, listed)?,
         };
         if of_line == WRONG {
             return Ok(WRONG);
@@ -86,24 +166,54 @@ fn answer_at(
     Ok(status)
 }
 
-// Answers a line that is no day.
-fn answer_no_day(rt: &impl Print, form: Form) -> io::Result<u8> {
-    print_none(rt, form, "date")?;
+// Answers a line that is no day, by the keys of such a request.
+fn answer_no_day(rt: &impl Print, form: Form, line: &[u8], example: Request) -> io::Result<u8> {
+    print_none(rt, form, keys_of(example, line))?;
     Ok(NONE)
 }
 
-// Whether the words ask for something of days or of date-times between those in front and those behind; which of them is wrong if not.
+// The keys of the answer to a request, with commas between them, where a line is no day: one with a `T` in it may have been meant
+// for a date-time.
+fn keys_of(example: Request, line: &[u8]) -> &'static str {
+    match example {
+        Request::Open { .. } => "open",
+        Request::Distance { .. } => "days",
+        Request::DistanceIn { unit, .. } => key_of(unit),
+        Request::DistanceInOpenDays { .. } => "open_days",
+        Request::DistanceInParts { .. } => PARTS,
+        Request::Duration { .. } => "duration",
+        Request::Add { start, .. } => key_of_start(start, line),
+        _ => "date",
+    }
+}
+
+// The key of what is moved, a date-time where the line was meant for one or has to be one.
+fn key_of_start(start: Start, line: &[u8]) -> &'static str {
+    match start {
+        Start::DateTime(_) => "moment",
+        Start::Day(_) if line.contains(&b'T') => "moment",
+        Start::Day(_) => "date",
+    }
+}
+
+// What the words ask for with a day or a date-time in the place of a line; of two faults the one that lies further on.
 fn asked_of_lines(
     rt: &impl Alloc,
-    front: &[String<impl Allocator>],
-    back: &[String<impl Allocator>],
+    words: &[String<impl Allocator>],
+    lines: Lines,
 ) -> io::Result<Result<Request, Wrong>> {
-    let of_day = asked_with(rt, front, DAY, back)?;
-    if of_day.is_ok() {
-        return Ok(of_day);
+    let end = words.len();
+    let front = &words[..lines.front.min(end)];
+    let back = &words[lines.back.min(end)..];
+    let of_day = match asked_with(rt, front, DAY, back)? {
+        Ok(request) => return Ok(Ok(request)),
+        Err(wrong) => wrong,
+    };
+    match asked_with(rt, front, MOMENT, back)? {
+        Ok(request) => Ok(Ok(request)),
+        Err(wrong) if wrong.place > of_day.place => Ok(Err(wrong)),
+        Err(_) => Ok(Err(of_day)),
     }
-    let of_moment = asked_with(rt, front, MOMENT, back)?;
-    Ok(if of_moment.is_ok() { of_moment } else { of_day })
 }
 
 // What the words ask for with a line between those in front and those behind.

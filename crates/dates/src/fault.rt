@@ -2,14 +2,15 @@
 
 use crate::distance::key_of_measure;
 use crate::print::print_none;
-use crate::quoted::Word;
+use crate::quoted::{Word, WordBytes};
 use chrono_cron::check_schedule;
 use chrono_datetime::{Datelike, Month, NaiveDate};
 use chrono_rules::check_rule;
 use dates_request::{Form, NoDay, Why, Wrong};
 use std::alloc::Allocator;
-use std::fmt;
-use std::io::{self, Eprint};
+use std::env::{Env, FillError};
+use std::io::{self, Eprint, ErrorKind};
+use std::{fmt, str};
 
 /// The exit status of an answer.
 pub(crate) const ANSWERED: u8 = 0;
@@ -38,6 +39,36 @@ pub(crate) fn refuse(
         _ => refuse_word(rt, word.as_str(), wrong),
     }
 }
+
+// Says that the arguments cannot be read: which of them is no UTF-8, where one is not; the exit status.
+pub(crate) fn refuse_arguments(
+    rt: &(impl Env + Alloc + Eprint),
+    fault: io::Error,
+) -> io::Result<u8> {
+    if fault.kind() != ErrorKind::InvalidData {
+        return Err(fault);
+    }
+    let mut room: Vec<u8, _> = Vec::new(rt.alloc());
+    room.resize(LONGEST_ARGUMENT, 0)?;
+    for place in 1..usize::MAX {
+        match rt.arg(place, room.as_mut_slice()) {
+            Ok(length) => {
+                let argument = &room[..length];
+                if str::from_utf8(argument).is_err() {
+                    let word = WordBytes { bytes: argument };
+                    eprintln!(rt; "dates: argument {place}, {word}: expected UTF-8")?;
+                    return Ok(WRONG);
+                }
+            }
+            Err(FillError::TooLong) => {}
+            Err(FillError::NotPresent) => return Err(fault),
+        }
+    }
+    Err(fault)
+}
+
+// Linux takes no longer argument: 32 pages of 4,096 bytes, the last of which ends it.
+const LONGEST_ARGUMENT: usize = 131_072;
 
 // Says why a word is no day: of one past the end of its month that there is no such day, under the key of what was asked.
 fn refuse_day(

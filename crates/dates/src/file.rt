@@ -2,22 +2,43 @@
 
 use crate::fault::{ANSWERED, DaysOfMonth, NONE};
 use crate::quoted::Quoted;
+use crate::source::{Source, refuse_source};
 use dates_request::{Form, NoDay, read_day};
-use std::io::{self, BufRead, BufReader};
+use std::io::{self, BufRead, BufReader, Eprint, Read};
 use std::rt::Files;
 use std::{fmt, fs};
 
-// Each line of the file that is no day, by its number and why; the exit status.
+// Each line of the file that the second word names and that is no day, by its number and why; the exit status.
 pub(crate) fn answer_file(
-    rt: &(impl Alloc + Print + Files),
+    rt: &(impl Alloc + Print + Eprint + Files),
     form: Form,
     file: &str,
 ) -> io::Result<u8> {
+    let source = Source::File {
+        place: 2,
+        name: file,
+    };
+    match fs::open(rt, file) {
+        Ok(opened) => answer_lines_of(rt, form, opened, source),
+        Err(fault) => refuse_source(rt, source, &fault),
+    }
+}
+
+// Each line from this source that is no day, by its number and why; the exit status.
+fn answer_lines_of(
+    rt: &(impl Alloc + Print + Eprint),
+    form: Form,
+    reader: impl Read + Drop,
+    source: Source<'_>,
+) -> io::Result<u8> {
     let mut status = ANSWERED;
     let mut number: u64 = 0;
-    for line in BufReader::new(rt.alloc(), fs::open(rt, file)?)?.split(rt.alloc(), b'\n') {
+    for line in BufReader::new(rt.alloc(), reader)?.split(rt.alloc(), b'\n') {
         number = number.saturating_add(1);
-        let line = line?;
+        let line = match line {
+            Ok(line) => line,
+            Err(fault) => return refuse_source(rt, source, &fault),
+        };
         if let Err(why) = read_day(line.as_slice()) {
             print_fault(rt, form, number, line.as_slice(), why)?;
             status = NONE;

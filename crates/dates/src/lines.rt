@@ -3,14 +3,22 @@
 use crate::day_names::print_names;
 use crate::fault::{ANSWERED, NONE};
 use crate::print::print_none;
+use crate::source::{Source, refuse_source};
 use dates_request::{Form, read_day};
-use std::io::{self, BufRead, BufReader};
+use std::io::{self, BufRead, BufReader, Eprint};
 
 // Each line of the input by all names of its day, or `none`.
-pub(crate) fn answer_lines(rt: &(impl Alloc + Print + Input), form: Form) -> io::Result<u8> {
+pub(crate) fn answer_lines(
+    rt: &(impl Alloc + Print + Eprint + Input),
+    form: Form,
+) -> io::Result<u8> {
     let mut status = ANSWERED;
     for line in BufReader::new(rt.alloc(), rt.reader())?.split(rt.alloc(), b'\n') {
-        match read_day(line?.as_slice()) {
+        let line = match line {
+            Ok(line) => line,
+            Err(fault) => return refuse_source(rt, Source::Input, &fault),
+        };
+        match read_day(line.as_slice()) {
             Ok(date) => print_names(rt, form, date)?,
             Err(_) => {
                 print_none(rt, form, "date")?;

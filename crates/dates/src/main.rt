@@ -19,12 +19,13 @@ mod quoted;
 mod recurring;
 mod sequence;
 mod sheet;
+mod source;
 mod year;
 
-use answer::answer;
+use answer::answer_words;
 use dates_request::{Form, Request, Wrong, form_of, read_request};
 use each::answer_each;
-use fault::WRONG;
+use fault::{WRONG, refuse_arguments};
 use std::alloc::Allocator;
 use std::env::{self, Env};
 use std::io::{self, Eprint, ErrorKind};
@@ -47,13 +48,17 @@ fn main(rt: HostRuntime) -> ExitCode {
 
 // Answers what the arguments ask for; the exit status.
 fn run(rt: &(impl Env + Alloc + Print + Eprint + Input + Files)) -> io::Result<u8> {
-    let mut words: Vec<_, _> = env::args(rt)?.skip(1).collect(rt.alloc())?;
+    let arguments = match env::args(rt) {
+        Ok(arguments) => arguments,
+        Err(fault) => return refuse_arguments(rt, fault),
+    };
+    let mut words: Vec<_, _> = arguments.skip(1).collect(rt.alloc())?;
     let (form, request) = asked_by(rt, words.as_slice())?;
     if form == Form::Json {
         let _ = words.pop();
     }
     match request {
-        Ok(request) => answer(rt, form, request, words.as_slice()),
+        Ok(request) => answer_words(rt, form, request, words.as_slice()),
         Err(wrong) => answer_each(rt, form, &mut words, wrong),
     }
 }

@@ -6,22 +6,18 @@ use crate::print::{print_date, print_none, print_number, print_whether};
 use chrono_business::{Calendar, Roll};
 use chrono_datetime::NaiveDate;
 use dates_request::{Convention, Form, Options};
-use std::alloc::Allocator;
 use std::io::{self, Eprint};
-use std::rt::Files;
 
 // `yes` where the day is open, and else `no`.
 pub(crate) fn answer_open(
-    rt: &(impl Alloc + Print + Eprint + Files),
+    rt: &(impl Alloc + Print + Eprint),
     form: Form,
-    words: &[String<impl Allocator>],
+    listed: &[NaiveDate],
     date: NaiveDate,
     options: Options,
 ) -> io::Result<u8> {
     let mut days: Vec<NaiveDate, _> = Vec::new(rt.alloc());
-    if !put_holidays(rt, words, options, years_of(date, date), &mut days)? {
-        return Ok(WRONG);
-    }
+    put_holidays(listed, options, years_of(date, date), &mut days)?;
     let Ok(calendar) = Calendar::try_new(weekend_of(options), days.as_slice()) else {
         return Ok(WRONG);
     };
@@ -31,17 +27,15 @@ pub(crate) fn answer_open(
 
 // How many open days there are from the first day on and before the second, with a minus sign where it is the earlier.
 pub(crate) fn answer_open_days(
-    rt: &(impl Alloc + Print + Eprint + Files),
+    rt: &(impl Alloc + Print + Eprint),
     form: Form,
-    words: &[String<impl Allocator>],
+    listed: &[NaiveDate],
     from: NaiveDate,
     to: NaiveDate,
     options: Options,
 ) -> io::Result<u8> {
     let mut days: Vec<NaiveDate, _> = Vec::new(rt.alloc());
-    if !put_holidays(rt, words, options, years_of(from, to), &mut days)? {
-        return Ok(WRONG);
-    }
+    put_holidays(listed, options, years_of(from, to), &mut days)?;
     let Ok(calendar) = Calendar::try_new(weekend_of(options), days.as_slice()) else {
         return Ok(WRONG);
     };
@@ -51,17 +45,15 @@ pub(crate) fn answer_open_days(
 
 // The day that the day rolls to, or `none` where the calendar ends before.
 pub(crate) fn answer_roll(
-    rt: &(impl Alloc + Print + Eprint + Files),
+    rt: &(impl Alloc + Print + Eprint),
     form: Form,
-    words: &[String<impl Allocator>],
+    listed: &[NaiveDate],
     date: NaiveDate,
     convention: Convention,
     options: Options,
 ) -> io::Result<u8> {
     let mut days: Vec<NaiveDate, _> = Vec::new(rt.alloc());
-    if !put_holidays(rt, words, options, years_of(date, date), &mut days)? {
-        return Ok(WRONG);
-    }
+    put_holidays(listed, options, years_of(date, date), &mut days)?;
     let Ok(calendar) = Calendar::try_new(weekend_of(options), days.as_slice()) else {
         return Ok(WRONG);
     };

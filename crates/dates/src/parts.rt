@@ -6,6 +6,9 @@ use dates_answer::{Parts, parts_between};
 use dates_request::Form;
 use std::{fmt, io};
 
+// The keys of years, months and days.
+pub(crate) const PARTS: &str = "years,months,days";
+
 // The years, months and days from the first day to the second, as spans by which `add` leads from it to the second: the most whole years,
 // then the most whole months, and the days that are left.
 pub(crate) fn answer_parts(

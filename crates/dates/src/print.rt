@@ -2,7 +2,7 @@
 
 use chrono_datetime::{NaiveDate, NaiveDateTime};
 use dates_request::Form;
-use std::io;
+use std::{fmt, io};
 
 // A day.
 pub(crate) fn print_date(rt: &impl Print, form: Form, date: NaiveDate) -> io::Result<()> {
@@ -36,10 +36,28 @@ pub(crate) fn print_whether(rt: &impl Print, form: Form, key: &str, yes: bool) -
     }
 }
 
-// That there is no such thing as the key says.
-pub(crate) fn print_none(rt: &impl Print, form: Form, key: &str) -> io::Result<()> {
+// That there is no such thing as the key says, or as several do with commas between them.
+pub(crate) fn print_none(rt: &impl Print, form: Form, keys: &str) -> io::Result<()> {
+    let nulls = Nulls { keys };
     match form {
         Form::Text => println!(rt; "none"),
-        Form::Json => println!(rt; "{{\"{key}\":null}}"),
+        Form::Json => println!(rt; "{{{nulls}}}"),
+    }
+}
+
+/// Keys with commas between them, each with null behind it, as the members of an object of JSON.
+#[derive(Clone, Copy)]
+pub struct Nulls<'a> {
+    keys: &'a str,
+}
+
+impl fmt::Display for Nulls<'_> {
+    fn fmt<W: fmt::Write>(&self, f: &mut fmt::Formatter<W>) -> fmt::Result {
+        let mut between = "";
+        for key in self.keys.split(',') {
+            write!(f, "{between}\"{key}\":null")?;
+            between = ",";
+        }
+        Ok(())
     }
 }

@@ -42,6 +42,26 @@ impl fmt::Display for Word<'_> {
     }
 }
 
+/// A word on one line as [`Word`] is, of bytes. What is no UTF-8 stands there as U+FFFD.
+#[derive(Clone, Copy)]
+pub struct WordBytes<'a> {
+    pub bytes: &'a [u8],
+}
+
+impl fmt::Display for WordBytes<'_> {
+    fn fmt<W: fmt::Write>(&self, f: &mut fmt::Formatter<W>) -> fmt::Result {
+        for chunk in self.bytes.utf8_chunks() {
+            for character in chunk.valid().chars() {
+                put_character(f, character)?;
+            }
+            if !chunk.invalid().is_empty() {
+                f.write_char('\u{fffd}')?;
+            }
+        }
+        Ok(())
+    }
+}
+
 // A character, a control character as JSON writes it by its number.
 fn put_character<W: fmt::Write>(f: &mut fmt::Formatter<W>, character: char) -> fmt::Result {
     if character.is_control() {

@@ -8,22 +8,20 @@ use chrono_business::Calendar;
 use chrono_datetime::{Datelike, Month, NaiveDate, Weekday};
 use dates_answer::{MonthSheet, WeekName};
 use dates_request::{Form, SheetOptions, SheetTime};
-use std::alloc::Allocator;
 use std::io::{self, Eprint};
-use std::rt::Files;
 
 // The month, or the months of the year, as sheets with closed days marked; `none` where the calendar has no such year.
 pub(crate) fn answer_sheet(
-    rt: &(impl Alloc + Print + Eprint + Files),
+    rt: &(impl Alloc + Print + Eprint),
     form: Form,
-    words: &[String<impl Allocator>],
+    listed: &[NaiveDate],
     time: SheetTime,
     options: SheetOptions,
 ) -> io::Result<u8> {
     match time {
-        SheetTime::Month { first } => answer_month(rt, form, words, first, options),
+        SheetTime::Month { first } => answer_month(rt, form, listed, first, options),
         SheetTime::Year { year } => match NaiveDate::from_ymd_opt(year, 1, 1) {
-            Some(first) => answer_year(rt, form, words, first, options),
+            Some(first) => answer_year(rt, form, listed, first, options),
             None => no_such_year(rt, form, "date", year),
         },
     }
@@ -31,17 +29,15 @@ pub(crate) fn answer_sheet(
 
 // The month that begins on a day.
 fn answer_month(
-    rt: &(impl Alloc + Print + Eprint + Files),
+    rt: &(impl Alloc + Print + Eprint),
     form: Form,
-    words: &[String<impl Allocator>],
+    listed: &[NaiveDate],
     month: NaiveDate,
     options: SheetOptions,
 ) -> io::Result<u8> {
     let start = start_of(options);
     let mut days: Vec<NaiveDate, _> = Vec::new(rt.alloc());
-    if !put_holidays(rt, words, options.closed, years_of(month, month), &mut days)? {
-        return Ok(WRONG);
-    }
+    put_holidays(listed, options.closed, years_of(month, month), &mut days)?;
     let Ok(calendar) = Calendar::try_new(weekend_of(options.closed), days.as_slice()) else {
         return Ok(WRONG);
     };
@@ -54,16 +50,14 @@ fn answer_month(
 
 // The year that begins on a day.
 fn answer_year(
-    rt: &(impl Alloc + Print + Eprint + Files),
+    rt: &(impl Alloc + Print + Eprint),
     form: Form,
-    words: &[String<impl Allocator>],
+    listed: &[NaiveDate],
     first: NaiveDate,
     options: SheetOptions,
 ) -> io::Result<u8> {
     let mut days: Vec<NaiveDate, _> = Vec::new(rt.alloc());
-    if !put_holidays(rt, words, options.closed, years_of(first, first), &mut days)? {
-        return Ok(WRONG);
-    }
+    put_holidays(listed, options.closed, years_of(first, first), &mut days)?;
     let Ok(calendar) = Calendar::try_new(weekend_of(options.closed), days.as_slice()) else {
         return Ok(WRONG);
     };
