@@ -6,7 +6,7 @@ use crate::day_names::print_names;
 use crate::distance::{answer_distance, answer_duration};
 use crate::due::{Way, answer_due};
 use crate::fault::{ANSWERED, WRONG};
-use crate::file::answer_file;
+use crate::file::{answer_file, answer_input};
 use crate::help::{answer_help, answer_help_of, answer_version};
 use crate::lines::answer_lines;
 use crate::open::{answer_open, answer_open_days, answer_roll};
@@ -79,6 +79,7 @@ pub(crate) fn answer(
             [_, file, ..] => answer_file(rt, form, file.as_str()),
             _ => Ok(WRONG),
         },
+        Request::CheckInput => answer_input(rt, form),
         Request::Next { from, count } => answer_due(rt, form, from, count, Way::On, words),
         Request::Prev { from, count } => answer_due(rt, form, from, count, Way::Back, words),
         Request::Sheet { time, options } => answer_sheet(rt, form, listed, time, options),

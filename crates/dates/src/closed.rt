@@ -1,5 +1,6 @@
 //! Which days are closed, by the options of a request.
 
+use crate::file::beside_day;
 use crate::source::{Source, refuse_source};
 use chrono_business::{HolidayRule, england_and_wales, target, us_federal, without_weekends};
 use chrono_datetime::{Datelike, NaiveDate, Weekday, WeekdaySet};
@@ -159,7 +160,7 @@ fn put_file(
         };
         match read_day(line.as_slice()) {
             Ok(day) => days.push(day)?,
-            Err(_) => return say_no_day(rt, source, number),
+            Err(_) => return say_no_day(rt, source, number, line.as_slice()),
         }
     }
     Ok(true)
@@ -171,9 +172,13 @@ fn say_unread(rt: &impl Eprint, source: Source<'_>, fault: &io::Error) -> io::Re
     Ok(false)
 }
 
-// Says that a line of a file is no day; false.
-fn say_no_day(rt: &impl Eprint, source: Source<'_>, number: u64) -> io::Result<bool> {
-    eprintln!(rt; "dates: {source}, line {number}: expected a day as 2024-02-29")?;
+// Says that a line of a file is no day, and what it has beside one; false.
+fn say_no_day(rt: &impl Eprint, source: Source<'_>, number: u64, line: &[u8]) -> io::Result<bool> {
+    let expected = "expected a day as 2024-02-29";
+    match beside_day(line) {
+        Some(fault) => eprintln!(rt; "dates: {source}, line {number}: {fault}; {expected}")?,
+        None => eprintln!(rt; "dates: {source}, line {number}: {expected}")?,
+    }
     Ok(false)
 }
 

@@ -1,5 +1,6 @@
 mod AddLemmas
 mod CalendarOptionLemmas
+mod CheckLemmas
 mod DayLemmas
 mod DiffLemmas
 mod DueLemmas

@@ -1,5 +1,5 @@
 -- What is asked of a day or a date-time that is moved: the words of the request, with options behind them.
-use Rattle.std.specs.Prelude.{◌≡◌, Bool, ℕ, List, ◌∷◌, ◌++◌, length, All}
+use Rattle.std.specs.Prelude.{◌≡◌, ◌<◌, Bool, ℕ, List, ◌∷◌, ◌++◌, length, All}
 use Rattle.dates_request.specs.MoveTexts.{NamesStart, WritesMove, has_time}
 use Rattle.dates_request.specs.OptionTexts.{AreOptions, no_options}
 use Rattle.dates_request.specs.declared.moves.Start.{Start}
@@ -7,7 +7,7 @@ use Rattle.dates_request.specs.declared.options.Options.{Options}
 use Rattle.dates_request.specs.declared.request.Request.{Request}
 use Rattle.dates_request.specs.declared.request.Request.TheVariants as request
 
--- so many moves, of times too where there is a time of day, and options behind them
+-- so many moves, at least one, of times too where there is a time of day, and options behind them
 pub record AreMoves (timed : Bool) (words : List (List ℕ)) (n : ℕ) (options : Options) : Type 0 where
   pub moves : List (List ℕ)
   pub rest : List (List ℕ)
@@ -15,6 +15,7 @@ pub record AreMoves (timed : Bool) (words : List (List ℕ)) (n : ℕ) (options 
   pub are_options : AreOptions rest no_options options
   pub written : words ≡ moves ++ rest
   pub count : n ≡ length moves
+  pub some : 0 < n
 
 -- what is moved, moves, and options
 pub record IsAdd (words : List (List ℕ)) (r : Request) : Type 0 where

@@ -102,11 +102,20 @@ pub record IsLeap (words : List (List ℕ)) (r : Request) : Type 0 where
   pub is : r ≡ request.Leap year
 
 -- the name of a file, which is not empty
-pub record IsCheck (words : List (List ℕ)) (r : Request) : Type 0 where
-  pub file : List ℕ
+pub record IsFile (file : List ℕ) (r : Request) : Type 0 where
   pub some : 0 < length file
-  pub written : words ≡ file ∷ []
   pub is : r ≡ request.Check
+
+-- `-`, for standard input, or else the name of a file
+abbrev pub IsSource : Bool → List ℕ → Request → Type 0
+IsSource true file r = r ≡ request.CheckInput
+IsSource false file r = IsFile file r
+
+-- what is checked: standard input where no word says it, and else what the only word does
+abbrev pub IsCheck : List (List ℕ) → Request → Type 0
+IsCheck [] r = r ≡ request.CheckInput
+IsCheck (file ∷ []) r = IsSource (bytes_eq file (codes "-")) file r
+IsCheck (file ∷ other ∷ words) r = ⊥
 
 -- what a command asks for with the words behind it
 abbrev pub HasArguments : Command → List (List ℕ) → Request → Type 0

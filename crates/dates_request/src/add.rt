@@ -30,12 +30,15 @@ pub(crate) fn add(words: &[&[u8]]) -> Result<Request, Wrong>
     }
 }
 
-// How many moves stand in front, and the options behind them.
+// How many moves stand in front, at least one, and the options behind them.
 fn moves_and_options(timed: bool, words: &[&[u8]]) -> Result<(usize, Options), Wrong>
     ensures read { IfOk result (λ p. AreMoves timed (texts words.now) p.0 p.1) }
     ensures every { (n : ℕ) (o : Options) → AreMoves timed (texts words.now) n o → result ≡ Ok (n, o) }
 {
     let moves = moves_in_front(timed, words);
+    if moves == 0 {
+        return Err(no_moves(words));
+    }
     match options_at(moves.saturating_add(3), &words[moves..], NO_OPTIONS) {
         Ok(options) => Ok((moves, options)),
         Err(wrong) => Err(wrong_move(words, moves, wrong)),
@@ -64,6 +67,14 @@ fn wrong_move(words: &[&[u8]], moves: usize, wrong: Wrong) -> Wrong {
             wrong_at(place, no_move(word))
         }
         _ => wrong,
+    }
+}
+
+// The fault where no word in front is a move: it is missing, or the first word is none.
+fn no_moves(words: &[&[u8]]) -> Wrong {
+    match words.first() {
+        Some(word) => wrong_at(3, no_move(word)),
+        None => wrong_at(3, Why::Move),
     }
 }
 

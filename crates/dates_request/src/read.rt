@@ -1,11 +1,11 @@
 //! The request that arguments make.
-ghost use Rattle.std.specs.Prelude.{◌≡◌, ◌∷◌, [], ℤ, Ok, Some, IfOk};
+ghost use Rattle.std.specs.Prelude.{◌≡◌, ◌∷◌, [], ℤ, Ok, Some, IfOk, bytes_eq, codes};
 ghost use Rattle.dates_request.specs.declared.request.Request.{Request};
 ghost use Rattle.dates_request.specs.declared.request.Request.TheVariants as request;
 ghost use Rattle.dates_request.specs.declared.command.Command.TheVariants as command;
 ghost use Rattle.dates_request.specs.Alone.{IsAlone};
 ghost use Rattle.dates_request.specs.DueRequests.{IsOfSchedule};
-ghost use Rattle.dates_request.specs.Requests.{AsksFor, CommandAsks, HasArguments, IsCheck, IsDay, IsEaster, IsLeap, IsOfTwoDays, IsRequest, IsSequence, IsWeek, is_help_alone, texts};
+ghost use Rattle.dates_request.specs.Requests.{AsksFor, CommandAsks, HasArguments, IsCheck, IsDay, IsEaster, IsLeap, IsOfTwoDays, IsRequest, IsSequence, IsSource, IsWeek, is_help_alone, texts};
 
 use crate::add::add;
 use crate::command::{Command, command_named};
@@ -184,18 +184,30 @@ fn leap(words: &[&[u8]]) -> Result<Request, Wrong>
     Ok(Request::Leap { year })
 }
 
-// The name of a file.
+// What is checked: standard input where no word says it.
 fn check(words: &[&[u8]]) -> Result<Request, Wrong>
     ensures read { IfOk result (λ r. IsCheck (texts words.now) r) }
     ensures every { (r : Request) → IsCheck (texts words.now) r → result ≡ Ok r }
 {
-    let [file] = words else {
-        return Err(not_one(words, Why::File));
-    };
-    if file.is_empty() {
-        return Err(wrong_at(2, Why::File));
+    match words {
+        [] => Ok(Request::CheckInput),
+        [file] => source(file),
+        _ => Err(wrong_at(3, Why::End)),
     }
-    Ok(Request::Check)
+}
+
+// Standard input, where the word is `-`, or else the file with that name.
+fn source(file: &[u8]) -> Result<Request, Wrong>
+    ensures read { IfOk result (λ r. IsSource (bytes_eq file.now (codes "-")) file.now r) }
+    ensures every { (r : Request) → IsSource (bytes_eq file.now (codes "-")) file.now r → result ≡ Ok r }
+{
+    if is_named(file, b"-") {
+        Ok(Request::CheckInput)
+    } else if file.is_empty() {
+        Err(wrong_at(2, Why::File))
+    } else {
+        Ok(Request::Check)
+    }
 }
 
 // A schedule, of which it is asked when it is due next.

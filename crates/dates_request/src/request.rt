@@ -124,6 +124,8 @@ pub enum Request {
     },
     /// The lines of a file that are no days: the file that the second word names.
     Check,
+    /// The lines of standard input that are no days.
+    CheckInput,
     /// The moments after one at which the schedule is due that the second word writes.
     Next {
         /// The moment.

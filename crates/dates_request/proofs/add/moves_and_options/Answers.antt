@@ -16,6 +16,7 @@ returns-in-Ok-clause-read c =
       are_options = gave _ _ no_options c.in-Ok.options (behind_texts c.args.words.now c.moves_in_front-moves.result) c.in-Ok.ensures.read;
       written = sym (take-append-drop c.moves_in_front-moves.result (texts c.args.words.now));
       count = sym (length-take-le c.moves_in_front-moves.result (texts c.args.words.now) bound);
+      some = omega (arith, c);
     }
 
 pub returns-in-Ok-clause-every : goal.returns-in-Ok-clause-every
