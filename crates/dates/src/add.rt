@@ -24,7 +24,7 @@ pub(crate) fn answer_add(
         let Some(by) = read_move(word.as_str().as_bytes()) else {
             return Ok(WRONG);
         };
-        let Some(reached) = moved_by(rt, &last, &by, options, listed)? else {
+        let Some(reached) = moved_by(rt, &last, &by, &options, listed)? else {
             return refuse_move(rt, form, &last, word.as_str());
         };
         last = reached;
@@ -61,7 +61,7 @@ fn moved_by(
     rt: &impl Alloc,
     start: &Start,
     by: &Move,
-    options: Options,
+    options: &Options,
     listed: &[NaiveDate],
 ) -> io::Result<Option<Start>> {
     match start {
@@ -81,7 +81,7 @@ fn moment_moved(
     rt: &impl Alloc,
     moment: &NaiveDateTime,
     by: &Move,
-    options: Options,
+    options: &Options,
     listed: &[NaiveDate],
 ) -> io::Result<Option<NaiveDateTime>> {
     if let Some(duration) = duration_of(by) {
@@ -110,7 +110,7 @@ fn day_moved(
     rt: &impl Alloc,
     date: NaiveDate,
     by: &Move,
-    options: Options,
+    options: &Options,
     listed: &[NaiveDate],
 ) -> io::Result<Option<NaiveDate>> {
     match by {
@@ -125,13 +125,13 @@ fn open_day(
     rt: &impl Alloc,
     date: NaiveDate,
     count: i64,
-    options: Options,
+    options: &Options,
     listed: &[NaiveDate],
 ) -> io::Result<Option<NaiveDate>> {
     let mut days: Vec<NaiveDate, _> = Vec::new(rt.alloc());
     put_days(listed, &mut days)?;
     let years = years_of_open_days(date, count, listed.len());
-    let weekend = put_ruled(options, years, &mut days)?;
+    let weekend = put_ruled(*options, years, &mut days)?;
     let Ok(calendar) = Calendar::try_new(weekend, days.as_slice()) else {
         return Ok(None);
     };

@@ -26,7 +26,7 @@ pub(crate) fn years_of(from: NaiveDate, to: NaiveDate) -> Years {
 }
 
 // The weekend of the options: Saturday and Sunday where none is given.
-pub(crate) fn weekend_of(options: Options) -> WeekdaySet {
+fn weekend_of(options: Options) -> WeekdaySet {
     match options.weekend {
         Some(days) => days,
         None => WeekdaySet::from_array([Weekday::Sat, Weekday::Sun]),
@@ -59,16 +59,15 @@ pub(crate) fn years_of_open_days(date: NaiveDate, count: i64, listed: usize) -> 
 const MOST_YEARS: i32 = 600_000;
 
 // Puts the holidays of the options into a list, in order and but for those on the weekend: those listed by their file, and those of
-// their rules in these years, in the file's years, and in a year before and behind them.
+// their rules in these years, in the file's years, and in a year before and behind them; the weekend.
 pub(crate) fn put_holidays(
     listed: &[NaiveDate],
     options: Options,
     years: Years,
     days: &mut Vec<NaiveDate, impl Allocator>,
-) -> io::Result<()> {
+) -> io::Result<WeekdaySet> {
     put_days(listed, days)?;
-    let _weekend = put_ruled(options, years, days)?;
-    Ok(())
+    put_ruled(options, years, days)
 }
 
 // Puts days into a list.

@@ -1,6 +1,6 @@
 //! What is asked of open days.
 
-use crate::closed::{put_holidays, weekend_of, years_of};
+use crate::closed::{put_holidays, years_of};
 use crate::fault::{ANSWERED, NONE, WRONG};
 use crate::print::{print_date, print_none, print_number, print_whether};
 use chrono_business::{Calendar, Roll};
@@ -17,8 +17,8 @@ pub(crate) fn answer_open(
     options: Options,
 ) -> io::Result<u8> {
     let mut days: Vec<NaiveDate, _> = Vec::new(rt.alloc());
-    put_holidays(listed, options, years_of(date, date), &mut days)?;
-    let Ok(calendar) = Calendar::try_new(weekend_of(options), days.as_slice()) else {
+    let weekend = put_holidays(listed, options, years_of(date, date), &mut days)?;
+    let Ok(calendar) = Calendar::try_new(weekend, days.as_slice()) else {
         return Ok(WRONG);
     };
     print_whether(rt, form, "open", calendar.is_open(date))?;
@@ -35,8 +35,8 @@ pub(crate) fn answer_open_days(
     options: Options,
 ) -> io::Result<u8> {
     let mut days: Vec<NaiveDate, _> = Vec::new(rt.alloc());
-    put_holidays(listed, options, years_of(from, to), &mut days)?;
-    let Ok(calendar) = Calendar::try_new(weekend_of(options), days.as_slice()) else {
+    let weekend = put_holidays(listed, options, years_of(from, to), &mut days)?;
+    let Ok(calendar) = Calendar::try_new(weekend, days.as_slice()) else {
         return Ok(WRONG);
     };
     print_number(rt, form, "open_days", calendar.open_days(from, to))?;
@@ -53,8 +53,8 @@ pub(crate) fn answer_roll(
     options: Options,
 ) -> io::Result<u8> {
     let mut days: Vec<NaiveDate, _> = Vec::new(rt.alloc());
-    put_holidays(listed, options, years_of(date, date), &mut days)?;
-    let Ok(calendar) = Calendar::try_new(weekend_of(options), days.as_slice()) else {
+    let weekend = put_holidays(listed, options, years_of(date, date), &mut days)?;
+    let Ok(calendar) = Calendar::try_new(weekend, days.as_slice()) else {
         return Ok(WRONG);
     };
     match calendar.roll(date, roll_of(convention)) {

@@ -1,6 +1,6 @@
 //! A month or a year as a sheet.
 
-use crate::closed::{put_holidays, weekend_of, years_of};
+use crate::closed::{put_holidays, years_of};
 use crate::day_names::weekday_name;
 use crate::fault::{ANSWERED, WRONG};
 use crate::year::no_such_year;
@@ -35,14 +35,16 @@ fn answer_month(
     month: NaiveDate,
     options: SheetOptions,
 ) -> io::Result<u8> {
-    let start = start_of(options);
     let mut days: Vec<NaiveDate, _> = Vec::new(rt.alloc());
-    put_holidays(listed, options.closed, years_of(month, month), &mut days)?;
-    let Ok(calendar) = Calendar::try_new(weekend_of(options.closed), days.as_slice()) else {
+    let weekend = put_holidays(listed, options.closed, years_of(month, month), &mut days)?;
+    let Ok(calendar) = Calendar::try_new(weekend, days.as_slice()) else {
         return Ok(WRONG);
     };
     match form {
-        Form::Text => print_month(rt, &MonthSheet { month, start }, &calendar)?,
+        Form::Text => {
+            let start = start_of(options);
+            print_month(rt, &MonthSheet { month, start }, &calendar)?
+        }
         Form::Json => print_days(rt, month, month.last_day_of_month().day(), &calendar)?,
     }
     Ok(ANSWERED)
@@ -57,8 +59,8 @@ fn answer_year(
     options: SheetOptions,
 ) -> io::Result<u8> {
     let mut days: Vec<NaiveDate, _> = Vec::new(rt.alloc());
-    put_holidays(listed, options.closed, years_of(first, first), &mut days)?;
-    let Ok(calendar) = Calendar::try_new(weekend_of(options.closed), days.as_slice()) else {
+    let weekend = put_holidays(listed, options.closed, years_of(first, first), &mut days)?;
+    let Ok(calendar) = Calendar::try_new(weekend, days.as_slice()) else {
         return Ok(WRONG);
     };
     match form {
