@@ -247,7 +247,7 @@ def of_add(chance, files):
     start = any_moment(chance) if timed else any_day(chance)
     if closed:
         start = DateTime.combine(workday_time(chance), start.time()) if timed else workday_time(chance)
-    made = [a_move(chance, timed, closed) for _ in range(chance.choice((0, 1, 1, 1, 2, 3)))]
+    made = [a_move(chance, timed, closed) for _ in range(chance.choice((1, 1, 1, 2, 3)))]
     reached = start
     for _, move in made:
         reached = move(reached)
@@ -256,7 +256,7 @@ def of_add(chance, files):
     words = ["add", moment_word(chance, start) if timed else day_word(chance, start), *(it for it, _ in made), *(closed.words if closed else ())]
     kinds = ["first", "start", *(["move"] * len(made)), *(closed.kinds if closed else ())]
     text, key = (moment_text(reached), "moment") if timed else (str(reached), "date")
-    return Asked(words, kinds, 2, [text], [{key: text}])
+    return Asked(words, kinds, 3, [text], [{key: text}])
 
 
 def of_diff(chance, files):
@@ -369,7 +369,8 @@ def of_check(chance, files):
         text = chance.choice(names(chance.randint(counted.FIRST_DAY, counted.LAST_DAY))).encode()
         reason = None
         if chance.random() < 0.15:
-            text, reason = chance.choice(ODD_LINES + tuple(it.encode() for it in NO_DAYS)), NO_FORM
+            text = chance.choice(ODD_LINES + tuple(it.encode() for it in NO_DAYS))
+            reason = "ends in a carriage return" if text.endswith(b"\r") else NO_FORM
         elif chance.random() < 0.1:
             text, reason = past_month(chance)
             text = text.encode()
@@ -378,7 +379,7 @@ def of_check(chance, files):
             objects.append({"line": number, "text": text.decode(errors="replace"), "reason": reason})
         texts.append(text)
     end = b"\n" * (not texts or not texts[-1] or chance.random() < 0.7)
-    return Asked(["check", "/dev/stdin"], ["first", "file"], 2, lines, objects, int(bool(lines)), given=b"\n".join(texts) + end if texts else b"")
+    return Asked(["check", chance.choice(("-", "/dev/stdin"))], ["first", "file"], 1, lines, objects, int(bool(lines)), given=b"\n".join(texts) + end if texts else b"")
 
 
 def due_moments(schedule, start, count, back):
@@ -567,7 +568,7 @@ def with_a_word_more(chance, asked):
 
 
 KEYS = {"open": "open", "diff": "days"}
-UNITS = {"w": "weeks", "m": "months", "y": "years", "b": "open_days"}
+UNITS = {"w": "weeks", "m": "months", "y": "years", "b": "open_days", "ymd": "years months days"}
 
 
 def with_no_such_day(chance, asked):
@@ -576,11 +577,11 @@ def with_no_such_day(chance, asked):
     if not places:
         return None
     place, (bad, reason) = chance.choice(places), past_month(chance)
-    key = KEYS.get(asked.words[0], "date")
+    keys = KEYS.get(asked.words[0], "date").split()
     if asked.words[0] == "diff":
-        key = UNITS.get("".join(asked.words[4:5]), "days")
+        keys = UNITS.get("".join(asked.words[4:5]), "days").split()
     words = asked.words[:place] + [bad] + asked.words[place + 1 :]
-    return Asked(words, asked.kinds, asked.needed, ["none"], [{key: None}], 1, f"{bad}: {reason}", asked.given)
+    return Asked(words, asked.kinds, asked.needed, ["none"], [dict.fromkeys(keys)], 1, f"{bad}: {reason}", asked.given)
 
 
 def asks_of_lines(words):

@@ -8,7 +8,7 @@ use crate::parts::PARTS;
 use crate::print::print_none;
 use crate::source::{Source, refuse_source};
 use chrono_datetime::NaiveDate;
-use dates_request::{Form, Request, Start, Why, Wrong, read_request};
+use dates_request::{Form, Request, Start, Wrong, read_request};
 use std::alloc::Allocator;
 use std::io::{self, BufRead, BufReader, Eprint};
 use std::rt::Files;
@@ -39,7 +39,7 @@ pub(crate) fn answer_each<R: Alloc + Print + Eprint + Input + Files>(
     let request = match asked_of_lines(rt, words.as_slice(), lines)? {
         Ok(request) => request,
         Err(other) => {
-            let fault = fault_of(words.as_slice(), lines, wrong, other);
+            let fault = fault_of(rt, words.as_slice(), lines, wrong, other)?;
             return refuse(rt, form, words.as_slice(), fault);
         }
     };
@@ -99,35 +99,50 @@ fn is_left_out(lines: Lines) -> bool {
 
 // What to say where the words ask for nothing, by the first fault as they stand and by the second with a line among them: where a
 // day may be left out the one that lies further on.
-fn fault_of(words: &[String<impl Allocator>], lines: Lines, wrong: Wrong, other: Wrong) -> Wrong {
+fn fault_of(
+    rt: &impl Alloc,
+    words: &[String<impl Allocator>],
+    lines: Lines,
+    wrong: Wrong,
+    other: Wrong,
+) -> io::Result<Wrong> {
     if !is_left_out(lines) {
-        return other;
+        return Ok(other);
     }
     let mut place = other.place;
     if place > lines.front {
         place = place.saturating_sub(1);
     }
-    if place > wrong.place || (place == wrong.place && is_no_day(words, place, other.why)) {
-        Wrong {
+    if place > wrong.place || (place == wrong.place && is_no_day(rt, words, place)?) {
+        Ok(Wrong {
             place,
             why: other.why,
-        }
+        })
     } else {
-        wrong
+        Ok(wrong)
     }
 }
 
-// Whether the word at this place, which is no day and not what else was expected there, was meant for that: it begins as an
-// option does, or with a letter where a convention stands, or `in` in front of a unit.
-fn is_no_day(words: &[String<impl Allocator>], place: usize, expected: Why) -> bool {
-    let Some(word) = words.get(place.saturating_sub(1)) else {
-        return false;
+// Whether the word at this place was meant for no day: it does not begin as one does, and with one in its place the words would still
+// ask for nothing.
+fn is_no_day(rt: &impl Alloc, words: &[String<impl Allocator>], place: usize) -> io::Result<bool> {
+    let front = place.saturating_sub(1);
+    let Some(word) = words.get(front) else {
+        return Ok(false);
     };
-    let letter = word.as_str().starts_with(|c: char| c.is_ascii_alphabetic());
-    match expected {
-        Why::Convention => letter,
-        Why::In => letter && place < words.len(),
-        _ => word.as_str().starts_with("--"),
+    if begins_as_day(word.as_str().as_bytes()) {
+        return Ok(false);
+    }
+    let asked = asked_of_lines(rt, words, Lines { front, back: place })?;
+    Ok(asked.is_err())
+}
+
+// Whether a word begins with a digit or a sign, and not as an option does.
+fn begins_as_day(word: &[u8]) -> bool {
+    match word {
+        [b'-', b'-', ..] => false,
+        [first, ..] => first.is_ascii_digit() || *first == b'+' || *first == b'-',
+        [] => false,
     }
 }
 
