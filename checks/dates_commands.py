@@ -489,7 +489,7 @@ EXPECTED = {
     "convention": ", ".join(ROLLS[1:]) + " or unadjusted",
     "option": OPTIONS,
     "sheet_option": f"--first, {OPTIONS}",
-    "--weekend": "a weekend as fri,sat, sun or none",
+    "--weekend": "none, or at most two weekdays as fri,sat",
     "--calendar": "us-federal, target or england",
     "--first": "a weekday as mon",
     "--holidays": "the name of a file",

@@ -37,6 +37,11 @@ def options(more):
     return [line.split()[0] for line in more if line.startswith("--")]
 
 
+def values(text, before):
+    """The words of a list that stands behind this in a text, up to the end of its sentence or line."""
+    return re.split(", | or ", re.search(before + r"(.+?)(?:\. |\.?$)", text, re.M)[1])
+
+
 def of_all(program):
     """The word that may stand behind any command, and what it means."""
     return re.search(r"^  dates COMMAND \.\. (\S+) +(.+)$", said(program, "--help"), re.M).groups()
@@ -58,7 +63,7 @@ def page(program):
     lines = [".TH DATES 1", ".SH NAME", "dates \\- answers what one asks of dates", ".SH SYNOPSIS"]
     helps = [(name, help_of(program, name)) for name in commands(program)]
     word, meaning = of_all(program)
-    uses = ["dates DAY"] + [use for _, (use, *_) in helps] + [f"dates COMMAND .. {word}", "dates COMMAND --help"]
+    uses = ["dates DAY"] + [use for _, (use, *_) in helps] + [f"dates COMMAND .. {word}", "dates COMMAND --help", "dates --help | --version"]
     for use in uses:
         lines += [".B " + escaped(use), ".br"]
     lines += [".SH DESCRIPTION", "It takes ISO 8601 texts and writes them, and never asks what day it is.", ".SH COMMANDS"]
@@ -68,23 +73,30 @@ def page(program):
             lines += [".br", escaped(line)]
         lines += [".PP", ".RS", ".nf"] + [escaped(line) for line in example] + [".fi", ".RE"]
     lines += [".SH OPTIONS", ".TP", ".B " + escaped(word), "Behind any command, as its last word: " + escaped(meaning) + "."]
-    lines += [".SH EXIT STATUS", "0; 1 where a question has no answer, and then", ".B none", "is written; 2 after a wrong command, and after a read or a write that failed."]
+    for word, meaning in (("--help", "How the program is used, or behind a command alone how that command is."), ("--version", "Which version it is.")):
+        lines += [".TP", ".B " + escaped(word), escaped(meaning)]
+    lines += [".SH EXIT STATUS", "0; 1 where a question has no answer, and then", ".B none", "is written, or where", ".B check", "tells of a line; 2 after a wrong command, and after a read or a write that failed."]
     return "\n".join(lines) + "\n"
 
 
 def completion(program):
-    """The completion for bash: a command, then its options."""
+    """The completion for bash: a command, then its options, and the values of those that have a few or name a file."""
     names = commands(program)
     last = of_all(program)[0]
+    rolls = said(program, "roll", "--help")
+    calendars, conventions = values(rolls, "^--calendar NAME +[^:]+: "), values(rolls, "^A CONVENTION is ")
     lines = ["# Completion of dates for bash, made by tools/dates_help.py.", "_dates()", "{",
              "    local word=${COMP_WORDS[COMP_CWORD]}", "    if [ \"$COMP_CWORD\" -eq 1 ]; then",
              f"        COMPREPLY=($(compgen -W '{' '.join(names)} {last} --help --version' -- \"$word\"))", "        return", "    fi",
+             "    case ${COMP_WORDS[COMP_CWORD - 1]} in",
+             f"    --calendar) COMPREPLY=($(compgen -W '{' '.join(calendars)}' -- \"$word\")); return ;;",
+             "    --holidays) COMPREPLY=($(compgen -f -- \"$word\")); compopt -o filenames 2>/dev/null; return ;;", "    esac",
              "    case ${COMP_WORDS[1]} in"]
     for name in names:
-        known = options(help_of(program, name)[2])
+        known = (conventions if name == "roll" else []) + options(help_of(program, name)[2])
         if known:
             lines.append(f"    {name}) COMPREPLY=($(compgen -W '{' '.join(known)} {last} --help' -- \"$word\")) ;;")
-    lines += [f"    check) COMPREPLY=($(compgen -f -W '{last} --help' -- \"$word\")) ;;",
+    lines += [f"    check) COMPREPLY=($(compgen -f -W '{last} --help' -- \"$word\")); compopt -o filenames 2>/dev/null ;;",
               f"    *) COMPREPLY=($(compgen -W '{last} --help' -- \"$word\")) ;;", "    esac", "}",
               "complete -o default -F _dates dates"]
     return "\n".join(lines) + "\n"

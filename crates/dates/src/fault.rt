@@ -151,7 +151,7 @@ fn expected(wrong: Wrong) -> &'static str {
         Why::Convention => CONVENTIONS,
         Why::Option => "--weekend, --calendar or --holidays",
         Why::Once => "each option once",
-        Why::Weekend => "a weekend as fri,sat, sun or none",
+        Why::Weekend => "none, or at most two weekdays as fri,sat",
         Why::Calendar => "us-federal, target or england",
         Why::File => "the name of a file",
         Why::Schedule => "a schedule as '30 4 1,15 * 5'",

@@ -31,13 +31,18 @@ const HEAD: &str = "dates answers what one asks of dates. It never asks what day
 const FOOT: &str = "\n\
     \x20 dates COMMAND .. --json             the same answer in JSON, an object a line\n\
     \x20 dates COMMAND --help                more of a command, with an example\n\
-    \x20 dates --help | --version";
+    \x20 dates --help | --version\n\
+    \n\
+    It ends with status 0; with 1 where a question has no answer, and none is printed, or where check tells of a line;\n\
+    and with 2 after a wrong command, or a read or a write that failed.";
 
 // The options that say which days are closed.
 const CLOSED: &str =
-    "--weekend DAYS   closed weekdays: fri,sat, sun or none; sat,sun where it is not given\n\
+    "--weekend DAYS   closed weekdays, two at most: none, a day as fri, or two as fri,sat; sat,sun where it is not given\n\
     --calendar NAME  holidays by rules: us-federal, target or england\n\
-    --holidays FILE  holidays of a file, a day a line\n";
+    --holidays FILE  holidays of a file, a day a line\n\
+    The rules of us-federal begin with 1971, of target with 1999 and of england with 1978: before, the weekend alone is closed.\n\
+    They move holidays off Saturdays and Sundays as their laws do, whatever --weekend says.\n";
 
 // What a schedule is.
 const CRON: &str =
@@ -49,7 +54,7 @@ const LINES: Usage = Usage {
     words: "",
     answers: "each line of standard input by all its names",
     more: "With no argument too. A line that is no day is answered by none.\n\
-        So it is with add, diff, open and roll, where - stands for a day or the day is left out.",
+        So it is with add, diff, open and roll, where - stands for a day or the day is left out, and holidays are read once.",
     options: "",
     example: "$ printf '2024-W09-4\\nsoon\\n' | dates -\n\
         2024-02-29 2024-060 2024-W09-4 Thu 738945 19782\n\
@@ -76,6 +81,7 @@ const DIFF: Usage = Usage {
     words: "DAY DAY [in UNIT] [OPTION..]",
     answers: "how many days, or whole units, lie between",
     more: "A UNIT is d, w, m or y, b for open days, or ymd for years, months and days. It goes back where the second day is the earlier.\n\
+        in b counts the first day, where it is open, and not the second.\n\
         Of two date-times in place of the days it is how long it is from one to the other.",
     options: CLOSED,
     example: "$ dates diff 2024-02-29 2024-12-24 in w\n\
@@ -88,7 +94,7 @@ const SEQ: Usage = Usage {
     words: "DAY DAY [SPAN]",
     answers: "the days from one to another",
     more: "Each is the first day moved by no span, by one, by two and so on, as long as that is not past the second day.\n\
-        With no SPAN it goes day by day, also back.",
+        With no SPAN it goes day by day, also back. A SPAN is a whole number of d, w, m or y, as 2w, or -1w to go back; none of b or h.",
     options: "",
     example: "$ dates seq 2024-01-31 2024-04-01 1m\n\
         2024-01-31\n\
@@ -154,11 +160,11 @@ const ROLL: Usage = Usage {
 // `check`.
 const CHECK: Usage = Usage {
     name: "check",
-    words: "FILE",
+    words: "[FILE]",
     answers: "the lines that are no days, and why",
-    more: "Nothing where each line is a day.",
+    more: "Of standard input, where FILE is - or left out. Nothing where each line is a day.",
     options: "",
-    example: "$ printf '2023-02-29\\n' | dates check /dev/stdin\n\
+    example: "$ printf '2023-02-29\\n' | dates check\n\
         1: February 2023 has 28 days\n\
         status 1",
 };
@@ -170,7 +176,7 @@ const NEXT: Usage = Usage {
     answers: "when a schedule is due next",
     more: CRON,
     options: "--from TIME      after which moment: 2024-02-29T04:30\n\
-        --count N        how many minutes, a line each; 1 where it is not given\n",
+        --count N        how many of them are printed, a line each; 1 where it is not given\n",
     example: "$ dates next '0 9 * * 5#3' --from 2024-03-01T00:00\n\
         2024-03-15T09:00:00",
 };
@@ -182,7 +188,7 @@ const PREV: Usage = Usage {
     answers: "when it was due before",
     more: CRON,
     options: "--from TIME      before which moment: 2024-02-29T04:30\n\
-        --count N        how many minutes, a line each; 1 where it is not given\n",
+        --count N        how many of them are printed, a line each; 1 where it is not given\n",
     example: "$ dates prev '0 0 L * *' --from 2024-03-15T00:00\n\
         2024-02-29T00:00:00",
 };
