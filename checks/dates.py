@@ -19,9 +19,10 @@ TOP = os.path.dirname(os.path.dirname(os.path.abspath(__file__)))
 CRATE = os.path.join(TOP, "crates", "dates")
 
 
-# Words whose last one is begun, and what the completion makes of that in the folder docs.
+# Words whose last one is begun, and what the completion makes of that.
 COMPLETED = [("dates roll 2024-03-30 following --c", "--calendar"), ("dates roll 2024-03-30 modified-f", "modified-following"),
-             ("dates open 2024-03-30 --calendar e", "england"), ("dates open 2024-03-30 --holidays DATE", "DATES.md"), ("dates check DATE", "DATES.md")]
+             ("dates open 2024-03-30 --calendar e", "england"), (f"dates open 2024-03-30 --holidays {TOP}/docs/DATE", f"{TOP}/docs/DATES.md"),
+             (f"dates check {TOP}/docs/DATE", f"{TOP}/docs/DATES.md")]
 
 
 def examples(lines):
@@ -96,7 +97,7 @@ def main():
         cases.append(["set -o pipefail; yes 2024-02-29 | head -100000 | dates 2>&1 | head -1; exit ${PIPESTATUS[2]}",
                       ["2024-02-29 2024-060 2024-W09-4 Thu 738945 19782"], 0])
         for words, completed in COMPLETED:
-            cases.append([f"source {TOP}/tools/shell/dates.bash; cd {TOP}/docs; COMP_WORDS=({words}); COMP_CWORD=$((${{#COMP_WORDS[@]}} - 1)); _dates; echo ${{COMPREPLY[@]}}",
+            cases.append([f"source {TOP}/tools/shell/dates.bash; COMP_WORDS=({words}); COMP_CWORD=$((${{#COMP_WORDS[@]}} - 1)); _dates; echo ${{COMPREPLY[@]}}",
                           [completed], 0])
         for command, lines, status in cases:
             got = run(command, place)
