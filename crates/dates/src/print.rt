@@ -1,8 +1,9 @@
 //! A line of an answer, as a text or as an object of JSON.
 
+use crate::parts::PARTS;
 use chrono_datetime::{NaiveDate, NaiveDateTime};
 use dates_request::Form;
-use std::{fmt, io};
+use std::io;
 
 // A day.
 pub(crate) fn print_date(rt: &impl Print, form: Form, date: NaiveDate) -> io::Result<()> {
@@ -36,28 +37,13 @@ pub(crate) fn print_whether(rt: &impl Print, form: Form, key: &str, yes: bool) -
     }
 }
 
-// That there is no such thing as the key says, or as several do with commas between them.
-pub(crate) fn print_none(rt: &impl Print, form: Form, keys: &str) -> io::Result<()> {
-    let nulls = Nulls { keys };
+// That there is no such thing as the key says; no years, months and days where it is the keys of these.
+pub(crate) fn print_none(rt: &impl Print, form: Form, key: &str) -> io::Result<()> {
     match form {
         Form::Text => println!(rt; "none"),
-        Form::Json => println!(rt; "{{{nulls}}}"),
-    }
-}
-
-/// Keys with commas between them, each with null behind it, as the members of an object of JSON.
-#[derive(Clone, Copy)]
-pub struct Nulls<'a> {
-    keys: &'a str,
-}
-
-impl fmt::Display for Nulls<'_> {
-    fn fmt<W: fmt::Write>(&self, f: &mut fmt::Formatter<W>) -> fmt::Result {
-        let mut between = "";
-        for key in self.keys.split(',') {
-            write!(f, "{between}\"{key}\":null")?;
-            between = ",";
+        Form::Json if key == PARTS => {
+            println!(rt; "{{\"years\":null,\"months\":null,\"days\":null}}")
         }
-        Ok(())
+        Form::Json => println!(rt; "{{\"{key}\":null}}"),
     }
 }
