@@ -5,7 +5,7 @@ use Rattle.chrono_datetime.specs.declared.Weekday.{Weekday}
 use Rattle.chrono_datetime.specs.declared.Weekday.TheVariants.{Mon}
 use Rattle.chrono_rules.specs.declared.rule.End.TheVariants.{Count, Never, Until}
 use Rattle.chrono_rules.specs.declared.rule.Frequency.{Frequency}
-use Rattle.chrono_rules.specs.declared.rule.Frequency.TheVariants.{Daily, Monthly, Weekly, Yearly}
+use Rattle.chrono_rules.specs.declared.rule.Frequency.TheVariants.{Daily, Weekly, Yearly}
 use Rattle.chrono_rules.specs.declared.rule.Rule.{Rule}
 use Rattle.chrono_rules.specs.RecurrenceSets.{RecurrenceSet}
 use Rattle.chrono_rules.specs.Instances.{no_numbers, no_places, no_weekdays, plain}
