@@ -1,13 +1,18 @@
 -- Which day stands in a cell.
-use Rattle.std.proofs.Common.{◌≡◌, ℕ, ◌&&◌, cond, Option, Some, None, sym, arith, ℤ, ◌≤ℤ◌, int_le}
-use Rattle.std.proofs.lemmas.Int.{ints}
+use Rattle.std.proofs.Common.{◌≡◌, ℕ, Bool, true, false, ◌&&◌, cond, Option, Some, None, is_some, sym, arith, ℤ, pos, ◌+ℤ◌, ◌≤ℤ◌, int_le}
+use Rattle.std.proofs.lemmas.Bool.{false≢true}
+use Rattle.std.proofs.lemmas.Int.{by_lt_z, ints}
 use Rattle.std.proofs.lemmas.Option.{cond_some}
 use Rattle.std.specs.Option.{SomeIff}
-use Rattle.chrono_calendar.specs.Days.{date_of_day, is_date}
+use Rattle.chrono_units.specs.Years.{is_leap_year}
+use Rattle.chrono_calendar.specs.Days.{date_of_day, is_date, month_of, year_of}
 use Rattle.chrono_calendar.specs.MonthMoves.{month_first_of, month_last_of}
 use Rattle.chrono_calendar.proofs.Dates.{by_test}
+use Rattle.chrono_calendar.proofs.MonthDays.{day_of-bounds}
+use Rattle.chrono_calendar.proofs.Months.{month_length_in-bounds}
+use Rattle.chrono_calendar.proofs.Signed.{signed}
 use Rattle.chrono_datetime.specs.declared.Weekday.{Weekday}
-use Rattle.dates_answer.specs.Sheets.{day_of_cell, sheet_day}
+use Rattle.dates_answer.specs.Sheets.{IsEmptyRow, day_of_cell, sheet_day}
 
 pub date_of_day-is : (m d : ℤ) → Some m ≡ date_of_day d → m ≡ d
 unfolding date_of_day
@@ -21,3 +26,24 @@ pub sheet_day-SomeIff : (o : Option ℤ) (n : ℤ) (start : Weekday) (row column
     → SomeIff o ((month_first_of n ≤ℤ day_of_cell n start row column) × (day_of_cell n start row column ≤ℤ month_last_of n)) (day_of_cell n start row column) → o ≡ sheet_day n start row column
 unfolding sheet_day
 sheet_day-SomeIff o n start row column given = between o (month_first_of n) (month_last_of n) (day_of_cell n start row column) given
+
+-- an empty cell's day does not lie in the month
+not_none : (b : Bool) (d : ℤ) → is_some (cond b (Some d) None) ≡ false → b ≡ true → ⊥
+not_none true d e t = false≢true (sym e)
+not_none false d e t = false≢true t
+
+outside : (n : ℤ) (start : Weekday) (row column : ℕ) → is_some (sheet_day n start row column) ≡ false → month_first_of n ≤ℤ day_of_cell n start row column → day_of_cell n start row column ≤ℤ month_last_of n → ⊥
+unfolding sheet_day
+outside n start row column e low high =
+    not_none (int_le (month_first_of n) (day_of_cell n start row column) && int_le (day_of_cell n start row column) (month_last_of n)) (day_of_cell n start row column) e (grind (arith, ints, low, high))
+
+-- a month has more days than a row
+long_month : (n : ℤ) → (month_first_of n +ℤ pos 6) ≤ℤ month_last_of n
+long_month n = omega (arith, signed, day_of-bounds n, month_length_in-bounds (is_leap_year (year_of n)) (month_of n))
+
+-- so a row is empty if its first cell and its last are
+pub ends_empty : (n : ℤ) (start : Weekday) (row : ℕ) → is_some (sheet_day n start row 0) ≡ false → is_some (sheet_day n start row 6) ≡ false → IsEmptyRow n start row
+ends_empty n start row first last = λ column lt. sym (sheet_day-SomeIff None n start row column (λ lies.
+    by_lt_z (day_of_cell n start row 0) (month_first_of n)
+    (λ before. outside n start row 6 last (omega (arith, signed, lies.0, lt)) (omega (arith, signed, before, long_month n)))
+    (λ on. outside n start row 0 first (omega (arith, signed, on)) (omega (arith, signed, lies.1)))))

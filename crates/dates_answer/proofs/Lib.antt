@@ -7,3 +7,5 @@ mod PartLemmas
 mod RowLemmas
 mod CellLemmas
 mod NameTexts
+mod KnownParts
+mod KnownDayParts

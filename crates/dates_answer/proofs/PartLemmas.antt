@@ -74,7 +74,7 @@ comes_if (Some m) unit n z P e p = record { day = m; is = sym e }
 comes_if None unit n z P e p = elim p [ ]
 
 -- by the order of the two days
-by_order : (A : Type 0) (from to : ℤ) → (from ≤ℤ to → A) → (to <ℤ from → A) → A
+pub by_order : (A : Type 0) (from to : ℤ) → (from ≤ℤ to → A) → (to <ℤ from → A) → A
 by_order A from to forth back = by_lt_z to from back forth
 
 pub years_come : (from to z : ℤ) → IsUnitsBetween Years from to z → Comes Years from z

@@ -1,13 +1,14 @@
 -- A month as a sheet: which day stands in which cell, and how a row is written.
-use Rattle.std.specs.Prelude.{ℕ, ◌+◌, ◌*◌, ◌/◌, ◌%◌, ◌&&◌, if◌then◌else◌, nat_lt, ℤ, pos, ◌+ℤ◌, int_le, List, [], ◌∷◌, ◌++◌, codes, Option, Some, None}
+use Rattle.std.specs.Prelude.{◌≡◌, ℕ, ◌+◌, ◌*◌, ◌/◌, ◌%◌, ◌<◌, false, not, ◌&&◌, if◌then◌else◌, nat_lt, ℤ, pos, ◌+ℤ◌, int_le, List, [], ◌∷◌, map, ◌++◌, codes, Option, Some, None}
 use Rattle.std.specs.Option.{option_map}
 use Rattle.std.specs.Str.{byte}
 use Rattle.chrono_datetime.specs.declared.Weekday.{Weekday}
 use Rattle.chrono_datetime.specs.declared.Weekday.TheVariants.{Thu}
-use Rattle.chrono_datetime.specs.Days.{date_of_day}
+use Rattle.chrono_datetime.specs.Days.{date_of_day, day_of}
 use Rattle.chrono_datetime.specs.MonthMoves.{month_first_of, month_last_of}
 use Rattle.chrono_datetime.specs.Weekday.{days_since}
 use Rattle.chrono_datetime.specs.Weeks.{iso_week_of, week_first_of}
+use Rattle.chrono_business.specs.OpenDays.{Closed, is_open}
 use Rattle.dates_answer.specs.declared.row.Cell.{Cell}
 use Rattle.dates_answer.specs.declared.row.SheetRow.{SheetRow}
 
@@ -25,6 +26,19 @@ sheet_day n start row column =
 -- the ISO week of a row: that of its Thursday, if that is a date
 abbrev pub week_of_row : ℤ → Weekday → ℕ → Option ℕ
 week_of_row n start row = option_map iso_week_of (date_of_day (day_of_cell n start row (days_since Thu start)))
+
+-- none of the seven cells of a row has a day
+abbrev pub IsEmptyRow : ℤ → Weekday → ℕ → Type 0
+IsEmptyRow n start row = (column : ℕ) → column < 7 → sheet_day n start row column ≡ None
+
+-- a cell of a day, if it has one: its day of the month, marked where the calendar is closed
+abbrev pub cell_of : Closed → Option ℤ → Cell
+cell_of c None = record { day = None; closed = false }
+cell_of c (Some d) = record { day = Some (day_of d); closed = not (is_open c d) }
+
+-- the cells of a row, from the first column to the last
+abbrev pub cells_of_row : Closed → ℤ → Weekday → ℕ → List Cell
+cells_of_row c n start row = map (λ column. cell_of c (sheet_day n start row column)) (0 ∷ 1 ∷ 2 ∷ 3 ∷ 4 ∷ 5 ∷ 6 ∷ [])
 
 -- the last digit of a number
 abbrev pub last_digit : ℕ → ℕ

@@ -1,11 +1,15 @@
 //! Values of the definitions that are known, each the contract of a function with an empty body.
-ghost use Rattle.std.specs.Prelude.{◌≡◌, ◌∷◌, [], pos, neg_ℤ, Some, None, Ok, Err, codes, true, false};
+ghost use Rattle.std.specs.Prelude.{◌≡◌, ◌∷◌, [], ℤ, pos, neg_ℤ, Some, None, Ok, Err, codes, true, false};
 ghost use Rattle.chrono_datetime.specs.declared.Weekday.TheVariants.{Mon, Sun};
+ghost use Rattle.chrono_datetime.specs.WeekdaySet.{no_days};
+ghost use Rattle.chrono_business.specs.OpenDays.{closed};
 ghost use Rattle.dates_request.specs.declared.span.Unit.TheVariants.{Days, Months, Weeks, Years};
+ghost use Rattle.dates_answer.specs.declared.parts.Parts.{Parts};
 ghost use Rattle.dates_answer.specs.DayNames.{names_text};
 ghost use Rattle.dates_answer.specs.Moves.{moved_from, unit_move};
+ghost use Rattle.dates_answer.specs.Parts.{IsPartsBetween};
 ghost use Rattle.dates_answer.specs.Sequences.{sequence_day};
-ghost use Rattle.dates_answer.specs.Sheets.{row_text, sheet_day};
+ghost use Rattle.dates_answer.specs.Sheets.{cells_of_row, row_text, sheet_day};
 
 /// Days moved by spans, each day by its number: 31 January of the year 1 by a month is 28 February, 1 January by two weeks the 15th,
 /// 29 February of the year 4 by a year 28 February; by a week on and a day back 1 January is the 7th; a day behind the last date there is none.
@@ -29,18 +33,33 @@ pub fn known_sequences()
     ensures back_past_the_end { sequence_day (pos 10) (pos 4) (record { count = neg_ℤ (pos 3); unit = Days }) 3 ≡ None }
 {}
 
+/// Years, months and days between known days: from 31 January of the year 4 to 1 March one month and one day, and as many back; from
+/// 29 February of the year 4 to 28 February of the year 8 three years, eleven months and 31 days.
+pub fn known_parts()
+    ensures forth { IsPartsBetween (pos 1126) (pos 1156) (record { years = pos 0; months = pos 1; days = pos 1 }) }
+    ensures back { IsPartsBetween (pos 1156) (pos 1126) (record { years = pos 0; months = neg_ℤ (pos 1); days = neg_ℤ (pos 1) }) }
+    ensures eleven { IsPartsBetween (pos 1155) (pos 2615) (record { years = pos 3; months = pos 11; days = pos 31 }) }
+{}
+
+/// Between two days lie no other years, months and days.
+pub fn parts_are_the_only_ones()
+    ensures { (from to : ℤ) (p q : Parts) → IsPartsBetween from to p → IsPartsBetween from to q → (p.years ≡ q.years) × (p.months ≡ q.months) × (p.days ≡ q.days) }
+{}
+
 /// The line of 1 January of the year 1.
 pub fn known_names()
     ensures first { names_text (pos 1) ≡ codes "0001-01-01 0001-001 0001-W01-1 Mon 1 -719162" }
 {}
 
-/// Cells of January of the year 1, which begins on a Monday, and a row.
+/// Cells of January of the year 1, which begins on a Monday, those of its last row, of which the 30th is a holiday, and how a row is written.
 pub fn known_sheets()
     ensures first { sheet_day (pos 15) Mon 0 0 ≡ Some (pos 1) }
     ensures before_first { sheet_day (pos 15) Sun 0 0 ≡ None }
     ensures second_column { sheet_day (pos 15) Sun 0 1 ≡ Some (pos 1) }
     ensures last { sheet_day (pos 15) Mon 4 2 ≡ Some (pos 31) }
     ensures behind_last { sheet_day (pos 15) Mon 4 3 ≡ None }
+    ensures cells { cells_of_row (closed no_days (pos 30 ∷ [])) (pos 15) Mon 4
+        ≡ record { day = Some 29; closed = false } ∷ record { day = Some 30; closed = true } ∷ record { day = Some 31; closed = false } ∷ record { day = None; closed = false } ∷ record { day = None; closed = false } ∷ record { day = None; closed = false } ∷ record { day = None; closed = false } ∷ [] }
     ensures row { row_text (record { week = Some 9; cells = record { day = Some 29; closed = false } ∷ record { day = Some 1; closed = true } ∷ record { day = None; closed = false } ∷ [] })
         ≡ codes "W09 29  1*   " }
 {}

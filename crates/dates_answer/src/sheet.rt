@@ -1,7 +1,7 @@
 //! A month as a sheet: which day stands in which cell.
-ghost use Rattle.std.specs.Prelude.{◌≡◌, ◌+◌, ◌*◌, ◌-ℤ◌, pos};
+ghost use Rattle.std.specs.Prelude.{◌≡◌, ◌↔◌, ◌+◌, ◌*◌, ◌-ℤ◌, None, false, pos};
 ghost use Rattle.chrono_datetime.specs.Days.{date_of_day};
-ghost use Rattle.dates_answer.specs.Sheets.{day_of_cell, sheet_day, week_of_row};
+ghost use Rattle.dates_answer.specs.Sheets.{IsEmptyRow, cell_of, cells_of_row, day_of_cell, sheet_day, week_of_row};
 
 use crate::between::days_between;
 use crate::row::{Cell, SheetRow};
@@ -45,7 +45,11 @@ impl MonthSheet {
     }
 
     /// A row as it is printed, with the days that are not open marked; blank where none of its days lies in the month.
-    pub fn row(&self, row: u32, calendar: &Calendar) -> SheetRow {
+    pub fn row(&self, row: u32, calendar: &Calendar) -> SheetRow
+        ensures cells { result.cells ≡ cells_of_row calendar.now self.now.month self.now.start row }
+        ensures week { ¬ IsEmptyRow self.now.month self.now.start row → result.week ≡ week_of_row self.now.month self.now.start row }
+        ensures blank { IsEmptyRow self.now.month self.now.start row → result.week ≡ None }
+    {
         let cells = [
             self.cell(row, 0, calendar),
             self.cell(row, 1, calendar),
@@ -55,24 +59,35 @@ impl MonthSheet {
             self.cell(row, 5, calendar),
             self.cell(row, 6, calendar),
         ];
-        let week = if self.has_days(row) {
-            self.week(row)
-        } else {
-            None
-        };
+        let week = self.shown_week(row);
         SheetRow { week, cells }
     }
 
     /// Whether a row has a day of the month.
-    pub fn has_days(&self, row: u32) -> bool {
-        match self.day(row, 0) {
-            Some(_) => true,
-            None => self.day(row, 6).is_some(),
+    pub fn has_days(&self, row: u32) -> bool
+        ensures { result ≡ false ↔ IsEmptyRow self.now.month self.now.start row }
+    {
+        if self.day(row, 0).is_some() {
+            return true;
         }
+        self.day(row, 6).is_some()
+    }
+
+    // The ISO week in front of a row, if that has a day of the month.
+    fn shown_week(&self, row: u32) -> Option<u32>
+        ensures week { ¬ IsEmptyRow self.now.month self.now.start row → result ≡ week_of_row self.now.month self.now.start row }
+        ensures blank { IsEmptyRow self.now.month self.now.start row → result ≡ None }
+    {
+        if self.has_days(row) {
+            return self.week(row);
+        }
+        None
     }
 
     // What stands in a cell.
-    fn cell(&self, row: u32, column: u32, calendar: &Calendar) -> Cell {
+    fn cell(&self, row: u32, column: u32, calendar: &Calendar) -> Cell
+        ensures { result ≡ cell_of calendar.now (sheet_day self.now.month self.now.start row column) }
+    {
         match self.day(row, column) {
             Some(date) => Cell {
                 day: Some(date.day()),
