@@ -1,5 +1,5 @@
 -- What is checked, by the words of the arguments.
-use Rattle.std.proofs.Common.{◌≡◌, ◌≤◌, [], ◌∷◌, length, get_or, arith}
+use Rattle.std.proofs.Common.{◌≤◌, [], ◌∷◌, length, get_or, arith}
 use Rattle.std.specs.Prelude.{bytes_eq, codes}
 use Rattle.dates_request.specs.Requests.{IsCheck, IsSource, texts}
 use Rattle.dates_request.specs.declared.request.Request.{Request}
