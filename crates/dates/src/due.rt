@@ -4,16 +4,10 @@ use crate::fault::{ANSWERED, NONE, WRONG};
 use crate::print::{print_moment, print_none};
 use chrono_cron::{Schedule, read_schedule};
 use chrono_datetime::NaiveDateTime;
+use dates_answer::{Way, due_next};
 use dates_request::Form;
 use std::alloc::Allocator;
 use std::io;
-
-/// Which way one goes from a moment.
-#[derive(Clone, Copy)]
-pub(crate) enum Way {
-    On,
-    Back,
-}
 
 // The moments at which the schedule of the second word is due from a moment on or back, so many of them; `none` where there are fewer.
 pub(crate) fn answer_due(
@@ -45,7 +39,7 @@ fn print_due(
 ) -> io::Result<u8> {
     let mut last = from;
     for _ in 0..count {
-        let Some(moment) = neighbour(schedule, last, way) else {
+        let Some(moment) = due_next(schedule, last, way) else {
             print_none(rt, form, "moment")?;
             return Ok(NONE);
         };
@@ -53,12 +47,4 @@ fn print_due(
         last = moment;
     }
     Ok(ANSWERED)
-}
-
-// The moment next to another at which the schedule is due.
-fn neighbour(schedule: &Schedule, moment: NaiveDateTime, way: Way) -> Option<NaiveDateTime> {
-    match way {
-        Way::On => schedule.next_after(moment),
-        Way::Back => schedule.prev_before(moment),
-    }
 }

@@ -3,8 +3,9 @@
 use crate::closed::{put_holidays, years_of};
 use crate::fault::{ANSWERED, NONE, WRONG};
 use crate::print::{print_date, print_none, print_number, print_whether};
-use chrono_business::{Calendar, Roll};
+use chrono_business::Calendar;
 use chrono_datetime::NaiveDate;
+use dates_answer::rolled;
 use dates_request::{Convention, Form, Options};
 use std::io::{self, Eprint};
 
@@ -57,9 +58,9 @@ pub(crate) fn answer_roll(
     let Ok(calendar) = Calendar::try_new(weekend, days.as_slice()) else {
         return Ok(WRONG);
     };
-    match calendar.roll(date, roll_of(convention)) {
-        Some(rolled) => {
-            print_date(rt, form, rolled)?;
+    match rolled(date, convention, &calendar) {
+        Some(day) => {
+            print_date(rt, form, day)?;
             Ok(ANSWERED)
         }
         None => {
@@ -67,17 +68,5 @@ pub(crate) fn answer_roll(
             eprintln!(rt; "{date}: past the calendar's end")?;
             Ok(NONE)
         }
-    }
-}
-
-// The roll of a convention.
-fn roll_of(convention: Convention) -> Roll {
-    match convention {
-        Convention::Unadjusted => Roll::Unadjusted,
-        Convention::Following => Roll::Following,
-        Convention::Preceding => Roll::Preceding,
-        Convention::ModifiedFollowing => Roll::ModifiedFollowing,
-        Convention::ModifiedPreceding => Roll::ModifiedPreceding,
-        Convention::Nearest => Roll::Nearest,
     }
 }

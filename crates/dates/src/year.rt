@@ -4,6 +4,7 @@ use crate::fault::{ANSWERED, NONE};
 use crate::print::{print_date, print_none, print_whether};
 use chrono_business::easter;
 use chrono_datetime::NaiveDate;
+use dates_answer::is_leap;
 use dates_request::Form;
 use std::io::{self, Eprint};
 
@@ -20,9 +21,9 @@ pub(crate) fn answer_easter(rt: &(impl Print + Eprint), form: Form, year: i32) -
 
 // `yes` where the year is a leap year, and else `no`.
 pub(crate) fn answer_leap(rt: &(impl Print + Eprint), form: Form, year: i32) -> io::Result<u8> {
-    match NaiveDate::from_ymd_opt(year, 1, 1) {
-        Some(first) => {
-            print_whether(rt, form, "leap", first.leap_year())?;
+    match is_leap(year) {
+        Some(leap) => {
+            print_whether(rt, form, "leap", leap)?;
             Ok(ANSWERED)
         }
         None => no_such_year(rt, form, "leap", year),
