@@ -113,14 +113,19 @@ def twins_in(folder):
     return {name: twin for name, twin in twins if twin}
 
 
+def take_kept(crate, kept):
+    """Takes over what a check in the work tree kept of the crate, of which the kit uses what is of the same sources."""
+    found = f"{TOP}/crates/{crate.name}/out/incremental"
+    if os.path.isdir(found):
+        shutil.copytree(found, kept, dirs_exist_ok=True)
+
+
 @contextlib.contextmanager
 def proved(rt, crate):
-    """Gives the folder of what a check of the crate as it stands proved, begun with what a check on this machine kept; none where that fails."""
-    room = rt.seeded(crate, FLAGS, rt.work_for(crate))
-    try:
-        yield room and f"{room}/seed"
-    finally:
-        shutil.rmtree(room or "", ignore_errors=True)
+    """Gives the folder of what a check of the crate as it stands proved, begun with what a check in the work tree kept; none where that fails."""
+    with tempfile.TemporaryDirectory(prefix="plants-kept-") as kept:
+        take_kept(crate, kept)
+        yield None if rt.checked(crate, {}, FLAGS, kept).returncode else kept
 
 
 def try_twins(rt, crate, twins):
@@ -160,7 +165,7 @@ def try_crate(copy, name):
         said += [f"{name}/{it}: refused, but only because a proof file names what the edit took away" for it, lost in refused.items() if lost]
         for it in [*alone, *(it for each in rounds for it in each if it not in refused)]:
             kind, text = rt.must_fail(crate, f"{crate.folder}/must-fail/{it}.edit", FLAGS, kept)
-            well = kind == rt.REFUSED or LEMMA_FELL in text
+            well = kind == getattr(rt, "REFUSED", True) or LEMMA_FELL in text
             refused |= {it: False} if well else {}
             said += [text] if not well or FOR_A_NAME.search(text) else []
     used = resource.getrusage(resource.RUSAGE_CHILDREN)
