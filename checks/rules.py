@@ -5,10 +5,10 @@
 
   tables     no array stands outside the modules `table` and `tables` but in what writes a text; one of theirs is private, and the only function beside it
              reads it once, behind a tick
-  counted    a function that takes `Steps` has no loop and no match of thirteen cases or more; nor has what it calls without handing
-             its counter on, and nothing there begins a counter
+  counted    a function that takes `Steps` has no loop, no range, no iterator and no match of thirteen cases or more; nor has what it
+             calls without handing its counter on, and nothing there begins a counter
   places     a counter begins, a table is read and a counter is swapped only in the functions that PLACES names, as often as there
-  thrown     what a call answers is not thrown away by `let _`
+  thrown     what a call answers is not thrown away, by `let _`, by `drop` or as a statement
 
 Each rule is then tried on the wrong bodies of PLANTED, in copies of the source, and has to find each. Last, the compiler has to
 refuse the bodies of LET_GO, which leave a counter without an end. Tests may count as they like, and texts have tables of their own.
@@ -47,9 +47,13 @@ MANY = 13
 
 IGNORED = re.compile(r"""//[^\n]*|b?"(?:\\[\s\S]|[^"\\])*"|b?'(?:\\.|[^'\\])'|\#!?\[[^\]]*\]""")
 CLAUSE = re.compile(r"\b(?:requires|ensures)(?:\s+\w+)?\s*$")
-ARRAY = re.compile(r"^ *(pub\S* )?(?:const|static) (\w+): [^=]*\[[^=]*=", re.M)
+# A constant of several values: an array, a tuple or a text.
+ARRAY = re.compile(r"^ *(pub\S* )?(?:const|static) (\w+): (?:[^=]*\[|\((?!\))|&[^=]*\bstr\b)[^=]*=", re.M)
 # A call of a name, but of none of a machine's number.
 CALL = re.compile(r"(?<!\d::)\b([a-z_]\w*)(?:::<[^()]*>)?\(")
+
+# What a call does that stands as a statement: it changes what it is called on or given.
+EFFECT = re.compile(r"\b(?:tick|end|push\w*|put_\w*|hash|insert|remove|swap)\([^()]*(?:\([^()]*\)[^()]*)*\)$")
 
 Function = collections.namedtuple("Function", "path name head body")
 
@@ -149,6 +153,10 @@ def turns(body):
     return bool(re.search(r"\b(for|while|loop)\b", body)) or cases(body) >= MANY
 
 
+def iterates(body):
+    return bool(re.search(r"\.\.|\.\s*(iter|into_iter|for_each|fold|map)\s*\(", body))
+
+
 def calls(body):
     """The names that are called in a body without its counter."""
     found = ((it[1], body[it.end() : closing(body, it.end() - 1)]) for it in CALL.finditer(body))
@@ -158,7 +166,7 @@ def calls(body):
 def uncounted(those):
     """The names of functions, of those, that begin a counter, turn through a loop or choose among many, or call one that does."""
     names, called = set(), {it: calls(it.body) for it in those}
-    more = {it.name for it in those if "Steps::new(" in it.body or turns(it.body)}
+    more = {it.name for it in those if "Steps::new(" in spelled(it.body) or turns(it.body)}
     while not more <= names:
         names |= more
         more = {it.name for it in those if called[it] & names}
@@ -170,22 +178,35 @@ def counted(code):
     but_apart = uncounted([it for it in code.counted if crate_of(it.path) != APART])
     for it in (it for it in code.counted if re.search(r"&mut Steps\b", it.head)):
         names = every if crate_of(it.path) == APART else but_apart
-        if turns(it.body):
-            yield f"{it.path}: a loop or a match of {MANY} cases in {it.name}"
+        if turns(it.body) or iterates(it.body):
+            yield f"{it.path}: a loop, a range or a match of {MANY} cases in {it.name}"
         yield from (f"{it.path}: {it.name} calls {name}" for name in sorted(calls(it.body) & names))
+
+
+def spelled(text):
+    """The text with each path written in one word."""
+    return re.sub(r"<(\w+)>(?=::)", r"\1", re.sub(r"\s*::\s*", "::", text))
 
 
 def places(code):
     for text, listed in PLACES.items():
         found = collections.Counter()
         for it in code.functions:
-            found[f"{it.path} {it.name}"] += len(re.findall(rf"\b{re.escape(text)}", it.body))
+            found[f"{it.path} {it.name}"] += len(re.findall(rf"\b{re.escape(text)}", spelled(it.body)))
         listed = collections.Counter(listed)
         yield from (f"{it}: `{text}` {found[it]} times, and not {listed[it]}" for it in found | listed if found[it] != listed[it])
+    yield from (f"{path}: `Steps` by another name" for path, text in code.files.items() if re.search(r"\bSteps\s+as\b", text))
 
 
 def thrown(code):
-    yield from (f"{it.path}: an answer thrown away in {it.name}" for it in code.counted if re.search(r"\blet _\w* = [^;]*\(", it.body))
+    for it in code.counted:
+        if re.search(r"\blet _\w* = [^;]*\(|\bdrop\(", it.body) or any(not EFFECT.search(text) for text in statements(it.body)):
+            yield f"{it.path}: an answer thrown away in {it.name}"
+
+
+def statements(body):
+    """The calls that stand as statements."""
+    return re.findall(r"(?<=[;{}])\s*([A-Za-z_][\w:.<>]*\((?:[^;{}=]|==)*\))\s*(?=;)", body)
 
 
 RULES = (tables, counted, places, thrown)
@@ -214,6 +235,14 @@ PLANTED = [
     (places, PACKED, "        PackedForm::of_ordinal(", "        YearFlags::from_year(0);\n        PackedForm::of_ordinal("),
     (thrown, PACKED, "        PackedForm::of_ordinal(", "        let _ = Self::from_ymd(year, 1, 1);\n        PackedForm::of_ordinal("),
     (thrown, FORMS, "    steps.tick();\n", "    steps.tick();\n    let _first = F::from_yo(2024, 1);\n"),
+    (thrown, PACKED, "        PackedForm::of_ordinal(", "        Self::from_ymd(year, 1, 1).is_some();\n        PackedForm::of_ordinal("),
+    (thrown, PACKED, "        PackedForm::of_ordinal(", "        drop(Self::from_ymd(year, 1, 1));\n        PackedForm::of_ordinal("),
+    (counted, FORMS, "    steps.tick();\n", "    steps.tick();\n    (0..9).for_each(|_| ());\n"),
+    (places, FORMS, "    steps.tick();\n", "    steps.tick();\n    let own = Steps ::new();\n    own.end();\n"),
+    (places, FORMS, "    steps.tick();\n", "    steps.tick();\n    let own = <Steps>::new();\n    own.end();\n"),
+    (places, FORMS, "    steps.tick();\n", "    steps.tick();\n    use crate::steps::Steps as Other;\n"),
+    (tables, PACKED, "impl PackedForm {", "const LENGTHS: (u16, u16) = (365, 366);\n\nimpl PackedForm {"),
+    (tables, PACKED, "impl PackedForm {", "const LENGTHS: &str = \"mn\";\n\nimpl PackedForm {"),
 ]
 
 
