@@ -72,7 +72,8 @@ NO_FILES = {
 }
 # The crates of which docs/CALLS.md lists what is public, each under a heading that names it.
 LISTED = """chrono_text chrono_units chrono_clock chrono_calendar chrono_internals chrono_stored chrono_naive chrono_datetime
-    caltool_command caltool_form caltool_dates chrono_reading chrono_cron chrono_business chrono_columns calendar_c""".split()
+    caltool_command caltool_form caltool_dates chrono_reading chrono_cron chrono_business chrono_rules chrono_columns dates_request dates_answer
+    calendar_c""".split()
 # Traits whose calls docs/CALLS.md says together.
 SAID_TOGETHER = ("DayForm", "CommandAnswers")
 # Crates of tests, and modules, whose parts docs/ARCHITECTURE.md does not name: those of a date-time are like those of a date.
@@ -91,7 +92,6 @@ DECLARED = {
     ".h": re.compile(r"^#define (\w+)", re.M),
     ".py": re.compile(r"^ *(?:def|class) (\w+)|^(\w+) =", re.M),
     ".pyi": re.compile(r"^ *(?:def|class) (\w+)", re.M),
-    ".js": re.compile(r"\b(?:function|class|const|let|get|static) (\w+)|^ +(\w+)\(", re.M),
     ".ts": re.compile(r"\b(?:function|class|const|readonly|get|static) (\w+)|^ +(\w+)\(", re.M),
     ".toml": re.compile(r'^name = "([\w-]+)"', re.M),
     ".js": re.compile(r"^(?:export )?(?:class|function|const) (\w+)|^  (?:static )?(?:get )?(\w+)\(|^  \"(\w+)\",$", re.M),

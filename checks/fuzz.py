@@ -7,7 +7,7 @@ The lines come of a grammar of near misses: numbers at the ends of their types a
 have, signs, zeros and spaces where they do not belong, numbers past every width, words cut or misspelt, a byte dropped, doubled
 or struck wrong, lines about as long as a line may be, bytes of any kind; and each byte in each place of two short lines. What they
 answer is counted (checks/counted.py); nothing is taken from the program's own sources. The first line answered otherwise is
-printed with its seed.
+printed with its seed. The answers that stand in crates/caltool_rows, which another library gave, are counted again too.
 """
 import argparse
 import os
@@ -22,6 +22,7 @@ from counted import (DAY, FIRST_DAY, FIRST_YEAR, LAST_DAY, LAST_YEAR, LONGEST, N
 
 TOP = os.path.dirname(os.path.dirname(os.path.abspath(__file__)))
 CALTOOL = os.path.join(TOP, "crates", "caltool", "out", "caltool")
+ROWS = os.path.join(TOP, "crates", "caltool_rows")
 
 WEEKDAYS = ["Mon", "Tue", "Wed", "Thu", "Fri", "Sat", "Sun"]
 LONGEST_LINE = 120
@@ -267,6 +268,17 @@ def each_byte():
                 yield line[:place] + bytes([byte]) + line[place + 1 :]
 
 
+def are_rows_counted():
+    """Whether the answers of caltool_rows are what counting gives."""
+    with open(f"{ROWS}/stdin", "rb") as lines, open(f"{ROWS}/stdout", "rb") as answers:
+        lines, answers = (it.read().decode("latin-1").removesuffix("\n").split("\n") for it in (lines, answers))
+    otherwise = [it for it, did in zip(lines, answers) if answer(it.encode("latin-1")) != did]
+    for it in otherwise[:10]:
+        print(f"crates/caltool_rows: {it!r} has to be {answer(it.encode('latin-1'))!r}")
+    print(f"{len(lines)} lines of crates/caltool_rows counted again")
+    return 0 < len(lines) == len(answers) and not otherwise
+
+
 def main():
     words = argparse.ArgumentParser(description=__doc__, formatter_class=argparse.RawDescriptionHelpFormatter)
     words.add_argument("--lines", type=int, default=200_000)
@@ -293,8 +305,9 @@ def main():
         print(f"{len(answers) - 1} answers to {len(lines)} lines, status {ran.returncode}, {ran.stderr!r} on standard error")
     nothing, wrong = (sum(it == kind for it in right) for kind in ("none", "error"))
     print(f"{len(lines)} lines compared from seed {asked.seed}, of which {nothing} name nothing and {wrong} are no command")
-    print("1 passed, 0 failed" if is_right else "0 passed, 1 failed")
-    return 0 if is_right else 1
+    failed = [is_right, are_rows_counted()].count(False)
+    print(f"{2 - failed} passed, {failed} failed")
+    return 1 if failed else 0
 
 
 if __name__ == "__main__":

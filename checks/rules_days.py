@@ -16,6 +16,8 @@ Where dateutil reads the RFC otherwise, no such rule is made for it, and the wal
   "one interval of the recurrence rule", so of the whole week.
 - BYWEEKNO=-52 and -53. dateutil leaves out the days before 1 January of a first week that is named from the end.
 
+The instances of the RFC's examples in crates/rules_rows are walked again too, but where dates stand beside the rule.
+
 A start that is no instance is none for both: dateutil does not give it either, and COUNT does not count it.
 It needs crates/rules_rows/out/rules_rows, which `rt run` and `rt ci` leave there.
 """
@@ -31,6 +33,7 @@ import sys
 
 TOP = os.path.dirname(os.path.dirname(os.path.abspath(__file__)))
 ROWS = os.path.join(TOP, "crates", "rules_rows", "out", "rules_rows")
+EXAMPLES = os.path.join(TOP, "crates", "rules_rows", "stdin")
 DEBIAN = "/usr/bin/python3"
 DAILY, WEEKLY, MONTHLY, YEARLY = range(4)
 FREQUENCIES = ("DAILY", "WEEKLY", "MONTHLY", "YEARLY")
@@ -179,6 +182,53 @@ def walked(rule, start, end):
     return found[: rule.count]
 
 
+# ---- the RFC's examples
+
+
+def numbers(text):
+    return [int(it) for it in text.split(",")]
+
+
+def date_of(text):
+    return datetime.datetime.strptime(text, "%Y%m%d").date()
+
+
+def place_of(text):
+    """The number of a weekday, if it has one, and the weekday."""
+    return int(text[:-2]) if text[:-2] else None, WEEKDAYS.index(text[-2:])
+
+
+# How the value of each part but FREQ is read, and where a rule has it.
+PARTS = {
+    "INTERVAL": ("interval", int), "COUNT": ("count", int), "UNTIL": ("until", date_of), "WKST": ("week_start", WEEKDAYS.index),
+    "BYMONTH": ("months", numbers), "BYWEEKNO": ("weeks", numbers), "BYYEARDAY": ("year_days", numbers), "BYMONTHDAY": ("month_days", numbers),
+    "BYDAY": ("weekdays", lambda text: [place_of(it) for it in text.split(",")]), "BYSETPOS": ("positions", numbers),
+}
+
+
+def rule_of(text):
+    """The rule of a text."""
+    values = dict(it.split("=") for it in text.split(";"))
+    parts = {PARTS[name][0]: PARTS[name][1](value) for name, value in values.items() if name != "FREQ"}
+    return Rule(FREQUENCIES.index(values["FREQ"]), **parts)
+
+
+def examples():
+    """How many of the RFC's examples have the instances of a walk, and how many have not."""
+    with open(EXAMPLES, encoding="ascii") as it:
+        rows = [words for words in map(str.split, it) if words[0].startswith("3.8.5.3/") and words[3] == "="]
+    otherwise = []
+    for name, text, start, _, *days in rows:
+        start, rule, ended = Date.fromordinal(int(start)), rule_of(text), days[-1] == "end"
+        days = [int(it) for it in days if it != "end"]
+        # (an ended one has no instance in the years behind its last either)
+        end = Date.fromordinal(days[-1] + (3_000 if ended else 1))
+        if [it.toordinal() for it in walked(rule, start, end)] != days:
+            otherwise.append(name)
+    print(f"examples of 3.8.5.3, day by day: {len(rows) - len(otherwise)} of {len(rows)}", *otherwise)
+    return len(rows) - len(otherwise), len(otherwise) if rows else 1
+
+
 # ---- rules
 
 
@@ -324,7 +374,7 @@ def main():
         end = start.replace(year=start.year + 400, day=1)
         rule.until = None if rule.count else end - datetime.timedelta(1)
         rows.append(rule.row(start, walked(rule, start, end), True))
-    results = [asked("400 years, day by day", rows)]
+    results = [examples(), asked("400 years, day by day", rows)]
     near = []
     for _ in range(options.rules // 10):
         rule, start = at_random(chance)

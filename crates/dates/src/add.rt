@@ -2,10 +2,10 @@
 
 use crate::closed::{put_days, put_ruled, years_of_open_days};
 use crate::fault::{ANSWERED, NONE, WRONG};
-use crate::print::{print_date, print_moment, print_none};
+use crate::print::print_answer;
 use chrono_business::Calendar;
 use chrono_datetime::{NaiveDate, NaiveDateTime, TimeDelta};
-use dates_answer::moved;
+use dates_answer::{Answer, Key, moved};
 use dates_request::{Form, Move, Options, Start, read_move};
 use std::alloc::Allocator;
 use std::io::{self, Eprint};
@@ -37,11 +37,11 @@ pub(crate) fn answer_add(
 fn refuse_move(rt: &(impl Print + Eprint), form: Form, from: &Start, word: &str) -> io::Result<u8> {
     match from {
         Start::Day(date) => {
-            print_none(rt, form, "date")?;
+            print_answer(rt, form, Answer::Nothing(Key::Date))?;
             eprintln!(rt; "{date} {word}: past the calendar's end")?;
         }
         Start::DateTime(moment) => {
-            print_none(rt, form, "moment")?;
+            print_answer(rt, form, Answer::Nothing(Key::Moment))?;
             eprintln!(rt; "{moment:?} {word}: past the calendar's end")?;
         }
     }
@@ -51,8 +51,8 @@ fn refuse_move(rt: &(impl Print + Eprint), form: Form, from: &Start, word: &str)
 // The day or the date-time.
 fn print_start(rt: &impl Print, form: Form, reached: &Start) -> io::Result<()> {
     match reached {
-        Start::Day(date) => print_date(rt, form, *date),
-        Start::DateTime(moment) => print_moment(rt, form, moment),
+        Start::Day(date) => print_answer(rt, form, Answer::Date(*date)),
+        Start::DateTime(moment) => print_answer(rt, form, Answer::Moment(*moment)),
     }
 }
 

@@ -2,21 +2,20 @@
 
 use crate::add::answer_add;
 use crate::closed::put_listed;
-use crate::day_names::print_names;
-use crate::distance::{answer_distance, answer_duration};
+use crate::distance::{answer_distance, answer_duration, answer_parts};
 use crate::due::answer_due;
 use crate::fault::{ANSWERED, WRONG};
 use crate::file::{answer_file, answer_input};
 use crate::help::{answer_help, answer_help_of, answer_version};
 use crate::lines::answer_lines;
 use crate::open::{answer_open, answer_open_days, answer_roll};
-use crate::parts::answer_parts;
+use crate::print::print_answer;
 use crate::recurring::{Wanted, answer_instances};
 use crate::sequence::{answer_days, answer_sequence};
 use crate::sheet::answer_sheet;
 use crate::year::{answer_easter, answer_leap, answer_week};
 use chrono_datetime::NaiveDate;
-use dates_answer::Way;
+use dates_answer::{Answer, Way};
 use dates_request::{Form, Request, Unit};
 use std::alloc::Allocator;
 use std::io::{self, Eprint};
@@ -50,7 +49,7 @@ pub(crate) fn answer(
         Request::HelpOf { command } => answer_help_of(rt, command),
         Request::Version => answer_version(rt, form),
         Request::Day { date } => {
-            print_names(rt, form, date)?;
+            print_answer(rt, form, Answer::Names(date))?;
             Ok(ANSWERED)
         }
         Request::Add {

@@ -1,10 +1,9 @@
 //! How far it is from one day to another.
 
 use crate::fault::ANSWERED;
-use crate::parts::PARTS;
-use crate::print::print_number;
+use crate::print::print_answer;
 use chrono_datetime::{NaiveDate, NaiveDateTime};
-use dates_answer::distance;
+use dates_answer::{Answer, Key, distance, parts_between};
 use dates_request::{Form, Unit};
 use std::io;
 
@@ -16,7 +15,8 @@ pub(crate) fn answer_distance(
     to: NaiveDate,
     unit: Unit,
 ) -> io::Result<u8> {
-    print_number(rt, form, key_of(unit), distance(from, to, unit))?;
+    let number = distance(from, to, unit);
+    print_answer(rt, form, Answer::Number(key_of(unit), number))?;
     Ok(ANSWERED)
 }
 
@@ -28,31 +28,40 @@ pub(crate) fn answer_duration(
     to: NaiveDateTime,
 ) -> io::Result<u8> {
     let duration = to.signed_duration_since(from);
-    match form {
-        Form::Text => println!(rt; "{duration}")?,
-        Form::Json => println!(rt; "{{\"duration\":\"{duration}\"}}")?,
-    }
+    print_answer(rt, form, Answer::Duration(duration))?;
+    Ok(ANSWERED)
+}
+
+// The years, months and days from the first day to the second, as spans by which `add` leads from it to the second: the most whole years,
+// then the most whole months, and the days that are left.
+pub(crate) fn answer_parts(
+    rt: &impl Print,
+    form: Form,
+    from: NaiveDate,
+    to: NaiveDate,
+) -> io::Result<u8> {
+    print_answer(rt, form, Answer::Parts(parts_between(from, to)))?;
     Ok(ANSWERED)
 }
 
 // The key of a number of units.
-pub(crate) fn key_of(unit: Unit) -> &'static str {
+pub(crate) fn key_of(unit: Unit) -> Key {
     match unit {
-        Unit::Days => "days",
-        Unit::Weeks => "weeks",
-        Unit::Months => "months",
-        Unit::Years => "years",
+        Unit::Days => Key::Days,
+        Unit::Weeks => Key::Weeks,
+        Unit::Months => Key::Months,
+        Unit::Years => Key::Years,
     }
 }
 
-// The key of a number of what a measure names, or the keys: days where it names nothing else.
-pub(crate) fn key_of_measure(measure: &str) -> &'static str {
+// That there is no number of what a measure names, days where it names nothing else.
+pub(crate) fn none_of_measure(measure: &str) -> Answer {
     match measure {
-        "w" => "weeks",
-        "m" => "months",
-        "y" => "years",
-        "b" => "open_days",
-        "ymd" => PARTS,
-        _ => "days",
+        "w" => Answer::Nothing(Key::Weeks),
+        "m" => Answer::Nothing(Key::Months),
+        "y" => Answer::Nothing(Key::Years),
+        "b" => Answer::Nothing(Key::OpenDays),
+        "ymd" => Answer::NoParts,
+        _ => Answer::Nothing(Key::Days),
     }
 }

@@ -1,10 +1,10 @@
 //! When a schedule is due.
 
 use crate::fault::{ANSWERED, NONE, WRONG};
-use crate::print::{print_moment, print_none};
+use crate::print::print_answer;
 use chrono_cron::{Schedule, read_schedule};
 use chrono_datetime::NaiveDateTime;
-use dates_answer::{Way, due_next};
+use dates_answer::{Answer, Key, Way, due_next};
 use dates_request::Form;
 use std::alloc::Allocator;
 use std::io;
@@ -40,10 +40,10 @@ fn print_due(
     let mut last = from;
     for _ in 0..count {
         let Some(moment) = due_next(schedule, last, way) else {
-            print_none(rt, form, "moment")?;
+            print_answer(rt, form, Answer::Nothing(Key::Moment))?;
             return Ok(NONE);
         };
-        print_moment(rt, form, &moment)?;
+        print_answer(rt, form, Answer::Moment(moment))?;
         last = moment;
     }
     Ok(ANSWERED)

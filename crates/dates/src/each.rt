@@ -4,10 +4,10 @@ use crate::answer::answer;
 use crate::closed::put_listed;
 use crate::distance::key_of;
 use crate::fault::{ANSWERED, NONE, WRONG, refuse};
-use crate::parts::PARTS;
-use crate::print::print_none;
+use crate::print::print_answer;
 use crate::source::{Source, refuse_source};
 use chrono_datetime::NaiveDate;
+use dates_answer::{Answer, Key};
 use dates_request::{Form, Request, Start, Wrong, read_request};
 use std::alloc::Allocator;
 use std::io::{self, BufRead, BufReader, Eprint};
@@ -183,31 +183,30 @@ fn answer_at(
 
 // Answers a line that is no day, by the keys of such a request.
 fn answer_no_day(rt: &impl Print, form: Form, line: &[u8], example: Request) -> io::Result<u8> {
-    print_none(rt, form, keys_of(example, line))?;
+    print_answer(rt, form, none_of(example, line))?;
     Ok(NONE)
 }
 
-// The keys of the answer to a request, with commas between them, where a line is no day: one with a `T` in it may have been meant
-// for a date-time.
-fn keys_of(example: Request, line: &[u8]) -> &'static str {
+// That there is no answer to a request, where a line is no day: one with a `T` in it may have been meant for a date-time.
+fn none_of(example: Request, line: &[u8]) -> Answer {
     match example {
-        Request::Open { .. } => "open",
-        Request::Distance { .. } => "days",
-        Request::DistanceIn { unit, .. } => key_of(unit),
-        Request::DistanceInOpenDays { .. } => "open_days",
-        Request::DistanceInParts { .. } => PARTS,
-        Request::Duration { .. } => "duration",
-        Request::Add { start, .. } => key_of_start(start, line),
-        _ => "date",
+        Request::Open { .. } => Answer::Nothing(Key::Open),
+        Request::Distance { .. } => Answer::Nothing(Key::Days),
+        Request::DistanceIn { unit, .. } => Answer::Nothing(key_of(unit)),
+        Request::DistanceInOpenDays { .. } => Answer::Nothing(Key::OpenDays),
+        Request::DistanceInParts { .. } => Answer::NoParts,
+        Request::Duration { .. } => Answer::Nothing(Key::Duration),
+        Request::Add { start, .. } => Answer::Nothing(key_of_start(start, line)),
+        _ => Answer::Nothing(Key::Date),
     }
 }
 
 // The key of what is moved, a date-time where the line was meant for one or has to be one.
-fn key_of_start(start: Start, line: &[u8]) -> &'static str {
+fn key_of_start(start: Start, line: &[u8]) -> Key {
     match start {
-        Start::DateTime(_) => "moment",
-        Start::Day(_) if line.contains(&b'T') => "moment",
-        Start::Day(_) => "date",
+        Start::DateTime(_) => Key::Moment,
+        Start::Day(_) if line.contains(&b'T') => Key::Moment,
+        Start::Day(_) => Key::Date,
     }
 }
 

@@ -1,11 +1,12 @@
 //! Faults: which argument is wrong, why a text is no day, and the exit statuses.
 
-use crate::distance::key_of_measure;
-use crate::print::print_none;
+use crate::distance::none_of_measure;
+use crate::print::print_answer;
 use crate::quoted::{Word, WordBytes};
 use chrono_cron::check_schedule;
 use chrono_datetime::{Datelike, Month, NaiveDate};
 use chrono_rules::check_rule;
+use dates_answer::{Answer, Key};
 use dates_request::{Form, NoDay, Why, Wrong};
 use std::alloc::Allocator;
 use std::env::{Env, FillError};
@@ -33,7 +34,7 @@ pub(crate) fn refuse(
     };
     let place = wrong.place;
     match wrong.why {
-        Why::Day(why) => refuse_day(rt, form, key_asked(words), word.as_str(), place, why),
+        Why::Day(why) => refuse_day(rt, form, none_asked(words), word.as_str(), place, why),
         Why::Schedule => refuse_schedule(rt, word.as_str(), wrong),
         Why::Rule => refuse_rule(rt, word.as_str(), wrong),
         _ => refuse_word(rt, word.as_str(), wrong),
@@ -70,18 +71,18 @@ pub(crate) fn refuse_arguments(
 // Linux takes no longer argument: 32 pages of 4,096 bytes, the last of which ends it.
 const LONGEST_ARGUMENT: usize = 131_072;
 
-// Says why a word is no day: of one past the end of its month that there is no such day, under the key of what was asked.
+// Says why a word is no day: of one past the end of its month that there is no such day, as an answer to what was asked.
 fn refuse_day(
     rt: &(impl Print + Eprint),
     form: Form,
-    key: &str,
+    none: Answer,
     word: &str,
     place: usize,
     why: NoDay,
 ) -> io::Result<u8> {
     match why {
         NoDay::PastMonth { first } => {
-            print_none(rt, form, key)?;
+            print_answer(rt, form, none)?;
             eprintln!(rt; "{word}: {}", DaysOfMonth { first })?;
             Ok(NONE)
         }
@@ -178,15 +179,15 @@ const DAY_OR_COMMAND: &str =
 const CONVENTIONS: &str =
     "following, preceding, modified-following, modified-preceding, nearest or unadjusted";
 
-// The key of what the words ask for, where one of them is no day.
-pub(crate) fn key_asked(words: &[String<impl Allocator>]) -> &'static str {
+// That there is no answer to what the words ask for, where one of them is no day.
+fn none_asked(words: &[String<impl Allocator>]) -> Answer {
     match words {
-        [command, ..] if command.as_str() == "open" => "open",
-        [command, _, _, _, measure, ..] if command.as_str() == "diff" => key_of_measure(
+        [command, ..] if command.as_str() == "open" => Answer::Nothing(Key::Open),
+        [command, _, _, _, measure, ..] if command.as_str() == "diff" => none_of_measure(
             measure.as_str(),
         ),
-        [command, ..] if command.as_str() == "diff" => "days",
-        _ => "date",
+        [command, ..] if command.as_str() == "diff" => Answer::Nothing(Key::Days),
+        _ => Answer::Nothing(Key::Date),
     }
 }
 

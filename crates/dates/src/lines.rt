@@ -1,9 +1,9 @@
 //! Standard input, line by line.
 
-use crate::day_names::print_names;
 use crate::fault::{ANSWERED, NONE};
-use crate::print::print_none;
+use crate::print::print_answer;
 use crate::source::{Source, refuse_source};
+use dates_answer::{Answer, Key};
 use dates_request::{Form, read_day};
 use std::io::{self, BufRead, BufReader, Eprint};
 
@@ -19,9 +19,9 @@ pub(crate) fn answer_lines(
             Err(fault) => return refuse_source(rt, Source::Input, &fault),
         };
         match read_day(line.as_slice()) {
-            Ok(date) => print_names(rt, form, date)?,
+            Ok(date) => print_answer(rt, form, Answer::Names(date))?,
             Err(_) => {
-                print_none(rt, form, "date")?;
+                print_answer(rt, form, Answer::Nothing(Key::Date))?;
                 status = NONE;
             }
         }

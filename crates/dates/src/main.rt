@@ -4,7 +4,6 @@
 mod add;
 mod answer;
 mod closed;
-mod day_names;
 mod distance;
 mod due;
 mod each;
@@ -13,7 +12,6 @@ mod file;
 mod help;
 mod lines;
 mod open;
-mod parts;
 mod print;
 mod quoted;
 mod recurring;

@@ -2,10 +2,10 @@
 
 use crate::closed::{put_holidays, years_of};
 use crate::fault::{ANSWERED, NONE, WRONG};
-use crate::print::{print_date, print_none, print_number, print_whether};
+use crate::print::print_answer;
 use chrono_business::Calendar;
 use chrono_datetime::NaiveDate;
-use dates_answer::rolled;
+use dates_answer::{Answer, Key, rolled};
 use dates_request::{Convention, Form, Options};
 use std::io::{self, Eprint};
 
@@ -22,7 +22,7 @@ pub(crate) fn answer_open(
     let Ok(calendar) = Calendar::try_new(weekend, days.as_slice()) else {
         return Ok(WRONG);
     };
-    print_whether(rt, form, "open", calendar.is_open(date))?;
+    print_answer(rt, form, Answer::Whether(Key::Open, calendar.is_open(date)))?;
     Ok(ANSWERED)
 }
 
@@ -40,7 +40,8 @@ pub(crate) fn answer_open_days(
     let Ok(calendar) = Calendar::try_new(weekend, days.as_slice()) else {
         return Ok(WRONG);
     };
-    print_number(rt, form, "open_days", calendar.open_days(from, to))?;
+    let number = calendar.open_days(from, to);
+    print_answer(rt, form, Answer::Number(Key::OpenDays, number))?;
     Ok(ANSWERED)
 }
 
@@ -60,11 +61,11 @@ pub(crate) fn answer_roll(
     };
     match rolled(date, convention, &calendar) {
         Some(day) => {
-            print_date(rt, form, day)?;
+            print_answer(rt, form, Answer::Date(day))?;
             Ok(ANSWERED)
         }
         None => {
-            print_none(rt, form, "date")?;
+            print_answer(rt, form, Answer::Nothing(Key::Date))?;
             eprintln!(rt; "{date}: past the calendar's end")?;
             Ok(NONE)
         }

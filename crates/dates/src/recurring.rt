@@ -1,9 +1,10 @@
 //! The instances of a recurrence rule.
 
 use crate::fault::{ANSWERED, NONE, WRONG};
-use crate::print::{print_date, print_none};
+use crate::print::print_answer;
 use chrono_datetime::NaiveDate;
 use chrono_rules::{Rule, read_rule};
+use dates_answer::{Answer, Key};
 use dates_request::Form;
 use std::alloc::Allocator;
 use std::io;
@@ -41,11 +42,11 @@ fn print_instances(rt: &impl Print, form: Form, rule: &Rule, wanted: Wanted) -> 
     let most = wanted.most.unwrap_or(u64::MAX) as usize;
     let mut status = NONE;
     for day in rule.instances_from(wanted.start, wanted.from).take(most) {
-        print_date(rt, form, day)?;
+        print_answer(rt, form, Answer::Date(day))?;
         status = ANSWERED;
     }
     if status == NONE {
-        print_none(rt, form, "date")?;
+        print_answer(rt, form, Answer::Nothing(Key::Date))?;
     }
     Ok(status)
 }

@@ -1,9 +1,9 @@
 //! The days from one to another.
 
 use crate::fault::{ANSWERED, NONE};
-use crate::print::{print_date, print_none};
+use crate::print::print_answer;
 use chrono_datetime::{Datelike, NaiveDate};
-use dates_answer::sequence_day;
+use dates_answer::{Answer, Key, sequence_day};
 use dates_request::{Form, Span, Unit};
 use std::io;
 
@@ -41,10 +41,10 @@ pub(crate) fn answer_sequence(
         let Some(date) = sequence_day(from, to, step, place) else {
             break;
         };
-        print_date(rt, form, date)?;
+        print_answer(rt, form, Answer::Date(date))?;
     }
     if sequence_day(from, to, step, 0).is_none() {
-        print_none(rt, form, "date")?;
+        print_answer(rt, form, Answer::Nothing(Key::Date))?;
         return Ok(NONE);
     }
     Ok(ANSWERED)

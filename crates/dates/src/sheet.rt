@@ -1,12 +1,11 @@
 //! A month or a year as a sheet.
 
 use crate::closed::{put_holidays, years_of};
-use crate::day_names::weekday_name;
 use crate::fault::{ANSWERED, WRONG};
 use crate::year::no_such_year;
 use chrono_business::Calendar;
 use chrono_datetime::{Datelike, Month, NaiveDate, Weekday};
-use dates_answer::{MonthSheet, WeekName};
+use dates_answer::{DayObject, Key, MonthSheet};
 use dates_request::{Form, SheetOptions, SheetTime};
 use std::io::{self, Eprint};
 
@@ -22,7 +21,7 @@ pub(crate) fn answer_sheet(
         SheetTime::Month { first } => answer_month(rt, form, listed, first, options),
         SheetTime::Year { year } => match NaiveDate::from_ymd_opt(year, 1, 1) {
             Some(first) => answer_year(rt, form, listed, first, options),
-            None => no_such_year(rt, form, "date", year),
+            None => no_such_year(rt, form, Key::Date, year),
         },
     }
 }
@@ -154,12 +153,8 @@ fn print_days(
     calendar: &Calendar,
 ) -> io::Result<()> {
     for date in first.iter_days().take(count as usize) {
-        let week = WeekName { date };
-        let weekday = weekday_name(date.weekday());
-        let open = calendar.is_open(date);
-        println!(rt;
-            "{{\"date\":\"{date}\",\"week\":\"{week}\",\"weekday\":\"{weekday}\",\"open\":{open}}}"
-        )?;
+        let is_open = calendar.is_open(date);
+        println!(rt; "{}", DayObject { date, is_open })?;
     }
     Ok(())
 }

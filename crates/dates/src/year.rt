@@ -1,10 +1,10 @@
 //! What is asked of a year or of a week.
 
 use crate::fault::{ANSWERED, NONE};
-use crate::print::{print_date, print_none, print_whether};
+use crate::print::print_answer;
 use chrono_business::easter;
 use chrono_datetime::NaiveDate;
-use dates_answer::is_leap;
+use dates_answer::{Answer, Key, is_leap};
 use dates_request::Form;
 use std::io::{self, Eprint};
 
@@ -12,10 +12,10 @@ use std::io::{self, Eprint};
 pub(crate) fn answer_easter(rt: &(impl Print + Eprint), form: Form, year: i32) -> io::Result<u8> {
     match easter(year) {
         Some(sunday) => {
-            print_date(rt, form, sunday)?;
+            print_answer(rt, form, Answer::Date(sunday))?;
             Ok(ANSWERED)
         }
-        None => no_such_year(rt, form, "date", year),
+        None => no_such_year(rt, form, Key::Date, year),
     }
 }
 
@@ -23,10 +23,10 @@ pub(crate) fn answer_easter(rt: &(impl Print + Eprint), form: Form, year: i32) -
 pub(crate) fn answer_leap(rt: &(impl Print + Eprint), form: Form, year: i32) -> io::Result<u8> {
     match is_leap(year) {
         Some(leap) => {
-            print_whether(rt, form, "leap", leap)?;
+            print_answer(rt, form, Answer::Whether(Key::Leap, leap))?;
             Ok(ANSWERED)
         }
-        None => no_such_year(rt, form, "leap", year),
+        None => no_such_year(rt, form, Key::Leap, year),
     }
 }
 
@@ -37,17 +37,11 @@ pub(crate) fn answer_week(
     first: NaiveDate,
 ) -> io::Result<u8> {
     let Some(last) = first.moved_by_days(6) else {
-        match form {
-            Form::Text => println!(rt; "none")?,
-            Form::Json => println!(rt; "{{\"first\":\"{first}\",\"last\":null}}")?,
-        }
+        print_answer(rt, form, Answer::NoWeek(first))?;
         eprintln!(rt; "{first} 6d: past the calendar's end")?;
         return Ok(NONE);
     };
-    match form {
-        Form::Text => println!(rt; "{first} {last}")?,
-        Form::Json => println!(rt; "{{\"first\":\"{first}\",\"last\":\"{last}\"}}")?,
-    }
+    print_answer(rt, form, Answer::Week(first, last))?;
     Ok(ANSWERED)
 }
 
@@ -55,10 +49,10 @@ pub(crate) fn answer_week(
 pub(crate) fn no_such_year(
     rt: &(impl Print + Eprint),
     form: Form,
-    key: &str,
+    key: Key,
     year: i32,
 ) -> io::Result<u8> {
-    print_none(rt, form, key)?;
+    print_answer(rt, form, Answer::Nothing(key))?;
     eprintln!(rt; "{year}: expected a year from -262143 to 262142")?;
     Ok(NONE)
 }

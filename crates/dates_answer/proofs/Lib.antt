@@ -9,3 +9,4 @@ mod CellLemmas
 mod NameTexts
 mod KnownParts
 mod KnownDayParts
+mod PartTexts

@@ -6,3 +6,4 @@ pub mod Sheets
 pub mod DayNames
 pub mod Conventions
 pub mod Ways
+pub mod Lines

@@ -4,8 +4,12 @@ ghost use Rattle.chrono_datetime.specs.declared.Weekday.TheVariants.{Mon, Sun};
 ghost use Rattle.chrono_datetime.specs.WeekdaySet.{no_days};
 ghost use Rattle.chrono_business.specs.OpenDays.{closed};
 ghost use Rattle.dates_request.specs.declared.span.Unit.TheVariants.{Days, Months, Weeks, Years};
-ghost use Rattle.dates_answer.specs.declared.parts.Parts.{Parts};
+ghost use Rattle.dates_request.specs.declared.form.Form.TheVariants.{Text, Json};
+ghost use Rattle.dates_answer.specs.declared.line.Answer.TheVariants.{Date, Names, Nothing, Number, Parts, Week, Whether};
+ghost use Rattle.dates_answer.specs.declared.line.Key.TheVariants as keys;
+ghost use Rattle.dates_answer.specs.declared.parts.Parts as parts;
 ghost use Rattle.dates_answer.specs.DayNames.{names_text};
+ghost use Rattle.dates_answer.specs.Lines.{day_object, line_text};
 ghost use Rattle.dates_answer.specs.Moves.{moved_from, unit_move};
 ghost use Rattle.dates_answer.specs.Parts.{IsPartsBetween};
 ghost use Rattle.dates_answer.specs.Sequences.{sequence_day};
@@ -43,12 +47,27 @@ pub fn known_parts()
 
 /// Between two days lie no other years, months and days.
 pub fn parts_are_the_only_ones()
-    ensures { (from to : ℤ) (p q : Parts) → IsPartsBetween from to p → IsPartsBetween from to q → (p.years ≡ q.years) × (p.months ≡ q.months) × (p.days ≡ q.days) }
+    ensures { (from to : ℤ) (p q : parts.Parts) → IsPartsBetween from to p → IsPartsBetween from to q → (p.years ≡ q.years) × (p.months ≡ q.months) × (p.days ≡ q.days) }
 {}
 
 /// The line of 1 January of the year 1.
 pub fn known_names()
     ensures first { names_text (pos 1) ≡ codes "0001-01-01 0001-001 0001-W01-1 Mon 1 -719162" }
+{}
+
+/// Lines of known answers, as texts and as objects: a day, a week, years and days without months, no days, a number, a day by its names, and
+/// that there is none.
+pub fn known_lines()
+    ensures week { line_text Text (Week (pos 1) (pos 7)) ≡ codes "0001-01-01 0001-01-07" }
+    ensures parts { line_text Text (Parts (record { years = pos 1; months = pos 0; days = pos 3 })) ≡ codes "1y 3d" }
+    ensures no_days { line_text Text (Parts (record { years = pos 0; months = pos 0; days = pos 0 })) ≡ codes "0d" }
+    ensures whether { line_text Text (Whether keys.Open true) ≡ codes "yes" }
+    ensures date { line_text Json (Date (pos 1)) ≡ codes "{\"date\":\"0001-01-01\"}" }
+    ensures number { line_text Json (Number keys.Days (neg_ℤ (pos 7))) ≡ codes "{\"days\":-7}" }
+    ensures names { line_text Json (Names (pos 1))
+        ≡ codes "{\"date\":\"0001-01-01\",\"ordinal\":\"0001-001\",\"week\":\"0001-W01-1\",\"weekday\":\"Monday\",\"day_number\":1,\"unix_day\":-719162}" }
+    ensures none { line_text Json (Nothing keys.Leap) ≡ codes "{\"leap\":null}" }
+    ensures day_of_sheet { day_object (pos 1) false ≡ codes "{\"date\":\"0001-01-01\",\"week\":\"0001-W01-1\",\"weekday\":\"Monday\",\"open\":false}" }
 {}
 
 /// Cells of January of the year 1, which begins on a Monday, those of its last row, of which the 30th is a holiday, and how a row is written.

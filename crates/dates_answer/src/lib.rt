@@ -5,6 +5,7 @@
 mod between;
 mod due;
 pub mod law;
+mod line;
 mod moves;
 mod names;
 mod parts;
@@ -16,6 +17,7 @@ mod year;
 
 pub use between::distance;
 pub use due::{Way, due_next};
+pub use line::{Answer, DayObject, Key, Line};
 pub use moves::{Stop, moved, moved_by_all};
 pub use names::{DayNames, OrdinalName, WeekName};
 pub use parts::{Parts, parts_between};

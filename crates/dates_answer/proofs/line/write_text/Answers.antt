@@ -1,0 +1,48 @@
+use Rattle.std.proofs.Common.{w64, rules}
+use Rattle.std.proofs.lemmas.Int.{to_z-of_z}
+use Rattle.dates_answer.specs.Lines.{answer_text}
+use Rattle.dates_answer.proofs.line.write_text.Goals as goal
+
+pub returns-in-Names : goal.returns-in-Names
+unfolding answer_text
+returns-in-Names g c = rw c.in-Names.is (record { writes = c.write.ensures.writes })
+
+pub returns-in-Date : goal.returns-in-Date
+unfolding answer_text
+returns-in-Date g c = rw c.in-Date.is (record { writes = c.write-in-Date.ensures.writes })
+
+pub returns-in-Moment : goal.returns-in-Moment
+unfolding answer_text
+returns-in-Moment g c = rw c.in-Moment.is (record { writes = c.write-in-Moment.ensures.writes })
+
+pub returns-in-Duration : goal.returns-in-Duration
+unfolding answer_text
+returns-in-Duration g c = rw c.in-Duration.is (record { writes = c.write-in-Duration.ensures.writes })
+
+pub returns-in-Number : goal.returns-in-Number
+unfolding answer_text
+returns-in-Number g c = rw c.in-Number.is (record { writes = rw (to_z-of_z w64 c.in-Number.number (search rules)) at c.write-in-Number.ensures.writes })
+
+pub returns-in-Parts : goal.returns-in-Parts
+unfolding answer_text
+returns-in-Parts g c = rw c.in-Parts.is (record { writes = c.write-in-Parts.ensures.writes })
+
+pub returns-in-Week : goal.returns-in-Week
+unfolding answer_text
+returns-in-Week g c = rw c.in-Week.is (record { writes = c.write-in-Week.ensures.writes })
+
+pub returns-in-Whether : goal.returns-in-Whether
+unfolding answer_text
+returns-in-Whether g c = rw c.in-Whether.is (record { writes = rw c.yes_or_no.ensures at c.write_str.ensures.writes })
+
+pub returns-in-Nothing : goal.returns-in-Nothing
+unfolding answer_text
+returns-in-Nothing g c = rw c.in-Nothing.is (record { writes = c.write_str-in-Nothing.ensures.writes })
+
+pub returns-in-NoParts : goal.returns-in-NoParts
+unfolding answer_text
+returns-in-NoParts g c = rw c.in-NoParts.is (record { writes = c.write_str-in-NoParts.ensures.writes })
+
+pub returns-in-NoWeek : goal.returns-in-NoWeek
+unfolding answer_text
+returns-in-NoWeek g c = rw c.in-NoWeek.is (record { writes = c.write_str-in-NoWeek.ensures.writes })

@@ -1,0 +1,268 @@
+//! Lines of answers, as texts or as objects of JSON (RFC 8259).
+ghost use Rattle.std.specs.Prelude.{◌≡◌, Some, codes, if◌then◌else◌};
+ghost use Rattle.std.specs.Fmt.{WritesOnOk};
+ghost use Rattle.dates_answer.specs.Lines.{answer_object, answer_text, day_object, key_text, line_text, names_object, numbers_in_object, parts_object, parts_text, weekday_name};
+
+use crate::names::{DayNames, OrdinalName, WeekName};
+use crate::parts::Parts;
+use chrono_datetime::{Datelike, NaiveDate, NaiveDateTime, TimeDelta, Weekday};
+use dates_request::Form;
+use std::fmt;
+
+/// The key under which an object of JSON has an answer.
+#[derive(Clone, Copy, Debug, PartialEq, Eq)]
+pub enum Key {
+    /// A day.
+    Date,
+    /// A date-time.
+    Moment,
+    /// How long it is between two date-times.
+    Duration,
+    /// Days.
+    Days,
+    /// Weeks.
+    Weeks,
+    /// Months.
+    Months,
+    /// Years.
+    Years,
+    /// Open days.
+    OpenDays,
+    /// Whether a day is open.
+    Open,
+    /// Whether a year is a leap year.
+    Leap,
+}
+
+/// What a line says.
+#[derive(Clone, Copy)]
+pub enum Answer {
+    /// A day by all its names.
+    Names(NaiveDate),
+    /// A day.
+    Date(NaiveDate),
+    /// A date-time.
+    Moment(NaiveDateTime),
+    /// How long it is between two date-times.
+    Duration(TimeDelta),
+    /// A number of what the key says.
+    Number(Key, i64),
+    /// Whether it is what the key says.
+    Whether(Key, bool),
+    /// Years, months and days.
+    Parts(Parts),
+    /// The first day of a week and its last.
+    Week(NaiveDate, NaiveDate),
+    /// That there is no such thing as the key says.
+    Nothing(Key),
+    /// That there are no years, months and days.
+    NoParts,
+    /// The first day of a week whose last is no date.
+    NoWeek(NaiveDate),
+}
+
+/// A line of an answer, without its end: as a text, such as `2024-02-29`, or as an object of JSON, such as `{"date":"2024-02-29"}`.
+#[derive(Clone, Copy)]
+pub struct Line {
+    /// The form that is wanted.
+    pub form: Form,
+    /// What the line says.
+    pub answer: Answer,
+}
+
+impl fmt::Display for Line {
+    ghost output = { λ line. Some (line_text line.form line.answer) };
+
+    /// Writes the line.
+    fn fmt<W: fmt::Write>(&self, f: &mut fmt::Formatter<W>) -> fmt::Result {
+        match self.form {
+            Form::Text => write_text(self.answer, f),
+            Form::Json => write_object(self.answer, f),
+        }
+    }
+}
+
+/// A day of a sheet as an object of JSON, such as `{"date":"2024-03-29","week":"2024-W13-5","weekday":"Friday","open":false}`.
+#[derive(Clone, Copy)]
+pub struct DayObject {
+    /// The day.
+    pub date: NaiveDate,
+    /// Whether it is open.
+    pub is_open: bool,
+}
+
+impl fmt::Display for DayObject {
+    ghost output = { λ day. Some (day_object day.date day.is_open) };
+
+    /// Writes the day with its week and its weekday, and whether it is open.
+    fn fmt<W: fmt::Write>(&self, f: &mut fmt::Formatter<W>) -> fmt::Result {
+        let DayObject { date, is_open } = *self;
+        let week = WeekName { date };
+        let weekday = weekday_name(date.weekday());
+        write!(
+            f,
+            "{{\"date\":\"{date}\",\"week\":\"{week}\",\"weekday\":\"{weekday}\",\"open\":{is_open}}}"
+        )
+    }
+}
+
+impl fmt::Display for Key {
+    ghost output = { λ key. Some (key_text key) };
+
+    /// Writes the key.
+    fn fmt<W: fmt::Write>(&self, f: &mut fmt::Formatter<W>) -> fmt::Result {
+        f.write_str(key_name(*self))
+    }
+}
+
+impl fmt::Display for Parts {
+    ghost output = { λ parts. Some (parts_text parts) };
+
+    /// Writes years, months and days as `1y 2m 3d`: those that are 0 are left out, and none is `0d`.
+    fn fmt<W: fmt::Write>(&self, f: &mut fmt::Formatter<W>) -> fmt::Result {
+        let Parts {
+            years,
+            months,
+            days,
+        } = *self;
+        match (years, months, days) {
+            (0, 0, _) => write!(f, "{days}d"),
+            (0, _, 0) => write!(f, "{months}m"),
+            (_, 0, 0) => write!(f, "{years}y"),
+            (0, _, _) => write!(f, "{months}m {days}d"),
+            (_, 0, _) => write!(f, "{years}y {days}d"),
+            (_, _, 0) => write!(f, "{years}y {months}m"),
+            (_, _, _) => write!(f, "{years}y {months}m {days}d"),
+        }
+    }
+}
+
+// An answer as a text.
+fn write_text<W: fmt::Write>(answer: Answer, f: &mut fmt::Formatter<W>) -> fmt::Result
+    ensures writes { WritesOnOk W.write_str_gives f.old result (answer_text answer) f.new }
+{
+    match answer {
+        Answer::Names(date) => write!(f, "{}", DayNames { date }),
+        Answer::Date(date) => write!(f, "{date}"),
+        Answer::Moment(moment) => write!(f, "{moment:?}"),
+        Answer::Duration(duration) => write!(f, "{duration}"),
+        Answer::Number(_, number) => write!(f, "{number}"),
+        Answer::Whether(_, yes) => f.write_str(yes_or_no(yes)),
+        Answer::Parts(parts) => write!(f, "{parts}"),
+        Answer::Week(first, last) => write!(f, "{first} {last}"),
+        Answer::Nothing(_) => f.write_str("none"),
+        Answer::NoParts => f.write_str("none"),
+        Answer::NoWeek(_) => f.write_str("none"),
+    }
+}
+
+// Whether it is, in a word.
+fn yes_or_no(yes: bool) -> &'static str
+    ensures { result.now ≡ (if yes then codes "yes" else codes "no") }
+{
+    if yes { "yes" } else { "no" }
+}
+
+// An answer as an object.
+fn write_object<W: fmt::Write>(answer: Answer, f: &mut fmt::Formatter<W>) -> fmt::Result
+    ensures writes { WritesOnOk W.write_str_gives f.old result (answer_object answer) f.new }
+{
+    match answer {
+        Answer::Names(date) => write_names(date, f),
+        Answer::Date(date) => write!(f, "{{\"date\":\"{date}\"}}"),
+        Answer::Moment(moment) => write!(f, "{{\"moment\":\"{moment:?}\"}}"),
+        Answer::Duration(duration) => write!(f, "{{\"duration\":\"{duration}\"}}"),
+        Answer::Number(key, number) => write!(f, "{{\"{key}\":{number}}}"),
+        Answer::Whether(key, yes) => write!(f, "{{\"{key}\":{yes}}}"),
+        Answer::Parts(parts) => write_parts(parts, f),
+        Answer::Week(first, last) => { write!(f, "{{\"first\":\"{first}\",\"last\":\"{last}\"}}") }
+        Answer::Nothing(key) => write!(f, "{{\"{key}\":null}}"),
+        Answer::NoParts => f.write_str("{\"years\":null,\"months\":null,\"days\":null}"),
+        Answer::NoWeek(first) => write!(f, "{{\"first\":\"{first}\",\"last\":null}}"),
+    }
+}
+
+// Years, months and days as an object.
+fn write_parts<W: fmt::Write>(parts: Parts, f: &mut fmt::Formatter<W>) -> fmt::Result
+    ensures writes { WritesOnOk W.write_str_gives f.old result (parts_object parts) f.new }
+{
+    let Parts {
+        years,
+        months,
+        days,
+    } = parts;
+    write!(
+        f,
+        "{{\"years\":{years},\"months\":{months},\"days\":{days}}}"
+    )
+}
+
+// A day by its names as an object.
+fn write_names<W: fmt::Write>(date: NaiveDate, f: &mut fmt::Formatter<W>) -> fmt::Result
+    ensures writes { WritesOnOk W.write_str_gives f.old result (names_object date) f.new }
+{
+    let ordinal = OrdinalName { date };
+    let week = WeekName { date };
+    let numbers = Numbers { date };
+    write!(
+        f,
+        "{{\"date\":\"{date}\",\"ordinal\":\"{ordinal}\",\"week\":\"{week}\",{numbers}}}"
+    )
+}
+
+/// The weekday and the numbers of a day, as they stand in an object.
+#[derive(Clone, Copy)]
+pub struct Numbers {
+    /// The day.
+    pub date: NaiveDate,
+}
+
+impl fmt::Display for Numbers {
+    ghost output = { λ numbers. Some (numbers_in_object numbers.date) };
+
+    /// Writes the weekday, the day's number and the days since 1970-01-01, each under its key.
+    fn fmt<W: fmt::Write>(&self, f: &mut fmt::Formatter<W>) -> fmt::Result {
+        let weekday = weekday_name(self.date.weekday());
+        let number = self.date.num_days_from_ce();
+        let unix = self.date.to_epoch_days();
+        write!(
+            f,
+            "\"weekday\":\"{weekday}\",\"day_number\":{number},\"unix_day\":{unix}"
+        )
+    }
+}
+
+// The English name of a weekday.
+#[tactic(auto, unfolding(crate::specs::Lines::weekday_name))]
+fn weekday_name(day: Weekday) -> &'static str
+    ensures { result.now ≡ weekday_name day }
+{
+    match day {
+        Weekday::Mon => "Monday",
+        Weekday::Tue => "Tuesday",
+        Weekday::Wed => "Wednesday",
+        Weekday::Thu => "Thursday",
+        Weekday::Fri => "Friday",
+        Weekday::Sat => "Saturday",
+        Weekday::Sun => "Sunday",
+    }
+}
+
+// The key's text.
+#[tactic(auto, unfolding(crate::specs::Lines::key_text))]
+fn key_name(key: Key) -> &'static str
+    ensures { result.now ≡ key_text key }
+{
+    match key {
+        Key::Date => "date",
+        Key::Moment => "moment",
+        Key::Duration => "duration",
+        Key::Days => "days",
+        Key::Weeks => "weeks",
+        Key::Months => "months",
+        Key::Years => "years",
+        Key::OpenDays => "open_days",
+        Key::Open => "open",
+        Key::Leap => "leap",
+    }
+}
