@@ -22,7 +22,8 @@ CRATE = os.path.join(TOP, "crates", "dates")
 # Words whose last one is begun, and what the completion makes of that.
 COMPLETED = [("dates roll 2024-03-30 following --c", "--calendar"), ("dates roll 2024-03-30 modified-f", "modified-following"),
              ("dates open 2024-03-30 --calendar e", "england"), (f"dates open 2024-03-30 --holidays {TOP}/docs/DATE", f"{TOP}/docs/DATES.md"),
-             (f"dates check {TOP}/docs/DATE", f"{TOP}/docs/DATES.md")]
+             (f"dates check {TOP}/docs/DATE", f"{TOP}/docs/DATES.md"), ("dates check my", "my file.txt"), ("dates cal 2024-03 --first su", "sun"),
+             ("dates open 2024-03-30 --weekend no", "none"), ("dates diff 2024-03-30 2024-04-30 in y", "y\nymd")]
 
 
 def examples(lines):
@@ -97,8 +98,8 @@ def main():
         cases.append(["set -o pipefail; yes 2024-02-29 | head -100000 | dates 2>&1 | head -1; exit ${PIPESTATUS[2]}",
                       ["2024-02-29 2024-060 2024-W09-4 Thu 738945 19782"], 0])
         for words, completed in COMPLETED:
-            cases.append([f"source {TOP}/tools/shell/dates.bash; COMP_WORDS=({words}); COMP_CWORD=$((${{#COMP_WORDS[@]}} - 1)); _dates; echo ${{COMPREPLY[@]}}",
-                          [completed], 0])
+            cases.append([f"touch 'my file.txt'; source {TOP}/tools/shell/dates.bash; COMP_WORDS=({words}); COMP_CWORD=$((${{#COMP_WORDS[@]}} - 1)); _dates; "
+                          f"printf '%s\\n' \"${{COMPREPLY[@]}}\"", completed.split("\n"), 0])
         for command, lines, status in cases:
             got = run(command, place)
             if got == (lines, status):

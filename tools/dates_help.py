@@ -58,6 +58,11 @@ def escaped(text):
     return "\\&" + text if text.startswith((".", "'")) else text
 
 
+# Values of options and words that help does not list one by one.
+WEEKDAYS = "mon tue wed thu fri sat sun"
+MEASURES = "d w m y b ymd"
+
+
 def page(program):
     """The man page."""
     lines = [".TH DATES 1", ".SH NAME", "dates \\- answers what one asks of dates", ".SH SYNOPSIS"]
@@ -90,13 +95,16 @@ def completion(program):
              f"        COMPREPLY=($(compgen -W '{' '.join(names)} {last} --help --version' -- \"$word\"))", "        return", "    fi",
              "    case ${COMP_WORDS[COMP_CWORD - 1]} in",
              f"    --calendar) COMPREPLY=($(compgen -W '{' '.join(calendars)}' -- \"$word\")); return ;;",
-             "    --holidays) COMPREPLY=($(compgen -f -- \"$word\")); compopt -o filenames 2>/dev/null; return ;;", "    esac",
+             f"    --first) COMPREPLY=($(compgen -W '{WEEKDAYS}' -- \"$word\")); return ;;",
+             f"    --weekend) COMPREPLY=($(compgen -W 'none {WEEKDAYS}' -- \"$word\")); return ;;",
+             f"    in) COMPREPLY=($(compgen -W '{MEASURES}' -- \"$word\")); return ;;",
+             "    --holidays) mapfile -t COMPREPLY < <(compgen -f -- \"$word\"); compopt -o filenames 2>/dev/null; return ;;", "    esac",
              "    case ${COMP_WORDS[1]} in"]
     for name in names:
         known = (conventions if name == "roll" else []) + options(help_of(program, name)[2])
         if known:
             lines.append(f"    {name}) COMPREPLY=($(compgen -W '{' '.join(known)} {last} --help' -- \"$word\")) ;;")
-    lines += [f"    check) COMPREPLY=($(compgen -f -W '{last} --help' -- \"$word\")); compopt -o filenames 2>/dev/null ;;",
+    lines += [f"    check) mapfile -t COMPREPLY < <(compgen -f -W '{last} --help' -- \"$word\"); compopt -o filenames 2>/dev/null ;;",
               f"    *) COMPREPLY=($(compgen -W '{last} --help' -- \"$word\")) ;;", "    esac", "}",
               "complete -o default -F _dates dates"]
     return "\n".join(lines) + "\n"
