@@ -312,7 +312,7 @@ def of_week(chance, _):
 
 def no_year(chance, name, key):
     year = chance.choice((-262_144, 262_143, 300_000, -999_999))
-    error = f"{year}: expected a year from -262143 to 262142"
+    error = f"{year:+}: expected a year from -262143 to +262142"
     return Asked([name, f"{year:+}"], ["first", "year"], 2, ["none"], [{key: None}], 1, error)
 
 
@@ -358,7 +358,13 @@ def past_month(chance):
     return f"{date:%Y-%m}-{day:02}".rjust(10, "0"), f"{MONTHS[date.month]} {date.year} has {length} days"
 
 
-NO_FORM = "not written as 2024-02-29, 2024-060 or 2024-W09-4, or no such day"
+NO_FORM = "not written as 2024-02-29, 2024-060 or 2024-W09-4"
+# Why some texts are no days, where more can be told.
+REASONS = {
+    "": "nothing stands there", "2023-W53-1": "2023 has 52 weeks", "2023-366": "2023 has 365 days", "2024-00-10": "a year has the months 01 to 12",
+    "2024-13-01": "a year has the months 01 to 12", " 2024-02-29": "begins or ends with a space", "2024-02-29 ": "begins or ends with a space",
+    "2024-02-29T00:00": "a date-time, and no day",
+}
 ODD_LINES = (b"2024-02-29\r", b'"2024-02-29"', b"a\\b", b"\x00\x01\x1f\x7f", b"caf\xc3\xa9", b"\xff\xfe", b"\xe2\x82", b"\xf0\x9f\x93\x85 \xed\xa0\x80", b"/", b"\t\b\f")
 
 
@@ -370,7 +376,7 @@ def of_check(chance, files):
         reason = None
         if chance.random() < 0.15:
             text = chance.choice(ODD_LINES + tuple(it.encode() for it in NO_DAYS))
-            reason = "ends in a carriage return" if text.endswith(b"\r") else NO_FORM
+            reason = "ends in a carriage return" if text.endswith(b"\r") else REASONS.get(text.decode(errors="replace"), NO_FORM)
         elif chance.random() < 0.1:
             text, reason = past_month(chance)
             text = text.encode()
@@ -523,9 +529,10 @@ def with_wrong_word(chance, asked):
     bad = chance.choice(("--x", "--calender", "--Count") if "option" in kind else NO_SCHEDULES if kind == "schedule" else NO_RULES if kind == "rule" else NO_WORDS)
     if kind == "first" and bad == "-" or kind in ("amount", "sheet", "year") and bad == "２０２４":
         return None
-    error = f"dates: argument {place + 1}, {bad}: expected {EXPECTED[kind]}"
+    shown = bad or "''"
+    error = f"dates: argument {place + 1}, {shown}: expected {EXPECTED[kind]}"
     if kind in ("schedule", "rule"):
-        error = re.compile(re.escape(f"dates: argument {place + 1}, {bad}: ") + r"[^;]+" + re.escape(f"; expected {EXPECTED[kind]}"))
+        error = re.compile(re.escape(f"dates: argument {place + 1}, {shown}: ") + r"[^;]+" + re.escape(f"; expected {EXPECTED[kind]}"))
     return refused(asked, asked.words[:place] + [bad] + asked.words[place + 1 :], error)
 
 

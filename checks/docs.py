@@ -590,7 +590,7 @@ PLANTED = [
     (calls, "docs/CALLS.md", "`read_decimal`", "the reader"),
     (calls, "docs/CALLS.md", "`law::known_texts`", "a law"),
     (modules, "docs/ARCHITECTURE.md", "`number`, `places`", "`number`"),
-    (modules, "docs/ARCHITECTURE.md", "| `isodate` |", "| isodate |"),
+    (modules, "docs/ARCHITECTURE.md", "| `calendar_c` |", "| calendar_c |"),
 ]
 
 

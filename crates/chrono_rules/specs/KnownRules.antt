@@ -5,7 +5,7 @@ use Rattle.chrono_datetime.specs.declared.Weekday.{Weekday}
 use Rattle.chrono_datetime.specs.declared.Weekday.TheVariants.{Mon}
 use Rattle.chrono_rules.specs.declared.rule.End.TheVariants.{Count, Never, Until}
 use Rattle.chrono_rules.specs.declared.rule.Frequency.{Frequency}
-use Rattle.chrono_rules.specs.declared.rule.Frequency.TheVariants.{Daily, Weekly, Yearly}
+use Rattle.chrono_rules.specs.declared.rule.Frequency.TheVariants.{Daily, Monthly, Weekly, Yearly}
 use Rattle.chrono_rules.specs.declared.rule.Rule.{Rule}
 use Rattle.chrono_rules.specs.RecurrenceSets.{RecurrenceSet}
 use Rattle.chrono_rules.specs.Instances.{no_numbers, no_places, no_weekdays, plain}
@@ -33,6 +33,14 @@ by_weekdays frequency months front back = record { frequency = frequency; interv
 -- a FREQ with BYMONTH, and BYMONTHDAY from the front and from the back
 abbrev pub by_month_days : Frequency → ℕ → ℕ → ℕ → Rule
 by_month_days frequency months front back = record { frequency = frequency; interval = 1; end = Never; months = record { digits = months }; month_days = record { digits = front }; month_days_from_end = record { digits = back }; weekdays = no_weekdays; year_days = no_places; year_days_from_end = no_places; weeks = no_numbers; weeks_from_end = no_numbers; positions = no_places; positions_from_end = no_places; week_start = Mon }
+
+-- FREQ=MONTHLY with INTERVAL, and BYMONTHDAY from the front
+abbrev pub by_months : ℕ → ℕ → Rule
+by_months months days = record { frequency = Monthly; interval = months; end = Never; months = no_numbers; month_days = record { digits = days }; month_days_from_end = no_numbers; weekdays = no_weekdays; year_days = no_places; year_days_from_end = no_places; weeks = no_numbers; weeks_from_end = no_numbers; positions = no_places; positions_from_end = no_places; week_start = Mon }
+
+-- FREQ=MONTHLY;BYDAY=MO,1FR
+abbrev pub monday_or_first_friday : Rule
+monday_or_first_friday = record { frequency = Monthly; interval = 1; end = Never; months = no_numbers; month_days = no_numbers; month_days_from_end = no_numbers; weekdays = record { every = record { digits = 1 }; front = 0 ∷ 0 ∷ 0 ∷ 0 ∷ 2 ∷ 0 ∷ 0 ∷ []; back = no_weekdays.back }; year_days = no_places; year_days_from_end = no_places; weeks = no_numbers; weeks_from_end = no_numbers; positions = no_places; positions_from_end = no_places; week_start = Mon }
 
 -- a FREQ with WKST, BYDAY, and BYSETPOS from the front and from the back
 abbrev pub by_positions : Frequency → Weekday → ℕ → ℕ → ℕ → Rule

@@ -4,7 +4,7 @@ ghost use Rattle.chrono_datetime.specs.declared.Weekday.TheVariants.{Mon, Sun};
 ghost use Rattle.chrono_rules.specs.InstanceLists.{instances_from};
 ghost use Rattle.chrono_rules.specs.InstanceMoments.{is_instance_at};
 ghost use Rattle.chrono_rules.specs.Instances.{are_zero, is_instance, no_places, no_weekdays, plain};
-ghost use Rattle.chrono_rules.specs.KnownRules.{at_midnight, at_one, by_month_days, by_positions, by_week_days, by_week_years, by_weekdays, by_weeks, by_year_days, daily, daily_until, every_days, fortnightly, tenths};
+ghost use Rattle.chrono_rules.specs.KnownRules.{at_midnight, at_one, by_month_days, by_months, by_positions, by_week_days, by_week_years, by_weekdays, by_weeks, by_year_days, daily, daily_until, every_days, fortnightly, monday_or_first_friday, tenths};
 ghost use Rattle.chrono_rules.specs.KnownTexts.{both_sundays, days_of_the_year, election_day, every_other_day, every_other_week, first_and_last, first_friday, june_and_july, last_monday_but_one, last_workday_but_one, monday_of_week_20, third_to_last, until_christmas};
 ghost use Rattle.chrono_rules.specs.Places.{ends_of};
 ghost use Rattle.chrono_rules.specs.RecurrenceSets.{is_in_recurrence};
@@ -13,7 +13,7 @@ ghost use Rattle.chrono_rules.specs.ToldRules.{IsTold, lie_within, places_within
 ghost use Rattle.chrono_rules.specs.WrittenRules.{both_items, items, list_text, rule_text};
 ghost use Rattle.chrono_rules.specs.declared.listing.Listed.TheVariants.{Numbers, Places};
 ghost use Rattle.chrono_rules.specs.declared.listing.Naming.TheVariants.{Number};
-ghost use Rattle.chrono_rules.specs.declared.rule.Frequency.TheVariants.{Monthly, Weekly, Yearly};
+ghost use Rattle.chrono_rules.specs.declared.rule.Frequency.TheVariants.{Daily, Monthly, Weekly, Yearly};
 
 use crate::places::{NumberSet, PlaceSet};
 use crate::rule::Rule;
@@ -80,7 +80,8 @@ pub fn known_year_days()
 {}
 
 /// Numbered weekdays (BYDAY): the 20th Monday of the year and the last, the first Friday of the month, the fifth, and the last Monday but one of it (3.8.5.3),
-/// and the last Sunday of October, which counts in its month though the rule is one by years (3.6.5). Each is 2,000 years earlier here,
+/// and the last Sunday of October, which counts in its month though the rule is one by years (3.6.5); any of a list, Monday or the first Friday,
+/// will do. Each is 2,000 years earlier here,
 /// by five whole cycles of 400 years, so that little is to be counted.
 pub fn known_weekdays()
     ensures of_year_early { is_instance (by_weekdays Yearly 0 (2 ^ 20 ∷ 0 ∷ 0 ∷ 0 ∷ 0 ∷ 0 ∷ 0 ∷ []) no_weekdays.back) (neg_ℤ (pos 1322)) (neg_ℤ (pos 965)) ≡ false }
@@ -98,10 +99,15 @@ pub fn known_weekdays()
     ensures fifth_friday { is_instance (by_weekdays Monthly 0 (0 ∷ 0 ∷ 0 ∷ 0 ∷ 2 ^ 5 ∷ 0 ∷ 0 ∷ []) no_weekdays.back) (neg_ℤ (pos 1213)) (neg_ℤ (pos 1157)) ≡ true }
     ensures fifth_of_four { is_instance (by_weekdays Monthly 0 (0 ∷ 0 ∷ 0 ∷ 0 ∷ 2 ^ 5 ∷ 0 ∷ 0 ∷ []) no_weekdays.back) (neg_ℤ (pos 1213)) (neg_ℤ (pos 1192)) ≡ false }
     ensures of_no_month { is_instance (by_weekdays Weekly 0 (0 ∷ 0 ∷ 0 ∷ 0 ∷ 2 ∷ 0 ∷ 0 ∷ []) no_weekdays.back) (neg_ℤ (pos 1213)) (neg_ℤ (pos 1213)) ≡ false }
+    ensures of_no_day { is_instance (by_weekdays Daily 0 (0 ∷ 0 ∷ 0 ∷ 0 ∷ 2 ∷ 0 ∷ 0 ∷ []) no_weekdays.back) (neg_ℤ (pos 1213)) (neg_ℤ (pos 1213)) ≡ false }
+    ensures either_monday { is_instance monday_or_first_friday (neg_ℤ (pos 1216)) (neg_ℤ (pos 1210)) ≡ true }
+    ensures either_friday { is_instance monday_or_first_friday (neg_ℤ (pos 1216)) (neg_ℤ (pos 1213)) ≡ true }
+    ensures either_late { is_instance monday_or_first_friday (neg_ℤ (pos 1216)) (neg_ℤ (pos 1206)) ≡ false }
 {}
 
 /// Days of the month (BYMONTHDAY): the third to the last; and the start's day where none is named: the 10th in June and July (3.8.5.3),
-/// and, of a rule by months, weeks or years alone, its day of the month, of the week or of the year (3.3.10). Each is 2,000 years
+/// and, of a rule by months, weeks or years alone, its day of the month, of the week or of the year (3.3.10); of rules by years, months and days in
+/// June and July none in August; of one by every 18th month from September 1997 none in March 1998, and one in March 1999. Each is 2,000 years
 /// earlier here, by five whole cycles of 400 years, so that little is to be counted.
 pub fn known_month_days()
     ensures third_to_last_october { is_instance (by_month_days Monthly 0 0 8) (neg_ℤ (pos 1190)) (neg_ℤ (pos 1159)) ≡ true }
@@ -118,6 +124,12 @@ pub fn known_month_days()
     ensures fifteenth_october { is_instance (by_month_days Monthly 0 (2 ^ 15) 0) (neg_ℤ (pos 1216)) (neg_ℤ (pos 1173)) ≡ true }
     ensures fifteenth_start { is_instance (by_month_days Monthly 0 (2 ^ 15) 0) (neg_ℤ (pos 1216)) (neg_ℤ (pos 1186)) ≡ false }
     ensures of_year_fifteenth { is_instance (by_month_days Yearly 0 (2 ^ 15) 0) (neg_ℤ (pos 1216)) (neg_ℤ (pos 1173)) ≡ true }
+    ensures in_august { is_instance (by_month_days Yearly (2 ^ 6 + 2 ^ 7) 0 0) (neg_ℤ (pos 1300)) (neg_ℤ (pos 1239)) ≡ false }
+    ensures monthly_in_august { is_instance (by_month_days Monthly (2 ^ 6 + 2 ^ 7) 0 0) (neg_ℤ (pos 1300)) (neg_ℤ (pos 1239)) ≡ false }
+    ensures daily_in_june { is_instance (by_month_days Daily (2 ^ 6 + 2 ^ 7) 0 0) (neg_ℤ (pos 1300)) (neg_ℤ (pos 1299)) ≡ true }
+    ensures daily_in_august { is_instance (by_month_days Daily (2 ^ 6 + 2 ^ 7) 0 0) (neg_ℤ (pos 1300)) (neg_ℤ (pos 1239)) ≡ false }
+    ensures months_6_later { is_instance (by_months 18 (2 ^ 10)) (neg_ℤ (pos 1208)) (neg_ℤ (pos 1027)) ≡ false }
+    ensures months_18_later { is_instance (by_months 18 (2 ^ 10)) (neg_ℤ (pos 1208)) (neg_ℤ (pos 662)) ≡ true }
 {}
 
 /// What the start fills in where it is no day of each period: a rule by years from 29 February has instances in leap years alone, and one by
@@ -133,7 +145,7 @@ pub fn known_gaps()
 {}
 
 /// Days by their place in the period (BYSETPOS): the third of the month's Tuesdays, Wednesdays and Thursdays, and its last workday but one
-/// (3.8.5.3); the first of Monday and Sunday in weeks that begin on either (WKST); the second Monday and the last of a year. Each is 2,000 years earlier here, by five whole cycles of 400 years, so that little is to be counted.
+/// (3.8.5.3); the first and the last of Monday and Sunday in weeks that begin on either (WKST); the first of a day alone, which is its last, and no second; the second Monday and the last of a year. Each is 2,000 years earlier here, by five whole cycles of 400 years, so that little is to be counted.
 pub fn known_positions()
     ensures third_october { is_instance (by_positions Monthly Mon 14 8 0) (neg_ℤ (pos 1214)) (neg_ℤ (pos 1181)) ≡ true }
     ensures third_late { is_instance (by_positions Monthly Mon 14 8 0) (neg_ℤ (pos 1214)) (neg_ℤ (pos 1180)) ≡ false }
@@ -148,6 +160,13 @@ pub fn known_positions()
     ensures year_february { is_instance (by_positions Yearly Mon 1 4 0) (neg_ℤ (pos 1216)) (neg_ℤ (pos 1056)) ≡ false }
     ensures year_last_monday { is_instance (by_positions Yearly Mon 1 0 2) (neg_ℤ (pos 1216)) (neg_ℤ (pos 734)) ≡ true }
     ensures year_november { is_instance (by_positions Yearly Mon 1 0 2) (neg_ℤ (pos 1216)) (neg_ℤ (pos 762)) ≡ false }
+    ensures sunday_weeks_last { is_instance (by_positions Weekly Sun 65 0 2) (neg_ℤ (pos 1216)) (neg_ℤ (pos 1210)) ≡ true }
+    ensures sunday_weeks_last_but_one { is_instance (by_positions Weekly Sun 65 0 2) (neg_ℤ (pos 1216)) (neg_ℤ (pos 1211)) ≡ false }
+    ensures monday_weeks_last { is_instance (by_positions Weekly Mon 65 0 2) (neg_ℤ (pos 1216)) (neg_ℤ (pos 1204)) ≡ true }
+    ensures monday_weeks_last_but_one { is_instance (by_positions Weekly Mon 65 0 2) (neg_ℤ (pos 1216)) (neg_ℤ (pos 1210)) ≡ false }
+    ensures day_first { is_instance (by_positions Daily Mon 1 2 0) (neg_ℤ (pos 1216)) (neg_ℤ (pos 1210)) ≡ true }
+    ensures day_second { is_instance (by_positions Daily Mon 1 4 0) (neg_ℤ (pos 1216)) (neg_ℤ (pos 1210)) ≡ false }
+    ensures day_last { is_instance (by_positions Daily Mon 1 0 2) (neg_ℤ (pos 1216)) (neg_ℤ (pos 1210)) ≡ true }
 {}
 
 /// The day of an UNTIL is an instance, and none is behind it; none is before the start; an interval of 0 is read as 1 (3.3.10). Each is 2,000

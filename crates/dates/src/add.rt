@@ -38,11 +38,11 @@ fn refuse_move(rt: &(impl Print + Eprint), form: Form, from: &Start, word: &str)
     match from {
         Start::Day(date) => {
             print_answer(rt, form, Answer::Nothing(Key::Date))?;
-            eprintln!(rt; "{date} {word}: past the calendar's end")?;
+            let _ = eprintln!(rt; "{date} {word}: past the calendar's end");
         }
         Start::DateTime(moment) => {
             print_answer(rt, form, Answer::Nothing(Key::Moment))?;
-            eprintln!(rt; "{moment:?} {word}: past the calendar's end")?;
+            let _ = eprintln!(rt; "{moment:?} {word}: past the calendar's end");
         }
     }
     Ok(NONE)
@@ -85,8 +85,7 @@ fn moment_moved(
     listed: &[NaiveDate],
 ) -> io::Result<Option<NaiveDateTime>> {
     if let Some(duration) = duration_of(by) {
-        let from = NaiveDateTime::new(moment.date(), moment.time());
-        return Ok(from.checked_add_signed(duration));
+        return Ok((*moment).checked_add_signed(duration));
     }
     match day_moved(rt, moment.date(), by, options, listed)? {
         Some(date) => Ok(Some(NaiveDateTime::new(date, moment.time()))),

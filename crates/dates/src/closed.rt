@@ -1,6 +1,6 @@
 //! Which days are closed, by the options of a request.
 
-use crate::file::beside_day;
+use crate::reason::{Reason, reason_of};
 use crate::source::{Source, refuse_source};
 use chrono_business::{HolidayRule, england_and_wales, target, us_federal, without_weekends};
 use chrono_datetime::{Datelike, NaiveDate, Weekday, WeekdaySet};
@@ -174,10 +174,10 @@ fn say_unread(rt: &impl Eprint, source: Source<'_>, fault: &io::Error) -> io::Re
 // Says that a line of a file is no day, and what it has beside one; false.
 fn say_no_day(rt: &impl Eprint, source: Source<'_>, number: u64, line: &[u8]) -> io::Result<bool> {
     let expected = "expected a day as 2024-02-29";
-    match beside_day(line) {
-        Some(fault) => eprintln!(rt; "dates: {source}, line {number}: {fault}; {expected}")?,
-        None => eprintln!(rt; "dates: {source}, line {number}: {expected}")?,
-    }
+    let _ = match reason_of(line) {
+        Reason::Form => eprintln!(rt; "dates: {source}, line {number}: {expected}"),
+        reason => eprintln!(rt; "dates: {source}, line {number}: {reason}; {expected}"),
+    };
     Ok(false)
 }
 

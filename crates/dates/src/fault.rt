@@ -3,8 +3,8 @@
 use crate::distance::none_of_measure;
 use crate::print::print_answer;
 use crate::quoted::{Word, WordBytes};
+use crate::reason::reason_for;
 use chrono_cron::check_schedule;
-use chrono_datetime::{Datelike, Month, NaiveDate};
 use chrono_rules::check_rule;
 use dates_answer::{Answer, Key};
 use dates_request::{Form, NoDay, Why, Wrong};
@@ -57,7 +57,7 @@ pub(crate) fn refuse_arguments(
                 let argument = &room[..length];
                 if str::from_utf8(argument).is_err() {
                     let word = WordBytes { bytes: argument };
-                    eprintln!(rt; "dates: argument {place}, {word}: expected UTF-8")?;
+                    let _ = eprintln!(rt; "dates: argument {place}, {word}: expected UTF-8");
                     return Ok(WRONG);
                 }
             }
@@ -71,7 +71,7 @@ pub(crate) fn refuse_arguments(
 // Linux takes no longer argument: 32 pages of 4,096 bytes, the last of which ends it.
 const LONGEST_ARGUMENT: usize = 131_072;
 
-// Says why a word is no day: of one past the end of its month that there is no such day, as an answer to what was asked.
+// Says why a word is no day: of one that is written as a day is that there is none, as an answer to what was asked.
 fn refuse_day(
     rt: &(impl Print + Eprint),
     form: Form,
@@ -80,20 +80,14 @@ fn refuse_day(
     place: usize,
     why: NoDay,
 ) -> io::Result<u8> {
-    match why {
-        NoDay::PastMonth { first } => {
-            print_answer(rt, form, none)?;
-            eprintln!(rt; "{word}: {}", DaysOfMonth { first })?;
-            Ok(NONE)
-        }
-        NoDay::Form => {
-            let wrong = Wrong {
-                place,
-                why: Why::Day(why),
-            };
-            refuse_word(rt, word, wrong)
-        }
+    let reason = reason_for(word.as_bytes(), why);
+    if !reason.is_of_a_day() {
+        let why = Why::Day(NoDay::Form);
+        return refuse_word(rt, word, Wrong { place, why });
     }
+    print_answer(rt, form, none)?;
+    let _ = eprintln!(rt; "{word}: {reason}");
+    Ok(NONE)
 }
 
 // Says what was expected of a word.
@@ -101,7 +95,7 @@ fn refuse_word(rt: &impl Eprint, word: &str, wrong: Wrong) -> io::Result<u8> {
     let place = wrong.place;
     let word = Word { text: word };
     let expected = expected(wrong);
-    eprintln!(rt; "dates: argument {place}, {word}: expected {expected}")?;
+    let _ = eprintln!(rt; "dates: argument {place}, {word}: expected {expected}");
     Ok(WRONG)
 }
 
@@ -131,7 +125,7 @@ fn refuse_text(
     let place = wrong.place;
     let word = Word { text: word };
     let expected = expected(wrong);
-    eprintln!(rt; "dates: argument {place}, {word}: {fault}; expected {expected}")?;
+    let _ = eprintln!(rt; "dates: argument {place}, {word}: {fault}; expected {expected}");
     Ok(WRONG)
 }
 
@@ -183,24 +177,11 @@ const CONVENTIONS: &str =
 fn none_asked(words: &[String<impl Allocator>]) -> Answer {
     match words {
         [command, ..] if command.as_str() == "open" => Answer::Nothing(Key::Open),
-        [command, _, _, _, measure, ..] if command.as_str() == "diff" => none_of_measure(
-            measure.as_str(),
-        ),
+        [command, _, measured, measure] | [command, _, _, measured, measure, ..]
+            if command.as_str() == "diff" && measured.as_str() == "in" => {
+            none_of_measure(measure.as_str())
+        }
         [command, ..] if command.as_str() == "diff" => Answer::Nothing(Key::Days),
         _ => Answer::Nothing(Key::Date),
-    }
-}
-
-/// How many days the month has that begins on a day, as `February 2024 has 29 days`.
-#[derive(Clone, Copy)]
-pub struct DaysOfMonth {
-    pub first: NaiveDate,
-}
-
-impl fmt::Display for DaysOfMonth {
-    fn fmt<W: fmt::Write>(&self, f: &mut fmt::Formatter<W>) -> fmt::Result {
-        let days = self.first.last_day_of_month().day();
-        let month = Month::from_u32(self.first.month()).map_or("", |month| month.name());
-        write!(f, "{month} {} has {days} days", self.first.year())
     }
 }

@@ -14,6 +14,7 @@ mod lines;
 mod open;
 mod print;
 mod quoted;
+mod reason;
 mod recurring;
 mod sequence;
 mod sheet;

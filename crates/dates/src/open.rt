@@ -66,7 +66,7 @@ pub(crate) fn answer_roll(
         }
         None => {
             print_answer(rt, form, Answer::Nothing(Key::Date))?;
-            eprintln!(rt; "{date}: past the calendar's end")?;
+            let _ = eprintln!(rt; "{date}: past the calendar's end");
             Ok(NONE)
         }
     }

@@ -27,7 +27,8 @@ impl fmt::Display for Quoted<'_> {
     }
 }
 
-/// A word on one line: control characters, of which some break a line and some steer a terminal, stand there as `\u000a`.
+/// A word on one line: control characters, of which some break a line and some steer a terminal, stand there as `\u000a`, and no byte
+/// as `''`.
 #[derive(Clone, Copy)]
 pub struct Word<'a> {
     pub text: &'a str,
@@ -35,6 +36,9 @@ pub struct Word<'a> {
 
 impl fmt::Display for Word<'_> {
     fn fmt<W: fmt::Write>(&self, f: &mut fmt::Formatter<W>) -> fmt::Result {
+        if self.text.is_empty() {
+            return f.write_str("''");
+        }
         for character in self.text.chars() {
             put_character(f, character)?;
         }

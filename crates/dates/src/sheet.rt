@@ -2,6 +2,7 @@
 
 use crate::closed::{put_holidays, years_of};
 use crate::fault::{ANSWERED, WRONG};
+use crate::reason::Year;
 use crate::year::no_such_year;
 use chrono_business::Calendar;
 use chrono_datetime::{Datelike, Month, NaiveDate, Weekday};
@@ -79,7 +80,10 @@ fn start_of(options: SheetOptions) -> Weekday {
 
 // A month alone.
 fn print_month(rt: &impl Print, sheet: &MonthSheet, calendar: &Calendar) -> io::Result<()> {
-    println!(rt; "    {} {}", name_of(sheet), sheet.month.year())?;
+    let year = Year {
+        year: sheet.month.year(),
+    };
+    println!(rt; "    {} {year}", name_of(sheet))?;
     println!(rt; "{}", heading(sheet.start))?;
     for row in 0..6 {
         if sheet.has_days(row) {
@@ -96,7 +100,7 @@ fn print_year(
     start: Weekday,
     calendar: &Calendar,
 ) -> io::Result<()> {
-    println!(rt; "{:>41}", first.year())?;
+    println!(rt; "{:37}{}", "", Year { year: first.year() })?;
     for quarter in 0..4u32 {
         println!(rt; "")?;
         let months = 3 * i64::from(quarter);

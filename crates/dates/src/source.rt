@@ -37,6 +37,6 @@ pub(crate) fn refuse_source(
     source: Source<'_>,
     fault: &io::Error,
 ) -> io::Result<u8> {
-    eprintln!(rt; "dates: {source}: {fault}")?;
+    let _ = eprintln!(rt; "dates: {source}: {fault}");
     Ok(WRONG)
 }

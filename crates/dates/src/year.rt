@@ -2,6 +2,7 @@
 
 use crate::fault::{ANSWERED, NONE};
 use crate::print::print_answer;
+use crate::reason::Year;
 use chrono_business::easter;
 use chrono_datetime::NaiveDate;
 use dates_answer::{Answer, Key, is_leap};
@@ -38,7 +39,7 @@ pub(crate) fn answer_week(
 ) -> io::Result<u8> {
     let Some(last) = first.moved_by_days(6) else {
         print_answer(rt, form, Answer::NoWeek(first))?;
-        eprintln!(rt; "{first} 6d: past the calendar's end")?;
+        let _ = eprintln!(rt; "{first} 6d: past the calendar's end");
         return Ok(NONE);
     };
     print_answer(rt, form, Answer::Week(first, last))?;
@@ -53,6 +54,7 @@ pub(crate) fn no_such_year(
     year: i32,
 ) -> io::Result<u8> {
     print_answer(rt, form, Answer::Nothing(key))?;
-    eprintln!(rt; "{year}: expected a year from -262143 to 262142")?;
+    let year = Year { year };
+    let _ = eprintln!(rt; "{year}: expected a year from -262143 to +262142");
     Ok(NONE)
 }
