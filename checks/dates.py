@@ -19,11 +19,18 @@ TOP = os.path.dirname(os.path.dirname(os.path.abspath(__file__)))
 CRATE = os.path.join(TOP, "crates", "dates")
 
 
+# The name of a file that stands in the folder in which the completion is tried.
+SPACED = "two words.txt"
+
 # Words whose last one is begun, and what the completion makes of that.
-COMPLETED = [("dates roll 2024-03-30 following --c", "--calendar"), ("dates roll 2024-03-30 modified-f", "modified-following"),
-             ("dates open 2024-03-30 --calendar e", "england"), (f"dates open 2024-03-30 --holidays {TOP}/docs/DATE", f"{TOP}/docs/DATES.md"),
-             (f"dates check {TOP}/docs/DATE", f"{TOP}/docs/DATES.md"), ("dates check my", "my file.txt"), ("dates cal 2024-03 --first su", "sun"),
-             ("dates open 2024-03-30 --weekend no", "none"), ("dates diff 2024-03-30 2024-04-30 in y", "y\nymd")]
+COMPLETED = [("dates roll 2024-03-30 following --c", ["--calendar"]), ("dates roll 2024-03-30 modified-f", ["modified-following"]),
+             ("dates roll 2024-03-30 n", ["nearest"]), ("dates open 2024-03-30 --calendar e", ["england"]),
+             ("dates open 2024-03-30 --weekend s", ["sat", "sun"]), ("dates open 2024-03-30 --weekend n", ["none"]),
+             ("dates cal 2024-03 --first ''", ["mon", "tue", "wed", "thu", "fri", "sat", "sun"]), ("dates cal 2024-03 --first n", []),
+             ("dates diff 2024-02-29 2024-03-30 in ''", ["d", "w", "m", "y", "b", "ymd"]), ("dates diff 2024-02-29 2024-03-30 in y", ["y", "ymd"]),
+             (f"dates open 2024-03-30 --holidays {TOP}/docs/DATE", [f"{TOP}/docs/DATES.md"]), (f"dates check {TOP}/docs/DATE", [f"{TOP}/docs/DATES.md"]),
+             ("dates open 2024-03-30 --holidays two", [SPACED]), ("dates check two", [SPACED]), ("dates check 'two w'", [SPACED]),
+             ("dates check --j", ["--json"])]
 
 
 def examples(lines):
@@ -59,7 +66,7 @@ def apart(program):
 def unnamed(program):
     """The commands of the help that a wrong first word is not told of, and those that it is told of alone."""
     told = subprocess.run([program, "no-command"], stdin=subprocess.DEVNULL, capture_output=True, text=True).stderr
-    named = re.split(", | or ", told.strip().partition("2024-02-29, ")[2])
+    named = re.split(", | or ", told.strip().partition("2024-02-29, ")[2].partition(";")[0])
     return sorted(set(named) ^ {name for name in dates_help.commands(program) if name != "-"})
 
 
@@ -78,9 +85,9 @@ def stale(program):
 
 
 def run(command, place):
-    """What a command writes, its errors behind its output, and its status."""
+    """What a command writes in a folder where `dates` is, its errors behind its output, and its status."""
     path = place + os.pathsep + os.environ["PATH"]
-    ran = subprocess.run(["bash", "-c", command], env={**os.environ, "PATH": path}, capture_output=True, text=True, timeout=60)
+    ran = subprocess.run(["bash", "-c", command], cwd=place, env={**os.environ, "PATH": path}, capture_output=True, text=True, timeout=60)
     return [line.rstrip() for line in (ran.stdout + ran.stderr).splitlines() if line.strip()], ran.returncode
 
 
@@ -97,9 +104,11 @@ def main():
         cases = documented() + helped(program)
         cases.append(["set -o pipefail; yes 2024-02-29 | head -100000 | dates 2>&1 | head -1; exit ${PIPESTATUS[2]}",
                       ["2024-02-29 2024-060 2024-W09-4 Thu 738945 19782"], 0])
+        with open(os.path.join(place, SPACED), "w"):
+            pass
         for words, completed in COMPLETED:
-            cases.append([f"touch 'my file.txt'; source {TOP}/tools/shell/dates.bash; COMP_WORDS=({words}); COMP_CWORD=$((${{#COMP_WORDS[@]}} - 1)); _dates; "
-                          f"printf '%s\\n' \"${{COMPREPLY[@]}}\"", completed.split("\n"), 0])
+            cases.append([f"source {TOP}/tools/shell/dates.bash; COMP_WORDS=({words}); COMP_CWORD=$((${{#COMP_WORDS[@]}} - 1)); _dates; "
+                          "printf '%s\\n' \"${COMPREPLY[@]}\"", completed, 0])
         for command, lines, status in cases:
             got = run(command, place)
             if got == (lines, status):

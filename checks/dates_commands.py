@@ -483,7 +483,7 @@ def of_cal(chance, files):
 
 OPTIONS = "--weekend, --calendar or --holidays"
 EXPECTED = {
-    "first": "a day as 2024-02-29, add, diff, seq, week, easter, leap, open, roll, check, next, prev, cal or rule",
+    "first": "a day as 2024-02-29, add, diff, seq, week, easter, leap, open, roll, check, next, prev, cal or rule; or --help, which explains them",
     "day": "a day as 2024-02-29, 2024-060 or 2024-W09-4",
     "start": "a day as 2024-02-29 or a date-time as 2024-02-29T04:30",
     "move": "a span as 3d, -2w, 1m, 4y, 5b, 36h, 90min, 15s or PT1.5S",

@@ -38,8 +38,8 @@ def options(more):
 
 
 def values(text, before):
-    """The words of a list that stands behind this in a text, up to the end of its sentence or line."""
-    return re.split(", | or ", re.search(before + r"(.+?)(?:\. |\.?$)", text, re.M)[1])
+    """The words of a list that stands behind this in a text, up to a colon or the end of its sentence or line; a line that ends in a comma goes on."""
+    return re.split(", | or ", re.search(before + r"(.+?)(?:[.:] |\.?$)", text.replace(",\n", ", "), re.M)[1])
 
 
 def of_all(program):
@@ -56,11 +56,6 @@ def escaped(text):
     """A line as troff takes it."""
     text = text.replace("\\", "\\e").replace("-", "\\-")
     return "\\&" + text if text.startswith((".", "'")) else text
-
-
-# Values of options and words that help does not list one by one.
-WEEKDAYS = "mon tue wed thu fri sat sun"
-MEASURES = "d w m y b ymd"
 
 
 def page(program):
@@ -84,28 +79,41 @@ def page(program):
     return "\n".join(lines) + "\n"
 
 
+def offer(words):
+    """The line of bash that offers words, of which none has a space."""
+    return f"COMPREPLY=($(compgen -W '{' '.join(words)}' -- \"$word\"))"
+
+
+def offer_files(words=()):
+    """The line of bash that offers the names of files, with spaces in them or not, and words."""
+    listed = f" -W '{' '.join(words)}'" if words else ""
+    return f"mapfile -t COMPREPLY < <(compgen -f{listed} -- \"$word\"); compopt -o filenames 2>/dev/null"
+
+
+def values_behind(program):
+    """What is offered behind a word of a command, by a pattern of both."""
+    rolls = said(program, "roll", "--help")
+    weekdays = values(rolls, "^A weekday is ")
+    return [("*:--calendar", offer(values(rolls, "^--calendar NAME +[^:]+: "))), ("*:--holidays", offer_files()), ("*:--weekend", offer(weekdays + ["none"])),
+            ("*:--first", offer(weekdays)), ("diff:in", offer(values(said(program, "diff", "--help"), "^A UNIT is ")))]
+
+
 def completion(program):
     """The completion for bash: a command, then its options, and the values of those that have a few or name a file."""
     names = commands(program)
     last = of_all(program)[0]
-    rolls = said(program, "roll", "--help")
-    calendars, conventions = values(rolls, "^--calendar NAME +[^:]+: "), values(rolls, "^A CONVENTION is ")
+    conventions = values(said(program, "roll", "--help"), "^A CONVENTION is ")
     lines = ["# Completion of dates for bash, made by tools/dates_help.py.", "_dates()", "{",
              "    local word=${COMP_WORDS[COMP_CWORD]}", "    if [ \"$COMP_CWORD\" -eq 1 ]; then",
-             f"        COMPREPLY=($(compgen -W '{' '.join(names)} {last} --help --version' -- \"$word\"))", "        return", "    fi",
-             "    case ${COMP_WORDS[COMP_CWORD - 1]} in",
-             f"    --calendar) COMPREPLY=($(compgen -W '{' '.join(calendars)}' -- \"$word\")); return ;;",
-             f"    --first) COMPREPLY=($(compgen -W '{WEEKDAYS}' -- \"$word\")); return ;;",
-             f"    --weekend) COMPREPLY=($(compgen -W 'none {WEEKDAYS}' -- \"$word\")); return ;;",
-             f"    in) COMPREPLY=($(compgen -W '{MEASURES}' -- \"$word\")); return ;;",
-             "    --holidays) mapfile -t COMPREPLY < <(compgen -f -- \"$word\"); compopt -o filenames 2>/dev/null; return ;;", "    esac",
-             "    case ${COMP_WORDS[1]} in"]
+             f"        {offer([*names, last, '--help', '--version'])}", "        return", "    fi",
+             "    case ${COMP_WORDS[1]}:${COMP_WORDS[COMP_CWORD - 1]} in"]
+    lines += [f"    {pattern}) {offered}; return ;;" for pattern, offered in values_behind(program)]
+    lines += ["    esac", "    case ${COMP_WORDS[1]} in"]
     for name in names:
         known = (conventions if name == "roll" else []) + options(help_of(program, name)[2])
         if known:
-            lines.append(f"    {name}) COMPREPLY=($(compgen -W '{' '.join(known)} {last} --help' -- \"$word\")) ;;")
-    lines += [f"    check) mapfile -t COMPREPLY < <(compgen -f -W '{last} --help' -- \"$word\"); compopt -o filenames 2>/dev/null ;;",
-              f"    *) COMPREPLY=($(compgen -W '{last} --help' -- \"$word\")) ;;", "    esac", "}",
+            lines.append(f"    {name}) {offer([*known, last, '--help'])} ;;")
+    lines += [f"    check) {offer_files([last, '--help'])} ;;", f"    *) {offer([last, '--help'])} ;;", "    esac", "}",
               "complete -o default -F _dates dates"]
     return "\n".join(lines) + "\n"
 

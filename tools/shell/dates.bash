@@ -6,12 +6,12 @@ _dates()
         COMPREPLY=($(compgen -W '- add diff seq week easter leap open roll check next prev rule cal --json --help --version' -- "$word"))
         return
     fi
-    case ${COMP_WORDS[COMP_CWORD - 1]} in
-    --calendar) COMPREPLY=($(compgen -W 'us-federal target england' -- "$word")); return ;;
-    --first) COMPREPLY=($(compgen -W 'mon tue wed thu fri sat sun' -- "$word")); return ;;
-    --weekend) COMPREPLY=($(compgen -W 'none mon tue wed thu fri sat sun' -- "$word")); return ;;
-    in) COMPREPLY=($(compgen -W 'd w m y b ymd' -- "$word")); return ;;
-    --holidays) mapfile -t COMPREPLY < <(compgen -f -- "$word"); compopt -o filenames 2>/dev/null; return ;;
+    case ${COMP_WORDS[1]}:${COMP_WORDS[COMP_CWORD - 1]} in
+    *:--calendar) COMPREPLY=($(compgen -W 'us-federal target england' -- "$word")); return ;;
+    *:--holidays) mapfile -t COMPREPLY < <(compgen -f -- "$word"); compopt -o filenames 2>/dev/null; return ;;
+    *:--weekend) COMPREPLY=($(compgen -W 'mon tue wed thu fri sat sun none' -- "$word")); return ;;
+    *:--first) COMPREPLY=($(compgen -W 'mon tue wed thu fri sat sun' -- "$word")); return ;;
+    diff:in) COMPREPLY=($(compgen -W 'd w m y b ymd' -- "$word")); return ;;
     esac
     case ${COMP_WORDS[1]} in
     add) COMPREPLY=($(compgen -W '--weekend --calendar --holidays --json --help' -- "$word")) ;;

@@ -167,7 +167,7 @@ fn expected(wrong: Wrong) -> &'static str {
 
 // What stands at the first place.
 const DAY_OR_COMMAND: &str =
-    "a day as 2024-02-29, add, diff, seq, week, easter, leap, open, roll, check, next, prev, cal or rule";
+    "a day as 2024-02-29, add, diff, seq, week, easter, leap, open, roll, check, next, prev, cal or rule; or --help, which explains them";
 
 // The conventions by which a closed day rolls.
 const CONVENTIONS: &str =

@@ -33,20 +33,29 @@ const FOOT: &str = "\n\
     \x20 dates COMMAND --help                more of a command, with an example\n\
     \x20 dates --help | --version\n\
     \n\
-    It ends with status 0; with 1 where a question has no answer, and none is printed, or where check tells of a line;\n\
-    and with 2 after a wrong command, or a read or a write that failed.";
+    --json is the last word, behind all others.\n\
+    It ends with status 0; with 1 where a question has no answer, and none is printed, or where\n\
+    check tells of a line; and with 2 after a wrong command, or a read or a write that failed.";
 
 // The options that say which days are closed.
 const CLOSED: &str =
-    "--weekend DAYS   closed weekdays, two at most: none, a day as fri, or two as fri,sat; sat,sun where it is not given\n\
+    "--weekend DAYS   closed weekdays, two at most: none, a day as fri, or two as fri,sat;\n\
+    \x20                sat,sun where it is not given\n\
     --calendar NAME  holidays by rules: us-federal, target or england\n\
     --holidays FILE  holidays of a file, a day a line\n\
-    The rules of us-federal begin with 1971, of target with 1999 and of england with 1978: before, the weekend alone is closed.\n\
+    A weekday is mon, tue, wed, thu, fri, sat or sun.\n\
+    The rules of us-federal begin with 1971, of target with 1999 and of england with 1978:\n\
+    before, the weekend alone is closed.\n\
     They move holidays off Saturdays and Sundays as their laws do, whatever --weekend says.\n";
 
 // What a schedule is.
 const CRON: &str =
-    "A CRON is five fields in one word, minute, hour, day, month and weekday, or a nickname as @daily.";
+    "A CRON is five fields in one word, blanks between them, or a nickname as @daily:\n\
+    minute 0-59, hour 0-23, day 1-31, month 1-12 or jan-dec, weekday 0-7 or sun-sat; 0 and 7 are sun.\n\
+    A field is *, a number, a range as 1-5, a step as */15, or several with commas between them.\n\
+    Of days, L is the month's last, 15W the one from Monday to Friday that is nearest to the 15th.\n\
+    Of weekdays, 5#3 is the month's third Friday, 5L its last.\n\
+    With both days and weekdays, neither beginning with *, it is due on either, as with cron.";
 
 // `-`.
 const LINES: Usage = Usage {
@@ -54,7 +63,8 @@ const LINES: Usage = Usage {
     words: "",
     answers: "each line of standard input by all its names",
     more: "With no argument too. A line that is no day is answered by none.\n\
-        So it is with add, diff, open and roll, where - stands for a day or the day is left out, and holidays are read once.",
+        So it is with add, diff, open and roll, where - stands for a day or the day is left out,\n\
+        and holidays are read once.",
     options: "",
     example: "$ printf '2024-W09-4\\nsoon\\n' | dates -\n\
         2024-02-29 2024-060 2024-W09-4 Thu 738945 19782\n\
@@ -67,9 +77,11 @@ const ADD: Usage = Usage {
     name: "add",
     words: "DAY SPAN.. [OPTION..]",
     answers: "the day moved by spans, one after another",
-    more: "A SPAN is a whole number of days, weeks, months or years, as 3d, -2w, 1m and 4y, or of open days, as 5b.\n\
+    more: "A SPAN is a whole number of days, weeks, months or years, as 3d, -2w, 1m and 4y,\n\
+        or of open days, as 5b.\n\
         A month or a year leads to the same day of its month, or to its last where that is shorter.\n\
-        A date-time in place of the day is moved by times too: 36h, 90min, 15s, PT1.5S.",
+        A date-time in place of the day is moved by times too: 36h, 90min, 15s, PT1.5S.\n\
+        With - in place of the day, or none, each line of standard input is moved.",
     options: CLOSED,
     example: "$ dates add 2024-01-31 1m\n\
         2024-02-29",
@@ -80,9 +92,11 @@ const DIFF: Usage = Usage {
     name: "diff",
     words: "DAY DAY [in UNIT] [OPTION..]",
     answers: "how many days, or whole units, lie between",
-    more: "A UNIT is d, w, m or y, b for open days, or ymd for years, months and days. It goes back where the second day is the earlier.\n\
+    more: "A UNIT is d, w, m, y, b or ymd: days, weeks, months, years, open days, or years, months and days.\n\
+        It goes back where the second day is the earlier.\n\
         in b counts the first day, where it is open, and not the second.\n\
-        Of two date-times in place of the days it is how long it is from one to the other.",
+        Of two date-times in place of the days it is how long it is from one to the other.\n\
+        With - in place of a day, or no second day, each line of standard input is taken for it.",
     options: CLOSED,
     example: "$ dates diff 2024-02-29 2024-12-24 in w\n\
         42",
@@ -93,8 +107,9 @@ const SEQ: Usage = Usage {
     name: "seq",
     words: "DAY DAY [SPAN]",
     answers: "the days from one to another",
-    more: "Each is the first day moved by no span, by one, by two and so on, as long as that is not past the second day.\n\
-        With no SPAN it goes day by day, also back. A SPAN is a whole number of d, w, m or y, as 2w, or -1w to go back; none of b or h.",
+    more: "Each is the first day moved by no span, by one, by two and so on,\n\
+        as long as that is not past the second day. With no SPAN it goes day by day, also back.\n\
+        A SPAN is a whole number of d, w, m or y, as 2w, or -1w to go back; none of b or h.",
     options: "",
     example: "$ dates seq 2024-01-31 2024-04-01 1m\n\
         2024-01-31\n\
@@ -140,7 +155,8 @@ const OPEN: Usage = Usage {
     name: "open",
     words: "DAY [OPTION..]",
     answers: "whether it is an open day",
-    more: "yes where it is neither on the weekend nor a holiday, and else no.",
+    more: "yes where it is neither on the weekend nor a holiday, and else no.\n\
+        With - in place of the day, or none, each line of standard input is answered.",
     options: CLOSED,
     example: "$ dates open 2024-03-29 --calendar england\n\
         no",
@@ -151,7 +167,9 @@ const ROLL: Usage = Usage {
     name: "roll",
     words: "DAY CONVENTION [OPTION..]",
     answers: "where a closed day goes",
-    more: "A CONVENTION is following, preceding, modified-following, modified-preceding, nearest or unadjusted. An open day stays.",
+    more: "A CONVENTION is following, preceding, modified-following, modified-preceding,\n\
+        nearest or unadjusted. An open day stays.\n\
+        With - in place of the day, or none, each line of standard input is answered.",
     options: CLOSED,
     example: "$ dates roll 2024-03-30 modified-following\n\
         2024-03-29",
@@ -198,7 +216,11 @@ const RULE: Usage = Usage {
     name: "rule",
     words: "RRULE --start DAY [OPTION..]",
     answers: "the instances of a recurrence rule",
-    more: "An RRULE is written as RFC 5545 writes it.",
+    more: "An RRULE is written as RFC 5545 writes it, in parts with ; between them:\n\
+        FREQ=WEEKLY;INTERVAL=2;BYDAY=TU;COUNT=5        every other Tuesday, five times\n\
+        FREQ=MONTHLY;BYMONTHDAY=15,-1;UNTIL=20240301   15th and last days of months, to 1 March 2024\n\
+        FREQ=MONTHLY;BYDAY=3FR                         third Fridays\n\
+        FREQ=MONTHLY;BYDAY=MO,TU,WE,TH,FR;BYSETPOS=-1  last days of months from Monday to Friday",
     options: "--start DAY      from which day on it recurs\n\
         --from DAY       from which day on its instances are wanted; --start where it is not given\n\
         --count N        how many at most\n",
@@ -212,7 +234,8 @@ const CAL: Usage = Usage {
     name: "cal",
     words: "MONTH|YEAR [OPTION..]",
     answers: "a month or a year as a sheet",
-    more: "A MONTH is written as 2024-02, a YEAR as 2024. Each row begins with its ISO week, that of its Thursday. * marks a closed day.\n\
+    more: "A MONTH is written as 2024-02, a YEAR as 2024.\n\
+        Each row begins with its ISO week, that of its Thursday. * marks a closed day.\n\
         --first DAY      the weekday on which weeks begin, as sun; mon where it is not given",
     options: CLOSED,
     example: "$ dates cal 2021-02\n\
