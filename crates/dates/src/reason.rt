@@ -118,7 +118,7 @@ impl fmt::Display for Year {
     }
 }
 
-// Why a text names no day, where the library tells so much of it.
+// Why a text names no day, of which `read_day` tells one cause.
 pub(crate) fn reason_for(text: &[u8], why: NoDay) -> Reason {
     match why {
         NoDay::PastMonth { first } => Reason::PastMonth(first),
@@ -217,7 +217,7 @@ fn digit(byte: u8) -> Option<u8> {
     }
 }
 
-// How many bytes the longest name of a day has, and more than a text of a year.
+// Room for a year of eight bytes at most, and for seven behind it.
 const ROOM: usize = 16;
 
 // A day of the year, by its text, that each year of the calendar has: the first, or the first of its second week.
