@@ -1,6 +1,7 @@
 -- The text that is written for a schedule.
 use Rattle.std.specs.Prelude.{ℕ, zero, suc, ◌+◌, ◌/◌, ◌%◌, ◌==◌, nat_le, nat_lt, Bool, true, false, not, ◌&&◌, ◌||◌, if◌then◌else◌, List, [], ◌∷◌, ◌++◌, map, codes}
 use Rattle.std.specs.List.{join_with_byte}
+use Rattle.std.specs.Str.{byte}
 use Rattle.chrono_text.specs.Text.{two_digits}
 use Rattle.chrono_cron.specs.declared.number_set.NumberSet.{NumberSet}
 use Rattle.chrono_cron.specs.declared.sets.Sets.{Sets}
@@ -10,7 +11,7 @@ use Rattle.chrono_cron.specs.Due.{has}
 
 -- a number in one digit or two
 abbrev pub number_text : ℕ → List ℕ
-number_text n = if nat_lt n 10 then (48 + n) ∷ [] else two_digits n
+number_text n = if nat_lt n 10 then (byte "0" + n) ∷ [] else two_digits n
 
 -- a range by its first and its last number, or the one number alone
 abbrev pub range_text : ℕ × ℕ → List ℕ
@@ -63,7 +64,7 @@ behind_commas (item ∷ items) = codes "," ++ item ++ behind_commas items
 
 -- a field: items with a comma between each two
 abbrev pub field_text : List (List ℕ) → List ℕ
-field_text items = join_with_byte 44 items
+field_text items = join_with_byte (byte ",") items
 
 -- the minutes, the hours or the months: `*`, or a list
 unfoldable pub plain_text : NumberSet → ℕ → ℕ → List ℕ
