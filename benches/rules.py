@@ -5,7 +5,8 @@
 
 It needs crates/rules_rows/out/rules_rows, which `rt run` and `rt ci` leave there. A row of it says how many calls of `next_after`, each from the day that the last one
 gave, lead to the last instance of 400 years, which a walk over the days has found before: that is the call alone, 100,000 times. In another row all of these instances are looked for by
-`next_after`, read and tested by `is_instance`. dateutil gives the same instances one after another, which are compared first. The best of seven runs counts, by processor time.
+`next_after`, read and tested by `is_instance`. dateutil gives the same instances one after another, which are compared first; and its `after` is asked, as `next_after` is, for the
+instance behind each of some days that lie evenly between the first and the last, which is compared too. The best of seven runs counts, by processor time.
 """
 import datetime
 import os
@@ -17,9 +18,10 @@ import time
 TOP = os.path.dirname(os.path.dirname(os.path.abspath(__file__)))
 sys.path.insert(0, os.path.join(TOP, "checks"))
 import rules_days
-from rules_days import DAILY, DEBIAN, MONTHLY, ROWS, WEEKLY, YEARLY, Date, Rule, of_dateutil, walked
+from rules_days import DAILY, DEBIAN, MONTHLY, ROWS, WEEKLY, YEARLY, Date, Rule, at_midnight, made_by_dateutil, of_dateutil, walked
 
 CALLS = 100_000
+ASKED = 20
 ROUNDS = 7
 FRIDAY = 4
 
@@ -62,6 +64,20 @@ def seconds_of_dateutil(rule, start, days):
     return best
 
 
+def seconds_of_after(rule, start, days):
+    """The least processor time in which dateutil's `after` gives each of some of these days from the one before."""
+    made, best = made_by_dateutil(rule, start), None
+    places = [1 + it * (len(days) - 2) // (ASKED - 1) for it in range(ASKED)]
+    for _ in range(ROUNDS):
+        begun = time.process_time()
+        given = [made.after(at_midnight(days[it - 1])) for it in places]
+        took = time.process_time() - begun
+        if [it.date() for it in given] != [days[it] for it in places]:
+            return None
+        best = took if best is None else min(best, took)
+    return best
+
+
 def main():
     if not os.path.exists(ROWS):
         print("not run: everything, since there is no crates/rules_rows/out/rules_rows")
@@ -71,7 +87,7 @@ def main():
     if not rules_days.rrule:
         print("not run: dateutil, since it is not installed")
     alone = seconds_of("")
-    print("| Rule | nanoseconds a call | an instance looked for, read and tested | dateutil | times as fast as that, by the call |\n|---|---|---|---|---|")
+    print("| Rule | nanoseconds a call | an instance looked for, read and tested | dateutil | times as fast as that, by the call | as its `after` |\n|---|---|---|---|---|---|")
     for rule, start in rules():
         text = rule.text().replace(";WKST=MO", "").replace(";INTERVAL=1;", ";")
         end = start.replace(year=start.year + 400, day=1)
@@ -83,7 +99,9 @@ def main():
         rows = f"call {rule.text()} {start.toordinal()} *{len(days)} = {days[-1].toordinal()}\n" * copies
         call = (seconds_of(rows) - alone) / copies / len(days) * 1e9
         other = seconds_of_dateutil(rule, start, days) if rules_days.rrule else None
+        after = seconds_of_after(rule, start, days) if rules_days.rrule else None
         beside = f"{other / len(days) * 1e9:,.0f} | {other / len(days) * 1e9 / call:,.0f}" if other else " | "
+        beside += f" | {after / ASKED * 1e9 / call:,.0f}" if after else " | "
         print(f"| `{text}` | {call:,.0f} | {nanos:,.0f} | {beside} |")
 
 
