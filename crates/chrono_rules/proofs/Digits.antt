@@ -1,8 +1,9 @@
 -- Places in a row that the digits of a number leave out.
-use Rattle.std.proofs.Common.{◌≡◌, ℕ, zero, suc, ◌+◌, ◌-◌, ◌*◌, ◌/◌, ◌%◌, ◌^◌, ◌<◌, ◌≤◌, inl, inr, sym, ap, ◌∙◌, arith}
-use Rattle.std.proofs.lemmas.Bool.{cases_eq, cases_lt}
-use Rattle.std.proofs.lemmas.Nat.{shr-shr}
+use Rattle.std.proofs.Common.{◌≡◌, ◌==◌, ◌&&◌, ◌||◌, Bool, true, false, not, refl, ℕ, zero, suc, bit_or, ◌+◌, ◌-◌, ◌*◌, ◌/◌, ◌%◌, ◌^◌, ◌<◌, ◌≤◌, inl, inr, sym, ap, ◌∙◌, arith}
+use Rattle.std.proofs.lemmas.Bool.{cases_eq, cases_lt, ne_eqb}
+use Rattle.std.proofs.lemmas.Nat.{le_or_l, shr-shr}
 use Rattle.std.proofs.lemmas.Nat.Bits.{bit_at-suc, bit_at-trailing_zeros, bit_at-zero, bit_at_cat_high, bit_at_lowest}
+use Rattle.std.specs.Int.Bits.{or_zero_l}
 use Rattle.std.specs.Int.{bit_at, reverse_bits_onto, trailing_zeros, w64}
 
 -- the digits of what is left of a number when its lowest are taken away
@@ -48,3 +49,19 @@ pub gap-down : (n from j : ℕ) → from < 64 → j ≤ from → bit_at (reverse
 gap-down n from j fits le none =
     let place : from - j ≡ 64 - 1 - (63 - from + j) = omega (arith, fits, le) in
     ap (bit_at n) place ∙ sym (bit_at-turned 64 n 0 (63 - from + j) (omega (arith, fits, le))) ∙ none
+
+-- two words or'ed together are 0 if both are
+neither : (none some : Bool) → (none && not some) ≡ not (not none || some)
+neither true some = refl
+neither false some = refl
+
+pub both_zero : (a b : ℕ) (some : Bool) → ((bit_or a b == 0) && not some) ≡ ((a == 0) && not (not (b == 0) || some))
+both_zero a b some = elim (cases_eq a 0) [
+  | inl none ↦
+      let at : ((bit_or 0 b == 0) && not some) ≡ ((0 == 0) && not (not (b == 0) || some)) = ap (λ n. (n == 0) && not some) (or_zero_l b) ∙ neither (b == 0) some in
+      ap (λ n. (bit_or n b == 0) && not some) none ∙ at ∙ sym (ap (λ n. (n == 0) && not (not (b == 0) || some)) none)
+  | inr one ↦
+      let left : (a == 0) ≡ false = ne_eqb a 0 one in
+      let both : (bit_or a b == 0) ≡ false = ne_eqb (bit_or a b) 0 (λ is. one (omega (arith, is, le_or_l a b))) in
+      rw (left, both) refl
+]
