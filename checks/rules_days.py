@@ -15,6 +15,8 @@ Where dateutil reads the RFC otherwise, no such rule is made for it, and the wal
 - BYSETPOS in the week of a start in its midst. dateutil counts from the start; by the RFC it is "the nth occurrence within the set", that of
   "one interval of the recurrence rule", so of the whole week.
 - BYWEEKNO=-52 and -53. dateutil leaves out the days before 1 January of a first week that is named from the end.
+- BYWEEKNO=52 and 53. Days from 1 January on that lie in the last week of the year before have its number, by ISO 8601, as 3.3.10 asks: 1 January 2011
+  is in week 52. dateutil counts that year's weeks by the length of the next one (`lnumweeks`), and has the day in week 53.
 
 The instances of the RFC's examples in crates/rules_rows are walked again too, but where dates stand beside the rule.
 
@@ -279,7 +281,9 @@ def given_days(chance, rule, alone):
     if kind == "weeks" and rule.frequency == YEARLY:
         rule.weeks = sorted({it * chance.choice((1, -1)) for it in some(chance, 1, 51, 4)})
         if alone:
-            rule.weeks = sorted({*rule.weeks[: chance.randint(0, 2)], *chance.sample((52, 53, -1, -52, -53), 2)})
+            rule.weeks = sorted({*rule.weeks[: chance.randint(0, 2)], *chance.sample((52, 53, -52, -53), 2)})
+        elif chance.random() < 0.2:
+            rule.weeks = sorted({*rule.weeks, -1})
         rule.weekdays = [(None, it) for it in some(chance, 0, 6, 3)]
 
 

@@ -12,7 +12,7 @@ use Rattle.chrono_datetime.proofs.IsoWeeks.{days_from_monday-of}
 use Rattle.chrono_datetime.proofs.MonthDays.{day_of-bounds, later_in_month, month-days}
 use Rattle.chrono_datetime.proofs.MonthOrder.{before_month, day_at-exists, days_in_order, earlier_month, month_of-range}
 use Rattle.chrono_datetime.proofs.Signed.{signed}
-use Rattle.chrono_rules.specs.Instances.{counts_in_month, days_behind, fills_day, fills_month, fills_weekday, filled, has, has_numbers, is_member, lacks_month_days, lacks_months, lacks_weekdays, names_weekday, on_month_day, on_weekday, passes, place_of}
+use Rattle.chrono_rules.specs.Instances.{counts_in_month, days_behind, fills_day, fills_month, fills_weekday, filled, has, has_numbers, is_member, lacks_month_days, lacks_months, lacks_weekdays, lacks_year_days, names_weekday, on_month_day, on_weekday, on_year_day, passes, place_of}
 use Rattle.chrono_rules.specs.declared.rule.Rule.{Rule}
 use Rattle.chrono_rules.proofs.Passed.{and-none, no_pass}
 
@@ -51,6 +51,11 @@ pub not_weekday : (r : Rule) (start d : ℤ) → lacks_weekdays r ≡ false → 
 unfolding passes
 not_weekday r start d named none =
     no_pass r start d (and-none (filled r start d) _ (and-none (lacks_months r || has r.months (month_of d)) _ (and-none (lacks_month_days r || on_month_day r d) _ (rw (named, none) refl))))
+
+pub not_year_day : (r : Rule) (start d : ℤ) → lacks_year_days r ≡ false → on_year_day r d ≡ false → is_member r start d ≡ false
+unfolding passes
+not_year_day r start d named none =
+    no_pass r start d (and-none (filled r start d) _ (and-none (lacks_months r || has r.months (month_of d)) _ (and-none (lacks_month_days r || on_month_day r d) _ (and-none (lacks_weekdays r || on_weekday r d) _ (rw (named, none) refl)))))
 
 pub not_start_weekday : (r : Rule) (start d : ℤ) → fills_weekday r.frequency r ≡ true → (days_from_monday (weekday_of d) == days_from_monday (weekday_of start)) ≡ false → is_member r start d ≡ false
 unfolding passes

@@ -221,6 +221,10 @@ impl Rule {
         if weekdays > 0 {
             return i64::from(weekdays);
         }
+        let year_days = self.passed_by_year_day(start, day);
+        if year_days > 0 {
+            return i64::from(year_days);
+        }
         self.passed_by_position(start, day)
     }
 

@@ -1,5 +1,5 @@
 -- So many months are passed over, the month is the one behind them, and from it on as many more as the gap has.
-use Rattle.std.proofs.Common.{◌≡◌, ◌+◌, ◌-◌, ◌≤◌, ◌<◌, ◌≤ℤ◌, ◌+ℤ◌, ℕ, ℤ, false, neg_ℤ, pos}
+use Rattle.std.proofs.Common.{◌≡◌, ◌-◌, ◌≤◌, ◌<◌, ◌≤ℤ◌, ◌+ℤ◌, ℕ, ℤ, false, neg_ℤ, pos}
 use Rattle.std.specs.Int.{IsInRange}
 use Rattle.chrono_datetime.specs.MonthMoves.{month_index, month_index_of, month_length_of}
 use Rattle.chrono_rules.specs.Instances.{is_member}
