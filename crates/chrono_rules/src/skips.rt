@@ -1,5 +1,5 @@
 //! What a search for a member passes over at once.
-ghost use Rattle.std.specs.Prelude.{◌≡◌, ◌≤◌, ◌<◌, ◌+◌, ◌-◌, ◌%◌, ◌==◌, ◌≤ℤ◌, ◌<ℤ◌, ◌+ℤ◌, ℤ, ℕ, neg_ℤ, pos, true, false, IsTrue, IfSome, IfNone};
+ghost use Rattle.std.specs.Prelude.{◌≡◌, ◌≤◌, ◌<◌, ◌+◌, ◌-◌, ◌%◌, ◌==◌, ◌≤ℤ◌, ◌<ℤ◌, ◌+ℤ◌, ℤ, ℕ, neg_ℤ, pos, true, false, IsFalse, IsTrue, IfSome, IfNone};
 ghost use Rattle.std.specs.Int.{IsInRange};
 ghost use Rattle.chrono_datetime.specs.Days.{IsDate, day_of, month_of};
 ghost use Rattle.chrono_datetime.specs.MonthMoves.{month_index, month_index_of, month_length_of};
@@ -76,6 +76,9 @@ impl Rule {
         ensures passed { (d : ℤ) (j : ℕ) → j < result → month_index_of d ≡ month_index_of day +ℤ pos j → is_member self.now start d ≡ false }
         ensures few { result ≤ 60 }
     {
+        if self.lacks_months() && !self.fills_month() {
+            return 0;
+        }
         let (mut year, mut month, _) = day.year_month_day();
         let mut gap = self.months_left_out(start, month);
         if gap == 0 {
@@ -157,12 +160,13 @@ impl Rule {
     {
         let place = day.day();
         let behind = u32::from(day.num_days_in_month()) - place;
-        let weekday = day.weekday().num_days_from_monday();
+        let mut weekday = day.weekday().num_days_from_monday();
         let mut days = behind + 1;
         let mut first = 0;
         while first < days.min(7) {
-            let one = self.days_to_one_weekday((weekday + first) % 7, first, place, behind);
+            let one = self.days_to_one_weekday(weekday, first, place, behind);
             days = one.min(days);
+            weekday = if weekday == 6 { 0 } else { weekday + 1 };
             first += 1;
         }
         days
@@ -178,7 +182,7 @@ impl Rule {
         ensures passed { (j : ℕ) → j < result → j ≤ behind → j % 7 ≡ first → names_weekday self.now weekday (place + j) (behind - j) ≡ false }
         ensures few { result ≤ behind + 1 }
     {
-        if first > behind {
+        if first > behind || !self.has_weekday(weekday) {
             return behind + 1;
         }
         if self.weekdays.every.contains(weekday) {
@@ -191,6 +195,17 @@ impl Rule {
         let front = gap_up(self.weekdays.front[day], 1 + (place + first - 1) / 7);
         let back = gap_down(self.weekdays.back[day], 1 + (behind - first) / 7);
         (first + 7 * front.min(back)).min(behind + 1)
+    }
+
+    // Whether BYDAY names days of the weekday at all.
+    #[inline]
+    fn has_weekday(&self, weekday: u32) -> bool
+        requires { weekday < 7 }
+        ensures { IsFalse result → (place : ℕ) (behind : ℕ) → names_weekday self.now weekday place behind ≡ false }
+    {
+        self.weekdays.every.contains(weekday)
+            || (self.weekdays.front[weekday as usize] != 0
+                || self.weekdays.back[weekday as usize] != 0)
     }
 
     // How many days from this one on one of the rule's parts passes over, 0 if none does.
