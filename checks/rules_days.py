@@ -11,10 +11,12 @@ Where dateutil reads the RFC otherwise, no such rule is made for it, and the wal
 
 - BYDAY with numbered and plain weekdays in one list. dateutil asks for both; the RFC lists "days of the week", and any of a list will do.
 - BYWEEKNO with neither BYDAY nor days. dateutil gives all days of the week; by the RFC "information, not contained in the rule" is "derived
-  from the DTSTART", so it is the start's weekday.
+  from the Start Time (DTSTART)", so it is the start's weekday.
 - BYSETPOS in the week of a start in its midst. dateutil counts from the start; by the RFC it is "the nth occurrence within the set", that of
   "one interval of the recurrence rule", so of the whole week.
 - BYWEEKNO=-52 and -53. dateutil leaves out the days before 1 January of a first week that is named from the end.
+- BYWEEKNO=52 and 53. Days from 1 January on that lie in the last week of the year before have its number, by ISO 8601, as 3.3.10 asks: 1 January 2011
+  is in week 52. dateutil counts that year's weeks by the length of the next one (`lnumweeks`), and has the day in week 53.
 
 The instances of the RFC's examples in crates/rules_rows are walked again too, but where dates stand beside the rule.
 
@@ -263,8 +265,8 @@ def signed(chance, most, count):
     return sorted({it * chance.choice((1, 1, -1)) for it in some(chance, 1, most, count)})
 
 
-def given_days(chance, rule):
-    """Parts that name days, of those that the frequency allows."""
+def given_days(chance, rule, alone):
+    """Parts that name days, of those that the frequency allows; with those too that dateutil reads otherwise, where the walk answers alone."""
     kind = chance.choice(("weekdays", "numbered", "month_days", "both", "year_days", "weeks", "none"))
     if kind in ("weekdays", "both") or kind == "numbered" and rule.frequency in (DAILY, WEEKLY):
         rule.weekdays = [(None, it) for it in some(chance, 0, 6, 4)]
@@ -275,22 +277,33 @@ def given_days(chance, rule):
     if kind in ("month_days", "both") and rule.frequency != WEEKLY:
         rule.month_days = signed(chance, 31, 6)
     if kind == "year_days" and rule.frequency == YEARLY:
-        rule.year_days = sorted(chance.sample([*range(1, 128), *range(192, 256)], 5))
+        rule.year_days = sorted({*signed(chance, 366, 4), *chance.choice(((), (366,), (-366,), (1, -1), (59, 60, 61)))})
     if kind == "weeks" and rule.frequency == YEARLY:
         rule.weeks = sorted({it * chance.choice((1, -1)) for it in some(chance, 1, 51, 4)})
+        if alone:
+            rule.weeks = sorted({*rule.weeks[: chance.randint(0, 2)], *chance.sample((52, 53, -52, -53), 2)})
+        elif chance.random() < 0.2:
+            rule.weeks = sorted({*rule.weeks, -1})
         rule.weekdays = [(None, it) for it in some(chance, 0, 6, 3)]
 
 
-def at_random(chance):
+def given_positions(chance, rule):
+    """Positions, among the days that the other parts pass; of a day alone its first or its last at least, so that some come."""
+    rule.positions = signed(chance, 4, 2)
+    if rule.frequency == DAILY:
+        rule.positions = sorted({*rule.positions, chance.choice((1, -1))})
+
+
+def at_random(chance, alone=False):
     """A rule and a start."""
     start = Date.fromordinal(chance.randrange(Date(1990, 1, 1).toordinal(), Date(2040, 1, 1).toordinal()))
     start = chance.choice((start, Date(start.year, 12, 31), Date(2024, 2, 29), Date(start.year, 1, 30)))
-    rule = Rule(chance.randint(DAILY, YEARLY), interval=chance.choice((1, 1, 2, 3, 5)), week_start=chance.choice((0, 0, 6, 3)))
+    rule = Rule(chance.randint(DAILY, YEARLY), interval=chance.choice((1, 1, 1, 2, 3, 5, 6, 11, 20, 45)), week_start=chance.choice((0, 0, 6, 3)))
     if chance.random() < 0.3:
         rule.months = some(chance, 1, 12, 4)
-    given_days(chance, rule)
-    if (rule.weekdays or rule.month_days) and rule.frequency != DAILY and chance.random() < 0.3:
-        rule.positions = signed(chance, 4, 2)
+    given_days(chance, rule, alone)
+    if (rule.months or rule.weekdays or rule.month_days or rule.year_days) and chance.random() < 0.3:
+        given_positions(chance, rule)
         if rule.frequency == WEEKLY:
             start = Date.fromordinal(week_first(start, rule.week_start))
     rule.until = start + datetime.timedelta(chance.choice((400, 4000, 15000)))
@@ -370,18 +383,18 @@ def main():
     chance = random.Random(options.seed)
     rows = []
     walks = random.Random(options.seed)
-    for rule, start in [*of_walk(), *(at_random(walks) for _ in range(options.walks))]:
+    for rule, start in [*of_walk(), *(at_random(walks, alone=True) for _ in range(options.walks))]:
         end = start.replace(year=start.year + 400, day=1)
         rule.until = None if rule.count else end - datetime.timedelta(1)
         rows.append(rule.row(start, walked(rule, start, end), True))
     results = [examples(), asked("400 years, day by day", rows)]
     near = []
     for _ in range(options.rules // 10):
-        rule, start = at_random(chance)
+        rule, start = at_random(chance, alone=True)
         rule.until = min(rule.until, start + datetime.timedelta(4000))
         near.append(cut(chance, rule, start, walked(rule, start, rule.until + datetime.timedelta(40))))
     results.append(asked("random rules, day by day", near))
-    made = (at_random(chance)[0] for _ in range(20 * options.rules))
+    made = (at_random(chance, alone=True)[0] for _ in range(20 * options.rules))
     results.append(asked("texts that are written, and read back", [row for rule in made for row in texts(rule)]))
     if rrule:
         made = [at_random(chance) for _ in range(options.rules)]

@@ -1,5 +1,5 @@
 -- The places of a period's passing days, of which BYSETPOS names some.
-use Rattle.std.proofs.Common.{◌≡◌, ◌==◌, ℕ, zero, suc, ◌+◌, ◌-◌, ◌/◌, ◌%◌, ◌≤◌, Bool, true, false, cond, not, ◌||◌, List, [], ◌∷◌, length, refl, sym, subst, ap, ◌∙◌, arith, ℤ, pos, ◌+ℤ◌, ◌-ℤ◌, ◌≤ℤ◌, ◌<ℤ◌, int_le, unsigned_abs}
+use Rattle.std.proofs.Common.{◌≡◌, ◌==◌, ℕ, zero, suc, ◌+◌, ◌-◌, ◌/◌, ◌%◌, ◌<◌, ◌≤◌, Bool, true, false, cond, not, ◌||◌, List, [], ◌∷◌, length, refl, sym, subst, ap, ◌∙◌, arith, ℤ, pos, ◌+ℤ◌, ◌-ℤ◌, ◌≤ℤ◌, ◌<ℤ◌, int_le, unsigned_abs}
 use Rattle.std.specs.Prelude.{slice_index_or}
 use Rattle.std.specs.Int.{bit_at}
 use Rattle.std.proofs.lemmas.Bool.{false≢true}
@@ -18,7 +18,7 @@ use Rattle.chrono_datetime.proofs.MonthDays.{day_of-bounds, later_in_month}
 use Rattle.chrono_datetime.proofs.NamedDates.{IsCalendarName-ordinal, calendar_name-exists, number-calendar_name, number-ordinal_name}
 use Rattle.chrono_datetime.proofs.Signed.{signed}
 use Rattle.chrono_datetime.proofs.WeekDays.{week_first_of-only, week_first_of-place}
-use Rattle.chrono_rules.specs.Instances.{are_zero, date_passes, has_place, in_interval, in_positions, is_member, lacks_positions, not_after, passes, period_end, period_first}
+use Rattle.chrono_rules.specs.Instances.{are_zero, date_passes, has_place, in_interval, in_positions, is_member, lacks_positions, not_after, on_year_day, passes, period_end, period_first}
 use Rattle.chrono_rules.specs.declared.places.PlaceSet.{PlaceSet}
 use Rattle.chrono_rules.specs.declared.rule.Frequency.{Frequency}
 use Rattle.chrono_rules.specs.declared.rule.Frequency.TheVariants.{Daily, Monthly, Weekly, Yearly}
@@ -185,3 +185,40 @@ pub off_day : (r : Rule) (start day e : ℤ) (before left passed : ℕ) (b : Boo
 off_day r start day e before left passed false out date named le first end before-is left-is passed-is none = no_pass r start e out
 off_day r start day e before left passed true is date named le first end before-is left-is passed-is none =
     off_position r start day e before left passed named le first end before-is left-is passed-is (date_passes-is r start e date ∙ is) (none is)
+
+-- ---- places in one word of a set
+
+pub off_word_up : (s : PlaceSet) (from j : ℕ) → j < 64 - from % 64 → bit_at (slice_index_or s.words (from / 64) 0) (from % 64 + j) ≡ 0 → has_place s (from + j) ≡ false
+unfolding has_place
+off_word_up s from j lt none =
+    let word : (from + j) / 64 ≡ from / 64 = omega (arith, lt) in
+    let place : (from + j) % 64 ≡ from % 64 + j = omega (arith, lt) in
+    let bit : bit_at (slice_index_or s.words ((from + j) / 64) 0) ((from + j) % 64) ≡ 0 = ap (λ w. bit_at (slice_index_or s.words w 0) ((from + j) % 64)) word ∙ ap (bit_at (slice_index_or s.words (from / 64) 0)) place ∙ none in
+    rw bit refl
+
+pub off_word_down : (s : PlaceSet) (from j : ℕ) → j ≤ from % 64 → bit_at (slice_index_or s.words (from / 64) 0) (from % 64 - j) ≡ 0 → has_place s (from - j) ≡ false
+unfolding has_place
+off_word_down s from j le none =
+    let word : (from - j) / 64 ≡ from / 64 = omega (arith, le) in
+    let place : (from - j) % 64 ≡ from % 64 - j = omega (arith, le) in
+    let bit : bit_at (slice_index_or s.words ((from - j) / 64) 0) ((from - j) % 64) ≡ 0 = ap (λ w. bit_at (slice_index_or s.words w 0) ((from - j) % 64)) word ∙ ap (bit_at (slice_index_or s.words (from / 64) 0)) place ∙ none in
+    rw bit refl
+
+-- a day of the same month that BYYEARDAY does not name, from either end of the year
+pub off_year_day : (r : Rule) (n d : ℤ) (k back : ℕ) → n ≤ℤ d → d <ℤ (n +ℤ pos k) → k ≤ month_length_of n - day_of n + 1 → back ≡ year_length (year_of n) - ordinal_of n + 1
+    → ((j : ℕ) → j < k → has_place r.year_days (ordinal_of n + j) ≡ false) → ((j : ℕ) → j < k → has_place r.year_days_from_end (back - j) ≡ false) → on_year_day r d ≡ false
+unfolding on_year_day
+off_year_day r n d k back low high few back-is front end =
+    let j = unsigned_abs (d -ℤ n) in
+    let rest = pos (month_length_of n - day_of n) +ℤ pos 1 in
+    let within : d <ℤ (n +ℤ rest) = omega (arith, signed, high, few) in
+    let first = same_year_first n d rest refl low within in
+    let last = same_year_end n d rest refl low within in
+    let here = ordinal_of-bounds n in
+    let there = ordinal_of-bounds d in
+    let lt : j < k = omega (arith, signed, low, high) in
+    let place : ordinal_of d ≡ ordinal_of n + j = omega (arith, signed, low, first) in
+    let behind : year_length (year_of d) - ordinal_of d + 1 ≡ back - j = omega (arith, signed, low, first, last, here, there, back-is) in
+    let a : has_place r.year_days (ordinal_of d) ≡ false = ap (has_place r.year_days) place ∙ front j lt in
+    let b : has_place r.year_days_from_end (year_length (year_of d) - ordinal_of d + 1) ≡ false = ap (has_place r.year_days_from_end) behind ∙ end j lt in
+    rw (a, b) refl

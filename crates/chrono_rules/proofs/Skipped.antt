@@ -1,20 +1,24 @@
 -- What the parts of a rule pass over.
-use Rattle.std.proofs.Common.{◌≡◌, ◌==◌, ℕ, ◌+◌, ◌-◌, ◌%◌, ◌<◌, ◌≤◌, true, false, cond, min, ◌&&◌, ◌||◌, not, inl, inr, refl, ap, ◌∙◌, arith, ℤ, pos, ◌+ℤ◌, ◌-ℤ◌, ◌≤ℤ◌, ◌<ℤ◌, unsigned_abs}
-use Rattle.std.proofs.lemmas.Int.{by_lt_z}
+use Rattle.std.proofs.Common.{◌≡◌, ◌==◌, ℕ, ◌+◌, ◌-◌, ◌%◌, ◌/◌, ◌<◌, ◌≤◌, Bool, slice_index_or, true, false, cond, min, sym, neg_ℤ, to_z, of_z, w32, ◌&&◌, ◌||◌, not, inl, inr, refl, ap, ◌∙◌, arith, ℤ, pos, ◌+ℤ◌, ◌-ℤ◌, ◌≤ℤ◌, ◌<ℤ◌, unsigned_abs}
+use Rattle.std.proofs.lemmas.Int.{by_lt_z, to_z-of_z}
 use Rattle.std.proofs.lemmas.Bool.{cases_lt, ne_eqb}
 use Rattle.std.specs.Int.{IsInRange, bit_at}
 use Rattle.chrono_datetime.specs.Days.{day_of, month_of, ordinal_of, year_of}
-use Rattle.chrono_datetime.specs.MonthMoves.{InSameMonth, month_index_of, month_last_of, month_length_of}
+use Rattle.chrono_datetime.specs.MonthMoves.{InSameMonth, month_index, month_index_of, month_last_of, month_length_of}
 use Rattle.chrono_datetime.specs.Weekday.{days_from_monday, days_since}
 use Rattle.chrono_datetime.specs.Weeks.{weekday_of}
-use Rattle.chrono_datetime.specs.Years.{year_length}
+use Rattle.chrono_datetime.specs.Years.{month_length, year_length}
 use Rattle.chrono_datetime.proofs.IsoWeeks.{days_from_monday-of}
 use Rattle.chrono_datetime.proofs.MonthDays.{day_of-bounds, later_in_month, month-days}
 use Rattle.chrono_datetime.proofs.MonthOrder.{before_month, day_at-exists, days_in_order, earlier_month, month_of-range}
 use Rattle.chrono_datetime.proofs.Signed.{signed}
-use Rattle.chrono_rules.specs.Instances.{counts_in_month, days_behind, fills_day, fills_month, fills_weekday, filled, has, is_member, lacks_month_days, lacks_months, lacks_weekdays, names_weekday, on_month_day, on_weekday, passes, place_of}
+use Rattle.chrono_rules.specs.Instances.{counts_in_month, days_behind, fills_day, fills_month, fills_weekday, filled, has, has_numbers, is_member, lacks_month_days, lacks_months, lacks_weekdays, lacks_year_days, names_weekday, on_month_day, on_weekday, on_year_day, passes, place_of}
 use Rattle.chrono_rules.specs.declared.rule.Rule.{Rule}
 use Rattle.chrono_rules.proofs.Passed.{and-none, no_pass}
+
+numbers_none : (b : Bool) → (b && false) ≡ false
+numbers_none true = refl
+numbers_none false = refl
 
 -- ---- a part that a day does not pass
 
@@ -48,6 +52,11 @@ unfolding passes
 not_weekday r start d named none =
     no_pass r start d (and-none (filled r start d) _ (and-none (lacks_months r || has r.months (month_of d)) _ (and-none (lacks_month_days r || on_month_day r d) _ (rw (named, none) refl))))
 
+pub not_year_day : (r : Rule) (start d : ℤ) → lacks_year_days r ≡ false → on_year_day r d ≡ false → is_member r start d ≡ false
+unfolding passes
+not_year_day r start d named none =
+    no_pass r start d (and-none (filled r start d) _ (and-none (lacks_months r || has r.months (month_of d)) _ (and-none (lacks_month_days r || on_month_day r d) _ (and-none (lacks_weekdays r || on_weekday r d) _ (rw (named, none) refl)))))
+
 pub not_start_weekday : (r : Rule) (start d : ℤ) → fills_weekday r.frequency r ≡ true → (days_from_monday (weekday_of d) == days_from_monday (weekday_of start)) ≡ false → is_member r start d ≡ false
 unfolding passes
 not_start_weekday r start d fills other =
@@ -76,11 +85,44 @@ before_month_first d e lt first = elim (days_in_order d e (month_index_of d) (mo
       absurd (omega (arith, signed, lt, a.number, b.number, a.first, first, starts)))
 ]
 
--- a month so many months on in the cycle of twelve
-pub month_on : (n d : ℤ) (k : ℕ) → n ≤ℤ d → month_index_of d <ℤ (month_index_of n +ℤ pos k) → k ≤ 12 → let j = unsigned_abs (month_index_of d -ℤ month_index_of n) in (j < k) × (month_of d ≡ 1 + (month_of n - 1 + j) % 12)
-month_on n d k low high few =
+-- a month so many months on
+pub month_later : (n d : ℤ) (k : ℕ) → n ≤ℤ d → month_index_of d <ℤ (month_index_of n +ℤ pos k) → let j = unsigned_abs (month_index_of d -ℤ month_index_of n) in (j < k) × (month_index_of d ≡ month_index_of n +ℤ pos j)
+month_later n d k low high =
     let index = later_index n d low in
-    (omega (arith, signed, index, high), omega (arith, signed, index, high, few, month_of-range n, month_of-range d))
+    (omega (arith, signed, index, high), omega (arith, signed, index))
+
+-- its year and month, and its place in the cycle of twelve
+pub named_month : (d y : ℤ) (m : ℕ) → IsInRange 1 12 m → month_index_of d ≡ month_index y m → (year_of d ≡ y) × (month_of d ≡ m)
+named_month d y m named at =
+    let range = month_of-range d in
+    (omega (arith, signed, at, named, range), omega (arith, signed, at, named, range))
+
+pub month_on : (d y : ℤ) (m j : ℕ) → IsInRange 1 12 m → month_index_of d ≡ month_index y m +ℤ pos j → month_of d ≡ 1 + (m - 1 + j) % 12
+month_on d y m j named at = omega (arith, signed, at, named, month_of-range d)
+
+pub named_length : (d y : ℤ) (m : ℕ) → IsInRange 1 12 m → month_index_of d ≡ month_index y m → month_length_of d ≡ month_length y m
+named_length d y m named at =
+    let it = named_month d y m named at in
+    ap (λ y. month_length y (month_of d)) it.0 ∙ ap (month_length y) it.1
+
+-- a year near the calendar's fits its word
+pub year_fits : (y : ℤ) → neg_ℤ (pos 300_000) ≤ℤ y → y ≤ℤ pos 300_000 → to_z w32 (of_z w32 y) ≡ y
+year_fits y low high = to_z-of_z w32 y (omega (arith, signed, low, high))
+
+-- the length of the month so many months on from a month, which is none
+pub length_here : (d y z : ℤ) (m j : ℕ) → z ≡ y → IsInRange 1 12 m → j < 1 → month_index_of d ≡ month_index y m +ℤ pos j → month_length_of d ≡ month_length z m
+length_here d y z m j same named lt at =
+    named_length d y m named (omega (arith, signed, lt, at)) ∙ ap (λ y. month_length y m) (sym same)
+
+-- months in a row behind those so far
+pub months_on : (r : Rule) (start day d y : ℤ) (m months gap j : ℕ) → month_index y m ≡ month_index_of day +ℤ pos months
+    → ((d : ℤ) (j : ℕ) → j < months → month_index_of d ≡ month_index_of day +ℤ pos j → is_member r start d ≡ false)
+    → ((d : ℤ) (j : ℕ) → j < gap → month_index_of d ≡ month_index y m +ℤ pos j → is_member r start d ≡ false)
+    → j < months + gap → month_index_of d ≡ month_index_of day +ℤ pos j → is_member r start d ≡ false
+months_on r start day d y m months gap j here before ahead lt at = elim (cases_lt j months) [
+  | inl less ↦ before d j less at
+  | inr more ↦ ahead d (j - months) (omega (arith, lt, more)) (omega (arith, signed, at, here, more))
+]
 
 -- ---- days of one month
 
@@ -108,11 +150,30 @@ named_later r n d j w p b counts low at last week-is place-is behind-is none =
     ∙ (ap (λ p. names_weekday r w p (days_behind r d)) place
     ∙ (ap (λ b. names_weekday r w p b) behind ∙ none))
 
+-- a weekday of which neither each day is named nor the one by its numbers
+pub not_named : (r : Rule) (w p b front back : ℕ) → has r.weekdays.every w ≡ false → bit_at (slice_index_or r.weekdays.front w 0) front ≡ 0 → bit_at (slice_index_or r.weekdays.back w 0) back ≡ 0
+    → 1 + (p - 1) / 7 ≡ front → 1 + b / 7 ≡ back → names_weekday r w p b ≡ false
+not_named r w p b front back every at-front at-back front-is back-is =
+    let f : bit_at (slice_index_or r.weekdays.front w 0) (1 + (p - 1) / 7) ≡ 0 = ap (bit_at (slice_index_or r.weekdays.front w 0)) front-is ∙ at-front in
+    let e : bit_at (slice_index_or r.weekdays.back w 0) (1 + b / 7) ≡ 0 = ap (bit_at (slice_index_or r.weekdays.back w 0)) back-is ∙ at-back in
+    rw (every, f, e) (numbers_none (has_numbers r.frequency))
+
 pub off_month_day : (r : Rule) (d : ℤ) (j place back : ℕ) → bit_at r.month_days.digits (place + j) ≡ 0 → bit_at r.month_days_from_end.digits (back - j) ≡ 0 → day_of d ≡ place + j → month_length_of d - day_of d + 1 ≡ back - j → on_month_day r d ≡ false
 unfolding on_month_day has
 off_month_day r d j place back front end at behind =
     let a : bit_at r.month_days.digits (day_of d) ≡ 0 = ap (bit_at r.month_days.digits) at ∙ front in
     let b : bit_at r.month_days_from_end.digits (month_length_of d - day_of d + 1) ≡ 0 = ap (bit_at r.month_days_from_end.digits) behind ∙ end in
+    rw (a, b) refl
+
+-- a month of fewer days than each that is named holds none
+pub off_short_month : (r : Rule) (d : ℤ) → ((j : ℕ) → j < month_length_of d → bit_at r.month_days.digits (1 + j) ≡ 0) → ((j : ℕ) → j < month_length_of d → bit_at r.month_days_from_end.digits (1 + j) ≡ 0) → on_month_day r d ≡ false
+unfolding on_month_day has
+off_short_month r d front back =
+    let at = day_of-bounds d in
+    let place : day_of d ≡ 1 + (day_of d - 1) = omega (arith, at) in
+    let behind : month_length_of d - day_of d + 1 ≡ 1 + (month_length_of d - day_of d) = omega arith in
+    let a : bit_at r.month_days.digits (day_of d) ≡ 0 = ap (bit_at r.month_days.digits) place ∙ front (day_of d - 1) (omega (arith, at)) in
+    let b : bit_at r.month_days_from_end.digits (month_length_of d - day_of d + 1) ≡ 0 = ap (bit_at r.month_days_from_end.digits) behind ∙ back (month_length_of d - day_of d) (omega (arith, at)) in
     rw (a, b) refl
 
 -- ---- tests that differ

@@ -1,5 +1,5 @@
 -- Texts in pieces, and numbers from the left.
-use Rattle.std.specs.Prelude.{◌≡◌, ℕ, ◌+◌, ◌-◌, ◌*◌, ◌==◌, nat_le, ◌&&◌, Bool, true, false, List, [], ◌∷◌, length, if◌then◌else◌, Option, Some, None, codes, refl}
+use Rattle.std.specs.Prelude.{◌≡◌, ℕ, ◌+◌, ◌-◌, ◌*◌, ◌^◌, ◌==◌, nat_le, ◌&&◌, Bool, true, false, List, [], ◌∷◌, length, if◌then◌else◌, Option, Some, None, codes, refl}
 use Rattle.std.specs.Option.{option_and_then}
 use Rattle.std.specs.Str.{byte}
 
@@ -39,7 +39,7 @@ up_to most n = if nat_le n most then Some n else None
 
 -- the number that one digit or more write, if it is below 2^32
 unfoldable pub count_of : List ℕ → Option ℕ
-count_of text = if nat_le 1 (length text) then option_and_then (up_to 4_294_967_295) (with_digits 0 text) else None
+count_of text = if nat_le 1 (length text) then option_and_then (up_to (2 ^ 32 - 1)) (with_digits 0 text) else None
 
 -- known values
 pieces-two : pieces (byte ",") (codes "MO,TU") ≡ codes "MO" ∷ codes "TU" ∷ []

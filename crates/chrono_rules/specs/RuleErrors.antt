@@ -217,6 +217,105 @@ part_fault-until : part_fault (codes "FREQ=DAILY;COUNT=3;UNTIL=19971224") Until 
 unfolding part_fault
 part_fault-until = refl
 
+-- each part by its name, and why its value is not its own
+part_fault-freq_part : part_fault (codes "FREQ=HOURLY") Freq ≡ NotAFrequency
+unfolding part_fault part_name value_fault number_fault reads_item item_fault place_fault place_of weekday_fault with_weekday_text with_weekday weekday_of_letters number_of digits_of
+part_fault-freq_part = refl
+
+part_fault-interval_part : part_fault (codes "INTERVAL=-1") Interval ≡ NotANumber
+unfolding part_fault part_name value_fault number_fault reads_item item_fault place_fault place_of weekday_fault with_weekday_text with_weekday weekday_of_letters number_of digits_of
+part_fault-interval_part = refl
+
+part_fault-count_part : part_fault (codes "COUNT=4294967296") Count ≡ OutOfRange
+unfolding part_fault part_name value_fault number_fault reads_item item_fault place_fault place_of weekday_fault with_weekday_text with_weekday weekday_of_letters number_of digits_of
+part_fault-count_part = refl
+
+part_fault-until_part : part_fault (codes "UNTIL=1997") Until ≡ NotADate
+unfolding part_fault part_name value_fault number_fault reads_item item_fault place_fault place_of weekday_fault with_weekday_text with_weekday weekday_of_letters number_of digits_of
+part_fault-until_part = refl
+
+part_fault-by_month_part : part_fault (codes "BYMONTH=12,13") ByMonth ≡ OutOfRange
+unfolding part_fault part_name value_fault number_fault reads_item item_fault place_fault place_of weekday_fault with_weekday_text with_weekday weekday_of_letters number_of digits_of
+part_fault-by_month_part = refl
+
+part_fault-by_month_day_part : part_fault (codes "BYMONTHDAY=-31,-32") ByMonthDay ≡ OutOfRange
+unfolding part_fault part_name value_fault number_fault reads_item item_fault place_fault place_of weekday_fault with_weekday_text with_weekday weekday_of_letters number_of digits_of
+part_fault-by_month_day_part = refl
+
+part_fault-by_day_part : part_fault (codes "BYDAY=MO,XX") ByDay ≡ NotAWeekday
+unfolding part_fault part_name value_fault number_fault reads_item item_fault place_fault place_of weekday_fault with_weekday_text with_weekday weekday_of_letters number_of digits_of
+part_fault-by_day_part = refl
+
+part_fault-by_year_day_part : part_fault (codes "BYYEARDAY=-366,x") ByYearDay ≡ NotANumber
+unfolding part_fault part_name value_fault number_fault reads_item item_fault place_fault place_of weekday_fault with_weekday_text with_weekday weekday_of_letters number_of digits_of
+part_fault-by_year_day_part = refl
+
+part_fault-by_week_no_part : part_fault (codes "BYWEEKNO=53,54") ByWeekNo ≡ OutOfRange
+unfolding part_fault part_name value_fault number_fault reads_item item_fault place_fault place_of weekday_fault with_weekday_text with_weekday weekday_of_letters number_of digits_of
+part_fault-by_week_no_part = refl
+
+part_fault-by_set_pos_part : part_fault (codes "BYSETPOS=366,0") BySetPos ≡ OutOfRange
+unfolding part_fault part_name value_fault number_fault reads_item item_fault place_fault place_of weekday_fault with_weekday_text with_weekday weekday_of_letters number_of digits_of
+part_fault-by_set_pos_part = refl
+
+part_fault-wkst_part : part_fault (codes "WKST=1MO") Wkst ≡ NotAWeekday
+unfolding part_fault part_name value_fault number_fault reads_item item_fault place_fault place_of weekday_fault with_weekday_text with_weekday weekday_of_letters number_of digits_of
+part_fault-wkst_part = refl
+
+-- nothing where a word should stand
+value_fault-no_freq : value_fault Freq [] ≡ Empty
+unfolding value_fault
+value_fault-no_freq = refl
+
+value_fault-no_until : value_fault Until [] ≡ Empty
+unfolding value_fault
+value_fault-no_until = refl
+
+value_fault-no_wkst : value_fault Wkst [] ≡ Empty
+unfolding value_fault
+value_fault-no_wkst = refl
+
+-- the greatest number of each list is read, and the one behind it is not
+value_fault-last_by_month : value_fault ByMonth (codes "12,x") ≡ NotANumber
+unfolding value_fault reads_item item_fault number_fault place_fault place_of number_of digits_of
+value_fault-last_by_month = refl
+
+value_fault-past_by_month : value_fault ByMonth (codes "13,x") ≡ OutOfRange
+unfolding value_fault reads_item item_fault number_fault place_fault place_of number_of digits_of
+value_fault-past_by_month = refl
+
+value_fault-last_by_month_day : value_fault ByMonthDay (codes "31,x") ≡ NotANumber
+unfolding value_fault reads_item item_fault number_fault place_fault place_of number_of digits_of
+value_fault-last_by_month_day = refl
+
+value_fault-past_by_month_day : value_fault ByMonthDay (codes "32,x") ≡ OutOfRange
+unfolding value_fault reads_item item_fault number_fault place_fault place_of number_of digits_of
+value_fault-past_by_month_day = refl
+
+value_fault-last_by_year_day : value_fault ByYearDay (codes "366,x") ≡ NotANumber
+unfolding value_fault reads_item item_fault number_fault place_fault place_of number_of digits_of
+value_fault-last_by_year_day = refl
+
+value_fault-past_by_year_day : value_fault ByYearDay (codes "367,x") ≡ OutOfRange
+unfolding value_fault reads_item item_fault number_fault place_fault place_of number_of digits_of
+value_fault-past_by_year_day = refl
+
+value_fault-last_by_week_no : value_fault ByWeekNo (codes "-53,x") ≡ NotANumber
+unfolding value_fault reads_item item_fault number_fault place_fault place_of number_of digits_of
+value_fault-last_by_week_no = refl
+
+value_fault-past_by_week_no : value_fault ByWeekNo (codes "-54,x") ≡ OutOfRange
+unfolding value_fault reads_item item_fault number_fault place_fault place_of number_of digits_of
+value_fault-past_by_week_no = refl
+
+value_fault-last_by_set_pos : value_fault BySetPos (codes "-366,x") ≡ NotANumber
+unfolding value_fault reads_item item_fault number_fault place_fault place_of number_of digits_of
+value_fault-last_by_set_pos = refl
+
+value_fault-past_by_set_pos : value_fault BySetPos (codes "-367,x") ≡ OutOfRange
+unfolding value_fault reads_item item_fault number_fault place_fault place_of number_of digits_of
+value_fault-past_by_set_pos = refl
+
 -- a list by the first item that cannot be read: past its last number, without a digit, with nothing, and no weekday
 list_fault-past : value_fault ByMonthDay (codes "1,32,x") ≡ OutOfRange
 unfolding value_fault reads_item item_fault place_fault place_of number_of digits_of
@@ -238,6 +337,27 @@ list_fault-numbered : value_fault ByDay (codes "54MO") ≡ OutOfRange
 unfolding value_fault reads_item item_fault weekday_fault with_weekday_text with_weekday weekday_of_letters place_fault place_of number_of digits_of
 list_fault-numbered = refl
 
+-- days of the year and weeks in a rule by months, numbers in one by days and beside weeks, and positions alone
+unfit_error-year_day : unfit_error (record (plain Monthly) { year_days = record { words = 2 ∷ 0 ∷ 0 ∷ 0 ∷ 0 ∷ 0 ∷ [] } }) ≡ record { part = Some ByYearDay; fault = NotWith Monthly }
+unfolding unfit_error has_month_days has_year_parts
+unfit_error-year_day = refl
+
+unfit_error-week : unfit_error (record (plain Monthly) { weeks = record { digits = 2 } }) ≡ record { part = Some ByWeekNo; fault = NotWith Monthly }
+unfolding unfit_error has_month_days has_year_parts
+unfit_error-week = refl
+
+unfit_error-number : unfit_error (record (plain Daily) { weekdays = record { every = no_numbers; front = 2 ∷ 0 ∷ 0 ∷ 0 ∷ 0 ∷ 0 ∷ 0 ∷ []; back = no_weekdays.back } }) ≡ record { part = Some ByDay; fault = NumbersNotWith Daily }
+unfolding unfit_error has_month_days has_year_parts has_numbers
+unfit_error-number = refl
+
+unfit_error-number_of_weeks : unfit_error (record (plain Yearly) { weekdays = record { every = no_numbers; front = 2 ∷ 0 ∷ 0 ∷ 0 ∷ 0 ∷ 0 ∷ 0 ∷ []; back = no_weekdays.back }; weeks = record { digits = 2 } }) ≡ record { part = Some ByDay; fault = NumbersBesideWeeks }
+unfolding unfit_error has_month_days has_year_parts has_numbers
+unfit_error-number_of_weeks = refl
+
+unfit_error-position : unfit_error (record (plain Yearly) { positions = record { words = 2 ∷ 0 ∷ 0 ∷ 0 ∷ 0 ∷ 0 ∷ [] } }) ≡ record { part = Some BySetPos; fault = Alone }
+unfolding unfit_error has_month_days has_year_parts has_numbers
+unfit_error-position = refl
+
 -- days of the month in a rule by weeks
 unfit_error-month_day : unfit_error (record (plain Weekly) { month_days = record { digits = 8_192 } }) ≡ record { part = Some ByMonthDay; fault = NotWith Weekly }
 unfolding unfit_error has_month_days
@@ -247,6 +367,46 @@ unfit_error-month_day = refl
 error_text-with : error_text (record { part = Some ByMonthDay; fault = NotWith Weekly }) ≡ codes "BYMONTHDAY: does not go with WEEKLY"
 unfolding error_text fault_words fault_frequency part_name frequency_text
 error_text-with = refl
+
+error_text-freq : error_text (record { part = Some Freq; fault = Missing }) ≡ codes "FREQ: missing"
+unfolding error_text fault_words fault_frequency part_name frequency_text
+error_text-freq = refl
+
+error_text-interval : error_text (record { part = Some Interval; fault = OutOfRange }) ≡ codes "INTERVAL: number out of range"
+unfolding error_text fault_words fault_frequency part_name frequency_text
+error_text-interval = refl
+
+error_text-count : error_text (record { part = Some Count; fault = NotANumber }) ≡ codes "COUNT: not a number"
+unfolding error_text fault_words fault_frequency part_name frequency_text
+error_text-count = refl
+
+error_text-until : error_text (record { part = Some Until; fault = BesideCount }) ≡ codes "UNTIL: does not go with COUNT"
+unfolding error_text fault_words fault_frequency part_name frequency_text
+error_text-until = refl
+
+error_text-by_month : error_text (record { part = Some ByMonth; fault = Empty }) ≡ codes "BYMONTH: empty"
+unfolding error_text fault_words fault_frequency part_name frequency_text
+error_text-by_month = refl
+
+error_text-by_day : error_text (record { part = Some ByDay; fault = NumbersBesideWeeks }) ≡ codes "BYDAY: number does not go with BYWEEKNO"
+unfolding error_text fault_words fault_frequency part_name frequency_text
+error_text-by_day = refl
+
+error_text-by_year_day : error_text (record { part = Some ByYearDay; fault = NotWith Monthly }) ≡ codes "BYYEARDAY: does not go with MONTHLY"
+unfolding error_text fault_words fault_frequency part_name frequency_text
+error_text-by_year_day = refl
+
+error_text-by_week_no : error_text (record { part = Some ByWeekNo; fault = NotWith Daily }) ≡ codes "BYWEEKNO: does not go with DAILY"
+unfolding error_text fault_words fault_frequency part_name frequency_text
+error_text-by_week_no = refl
+
+error_text-by_set_pos : error_text (record { part = Some BySetPos; fault = Alone }) ≡ codes "BYSETPOS: needs another BY part"
+unfolding error_text fault_words fault_frequency part_name frequency_text
+error_text-by_set_pos = refl
+
+error_text-wkst : error_text (record { part = Some Wkst; fault = NotAWeekday }) ≡ codes "WKST: not a weekday as MO"
+unfolding error_text fault_words fault_frequency part_name frequency_text
+error_text-wkst = refl
 
 error_text-unknown : error_text (record { part = None; fault = Unknown }) ≡ codes "unknown part"
 unfolding error_text fault_words fault_frequency

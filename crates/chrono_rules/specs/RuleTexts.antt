@@ -7,7 +7,7 @@ use Rattle.chrono_datetime.specs.Days.{date_of_ymd}
 use Rattle.chrono_datetime.specs.Weekday.{weekday_from_monday}
 use Rattle.chrono_datetime.specs.declared.Weekday.{Weekday}
 use Rattle.chrono_datetime.specs.declared.Weekday.TheVariants.{Mon}
-use Rattle.chrono_rules.specs.Instances.{are_zero, has_numbers, lacks_month_days, lacks_months, lacks_positions, lacks_weekdays, lacks_weeks, lacks_year_days, no_numbers, no_places, no_weekdays}
+use Rattle.chrono_rules.specs.Instances.{are_zero, has_numbers, lacks_month_days, lacks_months, lacks_positions, lacks_weekdays, lacks_weeks, lacks_year_days, no_numbers, no_places, no_weekdays, plain}
 use Rattle.chrono_rules.specs.Pieces.{count_of, digits_of, pieces, through}
 use Rattle.chrono_rules.specs.Places.{ends_of, no_ends, number_of, place_of, weekday_of_letters, weekdays_of, with_number, with_word}
 use Rattle.chrono_rules.specs.declared.place_text.Place.{Place}
@@ -162,7 +162,96 @@ pub record IsRuleText (text : List ℕ) (r : Rule) : Type 0 where
   pub says : Says text r
   pub fitting : fits r ≡ true
 
--- known values: what stands behind a name, in letters of either case, once, nowhere and twice
+-- known values: which rules by days, weeks, months and years fit (the table of 3.3.10), with days of the month, of the year, and weeks, from
+-- either end, with months, with weekdays, and with numbered ones from either end
+abbrev fitting : (Frequency → Rule) → List Bool
+fitting rule = fits (rule Daily) ∷ fits (rule Weekly) ∷ fits (rule Monthly) ∷ fits (rule Yearly) ∷ []
+
+abbrev first_day : PlaceSet
+first_day = record { words = 2 ∷ 0 ∷ 0 ∷ 0 ∷ 0 ∷ 0 ∷ [] }
+
+abbrev first_monday : List ℕ
+first_monday = 2 ∷ 0 ∷ 0 ∷ 0 ∷ 0 ∷ 0 ∷ 0 ∷ []
+
+fits-month_days : fitting (λ f. record (plain f) { month_days = record { digits = 2 } }) ≡ true ∷ false ∷ true ∷ true ∷ []
+unfolding has_month_days has_year_parts has_numbers
+fits-month_days = refl
+
+fits-month_days_from_end : fitting (λ f. record (plain f) { month_days_from_end = record { digits = 2 } }) ≡ true ∷ false ∷ true ∷ true ∷ []
+unfolding has_month_days has_year_parts has_numbers
+fits-month_days_from_end = refl
+
+fits-year_days : fitting (λ f. record (plain f) { year_days = first_day }) ≡ false ∷ false ∷ false ∷ true ∷ []
+unfolding has_month_days has_year_parts has_numbers
+fits-year_days = refl
+
+fits-year_days_from_end : fitting (λ f. record (plain f) { year_days_from_end = first_day }) ≡ false ∷ false ∷ false ∷ true ∷ []
+unfolding has_month_days has_year_parts has_numbers
+fits-year_days_from_end = refl
+
+fits-weeks : fitting (λ f. record (plain f) { weeks = record { digits = 2 } }) ≡ false ∷ false ∷ false ∷ true ∷ []
+unfolding has_month_days has_year_parts has_numbers
+fits-weeks = refl
+
+fits-weeks_from_end : fitting (λ f. record (plain f) { weeks_from_end = record { digits = 2 } }) ≡ false ∷ false ∷ false ∷ true ∷ []
+unfolding has_month_days has_year_parts has_numbers
+fits-weeks_from_end = refl
+
+fits-months : fitting (λ f. record (plain f) { months = record { digits = 2 } }) ≡ true ∷ true ∷ true ∷ true ∷ []
+unfolding has_month_days has_year_parts has_numbers
+fits-months = refl
+
+fits-weekdays : fitting (λ f. record (plain f) { weekdays = record { every = record { digits = 1 }; front = no_weekdays.front; back = no_weekdays.back } }) ≡ true ∷ true ∷ true ∷ true ∷ []
+unfolding has_month_days has_year_parts has_numbers
+fits-weekdays = refl
+
+fits-numbers : fitting (λ f. record (plain f) { weekdays = record { every = no_numbers; front = first_monday; back = no_weekdays.back } }) ≡ false ∷ false ∷ true ∷ true ∷ []
+unfolding has_month_days has_year_parts has_numbers
+fits-numbers = refl
+
+fits-numbers_from_end : fitting (λ f. record (plain f) { weekdays = record { every = no_numbers; front = no_weekdays.front; back = first_monday } }) ≡ false ∷ false ∷ true ∷ true ∷ []
+unfolding has_month_days has_year_parts has_numbers
+fits-numbers_from_end = refl
+
+-- beside weeks a weekday, but no numbered one
+fits-weekday_of_weeks : fits (record (plain Yearly) { weekdays = record { every = record { digits = 1 }; front = no_weekdays.front; back = no_weekdays.back }; weeks = record { digits = 2 } }) ≡ true
+unfolding has_month_days has_year_parts has_numbers
+fits-weekday_of_weeks = refl
+
+fits-number_of_weeks : fits (record (plain Yearly) { weekdays = record { every = no_numbers; front = first_monday; back = no_weekdays.back }; weeks = record { digits = 2 } }) ≡ false
+unfolding has_month_days has_year_parts has_numbers
+fits-number_of_weeks = refl
+
+-- positions not alone, and beside each list
+fits-positions_alone : fitting (λ f. record (plain f) { positions = first_day }) ≡ false ∷ false ∷ false ∷ false ∷ []
+unfolding has_month_days has_year_parts has_numbers
+fits-positions_alone = refl
+
+fits-positions_from_end_alone : fitting (λ f. record (plain f) { positions_from_end = first_day }) ≡ false ∷ false ∷ false ∷ false ∷ []
+unfolding has_month_days has_year_parts has_numbers
+fits-positions_from_end_alone = refl
+
+fits-positions_of_months : fitting (λ f. record (plain f) { months = record { digits = 2 }; positions = first_day }) ≡ true ∷ true ∷ true ∷ true ∷ []
+unfolding has_month_days has_year_parts has_numbers
+fits-positions_of_months = refl
+
+fits-positions_of_month_days : fitting (λ f. record (plain f) { month_days = record { digits = 2 }; positions = first_day }) ≡ true ∷ false ∷ true ∷ true ∷ []
+unfolding has_month_days has_year_parts has_numbers
+fits-positions_of_month_days = refl
+
+fits-positions_of_weekdays : fitting (λ f. record (plain f) { weekdays = record { every = record { digits = 1 }; front = no_weekdays.front; back = no_weekdays.back }; positions = first_day }) ≡ true ∷ true ∷ true ∷ true ∷ []
+unfolding has_month_days has_year_parts has_numbers
+fits-positions_of_weekdays = refl
+
+fits-positions_of_year_days : fitting (λ f. record (plain f) { year_days = first_day; positions = first_day }) ≡ false ∷ false ∷ false ∷ true ∷ []
+unfolding has_month_days has_year_parts has_numbers
+fits-positions_of_year_days = refl
+
+fits-positions_of_weeks : fitting (λ f. record (plain f) { weeks = record { digits = 2 }; positions = first_day }) ≡ false ∷ false ∷ false ∷ true ∷ []
+unfolding has_month_days has_year_parts has_numbers
+fits-positions_of_weeks = refl
+
+-- what stands behind a name, in letters of either case, once, nowhere and twice
 values-one : values_in (codes "FREQ=YEARLY;bymonth=3") (codes "BYMONTH=") ≡ codes "3" ∷ []
 values-one = refl
 

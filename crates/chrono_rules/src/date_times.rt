@@ -26,7 +26,7 @@ impl Rule {
     }
 
     /// The first instance after the moment, of the rule from the start on, at the start's time of day; `None` exactly if there is none in
-    /// the calendar. An UNTIL of the rule is a day, and an instance on it counts whatever its time.
+    /// the calendar. An UNTIL of the rule is a day, the whole of which counts: an instance on it is one whatever the start's time.
     pub fn next_date_time(
         &self,
         start: NaiveDateTime,
@@ -57,7 +57,7 @@ impl Rule {
     }
 
     /// The last instance before the moment, of the rule from the start on, at the start's time of day; `None` exactly if there is none. An
-    /// UNTIL of the rule is a day, and an instance on it counts whatever its time.
+    /// UNTIL of the rule is a day, the whole of which counts.
     pub fn prev_date_time(
         &self,
         start: NaiveDateTime,

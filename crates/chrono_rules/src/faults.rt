@@ -1,7 +1,7 @@
 //! Which part of a text cannot be read, and why.
 ghost use Rattle.std.specs.Prelude.{◌≡◌, Some, None, codes, length, if◌then◌else◌};
 ghost use Rattle.std.specs.Option.{is_some};
-ghost use Rattle.std.specs.Str.{all_ascii_digits};
+ghost use Rattle.std.specs.Str.{all_ascii_digits, byte};
 ghost use Rattle.chrono_rules.specs.Instances.{no_weekdays};
 ghost use Rattle.chrono_rules.specs.Pieces.{count_of, pieces};
 ghost use Rattle.chrono_rules.specs.RuleErrors.{are_digits, digits_fault, is_read, item_fault, list_fault, number_fault, part_error, part_fault, place_fault, reads_item, unread_error, until_fault, value_fault, values_fault, weekday_fault, word_fault};
@@ -147,7 +147,7 @@ fn value_fault(part: RulePart, text: &[u8]) -> RuleFault
 
 // Why the list is none of the part's: by its first item that cannot be read.
 fn list_fault(part: RulePart, text: &[u8]) -> RuleFault
-    ensures { result ≡ list_fault part (pieces 44 text.now) }
+    ensures { result ≡ list_fault part (pieces (byte ",") text.now) }
 {
     let mut rest = text;
     loop {

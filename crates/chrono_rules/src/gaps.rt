@@ -12,17 +12,14 @@ pub(crate) fn gap_up(digits: u64, from: u32) -> u32
     (digits >> from).trailing_zeros()
 }
 
-// The same downwards. An empty set is asked for first, since digits are turned round one after another.
+// The same downwards.
 #[inline]
 pub(crate) fn gap_down(digits: u64, from: u32) -> u32
     requires { from < 64 }
     ensures left_out { (j : ℕ) → j < result → j ≤ from → bit_at digits (from - j) ≡ 0 }
     ensures few { result ≤ 64 }
 {
-    if digits == 0 {
-        return 64;
-    }
-    gap_up(digits.reverse_bits(), 63 - from)
+    (digits << (63 - from)).leading_zeros()
 }
 
 // The same upwards to before `end`, and from `first` on again: at most all places between these.

@@ -30,6 +30,7 @@ mod values;
 mod walked;
 mod weekday_text;
 mod written;
+mod year_days;
 mod year_text;
 
 pub use error::{RuleError, RuleFault, RulePart};

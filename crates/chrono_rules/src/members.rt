@@ -90,7 +90,7 @@ impl Rule {
         }
     }
 
-    // The date's place among the days of its period that pass, and its place from the last of them.
+    // The date's place among the days of its period that pass.
     fn place(&self, start: NaiveDate, date: NaiveDate) -> u32
         ensures value { result ≡ count_between (date_passes self.now start)
             (period_first self.now.frequency self.now.week_start date) (date +ℤ pos 1) }
@@ -100,6 +100,7 @@ impl Rule {
         self.count_passing(start, date, first, 1)
     }
 
+    // Its place from the last of them.
     fn place_from_end(&self, start: NaiveDate, date: NaiveDate) -> u32
         ensures value { result ≡ count_between (date_passes self.now start) date
             (period_end self.now.frequency self.now.week_start date) }

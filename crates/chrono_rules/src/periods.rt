@@ -1,5 +1,5 @@
 //! The periods of a rule, and which of them count.
-ghost use Rattle.std.specs.Prelude.{◌≡◌, ◌≤ℤ◌, ◌<ℤ◌, ◌+ℤ◌, ◌-ℤ◌, ◌==◌, if◌then◌else◌, neg_ℤ, pos, unsigned_abs};
+ghost use Rattle.std.specs.Prelude.{◌≡◌, ◌≤ℤ◌, ◌<ℤ◌, ◌+ℤ◌, ◌-ℤ◌, ◌-◌, ◌^◌, ◌==◌, if◌then◌else◌, neg_ℤ, pos, unsigned_abs};
 ghost use Rattle.std.specs.Int.{int_div_euclid, int_rem_euclid};
 ghost use Rattle.chrono_datetime.specs.Days.{IsDate, ordinal_of, year_of};
 ghost use Rattle.chrono_datetime.specs.MonthMoves.{month_index_of};
@@ -31,7 +31,7 @@ impl Rule {
     pub(crate) fn step(&self) -> i64
         ensures value { result ≡ pos (if self.now.interval == 0 then 1 else self.now.interval) }
         ensures positive { pos 0 <ℤ result }
-        ensures few { result ≤ℤ pos 4_294_967_295 }
+        ensures few { result ≤ℤ pos (2 ^ 32 - 1) }
     {
         if self.interval == 0 {
             1

@@ -1,5 +1,5 @@
 //! Texts in pieces, and numbers from the left.
-ghost use Rattle.std.specs.Prelude.{◌≡◌, ◌∷◌, ◌≤◌, ◌<◌, IfSome, length};
+ghost use Rattle.std.specs.Prelude.{◌≡◌, ◌∷◌, ◌≤◌, ◌<◌, ◌-◌, ◌^◌, IfSome, length};
 ghost use Rattle.std.specs.Option.{option_and_then};
 ghost use Rattle.chrono_rules.specs.Pieces.{count_of, digits_of, pieces, pieces_behind, up_to, with_digits};
 
@@ -64,7 +64,7 @@ pub(crate) fn read_count(text: &[u8]) -> Option<u32>
 
 // The number below 2^32 that the digits write.
 fn count_of_digits(text: &[u8]) -> Option<u32>
-    ensures { result ≡ option_and_then (up_to 4_294_967_295) (with_digits 0 text.now) }
+    ensures { result ≡ option_and_then (up_to (2 ^ 32 - 1)) (with_digits 0 text.now) }
 {
     let mut value = 0u64;
     let mut rest = text;

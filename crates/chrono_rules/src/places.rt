@@ -100,16 +100,16 @@ impl PlaceSet {
     }
 }
 
-// Whether all of the words are 0.
+// Whether all of the words are 0. All are looked at, since a branch for each would cost more.
+#[inline]
 pub(crate) fn are_zero(words: &[u64]) -> bool
     ensures { result ≡ are_zero words.now }
 {
+    let mut all = 0;
     for word in words {
-        if *word != 0 {
-            return false;
-        }
+        all = all | *word;
     }
-    true
+    all == 0
 }
 
 /// Weekdays, each of its days or the k-th of them, from the front or from the back; weekdays count from 0 for Monday.

@@ -44,8 +44,11 @@ pub fn check_rule(text: &[u8]) -> Result<Rule, RuleError>
     ensures read { IfOk result (λ r. IsRuleText text.now r) }
     ensures every { (r : Rule) → IsRuleText text.now r → result ≡ Ok r }
     ensures found { IsErr result ↔ ((r : Rule) → ¬ IsRuleText text.now r) }
+    // Told first is a name that no rule has, whatever the parts say.
     ensures unknown { are_named text.now ≡ false → result ≡ Err (record { part = None; fault = Unknown }) }
+    // With known names alone, the first part that cannot be read, if the parts say no rule.
     ensures unread { are_named text.now ≡ true → ((r : Rule) → ¬ Says text.now r) → result ≡ Err (unread_error text.now) }
+    // If they say one, the first of its parts that does not go with the others.
     ensures unfit { (r : Rule) → are_named text.now ≡ true → Says text.now r → fits r ≡ false → result ≡ Err (unfit_error r) }
 {
     if !are_parts(text) {

@@ -1,19 +1,20 @@
 //! What a search for a member passes over at once.
-ghost use Rattle.std.specs.Prelude.{◌≡◌, ◌≤◌, ◌<◌, ◌+◌, ◌-◌, ◌%◌, ◌==◌, ◌≤ℤ◌, ◌<ℤ◌, ◌+ℤ◌, ℤ, ℕ, pos, true, false, IsFalse, IfSome, IfNone};
+ghost use Rattle.std.specs.Prelude.{◌≡◌, ◌≤◌, ◌<◌, ◌+◌, ◌-◌, ◌%◌, ◌==◌, ◌≤ℤ◌, ◌<ℤ◌, ◌+ℤ◌, ℤ, ℕ, neg_ℤ, pos, true, false, IsFalse, IsTrue, IfSome, IfNone};
 ghost use Rattle.std.specs.Int.{IsInRange};
 ghost use Rattle.chrono_datetime.specs.Days.{IsDate, day_of, month_of};
-ghost use Rattle.chrono_datetime.specs.MonthMoves.{month_index_of};
+ghost use Rattle.chrono_datetime.specs.MonthMoves.{month_index, month_index_of, month_length_of};
+ghost use Rattle.chrono_datetime.specs.Years.{month_length};
 ghost use Rattle.chrono_rules.specs.Instances.{counts_in_month, is_member, names_weekday, on_month_day, on_weekday};
 
 use crate::gaps::{gap_around, gap_down, gap_up};
 use crate::iterator::PAST_LAST_DAY;
 use crate::parts::has_digit;
 use crate::rule::{End, Rule};
-use chrono_datetime::{Datelike, NaiveDate};
+use chrono_datetime::{Datelike, Month, NaiveDate};
 
 impl Rule {
     // How many months in a row, from one on, are none of the rule's.
-    fn months_passed(&self, start: NaiveDate, month: u32) -> u32
+    fn months_left_out(&self, start: NaiveDate, month: u32) -> u32
         requires { IsInRange 1 12 month }
         ensures passed { (d : ℤ) (j : ℕ) → j < result → month_of d ≡ 1 + (month - 1 + j) % 12 → is_member self.now start d ≡ false }
         ensures few { result ≤ 12 }
@@ -27,6 +28,76 @@ impl Rule {
         0
     }
 
+    // How many days a month has at least that holds one which BYMONTHDAY names, or the start in its place.
+    fn shortest_month(&self, start: NaiveDate) -> u32
+        ensures { (d : ℤ) → month_length_of d < result → is_member self.now start d ≡ false }
+    {
+        if !self.lacks_month_days() {
+            let front = gap_up(self.month_days.digits, 1);
+            let back = gap_up(self.month_days_from_end.digits, 1);
+            return 1 + front.min(back);
+        }
+        if self.fills_day() {
+            return start.day();
+        }
+        0
+    }
+
+    // The same, where months of fewer days than so many are none of the rule's either.
+    #[inline]
+    fn months_left_out_or_short(
+        &self,
+        start: NaiveDate,
+        year: i32,
+        month: u32,
+        shortest: u32,
+    ) -> u32
+        requires month { IsInRange 1 12 month }
+        requires low { neg_ℤ (pos 300_000) ≤ℤ year }
+        requires high { year ≤ℤ pos 300_000 }
+        requires short { (d : ℤ) → month_length_of d < shortest → is_member self.now start d ≡ false }
+        ensures passed { (d : ℤ) (j : ℕ) → j < result → month_index_of d ≡ month_index year month +ℤ pos j → is_member self.now start d ≡ false }
+        ensures few { result ≤ 12 }
+    {
+        let months = self.months_left_out(start, month);
+        if months > 0 || shortest <= 28 {
+            return months;
+        }
+        if is_shorter(year, month, shortest) {
+            1
+        } else {
+            0
+        }
+    }
+
+    // How many months in a row, from that of a day on, hold no day that BYMONTH and BYMONTHDAY name, or the start in their place; none where BYMONTH
+    // names the day's own, whose days are looked at one by one.
+    fn months_passed(&self, start: NaiveDate, day: NaiveDate) -> u32
+        ensures passed { (d : ℤ) (j : ℕ) → j < result → month_index_of d ≡ month_index_of day +ℤ pos j → is_member self.now start d ≡ false }
+        ensures few { result ≤ 60 }
+    {
+        if self.lacks_months() && !self.fills_month() {
+            return 0;
+        }
+        let (mut year, mut month, _) = day.year_month_day();
+        let mut gap = self.months_left_out(start, month);
+        if gap == 0 {
+            return 0;
+        }
+        let shortest = self.shortest_month(start);
+        let mut months = 0;
+        while gap > 0 && months < 48 {
+            months += gap;
+            month += gap;
+            if month > 12 {
+                month -= 12;
+                year += 1;
+            }
+            gap = self.months_left_out_or_short(start, year, month, shortest);
+        }
+        months
+    }
+
     // How many days from this one on lie in months that are none of the rule's.
     #[inline]
     fn passed_by_month(&self, start: NaiveDate, day: NaiveDate) -> i64
@@ -34,7 +105,7 @@ impl Rule {
         ensures low { pos 0 ≤ℤ result }
         ensures high { result ≤ℤ pos 1_000_000_000 }
     {
-        let months = self.months_passed(start, day.month());
+        let months = self.months_passed(start, day);
         days_to_month(day, i64::from(months))
     }
 
@@ -89,12 +160,13 @@ impl Rule {
     {
         let place = day.day();
         let behind = u32::from(day.num_days_in_month()) - place;
-        let weekday = day.weekday().num_days_from_monday();
+        let mut weekday = day.weekday().num_days_from_monday();
         let mut days = behind + 1;
         let mut first = 0;
         while first < days.min(7) {
-            let one = self.days_to_one_weekday((weekday + first) % 7, first, place, behind);
+            let one = self.days_to_one_weekday(weekday, first, place, behind);
             days = one.min(days);
+            weekday = if weekday == 6 { 0 } else { weekday + 1 };
             first += 1;
         }
         days
@@ -110,17 +182,19 @@ impl Rule {
         ensures passed { (j : ℕ) → j < result → j ≤ behind → j % 7 ≡ first → names_weekday self.now weekday (place + j) (behind - j) ≡ false }
         ensures few { result ≤ behind + 1 }
     {
-        if !self.has_weekday(weekday) {
+        if first > behind || !self.has_weekday(weekday) {
             return behind + 1;
         }
-        let mut later = first;
-        while later <= behind {
-            if self.names_weekday(weekday, place + later, behind - later) {
-                return later;
-            }
-            later += 7;
+        if self.weekdays.every.contains(weekday) {
+            return first;
         }
-        behind + 1
+        if !self.has_numbers() {
+            return behind + 1;
+        }
+        let day = weekday as usize;
+        let front = gap_up(self.weekdays.front[day], 1 + (place + first - 1) / 7);
+        let back = gap_down(self.weekdays.back[day], 1 + (behind - first) / 7);
+        (first + 7 * front.min(back)).min(behind + 1)
     }
 
     // Whether BYDAY names days of the weekday at all.
@@ -132,20 +206,6 @@ impl Rule {
         self.weekdays.every.contains(weekday)
             || (self.weekdays.front[weekday as usize] != 0
                 || self.weekdays.back[weekday as usize] != 0)
-    }
-
-    // Whether BYDAY names a day of that weekday, at a place with so many days behind it.
-    #[inline]
-    fn names_weekday(&self, weekday: u32, place: u32, behind: u32) -> bool
-        requires weekday { weekday < 7 }
-        requires place { IsInRange 1 366 place }
-        requires behind { behind < 366 }
-        ensures { result ≡ names_weekday self.now weekday place behind }
-    {
-        self.weekdays.every.contains(weekday)
-            || (self.has_numbers()
-                && (has_digit(self.weekdays.front[weekday as usize], 1 + (place - 1) / 7)
-                    || has_digit(self.weekdays.back[weekday as usize], 1 + behind / 7)))
     }
 
     // How many days from this one on one of the rule's parts passes over, 0 if none does.
@@ -175,6 +235,10 @@ impl Rule {
         let weekdays = self.passed_by_weekday(start, day);
         if weekdays > 0 {
             return i64::from(weekdays);
+        }
+        let year_days = self.passed_by_year_day(start, day);
+        if year_days > 0 {
+            return i64::from(year_days);
         }
         self.passed_by_position(start, day)
     }
@@ -277,6 +341,18 @@ pub(crate) fn days_to_month(day: NaiveDate, months: i64) -> i64
     match day.first_day_of_month().moved_by_months(months) {
         Some(first) => i64::from(first.num_days_from_ce()) - i64::from(day.num_days_from_ce()),
         None => 1 + i64::from(u32::from(day.num_days_in_month()) - day.day()),
+    }
+}
+
+// Whether a month has fewer days than so many; no where the calendar has not its year.
+#[inline]
+fn is_shorter(year: i32, month: u32, days: u32) -> bool
+    requires { IsInRange 1 12 month }
+    ensures { IsTrue result → month_length year month < days }
+{
+    match Month::from_u32(month).unwrap().num_days(year) {
+        Some(length) => u32::from(length) < days,
+        None => false,
     }
 }
 

@@ -1,7 +1,7 @@
 //! The parts of a rule's text, and what stands behind their names.
 ghost use Rattle.std.specs.Prelude.{◌≡◌, ◌≤◌, ◌∷◌, [], true, false, IfSome, IfNone, IsTrue, IsFalse, length, drop};
 ghost use Rattle.std.specs.List.{list_all};
-ghost use Rattle.std.specs.Str.{str_eq_ignore_ascii_case};
+ghost use Rattle.std.specs.Str.{byte, str_eq_ignore_ascii_case};
 ghost use Rattle.chrono_rules.specs.Pieces.{pieces_behind};
 ghost use Rattle.chrono_rules.specs.RuleTexts.{is_list_part, is_named, is_part, parts, values};
 
@@ -26,8 +26,8 @@ pub(crate) fn value_of<'a>(text: &'a [u8], name: &[u8]) -> Option<Option<&'a [u8
 
 // Whether a part behind a separator has the name.
 fn has_value(behind: &[u8], name: &[u8]) -> bool
-    ensures some { IsTrue result → 1 ≤ length (values name.now (pieces_behind 59 behind.now)) }
-    ensures none { IsFalse result → values name.now (pieces_behind 59 behind.now) ≡ [] }
+    ensures some { IsTrue result → 1 ≤ length (values name.now (pieces_behind (byte ";") behind.now)) }
+    ensures none { IsFalse result → values name.now (pieces_behind (byte ";") behind.now) ≡ [] }
 {
     match behind {
         [_, next @ ..] => first_value(next, name).is_some(),
@@ -38,7 +38,7 @@ fn has_value(behind: &[u8], name: &[u8]) -> bool
 // What stands behind the name in the first part that has it, and the text behind that part.
 fn first_value<'a>(text: &'a [u8], name: &[u8]) -> Option<(&'a [u8], &'a [u8])>
     ensures some { IfSome result (λ found. values name.now (parts text.now)
-        ≡ found.0.now ∷ values name.now (pieces_behind 59 found.1.now)) }
+        ≡ found.0.now ∷ values name.now (pieces_behind (byte ";") found.1.now)) }
     ensures none { IfNone result (values name.now (parts text.now) ≡ []) }
 {
     let mut rest = text;

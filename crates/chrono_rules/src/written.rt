@@ -1,7 +1,7 @@
 //! The text of a rule, written.
 ghost use Rattle.std.specs.Prelude.{◌≡◌, ◌+◌, ◌<◌, ◌≤◌, ◌++◌, ◌==◌, nat_le, false, Some, length, codes};
 ghost use Rattle.std.specs.Fmt.{decimal};
-ghost use Rattle.std.specs.Str.{IsAscii};
+ghost use Rattle.std.specs.Str.{IsAscii, byte};
 ghost use Rattle.chrono_datetime.specs.Weekday.{days_from_monday};
 ghost use Rattle.chrono_text.specs.Text.{two_digits};
 ghost use Rattle.chrono_rules.specs.Instances.{lacks_month_days, lacks_months, lacks_positions, lacks_weekdays, lacks_weeks, lacks_year_days};
@@ -38,7 +38,7 @@ impl Rule {
     // Puts the lists.
     fn put_lists<const N: usize>(&self, text: &mut Text<N>)
         requires { length text.old + 16900 ≤ N }
-        ensures text { text.new ≡ text.old ++ behind 59 (list_parts self.now) }
+        ensures text { text.new ≡ text.old ++ behind (byte ";") (list_parts self.now) }
         ensures fits { length text.new ≤ length text.old + 16900 }
     {
         self.put_months(text);
@@ -208,8 +208,8 @@ fn put_interval<const N: usize>(text: &mut Text<N>, interval: u32)
 // Puts COUNT or UNTIL, if the rule has one.
 fn put_end<const N: usize>(text: &mut Text<N>, end: End)
     requires { length text.old + 31 ≤ N }
-    ensures text { text.new ≡ text.old ++ behind 59 (end_parts end) }
-    ensures ascii { IsAscii (behind 59 (end_parts end)) }
+    ensures text { text.new ≡ text.old ++ behind (byte ";") (end_parts end) }
+    ensures ascii { IsAscii (behind (byte ";") (end_parts end)) }
     ensures fits { length text.new ≤ length text.old + 22 }
 {
     match end {

@@ -23,3 +23,6 @@ returns-then-days-gt0-clause-in_range c = (omega (arith, signed, c.num_days_from
 
 pub returns-clause-in_range : goal.returns-clause-in_range
 returns-clause-in_range c = (omega (arith, signed, c.num_days_from_ce-here.ensures.value, c.num_days_from_ce-here.ensures.in_range), omega (arith, signed, c.num_days_from_ce-here.ensures.value, c.num_days_from_ce-here.ensures.in_range))
+
+pub returns-then-year_days-gt0-clause-passed : goal.returns-then-year_days-gt0-clause-passed
+returns-then-year_days-gt0-clause-passed c = λ d low high. c.passed_by_year_day-year_days.ensures.passed d low (omega (arith, casts, high))

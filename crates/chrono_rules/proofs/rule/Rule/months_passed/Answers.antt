@@ -1,15 +1,39 @@
-use Rattle.std.proofs.Common.{sym, ◌∙◌, arith}
-use Rattle.chrono_datetime.specs.Days.{month_of}
-use Rattle.chrono_rules.proofs.Skipped.{month_left_out, not_start_month, other_month, other_month_on}
+use Rattle.std.proofs.Common.{arith, of_z, to_z, w32}
+use Rattle.std.specs.Int.{IsInRange}
 use Rattle.chrono_datetime.proofs.MonthOrder.{month_of-range}
+use Rattle.chrono_datetime.proofs.Signed.{casts, signed}
+use Rattle.chrono_rules.proofs.Skipped.{month_on, months_on, year_fits}
 use Rattle.chrono_rules.proofs.rule.Rule.months_passed.Goals as goal
 
-pub returns-then-not-lacks_months-clause-passed : goal.returns-then-not-lacks_months-clause-passed
-returns-then-not-lacks_months-clause-passed c = λ d j lt at.
-    other_month c.args.self.now c.args.start d (sym c.lacks_months.ensures ∙ c.if-not-lacks_months.true)
-    (month_left_out c.args.self.now.months.digits (month_of d) c.args.month j c.requires (omega (arith, lt, c.gap_around.ensures.few)) at (c.gap_around.ensures.ahead j lt) (c.gap_around.ensures.around j lt))
+pub loop-gap-init : goal.loop-gap-init
+loop-gap-init c =
+    let month = c.year_month_day-year.ensures.month in
+    let year = c.year_month_day-year.ensures.year in
+    let range = c.year_month_day-year.ensures.in_range in
+    let y = c.year_month_day-year.result.0 in
+    let m = c.year_month_day-year.result.1 in
+    let fits = year_fits y (omega (arith, signed, range)) (omega (arith, signed, range)) in
+    let named : IsInRange 1 12 m = (omega (arith, month, month_of-range c.args.day), omega (arith, month, month_of-range c.args.day)) in (
+      named,
+      omega (arith, signed, fits, month, year),
+      omega arith,
+      c.months_left_out-gap.ensures.few,
+      omega (arith, signed, fits, range),
+      omega (arith, signed, fits, range),
+      λ d j lt at. absurd (omega (arith, lt)),
+      λ d j lt at. c.months_left_out-gap.ensures.passed d j lt (month_on d (to_z w32 (of_z w32 y)) m j named at),
+      c.shortest_month-shortest.ensures,
+    )
 
-pub returns-then-fills_month-clause-passed : goal.returns-then-fills_month-clause-passed
-returns-then-fills_month-clause-passed c = λ d j lt at.
-    not_start_month c.args.self.now c.args.start d (sym c.fills_month.ensures ∙ c.if-fills_month.true)
-    (other_month_on (month_of d) c.args.month (month_of c.args.start) j c.requires (month_of-range c.args.start) (omega (arith, lt, c.month.ensures.value)) at)
+pub loop-gap-preserved : goal.loop-gap-preserved
+loop-gap-preserved c = (
+  omega (arith, casts, c.loop-gap.invariant.0),
+  omega (arith, casts, c.loop-gap.invariant.1),
+  omega (arith, c.loop-gap.invariant.3),
+  c.months_left_out_or_short-gap.ensures.few,
+  omega (arith, casts),
+  omega (arith, casts),
+  λ d j lt at. months_on c.args.self.now c.args.start c.args.day d (to_z w32 c.loop-gap.year-bits) c.loop-gap.month c.loop-gap.months c.loop-gap.gap j c.loop-gap.invariant.1 c.loop-gap.invariant.6 c.loop-gap.invariant.7 lt at,
+  c.months_left_out_or_short-gap.ensures.passed,
+  c.loop-gap.invariant.8,
+)

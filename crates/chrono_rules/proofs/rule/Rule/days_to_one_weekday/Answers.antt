@@ -1,0 +1,13 @@
+use Rattle.std.proofs.Common.{◌+◌, ◌-◌, ◌/◌, sym, ◌∙◌, arith}
+use Rattle.chrono_rules.proofs.Skipped.{not_named}
+use Rattle.chrono_rules.proofs.rule.Rule.days_to_one_weekday.Goals as goal
+
+pub returns-clause-passed : goal.returns-clause-passed
+returns-clause-passed c = λ j lt le at.
+    let weeks = (j - c.args.first) / 7 in
+    not_named c.args.self.now c.args.weekday (c.args.place + j) (c.args.behind - j) (1 + (c.args.place + c.args.first - 1) / 7 + weeks) (1 + (c.args.behind - c.args.first) / 7 - weeks)
+    (sym c.contains.ensures ∙ c.if-contains.false)
+    (c.gap_up-front.ensures.left_out weeks (omega (arith, lt, at)))
+    (c.gap_down-back.ensures.left_out weeks (omega (arith, lt, at)) (omega (arith, lt, le, at)))
+    (omega (arith, lt, le, at, c.requires.place))
+    (omega (arith, lt, le, at))
