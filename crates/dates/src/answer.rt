@@ -60,8 +60,7 @@ pub(crate) fn answer(
     asked: &mut Asked<'_, impl Allocator, impl Allocator>,
     request: &Request,
 ) -> io::Result<u8> {
-    let form = asked.form;
-    let words = asked.words;
+    let (form, words) = (asked.form, asked.words);
     match *request {
         Request::Lines => answer_lines(rt, form),
         Request::Help => answer_help(rt),
