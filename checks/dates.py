@@ -2,7 +2,7 @@
 """The examples of docs/DATES.md and of each command's help, run as they stand, and what a pipe that closes early leaves.
 
 Builds `dates` by `rt run`, puts it on the path as `dates`, and compares output and exit status of each line behind `$`, but for spaces at a line's
-end and blank lines. The man page and the completion of tools/shell have to be those that tools/dates_help.py makes of the help, and the completion has to complete.
+end and blank lines. A line that is longer than all memory that the program may take has to be answered as any other that is no day. The man page and the completion of tools/shell have to be those that tools/dates_help.py makes of the help, and the completion has to complete.
 The commands that a wrong first word is told of have to be those of the help, and the sessions at a terminal of checks/dates_terminal.py have to hold.
 """
 import os
@@ -21,6 +21,14 @@ CRATE = os.path.join(TOP, "crates", "dates")
 
 # The name of a file that stands in the folder in which the completion is tried.
 SPACED = "two words.txt"
+
+# A line of so many bytes, where a program has less memory in all, in kilobytes.
+LENGTH, LEAST = 10_000_000, 9_000
+
+# What is answered where such a line stands between two days, and the status.
+OF_LONG_LINES = [("-", ["2024-02-28 2024-059 2024-W09-3 Wed 738944 19781", "none", "2024-02-29 2024-060 2024-W09-4 Thu 738945 19782"], 1),
+                 ("add 1d", ["2024-02-29", "none", "2024-03-01"], 1), ("check", ["2: has 65536 bytes or more"], 1),
+                 ("open 2024-02-29 --holidays /dev/stdin", ["dates: argument 4, /dev/stdin, line 2: has 65536 bytes or more; expected a day as 2024-02-29"], 2)]
 
 # Words whose last one is begun, and what the completion makes of that.
 COMPLETED = [("dates roll 2024-03-30 following --c", ["--calendar"]), ("dates roll 2024-03-30 modified-f", ["modified-following"]),
@@ -106,6 +114,9 @@ def main():
                       ["2024-02-29 2024-060 2024-W09-4 Thu 738945 19782"], 0])
         with open(os.path.join(place, SPACED), "w"):
             pass
+        with open(os.path.join(place, "long"), "wb") as out:
+            out.write(b"2024-02-28\n" + b"x" * LENGTH + b"\n2024-02-29\n")
+        cases += [[f"ulimit -v {LEAST}; exec dates {words} < long", lines, status] for words, lines, status in OF_LONG_LINES]
         for words, completed in COMPLETED:
             cases.append([f"source {TOP}/tools/shell/dates.bash; COMP_WORDS=({words}); COMP_CWORD=$((${{#COMP_WORDS[@]}} - 1)); _dates; "
                           "printf '%s\\n' \"${COMPREPLY[@]}\"", completed, 0])
@@ -125,11 +136,12 @@ def main():
         for name in unnamed(program):
             failed += 1
             print(f"FAILED: {name} is told of a wrong first word, or listed by --help, but not both")
-        sessions = dates_terminal.failures(program, place, f"{TOP}/tools/shell/dates.bash")
-        passed += 2 * len(dates_terminal.SESSIONS) - len(sessions)
+        sessions, count = dates_terminal.failures(program, place, f"{TOP}/tools/shell/dates.bash")
+        passed += count - len(sessions)
         failed += len(sessions)
         for name in sessions:
             print(f"FAILED: the session {name} at a terminal")
+    print(f"sessions at a terminal: {', '.join(it.__name__ for it in dates_terminal.TERMINALS)}" + "; not run: tmux, which is not there" * (dates_terminal.Tmux not in dates_terminal.TERMINALS))
     print(f"{passed} passed, {failed} failed")
     return 1 if failed else 0
 

@@ -10,6 +10,9 @@ reads them, days past the years of datetime by checks/counted.py, sheets cell by
 and status and standard error are the same. A fifth of the commands is spoiled: a word is turned to one that cannot stand there, what has to follow is cut off, a word too many
 is put behind, or a day is one that its month has not. What is said of them has to name that word, its place and what was expected.
 
+Behind them the rules of crates/rules_rows are asked for, the date examples of RFC 5545 among them, with `--start` and with or without `--from` and `--count`; the
+answers are those that stand there.
+
 It needs crates/dates/out/dates, which `rt run` and `rt ci` leave there, and numpy and dateutil of Debian's Python.
 """
 import argparse
@@ -436,6 +439,35 @@ def of_rule(chance, _):
     return Asked(words, kinds, len(words), lines or ["none"], objects or [{"date": None}], int(not days))
 
 
+def examples():
+    """The rows of crates/rules_rows that ask for a rule's instances, as commands: all of them or as many as the row has, one of them, those behind one, and none."""
+    made = []
+    with open(rules_days.EXAMPLES, encoding="ascii") as rows:
+        rows = [words for words in map(str.split, rows) if words[0].startswith("3.") and words[3] == "="]
+    for _, text, start, _, *days in rows:
+        if days == ["none"]:
+            error = re.compile(re.escape(f"dates: argument 2, {text}: ") + r"[^;]+" + re.escape("; expected a rule as FREQ=MONTHLY;BYDAY=-1FR"))
+            made.append(Asked(["rule", text, "--start", names(int(start))[0]], [], 0, [], [], 2, error))
+            continue
+        ended, days = days[-1:] == ["end"], [int(it) for it in days if it != "end"]
+        made.append(of_example(text, int(start), days, None if ended else len(days)))
+        made.append(of_example(text, int(start), days[:1], 1))
+        for place in range(0, len(days), 4):
+            # (from the day behind an instance on, so that the next is the first)
+            since, left = days[place] + 1, days[place + 1 :]
+            made.append(of_example(text, int(start), left, None if ended else len(left), since) if ended or left else None)
+            made.append(of_example(text, int(start), left[:3], 3, since) if ended or len(left) >= 3 else None)
+    return [it for it in made if it]
+
+
+def of_example(text, start, days, count, since=None):
+    """A command for the instances of a rule, with options in one order or the other."""
+    options = [["--start", names(start)[0]], ["--from", names(since)[1]] if since else [], ["--count", str(count)] if count else []]
+    words = ["rule", text, *(word for it in options[:: -1 if len(days) % 2 else 1] for word in it)]
+    lines, objects = dated([Date.fromordinal(it) for it in days])
+    return Asked(words, [], 0, lines or ["none"], objects or [{"date": None}], int(not days))
+
+
 # ---- sheets
 
 
@@ -666,15 +698,17 @@ def main():
         return 0
     chance = random.Random(given.seed)
     with tempfile.TemporaryDirectory() as place:
-        made = commands(chance, days_of_files(chance, place), given.commands)
+        of_rows = examples()
+        made = commands(chance, days_of_files(chance, place), given.commands) + of_rows
         with ThreadPoolExecutor(os.cpu_count()) as runners:
             faults = [(asked, it) for asked, it in zip(made, runners.map(fault, made)) if it]
     for asked, it in faults[:10]:
         print(f"FAILED: {asked.words} {it}")
     spoiled = sum(it.status == 2 for it in made)
-    print(f"{len(made)} commands from seed {given.seed}, each with --json too; {spoiled} of them wrong")
-    print(f"{len(made) - len(faults)} passed, {len(faults)} failed")
-    return 1 if faults else 0
+    print(f"{given.commands} commands from seed {given.seed} and {len(of_rows)} of the rows of rules, each with --json too; {spoiled} of them wrong")
+    failed = len(faults) + (not of_rows)
+    print(f"{len(made) - len(faults)} passed, {failed} failed")
+    return 1 if failed else 0
 
 
 if __name__ == "__main__":

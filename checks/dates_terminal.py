@@ -1,31 +1,62 @@
-"""Sessions of `dates` at a terminal: an interactive bash behind a pseudo terminal, typed into as a person types, and what it shows.
+"""Sessions of `dates` at a terminal: an interactive bash, typed into as a person types, and what it shows.
 
-checks/dates.py runs them with the program, and each of them with a program or a completion that is wrong in what it looks at.
+Each session is held behind a pseudo terminal, by what is written there, and in a window of tmux where that is installed, by keys that are sent to it and the screen
+that they leave. checks/dates.py runs them with the program, and each of them with a program or a completion that is wrong in what it looks at.
 """
 import os
 import pty
 import select
+import shutil
 import signal
 import stat
+import subprocess
 import tempfile
 import time
 
 PROMPT = "at> "
 END = "\x04"
 INTERRUPT = "\x03"
+BASH = ["bash", "--norc", "--noprofile", "-i"]
+
+
+def surroundings(folder):
+    """What the shell finds around it: a folder in front of its path, a prompt, and nothing of whoever runs this."""
+    return {"PATH": folder + os.pathsep + os.environ["PATH"], "PS1": PROMPT, "HISTFILE": "/dev/null", "INPUTRC": "/dev/null"}
 
 
 class Terminal:
-    """A bash that completes and edits lines, with a folder in front of its path."""
+    """A bash that completes and edits lines."""
 
-    def __init__(self, folder, wait=20):
-        self.wait, self.shown = wait, ""
+    def __init__(self, wait):
+        self.wait = wait
+
+    def until(self, text):
+        """What is shown up to this text, which is taken off; what there is so far where it does not come."""
+        end = time.monotonic() + self.wait
+        while text not in (shown := self.unread()) and time.monotonic() < end:
+            time.sleep(0.02)
+        before, found, _ = shown.partition(text)
+        self.take(len(before + found))
+        return before + found
+
+    def enter(self, line):
+        """Enters a line at the prompt, and returns the lines that are shown before the next."""
+        self.type(line + "\n")
+        return self.until(PROMPT).removesuffix(PROMPT).split("\n")[1:]
+
+
+class PseudoTerminal(Terminal):
+    """One behind a pseudo terminal, with all that is written there."""
+
+    def __init__(self, folder, wait):
+        super().__init__(wait)
+        self.shown = ""
         self.process, self.line = pty.fork()
         if not self.process:
             # (Python ignores a pipe that is closed, and so would all that it starts)
             signal.signal(signal.SIGPIPE, signal.SIG_DFL)
-            os.environ.update(PATH=folder + os.pathsep + os.environ["PATH"], PS1=PROMPT, TERM="dumb", HISTFILE="/dev/null", INPUTRC="/dev/null")
-            os.execvp("bash", ["bash", "--norc", "--noprofile", "-i"])
+            os.environ.update(surroundings(folder), TERM="dumb")
+            os.execvp(BASH[0], BASH)
 
     def close(self):
         os.kill(self.process, signal.SIGKILL)
@@ -35,22 +66,54 @@ class Terminal:
     def type(self, text):
         os.write(self.line, text.encode())
 
-    def until(self, text):
-        """What is shown up to this text, which is taken off; what there is so far where it does not come."""
-        end = time.monotonic() + self.wait
-        while text not in self.shown and time.monotonic() < end:
-            if select.select([self.line], [], [], 0.1)[0]:
-                try:
-                    self.shown += os.read(self.line, 4096).decode().replace("\r", "").replace("\x07", "")
-                except OSError:
-                    break
-        before, found, self.shown = self.shown.partition(text)
-        return before + found
+    def unread(self):
+        while select.select([self.line], [], [], 0)[0]:
+            try:
+                self.shown += os.read(self.line, 4096).decode().replace("\r", "").replace("\x07", "")
+            except OSError:
+                break
+        return self.shown
 
-    def enter(self, line):
-        """Enters a line at the prompt, and returns the lines that are shown before the next."""
-        self.type(line + "\n")
-        return self.until(PROMPT).removesuffix(PROMPT).split("\n")[1:]
+    def take(self, length):
+        self.shown = self.shown[length:]
+
+
+class Tmux(Terminal):
+    """One in a window of tmux, with what stands on its screen up to the cursor. No line is as long as the window is wide."""
+
+    KEYS = {"\n": "Enter", "\t": "Tab", END: "C-d", INTERRUPT: "C-c"}
+
+    def __init__(self, folder, wait):
+        super().__init__(wait)
+        self.place, self.taken = tempfile.TemporaryDirectory(), 0
+        self.around = {**os.environ, **surroundings(folder)}
+        self.asked("-f", "/dev/null", "new-session", "-d", "-x", "250", "-y", "50", *BASH)
+
+    def asked(self, *words):
+        """What tmux answers, by a server of its own; nothing where the shell has ended, and the server with it."""
+        server = os.path.join(self.place.name, "tmux")
+        return subprocess.run(["tmux", "-S", server, *words], env=self.around, capture_output=True, text=True, check=False, timeout=20).stdout
+
+    def close(self):
+        self.asked("kill-server")
+        self.place.cleanup()
+
+    def type(self, text):
+        for key in text:
+            # (a semicolon alone would end tmux's command)
+            self.asked("send-keys", *([self.KEYS[key]] if key in self.KEYS else ["-l", "--", "\\;" if key == ";" else key]))
+
+    def unread(self):
+        screen = self.asked("capture-pane", "-p", "-J", "-S", "-", ";", "display-message", "-p", "#{history_size} #{cursor_y}")
+        *lines, cursor = screen.splitlines() or ["0 0"]
+        above = sum(map(int, cursor.split()))
+        return "\n".join((lines + [""] * above)[: above + 1])[self.taken :]
+
+    def take(self, length):
+        self.taken += length
+
+
+TERMINALS = [PseudoTerminal, Tmux] if shutil.which("tmux") else [PseudoTerminal]
 
 
 def answers_at_once(terminal, completion):
@@ -118,26 +181,33 @@ WRONG = {
 }
 
 
-def holds(session, folder, completion, wait):
-    """Whether a session shows what it has to, with the program `dates` in that folder."""
-    terminal = Terminal(folder, wait)
+def holds(kind, session, folder, completion, wait):
+    """Whether a session at a terminal of this kind shows what it has to, with the program `dates` in that folder."""
+    terminal = kind(folder, wait)
     try:
         return terminal.until(PROMPT).endswith(PROMPT) and session(terminal, completion)
     finally:
         terminal.close()
 
 
-def is_found(session, program, completion):
+def is_found(kind, session, program, completion):
     """Whether a session fails with what is wrong in what it looks at."""
     with tempfile.TemporaryDirectory() as folder:
         place = os.path.join(folder, "dates")
         with open(place, "w") as out:
             out.write("#!/bin/bash\n" + (WRONG[session] or 'exec {program} "$@"').format(program=program) + "\n")
         os.chmod(place, os.stat(place).st_mode | stat.S_IXUSR)
-        return not holds(session, folder, "/dev/null" if WRONG[session] is None else completion, 5)
+        return not holds(kind, session, folder, "/dev/null" if WRONG[session] is None else completion, 5)
 
 
 def failures(program, folder, completion):
-    """The sessions that do not hold with the program, which is `dates` in that folder, and those that hold with a wrong one."""
-    failed = [it.__name__ for it in SESSIONS if not holds(it, folder, completion, 30)]
-    return failed + [f"{it.__name__} with a wrong program" for it in SESSIONS if not is_found(it, program, completion)]
+    """The sessions that do not hold with the program, which is `dates` in that folder, and those that hold with a wrong one; how many there are of both."""
+    failed = []
+    cases = [(kind, it) for kind in TERMINALS for it in SESSIONS]
+    for kind, it in cases:
+        name = f"{it.__name__} ({kind.__name__})"
+        if not holds(kind, it, folder, completion, 30):
+            failed.append(name)
+        if not is_found(kind, it, program, completion):
+            failed.append(f"{name} with a wrong program")
+    return failed, 2 * len(cases)

@@ -1,17 +1,17 @@
 //! When a schedule is due.
 
-use crate::fault::{ANSWERED, NONE, WRONG};
+use crate::fault::{ANSWERED, NONE, refuse};
 use crate::print::print_answer;
 use chrono_cron::{Schedule, read_schedule};
 use chrono_datetime::NaiveDateTime;
 use dates_answer::{Answer, Key, Way, due_next};
-use dates_request::Form;
+use dates_request::{Form, Why, Wrong};
 use std::alloc::Allocator;
-use std::io;
+use std::io::{self, Eprint};
 
 // The moments at which the schedule of the second word is due from a moment on or back, so many of them; `none` where there are fewer.
 pub(crate) fn answer_due(
-    rt: &impl Print,
+    rt: &(impl Print + Eprint),
     form: Form,
     from: NaiveDateTime,
     count: u64,
@@ -24,7 +24,10 @@ pub(crate) fn answer_due(
     };
     match schedule {
         Some(schedule) => print_due(rt, form, &schedule, from, count, way),
-        None => Ok(WRONG),
+        None => {
+            let why = Why::Schedule;
+            refuse(rt, form, words, Wrong { place: 2, why })
+        }
     }
 }
 

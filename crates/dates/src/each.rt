@@ -1,16 +1,16 @@
 //! Commands that are asked of each line of standard input.
 
-use crate::answer::answer;
-use crate::closed::put_listed;
+use crate::answer::{Asked, answer};
 use crate::distance::key_of;
 use crate::fault::{ANSWERED, NONE, WRONG, refuse};
+use crate::holidays::read_holidays;
+use crate::line_reader::LineReader;
 use crate::print::print_answer;
-use crate::source::{Source, refuse_source};
-use chrono_datetime::NaiveDate;
+use crate::source::{Place, Source, refuse_source};
 use dates_answer::{Answer, Key};
 use dates_request::{Form, Request, Start, Wrong, read_request};
 use std::alloc::Allocator;
-use std::io::{self, BufRead, BufReader, Eprint};
+use std::io::{self, Eprint};
 use std::rt::Files;
 
 // What stands for the day or the date-time of a line until one is read.
@@ -43,22 +43,20 @@ pub(crate) fn answer_each<R: Alloc + Print + Eprint + Input + Files>(
             return refuse(rt, form, words.as_slice(), fault);
         }
     };
-    let mut listed: Vec<NaiveDate, _> = Vec::new(rt.alloc());
-    if !put_listed(rt, words.as_slice(), request, &mut listed)? {
+    let Some(holidays) = read_holidays(rt, words.as_slice(), &request)? else {
         return Ok(WRONG);
-    }
+    };
     if is_left_out(lines) {
         let end = words.len();
         words.insert(lines.front.min(end), String::from_str(rt.alloc(), "-")?)?;
     }
-    answer_at(
-        rt,
+    let mut asked = Asked {
         form,
-        words.as_slice(),
-        lines.front,
-        request,
-        listed.as_slice(),
-    )
+        words: words.as_slice(),
+        place: Place::Alone,
+        holidays,
+    };
+    answer_at(rt, &mut asked, lines.front, &request)
 }
 
 // Where lines stand among the words: in the place of `-`, or where a day can be left out.
@@ -149,29 +147,26 @@ fn begins_as_day(word: &[u8]) -> bool {
 // Answers each line in the place of the word there, as words that ask for such a request; the exit status.
 fn answer_at(
     rt: &(impl Alloc + Print + Eprint + Input + Files),
-    form: Form,
-    words: &[String<impl Allocator>],
+    asked: &mut Asked<'_, impl Allocator, impl Allocator>,
     place: usize,
-    example: Request,
-    listed: &[NaiveDate],
+    example: &Request,
 ) -> io::Result<u8> {
+    let words = asked.words;
     let end = words.len();
     let front = &words[..place.min(end)];
     let back = &words[place.saturating_add(1).min(end)..];
     let mut status = ANSWERED;
-    for line in BufReader::new(rt.alloc(), rt.reader())?.split(rt.alloc(), b'\n') {
-        let line = match line {
-            Ok(line) => line,
+    let mut lines = LineReader::new(rt.alloc(), rt.reader())?;
+    for number in 1..u64::MAX {
+        let line = match lines.next_line() {
+            Ok(Some(line)) => line,
+            Ok(None) => break,
             Err(fault) => return refuse_source(rt, Source::Input, &fault),
         };
-        let of_line = match asked_with(rt, front, line.as_slice(), back)? {
-            Ok(Request::HelpOf { .. }) | Err(_) => answer_no_day(
-                rt,
-                form,
-                line.as_slice(),
-                example,
-            )?,
-            Ok(request) => answer(rt, form, request, words, listed)?,
+        asked.place = Place::Line(number);
+        let of_line = match asked_with(rt, front, line, back)? {
+            Ok(Request::HelpOf { .. }) | Err(_) => answer_no_day(rt, asked.form, line, example)?,
+            Ok(request) => answer(rt, asked, &request)?,
         };
         if of_line == WRONG {
             return Ok(WRONG);
@@ -182,14 +177,14 @@ fn answer_at(
 }
 
 // Answers a line that is no day, by the keys of such a request.
-fn answer_no_day(rt: &impl Print, form: Form, line: &[u8], example: Request) -> io::Result<u8> {
+fn answer_no_day(rt: &impl Print, form: Form, line: &[u8], example: &Request) -> io::Result<u8> {
     print_answer(rt, form, none_of(example, line))?;
     Ok(NONE)
 }
 
 // That there is no answer to a request, where a line is no day: one with a `T` in it may have been meant for a date-time.
-fn none_of(example: Request, line: &[u8]) -> Answer {
-    match example {
+fn none_of(example: &Request, line: &[u8]) -> Answer {
+    match *example {
         Request::Open { .. } => Answer::Nothing(Key::Open),
         Request::Distance { .. } => Answer::Nothing(Key::Days),
         Request::DistanceIn { unit, .. } => Answer::Nothing(key_of(unit)),

@@ -1,16 +1,30 @@
 //! The lines of a file, or of standard input, that are no days.
 
 use crate::fault::{ANSWERED, NONE};
+use crate::line_reader::LineReader;
 use crate::quoted::Quoted;
-use crate::reason::reason_for;
+use crate::reason::reason_of_line;
 use crate::source::{Source, refuse_source};
 use dates_request::{Form, NoDay, read_day};
+use std::alloc::Allocator;
 use std::fs;
-use std::io::{self, BufRead, BufReader, Eprint, Read};
+use std::io::{self, Eprint, Read};
 use std::rt::Files;
 
-// Each line of the file that the second word names and that is no day, by its number and why; the exit status.
-pub(crate) fn answer_file(
+// Each line of the file that the second word names, or of standard input without one, that is no day; the exit status.
+pub(crate) fn answer_check(
+    rt: &(impl Alloc + Print + Eprint + Input + Files),
+    form: Form,
+    words: &[String<impl Allocator>],
+) -> io::Result<u8> {
+    match words {
+        [_, file, ..] => answer_file(rt, form, file.as_str()),
+        _ => answer_input(rt, form),
+    }
+}
+
+// Each line of the file that is no day, by its number and why; the exit status.
+fn answer_file(
     rt: &(impl Alloc + Print + Eprint + Files),
     form: Form,
     file: &str,
@@ -41,15 +55,15 @@ fn answer_lines_of(
     source: Source<'_>,
 ) -> io::Result<u8> {
     let mut status = ANSWERED;
-    let mut number: u64 = 0;
-    for line in BufReader::new(rt.alloc(), reader)?.split(rt.alloc(), b'\n') {
-        number = number.saturating_add(1);
-        let line = match line {
-            Ok(line) => line,
+    let mut lines = LineReader::new(rt.alloc(), reader)?;
+    for number in 1..u64::MAX {
+        let line = match lines.next_line() {
+            Ok(Some(line)) => line,
+            Ok(None) => break,
             Err(fault) => return refuse_source(rt, source, &fault),
         };
-        if let Err(why) = read_day(line.as_slice()) {
-            print_fault(rt, form, number, line.as_slice(), why)?;
+        if let Err(why) = read_day(line) {
+            print_fault(rt, form, number, line, why)?;
             status = NONE;
         }
     }
@@ -64,7 +78,7 @@ fn print_fault(
     line: &[u8],
     why: NoDay,
 ) -> io::Result<()> {
-    let reason = reason_for(line, why);
+    let reason = reason_of_line(line, why);
     let text = Quoted { bytes: line };
     match form {
         Form::Text => println!(rt; "{number}: {reason}"),

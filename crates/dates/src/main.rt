@@ -10,6 +10,8 @@ mod each;
 mod fault;
 mod file;
 mod help;
+mod holidays;
+mod line_reader;
 mod lines;
 mod open;
 mod print;
@@ -57,7 +59,7 @@ fn run(rt: &(impl Env + Alloc + Print + Eprint + Input + Files)) -> io::Result<u
         let _ = words.pop();
     }
     match request {
-        Ok(request) => answer_words(rt, form, request, words.as_slice()),
+        Ok(request) => answer_words(rt, form, &request, words.as_slice()),
         Err(wrong) => answer_each(rt, form, &mut words, wrong),
     }
 }

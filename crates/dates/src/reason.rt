@@ -1,5 +1,6 @@
 //! Why a text names no day, as far as that can be told.
 
+use crate::line_reader::{MOST_BYTES, is_cut};
 use chrono_datetime::{Datelike, Month, NaiveDate};
 use chrono_text::{Text, read_two};
 use dates_request::{NoDay, read_day, read_moment};
@@ -30,6 +31,8 @@ pub enum Reason {
     CarriageReturn,
     /// There is no byte.
     Empty,
+    /// It has as many bytes as are kept of a line, or more.
+    Length,
     /// It is not written as a day is.
     Form,
 }
@@ -69,6 +72,7 @@ impl fmt::Display for Reason {
             Reason::Mark => f.write_str("begins with a byte order mark"),
             Reason::CarriageReturn => f.write_str("ends in a carriage return"),
             Reason::Empty => f.write_str("nothing stands there"),
+            Reason::Length => write!(f, "has {MOST_BYTES} bytes or more"),
             Reason::Form => f.write_str("not written as 2024-02-29, 2024-060 or 2024-W09-4"),
         }
     }
@@ -126,11 +130,12 @@ pub(crate) fn reason_for(text: &[u8], why: NoDay) -> Reason {
     }
 }
 
-// Why a text that names no day names none.
-pub(crate) fn reason_of(text: &[u8]) -> Reason {
-    match read_day(text) {
-        Ok(_) => Reason::Form,
-        Err(why) => reason_for(text, why),
+// Why a line names no day, as far as its first bytes tell.
+pub(crate) fn reason_of_line(line: &[u8], why: NoDay) -> Reason {
+    if is_cut(line) {
+        Reason::Length
+    } else {
+        reason_for(line, why)
     }
 }
 

@@ -1,13 +1,13 @@
 //! The instances of a recurrence rule.
 
-use crate::fault::{ANSWERED, NONE, WRONG};
+use crate::fault::{ANSWERED, NONE, refuse};
 use crate::print::print_answer;
 use chrono_datetime::NaiveDate;
 use chrono_rules::{Rule, read_rule};
 use dates_answer::{Answer, Key};
-use dates_request::Form;
+use dates_request::{Form, Why, Wrong};
 use std::alloc::Allocator;
-use std::io;
+use std::io::{self, Eprint};
 
 /// Which instances are wanted.
 #[derive(Clone, Copy)]
@@ -22,7 +22,7 @@ pub(crate) struct Wanted {
 
 // The instances of the rule of the second word that are wanted, a line each; `none` where there is none.
 pub(crate) fn answer_instances(
-    rt: &impl Print,
+    rt: &(impl Print + Eprint),
     form: Form,
     wanted: Wanted,
     words: &[String<impl Allocator>],
@@ -33,7 +33,10 @@ pub(crate) fn answer_instances(
     };
     match rule {
         Some(rule) => print_instances(rt, form, &rule, wanted),
-        None => Ok(WRONG),
+        None => {
+            let why = Why::Rule;
+            refuse(rt, form, words, Wrong { place: 2, why })
+        }
     }
 }
 

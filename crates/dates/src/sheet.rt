@@ -1,50 +1,46 @@
 //! A month or a year as a sheet.
 
-use crate::closed::{put_holidays, years_of};
-use crate::fault::{ANSWERED, WRONG};
+use crate::answer::Asked;
+use crate::closed::years_of;
+use crate::fault::ANSWERED;
 use crate::reason::Year;
 use crate::year::no_such_year;
 use chrono_business::Calendar;
 use chrono_datetime::{Datelike, Month, NaiveDate, Weekday};
 use dates_answer::{DayObject, Key, MonthSheet};
-use dates_request::{Form, SheetOptions, SheetTime};
+use dates_request::{Form, SheetTime};
+use std::alloc::Allocator;
 use std::io::{self, Eprint};
 
-// The month, or the months of the year, as sheets with closed days marked; `none` where the calendar has no such year.
+// The month, or the months of the year, as sheets with closed days marked, whose weeks begin on this weekday, and on Monday where none is
+// given; `none` where the calendar has no such year.
 pub(crate) fn answer_sheet(
-    rt: &(impl Alloc + Print + Eprint),
-    form: Form,
-    listed: &[NaiveDate],
+    rt: &(impl Print + Eprint),
+    asked: &mut Asked<'_, impl Allocator, impl Allocator>,
     time: SheetTime,
-    options: SheetOptions,
+    start: Option<Weekday>,
 ) -> io::Result<u8> {
+    let start = start.unwrap_or(Weekday::Mon);
     match time {
-        SheetTime::Month { first } => answer_month(rt, form, listed, first, options),
+        SheetTime::Month { first } => answer_month(rt, asked, first, start),
         SheetTime::Year { year } => match NaiveDate::from_ymd_opt(year, 1, 1) {
-            Some(first) => answer_year(rt, form, listed, first, options),
-            None => no_such_year(rt, form, Key::Date, year),
+            Some(first) => answer_year(rt, asked, first, start),
+            None => no_such_year(rt, asked.form, Key::Date, year),
         },
     }
 }
 
 // The month that begins on a day.
 fn answer_month(
-    rt: &(impl Alloc + Print + Eprint),
-    form: Form,
-    listed: &[NaiveDate],
+    rt: &impl Print,
+    asked: &mut Asked<'_, impl Allocator, impl Allocator>,
     month: NaiveDate,
-    options: SheetOptions,
+    start: Weekday,
 ) -> io::Result<u8> {
-    let mut days: Vec<NaiveDate, _> = Vec::new(rt.alloc());
-    let weekend = put_holidays(listed, options.closed, years_of(month, month), &mut days)?;
-    let Ok(calendar) = Calendar::try_new(weekend, days.as_slice()) else {
-        return Ok(WRONG);
-    };
+    let form = asked.form;
+    let calendar = asked.holidays.calendar(years_of(month, month))?;
     match form {
-        Form::Text => {
-            let start = start_of(options);
-            print_month(rt, &MonthSheet { month, start }, &calendar)?
-        }
+        Form::Text => print_month(rt, &MonthSheet { month, start }, &calendar)?,
         Form::Json => print_days(rt, month, month.last_day_of_month().day(), &calendar)?,
     }
     Ok(ANSWERED)
@@ -52,30 +48,18 @@ fn answer_month(
 
 // The year that begins on a day.
 fn answer_year(
-    rt: &(impl Alloc + Print + Eprint),
-    form: Form,
-    listed: &[NaiveDate],
+    rt: &impl Print,
+    asked: &mut Asked<'_, impl Allocator, impl Allocator>,
     first: NaiveDate,
-    options: SheetOptions,
+    start: Weekday,
 ) -> io::Result<u8> {
-    let mut days: Vec<NaiveDate, _> = Vec::new(rt.alloc());
-    let weekend = put_holidays(listed, options.closed, years_of(first, first), &mut days)?;
-    let Ok(calendar) = Calendar::try_new(weekend, days.as_slice()) else {
-        return Ok(WRONG);
-    };
+    let form = asked.form;
+    let calendar = asked.holidays.calendar(years_of(first, first))?;
     match form {
-        Form::Text => print_year(rt, first, start_of(options), &calendar)?,
+        Form::Text => print_year(rt, first, start, &calendar)?,
         Form::Json => print_days(rt, first, days_of_year(first), &calendar)?,
     }
     Ok(ANSWERED)
-}
-
-// The weekday on which weeks begin: Monday where none is given.
-fn start_of(options: SheetOptions) -> Weekday {
-    match options.start {
-        Some(day) => day,
-        None => Weekday::Mon,
-    }
 }
 
 // A month alone.

@@ -31,6 +31,24 @@ impl fmt::Display for Source<'_> {
     }
 }
 
+/// Which line of the input is answered, as `line 3: `; nothing where the words ask for one answer alone.
+#[derive(Clone, Copy)]
+pub enum Place {
+    /// One answer.
+    Alone,
+    /// The line of this number, from 1 on.
+    Line(u64),
+}
+
+impl fmt::Display for Place {
+    fn fmt<W: fmt::Write>(&self, f: &mut fmt::Formatter<W>) -> fmt::Result {
+        match self {
+            Place::Alone => Ok(()),
+            Place::Line(number) => write!(f, "line {number}: "),
+        }
+    }
+}
+
 // Says that lines cannot be read, and why; the exit status.
 pub(crate) fn refuse_source(
     rt: &impl Eprint,
