@@ -1,7 +1,7 @@
 -- Faults of words, put together.
-use Rattle.std.proofs.Common.{◌≡◌, ◌+◌, ◌*◌, ◌-◌, ◌<◌, ◌≤◌, ◌^◌, ℕ, ℤ, Bool, zero, suc, true, false, List, [], ◌∷◌, length, take, drop, get_or, Option, Some, None, Result, Err, IfErr, inl, inr, refl, sym, ap, subst, ◌∙◌, arith}
-use Rattle.std.specs.Prelude.{◌⊎◌, bytes_eq, codes}
-use Rattle.dates_request.specs.Faults.{BehindMeasure, Day, Ends, IsFault, IsTwice, Needs, Allows, OfAdd, OfCommand, OfDay, OfDiff, OfFirst, OfMeasure, OfMoves, OfOptions, OfRequest, OfRoll, OfSecond, OfSequence, OfSheetOptions, OfStep, Then, WrongClosed, WrongDay, WrongFirst, WrongOption, WrongPair, WrongPairAt, WrongStart, WrongValue, WrongValueOf, missing_value}
+use Rattle.std.proofs.Common.{◌≡◌, ◌+◌, ◌≤◌, ℕ, Bool, suc, true, false, List, [], ◌∷◌, length, get_or, Option, Some, None, Result, Err, IfErr, inl, inr, refl, sym, subst, ◌∙◌, arith}
+use Rattle.std.specs.Prelude.{bytes_eq, codes}
+use Rattle.dates_request.specs.Faults.{BehindMeasure, Ends, IsFault, OfAdd, OfCommand, OfDiff, OfFirst, OfMeasure, OfMoves, OfOptions, OfRequest, OfSecond, OfSheetOptions, Then, WrongClosed, WrongFirst, WrongOption, WrongPair, WrongPairAt, WrongValue, WrongValueOf, missing_value}
 use Rattle.dates_request.specs.DistanceRequests.{measure_named}
 use Rattle.dates_request.specs.MoveTexts.{NamesStart, has_time}
 use Rattle.dates_request.specs.OptionTexts.{IsOption, option_named}
@@ -17,7 +17,7 @@ use Rattle.dates_request.specs.declared.sheet.SheetOptions.{SheetOptions}
 use Rattle.dates_request.specs.declared.wrong.Why.{Why}
 use Rattle.dates_request.specs.declared.wrong.Why.TheVariants as why
 use Rattle.dates_request.specs.declared.wrong.Wrong.{Wrong}
-use Rattle.dates_request.proofs.WordLemmas.{Words, ahead, ahead_two, behind, no_word}
+use Rattle.dates_request.proofs.WordLemmas.{Words, ahead, behind, no_word}
 
 -- a fault, by its place and what it says
 pub fault : (of : List (List ℕ) → ℕ → Why → Type 0) (place n : ℕ) (words : List (List ℕ)) (w : Wrong) (v : Why) → w.place ≡ place + n → w.why ≡ v → of words n v → IsFault of place words w

@@ -1,5 +1,5 @@
 -- Faults of moves and of the options behind them.
-use Rattle.std.proofs.Common.{◌≡◌, ◌+◌, ◌<◌, ◌≤◌, ◌||◌, ℕ, zero, suc, Bool, true, false, List, [], ◌∷◌, length, take, drop, get_or, inl, inr, refl, sym, ap, subst, ◌∙◌, arith}
+use Rattle.std.proofs.Common.{◌≡◌, ◌+◌, ◌<◌, ◌≤◌, ◌||◌, ℕ, zero, suc, Bool, true, false, List, [], ◌∷◌, length, take, drop, get_or, inl, inr, refl, sym, subst, arith}
 use Rattle.std.specs.Prelude.{All}
 use Rattle.std.proofs.lemmas.List.{drop-map}
 use Rattle.std.specs.Borrow.{Bor}
@@ -42,7 +42,7 @@ no_move_at timed words n w within moves at here none = record {
     within = omega (arith, within, length-texts words);
     moves = moves;
     is = subst (λ (l : List (List ℕ)). Needs why.Move (WrongMove timed) l w.why) (sym (drop-map (λ (v : Bor (List ℕ)). v.now) n words))
-    (rest_needs why.Move (WrongMove timed) words n w.why within here none);
+        (rest_needs why.Move (WrongMove timed) words n w.why within here none);
   });
 }
 

@@ -1,9 +1,9 @@
 -- Options, pair by pair.
-use Rattle.std.proofs.Common.{◌≡◌, ◌<◌, ◌≤◌, ℕ, true, false, List, [], ◌∷◌, ◌+◌, ◌*◌, length, drop, get_or, Some, None, inl, inr, refl, sym, ap, subst, ◌∙◌, arith}
+use Rattle.std.proofs.Common.{◌≡◌, ◌<◌, ◌≤◌, ℕ, true, false, List, [], ◌∷◌, ◌+◌, ◌*◌, length, drop, get_or, Some, None, inl, inr, refl, sym, ap, ◌∙◌, arith}
 use Rattle.std.specs.Prelude.{bytes_eq}
 use Rattle.std.proofs.lemmas.List.{drop-drop}
 use Rattle.std.proofs.lemmas.Slice.Eq.{bytes_eq-Decides}
-use Rattle.dates_request.specs.Faults.{IsLeft, IsNoPair, IsPairAt}
+use Rattle.dates_request.specs.Faults.{IsLeft, IsPairAt}
 use Rattle.dates_request.specs.Options.{are_options, is_option, value_named}
 use Rattle.dates_request.specs.Requests.{texts}
 use Rattle.dates_request.proofs.CalendarOptionLemmas.{length-texts}

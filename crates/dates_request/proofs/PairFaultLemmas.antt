@@ -1,5 +1,5 @@
 -- Faults of options that are found by their names.
-use Rattle.std.proofs.Common.{◌≡◌, ◌+◌, ◌*◌, ◌-◌, ◌<◌, ◌≤◌, ℕ, true, false, List, [], ◌∷◌, length, drop, get_or, Option, Some, None, inl, inr, refl, sym, ap, subst, ◌∙◌, arith}
+use Rattle.std.proofs.Common.{◌≡◌, ◌+◌, ◌*◌, ◌-◌, ◌<◌, ◌≤◌, ℕ, true, false, List, [], ◌∷◌, length, drop, get_or, None, inl, inr, refl, sym, ap, subst, ◌∙◌, arith}
 use Rattle.std.specs.List.{list_any}
 use Rattle.std.specs.Prelude.{◌⊎◌, bytes_eq}
 use Rattle.std.proofs.lemmas.List.{get_or-drop, length-drop}
@@ -54,9 +54,10 @@ alone : (names : List (List ℕ)) (words : Words) (left : ℕ) (is : IsLeft name
     → ((get_or words (length words - 1) no_word).now ≡ is.word) × (is.behind ≡ [])
 alone names words left is one =
     let long = pairs_in_front names words left is in
-    let place : length words - 1 ≡ 2 * is.pairs = omega (arith, long.0, one) in
-    (ap (λ n. (get_or words n no_word).now) place ∙ last_word words (2 * is.pairs) is.word is.behind is.is_none.written (omega (arith, long.0, one)),
-    no_more is.word is.behind left is.count one)
+    let place : length words - 1 ≡ 2 * is.pairs = omega (arith, long.0, one) in (
+      ap (λ n. (get_or words n no_word).now) place ∙ last_word words (2 * is.pairs) is.word is.behind is.is_none.written (omega (arith, long.0, one)),
+      no_more is.word is.behind left is.count one,
+    )
 
 no_name : (names : List (List ℕ)) (word : List ℕ) (behind : List (List ℕ)) → list_any (bytes_eq word) names ≡ false → is_option names word behind ≡ false
 no_name names word behind other = rw other refl

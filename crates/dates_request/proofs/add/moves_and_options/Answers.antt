@@ -36,12 +36,12 @@ returns-in-Err-clause-every c = λ n o are.
     let e = c.in-Err.ensures.every o (gave _ _ no_options o (sym (behind_texts c.args.words.now c.moves_in_front-moves.result)) cut.1) in cc
 
 pub returns-then-moves-eq0-clause-cause : goal.returns-then-moves-eq0-clause-cause
-returns-then-moves-eq0-clause-cause c = 
+returns-then-moves-eq0-clause-cause c =
     c.no_moves.ensures c.args.timed (λ less writes.
     c.moves_in_front-moves.ensures.end (omega (arith, less, c.if-moves-eq0.true)) (subst (λ n. WritesMove c.args.timed (get_or (texts c.args.words.now) n [])) (sym c.if-moves-eq0.true) writes))
 
 pub returns-in-Err-clause-cause : goal.returns-in-Err-clause-cause
-returns-in-Err-clause-cause c = 
+returns-in-Err-clause-cause c =
     c.wrong_move.ensures c.args.timed (omega (arith, c.if-moves-eq0.false)) c.moves_in_front-moves.ensures.bound c.moves_in_front-moves.ensures.moves c.moves_in_front-moves.ensures.end
     (subst (λ l. IsFault (OfOptions no_options) (c.moves_in_front-moves.result + 3) l c.in-Err.wrong) (behind_texts c.args.words.now c.moves_in_front-moves.result)
     (subst (λ n. IsFault (OfOptions no_options) n (texts (behind c.moves_in_front-moves.result c.args.words.now)) c.in-Err.wrong) (search rules) (c.in-Err.ensures.cause (search rules))))

@@ -8,8 +8,15 @@ use Rattle.dates_request.proofs.day.month_of.Goals as goal
 
 pub returns-in_err-name-clause-none : goal.returns-in_err-name-clause-none
 returns-in_err-name-clause-none c = in_none c.from_residual-in_err-name.result ((first : ℤ) → IsInMonth c.args.text.now first → ⊥) (λ first is.
-    absurd (omega (arith, c.in_err-name.ensures.none, c.in_ok-front.ensures.cases.2, length_of_month c.args.text.now is.front is.day is.written,
-    length-append c.in_ok-front.front.now (codes "01"), length-append is.front (codes "01"), short_date _ first is.month)))
+    absurd (omega (
+      arith,
+      c.in_err-name.ensures.none,
+      c.in_ok-front.ensures.cases.2,
+      length_of_month c.args.text.now is.front is.day is.written,
+      length-append c.in_ok-front.front.now (codes "01"),
+      length-append is.front (codes "01"),
+      short_date _ first is.month,
+    )))
 
 pub returns-clause-none : goal.returns-clause-none
 returns-clause-none c = none_of _ (λ first. IsInMonth c.args.text.now first) (λ first is.

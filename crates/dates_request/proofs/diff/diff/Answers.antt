@@ -36,7 +36,7 @@ returns-in_default-clause-every c = λ r is.
     absurd (omega (arith, c.in_default.len_below, length-texts c.args.words.now, ap (λ (l : List (List ℕ)). length l) is.written))
 
 pub returns-in_err-start-clause-cause : goal.returns-in_err-start-clause-cause
-returns-in_err-start-clause-cause c = 
+returns-in_err-start-clause-cause c =
     let told = c.in_err-start.ensures.cause in
     if_err c.from_residual.result c.in_err-start.field-0.0 (λ w. IsFault OfDiff 2 (texts c.args.words.now) w) (search rules)
     (of_same OfDiff 2 _ _ _ (sym (ahead_two c.args.words.now c.in-len2-up.len_at_least)) (record { front = 0; at = omega (arith, told.0); is = told.1 }))

@@ -26,5 +26,5 @@ returns-in-Some-clause-cause c = IfErr-weaker c.last.result _ _
     (λ w is. widen _ OfToMoment 3 _ w (λ n v told. told) (behind_first (Needs why.Moment WrongMoment) Ends 3 4 c.args.second.now (texts c.args.rest.now) w refl is)) c.last.ensures.cause
 
 pub returns-in-None-clause-cause : goal.returns-in-None-clause-cause
-returns-in-None-clause-cause c = 
+returns-in-None-clause-cause c =
     fault OfToMoment 3 0 _ c.wrong_at.result why.Moment c.wrong_at.ensures.place c.wrong_at.ensures.why (refl, λ m is. none-some m (c.in-None.ensures.every m is))

@@ -1,4 +1,4 @@
-use Rattle.std.proofs.Common.{sym, ap, Some, refl, ◌∙◌, rules}
+use Rattle.std.proofs.Common.{Some, refl, ◌∙◌, rules}
 use Rattle.std.proofs.lemmas.Result.{IfErr-weaker}
 use Rattle.dates_request.specs.declared.distance.Measure.TheVariants as measure
 use Rattle.dates_request.specs.Requests.{texts}

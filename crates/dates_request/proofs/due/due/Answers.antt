@@ -18,12 +18,12 @@ returns-clause-every c = λ m n is.
     same_due c.in_ok-from.from m c.in_ok-count.count n (c.in_ok-from.ensures.every m (from_in cut.1 is.from)) (c.in_ok-count.ensures.every n (counted _ _ n cut.1 is.count))
 
 pub returns-in-Some-clause-cause : goal.returns-in-Some-clause-cause
-returns-in-Some-clause-cause c = 
+returns-in-Some-clause-cause c =
     of_same OfDue 2 _ _ c.no_option.result (sym (ahead c.args.words.now c.in-len1-up.len_at_least))
     (widen _ OfDue 2 _ _ (λ n v is. is) (behind_first (Needs why.Schedule WrongSchedule) OfDueOptions 2 3 _ _ _ refl (widen _ OfDueOptions 3 _ c.no_option.result (λ n v is. inl is) c.no_option.ensures)))
 
 pub returns-in_err-from-clause-cause : goal.returns-in_err-from-clause-cause
-returns-in_err-from-clause-cause c = 
+returns-in_err-from-clause-cause c =
     let told = c.in_err-from.ensures.cause in
     if_err c.from_residual.result c.in_err-from.field-0.0 (λ w. IsFault OfDue 2 (texts c.args.words.now) w) (search rules)
     (of_same OfDue 2 _ _ _ (sym (ahead c.args.words.now c.in-len1-up.len_at_least)) (widen _ OfDue 2 _ _ (λ n v is. is) (behind_first (Needs why.Schedule WrongSchedule) OfDueOptions 2 3 _ _ _ refl told)))
@@ -34,7 +34,7 @@ returns-in_err-count-clause-every c = λ m n is.
     let e = c.in_err-count.ensures.every n (counted _ _ n cut.1 is.count) in cc
 
 pub returns-in_err-count-clause-cause : goal.returns-in_err-count-clause-cause
-returns-in_err-count-clause-cause c = 
+returns-in_err-count-clause-cause c =
     let told = c.in_err-count.ensures.cause in
     if_err c.from_residual-in_err-count.result c.in_err-count.field-0.0 (λ w. IsFault OfDue 2 (texts c.args.words.now) w) (search rules)
     (of_same OfDue 2 _ _ _ (sym (ahead c.args.words.now c.in-len1-up.len_at_least)) (widen _ OfDue 2 _ _ (λ n v is. is) (behind_first (Needs why.Schedule WrongSchedule) OfDueOptions 2 3 _ _ _ refl told)))

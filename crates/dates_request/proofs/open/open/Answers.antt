@@ -1,4 +1,4 @@
-use Rattle.std.proofs.Common.{refl, sym, arith, rules}
+use Rattle.std.proofs.Common.{refl, sym, rules}
 use Rattle.dates_request.specs.OptionTexts.{no_options}
 use Rattle.dates_request.proofs.CalendarOptionLemmas.{gave}
 use Rattle.dates_request.proofs.WordLemmas.{ahead, cut_one, named}
@@ -37,7 +37,7 @@ returns-clause-every c = λ r is.
     let asked = is.is in cc
 
 pub returns-in_err-options-clause-cause : goal.returns-in_err-options-clause-cause
-returns-in_err-options-clause-cause c = 
+returns-in_err-options-clause-cause c =
     let told = c.in_err-options.ensures.cause (search rules) in
     if_err c.from_residual-in_err-options.result c.in_err-options.field-0.0 (λ w. IsFault OfOpen 2 (texts c.args.words.now) w) (search rules)
     (of_same OfOpen 2 _ _ _ (sym (ahead c.args.words.now c.in-len1-up.len_at_least)) (widen _ OfOpen 2 _ _ (λ n v is. is) (behind_first Day (OfOptions no_options) 2 3 _ _ _ refl told)))

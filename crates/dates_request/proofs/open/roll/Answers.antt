@@ -48,13 +48,13 @@ returns-clause-every c = λ r is.
     let asked = is.is in cc
 
 pub returns-in_err-convention-clause-cause : goal.returns-in_err-convention-clause-cause
-returns-in_err-convention-clause-cause c = 
+returns-in_err-convention-clause-cause c =
     let told = c.in_err-convention.ensures.cause in
     if_err c.from_residual-in_err-convention.result c.in_err-convention.field-0.0 (λ w. IsFault OfRoll 2 (texts c.args.words.now) w) (search rules)
     (of_same OfRoll 2 _ _ _ (sym (ahead_two c.args.words.now c.in-len2-up.len_at_least)) (record { front = 1; at = omega (arith, told.0); is = told.1 }))
 
 pub returns-in_err-options-clause-cause : goal.returns-in_err-options-clause-cause
-returns-in_err-options-clause-cause c = 
+returns-in_err-options-clause-cause c =
     let told = c.in_err-options.ensures.cause (search rules) in
     if_err c.from_residual-in_err-options.result c.in_err-options.field-0.0 (λ w. IsFault OfRoll 2 (texts c.args.words.now) w) (search rules)
     (of_same OfRoll 2 _ _ _ (sym (ahead_two c.args.words.now c.in-len2-up.len_at_least))

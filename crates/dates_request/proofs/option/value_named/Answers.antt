@@ -18,9 +18,10 @@ pub loop-rest-preserved : goal.loop-rest-preserved
 loop-rest-preserved c =
     let same = c.eq.ensures in
     let other = c.if-eq.false in
-    let behind : bytes_eq (get_or c.loop-rest.rest.now 0 no_word).now c.args.name.now ≡ false = cc in
-    (c.loop-rest.invariant.0 ∙ value_behind c.args.name.now c.loop-rest.rest.now c.in-len2-up.len_at_least behind,
-    rest_behind c.args.words.now c.loop-rest.rest.now c.in-len2-up.len_at_least c.loop-rest.invariant.1)
+    let behind : bytes_eq (get_or c.loop-rest.rest.now 0 no_word).now c.args.name.now ≡ false = cc in (
+      c.loop-rest.invariant.0 ∙ value_behind c.args.name.now c.loop-rest.rest.now c.in-len2-up.len_at_least behind,
+      rest_behind c.args.words.now c.loop-rest.rest.now c.in-len2-up.len_at_least c.loop-rest.invariant.1,
+    )
 
 pub returns : goal.returns
 returns c = record { value = sym (c.loop-rest.invariant.0 ∙ no_value c.args.name.now c.loop-rest.rest.now (omega arith)); place = tt }

@@ -4,10 +4,11 @@ use Rattle.dates_request.proofs.OptionLemmas.{left_alone, left_from, no_option, 
 use Rattle.dates_request.proofs.option.words_from_no_option.Goals as goal
 
 pub loop-rest-preserved : goal.loop-rest-preserved
-loop-rest-preserved c =
-    (c.loop-rest.invariant.0
-    ∙ option_here (texts c.args.names.now) c.loop-rest.rest.now c.in-len2-up.len_at_least (sym c.is_option.ensures ∙ c.if-not-is_option.false),
-    rest_behind c.args.words.now c.loop-rest.rest.now c.in-len2-up.len_at_least c.loop-rest.invariant.1)
+loop-rest-preserved c = (
+  c.loop-rest.invariant.0
+      ∙ option_here (texts c.args.names.now) c.loop-rest.rest.now c.in-len2-up.len_at_least (sym c.is_option.ensures ∙ c.if-not-is_option.false),
+  rest_behind c.args.words.now c.loop-rest.rest.now c.in-len2-up.len_at_least c.loop-rest.invariant.1,
+)
 
 pub returns-then-not-is_option-clause-some : goal.returns-then-not-is_option-clause-some
 returns-then-not-is_option-clause-some c =

@@ -13,6 +13,6 @@ returns-then-is_empty-clause-every c = λ r is.
     let asked = is.is in cc
 
 pub returns-else-is_empty-clause-cause : goal.returns-else-is_empty-clause-cause
-returns-else-is_empty-clause-cause c = 
+returns-else-is_empty-clause-cause c =
     widen _ OfDay 1 _ c.wrong_at.result (λ n v is. is) (behind_first Day Ends 1 2 c.args.first.now (texts c.args.rest.now) c.wrong_at.result refl
     (of_end 2 c.args.rest.now c.wrong_at.result (search rules) c.wrong_at.ensures.place c.wrong_at.ensures.why))

@@ -37,7 +37,7 @@ returns-clause-every c = λ r is.
     c.sequence.ensures.every r (asked IsSequence _ _ _ _ _ _ r cut.2 from to is.is)
 
 pub returns-in_err-to-clause-cause : goal.returns-in_err-to-clause-cause
-returns-in_err-to-clause-cause c = 
+returns-in_err-to-clause-cause c =
     let told = c.in_err-to.ensures.cause in
     if_err c.from_residual-in_err-to.result c.in_err-to.field-0.0 (λ w. IsFault OfSequence 2 (texts c.args.words.now) w) (search rules)
     (of_same OfSequence 2 _ _ _ (sym (ahead_two c.args.words.now c.in-len2-up.len_at_least)) (record { front = 1; at = omega (arith, told.0); is = told.1 }))

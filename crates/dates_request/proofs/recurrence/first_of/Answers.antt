@@ -1,4 +1,4 @@
-use Rattle.std.proofs.Common.{sym, subst, ◌<◌, ◌^◌, length, codes, inl, inr, refl, arith, rules}
+use Rattle.std.proofs.Common.{sym, subst, ◌<◌, ◌^◌, length, codes, inl, inr, arith, rules}
 use Rattle.dates_request.specs.RuleRequests.{IsFirst}
 use Rattle.std.proofs.lemmas.Result.{IfErr-weaker}
 use Rattle.dates_request.specs.Faults.{IsWrongValue, OfRuleOptions, WrongDay}
@@ -10,7 +10,7 @@ pub returns-clause-every : goal.returns-clause-every
 returns-clause-every c = λ n is. c.day_at.ensures.every n (subst (λ v. IsFirst v c.args.start n) (sym c.in-Some.ensures.value) is)
 
 pub returns-clause-cause : goal.returns-clause-cause
-returns-clause-cause c = 
+returns-clause-cause c =
     let pair = c.in-Some.ensures.place in
     let small : length c.args.options.now < 2 ^ 63 = search rules in
     IfErr-weaker c.day_at.result _ _ (λ w told.

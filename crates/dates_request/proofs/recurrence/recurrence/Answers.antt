@@ -32,24 +32,24 @@ returns-clause-every c = λ r is.
     same_instances c.in_ok-start.start is.start c.in_ok-from.from is.from c.in_ok-most.most is.most r start from most is.is
 
 pub returns-in-Some-clause-cause : goal.returns-in-Some-clause-cause
-returns-in-Some-clause-cause c = 
+returns-in-Some-clause-cause c =
     of_same OfRule 2 _ _ c.no_option.result (sym (ahead c.args.words.now c.in-len1-up.len_at_least))
     (widen _ OfRule 2 _ _ (λ n v is. is) (behind_first (Needs why.Rule WrongRule) OfRuleOptions 2 3 _ _ _ refl (widen _ OfRuleOptions 3 _ c.no_option.result (λ n v is. inl is) c.no_option.ensures)))
 
 pub returns-in_err-start-clause-cause : goal.returns-in_err-start-clause-cause
-returns-in_err-start-clause-cause c = 
+returns-in_err-start-clause-cause c =
     let told = c.in_err-start.ensures.cause in
     if_err c.from_residual.result c.in_err-start.field-0.0 (λ w. IsFault OfRule 2 (texts c.args.words.now) w) (search rules)
     (of_same OfRule 2 _ _ _ (sym (ahead c.args.words.now c.in-len1-up.len_at_least)) (widen _ OfRule 2 _ _ (λ n v is. is) (behind_first (Needs why.Rule WrongRule) OfRuleOptions 2 3 _ _ _ refl told)))
 
 pub returns-in_err-from-clause-cause : goal.returns-in_err-from-clause-cause
-returns-in_err-from-clause-cause c = 
+returns-in_err-from-clause-cause c =
     let told = c.in_err-from.ensures.cause in
     if_err c.from_residual-in_err-from.result c.in_err-from.field-0.0 (λ w. IsFault OfRule 2 (texts c.args.words.now) w) (search rules)
     (of_same OfRule 2 _ _ _ (sym (ahead c.args.words.now c.in-len1-up.len_at_least)) (widen _ OfRule 2 _ _ (λ n v is. is) (behind_first (Needs why.Rule WrongRule) OfRuleOptions 2 3 _ _ _ refl told)))
 
 pub returns-in_err-most-clause-cause : goal.returns-in_err-most-clause-cause
-returns-in_err-most-clause-cause c = 
+returns-in_err-most-clause-cause c =
     let told = c.in_err-most.ensures.cause in
     if_err c.from_residual-in_err-most.result c.in_err-most.field-0.0 (λ w. IsFault OfRule 2 (texts c.args.words.now) w) (search rules)
     (of_same OfRule 2 _ _ _ (sym (ahead c.args.words.now c.in-len1-up.len_at_least)) (widen _ OfRule 2 _ _ (λ n v is. is) (behind_first (Needs why.Rule WrongRule) OfRuleOptions 2 3 _ _ _ refl told)))

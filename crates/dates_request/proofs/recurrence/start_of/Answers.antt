@@ -1,4 +1,4 @@
-use Rattle.std.proofs.Common.{sym, ◌∙◌, ◌<◌, ◌^◌, length, codes, inl, inr, refl, arith, rules}
+use Rattle.std.proofs.Common.{sym, ◌∙◌, ◌<◌, ◌^◌, length, codes, inl, inr, arith, rules}
 use Rattle.std.proofs.lemmas.Option.{same_Some}
 use Rattle.dates_request.proofs.WordLemmas.{named}
 use Rattle.std.proofs.lemmas.Result.{IfErr-weaker}
@@ -14,13 +14,13 @@ returns-clause-every c = λ n is.
     c.day_at.ensures.every n (named (sym text) is.is_day)
 
 pub returns-in_default-clause-cause : goal.returns-in_default-clause-cause
-returns-in_default-clause-cause c = 
+returns-in_default-clause-cause c =
     let small : length c.args.options.now < 2 ^ 63 = search rules in
     widen (IsMissing (codes "--start") why.Start) OfRuleOptions 3 _ c.wrong_at.result (λ n v is. inr (inl is))
     (of_missing (codes "--start") why.Start c.args.options.now c.wrong_at.result (omega (arith, c.wrong_at.ensures.place, c.place_of.ensures)) c.wrong_at.ensures.why (search rules))
 
 pub returns-clause-cause : goal.returns-clause-cause
-returns-clause-cause c = 
+returns-clause-cause c =
     let pair = c.in-Some.ensures.place in
     let small : length c.args.options.now < 2 ^ 63 = search rules in
     IfErr-weaker c.day_at.result _ _ (λ w told.

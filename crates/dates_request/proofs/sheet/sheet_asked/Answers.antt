@@ -1,5 +1,5 @@
 use Rattle.std.proofs.Common.{refl, sym, rules}
-use Rattle.dates_request.specs.SheetRequests.{IsSheetTime, no_sheet_options}
+use Rattle.dates_request.specs.SheetRequests.{no_sheet_options}
 use Rattle.dates_request.proofs.SheetLemmas.{gave_sheet, timed}
 use Rattle.dates_request.proofs.WordLemmas.{ahead, cut_one}
 use Rattle.dates_request.specs.Faults.{IsFault, Needs, OfSheet, OfSheetOptions, WrongSheet}

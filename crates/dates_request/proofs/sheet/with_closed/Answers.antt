@@ -1,5 +1,4 @@
-use Rattle.std.proofs.Common.{◌∷◌, rules}
-use Rattle.dates_request.specs.Faults.{WrongOption}
+use Rattle.std.proofs.Common.{◌∷◌}
 use Rattle.dates_request.proofs.sheet.with_closed.Goals as goal
 
 pub returns-in-Ok-clause-every : goal.returns-in-Ok-clause-every
