@@ -1,5 +1,7 @@
 -- A text is at most one kind of name of a day.
-use Rattle.std.proofs.Common.{◌≡◌, ℕ, ◌+◌, ◌/◌, ◌%◌, List, [], ◌∷◌, ◌++◌, codes, get_or, ℤ, Option, Some, None, inl, inr, refl, sym, ap, ◌∙◌, append_assoc, arith}
+use Rattle.std.proofs.Common.{◌≡◌, ℕ, ◌+◌, ◌-◌, ◌/◌, ◌%◌, List, [], ◌∷◌, ◌++◌, codes, length, take, get_or, ℤ, Option, Some, None, IfNone, inl, inr, refl, sym, ap, ◌∙◌, append_assoc, arith}
+use Rattle.std.proofs.Math.Seq.{take-append_seam}
+use Rattle.std.proofs.lemmas.List.{length-append}
 use Rattle.std.proofs.lemmas.Option.{none-some}
 use Rattle.chrono_datetime.specs.Weekday.{number_from_monday}
 use Rattle.chrono_text.specs.Text.{all_digits, two_digits, year_text, calendar_text, ordinal_text, week_date_text}
@@ -51,3 +53,21 @@ pub by_week : (text : List ℕ) (r : Option ℤ) (n : ℤ) → ((k : ℤ) → Is
 by_week text r n none also every (inl is) = absurd (none-some n (none n is))
 by_week text r n none also every (inr (inl is)) = absurd (none-some n (also n is))
 by_week text r n none also every (inr (inr is)) = every n is
+
+-- a text in a month, cut in front of its day
+pub length_of_month : (text front : List ℕ) (day : ℕ) → front ++ two_digits day ≡ text → length front + 2 ≡ length text
+length_of_month text front day e = omega (arith, length-append front (two_digits day), ap (λ (c : List ℕ). length c) e)
+
+pub cut_month : (text front : List ℕ) (day : ℕ) → front ++ two_digits day ≡ text → take (length text - 2) text ≡ front
+cut_month text front day e =
+    let long : length text - 2 ≡ length front = omega (arith, length_of_month text front day e) in
+    ap (λ n. take n text) long ∙ ap (λ (c : List ℕ). take (length front) c) (sym e) ∙ take-append_seam front (two_digits day)
+
+-- there is none
+pub in_none : (r : Option ℤ) (P : Type 0) → P → IfNone r P
+in_none None P is = is
+in_none (Some n) P is = tt
+
+pub none_of : (r : Option ℤ) (P : ℤ → Type 0) → ((n : ℤ) → P n → r ≡ Some n) → IfNone r ((n : ℤ) → P n → ⊥)
+none_of None P every = λ n is. none-some n (every n is)
+none_of (Some n) P every = tt

@@ -1,5 +1,5 @@
 -- Whether `--help` stands alone behind a command.
-use Rattle.std.proofs.Common.{◌≡◌, ◌≤◌, ℕ, [], ◌∷◌, false, length, get_or, refl, arith}
+use Rattle.std.proofs.Common.{◌≡◌, ◌≤◌, [], ◌∷◌, false, length, get_or, refl, arith}
 use Rattle.std.specs.Prelude.{bytes_eq, codes}
 use Rattle.dates_request.specs.Requests.{is_help_alone, texts}
 use Rattle.dates_request.proofs.WordLemmas.{Words, no_word}

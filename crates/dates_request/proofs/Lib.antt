@@ -4,9 +4,12 @@ mod CheckLemmas
 mod DayLemmas
 mod DiffLemmas
 mod DueLemmas
+mod FaultLemmas
 mod HelpLemmas
 mod FormLemmas
+mod MoveFaultLemmas
 mod MoveLemmas
+mod PairFaultLemmas
 mod OptionLemmas
 mod RuleLemmas
 mod SpanLemmas

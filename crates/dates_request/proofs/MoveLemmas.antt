@@ -175,3 +175,7 @@ of_moment text m (DateTime k) none every names = let e = every k names.is in cc
 pub of_none : (text : List ℕ) (r : Result Start Wrong) (s : Start) → ((n : ℤ) → NamesDay text n → ⊥) → ((k : Moment) → IsMomentText text k → None ≡ Some k) → NamesStart text s → r ≡ begun s
 of_none text r (Day n) none every names = absurd (none n names)
 of_none text r (DateTime k) none every names = absurd (none-some k (every k names.is))
+
+pub never_start : (text : List ℕ) → ((n : ℤ) → NamesDay text n → ⊥) → ((k : Moment) → IsMomentText text k → None ≡ Some k) → (s : Start) → NamesStart text s → ⊥
+never_start text none every (Day n) names = none n names
+never_start text none every (DateTime k) names = none-some k (every k names.is)

@@ -1,8 +1,12 @@
 -- Options, pair by pair.
-use Rattle.std.proofs.Common.{◌≡◌, ◌<◌, ◌≤◌, ℕ, true, false, List, [], ◌∷◌, length, get_or, Some, None, refl, ap, ◌∙◌, arith}
+use Rattle.std.proofs.Common.{◌≡◌, ◌<◌, ◌≤◌, ℕ, true, false, List, [], ◌∷◌, ◌+◌, ◌*◌, length, drop, get_or, Some, None, inl, inr, refl, sym, ap, ◌∙◌, arith}
 use Rattle.std.specs.Prelude.{bytes_eq}
+use Rattle.std.proofs.lemmas.List.{drop-drop}
+use Rattle.std.proofs.lemmas.Slice.Eq.{bytes_eq-Decides}
+use Rattle.dates_request.specs.Faults.{IsLeft, IsPairAt}
 use Rattle.dates_request.specs.Options.{are_options, is_option, value_named}
 use Rattle.dates_request.specs.Requests.{texts}
+use Rattle.dates_request.proofs.CalendarOptionLemmas.{length-texts}
 use Rattle.dates_request.proofs.WordLemmas.{Words, ahead_two, behind, no_word}
 
 pub value_here : (name : List ℕ) (words : Words) → 2 ≤ length words → bytes_eq (get_or words 0 no_word).now name ≡ true
@@ -41,3 +45,40 @@ unfolding are_options
 one_word names [] one = absurd (omega (arith, one))
 one_word names (w ∷ []) one = refl
 one_word names (w ∷ v ∷ words) one = absurd (omega (arith, one))
+
+-- the rest stands behind so many pairs
+abbrev pub IsRest : Words → Words → Type 0
+IsRest words rest = (pairs : ℕ) × (drop (2 * pairs) (texts words) ≡ texts rest)
+
+pub whole : (words : Words) → IsRest words words
+whole words = (0, refl)
+
+pub rest_behind : (words rest : Words) → 2 ≤ length rest → IsRest words rest → IsRest words (behind 2 rest)
+rest_behind words rest two is =
+    let more : 2 * (is.0 + 1) ≡ 2 * is.0 + 2 = omega arith in
+    (is.0 + 1, ap (λ n. drop n (texts words)) more ∙ sym (drop-drop 2 (2 * is.0) (texts words)) ∙ ap (λ (l : List (List ℕ)). drop 2 l) (is.1 ∙ ahead_two rest two))
+
+pub pair_at : (name : List ℕ) (words rest : Words) → 2 ≤ length rest → IsRest words rest → bytes_eq (get_or rest 0 no_word).now name ≡ true
+    → IsPairAt name (texts words) (get_or rest 1 no_word).now (length (behind 2 rest))
+pair_at name words rest two is same = record {
+  pairs = is.0;
+  behind = texts (behind 2 rest);
+  written = is.1 ∙ ahead_two rest two ∙ ap (λ (w : List ℕ). w ∷ (get_or rest 1 no_word).now ∷ texts (behind 2 rest)) ((bytes_eq-Decides (get_or rest 0 no_word).now name).0 same);
+  count = sym (length-texts (behind 2 rest));
+}
+
+pub left_from : (names : List (List ℕ)) (words rest : Words) → 2 ≤ length rest → IsRest words rest → is_option names (get_or rest 0 no_word).now (texts (behind 2 rest)) ≡ false
+    → IsLeft names (texts words) (length rest)
+left_from names words rest two is other =
+    let here : texts rest ≡ (get_or rest 0 no_word).now ∷ (get_or rest 1 no_word).now ∷ texts (behind 2 rest) = ahead_two rest two in record {
+      pairs = is.0;
+      word = (get_or rest 0 no_word).now;
+      behind = (get_or rest 1 no_word).now ∷ texts (behind 2 rest);
+      is_none = record { written = is.1 ∙ here; none = inl other };
+      count = sym (length-texts rest) ∙ ap (λ (l : List (List ℕ)). length l) here;
+    }
+
+pub left_alone : (names : List (List ℕ)) (words rest : Words) → length rest ≡ 1 → IsRest words rest → IsLeft names (texts words) 1
+left_alone names words [] one is = absurd (omega (arith, one))
+left_alone names words (w ∷ []) one is = record { pairs = is.0; word = w.now; behind = []; is_none = record { written = is.1; none = inr refl }; count = refl }
+left_alone names words (w ∷ v ∷ rest) one is = absurd (omega (arith, one))

@@ -17,10 +17,20 @@ pub record IsInMonth (text : List ℕ) (first : ℤ) : Type 0 where
   pub written : front ++ two_digits day ≡ text
   pub month : IsDateText (front ++ codes "01") first
 
--- why a text names no day: the month that it names has no such day, or else
+-- the text names no day, though a month: so the month has no such day
+pub record IsPastMonth (text : List ℕ) (first : ℤ) : Type 0 where
+  pub no_day : (n : ℤ) → ¬ IsDayText text n
+  pub month : IsInMonth text first
+
+-- the text names no day and no month
+pub record IsNoForm (text : List ℕ) : Type 0 where
+  pub no_day : (n : ℤ) → ¬ IsDayText text n
+  pub no_month : (first : ℤ) → ¬ IsInMonth text first
+
+-- why a text names no day: the month that it names has no such day, or it names no month either
 abbrev pub IsReason : List ℕ → NoDay → Type 0
-IsReason text (PastMonth first) = IsInMonth text first
-IsReason text Form = (n : ℤ) → ¬ IsDayText text n
+IsReason text (PastMonth first) = IsPastMonth text first
+IsReason text Form = IsNoForm text
 
 -- the text names a day
 pub record NamesDay (text : List ℕ) (n : ℤ) : Type 0 where

@@ -15,3 +15,4 @@ pub mod YearTexts
 pub mod SheetRequests
 pub mod RuleRequests
 pub mod Requests
+pub mod Faults

@@ -61,7 +61,8 @@ fn reason(text: &[u8]) -> NoDay
 
 // The first day of the month that the text names, in which a day of two digits follows.
 fn month_of(text: &[u8]) -> Option<NaiveDate>
-    ensures { IfSome result (λ first. IsInMonth text.now first) }
+    ensures some { IfSome result (λ first. IsInMonth text.now first) }
+    ensures none { IfNone result ((first : ℤ) → ¬ IsInMonth text.now first) }
 {
     let (front, [tens, ones]) = text.split_last_chunk::<2>()?;
     let _day = read_two(*tens, *ones)?;

@@ -1,7 +1,8 @@
 //! What is asked of two days, or of two date-times.
-ghost use Rattle.std.specs.Prelude.{◌≡◌, Ok, IfOk};
+ghost use Rattle.std.specs.Prelude.{◌≡◌, ◌<◌, ◌∷◌, Ok, IfOk, IfErr, length};
 ghost use Rattle.chrono_datetime.specs.Moment.{Moment};
 ghost use Rattle.dates_request.specs.DiffRequests.{IsDiff, IsFromStart, IsToDay, IsToMoment};
+ghost use Rattle.dates_request.specs.Faults.{IsFault, OfDiff, OfSecond, OfToDay, OfToMoment};
 ghost use Rattle.dates_request.specs.MomentTexts.{IsMomentText};
 ghost use Rattle.dates_request.specs.Requests.{texts};
 ghost use Rattle.dates_request.specs.declared.request.Request.{Request};
@@ -19,6 +20,7 @@ use chrono_datetime::{NaiveDate, NaiveDateTime};
 pub(crate) fn diff(words: &[&[u8]]) -> Result<Request, Wrong>
     ensures read { IfOk result (λ r. IsDiff (texts words.now) r) }
     ensures every { (r : Request) → IsDiff (texts words.now) r → result ≡ Ok r }
+    ensures cause { IfErr result (λ w. IsFault OfDiff 2 (texts words.now) w) }
 {
     let [first, second, rest @ ..] = words else {
         return Err(too_few(words));
@@ -31,6 +33,7 @@ pub(crate) fn diff(words: &[&[u8]]) -> Result<Request, Wrong>
 fn from_start(start: Start, second: &[u8], rest: &[&[u8]]) -> Result<Request, Wrong>
     ensures read { IfOk result (λ r. IsFromStart start second.now (texts rest.now) r) }
     ensures every { (r : Request) → IsFromStart start second.now (texts rest.now) r → result ≡ Ok r }
+    ensures cause { IfErr result (λ w. IsFault (OfSecond start) 3 (second.now ∷ texts rest.now) w) }
 {
     match start {
         Start::Day(from) => to_day(from, second, rest),
@@ -42,6 +45,7 @@ fn from_start(start: Start, second: &[u8], rest: &[&[u8]]) -> Result<Request, Wr
 fn to_day(from: NaiveDate, second: &[u8], rest: &[&[u8]]) -> Result<Request, Wrong>
     ensures read { IfOk result (λ r. IsToDay from second.now (texts rest.now) r) }
     ensures every { (r : Request) → IsToDay from second.now (texts rest.now) r → result ≡ Ok r }
+    ensures cause { IfErr result (λ w. IsFault OfToDay 3 (second.now ∷ texts rest.now) w) }
 {
     match day_at(3, second) {
         Ok(to) => distance(from, to, rest),
@@ -53,6 +57,7 @@ fn to_day(from: NaiveDate, second: &[u8], rest: &[&[u8]]) -> Result<Request, Wro
 fn to_moment(from: NaiveDateTime, second: &[u8], rest: &[&[u8]]) -> Result<Request, Wrong>
     ensures read { IfOk result (λ r. IsToMoment from second.now (texts rest.now) r) }
     ensures every { (r : Request) → IsToMoment from second.now (texts rest.now) r → result ≡ Ok r }
+    ensures cause { IfErr result (λ w. IsFault OfToMoment 3 (second.now ∷ texts rest.now) w) }
 {
     match read_moment(second) {
         Some(to) => last(4, rest, Request::Duration { from, to }),
@@ -61,8 +66,11 @@ fn to_moment(from: NaiveDateTime, second: &[u8], rest: &[&[u8]]) -> Result<Reque
 }
 
 // The fault where fewer than two words follow: the first is wrong, or one is missing.
-fn too_few(words: &[&[u8]]) -> Wrong {
-    let Some(first) = words.first() else {
+fn too_few(words: &[&[u8]]) -> Wrong
+    requires { length words.now < 2 }
+    ensures { IsFault OfDiff 2 (texts words.now) result }
+{
+    let [first, ..] = words else {
         return wrong_at(2, Why::Moved);
     };
     match start_at(2, first) {

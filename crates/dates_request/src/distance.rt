@@ -1,7 +1,9 @@
 //! How far it is from one day to another: in what that is asked.
-ghost use Rattle.std.specs.Prelude.{◌≡◌, ℤ, Ok, IfOk, true, false, codes};
+ghost use Rattle.std.specs.Prelude.{◌≡◌, ℕ, ℤ, List, [], ◌∷◌, Ok, IfOk, IfErr, true, false, codes};
 ghost use Rattle.dates_request.specs.Alone.{IsAlone};
 ghost use Rattle.dates_request.specs.DistanceRequests.{AreOpenDays, InMeasure, IsDistance, measure_named};
+ghost use Rattle.dates_request.specs.Faults.{Ends, IsFault, OfDistance, OfMeasure, OfOptions};
+ghost use Rattle.dates_request.specs.OptionTexts.{no_options};
 ghost use Rattle.dates_request.specs.Requests.{texts};
 ghost use Rattle.dates_request.specs.declared.request.Request.{Request};
 
@@ -27,6 +29,7 @@ pub(crate) enum Measure {
 pub(crate) fn distance(from: NaiveDate, to: NaiveDate, words: &[&[u8]]) -> Result<Request, Wrong>
     ensures read { IfOk result (λ r. IsDistance (texts words.now) from to r) }
     ensures every { (r : Request) → IsDistance (texts words.now) from to r → result ≡ Ok r }
+    ensures cause { IfErr result (λ w. IsFault OfDistance 4 (texts words.now) w) }
 {
     match words {
         [] => Ok(Request::Distance { from, to }),
@@ -52,7 +55,9 @@ fn is_in(word: &[u8]) -> bool
 }
 
 // The fault where one word stands behind two days: it is not `in`, or no measure follows it.
-fn after_in(word: &[u8]) -> Wrong {
+fn after_in(word: &[u8]) -> Wrong
+    ensures { IsFault OfDistance 4 (word.now ∷ []) result }
+{
     if is_in(word) {
         wrong_at(5, Why::Measure)
     } else {
@@ -69,6 +74,7 @@ fn in_measure(
 ) -> Result<Request, Wrong>
     ensures read { IfOk result (λ r. InMeasure measure (texts words.now) from to r) }
     ensures every { (r : Request) → InMeasure measure (texts words.now) from to r → result ≡ Ok r }
+    ensures cause { (word : List ℕ) → measure_named word ≡ measure → IfErr result (λ w. IsFault OfMeasure 5 (word ∷ texts words.now) w) }
 {
     match measure {
         Some(Measure::Whole(unit)) => last(6, words, Request::DistanceIn { from, to, unit }),
@@ -82,6 +88,7 @@ fn in_measure(
 pub(crate) fn last(place: usize, words: &[&[u8]], asked: Request) -> Result<Request, Wrong>
     ensures read { IfOk result (λ r. IsAlone (texts words.now) asked r) }
     ensures every { (r : Request) → IsAlone (texts words.now) asked r → result ≡ Ok r }
+    ensures cause { IfErr result (λ w. IsFault Ends place (texts words.now) w) }
 {
     if words.is_empty() {
         Ok(asked)
@@ -94,6 +101,7 @@ pub(crate) fn last(place: usize, words: &[&[u8]], asked: Request) -> Result<Requ
 fn open_days(from: NaiveDate, to: NaiveDate, words: &[&[u8]]) -> Result<Request, Wrong>
     ensures read { IfOk result (λ r. AreOpenDays (texts words.now) from to r) }
     ensures every { (r : Request) → AreOpenDays (texts words.now) from to r → result ≡ Ok r }
+    ensures cause { IfErr result (λ w. IsFault (OfOptions no_options) 6 (texts words.now) w) }
 {
     match options_at(6, words, NO_OPTIONS) {
         Ok(options) => Ok(Request::DistanceInOpenDays { from, to, options }),

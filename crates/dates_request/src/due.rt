@@ -1,7 +1,8 @@
 //! What is asked of a schedule: which it is, from which moment on, and how many of its minutes.
-ghost use Rattle.std.specs.Prelude.{◌≡◌, ℕ, Ok, Some, IfOk, IfSome, true, false, codes};
+ghost use Rattle.std.specs.Prelude.{◌≡◌, ◌+◌, ◌-◌, ℕ, Ok, Some, IfOk, IfErr, IfSome, true, false, codes, length};
 ghost use Rattle.chrono_datetime.specs.Moment.{Moment};
 ghost use Rattle.dates_request.specs.DueRequests.{IsAmountText, IsCount, IsDue, IsFrom, WritesSchedule};
+ghost use Rattle.dates_request.specs.Faults.{IsFault, IsLeft, IsNoOption, OfDue, OfDueOptions};
 ghost use Rattle.dates_request.specs.Options.{value_named};
 ghost use Rattle.dates_request.specs.Requests.{texts};
 
@@ -16,6 +17,7 @@ use chrono_text::read_decimal;
 pub(crate) fn due(words: &[&[u8]]) -> Result<(NaiveDateTime, u64), Wrong>
     ensures read { IfOk result (λ d. IsDue (texts words.now) d.0 d.1) }
     ensures every { (m : Moment) (n : ℕ) → IsDue (texts words.now) m n → result ≡ Ok (m, n) }
+    ensures cause { IfErr result (λ w. IsFault OfDue 2 (texts words.now) w) }
 {
     let [schedule, options @ ..] = words else {
         return Err(wrong_at(2, Why::Schedule));
@@ -44,13 +46,21 @@ fn writes_schedule(word: &[u8]) -> bool
 }
 
 // The fault where so many words are left from the first on that is no option: it is no such name, or has no value.
-pub(crate) fn no_option(names: &[&[u8]], options: &[&[u8]], left: usize, why: Why) -> Wrong {
+pub(crate) fn no_option(names: &[&[u8]], options: &[&[u8]], left: usize, why: Why) -> Wrong
+    requires { IsLeft (texts names.now) (texts options.now) left }
+    ensures { IsFault (IsNoOption why (texts names.now)) 3 (texts options.now) result }
+{
     let place = place_of(options, left);
-    match options.last() {
-        Some(word) if left == 1 && is_one_of(word, names) => {
-            wrong_at(place.saturating_add(1), Why::Value)
-        }
-        _ => wrong_at(place, why),
+    if left != 1 {
+        return wrong_at(place, why);
+    }
+    let [.., word] = options else {
+        return wrong_at(place, why);
+    };
+    if is_one_of(word, names) {
+        wrong_at(place.saturating_add(1), Why::Value)
+    } else {
+        wrong_at(place, why)
     }
 }
 
@@ -58,6 +68,7 @@ pub(crate) fn no_option(names: &[&[u8]], options: &[&[u8]], left: usize, why: Wh
 fn from_of(options: &[&[u8]]) -> Result<NaiveDateTime, Wrong>
     ensures read { IfOk result (λ m. IsFrom (texts options.now) m) }
     ensures every { (m : Moment) → IsFrom (texts options.now) m → result ≡ Ok m }
+    ensures cause { IfErr result (λ w. IsFault OfDueOptions 3 (texts options.now) w) }
 {
     let Some((text, left)) = value_named(b"--from", options) else {
         return Err(wrong_at(place_of(options, 0), Why::From));
@@ -72,6 +83,7 @@ fn from_of(options: &[&[u8]]) -> Result<NaiveDateTime, Wrong>
 fn count_of(options: &[&[u8]]) -> Result<u64, Wrong>
     ensures read { IfOk result (λ n. IsCount (value_named (codes "--count") (texts options.now)) n) }
     ensures every { (n : ℕ) → IsCount (value_named (codes "--count") (texts options.now)) n → result ≡ Ok n }
+    ensures cause { IfErr result (λ w. IsFault OfDueOptions 3 (texts options.now) w) }
 {
     let Some((text, left)) = value_named(b"--count", options) else {
         return Ok(1);
@@ -95,6 +107,8 @@ pub(crate) fn read_amount(text: &[u8]) -> Option<u64>
 }
 
 // The place of the option's word from which on so many are left; options begin behind a command and one word more.
-pub(crate) fn place_of(options: &[&[u8]], left: usize) -> usize {
+pub(crate) fn place_of(options: &[&[u8]], left: usize) -> usize
+    ensures { result ≡ length options.now - left + 3 }
+{
     options.len().saturating_sub(left).saturating_add(3)
 }

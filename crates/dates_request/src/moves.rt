@@ -1,5 +1,7 @@
 //! Moves: spans, open days and times, and what they move.
-ghost use Rattle.std.specs.Prelude.{◌≡◌, ℤ, Ok, Some, IfOk, IfSome, true, false};
+ghost use Rattle.std.specs.Prelude.{◌≡◌, ℕ, ℤ, List, Ok, Some, IfOk, IfErr, IfSome, true, false};
+ghost use Rattle.dates_request.specs.DayTexts.{IsReason};
+ghost use Rattle.dates_request.specs.Faults.{WrongStart};
 ghost use Rattle.dates_request.specs.MoveTexts.{IsMoveText, IsNumberOf, NamesStart, WritesMove, has_time, is_of_days};
 ghost use Rattle.dates_request.specs.declared.moves.Move.{Move};
 ghost use Rattle.dates_request.specs.declared.moves.Start.{Start};
@@ -70,6 +72,7 @@ fn number_of(text: &[u8], unit: &[u8]) -> Option<i64>
 pub(crate) fn start_at(place: usize, word: &[u8]) -> Result<Start, Wrong>
     ensures read { IfOk result (λ s. NamesStart word.now s) }
     ensures every { (s : Start) → NamesStart word.now s → result ≡ Ok s }
+    ensures cause { IfErr result (λ w. (w.place ≡ place) × WrongStart word.now w.why) }
 {
     match read_day(word) {
         Ok(date) => Ok(Start::Day(date)),
@@ -84,7 +87,9 @@ pub(crate) fn start_at(place: usize, word: &[u8]) -> Result<Start, Wrong>
 }
 
 // What was expected where a text names no day for this reason, and no moment.
-fn no_start(why: NoDay) -> Why {
+fn no_start(why: NoDay) -> Why
+    ensures { (word : List ℕ) → IsReason word why → ((s : Start) → NamesStart word s → ⊥) → WrongStart word result }
+{
     match why {
         NoDay::PastMonth { .. } => Why::Day(why),
         NoDay::Form => Why::Moved,

@@ -1,5 +1,6 @@
 //! What is asked of open days.
-ghost use Rattle.std.specs.Prelude.{◌≡◌, Ok, IfOk};
+ghost use Rattle.std.specs.Prelude.{◌≡◌, ◌<◌, Ok, IfOk, IfErr, length};
+ghost use Rattle.dates_request.specs.Faults.{IsFault, OfOpen, OfRoll, WrongConvention};
 ghost use Rattle.dates_request.specs.Requests.{texts};
 ghost use Rattle.dates_request.specs.OpenRequests.{IsOpen, IsRoll, convention_named};
 ghost use Rattle.dates_request.specs.declared.open.Convention.{Convention};
@@ -10,7 +11,7 @@ use crate::name::is_named;
 use crate::options::{NO_OPTIONS, options_at};
 use crate::request::Request;
 use crate::word::day_at;
-use crate::wrong::{Why, Wrong};
+use crate::wrong::{Why, Wrong, wrong_at};
 
 /// Where a closed day goes. An open one stays.
 #[derive(Clone, Copy, Debug, PartialEq, Eq)]
@@ -33,9 +34,10 @@ pub enum Convention {
 pub(crate) fn open(words: &[&[u8]]) -> Result<Request, Wrong>
     ensures read { IfOk result (λ r. IsOpen (texts words.now) r) }
     ensures every { (r : Request) → IsOpen (texts words.now) r → result ≡ Ok r }
+    ensures cause { IfErr result (λ w. IsFault OfOpen 2 (texts words.now) w) }
 {
     let [day, rest @ ..] = words else {
-        return Err(no_day());
+        return Err(wrong_at(2, Why::Day(NoDay::Form)));
     };
     let date = day_at(2, day)?;
     let options = options_at(3, rest, NO_OPTIONS)?;
@@ -46,6 +48,7 @@ pub(crate) fn open(words: &[&[u8]]) -> Result<Request, Wrong>
 pub(crate) fn roll(words: &[&[u8]]) -> Result<Request, Wrong>
     ensures read { IfOk result (λ r. IsRoll (texts words.now) r) }
     ensures every { (r : Request) → IsRoll (texts words.now) r → result ≡ Ok r }
+    ensures cause { IfErr result (λ w. IsFault OfRoll 2 (texts words.now) w) }
 {
     let [day, word, rest @ ..] = words else {
         return Err(before_convention(words));
@@ -61,24 +64,16 @@ pub(crate) fn roll(words: &[&[u8]]) -> Result<Request, Wrong>
 }
 
 // The fault where no convention follows: the first word is no day, or the convention is missing.
-fn before_convention(words: &[&[u8]]) -> Wrong {
-    let Some(day) = words.first() else {
-        return no_day();
+fn before_convention(words: &[&[u8]]) -> Wrong
+    requires { length words.now < 2 }
+    ensures { IsFault OfRoll 2 (texts words.now) result }
+{
+    let [day, ..] = words else {
+        return wrong_at(2, Why::Day(NoDay::Form));
     };
     match day_at(2, day) {
-        Ok(_) => Wrong {
-            place: 3,
-            why: Why::Convention,
-        },
+        Ok(_) => wrong_at(3, Why::Convention),
         Err(wrong) => wrong,
-    }
-}
-
-// The fault where the day is missing.
-fn no_day() -> Wrong {
-    Wrong {
-        place: 2,
-        why: Why::Day(NoDay::Form),
     }
 }
 
@@ -86,6 +81,7 @@ fn no_day() -> Wrong {
 fn convention_at(place: usize, word: &[u8]) -> Result<Convention, Wrong>
     ensures read { IfOk result (λ c. convention_named word.now ≡ Some c) }
     ensures every { (c : Convention) → convention_named word.now ≡ Some c → result ≡ Ok c }
+    ensures cause { IfErr result (λ w. (w.place ≡ place) × WrongConvention word.now w.why) }
 {
     match convention_named(word) {
         Some(convention) => Ok(convention),

@@ -3,12 +3,14 @@ ghost use Rattle.std.specs.Prelude.{◌≡◌, ◌∷◌, ℕ, List, true, false
 ghost use Rattle.std.specs.List.{list_any};
 ghost use Rattle.std.specs.Str.{bytes_eq};
 ghost use Rattle.std.specs.Option.{option_map};
+ghost use Rattle.dates_request.specs.Faults.{IsLeft, IsPairAt};
 ghost use Rattle.dates_request.specs.Options.{are_options, is_option, value_named};
 ghost use Rattle.dates_request.specs.Requests.{texts};
 
 // The value of the first pair with this name, and how many words stand behind it.
 pub(crate) fn value_named<'a>(name: &[u8], words: &'a [&'a [u8]]) -> Option<(&'a [u8], usize)>
-    ensures { option_map (λ v. v.0.now) result ≡ value_named name.now (texts words.now) }
+    ensures value { option_map (λ v. v.0.now) result ≡ value_named name.now (texts words.now) }
+    ensures place { IfSome result (λ v. IsPairAt name.now (texts words.now) v.0.now v.1) }
 {
     let mut rest = words;
     while let [word, value, others @ ..] = rest {
@@ -24,6 +26,7 @@ pub(crate) fn value_named<'a>(name: &[u8], words: &'a [&'a [u8]]) -> Option<(&'a
 pub(crate) fn words_from_no_option(names: &[&[u8]], words: &[&[u8]]) -> Option<usize>
     ensures some { IfSome result (λ left. are_options (texts names.now) (texts words.now) ≡ false) }
     ensures none { IfNone result (are_options (texts names.now) (texts words.now) ≡ true) }
+    ensures left { IfSome result (λ left. IsLeft (texts names.now) (texts words.now) left) }
 {
     let mut rest = words;
     while let [word, _, others @ ..] = rest {

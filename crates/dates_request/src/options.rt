@@ -1,8 +1,11 @@
 //! The options behind the arguments of a request: which days are closed.
-ghost use Rattle.std.specs.Prelude.{◌≡◌, ◌<◌, Ok, Some, IfOk, IfSome, None, length};
+ghost use Rattle.std.specs.Prelude.{◌≡◌, ◌<◌, ◌+◌, ◌^◌, ℕ, List, [], ◌∷◌, Ok, Some, IfOk, IfErr, IfSome, None, length};
 ghost use Rattle.chrono_datetime.specs.WeekdaySet.{DaySet};
+ghost use Rattle.dates_request.specs.Faults.{IsFault, OfOptions, WrongOption, WrongPair, WrongPairAt, missing_value};
 ghost use Rattle.dates_request.specs.OptionTexts.{AreOptions, AreTwoDays, GivesCalendar, GivesFile, GivesWeekend, HasValue, IsNoDay, IsOneDay, IsOption, IsWeekendText, calendar_named, option_named, weekday_named};
 ghost use Rattle.dates_request.specs.Requests.{texts};
+ghost use Rattle.dates_request.specs.declared.options.OptionName.{OptionName};
+ghost use Rattle.dates_request.specs.declared.options.OptionName.TheVariants as option;
 ghost use Rattle.dates_request.specs.declared.options.Options.{Options};
 
 use crate::name::is_named;
@@ -53,6 +56,7 @@ pub(crate) const NO_OPTIONS: Options = Options {
 pub(crate) fn options_at(place: usize, words: &[&[u8]], given: Options) -> Result<Options, Wrong>
     ensures read { IfOk result (λ o. AreOptions (texts words.now) given o) }
     ensures every { (o : Options) → AreOptions (texts words.now) given o → result ≡ Ok o }
+    ensures cause { place + length words.now < 2 ^ 63 → IfErr result (λ w. IsFault (OfOptions given) place (texts words.now) w) }
 {
     match words {
         [] => Ok(given),
@@ -65,7 +69,9 @@ pub(crate) fn options_at(place: usize, words: &[&[u8]], given: Options) -> Resul
 }
 
 // The fault where one word stands alone: it is no option, or its value is missing.
-pub(crate) fn without_value(place: usize, name: &[u8]) -> Wrong {
+pub(crate) fn without_value(place: usize, name: &[u8]) -> Wrong
+    ensures { (given : Options) → place < 2 ^ 63 → WrongOption given place name.now [] result }
+{
     match option_named(name) {
         Some(option) => Wrong {
             place: place.saturating_add(1),
@@ -79,7 +85,9 @@ pub(crate) fn without_value(place: usize, name: &[u8]) -> Wrong {
 }
 
 // What is expected as an option's value.
-fn value_of(option: OptionName) -> Why {
+fn value_of(option: OptionName) -> Why
+    ensures { result ≡ missing_value option }
+{
     match option {
         OptionName::Weekend => Why::Weekend,
         OptionName::Calendar => Why::Calendar,
@@ -97,6 +105,7 @@ pub(crate) fn option_at(
 ) -> Result<Options, Wrong>
     ensures read { IfOk result (λ o. IsOption name.now value.now behind given o) }
     ensures every { (o : Options) → IsOption name.now value.now behind given o → result ≡ Ok o }
+    ensures cause { (words : List (List ℕ)) → place < 2 ^ 63 → IfErr result (λ w. WrongOption given place name.now (value.now ∷ words) w) }
 {
     match option_named(name) {
         Some(option) => value_at(place, option, value, behind, given),
@@ -117,6 +126,7 @@ fn value_at(
 ) -> Result<Options, Wrong>
     ensures read { IfOk result (λ o. HasValue option value.now behind given o) }
     ensures every { (o : Options) → HasValue option value.now behind given o → result ≡ Ok o }
+    ensures cause { place < 2 ^ 63 → IfErr result (λ w. WrongPairAt place option given value.now w) }
 {
     match with_value(option, value, behind, given) {
         Ok(options) => Ok(options),
@@ -125,7 +135,9 @@ fn value_at(
 }
 
 // The fault of an option at this place: of the option itself where it is given twice, and else of its value.
-fn wrong_value(place: usize, why: Why) -> Wrong {
+fn wrong_value(place: usize, why: Why) -> Wrong
+    ensures { (option : OptionName) (given : Options) (value : List ℕ) → place < 2 ^ 63 → WrongPair option given value why → WrongPairAt place option given value result }
+{
     match why {
         Why::Once => Wrong { place, why },
         _ => Wrong {
@@ -144,6 +156,7 @@ fn with_value(
 ) -> Result<Options, Why>
     ensures read { IfOk result (λ o. HasValue option value.now behind given o) }
     ensures every { (o : Options) → HasValue option value.now behind given o → result ≡ Ok o }
+    ensures cause { IfErr result (λ w. WrongPair option given value.now w) }
 {
     match option {
         OptionName::Weekend => with_weekend(value, given),
@@ -156,6 +169,7 @@ fn with_value(
 fn with_weekend(value: &[u8], given: Options) -> Result<Options, Why>
     ensures read { IfOk result (λ o. GivesWeekend value.now given o) }
     ensures every { (o : Options) → GivesWeekend value.now given o → result ≡ Ok o }
+    ensures cause { IfErr result (λ w. WrongPair option.Weekend given value.now w) }
 {
     if given.weekend.is_some() {
         return Err(Why::Once);
@@ -174,6 +188,7 @@ fn with_weekend(value: &[u8], given: Options) -> Result<Options, Why>
 fn with_calendar(value: &[u8], given: Options) -> Result<Options, Why>
     ensures read { IfOk result (λ o. GivesCalendar value.now given o) }
     ensures every { (o : Options) → GivesCalendar value.now given o → result ≡ Ok o }
+    ensures cause { IfErr result (λ w. WrongPair option.Calendar given value.now w) }
 {
     if given.calendar.is_some() {
         return Err(Why::Once);
@@ -192,6 +207,7 @@ fn with_calendar(value: &[u8], given: Options) -> Result<Options, Why>
 fn with_file(value: &[u8], behind: usize, given: Options) -> Result<Options, Why>
     ensures read { IfOk result (λ o. GivesFile value.now behind given o) }
     ensures every { (o : Options) → GivesFile value.now behind given o → result ≡ Ok o }
+    ensures cause { IfErr result (λ w. WrongPair option.Holidays given value.now w) }
 {
     if given.file.is_some() {
         return Err(Why::Once);

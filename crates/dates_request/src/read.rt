@@ -1,10 +1,12 @@
 //! The request that arguments make.
-ghost use Rattle.std.specs.Prelude.{◌≡◌, ◌∷◌, [], ℤ, Ok, Some, IfOk, bytes_eq, codes};
+ghost use Rattle.std.specs.Prelude.{◌≡◌, ◌<◌, ◌≤◌, ◌∷◌, [], ℤ, Ok, Some, IfOk, IfErr, bytes_eq, codes, length};
 ghost use Rattle.dates_request.specs.declared.request.Request.{Request};
 ghost use Rattle.dates_request.specs.declared.request.Request.TheVariants as request;
 ghost use Rattle.dates_request.specs.declared.command.Command.TheVariants as command;
+ghost use Rattle.dates_request.specs.declared.wrong.Why.TheVariants as fault;
 ghost use Rattle.dates_request.specs.Alone.{IsAlone};
 ghost use Rattle.dates_request.specs.DueRequests.{IsOfSchedule};
+ghost use Rattle.dates_request.specs.Faults.{Ends, IsFault, OfCheck, OfCommand, OfDay, OfDue, OfRequest, OfSequence, OfStep, OfWeek, OfYear, WrongFile};
 ghost use Rattle.dates_request.specs.Requests.{AsksFor, CommandAsks, HasArguments, IsCheck, IsDay, IsEaster, IsLeap, IsOfTwoDays, IsRequest, IsSequence, IsSource, IsWeek, is_help_alone, texts};
 
 use crate::add::add;
@@ -27,6 +29,7 @@ use chrono_datetime::NaiveDate;
 pub fn read_request(words: &[&[u8]]) -> Result<Request, Wrong>
     ensures read { IfOk result (λ r. IsRequest (texts words.now) r) }
     ensures every { (r : Request) → IsRequest (texts words.now) r → result ≡ Ok r }
+    ensures cause { IfErr result (λ w. IsFault OfRequest 1 (texts words.now) w) }
 {
     let [first, rest @ ..] = words else {
         return Ok(Request::Lines);
@@ -41,6 +44,7 @@ pub fn read_request(words: &[&[u8]]) -> Result<Request, Wrong>
 fn one_day(first: &[u8], rest: &[&[u8]]) -> Result<Request, Wrong>
     ensures read { IfOk result (λ r. IsDay first.now (texts rest.now) r) }
     ensures every { (r : Request) → IsDay first.now (texts rest.now) r → result ≡ Ok r }
+    ensures cause { IfErr result (λ w. IsFault OfDay 1 (first.now ∷ texts rest.now) w) }
 {
     let date = day_at(1, first)?;
     if rest.is_empty() {
@@ -54,6 +58,7 @@ fn one_day(first: &[u8], rest: &[&[u8]]) -> Result<Request, Wrong>
 fn arguments(command: Command, words: &[&[u8]]) -> Result<Request, Wrong>
     ensures read { IfOk result (λ r. CommandAsks (is_help_alone (texts words.now)) command (texts words.now) r) }
     ensures every { (r : Request) → CommandAsks (is_help_alone (texts words.now)) command (texts words.now) r → result ≡ Ok r }
+    ensures cause { IfErr result (λ w. IsFault (OfCommand command) 2 (texts words.now) w) }
 {
     if is_help_alone(words) {
         Ok(Request::HelpOf { command })
@@ -76,6 +81,7 @@ fn is_help_alone(words: &[&[u8]]) -> bool
 fn other_arguments(command: Command, words: &[&[u8]]) -> Result<Request, Wrong>
     ensures read { IfOk result (λ r. HasArguments command (texts words.now) r) }
     ensures every { (r : Request) → HasArguments command (texts words.now) r → result ≡ Ok r }
+    ensures cause { IfErr result (λ w. IsFault (OfCommand command) 2 (texts words.now) w) }
 {
     match command {
         Command::Lines => alone(words, Request::Lines),
@@ -101,6 +107,7 @@ fn other_arguments(command: Command, words: &[&[u8]]) -> Result<Request, Wrong>
 fn alone(words: &[&[u8]], asked: Request) -> Result<Request, Wrong>
     ensures read { IfOk result (λ r. IsAlone (texts words.now) asked r) }
     ensures every { (r : Request) → IsAlone (texts words.now) asked r → result ≡ Ok r }
+    ensures cause { IfErr result (λ w. IsFault Ends 2 (texts words.now) w) }
 {
     if words.is_empty() {
         Ok(asked)
@@ -113,6 +120,7 @@ fn alone(words: &[&[u8]], asked: Request) -> Result<Request, Wrong>
 fn seq(words: &[&[u8]]) -> Result<Request, Wrong>
     ensures read { IfOk result (λ r. IsOfTwoDays IsSequence (texts words.now) r) }
     ensures every { (r : Request) → IsOfTwoDays IsSequence (texts words.now) r → result ≡ Ok r }
+    ensures cause { IfErr result (λ w. IsFault OfSequence 2 (texts words.now) w) }
 {
     let [first, second, rest @ ..] = words else {
         return Err(too_few_days(words));
@@ -126,6 +134,7 @@ fn seq(words: &[&[u8]]) -> Result<Request, Wrong>
 fn sequence(from: NaiveDate, to: NaiveDate, words: &[&[u8]]) -> Result<Request, Wrong>
     ensures read { IfOk result (λ r. IsSequence (texts words.now) from to r) }
     ensures every { (r : Request) → IsSequence (texts words.now) from to r → result ≡ Ok r }
+    ensures cause { IfErr result (λ w. IsFault OfStep 4 (texts words.now) w) }
 {
     match words {
         [] => Ok(Request::Sequence { from, to }),
@@ -138,8 +147,11 @@ fn sequence(from: NaiveDate, to: NaiveDate, words: &[&[u8]]) -> Result<Request, 
 }
 
 // The fault where two days are wanted and fewer words follow: the first is no day, or one is missing.
-fn too_few_days(words: &[&[u8]]) -> Wrong {
-    let Some(first) = words.first() else {
+fn too_few_days(words: &[&[u8]]) -> Wrong
+    requires { length words.now < 2 }
+    ensures { IsFault OfSequence 2 (texts words.now) result }
+{
+    let [first, ..] = words else {
         return wrong_at(2, NO_DAY);
     };
     match day_at(2, first) {
@@ -152,6 +164,7 @@ fn too_few_days(words: &[&[u8]]) -> Wrong {
 fn week(words: &[&[u8]]) -> Result<Request, Wrong>
     ensures read { IfOk result (λ r. IsWeek (texts words.now) r) }
     ensures every { (r : Request) → IsWeek (texts words.now) r → result ≡ Ok r }
+    ensures cause { IfErr result (λ w. IsFault OfWeek 2 (texts words.now) w) }
 {
     let [only] = words else {
         return Err(not_one(words, Why::Week));
@@ -164,6 +177,7 @@ fn week(words: &[&[u8]]) -> Result<Request, Wrong>
 fn easter(words: &[&[u8]]) -> Result<Request, Wrong>
     ensures read { IfOk result (λ r. IsEaster (texts words.now) r) }
     ensures every { (r : Request) → IsEaster (texts words.now) r → result ≡ Ok r }
+    ensures cause { IfErr result (λ w. IsFault OfYear 2 (texts words.now) w) }
 {
     let [only] = words else {
         return Err(not_one(words, Why::Year));
@@ -176,6 +190,7 @@ fn easter(words: &[&[u8]]) -> Result<Request, Wrong>
 fn leap(words: &[&[u8]]) -> Result<Request, Wrong>
     ensures read { IfOk result (λ r. IsLeap (texts words.now) r) }
     ensures every { (r : Request) → IsLeap (texts words.now) r → result ≡ Ok r }
+    ensures cause { IfErr result (λ w. IsFault OfYear 2 (texts words.now) w) }
 {
     let [only] = words else {
         return Err(not_one(words, Why::Year));
@@ -188,6 +203,7 @@ fn leap(words: &[&[u8]]) -> Result<Request, Wrong>
 fn check(words: &[&[u8]]) -> Result<Request, Wrong>
     ensures read { IfOk result (λ r. IsCheck (texts words.now) r) }
     ensures every { (r : Request) → IsCheck (texts words.now) r → result ≡ Ok r }
+    ensures cause { IfErr result (λ w. IsFault OfCheck 2 (texts words.now) w) }
 {
     match words {
         [] => Ok(Request::CheckInput),
@@ -200,6 +216,7 @@ fn check(words: &[&[u8]]) -> Result<Request, Wrong>
 fn source(file: &[u8]) -> Result<Request, Wrong>
     ensures read { IfOk result (λ r. IsSource (bytes_eq file.now (codes "-")) file.now r) }
     ensures every { (r : Request) → IsSource (bytes_eq file.now (codes "-")) file.now r → result ≡ Ok r }
+    ensures cause { IfErr result (λ w. (w.place ≡ 2) × WrongFile file.now w.why) }
 {
     if is_named(file, b"-") {
         Ok(Request::CheckInput)
@@ -214,6 +231,7 @@ fn source(file: &[u8]) -> Result<Request, Wrong>
 fn next(words: &[&[u8]]) -> Result<Request, Wrong>
     ensures read { IfOk result (λ r. IsOfSchedule request.Next (texts words.now) r) }
     ensures every { (r : Request) → IsOfSchedule request.Next (texts words.now) r → result ≡ Ok r }
+    ensures cause { IfErr result (λ w. IsFault OfDue 2 (texts words.now) w) }
 {
     match due(words) {
         Ok((from, count)) => Ok(Request::Next { from, count }),
@@ -225,6 +243,7 @@ fn next(words: &[&[u8]]) -> Result<Request, Wrong>
 fn prev(words: &[&[u8]]) -> Result<Request, Wrong>
     ensures read { IfOk result (λ r. IsOfSchedule request.Prev (texts words.now) r) }
     ensures every { (r : Request) → IsOfSchedule request.Prev (texts words.now) r → result ≡ Ok r }
+    ensures cause { IfErr result (λ w. IsFault OfDue 2 (texts words.now) w) }
 {
     match due(words) {
         Ok((from, count)) => Ok(Request::Prev { from, count }),
@@ -233,7 +252,10 @@ fn prev(words: &[&[u8]]) -> Result<Request, Wrong>
 }
 
 // The fault where one word is wanted, and none follows or more do.
-fn not_one(words: &[&[u8]], why: Why) -> Wrong {
+fn not_one(words: &[&[u8]], why: Why) -> Wrong
+    ensures none { length words.now ≡ 0 → (result.place ≡ 2) × (result.why ≡ why) }
+    ensures more { 2 ≤ length words.now → (result.place ≡ 3) × (result.why ≡ fault.End) }
+{
     if words.is_empty() {
         wrong_at(2, why)
     } else {

@@ -1,6 +1,7 @@
 //! What is asked of a recurrence rule: which it is, from which day on it recurs, and which of its instances.
-ghost use Rattle.std.specs.Prelude.{◌≡◌, ℕ, ℤ, Ok, Option, IfOk, true, false, codes};
+ghost use Rattle.std.specs.Prelude.{◌≡◌, ℕ, ℤ, Ok, Option, IfOk, IfErr, true, false, codes};
 ghost use Rattle.dates_request.specs.RuleRequests.{IsFirst, IsMost, IsRecurrence, IsStart, WritesRule};
+ghost use Rattle.dates_request.specs.Faults.{IsFault, OfRule, OfRuleOptions};
 ghost use Rattle.dates_request.specs.Options.{value_named};
 ghost use Rattle.dates_request.specs.Requests.{texts};
 ghost use Rattle.dates_request.specs.declared.request.Request.{Request};
@@ -17,6 +18,7 @@ use chrono_rules::read_rule;
 pub(crate) fn recurrence(words: &[&[u8]]) -> Result<Request, Wrong>
     ensures read { IfOk result (λ r. IsRecurrence (texts words.now) r) }
     ensures every { (r : Request) → IsRecurrence (texts words.now) r → result ≡ Ok r }
+    ensures cause { IfErr result (λ w. IsFault OfRule 2 (texts words.now) w) }
 {
     let [rule, options @ ..] = words else {
         return Err(wrong_at(2, Why::Rule));
@@ -49,6 +51,7 @@ fn writes_rule(word: &[u8]) -> bool
 fn start_of(options: &[&[u8]]) -> Result<NaiveDate, Wrong>
     ensures read { IfOk result (λ n. IsStart (texts options.now) n) }
     ensures every { (n : ℤ) → IsStart (texts options.now) n → result ≡ Ok n }
+    ensures cause { IfErr result (λ w. IsFault OfRuleOptions 3 (texts options.now) w) }
 {
     let Some((text, left)) = value_named(b"--start", options) else {
         return Err(wrong_at(place_of(options, 0), Why::Start));
@@ -60,6 +63,7 @@ fn start_of(options: &[&[u8]]) -> Result<NaiveDate, Wrong>
 fn first_of(options: &[&[u8]], start: NaiveDate) -> Result<NaiveDate, Wrong>
     ensures read { IfOk result (λ n. IsFirst (value_named (codes "--from") (texts options.now)) start n) }
     ensures every { (n : ℤ) → IsFirst (value_named (codes "--from") (texts options.now)) start n → result ≡ Ok n }
+    ensures cause { IfErr result (λ w. IsFault OfRuleOptions 3 (texts options.now) w) }
 {
     let Some((text, left)) = value_named(b"--from", options) else {
         return Ok(start);
@@ -71,6 +75,7 @@ fn first_of(options: &[&[u8]], start: NaiveDate) -> Result<NaiveDate, Wrong>
 fn most_of(options: &[&[u8]]) -> Result<Option<u64>, Wrong>
     ensures read { IfOk result (λ most. IsMost (value_named (codes "--count") (texts options.now)) most) }
     ensures every { (most : Option ℕ) → IsMost (value_named (codes "--count") (texts options.now)) most → result ≡ Ok most }
+    ensures cause { IfErr result (λ w. IsFault OfRuleOptions 3 (texts options.now) w) }
 {
     let Some((text, left)) = value_named(b"--count", options) else {
         return Ok(None);

@@ -1,5 +1,6 @@
 //! What is asked of a sheet of days: a month or a year, and options.
-ghost use Rattle.std.specs.Prelude.{◌≡◌, ℤ, Ok, Some, IfOk, IfSome, bytes_eq, codes};
+ghost use Rattle.std.specs.Prelude.{◌≡◌, ◌<◌, ◌+◌, ◌^◌, ℕ, ℤ, List, [], ◌∷◌, Ok, Some, IfOk, IfErr, IfSome, bytes_eq, codes, length};
+ghost use Rattle.dates_request.specs.Faults.{IsFault, OfSheet, OfSheetOptions, WrongClosed, WrongFirst, WrongOption, WrongSheet};
 ghost use Rattle.dates_request.specs.Requests.{texts};
 ghost use Rattle.dates_request.specs.SheetRequests.{AreSheetOptions, GivesClosed, GivesStart, HasSheetValue, IsMonthText, IsSheet, IsSheetTime};
 ghost use Rattle.dates_request.specs.declared.request.Request.{Request};
@@ -49,6 +50,7 @@ const NO_SHEET_OPTIONS: SheetOptions = SheetOptions {
 pub(crate) fn sheet_asked(words: &[&[u8]]) -> Result<Request, Wrong>
     ensures read { IfOk result (λ r. IsSheet (texts words.now) r) }
     ensures every { (r : Request) → IsSheet (texts words.now) r → result ≡ Ok r }
+    ensures cause { IfErr result (λ w. IsFault OfSheet 2 (texts words.now) w) }
 {
     let [text, rest @ ..] = words else {
         return Err(wrong_at(2, Why::Sheet));
@@ -62,6 +64,7 @@ pub(crate) fn sheet_asked(words: &[&[u8]]) -> Result<Request, Wrong>
 fn time_at(place: usize, text: &[u8]) -> Result<SheetTime, Wrong>
     ensures read { IfOk result (λ t. IsSheetTime text.now t) }
     ensures every { (t : SheetTime) → IsSheetTime text.now t → result ≡ Ok t }
+    ensures cause { IfErr result (λ w. (w.place ≡ place) × WrongSheet text.now w.why) }
 {
     match read_month(text) {
         Some(first) => Ok(SheetTime::Month { first }),
@@ -74,6 +77,7 @@ fn year_alone_at(place: usize, text: &[u8]) -> Result<SheetTime, Wrong>
     requires { (n : ℤ) → ¬ IsMonthText text.now n }
     ensures read { IfOk result (λ t. IsSheetTime text.now t) }
     ensures every { (t : SheetTime) → IsSheetTime text.now t → result ≡ Ok t }
+    ensures cause { IfErr result (λ w. (w.place ≡ place) × WrongSheet text.now w.why) }
 {
     match year_at(place, text) {
         Ok(year) => Ok(SheetTime::Year { year }),
@@ -99,6 +103,7 @@ fn sheet_options_at(
 ) -> Result<SheetOptions, Wrong>
     ensures read { IfOk result (λ o. AreSheetOptions (texts words.now) given o) }
     ensures every { (o : SheetOptions) → AreSheetOptions (texts words.now) given o → result ≡ Ok o }
+    ensures cause { place + length words.now < 2 ^ 63 → IfErr result (λ w. IsFault (OfSheetOptions given) place (texts words.now) w) }
 {
     match words {
         [] => Ok(given),
@@ -111,7 +116,9 @@ fn sheet_options_at(
 }
 
 // The fault where one word stands alone: it is no option, or its value is missing.
-fn without_sheet_value(place: usize, name: &[u8]) -> Wrong {
+fn without_sheet_value(place: usize, name: &[u8]) -> Wrong
+    ensures { (given : SheetOptions) → place < 2 ^ 63 → IsFault (OfSheetOptions given) place (name.now ∷ []) result }
+{
     if is_named(name, b"--first") {
         return wrong_at(place.saturating_add(1), Why::Weekday);
     }
@@ -119,7 +126,9 @@ fn without_sheet_value(place: usize, name: &[u8]) -> Wrong {
 }
 
 // The fault with what is said of options on a sheet.
-fn of_sheet(wrong: Wrong) -> Wrong {
+fn of_sheet(wrong: Wrong) -> Wrong
+    ensures { (given : SheetOptions) (place : ℕ) (name : List ℕ) (words : List (List ℕ)) → WrongOption given.closed place name words wrong → WrongClosed given place name words result }
+{
     match wrong.why {
         Why::Option => wrong_at(wrong.place, Why::SheetOption),
         _ => wrong,
@@ -136,6 +145,7 @@ fn sheet_option_at(
 ) -> Result<SheetOptions, Wrong>
     ensures read { IfOk result (λ o. HasSheetValue (bytes_eq name.now (codes "--first")) name.now value.now behind given o) }
     ensures every { (o : SheetOptions) → HasSheetValue (bytes_eq name.now (codes "--first")) name.now value.now behind given o → result ≡ Ok o }
+    ensures cause { (words : List (List ℕ)) → place < 2 ^ 63 → IfErr result (λ w. IsFault (OfSheetOptions given) place (name.now ∷ value.now ∷ words) w) }
 {
     if is_named(name, b"--first") {
         with_start(place, value, given)
@@ -148,6 +158,7 @@ fn sheet_option_at(
 fn with_start(place: usize, value: &[u8], given: SheetOptions) -> Result<SheetOptions, Wrong>
     ensures read { IfOk result (λ o. GivesStart value.now given o) }
     ensures every { (o : SheetOptions) → GivesStart value.now given o → result ≡ Ok o }
+    ensures cause { (words : List (List ℕ)) → place < 2 ^ 63 → IfErr result (λ w. WrongFirst given place (value.now ∷ words) w) }
 {
     if given.start.is_some() {
         return Err(wrong_at(place, Why::Once));
@@ -171,6 +182,7 @@ fn with_closed(
 ) -> Result<SheetOptions, Wrong>
     ensures read { IfOk result (λ o. GivesClosed name.now value.now behind given o) }
     ensures every { (o : SheetOptions) → GivesClosed name.now value.now behind given o → result ≡ Ok o }
+    ensures cause { (words : List (List ℕ)) → place < 2 ^ 63 → IfErr result (λ w. WrongClosed given place name.now (value.now ∷ words) w) }
 {
     match option_at(place, name, value, behind, given.closed) {
         Ok(closed) => Ok(SheetOptions {

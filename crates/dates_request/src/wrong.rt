@@ -1,5 +1,7 @@
 //! `Wrong`: which argument is wrong, and why.
 
+ghost use Rattle.std.specs.Prelude.{◌≡◌};
+
 use crate::day::NoDay;
 
 /// Which argument is wrong, and why.
@@ -75,6 +77,9 @@ pub enum Why {
 }
 
 // That fault at this place.
-pub(crate) fn wrong_at(place: usize, why: Why) -> Wrong {
+pub(crate) fn wrong_at(place: usize, why: Why) -> Wrong
+    ensures place { result.place ≡ place }
+    ensures why { result.why ≡ why }
+{
     Wrong { place, why }
 }

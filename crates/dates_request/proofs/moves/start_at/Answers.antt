@@ -1,4 +1,5 @@
-use Rattle.dates_request.proofs.MoveLemmas.{names_none, of_day, of_moment, of_none}
+use Rattle.std.proofs.Common.{refl}
+use Rattle.dates_request.proofs.MoveLemmas.{names_none, never_start, of_day, of_moment, of_none}
 use Rattle.dates_request.proofs.moves.start_at.Goals as goal
 
 pub returns-in-Ok-clause-every : goal.returns-in-Ok-clause-every
@@ -14,3 +15,7 @@ returns-in-Some-clause-every c = λ s names.
 pub returns-in-None-clause-every : goal.returns-in-None-clause-every
 returns-in-None-clause-every c = λ s names.
     of_none c.args.word.now _ s (names_none c.in-Err.why c.args.word.now c.in-Err.ensures.every) c.in-None.ensures.every names
+
+pub returns-in-None-clause-cause : goal.returns-in-None-clause-cause
+returns-in-None-clause-cause c =
+    (refl, c.no_start.ensures c.args.word.now c.in-Err.ensures.reason (never_start c.args.word.now (names_none c.in-Err.why c.args.word.now c.in-Err.ensures.every) c.in-None.ensures.every))

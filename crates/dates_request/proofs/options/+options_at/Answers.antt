@@ -1,6 +1,10 @@
-use Rattle.std.proofs.Common.{sym, ◌≡◌}
-use Rattle.std.proofs.lemmas.Result.{IfOk-weaker}
-use Rattle.dates_request.proofs.CalendarOptionLemmas.{apart, gave_behind, same_options, together}
+use Rattle.std.proofs.Common.{length, sym, ◌≡◌, arith, rules}
+use Rattle.std.proofs.lemmas.Result.{IfErr-weaker, IfOk-weaker}
+use Rattle.dates_request.proofs.CalendarOptionLemmas.{apart, gave_behind, length-texts, same_options, together}
+use Rattle.dates_request.specs.Faults.{IsFault, OfOptions}
+use Rattle.dates_request.specs.Requests.{texts}
+use Rattle.dates_request.proofs.FaultLemmas.{ahead_one, behind_option, if_err, of_option, of_same}
+use Rattle.dates_request.proofs.WordLemmas.{ahead_two, behind}
 use Rattle.dates_request.proofs.options.+options_at.Goals as goal
 
 pub returns-in_err-more-in-len2-up-clause-every : goal.returns-in_err-more-in-len2-up-clause-every
@@ -18,3 +22,21 @@ returns-in_ok-more-in-len2-up-clause-every t c = λ o are.
     let parts = apart c.args.words.now c.args.given o c.in-len2-up.len_at_least are in
     let more : c.in_ok-more-in-len2-up.more ≡ parts.0 = same_options _ parts.0 (c.in_ok-more-in-len2-up.ensures.every parts.0 parts.1) in
     c.options_at.ensures.every o (gave_behind _ parts.0 c.in_ok-more-in-len2-up.more o (sym more) parts.2)
+
+pub returns-in_err-more-in-len2-up-clause-cause : goal.returns-in_err-more-in-len2-up-clause-cause
+returns-in_err-more-in-len2-up-clause-cause t c = λ bound.
+    let told = c.in_err-more-in-len2-up.ensures.cause (texts (behind 2 c.args.words.now)) (omega (arith, bound)) in
+    if_err c.from_residual.result c.in_err-more-in-len2-up.field-0.0 (λ w. IsFault (OfOptions c.args.given) c.args.place (texts c.args.words.now) w) (search rules)
+    (of_same (OfOptions c.args.given) c.args.place _ _ _ (sym (ahead_two c.args.words.now c.in-len2-up.len_at_least)) (of_option c.args.given c.args.place _ _ _ told))
+
+pub returns-in-len1-clause-cause : goal.returns-in-len1-clause-cause
+returns-in-len1-clause-cause t c = λ bound.
+    of_same (OfOptions c.args.given) c.args.place _ _ _ (sym (ahead_one c.args.words.now c.in-len1.len_at_least (omega (arith, c.in-len1.len_below))))
+    (of_option c.args.given c.args.place _ _ _ (c.without_value.ensures c.args.given (omega (arith, bound))))
+
+pub returns-in_ok-more-in-len2-up-clause-cause : goal.returns-in_ok-more-in-len2-up-clause-cause
+returns-in_ok-more-in-len2-up-clause-cause t c = λ bound. IfErr-weaker c.options_at.result _ _
+    (λ w is. of_same (OfOptions c.args.given) c.args.place _ _ w (sym (ahead_two c.args.words.now c.in-len2-up.len_at_least))
+    (behind_option c.args.given c.in_ok-more-in-len2-up.more c.args.place c.saturating_add.result (length (behind 2 c.args.words.now)) _ _ (texts (behind 2 c.args.words.now)) w
+    (sym (length-texts (behind 2 c.args.words.now))) (omega (arith, bound, c.saturating_add.ensures)) c.in_ok-more-in-len2-up.ensures.read is))
+    (c.options_at.ensures.cause (omega (arith, bound, c.saturating_add.ensures, c.in-len2-up.len_at_least)))

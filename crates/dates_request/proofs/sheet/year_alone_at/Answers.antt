@@ -17,3 +17,14 @@ pub returns-in-Err-clause-every : goal.returns-in-Err-clause-every
 returns-in-Err-clause-every c = λ t is.
     let found = year_of_time _ t c.requires is in
     let e = c.in-Err.ensures.every found.0 found.1 in cc
+
+pub returns-in-Err-clause-cause : goal.returns-in-Err-clause-cause
+returns-in-Err-clause-cause c = (
+  c.wrong_at.ensures.place,
+  (
+    c.wrong_at.ensures.why,
+    λ t is.
+        let year = year_of_time c.args.text.now t c.requires is in
+        let e = c.in-Err.ensures.every year.0 year.1 in absurd cc,
+  ),
+)

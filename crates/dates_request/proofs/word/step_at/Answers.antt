@@ -1,6 +1,8 @@
-use Rattle.std.proofs.Common.{◌≡◌, ℕ, ap, pos, sym, to_z, ◌∙◌, w64, rules}
+use Rattle.std.proofs.Common.{◌≡◌, ℕ, ap, inl, inr, refl, pos, sym, to_z, ◌∙◌, w64, rules}
 use Rattle.std.proofs.lemmas.Int.{to_z-of_z}
 use Rattle.dates_request.specs.declared.span.Span.{Span}
+use Rattle.dates_request.specs.Faults.{WrongStep}
+use Rattle.dates_request.proofs.FaultLemmas.{if_err}
 use Rattle.dates_request.proofs.word.step_at.Goals as goal
 
 pub returns-in_err-step-clause-every : goal.returns-in_err-step-clause-every
@@ -15,3 +17,11 @@ returns-then-step-eq0-clause-every c = λ s is.
 
 pub returns-clause-every : goal.returns-clause-every
 returns-clause-every c = λ s is. c.in_ok-step.ensures.every s is.is
+
+pub returns-in_err-step-clause-cause : goal.returns-in_err-step-clause-cause
+returns-in_err-step-clause-cause c =
+    let told = c.in_err-step.ensures.cause in
+    if_err c.from_residual.result c.in_err-step.field-0.0 (λ w. (w.place ≡ c.args.place) × WrongStep c.args.word.now w.why) (search rules) (told.0, inl told.1)
+
+pub returns-then-step-eq0-clause-cause : goal.returns-then-step-eq0-clause-cause
+returns-then-step-eq0-clause-cause c = (refl, inr (refl, c.in_ok-step.step, c.in_ok-step.ensures.read, sym (to_z-of_z w64 c.in_ok-step.step.count (search rules)) ∙ ap (λ (n : ℕ). to_z w64 n) c.if-step-eq0.true))

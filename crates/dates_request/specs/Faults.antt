@@ -1,0 +1,430 @@
+-- What a fault tells of words: at its place stands not what is expected there.
+use Rattle.std.specs.Prelude.{◌≡◌, ◌⊎◌, ◌+◌, ◌*◌, ◌≤◌, ◌<◌, zero, suc, ℕ, ℤ, pos, Bool, true, false, List, [], ◌∷◌, codes, length, take, drop, All, bytes_eq, is_some, Option, Some, None}
+use Rattle.std.specs.List.{list_any}
+use Rattle.chrono_datetime.specs.Moment.{Moment}
+use Rattle.chrono_datetime.specs.WeekdaySet.{DaySet}
+use Rattle.dates_request.specs.DayTexts.{IsReason}
+use Rattle.dates_request.specs.DistanceRequests.{measure_named}
+use Rattle.dates_request.specs.DueRequests.{IsAmountText, WritesSchedule}
+use Rattle.dates_request.specs.MomentTexts.{IsMomentText}
+use Rattle.dates_request.specs.MoveTexts.{IsMoveText, NamesStart, WritesMove, has_time, is_of_days}
+use Rattle.dates_request.specs.OpenRequests.{convention_named}
+use Rattle.dates_request.specs.OptionTexts.{IsOption, IsWeekendText, calendar_named, no_options, option_named, weekday_named}
+use Rattle.dates_request.specs.Options.{is_option, value_named}
+use Rattle.dates_request.specs.Requests.{IsWeekText, command_named}
+use Rattle.dates_request.specs.RuleRequests.{WritesRule}
+use Rattle.dates_request.specs.SheetRequests.{HasSheetValue, IsSheetTime, no_sheet_options}
+use Rattle.dates_request.specs.SpanTexts.{IsSpanText}
+use Rattle.dates_request.specs.YearTexts.{IsYearText}
+use Rattle.dates_request.specs.declared.command.Command.{Command}
+use Rattle.dates_request.specs.declared.command.Command.TheVariants as command
+use Rattle.dates_request.specs.declared.day.NoDay.{NoDay}
+use Rattle.dates_request.specs.declared.day.NoDay.TheVariants.{Form, PastMonth}
+use Rattle.dates_request.specs.declared.distance.Measure.{Measure}
+use Rattle.dates_request.specs.declared.distance.Measure.TheVariants as measure
+use Rattle.dates_request.specs.declared.moves.Move.{Move}
+use Rattle.dates_request.specs.declared.moves.Start.{Start}
+use Rattle.dates_request.specs.declared.moves.Start.TheVariants as start
+use Rattle.dates_request.specs.declared.options.OptionName.{OptionName}
+use Rattle.dates_request.specs.declared.options.OptionName.TheVariants as option
+use Rattle.dates_request.specs.declared.options.Options.{Options}
+use Rattle.dates_request.specs.declared.sheet.SheetOptions.{SheetOptions}
+use Rattle.dates_request.specs.declared.sheet.SheetTime.{SheetTime}
+use Rattle.dates_request.specs.declared.span.Span.{Span}
+use Rattle.dates_request.specs.declared.wrong.Why.{Why}
+use Rattle.dates_request.specs.declared.wrong.Why.TheVariants as why
+use Rattle.dates_request.specs.declared.wrong.Wrong.{Wrong}
+
+-- a word that is no day, and why
+abbrev pub WrongDay : List ℕ → Why → Type 0
+WrongDay word w = (reason : NoDay) × (w ≡ why.Day reason) × IsReason word reason
+
+-- neither a day nor a date-time; a day that its month does not have is told as such
+abbrev pub WrongStart : List ℕ → Why → Type 0
+WrongStart word w = ((s : Start) → NamesStart word s → ⊥) × (((w ≡ why.Moved) × IsReason word Form) ⊎ ((first : ℤ) × (w ≡ why.Day (PastMonth first)) × IsReason word (PastMonth first)))
+
+-- no date-time
+abbrev pub WrongMoment : List ℕ → Why → Type 0
+WrongMoment word w = (w ≡ why.Moment) × ((m : Moment) → IsMomentText word m → ⊥)
+
+-- no span
+abbrev pub WrongSpan : List ℕ → Why → Type 0
+WrongSpan word w = (w ≡ why.Span) × ((s : Span) → IsSpanText word s → ⊥)
+
+-- the span 0
+abbrev pub WrongZero : List ℕ → Why → Type 0
+WrongZero word w = (w ≡ why.Step) × (s : Span) × IsSpanText word s × (s.count ≡ pos 0)
+
+-- no span, or that of 0
+abbrev pub WrongStep : List ℕ → Why → Type 0
+WrongStep word w = WrongSpan word w ⊎ WrongZero word w
+
+-- no year
+abbrev pub WrongYear : List ℕ → Why → Type 0
+WrongYear word w = (w ≡ why.Year) × ((y : ℤ) → IsYearText word y → ⊥)
+
+-- no week
+abbrev pub WrongWeek : List ℕ → Why → Type 0
+WrongWeek word w = (w ≡ why.Week) × ((n : ℤ) → IsWeekText word n → ⊥)
+
+-- no month and no year
+abbrev pub WrongSheet : List ℕ → Why → Type 0
+WrongSheet word w = (w ≡ why.Sheet) × ((t : SheetTime) → IsSheetTime word t → ⊥)
+
+-- no convention
+abbrev pub WrongConvention : List ℕ → Why → Type 0
+WrongConvention word w = (w ≡ why.Convention) × (convention_named word ≡ None)
+
+-- not the word `in`
+abbrev pub WrongIn : List ℕ → Why → Type 0
+WrongIn word w = (w ≡ why.In) × (word ≡ codes "in" → ⊥)
+
+-- no measure
+abbrev pub WrongMeasure : List ℕ → Why → Type 0
+WrongMeasure word w = (w ≡ why.Measure) × (measure_named word ≡ None)
+
+-- no name of a file: an empty word
+abbrev pub WrongFile : List ℕ → Why → Type 0
+WrongFile word w = (w ≡ why.File) × (length word ≡ 0)
+
+-- no schedule
+abbrev pub WrongSchedule : List ℕ → Why → Type 0
+WrongSchedule word w = (w ≡ why.Schedule) × (WritesSchedule word → ⊥)
+
+-- no recurrence rule
+abbrev pub WrongRule : List ℕ → Why → Type 0
+WrongRule word w = (w ≡ why.Rule) × (WritesRule word → ⊥)
+
+-- no number from 1 on
+abbrev pub WrongAmount : List ℕ → Why → Type 0
+WrongAmount word w = (w ≡ why.Amount) × ((n : ℕ) → IsAmountText word n → ⊥)
+
+-- no weekend
+abbrev pub WrongWeekend : List ℕ → Why → Type 0
+WrongWeekend word w = (w ≡ why.Weekend) × ((days : DaySet) → IsWeekendText word days → ⊥)
+
+-- no calendar of holidays
+abbrev pub WrongCalendar : List ℕ → Why → Type 0
+WrongCalendar word w = (w ≡ why.Calendar) × (calendar_named word ≡ None)
+
+-- no weekday
+abbrev pub WrongWeekday : List ℕ → Why → Type 0
+WrongWeekday word w = (w ≡ why.Weekday) × (weekday_named word ≡ None)
+
+-- words from a place at which one has to stand: none does, and the fault is this one, or the first of them is wrong
+abbrev pub Needs : Why → (List ℕ → Why → Type 0) → List (List ℕ) → Why → Type 0
+Needs missing wrong [] w = w ≡ missing
+Needs missing wrong (word ∷ words) w = wrong word w
+
+-- words from a place at which one may stand: the first of them is wrong
+abbrev pub Allows : (List ℕ → Why → Type 0) → List (List ℕ) → Why → Type 0
+Allows wrong [] w = ⊥
+Allows wrong (word ∷ words) w = wrong word w
+
+-- the fault of the first word, or one of the words behind it, by how many words stand in front of the place
+abbrev pub Then : (List (List ℕ) → Why → Type 0) → (List (List ℕ) → ℕ → Why → Type 0) → List (List ℕ) → ℕ → Why → Type 0
+Then here behind words zero w = here words w
+Then here behind [] (suc n) w = ⊥
+Then here behind (word ∷ words) (suc n) w = behind words n w
+
+-- a word where there has to be none
+abbrev pub Ends : List (List ℕ) → ℕ → Why → Type 0
+Ends words zero w = Allows (λ word v. v ≡ why.End) words w
+Ends words (suc n) w = ⊥
+
+-- a day
+abbrev pub Day : List (List ℕ) → Why → Type 0
+Day words w = Needs (why.Day Form) WrongDay words w
+
+-- a span that is not 0
+abbrev pub OfStep : List (List ℕ) → ℕ → Why → Type 0
+OfStep words n w = Then (Allows WrongStep) Ends words n w
+
+-- `seq`: two days, and a span that is not 0
+abbrev pub OfSequence : List (List ℕ) → ℕ → Why → Type 0
+OfSequence words n w = Then Day (Then Day OfStep) words n w
+
+-- `week`: a week
+abbrev pub OfWeek : List (List ℕ) → ℕ → Why → Type 0
+OfWeek words n w = Then (Needs why.Week WrongWeek) Ends words n w
+
+-- `easter`, `leap`: a year
+abbrev pub OfYear : List (List ℕ) → ℕ → Why → Type 0
+OfYear words n w = Then (Needs why.Year WrongYear) Ends words n w
+
+-- `check`: a file
+abbrev pub OfCheck : List (List ℕ) → ℕ → Why → Type 0
+OfCheck words n w = Then (Allows WrongFile) Ends words n w
+
+-- the option is given
+abbrev pub IsGiven : OptionName → Options → Type 0
+IsGiven option.Weekend given = is_some given.weekend ≡ true
+IsGiven option.Calendar given = is_some given.calendar ≡ true
+IsGiven option.Holidays given = is_some given.file ≡ true
+
+-- an option that is given a second time
+pub record IsTwice (given : Options) (name : List ℕ) : Type 0 where
+  pub option : OptionName
+  pub named : option_named name ≡ Some option
+  pub given_before : IsGiven option given
+
+-- no option, or one that is given in front of it
+abbrev pub WrongName : Options → List ℕ → Why → Type 0
+WrongName given name w = ((w ≡ why.Option) × (option_named name ≡ None)) ⊎ ((w ≡ why.Once) × IsTwice given name)
+
+-- what is told where the value of an option is missing
+abbrev pub missing_value : OptionName → Why
+missing_value option.Weekend = why.Weekend
+missing_value option.Calendar = why.Calendar
+missing_value option.Holidays = why.File
+
+-- no value of the option
+abbrev pub WrongValueOf : OptionName → List ℕ → Why → Type 0
+WrongValueOf option.Weekend value w = WrongWeekend value w
+WrongValueOf option.Calendar value w = WrongCalendar value w
+WrongValueOf option.Holidays value w = WrongFile value w
+
+-- an option that is given already, or no value of it
+abbrev pub WrongPair : OptionName → Options → List ℕ → Why → Type 0
+WrongPair option given value w = ((w ≡ why.Once) × IsGiven option given) ⊎ WrongValueOf option value w
+
+-- the first is told at the place of the option, the second at that of the value
+abbrev pub WrongPairAt : ℕ → OptionName → Options → List ℕ → Wrong → Type 0
+WrongPairAt place option given value w =
+    ((w.place ≡ place) × (w.why ≡ why.Once) × IsGiven option given) ⊎ ((w.place ≡ place + 1) × WrongValueOf option value w.why)
+
+-- what stands behind the name of an option is no value of it
+abbrev pub WrongValue : Option OptionName → List (List ℕ) → Why → Type 0
+WrongValue (Some option) words w = Needs (missing_value option) (WrongValueOf option) words w
+WrongValue None words w = ⊥
+
+-- a word at the place where the name of an option is expected, and the words behind it: either is wrong
+abbrev pub WrongOption : Options → ℕ → List ℕ → List (List ℕ) → Wrong → Type 0
+WrongOption given place name words w =
+    ((w.place ≡ place) × WrongName given name w.why) ⊎ ((w.place ≡ place + 1) × WrongValue (option_named name) words w.why)
+
+-- options, a name and a value each, behind those that are given; those in front of the fault are fine
+abbrev pub OfOptions : Options → List (List ℕ) → ℕ → Why → Type 0
+OfOptions given words zero w = Allows (WrongName given) words w
+OfOptions given [] (suc n) w = ⊥
+OfOptions given (name ∷ words) (suc zero) w = WrongValue (option_named name) words w
+OfOptions given (name ∷ []) (suc (suc n)) w = ⊥
+OfOptions given (name ∷ value ∷ words) (suc (suc n)) w = (set : Options) × IsOption name value (length words) given set × OfOptions set words n w
+
+-- `open`: a day, and options
+abbrev pub OfOpen : List (List ℕ) → ℕ → Why → Type 0
+OfOpen words n w = Then Day (OfOptions no_options) words n w
+
+-- `roll`: a day, a convention, and options
+abbrev pub OfRoll : List (List ℕ) → ℕ → Why → Type 0
+OfRoll words n w = Then Day (Then (Needs why.Convention WrongConvention) (OfOptions no_options)) words n w
+
+-- what may stand behind the name of a measure: options behind that of open days
+abbrev pub BehindMeasure : Option Measure → List (List ℕ) → ℕ → Why → Type 0
+BehindMeasure (Some (measure.Whole unit)) words n w = Ends words n w
+BehindMeasure (Some measure.OpenDays) words n w = OfOptions no_options words n w
+BehindMeasure (Some measure.Parts) words n w = Ends words n w
+BehindMeasure None words n w = ⊥
+
+-- a measure, and what may stand behind it
+abbrev pub OfMeasure : List (List ℕ) → ℕ → Why → Type 0
+OfMeasure words zero w = Needs why.Measure WrongMeasure words w
+OfMeasure [] (suc n) w = ⊥
+OfMeasure (word ∷ words) (suc n) w = BehindMeasure (measure_named word) words n w
+
+-- `in` and a measure, behind two days
+abbrev pub OfDistance : List (List ℕ) → ℕ → Why → Type 0
+OfDistance words n w = Then (Allows WrongIn) OfMeasure words n w
+
+-- a second day, and a measure
+abbrev pub OfToDay : List (List ℕ) → ℕ → Why → Type 0
+OfToDay words n w = Then Day OfDistance words n w
+
+-- a second date-time
+abbrev pub OfToMoment : List (List ℕ) → ℕ → Why → Type 0
+OfToMoment words n w = Then (Needs why.Moment WrongMoment) Ends words n w
+
+-- behind a day a second one, behind a date-time a second one
+abbrev pub OfSecond : Start → List (List ℕ) → ℕ → Why → Type 0
+OfSecond (start.Day from) words n w = OfToDay words n w
+OfSecond (start.DateTime from) words n w = OfToMoment words n w
+
+-- `diff`: two days or two date-times
+abbrev pub OfDiff : List (List ℕ) → ℕ → Why → Type 0
+OfDiff words zero w = Needs why.Moved WrongStart words w
+OfDiff [] (suc n) w = ⊥
+OfDiff (first ∷ words) (suc n) w = (s : Start) × NamesStart first s × OfSecond s words n w
+
+-- no move; or a move of times where there is no time of day
+abbrev pub WrongMove : Bool → List ℕ → Why → Type 0
+WrongMove timed word w =
+    ((w ≡ why.Move) × ((m : Move) → IsMoveText word m → ⊥)) ⊎ ((w ≡ why.DayMove) × (timed ≡ false) × (m : Move) × IsMoveText word m × (is_of_days m ≡ false))
+
+-- moves, so many in front of the place that is no move and no option
+pub record IsNoMove (timed : Bool) (words : List (List ℕ)) (n : ℕ) (w : Why) : Type 0 where
+  pub within : n ≤ length words
+  pub moves : All (WritesMove timed) (take n words)
+  pub is : Needs why.Move (WrongMove timed) (drop n words) w
+
+-- moves, at least one, and a fault of the options behind them
+pub record IsBehindMoves (timed : Bool) (words : List (List ℕ)) (n : ℕ) (w : Why) : Type 0 where
+  pub count : ℕ
+  pub further : ℕ
+  pub some : 0 < count
+  pub within : count ≤ length words
+  pub moves : All (WritesMove timed) (take count words)
+  pub at : n ≡ count + further
+  pub is : OfOptions no_options (drop count words) further w
+
+-- moves, of times too where there is a time of day, and options behind them
+abbrev pub OfMoves : Bool → List (List ℕ) → ℕ → Why → Type 0
+OfMoves timed words n w = IsNoMove timed words n w ⊎ IsBehindMoves timed words n w
+
+-- `add`: a day or a date-time, moves, and options
+abbrev pub OfAdd : List (List ℕ) → ℕ → Why → Type 0
+OfAdd words zero w = Needs why.Moved WrongStart words w
+OfAdd [] (suc n) w = ⊥
+OfAdd (first ∷ words) (suc n) w = (s : Start) × NamesStart first s × OfMoves (has_time s) words n w
+
+-- behind so many pairs stand a word and others: the word is none of these names, or a later pair has its name too, or no value stands behind it
+pub record IsNoPair (names : List (List ℕ)) (words : List (List ℕ)) (pairs : ℕ) (word : List ℕ) (behind : List (List ℕ)) : Type 0 where
+  pub written : drop (2 * pairs) words ≡ word ∷ behind
+  pub none : (is_option names word (drop 1 behind) ≡ false) ⊎ (behind ≡ [])
+
+-- so many words are left from the first pair on that is none
+pub record IsLeft (names : List (List ℕ)) (words : List (List ℕ)) (left : ℕ) : Type 0 where
+  pub pairs : ℕ
+  pub word : List ℕ
+  pub behind : List (List ℕ)
+  pub is_none : IsNoPair names words pairs word behind
+  pub count : left ≡ length (word ∷ behind)
+
+-- a word that is none of these names, or that a later pair has too
+abbrev pub IsNoName : Why → List (List ℕ) → List ℕ → List (List ℕ) → Why → Type 0
+IsNoName none names word behind w = (w ≡ none) × (is_option names word (drop 1 behind) ≡ false)
+
+-- a name at the end, behind which its value is missing
+abbrev pub IsNoValue : List (List ℕ) → List ℕ → List (List ℕ) → Why → Type 0
+IsNoValue names word behind w = (w ≡ why.Value) × (behind ≡ []) × (list_any (bytes_eq word) names ≡ true)
+
+-- a pair is none: its name is told, or else the value that is missing
+pub record IsNoOption (none : Why) (names : List (List ℕ)) (words : List (List ℕ)) (n : ℕ) (w : Why) : Type 0 where
+  pub pairs : ℕ
+  pub word : List ℕ
+  pub behind : List (List ℕ)
+  pub written : drop (2 * pairs) words ≡ word ∷ behind
+  pub is : ((n ≡ 2 * pairs) × IsNoName none names word behind w) ⊎ ((n ≡ 2 * pairs + 1) × IsNoValue names word behind w)
+
+-- behind so many pairs stand the name and the value of one more
+pub record IsPairAt (name : List ℕ) (words : List (List ℕ)) (value : List ℕ) (left : ℕ) : Type 0 where
+  pub pairs : ℕ
+  pub behind : List (List ℕ)
+  pub written : drop (2 * pairs) words ≡ name ∷ value ∷ behind
+  pub count : left ≡ length behind
+
+-- the value of the option with that name is wrong
+pub record IsWrongValue (wrong : List ℕ → Why → Type 0) (name : List ℕ) (words : List (List ℕ)) (n : ℕ) (w : Why) : Type 0 where
+  pub pairs : ℕ
+  pub value : List ℕ
+  pub behind : List (List ℕ)
+  pub written : drop (2 * pairs) words ≡ name ∷ value ∷ behind
+  pub at : n ≡ 2 * pairs + 1
+  pub is : wrong value w
+
+-- the option of that name, which has to be given, is not: this is told at the place behind the last word
+pub record IsMissing (name : List ℕ) (missing : Why) (words : List (List ℕ)) (n : ℕ) (w : Why) : Type 0 where
+  pub last : n ≡ length words
+  pub is : w ≡ missing
+  pub none : value_named name words ≡ None
+
+-- the options of a schedule, which needs `--from`
+abbrev pub OfDueOptions : List (List ℕ) → ℕ → Why → Type 0
+OfDueOptions words n w =
+    IsNoOption why.DueOption (codes "--from" ∷ codes "--count" ∷ []) words n w ⊎ IsMissing (codes "--from") why.From words n w
+    ⊎ IsWrongValue WrongMoment (codes "--from") words n w ⊎ IsWrongValue WrongAmount (codes "--count") words n w
+
+-- `next`, `prev`: a schedule, and options
+abbrev pub OfDue : List (List ℕ) → ℕ → Why → Type 0
+OfDue words n w = Then (Needs why.Schedule WrongSchedule) OfDueOptions words n w
+
+-- the options of a recurrence rule, which needs `--start`
+abbrev pub OfRuleOptions : List (List ℕ) → ℕ → Why → Type 0
+OfRuleOptions words n w =
+    IsNoOption why.RuleOption (codes "--start" ∷ codes "--from" ∷ codes "--count" ∷ []) words n w ⊎ IsMissing (codes "--start") why.Start words n w
+    ⊎ IsWrongValue WrongDay (codes "--start") words n w ⊎ IsWrongValue WrongDay (codes "--from") words n w ⊎ IsWrongValue WrongAmount (codes "--count") words n w
+
+-- `rule`: a recurrence rule, and options
+abbrev pub OfRule : List (List ℕ) → ℕ → Why → Type 0
+OfRule words n w = Then (Needs why.Rule WrongRule) OfRuleOptions words n w
+
+-- no option of a sheet, or one that is given in front of it
+abbrev pub WrongSheetName : Bool → SheetOptions → List ℕ → Why → Type 0
+WrongSheetName true given name w = (w ≡ why.Once) × (is_some given.start ≡ true)
+WrongSheetName false given name w = ((w ≡ why.SheetOption) × (option_named name ≡ None)) ⊎ ((w ≡ why.Once) × IsTwice given.closed name)
+
+-- the same as of options that say which days are closed, as a sheet tells it
+abbrev pub WrongClosed : SheetOptions → ℕ → List ℕ → List (List ℕ) → Wrong → Type 0
+WrongClosed given place name words w =
+    ((w.place ≡ place) × WrongSheetName false given name w.why) ⊎ ((w.place ≡ place + 1) × WrongValue (option_named name) words w.why)
+
+-- `--first` is given already, or what stands behind it is no weekday
+abbrev pub WrongFirst : SheetOptions → ℕ → List (List ℕ) → Wrong → Type 0
+WrongFirst given place words w =
+    ((w.place ≡ place) × (w.why ≡ why.Once) × (is_some given.start ≡ true)) ⊎ ((w.place ≡ place + 1) × Needs why.Weekday WrongWeekday words w.why)
+
+-- what stands behind the name of an option, which is `--first` or not, is no value of it
+abbrev pub WrongSheetValue : Bool → List ℕ → List (List ℕ) → Why → Type 0
+WrongSheetValue true name words w = Needs why.Weekday WrongWeekday words w
+WrongSheetValue false name words w = WrongValue (option_named name) words w
+
+-- options of a sheet, a name and a value each, behind those that are given; those in front of the fault are fine
+abbrev pub OfSheetOptions : SheetOptions → List (List ℕ) → ℕ → Why → Type 0
+OfSheetOptions given [] n w = ⊥
+OfSheetOptions given (name ∷ words) zero w = WrongSheetName (bytes_eq name (codes "--first")) given name w
+OfSheetOptions given (name ∷ words) (suc zero) w = WrongSheetValue (bytes_eq name (codes "--first")) name words w
+OfSheetOptions given (name ∷ []) (suc (suc n)) w = ⊥
+OfSheetOptions given (name ∷ value ∷ words) (suc (suc n)) w =
+    (set : SheetOptions) × HasSheetValue (bytes_eq name (codes "--first")) name value (length words) given set × OfSheetOptions set words n w
+
+-- `cal`: a month or a year, and options
+abbrev pub OfSheet : List (List ℕ) → ℕ → Why → Type 0
+OfSheet words n w = Then (Needs why.Sheet WrongSheet) (OfSheetOptions no_sheet_options) words n w
+
+-- the words behind a command
+abbrev pub OfCommand : Command → List (List ℕ) → ℕ → Why → Type 0
+OfCommand command.Lines words n w = Ends words n w
+OfCommand command.Help words n w = Ends words n w
+OfCommand command.Version words n w = Ends words n w
+OfCommand command.Add words n w = OfAdd words n w
+OfCommand command.Diff words n w = OfDiff words n w
+OfCommand command.Seq words n w = OfSequence words n w
+OfCommand command.Week words n w = OfWeek words n w
+OfCommand command.Easter words n w = OfYear words n w
+OfCommand command.Leap words n w = OfYear words n w
+OfCommand command.Open words n w = OfOpen words n w
+OfCommand command.Roll words n w = OfRoll words n w
+OfCommand command.Check words n w = OfCheck words n w
+OfCommand command.Next words n w = OfDue words n w
+OfCommand command.Prev words n w = OfDue words n w
+OfCommand command.Cal words n w = OfSheet words n w
+OfCommand command.Rule words n w = OfRule words n w
+
+-- a day and nothing behind it, where the first word is no command
+abbrev pub OfDay : List (List ℕ) → ℕ → Why → Type 0
+OfDay words n w = Then Day Ends words n w
+
+-- words of which the first may be a command
+abbrev pub OfFirst : Option Command → List (List ℕ) → ℕ → Why → Type 0
+OfFirst None words n w = OfDay words n w
+OfFirst (Some command) words n w = Then (λ all v. ⊥) (OfCommand command) words n w
+
+-- the arguments
+abbrev pub OfRequest : List (List ℕ) → ℕ → Why → Type 0
+OfRequest [] n w = ⊥
+OfRequest (first ∷ words) n w = OfFirst (command_named first) (first ∷ words) n w
+
+-- the fault of words of which the first stands at this place: so many words stand in front of the one that is wrong, or all where one is missing
+pub record IsFault (of : List (List ℕ) → ℕ → Why → Type 0) (place : ℕ) (words : List (List ℕ)) (w : Wrong) : Type 0 where
+  pub front : ℕ
+  pub at : w.place ≡ place + front
+  pub is : of words front w.why
