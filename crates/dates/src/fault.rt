@@ -3,7 +3,7 @@
 use crate::distance::none_of_measure;
 use crate::print::print_answer;
 use crate::quoted::{Word, WordBytes};
-use crate::reason::reason_for;
+use crate::reason::{Reason, reason_for, reason_of_front, reason_with};
 use chrono_cron::check_schedule;
 use chrono_rules::check_rule;
 use dates_answer::{Answer, Key};
@@ -32,12 +32,16 @@ pub(crate) fn refuse(
     let Some(word) = words.get(wrong.place.saturating_sub(1)) else {
         return refuse_word(rt, "which is missing", wrong);
     };
-    let place = wrong.place;
+    let word = word.as_str();
     match wrong.why {
-        Why::Day(why) => refuse_day(rt, form, none_asked(words), word.as_str(), place, why),
-        Why::Schedule => refuse_schedule(rt, word.as_str(), wrong),
-        Why::Rule => refuse_rule(rt, word.as_str(), wrong),
-        _ => refuse_word(rt, word.as_str(), wrong),
+        Why::Day(why) => refuse_day(rt, form, none_asked(words), word, wrong, why),
+        Why::Moved => refuse_day(rt, form, none_asked(words), word, wrong, NoDay::Form),
+        Why::Moment => refuse_part(rt, word, wrong, reason_of_front(word)),
+        Why::Week => refuse_part(rt, word, wrong, reason_with(word, b"-1")),
+        Why::Sheet => refuse_part(rt, word, wrong, reason_with(word, b"-01")),
+        Why::Schedule => refuse_schedule(rt, word, wrong),
+        Why::Rule => refuse_rule(rt, word, wrong),
+        _ => refuse_word(rt, word, wrong),
     }
 }
 
@@ -77,17 +81,29 @@ fn refuse_day(
     form: Form,
     none: Answer,
     word: &str,
-    place: usize,
+    wrong: Wrong,
     why: NoDay,
 ) -> io::Result<u8> {
     let reason = reason_for(word.as_bytes(), why);
     if !reason.is_of_a_day() {
-        let why = Why::Day(NoDay::Form);
-        return refuse_word(rt, word, Wrong { place, why });
+        return refuse_part(rt, word, wrong, reason_of_front(word));
     }
     print_answer(rt, form, none)?;
     let _ = eprintln!(rt; "{word}: {reason}");
     Ok(NONE)
+}
+
+// Says why a part of a word, or more than it, names no day, where that is known, and what was expected of the word.
+fn refuse_part(
+    rt: &impl Eprint,
+    word: &str,
+    wrong: Wrong,
+    reason: Option<Reason>,
+) -> io::Result<u8> {
+    match reason {
+        Some(reason) => refuse_text(rt, word, wrong, &reason),
+        None => refuse_word(rt, word, wrong),
+    }
 }
 
 // Says what was expected of a word.

@@ -33,9 +33,12 @@ const FOOT: &str = "\n\
     \x20 dates COMMAND --help                more of a command, with an example\n\
     \x20 dates --help | --version\n\
     \n\
+    The names of a day are its calendar date, ordinal date and ISO week date, its weekday, its number\n\
+    from 1 January of year 1, which is 1, and the days since 1970-01-01.\n\
+    Where a day is left out, add, diff, open and roll answer each line of standard input, as - does.\n\
     --json is the last word, behind all others.\n\
-    It ends with status 0; with 1 where a question has no answer, and none is printed, or where\n\
-    check tells of a line; and with 2 after a wrong command, or a read or a write that failed.";
+    It ends with status 0; with 1 where a question has no answer, for which the word none is printed,\n\
+    or where check tells of a line; and with 2 after a wrong command, or a read or a write that failed.";
 
 // The options that say which days are closed.
 const CLOSED: &str =
@@ -80,7 +83,9 @@ const ADD: Usage = Usage {
     more: "A SPAN is a whole number of days, weeks, months or years, as 3d, -2w, 1m and 4y,\n\
         or of open days, as 5b.\n\
         A month or a year leads to the same day of its month, or to its last where that is shorter.\n\
-        A date-time in place of the day is moved by times too: 36h, 90min, 15s, PT1.5S.\n\
+        A date-time in place of the day is moved by times too: 36h, 90min, 15s, and PT1.5S, seconds alone.\n\
+        Open days are counted from the next open day on, or back from the one before, where the day is closed:\n\
+        from a Saturday 0b leads to Monday, 1b to Tuesday and -1b to Thursday.\n\
         With - in place of the day, or none, each line of standard input is moved.",
     options: CLOSED,
     example: "$ dates add 2024-01-31 1m\n\

@@ -54,6 +54,11 @@ impl Reason {
             _ => false,
         }
     }
+
+    // The reason, where the text is written as a day is.
+    fn of_a_day(self) -> Option<Reason> {
+        if self.is_of_a_day() { Some(self) } else { None }
+    }
 }
 
 impl fmt::Display for Reason {
@@ -137,6 +142,28 @@ pub(crate) fn reason_of_line(line: &[u8], why: NoDay) -> Reason {
     } else {
         reason_for(line, why)
     }
+}
+
+// Why a text names no day in front of its first `T`, where it is written as a date-time is and that is known.
+pub(crate) fn reason_of_front(text: &str) -> Option<Reason> {
+    let (front, _) = text.split_once('T')?;
+    let front = front.as_bytes();
+    match read_day(front) {
+        Ok(_) => None,
+        Err(why) => reason_for(front, why).of_a_day(),
+    }
+}
+
+// Why a text of a week or of a month with such an end, by which it would name a day of that, names none, where it is written so.
+pub(crate) fn reason_with(text: &str, end: &[u8]) -> Option<Reason> {
+    let text = text.as_bytes();
+    if text.len() > LONGEST_PART || end.len() > 4 {
+        return None;
+    }
+    let mut name = Text::<ROOM>::new();
+    name.push_text(text);
+    name.push_text(end);
+    reason_of_form(name.as_bytes()).of_a_day()
 }
 
 // Why a text names no day that is in no month.
@@ -224,6 +251,9 @@ fn digit(byte: u8) -> Option<u8> {
 
 // Room for a year of eight bytes at most, and for seven behind it.
 const ROOM: usize = 16;
+
+// No name of a week or of a month has more bytes.
+const LONGEST_PART: usize = 12;
 
 // A day of the year, by its text, that each year of the calendar has: the first, or the first of its second week.
 fn first_of(year: &[u8], name: Name) -> Option<NaiveDate> {
