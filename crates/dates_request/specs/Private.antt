@@ -1,5 +1,5 @@
 -- What clauses of private functions say of faults.
-use Rattle.std.specs.Prelude.{◌≡◌, ◌⊎◌, ◌+◌, ◌*◌, ℕ, true, false, List, [], ◌∷◌, length, drop, is_some, Option, Some}
+use Rattle.std.specs.Prelude.{◌≡◌, ◌⊎◌, ◌+◌, ◌*◌, ℕ, true, false, List, [], ◌∷◌, length, drop, is_some}
 use Rattle.dates_request.specs.Faults.{IsGiven, Needs, WrongName, WrongSheetName, WrongValue, WrongValueOf, WrongWeekday}
 use Rattle.dates_request.specs.OptionTexts.{option_named}
 use Rattle.dates_request.specs.Options.{is_option}
