@@ -1,7 +1,8 @@
 -- Faults of words, put together.
 use Rattle.std.proofs.Common.{◌≡◌, ◌+◌, ◌≤◌, ℕ, Bool, suc, true, false, List, [], ◌∷◌, length, get_or, Option, Some, None, Result, Err, IfErr, inl, inr, refl, sym, subst, ◌∙◌, arith}
 use Rattle.std.specs.Prelude.{bytes_eq, codes}
-use Rattle.dates_request.specs.Faults.{BehindMeasure, Ends, IsFault, OfAdd, OfCommand, OfDiff, OfFirst, OfMeasure, OfMoves, OfOptions, OfRequest, OfSecond, OfSheetOptions, Then, WrongClosed, WrongFirst, WrongOption, WrongPair, WrongPairAt, WrongValue, WrongValueOf, missing_value}
+use Rattle.dates_request.specs.Faults.{BehindMeasure, Ends, IsFault, OfAdd, OfCommand, OfDiff, OfFirst, OfMeasure, OfMoves, OfOptions, OfRequest, OfSecond, OfSheetOptions, Then, WrongValue, WrongValueOf, missing_value}
+use Rattle.dates_request.specs.Private.{WrongClosed, WrongFirst, WrongOption, WrongPair, WrongPairAt}
 use Rattle.dates_request.specs.DistanceRequests.{measure_named}
 use Rattle.dates_request.specs.MoveTexts.{NamesStart, has_time}
 use Rattle.dates_request.specs.OptionTexts.{IsOption, option_named}

@@ -3,7 +3,7 @@ use Rattle.std.proofs.Common.{◌≡◌, ◌<◌, ◌≤◌, ℕ, true, false, L
 use Rattle.std.specs.Prelude.{bytes_eq}
 use Rattle.std.proofs.lemmas.List.{drop-drop}
 use Rattle.std.proofs.lemmas.Slice.Eq.{bytes_eq-Decides}
-use Rattle.dates_request.specs.Faults.{IsLeft, IsPairAt}
+use Rattle.dates_request.specs.Private.{IsLeft, IsPairAt}
 use Rattle.dates_request.specs.Options.{are_options, is_option, value_named}
 use Rattle.dates_request.specs.Requests.{texts}
 use Rattle.dates_request.proofs.CalendarOptionLemmas.{length-texts}

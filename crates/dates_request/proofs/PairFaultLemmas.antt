@@ -3,7 +3,8 @@ use Rattle.std.proofs.Common.{◌≡◌, ◌+◌, ◌*◌, ◌-◌, ◌<◌, ◌
 use Rattle.std.specs.List.{list_any}
 use Rattle.std.specs.Prelude.{◌⊎◌, bytes_eq}
 use Rattle.std.proofs.lemmas.List.{get_or-drop, length-drop}
-use Rattle.dates_request.specs.Faults.{IsFault, IsLeft, IsMissing, IsNoOption, IsPairAt, IsWrongValue}
+use Rattle.dates_request.specs.Faults.{IsFault, IsMissing, IsNoOption, IsWrongValue}
+use Rattle.dates_request.specs.Private.{IsLeft, IsPairAt}
 use Rattle.dates_request.specs.Options.{is_option, value_named}
 use Rattle.dates_request.specs.Requests.{texts}
 use Rattle.dates_request.specs.declared.wrong.Why.{Why}

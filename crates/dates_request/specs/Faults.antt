@@ -1,5 +1,5 @@
 -- What a fault tells of words: at its place stands not what is expected there.
-use Rattle.std.specs.Prelude.{◌≡◌, ◌⊎◌, ◌+◌, ◌*◌, ◌≤◌, ◌<◌, zero, suc, ℕ, ℤ, pos, Bool, true, false, List, [], ◌∷◌, codes, length, take, drop, All, bytes_eq, is_some, Option, Some, None}
+use Rattle.std.specs.Prelude.{◌≡◌, ◌⊎◌, ◌+◌, ◌*◌, ◌≤◌, ◌<◌, zero, suc, ℕ, ℤ, pos, Bool, true, false, List, [], ◌∷◌, codes, length, take, drop, All, bytes_eq, is_some, Option, Some, None, refl}
 use Rattle.std.specs.List.{list_any}
 use Rattle.chrono_datetime.specs.Moment.{Moment}
 use Rattle.chrono_datetime.specs.WeekdaySet.{DaySet}
@@ -184,24 +184,10 @@ WrongValueOf option.Weekend value w = WrongWeekend value w
 WrongValueOf option.Calendar value w = WrongCalendar value w
 WrongValueOf option.Holidays value w = WrongFile value w
 
--- an option that is given already, or no value of it
-abbrev pub WrongPair : OptionName → Options → List ℕ → Why → Type 0
-WrongPair option given value w = ((w ≡ why.Once) × IsGiven option given) ⊎ WrongValueOf option value w
-
--- the first is told at the place of the option, the second at that of the value
-abbrev pub WrongPairAt : ℕ → OptionName → Options → List ℕ → Wrong → Type 0
-WrongPairAt place option given value w =
-    ((w.place ≡ place) × (w.why ≡ why.Once) × IsGiven option given) ⊎ ((w.place ≡ place + 1) × WrongValueOf option value w.why)
-
 -- what stands behind the name of an option is no value of it
 abbrev pub WrongValue : Option OptionName → List (List ℕ) → Why → Type 0
 WrongValue (Some option) words w = Needs (missing_value option) (WrongValueOf option) words w
 WrongValue None words w = ⊥
-
--- a word at the place where the name of an option is expected, and the words behind it: either is wrong
-abbrev pub WrongOption : Options → ℕ → List ℕ → List (List ℕ) → Wrong → Type 0
-WrongOption given place name words w =
-    ((w.place ≡ place) × WrongName given name w.why) ⊎ ((w.place ≡ place + 1) × WrongValue (option_named name) words w.why)
 
 -- options, a name and a value each, behind those that are given; those in front of the fault are fine
 abbrev pub OfOptions : Options → List (List ℕ) → ℕ → Why → Type 0
@@ -286,19 +272,6 @@ OfAdd words zero w = Needs why.Moved WrongStart words w
 OfAdd [] (suc n) w = ⊥
 OfAdd (first ∷ words) (suc n) w = (s : Start) × NamesStart first s × OfMoves (has_time s) words n w
 
--- behind so many pairs stand a word and others: the word is none of these names, or a later pair has its name too, or no value stands behind it
-pub record IsNoPair (names : List (List ℕ)) (words : List (List ℕ)) (pairs : ℕ) (word : List ℕ) (behind : List (List ℕ)) : Type 0 where
-  pub written : drop (2 * pairs) words ≡ word ∷ behind
-  pub none : (is_option names word (drop 1 behind) ≡ false) ⊎ (behind ≡ [])
-
--- so many words are left from the first pair on that is none
-pub record IsLeft (names : List (List ℕ)) (words : List (List ℕ)) (left : ℕ) : Type 0 where
-  pub pairs : ℕ
-  pub word : List ℕ
-  pub behind : List (List ℕ)
-  pub is_none : IsNoPair names words pairs word behind
-  pub count : left ≡ length (word ∷ behind)
-
 -- a word that is none of these names, or that a later pair has too
 abbrev pub IsNoName : Why → List (List ℕ) → List ℕ → List (List ℕ) → Why → Type 0
 IsNoName none names word behind w = (w ≡ none) × (is_option names word (drop 1 behind) ≡ false)
@@ -314,13 +287,6 @@ pub record IsNoOption (none : Why) (names : List (List ℕ)) (words : List (List
   pub behind : List (List ℕ)
   pub written : drop (2 * pairs) words ≡ word ∷ behind
   pub is : ((n ≡ 2 * pairs) × IsNoName none names word behind w) ⊎ ((n ≡ 2 * pairs + 1) × IsNoValue names word behind w)
-
--- behind so many pairs stand the name and the value of one more
-pub record IsPairAt (name : List ℕ) (words : List (List ℕ)) (value : List ℕ) (left : ℕ) : Type 0 where
-  pub pairs : ℕ
-  pub behind : List (List ℕ)
-  pub written : drop (2 * pairs) words ≡ name ∷ value ∷ behind
-  pub count : left ≡ length behind
 
 -- the value of the option with that name is wrong
 pub record IsWrongValue (wrong : List ℕ → Why → Type 0) (name : List ℕ) (words : List (List ℕ)) (n : ℕ) (w : Why) : Type 0 where
@@ -361,16 +327,6 @@ OfRule words n w = Then (Needs why.Rule WrongRule) OfRuleOptions words n w
 abbrev pub WrongSheetName : Bool → SheetOptions → List ℕ → Why → Type 0
 WrongSheetName true given name w = (w ≡ why.Once) × (is_some given.start ≡ true)
 WrongSheetName false given name w = ((w ≡ why.SheetOption) × (option_named name ≡ None)) ⊎ ((w ≡ why.Once) × IsTwice given.closed name)
-
--- the same as of options that say which days are closed, as a sheet tells it
-abbrev pub WrongClosed : SheetOptions → ℕ → List ℕ → List (List ℕ) → Wrong → Type 0
-WrongClosed given place name words w =
-    ((w.place ≡ place) × WrongSheetName false given name w.why) ⊎ ((w.place ≡ place + 1) × WrongValue (option_named name) words w.why)
-
--- `--first` is given already, or what stands behind it is no weekday
-abbrev pub WrongFirst : SheetOptions → ℕ → List (List ℕ) → Wrong → Type 0
-WrongFirst given place words w =
-    ((w.place ≡ place) × (w.why ≡ why.Once) × (is_some given.start ≡ true)) ⊎ ((w.place ≡ place + 1) × Needs why.Weekday WrongWeekday words w.why)
 
 -- what stands behind the name of an option, which is `--first` or not, is no value of it
 abbrev pub WrongSheetValue : Bool → List ℕ → List (List ℕ) → Why → Type 0
@@ -428,3 +384,20 @@ pub record IsFault (of : List (List ℕ) → ℕ → Why → Type 0) (place : �
   pub front : ℕ
   pub at : w.place ≡ place + front
   pub is : of words front w.why
+
+-- known values
+second_day-missing : OfRequest (codes "seq" ∷ codes "2024-02-29" ∷ []) 2 (why.Day Form)
+unfolding command_named
+second_day-missing = refl
+
+second_day-not_the_first : OfRequest (codes "seq" ∷ codes "2024-02-29" ∷ []) 3 (why.Day Form) → ⊥
+unfolding command_named
+second_day-not_the_first is = is
+
+week-with_more : OfRequest (codes "week" ∷ codes "2024-W09" ∷ codes "2024-W10" ∷ []) 2 why.End
+unfolding command_named
+week-with_more = refl
+
+week-alone : (w : Why) → OfRequest (codes "week" ∷ codes "2024-W09" ∷ []) 2 w → ⊥
+unfolding command_named
+week-alone w is = is

@@ -16,3 +16,4 @@ pub mod SheetRequests
 pub mod RuleRequests
 pub mod Requests
 pub mod Faults
+pub mod Private

@@ -1,5 +1,5 @@
 -- What is asked of a sheet of days: a month or a year, on which weekday its weeks begin, and which days are closed.
-use Rattle.std.specs.Prelude.{◌≡◌, ℕ, ℤ, Bool, true, false, List, [], ◌∷◌, ◌++◌, codes, length, bytes_eq, Option, Some, None}
+use Rattle.std.specs.Prelude.{◌≡◌, ℕ, ℤ, Bool, true, false, List, [], ◌∷◌, ◌++◌, codes, length, bytes_eq, Some, None}
 use Rattle.chrono_datetime.specs.declared.Weekday.{Weekday}
 use Rattle.chrono_reading.specs.DateTexts.{IsDateText}
 use Rattle.dates_request.specs.OptionTexts.{IsOption, no_options, weekday_named}

@@ -2,7 +2,8 @@
 ghost use Rattle.std.specs.Prelude.{◌≡◌, ◌+◌, ◌-◌, ℕ, Ok, Some, IfOk, IfErr, IfSome, true, false, codes, length};
 ghost use Rattle.chrono_datetime.specs.Moment.{Moment};
 ghost use Rattle.dates_request.specs.DueRequests.{IsAmountText, IsCount, IsDue, IsFrom, WritesSchedule};
-ghost use Rattle.dates_request.specs.Faults.{IsFault, IsLeft, IsNoOption, OfDue, OfDueOptions};
+ghost use Rattle.dates_request.specs.Faults.{IsFault, IsNoOption, OfDue, OfDueOptions};
+ghost use Rattle.dates_request.specs.Private.{IsLeft};
 ghost use Rattle.dates_request.specs.Options.{value_named};
 ghost use Rattle.dates_request.specs.Requests.{texts};
 

@@ -3,7 +3,7 @@ ghost use Rattle.std.specs.Prelude.{◌≡◌, ◌∷◌, ℕ, List, true, false
 ghost use Rattle.std.specs.List.{list_any};
 ghost use Rattle.std.specs.Str.{bytes_eq};
 ghost use Rattle.std.specs.Option.{option_map};
-ghost use Rattle.dates_request.specs.Faults.{IsLeft, IsPairAt};
+ghost use Rattle.dates_request.specs.Private.{IsLeft, IsPairAt};
 ghost use Rattle.dates_request.specs.Options.{are_options, is_option, value_named};
 ghost use Rattle.dates_request.specs.Requests.{texts};
 

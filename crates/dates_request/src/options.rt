@@ -1,7 +1,8 @@
 //! The options behind the arguments of a request: which days are closed.
 ghost use Rattle.std.specs.Prelude.{◌≡◌, ◌<◌, ◌+◌, ◌^◌, ℕ, List, [], ◌∷◌, Ok, Some, IfOk, IfErr, IfSome, None, length};
 ghost use Rattle.chrono_datetime.specs.WeekdaySet.{DaySet};
-ghost use Rattle.dates_request.specs.Faults.{IsFault, OfOptions, WrongOption, WrongPair, WrongPairAt, missing_value};
+ghost use Rattle.dates_request.specs.Faults.{IsFault, OfOptions, missing_value};
+ghost use Rattle.dates_request.specs.Private.{WrongOption, WrongPair, WrongPairAt};
 ghost use Rattle.dates_request.specs.OptionTexts.{AreOptions, AreTwoDays, GivesCalendar, GivesFile, GivesWeekend, HasValue, IsNoDay, IsOneDay, IsOption, IsWeekendText, calendar_named, option_named, weekday_named};
 ghost use Rattle.dates_request.specs.Requests.{texts};
 ghost use Rattle.dates_request.specs.declared.options.OptionName.{OptionName};

@@ -1,6 +1,7 @@
 //! What is asked of a sheet of days: a month or a year, and options.
 ghost use Rattle.std.specs.Prelude.{◌≡◌, ◌<◌, ◌+◌, ◌^◌, ℕ, ℤ, List, [], ◌∷◌, Ok, Some, IfOk, IfErr, IfSome, bytes_eq, codes, length};
-ghost use Rattle.dates_request.specs.Faults.{IsFault, OfSheet, OfSheetOptions, WrongClosed, WrongFirst, WrongOption, WrongSheet};
+ghost use Rattle.dates_request.specs.Faults.{IsFault, OfSheet, OfSheetOptions, WrongSheet};
+ghost use Rattle.dates_request.specs.Private.{WrongClosed, WrongFirst, WrongOption};
 ghost use Rattle.dates_request.specs.Requests.{texts};
 ghost use Rattle.dates_request.specs.SheetRequests.{AreSheetOptions, GivesClosed, GivesStart, HasSheetValue, IsMonthText, IsSheet, IsSheetTime};
 ghost use Rattle.dates_request.specs.declared.request.Request.{Request};
