@@ -32,9 +32,10 @@ pub(crate) fn refuse(
     let Some(word) = words.get(wrong.place.saturating_sub(1)) else {
         return refuse_word(rt, "which is missing", wrong);
     };
+    let place = wrong.place;
     let word = word.as_str();
     match wrong.why {
-        Why::Day(why) => refuse_day(rt, form, none_asked(words), word, wrong, why),
+        Why::Day(why) => refuse_day(rt, form, none_asked(words), word, no_day_at(place), why),
         Why::Moved => refuse_day(rt, form, none_asked(words), word, wrong, NoDay::Form),
         Why::Moment => refuse_part(rt, word, wrong, reason_of_front(word)),
         Why::Week => refuse_part(rt, word, wrong, reason_with(word, b"-1")),
@@ -93,16 +94,18 @@ fn refuse_day(
     Ok(NONE)
 }
 
-// Says why a part of a word, or more than it, names no day, where that is known, and what was expected of the word.
-fn refuse_part(
-    rt: &impl Eprint,
-    word: &str,
-    wrong: Wrong,
-    reason: Option<Reason>,
-) -> io::Result<u8> {
-    match reason {
-        Some(reason) => refuse_text(rt, word, wrong, &reason),
-        None => refuse_word(rt, word, wrong),
+// That no day stands at this place.
+fn no_day_at(place: usize) -> Wrong {
+    let why = Why::Day(NoDay::Form);
+    Wrong { place, why }
+}
+
+// Says why a part of a word, or more than it, names no day, where it is written as a day is, and what was expected of the word.
+fn refuse_part(rt: &impl Eprint, word: &str, wrong: Wrong, reason: Reason) -> io::Result<u8> {
+    if reason.is_of_a_day() {
+        refuse_text(rt, word, wrong, &reason)
+    } else {
+        refuse_word(rt, word, wrong)
     }
 }
 

@@ -54,11 +54,6 @@ impl Reason {
             _ => false,
         }
     }
-
-    // The reason, where the text is written as a day is.
-    fn of_a_day(self) -> Option<Reason> {
-        if self.is_of_a_day() { Some(self) } else { None }
-    }
 }
 
 impl fmt::Display for Reason {
@@ -144,26 +139,28 @@ pub(crate) fn reason_of_line(line: &[u8], why: NoDay) -> Reason {
     }
 }
 
-// Why a text names no day in front of its first `T`, where it is written as a date-time is and that is known.
-pub(crate) fn reason_of_front(text: &str) -> Option<Reason> {
-    let (front, _) = text.split_once('T')?;
+// Why a text names no day in front of its first `T`, where it is written as a date-time is.
+pub(crate) fn reason_of_front(text: &str) -> Reason {
+    let Some((front, _)) = text.split_once('T') else {
+        return Reason::Form;
+    };
     let front = front.as_bytes();
     match read_day(front) {
-        Ok(_) => None,
-        Err(why) => reason_for(front, why).of_a_day(),
+        Ok(_) => Reason::Form,
+        Err(why) => reason_for(front, why),
     }
 }
 
 // Why a text of a week or of a month with such an end, by which it would name a day of that, names none, where it is written so.
-pub(crate) fn reason_with(text: &str, end: &[u8]) -> Option<Reason> {
+pub(crate) fn reason_with(text: &str, end: &[u8]) -> Reason {
     let text = text.as_bytes();
     if text.len() > LONGEST_PART || end.len() > 4 {
-        return None;
+        return Reason::Form;
     }
     let mut name = Text::<ROOM>::new();
     name.push_text(text);
     name.push_text(end);
-    reason_of_form(name.as_bytes()).of_a_day()
+    reason_of_form(name.as_bytes())
 }
 
 // Why a text names no day that is in no month.
