@@ -144,9 +144,10 @@ pub fn known_gaps()
     ensures day_31_may { is_instance (plain Monthly) (neg_ℤ (pos 335)) (neg_ℤ (pos 214)) ≡ true }
 {}
 
-/// Days by their place in the period (BYSETPOS): the third of the month's Tuesdays, Wednesdays and Thursdays, and its last workday but one
+/// Days by their place in the period (BYSETPOS): the third of the month's Tuesdays, Wednesdays and Thursdays, in the start's own month too, whose first two lie before it, and its last workday but one
 /// (3.8.5.3); the first and the last of Monday and Sunday in weeks that begin on either (WKST); the first of a day alone, which is its last, and no second; the second Monday and the last of a year. Each is 2,000 years earlier here, by five whole cycles of 400 years, so that little is to be counted.
 pub fn known_positions()
+    ensures third_start { is_instance (by_positions Monthly Mon 14 8 0) (neg_ℤ (pos 1214)) (neg_ℤ (pos 1214)) ≡ true }
     ensures third_october { is_instance (by_positions Monthly Mon 14 8 0) (neg_ℤ (pos 1214)) (neg_ℤ (pos 1181)) ≡ true }
     ensures third_late { is_instance (by_positions Monthly Mon 14 8 0) (neg_ℤ (pos 1214)) (neg_ℤ (pos 1180)) ≡ false }
     ensures third_november { is_instance (by_positions Monthly Mon 14 8 0) (neg_ℤ (pos 1214)) (neg_ℤ (pos 1151)) ≡ true }
@@ -180,10 +181,11 @@ pub fn known_ends()
     ensures interval_2 { is_instance (every_days 2) (neg_ℤ (pos 1216)) (neg_ℤ (pos 1215)) ≡ false }
 {}
 
-/// Every other day, behind its start, up to the last date of the calendar.
+/// Every other day, behind its start, up to the last date of the calendar; and of five days (COUNT) the last, asked from it on.
 pub fn known_lists()
     ensures second { instances_from (every_days 2) (pos 95_745_395) (pos 95_745_396) ≡ pos 95_745_397 ∷ pos 95_745_399 ∷ [] }
     ensures before_start { instances_from (every_days 1) (pos 95_745_399) (pos 95_745_397) ≡ pos 95_745_399 ∷ [] }
+    ensures counted { instances_from daily (pos 95_745_349) (pos 95_745_389) ≡ pos 95_745_389 ∷ [] }
 {}
 
 /// Every other day at one o'clock from 2 September 1997: an instance has the start's second and fraction (3.3.10).

@@ -13,3 +13,7 @@ returns-clause-second c = refl
 pub returns-clause-before_start : goal.returns-clause-before_start
 unfolding is_instance is_counted is_member not_after in_interval in_positions passes date_passes on_weekday on_month_day on_year_day in_week has has_place has_numbers counts_in_month fills_weekday fills_day fills_month period_of period_first period_end count_between count_where ordinal_name_of days_after_zero days_before_zero month_of_ordinal day_of_ordinal days_of_months_in instances_from days_from in_steps
 returns-clause-before_start c = refl
+
+pub returns-clause-counted : goal.returns-clause-counted
+unfolding is_instance is_counted is_member not_after in_interval in_positions passes date_passes on_weekday on_month_day on_year_day in_week has has_place has_numbers counts_in_month fills_weekday fills_day fills_month period_of period_first period_end count_between count_where ordinal_name_of days_after_zero days_before_zero month_of_ordinal day_of_ordinal days_of_months_in instances_from days_from in_steps
+returns-clause-counted c = refl

@@ -4,6 +4,10 @@ use Rattle.chrono_datetime.specs.Recurrence.{count_between, count_where}
 use Rattle.chrono_rules.specs.Instances.{counts_in_month, date_passes, fills_day, fills_month, fills_weekday, has, has_numbers, has_place, in_interval, in_positions, in_week, is_counted, is_instance, is_member, not_after, on_month_day, on_weekday, on_year_day, passes, period_end, period_first, period_of}
 use Rattle.chrono_rules.proofs.law.known_positions.Goals as goal
 
+pub returns-clause-third_start : goal.returns-clause-third_start
+unfolding is_instance is_counted is_member not_after in_interval in_positions passes date_passes on_weekday on_month_day on_year_day in_week has has_place has_numbers counts_in_month fills_weekday fills_day fills_month period_of period_first period_end count_between count_where ordinal_name_of days_after_zero days_before_zero month_of_ordinal day_of_ordinal days_of_months_in
+returns-clause-third_start c = refl
+
 pub returns-clause-third_october : goal.returns-clause-third_october
 unfolding is_instance is_counted is_member not_after in_interval in_positions passes date_passes on_weekday on_month_day on_year_day in_week has has_place has_numbers counts_in_month fills_weekday fills_day fills_month period_of period_first period_end count_between count_where ordinal_name_of days_after_zero days_before_zero month_of_ordinal day_of_ordinal days_of_months_in
 returns-clause-third_october c = refl
