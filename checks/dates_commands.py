@@ -365,7 +365,7 @@ NO_FORM = "not written as 2024-02-29, 2024-060 or 2024-W09-4"
 # Why some texts are no days, where more can be told.
 REASONS = {
     "": "nothing stands there", "2023-W53-1": "2023 has 52 weeks", "2023-366": "2023 has 365 days", "2024-00-10": "a year has the months 01 to 12",
-    "2024-13-01": "a year has the months 01 to 12", " 2024-02-29": "begins or ends with a space", "2024-02-29 ": "begins or ends with a space",
+    "2024-13-01": "a year has the months 01 to 12", " 2024-02-29": "begins or ends with white space", "2024-02-29 ": "begins or ends with white space",
     "2024-02-29T00:00": "a date-time, and no day",
 }
 ODD_LINES = (b"2024-02-29\r", b'"2024-02-29"', b"a\\b", b"\x00\x01\x1f\x7f", b"caf\xc3\xa9", b"\xff\xfe", b"\xe2\x82", b"\xf0\x9f\x93\x85 \xed\xa0\x80", b"/", b"\t\b\f")

@@ -23,7 +23,7 @@ pub enum Reason {
     Outside,
     /// It names a date-time.
     Moment,
-    /// It is a day, with spaces around it.
+    /// It is a day, with white space around it.
     Spaces,
     /// It is a day behind a byte order mark.
     Mark,
@@ -68,7 +68,7 @@ impl fmt::Display for Reason {
                 "the calendar has the days from -262143-01-01 to +262142-12-31",
             ),
             Reason::Moment => f.write_str("a date-time, and no day"),
-            Reason::Spaces => f.write_str("begins or ends with a space"),
+            Reason::Spaces => f.write_str("begins or ends with white space"),
             Reason::Mark => f.write_str("begins with a byte order mark"),
             Reason::CarriageReturn => f.write_str("ends in a carriage return"),
             Reason::Empty => f.write_str("nothing stands there"),
