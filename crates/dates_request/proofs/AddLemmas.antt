@@ -1,5 +1,5 @@
 -- Moves in front of options: where the options begin.
-use Rattle.std.proofs.Common.{◌≡◌, ◌<◌, ◌≤◌, ◌+◌, ◌^◌, ℕ, ℤ, Bool, true, false, List, [], ◌∷◌, ◌++◌, codes, length, length-append, take, drop, get_or, bytes_eq, if◌then◌else◌, Some, None, Result, Ok, inl, inr, refl, sym, ap, subst, ◌∙◌, arith}
+use Rattle.std.proofs.Common.{◌≡◌, ◌<◌, ◌≤◌, ◌+◌, ◌^◌, ℕ, ℤ, Bool, true, false, List, [], ◌∷◌, ◌++◌, codes, length, length-append, take, drop, get_or, bytes_eq, if◌then◌else◌, Option, Some, None, Result, Ok, inl, inr, refl, sym, ap, subst, ◌∙◌, arith}
 use Rattle.std.specs.Prelude.{All}
 use Rattle.std.specs.Fmt.{decimal, sign_text}
 use Rattle.std.specs.Int.{is_negative}
@@ -46,6 +46,18 @@ unfolding option_named
 of_option word o e =
     by_names (bytes_eq word (codes "--weekend")) (bytes_eq word (codes "--calendar")) (bytes_eq word (codes "--holidays"))
     (hyphens_of word (codes "--weekend") (refl, refl)) (hyphens_of word (codes "--calendar") (refl, refl)) (hyphens_of word (codes "--holidays") (refl, refl)) o e
+
+-- a word that does not begin so names no option
+none_of : (o : Option OptionName) → ((x : OptionName) → o ≡ Some x → ⊥) → o ≡ None
+none_of None other = refl
+none_of (Some x) other = absurd (other x refl)
+
+pub names_none : (word : List ℕ) → ((rest : List ℕ) → word ≡ codes "--" ++ rest → ⊥) → option_named word ≡ None
+unfolding option_named
+names_none word other =
+    none_of (option_named word) (by_names (bytes_eq word (codes "--weekend")) (bytes_eq word (codes "--calendar")) (bytes_eq word (codes "--holidays"))
+    (λ e. other (codes "weekend") ((bytes_eq-Decides word (codes "--weekend")).0 e)) (λ e. other (codes "calendar") ((bytes_eq-Decides word (codes "--calendar")).0 e))
+    (λ e. other (codes "holidays") ((bytes_eq-Decides word (codes "--holidays")).0 e)))
 
 -- no text of a move does
 front : (xs ys : List ℕ) → 48 ≤ get_or xs 0 0 → get_or (xs ++ ys) 0 0 ≡ get_or xs 0 0

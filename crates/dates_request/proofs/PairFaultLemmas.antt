@@ -5,7 +5,7 @@ use Rattle.std.specs.Prelude.{◌⊎◌, bytes_eq}
 use Rattle.std.proofs.lemmas.List.{get_or-drop, length-drop}
 use Rattle.dates_request.specs.Faults.{IsFault, IsMissing, IsNoOption, IsWrongValue}
 use Rattle.dates_request.specs.Private.{IsLeft, IsPairAt}
-use Rattle.dates_request.specs.Options.{is_option, value_named}
+use Rattle.dates_request.specs.Options.{are_options, is_option, value_named}
 use Rattle.dates_request.specs.Requests.{texts}
 use Rattle.dates_request.specs.declared.wrong.Why.{Why}
 use Rattle.dates_request.specs.declared.wrong.Why.TheVariants as why
@@ -15,9 +15,10 @@ use Rattle.dates_request.proofs.CalendarOptionLemmas.{length-texts}
 use Rattle.dates_request.proofs.WordLemmas.{Words, no_word}
 
 -- an option that is not given
-pub of_missing : (name : List ℕ) (missing : Why) (words : Words) (w : Wrong) → w.place ≡ length words + 3 → w.why ≡ missing → None ≡ value_named name (texts words) → IsFault (IsMissing name missing) 3 (texts words) w
-of_missing name missing words w at is none =
-    record { front = length words; at = omega (arith, at); is = record { last = sym (length-texts words); is = is; none = sym none } }
+pub of_missing : (names : List (List ℕ)) (name : List ℕ) (missing : Why) (words : Words) (w : Wrong) → w.place ≡ length words + 3 → w.why ≡ missing
+    → are_options names (texts words) ≡ true → None ≡ value_named name (texts words) → IsFault (IsMissing names name missing) 3 (texts words) w
+of_missing names name missing words w at is are none =
+    record { front = length words; at = omega (arith, at); is = record { last = sym (length-texts words); is = is; are_options = are; none = sym none } }
 
 -- fewer words are left than there are
 pub left_small : (name : List ℕ) (words : Words) (value : List ℕ) (left : ℕ) → IsPairAt name (texts words) value left → left + 2 ≤ length words

@@ -1,6 +1,9 @@
 -- What a fault tells of words: at its place stands not what is expected there.
-use Rattle.std.specs.Prelude.{◌≡◌, ◌⊎◌, ◌+◌, ◌*◌, ◌≤◌, ◌<◌, zero, suc, ℕ, ℤ, pos, Bool, true, false, List, [], ◌∷◌, codes, length, take, drop, All, bytes_eq, is_some, Option, Some, None, refl}
+use Rattle.std.proofs.Common.{arith, inl, inr, subst, ⊎_elim}
+use Rattle.std.specs.Prelude.{◌≡◌, ◌⊎◌, ◌+◌, ◌*◌, ◌≤◌, ◌<◌, zero, suc, ℕ, ℤ, pos, Bool, true, false, List, [], ◌∷◌, codes, length, take, drop, All, get_or, bytes_eq, is_some, Option, Some, None, refl}
 use Rattle.std.specs.List.{list_any}
+use Rattle.std.specs.Fmt.{digits}
+use Rattle.std.specs.Str.{byte}
 use Rattle.chrono_datetime.specs.Moment.{Moment}
 use Rattle.chrono_datetime.specs.WeekdaySet.{DaySet}
 use Rattle.dates_request.specs.DayTexts.{IsReason}
@@ -10,11 +13,11 @@ use Rattle.dates_request.specs.MomentTexts.{IsMomentText}
 use Rattle.dates_request.specs.MoveTexts.{IsMoveText, NamesStart, WritesMove, has_time, is_of_days}
 use Rattle.dates_request.specs.OpenRequests.{convention_named}
 use Rattle.dates_request.specs.OptionTexts.{IsOption, IsWeekendText, calendar_named, no_options, option_named, weekday_named}
-use Rattle.dates_request.specs.Options.{is_option, value_named}
+use Rattle.dates_request.specs.Options.{are_options, is_option, value_named}
 use Rattle.dates_request.specs.Requests.{IsWeekText, command_named}
 use Rattle.dates_request.specs.RuleRequests.{WritesRule}
 use Rattle.dates_request.specs.SheetRequests.{HasSheetValue, IsSheetTime, no_sheet_options}
-use Rattle.dates_request.specs.SpanTexts.{IsSpanText}
+use Rattle.dates_request.specs.SpanTexts.{IsSpanText, unit_named}
 use Rattle.dates_request.specs.YearTexts.{IsYearText}
 use Rattle.dates_request.specs.declared.command.Command.{Command}
 use Rattle.dates_request.specs.declared.command.Command.TheVariants as command
@@ -23,6 +26,7 @@ use Rattle.dates_request.specs.declared.day.NoDay.TheVariants.{Form, PastMonth}
 use Rattle.dates_request.specs.declared.distance.Measure.{Measure}
 use Rattle.dates_request.specs.declared.distance.Measure.TheVariants as measure
 use Rattle.dates_request.specs.declared.moves.Move.{Move}
+use Rattle.dates_request.specs.declared.moves.Move.TheVariants as move
 use Rattle.dates_request.specs.declared.moves.Start.{Start}
 use Rattle.dates_request.specs.declared.moves.Start.TheVariants as start
 use Rattle.dates_request.specs.declared.options.OptionName.{OptionName}
@@ -31,6 +35,7 @@ use Rattle.dates_request.specs.declared.options.Options.{Options}
 use Rattle.dates_request.specs.declared.sheet.SheetOptions.{SheetOptions}
 use Rattle.dates_request.specs.declared.sheet.SheetTime.{SheetTime}
 use Rattle.dates_request.specs.declared.span.Span.{Span}
+use Rattle.dates_request.specs.declared.span.Unit.TheVariants as unit
 use Rattle.dates_request.specs.declared.wrong.Why.{Why}
 use Rattle.dates_request.specs.declared.wrong.Why.TheVariants as why
 use Rattle.dates_request.specs.declared.wrong.Wrong.{Wrong}
@@ -246,19 +251,29 @@ abbrev pub WrongMove : Bool → List ℕ → Why → Type 0
 WrongMove timed word w =
     ((w ≡ why.Move) × ((m : Move) → IsMoveText word m → ⊥)) ⊎ ((w ≡ why.DayMove) × (timed ≡ false) × (m : Move) × IsMoveText word m × (is_of_days m ≡ false))
 
--- moves, so many in front of the place that is no move and no option
+-- no move, and no option, which may stand there too
+abbrev pub WrongFurther : Bool → List ℕ → Why → Type 0
+WrongFurther timed word w = WrongMove timed word w × (option_named word ≡ None)
+
+-- words from a place at which a move is expected, by how many moves stand in front: one has to stand in front of all, behind moves one may, or an option
+abbrev pub ExpectsMove : Bool → ℕ → List (List ℕ) → Why → Type 0
+ExpectsMove timed zero words w = Needs why.Move (WrongMove timed) words w
+ExpectsMove timed (suc n) words w = Allows (WrongFurther timed) words w
+
+-- moves, so many in front of the place at which no move stands, and behind moves no option
 pub record IsNoMove (timed : Bool) (words : List (List ℕ)) (n : ℕ) (w : Why) : Type 0 where
   pub within : n ≤ length words
   pub moves : All (WritesMove timed) (take n words)
-  pub is : Needs why.Move (WrongMove timed) (drop n words) w
+  pub is : ExpectsMove timed n (drop n words) w
 
--- moves, at least one, and a fault of the options behind them
+-- moves, at least one, up to a word that is none, and a fault of the options from there on
 pub record IsBehindMoves (timed : Bool) (words : List (List ℕ)) (n : ℕ) (w : Why) : Type 0 where
   pub count : ℕ
   pub further : ℕ
   pub some : 0 < count
   pub within : count ≤ length words
   pub moves : All (WritesMove timed) (take count words)
+  pub end : count < length words → WritesMove timed (get_or words count []) → ⊥
   pub at : n ≡ count + further
   pub is : OfOptions no_options (drop count words) further w
 
@@ -297,26 +312,35 @@ pub record IsWrongValue (wrong : List ℕ → Why → Type 0) (name : List ℕ) 
   pub at : n ≡ 2 * pairs + 1
   pub is : wrong value w
 
--- the option of that name, which has to be given, is not: this is told at the place behind the last word
-pub record IsMissing (name : List ℕ) (missing : Why) (words : List (List ℕ)) (n : ℕ) (w : Why) : Type 0 where
+-- options with these names, among which that of one name, which has to be given, is not: this is told at the place behind the last word
+pub record IsMissing (names : List (List ℕ)) (name : List ℕ) (missing : Why) (words : List (List ℕ)) (n : ℕ) (w : Why) : Type 0 where
   pub last : n ≡ length words
   pub is : w ≡ missing
+  pub are_options : are_options names words ≡ true
   pub none : value_named name words ≡ None
+
+-- the names of the options of a schedule
+abbrev pub due_names : List (List ℕ)
+due_names = codes "--from" ∷ codes "--count" ∷ []
 
 -- the options of a schedule, which needs `--from`
 abbrev pub OfDueOptions : List (List ℕ) → ℕ → Why → Type 0
 OfDueOptions words n w =
-    IsNoOption why.DueOption (codes "--from" ∷ codes "--count" ∷ []) words n w ⊎ IsMissing (codes "--from") why.From words n w
+    IsNoOption why.DueOption due_names words n w ⊎ IsMissing due_names (codes "--from") why.From words n w
     ⊎ IsWrongValue WrongMoment (codes "--from") words n w ⊎ IsWrongValue WrongAmount (codes "--count") words n w
 
 -- `next`, `prev`: a schedule, and options
 abbrev pub OfDue : List (List ℕ) → ℕ → Why → Type 0
 OfDue words n w = Then (Needs why.Schedule WrongSchedule) OfDueOptions words n w
 
+-- the names of the options of a recurrence rule
+abbrev pub rule_names : List (List ℕ)
+rule_names = codes "--start" ∷ codes "--from" ∷ codes "--count" ∷ []
+
 -- the options of a recurrence rule, which needs `--start`
 abbrev pub OfRuleOptions : List (List ℕ) → ℕ → Why → Type 0
 OfRuleOptions words n w =
-    IsNoOption why.RuleOption (codes "--start" ∷ codes "--from" ∷ codes "--count" ∷ []) words n w ⊎ IsMissing (codes "--start") why.Start words n w
+    IsNoOption why.RuleOption rule_names words n w ⊎ IsMissing rule_names (codes "--start") why.Start words n w
     ⊎ IsWrongValue WrongDay (codes "--start") words n w ⊎ IsWrongValue WrongDay (codes "--from") words n w ⊎ IsWrongValue WrongAmount (codes "--count") words n w
 
 -- `rule`: a recurrence rule, and options
@@ -401,3 +425,45 @@ week-with_more = refl
 week-alone : (w : Why) → OfRequest (codes "week" ∷ codes "2024-W09" ∷ []) 2 w → ⊥
 unfolding command_named
 week-alone w is = is
+
+-- behind a move a second one, which is not told as no option, and an option, which is not told as no move
+two_days : (timed : Bool) → WritesMove timed (codes "2d")
+unfolding is_of_days unit_named digits
+two_days timed = record {
+  move = move.Calendar (record { count = pos 2; unit = unit.Days });
+  is_move = record { number = codes "2"; last = byte "d"; count = record { negative = false; size = 2; small = omega arith; written = refl; value = refl }; unit = refl; written = refl };
+  can = refl;
+}
+
+not_of_moves : (timed : Bool) (word : List ℕ) → WrongMove timed word why.Option → ⊥
+not_of_moves timed word is = ⊎_elim (λ told. let e = told.0 in cc) (λ told. let e = told.0 in cc) is
+
+second_move-no_fault : (timed : Bool) → OfMoves timed (codes "1d" ∷ codes "2d" ∷ codes "3x" ∷ []) 1 why.Option → ⊥
+second_move-no_fault timed (inl is) = not_of_moves timed (codes "2d") is.is.0
+second_move-no_fault timed (inr is) =
+    let one : is.count ≡ 1 = omega (arith, is.some, is.at) in
+    subst (λ n. n < 3 → WritesMove timed (get_or (codes "1d" ∷ codes "2d" ∷ codes "3x" ∷ []) n []) → ⊥) one is.end (omega arith) (two_days timed)
+
+no_name-not_of_moves : (further : ℕ) (name value : List ℕ) → further ≡ 0 → OfOptions no_options (name ∷ value ∷ []) further why.Move → ⊥
+no_name-not_of_moves zero name value none is = ⊎_elim (λ told. let e = told.0 in cc) (λ told. let e = told.0 in cc) is
+no_name-not_of_moves (suc n) name value none is = absurd cc
+
+option_behind_move-no_fault : (timed : Bool) → OfMoves timed (codes "1d" ∷ codes "--weekend" ∷ codes "xx" ∷ []) 1 why.Move → ⊥
+unfolding option_named
+option_behind_move-no_fault timed (inl is) = let e = is.is.1 in cc
+option_behind_move-no_fault timed (inr is) =
+    let one : is.count ≡ 1 = omega (arith, is.some, is.at) in
+    no_name-not_of_moves is.further (codes "--weekend") (codes "xx") (omega (arith, one, is.at))
+    (subst (λ n. OfOptions no_options (drop n (codes "1d" ∷ codes "--weekend" ∷ codes "xx" ∷ [])) is.further why.Move) one is.is)
+
+-- `--from` without its value is not missing, but behind `--count` alone it is
+from-without_value : OfDueOptions (codes "--from" ∷ []) 1 why.From → ⊥
+unfolding are_options
+from-without_value (inl is) = ⊎_elim (λ told. let e = told.1.0 in cc) (λ told. let e = told.1.0 in cc) is.is
+from-without_value (inr (inl is)) = let e = is.are_options in cc
+from-without_value (inr (inr (inl is))) = let e = is.is.0 in cc
+from-without_value (inr (inr (inr is))) = let e = is.is.0 in cc
+
+from-missing : OfDueOptions (codes "--count" ∷ codes "2" ∷ []) 2 why.From
+unfolding are_options value_named
+from-missing = inr (inl (record { last = refl; is = refl; are_options = refl; none = refl }))

@@ -2,9 +2,9 @@
 ghost use Rattle.std.specs.Prelude.{◌≡◌, ◌+◌, ◌-◌, ℕ, Ok, Some, IfOk, IfErr, IfSome, true, false, codes, length};
 ghost use Rattle.chrono_datetime.specs.Moment.{Moment};
 ghost use Rattle.dates_request.specs.DueRequests.{IsAmountText, IsCount, IsDue, IsFrom, WritesSchedule};
-ghost use Rattle.dates_request.specs.Faults.{IsFault, IsNoOption, OfDue, OfDueOptions};
+ghost use Rattle.dates_request.specs.Faults.{IsFault, IsNoOption, OfDue, OfDueOptions, due_names};
 ghost use Rattle.dates_request.specs.Private.{IsLeft};
-ghost use Rattle.dates_request.specs.Options.{value_named};
+ghost use Rattle.dates_request.specs.Options.{are_options, value_named};
 ghost use Rattle.dates_request.specs.Requests.{texts};
 
 use crate::moment::read_moment;
@@ -69,7 +69,7 @@ pub(crate) fn no_option(names: &[&[u8]], options: &[&[u8]], left: usize, why: Wh
 fn from_of(options: &[&[u8]]) -> Result<NaiveDateTime, Wrong>
     ensures read { IfOk result (λ m. IsFrom (texts options.now) m) }
     ensures every { (m : Moment) → IsFrom (texts options.now) m → result ≡ Ok m }
-    ensures cause { IfErr result (λ w. IsFault OfDueOptions 3 (texts options.now) w) }
+    ensures cause { are_options due_names (texts options.now) ≡ true → IfErr result (λ w. IsFault OfDueOptions 3 (texts options.now) w) }
 {
     let Some((text, left)) = value_named(b"--from", options) else {
         return Err(wrong_at(place_of(options, 0), Why::From));

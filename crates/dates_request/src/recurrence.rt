@@ -1,8 +1,8 @@
 //! What is asked of a recurrence rule: which it is, from which day on it recurs, and which of its instances.
 ghost use Rattle.std.specs.Prelude.{◌≡◌, ℕ, ℤ, Ok, Option, IfOk, IfErr, true, false, codes};
 ghost use Rattle.dates_request.specs.RuleRequests.{IsFirst, IsMost, IsRecurrence, IsStart, WritesRule};
-ghost use Rattle.dates_request.specs.Faults.{IsFault, OfRule, OfRuleOptions};
-ghost use Rattle.dates_request.specs.Options.{value_named};
+ghost use Rattle.dates_request.specs.Faults.{IsFault, OfRule, OfRuleOptions, rule_names};
+ghost use Rattle.dates_request.specs.Options.{are_options, value_named};
 ghost use Rattle.dates_request.specs.Requests.{texts};
 ghost use Rattle.dates_request.specs.declared.request.Request.{Request};
 
@@ -51,7 +51,7 @@ fn writes_rule(word: &[u8]) -> bool
 fn start_of(options: &[&[u8]]) -> Result<NaiveDate, Wrong>
     ensures read { IfOk result (λ n. IsStart (texts options.now) n) }
     ensures every { (n : ℤ) → IsStart (texts options.now) n → result ≡ Ok n }
-    ensures cause { IfErr result (λ w. IsFault OfRuleOptions 3 (texts options.now) w) }
+    ensures cause { are_options rule_names (texts options.now) ≡ true → IfErr result (λ w. IsFault OfRuleOptions 3 (texts options.now) w) }
 {
     let Some((text, left)) = value_named(b"--start", options) else {
         return Err(wrong_at(place_of(options, 0), Why::Start));

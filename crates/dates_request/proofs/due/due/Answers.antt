@@ -24,7 +24,7 @@ returns-in-Some-clause-cause c =
 
 pub returns-in_err-from-clause-cause : goal.returns-in_err-from-clause-cause
 returns-in_err-from-clause-cause c =
-    let told = c.in_err-from.ensures.cause in
+    let told = c.in_err-from.ensures.cause (search rules) in
     if_err c.from_residual.result c.in_err-from.field-0.0 (λ w. IsFault OfDue 2 (texts c.args.words.now) w) (search rules)
     (of_same OfDue 2 _ _ _ (sym (ahead c.args.words.now c.in-len1-up.len_at_least)) (widen _ OfDue 2 _ _ (λ n v is. is) (behind_first (Needs why.Schedule WrongSchedule) OfDueOptions 2 3 _ _ _ refl told)))
 

@@ -38,7 +38,7 @@ returns-in-Some-clause-cause c =
 
 pub returns-in_err-start-clause-cause : goal.returns-in_err-start-clause-cause
 returns-in_err-start-clause-cause c =
-    let told = c.in_err-start.ensures.cause in
+    let told = c.in_err-start.ensures.cause (search rules) in
     if_err c.from_residual.result c.in_err-start.field-0.0 (λ w. IsFault OfRule 2 (texts c.args.words.now) w) (search rules)
     (of_same OfRule 2 _ _ _ (sym (ahead c.args.words.now c.in-len1-up.len_at_least)) (widen _ OfRule 2 _ _ (λ n v is. is) (behind_first (Needs why.Rule WrongRule) OfRuleOptions 2 3 _ _ _ refl told)))
 
