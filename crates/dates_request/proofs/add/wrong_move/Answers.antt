@@ -1,4 +1,4 @@
-use Rattle.std.proofs.Common.{ℕ, List, ap, subst, sym, get_or, arith, rules, ◌≡◌, ◌<◌, ◌+◌, ◌∙◌, length}
+use Rattle.std.proofs.Common.{ℕ, List, ap, subst, sym, get_or, rules, ◌≡◌, ◌<◌, ◌+◌, ◌∙◌, length}
 use Rattle.dates_request.specs.Faults.{WrongFurther}
 use Rattle.dates_request.specs.MoveTexts.{WritesMove}
 use Rattle.dates_request.proofs.AddLemmas.{names_none, word_of}
