@@ -141,7 +141,8 @@ def main():
         failed += len(sessions)
         for name in sessions:
             print(f"FAILED: the session {name} at a terminal")
-    print(f"sessions at a terminal: {', '.join(it.__name__ for it in dates_terminal.TERMINALS)}" + "; not run: tmux, which is not there" * (dates_terminal.Tmux not in dates_terminal.TERMINALS))
+    if dates_terminal.Tmux not in dates_terminal.TERMINALS:
+        print("not run: the sessions of dates in tmux, since there is none")
     print(f"{passed} passed, {failed} failed")
     return 1 if failed else 0
 
