@@ -319,8 +319,9 @@ def england(year):
 
 
 def by_rules():
-    """Rows of each holiday of the given calendars, and of how many there are in a year."""
+    """Rows of each holiday of the given calendars, and of how many there are in a year: none before the first that they know."""
     for name, of, first in (("us_federal", federal_from_1971, 1971), ("target", target, 1999), ("england", england, 1978)):
+        yield from (f"{name}_days 1 {year} = 0" for year in (-262143, 1, first - 2, first - 1))
         for year in range(first, 2050):
             for it in of(year):
                 yield f"{name} {it.toordinal()} {year} = 1"

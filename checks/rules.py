@@ -8,7 +8,7 @@
   counted    a function that takes `Steps` has no loop, no range, no iterator and no match of thirteen cases or more; nor has what it
              calls without handing its counter on, and nothing there begins a counter
   places     a counter begins, a table is read and a counter is swapped only in the functions that PLACES names, as often as there
-  thrown     what a call answers is not thrown away, by `let _`, by `drop` or as a statement
+  thrown     what a call answers is not thrown away, by the name `_` or one that nothing asks for, by `drop`, as a statement or a condition
 
 Each rule is then tried on the wrong bodies of PLANTED, in copies of the source, and has to find each. Last, the compiler has to
 refuse the bodies of LET_GO, which leave a counter without an end. Tests may count as they like, and texts have tables of their own.
@@ -24,8 +24,8 @@ import tempfile
 TOP = os.path.dirname(os.path.dirname(os.path.abspath(__file__)))
 # The crates with functions that take `Steps`, and what these call.
 COUNTED = ("chrono_units", "chrono_clock", "chrono_calendar", "chrono_internals", "chrono_stored", "chrono_naive")
-# The crate of them that none of the others calls.
-APART = "chrono_internals"
+# The crate of them that none of the others calls, and one below them whose loops they may not call.
+APART, BELOW = "chrono_internals", "chrono_text"
 # What stands in the bodies of these functions alone, each named as often as it stands there.
 PLACES = {
     "Steps::new(": ["chrono_calendar/src/forms.rt from_day", "chrono_calendar/src/forms.rt days_later",
@@ -47,13 +47,17 @@ MANY = 13
 
 IGNORED = re.compile(r"""//[^\n]*|b?"(?:\\[\s\S]|[^"\\])*"|b?'(?:\\.|[^'\\])'|\#!?\[[^\]]*\]""")
 CLAUSE = re.compile(r"\b(?:requires|ensures)(?:\s+\w+)?\s*$")
-# A constant of several values: an array, a tuple or a text.
-ARRAY = re.compile(r"^ *(pub\S* )?(?:const|static) (\w+): (?:[^=]*\[|\((?!\))|&[^=]*\bstr\b)[^=]*=", re.M)
+# Where a constant begins, and of which types it has several values: an array may stand in its value too.
+CONSTANT = re.compile(r"(?:^|[;{}])\s*(pub\S* )?(?:const|static) (\w+): ")
+SEVERAL = re.compile(r"\((?!\))|&[^=]*\bstr\b|[^;]*\[")
 # A call of a name, but of none of a machine's number.
 CALL = re.compile(r"(?<!\d::)\b([a-z_]\w*)(?:::<[^()]*>)?\(")
 
 # What a call does that stands as a statement: it changes what it is called on or given.
 EFFECT = re.compile(r"\b(?:tick|end|push\w*|put_\w*|hash|insert|remove|swap)\([^()]*(?:\([^()]*\)[^()]*)*\)$")
+
+# An answer that nothing asks for: by the name `_`, by `drop`, as a condition of nothing, or as a part of a pair.
+THROWN = re.compile(r"(?<!\w)_\w* = [^;]*\(|\bdrop\(|(?:\)|=>|\belse)\s*\{\s*\}|\blet \([^()=]*(?<!\w)_[^()=]*\) = \(")
 
 Function = collections.namedtuple("Function", "path name head body")
 
@@ -100,6 +104,13 @@ def functions(path, text):
         yield Function(path, found[1], text[found.end() : at], body)
 
 
+def arrays_of(text):
+    """The constants of several values, an array, a tuple or a text, of a file: whether each is public, and its name."""
+    for found in CONSTANT.finditer(text):
+        if SEVERAL.match(text[found.end() : opening(text, found.end(), ";")]):
+            yield bool(found[1]), found[2]
+
+
 def crate_of(path):
     return path.split("/")[0]
 
@@ -122,7 +133,7 @@ class Code:
 
 def tables(code):
     for path in (it for it in code.files if crate_of(it) in COUNTED):
-        arrays = ARRAY.findall(code.files[path])
+        arrays = list(arrays_of(code.files[path]))
         beside = [it for it in code.counted if it.path == path]
         if not is_of_tables(path):
             yield from (f"{path}: the array {name}" for _, name in arrays)
@@ -175,7 +186,7 @@ def uncounted(those):
 
 def counted(code):
     every = uncounted(code.counted)
-    but_apart = uncounted([it for it in code.counted if crate_of(it.path) != APART])
+    but_apart = uncounted([it for it in code.functions if crate_of(it.path) in (BELOW, *COUNTED) and crate_of(it.path) != APART])
     for it in (it for it in code.counted if re.search(r"&mut Steps\b", it.head)):
         names = every if crate_of(it.path) == APART else but_apart
         if turns(it.body) or iterates(it.body):
@@ -200,8 +211,14 @@ def places(code):
 
 def thrown(code):
     for it in code.counted:
-        if re.search(r"\blet _\w* = [^;]*\(|\bdrop\(", it.body) or any(not EFFECT.search(text) for text in statements(it.body)):
+        if THROWN.search(it.body) or any(not EFFECT.search(text) for text in statements(it.body)) or unused(it.body):
             yield f"{it.path}: an answer thrown away in {it.name}"
+
+
+def unused(body):
+    """The names that a body gives to values and never asks for."""
+    found = re.findall(r"\blet (?:mut )?(\([^()=]*\)|[a-z]\w*)", body)
+    return [it for names in found for it in re.findall(r"\b[a-z]\w*", names) if len(re.findall(rf"\b{it}\b", body)) == 1]
 
 
 def statements(body):
@@ -241,8 +258,15 @@ PLANTED = [
     (places, FORMS, "    steps.tick();\n", "    steps.tick();\n    let own = Steps ::new();\n    own.end();\n"),
     (places, FORMS, "    steps.tick();\n", "    steps.tick();\n    let own = <Steps>::new();\n    own.end();\n"),
     (places, FORMS, "    steps.tick();\n", "    steps.tick();\n    use crate::steps::Steps as Other;\n"),
+    (counted, "chrono_naive/src/naive_date.rt", "Form::from_day(days, steps)?", "Form::from_day(read_decimal(b\"1\").map_or(days, |_| days), steps)?"),
     (tables, PACKED, "impl PackedForm {", "const LENGTHS: (u16, u16) = (365, 366);\n\nimpl PackedForm {"),
     (tables, PACKED, "impl PackedForm {", "const LENGTHS: &str = \"mn\";\n\nimpl PackedForm {"),
+    (tables, PACKED, "impl PackedForm {", "const LENGTHS: Lengths = Lengths([365, 366]);\n\nimpl PackedForm {"),
+    (tables, PACKED, "impl PackedForm {", "const DAYS: u16 = 365; const LENGTHS: [u16; 1] = [DAYS];\n\nimpl PackedForm {"),
+    (thrown, PACKED, "        PackedForm::of_ordinal(", "        _ = Self::from_ymd(year, 1, 1);\n        PackedForm::of_ordinal("),
+    (thrown, PACKED, "        PackedForm::of_ordinal(", "        let first = Self::from_ymd(year, 1, 1);\n        PackedForm::of_ordinal("),
+    (thrown, PACKED, "        PackedForm::of_ordinal(", "        if Self::from_ymd(year, 1, 1).is_some() {}\n        PackedForm::of_ordinal("),
+    (thrown, PACKED, "        PackedForm::of_ordinal(", "        let (_, year) = (Self::from_ymd(year, 1, 1), year);\n        PackedForm::of_ordinal("),
 ]
 
 

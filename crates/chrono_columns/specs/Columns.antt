@@ -1,5 +1,5 @@
 -- What stands in a column for each number, date or name, and for that there is none.
-use Rattle.std.specs.Prelude.{◌≡◌, ◌≢◌, ◌&&◌, Bool, ℕ, ℤ, pos, neg_ℤ, ◌+ℤ◌, ◌-ℤ◌, int_le, if◌then◌else◌, List, replicate, Option, Some, None}
+use Rattle.std.specs.Prelude.{◌≡◌, ◌≢◌, ◌&&◌, Bool, ℕ, ℤ, pos, neg_ℤ, ◌^◌, ◌+ℤ◌, ◌-ℤ◌, int_le, if◌then◌else◌, List, replicate, Option, Some, None}
 use Rattle.std.specs.Option.{option_and_then, option_map}
 use Rattle.chrono_units.specs.Weekday.{number_from_monday}
 use Rattle.chrono_units.specs.WeekdaySet.{DaySet}
@@ -15,12 +15,12 @@ use Rattle.chrono_reading.specs.DateTexts.{IsDateText}
 -- a date, a year or a distance, and for none the least i32, which is no such number
 abbrev pub number_entry : Option ℤ → ℤ
 number_entry (Some n) = n
-number_entry None = neg_ℤ (pos 2_147_483_648)
+number_entry None = neg_ℤ (pos (2 ^ 31))
 
 -- the days since 1970 in 64 bits, and for none the least i64
 abbrev pub wide_entry : Option ℤ → ℤ
 wide_entry (Some n) = n
-wide_entry None = neg_ℤ (pos 9_223_372_036_854_775_808)
+wide_entry None = neg_ℤ (pos (2 ^ 63))
 
 -- a month, a day, an ordinal, a week or a weekday, and for none 0, as all of these begin at 1
 abbrev pub count_entry : Option ℕ → ℕ
