@@ -17,6 +17,7 @@ mod Passed
 mod PeriodsLeftOut
 mod PieceLemmas
 mod PlacesBack
+mod PlacesFromEnd
 mod PlacesInPeriods
 mod RecurrenceWalks
 mod RisingLists

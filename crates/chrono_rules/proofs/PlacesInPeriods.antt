@@ -75,7 +75,7 @@ same_week_end n d start low high = ap (λ (m : ℤ). m +ℤ pos 7) (same_week n 
 
 -- ---- a day stands in its period
 
-ordinal_of-bounds : (d : ℤ) → (1 ≤ ordinal_of d) × (ordinal_of d ≤ year_length (year_of d))
+pub ordinal_of-bounds : (d : ℤ) → (1 ≤ ordinal_of d) × (ordinal_of d ≤ year_length (year_of d))
 ordinal_of-bounds d =
     let name = IsCalendarName-ordinal (year_of d) (month_of d) (day_of d) (calendar_name-exists d) in
     (omega (arith, signed, name.0, number-calendar_name d, number-ordinal_name d), omega (arith, signed, name.1, number-calendar_name d, number-ordinal_name d))
@@ -106,12 +106,12 @@ zero_word [] i is = get_or_past [] i 0 (omega arith)
 zero_word (w ∷ ws) zero is = grind (arith, nat_tests, (split (w == 0) _ is).0)
 zero_word (w ∷ ws) (suc i) is = zero_word ws i (split (w == 0) _ is).1
 
-no_word : (s : PlaceSet) (k : ℕ) → slice_index_or s.words (k / 64) 0 ≡ 0 → has_place s k ≡ false
+pub no_word : (s : PlaceSet) (k : ℕ) → slice_index_or s.words (k / 64) 0 ≡ 0 → has_place s k ≡ false
 unfolding has_place
 no_word s k none =
     ap (λ (w : ℕ). bit_at w (k % 64) == 1) none ∙ ap (λ (b : ℕ). b == 1) (bit_at-zero (k % 64))
 
-none_named : (s : PlaceSet) (k : ℕ) → are_zero s.words ≡ true → has_place s k ≡ false
+pub none_named : (s : PlaceSet) (k : ℕ) → are_zero s.words ≡ true → has_place s k ≡ false
 none_named s k is = no_word s k (zero_word s.words (k / 64) is)
 
 pub past_places : (s : PlaceSet) (k : ℕ) → length s.words ≡ 6 → 384 ≤ k → has_place s k ≡ false
@@ -127,7 +127,7 @@ neither false b h = (refl, h)
 
 -- ---- a day whose places are none that BYSETPOS names
 
-front_place : (p : ℤ → Bool) (first day e : ℤ) (before passed : ℕ) → first ≤ℤ day → day ≤ℤ e → before ≡ count_between p first day → passed ≡ count_between p day e → p e ≡ true → before + passed + 1 ≡ count_between p first (e +ℤ pos 1)
+pub front_place : (p : ℤ → Bool) (first day e : ℤ) (before passed : ℕ) → first ≤ℤ day → day ≤ℤ e → before ≡ count_between p first day → passed ≡ count_between p day e → p e ≡ true → before + passed + 1 ≡ count_between p first (e +ℤ pos 1)
 front_place p first day e before passed low le before-is passed-is is =
     let here : passed + 1 ≡ count_between p day (e +ℤ pos 1) = counted-next p day e (e +ℤ pos 1) passed (passed + 1) passed-is (ap (λ b. passed + cond b 1 0) (sym is)) le refl in
     omega (arith, here, before-is, count_between-sum p first day (e +ℤ pos 1) low (omega (arith, signed, le)))

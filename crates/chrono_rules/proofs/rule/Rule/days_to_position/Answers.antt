@@ -44,7 +44,7 @@ loop-later-preserved c =
           (λ ge.
           let same : d ≡ e = omega (arith, casts, ge, less, here, inv.low, test, high) in
           ap (is_member r c.args.start) same
-          ∙ off_day r c.args.start c.args.day e c.passing_before-before.result c.passing_from-left.result passed (passes r c.args.start e) refl date c.requires le
+          ∙ off_day r c.args.start c.args.day e c.args.before c.passing_from-left.result passed (passes r c.args.start e) refl date c.requires.some le
           (c.days_of_one_period-end.ensures.first e le (omega (arith, casts, here, test, high, inv.low))) (c.days_of_one_period-end.ensures.end e le (omega (arith, casts, here, test, high, inv.low)))
-          c.passing_before-before.ensures.value c.passing_from-left.ensures.value so_far c.in-Some-passed_with.ensures.off);
+          c.requires.before c.passing_from-left.ensures.value so_far c.in-Some-passed_with.ensures.off);
     }
