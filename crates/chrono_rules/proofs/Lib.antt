@@ -29,3 +29,4 @@ mod Walks
 mod WeekdaysBack
 mod WordBytes
 mod WrittenParts
+mod YearsOfDates

@@ -1,11 +1,11 @@
 -- The places of a period's passing days, counted from its end.
-use Rattle.std.proofs.Common.{◌≡◌, ℕ, ◌+◌, ◌-◌, ◌*◌, ◌/◌, ◌%◌, ◌<◌, ◌≤◌, nat_lt, Bool, true, false, cond, ◌&&◌, refl, sym, ap, ◌∙◌, arith, inl, inr, ℤ, pos, ◌+ℤ◌, ◌-ℤ◌, ◌≤ℤ◌, ◌<ℤ◌, int_le, unsigned_abs}
+use Rattle.std.proofs.Common.{◌≡◌, ℕ, ◌+◌, ◌-◌, ◌*◌, ◌/◌, ◌%◌, ◌<◌, ◌≤◌, nat_lt, Bool, true, false, cond, ◌&&◌, refl, sym, ap, ◌∙◌, arith, inl, inr, ℤ, pos, ◌+ℤ◌, ◌≤ℤ◌, ◌<ℤ◌, int_le}
 use Rattle.std.specs.Prelude.{slice_index_or}
 use Rattle.std.specs.Int.{bit_at}
 use Rattle.std.proofs.lemmas.Int.{by_lt_z}
 use Rattle.std.proofs.lemmas.Bool.{cases_lt}
 use Rattle.std.proofs.lemmas.Bool.Decides.{nat_tests}
-use Rattle.chrono_datetime.specs.Days.{IsDate, day_number_of_yo, day_of, days_before_year, ordinal_of, year_of}
+use Rattle.chrono_datetime.specs.Days.{IsDate, day_of, days_before_year}
 use Rattle.chrono_datetime.specs.MonthMoves.{month_length_of}
 use Rattle.chrono_datetime.specs.Recurrence.{count_between}
 use Rattle.chrono_datetime.specs.Years.{year_length}
@@ -13,7 +13,7 @@ use Rattle.chrono_datetime.specs.Weeks.{week_first_of}
 use Rattle.chrono_datetime.specs.declared.Weekday.{Weekday}
 use Rattle.chrono_datetime.proofs.CountBetween.{count_between-first, count_between-sum}
 use Rattle.chrono_datetime.proofs.MonthDays.{day_of-bounds}
-use Rattle.chrono_datetime.proofs.NamedDates.{date_of_day-Some, date_of_yo-day, date_of_yo-name, number-ordinal_name}
+use Rattle.chrono_datetime.proofs.NamedDates.{number-ordinal_name}
 use Rattle.chrono_datetime.proofs.Signed.{signed}
 use Rattle.chrono_datetime.proofs.WeekDays.{week_first_of-only, week_first_of-place}
 use Rattle.chrono_rules.specs.Instances.{are_zero, date_passes, has_place, in_interval, in_positions, is_member, lacks_positions, not_after, passes, period_end, period_first}
@@ -22,18 +22,10 @@ use Rattle.chrono_rules.specs.declared.rule.Frequency.{Frequency}
 use Rattle.chrono_rules.specs.declared.rule.Frequency.TheVariants.{Daily, Monthly, Weekly, Yearly}
 use Rattle.chrono_rules.specs.declared.rule.Rule.{Rule}
 use Rattle.chrono_rules.proofs.Passed.{and-none, no_pass}
-use Rattle.chrono_rules.proofs.PlacesInPeriods.{date_passes-is, from_period, front_place, no_word, none_named, ordinal_of-bounds, same_month_end, same_month_first}
+use Rattle.chrono_rules.proofs.YearsOfDates.{same_year}
+use Rattle.chrono_rules.proofs.PlacesInPeriods.{date_passes-is, from_period, front_place, no_word, none_named, same_month_end, same_month_first}
 
 -- ---- all days to the end of a period have that end
-
-same_year : (n d : ℤ) → n ≤ℤ d → d <ℤ (((n +ℤ pos 1) +ℤ pos (year_length (year_of n))) -ℤ pos (ordinal_of n)) → IsDate d → year_of d ≡ year_of n
-same_year n d low high date =
-    let y = year_of n in
-    let o : ℕ = ordinal_of n + unsigned_abs (d -ℤ n) in
-    let first : 1 ≤ o = omega (arith, ordinal_of-bounds n) in
-    let last : o ≤ year_length y = omega (arith, signed, low, high) in
-    let number : day_number_of_yo y o ≡ d = omega (arith, signed, low, number-ordinal_name n) in
-    sym (date_of_yo-name d y o (date_of_yo-day d y o number (first, last) ∙ date_of_day-Some d date)).0
 
 pub same_first : (f : Frequency) (w : Weekday) (n d : ℤ) → n ≤ℤ d → d <ℤ period_end f w n → IsDate d → period_first f w d ≡ period_first f w n
 unfolding period_first period_end

@@ -1,36 +1,16 @@
 //! What a search passes over by BYSETPOS.
 ghost use Rattle.std.specs.Prelude.{◌≡◌, ◌≤◌, ◌<◌, ◌+◌, ◌-◌, ◌&&◌, ◌||◌, nat_lt, ◌≤ℤ◌, ◌<ℤ◌, ◌+ℤ◌, ℕ, ℤ, pos, true, false, if◌then◌else◌, IfSome};
-ghost use Rattle.chrono_datetime.specs.Days.{IsDate, day_of};
-ghost use Rattle.chrono_datetime.specs.MonthMoves.{month_length_of};
+ghost use Rattle.chrono_datetime.specs.Days.{IsDate};
 ghost use Rattle.chrono_datetime.specs.Recurrence.{count_between};
 ghost use Rattle.chrono_rules.specs.Instances.{are_zero, date_passes, has_place, is_member, lacks_positions, passes, period_end, period_first};
 
 use crate::gaps::gap_down;
 use crate::iterator::PAST_LAST_DAY;
 use crate::places::PlaceSet;
-use crate::rule::{Frequency, Rule};
+use crate::rule::Rule;
 use chrono_datetime::{Datelike, NaiveDate};
 
 impl Rule {
-    // How many days from this one on lie in its period; in a rule by years those of its month alone.
-    #[inline]
-    #[tactic(auto, unfolding(crate::specs::Instances::period_first, crate::specs::Instances::period_end))]
-    fn days_of_one_period(&self, day: NaiveDate) -> i64
-        ensures first { (d : ℤ) → day ≤ℤ d → d <ℤ (day +ℤ result) →
-            period_first self.now.frequency self.now.week_start d ≡ period_first self.now.frequency self.now.week_start day }
-        ensures end { (d : ℤ) → day ≤ℤ d → d <ℤ (day +ℤ result) →
-            period_end self.now.frequency self.now.week_start d ≡ period_end self.now.frequency self.now.week_start day }
-        ensures low { pos 0 ≤ℤ result }
-        ensures high { result ≤ℤ pos 31 }
-    {
-        match self.frequency {
-            Frequency::Daily => 1,
-            Frequency::Weekly => 7 - i64::from(day.weekday().days_since(self.week_start)),
-            Frequency::Monthly => rest_of_month(day),
-            Frequency::Yearly => rest_of_month(day),
-        }
-    }
-
     // How many days of its period pass before this one, if BYSETPOS has places from the front.
     fn passing_before(&self, start: NaiveDate, day: NaiveDate) -> u32
         ensures value { are_zero self.now.positions.words ≡ false → result ≡ count_between (date_passes self.now start)
@@ -91,7 +71,7 @@ impl Rule {
         has_place(&self.positions, front) || has_place(&self.positions_from_end, back)
     }
 
-    // How many days from this one on have no place that BYSETPOS names, at most those of its period and month; so many of its period pass before it.
+    // How many days from this one on have no place that BYSETPOS names, at most those of its period, of which so many pass before it.
     fn days_to_position(&self, start: NaiveDate, day: NaiveDate, before: u32) -> i64
         requires some { lacks_positions self.now ≡ false }
         requires before { are_zero self.now.positions.words ≡ false → before ≡ count_between (date_passes self.now start)
@@ -99,10 +79,10 @@ impl Rule {
         requires few { before ≤ 366 }
         ensures passed { (d : ℤ) → day ≤ℤ d → d <ℤ (day +ℤ result) → is_member self.now start d ≡ false }
         ensures low { pos 0 ≤ℤ result }
-        ensures high { result ≤ℤ pos 31 }
+        ensures high { result ≤ℤ pos 366 }
     {
         let left = self.passing_from(start, day);
-        let end = self.days_of_one_period(day);
+        let end = self.to_period_end(day);
         let mut passed = 0;
         let mut later = 0;
         while later < end {
@@ -198,15 +178,6 @@ fn last_place(set: &PlaceSet) -> u32
         word -= 1;
     }
     64 * word as u32 + (63 - gap_down(set.words[word], 63).min(63))
-}
-
-// How many days from this one on lie in its month.
-#[inline]
-fn rest_of_month(day: NaiveDate) -> i64
-    ensures value { result ≡ pos (month_length_of day - day_of day) +ℤ pos 1 }
-    ensures high { result ≤ℤ pos 31 }
-{
-    1 + i64::from(u32::from(day.num_days_in_month()) - day.day())
 }
 
 // Whether the set has the number, which may be larger than all that a set can have.
