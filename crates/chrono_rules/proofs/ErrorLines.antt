@@ -8,7 +8,7 @@ use Rattle.std.proofs.lemmas.Str.{IsAscii-append}
 use Rattle.std.proofs.lemmas.Str.Ascii.{IsAscii-nil, IsAscii-cons}
 use Rattle.chrono_rules.specs.declared.error.RuleError.{RuleError}
 use Rattle.chrono_rules.specs.declared.error.RuleFault.{RuleFault}
-use Rattle.chrono_rules.specs.declared.error.RuleFault.TheVariants.{Unknown, Missing, Twice, Empty, NotAFrequency, NotANumber, OutOfRange, NotADate, NotAWeekday, BesideCount, NotWith, NumbersNotWith, NumbersBesideWeeks, Alone}
+use Rattle.chrono_rules.specs.declared.error.RuleFault.TheVariants.{Unknown, OfHours, OfMinutes, OfSeconds, Missing, Twice, Empty, NotAFrequency, NotANumber, OutOfRange, NotADate, NotAWeekday, BesideCount, NotWith, NumbersNotWith, NumbersBesideWeeks, Alone}
 use Rattle.chrono_rules.specs.declared.error.RulePart.{RulePart}
 use Rattle.chrono_rules.specs.declared.error.RulePart.TheVariants.{Freq, Interval, Count, Until, ByMonth, ByMonthDay, ByDay, ByYearDay, ByWeekNo, BySetPos, Wkst}
 use Rattle.chrono_rules.specs.declared.rule.Frequency.{Frequency}
@@ -53,6 +53,9 @@ name_low Wkst = refl
 words_low : (fault : RuleFault) → list_all is_low (fault_words fault) ≡ true
 unfolding fault_words
 words_low Unknown = refl
+words_low OfHours = refl
+words_low OfMinutes = refl
+words_low OfSeconds = refl
 words_low Missing = refl
 words_low Twice = refl
 words_low Empty = refl

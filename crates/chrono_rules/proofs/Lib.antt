@@ -17,6 +17,7 @@ mod Passed
 mod PeriodsLeftOut
 mod PieceLemmas
 mod PlacesBack
+mod PlacesFromEnd
 mod PlacesInPeriods
 mod RecurrenceWalks
 mod RisingLists
@@ -28,3 +29,4 @@ mod Walks
 mod WeekdaysBack
 mod WordBytes
 mod WrittenParts
+mod YearsOfDates

@@ -1,5 +1,5 @@
 -- The places of a period's passing days, of which BYSETPOS names some.
-use Rattle.std.proofs.Common.{◌≡◌, ◌==◌, ℕ, zero, suc, ◌+◌, ◌-◌, ◌/◌, ◌%◌, ◌<◌, ◌≤◌, Bool, true, false, cond, not, ◌||◌, List, [], ◌∷◌, length, refl, sym, subst, ap, ◌∙◌, arith, ℤ, pos, ◌+ℤ◌, ◌-ℤ◌, ◌≤ℤ◌, ◌<ℤ◌, int_le, unsigned_abs}
+use Rattle.std.proofs.Common.{◌≡◌, ◌==◌, ℕ, zero, suc, ◌+◌, ◌-◌, ◌/◌, ◌%◌, ◌<◌, ◌≤◌, Bool, true, false, cond, not, ◌||◌, List, [], ◌∷◌, length, refl, sym, ap, ◌∙◌, arith, ℤ, pos, ◌+ℤ◌, ◌-ℤ◌, ◌≤ℤ◌, ◌<ℤ◌, int_le, unsigned_abs}
 use Rattle.std.specs.Prelude.{slice_index_or}
 use Rattle.std.specs.Int.{bit_at}
 use Rattle.std.proofs.lemmas.Bool.{false≢true}
@@ -15,7 +15,7 @@ use Rattle.chrono_datetime.specs.Weeks.{week_first_of, weekday_of}
 use Rattle.chrono_datetime.specs.declared.Weekday.{Weekday}
 use Rattle.chrono_datetime.proofs.CountBetween.{count_between-sum}
 use Rattle.chrono_datetime.proofs.MonthDays.{day_of-bounds, later_in_month}
-use Rattle.chrono_datetime.proofs.NamedDates.{IsCalendarName-ordinal, calendar_name-exists, number-calendar_name, number-ordinal_name}
+use Rattle.chrono_datetime.proofs.NamedDates.{number-ordinal_name}
 use Rattle.chrono_datetime.proofs.Signed.{signed}
 use Rattle.chrono_datetime.proofs.WeekDays.{week_first_of-only, week_first_of-place}
 use Rattle.chrono_rules.specs.Instances.{are_zero, date_passes, has_place, in_interval, in_positions, is_member, lacks_positions, not_after, on_year_day, passes, period_end, period_first}
@@ -25,6 +25,7 @@ use Rattle.chrono_rules.specs.declared.rule.Frequency.TheVariants.{Daily, Monthl
 use Rattle.chrono_rules.specs.declared.rule.Rule.{Rule}
 use Rattle.chrono_rules.proofs.Counts.{counted-next}
 use Rattle.chrono_rules.proofs.Passed.{and-none, no_pass}
+use Rattle.chrono_rules.proofs.YearsOfDates.{ordinal_of-bounds}
 
 -- ---- days of one period
 
@@ -70,15 +71,7 @@ same_year_end n d r e low high =
     let it = in_rest n d r e low high in
     omega (arith, signed, same_year_first n d r e low high, ap (λ (y : ℤ). year_length y) it.year)
 
-pub same_week_end : (n d : ℤ) (start : Weekday) → n ≤ℤ d → d <ℤ (n +ℤ (pos 7 -ℤ pos (days_since (weekday_of n) start))) → week_first_of d start +ℤ pos 7 ≡ week_first_of n start +ℤ pos 7
-same_week_end n d start low high = ap (λ (m : ℤ). m +ℤ pos 7) (same_week n d start low high)
-
 -- ---- a day stands in its period
-
-ordinal_of-bounds : (d : ℤ) → (1 ≤ ordinal_of d) × (ordinal_of d ≤ year_length (year_of d))
-ordinal_of-bounds d =
-    let name = IsCalendarName-ordinal (year_of d) (month_of d) (day_of d) (calendar_name-exists d) in
-    (omega (arith, signed, name.0, number-calendar_name d, number-ordinal_name d), omega (arith, signed, name.1, number-calendar_name d, number-ordinal_name d))
 
 pub from_period : (f : Frequency) (w : Weekday) (n : ℤ) → period_first f w n ≤ℤ n
 unfolding period_first
@@ -106,12 +99,12 @@ zero_word [] i is = get_or_past [] i 0 (omega arith)
 zero_word (w ∷ ws) zero is = grind (arith, nat_tests, (split (w == 0) _ is).0)
 zero_word (w ∷ ws) (suc i) is = zero_word ws i (split (w == 0) _ is).1
 
-no_word : (s : PlaceSet) (k : ℕ) → slice_index_or s.words (k / 64) 0 ≡ 0 → has_place s k ≡ false
+pub no_word : (s : PlaceSet) (k : ℕ) → slice_index_or s.words (k / 64) 0 ≡ 0 → has_place s k ≡ false
 unfolding has_place
 no_word s k none =
     ap (λ (w : ℕ). bit_at w (k % 64) == 1) none ∙ ap (λ (b : ℕ). b == 1) (bit_at-zero (k % 64))
 
-none_named : (s : PlaceSet) (k : ℕ) → are_zero s.words ≡ true → has_place s k ≡ false
+pub none_named : (s : PlaceSet) (k : ℕ) → are_zero s.words ≡ true → has_place s k ≡ false
 none_named s k is = no_word s k (zero_word s.words (k / 64) is)
 
 pub past_places : (s : PlaceSet) (k : ℕ) → length s.words ≡ 6 → 384 ≤ k → has_place s k ≡ false
@@ -127,7 +120,7 @@ neither false b h = (refl, h)
 
 -- ---- a day whose places are none that BYSETPOS names
 
-front_place : (p : ℤ → Bool) (first day e : ℤ) (before passed : ℕ) → first ≤ℤ day → day ≤ℤ e → before ≡ count_between p first day → passed ≡ count_between p day e → p e ≡ true → before + passed + 1 ≡ count_between p first (e +ℤ pos 1)
+pub front_place : (p : ℤ → Bool) (first day e : ℤ) (before passed : ℕ) → first ≤ℤ day → day ≤ℤ e → before ≡ count_between p first day → passed ≡ count_between p day e → p e ≡ true → before + passed + 1 ≡ count_between p first (e +ℤ pos 1)
 front_place p first day e before passed low le before-is passed-is is =
     let here : passed + 1 ≡ count_between p day (e +ℤ pos 1) = counted-next p day e (e +ℤ pos 1) passed (passed + 1) passed-is (ap (λ b. passed + cond b 1 0) (sym is)) le refl in
     omega (arith, here, before-is, count_between-sum p first day (e +ℤ pos 1) low (omega (arith, signed, le)))
@@ -158,26 +151,6 @@ unfolding date_passes
 date_passes-is r start e date =
     let is : is_date e ≡ true = grind (arith, signed, date.0, date.1) in
     rw is refl
-
--- ---- by the frequency
-
-pub one_week : (f : Frequency) (w : Weekday) (n d : ℤ) → f ≡ Weekly → n ≤ℤ d → d <ℤ (n +ℤ (pos 7 -ℤ pos (days_since (weekday_of n) w))) → (period_first f w d ≡ period_first f w n) × (period_end f w d ≡ period_end f w n)
-unfolding period_first period_end
-one_week f w n d is low high =
-    subst (λ (g : Frequency). (period_first g w d ≡ period_first g w n) × (period_end g w d ≡ period_end g w n)) (sym is)
-    (same_week n d w low high, same_week_end n d w low high)
-
-pub one_month : (f : Frequency) (w : Weekday) (n d r : ℤ) → f ≡ Monthly → r ≡ pos (month_length_of n - day_of n) +ℤ pos 1 → n ≤ℤ d → d <ℤ (n +ℤ r) → (period_first f w d ≡ period_first f w n) × (period_end f w d ≡ period_end f w n)
-unfolding period_first period_end
-one_month f w n d r is e low high =
-    subst (λ (g : Frequency). (period_first g w d ≡ period_first g w n) × (period_end g w d ≡ period_end g w n)) (sym is)
-    (same_month_first n d r e low high, same_month_end n d r e low high)
-
-pub one_year : (f : Frequency) (w : Weekday) (n d r : ℤ) → f ≡ Yearly → r ≡ pos (month_length_of n - day_of n) +ℤ pos 1 → n ≤ℤ d → d <ℤ (n +ℤ r) → (period_first f w d ≡ period_first f w n) × (period_end f w d ≡ period_end f w n)
-unfolding period_first period_end
-one_year f w n d r is e low high =
-    subst (λ (g : Frequency). (period_first g w d ≡ period_first g w n) × (period_end g w d ≡ period_end g w n)) (sym is)
-    (same_year_first n d r e low high, same_year_end n d r e low high)
 
 -- ---- a day that does not pass, or has no place that is named
 

@@ -3,18 +3,20 @@ use Rattle.std.proofs.Common.{◌≡◌, ◌==◌, ℕ, ◌+◌, ◌-◌, ◌%�
 use Rattle.std.proofs.lemmas.Int.{by_lt_z, to_z-of_z}
 use Rattle.std.proofs.lemmas.Bool.{cases_lt, ne_eqb}
 use Rattle.std.specs.Int.{IsInRange, bit_at}
-use Rattle.chrono_datetime.specs.Days.{day_of, month_of, ordinal_of, year_of}
+use Rattle.chrono_datetime.specs.Days.{IsDate, day_of, days_before_year, month_of, ordinal_of, year_of}
 use Rattle.chrono_datetime.specs.MonthMoves.{InSameMonth, month_index, month_index_of, month_last_of, month_length_of}
 use Rattle.chrono_datetime.specs.Weekday.{days_from_monday, days_since}
-use Rattle.chrono_datetime.specs.Weeks.{weekday_of}
+use Rattle.chrono_datetime.specs.Weeks.{week_first_of, weekday_of}
 use Rattle.chrono_datetime.specs.Years.{month_length, year_length}
 use Rattle.chrono_datetime.proofs.IsoWeeks.{days_from_monday-of}
 use Rattle.chrono_datetime.proofs.MonthDays.{day_of-bounds, later_in_month, month-days}
 use Rattle.chrono_datetime.proofs.MonthOrder.{before_month, day_at-exists, days_in_order, earlier_month, month_of-range}
+use Rattle.chrono_datetime.proofs.NamedDates.{number-ordinal_name}
 use Rattle.chrono_datetime.proofs.Signed.{signed}
-use Rattle.chrono_rules.specs.Instances.{counts_in_month, days_behind, fills_day, fills_month, fills_weekday, filled, has, has_numbers, is_member, lacks_month_days, lacks_months, lacks_weekdays, lacks_year_days, names_weekday, on_month_day, on_weekday, on_year_day, passes, place_of}
+use Rattle.chrono_rules.specs.Instances.{counts_in_month, days_behind, fills_day, fills_month, fills_weekday, filled, has, has_numbers, in_week, is_member, lacks_month_days, lacks_months, lacks_weekdays, lacks_weeks, lacks_year_days, names_weekday, on_month_day, on_weekday, on_year_day, passes, place_of}
 use Rattle.chrono_rules.specs.declared.rule.Rule.{Rule}
 use Rattle.chrono_rules.proofs.Passed.{and-none, no_pass}
+use Rattle.chrono_rules.proofs.YearsOfDates.{in_year_date, ordinal_of-bounds, same_year}
 
 numbers_none : (b : Bool) → (b && false) ≡ false
 numbers_none true = refl
@@ -56,6 +58,17 @@ pub not_year_day : (r : Rule) (start d : ℤ) → lacks_year_days r ≡ false �
 unfolding passes
 not_year_day r start d named none =
     no_pass r start d (and-none (filled r start d) _ (and-none (lacks_months r || has r.months (month_of d)) _ (and-none (lacks_month_days r || on_month_day r d) _ (and-none (lacks_weekdays r || on_weekday r d) _ (rw (named, none) refl)))))
+
+-- a day of a week that BYWEEKNO does not name
+pub week-same : (r : Rule) (n d : ℤ) → week_first_of d r.week_start ≡ week_first_of n r.week_start → in_week r d ≡ in_week r n
+unfolding in_week
+week-same r n d same =
+    ap (λ (m : ℤ). has r.weeks (1 + (ordinal_of (m +ℤ pos 3) - 1) / 7) || has r.weeks_from_end (1 + (year_length (year_of (m +ℤ pos 3)) - ordinal_of (m +ℤ pos 3)) / 7)) same
+
+pub not_week : (r : Rule) (start d : ℤ) → lacks_weeks r ≡ false → in_week r d ≡ false → is_member r start d ≡ false
+unfolding passes
+not_week r start d named none =
+    no_pass r start d (and-none (filled r start d) _ (and-none (lacks_months r || has r.months (month_of d)) _ (and-none (lacks_month_days r || on_month_day r d) _ (and-none (lacks_weekdays r || on_weekday r d) _ (and-none (lacks_year_days r || on_year_day r d) _ (rw (named, none) refl))))))
 
 pub not_start_weekday : (r : Rule) (start d : ℤ) → fills_weekday r.frequency r ≡ true → (days_from_monday (weekday_of d) == days_from_monday (weekday_of start)) ≡ false → is_member r start d ≡ false
 unfolding passes
@@ -138,17 +151,36 @@ in_month n d k low high few =
     let place = later_in_month n d j at last in
     (less, place.day, same_length n d place.month.0 place.month.1, at, last)
 
-pub named_later : (r : Rule) (n d : ℤ) (j w p b : ℕ) → counts_in_month r.frequency r ≡ true → n ≤ℤ d → d ≡ n +ℤ pos j → day_of n + j ≤ month_length_of n → w ≡ (days_from_monday (weekday_of n) + j) % 7 → p ≡ day_of n + j → b ≡ month_length_of n - day_of n - j → names_weekday r w p b ≡ false → on_weekday r d ≡ false
-unfolding on_weekday
-named_later r n d j w p b counts low at last week-is place-is behind-is none =
-    let it = later_in_month n d j at last in
+-- a later day stands so many places further where numbered weekdays count: in its month, or in its year
+place_later : (r : Rule) (n d : ℤ) (j : ℕ) (b : Bool) → counts_in_month r.frequency r ≡ b → IsDate n → d ≡ n +ℤ pos j → j ≤ days_behind r n → (place_of r d ≡ place_of r n + j) × (days_behind r d ≡ days_behind r n - j)
+place_later r n d j true counts date at last =
+    let here : place_of r n ≡ day_of n = ap (λ b. cond b (day_of n) (ordinal_of n)) counts in
+    let there : place_of r d ≡ day_of d = ap (λ b. cond b (day_of d) (ordinal_of d)) counts in
+    let behind : days_behind r n ≡ month_length_of n - day_of n = ap (λ b. cond b (month_length_of n - day_of n) (year_length (year_of n) - ordinal_of n)) counts in
+    let rest : days_behind r d ≡ month_length_of d - day_of d = ap (λ b. cond b (month_length_of d - day_of d) (year_length (year_of d) - ordinal_of d)) counts in
+    let it = later_in_month n d j at (omega (arith, last, behind, day_of-bounds n)) in
     let length : month_length_of d ≡ month_length_of n = same_length n d it.month.0 it.month.1 in
-    let place : place_of r d ≡ p = ap (λ b. cond b (day_of d) (ordinal_of d)) counts ∙ omega (arith, it.day, place-is) in
-    let behind : days_behind r d ≡ b = ap (λ b. cond b (month_length_of d - day_of d) (year_length (year_of d) - ordinal_of d)) counts ∙ omega (arith, it.day, length, behind-is) in
+    (omega (arith, here, there, it.day), omega (arith, behind, rest, it.day, length))
+place_later r n d j false counts date at last =
+    let here : place_of r n ≡ ordinal_of n = ap (λ b. cond b (day_of n) (ordinal_of n)) counts in
+    let there : place_of r d ≡ ordinal_of d = ap (λ b. cond b (day_of d) (ordinal_of d)) counts in
+    let behind : days_behind r n ≡ year_length (year_of n) - ordinal_of n = ap (λ b. cond b (month_length_of n - day_of n) (year_length (year_of n) - ordinal_of n)) counts in
+    let rest : days_behind r d ≡ year_length (year_of d) - ordinal_of d = ap (λ b. cond b (month_length_of d - day_of d) (year_length (year_of d) - ordinal_of d)) counts in
+    let low : n ≤ℤ d = omega (arith, signed, at) in
+    let high : d <ℤ (((n +ℤ pos 1) +ℤ pos (year_length (year_of n))) -ℤ pos (ordinal_of n)) = omega (arith, signed, at, last, behind, ordinal_of-bounds n) in
+    let year = same_year n d low high (in_year_date n d low high date) in
+    let length = ap (λ (y : ℤ). year_length y) year in
+    let day : ordinal_of d ≡ ordinal_of n + j = omega (arith, signed, at, number-ordinal_name n, number-ordinal_name d, ap (λ (y : ℤ). days_before_year y) year) in
+    (omega (arith, here, there, day), omega (arith, behind, rest, day, length))
+
+pub named_later : (r : Rule) (n d : ℤ) (j w p b : ℕ) → IsDate n → d ≡ n +ℤ pos j → j ≤ days_behind r n → w ≡ (days_from_monday (weekday_of n) + j) % 7 → p ≡ place_of r n + j → b ≡ days_behind r n - j → names_weekday r w p b ≡ false → on_weekday r d ≡ false
+unfolding on_weekday
+named_later r n d j w p b date at last week-is place-is behind-is none =
+    let it = place_later r n d j (counts_in_month r.frequency r) refl date at last in
     let week : days_from_monday (weekday_of d) ≡ w = omega (arith, signed, at, week-is, days_from_monday-of n, days_from_monday-of d) in
     ap (λ w. names_weekday r w (place_of r d) (days_behind r d)) week
-    ∙ (ap (λ p. names_weekday r w p (days_behind r d)) place
-    ∙ (ap (λ b. names_weekday r w p b) behind ∙ none))
+    ∙ (ap (λ p. names_weekday r w p (days_behind r d)) (it.0 ∙ sym place-is)
+    ∙ (ap (λ b. names_weekday r w p b) (it.1 ∙ sym behind-is) ∙ none))
 
 -- a weekday of which neither each day is named nor the one by its numbers
 pub not_named : (r : Rule) (w p b front back : ℕ) → has r.weekdays.every w ≡ false → bit_at (slice_index_or r.weekdays.front w 0) front ≡ 0 → bit_at (slice_index_or r.weekdays.back w 0) back ≡ 0

@@ -7,10 +7,10 @@ use Rattle.chrono_datetime.specs.declared.Weekday.TheVariants.{Mon}
 use Rattle.chrono_rules.specs.Instances.{has_numbers, lacks_month_days, lacks_year_days, lacks_weeks, no_numbers, no_weekdays, plain}
 use Rattle.chrono_rules.specs.Pieces.{count_of, digits_of, pieces}
 use Rattle.chrono_rules.specs.Places.{ends_of, no_ends, number_of, place_of, weekday_of_letters, weekdays_of, with_weekday, with_weekday_text}
-use Rattle.chrono_rules.specs.RuleTexts.{IsRuleText, Says, end_of, fits, frequency_of, has_month_days, has_year_parts, interval_of, is_part, lacks_numbers, months_of, may_have_numbers, no_year_ends, parts, said, values_in, weekday_of_text, year_ends_of}
+use Rattle.chrono_rules.specs.RuleTexts.{IsRuleText, Says, end_of, fits, frequency_of, has_month_days, has_year_parts, interval_of, is_named, is_part, lacks_numbers, months_of, may_have_numbers, no_year_ends, parts, said, values_in, weekday_of_text, year_ends_of}
 use Rattle.chrono_rules.specs.declared.error.RuleError.{RuleError}
 use Rattle.chrono_rules.specs.declared.error.RuleFault.{RuleFault}
-use Rattle.chrono_rules.specs.declared.error.RuleFault.TheVariants.{Unknown, Missing, Twice, Empty, NotAFrequency, NotANumber, OutOfRange, NotADate, NotAWeekday, BesideCount, NotWith, NumbersNotWith, NumbersBesideWeeks, Alone}
+use Rattle.chrono_rules.specs.declared.error.RuleFault.TheVariants.{Unknown, OfHours, OfMinutes, OfSeconds, Missing, Twice, Empty, NotAFrequency, NotANumber, OutOfRange, NotADate, NotAWeekday, BesideCount, NotWith, NumbersNotWith, NumbersBesideWeeks, Alone}
 use Rattle.chrono_rules.specs.declared.error.RulePart.{RulePart}
 use Rattle.chrono_rules.specs.declared.error.RulePart.TheVariants.{Freq, Interval, Count, Until, ByMonth, ByMonthDay, ByDay, ByYearDay, ByWeekNo, BySetPos, Wkst}
 use Rattle.chrono_rules.specs.declared.rule.Frequency.{Frequency}
@@ -142,16 +142,29 @@ unfit_error r =
     else if not (may_have_numbers r) && not (lacks_numbers r) then record { part = Some ByDay; fault = NumbersBesideWeeks }
     else record { part = Some BySetPos; fault = Alone }
 
--- each part has a name that rules have
+-- each part has a name that rules over days have
 abbrev pub are_named : List ℕ → Bool
 are_named text = list_all is_part (parts text)
+
+-- why a part has no such name: it is of a time of day, or of nothing
+abbrev pub name_fault : List ℕ → RuleFault
+name_fault part =
+    if is_named (codes "BYHOUR=") part then OfHours
+    else if is_named (codes "BYMINUTE=") part then OfMinutes
+    else if is_named (codes "BYSECOND=") part then OfSeconds
+    else Unknown
+
+-- by the first part that has none
+abbrev pub unnamed_fault : List (List ℕ) → RuleFault
+unnamed_fault [] = Unknown
+unnamed_fault (p ∷ ps) = if is_part p then unnamed_fault ps else name_fault p
 
 -- what a reading with errors answers
 pub record IsChecked (text : List ℕ) (result : Result Rule RuleError) : Type 0 where
   pub read : IfOk result (λ r. IsRuleText text r)
   pub every : (r : Rule) → IsRuleText text r → result ≡ Ok r
   pub found : IsErr result ↔ ((r : Rule) → ¬ IsRuleText text r)
-  pub unknown : are_named text ≡ false → result ≡ Err (record { part = None; fault = Unknown })
+  pub unknown : are_named text ≡ false → result ≡ Err (record { part = None; fault = unnamed_fault (parts text) })
   pub unread : are_named text ≡ true → ((r : Rule) → ¬ Says text r) → result ≡ Err (unread_error text)
   pub unfit : (r : Rule) → are_named text ≡ true → Says text r → fits r ≡ false → result ≡ Err (unfit_error r)
 
@@ -165,6 +178,9 @@ frequency_text Yearly = codes "YEARLY"
 -- what is wrong, and which word of FREQ stands behind that
 unfoldable pub fault_words : RuleFault → List ℕ
 fault_words Unknown = codes "unknown part"
+fault_words OfHours = codes "BYHOUR: not in rules over days"
+fault_words OfMinutes = codes "BYMINUTE: not in rules over days"
+fault_words OfSeconds = codes "BYSECOND: not in rules over days"
 fault_words Missing = codes "missing"
 fault_words Twice = codes "stands twice"
 fault_words Empty = codes "empty"
@@ -199,7 +215,20 @@ in_front (Some part) = part_name part ++ codes ": "
 unfoldable pub error_text : RuleError → List ℕ
 error_text e = in_front e.part ++ fault_text e.fault
 
--- known values: a text that lacks FREQ, one that has it twice, and the first of two parts that cannot be read
+-- known values: a part of hours, of minutes and of seconds, in letters of either case, and the first of several parts without a name of rules over days
+unnamed_fault-hours : unnamed_fault (parts (codes "FREQ=DAILY;byhour=9,10;BYMINUTE=30")) ≡ OfHours
+unnamed_fault-hours = refl
+
+unnamed_fault-minutes : unnamed_fault (parts (codes "BYMINUTE=30;BYHOUR=9")) ≡ OfMinutes
+unnamed_fault-minutes = refl
+
+unnamed_fault-seconds : unnamed_fault (parts (codes "FREQ=DAILY;BYSECOND=0;X=1")) ≡ OfSeconds
+unnamed_fault-seconds = refl
+
+unnamed_fault-first : unnamed_fault (parts (codes "FREQ=DAILY;BYHOURS=9;BYHOUR=9")) ≡ Unknown
+unnamed_fault-first = refl
+
+-- a text that lacks FREQ, one that has it twice, and the first of two parts that cannot be read
 unread_error-missing : unread_error (codes "COUNT=3") ≡ record { part = Some Freq; fault = Missing }
 unfolding unread_error is_read part_fault part_name
 unread_error-missing = refl
@@ -411,3 +440,7 @@ error_text-wkst = refl
 error_text-unknown : error_text (record { part = None; fault = Unknown }) ≡ codes "unknown part"
 unfolding error_text fault_words fault_frequency
 error_text-unknown = refl
+
+error_text-minutes : error_text (record { part = None; fault = OfMinutes }) ≡ codes "BYMINUTE: not in rules over days"
+unfolding error_text fault_words fault_frequency
+error_text-minutes = refl

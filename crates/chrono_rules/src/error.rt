@@ -39,8 +39,14 @@ pub enum RulePart {
 /// Why a text writes no rule.
 #[derive(Clone, Copy, PartialEq, Eq, Debug)]
 pub enum RuleFault {
-    /// A part has no name that rules over days have.
+    /// A part has no name that rules have.
     Unknown,
+    /// BYHOUR stands there, which rules over days do not have.
+    OfHours,
+    /// BYMINUTE stands there, likewise.
+    OfMinutes,
+    /// BYSECOND stands there, likewise.
+    OfSeconds,
     /// The part has to stand there, and does not.
     Missing,
     /// The part stands there more than once.
@@ -72,7 +78,7 @@ pub enum RuleFault {
 /// What is wrong with a text that writes no rule. It prints as one line: `BYMONTHDAY: does not go with WEEKLY`.
 #[derive(Clone, Copy, PartialEq, Eq, Debug)]
 pub struct RuleError {
-    /// The part that is wrong; `None` where a part has no name that rules have.
+    /// The part that is wrong; `None` where a part has no name that rules over days have.
     pub part: Option<RulePart>,
     /// What is wrong with it.
     pub fault: RuleFault,
@@ -136,6 +142,9 @@ fn words_of(fault: RuleFault) -> &'static str
 {
     match fault {
         RuleFault::Unknown => "unknown part",
+        RuleFault::OfHours => "BYHOUR: not in rules over days",
+        RuleFault::OfMinutes => "BYMINUTE: not in rules over days",
+        RuleFault::OfSeconds => "BYSECOND: not in rules over days",
         RuleFault::Missing => "missing",
         RuleFault::Twice => "stands twice",
         RuleFault::Empty => "empty",
@@ -160,6 +169,9 @@ fn frequency_of(fault: RuleFault) -> Option<Frequency>
     match fault {
         RuleFault::NotWith(frequency) | RuleFault::NumbersNotWith(frequency) => Some(frequency),
         RuleFault::Unknown
+        | RuleFault::OfHours
+        | RuleFault::OfMinutes
+        | RuleFault::OfSeconds
         | RuleFault::Missing
         | RuleFault::Twice
         | RuleFault::Empty

@@ -4,8 +4,8 @@ ghost use Rattle.std.specs.Option.{is_some};
 ghost use Rattle.std.specs.Str.{all_ascii_digits, byte};
 ghost use Rattle.chrono_rules.specs.Instances.{no_weekdays};
 ghost use Rattle.chrono_rules.specs.Pieces.{count_of, pieces};
-ghost use Rattle.chrono_rules.specs.RuleErrors.{are_digits, digits_fault, is_read, item_fault, list_fault, number_fault, part_error, part_fault, place_fault, reads_item, unread_error, until_fault, value_fault, values_fault, weekday_fault, word_fault};
-ghost use Rattle.chrono_rules.specs.RuleTexts.{said, values_in};
+ghost use Rattle.chrono_rules.specs.RuleErrors.{are_digits, digits_fault, is_read, item_fault, list_fault, name_fault, number_fault, part_error, part_fault, place_fault, reads_item, unnamed_fault, unread_error, until_fault, value_fault, values_fault, weekday_fault, word_fault};
+ghost use Rattle.chrono_rules.specs.RuleTexts.{parts, said, values_in};
 ghost use Rattle.chrono_rules.specs.declared.error.RulePart.TheVariants.{Until};
 
 use crate::error::{RuleError, RuleFault, RulePart};
@@ -15,7 +15,7 @@ use crate::places::WeekdayPlaces;
 use crate::rule_parts::{
     end, frequency, interval, month_days, months, positions, week_start, weekdays, weeks, year_days,
 };
-use crate::values::value_of;
+use crate::values::{SEMICOLON, is_named, is_part, value_of};
 use crate::weekday_text::{weekday_of_letters, with_text};
 
 // The parts in their order, but the last.
@@ -31,6 +31,38 @@ const PARTS_BUT_LAST: [RulePart; 10] = [
     RulePart::ByWeekNo,
     RulePart::BySetPos,
 ];
+
+// Why the first part whose name no rule over days has has none.
+pub(crate) fn unnamed_fault(text: &[u8]) -> RuleFault
+    ensures { result ≡ unnamed_fault (parts text.now) }
+{
+    let mut rest = text;
+    loop {
+        let (part, behind) = first_piece(rest, SEMICOLON);
+        if !is_part(part) {
+            return name_fault(part);
+        }
+        match behind {
+            [_, next @ ..] => rest = next,
+            [] => return RuleFault::Unknown,
+        }
+    }
+}
+
+// Why no rule over days has the part's name: it is of a time of day, or of nothing.
+fn name_fault(part: &[u8]) -> RuleFault
+    ensures { result ≡ name_fault part.now }
+{
+    if is_named(part, b"BYHOUR=") {
+        RuleFault::OfHours
+    } else if is_named(part, b"BYMINUTE=") {
+        RuleFault::OfMinutes
+    } else if is_named(part, b"BYSECOND=") {
+        RuleFault::OfSeconds
+    } else {
+        RuleFault::Unknown
+    }
+}
 
 // The first part that cannot be read; the last where all others can.
 pub(crate) fn unread_error(text: &[u8]) -> RuleError

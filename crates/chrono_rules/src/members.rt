@@ -2,7 +2,7 @@
 ghost use Rattle.std.specs.Prelude.{◌≡◌, ◌≤◌, ◌<◌, ◌+◌, min, if◌then◌else◌, ◌≤ℤ◌, ◌<ℤ◌, ◌+ℤ◌, ℤ, neg_ℤ, pos, true, false, IsTrue, IfSome, IfNone};
 ghost use Rattle.chrono_datetime.specs.Days.{IsDate};
 ghost use Rattle.chrono_datetime.specs.Recurrence.{count_between, dates_before};
-ghost use Rattle.chrono_rules.specs.Instances.{date_passes, in_positions, is_counted, is_instance, is_member, period_end, period_first};
+ghost use Rattle.chrono_rules.specs.Instances.{date_passes, has_place, in_positions, is_counted, is_instance, is_member, period_end, period_first};
 
 use crate::parts::days_of_year;
 use crate::rule::{End, Frequency, Rule};
@@ -46,7 +46,7 @@ impl Rule {
 
     // The count, and one more if the day that lies so many days later is a date that passes.
     #[inline]
-    fn and_later(&self, start: NaiveDate, date: NaiveDate, later: i64, count: u32) -> u32
+    pub(crate) fn and_later(&self, start: NaiveDate, date: NaiveDate, later: i64, count: u32) -> u32
         requires { count ≤ 1000 }
         ensures value { result ≡ count + (if date_passes self.now start (date +ℤ later) then 1 else 0) }
         ensures step { result ≤ count + 1 }
@@ -110,6 +110,31 @@ impl Rule {
         self.count_passing(start, date, 0, end)
     }
 
+    // Whether BYSETPOS names its place from the front.
+    #[inline]
+    fn has_place(&self, start: NaiveDate, date: NaiveDate) -> bool
+        ensures { result ≡ has_place self.now.positions (count_between (date_passes self.now start)
+            (period_first self.now.frequency self.now.week_start date) (date +ℤ pos 1)) }
+    {
+        if self.positions.is_empty() {
+            return false;
+        }
+        self.positions.contains(self.place(start, date))
+    }
+
+    // Whether it names that from the back.
+    #[inline]
+    fn has_place_from_end(&self, start: NaiveDate, date: NaiveDate) -> bool
+        ensures { result ≡ has_place self.now.positions_from_end (count_between (date_passes self.now start)
+            date (period_end self.now.frequency self.now.week_start date)) }
+    {
+        if self.positions_from_end.is_empty() {
+            return false;
+        }
+        self.positions_from_end
+            .contains(self.place_from_end(start, date))
+    }
+
     /// Whether the date's place among the days of its period that pass, from the front or from the back, is one that BYSETPOS names; true
     /// where the rule has none.
     #[tactic(auto, unfolding(crate::specs::Instances::in_positions))]
@@ -117,10 +142,7 @@ impl Rule {
         ensures { result ≡ in_positions self.now start date }
     {
         self.lacks_positions()
-            || (self.positions.contains(self.place(start, date))
-                || self
-                    .positions_from_end
-                    .contains(self.place_from_end(start, date)))
+            || (self.has_place(start, date) || self.has_place_from_end(start, date))
     }
 
     /// Whether the date is an instance of the rule from the start on, but for COUNT.

@@ -1,34 +1,16 @@
 //! What a search passes over by BYSETPOS.
-ghost use Rattle.std.specs.Prelude.{◌≡◌, ◌≤◌, ◌+◌, ◌-◌, ◌||◌, ◌≤ℤ◌, ◌<ℤ◌, ◌+ℤ◌, ℤ, pos, true, false, if◌then◌else◌, IfSome};
-ghost use Rattle.chrono_datetime.specs.Days.{day_of};
-ghost use Rattle.chrono_datetime.specs.MonthMoves.{month_length_of};
+ghost use Rattle.std.specs.Prelude.{◌≡◌, ◌≤◌, ◌<◌, ◌+◌, ◌-◌, ◌&&◌, ◌||◌, nat_lt, ◌≤ℤ◌, ◌<ℤ◌, ◌+ℤ◌, ℕ, ℤ, pos, true, false, if◌then◌else◌, IfSome};
+ghost use Rattle.chrono_datetime.specs.Days.{IsDate};
 ghost use Rattle.chrono_datetime.specs.Recurrence.{count_between};
 ghost use Rattle.chrono_rules.specs.Instances.{are_zero, date_passes, has_place, is_member, lacks_positions, passes, period_end, period_first};
 
+use crate::gaps::gap_down;
+use crate::iterator::PAST_LAST_DAY;
 use crate::places::PlaceSet;
-use crate::rule::{Frequency, Rule};
+use crate::rule::Rule;
 use chrono_datetime::{Datelike, NaiveDate};
 
 impl Rule {
-    // How many days from this one on lie in its period; in a rule by years those of its month alone.
-    #[inline]
-    #[tactic(auto, unfolding(crate::specs::Instances::period_first, crate::specs::Instances::period_end))]
-    fn days_of_one_period(&self, day: NaiveDate) -> i64
-        ensures first { (d : ℤ) → day ≤ℤ d → d <ℤ (day +ℤ result) →
-            period_first self.now.frequency self.now.week_start d ≡ period_first self.now.frequency self.now.week_start day }
-        ensures end { (d : ℤ) → day ≤ℤ d → d <ℤ (day +ℤ result) →
-            period_end self.now.frequency self.now.week_start d ≡ period_end self.now.frequency self.now.week_start day }
-        ensures low { pos 0 ≤ℤ result }
-        ensures high { result ≤ℤ pos 31 }
-    {
-        match self.frequency {
-            Frequency::Daily => 1,
-            Frequency::Weekly => 7 - i64::from(day.weekday().days_since(self.week_start)),
-            Frequency::Monthly => rest_of_month(day),
-            Frequency::Yearly => rest_of_month(day),
-        }
-    }
-
     // How many days of its period pass before this one, if BYSETPOS has places from the front.
     fn passing_before(&self, start: NaiveDate, day: NaiveDate) -> u32
         ensures value { are_zero self.now.positions.words ≡ false → result ≡ count_between (date_passes self.now start)
@@ -89,16 +71,18 @@ impl Rule {
         has_place(&self.positions, front) || has_place(&self.positions_from_end, back)
     }
 
-    // How many days from this one on have no place that BYSETPOS names, at most those of its period and month.
-    fn days_to_position(&self, start: NaiveDate, day: NaiveDate) -> i64
-        requires { lacks_positions self.now ≡ false }
+    // How many days from this one on have no place that BYSETPOS names, at most those of its period, of which so many pass before it.
+    fn days_to_position(&self, start: NaiveDate, day: NaiveDate, before: u32) -> i64
+        requires some { lacks_positions self.now ≡ false }
+        requires before { are_zero self.now.positions.words ≡ false → before ≡ count_between (date_passes self.now start)
+            (period_first self.now.frequency self.now.week_start day) day }
+        requires few { before ≤ 366 }
         ensures passed { (d : ℤ) → day ≤ℤ d → d <ℤ (day +ℤ result) → is_member self.now start d ≡ false }
         ensures low { pos 0 ≤ℤ result }
-        ensures high { result ≤ℤ pos 31 }
+        ensures high { result ≤ℤ pos 366 }
     {
-        let before = self.passing_before(start, day);
         let left = self.passing_from(start, day);
-        let end = self.days_of_one_period(day);
+        let end = self.to_period_end(day);
         let mut passed = 0;
         let mut later = 0;
         while later < end {
@@ -114,28 +98,86 @@ impl Rule {
         later
     }
 
-    // The same where the rule has BYSETPOS, and else 0.
+    // How many days from this one on have no place that BYSETPOS names, at most those of its period, which ends so many days later, where it names no place
+    // of theirs from the front: they are looked at from the period's end back, up to the last place that is named.
+    fn days_to_place_from_end(&self, start: NaiveDate, day: NaiveDate, end: i64) -> i64
+        requires some { lacks_positions self.now ≡ false }
+        requires end { (day +ℤ end) ≡ period_end self.now.frequency self.now.week_start day }
+        requires low { pos 1 ≤ℤ end }
+        requires high { end ≤ℤ pos 366 }
+        requires dates { (d : ℤ) → day ≤ℤ d → d <ℤ (day +ℤ end) → IsDate d }
+        requires front { (d : ℤ) → day ≤ℤ d → d <ℤ (day +ℤ end) → date_passes self.now start d ≡ true →
+            has_place self.now.positions (count_between (date_passes self.now start)
+            (period_first self.now.frequency self.now.week_start d) (d +ℤ pos 1)) ≡ false }
+        ensures passed { (d : ℤ) → day ≤ℤ d → d <ℤ (day +ℤ result) → is_member self.now start d ≡ false }
+        ensures low { pos 0 ≤ℤ result }
+        ensures high { result ≤ℤ pos 366 }
+    {
+        let last = last_place(&self.positions_from_end);
+        let mut first = end;
+        let mut later = end;
+        let mut place = 0;
+        while later > 0 {
+            if place >= last {
+                return first;
+            }
+            later -= 1;
+            let behind = place;
+            place = self.and_later(start, day, later, behind);
+            first = self.earlier_named(behind, place, later, first);
+        }
+        first
+    }
+
+    // The day that lies `later` days later if BYSETPOS names its place from the back, which is one more than that of the days behind it; else `first`.
+    #[inline]
+    fn earlier_named(&self, behind: u32, place: u32, later: i64, first: i64) -> i64
+        requires { place < 384 }
+        ensures { result ≡ (if nat_lt behind place && has_place self.now.positions_from_end place then later else first) }
+    {
+        if behind < place && self.positions_from_end.contains(place) {
+            later
+        } else {
+            first
+        }
+    }
+
+    // How many days from this one on have no place that BYSETPOS names, at most those of its period; 0 where the rule has none.
     #[inline]
     pub(crate) fn passed_by_position(&self, start: NaiveDate, day: NaiveDate) -> i64
         ensures passed { (d : ℤ) → day ≤ℤ d → d <ℤ (day +ℤ result) → is_member self.now start d ≡ false }
         ensures low { pos 0 ≤ℤ result }
-        ensures high { result ≤ℤ pos 31 }
+        ensures high { result ≤ℤ pos 366 }
     {
         if self.lacks_positions() {
-            0
-        } else {
-            self.days_to_position(start, day)
+            return 0;
         }
+        let before = self.passing_before(start, day);
+        if before < last_place(&self.positions) {
+            return self.days_to_position(start, day, before);
+        }
+        let end = self.to_period_end(day);
+        if i64::from(day.num_days_from_ce()) + end > i64::from(PAST_LAST_DAY) {
+            // The calendar ends within the period.
+            return self.days_to_position(start, day, before);
+        }
+        self.days_to_place_from_end(start, day, end)
     }
 }
 
-// How many days from this one on lie in its month.
-#[inline]
-fn rest_of_month(day: NaiveDate) -> i64
-    ensures value { result ≡ pos (month_length_of day - day_of day) +ℤ pos 1 }
-    ensures high { result ≤ℤ pos 31 }
+// A number above which the set has none.
+fn last_place(set: &PlaceSet) -> u32
+    ensures none { (k : ℕ) → result < k → has_place set.now k ≡ false }
+    ensures few { result < 384 }
 {
-    1 + i64::from(u32::from(day.num_days_in_month()) - day.day())
+    let mut word = 5;
+    while set.words[word] == 0 {
+        if word == 0 {
+            return 0;
+        }
+        word -= 1;
+    }
+    64 * word as u32 + (63 - gap_down(set.words[word], 63).min(63))
 }
 
 // Whether the set has the number, which may be larger than all that a set can have.

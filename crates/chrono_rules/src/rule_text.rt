@@ -1,12 +1,11 @@
 //! The texts of rules.
 ghost use Rattle.std.specs.Prelude.{◌≡◌, ◌↔◌, true, false, Some, None, Ok, Err, IfSome, IfNone, IfOk, IsErr};
-ghost use Rattle.chrono_rules.specs.RuleErrors.{IsChecked, are_named, unfit_error, unread_error};
-ghost use Rattle.chrono_rules.specs.RuleTexts.{IsRuleText, Says, fits, has_month_days, has_year_parts, lacks_lists, lacks_numbers, may_have_numbers};
-ghost use Rattle.chrono_rules.specs.declared.error.RuleFault.TheVariants.{Unknown};
+ghost use Rattle.chrono_rules.specs.RuleErrors.{IsChecked, are_named, unfit_error, unnamed_fault, unread_error};
+ghost use Rattle.chrono_rules.specs.RuleTexts.{IsRuleText, Says, fits, has_month_days, has_year_parts, lacks_lists, lacks_numbers, may_have_numbers, parts};
 ghost use Rattle.chrono_rules.specs.declared.rule.Rule.{Rule};
 
 use crate::error::{RuleError, RuleFault, RulePart};
-use crate::faults::unread_error;
+use crate::faults::{unnamed_fault, unread_error};
 use crate::places::are_zero;
 use crate::rule::{Frequency, Rule};
 use crate::rule_parts::{
@@ -38,14 +37,14 @@ pub fn read_rule(text: &[u8]) -> Option<Rule>
 
 /// The rule that the text writes, as [`read_rule`] reads it, or what is wrong with the text, and in which part.
 ///
-/// Told first is a part whose name no rule has; then, in the order of [`RulePart`], the first part that cannot be read; and where each can, the
+/// Told first is a part whose name no rule over days has, by itself if it is one of BYHOUR, BYMINUTE and BYSECOND; then, in the order of [`RulePart`], the first part that cannot be read; and where each can, the
 /// first that does not go with the others.
 pub fn check_rule(text: &[u8]) -> Result<Rule, RuleError>
     ensures read { IfOk result (λ r. IsRuleText text.now r) }
     ensures every { (r : Rule) → IsRuleText text.now r → result ≡ Ok r }
     ensures found { IsErr result ↔ ((r : Rule) → ¬ IsRuleText text.now r) }
     // Told first is a name that no rule has, whatever the parts say.
-    ensures unknown { are_named text.now ≡ false → result ≡ Err (record { part = None; fault = Unknown }) }
+    ensures unknown { are_named text.now ≡ false → result ≡ Err (record { part = None; fault = unnamed_fault (parts text.now) }) }
     // With known names alone, the first part that cannot be read, if the parts say no rule.
     ensures unread { are_named text.now ≡ true → ((r : Rule) → ¬ Says text.now r) → result ≡ Err (unread_error text.now) }
     // If they say one, the first of its parts that does not go with the others.
@@ -54,7 +53,7 @@ pub fn check_rule(text: &[u8]) -> Result<Rule, RuleError>
     if !are_parts(text) {
         return Err(RuleError {
             part: None,
-            fault: RuleFault::Unknown,
+            fault: unnamed_fault(text),
         });
     }
     let Some(rule) = read_parts(text) else {

@@ -4,7 +4,7 @@ ghost use Rattle.std.specs.Int.{IsInRange};
 ghost use Rattle.chrono_datetime.specs.Days.{IsDate, day_of, month_of};
 ghost use Rattle.chrono_datetime.specs.MonthMoves.{month_index, month_index_of, month_length_of};
 ghost use Rattle.chrono_datetime.specs.Years.{month_length};
-ghost use Rattle.chrono_rules.specs.Instances.{counts_in_month, is_member, names_weekday, on_month_day, on_weekday};
+ghost use Rattle.chrono_rules.specs.Instances.{is_member, names_weekday, on_month_day, on_weekday};
 
 use crate::gaps::{gap_around, gap_down, gap_up};
 use crate::iterator::PAST_LAST_DAY;
@@ -135,10 +135,11 @@ impl Rule {
         front.min(back).min(length - place + 1)
     }
 
-    // How many days from this one on are none that BYDAY names: in its month, where numbered weekdays count there, and else itself at most.
+    // How many days from this one on are none that BYDAY names, at most those of its month or year, where numbered weekdays count.
     fn passed_by_weekday(&self, start: NaiveDate, day: NaiveDate) -> u32
+        requires { IsDate day }
         ensures passed { (d : ℤ) → day ≤ℤ d → d <ℤ (day +ℤ pos result) → is_member self.now start d ≡ false }
-        ensures few { result ≤ 31 }
+        ensures few { result ≤ 366 }
     {
         if self.fills_weekday() {
             return start.weekday().days_since(day.weekday());
@@ -146,20 +147,31 @@ impl Rule {
         if self.lacks_weekdays() {
             return 0;
         }
-        if self.counts_in_month() {
-            return self.days_to_weekday(day);
-        }
-        if self.on_weekday(day) { 0 } else { 1 }
+        self.days_to_weekday(day)
     }
 
-    // How many days from this one on to one that BYDAY names, or to the end of its month, where numbered weekdays count there.
-    fn days_to_weekday(&self, day: NaiveDate) -> u32
-        requires { counts_in_month self.now.frequency self.now ≡ true }
-        ensures passed { (d : ℤ) → day ≤ℤ d → d <ℤ (day +ℤ pos result) → on_weekday self.now d ≡ false }
-        ensures few { result ≤ 31 }
+    // How many days from this one on lie in its week, if that is none that BYWEEKNO names.
+    fn passed_by_week(&self, start: NaiveDate, day: NaiveDate) -> u32
+        ensures passed { (d : ℤ) → day ≤ℤ d → d <ℤ (day +ℤ pos result) → is_member self.now start d ≡ false }
+        ensures few { result ≤ 7 }
     {
-        let place = day.day();
-        let behind = u32::from(day.num_days_in_month()) - place;
+        if self.lacks_weeks() {
+            return 0;
+        }
+        if self.in_week(day) {
+            return 0;
+        }
+        7 - day.weekday().days_since(self.week_start)
+    }
+
+    // How many days from this one on to one that BYDAY names, or to the end of its month or year, where numbered weekdays count.
+    fn days_to_weekday(&self, day: NaiveDate) -> u32
+        requires { IsDate day }
+        ensures passed { (d : ℤ) → day ≤ℤ d → d <ℤ (day +ℤ pos result) → on_weekday self.now d ≡ false }
+        ensures few { result ≤ 366 }
+    {
+        let place = self.place_of(day);
+        let behind = self.days_behind(day);
         let mut weekday = day.weekday().num_days_from_monday();
         let mut days = behind + 1;
         let mut first = 0;
@@ -173,12 +185,12 @@ impl Rule {
     }
 
     // How many days from a place on to a day of the weekday that BYDAY names, of which the first comes so many days later; to the end of the
-    // month if it names none there.
+    // month or year if it names none there.
     fn days_to_one_weekday(&self, weekday: u32, first: u32, place: u32, behind: u32) -> u32
         requires weekday { weekday < 7 }
         requires first { first < 7 }
-        requires place { IsInRange 1 31 place }
-        requires behind { behind < 31 }
+        requires place { IsInRange 1 366 place }
+        requires behind { behind < 366 }
         ensures passed { (j : ℕ) → j < result → j ≤ behind → j % 7 ≡ first → names_weekday self.now weekday (place + j) (behind - j) ≡ false }
         ensures few { result ≤ behind + 1 }
     {
@@ -231,6 +243,10 @@ impl Rule {
         let days = self.passed_by_month_day(start, day);
         if days > 0 {
             return i64::from(days);
+        }
+        let weeks = self.passed_by_week(start, day);
+        if weeks > 0 {
+            return i64::from(weeks);
         }
         let weekdays = self.passed_by_weekday(start, day);
         if weekdays > 0 {

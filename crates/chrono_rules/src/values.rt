@@ -7,7 +7,7 @@ ghost use Rattle.chrono_rules.specs.RuleTexts.{is_list_part, is_named, is_part, 
 
 use crate::pieces::first_piece;
 
-const SEMICOLON: u8 = b';';
+pub(crate) const SEMICOLON: u8 = b';';
 
 // What stands behind the name in the one part that has it; `Some(None)` if no part has it, `None` if more than one has.
 pub(crate) fn value_of<'a>(text: &'a [u8], name: &[u8]) -> Option<Option<&'a [u8]>>
@@ -69,7 +69,7 @@ fn behind_name<'a>(part: &'a [u8], name: &[u8]) -> Option<&'a [u8]>
 }
 
 // Whether the part begins with the name, in letters of either case.
-fn is_named(part: &[u8], name: &[u8]) -> bool
+pub(crate) fn is_named(part: &[u8], name: &[u8]) -> bool
     ensures { result ≡ is_named name.now part.now }
 {
     is_same_text(&part[..name.len().min(part.len())], name)
@@ -100,7 +100,7 @@ pub(crate) fn are_parts(text: &[u8]) -> bool
 }
 
 // Whether the part has one of these names.
-fn is_part(part: &[u8]) -> bool
+pub(crate) fn is_part(part: &[u8]) -> bool
     ensures { result ≡ is_part part.now }
 {
     is_named(part, b"FREQ=")

@@ -26,3 +26,6 @@ returns-clause-in_range c = (omega (arith, signed, c.num_days_from_ce-here.ensur
 
 pub returns-then-year_days-gt0-clause-passed : goal.returns-then-year_days-gt0-clause-passed
 returns-then-year_days-gt0-clause-passed c = λ d low high. c.passed_by_year_day-year_days.ensures.passed d low (omega (arith, casts, high))
+
+pub returns-then-weeks-gt0-clause-passed : goal.returns-then-weeks-gt0-clause-passed
+returns-then-weeks-gt0-clause-passed c = λ d low high. c.passed_by_week-weeks.ensures.passed d low (omega (arith, casts, high))

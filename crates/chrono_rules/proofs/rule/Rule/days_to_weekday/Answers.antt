@@ -21,7 +21,7 @@ loop-first-preserved c = (
   λ j less le among.
       elim (cases_lt (j % 7) c.loop-first.first) [
         | inl lt ↦ c.loop-first.invariant.3 j (omega arith) le lt
-        | inr ge ↦ named_later c.args.self.now c.args.day (c.args.day +ℤ pos j) j _ _ _ c.requires (omega (arith, signed)) (omega (arith, signed)) (omega arith) (omega (arith, c.loop-first.invariant.2)) (omega arith) (omega arith) (c.days_to_one_weekday-one.ensures.passed j (omega arith) le (omega arith))
+        | inr ge ↦ named_later c.args.self.now c.args.day (c.args.day +ℤ pos j) j _ _ _ c.requires (omega (arith, signed)) (omega (arith, le, c.days_behind-behind.ensures.value)) (omega (arith, c.loop-first.invariant.2)) (omega (arith, c.place_of-place.ensures.value)) (omega (arith, c.days_behind-behind.ensures.value)) (c.days_to_one_weekday-one.ensures.passed j (omega arith) le (omega arith))
       ],
 )
 

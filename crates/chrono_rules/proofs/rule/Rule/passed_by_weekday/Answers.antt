@@ -1,6 +1,4 @@
-use Rattle.std.proofs.Common.{◌≡◌, sym, ap, ◌∙◌, arith}
-use Rattle.chrono_datetime.proofs.Signed.{signed}
-use Rattle.chrono_rules.specs.Instances.{on_weekday}
+use Rattle.std.proofs.Common.{sym, ◌∙◌}
 use Rattle.chrono_rules.proofs.Skipped.{not_start_weekday, not_weekday, other_weekday}
 use Rattle.chrono_rules.proofs.rule.Rule.passed_by_weekday.Goals as goal
 
@@ -9,11 +7,6 @@ returns-then-fills_weekday-clause-passed c = λ d low high.
     not_start_weekday c.args.self.now c.args.start d (sym c.fills_weekday.ensures ∙ c.if-fills_weekday.true)
     (other_weekday c.args.day d c.args.start _ low high (rw (c.weekday.ensures.value, c.weekday-then-fills_weekday.ensures.value) at c.days_since.ensures))
 
-pub returns-then-counts_in_month-clause-passed : goal.returns-then-counts_in_month-clause-passed
-returns-then-counts_in_month-clause-passed c = λ d low high.
+pub returns-clause-passed : goal.returns-clause-passed
+returns-clause-passed c = λ d low high.
     not_weekday c.args.self.now c.args.start d (sym c.lacks_weekdays.ensures ∙ c.if-lacks_weekdays.false) (c.days_to_weekday.ensures.passed d low high)
-
-pub returns-else-on_weekday-clause-passed : goal.returns-else-on_weekday-clause-passed
-returns-else-on_weekday-clause-passed c = λ d low high.
-    let here : d ≡ c.args.day = omega (arith, signed, low, high) in
-    not_weekday c.args.self.now c.args.start d (sym c.lacks_weekdays.ensures ∙ c.if-lacks_weekdays.false) (ap (on_weekday c.args.self.now) here ∙ (sym c.on_weekday.ensures ∙ c.if-on_weekday.false))
