@@ -2,7 +2,7 @@
 """The examples of docs/DATES.md and of each command's help, run as they stand, and what a pipe that closes early leaves.
 
 Builds `dates` by `rt run`, puts it on the path as `dates`, and compares output and exit status of each line behind `$`, but for spaces at a line's
-end and blank lines. A line that is longer than all memory that the program may take has to be answered as any other that is no day. The man page and the completion of tools/shell have to be those that tools/dates_help.py makes of the help, and the completion has to complete.
+end and blank lines. The days of 9999 years have to be listed to the last. A line that is longer than all memory that the program may take has to be answered as any other that is no day. The man page and the completion of tools/shell have to be those that tools/dates_help.py makes of the help, and the completion has to complete.
 The commands that a wrong first word is told of have to be those of the help, and the sessions at a terminal of checks/dates_terminal.py have to hold.
 """
 import os
@@ -112,6 +112,7 @@ def main():
         cases = documented() + helped(program)
         cases.append(["set -o pipefail; yes 2024-02-29 | head -100000 | dates 2>&1 | head -1; exit ${PIPESTATUS[2]}",
                       ["2024-02-29 2024-060 2024-W09-4 Thu 738945 19782"], 0])
+        cases.append(["dates seq 0001-01-01 9999-12-31 | sed -n '$p;$='", ["9999-12-31", "3652059"], 0])
         with open(os.path.join(place, SPACED), "w"):
             pass
         with open(os.path.join(place, "long"), "wb") as out:
