@@ -603,7 +603,7 @@ EXPECTED = {
     "schedule": "a schedule as '30 4 1,15 * 5'",
     "rule": "a rule as FREQ=MONTHLY;BYDAY=-1FR",
     "moment": "a date-time as 2024-02-29T04:30",
-    "amount": "a number from 1 on",
+    "amount": "a number from 1 on, of 18 digits at most",
     "due_option": "--from or --count, each once",
     "rule_option": "--start, --from or --count, each once",
     "sheet": "a month as 2024-02 or a year as 2024",
