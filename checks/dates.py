@@ -2,8 +2,8 @@
 """The examples of docs/DATES.md and of each command's help, run as they stand, and what a pipe that closes early leaves.
 
 Builds `dates` by `rt run`, puts it on the path as `dates`, and compares output and exit status of each line behind `$`, but for spaces at a line's
-end and blank lines. A line that is longer than all memory that the program may take has to be answered as any other that is no day. The man page and the completion of tools/shell have to be those that tools/dates_help.py makes of the help, and the completion has to complete.
-The commands that a wrong first word is told of have to be those of the help, and the sessions at a terminal of checks/dates_terminal.py have to hold.
+end and blank lines. The days of 9999 years have to be listed to the last. A line that is longer than all memory that the program may take has to be answered as any other that is no day. The man page and the completion of tools/shell have to be those that tools/dates_help.py makes of the help, and the completion has to complete.
+No line of the help is wider than a terminal of 80 columns. The commands that a wrong first word is told of have to be those of the help, and the sessions at a terminal of checks/dates_terminal.py have to hold.
 """
 import os
 import re
@@ -71,6 +71,12 @@ def apart(program):
     return [name for name in dates_help.commands(program) if " ".join(" ".join(dates_help.help_of(program, name)[:2]).split()) not in lines]
 
 
+def wide(program):
+    """The lines of the help, and of that of each command, that a terminal of 80 columns does not show whole."""
+    helps = [dates_help.said(program, "--help")] + [dates_help.said(program, name, "--help") for name in dates_help.commands(program)]
+    return sorted({line for text in helps for line in text.splitlines() if len(line) > 80})
+
+
 def unnamed(program):
     """The commands of the help that a wrong first word is not told of, and those that it is told of alone."""
     told = subprocess.run([program, "no-command"], stdin=subprocess.DEVNULL, capture_output=True, text=True).stderr
@@ -112,6 +118,7 @@ def main():
         cases = documented() + helped(program)
         cases.append(["set -o pipefail; yes 2024-02-29 | head -100000 | dates 2>&1 | head -1; exit ${PIPESTATUS[2]}",
                       ["2024-02-29 2024-060 2024-W09-4 Thu 738945 19782"], 0])
+        cases.append(["dates seq 0001-01-01 9999-12-31 | sed -n '$p;$='", ["9999-12-31", "3652059"], 0])
         with open(os.path.join(place, SPACED), "w"):
             pass
         with open(os.path.join(place, "long"), "wb") as out:
@@ -133,6 +140,9 @@ def main():
         for name in apart(program):
             failed += 1
             print(f"FAILED: {name} --help has other words or another answer than --help")
+        for line in wide(program):
+            failed += 1
+            print(f"FAILED: wider than 80 columns: {line}")
         for name in unnamed(program):
             failed += 1
             print(f"FAILED: {name} is told of a wrong first word, or listed by --help, but not both")

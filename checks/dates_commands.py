@@ -6,7 +6,8 @@
 Each command is run as it stands and with `--json` behind it. As it stands its output, its status and what it writes to standard error have to be
 those that are worked out here: days by datetime, months and years by dateutil's relativedelta, open days and rolls by numpy's busday calls over the
 holidays that checks/business.py reads, Easter by dateutil, rules by dateutil's rrule, schedules by trying the days and minutes as checks/cron.py
-reads them, days past the years of datetime by checks/counted.py, sheets cell by cell. With `--json` each line has to be the object that says the same,
+reads them, days past the years of datetime by checks/counted.py, sheets cell by cell. Where a command is asked of lines, each of them is answered as by
+the command alone, whichever years the lines before it lie in. With `--json` each line has to be the object that says the same,
 and status and standard error are the same. A fifth of the commands is spoiled: a word is turned to one that cannot stand there, what has to follow is cut off, a word too many
 is put behind, or a day is one that its month has not. What is said of them has to name that word, its place and what was expected.
 
@@ -353,6 +354,73 @@ def of_roll(chance, files):
     return Asked(["roll", day_word(chance, date), name, *closed.words], ["first", "day", "convention", *closed.kinds], 3, lines, objects)
 
 
+def each_added(chance, closed):
+    """`add` of lines: the words in front of the line's place and behind it, the keys of an answer, and what answers a day, or None where that is not known here."""
+    moves = [a_move(chance, False, closed) for _ in range(chance.choice((1, 1, 2)))]
+
+    def answer(date):
+        for _, move in moves:
+            date = move(date)
+            if not 2000 <= date.year <= 2055:
+                return None
+        return [str(date)], [str(date)]
+
+    return ["add"], [*(it for it, _ in moves), *closed.words], ["date"], answer
+
+
+def each_apart(chance, closed):
+    """The same of `diff`, with the line in the place of the second day or of the first."""
+    other, unit, first = workday_time(chance), chance.choice((None, "d", "w", "m", "y", "b", "b", "ymd")), chance.random() < 0.3
+    keys = {None: "days", "d": "days", **UNITS}[unit].split()
+
+    def answer(date):
+        start, end = (date, other) if first else (other, date)
+        if unit == "ymd":
+            numbers = parts(start, end)
+            return [" ".join(f"{number}{it}" for number, it in zip(numbers, "ymd") if number) or "0d"], numbers
+        count = closed.between(start, end) if unit == "b" else apart(start, end, unit or "d")
+        return [str(count)], [count]
+
+    behind = [*(["in", unit] if unit else []), *(closed.words if unit == "b" else [])]
+    word = day_word(chance, other)
+    return (["diff"], [word, *behind], keys, answer) if first else (["diff", word], behind, keys, answer)
+
+
+def each_open(chance, closed):
+    """The same of `open`."""
+    return ["open"], closed.words, ["open"], lambda date: (["yes" if closed.is_open(date) else "no"], [closed.is_open(date)])
+
+
+def each_rolled(chance, closed):
+    """The same of `roll`."""
+    name = chance.choice(ROLLS)
+
+    def answer(date):
+        reached = str(closed.rolled(date, name))
+        return [reached], [reached]
+
+    return ["roll"], [name, *closed.words], ["date"], answer
+
+
+def of_each(chance, files):
+    """A command of each line of the input, by `-` in the place of a day or by a day that is left out; the lines lie in other years."""
+    front, behind, keys, answer = chance.choice((each_added, each_apart, each_open, each_rolled))(chance, Closed(chance, files))
+    texts, lines, objects = [], [], []
+    for _ in range(chance.randrange(12)):
+        date = workday_time(chance)
+        if chance.random() < 0.2:
+            texts.append(chance.choice(("soon", "", "2023-02-29", "2024-13-01", "-", "--help")))
+            lines.append("none")
+            objects.append(dict.fromkeys(keys))
+        elif answered := answer(date):
+            texts.append(day_word(chance, date))
+            lines += answered[0]
+            objects.append(dict(zip(keys, answered[1])))
+    left_out = front != ["diff"] and chance.random() < 0.5
+    words = [*front, *([] if left_out else ["-"]), *behind]
+    return Asked(words, [], 0, lines, objects, int("none" in lines), given="".join(f"{it}\n" for it in texts).encode())
+
+
 def past_month(chance):
     """The text of a day that its month has not, and what is said of it."""
     date = any_day(chance)
@@ -535,7 +603,7 @@ EXPECTED = {
     "schedule": "a schedule as '30 4 1,15 * 5'",
     "rule": "a rule as FREQ=MONTHLY;BYDAY=-1FR",
     "moment": "a date-time as 2024-02-29T04:30",
-    "amount": "a number from 1 on",
+    "amount": "a number from 1 on, of 18 digits at most",
     "due_option": "--from or --count, each once",
     "rule_option": "--start, --from or --count, each once",
     "sheet": "a month as 2024-02 or a year as 2024",
@@ -624,21 +692,25 @@ def with_no_such_day(chance, asked):
 
 
 def asks_of_lines(words):
-    """Whether the words ask for lines of standard input, by `-` in the place of a day or by a day that is left out: checks/dates.py tries these."""
+    """Whether words that were spoiled ask for lines of standard input, by `-` in the place of a day or by a day that is left out."""
     if words[:1] == ["diff"]:
         return len(words) == 2 or "-" in words[1:3]
     return words == ["open"] or words[:1] in (["add"], ["open"], ["roll"]) and words[1:2] == ["-"]
 
 
 SPOILERS = (with_wrong_word, with_wrong_word, with_words_missing, with_a_word_more, with_no_such_day)
-MAKERS = {of_day: 10, of_lines: 4, of_add: 16, of_diff: 16, of_seq: 10, of_week: 4, of_easter: 4, of_leap: 3, of_open: 8, of_roll: 9, of_check: 5, of_due: 9, of_rule: 9, of_cal: 5}
+MAKERS = {of_day: 10, of_lines: 4, of_add: 16, of_diff: 16, of_seq: 10, of_week: 4, of_easter: 4, of_leap: 3, of_open: 8, of_roll: 9, of_each: 8, of_check: 5, of_due: 9, of_rule: 9, of_cal: 5}
 
 
 def commands(chance, files, count):
-    """So many commands, a fifth of them spoiled."""
+    """So many commands, a fifth of them spoiled, but for those of lines."""
     made = []
     while len(made) < count:
-        asked = chance.choices(list(MAKERS), list(MAKERS.values()))[0](chance, files)
+        maker = chance.choices(list(MAKERS), list(MAKERS.values()))[0]
+        asked = maker(chance, files)
+        if maker is of_each:
+            made.append(asked)
+            continue
         if asked.words and chance.random() < 0.2:
             asked = chance.choice(SPOILERS)(chance, asked)
         if asked and not asks_of_lines(asked.words):

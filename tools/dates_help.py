@@ -47,6 +47,11 @@ def of_all(program):
     return re.search(r"^  dates COMMAND \.\. (\S+) +(.+)$", said(program, "--help"), re.M).groups()
 
 
+def names_of_a_day(program):
+    """What the names of a day are, up to the end of that sentence."""
+    return re.search(r"^The names of a day are .+?\.$", said(program, "--help"), re.M | re.S)[0].split("\n")
+
+
 def sentence(text):
     """A text with a capital in front and a full stop behind."""
     return text[0].upper() + text[1:] + "."
@@ -58,19 +63,34 @@ def escaped(text):
     return "\\&" + text if text.startswith((".", "'")) else text
 
 
+def told(more):
+    """What there is to know, as troff takes it: sentences are filled, and of a row, whose meaning stands behind blanks and goes on in lines that begin with one, it is set apart."""
+    lines, in_row = [".PP", ".RS"], False
+    for line in more:
+        row = re.fullmatch(r"(\S.*?) {2,}(.+)", line)
+        if row:
+            lines += [".TP", ".B " + escaped(row[1]), escaped(row[2])]
+        elif in_row and not line.startswith(" "):
+            lines += [".PP", escaped(line)]
+        else:
+            lines.append(escaped(line.strip()))
+        in_row = bool(row) or in_row and line.startswith(" ")
+    return lines + [".RE"]
+
+
 def page(program):
     """The man page."""
-    lines = [".TH DATES 1", ".SH NAME", "dates \\- answers what one asks of dates", ".SH SYNOPSIS"]
+    lines = [".TH DATES 1", ".nh", ".ad l", ".SH NAME", "dates \\- answers what one asks of dates", ".SH SYNOPSIS"]
     helps = [(name, help_of(program, name)) for name in commands(program)]
     word, meaning = of_all(program)
     uses = ["dates DAY"] + [use for _, (use, *_) in helps] + [f"dates COMMAND .. {word}", "dates COMMAND --help", "dates --help | --version"]
     for use in uses:
         lines += [".B " + escaped(use), ".br"]
     lines += [".SH DESCRIPTION", "It takes ISO 8601 texts and writes them, and never asks what day it is.", ".SH COMMANDS"]
+    lines += [".TP", ".B dates DAY", "The day by all its names.", *told(names_of_a_day(program))]
     for name, (use, answers, more, example) in helps:
         lines += [".TP", ".B " + escaped(use), escaped(sentence(answers))]
-        for line in more:
-            lines += [".br", escaped(line)]
+        lines += told(more)
         lines += [".PP", ".RS", ".nf"] + [escaped(line) for line in example] + [".fi", ".RE"]
     lines += [".SH OPTIONS", ".TP", ".B " + escaped(word), "Behind any command, as its last word: " + escaped(meaning) + "."]
     for word, meaning in (("--help", "How the program is used, or behind a command alone how that command is."), ("--version", "Which version it is.")):

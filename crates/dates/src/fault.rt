@@ -170,7 +170,7 @@ fn expected(wrong: Wrong) -> &'static str {
         Why::File => "the name of a file",
         Why::Schedule => "a schedule as '30 4 1,15 * 5'",
         Why::Moment => "a date-time as 2024-02-29T04:30",
-        Why::Amount => "a number from 1 on",
+        Why::Amount => "a number from 1 on, of 18 digits at most",
         Why::From => "--from and a date-time",
         Why::DueOption => "--from or --count, each once",
         Why::Rule => "a rule as FREQ=MONTHLY;BYDAY=-1FR",

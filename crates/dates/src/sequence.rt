@@ -7,9 +7,6 @@ use dates_answer::{Answer, Key, sequence_day};
 use dates_request::{Form, Span, Unit};
 use std::io;
 
-// No more days lie between two dates.
-const MOST_DAYS: u32 = 191_491_529;
-
 // The days from one to another, one after another, back where the second is the earlier.
 pub(crate) fn answer_days(
     rt: &impl Print,
@@ -37,7 +34,7 @@ pub(crate) fn answer_sequence(
     to: NaiveDate,
     step: Span,
 ) -> io::Result<u8> {
-    for place in 0..MOST_DAYS {
+    for place in 0..u32::MAX {
         let Some(date) = sequence_day(from, to, step, place) else {
             break;
         };
