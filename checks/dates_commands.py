@@ -590,7 +590,7 @@ EXPECTED = {
     "step": "a span as 3d, -2w, 1m or 4y",
     "year": "a year as 2024",
     "week": "a week as 2024-W09",
-    "in": "in",
+    "in": "in and a unit, as 'in w'",
     "unit": "d, w, m, y, b or ymd",
     "convention": ", ".join(ROLLS[1:]) + " or unadjusted",
     "option": OPTIONS,
@@ -666,7 +666,7 @@ def with_a_word_more(chance, asked):
                "next": EXPECTED["due_option"], "prev": EXPECTED["due_option"], "rule": EXPECTED["rule_option"]}
     expected = options.get(name, "no further argument")
     if name == "diff" and len(asked.words) == 3:
-        expected = "no further argument" if asked.kinds[2] == "moment" else "in"
+        expected = "no further argument" if asked.kinds[2] == "moment" else EXPECTED["in"]
     if name == "diff" and "b" in asked.words[4:5]:
         expected = OPTIONS
     if name == "seq" and len(asked.words) == 3:

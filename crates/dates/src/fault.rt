@@ -161,7 +161,7 @@ fn expected(wrong: Wrong) -> &'static str {
         Why::Year => "a year as 2024",
         Why::Week => "a week as 2024-W09",
         Why::Measure => "d, w, m, y, b or ymd",
-        Why::In => "in",
+        Why::In => "in and a unit, as 'in w'",
         Why::Convention => CONVENTIONS,
         Why::Option => "--weekend, --calendar or --holidays",
         Why::Once => "each option once",
