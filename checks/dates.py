@@ -1,5 +1,5 @@
 #!/usr/bin/env python3
-"""The examples of docs/DATES.md and of each command's help, run as they stand, and what a pipe that closes early leaves.
+"""The examples of docs/DATES.md and of each command's help, run as they stand, what a pipe that closes early leaves, and what is said where no answer can be written.
 
 Builds `dates` by `rt run`, puts it on the path as `dates`, and compares output and exit status of each line behind `$`, but for spaces at a line's
 end and blank lines. The days of 9999 years have to be listed to the last. A line that is longer than all memory that the program may take has to be answered as any other that is no day. The man page and the completion of tools/shell have to be those that tools/dates_help.py makes of the help, and the completion has to complete.
@@ -29,6 +29,13 @@ LENGTH, LEAST = 10_000_000, 9_000
 OF_LONG_LINES = [("-", ["2024-02-28 2024-059 2024-W09-3 Wed 738944 19781", "none", "2024-02-29 2024-060 2024-W09-4 Thu 738945 19782"], 1),
                  ("add 1d", ["2024-02-29", "none", "2024-03-01"], 1), ("check", ["2: has 65536 bytes or more"], 1),
                  ("open 2024-02-29 --holidays /dev/stdin", ["dates: argument 4, /dev/stdin, line 2: has 65536 bytes or more; expected a day as 2024-02-29"], 2)]
+
+# What is asked where no answer can be written.
+UNWRITTEN = ["2024-02-29", "2024-02-29 --json", "add 2024-02-29 1d", "add 2024-02-29T12:00 1h", "diff 2024-02-29 2024-03-07", "diff 2024-01-31 2025-03-01 in ymd",
+             "seq 2024-02-28 2024-03-01", "week 2024-W09", "easter 2024", "leap 2024", "open 2024-03-28", "roll 2024-03-30 following", "cal 2024-02", "cal 2024",
+             "cal 2024-02 --json", "next @daily --from 2024-01-01T00:00", "rule FREQ=DAILY --start 2024-01-01 --count 3", "--help", "add --help", "--version",
+             "2024-02-30", "seq 2024-03-31 2024-01-01 1w", "easter +300000"]
+UNWRITTEN_FAULT = "dates: No space left on device (os error 28)"
 
 # Words whose last one is begun, and what the completion makes of that.
 COMPLETED = [("dates roll 2024-03-30 following --c", ["--calendar"]), ("dates roll 2024-03-30 modified-f", ["modified-following"]),
@@ -124,6 +131,7 @@ def main():
         with open(os.path.join(place, "long"), "wb") as out:
             out.write(b"2024-02-28\n" + b"x" * LENGTH + b"\n2024-02-29\n")
         cases += [[f"ulimit -v {LEAST}; exec dates {words} < long", lines, status] for words, lines, status in OF_LONG_LINES]
+        cases += [[f"dates {words} > /dev/full", [UNWRITTEN_FAULT], 2] for words in UNWRITTEN]
         for words, completed in COMPLETED:
             cases.append([f"source {TOP}/tools/shell/dates.bash; COMP_WORDS=({words}); COMP_CWORD=$((${{#COMP_WORDS[@]}} - 1)); _dates; "
                           "printf '%s\\n' \"${COMPREPLY[@]}\"", completed, 0])
