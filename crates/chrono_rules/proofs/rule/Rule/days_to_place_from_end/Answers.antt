@@ -30,15 +30,15 @@ loop-later-preserved c =
     let x : ℤ = to_z w64 (of_z w64 c.earlier_named-first.result) in
     let end : ℤ = to_z w64 (of_z w64 c.args.end) in
     let e : ℤ = c.args.day +ℤ next in
-    let stop : ℤ = c.args.day +ℤ end in
+    let past : ℤ = c.args.day +ℤ end in
     let place = c.and_later-place.result in
     let high = c.requires.high in
     let at : next ≡ later -ℤ pos 1 = omega (arith, casts, inv.low, inv.order, inv.high, test, high) in
     let low : c.args.day ≤ℤ e = omega (arith, signed, at, test) in
-    let less : e <ℤ stop = omega (arith, signed, at, inv.order, inv.high) in
+    let less : e <ℤ past = omega (arith, signed, at, inv.order, inv.high) in
     let date : IsDate e = c.requires.dates e low (omega (arith, signed, less)) in
-    let end-is : period_end r.frequency r.week_start e ≡ stop = same_end r.frequency r.week_start c.args.day e low (omega (arith, signed, less, c.requires.end)) date ∙ omega (arith, signed, c.requires.end) in
-    let count : place ≡ count_between p e stop = counted-back p e (c.args.day +ℤ later) stop c.loop-later.place place inv.count c.and_later-place.ensures.value less (omega (arith, signed, at)) in
+    let end-is : period_end r.frequency r.week_start e ≡ past = same_end r.frequency r.week_start c.args.day e low (omega (arith, signed, less, c.requires.end)) date ∙ omega (arith, signed, c.requires.end) in
+    let count : place ≡ count_between p e past = counted-back p e (c.args.day +ℤ later) past c.loop-later.place place inv.count c.and_later-place.ensures.value less (omega (arith, signed, at)) in
     let named = nat_lt c.loop-later.place place && has_place r.positions_from_end place in
     let is : x ≡ cond named next first = omega (arith, signed, c.earlier_named-first.ensures) in
     let bounds = chosen named x next first end is (omega (arith, signed, at, inv.order)) inv.high in
@@ -49,7 +49,7 @@ loop-later-preserved c =
       count = count;
       few = omega (arith, signed, at, inv.few, c.and_later-place.ensures.step);
       none = λ d above below. from_chosen r c.args.start c.args.day d e next first x named is refl above below
-          (λ none. off_day_back r c.args.start e stop c.loop-later.place place (p e) refl date c.requires.some (c.requires.front e low (omega (arith, signed, less))) end-is count c.and_later-place.ensures.value none)
+          (λ none. off_day_back r c.args.start e past c.loop-later.place place (p e) refl date c.requires.some (c.requires.front e low (omega (arith, signed, less))) end-is count c.and_later-place.ensures.value none)
           (λ d lt under. inv.none d (omega (arith, signed, at, lt)) under);
     }
 
@@ -60,13 +60,13 @@ returns-then-place-last-clause-passed c = λ d low high.
     let inv = c.loop-later.invariant in
     let later : ℤ = to_z w64 c.loop-later.later-bits in
     let end : ℤ = to_z w64 (of_z w64 c.args.end) in
-    let stop : ℤ = c.args.day +ℤ end in
-    let less : d <ℤ stop = omega (arith, signed, high, inv.high) in
+    let past : ℤ = c.args.day +ℤ end in
+    let less : d <ℤ past = omega (arith, signed, high, inv.high) in
     let date : IsDate d = c.requires.dates d low (omega (arith, signed, less)) in
-    let end-is : period_end r.frequency r.week_start d ≡ stop = same_end r.frequency r.week_start c.args.day d low (omega (arith, signed, less, c.requires.end)) date ∙ omega (arith, signed, c.requires.end) in
+    let end-is : period_end r.frequency r.week_start d ≡ past = same_end r.frequency r.week_start c.args.day d low (omega (arith, signed, less, c.requires.end)) date ∙ omega (arith, signed, c.requires.end) in
     by_lt_z d (c.args.day +ℤ later)
     (λ lt.
-    before_places r c.args.start d (c.args.day +ℤ later) stop c.loop-later.place c.last_place-last.result (p d) refl date c.requires.some (c.requires.front d low (omega (arith, signed, less))) end-is
+    before_places r c.args.start d (c.args.day +ℤ later) past c.loop-later.place c.last_place-last.result (p d) refl date c.requires.some (c.requires.front d low (omega (arith, signed, less))) end-is
     lt (omega (arith, signed, inv.order, inv.high)) inv.count c.if-place-last.true c.last_place-last.ensures.none)
     (λ ge. inv.none d ge high)
 
