@@ -4,8 +4,11 @@ ghost use Rattle.chrono_datetime.specs.Moment.{IsBefore, IsMoment, Moment};
 ghost use Rattle.chrono_rules.specs.Instances.{is_instance};
 ghost use Rattle.chrono_rules.specs.InstanceMoments.{earlier_time, is_instance_at, same_time};
 
+mod iterator;
+
 use crate::rule::Rule;
 use chrono_datetime::{NaiveDateTime, NaiveTime, Timelike};
+pub use iterator::InstanceDateTimes;
 
 impl Rule {
     /// Whether the moment is an instance of the rule from the start on: its day is one, and it has the start's time of day.

@@ -33,6 +33,7 @@ mod written;
 mod year_days;
 mod year_text;
 
+pub use date_times::InstanceDateTimes;
 pub use error::{RuleError, RuleFault, RulePart};
 pub use iterator::Instances;
 pub use month_text::read_months;

@@ -7,16 +7,18 @@ use chrono_rules::Rule;
 /// Whether these are the first instances of the rule from the start on, as each of its calls gives them.
 pub fn are_instances(rule: &Rule, start: NaiveDate, days: &str) -> Option<bool> {
     let mut left = rule.instances(start);
+    let mut moments = rule.date_times(noon_of(start)?);
     let mut before = None;
     let mut number = 0u32;
     for word in days.split_ascii_whitespace() {
         let next = left.next();
+        let moment = moments.next();
         if word == "end" {
-            return Some(next.is_none());
+            return Some(next.is_none() && moment.is_none());
         }
         let day = day_of(word)?;
         number = number.wrapping_add(1);
-        if next != Some(day) || rule.count_to(start, day) != number {
+        if next != Some(day) || moment != noon_of(day) || rule.count_to(start, day) != number {
             return Some(false);
         }
         if !is_behind(rule, start, day, before) || !is_at_noon(rule, start, day)? {
@@ -41,7 +43,9 @@ fn is_at_noon(rule: &Rule, start: NaiveDate, day: NaiveDate) -> Option<bool> {
     let beside = rule.is_instance_at(first, earlier) || rule.is_instance_at(first, later);
     let next = rule.next_date_time(first, earlier);
     let prev = rule.prev_date_time(first, later);
-    Some(rule.is_instance_at(first, noon) && !beside && next == Some(noon) && prev == Some(noon))
+    let of_day = rule.date_times_from(first, day).next();
+    let is_each = next == Some(noon) && prev == Some(noon) && of_day == Some(noon);
+    Some(rule.is_instance_at(first, noon) && !beside && is_each)
 }
 
 fn noon_of(day: NaiveDate) -> Option<NaiveDateTime> {
