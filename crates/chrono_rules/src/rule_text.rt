@@ -37,13 +37,13 @@ pub fn read_rule(text: &[u8]) -> Option<Rule>
 
 /// The rule that the text writes, as [`read_rule`] reads it, or what is wrong with the text, and in which part.
 ///
-/// Told first is a part whose name no rule over days has, by itself if it is one of BYHOUR, BYMINUTE and BYSECOND; then, in the order of [`RulePart`], the first part that cannot be read; and where each can, the
-/// first that does not go with the others.
+/// Told first is a part whose name no rule over days has, by its name if it is BYHOUR, BYMINUTE or BYSECOND; then, in the order of
+/// [`RulePart`], the first part that cannot be read; and where each can, the first that does not go with the others.
 pub fn check_rule(text: &[u8]) -> Result<Rule, RuleError>
     ensures read { IfOk result (λ r. IsRuleText text.now r) }
     ensures every { (r : Rule) → IsRuleText text.now r → result ≡ Ok r }
     ensures found { IsErr result ↔ ((r : Rule) → ¬ IsRuleText text.now r) }
-    // Told first is a name that no rule has, whatever the parts say.
+    // Told first is a name that no rule over days has, whatever the parts say.
     ensures unknown { are_named text.now ≡ false → result ≡ Err (record { part = None; fault = unnamed_fault (parts text.now) }) }
     // With known names alone, the first part that cannot be read, if the parts say no rule.
     ensures unread { are_named text.now ≡ true → ((r : Rule) → ¬ Says text.now r) → result ≡ Err (unread_error text.now) }
