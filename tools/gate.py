@@ -37,6 +37,16 @@ with open({log!r}, "a") as it:
 sys.exit(status)
 """
 
+# The kit's `rt check` on one processor, which finds nothing that checks in other work trees of this machine kept.
+ANEW = """import importlib.util, sys
+spec = importlib.util.spec_from_file_location("gate", {tool!r})
+gate = importlib.util.module_from_spec(spec)
+spec.loader.exec_module(gate)
+rt = gate.load_rt()
+rt.WORK = {room!r} + "/nothing-kept"
+sys.exit(rt.main(["check", "--jobs", "1"]))
+"""
+
 
 def load_rt():
     """Returns the kit's own command as a module."""
@@ -168,7 +178,8 @@ def measure_functions(room, name):
     shutil.rmtree(f"{folder}/out", ignore_errors=True)
     began = last = time.time()
     spans = []
-    with subprocess.Popen(["rt", "check", "--jobs", "1"], cwd=folder, stdout=subprocess.PIPE, text=True) as ran:
+    words = [sys.executable, "-c", ANEW.format(tool=os.path.abspath(__file__), room=room)]
+    with subprocess.Popen(words, cwd=folder, stdout=subprocess.PIPE, text=True) as ran:
         for line in ran.stdout:
             found = re.match(r"checked (\S+), ", line)
             if found:
