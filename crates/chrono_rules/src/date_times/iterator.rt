@@ -1,6 +1,7 @@
 //! `InstanceDateTimes`: the instances of a rule at a time of day, one after another.
-ghost use Rattle.std.specs.Prelude.{◌≡◌};
-ghost use Rattle.std.specs.Iterator.{YieldsFirst, item_count};
+ghost use Rattle.std.specs.Prelude.{◌≡◌, ◌≤◌, IfSome, IsSome};
+ghost use Rattle.std.specs.Iterator.{UpTo, YieldsFirst, item_count};
+ghost use Rattle.std.specs.Iterator.SizeHint.{IsWithinCount};
 ghost use Rattle.chrono_rules.specs.InstanceMoments.{instance_moments};
 
 use crate::iterator::Instances;
@@ -67,7 +68,13 @@ impl Iterator for InstanceDateTimes {
 
     /// At least none, and at most as many instances as dates are left.
     #[inline]
-    fn size_hint(&self) -> (usize, Option<usize>) {
+    fn size_hint(&self) -> (usize, Option<usize>)
+        ensures lower { IsWithinCount result.0 (item_count (λ left. left) self.now) }
+        ensures upper { IfSome result.1 (UpTo (item_count (λ left. left) self.now)) }
+        ensures least { result.0 ≡ 0 }
+        ensures some { IsSome result.1 }
+        ensures few { IfSome result.1 (λ most. most ≤ 191_491_529) }
+    {
         self.days.size_hint()
     }
 }
