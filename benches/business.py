@@ -45,7 +45,7 @@ def of_numpy(calendar, count):
     calls = {
         "is_open": lambda: numpy.is_busday(first, busdaycal=days),
         "open_days": lambda: numpy.busday_count(first, second, busdaycal=days),
-        "add_open_days": lambda: numpy.busday_offset(first, steps, "forward", busdaycal=days),
+        "add_open_days": lambda: numpy.busday_offset(first, steps, "backward", busdaycal=days),
     }
     best = {}
     for name, call in calls.items():

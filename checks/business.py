@@ -7,8 +7,8 @@
 The program crates/business_rows answers rows; here they are made. Calendars: closed on Saturday and Sunday alone, with the
 federal holidays of the United States from 2020 to 2030 (5 U.S.C. 6103, each found by walking its month), on Friday and Saturday, on
 random weekdays with random holidays, never closed and never open. The walk goes over 400 years of each of two calendars, and asks of
-each day whether it is open and how many open days lie before it; all other calls are asked at random dates. numpy answers 100,000
-queries of `busday_offset`, with each of its rolls, and of `busday_count`. Day counts are held to the texts of ISDA 2006,
+each day whether it is open and how many open days lie before it; all other calls are asked at random dates. `add_open_days` is
+held to single steps. numpy answers 100,000 queries of `busday_offset`, with each of its rolls, and of `busday_count`. Day counts are held to the texts of ISDA 2006,
 4.16(b), (e), (f) and (g), in calendar fields of `datetime`, the days of leap years one by one. Lists of holidays that are none are refused
 with what is wrong first. Easter is held to the method of Meeus, Jones and Butcher over 200,000 years, and from 326 to 4099 to dateutil
 where it is installed; each holiday of the given calendars up to 2049 to a reading of its own here, and so are the holidays of random rules in random years,
@@ -96,13 +96,27 @@ class Calendar:
         date = Date.fromordinal(day)
         return [it for it in range(day - date.day + 1, day - date.day + 1 + months.monthrange(date.year, date.month)[1]) if it in self.is_open]
 
-    def next(self, day, n=0):
-        place = self.before(day) + n
-        return self.open[place] if place < len(self.open) else None
+    def at(self, place):
+        """The open day of the walk that has so many before it."""
+        return self.open[place] if 0 <= place < len(self.open) else None
 
-    def last_up_to(self, day, n=0):
-        place = self.before(day + 1) - 1 - n
-        return self.open[place] if place >= 0 else None
+    def next(self, day):
+        return self.at(self.before(day))
+
+    def last_up_to(self, day):
+        return self.at(self.before(day + 1) - 1)
+
+    def stepped(self, day, n):
+        """Where n steps lead, each to the next open day after the last, or back to the one before it; no step to the next from the day on."""
+        if n == 0:
+            return self.next(day)
+        step, left = (1 if n > 0 else -1), abs(n)
+        while left > 0:
+            day += step
+            if not self.first <= day < self.last:
+                return None
+            left -= day in self.is_open
+        return day
 
 
 def in_month(day, of):
@@ -121,12 +135,14 @@ def rolled(calendar, name, day):
         return after if in_month(after, day) else before
     if name == "modified_preceding":
         return before if in_month(before, day) else after
+    if name == "nearest_isda":
+        return after if day % 7 in (0, 1) else before
     if after is None or before is None:
         return before if after is None else after
     return after if after - day <= day - before else before
 
 
-ROLLS = ("unadjusted", "following", "preceding", "modified_following", "modified_preceding", "nearest")
+ROLLS = ("unadjusted", "following", "preceding", "modified_following", "modified_preceding", "nearest_isda", "nearest_quantlib")
 
 
 # ---- rows
@@ -139,7 +155,11 @@ def shown(number):
 def in_row(calendar, name, day, last=None):
     """A row with the answer that the walk gives."""
     if name == "add":
-        answer = calendar.next(day, last) if last >= 0 else calendar.last_up_to(day, -last)
+        answer = calendar.stepped(day, last)
+    elif name == "add_from_next":
+        answer = calendar.at(calendar.before(day) + last)
+    elif name == "add_from_previous":
+        answer = calendar.at(calendar.before(day + 1) - 1 + last)
     elif name == "count":
         answer = calendar.before(last) - calendar.before(day)
     elif name == "both":
@@ -225,7 +245,8 @@ def questions(chance, calendar, count):
         for name in ("next", "last", "first_of_month", "last_of_month") + ROLLS:
             yield in_row(calendar, name, day)
         steps = chance.choice((0, 1, -1, chance.randrange(-20, 20), chance.randrange(-3000, 3000)))
-        yield in_row(calendar, "add", day, steps)
+        for name in ("add", "add_from_next", "add_from_previous"):
+            yield in_row(calendar, name, day, steps)
         other = chance.randrange(725_000, 745_000)
         yield in_row(calendar, "count", day, other)
         yield in_row(calendar, "both", day, other)
@@ -250,10 +271,10 @@ def by_numpy(chance, calendar, count):
     days = numpy.array([chance.randrange(738_000, 741_000) for _ in range(count)])
     dates = (days - epoch).astype("datetime64[D]")
     steps = numpy.array([chance.randrange(-600, 600) for _ in range(count)])
-    on, back = (numpy.busday_offset(dates, abs(steps) * sign, roll, busdaycal=business) for sign, roll in ((1, "forward"), (-1, "backward")))
-    moved = numpy.where(steps >= 0, on, back).astype("datetime64[D]").astype(int) + epoch
-    for day, step, answer in zip(days, steps, moved):
-        yield f"add {day} {step} = {answer}"
+    for name, roll in (("add_from_next", "forward"), ("add_from_previous", "backward")):
+        answers = numpy.busday_offset(dates, steps, roll, busdaycal=business).astype("datetime64[D]").astype(int) + epoch
+        for day, step, answer in zip(days, steps, answers):
+            yield f"{name} {day} {step} = {answer}"
     names = {"following": "following", "preceding": "preceding", "modified_following": "modifiedfollowing",
              "modified_preceding": "modifiedpreceding"}
     for name, roll in names.items():
@@ -423,12 +444,30 @@ def lists(chance, count):
 KNOWN = """count 738886 739252 = 251
 add 739244 1 = 739246
 add 738975 0 = 738977
-add 738886 251 = 739253
+add 738947 1 = 738949
+add 738947 -1 = 738946
+add_from_next 738947 1 = 738950
+add_from_next 738947 -1 = 738946
+add_from_previous 738947 1 = 738949
+add_from_previous 738947 -1 = 738945
+nearest_isda 738976 = 738977
+nearest_isda 738886 = 738887
+nearest_isda 739071 = 739070
+nearest_quantlib 739071 = 739072
+add 738886 251 = 739251
+add 738887 250 = 739251
+add_from_next 738886 251 = 739253
 following 738975 = 738977
 modified_following 738975 = 738974
 add 95745399 0 = 95745399
 add 95745399 1 = none
+add_from_next 95745399 1 = none
+add_from_previous 95745399 1 = none
+add_from_previous 95745399 -1 = 95745396
 add -95746129 -1 = none
+add_from_next -95746129 -1 = none
+add_from_previous 738886 9223372036854775807 = none
+add_from_next 738886 -9223372036854775808 = none
 add 738886 9223372036854775807 = none
 add 738886 -9223372036854775808 = none
 thirty_360 732735 732919 = 183

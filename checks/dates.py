@@ -1,9 +1,9 @@
 #!/usr/bin/env python3
-"""The examples of docs/DATES.md and of each command's help, run as they stand, what a pipe that closes early leaves, and what is said where no answer can be written.
+"""The examples of docs/dates.md, of crates/dates/examples.txt and of each command's help, run as they stand, what a pipe that closes early leaves, and what is said where no answer can be written.
 
-Builds `dates` by `rt run`, puts it on the path as `dates`, and compares output and exit status of each line behind `$`, but for spaces at a line's
-end and blank lines. The days of 9999 years have to be listed to the last. A line that is longer than all memory that the program may take has to be answered as any other that is no day. The man page and the completion of tools/shell have to be those that tools/dates_help.py makes of the help, and the completion has to complete.
-No line of the help is wider than a terminal of 80 columns. The commands that a wrong first word is told of have to be those of the help, and the sessions at a terminal of checks/dates_terminal.py have to hold.
+Takes the `dates` that `rt ci` or `rt run` left, if it is newer than its sources, and else builds it by `rt run`. It puts it on the path as `dates`, and compares output and exit status of each line behind `$`, but for spaces at a line's
+end and blank lines. The days of 9999 years have to be listed to the last. A line that is longer than all memory that the program may take has to be answered as any other that is no day. The man page and the completions of tools/shell have to be those that the program prints, and that of bash has to complete.
+No line of the help is wider than a terminal of 80 columns, and the sessions at a terminal of checks/dates_terminal.py have to hold.
 """
 import os
 import re
@@ -14,6 +14,7 @@ import tempfile
 sys.path.insert(0, os.path.join(os.path.dirname(os.path.dirname(os.path.abspath(__file__))), "tools"))
 import dates_help
 import dates_terminal
+import outside
 
 TOP = os.path.dirname(os.path.dirname(os.path.abspath(__file__)))
 CRATE = os.path.join(TOP, "crates", "dates")
@@ -43,7 +44,7 @@ COMPLETED = [("dates roll 2024-03-30 following --c", ["--calendar"]), ("dates ro
              ("dates open 2024-03-30 --weekend s", ["sat", "sun"]), ("dates open 2024-03-30 --weekend n", ["none"]),
              ("dates cal 2024-03 --first ''", ["mon", "tue", "wed", "thu", "fri", "sat", "sun"]), ("dates cal 2024-03 --first n", []),
              ("dates diff 2024-02-29 2024-03-30 in ''", ["d", "w", "m", "y", "b", "ymd"]), ("dates diff 2024-02-29 2024-03-30 in y", ["y", "ymd"]),
-             (f"dates open 2024-03-30 --holidays {TOP}/docs/DATE", [f"{TOP}/docs/DATES.md"]), (f"dates check {TOP}/docs/DATE", [f"{TOP}/docs/DATES.md"]),
+             (f"dates open 2024-03-30 --holidays {TOP}/docs/dat", [f"{TOP}/docs/dates.md"]), (f"dates check {TOP}/docs/dat", [f"{TOP}/docs/dates.md"]),
              ("dates open 2024-03-30 --holidays two", [SPACED]), ("dates check two", [SPACED]), ("dates check 'two w'", [SPACED]),
              ("dates check --j", ["--json"])]
 
@@ -62,33 +63,26 @@ def examples(lines):
 
 
 def documented():
-    """The examples of the document."""
-    with open(os.path.join(TOP, "docs", "DATES.md")) as document:
-        return examples(line[4:] for line in document if line.startswith("    "))
+    """The examples of the document, whose lines are indented, and those of the crate's file of examples."""
+    with open(os.path.join(TOP, "docs", "dates.md")) as document, open(os.path.join(CRATE, "examples.txt")) as more:
+        return examples(line[4:] for line in document if line.startswith("    ")) + examples(more)
 
 
 def helped(program):
     """The example of each command's help."""
-    return [case for name in dates_help.commands(program) for case in examples(dates_help.help_of(program, name)[3])]
+    return [case for name in dates_help.commands(program) for case in examples(dates_help.example(program, name))]
 
 
-def apart(program):
-    """The commands whose words and answer in the help of all are not those of their own help."""
-    lines = {" ".join(line.split()) for line in dates_help.said(program, "--help").splitlines()}
-    return [name for name in dates_help.commands(program) if " ".join(" ".join(dates_help.help_of(program, name)[:2]).split()) not in lines]
+def unusual(program):
+    """The commands whose help does not begin with how they are called, or has no option or no example."""
+    helps = {name: dates_help.said(program, name, "--help") for name in dates_help.commands(program)}
+    return [name for name, text in helps.items() if not text.startswith(f"Usage: dates {name} ") or "\nOptions:\n" not in text or "\nExample:\n  $ " not in text]
 
 
 def wide(program):
     """The lines of the help, and of that of each command, that a terminal of 80 columns does not show whole."""
     helps = [dates_help.said(program, "--help")] + [dates_help.said(program, name, "--help") for name in dates_help.commands(program)]
     return sorted({line for text in helps for line in text.splitlines() if len(line) > 80})
-
-
-def unnamed(program):
-    """The commands of the help that a wrong first word is not told of, and those that it is told of alone."""
-    told = subprocess.run([program, "no-command"], stdin=subprocess.DEVNULL, capture_output=True, text=True).stderr
-    named = re.split(", | or ", told.strip().partition("2024-02-29, ")[2].partition(";")[0])
-    return sorted(set(named) ^ {name for name in dates_help.commands(program) if name != "-"})
 
 
 def stale(program):
@@ -112,11 +106,23 @@ def run(command, place):
     return [line.rstrip() for line in (ran.stdout + ran.stderr).splitlines() if line.strip()], ran.returncode
 
 
-def main():
-    built = subprocess.run(["rt", "run"], cwd=CRATE, stdin=subprocess.DEVNULL, capture_output=True, text=True)
+def find_program():
+    """The program: the one that is there, if it is newer than what it is made of, or else one that is built now."""
     program = os.path.join(CRATE, "out", "dates")
-    if not os.path.exists(program):
-        print(built.stdout + built.stderr)
+    names = outside.below("dates", outside.listed_crates())
+    parts = [f"{TOP}/crates/{name}/{part}" for name in names for part in ("src", "specs", "proofs")]
+    if os.path.exists(program) and os.path.getmtime(program) > outside.time_of(parts, max):
+        return program
+    built = subprocess.run(["rt", "run"], cwd=CRATE, stdin=subprocess.DEVNULL, capture_output=True, text=True)
+    if os.path.exists(program):
+        return program
+    print(built.stdout + built.stderr)
+    return None
+
+
+def main():
+    program = find_program()
+    if not program:
         print("0 passed, 1 failed")
         return 1
     passed = failed = 0
@@ -145,15 +151,12 @@ def main():
         for path in stale(program):
             failed += 1
             print(f"FAILED: {path} is not what tools/dates_help.py makes")
-        for name in apart(program):
+        for name in unusual(program):
             failed += 1
-            print(f"FAILED: {name} --help has other words or another answer than --help")
+            print(f"FAILED: {name} --help does not say how it is called, or has no options or no example")
         for line in wide(program):
             failed += 1
             print(f"FAILED: wider than 80 columns: {line}")
-        for name in unnamed(program):
-            failed += 1
-            print(f"FAILED: {name} is told of a wrong first word, or listed by --help, but not both")
         sessions, count = dates_terminal.failures(program, place, f"{TOP}/tools/shell/dates.bash")
         passed += count - len(sessions)
         failed += len(sessions)

@@ -149,8 +149,8 @@ class Closed:
         self.days = numpy.busdaycalendar([it not in closed for it in SHORT], holidays)
 
     def on(self, date, count):
-        """So many open days on, or back."""
-        roll = "forward" if count >= 0 else "backward"
+        """So many open days on, or back: from a closed day the next open day counts as the first, which is numpy's other way."""
+        roll = "backward" if count > 0 else "forward"
         return numpy.busday_offset(date, count, roll, busdaycal=self.days).astype(Date)
 
     def between(self, start, end):
@@ -426,14 +426,14 @@ def past_month(chance):
     date = any_day(chance)
     length = months.monthrange(date.year, date.month)[1]
     day = chance.choice((0, length + 1, 32, 99))
-    return f"{date:%Y-%m}-{day:02}".rjust(10, "0"), f"{MONTHS[date.month]} {date.year} has {length} days"
+    return f"{date:%Y-%m}-{day:02}".rjust(10, "0"), f"byte 8: the month has {length} days" if day else "byte 8: the day is 0"
 
 
 NO_FORM = "not written as 2024-02-29, 2024-060 or 2024-W09-4"
 # Why some texts are no days, where more can be told.
 REASONS = {
-    "": "nothing stands there", "2023-W53-1": "2023 has 52 weeks", "2023-366": "2023 has 365 days", "2024-00-10": "a year has the months 01 to 12",
-    "2024-13-01": "a year has the months 01 to 12", " 2024-02-29": "begins or ends with white space", "2024-02-29 ": "begins or ends with white space",
+    "": "nothing stands there", "2023-W53-1": "byte 6: the year has 52 weeks", "2023-366": "byte 5: the year has 365 days", "2024-00-10": "byte 5: the month is 0",
+    "2024-13-01": "byte 5: the month is above 12", " 2024-02-29": "begins or ends with white space", "2024-02-29 ": "begins or ends with white space",
     "2024-02-29T00:00": "a date-time, and no day",
 }
 ODD_LINES = (b"2024-02-29\r", b'"2024-02-29"', b"a\\b", b"\x00\x01\x1f\x7f", b"caf\xc3\xa9", b"\xff\xfe", b"\xe2\x82", b"\xf0\x9f\x93\x85 \xed\xa0\x80", b"/", b"\t\b\f")
@@ -581,9 +581,8 @@ def of_cal(chance, files):
 
 # ---- wrong commands
 
-OPTIONS = "--weekend, --calendar or --holidays"
 EXPECTED = {
-    "first": "a day as 2024-02-29, add, diff, seq, week, easter, leap, open, roll, check, next, prev, cal or rule; or --help, which explains them",
+    "first": "a day as 2024-02-29 or a command; dates --help lists them",
     "day": "a day as 2024-02-29, 2024-060 or 2024-W09-4",
     "start": "a day as 2024-02-29 or a date-time as 2024-02-29T04:30",
     "move": "a span as 3d, -2w, 1m, 4y, 5b, 36h, 90min, 15s or PT1.5S",
@@ -593,8 +592,6 @@ EXPECTED = {
     "in": "in and a unit, as 'in w'",
     "unit": "d, w, m, y, b or ymd",
     "convention": ", ".join(ROLLS[1:]) + " or unadjusted",
-    "option": OPTIONS,
-    "sheet_option": f"--first, {OPTIONS}",
     "--weekend": "none, or at most two weekdays as fri,sat",
     "--calendar": "us-federal, target or england",
     "--first": "a weekday as mon",
@@ -604,12 +601,10 @@ EXPECTED = {
     "rule": "a rule as FREQ=MONTHLY;BYDAY=-1FR",
     "moment": "a date-time as 2024-02-29T04:30",
     "amount": "a number from 1 on, of 18 digits at most",
-    "due_option": "--from or --count, each once",
-    "rule_option": "--start, --from or --count, each once",
     "sheet": "a month as 2024-02 or a year as 2024",
 }
 EXPECTED["convention"] = "following, preceding, modified-following, modified-preceding, nearest or unadjusted"
-NO_WORDS = ("x", "soon", "2024-2-29", "1e3", "0x10", "é", "２０２４", "a b", "%", "-", "2024-02-29T24:00")
+NO_WORDS = ("x", "soon", "2024-2-29", "1e3", "0x10", "é", "２０２４", "a b", "%", "-", "2024-02-29T4:00")
 NO_SCHEDULES = ("61 * * * *", "* * * *", "* * * * * *", "@dayly", "0 0 * * mom", "*/0 * * * *", "5-1 * * * *", "5/2 * * * *", ", * * * *", "", "0 0 32 * *", "x * * * *")
 NO_RULES = ("FREQ=HOURLY", "FREQ=DAILY;BYHOUR=9", "BYDAY=MO", "FREQ=DAILY;FREQ=DAILY", "FREQ=DAILY;INTERVAL=0", "FREQ=WEEKLY;BYMONTHDAY=1",
             "FREQ=DAILY;UNTIL=20240230", "FREQ=MONTHLY;BYDAY=XX", "FREQ=DAILY;COUNT=1;UNTIL=20240101", "FREQ=YEARLY;BYSETPOS=1", "", "FREQ=YEARLY;BYWEEKNO=9;BYDAY=1MO")
@@ -618,6 +613,10 @@ NO_RULES = ("FREQ=HOURLY", "FREQ=DAILY;BYHOUR=9", "BYDAY=MO", "FREQ=DAILY;FREQ=D
 def refused(asked, words, error):
     """The command with other words, which is wrong."""
     return Asked(words, asked.kinds, asked.needed, [], [], 2, error, asked.given)
+
+
+# What may stand behind a fault where a name is like the word.
+NEAR = r"(; did you mean [\w-]+\?)?"
 
 
 def with_wrong_word(chance, asked):
@@ -629,11 +628,14 @@ def with_wrong_word(chance, asked):
     bad = chance.choice(("--x", "--calender", "--Count") if "option" in kind else NO_SCHEDULES if kind == "schedule" else NO_RULES if kind == "rule" else NO_WORDS)
     if kind == "first" and bad == "-" or kind in ("amount", "sheet", "year") and bad == "２０２４":
         return None
-    shown = bad or "''"
-    error = f"dates: argument {place + 1}, {shown}: expected {EXPECTED[kind]}"
-    if kind in ("schedule", "rule"):
-        error = re.compile(re.escape(f"dates: argument {place + 1}, {shown}: ") + r"[^;]+" + re.escape(f"; expected {EXPECTED[kind]}"))
-    return refused(asked, asked.words[:place] + [bad] + asked.words[place + 1 :], error)
+    shown = re.escape(f"dates: argument {place + 1}, " + (bad or "''") + ": ")
+    if "option" in kind:
+        error = shown + "no such option" + NEAR
+    elif kind in ("schedule", "rule"):
+        error = shown + r"[^;]+" + re.escape(f"; expected {EXPECTED[kind]}")
+    else:
+        error = shown + re.escape(f"expected {EXPECTED[kind]}") + NEAR * (kind in ("first", "unit", "convention", "--calendar"))
+    return refused(asked, asked.words[:place] + [bad] + asked.words[place + 1 :], re.compile(error))
 
 
 def with_words_missing(chance, asked):
@@ -643,17 +645,16 @@ def with_words_missing(chance, asked):
         return None
     place = chance.choice(places)
     kind, cut = asked.kinds[place], asked.words[:place]
-    expected = EXPECTED[kind]
     if kind == "in" or place == 3 and kind == "unit":
         return None
+    if "option" in asked.kinds[place - 1]:
+        return refused(asked, cut, f"dates: argument {place}, {cut[-1]}: its value is missing")
+    missing = "[A-Z|]+"
     if kind in ("due_option", "rule_option"):
-        wanted = "--from" if kind == "due_option" else "--start"
-        if wanted in cut:
+        missing = "--from TIME" if kind == "due_option" else "--start DAY"
+        if missing.split()[0] in cut:
             return None
-        expected = "--from and a date-time" if kind == "due_option" else "--start and a day"
-    elif kind in ("moment", "amount") and place > 2 or kind == "day" and place > 2 and asked.words[0] == "rule":
-        expected = "a value of the option"
-    return refused(asked, cut, f"dates: argument {place + 1}, which is missing: expected {expected}")
+    return refused(asked, cut, re.compile(f"dates: {missing} is missing; usage: dates {cut[0]} .*"))
 
 
 def with_a_word_more(chance, asked):
@@ -662,13 +663,9 @@ def with_a_word_more(chance, asked):
     bad = chance.choice(("x", "soon", "é"))
     if name in ("add", "diff") and "move" not in asked.kinds + ["move"] or not name or name == "-":
         return None
-    options = {"add": OPTIONS if "option" in asked.kinds else EXPECTED["move"], "open": OPTIONS, "roll": OPTIONS, "cal": EXPECTED["sheet_option"],
-               "next": EXPECTED["due_option"], "prev": EXPECTED["due_option"], "rule": EXPECTED["rule_option"]}
-    expected = options.get(name, "no further argument")
-    if name == "diff" and len(asked.words) == 3:
-        expected = "no further argument" if asked.kinds[2] == "moment" else EXPECTED["in"]
-    if name == "diff" and "b" in asked.words[4:5]:
-        expected = OPTIONS
+    expected = EXPECTED["move"] if name == "add" else "no further argument"
+    if name == "diff" and len(asked.words) == 3 and asked.kinds[2] != "moment":
+        expected = EXPECTED["in"]
     if name == "seq" and len(asked.words) == 3:
         expected = EXPECTED["step"]
     return refused(asked, [*asked.words, bad], f"dates: argument {place}, {bad}: expected {expected}")
@@ -729,7 +726,8 @@ def ran(asked, more=()):
 
 def fault(asked):
     """What is wrong with the answer to a command, as it stands or as JSON; None where nothing is."""
-    for form in ((), ("--json",)):
+    # (behind an option without its value `--json` would be that value)
+    for form in ((),) if str(asked.error).endswith("its value is missing") else ((), ("--json",)):
         output, status, error = ran(asked, form)
         said = [it.rstrip() for it in output.splitlines()]
         try:

@@ -5,12 +5,13 @@
 
   files      each file or folder that a code span, a link or a command names is there, and so is the heading that a link leads to
   names      a name alone in a code span, a clause's too, is declared by a source; of a path `A::b` a source has b in what it says of A;
-             and each other name in a code span stands in some source, comments apart
+             and each other name in a code span stands in some source, comments apart; clauses behind a function, as in
+             `f`: `a`, `b`, and in a row of CALLING.md, are clauses of a function of that name
   counts     the numbers of COUNTS are those of the tree, and each of its patterns is found
-  words      docs/DEFINITIONS.md tells the words that the other documents name of the libraries' specs, each in the part of its crate
-  shut       CALLING.md lists the words that the check does not look into: those of the specs up to chrono_datetime, and no others
-  calls      docs/CALLS.md names, in the part of its crate, what each library makes public
-  modules    docs/ARCHITECTURE.md has a row for each crate, in which the modules of all but tests are named
+  reference  the pages of docs/reference are those that tools/reference makes from the sources
+  comments   links of doc comments lead somewhere, and public items and the words that public contracts cite have comments
+  crates     the page of the architecture names each crate
+  pasted     the commands of README, of the tutorial and of caltool's page print what these pages say, as checks/pasted.py runs them
 
 ABSENT and NO_FILES list what is rightly not in the tree; a line there that no document needs is a fault too. Each check is then tried on
 the faults of PLANTED, in copies of the texts, and has to find each. What a sentence claims of the names in it no script can read.
@@ -26,10 +27,17 @@ sys.path.insert(0, os.path.dirname(os.path.abspath(__file__)))
 import ends  # noqa: E402
 import memory  # noqa: E402
 import outside  # noqa: E402
+import pasted as commands_pasted  # noqa: E402
 import rules  # noqa: E402
 import statuses  # noqa: E402
 
+sys.path.insert(0, os.path.join(os.path.dirname(os.path.dirname(os.path.abspath(__file__))), "tools"))
+from reference_pages import library, make, pages  # noqa: E402
+
 TOP = os.path.dirname(os.path.dirname(os.path.abspath(__file__)))
+# The pages that checks read or plant faults in.
+README, TUTORIAL, CALLING, CALTOOL, TRUST = "README.md", "docs/tutorial.md", "CALLING.md", "docs/caltool.md", "docs/trust.md"
+CHRONO, PROMISES, ARCHITECTURE, PROVING = "docs/chrono.md", "docs/promises.md", "docs/architecture.md", "docs/proving.md"
 # Folders with nothing of the tree's own, beside which a caller from Python may build a shared object.
 LEFT_OUT = (".git", "out", "dist", "target", "__pycache__")
 # The comments of each kind of source.
@@ -37,13 +45,14 @@ COMMENTS = {".rt": r"//[^\n]*", ".rs": r"//[^\n]*", ".antt": r"--[^\n]*", ".c": 
             ".py": r'""".*?"""|#[^\n]*', ".pyi": r"#[^\n]*", ".toml": r"#[^\n]*", ".js": r"//[^\n]*|/\*.*?\*/", ".ts": r"//[^\n]*|/\*.*?\*/"}
 # Names that no source declares, by the reason.
 ABSENT = {
-    "of Rust and its std": """Box Clone Copy Default Display DoubleEndedIterator Drop Eq FromIterator FromPrimitive FromStr Hash
-        IntoIterator Ok Result Some String Sum TryFrom Vec collect fmt::Write for format if match mod requires self str u8 unsafe unwrap""",
-    "of the kit: its words, its tactics and its std": """SomeIff agree_below agree_below_at grind ints map num_traits omega refl subst
-        unfoldable view_is write_str_gives ensures edited rtlib""",
-    "of Python": "OverflowError True TypeError ValueError datetime operator strftime timedelta fold __slots__ __getstate__",
-    "of JavaScript": "PlainTime RangeError Temporal overflow round toLocaleString",
-    "of C": "INT64_MIN gmtime_r memcpy strptime timegm",
+    "of Rust and its std": """From Option Display DoubleEndedIterator Drop Eq FromIterator FromPrimitive FromStr Hash
+        IntoIterator Ok Result Some Sum TryFrom collect fmt::Write format if match mod requires self str u8 unsafe unwrap""",
+    "of the kit: its words, its tactics and its std": """IfSome_then SomeIff agree_below agree_below_at num_traits omega refl subst
+        unfoldable view_is ensures """,
+    "of Python": "OverflowError True TypeError ValueError datetime operator strftime timedelta __slots__ __getstate__",
+    "of JavaScript": "calendarName PlainTime iso8601 RangeError Temporal overflow round toLocaleString",
+    "of earlier versions": "check_rule check_schedule Nearest Roll::Nearest",
+    "of C": "int32_t memcpy",
     "of Rust's compiler and of the kit's options": "ConversionError serde target_feature wasm64",
     "read from the environment": "CALENDAR_FOLDER CMAKE_PREFIX_PATH PKG_CONFIG_PATH",
     "of chrono, and left out here": """parse_from_str parse_and_remainder ParseMonthError ParseWeekdayError format_with_items
@@ -51,33 +60,23 @@ ABSENT = {
         BEFORE_MIN AFTER_MAX UNIX_EPOCH timestamp from_timestamp as_seconds_f64 as_seconds_f32 from_std to_std OutOfRangeError
         from_isoywd from_num_days_from_ce from_hms from_hms_milli from_hms_micro from_hms_nano
         from_num_seconds_from_midnight and_hms and_hms_milli and_hms_micro and_hms_nano NaiveDate::succ NaiveDate::pred""",
-    "files and modules of chrono": "chrono traits naive internals isoweek",
-    "what the kit prints of itself": "rattle-kit dac8208d650f15bf",
-    "words of the shell and of a line": "cc cd head pkg-config sha256sum",
-    "of numpy": "busday_offset",
+    "files and modules of chrono": "naive internals isoweek",
+    "words of CMake, of the shell and of a line": "find_package cc head move pkg-config",
+    "words of the program dates": "MONTH UNIT CONVENTION us-federal modified-following modified-preceding",
     "digits of a number": "_294_967_297",
-    "texts and digits of a text": "P0D PT PT59M59 PT90S PT007S PT1H30M PT5400S PT0S PT90M min YYYY-MM-DD YYYY-DDD YYYY-Www-D hh mm ss",
-    "an argument of a call": "stop",
+    "texts and digits of a text": "P0D PT59M59 PT90S PT007S PT1H30M PT5400S PT0S PT90M min",
     "made by tools/dist": "SHA256SUMS",
     "in the place of a name, or a part of names": "LAW ARGS condition with_ _opt",
 }
 # Files and folders that are rightly not there, by the reason.
 NO_FILES = {
-    "left by a build": "dist crates/caltool/out/caltool crates/dates/out/dates out out/libcalendar_c.a out/incremental",
+    "left by a build": "dist crates/caltool/out/caltool crates/dates/out/dates out out/libcalendar_c.a",
     "where a package is installed": "include/calendar.h lib/libcalendar-v3.a lib/libcalendar.a lib/libcalendar.so.0 libcalendar-v3.a lib/pkgconfig lib/pkgconfig/calendar.pc lib/cmake/calendar libcalendar.so",
     "an option of a compiler": "-Ilanguages/c",
     "of the kit": "docs/WALKS.md",
     "of the reader": "main.c",
     "in the place of a name": "plants/MODULE.edits specs.MODULE.edits proofs/MODULE/FUNCTION/Answers.antt",
 }
-# The crates of which docs/CALLS.md lists what is public, each under a heading that names it.
-LISTED = """chrono_text chrono_units chrono_clock chrono_calendar chrono_internals chrono_stored chrono_naive chrono_datetime
-    caltool_command caltool_form caltool_dates chrono_reading chrono_cron chrono_business chrono_rules chrono_columns dates_request dates_answer
-    calendar_c""".split()
-# Traits whose calls docs/CALLS.md says together.
-SAID_TOGETHER = ("DayForm", "CommandAnswers")
-# Crates of tests, and modules, whose parts docs/ARCHITECTURE.md does not name: those of a date-time are like those of a date.
-NOT_TAKEN_APART = ("chrono_tests", "chrono_rows", "caltool_tests", "naive_date_time", "tables")
 
 NAME = re.compile(r"[A-Za-z_]\w*(?:-[A-Za-z]\w*)*")
 SPAN = re.compile(r"`([^`]+)`")
@@ -99,9 +98,6 @@ DECLARED = {
 # The blocks of types and of traits.
 BLOCK = re.compile(r"^((?:pub )?(?:impl|trait|enum|struct)\b[^{;]*)\{(.*?)^\}", re.M | re.S)
 PATH = re.compile(r"[A-Za-z_]\w*(?:::[A-Za-z_]\w*)+")
-# Public items: at the left edge those of a module, further in those of a type or a trait.
-OWNER = re.compile(r"^(?:impl(?:<[^>]*>)? (\w+)[^\n]*|pub trait (\w+)[^\n]*|\})$", re.M)
-ITEM = re.compile(r'^( *)pub (?:unsafe |extern "C" |const (?=fn))*(?:fn|struct|enum|trait|type|const) (\w+)', re.M)
 
 Part = collections.namedtuple("Part", "path heading text")
 
@@ -118,6 +114,11 @@ def read_files():
             with open(os.path.join(at, name), "rb") as it:
                 files[os.path.relpath(os.path.join(at, name), TOP)] = it.read().decode(errors="replace")
     return files
+
+
+def is_made(path):
+    """Whether a page is made from the sources."""
+    return path.startswith(f"{make.FOLDER}/")
 
 
 def kind_of(path):
@@ -154,7 +155,8 @@ class Tree:
     def __init__(self, files):
         sources = {path: without_comments(path, text) for path, text in files.items() if is_source(path)}
         self.files = files
-        self.documents = {path: text for path, text in files.items() if path.endswith(".md")}
+        self.documents = {path: text for path, text in files.items() if path.endswith(".md") and not is_made(path)}
+        self.library = library.Library(files)
         self.places = set(files) | {path[: it.start()] for path in files for it in re.finditer("/", path)}
         self.sources = {path: set(NAME.findall(text)) | set(re.findall(r"\w+", f"{path} {text}")) for path, text in sources.items()}
         self.names = set().union(*self.sources.values(), *(re.findall(r"[\w-]+", path) for path in files))
@@ -162,10 +164,14 @@ class Tree:
         self.declared |= {it for path in files for it in re.findall(r"\w+", path)}
         self.owned = owned_by(sources)
 
-    def with_document(self, path, text):
-        """The same tree with another text of a document."""
+    def with_file(self, path, text):
+        """The same tree with another text of a document, of a page that is made, or of a source of these."""
         changed = object.__new__(Tree)
-        changed.__dict__.update(self.__dict__, documents={**self.documents, path: text})
+        changed.__dict__.update(self.__dict__, files={**self.files, path: text})
+        if path in self.documents:
+            changed.documents = {**self.documents, path: text}
+        elif path in self.sources:
+            changed.library = library.Library(changed.files)
         return changed
 
 
@@ -214,15 +220,9 @@ def named_places(documents):
         yield from ((it, Part(path, "", "")) for it in FOLDERS.findall(text))
 
 
-def heading_ends(text):
-    """What links name the headings of a document by."""
-    found = re.findall(r"^#+ (.*)$", FENCE.sub("", text), re.M)
-    return {re.sub(r"[^\w -]", "", it).lower().replace(" ", "-") for it in found}
-
-
 def quoted(documents):
-    """The files that CALLING.md gives to the reader whole."""
-    return {path for path, _ in outside.QUOTED.findall(documents["CALLING.md"])}
+    """The files that pages give to the reader whole."""
+    return {path for page in outside.PAGES for path, _ in outside.QUOTED.findall(documents[page])}
 
 
 def missing_files(tree):
@@ -243,17 +243,19 @@ def files(tree):
     for part in parts(tree.documents):
         for name, end in LINK.findall(part.text):
             path = os.path.normpath(os.path.join(os.path.dirname(part.path), name)) if name else part.path
-            if path not in tree.places or end and end not in heading_ends(tree.documents[path]):
+            if path not in tree.places or end and end not in pages.ids(pages.headings_of(tree.files[path])):
                 yield f"{part.path}: a link to {name}{end and '#' + end}, which is not there"
 
 
 # ---- names
 
 
-def passed_on(tree, crate):
+def passed_on(tree, name):
     """The modules of a crate, and what it makes public or passes on."""
-    uses = (it for text in modules_of(tree, crate).values() for it in re.findall(r"^pub use ([^;]*);", text, re.M))
-    return {*re.findall(r"\w+", " ".join([*modules_of(tree, crate), *uses])), *public_names(tree, crate)}
+    crate = tree.library.crates.get(name) or library.Crate(name, tree.files, tree.library.specs)
+    calls = (it.name for entry in crate.entries.values() for it, _ in crate.calls_of(entry.item.name))
+    of_traits = (it.name for entry in crate.entries.values() if entry.item.kind == "trait" for it in entry.item.members)
+    return {*re.findall(r"\w+", " ".join([*crate.modules, *crate.entries, *crate.passed])), *calls, *of_traits}
 
 
 def is_path(tree, path):
@@ -282,27 +284,35 @@ def names(tree):
     yield from (f"{path}: {it} is in no source" for path, it in found if it not in excused)
     needed = {it for _, it in found}
     yield from (f"ABSENT: {it} need not be listed" for it in excused if it not in needed)
+    yield from wrong_clauses(tree)
 
 
-# ---- what is public
+FUNCTION = re.compile(r"\bfn (\w+)(.*?)(?=\n *\{\n|;\n|\bfn )", re.S)
+# Clauses behind a function, and a row of CALLING.md with functions and their clauses.
+CLAIMED = re.compile(r"(?<!, )`(?:\w+::)*(\w+)`: ((?:`\w+`(?:, )?)+)")
+CLAUSE_ROW = re.compile(r"^\| ([^|]*) \| ([^|]*) \|$", re.M)
 
 
-def public_items(text):
-    """The public items of a source: the type or the trait that has each, or nothing, and the name."""
-    owner = ""
-    found = [*OWNER.finditer(text), *ITEM.finditer(text)]
-    for it in sorted(found, key=lambda it: (it.start(), it.re is OWNER)):
-        if it.re is OWNER:
-            owner = it[1] or it[2] or ""
-        else:
-            yield owner if it[1] else "", it[2]
+def wrong_clauses(tree):
+    """The clauses that documents give to functions, of which no function of that name has them."""
+    clauses, words = collections.defaultdict(set), set()
+    for path, text in tree.files.items():
+        if path.endswith(".rt") and "/src/" in path:
+            for name, rest in FUNCTION.findall(text):
+                clauses[name] |= set(re.findall(r"(?:ensures|requires) (\w+) \{", rest))
+        elif path.endswith(".antt") and "/specs/" in path:
+            words |= set(re.findall(r"^(?:\w+ )*pub (?:record )?(\w+)", text, re.M))
+    claims = [(path, [it[1]], it[2]) for path, text in tree.documents.items() for it in CLAIMED.finditer(FENCE.sub("", text))]
+    rows = tree.documents[CALLING].partition("\n## Clauses that most callers use\n")[2].partition("\n## ")[0]
+    claims += [(CALLING, re.findall(r"(\w+)`", functions), said) for functions, said in CLAUSE_ROW.findall(rows)]
+    for path, functions, said in claims:
+        known = set().union(*(clauses[it] for it in functions if it in clauses))
+        for it in re.findall(r"`(\w+)(?: \{[^`]*)?`", said) if known else ():
+            if it not in known | words:
+                yield f"{path}: {it} is no clause of {' or '.join(functions)}"
 
 
-def calls_of_traits(text):
-    """The calls of the public traits of a source, but of those whose calls are said together."""
-    for trait, body in re.findall(r"^pub trait (\w+)[^\n]*\n(.*?)^\}", text, re.M | re.S):
-        if trait not in SAID_TOGETHER:
-            yield from ((trait, it) for it in re.findall(r"^    fn (\w+)", body, re.M))
+# ---- the reference
 
 
 def modules_of(tree, crate):
@@ -312,78 +322,34 @@ def modules_of(tree, crate):
     return {it.removeprefix(inside).removesuffix(".rt").replace("/", "::"): without_comments(it, tree.files[it]) for it in found}
 
 
-def public_names(tree, crate):
-    """What can be reached of a crate: the items of its root and of its public modules, those passed on, and those of these types."""
-    sources = modules_of(tree, crate)
-    passed = {it for use in re.findall(r"^pub use ([^;]*);", sources["lib"], re.M) for it in re.findall(r"\w+", use)}
-    # What C calls is exported by its own name, in whichever module it stands.
-    reached = set(sources) if crate == "calendar_c" else {"lib", *re.findall(r"^pub mod (\w+);", sources["lib"], re.M)}
-    found = [(module, owner, name) for module, text in sources.items() for owner, name in [*public_items(text), *calls_of_traits(text)]]
-    at_edge = {name for module, owner, name in found if not owner and (module in reached or name in passed)}
-    return at_edge | {name for _, owner, name in found if owner in at_edge}
+def reference(tree):
+    """The pages that are not those that the sources make."""
+    yield from make.differing(make.make(tree.library), {path: text for path, text in tree.files.items() if is_made(path)})
 
 
-def calls(tree):
-    sections = re.split(r"^(?=## )", tree.documents["docs/CALLS.md"], flags=re.M)[1:]
-    for crate in LISTED:
-        of_crate = [it for it in sections if f"`{crate}`" in it.partition("\n")[0]]
-        said = set(re.findall(r"\w+", " ".join(span for it in of_crate for span in SPAN.findall(it))))
-        yield from (f"docs/CALLS.md: {it} of {crate} is not named" for it in sorted(public_names(tree, crate) - said))
+def comments(tree):
+    """What is wrong with the comments that the reference is made of."""
+    yield from make.make(tree.library).faults
 
 
-def modules(tree):
-    rows = dict(re.findall(r"^\| `(\w+)` \| (.*) \|$", tree.documents["docs/ARCHITECTURE.md"], re.M))
-    for crate in outside.listed_crates():
-        crate = crate.removesuffix(" staticlib")
-        if crate not in rows:
-            yield f"docs/ARCHITECTURE.md: {crate} has no row"
-        said = ["lib", *re.findall(r"\w+", " ".join(SPAN.findall(rows.get(crate, ""))))]
-        for module in modules_of(tree, crate):
-            if not {crate, module.split("::")[0]} & set(NOT_TAKEN_APART) and module.split("::")[-1] not in said:
-                yield f"docs/ARCHITECTURE.md: {module} of {crate} is not named"
+def crates(tree):
+    """The crates that the page of the architecture does not name."""
+    listed = (it.removesuffix(" staticlib") for it in outside.listed_crates())
+    said = set(re.findall(r"\w+", tree.documents[ARCHITECTURE]))
+    yield from (f"{ARCHITECTURE}: {it} is not named" for it in listed if it not in said)
 
 
-# ---- words
-
-
-def specs_of(tree, crate):
-    """The specs of a crate without their comments."""
-    found = [it for it in tree.sources if it.startswith(f"crates/{crate}/specs/")]
-    return "\n".join(without_comments(it, tree.files[it]) for it in found)
-
-
-def words(tree):
-    text = tree.documents["docs/DEFINITIONS.md"]
-    told = {it for span, _ in spans({"": text}) for it in NAME.findall(span)}
-    in_code = {it for path in tree.sources if path.endswith(".rt") for it in declared_by(".rt", without_comments(path, tree.files[path]))}
-    defined = {it for crate in LISTED for it in re.findall(r"^(?:\w+ )*pub (\w+)[^\n:]* :", specs_of(tree, crate), re.M)}
-    for span, part in spans(tree.documents):
-        yield from (f"{part.path}: {it} is not told in docs/DEFINITIONS.md" for it in set(NAME.findall(span)) & defined - in_code - told)
-    for section in re.split(r"^(?=## )", text, flags=re.M)[1:]:
-        crates = re.findall(r"`((?:chrono|cal|dates_)\w+)`", section.partition("\n| Word")[0])
-        here = set(re.findall(r"\w+", " ".join(specs_of(tree, it) for it in crates)))
-        rows = SPAN.findall(" ".join(re.findall(r"^\|([^|]*)\|", section, re.M)))
-        yield from (f"docs/DEFINITIONS.md: {it} is no word of {' or '.join(crates)}" for it in rows if not here & set(NAME.findall(it)[:1]))
-
-
-def shut_words(tree):
-    """The words of the specs, of the crates up to chrono_datetime, that the check does not look into."""
-    for crate in outside.below("chrono_datetime", outside.listed_crates()):
-        for path in (it for it in tree.sources if it.startswith(f"crates/{crate}/specs/")):
-            yield from re.findall(r"^unfoldable pub (?!use )(\w+)", tree.files[path], re.M)
-
-
-def shut(tree):
-    table = tree.documents["CALLING.md"].partition("\n| Words | Instead |\n")[2].partition("\n\n")[0]
-    said, stand = set(SPAN.findall(" ".join(re.findall(r"^\|([^|]*)\|", table, re.M)))), set(shut_words(tree))
-    yield from (f"CALLING.md: {it} is shut, and not said so" for it in sorted(stand - said))
-    yield from (f"CALLING.md: {it} is said to be shut" for it in sorted(said - stand))
+def pasted(tree):
+    """What the commands of README, of the tutorial and of caltool's page do not print."""
+    yield from commands_pasted.readme(tree.documents[README])
+    yield from commands_pasted.caltool(tree.documents[CALTOOL])
+    yield from commands_pasted.tutorial(tree.documents[TUTORIAL])
 
 
 # ---- counts
 
 NUMBERS = dict(zip("one two three four five six seven eight nine ten eleven twelve thirteen fourteen".split(), range(1, 15)))
-NUMBERS |= {"twenty": 20, "thirty": 30, "forty": 40, "fifty": 50, "sixty": 60, "seventy": 70, "eighty": 80, "ninety": 90}
+NUMBERS |= {"twenty": 20, "thirty": 30, "forty": 40, "fifty": 50, "sixty": 60, "seventy": 70, "eighty": 80, "ninety": 90, "hundred": 100}
 # A row of CALLING.md: a question, the function that answers it, and the lines of its proof.
 CALLER = r"^\|[^|]*\| `(?P<module>\w+)::(?P<name>\w+)` \| (\d+|-) \| (\d+|-) \|"
 
@@ -416,10 +382,10 @@ def texts_of_none(tree):
 
 
 def commands(tree):
-    """The commands of caltool, each with its row in docs/CALTOOL.md, or none if it has no row."""
+    """The commands of caltool, each with its row in the page of caltool, or none if it has no row."""
     _, _, variants = tree.files["crates/caltool_command/src/name.rt"].partition("enum Name {")
     named = re.findall(r"^    ([A-Z]\w*),", variants.partition("\n}")[0], re.M)
-    rows = re.findall(r"^\| `(\w+)", tree.documents["docs/CALTOOL.md"], re.M)
+    rows = re.findall(r"^\| `(\w+)", tree.documents[CALTOOL], re.M)
     return len(named) if rows == [it.lower() for it in named] else 0
 
 
@@ -462,14 +428,6 @@ def lines_of_fuzz(tree):
     return int(re.search(r'"--lines", type=int, default=(\w+)', tree.files["checks/fuzz.py"])[1])
 
 
-def lines_for_callers(_):
-    return len(outside.quoted_files()["crates.txt"].splitlines())
-
-
-def crates_of_caltool(_):
-    return len(outside.below("caltool", outside.listed_crates()))
-
-
 def lines_of_proof(tree, module, name):
     """The lines of a function's proof files without imports, comments and empty lines, and all of them."""
     folder = f"crates/chrono_uses/proofs/{module}/{name}/"
@@ -478,7 +436,7 @@ def lines_of_proof(tree, module, name):
 
 
 def lines_of_callers(tree):
-    each = [lines_of_proof(tree, *it[:2]) for it in re.findall(CALLER, tree.documents["CALLING.md"], re.M)]
+    each = [lines_of_proof(tree, *it[:2]) for it in re.findall(CALLER, tree.documents[CALLING], re.M)]
     return tuple(map(sum, zip(*each)))
 
 
@@ -498,15 +456,18 @@ def lines_of_specs(tree, those):
     return lines_in(text for path, text in tree.files.items() if "/specs/" in path and inside.fullmatch(path))
 
 
+def lines_to_read(tree):
+    """The lines of the definitions of dates and date-times, which are the first nine rows, to the nearest ten."""
+    return round(sum(int(it) for it in re.findall(r"^\| `\w+/specs/[^|]* \| (\d+) \|", tree.documents[TRUST], re.M)[:9]), -1)
+
+
 def callers(tree):
-    return len(re.findall(CALLER, tree.documents["CALLING.md"], re.M))
+    return len(re.findall(CALLER, tree.documents[CALLING], re.M))
 
 
 # What counts the numbers of a text that fits the pattern; the groups that are named say of what.
 COUNTS = [
     (r"(\d+) wrong bodies \(`must-fail/`", edits_in),
-    (r"^\| all \| \d+ \| \d+ \| (\d+) \|", edits_in),
-    (r"^\| `(?P<crate>\w+)` \| \d+ \| *\d* *\| *(\d*) *\|", edits_in),
     (r"(\d+) more \(`plants/`\)", plants_in),
     (r"(\d+) of them turn a\s+definition", wrong_definitions),
     (r"(\d+) planted edits each turn a definition", wrong_definitions),
@@ -526,12 +487,11 @@ COUNTS = [
     (r"refused while (\w+)\s+texts are printed", lambda _: len(memory.TEXTS)),
     (r"([\d,]+) in each check", lines_of_fuzz),
     (r"all (\w+) commands", commands),
-    (r"need (\w+) more lines", lines_for_callers),
     (r"some (\w+) small functions of\s+a user", functions_of_a_user),
-    (r"the (\w+) crates that `caltool` is made of", crates_of_caltool),
     (r"([\d,]+) days of (?:its )?`datetime`", lambda _: datetime.date.max.toordinal()),
     (r"some ([\d,]+) lines in the `specs/` folders", lines_of_all_specs),
     (r"^\| (?P<those>`\w+/specs/[^|]*) \| (\d+) \|", lines_of_specs),
+    (r"about (\d+) lines", lines_to_read),
     (r"^## (\w+) callers", callers),
     (CALLER, lines_of_proof),
     (r"^\| all \| \| (\d+) \| (\d+) \|", lines_of_callers),
@@ -557,50 +517,56 @@ def counts(tree):
                 yield f"{path}: {it[0]!r}, and there are {counted}"
 
 
-CHECKS = (files, names, counts, words, shut, calls, modules)
+CHECKS = (files, names, counts, reference, comments, crates, pasted)
 
 
 # ---- planted faults
 
-# The check that has to find each, the document, and what takes the place of what stands there.
+# The check that has to find each, the file, and what takes the place of what stands there.
 PLANTED = [
-    (files, "docs/ARCHITECTURE.md", "`chrono_naive/src/naive_date/moves.rt`", "`chrono_naive/src/naive_date/moved.rt`"),
-    (files, "docs/DEFINITIONS.md", "`specs/Years.antt`", "`specs/Days.antt`"),
-    (files, "docs/PROMISES.md", "(`checks/memory.py`)", "(`checks/memories.py`)"),
-    (files, "README.md", "(docs/CALLS.md)", "(docs/CALL.md)"),
-    (files, "README.md", "(docs/CALLS.md)", "(docs/CALLS.md#chrono_days)"),
-    (files, "README.md", "(cd crates/caltool && rt run)", "(cd crates/calltool && rt run)"),
-    (names, "CALLING.md", "`Datelike::num_days_from_ce`", "`Datelike::num_days_from_bce`"),
-    (names, "CALLING.md", "`Datelike::num_days_from_ce`", "`Timelike::num_days_from_ce`"),
-    (names, "docs/DIFFERENCES.md", "`chrono_units::year`", "`chrono_units::years`"),
-    (names, "docs/DEFINITIONS.md", "`is_leap_year y`", "`is_leaping_year y`"),
-    (names, "docs/CALLS.md", "(`back`)", "(`beta`)"),
-    (names, "docs/PROMISES.md", "(`output`, `status`)", "(`output`, `arith`)"),
-    (counts, "docs/PROMISES.md", "the prover refuse ", "the prover refuse 1"),
-    (counts, "docs/PROMISES.md", " wrong bodies (`must-fail/`", " bodies (`must-fail/`"),
-    (counts, "docs/TRUST.md", "Years.antt` | ", "Years.antt` | 1"),
-    (counts, "README.md", "all fourteen commands", "all thirteen commands"),
-    (counts, "docs/CALTOOL.md", "| `wom ", "| `wmo "),
-    (counts, "CALLING.md", "`questions::mondays_walked` | ", "`questions::mondays_walked` | 1"),
-    (counts, "docs/PROVING.md", "| `chrono_text` | ", "| `chrono_text` | 1 | "),
-    (words, "docs/DEFINITIONS.md", "| `land t x` |", "| land |"),
-    (words, "docs/DEFINITIONS.md", "| `time_text t` |", "| `text_of_time t` |"),
-    (shut, "CALLING.md", "`land`, ", ""),
-    (shut, "CALLING.md", "`land`, ", "`land`, `landing_of`, "),
-    (calls, "docs/CALLS.md", "`read_decimal`", "the reader"),
-    (calls, "docs/CALLS.md", "`law::known_texts`", "a law"),
-    (modules, "docs/ARCHITECTURE.md", "`number`, `places`", "`number`"),
-    (modules, "docs/ARCHITECTURE.md", "| `calendar_c` |", "| calendar_c |"),
+    (files, ARCHITECTURE, "`chrono_naive/src/naive_date/moves.rt`", "`chrono_naive/src/naive_date/moved.rt`"),
+    (files, PROMISES, "(`checks/fuzz.py`)", "(`checks/fuzzy.py`)"),
+    (files, README, "(docs/reference/README.md)", "(docs/reference/READER.md)"),
+    (files, README, "(docs/reference/README.md)", "(docs/reference/README.md#chrono_days)"),
+    (files, README, "(cd crates/dates && rt try", "(cd crates/date && rt try"),
+    (names, CALLING, "`Datelike::num_days_from_ce`", "`Datelike::num_days_from_bce`"),
+    (names, CALLING, "`Datelike::num_days_from_ce`", "`Timelike::num_days_from_ce`"),
+    (names, CHRONO, "`chrono_units::year`", "`chrono_units::years`"),
+    (names, PROMISES, "(`output`, `status`)", "(`output`, `arith`)"),
+    (names, PROMISES, "`NaiveTime::landing`: `time`", "`NaiveTime::landing`: `taken`"),
+    (names, CALLING, "`order`, `back`, `sum`", "`order`, `back`, `hash_input`"),
+    (counts, PROMISES, "the prover refuse ", "the prover refuse 1"),
+    (counts, PROMISES, " wrong bodies (`must-fail/`", " bodies (`must-fail/`"),
+    (counts, TRUST, "Years.antt` | ", "Years.antt` | 1"),
+    (counts, README, "all fourteen commands", "all thirteen commands"),
+    (counts, README, " lines for dates and date-times", "0 lines for dates and date-times"),
+    (counts, CALTOOL, "| `wom ", "| `wmo "),
+    (counts, CALLING, "`questions::mondays_walked` | ", "`questions::mondays_walked` | 1"),
+    (reference, "docs/reference/chrono_units.md", "pub fn succ(", "pub fn next("),
+    (reference, "docs/reference/definitions.md", "#### `is_leap_year`", "#### `is_leap`"),
+    (reference, "crates/chrono_naive/src/naive_date.rt", "pub fn from_epoch_days(days: i32)", "pub fn from_epoch_days(days: i64)"),
+    (reference, "crates/chrono_naive/src/naive_date.rt", "ensures date { result ≡ date_of_ymd", "ensures day { result ≡ date_of_ymd"),
+    (reference, "crates/chrono_text/src/lib.rt", "pub use line::Line;", ""),
+    (comments, "crates/chrono_text/src/lib.rt", "pub use text::Text;", ""),
+    (comments, "crates/chrono_units/specs/Years.antt", "-- the days of a year\n", ""),
+    (comments, "crates/chrono_naive/src/naive_date.rt", "impl NaiveDate {\n", "impl NaiveDate {\n    /// See [`NaiveDate::day_after`].\n"),
+    (comments, "crates/chrono_naive/src/naive_date.rt", "impl NaiveDate {\n", "impl NaiveDate {\n    pub const FIRST: i32 = 1;\n"),
+    (crates, ARCHITECTURE, "cron_rows", "rows_of_cron"),
+    (pasted, README, "| rt run)", "| rt runs)"),
+    (pasted, README, "`2025-02-28`", "`2025-02-27`"),
+    (pasted, README, "# 2024-02-29 738945 Thu 2024-W09 60 ", "# 2024-02-29 738946 Thu 2024-W09 60 "),
+    (pasted, CALTOOL, "| `2025-01-01 739252 ", "| `2025-01-01 739253 "),
+    (pasted, TUTORIAL, "checked my_invoices::due, 1 of 1", "checked my_invoices::due, 1 of 2"),
 ]
 
 
 def is_found(tree, stands, check, path, old, new):
     """Whether a check finds a fault that is planted there, beside those that stand already."""
-    text = tree.documents[path]
+    text = tree.files.get(path, "")
     if old not in text:
         print(f"{path}: {old!r} does not stand there")
         return False
-    planted = tree.with_document(path, text.replace(old, new, 1))
+    planted = tree.with_file(path, text.replace(old, new, 1))
     if set(check(planted)) <= set(stands):
         print(f"{path}: the check `{check.__name__}` does not find {new!r}")
         return False

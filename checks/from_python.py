@@ -22,10 +22,10 @@ WARNINGS = ["-std=c99", "-O1", "-fPIC", "-Wall", "-Wextra", "-Wpedantic", "-Werr
 QUIET = dict(os.environ, PYTHONDONTWRITEBYTECODE="1", PIP_DISABLE_PIP_VERSION_CHECK="1", PIP_NO_INDEX="1")
 
 
-def install(results, room, name, program, wheel):
+def install(results, room, name, program, wheel, *options):
     """A fresh environment of a Python with the wheel; its program, or None."""
     folder = f"{room}/{name}"
-    if succeeds(results, [program, "-m", "venv", folder], env=QUIET) is None:
+    if succeeds(results, [program, "-m", "venv", *options, folder], env=QUIET) is None:
         return None
     if succeeds(results, [f"{folder}/bin/pip", "install", "--quiet", wheel], env=QUIET) is None:
         return None
@@ -54,6 +54,17 @@ def test_versions(results, room, wheel):
             program = install(results, room, name, name, wheel)
             if program:
                 run(results, f"test_calls.py by {name}", [program, f"{TESTS}/test_calls.py", "-v"], COUNTS, env=QUIET)
+
+
+def test_beside_others(results, room, wheel):
+    """The habits beside numpy and pandas, which Debian's Python may have and a fresh environment has not."""
+    asked = ["/usr/bin/python3", "-c", "import ensurepip, numpy, pandas"]
+    if not os.path.exists(asked[0]) or subprocess.run(asked, capture_output=True).returncode:
+        print("not run: the tests in Python beside numpy and pandas, which Debian's Python has not")
+        return
+    program = install(results, room, "with_numpy", asked[0], wheel, "--system-site-packages")
+    if program:
+        run(results, "test_habits.py beside numpy and pandas", [program, f"{TESTS}/test_habits.py", "-v"], COUNTS, env=QUIET)
 
 
 def test_sources(results, room, sources):
@@ -134,5 +145,6 @@ def test(results, room, library):
         test_installed(results, room, program)
         test_types(results, program)
     test_versions(results, room, wheel)
+    test_beside_others(results, room, wheel)
     test_sources(results, f"{room}/again", sources)
     test_wrong_lines(results, room, library)

@@ -40,6 +40,8 @@ import packages  # noqa: E402
 from packages import javascript  # noqa: E402
 
 FOLDER = f"{TOP}/languages/javascript"
+# How many bytes the module has at most.
+LARGEST = 20_000
 MONTHS = "January February March April May June July August September October November December".split()
 WEEKDAYS = "Monday Tuesday Wednesday Thursday Friday Saturday Sunday".split()
 
@@ -113,9 +115,8 @@ def compare_example(results, project):
 
 
 def compare_size(results, bytes_of_module):
-    """The README says how large the module is, to a twentieth."""
-    told = int(re.search(r"The module is ([\d,]+) bytes", read(f"{FOLDER}/README.md"))[1].replace(",", ""))
-    results.count(abs(told - len(bytes_of_module)) <= told / 20, f"the module has {len(bytes_of_module):,} bytes, and not {told:,}")
+    """The module is small: it holds the functions, and no memory that is filled at the start."""
+    results.count(len(bytes_of_module) <= LARGEST, f"the module has {len(bytes_of_module):,} bytes, which is above {LARGEST:,}")
 
 
 def check_types(results, project):

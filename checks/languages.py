@@ -257,13 +257,14 @@ def compile_header(results):
 
 
 def compare_examples(results):
-    """README.md has a use of each language with its answer; both stand in the examples of that language, which are run."""
-    row = r"^\| \[[^]]*\]\(languages/(\w+)/README\.md\) \| `([^`]*)` \| `([^`]*)`"
-    rows = re.findall(row, read(f"{TOP}/README.md"), re.M)
-    results.count(sorted(it for it, _, _ in rows) == ["c", "javascript", "python", "rust"], f"README.md has uses of {rows}")
-    for language, use, answer in rows:
-        text = read(f"{TOP}/languages/{language}/README.md")
-        results.count(use in text and answer in text, f"languages/{language}/README.md has no {use} with {answer}")
+    """README.md has a use of each language; it and its answer stand in the examples of that language, which are run."""
+    page = read(f"{TOP}/README.md")
+    results.count("Each call below gives 28 February 2025." in page, "README.md does not say what the uses give")
+    rows = re.findall(r"^\| \[[^]]*\]\(languages/(\w+)/README\.md\)[^|]*\| `[^`]*` \| `([^`]*)` \|$", page, re.M)
+    results.count(sorted(it for it, _ in rows) == ["c", "javascript", "python", "rust"], f"README.md has uses of {rows}")
+    for language, use in rows:
+        text = read(f"{TOP}/languages/{language}/README.md").replace(".unwrap().", "?.")
+        results.count(use in text and re.search("2025-02-28|2025, 2, 28", text), f"languages/{language}/README.md has no {use}")
 
 
 # Where each package says its version.

@@ -1,11 +1,12 @@
 #!/usr/bin/env python3
-"""Uses the libraries from outside: proves the callers that CALLING.md quotes in a fresh repository of their own.
+"""Uses the libraries from outside: proves the callers that two pages quote in a fresh repository of their own.
 
     checks/outside.py           (in a folder below $TMPDIR, removed afterwards)
     checks/outside.py FOLDER    (in that folder, which must not exist yet and stays)
 
 The repository gets the folders of the library crates and their lines of crates.txt, as CALLING.md says, and each file that a line
-of CALLING.md names in backquotes, with a colon, right above a fenced block. Each caller is then checked by `rt check`.
+of one of PAGES names in backquotes, with a colon, right above a fenced block. Lines of crates.txt are put together. Each caller is
+then checked by `rt check`.
 What is proved of the libraries here is taken over: what `rt` has kept, or what `rt ci` has just left, if it is newer than their
 sources. Otherwise they are proved first, which takes a quarter of an hour.
 """
@@ -21,13 +22,18 @@ from gate import load_rt  # noqa: E402
 
 TOP = os.path.dirname(os.path.dirname(os.path.abspath(__file__)))
 USED = "chrono_reading"
+PAGES = ("docs/tutorial.md", "docs/callers.md")
 QUOTED = re.compile(r"^`(crates(?:\.txt|/[\w/.]+))`:\n\n```\w*\n(.*?)^```$", re.M | re.S)
 
 
 def quoted_files():
-    """The files that CALLING.md quotes, by path."""
-    with open(f"{TOP}/CALLING.md", encoding="utf-8") as it:
-        return dict(QUOTED.findall(it.read()))
+    """The files that the pages quote, by path."""
+    files = {}
+    for page in PAGES:
+        with open(f"{TOP}/{page}", encoding="utf-8") as it:
+            for path, text in QUOTED.findall(it.read()):
+                files[path] = files.get(path, "") + text if path == "crates.txt" else text
+    return files
 
 
 def listed_crates():

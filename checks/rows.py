@@ -6,7 +6,7 @@
 
 Where Debian's librust-chrono-dev has the call with the meaning of the row, it answers: checks/chrono_answers is built over it and
 says in its comments what it leaves out of version 0.4.23. All other rows are counted, as checks/ends.py counts them: calls that
-this version lacks or that docs/DIFFERENCES.md lists as answering otherwise, times with a leap fraction at a second that later
+this version lacks or that docs/chrono.md lists as answering otherwise, times with a leap fraction at a second that later
 versions refuse, walks at the ends of its longer calendar and how many dates they have left, ISO weeks that are read of a date of
 another year, whose order was wrong, and arguments at which it panics.
 """

@@ -1,5 +1,5 @@
 #!/usr/bin/env python3
-"""A second opinion on the rows of reading_rows: each text read here by the grammar of docs/DEFINITIONS.md and counted.
+"""A second opinion on the rows of reading_rows: each text read here by the grammar of docs/reference/definitions.md and counted.
 
     checks/texts.py
 
@@ -7,7 +7,7 @@ The grammar is written here as regular expressions over ASCII, the values are th
 kind of text has rows of a value and rows of none.
 
 Where there is Debian's chrono it reads the texts too, all but durations and date-times with a space. It has to read the same, but
-where it is laxer by docs/DIFFERENCES.md: a text of no value may be one of its, by a second grammar that holds what is listed there.
+where it is laxer by docs/chrono.md: a text of no value may be one of its, by a second grammar that holds what is listed there.
 """
 import os
 import re

@@ -9,10 +9,12 @@
   tools/gate.py --functions NAME the check of one crate from nothing, as time passes from function to function
 
 Processor time says what a run costs whatever else the machine does; the wall time is of this machine and this run.
-A copy is made below $TMPDIR, so nothing of the work tree is read but its commits, and nothing in it is written.
+A copy is made below $TMPDIR, so nothing of the work tree is read but its commits. A run of the whole gate from nothing writes its
+table to status/gate.txt, with the commit, the date, the kit, and the last line of the gate.
 """
 import argparse
 import collections
+import contextlib
 import importlib.machinery
 import importlib.util
 import inspect
@@ -26,6 +28,8 @@ import tempfile
 import threading
 import time
 
+import status
+
 WATCH = """import json, os, resource, subprocess, sys, time
 began = time.time()
 status = subprocess.call([{rattle!r}, *sys.argv[1:]])
@@ -36,6 +40,10 @@ with open({log!r}, "a") as it:
     it.write(json.dumps(line) + "\\n")
 sys.exit(status)
 """
+
+# The parts of the gate that are told apart, and what status/gate.txt begins with.
+PARTS = ["proof", "tests", "edits", "programs"]
+HEAD = ["The processor seconds of the gate by crate, written by tools/gate.py; `number` counts the planted bugs of must-fail/."]
 
 # The kit's `rt check` on one processor, which finds nothing that checks in other work trees of this machine kept.
 ANEW = """import importlib.util, sys
@@ -91,6 +99,20 @@ def watch(rt, room):
     return log
 
 
+class Tee:
+    """The standard output, whose last line is kept."""
+
+    def __init__(self, out):
+        self.out, self.last = out, ""
+
+    def __getattr__(self, name):
+        return getattr(self.out, name)
+
+    def write(self, text):
+        self.last = ([it for it in text.splitlines() if it.strip()] or [self.last])[-1]
+        return self.out.write(text)
+
+
 def part_of(line):
     """Returns the crate and the part of the gate that a call of the prover belongs to."""
     words = line["words"]
@@ -104,7 +126,8 @@ def part_of(line):
     return name, "programs" if "--crate-checked" in words else "proof"
 
 
-def print_table(lines):
+def table_of(lines):
+    """Returns the processor seconds by crate and by part of the gate as rows of words, and those of each edit."""
     sums, edits, names = collections.Counter(), collections.Counter(), []
     for it in lines:
         name, part = part_of(it)
@@ -112,12 +135,17 @@ def print_table(lines):
         names += [name] if name and name not in names else []
         if it["label"]:
             edits[it["label"]] += it["processor"]
-    parts = ["proof", "tests", "edits", "programs"]
-    print("| Crate | Proof | Tests | Edits | Number of edits | Programs | Whole |\n|---|---|---|---|---|---|---|")
+    rows = [["crate", *PARTS, "number", "whole"]]
     for name in [*names, "all"]:
-        of = {part: sum(v for (n, p), v in sums.items() if p == part and name in (n, "all")) for part in parts}
+        of = [sum(v for (n, p), v in sums.items() if p == part and name in (n, "all")) for part in PARTS]
         number = sum(1 for it in edits if name in (it.partition("/")[0], "all"))
-        print(f"| {name} | {of['proof']:.0f} | {of['tests']:.0f} | {of['edits']:.0f} | {number} | {of['programs']:.0f} | {sum(of.values()):.0f} |")
+        rows.append([name, *(f"{it:.0f}" for it in of), str(number), f"{sum(of):.0f}"])
+    return rows, edits
+
+
+def print_table(lines):
+    rows, edits = table_of(lines)
+    print("\n".join(status.aligned(rows)))
     print("\nThe slowest edits, in processor seconds (the first of a crate proves the crate):")
     for label, used in edits.most_common(40):
         print(f"  {used:6.1f}  {label}")
@@ -161,12 +189,19 @@ def measure_gate(rt, room, names, with_edits, anew, keep):
             shutil.rmtree(f"{copy}/crates/{name}/must-fail", ignore_errors=True)
     os.chdir(copy)
     began = time.time()
-    status = run_gate(rt, anew, names)
-    print(f"\nThe gate ended with status {status} after {(time.time() - began) / 60:.1f} minutes on {rt.processors()} processors.\n")
-    print_table(lines_of([log]))
+    with contextlib.redirect_stdout(Tee(sys.stdout)) as said:
+        ended = run_gate(rt, anew, names)
+        last = said.last
+    took = f"{(time.time() - began) / 60:.1f} minutes on {rt.processors()} processors"
+    print(f"\nThe gate ended with status {ended} after {took}.\n")
+    lines = lines_of([log])
+    print_table(lines)
     if keep:
         shutil.copyfile(log, keep)
-    return status
+    if anew and with_edits and not names:
+        kit = subprocess.run(["rt", "version"], check=True, capture_output=True, text=True).stdout.strip()
+        status.write("gate.txt", [*HEAD, f"{status.commit()} {status.today()}, {kit}: {last}; {took}"], table_of(lines)[0])
+    return ended
 
 
 def measure_functions(room, name):

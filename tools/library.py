@@ -3,6 +3,7 @@ import os
 import shutil
 import subprocess
 import sys
+import time
 
 TOP = os.path.dirname(os.path.dirname(os.path.abspath(__file__)))
 sys.path[:0] = [f"{TOP}/checks", f"{TOP}/tools"]
@@ -30,11 +31,28 @@ def make_repository(room, libraries, crates):
         print("nothing kept serves: the libraries are proved first", flush=True)
 
 
+def build(top, name):
+    """Proves and builds a library by `rt lib`, with a line that says so; whether that went well."""
+    began = time.time()
+    print(f"{name}: proving ..", end="", flush=True)
+    # (each job more loads all libraries once more, which takes as long as the proofs)
+    ran = subprocess.run(["rt", "lib", "--jobs", "1"], cwd=f"{top}/crates/{name}", stdout=subprocess.PIPE, stderr=subprocess.STDOUT)
+    print(f" {time.time() - began:.0f} seconds" if not ran.returncode else " failed", flush=True)
+    if ran.returncode:
+        print(ran.stdout.decode(errors="replace")[-3000:], flush=True)
+    return not ran.returncode
+
+
+def is_left_by_gate(libraries):
+    """Whether the gate left what it proved of the libraries, which has no stamp and serves only as a whole, in a copy."""
+    return all(os.path.isdir(it) and not os.path.exists(f"{it}/stamp") for it in (f"{TOP}/crates/{name}/out/rlib" for name in libraries))
+
+
 def find_library(room):
     """The static library: the one here, if it is newer than what it is made from, or else one that is built now.
 
-    It is built by `rt lib` here, if the libraries below are built, and else in a repository of its own in the folder `room`,
-    over what is proved of them. None without `rt`, or if it does not build.
+    It is built by `rt lib` here, over what is proved here, and what is proved for it stays. Only what the gate left serves in a
+    copy, in the folder `room`. None without `rt`, or if a library does not build.
     """
     crates = listed_crates()
     *libraries, _ = below(next(it for it in crates if it.split()[0] == "calendar_c"), crates)
@@ -42,17 +60,12 @@ def find_library(room):
         return f"{TOP}/{HERE}"
     if not shutil.which("rt"):
         return None
-    built = {it.name for it in load_rt().rtlib.crates_below(TOP) if it.is_built()}
-    top = TOP if built.issuperset(libraries) else room
+    top = room if is_left_by_gate(libraries) else TOP
     if top == room:
         make_repository(room, libraries, crates)
-    # (each job more loads all libraries once more, which takes as long as the proofs)
-    words = ["rt", "lib", "--jobs", "1"]
-    ran = subprocess.run(words, cwd=f"{top}/crates/calendar_c", stdout=subprocess.PIPE, stderr=subprocess.STDOUT)
-    if ran.returncode:
-        print(ran.stdout.decode(errors="replace")[-3000:], flush=True)
-        return None
-    return f"{top}/{HERE}"
+    built = {it.name for it in load_rt().rtlib.crates_below(top) if it.is_built()}
+    wanted = [it for it in libraries if it not in built]
+    return f"{top}/{HERE}" if all(build(top, it) for it in [*wanted, "calendar_c"]) else None
 
 
 def build_higher(library, path):

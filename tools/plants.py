@@ -18,6 +18,7 @@ tools/rounds.py says, and all others as the kit's own `rt must-fail` tries them.
 its edits are tried, since an edit of a crate that is not proved would be refused for no fault of its own; libraries that the
 work tree has built of the same sources are taken from there.
 What is not refused is printed, then a count and the processor seconds by crate; the exit status is 0 if each edit is refused.
+The result of each crate whose plants were all tried goes into status/plants.txt, with the commit and the date.
 """
 import argparse
 import concurrent.futures
@@ -30,6 +31,7 @@ import subprocess
 import sys
 import tempfile
 
+import status
 from gate import copy_of_head, load_rt
 from rounds import Sources, rounds_of, refused_in, texts_with
 
@@ -38,6 +40,10 @@ TOP = os.path.dirname(os.path.dirname(os.path.abspath(__file__)))
 FLAGS = ["--jobs", "1"]
 # Of a definition whose lemma fell, and others with it, which the kit takes for an edit that it cannot read.
 LEMMA_FELL = "which was rejected, was not checked"
+# What status/plants.txt begins with, and the titles of its columns.
+HEAD = ["The planted bugs of each crate, written by tools/plants.py: how many the prover refused, of how many,",
+        "in how many processor seconds, at which commit and when."]
+TITLES = ["crate", "refused", "of", "seconds", "commit", "date"]
 # Of an edit that took away a name which a proof file cites: refused, but not for what it means.
 FOR_A_NAME = re.compile(r"refused, as it must be \(only because a proof file names|proofs/\S+: error: `[^`]*`: (`goal\.|record `)")
 
@@ -195,17 +201,26 @@ def try_all_twins(rt, crates, twins, jobs):
     return 1 if proved < count else 0
 
 
+def keep(results):
+    """Writes the results of crates, as (refused, of, seconds) by name, into status/plants.txt, in place of their earlier ones."""
+    rows = {row[0]: row for row in status.rows_of("plants.txt")}
+    for name, (refused, count, seconds) in results.items():
+        rows[name] = [name, str(refused), str(count), f"{seconds:.0f}", status.commit(), status.today()]
+    status.write("plants.txt", HEAD, [TITLES, *(rows[name] for name in sorted(rows))])
+
+
 def try_all_edits(copy, tried, jobs):
-    """Tries the edits of all crates, each in a process of its own; the exit status."""
-    refused = seconds = 0
+    """Tries the edits of all crates, each in a process of its own; how many were refused, and the processor seconds, by crate."""
+    results = {}
     with concurrent.futures.ProcessPoolExecutor(jobs, max_tasks_per_child=1) as pool:
         for name, found in zip(tried, pool.map(try_crate, [copy] * len(tried), tried)):
             for text in found[2]:
                 print(text)
             print(f"{name}: {found[0]} of {tried[name]} refused, {found[1]:.0f} processor seconds", flush=True)
-            refused, seconds = refused + found[0], seconds + found[1]
-    print(f"{refused} passed, {sum(tried.values()) - refused} failed, {seconds:.0f} processor seconds")
-    return 1 if refused < sum(tried.values()) else 0
+            results[name] = found[0], tried[name], found[1]
+    refused, count, seconds = (sum(it[part] for it in results.values()) for part in range(3))
+    print(f"{refused} passed, {count - refused} failed, {seconds:.0f} processor seconds")
+    return results
 
 
 def main():
@@ -231,7 +246,10 @@ def main():
             build(copy, crates, twins)
             return try_all_twins(rt, crates, twins, jobs)
         build(copy, crates, tried)
-        return try_all_edits(copy, tried, jobs)
+        results = try_all_edits(copy, tried, jobs)
+    if not (asked.all or asked.only):
+        keep(results)
+    return 1 if any(refused < count for refused, count, _ in results.values()) else 0
 
 
 if __name__ == "__main__":

@@ -1,21 +1,23 @@
 /* calendar.h of proved_calendar: the proleptic Gregorian calendar, by functions that are proved.
  *
- * A date is its day number: 1 is 1 January of year 1, 0 the day before it. Years count as in ISO 8601, so year 0 is the one
- * before year 1. Dates are compared, and the days between two of them counted, as the numbers that they are.
+ * For example, calendar_add_months(calendar_from_ymd(2024, 2, 29), 12) is 28 February 2025.
  *
- * Every function answers for all arguments of its types. CALENDAR_NONE is answered where there is no such date, field or
- * text, so also for each argument that has to be a date, a weekday or a date-time and is none. A function that answers a
- * date-time or a duration answers 0 seconds and CALENDAR_NO_NANOS there. No function takes memory, keeps anything between
- * calls or reads anything but its arguments, so any number of threads may call them at once.
+ * A date is its day number: 1 is 1 January of year 1, 0 the day before it. Years count as in ISO 8601, so year 0 comes before
+ * year 1. Compare and subtract dates as numbers.
+ *
+ * Every function accepts all values of its argument types. It returns CALENDAR_NONE if the date, field or text does not exist.
+ * It also does so if an argument is not a date, weekday or date-time, but has to be one. A function for date-times or
+ * durations then returns 0 seconds and CALENDAR_NO_NANOS. No function takes memory, keeps anything between calls, or reads
+ * anything but its arguments. So any number of threads can call them.
  *
  * Weekdays count from 1 for Monday to 7 for Sunday (ISO 8601). A set of weekdays is a number with one binary digit for each:
- * 1 for Monday, 2 for Tuesday, 4, 8, 16, 32, and 64 for Sunday; its highest digit counts for nothing.
+ * 1 for Monday, 2 for Tuesday, 4, 8, 16, 32, and 64 for Sunday. The highest digit counts for nothing.
  *
  * The library is machine code for Linux on processors of the level x86-64-v2 or above, which have SSE4.2. On an older one a
  * call may end the program.
  *
- * Texts are ASCII with no zero byte at their end. A text is passed as a pointer and a number of bytes: the pointer is not
- * null, even for no bytes, and so many bytes lie at it.
+ * Texts are ASCII, without a zero byte at the end. A text is passed as a pointer and a number of bytes. The pointer must not be
+ * null, even for no bytes, and that many bytes must lie there.
  */
 #ifndef CALENDAR_H
 #define CALENDAR_H
@@ -31,7 +33,7 @@ extern "C" {
 /* The version of this header and of the library that comes with it. */
 #define CALENDAR_VERSION "0.1.0"
 
-/* Stands for a date, a field or a length that there is not. */
+/* Returned if a date, a field or a length does not exist. */
 #define CALENDAR_NONE INT32_MIN
 
 /* The first date, 1 January of year -262143, and the last, 31 December of year 262142. */
@@ -41,21 +43,20 @@ extern "C" {
 /* 1 January 1970. */
 #define CALENDAR_UNIX_EPOCH 719163
 
-/* The nanos of a date-time or a duration that there is not; its seconds are 0. */
+/* The nanos of a date-time or a duration that does not exist. Its seconds are 0. */
 #define CALENDAR_NO_NANOS UINT32_MAX
 
-/* A date-time with no time zone: the seconds since 1970-01-01T00:00:00, of which every day has 86,400, and the nanoseconds
- * past them, 0 to 999,999,999. From 1,000,000,000 to 1,999,999,999 they lie in the leap second that follows the second,
- * which has to be the last of its minute. Any other pair of numbers, or one whose day is no date, is no date-time. A pair is
- * one exactly if calendar_date_time_date does not answer CALENDAR_NONE for it. */
+/* A date-time without time zone. seconds counts from 1970-01-01T00:00:00, with 86,400 for every day. nanos is 0 to 999,999,999.
+ * In a leap second nanos is 1,000,000,000 to 1,999,999,999, and the second is the last of its minute. Any other pair of
+ * numbers, or one whose day is not a date, is not a date-time. calendar_date_time_date returns CALENDAR_NONE for these only. */
 typedef struct {
     int64_t seconds;
     uint32_t nanos;
 } calendar_date_time;
 
-/* A duration: whole seconds, rounded down, and 0 to 999,999,999 nanoseconds more, so 1.5 seconds are 1 and 500,000,000, and
- * -1.5 seconds are -2 and 500,000,000. The other way it has -seconds and 0 if its nanos are 0, and else -seconds - 1 and
- * 1,000,000,000 - nanos. Its size is at most INT64_MAX milliseconds. Any other pair of numbers is no duration. */
+/* A duration: whole seconds, rounded down, and 0 to 999,999,999 nanoseconds more. So 1.5 seconds are 1 and 500,000,000, and
+ * -1.5 seconds are -2 and 500,000,000. The opposite of a duration has -seconds and 0 if its nanos are 0. Otherwise it has
+ * -seconds - 1 and 1,000,000,000 - nanos. The size is at most INT64_MAX milliseconds. Any other pair is not a duration. */
 typedef struct {
     int64_t seconds;
     uint32_t nanos;
@@ -63,198 +64,202 @@ typedef struct {
 
 /* ---- dates by their names */
 
-/* The date of a year, a month from 1 to 12 and a day of the month from 1 (ISO 8601 calendar date). */
+/* Returns the date of a year, a month from 1 to 12 and a day of the month from 1 (ISO 8601 calendar date). */
 int32_t calendar_from_ymd(int32_t year, uint32_t month, uint32_t day);
 
-/* The date of a year and a day of it from 1 to 365 or 366 (ISO 8601 ordinal date). */
+/* Returns the date of a year and a day of it, from 1 to 365 or 366 (ISO 8601 ordinal date). */
 int32_t calendar_from_yo(int32_t year, uint32_t ordinal);
 
-/* The date of an ISO year, a week of it from 1 to 52 or 53, and a weekday (ISO 8601 week date). */
+/* Returns the date of an ISO year, a week of it from 1 to 52 or 53, and a weekday (ISO 8601 week date). */
 int32_t calendar_from_isoywd(int32_t year, uint32_t week, uint32_t weekday);
 
-/* The n-th day of a month that has the weekday, counted from 1; none past the last such day. */
+/* Returns the n-th day of a month that has the weekday, counted from 1. For example, weekday 5 and n 3 is the third Friday. */
 int32_t calendar_from_weekday_of_month(int32_t year, uint32_t month, uint32_t weekday, uint32_t n);
 
-/* ---- what a date is called */
+/* ---- fields of a date */
 
-/* The year, from -262143 to 262142. */
+/* Returns the year, from -262143 to 262142. */
 int32_t calendar_year(int32_t date);
 
-/* The month, from 1 for January to 12. */
+/* Returns the month, from 1 for January to 12. */
 int32_t calendar_month(int32_t date);
 
-/* The day of the month, from 1 to 31. */
+/* Returns the day of the month, from 1 to 31. */
 int32_t calendar_day(int32_t date);
 
-/* The day of the year, from 1 to 366 (ISO 8601 ordinal date). */
+/* Returns the day of the year, from 1 to 366 (ISO 8601 ordinal date). */
 int32_t calendar_ordinal(int32_t date);
 
-/* The weekday, from 1 for Monday to 7. */
+/* Returns the weekday, from 1 for Monday to 7. */
 int32_t calendar_weekday(int32_t date);
 
-/* The year that the date's week belongs to, from -262143 to 262143: that of its Thursday (ISO 8601 week date). */
+/* Returns the ISO year, from -262143 to 262143: that of the Thursday of the date's week (ISO 8601 week date). */
 int32_t calendar_iso_year(int32_t date);
 
-/* The week of that year, from 1 to 53. */
+/* Returns the week of the ISO year, from 1 to 53. */
 int32_t calendar_iso_week(int32_t date);
 
 /* ---- years and months */
 
-/* Whether a year is leap, by the rule that holds for every year: a multiple of 4, and if of 100 then also of 400. */
+/* Returns whether a year is a leap year: a multiple of 4, and if of 100 then also of 400. This holds for every int32_t. */
 bool calendar_is_leap_year(int32_t year);
 
-/* The days of a month, from 28 to 31; none if the year has no dates, or the month is not from 1 to 12. */
+/* Returns the days of a month, from 28 to 31. Returns CALENDAR_NONE if the year has no dates or the month is not 1 to 12. */
 int32_t calendar_days_in_month(int32_t year, uint32_t month);
 
 /* ---- moves and distances */
 
-/* The date so many days later, or earlier for a negative number. */
+/* Returns the date `days` days later, or earlier if days is negative. */
 int32_t calendar_add_days(int32_t date, int64_t days);
 
-/* The same day so many months later, or earlier for a negative number, or the last day of that month if it is shorter. */
+/* Returns the date `months` months later, or earlier if months is negative. If that month is too short, returns its last day. */
 int32_t calendar_add_months(int32_t date, int64_t months);
 
-/* The date index times so many months after start, in one move from there, so 31 January and one month each give 29
- * February and then 31 March. A negative number of months leads back. */
+/* Returns the date `index` times `months` months after start, in one move. From 31 January 2024, months 1 gives 29 February for
+ * index 1 and 31 March for index 2. Negative months lead back. */
 int32_t calendar_every_months(int32_t start, int32_t months, uint32_t index);
 
-/* The whole years from base to date; none if date comes before base. From 29 February they are whole on 1 March of a common
- * year, and on 29 February of a leap year. */
+/* Returns the whole years from base to date, or CALENDAR_NONE if date comes before base. From 29 February a year is whole on
+ * 1 March of a common year, and on 29 February of a leap year. */
 int32_t calendar_years_since(int32_t date, int32_t base);
 
-/* The first day of the week that holds the date and begins on the weekday start; none if it is before CALENDAR_MIN. */
+/* Returns the first day of the week that contains date and begins on the weekday start. Returns CALENDAR_NONE if that day
+ * is before CALENDAR_MIN. */
 int32_t calendar_week_first_day(int32_t date, uint32_t start);
 
-/* The first date from this one on, itself counted, whose weekday is in the set; none if the set is empty, or if there is no
- * such day up to CALENDAR_MAX. */
+/* Returns the first date whose weekday is in the set, from date on, which counts too. Returns CALENDAR_NONE if the set is empty,
+ * or if no such day comes up to CALENDAR_MAX. */
 int32_t calendar_first_on(int32_t date, uint8_t weekdays);
 
-/* The days from a weekday on to the first one in the set, 0 to 6; none if the set is empty. */
+/* Returns the days from a weekday to the next one in the set, 0 to 6, or CALENDAR_NONE if the set is empty. */
 int32_t calendar_days_until(uint8_t weekdays, uint32_t from);
 
 /* ---- texts of dates */
 
-/* Writes the date as 2024-02-29, a year before 0 or after 9999 with its sign, and answers how many bytes that took: 10 to 13.
- * The other bytes stay as they were. If there is no such date, or room is less than its text takes, nothing is written, and
- * CALENDAR_NONE answered. */
+/* Writes the date as 2024-02-29 and returns the number of bytes, 10 to 13. A year before 0 or after 9999 has its sign. The other
+ * bytes stay as they were. If date is not a date, or room is too small, writes nothing and returns CALENDAR_NONE. */
 int32_t calendar_write_date(int32_t date, uint8_t *text, size_t room);
 
-/* The date whose text these bytes are, as calendar_write_date writes it; none for any other bytes. */
+/* Returns the date whose text these bytes are, as calendar_write_date writes it. */
 int32_t calendar_read_date(const uint8_t *text, size_t length);
 
 /* ---- date-times */
 
-/* The date-time at a second of a date, from 0 to 86,399, and so many nanoseconds past it: 0 to 999,999,999, and in a leap
- * second, which follows the last second of a minute, up to 1,999,999,999. */
+/* Returns the date-time at a second of a date, from 0 to 86,399, and nanos after it. nanos is at most 999,999,999. In a leap
+ * second, after the last second of a minute, it goes on to 1,999,999,999. */
 calendar_date_time calendar_date_time_new(int32_t date, uint32_t second_of_day, uint32_t nanos);
 
-/* The date of a date-time. */
+/* Returns the date of a date-time. */
 int32_t calendar_date_time_date(calendar_date_time moment);
 
-/* The second of the day of a date-time, from 0 to 86,399. */
+/* Returns the second of the day of a date-time, from 0 to 86,399. */
 int32_t calendar_date_time_second_of_day(calendar_date_time moment);
 
-/* The date-time that lies so much later, or earlier for a negative duration; none if its day is no date. From inside a leap
- * second the move counts what is left of that second, or for a move back what has passed of it, and no other leap second. */
+/* Returns the date-time that is `by` later, or earlier if by is negative. A move from inside a leap second counts the rest of that
+ * second, or for a move back the part that has passed. It counts no other leap second. */
 calendar_date_time calendar_date_time_add(calendar_date_time moment, calendar_duration by);
 
-/* How far moment is from base: 86,400 seconds for each day between their dates, and how far their times of day are apart. A
- * leap second counts if one of the two times is in it and has the smaller second of the day. So where the dates differ and
- * one of the two is in a leap second, the sign may not tell which comes first, and the move may not lead back:
- * 2017-01-01T00:00:00 is -0.5 seconds from 2016-12-31T23:59:60.5, and so much on from there it is 23:59:60. */
+/* Returns the time from base to moment: 86,400 seconds for each day between their dates, plus the distance of their times of
+ * day. A leap second counts if one of the two is in it and has the smaller second of the day. If the dates differ and one is
+ * in a leap second, the sign may be wrong, and the move may not lead back. For example, 2017-01-01T00:00:00 is -0.5 seconds
+ * from 2016-12-31T23:59:60.5, and adding that gives 23:59:60. */
 calendar_duration calendar_date_time_since(calendar_date_time moment, calendar_date_time base);
 
-/* Writes the date-time as 2024-02-29T23:59:60.500, and answers how many bytes that took: 19 to 32. The fraction has three,
- * six or nine digits, the fewest that hold it, or is left out if it is 0. The other bytes stay as they were. If there is no
- * such date-time, or room is less than its text takes, nothing is written, and CALENDAR_NONE answered. */
+/* Writes the date-time as 2024-02-29T23:59:60.500 and returns the number of bytes, 19 to 32. The fraction has three, six or nine
+ * digits, the fewest that hold it, and is left out if it is 0. The other bytes stay as they were. If moment is not a
+ * date-time, or room is too small, writes nothing and returns CALENDAR_NONE. */
 int32_t calendar_write_date_time(calendar_date_time moment, uint8_t *text, size_t room);
 
-/* The date-time whose text these bytes are: a date's text, a T or a space, and hour, minute and second with colons between,
- * then nothing or a point and one to nine digits; the second 60 is a leap second. None for any other bytes. */
+/* Returns the date-time whose text these bytes are: a date's text, a T or a space, and HH:MM:SS. A point and one to nine digits
+ * may follow. The second 60 is a leap second. */
 calendar_date_time calendar_read_date_time(const uint8_t *text, size_t length);
 
 /* ---- year, month and day of one date */
 
-/* A year, a month from 1 to 12 and a day of the month from 1; of no date they are CALENDAR_NONE, 0 and 0. */
+/* A year, a month from 1 to 12 and a day of the month from 1. If there is no date they are CALENDAR_NONE, 0 and 0. */
 typedef struct {
     int32_t year;
     uint8_t month;
     uint8_t day;
 } calendar_ymd;
 
-/* The year, the month and the day of a date, by one conversion (ISO 8601 calendar date). */
+/* Returns the year, the month and the day of a date, by one conversion (ISO 8601 calendar date). */
 calendar_ymd calendar_split(int32_t date);
 
 /* ---- columns of dates
  *
- * A column is a pointer to its first element and the number of its elements. The pointer is not null, even for no elements; it is
- * aligned for its type, and so many elements lie at it. Where the columns of a call have not all the same number, nothing is
- * written and false answered; else each element of the columns that are not const is written, and true answered (where a call
- * has one column alone, nothing is answered). No column that is written may overlap another one. In a column CALENDAR_NONE stands for a date, a year or a distance that there is not,
- * INT64_MIN for days since 1970, and 0 for a month, a day, an ordinal, a week or a weekday; what is no date has none of these. */
+ * A column is a pointer to its first element and the number of its elements. The pointer must not be null, even for no elements.
+ * It must be aligned for its type, and that many elements must lie there. A column that is written must not overlap another.
+ *
+ * Each function writes all elements of the columns that are not const, and returns true. If the columns have different lengths, it
+ * writes nothing and returns false. The two functions that change a
+ * single column return nothing.
+ *
+ * An element that is not a date has no fields. CALENDAR_NONE stands for no date, year or distance, and INT64_MIN for no days since
+ * 1970. 0 stands for no month, day, ordinal, week or weekday. */
 
-/* The weekday of each date, from 1 for Monday to 7. */
+/* Writes the weekday of each date, from 1 for Monday to 7. */
 bool calendar_column_weekdays(const int32_t *dates, size_t dates_length, uint8_t *weekdays, size_t weekdays_length);
 
-/* The year of each date. */
+/* Writes the year of each date. */
 bool calendar_column_years(const int32_t *dates, size_t dates_length, int32_t *years, size_t years_length);
 
-/* The day of the year of each date, from 1 to 366 (ISO 8601 ordinal date). */
+/* Writes the day of the year of each date, from 1 to 366 (ISO 8601 ordinal date). */
 bool calendar_column_ordinals(const int32_t *dates, size_t dates_length, uint16_t *ordinals, size_t ordinals_length);
 
-/* The year, the month and the day of each date (ISO 8601 calendar date). */
+/* Writes the year, the month and the day of each date (ISO 8601 calendar date). */
 bool calendar_column_split(const int32_t *dates, size_t dates_length, int32_t *years, size_t years_length,
                            uint8_t *months, size_t months_length, uint8_t *days, size_t days_length);
 
-/* The year that each date's week belongs to, and the week there (ISO 8601 week date). */
+/* Writes the ISO year and week of each date (ISO 8601 week date). */
 bool calendar_column_iso_weeks(const int32_t *dates, size_t dates_length, int32_t *years, size_t years_length,
                                uint8_t *weeks, size_t weeks_length);
 
-/* The date of each year, month and day (ISO 8601 calendar date). */
+/* Writes the date of each year, month and day (ISO 8601 calendar date). */
 bool calendar_column_join(const int32_t *years, size_t years_length, const uint8_t *months, size_t months_length,
                           const uint8_t *days, size_t days_length, int32_t *dates, size_t dates_length);
 
-/* The date so many days after each, or before it for a negative number. */
+/* Writes the date `days` days after each, or before it if days is negative. */
 bool calendar_column_add_days(const int32_t *dates, size_t dates_length, int32_t days, int32_t *moved, size_t moved_length);
 
-/* The same with each date in the place of the one that it is moved from. */
+/* The same, in place: each date becomes the moved one. */
 void calendar_column_add_days_in_place(int32_t *dates, size_t dates_length, int32_t days);
 
-/* The same with a number of days of its own for each date; CALENDAR_NONE days lead nowhere. */
+/* The same, with its own number of days for each date. CALENDAR_NONE days give no date. */
 bool calendar_column_add_days_each(const int32_t *dates, size_t dates_length, const int32_t *days, size_t days_length,
                                    int32_t *moved, size_t moved_length);
 
-/* The same with each date in the place of the one that it is moved from. */
+/* The same, in place: each date becomes the moved one. */
 bool calendar_column_add_days_each_in_place(int32_t *dates, size_t dates_length, const int32_t *days, size_t days_length);
 
-/* The date so many months after each, or before it for a negative number, or the last day of that month if it is shorter. */
+/* Writes the date `months` months after each, or before it if months is negative. If that month is too short, writes its last
+ * day. */
 bool calendar_column_add_months(const int32_t *dates, size_t dates_length, int32_t months, int32_t *moved, size_t moved_length);
 
-/* The same with each date in the place of the one that it is moved from. */
+/* The same, in place: each date becomes the moved one. */
 void calendar_column_add_months_in_place(int32_t *dates, size_t dates_length, int32_t months);
 
-/* The days from each date of the second column to that beside it in the first. */
+/* Writes the days from each date of bases to the date at the same place in dates. */
 bool calendar_column_days_between(const int32_t *dates, size_t dates_length, const int32_t *bases, size_t bases_length,
                                   int32_t *days, size_t days_length);
 
-/* The first date from each on, itself counted, whose weekday is in the set. */
+/* Writes the first date whose weekday is in the set, from each date on, which counts too. */
 bool calendar_column_first_on(const int32_t *dates, size_t dates_length, uint8_t weekdays, int32_t *found, size_t found_length);
 
-/* The date so many days after 1 January 1970, for each number of days. */
+/* Writes the date of each number of days since 1 January 1970. */
 bool calendar_column_from_unix_days(const int64_t *days, size_t days_length, int32_t *dates, size_t dates_length);
 
-/* The days from 1 January 1970 to each date. */
+/* Writes the days from 1 January 1970 to each date. */
 bool calendar_column_to_unix_days(const int32_t *dates, size_t dates_length, int64_t *days, size_t days_length);
 
-/* The text of each date as 2024-02-29 (ISO 8601 calendar date), ten bytes one text behind another with nothing between, and ten
- * zero bytes for what is no date or has a year before 0 or after 9999. texts_length counts the texts. */
+/* Writes the text of each date as 2024-02-29: ten bytes each, with nothing between. Writes ten zero bytes for an element that is
+ * not a date or has a year outside 0 to 9999. texts_length counts the texts. */
 bool calendar_column_write_dates(const int32_t *dates, size_t dates_length, uint8_t *texts, size_t texts_length);
 
-/* The date whose text each ten bytes are, as calendar_column_write_dates writes it; none for any other bytes. texts_length counts
- * the texts. */
+/* Writes the date whose text each ten bytes are, as calendar_column_write_dates writes it. texts_length counts the texts. */
 bool calendar_column_read_dates(const uint8_t *texts, size_t texts_length, int32_t *dates, size_t dates_length);
 
-/* How many numbers of the column are dates. */
+/* Returns how many elements of the column are dates. */
 size_t calendar_column_count_dates(const int32_t *dates, size_t dates_length);
 
 #ifdef __cplusplus

@@ -102,6 +102,11 @@ export class Duration {
   readonly [Symbol.toStringTag]: "Duration";
 }
 
+/** What a text says of the calendar: "always" writes `[u-ca=iso8601]` behind it, "critical" `[!u-ca=iso8601]`. */
+export interface TextOptions {
+  calendarName?: "auto" | "always" | "never" | "critical";
+}
+
 /** What is asked of a date. */
 interface Named {
   readonly calendarId: "iso8601";
@@ -129,7 +134,7 @@ interface Named {
 
 /** A date of the proleptic Gregorian calendar, from 1 January of year -262143 to 31 December of year 262142. */
 export class PlainDate implements Named {
-  constructor(isoYear: number, isoMonth: number, isoDay: number);
+  constructor(isoYear: number, isoMonth: number, isoDay: number, calendar?: "iso8601");
   static from(item: DateLike, options?: OverflowOptions): PlainDate;
   /** The date of a day number, in which 1 January of year 1 is 1. */
   static fromDayNumber(number: number): PlainDate;
@@ -171,7 +176,7 @@ export class PlainDate implements Named {
   firstOn(...daysOfWeek: number[]): PlainDate;
   equals(other: DateLike): boolean;
   toPlainDateTime(time?: TimeFields): PlainDateTime;
-  toString(): string;
+  toString(options?: TextOptions): string;
   toJSON(): string;
   valueOf(): never;
   readonly [Symbol.toStringTag]: "PlainDate";
@@ -189,6 +194,7 @@ export class PlainDateTime implements Named {
     millisecond?: number,
     microsecond?: number,
     nanosecond?: number,
+    calendar?: "iso8601",
   );
   static from(item: DateTimeLike, options?: OverflowOptions): PlainDateTime;
   /**
@@ -229,7 +235,7 @@ export class PlainDateTime implements Named {
   since(other: DateTimeLike, options?: DifferenceOptions<ExactUnit>): Duration;
   equals(other: DateTimeLike): boolean;
   toPlainDate(): PlainDate;
-  toString(): string;
+  toString(options?: TextOptions): string;
   toJSON(): string;
   valueOf(): never;
   readonly [Symbol.toStringTag]: "PlainDateTime";

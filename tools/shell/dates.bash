@@ -1,29 +1,49 @@
-# Completion of dates for bash, made by tools/dates_help.py.
+# Completion of dates.
 _dates()
 {
-    local word=${COMP_WORDS[COMP_CWORD]}
-    if [ "$COMP_CWORD" -eq 1 ]; then
-        COMPREPLY=($(compgen -W '- add diff seq week easter leap open roll check next prev rule cal --json --help --version' -- "$word"))
-        return
-    fi
-    case ${COMP_WORDS[1]}:${COMP_WORDS[COMP_CWORD - 1]} in
-    *:--calendar) COMPREPLY=($(compgen -W 'us-federal target england' -- "$word")); return ;;
-    *:--holidays) mapfile -t COMPREPLY < <(compgen -f -- "$word"); compopt -o filenames 2>/dev/null; return ;;
-    *:--weekend) COMPREPLY=($(compgen -W 'mon tue wed thu fri sat sun none' -- "$word")); return ;;
-    *:--first) COMPREPLY=($(compgen -W 'mon tue wed thu fri sat sun' -- "$word")); return ;;
-    diff:in) COMPREPLY=($(compgen -W 'd w m y b ymd' -- "$word")); return ;;
-    esac
-    case ${COMP_WORDS[1]} in
-    add) COMPREPLY=($(compgen -W '--weekend --calendar --holidays --json --help' -- "$word")) ;;
-    diff) COMPREPLY=($(compgen -W '--weekend --calendar --holidays --json --help' -- "$word")) ;;
-    open) COMPREPLY=($(compgen -W '--weekend --calendar --holidays --json --help' -- "$word")) ;;
-    roll) COMPREPLY=($(compgen -W 'following preceding modified-following modified-preceding nearest unadjusted --weekend --calendar --holidays --json --help' -- "$word")) ;;
-    next) COMPREPLY=($(compgen -W '--from --count --json --help' -- "$word")) ;;
-    prev) COMPREPLY=($(compgen -W '--from --count --json --help' -- "$word")) ;;
-    rule) COMPREPLY=($(compgen -W '--start --from --count --json --help' -- "$word")) ;;
-    cal) COMPREPLY=($(compgen -W '--first --weekend --calendar --holidays --json --help' -- "$word")) ;;
-    check) mapfile -t COMPREPLY < <(compgen -f -W '--json --help' -- "$word"); compopt -o filenames 2>/dev/null ;;
-    *) COMPREPLY=($(compgen -W '--json --help' -- "$word")) ;;
+    local IFS=$'\n' word=${COMP_WORDS[COMP_CWORD]}
+    local command=$((COMP_CWORD > 1)); command=${COMP_WORDS[command]}
+    case $command:${COMP_WORDS[COMP_CWORD - 1]} in
+    :--completion) COMPREPLY=($(compgen -W $'bash\nzsh\nfish\n' -- "$word")) ;;
+    add:--weekend) COMPREPLY=($(compgen -W $'mon\ntue\nwed\nthu\nfri\nsat\nsun\nnone\n' -- "$word")) ;;
+    add:--calendar) COMPREPLY=($(compgen -W $'us-federal\ntarget\nengland\n' -- "$word")) ;;
+    add:--holidays) COMPREPLY+=($(compgen -f -- "$word")); compopt -o filenames 2>/dev/null ;;
+    add:*) COMPREPLY=($(compgen -W $'--weekend\n--calendar\n--holidays\n--json\n--help\n' -- "$word")) ;;
+    diff:--weekend) COMPREPLY=($(compgen -W $'mon\ntue\nwed\nthu\nfri\nsat\nsun\nnone\n' -- "$word")) ;;
+    diff:--calendar) COMPREPLY=($(compgen -W $'us-federal\ntarget\nengland\n' -- "$word")) ;;
+    diff:--holidays) COMPREPLY+=($(compgen -f -- "$word")); compopt -o filenames 2>/dev/null ;;
+    diff:in) COMPREPLY=($(compgen -W $'d\nw\nm\ny\nb\nymd\n' -- "$word")) ;;
+    diff:*) COMPREPLY=($(compgen -W $'--weekend\n--calendar\n--holidays\n--json\n--help\n' -- "$word")) ;;
+    seq:*) COMPREPLY=($(compgen -W $'--json\n--help\n' -- "$word")) ;;
+    week:*) COMPREPLY=($(compgen -W $'--json\n--help\n' -- "$word")) ;;
+    weekday:*) COMPREPLY=($(compgen -W $'--json\n--help\n' -- "$word")) ;;
+    easter:*) COMPREPLY=($(compgen -W $'--json\n--help\n' -- "$word")) ;;
+    leap:*) COMPREPLY=($(compgen -W $'--json\n--help\n' -- "$word")) ;;
+    open:--weekend) COMPREPLY=($(compgen -W $'mon\ntue\nwed\nthu\nfri\nsat\nsun\nnone\n' -- "$word")) ;;
+    open:--calendar) COMPREPLY=($(compgen -W $'us-federal\ntarget\nengland\n' -- "$word")) ;;
+    open:--holidays) COMPREPLY+=($(compgen -f -- "$word")); compopt -o filenames 2>/dev/null ;;
+    open:*) COMPREPLY=($(compgen -W $'--weekend\n--calendar\n--holidays\n--json\n--help\n' -- "$word")) ;;
+    roll:--weekend) COMPREPLY=($(compgen -W $'mon\ntue\nwed\nthu\nfri\nsat\nsun\nnone\n' -- "$word")) ;;
+    roll:--calendar) COMPREPLY=($(compgen -W $'us-federal\ntarget\nengland\n' -- "$word")) ;;
+    roll:--holidays) COMPREPLY+=($(compgen -f -- "$word")); compopt -o filenames 2>/dev/null ;;
+    roll:*) COMPREPLY=($(compgen -W $'following\npreceding\nmodified-following\nmodified-preceding\nnearest\nunadjusted\n--weekend\n--calendar\n--holidays\n--json\n--help\n' -- "$word")) ;;
+    check:*) COMPREPLY=($(compgen -W $'--json\n--help\n' -- "$word")); COMPREPLY+=($(compgen -f -- "$word")); compopt -o filenames 2>/dev/null ;;
+    next:--from) COMPREPLY=($(compgen -W $'' -- "$word")) ;;
+    next:--count) COMPREPLY=($(compgen -W $'' -- "$word")) ;;
+    next:*) COMPREPLY=($(compgen -W $'--from\n--count\n--json\n--help\n' -- "$word")) ;;
+    prev:--from) COMPREPLY=($(compgen -W $'' -- "$word")) ;;
+    prev:--count) COMPREPLY=($(compgen -W $'' -- "$word")) ;;
+    prev:*) COMPREPLY=($(compgen -W $'--from\n--count\n--json\n--help\n' -- "$word")) ;;
+    rule:--start) COMPREPLY=($(compgen -W $'' -- "$word")) ;;
+    rule:--from) COMPREPLY=($(compgen -W $'' -- "$word")) ;;
+    rule:--count) COMPREPLY=($(compgen -W $'' -- "$word")) ;;
+    rule:*) COMPREPLY=($(compgen -W $'--start\n--from\n--count\n--json\n--help\n' -- "$word")) ;;
+    cal:--first) COMPREPLY=($(compgen -W $'mon\ntue\nwed\nthu\nfri\nsat\nsun\n' -- "$word")) ;;
+    cal:--weekend) COMPREPLY=($(compgen -W $'mon\ntue\nwed\nthu\nfri\nsat\nsun\nnone\n' -- "$word")) ;;
+    cal:--calendar) COMPREPLY=($(compgen -W $'us-federal\ntarget\nengland\n' -- "$word")) ;;
+    cal:--holidays) COMPREPLY+=($(compgen -f -- "$word")); compopt -o filenames 2>/dev/null ;;
+    cal:*) COMPREPLY=($(compgen -W $'--first\n--weekend\n--calendar\n--holidays\n--json\n--help\n' -- "$word")) ;;
+    *) COMPREPLY=($(compgen -W $'\nadd\ndiff\nseq\nweek\nweekday\neaster\nleap\nopen\nroll\ncheck\nnext\nprev\nrule\ncal\n--json\n--help\n--version\n--man\n--reference\n--completion\n' -- "$word")) ;;
     esac
 }
 complete -o default -F _dates dates

@@ -73,6 +73,10 @@ pub(crate) fn answer_of(
     match name {
         "is_open" => Some(i64::from(calendar.is_open(date))),
         "add" => number_of(calendar.add_open_days(date, last.parse().ok()?)),
+        "add_from_next" => number_of(calendar.add_open_days_from_next(date, last.parse().ok()?)),
+        "add_from_previous" => {
+            number_of(calendar.add_open_days_from_previous(date, last.parse().ok()?))
+        }
         "nth_of_month" => number_of(calendar.nth_open_of_month(date, last.parse().ok()?)),
         "nth_last_of_month" => number_of(calendar.nth_last_open_of_month(date, last.parse().ok()?)),
         _ => with_number(calendar, name, date, last.parse().ok()?),
@@ -146,7 +150,8 @@ fn roll_of(name: &str) -> Option<Roll> {
         "preceding" => Roll::Preceding,
         "modified_following" => Roll::ModifiedFollowing,
         "modified_preceding" => Roll::ModifiedPreceding,
-        "nearest" => Roll::Nearest,
+        "nearest_isda" => Roll::NearestIsda,
+        "nearest_quantlib" => Roll::NearestQuantLib,
         _ => return None,
     };
     Some(roll)

@@ -19,10 +19,11 @@ unfoldable pub moment_at : ℤ → ℕ → ℕ → Option Moment
 moment_at day second nanos =
     if is_time_named second nanos then moment_on (date_of_day day) (record { second = second; fraction = nanos }) else None
 
--- the day of so many seconds since 1970, and the second of it
+-- the day at so many seconds since 1970
 abbrev pub day_of_seconds : ℤ → ℤ
 day_of_seconds s = int_div_euclid s (pos seconds_per_day) +ℤ unix_epoch_day
 
+-- the second of the day at so many seconds since 1970
 abbrev pub second_of_seconds : ℤ → ℕ
 second_of_seconds s = unsigned_abs (int_rem_euclid s (pos seconds_per_day))
 

@@ -1,4 +1,4 @@
-//! The numbers that stand for answers.
+//! The numbers that stand for results.
 ghost use Rattle.std.specs.Prelude.{◌≡◌, ◌↔◌, IsSome};
 ghost use Rattle.chrono_datetime.specs.Days.{IsDate};
 ghost use Rattle.calendar_c.specs.Answers.{or_none};

@@ -1,8 +1,8 @@
-//! Columns of dates: each call fills the caller's columns with what holds of each element of others.
+//! Columns of dates: each function computes one calendar operation for every element of the caller's columns.
 //!
-//! A column is a pointer and a length. Where the columns have not all the same length nothing is written, and `false` answered.
-//! In a column the least `i32` stands for a date, a year or a distance that there is not, the least `i64` for days since 1970,
-//! and 0 for a month, a day, an ordinal, a week or a weekday. A text has ten bytes, and for none ten zero bytes.
+//! A column is a pointer and a length. If the columns have different lengths, nothing is written and the result is `false`. In
+//! a column the least `i32` stands for no date, year or distance, and the least `i64` for no days since 1970. 0 stands for no
+//! month, day, ordinal, week or weekday. A text has ten bytes: ten zero bytes stand for no text.
 ghost use Rattle.std.specs.Prelude.{◌≡◌, ◌==◌, ◌&&◌, ℕ, ◌<◌, [], true, false, count_by, length, map, pos, slice_index, slice_index_or};
 ghost use Rattle.chrono_units.specs.SetDigits.{set_at};
 ghost use Rattle.chrono_calendar.specs.Days.{is_date};
@@ -10,7 +10,7 @@ ghost use Rattle.chrono_columns.specs.Columns.{IsTextEntry, date_entry, day_entr
 
 use crate::arguments::set_of;
 
-/// The weekday of each date, from 1 for Monday to 7 for Sunday.
+/// Writes the weekday of each date, from 1 for Monday to 7 for Sunday.
 #[unsafe(no_mangle)]
 pub extern "C" fn calendar_column_weekdays(dates: &[i32], weekdays: &mut [u8]) -> bool
     ensures answer { result ≡ (length weekdays.old == length dates.now) }
@@ -24,7 +24,7 @@ pub extern "C" fn calendar_column_weekdays(dates: &[i32], weekdays: &mut [u8]) -
     true
 }
 
-/// The year of each date.
+/// Writes the year of each date.
 #[unsafe(no_mangle)]
 pub extern "C" fn calendar_column_years(dates: &[i32], years: &mut [i32]) -> bool
     ensures answer { result ≡ (length years.old == length dates.now) }
@@ -38,7 +38,7 @@ pub extern "C" fn calendar_column_years(dates: &[i32], years: &mut [i32]) -> boo
     true
 }
 
-/// The day of the year of each date, from 1 to 366 (ISO 8601 ordinal date).
+/// Writes the day of the year of each date, from 1 to 366 (ISO 8601 ordinal date).
 #[unsafe(no_mangle)]
 pub extern "C" fn calendar_column_ordinals(dates: &[i32], ordinals: &mut [u16]) -> bool
     ensures answer { result ≡ (length ordinals.old == length dates.now) }
@@ -52,7 +52,7 @@ pub extern "C" fn calendar_column_ordinals(dates: &[i32], ordinals: &mut [u16]) 
     true
 }
 
-/// The year, the month and the day of each date (ISO 8601 calendar date).
+/// Writes the year, the month and the day of each date (ISO 8601 calendar date).
 #[unsafe(no_mangle)]
 pub extern "C" fn calendar_column_split(
     dates: &[i32],
@@ -81,7 +81,7 @@ pub extern "C" fn calendar_column_split(
     true
 }
 
-/// The ISO year of each date and the week there (ISO 8601 week date).
+/// Writes the ISO year and week of each date (ISO 8601 week date).
 #[unsafe(no_mangle)]
 pub extern "C" fn calendar_column_iso_weeks(
     dates: &[i32],
@@ -104,7 +104,7 @@ pub extern "C" fn calendar_column_iso_weeks(
     true
 }
 
-/// The date of each year, month and day (ISO 8601 calendar date).
+/// Writes the date of each year, month and day (ISO 8601 calendar date).
 #[unsafe(no_mangle)]
 pub extern "C" fn calendar_column_join(
     years: &[i32],
@@ -130,7 +130,8 @@ pub extern "C" fn calendar_column_join(
     true
 }
 
-/// The date so many days after each, or before it for a negative number.
+/// Writes the date `days` days after each, or before it if `days` is negative. It writes none where a
+/// date is missing or would be out of range.
 #[unsafe(no_mangle)]
 pub extern "C" fn calendar_column_add_days(dates: &[i32], days: i32, moved: &mut [i32]) -> bool
     ensures answer { result ≡ (length moved.old == length dates.now) }
@@ -144,7 +145,7 @@ pub extern "C" fn calendar_column_add_days(dates: &[i32], days: i32, moved: &mut
     true
 }
 
-/// The same with each date in the place of the one that it is moved from.
+/// Moves each date by `days` days, in place.
 #[unsafe(no_mangle)]
 pub extern "C" fn calendar_column_add_days_in_place(dates: &mut [i32], days: i32)
     ensures { dates.new ≡ map (later_entry days) dates.old }
@@ -152,7 +153,7 @@ pub extern "C" fn calendar_column_add_days_in_place(dates: &mut [i32], days: i32
     chrono_columns::add_days_in_place(dates, days);
 }
 
-/// The same with a number of days of its own for each date.
+/// Writes each date moved by the number of days at the same place in `days`.
 #[unsafe(no_mangle)]
 pub extern "C" fn calendar_column_add_days_each(
     dates: &[i32],
@@ -174,7 +175,7 @@ pub extern "C" fn calendar_column_add_days_each(
     true
 }
 
-/// The same with each date in the place of the one that it is moved from.
+/// Moves each date by the number of days at the same place in `days`, in place.
 #[unsafe(no_mangle)]
 pub extern "C" fn calendar_column_add_days_each_in_place(dates: &mut [i32], days: &[i32]) -> bool
     ensures answer { result ≡ (length days.now == length dates.old) }
@@ -189,8 +190,8 @@ pub extern "C" fn calendar_column_add_days_each_in_place(dates: &mut [i32], days
     true
 }
 
-/// The date so many months after each, or before it for a negative number, or the last day of that month if it is
-/// shorter.
+/// Writes the date `months` months after each, or before it if `months` is negative. If that month is too short, writes
+/// its last day.
 #[unsafe(no_mangle)]
 pub extern "C" fn calendar_column_add_months(dates: &[i32], months: i32, moved: &mut [i32]) -> bool
     ensures answer { result ≡ (length moved.old == length dates.now) }
@@ -204,7 +205,7 @@ pub extern "C" fn calendar_column_add_months(dates: &[i32], months: i32, moved: 
     true
 }
 
-/// The same with each date in the place of the one that it is moved from.
+/// Moves each date by `months` months, in place. If that month is too short, the date becomes its last day.
 #[unsafe(no_mangle)]
 pub extern "C" fn calendar_column_add_months_in_place(dates: &mut [i32], months: i32)
     ensures { dates.new ≡ map (months_later_entry months) dates.old }
@@ -212,7 +213,7 @@ pub extern "C" fn calendar_column_add_months_in_place(dates: &mut [i32], months:
     chrono_columns::add_months_in_place(dates, months);
 }
 
-/// The days from each date of the second column to that beside it in the first.
+/// Writes the days from each date of `bases` to the date at the same place in `dates`.
 #[unsafe(no_mangle)]
 pub extern "C" fn calendar_column_days_between(
     dates: &[i32],
@@ -234,7 +235,7 @@ pub extern "C" fn calendar_column_days_between(
     true
 }
 
-/// The date so many days after 1 January 1970, for each number of days.
+/// Writes the date of each number of days since 1 January 1970.
 #[unsafe(no_mangle)]
 pub extern "C" fn calendar_column_from_unix_days(days: &[i64], dates: &mut [i32]) -> bool
     ensures answer { result ≡ (length dates.old == length days.now) }
@@ -248,7 +249,7 @@ pub extern "C" fn calendar_column_from_unix_days(days: &[i64], dates: &mut [i32]
     true
 }
 
-/// The days from 1 January 1970 to each date.
+/// Writes the days from 1 January 1970 to each date.
 #[unsafe(no_mangle)]
 pub extern "C" fn calendar_column_to_unix_days(dates: &[i32], days: &mut [i64]) -> bool
     ensures answer { result ≡ (length days.old == length dates.now) }
@@ -262,7 +263,7 @@ pub extern "C" fn calendar_column_to_unix_days(dates: &[i32], days: &mut [i64]) 
     true
 }
 
-/// The first date from each on, itself counted, whose weekday is in the set.
+/// Writes the first date whose weekday is in the set, from each date on, which counts too.
 #[unsafe(no_mangle)]
 pub extern "C" fn calendar_column_first_on(dates: &[i32], weekdays: u8, found: &mut [i32]) -> bool
     ensures answer { result ≡ (length found.old == length dates.now) }
@@ -276,7 +277,7 @@ pub extern "C" fn calendar_column_first_on(dates: &[i32], weekdays: u8, found: &
     true
 }
 
-/// How many numbers of the column are dates.
+/// Returns how many elements of the column are dates.
 #[unsafe(no_mangle)]
 pub extern "C" fn calendar_column_count_dates(dates: &[i32]) -> usize
     ensures { result ≡ count_by is_date dates.now }
@@ -284,7 +285,8 @@ pub extern "C" fn calendar_column_count_dates(dates: &[i32]) -> usize
     chrono_columns::count_dates(dates)
 }
 
-/// The text of each date in ten bytes (ISO 8601 calendar date), and ten zero bytes where its year is not from 0 to 9999.
+/// Writes the text of each date in ten bytes (ISO 8601 calendar date). If its year is outside 0 to 9999, writes ten zero
+/// bytes.
 #[unsafe(no_mangle)]
 pub extern "C" fn calendar_column_write_dates(dates: &[i32], texts: &mut [[u8; 10]]) -> bool
     ensures answer { result ≡ (length texts.old == length dates.now) }
@@ -298,7 +300,7 @@ pub extern "C" fn calendar_column_write_dates(dates: &[i32], texts: &mut [[u8; 1
     true
 }
 
-/// The date whose text each ten bytes are, as [`calendar_column_write_dates`] writes it.
+/// Writes the date whose text each ten bytes are, as [`calendar_column_write_dates`] writes it.
 #[unsafe(no_mangle)]
 pub extern "C" fn calendar_column_read_dates(texts: &[[u8; 10]], dates: &mut [i32]) -> bool
     ensures answer { result ≡ (length dates.old == length texts.now) }

@@ -17,26 +17,25 @@ const LAST_SECOND: i64 = 8_210_266_876_799;
 // The nanoseconds that stand for no date-time and no duration.
 const NO_NANOS: u32 = u32::MAX;
 
-/// A date-time with no time zone: the seconds since 1970-01-01T00:00:00, of which every day has 86,400, and the nanoseconds
-/// past them.
+/// A date-time without time zone: the seconds since 1970-01-01T00:00:00, with 86,400 for every day, and nanoseconds.
 ///
-/// 1,000,000,000 nanoseconds and more lie in the leap second that follows the second, the last of its minute.
+/// 1,000,000,000 nanoseconds or more lie in the leap second that follows the second, the last of its minute.
 #[repr(C)]
 #[derive(Clone, Copy)]
 pub struct CalendarDateTime {
     /// The seconds, rounded down.
     pub seconds: i64,
-    /// The nanoseconds past them, below 2,000,000,000.
+    /// The nanoseconds after them, below 2,000,000,000.
     pub nanos: u32,
 }
 
-/// A duration: whole seconds, rounded down, and the nanoseconds past them.
+/// A duration: whole seconds, rounded down, and the nanoseconds after them.
 #[repr(C)]
 #[derive(Clone, Copy)]
 pub struct CalendarDuration {
     /// The seconds, rounded down.
     pub seconds: i64,
-    /// The nanoseconds past them, below 1,000,000,000.
+    /// The nanoseconds after them, below 1,000,000,000.
     pub nanos: u32,
 }
 

@@ -12,7 +12,7 @@ use crate::date_time_numbers::{
 };
 use chrono_datetime::{Datelike, NaiveDateTime, TimeDelta, Timelike};
 
-/// The date-time at a second of a date, from 0 to 86,399, and so many nanoseconds past it.
+/// Returns the date-time at a second of a date, from 0 to 86,399, and `nanos` nanoseconds after it.
 #[unsafe(no_mangle)]
 pub extern "C" fn calendar_date_time_new(
     date: i32,
@@ -26,7 +26,7 @@ pub extern "C" fn calendar_date_time_new(
     numbers_or_none(date_time_at(date, second_of_day, nanos))
 }
 
-/// The date of a date-time.
+/// Returns the date of a date-time.
 #[unsafe(no_mangle)]
 pub extern "C" fn calendar_date_time_date(moment: CalendarDateTime) -> i32
     ensures { result ≡ or_none (option_map (λ m. m.date) (moment_named moment)) }
@@ -37,7 +37,7 @@ pub extern "C" fn calendar_date_time_date(moment: CalendarDateTime) -> i32
     }
 }
 
-/// The second of the day of a date-time, from 0 to 86,399.
+/// Returns the second of the day of a date-time, from 0 to 86,399.
 #[unsafe(no_mangle)]
 pub extern "C" fn calendar_date_time_second_of_day(moment: CalendarDateTime) -> i32
     ensures { result ≡ count_or_none (option_map (λ m. m.time.second) (moment_named moment)) }
@@ -48,7 +48,7 @@ pub extern "C" fn calendar_date_time_second_of_day(moment: CalendarDateTime) -> 
     }
 }
 
-/// The date-time that lies a duration later, on a line that holds the leap second of the start if it is in one.
+/// Returns the date-time that is `by` later. From inside a leap second the move counts that leap second and no other.
 #[unsafe(no_mangle)]
 pub extern "C" fn calendar_date_time_add(
     moment: CalendarDateTime,
@@ -62,7 +62,7 @@ pub extern "C" fn calendar_date_time_add(
     numbers_or_none(moved(moment, by))
 }
 
-/// How far a date-time is from another.
+/// Returns the time from `base` to `moment`.
 #[unsafe(no_mangle)]
 pub extern "C" fn calendar_date_time_since(
     moment: CalendarDateTime,

@@ -13,7 +13,7 @@ use crate::arguments::date_of;
 use chrono_datetime::{Datelike, Month};
 use chrono_units::year::is_leap_year;
 
-/// The year of a date, from -262,143 to 262,142.
+/// Returns the year of a date, from -262,143 to 262,142.
 #[unsafe(no_mangle)]
 pub extern "C" fn calendar_year(date: i32) -> i32
     ensures { result ≡ or_none (option_map year_of (date_of_day date)) }
@@ -24,7 +24,7 @@ pub extern "C" fn calendar_year(date: i32) -> i32
     }
 }
 
-/// The month of a date, from 1 for January to 12.
+/// Returns the month of a date, from 1 for January to 12.
 #[unsafe(no_mangle)]
 pub extern "C" fn calendar_month(date: i32) -> i32
     ensures { result ≡ count_or_none (option_map month_of (date_of_day date)) }
@@ -35,7 +35,7 @@ pub extern "C" fn calendar_month(date: i32) -> i32
     }
 }
 
-/// The day of the month of a date, from 1 to 31.
+/// Returns the day of the month of a date, from 1 to 31.
 #[unsafe(no_mangle)]
 pub extern "C" fn calendar_day(date: i32) -> i32
     ensures { result ≡ count_or_none (option_map day_of (date_of_day date)) }
@@ -46,7 +46,7 @@ pub extern "C" fn calendar_day(date: i32) -> i32
     }
 }
 
-/// The day of the year of a date, from 1 to 366 (ISO 8601 ordinal date).
+/// Returns the day of the year of a date, from 1 to 366 (ISO 8601 ordinal date).
 #[unsafe(no_mangle)]
 pub extern "C" fn calendar_ordinal(date: i32) -> i32
     ensures { result ≡ count_or_none (option_map ordinal_of (date_of_day date)) }
@@ -57,7 +57,7 @@ pub extern "C" fn calendar_ordinal(date: i32) -> i32
     }
 }
 
-/// The weekday of a date, from 1 for Monday to 7 for Sunday.
+/// Returns the weekday of a date, from 1 for Monday to 7 for Sunday.
 #[unsafe(no_mangle)]
 pub extern "C" fn calendar_weekday(date: i32) -> i32
     ensures { result
@@ -69,7 +69,7 @@ pub extern "C" fn calendar_weekday(date: i32) -> i32
     }
 }
 
-/// The year of a date's week, from -262,143 to 262,143: that of its Thursday (ISO 8601 week date).
+/// Returns the ISO year, from -262,143 to 262,143: that of the Thursday of the date's week (ISO 8601 week date).
 #[unsafe(no_mangle)]
 pub extern "C" fn calendar_iso_year(date: i32) -> i32
     ensures { result ≡ or_none (option_map iso_year_of (date_of_day date)) }
@@ -80,7 +80,7 @@ pub extern "C" fn calendar_iso_year(date: i32) -> i32
     }
 }
 
-/// The week of that year, from 1 to 53.
+/// Returns the week of the ISO year, from 1 to 53.
 #[unsafe(no_mangle)]
 pub extern "C" fn calendar_iso_week(date: i32) -> i32
     ensures { result ≡ count_or_none (option_map iso_week_of (date_of_day date)) }
@@ -91,7 +91,7 @@ pub extern "C" fn calendar_iso_week(date: i32) -> i32
     }
 }
 
-/// Whether a year is leap: a multiple of 4, and if it is one of 100 then also of 400.
+/// Returns whether a year is a leap year: a multiple of 4, and if of 100 then also of 400.
 #[unsafe(no_mangle)]
 pub extern "C" fn calendar_is_leap_year(year: i32) -> bool
     ensures { result ≡ leap_rule year }
@@ -99,7 +99,7 @@ pub extern "C" fn calendar_is_leap_year(year: i32) -> bool
     is_leap_year(year)
 }
 
-/// The days of a month from 1 for January to 12, in a year that has dates.
+/// Returns the days of a month from 1 for January to 12, in a year that has dates.
 #[unsafe(no_mangle)]
 pub extern "C" fn calendar_days_in_month(year: i32, month: u32) -> i32
     ensures { result ≡ count_or_none (days_in_month year month) }

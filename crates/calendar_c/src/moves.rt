@@ -10,7 +10,7 @@ ghost use Rattle.calendar_c.specs.Answers.{count_or_none, or_none};
 use crate::answers::{NONE, number_or_none};
 use crate::arguments::date_of;
 
-/// The date so many days later, or earlier for a negative number.
+/// Returns the date `days` days later, or earlier if `days` is negative.
 #[unsafe(no_mangle)]
 pub extern "C" fn calendar_add_days(date: i32, days: i64) -> i32
     ensures { result
@@ -22,7 +22,8 @@ pub extern "C" fn calendar_add_days(date: i32, days: i64) -> i32
     }
 }
 
-/// The same day so many months later, or earlier for a negative number, or the last day of that month if it is shorter.
+/// Returns the date `months` months later, or earlier if `months` is negative. If that month is too short, returns its
+/// last day.
 #[unsafe(no_mangle)]
 pub extern "C" fn calendar_add_months(date: i32, months: i64) -> i32
     ensures { result
@@ -34,7 +35,7 @@ pub extern "C" fn calendar_add_months(date: i32, months: i64) -> i32
     }
 }
 
-/// The date `index` times so many months after the start, or before it for a negative number, in one move from there.
+/// Returns the date `index` times `months` months after `start`, in one move. Negative months lead back.
 #[unsafe(no_mangle)]
 pub extern "C" fn calendar_every_months(start: i32, months: i32, index: u32) -> i32
     ensures { result
@@ -46,7 +47,7 @@ pub extern "C" fn calendar_every_months(start: i32, months: i32, index: u32) -> 
     }
 }
 
-/// The whole years from `base` to the date; none if the date comes before it.
+/// Returns the whole years from `base` to `date`, or none if `date` comes before `base`.
 #[unsafe(no_mangle)]
 pub extern "C" fn calendar_years_since(date: i32, base: i32) -> i32
     ensures { result

@@ -10,7 +10,7 @@ use crate::answers::{NONE, number_or_none};
 use crate::arguments::weekday_of;
 use chrono_datetime::NaiveDate;
 
-/// The date of a year, a month from 1 to 12 and a day of the month from 1 (ISO 8601 calendar date).
+/// Returns the date of a year, a month from 1 to 12 and a day of the month from 1 (ISO 8601 calendar date).
 #[unsafe(no_mangle)]
 pub extern "C" fn calendar_from_ymd(year: i32, month: u32, day: u32) -> i32
     ensures number { result ≡ or_none (date_of_ymd year month day) }
@@ -20,7 +20,7 @@ pub extern "C" fn calendar_from_ymd(year: i32, month: u32, day: u32) -> i32
     number_or_none(NaiveDate::from_ymd_opt(year, month, day))
 }
 
-/// The date of a year and a day of it from 1 (ISO 8601 ordinal date).
+/// Returns the date of a year and a day of it from 1 (ISO 8601 ordinal date).
 #[unsafe(no_mangle)]
 pub extern "C" fn calendar_from_yo(year: i32, ordinal: u32) -> i32
     ensures number { result ≡ or_none (date_of_yo year ordinal) }
@@ -29,7 +29,7 @@ pub extern "C" fn calendar_from_yo(year: i32, ordinal: u32) -> i32
     number_or_none(NaiveDate::from_yo_opt(year, ordinal))
 }
 
-/// The date of an ISO year, a week of it from 1 and a weekday (ISO 8601 week date).
+/// Returns the date of an ISO year, a week of it from 1 and a weekday (ISO 8601 week date).
 #[unsafe(no_mangle)]
 pub extern "C" fn calendar_from_isoywd(year: i32, week: u32, weekday: u32) -> i32
     ensures number { result
@@ -43,7 +43,7 @@ pub extern "C" fn calendar_from_isoywd(year: i32, week: u32, weekday: u32) -> i3
     number_or_none(NaiveDate::from_isoywd_opt(year, week, weekday))
 }
 
-/// The `n`-th day of a month that has the weekday, counted from 1.
+/// Returns the `n`-th day of a month that has the weekday, counted from 1.
 #[unsafe(no_mangle)]
 pub extern "C" fn calendar_from_weekday_of_month(year: i32, month: u32, weekday: u32, n: u32) -> i32
     ensures number { result ≡ or_none

@@ -6,7 +6,7 @@ use crate::answers::NONE;
 use crate::arguments::date_of;
 use chrono_datetime::Datelike;
 
-/// A year, a month from 1 to 12 and a day of the month from 1; of no date the least `i32` and twice 0.
+/// A year, a month from 1 to 12 and a day of the month from 1. If there is no date: the least `i32` and twice 0.
 #[repr(C)]
 #[derive(Clone, Copy)]
 pub struct CalendarYmd {
@@ -18,7 +18,7 @@ pub struct CalendarYmd {
     pub day: u8,
 }
 
-/// The year, the month and the day of a date (ISO 8601 calendar date).
+/// Returns the year, the month and the day of a date (ISO 8601 calendar date).
 #[tactic(auto, unfolding(chrono_columns::specs::Columns::year_entry, chrono_columns::specs::Columns::month_entry, chrono_columns::specs::Columns::day_entry))]
 #[unsafe(no_mangle)]
 pub extern "C" fn calendar_split(date: i32) -> CalendarYmd

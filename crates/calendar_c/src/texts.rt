@@ -24,7 +24,7 @@ const LONGEST_DATE: usize = 13;
 // How many bytes the longest date-time has.
 const LONGEST_DATE_TIME: usize = 32;
 
-/// Writes the date as `2024-02-29` over the first bytes, if they are enough, and answers how many it took; a year before 0 or
+/// Writes the date as `2024-02-29` over the first bytes, if they are enough, and returns their number. A year before 0 or
 /// after 9999 has its sign.
 #[unsafe(no_mangle)]
 pub extern "C" fn calendar_write_date(date: i32, text: &mut [u8]) -> i32
@@ -42,16 +42,16 @@ pub extern "C" fn calendar_write_date(date: i32, text: &mut [u8]) -> i32
     write_over(text, written.as_bytes())
 }
 
-/// The date whose text the bytes are, as [`calendar_write_date`] writes it.
+/// Returns the date whose text the bytes are, as [`calendar_write_date`] writes it.
 #[unsafe(no_mangle)]
 pub extern "C" fn calendar_read_date(text: &[u8]) -> i32
     ensures read { result ≢ none_number → IsDateText text.now result }
     ensures every { (n : ℤ) → IsDateText text.now n → result ≡ n }
 {
-    number_or_none(read_date(text))
+    number_or_none(read_date(text).ok())
 }
 
-/// Writes the date-time as `2024-02-29T23:59:60.500` over the first bytes, if they are enough, and answers how many it took.
+/// Writes the date-time as `2024-02-29T23:59:60.500` over the first bytes, if they are enough, and returns their number.
 #[unsafe(no_mangle)]
 pub extern "C" fn calendar_write_date_time(moment: CalendarDateTime, text: &mut [u8]) -> i32
     ensures length { result ≡ count_or_none
@@ -69,15 +69,15 @@ pub extern "C" fn calendar_write_date_time(moment: CalendarDateTime, text: &mut 
     write_over(text, written.as_bytes())
 }
 
-/// The date-time whose text the bytes are: as [`calendar_write_date_time`] writes it, with a `T` or a space, and a fraction of
-/// one to nine digits.
+/// Returns the date-time whose text the bytes are, as [`calendar_write_date_time`] writes it. It takes a `T` or a space, and a
+/// fraction of one to nine digits.
 #[unsafe(no_mangle)]
 pub extern "C" fn calendar_read_date_time(text: &[u8]) -> CalendarDateTime
     ensures read { (result ≡ numbers_or_none None) ⊎ ((m : Moment) × (result ≡ numbers_of m) × IsDateTimeText text.now m) }
     ensures every { (m : Moment) → IsDateTimeText text.now m → result ≡ numbers_of m }
     ensures named { (m : Moment) → IsDateTimeText text.now m → moment_named result ≡ Some m }
 {
-    numbers_or_none(read_date_time(text))
+    numbers_or_none(read_date_time(text).ok())
 }
 
 // Writes a text over the first bytes, if they are enough, and answers how many it took.

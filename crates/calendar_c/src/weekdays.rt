@@ -12,7 +12,7 @@ ghost use Rattle.calendar_c.specs.Arguments.{weekday_numbered};
 use crate::answers::{NONE, number_or_none};
 use crate::arguments::{date_of, set_of, weekday_of};
 
-/// The first day of the week that holds the date and begins on the weekday `start`.
+/// Returns the first day of the week that contains the date and begins on the weekday `start`.
 #[unsafe(no_mangle)]
 pub extern "C" fn calendar_week_first_day(date: i32, start: u32) -> i32
     ensures { result
@@ -27,7 +27,7 @@ pub extern "C" fn calendar_week_first_day(date: i32, start: u32) -> i32
     }
 }
 
-/// The first date from this one on, itself counted, whose weekday is in the set.
+/// Returns the first date whose weekday is in the set, from `date` on, which counts too.
 #[unsafe(no_mangle)]
 pub extern "C" fn calendar_first_on(date: i32, weekdays: u8) -> i32
     ensures { result
@@ -39,7 +39,7 @@ pub extern "C" fn calendar_first_on(date: i32, weekdays: u8) -> i32
     }
 }
 
-/// The days from a weekday on to the first one in the set, from 0 to 6; none if the set is empty.
+/// Returns the days from a weekday to the next one in the set, from 0 to 6, or none if the set is empty.
 #[unsafe(no_mangle)]
 pub extern "C" fn calendar_days_until(weekdays: u8, from: u32) -> i32
     ensures { result

@@ -1,6 +1,6 @@
-//! The parts of commands that several of them share.
+//! The parts that several commands share.
 
-/// A year, a month and a day of the month as numbers; there need be no such date.
+/// A year, a month and a day of the month, as numbers. The date can be invalid.
 #[derive(Clone, Copy, Debug, PartialEq, Eq)]
 pub struct CalendarDate {
     /// The year, proleptic Gregorian.
@@ -11,7 +11,7 @@ pub struct CalendarDate {
     pub day: u32,
 }
 
-/// A time of day as numbers; there need be no such time.
+/// A time of day, as numbers. The time can be invalid.
 #[derive(Clone, Copy, Debug, PartialEq, Eq)]
 pub struct ClockTime {
     /// The hour, from 0.
@@ -20,11 +20,11 @@ pub struct ClockTime {
     pub minute: u32,
     /// The second, from 0.
     pub second: u32,
-    /// The nanoseconds past the second; 1,000,000,000 and more are those of a leap second.
+    /// The nanoseconds past the second. From 1,000,000,000 on they lie in a leap second.
     pub nanosecond: u32,
 }
 
-/// A date and a time of day as numbers; there need be no such date or time.
+/// A date and a time of day, as numbers. Both can be invalid.
 #[derive(Clone, Copy, Debug, PartialEq, Eq)]
 pub struct DateAndTime {
     /// The date.
@@ -33,11 +33,11 @@ pub struct DateAndTime {
     pub time: ClockTime,
 }
 
-/// How many months, and whether they go on or back.
+/// A number of months, later or earlier.
 #[derive(Clone, Copy, Debug, PartialEq, Eq)]
 pub enum MonthSpan {
-    /// So many months later.
+    /// This number of months later.
     Later(u32),
-    /// So many months earlier.
+    /// This number of months earlier.
     Earlier(u32),
 }

@@ -1,4 +1,4 @@
-//! A line as a command: its name, its numbers, and what they ask for.
+//! Lines read as commands.
 ghost use Rattle.std.specs.Prelude.{◌≡◌};
 ghost use Rattle.std.specs.Option.{option_and_then};
 ghost use Rattle.caltool_command.specs.Commands.{command_from as the_command_from, command_of};
@@ -13,10 +13,12 @@ use chrono_text::Line;
 // A longer line asks for nothing.
 const LONGEST_LINE: usize = 120;
 
-/// The command of a line, given without its newline. `None` if the line has more than 120 bytes, is no
-/// command word with as many numbers as it takes, each within its type, or has a space too many or too few.
+/// Returns the command of a line. `line` has no newline.
 ///
-/// Example: `day 719163` asks for `Day { number: 719163 }`.
+/// Returns `None` if the line has more than 120 bytes, does not begin with a command word, or has a space too many or
+/// too few. It also returns `None` if the line has a wrong number of numbers, or one that does not fit its type.
+///
+/// For example, `day 719163` gives `Day { number: 719163 }`.
 pub fn command_of(line: &[u8]) -> Option<Command>
     ensures { result ≡ command_of line.now }
 {
@@ -31,8 +33,10 @@ fn read_command(line: &Line<'_>, numbers: &mut Numbers) -> Option<Command>
     command_from(name, numbers.as_slice())
 }
 
-/// The name that a line begins with, if nothing but numbers follows it; these go into the given room. With them it makes the
-/// command of the line ([`command_from`]).
+/// Returns the command word that begins `line`, and puts the numbers after it into `numbers`.
+///
+/// Returns `None` if `line` has more than 120 bytes, does not begin with a command word, or has something other than
+/// numbers after it. [`command_from`] makes the command of both.
 pub fn read_line(line: &Line<'_>, numbers: &mut Numbers) -> Option<Name>
     // With the name that is answered the numbers in the room make the line's command; with none it has no command.
     ensures { command_of line.now ≡ option_and_then (λ name. the_command_from name numbers.new) result }

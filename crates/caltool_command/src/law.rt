@@ -1,4 +1,4 @@
-//! What words and command lines are, each as a law that a caller can cite.
+//! Laws of words and command lines, for proofs of callers.
 ghost use Rattle.std.specs.Prelude.{◌≡◌, ◌++◌, ◌∷◌, [], ℕ, ℤ, List, Some, None, pos, neg_ℤ, codes, replicate};
 ghost use Rattle.std.specs.Str.{byte};
 ghost use Rattle.chrono_units.specs.declared.weekday.Weekday.TheVariants.{Fri, Sat, Sun, Thu, Tue};
@@ -9,14 +9,14 @@ ghost use Rattle.caltool_command.specs.Commands.{command_of};
 ghost use Rattle.caltool_command.specs.Words.{words, AreWords};
 ghost use Rattle.caltool_command.specs.Grammar.{arguments_of, IsCommandLine};
 
-/// The words of a line are the only parts that single spaces join to it.
+/// A line has exactly one split into words that single spaces join.
 pub fn words_are_unique()
     ensures joined { (line : List ℕ) → AreWords line (words line) }
     ensures only { (line : List ℕ) (parts : List (List ℕ))
         → AreWords line parts → parts ≡ words line }
 {}
 
-/// A line holds a word and then whole numbers that fit an `i64`, each of them after one space.
+/// A line is a word followed by whole numbers that fit an `i64`, each after one space.
 pub fn lines_are_commands()
     ensures read { (line name : List ℕ) (numbers : List ℤ)
         → arguments_of line ≡ Some (name, numbers) → IsCommandLine line name numbers }
@@ -24,7 +24,7 @@ pub fn lines_are_commands()
         → IsCommandLine line name numbers → arguments_of line ≡ Some (name, numbers) }
 {}
 
-/// Lines that are known to be commands, one of each name: of the numbers behind it each has its place and its type.
+/// States one known line of each command. Each of its numbers has its place and its type.
 pub fn known_commands()
     ensures ymd { command_of (codes "ymd 2008 12 030")
         ≡ Some (Ymd (record { year = pos 2008; month = 12; day = 30 })) }
@@ -65,8 +65,10 @@ pub fn known_commands()
     ensures longest { command_of (codes "day " ++ replicate 115 (byte "0") ++ codes "5") ≡ Some (Day (pos 5)) }
 {}
 
-/// Lines that are known to be no command: a name in another case, a number too few or too many, one past the end of its type, a
-/// sign too many, spaces where no number is between them or behind them, no byte, and one of more than 120 bytes.
+/// States known lines that are not commands.
+///
+/// Some have a name in another case, a number too few or too many, or one that does not fit its type. Others have a
+/// sign too many, spaces with no number between or after them, no byte, or more than 120 bytes.
 pub fn known_errors()
     ensures name { command_of (codes "Day 1") ≡ None }
     ensures too_few { command_of (codes "week 7 6 5") ≡ None }

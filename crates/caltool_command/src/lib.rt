@@ -1,7 +1,7 @@
-//! What a line asks `caltool` for: its words, the numbers that they write, and the [`Command`] of both.
+//! Lines read as commands of `caltool`: their words, their numbers, and the [`Command`] of both.
 //!
-//! [`command_of`] reads a line of any bytes. A loop over many lines calls [`read_line`] and [`command_from`], with one room for the
-//! numbers of all of them.
+//! [`command_of`] reads a line of any bytes. A loop over many lines calls [`read_line`] and [`command_from`], with one
+//! [`Numbers`] for all lines.
 #![tactic(auto)]
 
 mod arguments;

@@ -5,7 +5,7 @@ ghost use Rattle.caltool_command.specs.Commands.{name_of};
 use crate::ways::Ways;
 use chrono_text::Way::{DigitByDigit, InLanes, Short};
 
-/// A command word: what a line begins with.
+/// A command word, which begins a line.
 #[derive(Clone, Copy, Debug, PartialEq, Eq)]
 pub enum Name {
     /// `ymd`.

@@ -11,7 +11,7 @@ use std::marker::Model;
 // No line of 120 bytes has more numbers.
 const ROOM: usize = 60;
 
-/// Room for the numbers of a line.
+/// A buffer for the numbers of a line.
 #[derive(Drop)]
 pub struct Numbers {
     items: [i64; ROOM],
@@ -27,7 +27,7 @@ impl Model for Numbers {
 }
 
 impl Numbers {
-    /// No number yet.
+    /// Returns a buffer with no number.
     pub fn new() -> Numbers
         ensures { result ≡ [] }
     {
@@ -54,7 +54,7 @@ impl Numbers {
         Some(())
     }
 
-    /// The numbers, in the order of the line.
+    /// Returns the numbers, in the order of the line.
     pub fn as_slice(&self) -> &[i64]
         ensures { result.now ≡ self.now }
     {

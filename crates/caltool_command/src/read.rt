@@ -1,4 +1,4 @@
-//! The commands that names and numbers ask for.
+//! Commands made from names and numbers.
 ghost use Rattle.std.specs.Prelude.{◌≡◌};
 ghost use Rattle.caltool_command.specs.Commands.{command_from, calendar_date, clock_time, date_and_time, weekday_set};
 
@@ -8,7 +8,9 @@ use crate::name::Name;
 use crate::types::{to_i32, to_months, to_u8, to_u32, to_weekday};
 use chrono_units::WeekdaySet;
 
-/// The command of this name and these numbers, if they are as many as it takes and each fits its type.
+/// Returns the command with the name `name` and the numbers `numbers`.
+///
+/// Returns `None` if the command takes another number of numbers, or one of them does not fit its type.
 #[inline(always)]
 pub fn command_from(name: Name, numbers: &[i64]) -> Option<Command>
     ensures { result ≡ command_from name numbers.now }

@@ -1,4 +1,4 @@
-//! Numbers as the types that commands take.
+//! Numbers converted to the types that commands take.
 ghost use Rattle.std.specs.Prelude.{◌≡◌};
 ghost use Rattle.chrono_text.specs.Numbers.{to_i32, to_u32, to_u8};
 ghost use Rattle.caltool_command.specs.Types.{to_months, to_weekday};

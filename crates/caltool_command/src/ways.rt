@@ -1,4 +1,4 @@
-//! How the numbers of a line are best read, one after another.
+//! The fastest ways to read the numbers of a line, one after another.
 ghost use Rattle.std.specs.Prelude.{◌≤◌};
 
 use chrono_text::Way;
@@ -11,17 +11,17 @@ const DIGIT_BY_DIGIT: u64 = 2;
 // The number whose 32 digits to the base 4 are all 1.
 const ONES: u64 = u64::MAX / 3;
 
-/// The ways to read the numbers of a line: that of the next number, of the one behind it, and so on. What is read does not
-/// depend on them.
+/// The ways to read the numbers of a line: the way of the next number, of the one after it, and so on.
 ///
-/// They are held as one number, so that a register has them all: its digits to the base 4, the next way lowest.
+/// They change the speed, never the result. They are stored as one number, so that a register holds all of them. Its
+/// digits in base 4 are the ways, and the lowest digit is the next way.
 #[derive(Clone, Copy)]
 pub(crate) struct Ways {
     digits: u64,
 }
 
 impl Ways {
-    /// These ways, and the last of them for all further numbers too.
+    /// Returns these ways. The last of them is also the way of all further numbers.
     #[inline(always)]
     pub(crate) fn of(ways: &[Way]) -> Ways {
         let last = ways.last().map_or(0, digit_of);
@@ -32,7 +32,7 @@ impl Ways {
         Ways { digits }
     }
 
-    /// The way of the next number, which is then that of the number behind it.
+    /// Returns the way of the next number, and moves on to the number after it.
     #[inline(always)]
     pub(crate) fn next(&mut self) -> Way {
         let digit = self.digits & 3;

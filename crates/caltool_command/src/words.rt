@@ -1,4 +1,4 @@
-//! The words of a line: its name, and the numbers behind it.
+//! The words of a line: its name, and the numbers after it.
 ghost use Rattle.std.specs.Prelude.{◌≡◌, ◌<◌, ◌≤◌, ◌∷◌, length, take, drop, slice_index, IfSome, IfNone, None};
 ghost use Rattle.std.specs.Option.{option_map};
 ghost use Rattle.std.specs.Str.{byte};

@@ -1,10 +1,10 @@
-//! The answers to commands by dates, times of day and date-times: each by the public call that asks for it.
+//! Answers to commands by dates, times of day and date-times. Each is the result of one public function.
 use caltool_form::{CommandAnswers, MonthSpan};
 use chrono_datetime::{
     Datelike, NaiveDate, NaiveDateTime, NaiveTime, TimeDelta, Weekday, WeekdaySet,
 };
 
-/// Answers each command by dates, times of day and date-times.
+/// The type that answers each command by dates, times of day and date-times.
 pub struct DateAnswers;
 
 impl CommandAnswers for DateAnswers {

@@ -1,4 +1,4 @@
-//! What the answers say of dates and date-times is what the public calls say.
+//! The law that the answers agree with the public functions of dates and date-times.
 ghost use Rattle.std.specs.Prelude.{◌≡◌, ℕ, ℤ};
 ghost use Rattle.caltool_form.specs.Named.{reach as reached};
 ghost use Rattle.caltool_form.specs.Texts.{date_text as text_of_date, moment_text as text_of_moment};
@@ -6,8 +6,9 @@ ghost use Rattle.chrono_datetime.specs.DateText.{date_text};
 ghost use Rattle.chrono_datetime.specs.Moment.{Moment, reach};
 ghost use Rattle.chrono_datetime.specs.MomentText.{moment_text};
 
-/// The dates and date-times of the answers have the texts that the public types print, and a duration leads where
-/// `NaiveDateTime::checked_add_signed` leads.
+/// The dates and date-times of the answers have the texts that the public types print.
+///
+/// A duration moves a date-time as `NaiveDateTime::checked_add_signed` does.
 #[tactic(auto, unfolding(caltool_form::specs::Named::reach, chrono_datetime::specs::Moment::reach))]
 pub fn answers_are_of_dates()
     ensures dates { (n : ℤ) → text_of_date n ≡ date_text n }

@@ -1,6 +1,6 @@
 //! `caltool` over the dates and date-times of `chrono_datetime`: the answer to each command, and the run over an input.
 //!
-//! It passes on the names of `caltool_form`, so that a user lists this crate alone.
+//! It passes on the names of `caltool_form`, so a user lists this crate alone.
 #![tactic(auto)]
 
 ghost use Rattle.std.specs.Prelude.{◌≡◌, OnOk, IsErrOf};
@@ -20,18 +20,18 @@ pub use caltool_form::{
 pub use law::answers_are_of_dates;
 use std::io::{Read, Write};
 
-/// The answer to one line, given without its newline: at most 63 bytes.
+/// Returns the answer to one line. `line` has no newline. The answer has at most 63 bytes.
 pub fn answer_line(line: &[u8]) -> Answer
     ensures { result ≡ answer_of line.now }
 {
     answer_by::<DateAnswers>(line)
 }
 
-/// Answers each line of the input by one line, until the input ends.
+/// Answers each line of the input with one line, until the input ends. It repeats no failed call and allocates no memory.
 ///
-/// `RunFault::Read` comes after a failed read, or after 2^64 - 1 reads that saw no end; by then
-/// each line that had its newline is answered. `RunFault::Write` comes after a write that failed or
-/// took nothing, or if flushing at the end failed. It repeats no failed call and takes no memory.
+/// Returns `RunFault::Read` after a failed read, or after 2^64 - 1 reads that saw no end. By then it has answered each
+/// line that ended in a newline. Returns `RunFault::Write` after a write that failed or wrote nothing, or if the flush
+/// at the end failed.
 pub fn run<R: Read, W: Write>(r: &mut R, w: &mut W) -> Result<(), RunFault>
     // The input was read to its end, and its whole output written.
     ensures ok { OnOk result (AnsweredAll answer_of

@@ -27,6 +27,7 @@ names_of n =
     date_text n ++ codes " " ++ signed_decimal n ++ codes " " ++ weekday_text (weekday_of n) ++ codes " "
     ++ week_text (iso_year_of n) (iso_week_of n) ++ codes " " ++ decimal (ordinal_of n)
 
+-- the line of a date, or `none`
 abbrev pub date_line : Option ℤ → List ℕ
 date_line date = text_or_none names_of date
 

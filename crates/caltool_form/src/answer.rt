@@ -1,4 +1,4 @@
-//! The answer to one line: of its name, of the numbers behind it, and of the command that they make.
+//! The answer to one line, from its name and its numbers.
 ghost use Rattle.std.specs.Prelude.{◌≡◌, ◌≤◌, ◌+◌, ◌++◌, length, codes};
 ghost use Rattle.std.specs.Option.{option_map_or};
 ghost use Rattle.caltool_form.specs.Answers.{answer_of, answer_to};
@@ -21,8 +21,9 @@ const LONGEST_ANSWER: usize = 63;
 /// The answer to one line, without its newline.
 pub type Answer = Text<LONGEST_ANSWER>;
 
-/// The answer to one line, given without its newline: that of `A` to the line's command, and `error`
-/// for a line of more than 120 bytes and for one that is no command.
+/// Returns the answer to one line. `line` has no newline.
+///
+/// It is the answer of `A` to the line's command. It is `error` if the line is not a command, or has more than 120 bytes.
 pub fn answer_by<A: CommandAnswers>(line: &[u8]) -> Answer
     ensures { result ≡ answer_of line.now }
 {

@@ -1,4 +1,4 @@
-//! What a command asks for, of what it names: a date, a date-time, a number of years, a duration.
+//! The results that commands ask for: a date, a date-time, a number of years, a duration.
 ghost use Rattle.std.specs.Prelude.{◌≡◌, ◌+ℤ◌};
 ghost use Rattle.std.specs.Option.{option_map, option_and_then};
 ghost use Rattle.chrono_clock.specs.Moment.{moment, moment_distance};

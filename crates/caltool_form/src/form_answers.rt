@@ -1,4 +1,4 @@
-//! The answers over any stored form of dates, from the laws of [`DayForm`] alone.
+//! Answers over any stored form of a date, by the laws of [`DayForm`] alone.
 ghost use Rattle.std.specs.Prelude.{◌≡◌, IsErrOf, OnOk};
 ghost use Rattle.caltool_form.specs.Answers.{answer_of};
 ghost use Rattle.caltool_form.specs.Runs.{AnsweredAll, AnsweredEnded, AnsweredPart};
@@ -105,20 +105,22 @@ impl<F: DayForm> CommandAnswers for FormAnswers<F> {
     }
 }
 
-/// The answer to one line, given without its newline, over dates of the stored form `F`: at most 63 bytes, and the same for every
-/// form.
+/// Returns the answer to one line, over dates of the stored form `F`. `line` has no newline.
+///
+/// The answer has at most 63 bytes, and is the same for each form.
 pub fn answer_form<F: DayForm>(line: &[u8]) -> Answer
     ensures { result ≡ answer_of line.now }
 {
     answer_by::<FormAnswers<F>>(line)
 }
 
-/// Answers each line of the input by one line, until the input ends, over dates of the stored form `F`. No two forms answer
-/// differently.
+/// Answers each line of the input with one line, until the input ends, over dates of the stored form `F`.
 ///
-/// `RunFault::Read` comes after a failed read, or after 2^64 - 1 reads that saw no end; by then
-/// each line that had its newline is answered. `RunFault::Write` comes after a write that failed or
-/// took nothing, or if flushing at the end failed. It repeats no failed call and takes no memory.
+/// The output is the same for each form. The function repeats no failed call and allocates no memory.
+///
+/// Returns `RunFault::Read` after a failed read, or after 2^64 - 1 reads that saw no end. By then it has answered each
+/// line that ended in a newline. Returns `RunFault::Write` after a write that failed or wrote nothing, or if the flush
+/// at the end failed.
 pub fn run_form<F: DayForm, R: Read, W: Write>(r: &mut R, w: &mut W) -> Result<(), RunFault>
     // The input was read to its end, and its whole output written.
     ensures ok { OnOk result (AnsweredAll answer_of

@@ -1,11 +1,10 @@
-//! What the lines of an input are, and answers that are known, as laws that a caller can cite.
+//! Laws of the lines of an input, and known answers, for proofs of callers.
 ghost use Rattle.std.specs.Prelude.{◌≡◌, ◌++◌, ◌∷◌, [], ℕ, List, codes, replicate};
 ghost use Rattle.std.specs.Str.{byte};
 ghost use Rattle.caltool_form.specs.Answers.{answer_of, output_of};
 ghost use Rattle.caltool_form.specs.Lines.{IsCut, ended_lines, rest_of};
 
-/// The lines that a newline ends, and what stands after the last newline, are the only cut of the
-/// bytes.
+/// The bytes of an input have exactly one cut into lines that a newline ends and a rest after the last newline.
 pub fn cut_is_unique()
     ensures cut { (bytes : List ℕ) → IsCut bytes (ended_lines bytes) (rest_of bytes) }
     ensures only_lines { (bytes : List ℕ) (cut : List (List ℕ)) (rest : List ℕ)
@@ -14,8 +13,11 @@ pub fn cut_is_unique()
         → IsCut bytes cut rest → rest ≡ rest_of bytes }
 {}
 
-/// Answers that are known, one of each command: days at the ends of years and of ISO weeks, a leap day, a week about the day 0, the
-/// end of a leap second; then a date that there is not, and two lines that are no command, of which one is too long by a byte.
+/// States one known answer of each command, and three more.
+///
+/// The dates lie at the ends of years and of ISO weeks, on a leap day, and in the week of day 0. One time is the end of
+/// a leap second. The last three answer an invalid date, a line that is not a command, and a line that is one byte too
+/// long.
 pub fn known_answers()
     ensures ymd { answer_of (codes "ymd 2 12 31") ≡ codes "0002-12-31 730 Tue 0003-W01 365" }
     ensures yo { answer_of (codes "yo 4 366") ≡ codes "0004-12-31 1461 Fri 0004-W53 366" }
@@ -39,7 +41,7 @@ pub fn known_answers()
     ensures too_long { answer_of (codes "day " ++ replicate 116 (byte "0") ++ codes "5") ≡ codes "error" }
 {}
 
-/// Outputs that are known: of nothing nothing; of a line that nothing ends, of an empty line, and of two, each answered.
+/// States known outputs: of an empty input, of a line with no newline, of an empty line, and of two lines.
 pub fn known_outputs()
     ensures nothing { output_of answer_of [] ≡ [] }
     ensures unended { output_of answer_of (codes "set 7 7") ≡ codes "[Sun] Sun\n" }

@@ -1,10 +1,10 @@
-//! What `caltool` does with bytes, whatever its dates are: the cutting of an input into lines, the
-//! answer to each command, and the loop that answers each line of a reader by one line to a writer.
+//! What `caltool` does with bytes, for any type of dates.
 //!
-//! What answers a command is a type with [`CommandAnswers`], and whatever it is, the answers are the
-//! same. [`answer_form`] and [`run_form`] answer over any stored form of dates.
+//! This crate cuts an input into lines, computes the answer to each command, and has the loop from a reader to a
+//! writer. A type with [`CommandAnswers`] answers the commands, and the answers are the same for each such type.
+//! [`answer_form`] and [`run_form`] answer over any stored form of dates.
 //!
-//! It passes on the names of `caltool_command`, which reads a line, and `Text` of `chrono_text`, which holds what is written.
+//! It passes on the names of `caltool_command`, which reads a line, and `Text` of `chrono_text`, which holds the output.
 #![tactic(auto)]
 
 mod answer;

@@ -1,4 +1,4 @@
-//! What the numbers of a command name, where no date is part of it: a time of day, a duration.
+//! The times of day and durations that the numbers of a command give.
 ghost use Rattle.std.specs.Prelude.{◌≡◌};
 ghost use Rattle.caltool_form.specs.Named.{time_named as the_time, duration_named as the_duration};
 

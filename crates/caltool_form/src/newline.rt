@@ -1,4 +1,4 @@
-//! Where a line ends.
+//! The ends of lines.
 ghost use Rattle.std.specs.Prelude.{◌≡◌, ◌≢◌, ◌+◌, ◌<◌, ◌≤◌, ◌∷◌, ◌++◌, ℕ, take, length, slice_index, IfSome, IfNone};
 ghost use Rattle.std.specs.Str.{byte};
 ghost use Rattle.caltool_form.specs.Lines.{IsPiece};

@@ -1,4 +1,4 @@
-//! The loop: reads lines and writes their answers.
+//! The loop that reads lines and writes their answers.
 ghost use Rattle.std.specs.Prelude.{◌≡◌, ◌⊎◌, ◌+◌, ◌-◌, ◌^◌, ◌<◌, ◌≤◌, ℕ, ◌++◌, [], take, OnOk, OnErr, IfErr, IsErrOf};
 ghost use Rattle.std.specs.Io.KnownBytes.{Appends, ReadConsumes};
 ghost use Rattle.std.specs.Io.{ReadsAtMost};
@@ -20,9 +20,10 @@ use std::io::{Read, Write};
 // The most bytes that one read gives.
 const PIECE: usize = 65536;
 
-/// Answers each line of the input by one line, until the input ends: `A` answers each command, and
-/// any other line is answered `error`. What is answered is written before each read, so that a user who waits
-/// for an answer has it. No failed call is tried again, and no memory is taken.
+/// Answers each line of the input with one line, until the input ends.
+///
+/// `A` answers each command, and the answer to any other line is `error`. The function writes all answers before each
+/// read, so a user who waits for an answer gets it. It repeats no failed call and allocates no memory.
 pub fn run_by<A: CommandAnswers, R: Read, W: Write>(r: &mut R, w: &mut W) -> Result<(), RunFault>
     // The input was read to its end, and its whole output written.
     ensures ok { OnOk result (AnsweredAll answer_of

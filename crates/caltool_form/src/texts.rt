@@ -1,4 +1,4 @@
-//! The texts of what commands ask for, each put behind a text, and `none` where there is nothing to write.
+//! The texts of the results of commands, each appended to a text. The text of no result is `none`.
 ghost use Rattle.std.specs.Prelude.{◌≡◌, ◌≤◌, ◌+◌, ◌*◌, ◌++◌, length, codes};
 ghost use Rattle.std.specs.Fmt.{decimal, signed_decimal};
 ghost use Rattle.std.specs.Option.{option_map};

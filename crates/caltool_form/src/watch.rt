@@ -1,5 +1,6 @@
-//! A reader and a writer that keep in mind what came of their calls: a fault has a cause, and a call
-//! that failed, or was the last, has none after it.
+//! A reader and a writer that remember the results of their calls.
+//!
+//! Proofs use this: a fault has a cause, and no call follows a call that failed or was the last.
 ghost use Rattle.std.specs.Prelude.{◌≡◌, ◌+◌, ◌-◌, ◌^◌, ◌<◌, ◌≤◌, ◌↔◌, length, IfOk, IfErr, IsTrue};
 ghost use Rattle.std.specs.Io.KnownBytes.{Keeps, ReadConsumes, WriteAppends};
 ghost use Rattle.std.specs.Io.{ReadsAtMost};

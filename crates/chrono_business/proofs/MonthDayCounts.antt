@@ -9,8 +9,9 @@ use Rattle.chrono_datetime.proofs.Signed.{signed}
 use Rattle.chrono_datetime.proofs.CountBetween.{count_between-none, count_between-sum}
 use Rattle.chrono_datetime.proofs.MonthDays.{month-days}
 use Rattle.chrono_business.specs.OpenDays.{Closed, IsNthOpenBack, IsNthOpenFrom, is_open, open_days}
-use Rattle.chrono_business.specs.Rolls.{IsLastOpen, IsNextOpen, MonthBeginsClosed, MonthEndsClosed}
+use Rattle.chrono_business.specs.Rolls.{IsLastOpen, IsNextOpen, MonthBeginsClosed, MonthEndsClosed, MonthIsClosed}
 use Rattle.chrono_business.proofs.Ranks.{open-behind, open-rises}
+use Rattle.chrono_business.proofs.RollLemmas.{last-last, next-first}
 
 in_own_month : (d : ℤ) → (month_first_of d ≤ℤ d) × (d ≤ℤ month_last_of d)
 in_own_month d = (month-days d d).0 (refl, refl)
@@ -69,6 +70,35 @@ last-of_month d = (month-days d (month_last_of d)).1 (omega (arith, signed, in_o
 none_open : (c : Closed) (d : ℤ) → ((f : ℤ) → month_first_of d ≤ℤ f → f ≤ℤ month_last_of d → is_open c f ≡ false) → open_days c (month_first_of d) (month_last_of d +ℤ pos 1) ≤ 0
 none_open c d closed =
     omega (arith, count_between-none (is_open c) (month_first_of d) (month_last_of d +ℤ pos 1) (λ f low high. closed f low (omega (arith, signed, high))))
+
+-- what is first, or last, from an end of the month is so of the month
+pub in_month-first : (o : Option ℤ) (d : ℤ) → IfSome o (λ e. InSameMonth e (month_first_of d)) → IfSome o (λ e. InSameMonth e d)
+in_month-first None d month = tt
+in_month-first (Some e) d month = let first = first-of_month d in (month.0 ∙ first.0, month.1 ∙ first.1)
+
+pub in_month-last : (o : Option ℤ) (d : ℤ) → IfSome o (λ e. InSameMonth e (month_last_of d)) → IfSome o (λ e. InSameMonth e d)
+in_month-last None d month = tt
+in_month-last (Some e) d month = let end = last-of_month d in (month.0 ∙ end.0, month.1 ∙ end.1)
+
+pub month-least : (o : Option ℤ) (c : Closed) (d : ℤ) → IfSome o (λ e. IsNextOpen c (month_first_of d) e) → IfSome o (λ e. (f : ℤ) → InSameMonth f d → is_open c f ≡ true → e ≤ℤ f)
+month-least None c d next = tt
+month-least (Some e) c d next = λ f same is. next-first c (month_first_of d) e f next is ((month-days d f).0 same).0
+
+pub month-greatest : (o : Option ℤ) (c : Closed) (d : ℤ) → IfSome o (λ e. IsLastOpen c (month_last_of d) e) → IfSome o (λ e. (f : ℤ) → InSameMonth f d → is_open c f ≡ true → f ≤ℤ e)
+month-greatest None c d last = tt
+month-greatest (Some e) c d last = λ f same is. last-last c (month_last_of d) e f last is ((month-days d f).0 same).1
+
+pub month_closed-first : (o : Option ℤ) (c : Closed) (d : ℤ) → IfNone o (MonthEndsClosed c (month_first_of d)) → IfNone o (MonthIsClosed c d)
+month_closed-first None c d closed = λ f same.
+    let first = first-of_month d in
+    closed f ((month-days d f).0 same).0 (same.0 ∙ sym first.0, same.1 ∙ sym first.1)
+month_closed-first (Some e) c d closed = tt
+
+pub month_closed-last : (o : Option ℤ) (c : Closed) (d : ℤ) → IfNone o (MonthBeginsClosed c (month_last_of d)) → IfNone o (MonthIsClosed c d)
+month_closed-last None c d closed = λ f same.
+    let end = last-of_month d in
+    closed f ((month-days d f).0 same).1 (same.0 ∙ sym end.0, same.1 ∙ sym end.1)
+month_closed-last (Some e) c d closed = tt
 
 pub exists-first : (o : Option ℤ) (c : Closed) (d : ℤ) → IfSome o (λ e. IsNextOpen c (month_first_of d) e) → IfSome o (λ e. InSameMonth e (month_first_of d)) → IfNone o (MonthEndsClosed c (month_first_of d)) → IsSome o ↔ (0 < open_days c (month_first_of d) (month_last_of d +ℤ pos 1))
 exists-first None c d next month closed =

@@ -241,11 +241,14 @@ if-no_last (Some e) c d few = tt
 -- ---- counts with a sign
 
 -- between two days the signed count is the difference of their ranks
-pub signed-ranks : (c : Closed) (a b : ℤ) → IsDate a → IsDate b → open_days_signed c a b ≡ pos (open_days c first_date b) -ℤ pos (open_days c first_date a)
-signed-ranks c a b a-is b-is =
+pub signed-ranks_from : (c : Closed) (a b : ℤ) → first_date ≤ℤ a → first_date ≤ℤ b → open_days_signed c a b ≡ pos (open_days c first_date b) -ℤ pos (open_days c first_date a)
+signed-ranks_from c a b a-from b-from =
     by_lt_z a b
-    (λ lt. omega (arith, signed, count_between-sum (is_open c) first_date a b a-is.0 (omega (arith, signed, lt)), count_between-empty (is_open c) b a (omega (arith, signed, lt))))
-    (λ ge. omega (arith, signed, count_between-sum (is_open c) first_date b a b-is.0 ge, count_between-empty (is_open c) a b ge))
+    (λ lt. omega (arith, signed, count_between-sum (is_open c) first_date a b a-from (omega (arith, signed, lt)), count_between-empty (is_open c) b a (omega (arith, signed, lt))))
+    (λ ge. omega (arith, signed, count_between-sum (is_open c) first_date b a b-from ge, count_between-empty (is_open c) a b ge))
+
+pub signed-ranks : (c : Closed) (a b : ℤ) → IsDate a → IsDate b → open_days_signed c a b ≡ pos (open_days c first_date b) -ℤ pos (open_days c first_date a)
+signed-ranks c a b a-is b-is = signed-ranks_from c a b a-is.0 b-is.0
 
 -- so the signed counts of two stretches add up
 pub signed-sum : (c : Closed) (a b e : ℤ) → open_days_signed c a b +ℤ open_days_signed c b e ≡ open_days_signed c a e

@@ -6,7 +6,7 @@ use Rattle.chrono_datetime.specs.MonthMoves.{InSameMonth}
 use Rattle.chrono_datetime.proofs.Signed.{signed}
 use Rattle.chrono_datetime.proofs.MonthDays.{month-days}
 use Rattle.chrono_business.specs.declared.roll.Roll.{Roll}
-use Rattle.chrono_business.specs.declared.roll.Roll.TheVariants.{Unadjusted, Following, Preceding, ModifiedFollowing, ModifiedPreceding, Nearest}
+use Rattle.chrono_business.specs.declared.roll.Roll.TheVariants.{Unadjusted, Following, Preceding, ModifiedFollowing, ModifiedPreceding, NearestIsda, NearestQuantLib}
 use Rattle.chrono_business.specs.OpenDays.{Closed, is_open}
 use Rattle.chrono_business.specs.Rolls.{IsLastOpen, IsNextOpen, RollsTo}
 use Rattle.chrono_business.proofs.RollLemmas.{last-last, next-first, open_and_closed}
@@ -17,7 +17,8 @@ rolls-open c Following d e other rolled = rolled.passes
 rolls-open c Preceding d e other rolled = rolled.passes
 rolls-open c ModifiedFollowing d e other rolled = elim rolled [ inl h ↦ h.0.passes | inr h ↦ h.0.passes ]
 rolls-open c ModifiedPreceding d e other rolled = elim rolled [ inl h ↦ h.0.passes | inr h ↦ h.0.passes ]
-rolls-open c Nearest d e other rolled = rolled.passes
+rolls-open c NearestIsda d e other rolled = elim rolled [ inl h ↦ h.0.passes | inr h ↦ h.0.passes ]
+rolls-open c NearestQuantLib d e other rolled = rolled.passes
 
 -- an open day is its own next one and its own last one
 next-same : (c : Closed) (d e : ℤ) → is_open c d ≡ true → IsNextOpen c d e → e ≡ d
@@ -32,7 +33,8 @@ rolls-stay c Following d e date is rolled = next-same c d e is rolled
 rolls-stay c Preceding d e date is rolled = last-same c d e is rolled
 rolls-stay c ModifiedFollowing d e date is rolled = elim rolled [ inl h ↦ next-same c d e is h.0 | inr h ↦ last-same c d e is h.0 ]
 rolls-stay c ModifiedPreceding d e date is rolled = elim rolled [ inl h ↦ last-same c d e is h.0 | inr h ↦ next-same c d e is h.0 ]
-rolls-stay c Nearest d e date is rolled = omega (arith, signed, rolled.nearest d date is)
+rolls-stay c NearestIsda d e date is rolled = elim rolled [ inl h ↦ next-same c d e is h.0 | inr h ↦ last-same c d e is h.0 ]
+rolls-stay c NearestQuantLib d e date is rolled = omega (arith, signed, rolled.nearest d date is)
 
 pub following-in_month : (c : Closed) (d e f : ℤ) → RollsTo c ModifiedFollowing d e → InSameMonth f d → is_open c f ≡ true → InSameMonth e d
 following-in_month c d e f rolled month is = elim rolled [

@@ -29,7 +29,7 @@ date_named (NthWeekday n weekday month) y = date_of_nth_weekday y (number_from_m
 date_named (LastWeekday weekday month) y = date_of_last_weekday y (number_from_month month) weekday
 date_named (EasterPlus days) y = date_of_easter_plus y days
 
--- the days by which a holiday on Saturday is moved, and one on Sunday
+-- the days by which a holiday on Saturday is moved
 unfoldable pub from_saturday : Moved → ℤ
 from_saturday Stays = pos 0
 from_saturday SundayToMonday = pos 0
@@ -37,6 +37,7 @@ from_saturday ToMonday = pos 2
 from_saturday ToNearer = neg_ℤ (pos 1)
 from_saturday TwoDaysOn = pos 2
 
+-- the days by which a holiday on Sunday is moved
 unfoldable pub from_sunday : Moved → ℤ
 from_sunday Stays = pos 0
 from_sunday SundayToMonday = pos 1
@@ -50,7 +51,7 @@ moved_by moved n =
     if days_from_monday (weekday_of n) == 5 then from_saturday moved
     else (if days_from_monday (weekday_of n) == 6 then from_sunday moved else pos 0)
 
--- the rule of these
+-- the rule of a day, of how it is moved, and of its first and last year
 abbrev pub rule_of : HolidayDay → Moved → ℤ → ℤ → HolidayRule
 rule_of day moved first last = record { day = day; moved = moved; first_year = first; last_year = last }
 

@@ -1,5 +1,5 @@
 -- Open days: those that are neither on the weekend nor holidays, and how many of them there are between two days.
-use Rattle.std.specs.Prelude.{◌≡◌, ℕ, ◌<◌, Bool, true, not, ◌&&◌, List, length, slice_index_or, ℤ, pos, ◌+ℤ◌, ◌-ℤ◌, ◌≤ℤ◌, ◌<ℤ◌}
+use Rattle.std.specs.Prelude.{◌≡◌, ℕ, ◌<◌, Bool, true, not, ◌&&◌, List, length, slice_index_or, ℤ, pos, ◌+ℤ◌, ◌-ℤ◌, ◌≤ℤ◌, ◌<ℤ◌, unsigned_abs}
 use Rattle.std.specs.List.{All, list_any}
 use Rattle.std.specs.Ordering.{int_eq}
 use Rattle.chrono_datetime.specs.WeekdaySet.{DaySet}
@@ -41,7 +41,7 @@ pub record AreHolidays (weekend : DaySet) (holidays : List ℤ) : Type 0 where
 abbrev pub open_days : Closed → ℤ → ℤ → ℕ
 open_days c a b = count_between (is_open c) a b
 
--- the same with a sign: negative, and of the days from b to before a, if b is before a
+-- how many of the days from a to before b are open, negative if b is before a
 abbrev pub open_days_signed : Closed → ℤ → ℤ → ℤ
 open_days_signed c a b = pos (open_days c a b) -ℤ pos (open_days c b a)
 
@@ -56,3 +56,35 @@ pub record IsNthOpenBack (c : Closed) (d : ℤ) (n : ℕ) (e : ℤ) : Type 0 whe
   pub passes : is_open c e ≡ true
   pub not_after : e ≤ℤ d
   pub count : open_days c (e +ℤ pos 1) (d +ℤ pos 1) ≡ n
+
+-- e is the n-th open day after the day d, counted from 1: it is open, and n of the days behind d up to it are
+pub record IsNthOpenAfter (c : Closed) (d : ℤ) (n : ℕ) (e : ℤ) : Type 0 where
+  pub passes : is_open c e ≡ true
+  pub after : d <ℤ e
+  pub count : open_days c (d +ℤ pos 1) (e +ℤ pos 1) ≡ n
+
+-- e is the n-th open day before the day d, counted from 1: it is open, and n of the days from it to before d are
+pub record IsNthOpenBefore (c : Closed) (d : ℤ) (n : ℕ) (e : ℤ) : Type 0 where
+  pub passes : is_open c e ≡ true
+  pub before : e <ℤ d
+  pub count : open_days c e d ≡ n
+
+-- the day d moved by n open days is e: the n-th open day after d, or before d, and by 0 the first one from d on. So from a
+-- closed day the next open day counts as the first, and the last one before it as the first back (QuantLib, `advance`;
+-- pandas, `BDay`; and, but for n = 0, Excel, `WORKDAY`)
+pub record IsMovedByOpenDays (c : Closed) (d n e : ℤ) : Type 0 where
+  pub on : pos 0 <ℤ n → IsNthOpenAfter c d (unsigned_abs n) e
+  pub zero : n ≡ pos 0 → IsNthOpenFrom c d 0 e
+  pub back : n <ℤ pos 0 → IsNthOpenBefore c d (unsigned_abs n) e
+
+-- the next open day from d on, moved by n open days, is e: e is open, and n of the days from d to before e are (numpy,
+-- `busday_offset` with roll='forward')
+pub record IsMovedFromNext (c : Closed) (d n e : ℤ) : Type 0 where
+  pub passes : is_open c e ≡ true
+  pub count : open_days_signed c d e ≡ n
+
+-- the last open day up to d, moved by n open days, is e: e is open, and n of the days behind d up to e are (numpy,
+-- `busday_offset` with roll='backward')
+pub record IsMovedFromPrevious (c : Closed) (d n e : ℤ) : Type 0 where
+  pub passes : is_open c e ≡ true
+  pub count : open_days_signed c (d +ℤ pos 1) (e +ℤ pos 1) ≡ n

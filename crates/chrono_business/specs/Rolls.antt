@@ -1,9 +1,12 @@
 -- Where a day that is closed rolls to.
-use Rattle.std.specs.Prelude.{◌≡◌, ◌≤◌, true, false, ◌⊎◌, ℤ, ◌-ℤ◌, ◌≤ℤ◌, ◌<ℤ◌, unsigned_abs}
+use Rattle.std.specs.Prelude.{◌≡◌, ◌≤◌, true, false, ◌⊎◌, [], ◌∷◌, ℤ, ◌-ℤ◌, ◌≤ℤ◌, ◌<ℤ◌, unsigned_abs}
+use Rattle.chrono_datetime.specs.declared.Weekday.TheVariants.{Mon, Sun}
+use Rattle.chrono_datetime.specs.WeekdaySet.{DaySet, set_of}
 use Rattle.chrono_datetime.specs.Days.{IsDate}
 use Rattle.chrono_datetime.specs.MonthMoves.{InSameMonth}
+use Rattle.chrono_datetime.specs.Recurrence.{is_on}
 use Rattle.chrono_business.specs.declared.roll.Roll.{Roll}
-use Rattle.chrono_business.specs.declared.roll.Roll.TheVariants.{Unadjusted, Following, Preceding, ModifiedFollowing, ModifiedPreceding, Nearest}
+use Rattle.chrono_business.specs.declared.roll.Roll.TheVariants.{Unadjusted, Following, Preceding, ModifiedFollowing, ModifiedPreceding, NearestIsda, NearestQuantLib}
 use Rattle.chrono_business.specs.OpenDays.{Closed, is_open}
 
 -- e is the first open day from d on
@@ -18,12 +21,17 @@ pub record IsLastOpen (c : Closed) (d e : ℤ) : Type 0 where
   pub not_after : e ≤ℤ d
   pub greatest : (f : ℤ) → e <ℤ f → f ≤ℤ d → is_open c f ≡ false
 
--- the days from d to the end of its month are closed, and those from the beginning of its month to d
+-- the days from d to the end of its month are closed
 abbrev pub MonthEndsClosed : Closed → ℤ → Type 0
 MonthEndsClosed c d = (f : ℤ) → d ≤ℤ f → InSameMonth f d → is_open c f ≡ false
 
+-- the days from the beginning of its month to d are closed
 abbrev pub MonthBeginsClosed : Closed → ℤ → Type 0
 MonthBeginsClosed c d = (f : ℤ) → f ≤ℤ d → InSameMonth f d → is_open c f ≡ false
+
+-- the month of d has no open day
+abbrev pub MonthIsClosed : Closed → ℤ → Type 0
+MonthIsClosed c d = (f : ℤ) → InSameMonth f d → is_open c f ≡ false
 
 -- e is the open date nearest to d, of two that are equally near the later
 pub record IsNearestOpen (c : Closed) (d e : ℤ) : Type 0 where
@@ -31,12 +39,18 @@ pub record IsNearestOpen (c : Closed) (d e : ℤ) : Type 0 where
   pub nearest : (f : ℤ) → IsDate f → is_open c f ≡ true → unsigned_abs (e -ℤ d) ≤ unsigned_abs (f -ℤ d)
   pub later : (f : ℤ) → IsDate f → is_open c f ≡ true → unsigned_abs (e -ℤ d) ≡ unsigned_abs (f -ℤ d) → f ≤ℤ e
 
+-- the days from which `NearestIsda` goes to the next open day
+abbrev pub sunday_and_monday : DaySet
+sunday_and_monday = set_of (Sun ∷ Mon ∷ [])
+
 -- d rolls to e: by `ModifiedFollowing` to the next open day, or to the last one where the rest of the month is
--- closed, and by `ModifiedPreceding` the other way round
+-- closed, and by `ModifiedPreceding` the other way round; by `NearestIsda` on a Sunday or a Monday to the next open day, and
+-- on other days to the last one (ISDA 2006, section 4.12(a)(iv)); by `NearestQuantLib` to the nearest (QuantLib, `Nearest`)
 abbrev pub RollsTo : Closed → Roll → ℤ → ℤ → Type 0
 RollsTo c Unadjusted d e = e ≡ d
 RollsTo c Following d e = IsNextOpen c d e
 RollsTo c Preceding d e = IsLastOpen c d e
 RollsTo c ModifiedFollowing d e = (IsNextOpen c d e × InSameMonth e d) ⊎ (IsLastOpen c d e × MonthEndsClosed c d)
 RollsTo c ModifiedPreceding d e = (IsLastOpen c d e × InSameMonth e d) ⊎ (IsNextOpen c d e × MonthBeginsClosed c d)
-RollsTo c Nearest d e = IsNearestOpen c d e
+RollsTo c NearestIsda d e = (IsNextOpen c d e × (is_on sunday_and_monday d ≡ true)) ⊎ (IsLastOpen c d e × (is_on sunday_and_monday d ≡ false))
+RollsTo c NearestQuantLib d e = IsNearestOpen c d e

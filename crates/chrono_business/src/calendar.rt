@@ -1,7 +1,7 @@
 //! `Calendar`: which days are closed.
 //!
-//! Where its open days lie by their numbers stands in `ranks`, what is asked of it in `open_days`, `rolls`
-//! and `months`; `checked` makes a calendar of holidays that may be wrong.
+//! `ranks` finds the numbers of open days. `open_days`, `rolls` and `months` have the public functions.
+//! `checked` makes a calendar of holidays that may be wrong.
 ghost use Rattle.std.specs.Prelude.{◌≡◌};
 ghost use Rattle.chrono_business.specs.OpenDays.{AreHolidays};
 
@@ -36,10 +36,17 @@ impl<'a> Model for Calendar<'a> {
 }
 
 impl<'a> Calendar<'a> {
-    /// The calendar that is closed on these weekdays and on these days, which rise and none of which is on the
-    /// weekend.
+    /// Returns the calendar that is closed on the days of `weekend` and on `holidays`.
     ///
-    /// [`try_new`](Self::try_new) checks holidays of which that is not known.
+    /// Requires that `holidays` are strictly increasing, and that none is on the weekend.
+    /// [`try_new`](Self::try_new) checks holidays that may not be so.
+    ///
+    /// ```
+    /// use chrono_datetime::{NaiveDate, Weekday, WeekdaySet};
+    /// let holidays = [NaiveDate::from_ymd_opt(2024, 1, 1)?];
+    /// let calendar = Calendar::new(WeekdaySet::from_array([Weekday::Sat, Weekday::Sun]), &holidays);
+    /// calendar.is_open(holidays[0]) // false
+    /// ```
     #[inline]
     pub fn new(weekend: WeekdaySet, holidays: &'a [NaiveDate]) -> Calendar<'a>
         requires { AreHolidays weekend holidays.now }

@@ -1,4 +1,4 @@
-//! Easter of a year, by whole numbers alone.
+//! Easter of a year, by integer arithmetic alone.
 ghost use Rattle.std.specs.Prelude.{◌≡◌, ◌≤◌, ◌↔◌, ◌-◌, ◌%◌, ◌==◌, ◌&&◌, ◌||◌, nat_lt, if◌then◌else◌, ◌≤ℤ◌, neg_ℤ, pos, IsSome, IfSome};
 ghost use Rattle.chrono_datetime.specs.Years.{IsYear};
 ghost use Rattle.chrono_datetime.specs.Days.{day_number_of_ymd, year_of};
@@ -13,11 +13,17 @@ const YEARS_OF_MOONS: i32 = 5_700_000;
 // Whole weeks, more days than there are before the day 0.
 const WEEKS_BEFORE_ZERO: i32 = 95_746_133;
 
-/// Easter Sunday of a year of the Gregorian calendar, by the moon of its tables; `None` exactly if the year is not from
-/// -262,143 to 262,142.
+/// Returns Easter Sunday of `year` by the Gregorian tables of the moon.
 ///
-/// So Easter of 2024 is 31 March. It is from 22 March to 25 April; years before 1583 have it as the Gregorian tables
-/// give it, and not as it was kept.
+/// Returns `None` if the year is not from -262,143 to 262,142.
+///
+/// ```
+/// easter(2024) // Some(2024-03-31)
+/// easter(300_000) // None
+/// ```
+///
+/// Easter is from 22 March to 25 April. For years before 1583 the function still uses the Gregorian tables.
+/// So it does not return the day on which Easter was kept then.
 pub fn easter(year: i32) -> Option<NaiveDate>
     ensures date { result ≡ date_of_easter year }
     ensures exists { IsSome result ↔ IsYear year }
@@ -63,7 +69,7 @@ fn place_of_epact(year: u32) -> u32
     (19 * (year % 19) + 15 + solar - lunar) % 30
 }
 
-// A day earlier of the last two epacts: of 24 always, and of 25 in the later years of the cycle.
+// The last two epacts count a day earlier: 24 always, and 25 in the later years of the cycle.
 fn moon_in_march(days: u32, golden: u32) -> u32
     requires { days ≤ 29 }
     ensures value { result ≡ (if (days == 29) || ((days == 28) && nat_lt 11 golden) then days - 1 else days) }

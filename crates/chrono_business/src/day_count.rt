@@ -1,5 +1,4 @@
-//! Day counts: which part of a year lies between two dates, as an exact fraction (ISDA 2006 Definitions, section
-//! 4.16).
+//! Day counts: the part of a year between two dates, as an exact fraction (ISDA 2006 Definitions, section 4.16).
 ghost use Rattle.std.specs.Prelude.{◌≡◌, ◌≤◌, ◌==◌, ◌&&◌, nat_lt, if◌then◌else◌, pos, neg_ℤ, ◌+ℤ◌, ◌-ℤ◌, ◌*ℤ◌, ◌≤ℤ◌};
 ghost use Rattle.chrono_datetime.specs.Days.{month_of, ordinal_of, year_of};
 ghost use Rattle.chrono_datetime.specs.Years.{is_leap_year};
@@ -8,17 +7,28 @@ ghost use Rattle.chrono_business.specs.DayCounts.{at_most_30 as up_to_30, days_3
 
 use chrono_datetime::{Datelike, NaiveDate};
 
-/// An exact fraction, not reduced, and compared by its two numbers.
+/// An exact fraction, which is not reduced. Two are equal if both their numbers are.
 #[derive(Clone, Copy, PartialEq, Eq, Hash, Debug)]
 pub struct Fraction {
     /// The number above the line.
     pub numerator: i64,
-    /// The number below it, which is positive.
+    /// The number below the line, which is positive.
     pub denominator: i64,
 }
 
-/// "Actual/Actual" or "Actual/Actual (ISDA)" (4.16(b)): the days that lie in leap years over 366, and the other days over
-/// 365. The first day counts and the last does not; where `to` is earlier the days count from `to` on, with a minus sign.
+/// Returns the days from `from` to `to`, those in leap years over 366 and all others over 365.
+///
+/// This is "Actual/Actual" or "Actual/Actual (ISDA)" (ISDA 2006, section 4.16(b)).
+/// The day `from` counts, and the day `to` does not. If `to` is the earlier, the result is negative.
+/// Then the day `to` counts, and the day `from` does not.
+///
+/// ```
+/// use chrono_datetime::NaiveDate;
+/// let (from, to) = (NaiveDate::from_ymd_opt(2023, 12, 31)?, NaiveDate::from_ymd_opt(2024, 1, 2)?);
+/// actual_actual_isda(from, to) // Fraction { numerator: 731, denominator: 133590 }
+/// ```
+///
+/// The denominator is always 365 times 366, which is 133,590.
 pub fn actual_actual_isda(from: NaiveDate, to: NaiveDate) -> Fraction
     ensures numerator { result.numerator ≡ days_actual_actual from to }
     ensures denominator { result.denominator ≡ pos 133_590 }
@@ -30,7 +40,13 @@ pub fn actual_actual_isda(from: NaiveDate, to: NaiveDate) -> Fraction
     }
 }
 
-/// "Actual/360" (4.16(e)): the days from one date to another over 360.
+/// Returns the days from `from` to `to` over 360: "Actual/360" (ISDA 2006, section 4.16(e)).
+///
+/// ```
+/// use chrono_datetime::NaiveDate;
+/// let (from, to) = (NaiveDate::from_ymd_opt(2024, 1, 1)?, NaiveDate::from_ymd_opt(2024, 3, 1)?);
+/// actual_360(from, to) // Fraction { numerator: 60, denominator: 360 }
+/// ```
 pub fn actual_360(from: NaiveDate, to: NaiveDate) -> Fraction
     ensures numerator { result.numerator ≡ to -ℤ from }
     ensures denominator { result.denominator ≡ pos 360 }
@@ -41,7 +57,15 @@ pub fn actual_360(from: NaiveDate, to: NaiveDate) -> Fraction
     }
 }
 
-/// "Actual/365 (Fixed)" (4.16(d)): the days from one date to another over 365, in leap years too.
+/// Returns the days from `from` to `to` over 365: "Actual/365 (Fixed)" (ISDA 2006, section 4.16(d)).
+///
+/// ```
+/// use chrono_datetime::NaiveDate;
+/// let (from, to) = (NaiveDate::from_ymd_opt(2024, 1, 1)?, NaiveDate::from_ymd_opt(2025, 1, 1)?);
+/// actual_365_fixed(from, to) // Fraction { numerator: 366, denominator: 365 }
+/// ```
+///
+/// The denominator is 365 in leap years too.
 pub fn actual_365_fixed(from: NaiveDate, to: NaiveDate) -> Fraction
     ensures numerator { result.numerator ≡ to -ℤ from }
     ensures denominator { result.denominator ≡ pos 365 }
@@ -52,8 +76,17 @@ pub fn actual_365_fixed(from: NaiveDate, to: NaiveDate) -> Fraction
     }
 }
 
-/// "30/360" or "Bond Basis" (4.16(f)): each month has 30 days; a first day on the 31st counts as the 30th, and a last
-/// one if the first is later than the 29th. Which is the first goes by the arguments, also where `to` is earlier.
+/// Returns the days from `from` to `to` over 360, where each month has 30 days.
+///
+/// This is "30/360" or "Bond Basis" (ISDA 2006, section 4.16(f)). A `from` on the 31st counts as the 30th.
+/// A `to` on the 31st counts as the 30th only if `from` is later than the 29th of its month.
+/// `from` stays the first date even if `to` is the earlier.
+///
+/// ```
+/// use chrono_datetime::NaiveDate;
+/// let (from, to) = (NaiveDate::from_ymd_opt(2007, 2, 28)?, NaiveDate::from_ymd_opt(2007, 8, 31)?);
+/// thirty_360(from, to) // Fraction { numerator: 183, denominator: 360 }
+/// ```
 pub fn thirty_360(from: NaiveDate, to: NaiveDate) -> Fraction
     ensures numerator { result.numerator ≡ days_30_360 from to }
     ensures denominator { result.denominator ≡ pos 360 }
@@ -65,7 +98,15 @@ pub fn thirty_360(from: NaiveDate, to: NaiveDate) -> Fraction
     }
 }
 
-/// "30E/360" or "Eurobond Basis" (4.16(g)): each month has 30 days, and a 31st counts as the 30th.
+/// Returns the days from `from` to `to` over 360, where each month has 30 days and a 31st counts as the 30th.
+///
+/// This is "30E/360" or "Eurobond Basis" (ISDA 2006, section 4.16(g)).
+///
+/// ```
+/// use chrono_datetime::NaiveDate;
+/// let (from, to) = (NaiveDate::from_ymd_opt(2007, 2, 28)?, NaiveDate::from_ymd_opt(2007, 8, 31)?);
+/// thirty_e_360(from, to) // Fraction { numerator: 182, denominator: 360 }
+/// ```
 pub fn thirty_e_360(from: NaiveDate, to: NaiveDate) -> Fraction
     ensures numerator { result.numerator ≡ days_30e_360 from to }
     ensures denominator { result.denominator ≡ pos 360 }
@@ -85,7 +126,8 @@ fn days_between(from: NaiveDate, to: NaiveDate) -> i64
     i64::from(to.num_days_from_ce() - from.num_days_from_ce())
 }
 
-// The days of leap years before a date, less those before year 1: 366 for each leap year, and those of its own year.
+// The days of leap years before a date, less those before year 1.
+// A leap year before the date's year gives 366, and its own year gives the days before the date.
 fn leap_days_before(date: NaiveDate) -> i64
     ensures value { result ≡ leap_before date }
     ensures low { neg_ℤ (pos 80_000_000_000) ≤ℤ result }
@@ -94,7 +136,8 @@ fn leap_days_before(date: NaiveDate) -> i64
     366 * leap_years_before(date) + leap_days_in_year(date)
 }
 
-// The leap years before a date's year, less those before year 1: the days before its year that 365 for each leave over.
+// The leap years before a date's year, less those before year 1.
+// They are what is left of the days before that year if each year has 365.
 fn leap_years_before(date: NaiveDate) -> i64
     ensures value { result ≡ (date -ℤ pos (ordinal_of date)) -ℤ pos 365 *ℤ (year_of date -ℤ pos 1) }
     ensures low { neg_ℤ (pos 200_000_000) ≤ℤ result }

@@ -1,6 +1,6 @@
-//! Given calendars: the rules of holidays that laws and notices name.
+//! Given calendars: the holidays that laws and notices name, as rules.
 //!
-//! Each rule has its source beside it. What was proclaimed for a single day is a rule of one year.
+//! Each rule has its source next to it. A day that was proclaimed once is a rule of one year.
 ghost use Rattle.std.specs.Prelude.{◌≡◌, pos};
 ghost use Rattle.chrono_business.specs.GivenCalendars.{england_and_wales_rules, target_rules, us_federal_rules};
 ghost use Rattle.chrono_business.specs.HolidayRules.{rule_of};
@@ -13,12 +13,19 @@ use chrono_datetime::{Month, Weekday};
 // The last year of the calendar, for rules that still hold.
 const STILL: i32 = 262_142;
 
-/// The federal holidays of the United States from 1971 on: 5 U.S.C. 6103(a), and for those on a weekend 6103(b) and
-/// Executive Order 11582, by which a holiday on Saturday is kept on Friday, and one on Sunday on Monday.
+/// Returns the rules of the federal holidays of the United States, from 1971 on (5 U.S.C. 6103(a)).
 ///
-/// New Year's Day on a Saturday is kept on 31 December of the year before, so that a calendar of a year takes the rules
-/// of the next year too. Left out are Inauguration Day, which is a holiday in and about Washington alone (6103(c)), and
-/// single days on which offices were closed by an executive order, such as 24 December 2024.
+/// A holiday on a Saturday is kept on Friday, and one on a Sunday on Monday.
+/// The sources are 5 U.S.C. 6103(b) and Executive Order 11582.
+///
+/// ```
+/// us_federal()[0].date_in(2022) // Some(2021-12-31)
+/// ```
+///
+/// So New Year's Day on a Saturday is kept in the year before.
+/// For a calendar of one year, find the holidays of the next year too.
+/// Inauguration Day is left out: it is a holiday in and about Washington alone (6103(c)).
+/// Single days on which an executive order closed offices, such as 24 December 2024, are left out too.
 #[tactic(auto, unfolding(crate::specs::GivenCalendars::us_federal_rules))]
 pub fn us_federal() -> [HolidayRule; 12]
     ensures rules { result ≡ us_federal_rules }
@@ -51,8 +58,16 @@ pub fn us_federal() -> [HolidayRule; 12]
     ]
 }
 
-/// The days other than Saturday and Sunday on which TARGET is closed, from 1999 on: the closing days that the European
-/// Central Bank set for the years 1999, 2000 and 2001, and its long-term calendar from 2002 on (ECB, 14 December 2000).
+/// Returns the rules of the days on which TARGET is closed, from 1999 on, besides Saturdays and Sundays.
+///
+/// The European Central Bank set the closing days for 1999, 2000 and 2001.
+/// From 2002 on its long-term calendar holds (ECB, 14 December 2000).
+///
+/// ```
+/// let good_friday = target()[2];
+/// good_friday.date_in(2024) // Some(2024-03-29)
+/// good_friday.date_in(1999) // None
+/// ```
 #[tactic(auto, unfolding(crate::specs::GivenCalendars::target_rules))]
 pub fn target() -> [HolidayRule; 8]
     ensures rules { result ≡ target_rules }
@@ -73,8 +88,16 @@ pub fn target() -> [HolidayRule; 8]
     ]
 }
 
-/// The bank holidays of England and Wales from 1978 on, with Good Friday and Christmas Day, which are holidays by common
-/// law: the Banking and Financial Dealings Act 1971, schedule 1, and royal proclamations under its section 1.
+/// Returns the rules of the bank holidays of England and Wales, from 1978 on.
+///
+/// They include Good Friday and Christmas Day, which are holidays by common law. The others come from two sources.
+/// One is the Banking and Financial Dealings Act 1971, schedule 1.
+/// The other is royal proclamations under its section 1.
+///
+/// ```
+/// let christmas_day = england_and_wales()[19];
+/// christmas_day.date_in(2021) // Some(2021-12-27)
+/// ```
 #[tactic(auto, unfolding(crate::specs::GivenCalendars::england_and_wales_rules))]
 pub fn england_and_wales() -> [HolidayRule; 26]
     ensures rules { result ≡ england_and_wales_rules }

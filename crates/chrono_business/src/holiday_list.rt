@@ -1,4 +1,4 @@
-//! Lists of holidays in the caller's memory, which rise and have each day once.
+//! Lists of holidays in the caller's memory. They are strictly increasing.
 ghost use Rattle.std.specs.Prelude.{◌≡◌, ◌≤◌, ◌<◌, ◌⊎◌, ◌+◌, ◌++◌, ◌∷◌, ℤ, true, false, length, take, drop, filter, Some, IfSome, IfNone};
 ghost use Rattle.chrono_business.specs.OpenDays.{AreHolidays, AreRising, is_holiday, is_workday};
 ghost use Rattle.chrono_business.specs.HolidayRules.{date_of_rule};
@@ -7,11 +7,20 @@ ghost use Rattle.chrono_business.specs.HolidayLists.{AreHolidaysWith, AreTooMany
 use crate::holiday_rule::HolidayRule;
 use chrono_datetime::{Datelike, NaiveDate, WeekdaySet};
 
-/// Writes the dates of the rules of the years from `first_year` to `last_year` that are not on the weekend, in order and
-/// each once, at the beginning of a slice; how many there are, and `None` exactly if the slice is too short for them.
+/// Writes the holidays of `rules` for the years from `first_year` to `last_year` at the beginning of `out`.
 ///
-/// They are the holidays that [`Calendar::new`](crate::Calendar::new) takes. What stands behind them in the slice, and in
-/// all of it after `None`, is not said.
+/// The dates are strictly increasing, and those on the weekend are left out. Returns how many there are.
+/// [`Calendar::new`](crate::Calendar::new) takes them. Returns `None` if `out` is too short.
+///
+/// ```
+/// use chrono_datetime::{NaiveDate, Weekday, WeekdaySet};
+/// let weekend = WeekdaySet::from_array([Weekday::Sat, Weekday::Sun]);
+/// let mut out = [NaiveDate::MIN; 20];
+/// holidays_of(&target(), 2024, 2024, weekend, &mut out) // Some(6)
+/// &out[..3] // [2024-01-01, 2024-03-29, 2024-04-01]
+/// ```
+///
+/// Elements of `out` past the holidays, and all elements after `None`, can have any value.
 pub fn holidays_of(
     rules: &[HolidayRule],
     first_year: i32,
@@ -35,10 +44,18 @@ pub fn holidays_of(
     Some(len)
 }
 
-/// Takes the days on the weekend out of a slice: those that are left stand at its beginning, in their order; how many
-/// there are.
+/// Moves the `dates` that are not on the weekend to the beginning of the slice, in their order.
 ///
-/// So days that rise are holidays of a calendar then. What stands behind them in the slice is not said.
+/// Returns how many there are. If `dates` were strictly increasing, these are the holidays of a calendar.
+///
+/// ```
+/// use chrono_datetime::{NaiveDate, Weekday, WeekdaySet};
+/// let mut dates = [NaiveDate::from_ymd_opt(2024, 6, 1)?, NaiveDate::from_ymd_opt(2024, 6, 3)?];
+/// without_weekends(WeekdaySet::from_array([Weekday::Sat, Weekday::Sun]), &mut dates) // 1
+/// dates[0] // 2024-06-03
+/// ```
+///
+/// Elements past these can have any value.
 pub fn without_weekends(weekend: WeekdaySet, dates: &mut [NaiveDate]) -> usize
     ensures bound { result ≤ length dates.old }
     ensures left { take result dates.new ≡ filter (is_workday weekend) dates.old }
@@ -56,8 +73,8 @@ pub fn without_weekends(weekend: WeekdaySet, dates: &mut [NaiveDate]) -> usize
     count
 }
 
-// Puts the dates of the rules of a year among the first `len` of a slice, which are holidays; how many there are then,
-// and `None` exactly if there is no room.
+// Inserts the dates of the rules of a year into the first `len` of a slice, which are holidays.
+// Returns how many there are then, and `None` if the slice is too short.
 fn insert_year(
     rules: &[HolidayRule],
     year: i32,
@@ -80,8 +97,8 @@ fn insert_year(
     Some(count)
 }
 
-// Puts the date of a rule of a year, if there is one, among the first `len` of a slice, which are holidays; how many
-// there are then, and `None` exactly if there is no room.
+// Inserts the date of a rule of a year, if there is one, into the first `len` of a slice, which are holidays.
+// Returns how many there are then, and `None` if the slice is too short.
 fn insert_rule(
     rule: &HolidayRule,
     year: i32,
@@ -103,8 +120,8 @@ fn insert_rule(
     }
 }
 
-// Puts the days of a list among the first `len` of a slice, which are holidays, but for those on the weekend; how many
-// there are then, and `None` exactly if there is no room.
+// Inserts the days of a list, but for those on the weekend, into the first `len` of a slice, which are holidays.
+// Returns how many there are then, and `None` if the slice is too short.
 pub(crate) fn insert_all(
     weekend: WeekdaySet,
     more: &[NaiveDate],
@@ -126,8 +143,8 @@ pub(crate) fn insert_all(
     Some(count)
 }
 
-// Puts a date among the first `len` of a slice, which are holidays, unless it is there or on the weekend; how many there
-// are then, and `None` exactly if there is no room.
+// Inserts a date into the first `len` of a slice, which are holidays, unless it is there or on the weekend.
+// Returns how many there are then, and `None` if the slice is too short.
 pub(crate) fn insert(
     weekend: WeekdaySet,
     dates: &mut [NaiveDate],
@@ -156,8 +173,8 @@ pub(crate) fn insert(
     }
 }
 
-// Puts a date at a place among the first `len` of a slice; how many there are then, and `None` exactly if there is no
-// room.
+// Inserts a date at a place among the first `len` of a slice.
+// Returns how many there are then, and `None` if the slice is too short.
 fn insert_at(dates: &mut [NaiveDate], len: usize, place: usize, date: NaiveDate) -> Option<usize>
     requires place { place ≤ len }
     requires len { len ≤ length dates.old }

@@ -1,5 +1,7 @@
-//! Rules by which holidays are found: `HolidayDay`, the day that is named in a year, `Moved`, where it goes from a
-//! weekend, and `HolidayRule`, both with the years in which the rule holds.
+//! Rules that define holidays.
+//!
+//! `HolidayDay` is the day that is named in a year, and `Moved` says where it goes from a weekend.
+//! `HolidayRule` has both, with the years in which the rule holds.
 ghost use Rattle.std.specs.Prelude.{◌≡◌, ◌==◌, if◌then◌else◌, pos, ◌+ℤ◌, IfSome};
 ghost use Rattle.std.specs.Option.{option_and_then};
 ghost use Rattle.chrono_datetime.specs.Weekday.{days_from_monday};
@@ -9,49 +11,59 @@ ghost use Rattle.chrono_business.specs.HolidayRules.{date_named, date_of_easter_
 use crate::computus::easter;
 use chrono_datetime::{Datelike, Month, NaiveDate, Weekday};
 
-/// A day that each year has, or some years.
+/// A day that every year has, or some years.
 #[derive(Clone, Copy, PartialEq, Eq, Hash, Debug)]
 pub enum HolidayDay {
-    /// That day of the month.
+    /// This day of this month, such as 25 December.
     Fixed(Month, u32),
-    /// The n-th of the month's days with the weekday, counted from 1.
+    /// The `n`-th day of the month with this weekday, counted from 1, such as the fourth Thursday in November.
     NthWeekday(u8, Weekday, Month),
-    /// The last of the month's days with the weekday.
+    /// The last day of the month with this weekday, such as the last Monday in May.
     LastWeekday(Weekday, Month),
-    /// So many days after Easter Sunday, or before it.
+    /// The day that is this number of days after Easter Sunday. A negative number is before it.
     EasterPlus(i32),
 }
 
-/// Where a holiday goes that falls on Saturday or Sunday. On any other day it stays.
+/// Where a holiday goes that falls on a Saturday or a Sunday. On any other day it stays.
 #[derive(Clone, Copy, PartialEq, Eq, Hash, Debug)]
 pub enum Moved {
-    /// Nowhere.
+    /// The holiday is not moved.
     Stays,
-    /// From Sunday to Monday; on Saturday it stays.
+    /// A holiday on Sunday goes to Monday. On Saturday it stays.
     SundayToMonday,
-    /// To Monday.
+    /// A holiday on Saturday or Sunday goes to the Monday after it.
     ToMonday,
-    /// To the nearer workday: from Saturday to Friday, and from Sunday to Monday.
+    /// The holiday goes to the nearer workday: from Saturday to Friday, and from Sunday to Monday.
     ToNearer,
-    /// Two days on: from Saturday to Monday, and from Sunday to Tuesday, where two holidays follow one another.
+    /// The holiday goes two days later: from Saturday to Monday, and from Sunday to Tuesday.
+    ///
+    /// This serves two holidays that follow one another, such as Christmas Day and Boxing Day.
     TwoDaysOn,
 }
 
-/// A rule of holidays: a day, where it goes from a weekend, and the first and the last year in which the rule holds.
+/// A rule of holidays: a day, where it goes from a weekend, and the years in which the rule holds.
 #[derive(Clone, Copy, PartialEq, Eq, Hash, Debug)]
 pub struct HolidayRule {
     /// The day that is named.
     pub day: HolidayDay,
-    /// Where it goes from a weekend.
+    /// Where the day goes if it is on a weekend.
     pub moved: Moved,
-    /// The first year of the rule.
+    /// The first year in which the rule holds.
     pub first_year: i32,
-    /// The last year of the rule.
+    /// The last year in which the rule holds.
     pub last_year: i32,
 }
 
 impl HolidayDay {
-    /// The date that is named in a year; `None` exactly if there is none.
+    /// Returns the date that is named in `year`.
+    ///
+    /// Returns `None` if the year has no such day.
+    ///
+    /// ```
+    /// use chrono_datetime::{Month, Weekday};
+    /// HolidayDay::NthWeekday(4, Weekday::Thu, Month::November).date_in(2024) // Some(2024-11-28)
+    /// HolidayDay::Fixed(Month::February, 29).date_in(2023) // None
+    /// ```
     #[tactic(auto, unfolding(crate::specs::HolidayRules::date_named))]
     pub fn date_in(self, year: i32) -> Option<NaiveDate>
         ensures { result ≡ date_named self year }
@@ -72,7 +84,14 @@ impl HolidayDay {
 }
 
 impl Moved {
-    /// The date to which a holiday is moved; `None` exactly if there is none.
+    /// Returns the date to which a holiday on `date` is moved.
+    ///
+    /// Returns `None` if that date is out of range.
+    ///
+    /// ```
+    /// use chrono_datetime::NaiveDate;
+    /// Moved::ToNearer.date_from(NaiveDate::from_ymd_opt(2021, 7, 4)?) // Some(2021-07-05)
+    /// ```
     pub fn date_from(self, date: NaiveDate) -> Option<NaiveDate>
         ensures date { result ≡ date_of_day (date +ℤ moved_by self date) }
         ensures exists { IfSome result (λ e. IsDate e) }
@@ -116,10 +135,17 @@ impl Moved {
 }
 
 impl HolidayRule {
-    /// The date of the rule of a year: the date that is named there, moved, which may lie in the year before or after;
-    /// `None` exactly if the rule does not hold in that year, or there is no such date.
+    /// Returns the date of the holiday of `year`, moved off the weekend. It can lie in the year before or after.
     ///
-    /// So New Year's Day of 2022, a Saturday that goes to Friday, is 31 December 2021.
+    /// Returns `None` if the rule does not hold in `year`, or if there is no such date.
+    ///
+    /// ```
+    /// use chrono_datetime::Month;
+    /// let day = HolidayDay::Fixed(Month::January, 1);
+    /// let rule = HolidayRule { day, moved: Moved::ToNearer, first_year: 1971, last_year: 2100 };
+    /// rule.date_in(2022) // Some(2021-12-31)
+    /// rule.date_in(1970) // None
+    /// ```
     #[tactic(auto, unfolding(crate::specs::HolidayRules::date_of_rule))]
     pub fn date_in(&self, year: i32) -> Option<NaiveDate>
         ensures date { result ≡ date_of_rule self.now year }
@@ -146,7 +172,7 @@ fn last_weekday(year: i32, month: u32, weekday: Weekday) -> Option<NaiveDate>
     first.last_day_of_month().week(weekday).checked_first_day()
 }
 
-// The date so many days after Easter.
+// The date `days` days after Easter.
 fn easter_plus(year: i32, days: i32) -> Option<NaiveDate>
     ensures { result ≡ date_of_easter_plus year days }
 {

@@ -1,26 +1,33 @@
-//! Laws of open days, each as the contract of a function that does nothing: behind a call of it its clauses are
-//! known; and open days, rolls, day counts and holidays that are known.
-ghost use Rattle.std.specs.Prelude.{◌≡◌, ◌≢◌, ◌+◌, ◌<◌, ◌≤◌, ℕ, ℤ, true, false, pos, neg_ℤ, ◌+ℤ◌, ◌-ℤ◌, ◌*ℤ◌, ◌≤ℤ◌, ◌<ℤ◌, List, [], ◌∷◌, Some, None};
+//! Laws of open days, and known values of open days, rolls, day counts and holidays.
+//!
+//! Each is the contract of a function that does nothing. After a call of it the prover knows its clauses.
+ghost use Rattle.std.specs.Prelude.{◌≡◌, ◌≢◌, ◌↔◌, ◌+◌, ◌<◌, ◌≤◌, ℕ, ℤ, true, false, pos, neg_ℤ, ◌+ℤ◌, ◌-ℤ◌, ◌*ℤ◌, ◌≤ℤ◌, ◌<ℤ◌, List, [], ◌∷◌, map, take, drop, slice_index_or, Some, None};
 ghost use Rattle.chrono_datetime.specs.WeekdaySet.{DaySet, set_of};
 ghost use Rattle.chrono_datetime.specs.Days.{IsDate, month_of, year_of};
 ghost use Rattle.chrono_datetime.specs.MonthMoves.{InSameMonth};
+ghost use Rattle.chrono_datetime.specs.Recurrence.{is_on};
 ghost use Rattle.chrono_datetime.specs.Weeks.{weekday_of};
 ghost use Rattle.chrono_datetime.specs.declared.Weekday.{Weekday};
-ghost use Rattle.chrono_datetime.specs.declared.Weekday.TheVariants.{Fri, Mon, Sat, Sun, Thu};
+ghost use Rattle.chrono_datetime.specs.declared.Weekday.TheVariants.{Fri, Mon, Sat, Sun, Thu, Tue, Wed};
 ghost use Rattle.chrono_datetime.specs.declared.Month.TheVariants.{December, February, January, July, June, May, November};
-ghost use Rattle.chrono_business.specs.Easter.{easter_day};
-ghost use Rattle.chrono_business.specs.HolidayRules.{date_of_last_weekday, date_of_rule, rule_of};
+ghost use Rattle.chrono_business.specs.Easter.{date_of_easter, easter_day};
+ghost use Rattle.chrono_business.specs.HolidayRules.{date_of_last_weekday, date_of_rule, moved_by, rule_of};
 ghost use Rattle.chrono_business.specs.declared.holiday_rule.HolidayDay.TheVariants.{EasterPlus, Fixed, LastWeekday, NthWeekday};
-ghost use Rattle.chrono_business.specs.declared.holiday_rule.Moved.TheVariants.{Stays, ToNearer, TwoDaysOn};
+ghost use Rattle.chrono_business.specs.declared.holiday_rule.HolidayRule.{HolidayRule};
+ghost use Rattle.chrono_business.specs.declared.holiday_rule.Moved.TheVariants.{Stays, SundayToMonday, ToMonday, ToNearer, TwoDaysOn};
 ghost use Rattle.chrono_business.specs.DayCounts.{days_30_360, days_30e_360, days_actual_actual};
-ghost use Rattle.chrono_business.specs.Rolls.{RollsTo};
+ghost use Rattle.chrono_business.specs.Rolls.{IsLastOpen, IsNextOpen, MonthBeginsClosed, MonthEndsClosed, MonthIsClosed, RollsTo, sunday_and_monday};
 ghost use Rattle.chrono_business.specs.WrongHolidays.{IsWrong};
+ghost use Rattle.chrono_business.specs.OpenDayLists.{open_days_list};
+ghost use Rattle.chrono_business.specs.HolidayLists.{AreHolidaysWith, AreTooMany, IsOfRules};
+ghost use Rattle.chrono_business.specs.GivenCalendars.{england_and_wales_rules, target_rules, us_federal_rules};
+ghost use Rattle.chrono_business.specs.declared.holiday_error.HolidayError.TheVariants.{NotRising, OnWeekend};
 ghost use Rattle.chrono_business.specs.declared.holiday_error.HolidayError.{HolidayError};
 ghost use Rattle.chrono_business.specs.declared.roll.Roll.{Roll};
-ghost use Rattle.chrono_business.specs.declared.roll.Roll.TheVariants.{Following, ModifiedFollowing, ModifiedPreceding, Nearest, Preceding, Unadjusted};
-ghost use Rattle.chrono_business.specs.OpenDays.{Closed, IsNthOpenBack, IsNthOpenFrom, closed, is_open, open_days, open_days_signed};
+ghost use Rattle.chrono_business.specs.declared.roll.Roll.TheVariants.{Following, ModifiedFollowing, ModifiedPreceding, NearestIsda, NearestQuantLib, Preceding, Unadjusted};
+ghost use Rattle.chrono_business.specs.OpenDays.{Closed, IsMovedByOpenDays, IsMovedFromNext, IsMovedFromPrevious, IsNthOpenBack, IsNthOpenFrom, closed, is_open, open_days, open_days_signed};
 
-/// From an open day so many open days on, and from there as many back, one is at the day again; and back, and on.
+/// The `n`-th open day from an open day on has that day as its `n`-th one back, and the other way round.
 pub fn open_days_come_back()
     ensures on { (c : Closed) (d e : ℤ) (n : ℕ) → is_open c d ≡ true → IsNthOpenFrom c d n e →
         IsNthOpenBack c e n d }
@@ -28,7 +35,7 @@ pub fn open_days_come_back()
         IsNthOpenFrom c e n d }
 {}
 
-/// There is at most one `n`-th open day from a day on, and up to no earlier day are there more than `n`.
+/// There is at most one `n`-th open day from a day on. Up to any earlier day at most `n` days are open.
 pub fn nth_open_days_are_least()
     ensures one { (c : Closed) (d e f : ℤ) (n : ℕ) → IsNthOpenFrom c d n e →
         IsNthOpenFrom c d n f → e ≡ f }
@@ -42,9 +49,84 @@ pub fn open_days_add_up()
         open_days_signed c a b +ℤ open_days_signed c b e ≡ open_days_signed c a e }
 {}
 
-/// Days that are known, of calendars closed on Saturday, Sunday and 1 January 2024, a Monday, which is day 738,886:
-/// that day and Saturday, 6 January are closed, Tuesday is open, and of the week from that Monday four days are open;
-/// and of one closed on Friday and Saturday, whose Sunday is open.
+/// How many open days lie between a day and where `add_open_days` moves it by `n`.
+///
+/// From an open day there are `n`, and also from any day if `n` is not positive.
+/// From a closed day there are `n - 1` if `n` is positive, since the next open day counts as the first.
+/// So a closed day moves by 1 to the next open day, and by -1 to the last one before it.
+pub fn moved_open_days_are_counted()
+    ensures open { (c : Closed) (d e n : ℤ) → is_open c d ≡ true → IsMovedByOpenDays c d n e →
+        open_days_signed c d e ≡ n }
+    ensures back { (c : Closed) (d e n : ℤ) → n ≤ℤ pos 0 → IsMovedByOpenDays c d n e →
+        open_days_signed c d e ≡ n }
+    ensures on { (c : Closed) (d e n : ℤ) → is_open c d ≡ false → pos 0 <ℤ n → IsMovedByOpenDays c d n e →
+        open_days_signed c d e +ℤ pos 1 ≡ n }
+    ensures first_on { (c : Closed) (d e : ℤ) → is_open c d ≡ false → IsNextOpen c d e →
+        IsMovedByOpenDays c d (pos 1) e }
+    ensures first_back { (c : Closed) (d e : ℤ) → is_open c d ≡ false → IsLastOpen c d e →
+        IsMovedByOpenDays c d (neg_ℤ (pos 1)) e }
+{}
+
+/// Moving a day by `n` open days and then by `-n` returns to it exactly if the day is open.
+pub fn moved_open_days_come_back()
+    ensures { (c : Closed) (d e n m : ℤ) → n +ℤ m ≡ pos 0 → IsMovedByOpenDays c d n e →
+        IsMovedByOpenDays c e m d ↔ (is_open c d ≡ true) }
+{}
+
+/// Moving an open day by `n` open days and then by `m` is moving it by `n + m`.
+///
+/// This holds of a closed day too if `n` and `n + m` are both positive, or if neither is.
+pub fn moved_open_days_add_up()
+    ensures open { (c : Closed) (d e f n m : ℤ) → is_open c d ≡ true → IsMovedByOpenDays c d n e →
+        IsMovedByOpenDays c e m f → IsMovedByOpenDays c d (n +ℤ m) f }
+    ensures on { (c : Closed) (d e f n m : ℤ) → pos 0 <ℤ n → pos 0 <ℤ (n +ℤ m) → IsMovedByOpenDays c d n e →
+        IsMovedByOpenDays c e m f → IsMovedByOpenDays c d (n +ℤ m) f }
+    ensures back { (c : Closed) (d e f n m : ℤ) → n ≤ℤ pos 0 → (n +ℤ m) ≤ℤ pos 0 → IsMovedByOpenDays c d n e →
+        IsMovedByOpenDays c e m f → IsMovedByOpenDays c d (n +ℤ m) f }
+{}
+
+/// A day moves by `n` open days to one day at most. A later day never ends earlier.
+pub fn moved_open_days_keep_order()
+    ensures one { (c : Closed) (d e f n : ℤ) → IsMovedByOpenDays c d n e → IsMovedByOpenDays c d n f → e ≡ f }
+    ensures order { (c : Closed) (d g e f n : ℤ) → d ≤ℤ g → IsMovedByOpenDays c d n e →
+        IsMovedByOpenDays c g n f → e ≤ℤ f }
+{}
+
+/// Known moves by open days, of a calendar that is closed on Saturday and Sunday.
+///
+/// From Saturday, 2 March 2024, day 738,947, the first open day is Monday, 4 March, and the first one back is Friday.
+/// By 0 it goes to Monday. From Friday, 1 March, by 1 and by 0 it goes to Monday and to Friday.
+/// From the next open day, the Saturday moves by 1 to Tuesday and by -1 to Friday.
+/// From the previous one it moves by 1 to Monday and by -1 to Thursday.
+pub fn known_open_day_moves()
+    ensures saturday { IsMovedByOpenDays (closed (set_of (Sat ∷ Sun ∷ [])) []) (pos 738_947) (pos 1) (pos 738_949) }
+    ensures saturday_back { IsMovedByOpenDays (closed (set_of (Sat ∷ Sun ∷ [])) []) (pos 738_947) (neg_ℤ (pos 1))
+        (pos 738_946) }
+    ensures saturday_zero { IsMovedByOpenDays (closed (set_of (Sat ∷ Sun ∷ [])) []) (pos 738_947) (pos 0) (pos 738_949) }
+    ensures friday { IsMovedByOpenDays (closed (set_of (Sat ∷ Sun ∷ [])) []) (pos 738_946) (pos 1) (pos 738_949) }
+    ensures friday_zero { IsMovedByOpenDays (closed (set_of (Sat ∷ Sun ∷ [])) []) (pos 738_946) (pos 0) (pos 738_946) }
+    ensures monday_back { IsMovedByOpenDays (closed (set_of (Sat ∷ Sun ∷ [])) []) (pos 738_949) (neg_ℤ (pos 1))
+        (pos 738_946) }
+    ensures not_tuesday { IsMovedByOpenDays (closed (set_of (Sat ∷ Sun ∷ [])) []) (pos 738_947) (pos 1)
+        (pos 738_950) → ⊥ }
+    ensures not_thursday { IsMovedByOpenDays (closed (set_of (Sat ∷ Sun ∷ [])) []) (pos 738_947) (neg_ℤ (pos 1))
+        (pos 738_945) → ⊥ }
+    ensures from_next { IsMovedFromNext (closed (set_of (Sat ∷ Sun ∷ [])) []) (pos 738_947) (pos 1) (pos 738_950) }
+    ensures from_next_back { IsMovedFromNext (closed (set_of (Sat ∷ Sun ∷ [])) []) (pos 738_947) (neg_ℤ (pos 1))
+        (pos 738_946) }
+    ensures from_previous { IsMovedFromPrevious (closed (set_of (Sat ∷ Sun ∷ [])) []) (pos 738_947) (pos 1)
+        (pos 738_949) }
+    ensures from_previous_back { IsMovedFromPrevious (closed (set_of (Sat ∷ Sun ∷ [])) []) (pos 738_947)
+        (neg_ℤ (pos 1)) (pos 738_945) }
+{}
+
+/// Known open days of two calendars.
+///
+/// The first is closed on Saturday, Sunday and 1 January 2024, a Monday, which is day 738,886.
+/// That day and Saturday, 6 January are closed, and Tuesday is open.
+/// The week from that Monday has four open days. The second from Monday on, counted from 0, is Thursday.
+/// From Sunday back the second is Wednesday.
+/// The second calendar is closed on Friday and Saturday, and open on Sunday.
 pub fn known_open_days()
     ensures new_year { is_open (closed (set_of (Sat ∷ Sun ∷ [])) (pos 738_886 ∷ []))
         (pos 738_886) ≡ false }
@@ -58,13 +140,23 @@ pub fn known_open_days()
         (pos 738_886) (pos 738_893) ≡ 4 }
     ensures back { open_days_signed (closed (set_of (Sat ∷ Sun ∷ [])) (pos 738_886 ∷ []))
         (pos 738_893) (pos 738_886) ≡ neg_ℤ (pos 4) }
+    ensures list { open_days_list (closed (set_of (Sat ∷ Sun ∷ [])) (pos 738_886 ∷ [])) (pos 738_886) (pos 738_890)
+        ≡ pos 738_887 ∷ pos 738_888 ∷ pos 738_889 ∷ [] }
+    ensures second_from { IsNthOpenFrom (closed (set_of (Sat ∷ Sun ∷ [])) (pos 738_886 ∷ [])) (pos 738_886) 2
+        (pos 738_889) }
+    ensures second_back { IsNthOpenBack (closed (set_of (Sat ∷ Sun ∷ [])) (pos 738_886 ∷ [])) (pos 738_892) 2
+        (pos 738_888) }
 {}
 
-/// Day counts that are known. From 1 November 2003, day 731,520, to 1 May 2004, day 731,702, there are 61 days in a common
-/// year and 121 in a leap year, and a year that begins on 1 January 2024, day 738,886, is 1 by ACT/ACT. From 28 February to
-/// 31 August 2007, days 732,735 and 732,919, there are 184 days, 183 by 30/360, which keeps the 31st, and 182 by 30E/360,
-/// and back to 28 February from 31 August 2006, day 732,554, 178 by both; from 29 January to 31 March 2024, days 738,914 and
-/// 738,976, there are 62 by 30/360.
+/// Known day counts.
+///
+/// From 1 November 2003 to 1 May 2004 (days 731,520 and 731,702) there are 61 days in a common year.
+/// 121 more are in a leap year. The whole year from 1 January 2024, day 738,886, counts as 1 by ACT/ACT.
+/// From 28 February to 31 August 2007 (days 732,735 and 732,919) there are 184 days.
+/// There are 183 by 30/360, which keeps the 31st, and 182 by 30E/360.
+/// From 31 August 2006, day 732,554, to 28 February 2007 there are 178 by both.
+/// From 29 January to 31 March 2024 (days 738,914 and 738,976) there are 62 by 30/360.
+/// From 30 and from 31 January (days 738,915 and 738,916) there are 60.
 pub fn known_day_counts()
     ensures actual { pos 732_919 -ℤ pos 732_735 ≡ pos 184 }
     ensures actual_actual { days_actual_actual (pos 731_520) (pos 731_702)
@@ -76,12 +168,20 @@ pub fn known_day_counts()
     ensures bond_to_february { days_30_360 (pos 732_554) (pos 732_735) ≡ pos 178 }
     ensures eurobond_to_february { days_30e_360 (pos 732_554) (pos 732_735) ≡ pos 178 }
     ensures bond_from_29th { days_30_360 (pos 738_914) (pos 738_976) ≡ pos 62 }
+    ensures bond_from_30th { days_30_360 (pos 738_915) (pos 738_976) ≡ pos 60 }
+    ensures bond_from_31st { days_30_360 (pos 738_916) (pos 738_976) ≡ pos 60 }
 {}
 
-/// Rolls that are known, of a calendar closed on Saturday and Sunday: of Saturday, 30 March 2024, day 738,975, to Monday,
-/// 1 April, or within the month to Friday, 29 March; of Saturday, 1 June, day 739,038, to Friday, 31 May, or within the month
-/// to Monday, 3 June; to the nearer day; and of Sunday, 31 December 2023, if 1 January is closed too, to Tuesday, which is as
-/// near as Friday and later.
+/// Known rolls of a calendar that is closed on Saturday and Sunday.
+///
+/// Saturday, 30 March 2024, day 738,975, goes to Monday, 1 April, or within the month to Friday, 29 March.
+/// Saturday, 1 June, day 739,038, goes to Friday, 31 May, or within the month to Monday, 3 June.
+/// By both kinds of nearest the Saturday in March goes to Friday, and the Sunday after it to Monday.
+/// If 1 January 2024, a Monday, is closed too, it goes to Tuesday by `NearestIsda`, though Friday is
+/// before it. Sunday, 31 December 2023 goes to Tuesday by `NearestQuantLib`, which is as near as Friday, and later.
+/// From Saturday, 30 March and up to Sunday, 2 June the month is closed. From Friday, 29 March and up to
+/// Monday, 3 June it is not. With a weekend of seven days a whole month is closed.
+/// If only Tuesday, 2 January is closed, it goes to Monday by `NearestIsda`, and to Wednesday by `NearestQuantLib`.
 pub fn known_rolls()
     ensures unadjusted { RollsTo (closed (set_of (Sat ∷ Sun ∷ [])) []) Unadjusted (pos 738_975) (pos 738_975) }
     ensures following { RollsTo (closed (set_of (Sat ∷ Sun ∷ [])) []) Following (pos 738_975) (pos 738_977) }
@@ -94,13 +194,41 @@ pub fn known_rolls()
         (pos 739_038) (pos 739_040) }
     ensures not_into_may { RollsTo (closed (set_of (Sat ∷ Sun ∷ [])) []) ModifiedPreceding
         (pos 739_038) (pos 739_037) → ⊥ }
-    ensures nearest { RollsTo (closed (set_of (Sat ∷ Sun ∷ [])) []) Nearest (pos 738_975) (pos 738_974) }
-    ensures nearest_later { RollsTo (closed (set_of (Sat ∷ Sun ∷ [])) (pos 738_886 ∷ [])) Nearest
+    ensures nearest { RollsTo (closed (set_of (Sat ∷ Sun ∷ [])) []) NearestQuantLib (pos 738_975) (pos 738_974) }
+    ensures nearest_sunday { RollsTo (closed (set_of (Sat ∷ Sun ∷ [])) []) NearestQuantLib (pos 738_976) (pos 738_977) }
+    ensures nearest_later { RollsTo (closed (set_of (Sat ∷ Sun ∷ [])) (pos 738_886 ∷ [])) NearestQuantLib
         (pos 738_885) (pos 738_887) }
+    ensures nearest_tuesday { RollsTo (closed (set_of (Sat ∷ Sun ∷ [])) (pos 738_887 ∷ [])) NearestQuantLib
+        (pos 738_887) (pos 738_888) }
+    ensures isda_saturday { RollsTo (closed (set_of (Sat ∷ Sun ∷ [])) []) NearestIsda (pos 738_975) (pos 738_974) }
+    ensures isda_sunday { RollsTo (closed (set_of (Sat ∷ Sun ∷ [])) []) NearestIsda (pos 738_976) (pos 738_977) }
+    ensures isda_monday { RollsTo (closed (set_of (Sat ∷ Sun ∷ [])) (pos 738_886 ∷ [])) NearestIsda
+        (pos 738_886) (pos 738_887) }
+    ensures isda_tuesday { RollsTo (closed (set_of (Sat ∷ Sun ∷ [])) (pos 738_887 ∷ [])) NearestIsda
+        (pos 738_887) (pos 738_886) }
+    ensures isda_wednesday { is_on sunday_and_monday (pos 738_888) ≡ false }
+    ensures isda_thursday { is_on sunday_and_monday (pos 738_889) ≡ false }
+    ensures isda_friday { is_on sunday_and_monday (pos 738_890) ≡ false }
+    ensures following_open { RollsTo (closed (set_of (Sat ∷ Sun ∷ [])) []) Following (pos 738_977) (pos 738_977) }
+    ensures preceding_open { RollsTo (closed (set_of (Sat ∷ Sun ∷ [])) []) Preceding (pos 739_037) (pos 739_037) }
+    ensures following_not_tuesday { RollsTo (closed (set_of (Sat ∷ Sun ∷ [])) []) Following (pos 738_975)
+        (pos 738_978) → ⊥ }
+    ensures preceding_not_thursday { RollsTo (closed (set_of (Sat ∷ Sun ∷ [])) []) Preceding (pos 739_038)
+        (pos 739_036) → ⊥ }
+    ensures ends_closed { MonthEndsClosed (closed (set_of (Sat ∷ Sun ∷ [])) []) (pos 738_975) }
+    ensures ends_open { MonthEndsClosed (closed (set_of (Sat ∷ Sun ∷ [])) []) (pos 738_974) → ⊥ }
+    ensures begins_closed { MonthBeginsClosed (closed (set_of (Sat ∷ Sun ∷ [])) []) (pos 739_039) }
+    ensures begins_open { MonthBeginsClosed (closed (set_of (Sat ∷ Sun ∷ [])) []) (pos 739_040) → ⊥ }
+    ensures month_open { MonthIsClosed (closed (set_of (Sat ∷ Sun ∷ [])) []) (pos 738_975) → ⊥ }
+    ensures month_closed { MonthIsClosed (closed (set_of (Mon ∷ Tue ∷ Wed ∷ Thu ∷ Fri ∷ Sat ∷ Sun ∷ [])) [])
+        (pos 738_975) }
+    ensures isda_not_back_on_sunday { RollsTo (closed (set_of (Sat ∷ Sun ∷ [])) []) NearestIsda
+        (pos 738_976) (pos 738_974) → ⊥ }
 {}
 
-/// What a date rolls to is open, but for unadjusted; an open date stays, whatever the roll; and a modified roll stays in the
-/// month, if any day of the month is open.
+/// Every roll but `Unadjusted` leads to an open day, and an open date stays.
+///
+/// A modified roll stays in the month, if any day of the month is open.
 pub fn rolls_are_open()
     ensures open { (c : Closed) (roll : Roll) (d e : ℤ) → roll ≢ Unadjusted → RollsTo c roll d e →
         is_open c e ≡ true }
@@ -112,13 +240,13 @@ pub fn rolls_are_open()
         InSameMonth f d → is_open c f ≡ true → InSameMonth e d }
 {}
 
-/// A list of holidays has at most one error: the first holiday that is wrong, and of its faults one.
+/// A list of holidays has at most one error: the first wrong holiday, with one of its faults.
 pub fn wrong_holidays_are_one()
     ensures { (weekend : DaySet) (xs : List ℤ) (e f : HolidayError) → IsWrong weekend xs e →
         IsWrong weekend xs f → e ≡ f }
 {}
 
-/// The last day of a month that has a weekday lies in the month and has the weekday, and no later day of the month does.
+/// The last day of a month with a weekday is in the month and has the weekday. No later day of the month has it.
 pub fn last_weekdays_are_last()
     ensures month { (y e : ℤ) (m : ℕ) (weekday : Weekday) → date_of_last_weekday y m weekday ≡ Some e →
         (year_of e ≡ y) × (month_of e ≡ m) }
@@ -128,8 +256,10 @@ pub fn last_weekdays_are_last()
         InSameMonth f e → weekday_of f ≡ weekday → f ≤ℤ e }
 {}
 
-/// An open day counts for one and a closed one for none; the open days of two stretches in a row are those of both; and the
-/// n-th open day from a day on is the first up to which, itself counted, more than n days are open.
+/// Rules for counting open days.
+///
+/// An open day counts one and a closed one none. The counts of two adjacent stretches add up.
+/// More than `n` days are open up to the `n`-th open day, itself included. No earlier day has that property.
 pub fn open_days_are_in_order()
     ensures open { (c : Closed) (a b : ℤ) → a ≤ℤ b → is_open c b ≡ true →
         open_days c a (b +ℤ pos 1) ≡ open_days c a b + 1 }
@@ -141,9 +271,14 @@ pub fn open_days_are_in_order()
         (open_days c d (e +ℤ pos 1) ≡ n + 1) × ((f : ℤ) → d ≤ℤ f → n < open_days c d (f +ℤ pos 1) → e ≤ℤ f) }
 {}
 
-/// Easters that are known: 31 March 2024, day 738,976; of the years 1818 and 1943 the earliest and the latest, 22 March
-/// and 25 April; of 1954 and 1981 18 and 19 April, where the last two epacts stand a day earlier; and 14 April 1974, a
-/// week after a full moon on a Sunday.
+/// Known Easters.
+///
+/// Easter of 2024 is 31 March, day 738,976. The earliest and the latest are 22 March 1818 and 25 April 1943.
+/// In 1954 and 1981 it is 18 and 19 April, since the last two epacts count a day earlier.
+/// In 1974 it is 14 April, a week after a full moon on a Sunday.
+/// In 1761, 2160 and 3902 it is 22 March, 23 March and 6 April, by the moons of their centuries.
+/// Epact 25 counts a day earlier from the 12th year of the cycle on: in 3165 Easter is 18 April, and in 7515 25 April.
+/// The library has no year 262,143.
 pub fn known_easters()
     ensures in_2024 { easter_day (pos 2_024) ≡ pos 738_976 }
     ensures earliest { easter_day (pos 1_818) ≡ pos 663_726 }
@@ -151,16 +286,53 @@ pub fn known_easters()
     ensures in_1954 { easter_day (pos 1_954) ≡ pos 713_426 }
     ensures in_1981 { easter_day (pos 1_981) ≡ pos 723_289 }
     ensures full_moon_on_sunday { easter_day (pos 1_974) ≡ pos 720_727 }
+    ensures in_1761 { easter_day (pos 1_761) ≡ pos 642_908 }
+    ensures in_2160 { easter_day (pos 2_160) ≡ pos 788_641 }
+    ensures in_3902 { easter_day (pos 3_902) ≡ pos 1_424_906 }
+    ensures in_3165 { easter_day (pos 3_165) ≡ pos 1_155_735 }
+    ensures in_7515 { easter_day (pos 7_515) ≡ pos 2_744_546 }
+    ensures date { date_of_easter (pos 2_024) ≡ Some (pos 738_976) }
+    ensures no_year { date_of_easter (pos 262_143) ≡ None }
 {}
 
-/// Holidays by rules that are known: of the United States Juneteenth of 2022, a Sunday, on Monday, 20 June, day 738,326, and
-/// none before the law; Independence Day of 2021, a Sunday, on 5 July, day 737,976; New Year's Day of 2022, a Saturday, on
-/// 31 December 2021, day 738,155; Thanksgiving of 2024 on 28 November, day 739,218, and Memorial Day on 27 May, day 739,033;
-/// Good Friday of 2024 on 29 March, day 738,974; of England the first Monday in May of 2024 on the 6th, day 739,012, and
-/// Boxing Day of 2021, a Sunday, on 28 December, day 738,152. No rule falls on a fifth Monday or a 29th of February 2023.
+/// Known days by which holidays of a weekend are moved.
+///
+/// Saturday and Sunday are 30 and 31 March 2024 (days 738,975 and 738,976). Friday and Monday stay (days 738,974 and 738,977).
+pub fn known_moves_from_weekends()
+    ensures saturday_stays { moved_by Stays (pos 738_975) ≡ pos 0 }
+    ensures sunday_stays { moved_by Stays (pos 738_976) ≡ pos 0 }
+    ensures saturday_unless_sunday { moved_by SundayToMonday (pos 738_975) ≡ pos 0 }
+    ensures sunday_to_monday { moved_by SundayToMonday (pos 738_976) ≡ pos 1 }
+    ensures saturday_to_monday { moved_by ToMonday (pos 738_975) ≡ pos 2 }
+    ensures sunday_too { moved_by ToMonday (pos 738_976) ≡ pos 1 }
+    ensures saturday_to_friday { moved_by ToNearer (pos 738_975) ≡ neg_ℤ (pos 1) }
+    ensures sunday_to_nearer { moved_by ToNearer (pos 738_976) ≡ pos 1 }
+    ensures saturday_two_days { moved_by TwoDaysOn (pos 738_975) ≡ pos 2 }
+    ensures sunday_two_days { moved_by TwoDaysOn (pos 738_976) ≡ pos 2 }
+    ensures friday { moved_by ToNearer (pos 738_974) ≡ pos 0 }
+    ensures monday { moved_by TwoDaysOn (pos 738_977) ≡ pos 0 }
+{}
+
+/// Known holidays by rules.
+///
+/// In the United States Juneteenth of 2022, a Sunday, is kept on Monday, 20 June, day 738,326.
+/// In 2021, the first year of the law, it is on Saturday and kept on Friday, 18 June, day 737,959. Before it there is none.
+/// The closing day of 31 December 1999, day 730,119, is of that year alone.
+/// Independence Day of 2021, a Sunday, is kept on 5 July, day 737,976.
+/// New Year's Day of 2022, a Saturday, is kept on 31 December 2021, day 738,155.
+/// Thanksgiving of 2024 is 28 November, day 739,218, and Memorial Day is 27 May, day 739,033.
+/// Good Friday of 2024 is 29 March, day 738,974. The first Monday in May of 2024 is the 6th, day 739,012.
+/// In England Boxing Day of 2021, a Sunday, is kept on 28 December, day 738,152.
+/// No rule gives a date for a fifth Monday in February 2023, nor for 29 February 2023.
 pub fn known_holidays()
     ensures juneteenth { date_of_rule (rule_of (Fixed June 19) ToNearer (pos 2_021) (pos 262_142))
         (pos 2_022) ≡ Some (pos 738_326) }
+    ensures first_year { date_of_rule (rule_of (Fixed June 19) ToNearer (pos 2_021) (pos 262_142))
+        (pos 2_021) ≡ Some (pos 737_959) }
+    ensures last_year { date_of_rule (rule_of (Fixed December 31) Stays (pos 1_999) (pos 1_999))
+        (pos 1_999) ≡ Some (pos 730_119) }
+    ensures after_the_last_year { date_of_rule (rule_of (Fixed December 31) Stays (pos 1_999) (pos 1_999))
+        (pos 2_000) ≡ None }
     ensures before_the_law { date_of_rule (rule_of (Fixed June 19) ToNearer (pos 2_021) (pos 262_142))
         (pos 2_020) ≡ None }
     ensures independence_day { date_of_rule (rule_of (Fixed July 4) ToNearer (pos 1_971) (pos 262_142))
@@ -181,4 +353,56 @@ pub fn known_holidays()
         (pos 2_023) ≡ None }
     ensures no_leap_day { date_of_rule (rule_of (Fixed February 29) Stays (pos 2_000) (pos 2_100))
         (pos 2_023) ≡ None }
+{}
+
+/// Known wrong holidays, if Saturday and Sunday are closed.
+///
+/// Saturday, 6 January 2024 (day 738,891) is wrong, and so is a second Monday, 1 January (day 738,886).
+/// A Saturday that is not later than the Monday before it is wrong as a day of the weekend.
+pub fn known_wrong_holidays()
+    ensures saturday { IsWrong (set_of (Sat ∷ Sun ∷ [])) (pos 738_891 ∷ []) (OnWeekend 0) }
+    ensures twice { IsWrong (set_of (Sat ∷ Sun ∷ [])) (pos 738_886 ∷ pos 738_886 ∷ []) (NotRising 1) }
+    ensures both { IsWrong (set_of (Sat ∷ Sun ∷ [])) (pos 738_886 ∷ pos 738_884 ∷ []) (OnWeekend 1) }
+    ensures not_both { IsWrong (set_of (Sat ∷ Sun ∷ [])) (pos 738_886 ∷ pos 738_884 ∷ []) (NotRising 1) → ⊥ }
+    ensures tuesday { IsWrong (set_of (Sat ∷ Sun ∷ [])) (pos 738_886 ∷ pos 738_887 ∷ []) (NotRising 1) → ⊥ }
+{}
+
+/// Known lists of holidays.
+///
+/// By a rule of 1 January of each year, day 738,886 is a holiday of the years 2024 to 2024, and not of 2025.
+/// That one day is too many for no places, and not for one. The list of it adds it to the empty list.
+/// The empty list lacks it, and a list with the day after it has too much.
+pub fn known_holiday_lists()
+    ensures of_year { IsOfRules (rule_of (Fixed January 1) Stays (pos 2_000) (pos 2_100) ∷ []) (pos 2_024) (pos 2_024)
+        (pos 738_886) }
+    ensures of_other_year { IsOfRules (rule_of (Fixed January 1) Stays (pos 2_000) (pos 2_100) ∷ []) (pos 2_025)
+        (pos 2_025) (pos 738_886) → ⊥ }
+    ensures too_many { AreTooMany (λ d. d ≡ pos 738_886) 0 }
+    ensures not_too_many { AreTooMany (λ d. d ≡ pos 738_886) 1 → ⊥ }
+    ensures added { AreHolidaysWith (set_of (Sat ∷ Sun ∷ [])) [] (λ d. d ≡ pos 738_886) (pos 738_886 ∷ []) }
+    ensures lacking { AreHolidaysWith (set_of (Sat ∷ Sun ∷ [])) [] (λ d. d ≡ pos 738_886) [] → ⊥ }
+    ensures other { AreHolidaysWith (set_of (Sat ∷ Sun ∷ [])) [] (λ d. d ≡ pos 738_886) (pos 738_887 ∷ []) → ⊥ }
+{}
+
+/// Known holidays of the given calendars: what each rule names, in its order.
+///
+/// TARGET and the federal holidays are those of 2024, and England and Wales those of 2022.
+/// The last Mondays of May and August are left out, but for the rule of Memorial Day.
+pub fn known_given_calendars()
+    ensures target { map (λ r. date_of_rule r (pos 2_024)) target_rules ≡
+        Some (pos 738_886) ∷ Some (pos 739_245) ∷ Some (pos 738_974) ∷ Some (pos 738_977) ∷
+        Some (pos 739_007) ∷ Some (pos 739_246) ∷ None ∷ None ∷ [] }
+    ensures us_federal { map (λ r. date_of_rule r (pos 2_024)) (take 3 us_federal_rules) ≡
+        Some (pos 738_886) ∷ Some (pos 738_900) ∷ Some (pos 738_935) ∷ [] }
+    ensures memorial_day { (r : HolidayRule) → slice_index_or us_federal_rules 3 r ≡
+        rule_of (LastWeekday Mon May) Stays (pos 1_971) (pos 262_142) }
+    ensures us_federal_from_june { map (λ r. date_of_rule r (pos 2_024)) (drop 4 us_federal_rules) ≡
+        Some (pos 739_056) ∷ Some (pos 739_071) ∷ Some (pos 739_131) ∷ Some (pos 739_173) ∷ None ∷
+        Some (pos 739_201) ∷ Some (pos 739_218) ∷ Some (pos 739_245) ∷ [] }
+    ensures england_and_wales { map (λ r. date_of_rule r (pos 2_022)) (take 18 england_and_wales_rules) ≡
+        Some (pos 738_158) ∷ Some (pos 738_260) ∷ Some (pos 738_263) ∷ None ∷ None ∷ None ∷ None ∷
+        Some (pos 738_277) ∷ None ∷ None ∷ None ∷ None ∷ None ∷ None ∷ None ∷ Some (pos 738_308) ∷
+        Some (pos 738_309) ∷ None ∷ [] }
+    ensures england_and_wales_from_christmas { map (λ r. date_of_rule r (pos 2_022)) (drop 19 england_and_wales_rules) ≡
+        Some (pos 738_516) ∷ Some (pos 738_515) ∷ None ∷ None ∷ None ∷ Some (pos 738_417) ∷ None ∷ [] }
 {}

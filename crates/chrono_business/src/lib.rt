@@ -1,10 +1,17 @@
-//! Business days: the days that are neither on the weekend nor holidays; the next one, the n-th of them, how many lie
-//! between two dates, and where a closed day rolls to; and the parts of a year between two dates as day counts have
-//! them.
+//! Business days: which days are open, the next one, the `n`-th one, and how many lie between two dates.
+//! Also where a closed day moves to, and the part of a year between two dates (day counts).
 //!
-//! A [`Calendar`] is a weekend and a slice of holidays, and takes no memory. Each answer is what counting day by day
-//! gives. How many days are open is found by whole weeks and a search through the holidays for each of the two ends, the
-//! n-th open day by two searches, and whether a day is open by its weekday and one.
+//! ```
+//! use chrono_datetime::{NaiveDate, Weekday, WeekdaySet};
+//! let weekend = WeekdaySet::from_array([Weekday::Sat, Weekday::Sun]);
+//! let calendar = Calendar::new(weekend, &[]);
+//! calendar.add_open_days(NaiveDate::from_ymd_opt(2024, 3, 29)?, 1) // Some(2024-04-01)
+//! ```
+//!
+//! A [`Calendar`] is a weekend and a slice of holidays. It allocates no memory.
+//! Every result is what counting day by day gives.
+//! [`open_days`](Calendar::open_days) counts whole weeks and searches the holidays once for each end.
+//! [`nth_open_from`](Calendar::nth_open_from) needs two searches, and [`is_open`](Calendar::is_open) one.
 #![tactic(auto)]
 
 mod calendar;

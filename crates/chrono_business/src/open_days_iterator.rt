@@ -1,4 +1,4 @@
-//! `OpenDaysIterator`: the open days between two dates, one after another, taken from either end.
+//! `OpenDaysIterator`: the open days between two dates, from either end.
 ghost use Rattle.std.specs.Prelude.{◌≡◌, length, Some, IfSome};
 ghost use Rattle.std.specs.Iterator.{UpTo, YieldsFirst, YieldsLast, item_count};
 ghost use Rattle.std.specs.Iterator.SizeHint.{IsWithinCount};
@@ -10,10 +10,10 @@ use chrono_datetime::{Datelike, NaiveDate};
 use std::iter::FusedIterator;
 use std::marker::Model;
 
-/// The open days from a date on and before another, in order. From [`Calendar::iter_open_days`].
+/// The open days from one date on and before another, in order. [`Calendar::iter_open_days`] makes it.
 ///
 /// Contracts see it as the list of the days that are left, by their numbers. `next` takes the first of them and
-/// `next_back` the last, and once none is left both give `None` from then on.
+/// `next_back` the last. Once none is left, both return `None` from then on.
 #[derive(Drop)]
 pub struct OpenDaysIterator<'b, 'a> {
     calendar: &'b Calendar<'a>,
@@ -41,7 +41,17 @@ impl<'b, 'a> Model for OpenDaysIterator<'b, 'a> {
 }
 
 impl<'a> Calendar<'a> {
-    /// The open days from `from` on and before `to`, in order and from either end; none if `to` is not after `from`.
+    /// Returns an iterator over the open days from `from` on and before `to`, in order.
+    ///
+    /// It can be read from either end. It is empty if `to` is not after `from`.
+    ///
+    /// ```
+    /// use chrono_datetime::{NaiveDate, Weekday, WeekdaySet};
+    /// let calendar = Calendar::new(WeekdaySet::from_array([Weekday::Sat, Weekday::Sun]), &[]);
+    /// let (from, to) = (NaiveDate::from_ymd_opt(2024, 3, 29)?, NaiveDate::from_ymd_opt(2024, 4, 3)?);
+    /// let mut days = calendar.iter_open_days(from, to);
+    /// (days.len(), days.next(), days.next_back()) // (3, Some(2024-03-29), Some(2024-04-02))
+    /// ```
     #[inline]
     pub fn iter_open_days<'b>(&'b self, from: NaiveDate, to: NaiveDate) -> OpenDaysIterator<'b, 'a>
         ensures days { result ≡ open_days_list self.now from to }
@@ -64,7 +74,7 @@ impl<'b, 'a> Iterator for OpenDaysIterator<'b, 'a> {
 
     ghost remaining = { item_count (λ left. left) };
 
-    /// The first of the days that are left; `None` once none is.
+    /// Removes the first of the days that are left and returns it. Returns `None` once none is left.
     #[inline]
     fn next(&mut self) -> Option<NaiveDate> {
         if self.start_rank >= self.end_rank {
@@ -76,7 +86,7 @@ impl<'b, 'a> Iterator for OpenDaysIterator<'b, 'a> {
         Some(day)
     }
 
-    /// The number of days that are left, exactly.
+    /// Returns exactly the number of days that are left.
     #[inline]
     fn size_hint(&self) -> (usize, Option<usize>)
         ensures lower { IsWithinCount result.0 (item_count (λ left. left) self.now) }
@@ -91,7 +101,7 @@ impl<'b, 'a> Iterator for OpenDaysIterator<'b, 'a> {
 impl<'b, 'a> DoubleEndedIterator for OpenDaysIterator<'b, 'a> {
     ghost next_back_gives = { YieldsLast (λ left. left) };
 
-    /// The last of the days that are left; `None` once none is.
+    /// Removes the last of the days that are left and returns it. Returns `None` once none is left.
     #[inline]
     fn next_back(&mut self) -> Option<NaiveDate> {
         if self.start_rank >= self.end_rank {
@@ -105,7 +115,7 @@ impl<'b, 'a> DoubleEndedIterator for OpenDaysIterator<'b, 'a> {
 }
 
 impl<'b, 'a> ExactSizeIterator for OpenDaysIterator<'b, 'a> {
-    /// The number of days that are left.
+    /// Returns the number of days that are left.
     #[inline]
     fn len(&self) -> usize {
         self.end_rank.saturating_sub(self.start_rank) as usize

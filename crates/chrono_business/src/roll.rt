@@ -1,21 +1,28 @@
-//! `Roll`: how a date that is closed is moved to an open one.
+//! `Roll`: how a closed date is moved to an open one.
 
-/// Where a date goes that is no open day, as the conventions of markets name it.
+/// Where a date goes that is not open, by the names that markets use.
 ///
-/// An open date stays, whatever the roll. What a date goes to is open, but for `Unadjusted`, and by a modified roll it is in
-/// the date's month wherever a day of that month is open: [`law::rolls_are_open`](crate::law::rolls_are_open).
+/// An open date stays, whatever the roll. Every roll but `Unadjusted` leads to an open day.
+/// A modified roll stays in the date's month if any day of that month is open.
+/// [`law::rolls_are_open`](crate::law::rolls_are_open) states this.
 #[derive(Clone, Copy, PartialEq, Eq, Hash, Debug)]
 pub enum Roll {
-    /// Nowhere: the date stays, open or not.
+    /// The date stays, open or not.
     Unadjusted,
-    /// To the next open day.
+    /// The date goes to the next open day.
     Following,
-    /// To the last open day before it.
+    /// The date goes to the last open day before it.
     Preceding,
-    /// To the next open day, but if that lies in a later month to the last one before the date.
+    /// The date goes to the next open day. If that is in a later month, it goes to the last open day before it.
     ModifiedFollowing,
-    /// To the last open day before it, but if that lies in an earlier month to the next one.
+    /// The date goes to the last open day before it. If that is in an earlier month, it goes to the next open day.
     ModifiedPreceding,
-    /// To the open day that is nearest, and of two to the later.
-    Nearest,
+    /// The date goes to the next open day if it is a Sunday or a Monday, and else to the last open day before it.
+    ///
+    /// This is "Nearest" of ISDA 2006, section 4.12(a)(iv). So a holiday on a Tuesday goes to Monday.
+    NearestIsda,
+    /// The date goes to the nearest open day. Of two that are equally near it takes the later.
+    ///
+    /// This is `Nearest` of QuantLib. So a holiday on a Tuesday goes to Wednesday.
+    NearestQuantLib,
 }

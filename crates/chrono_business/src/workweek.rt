@@ -1,5 +1,6 @@
-//! `Workweek`: the workdays of a week, which are the days that are not on the weekend, counted once; and workdays
-//! counted from the first date on by whole weeks.
+//! `Workweek`: the workdays of a week, which are the days that are not on the weekend.
+//!
+//! They are counted once. Workdays from the first date on are then counted by whole weeks.
 ghost use Rattle.std.specs.Prelude.{◌≡◌, ◌<◌, ◌≤◌, true, pos, ◌+ℤ◌};
 ghost use Rattle.chrono_datetime.specs.Recurrence.{count_where, first_date};
 ghost use Rattle.chrono_business.specs.OpenDays.{is_workday};

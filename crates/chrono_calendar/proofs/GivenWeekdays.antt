@@ -1,5 +1,5 @@
 -- What is known of the n-th day of a month that has a weekday.
-use Rattle.std.proofs.Common.{◌≡◌, ◌↔◌, ℕ, ◌+◌, ◌-◌, ◌*◌, ◌%◌, ◌<◌, ◌≤◌, Bool, true, false, ◌&&◌, cond, nat_le, length, get_or, slice_get, Option, Some, None, IsSome, IfSome, refl, sym, ap, ◌∙◌, arith, ℤ, pos, ◌+ℤ◌}
+use Rattle.std.proofs.Common.{◌≡◌, ◌↔◌, ℕ, ◌+◌, ◌-◌, ◌*◌, ◌%◌, ◌<◌, ◌≤◌, Bool, true, false, ◌&&◌, cond, nat_le, length, get_or, slice_get, Option, Some, None, IsSome, IfSome, refl, sym, ap, subst, ◌∙◌, arith, ℤ, pos, ◌+ℤ◌}
 use Rattle.std.proofs.lemmas.Bool.{and_parts}
 use Rattle.std.proofs.lemmas.Bool.Decides.{nat_tests}
 use Rattle.std.proofs.lemmas.Option.{cond_some, slice_get_within, slice_get-get_or}
@@ -13,9 +13,9 @@ use Rattle.chrono_calendar.specs.Days.{days_before_year, days_of_months, day_num
 use Rattle.chrono_calendar.specs.Weeks.{days_from_sunday_of, weekday_of, days_with_weekday, date_of_nth_weekday}
 use Rattle.chrono_calendar.proofs.Months.{month_length_in-bounds}
 use Rattle.chrono_calendar.proofs.Dates.{is_year-fact, is_year-test, date_of_ymd-SomeIff}
-use Rattle.chrono_calendar.proofs.NamedDates.{date_of_ymd-name}
+use Rattle.chrono_calendar.proofs.NamedDates.{calendar_name-exists, date_of_ymd-name, number-calendar_name}
 use Rattle.chrono_calendar.proofs.GivenNames.{exists_if}
-use Rattle.chrono_calendar.proofs.IsoWeeks.{days_from_sunday_of-bound, same_weekday}
+use Rattle.chrono_calendar.proofs.IsoWeeks.{days_from_monday-of, days_from_sunday_of-bound, same_weekday}
 use Rattle.chrono_calendar.proofs.NthWeekdays.{weekday_before_month, weekday_in_month, nth_day, days_with_weekday-at, mapped}
 
 -- the n-th day with a weekday, by a test of its names
@@ -100,3 +100,27 @@ first_four y m n d h =
     let last : nat_le k (month_length y m) ≡ true = grind (arith, nat_tests, h.1, length.0) in
     let at : slice_get (days_with_weekday y m d) (n - 1) ≡ Some k = rw last at (days_with_weekday-at y m (n - 1) d) in
     (h.0, omega (arith, h.0, slice_get_within (days_with_weekday y m d) (n - 1) k at))
+
+-- a day of the n-th seven days of its month is the n-th day there that has its weekday
+pub nth_weekday-of_day : (x : ℤ) (n : ℕ) → IsYear (year_of x) → 7 * (n - 1) < day_of x → day_of x ≤ 7 * n → date_of_nth_weekday (year_of x) (month_of x) (weekday_of x) n ≡ Some x
+nth_weekday-of_day x n h low high =
+    let y = year_of x in
+    let m = month_of x in
+    let d = weekday_of x in
+    let name = calendar_name-exists x in
+    let number = number-calendar_name x in
+    let place : days_from_sunday_of x ≡ (weekday_before_month y m + day_of x) % 7 = ap days_from_sunday_of (sym number) ∙ weekday_in_month y m (day_of x) in
+    let bound = days_from_sunday_of-bound (days_before_year y +ℤ pos (days_of_months y (m - 1))) in
+    let same : nth_in_month y m d n ≡ day_of x = omega (arith, days_from_monday-of x, place, bound, low, high, name.1.0) in
+    let month : (nat_le 1 m && nat_le m 12) ≡ true = grind (arith, nat_tests, name.0.0, name.0.1) in
+    let first : nat_le 1 n ≡ true = grind (arith, nat_tests, high, name.1.0) in
+    let last : nat_le (nth_in_month y m d n) (month_length y m) ≡ true = ap (λ k. nat_le k (month_length y m)) same ∙ grind (arith, nat_tests, name.1.1) in
+    let test : is_nth_name y m d n ≡ true = both_true (both_true (both_true (is_year-test y h) month) first) last in
+    date_of_nth_weekday-tested y m n d ∙ ap (λ b. cond b (Some (day_number_of_ymd y m (nth_in_month y m d n))) None) test ∙ ap (λ k. Some (day_number_of_ymd y m k)) same ∙ ap Some number
+
+pub nth_weekday-named : (x y : ℤ) (m n : ℕ) (d : Weekday) → IsYear y → year_of x ≡ y → month_of x ≡ m → weekday_of x ≡ d → 7 * (n - 1) < day_of x → day_of x ≤ 7 * n → date_of_nth_weekday y m d n ≡ Some x
+nth_weekday-named x y m n d h year month weekday low high =
+    ap (λ z. date_of_nth_weekday z m d n) (sym year)
+    ∙ ap (λ z. date_of_nth_weekday (year_of x) z d n) (sym month)
+    ∙ ap (λ z. date_of_nth_weekday (year_of x) (month_of x) z n) (sym weekday)
+    ∙ nth_weekday-of_day x n (subst IsYear (sym year) h) low high

@@ -28,6 +28,7 @@ days_of_months y n = days_of_months_in (is_leap_year y) n
 abbrev pub is_calendar_name : ℤ → ℕ → ℕ → Bool
 is_calendar_name y m d = (nat_le 1 m && nat_le m 12) && (nat_le 1 d && nat_le d (month_length y m))
 
+-- the month m is from 1 to 12, and the day d one of that month (ISO 8601 calendar date)
 abbrev pub IsCalendarName : ℤ → ℕ → ℕ → Type 0
 IsCalendarName y m d = IsInRange 1 12 m × IsInRange 1 (month_length y m) d
 
@@ -35,6 +36,7 @@ IsCalendarName y m d = IsInRange 1 12 m × IsInRange 1 (month_length y m) d
 abbrev pub is_ordinal_name : ℤ → ℕ → Bool
 is_ordinal_name y o = nat_le 1 o && nat_le o (year_length y)
 
+-- the ordinal o is from 1 to the days of the year y (ISO 8601 ordinal date)
 abbrev pub IsOrdinalName : ℤ → ℕ → Type 0
 IsOrdinalName y o = IsInRange 1 (year_length y) o
 
@@ -50,10 +52,11 @@ ordinal_of_ymd y m d = days_of_months y (m - 1) + d
 abbrev pub day_number_of_ymd : ℤ → ℕ → ℕ → ℤ
 day_number_of_ymd y m d = day_number_of_yo y (ordinal_of_ymd y m d)
 
--- the dates are the days of the library's years, by their numbers
+-- whether n is the number of a date, from -95,746,129 to 95,745,399
 abbrev pub is_date : ℤ → Bool
 is_date n = int_le (neg_ℤ (pos 95_746_129)) n && int_le n (pos 95_745_399)
 
+-- n is the number of a date, from -95,746,129 to 95,745,399
 abbrev pub IsDate : ℤ → Type 0
 IsDate n = (neg_ℤ (pos 95_746_129) ≤ℤ n) × (n ≤ℤ pos 95_745_399)
 
@@ -101,9 +104,11 @@ unfoldable pub ordinal_name_of : ℤ → OrdinalName
 ordinal_name_of (pos n) = days_after_zero n
 ordinal_name_of (negsuc n) = days_before_zero (suc n)
 
+-- the year of the day n
 abbrev pub year_of : ℤ → ℤ
 year_of n = (ordinal_name_of n).year
 
+-- the place of the day n in its year, from 1
 abbrev pub ordinal_of : ℤ → ℕ
 ordinal_of n = (ordinal_name_of n).ordinal
 
@@ -119,9 +124,10 @@ month_of_ordinal leap o = count_by (λ n. nat_lt (days_of_months_in leap n) o) f
 unfoldable pub day_of_ordinal : Bool → ℕ → ℕ
 day_of_ordinal leap o = o - days_of_months_in leap (month_of_ordinal leap o - 1)
 
--- the month of the day n, and its place in that month
+-- the month of the day n, from 1 for January
 abbrev pub month_of : ℤ → ℕ
 month_of n = month_of_ordinal (is_leap_year (year_of n)) (ordinal_of n)
 
+-- the place of the day n in its month, from 1
 abbrev pub day_of : ℤ → ℕ
 day_of n = day_of_ordinal (is_leap_year (year_of n)) (ordinal_of n)

@@ -1,4 +1,5 @@
 -- The numbers that store the flags of a year, and what the flags say of its weeks.
+-- The flags repeat after 400 years, which have 146,097 days.
 use Rattle.std.specs.Prelude.{◌≢◌, ℕ, ◌+◌, ◌%◌, ℤ, if◌then◌else◌, int_lt}
 use Rattle.std.specs.Int.{IsInRange}
 use Rattle.std.specs.Ordering.{int_eq}

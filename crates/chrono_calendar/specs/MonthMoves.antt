@@ -31,10 +31,11 @@ month_index_of n = month_index (year_of n) (month_of n)
 abbrev pub month_length_of : ℤ → ℕ
 month_length_of n = month_length (year_of n) (month_of n)
 
--- the first day of that month, and the last
+-- the first day of the day n's month
 abbrev pub month_first_of : ℤ → ℤ
 month_first_of n = n -ℤ pos (day_of n - 1)
 
+-- the last day of the day n's month
 abbrev pub month_last_of : ℤ → ℤ
 month_last_of n = n +ℤ pos (month_length_of n - day_of n)
 
@@ -59,7 +60,7 @@ pub record IsMonthMoveBack (n e back : ℤ) : Type 0 where
   pub same_day : day_of n ≤ month_length_of e → back ≡ n
   pub shorter : month_length_of e < day_of n → ((n -ℤ pos 3) ≤ℤ back) × (back <ℤ n)
 
--- moved by k months, e comes to such a day
+-- e moved by k comes to the day n, or before it if e's month is shorter
 abbrev pub ComesBack : ℤ → ℤ → ℤ → Type 0
 ComesBack n k e = IsSomeAnd (month_move e k) (λ back. IsMonthMoveBack n e back)
 

@@ -13,7 +13,7 @@ use Rattle.chrono_calendar.specs.Days.{days_before_year, day_number_of_ymd, year
 abbrev pub days_from_sunday_of : ℤ → ℕ
 days_from_sunday_of n = unsigned_abs (int_rem_euclid n (pos 7))
 
--- the same weekday from 1 for Monday to 7 for Sunday
+-- the weekday of the day n, from 1 for Monday to 7 for Sunday (ISO 8601)
 abbrev pub iso_weekday_of : ℤ → ℕ
 iso_weekday_of n = if days_from_sunday_of n == 0 then 7 else days_from_sunday_of n
 
@@ -21,15 +21,15 @@ iso_weekday_of n = if days_from_sunday_of n == 0 then 7 else days_from_sunday_of
 abbrev pub thursday_of_week : ℤ → ℤ
 thursday_of_week n = n +ℤ pos 4 -ℤ pos (iso_weekday_of n)
 
--- the year of that Thursday is the week's
+-- the ISO year of the day n: the year of its week's Thursday (ISO 8601 week date)
 abbrev pub iso_year_of : ℤ → ℤ
 iso_year_of n = year_of (thursday_of_week n)
 
--- and the Thursdays of that year up to this one count its weeks
+-- the ISO week of the day n: the Thursdays of its ISO year up to its own
 abbrev pub iso_week_of : ℤ → ℕ
 iso_week_of n = 1 + (ordinal_of (thursday_of_week n) - 1) / 7
 
--- the same as a day of the week
+-- the weekday of the day n
 abbrev pub weekday_of : ℤ → Weekday
 weekday_of n = weekday_from_sunday (days_from_sunday_of n)
 
@@ -39,7 +39,7 @@ first_monday_of y =
     let fourth = days_before_year y +ℤ pos 4 in
     fourth +ℤ pos 1 -ℤ pos (iso_weekday_of fourth)
 
--- the day that stands at the weekday d of the w-th week from there, in the year y or past it
+-- the day at the weekday d of the ISO year's w-th week, or past that year
 abbrev pub day_number_of_iso : ℤ → ℕ → ℕ → ℤ
 day_number_of_iso y w d = (first_monday_of y +ℤ pos (7 * w + d)) -ℤ pos 8
 
@@ -68,7 +68,7 @@ days_with_weekday y m weekday =
     filter (λ d. days_from_sunday_of (day_number_of_ymd y m d) == days_from_sunday weekday)
     (range_with_len 1 (month_length y m))
 
--- the date that is the n-th of these days, counted from 1, if there is one
+-- the date of the n-th day with the weekday in that month, if there is one
 unfoldable pub date_of_nth_weekday : ℤ → ℕ → Weekday → ℕ → Option ℤ
 date_of_nth_weekday y m weekday n =
     if is_year y && (nat_le 1 m && nat_le m 12) && nat_le 1 n

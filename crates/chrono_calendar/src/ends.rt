@@ -1,4 +1,4 @@
-//! The ends of the range of dates, by their day numbers.
+//! The ends of the range of dates, as day numbers.
 
 /// The day number of the first date, 1 January of the year -262,143.
 pub const FIRST_DAY: i32 = -95_746_129;

@@ -1,4 +1,4 @@
-//! What a stored form of a date owes to its users.
+//! The trait of the stored forms of a date.
 ghost use Rattle.std.specs.Prelude.{◌≡◌, ℕ, ℤ, false, pos, neg_ℤ, ◌+◌, ◌≤◌, ◌≤ℤ◌};
 ghost use Rattle.std.specs.Int.{IsInRange};
 ghost use Rattle.std.specs.Option.{option_map};
@@ -15,53 +15,104 @@ use chrono_units::Weekday;
 use chrono_units::year::year_length;
 use std::hash::Hash;
 
-/// A stored form of a date. Its meaning is the date's day number, and each number has one form.
+/// A stored form of a date. It means a date's day number, and each day number has exactly one form.
+///
+/// The examples use `PackedForm` of the crate `chrono_stored`.
 pub trait DayForm: Copy + Ord + Hash {
     // The day number of the date.
     ghost number: { Self → ℤ };
 
-    /// The date with an ordinal name (ISO 8601 ordinal date), or `None` if there is none: the year is not from
-    /// -262,143 to 262,142, or has no such day.
+    /// Returns the date with the year `year` and the day of the year `ordinal` (ISO 8601 ordinal date).
+    ///
+    /// Returns `None` if `year` is not from -262,143 to 262,142, or the year has no such day.
+    ///
+    /// ```
+    /// use chrono_stored::PackedForm;
+    /// PackedForm::from_yo(2024, 60)?.year_month_day() // (2024, 2, 29)
+    /// PackedForm::from_yo(2023, 366) == None // true
+    /// ```
     fn from_yo(year: i32, ordinal: u32) -> Option<Self>
         ensures { option_map number result ≡ date_of_yo year ordinal };
 
-    /// The date with a calendar name (ISO 8601 calendar date), or `None` if there is none: the year is not from
-    /// -262,143 to 262,142, the month not from 1 to 12, or the day not from 1 to the month's last.
+    /// Returns the date with the year `year`, the month `month` and the day `day` (ISO 8601 calendar date).
+    ///
+    /// Returns `None` if `year` is not from -262,143 to 262,142, `month` is not from 1 to 12, or the month has no such day.
+    ///
+    /// ```
+    /// use chrono_stored::PackedForm;
+    /// PackedForm::from_ymd(2024, 2, 29)?.ordinal() // 60
+    /// PackedForm::from_ymd(2023, 2, 29) == None // true
+    /// ```
     fn from_ymd(year: i32, month: u32, day: u32) -> Option<Self>
         ensures { option_map number result ≡ date_of_ymd year month day };
 
     // The steps that it takes to find the date with a day number.
     ghost steps_of: { ℤ → ℕ };
 
-    /// The date with a day number, or `None` if it is not from -95,746,129 to 95,745,399. It takes at most three steps.
+    /// Returns the date with the day number `days`. It adds at most three steps to `steps`.
+    ///
+    /// Returns `None` if `days` is not from -95,746,129 to 95,745,399.
+    ///
+    /// ```
+    /// use chrono_stored::PackedForm;
+    /// let mut steps = Steps::new();
+    /// let date = PackedForm::from_day(738_945, &mut steps);
+    /// steps.end();
+    /// date?.year_month_day() // (2024, 2, 29)
+    /// ```
     fn from_day(days: i32, steps: &mut Steps) -> Option<Self>
         ensures date { option_map number result ≡ date_of_day days }
         ensures taken { steps.new ≡ steps.old + steps_of days }
         ensures cost { steps.new ≤ steps.old + 3 };
 
-    /// The day number, from -95,746,129 to 95,745,399: 1 for 1 January of year 1.
+    /// Returns the day number: 1 for 1 January of year 1. It is from -95,746,129 to 95,745,399.
+    ///
+    /// ```
+    /// use chrono_stored::PackedForm;
+    /// PackedForm::from_ymd(2024, 2, 29)?.day() // 738945
+    /// ```
     fn day(&self) -> i32
         ensures value { result ≡ number self.now }
         ensures in_range { IsDate (number self.now) };
 
-    /// The year, proleptic Gregorian, from -262,143 to 262,142.
+    /// Returns the proleptic Gregorian year: -262,143 to 262,142.
+    ///
+    /// ```
+    /// use chrono_stored::PackedForm;
+    /// PackedForm::from_yo(2024, 60)?.year() // 2024
+    /// ```
     fn year(&self) -> i32
         ensures value { result ≡ year_of (number self.now) }
         ensures in_range { IsYear (year_of (number self.now)) };
 
-    /// The place of the day in its year, from 1 to 365 or 366.
+    /// Returns the day of the year: 1 to 366.
+    ///
+    /// ```
+    /// use chrono_stored::PackedForm;
+    /// PackedForm::from_ymd(2024, 12, 31)?.ordinal() // 366
+    /// ```
     fn ordinal(&self) -> u32
         ensures value { result ≡ ordinal_of (number self.now) }
         ensures exists { IsOrdinalName (year_of (number self.now)) (ordinal_of (number self.now)) };
 
-    /// The month, from 1 for January, and the place of the day there, from 1.
+    /// Returns the month, 1 for January, and the day of the month.
+    ///
+    /// ```
+    /// use chrono_stored::PackedForm;
+    /// PackedForm::from_yo(2024, 60)?.month_day() // (2, 29)
+    /// ```
     fn month_day(&self) -> (u32, u32)
         ensures month { result.0 ≡ month_of (number self.now) }
         ensures day { result.1 ≡ day_of (number self.now) }
         ensures exists { IsCalendarName (year_of (number self.now)) (month_of (number self.now))
             (day_of (number self.now)) };
 
-    /// The year and the place of the day there, by one reading of the form.
+    /// Returns the year and the day of the year. It reads the form once.
+    ///
+    /// ```
+    /// use chrono_stored::PackedForm;
+    /// PackedForm::from_ymd(2024, 2, 29)?.year_ordinal() // (2024, 60)
+    /// ```
     #[inline]
     fn year_ordinal(&self) -> (i32, u32)
         ensures year { result.0 ≡ year_of (number self.now) }
@@ -72,7 +123,12 @@ pub trait DayForm: Copy + Ord + Hash {
         (self.year(), self.ordinal())
     }
 
-    /// The year, the month and the place of the day in the month, by one reading of the form.
+    /// Returns the year, the month and the day of the month. It reads the form once.
+    ///
+    /// ```
+    /// use chrono_stored::PackedForm;
+    /// PackedForm::from_yo(2024, 60)?.year_month_day() // (2024, 2, 29)
+    /// ```
     #[inline]
     fn year_month_day(&self) -> (i32, u32, u32)
         ensures year { result.0 ≡ year_of (number self.now) }
@@ -85,11 +141,21 @@ pub trait DayForm: Copy + Ord + Hash {
         (self.year(), month, day)
     }
 
-    /// Whether the year is a leap year.
+    /// Returns whether the year is a leap year.
+    ///
+    /// ```
+    /// use chrono_stored::PackedForm;
+    /// PackedForm::from_yo(2024, 60)?.is_leap() // true
+    /// ```
     fn is_leap(&self) -> bool
         ensures { result ≡ is_leap_year (year_of (number self.now)) };
 
-    /// The ISO year and the week in it, from 1 to 53 (ISO 8601 week date), by one reading of the form.
+    /// Returns the ISO year and its week: 1 to 53 (ISO 8601 week date). It reads the form once.
+    ///
+    /// ```
+    /// use chrono_stored::PackedForm;
+    /// PackedForm::from_ymd(2024, 12, 30)?.iso_name() // (2025, 1)
+    /// ```
     #[inline]
     fn iso_name(&self) -> (i32, u32)
         ensures year { result.0 ≡ iso_year_of (number self.now) }
@@ -116,8 +182,15 @@ pub trait DayForm: Copy + Ord + Hash {
         (year, week_of_thursday(thursday))
     }
 
-    /// The date `k` months later, or earlier for a negative `k`: on the same day of the month, or on the month's last day if
-    /// that is earlier. `None` exactly if the year of that month is not from -262,143 to 262,142.
+    /// Returns the date `k` months later, or earlier for a negative `k`.
+    ///
+    /// The day of the month stays. If the new month is too short, the result is its last day. Returns `None` if the new
+    /// year is not from -262,143 to 262,142.
+    ///
+    /// ```
+    /// use chrono_stored::PackedForm;
+    /// PackedForm::from_ymd(2024, 1, 31)?.move_months(1)?.year_month_day() // (2024, 2, 29)
+    /// ```
     #[inline]
     fn move_months(self, k: i64) -> Option<Self>
         ensures { option_map number result ≡ month_move (number self) k }
@@ -131,7 +204,12 @@ pub trait DayForm: Copy + Ord + Hash {
         Self::from_ymd(year, month, day_within(year, month, day))
     }
 
-    /// The weekday.
+    /// Returns the weekday.
+    ///
+    /// ```
+    /// use chrono_stored::PackedForm;
+    /// PackedForm::from_ymd(2024, 2, 29)?.weekday() // Thu
+    /// ```
     fn weekday(&self) -> Weekday
         ensures { result ≡ weekday_of (number self.now) };
 

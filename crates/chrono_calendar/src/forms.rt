@@ -1,7 +1,7 @@
-//! The arithmetic of dates over any stored form, from the laws of [`DayForm`] alone.
+//! Date arithmetic over any stored form, by the laws of [`DayForm`] alone.
 //!
-//! Each function reads a form, computes with plain numbers, and asks the form for the date that it found. An answer is
-//! `None` exactly where the definition names no date.
+//! Each function reads a form, computes with plain numbers, and asks the form for the date that results. It returns `None`
+//! exactly if that date does not exist. The examples use `PackedForm` of the crate `chrono_stored`.
 ghost use Rattle.std.specs.Prelude.{◌≡◌, pos, neg_ℤ, ◌+◌, ◌≤◌, ◌+ℤ◌, ◌≤ℤ◌, ◌<ℤ◌, IfSome};
 ghost use Rattle.std.specs.Int.{IsInRange};
 ghost use Rattle.std.specs.Option.{option_map};
@@ -17,7 +17,14 @@ use crate::steps::Steps;
 use chrono_units::year::{MAX_YEAR, MIN_YEAR, year_length};
 use chrono_units::{Weekday, WeekdaySet};
 
-/// The date with a day number, as [`DayForm::from_day`] gives it, with no counter.
+/// Returns the date with the day number `days`, as [`DayForm::from_day`] does, with no counter of steps.
+///
+/// Returns `None` if `days` is outside the range of dates.
+///
+/// ```
+/// use chrono_stored::PackedForm;
+/// forms::from_day::<PackedForm>(738_945)?.year_month_day() // (2024, 2, 29)
+/// ```
 #[inline]
 pub fn from_day<F: DayForm>(days: i32) -> Option<F>
     ensures { option_map F.number result ≡ date_of_day days }
@@ -28,7 +35,14 @@ pub fn from_day<F: DayForm>(days: i32) -> Option<F>
     date
 }
 
-/// The date `k` days later, or earlier for a negative `k`, as [`move_days`] gives it, with no counter.
+/// Returns the date `k` days later, or earlier for a negative `k`, as [`move_days`] does, with no counter of steps.
+///
+/// Returns `None` if that day is outside the range of dates.
+///
+/// ```
+/// use chrono_stored::PackedForm;
+/// forms::days_later(PackedForm::from_ymd(2023, 2, 28)?, 1)?.year_month_day() // (2023, 3, 1)
+/// ```
 #[inline]
 pub fn days_later<F: DayForm>(f: F, k: i64) -> Option<F>
     ensures { option_map F.number result ≡ date_of_day (F.number f +ℤ k) }
@@ -39,10 +53,20 @@ pub fn days_later<F: DayForm>(f: F, k: i64) -> Option<F>
     date
 }
 
-/// The date `k` days later, or earlier for a negative `k`; `None` if that day is outside the range of dates.
-/// So 28 February 2023 moved by one day is 1 March 2023.
+/// Returns the date `k` days later, or earlier for a negative `k`.
 ///
-/// It takes one step for reading the form, and those that the form takes for the day: at most four in all.
+/// Returns `None` if that day is outside the range of dates.
+///
+/// ```
+/// use chrono_stored::PackedForm;
+/// let start = PackedForm::from_ymd(2023, 2, 28)?;
+/// let mut steps = Steps::new();
+/// let date = forms::move_days(start, 1, &mut steps);
+/// steps.end();
+/// date?.year_month_day() // (2023, 3, 1)
+/// ```
+///
+/// It adds at most four steps to `steps`: one for reading the form, and those of [`DayForm::from_day`].
 #[inline]
 pub fn move_days<F: DayForm>(f: F, k: i64, steps: &mut Steps) -> Option<F>
     ensures date { option_map F.number result ≡ date_of_day (F.number f +ℤ k) }
@@ -55,10 +79,15 @@ pub fn move_days<F: DayForm>(f: F, k: i64, steps: &mut Steps) -> Option<F>
     F::from_day(day, steps)
 }
 
-/// The date `k` months later, or earlier for a negative `k`: on the same day of the month, or on the month's last day if
-/// that is earlier. `None` if the year of that month is outside the range of years.
+/// Returns the date `k` months later, or earlier for a negative `k`.
 ///
-/// So 31 January 2023 moved by one month is 28 February 2023.
+/// The day of the month stays. If the new month is too short, the result is its last day. Returns `None` if the new year is
+/// outside the range of years.
+///
+/// ```
+/// use chrono_stored::PackedForm;
+/// forms::move_months(PackedForm::from_ymd(2023, 1, 31)?, 1)?.year_month_day() // (2023, 2, 28)
+/// ```
 #[inline]
 pub fn move_months<F: DayForm>(f: F, k: i64) -> Option<F>
     ensures { option_map F.number result ≡ month_move (F.number f) k }
@@ -66,10 +95,18 @@ pub fn move_months<F: DayForm>(f: F, k: i64) -> Option<F>
     f.move_months(k)
 }
 
-/// The date `k` times `i` months later, or earlier for a negative `k`, in one move: so a day that a shorter month clips
-/// comes back in a longer one. `None` if the year of that month is outside the range of years.
+/// Returns the date `k * i` months later, or earlier for a negative `k`, in one move.
 ///
-/// So from 31 January 2024 every month it is 29 February, and then 31 March.
+/// If the new month is too short, the result is its last day. Returns `None` if the new year is outside the range of years.
+///
+/// ```
+/// use chrono_stored::PackedForm;
+/// let date = PackedForm::from_ymd(2024, 1, 31)?;
+/// forms::every_months(date, 1, 1)?.year_month_day() // (2024, 2, 29)
+/// forms::every_months(date, 1, 2)?.year_month_day() // (2024, 3, 31)
+/// ```
+///
+/// A longer month later has the original day again, as 31 March here.
 #[inline]
 pub fn every_months<F: DayForm>(f: F, k: i32, i: u32) -> Option<F>
     ensures { option_map F.number result ≡ date_every (F.number f) k i }
@@ -77,9 +114,14 @@ pub fn every_months<F: DayForm>(f: F, k: i32, i: u32) -> Option<F>
     move_months(f, i64::from(k) * i64::from(i))
 }
 
-/// The ISO year and the week in it, from 1 to 53 (ISO 8601 week date): those of the Thursday of the date's week.
+/// Returns the ISO year and its week, from 1 to 53 (ISO 8601 week date): those of the Thursday of the date's week.
 ///
-/// So 30 December 2024, a Monday, is in week 1 of 2025. The last days of the year 262,142 are in the ISO year 262,143.
+/// ```
+/// use chrono_stored::PackedForm;
+/// forms::iso_name(&PackedForm::from_ymd(2024, 12, 30)?) // (2025, 1)
+/// ```
+///
+/// The last days of the year 262,142 are in the ISO year 262,143.
 #[inline]
 pub fn iso_name<F: DayForm>(f: &F) -> (i32, u32)
     ensures year { result.0 ≡ iso_year_of (F.number f.now) }
@@ -101,10 +143,16 @@ fn days_from_sunday_before(year: i32) -> u32
     days_counted_before(year) % 7
 }
 
-/// The date with an ISO year, a week from 1 and a weekday (ISO 8601 week date). `None` exactly if the week is 0 or past
-/// the year's last, or the day is outside the range of dates.
+/// Returns the date with the ISO year `year`, the week `week` and the weekday `weekday` (ISO 8601 week date).
 ///
-/// So week 53 names a date only in a year that has 53 weeks, as 2020: its Sunday is 3 January 2021.
+/// Returns `None` if the ISO year has no such week, or the day is outside the range of dates.
+///
+/// ```
+/// use chrono_stored::PackedForm;
+/// use chrono_units::Weekday;
+/// forms::from_iso::<PackedForm>(2020, 53, Weekday::Sun)?.year_month_day() // (2021, 1, 3)
+/// forms::from_iso::<PackedForm>(2021, 53, Weekday::Mon) == None // true
+/// ```
 #[inline]
 pub fn from_iso<F: DayForm>(year: i32, week: u32, weekday: Weekday) -> Option<F>
     ensures { option_map F.number result ≡ date_of_iso year week weekday }
@@ -133,9 +181,17 @@ pub fn from_iso<F: DayForm>(year: i32, week: u32, weekday: Weekday) -> Option<F>
     F::from_yo(year, ordinal)
 }
 
-/// The first day number of the week that holds the date and begins on `start`, also where that number is no date.
+/// Returns the day number of the first day of the date's week, if weeks begin on `start`.
 ///
-/// So 1 January of year 1, a Monday, is the first of its week for Monday, and its week for Sunday begins a day earlier.
+/// ```
+/// use chrono_stored::PackedForm;
+/// use chrono_units::Weekday;
+/// let date = PackedForm::from_ymd(1, 1, 1)?;
+/// (date.weekday(), date.day()) // (Mon, 1)
+/// forms::week_first(&date, Weekday::Sun) // 0
+/// ```
+///
+/// The result can be the number of a day outside the range of dates.
 #[inline]
 pub fn week_first<F: DayForm>(f: &F, start: Weekday) -> i32
     ensures value { result ≡ week_first_of (F.number f.now) start }
@@ -147,10 +203,16 @@ pub fn week_first<F: DayForm>(f: &F, start: Weekday) -> i32
     f.day() - f.weekday().days_since(start) as i32
 }
 
-/// The first date not before the date whose weekday is in the set: the date itself if its own is. `None` if the set is empty, or
-/// the day is past the last date.
+/// Returns the first date from `f` on whose weekday is in `set`. It can be `f` itself.
 ///
-/// So from 30 December 2024, a Monday, it is the 31st for Tuesday and Thursday.
+/// Returns `None` if `set` is empty, or the day is after the last date.
+///
+/// ```
+/// use chrono_stored::PackedForm;
+/// use chrono_units::{Weekday, WeekdaySet};
+/// let set = WeekdaySet::from_array([Weekday::Tue, Weekday::Thu]);
+/// forms::first_on(PackedForm::from_ymd(2024, 12, 30)?, set)?.year_month_day() // (2024, 12, 31)
+/// ```
 #[inline]
 pub fn first_on<F: DayForm>(f: F, set: WeekdaySet) -> Option<F>
     ensures { option_map F.number result ≡ date_on (F.number f) set }
@@ -160,10 +222,16 @@ pub fn first_on<F: DayForm>(f: F, set: WeekdaySet) -> Option<F>
     from_day(start + ahead as i32)
 }
 
-/// The day that is the `n`-th with a weekday in a month, counted from 1; `None` for a year or a
-/// month out of range, for an `n` of 0, and for one past the last such day.
+/// Returns the `n`-th day of the month that falls on `weekday`, counted from 1.
 ///
-/// So the third Friday of January 2024 is the 19th, and there is no fifth.
+/// Returns `None` if `year` or `month` is out of range, `n` is 0, or the month has fewer than `n` such days.
+///
+/// ```
+/// use chrono_stored::PackedForm;
+/// use chrono_units::Weekday;
+/// forms::nth_weekday::<PackedForm>(2024, 1, Weekday::Fri, 3)?.year_month_day() // (2024, 1, 19)
+/// forms::nth_weekday::<PackedForm>(2024, 1, Weekday::Fri, 5) == None // true
+/// ```
 #[inline]
 pub fn nth_weekday<F: DayForm>(year: i32, month: u32, weekday: Weekday, n: u8) -> Option<F>
     ensures { option_map F.number result ≡ date_of_nth_weekday year month weekday n }
@@ -176,10 +244,17 @@ pub fn nth_weekday<F: DayForm>(year: i32, month: u32, weekday: Weekday, n: u8) -
     F::from_ymd(year, month, (u32::from(n) - 1) * 7 + ahead + 1)
 }
 
-/// The whole years from `base` to the date: the difference of the years, one less if the date's month and day come
-/// before those of `base`. `None` if the date is before `base`.
+/// Returns the number of whole years from `base` to `f`.
 ///
-/// So from 29 February 2000 it is no whole year to 28 February 2001, and one to the day after.
+/// This is the difference of the years. It is one less if the month and day of `f` come before those of `base`. Returns
+/// `None` if `f` is before `base`.
+///
+/// ```
+/// use chrono_stored::PackedForm;
+/// let base = PackedForm::from_ymd(2000, 2, 29)?;
+/// forms::years_between(&PackedForm::from_ymd(2001, 2, 28)?, &base) // Some(0)
+/// forms::years_between(&PackedForm::from_ymd(2001, 3, 1)?, &base) // Some(1)
+/// ```
 #[inline]
 pub fn years_between<F: DayForm>(f: &F, base: &F) -> Option<u32>
     ensures { result ≡ whole_years (F.number f.now) (F.number base.now) }

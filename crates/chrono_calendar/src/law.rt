@@ -1,5 +1,7 @@
-//! Laws of names, of weekdays, weeks and months, of month moves, and of days that pass a test, each as the contract of a
-//! function that does nothing: behind a call of it its clauses are known.
+//! Laws of names of dates, weekdays, weeks, months and month moves, and of days that pass a test.
+//!
+//! Each law is the contract of a function that does nothing. After a call of the function, a proof can use its clauses.
+//! A name of a date is a calendar date, an ordinal date or a week date.
 ghost use Rattle.std.specs.Prelude.{◌≡◌, ◌↔◌, ◌<◌, ◌≤◌, ◌+◌, ◌*◌, ◌%◌, ℕ, Bool, true, false, if◌then◌else◌, ℤ, Some, None, pos, neg_ℤ, ◌+ℤ◌, ◌-ℤ◌, ◌*ℤ◌, ◌<ℤ◌, ◌≤ℤ◌, filter, length};
 ghost use Rattle.std.specs.Int.{IsInRange};
 ghost use Rattle.std.specs.Ordering.{int_cmp};
@@ -53,18 +55,18 @@ pub fn ordinal_names_are_in_order()
     ensures { (n m : ℤ) → ordinal_cmp n m ≡ int_cmp n m }
 {}
 
-/// Days compare as their ISO names do: by ISO year, then week, then weekday from Monday on.
+/// Days compare as their ISO names do: by ISO year, then week, then weekday from Monday.
 pub fn iso_names_are_in_order()
     ensures { (n m : ℤ) → iso_cmp n m ≡ int_cmp n m }
 {}
 
-/// The week that begins on a weekday and holds a day has one first day: it has that weekday, and the day is one of the
-/// seven from it on.
+/// The week of a day that begins on a given weekday has one first day. That first day has the weekday. The day is one
+/// of the seven days from it on.
 pub fn weeks_have_one_first_day()
     ensures { WeeksHaveOneFirstDay }
 {}
 
-/// A month move comes to a date.
+/// A month move ends on a date.
 pub fn month_moves_reach_dates()
     ensures { (n k e : ℤ) → month_move n k ≡ Some e → IsDate e }
 {}
@@ -74,26 +76,26 @@ pub fn month_moves_keep_order()
     ensures { (n k e : ℤ) → month_move n k ≡ Some e → KeepsOrder n k e }
 {}
 
-/// A month move, taken back, ends in the date's month: on the date, if the month between had that day, and else one to
-/// three days before it.
+/// A month move and its reverse end in the date's month. They end on the date if the month between has that day, and
+/// else one to three days before it.
 pub fn month_moves_come_back()
     ensures { (n k back e : ℤ) → IsDate n → k +ℤ back ≡ pos 0 → month_move n k ≡ Some e →
         ComesBack n back e }
 {}
 
-/// Two month moves end in the month of the one move by their sum, and never on a later day.
+/// Two month moves end in the same month as one move by their sum, and never on a later day.
 pub fn month_moves_add_up()
     ensures { (n k e : ℤ) → month_move n k ≡ Some e → MonthMovesAddUp n k e }
 {}
 
-/// Of the moves by the multiples of a positive number of months, a higher multiple comes to a later day.
+/// For moves by multiples of a positive number of months, a higher multiple ends on a later day.
 pub fn later_multiples_are_later()
     ensures { (n k : ℤ) (i : ℕ) (e : ℤ) → pos 0 <ℤ k → month_move n (k *ℤ pos i) ≡ Some e →
         LaterMultiplesAreLater n k i e }
 {}
 
-/// The weekday of a day some days on lies as many days on in the cycle of seven. Call it where days are walked and a weekday
-/// is stepped beside them, or where a day is whole weeks from another.
+/// The weekday of a day `k` days later is `k` days later in the cycle of seven. Call it where a loop steps days and their
+/// weekdays together, or where two days are whole weeks apart.
 pub fn weekdays_follow()
     ensures after { (n : ℤ) (k : ℕ) →
         weekday_of (n +ℤ pos k) ≡ weekday_after (weekday_of n) k }
@@ -104,8 +106,8 @@ pub fn weekdays_follow()
         days_since (weekday_of (n +ℤ pos k)) (weekday_of n) ≡ k % 7 }
 {}
 
-/// The days of a month are those from its first to its last, and the day after them is the first of the next month. Call it
-/// where a month is passed over at once, or where its days are counted.
+/// The days of a month are those from its first to its last, and the next day is the first of the next month. Call it where
+/// code passes a whole month at once, or counts its days.
 pub fn months_are_days_in_a_row()
     ensures days { (n d : ℤ) →
         InSameMonth d n ↔ ((month_first_of n ≤ℤ d) × (d ≤ℤ month_last_of n)) }
@@ -130,9 +132,10 @@ pub fn years_and_months_rise()
     ensures iso_year { (n m : ℤ) → n ≤ℤ m → iso_year_of n ≤ℤ iso_year_of m }
 {}
 
-/// Each day, also one that is no date, has a month from 1 to 12, a day that its month has, an ordinal that its year has and
-/// a week from 1 to 53, and its calendar name and its ordinal name are those of its number. Call it where a field is an index,
-/// or where a day need not be a date.
+/// Each day, also one outside the range of dates, has a calendar name, an ordinal name and an ISO week.
+///
+/// The month is from 1 to 12, the day is in its month, the ordinal in its year, and the week is from 1 to 53. The two
+/// names give the day's number. Call it where a field is an index, or where a day need not be a date.
 pub fn days_have_names()
     ensures month { (n : ℤ) → IsInRange 1 12 (month_of n) }
     ensures day { (n : ℤ) → IsInRange 1 (month_length_of n) (day_of n) }
@@ -143,8 +146,8 @@ pub fn days_have_names()
     ensures by_ordinal { (n : ℤ) → day_number_of_yo (year_of n) (ordinal_of n) ≡ n }
 {}
 
-/// A name that the calendar has, in any year, is that of the day with its number. Call it where the number of a day is
-/// worked out from a name that is none of a date read.
+/// A name that the calendar has, in any year, is the name of the day with its number. Call it where code computes a day's
+/// number from a name.
 pub fn names_have_days()
     ensures year { (y : ℤ) (m d : ℕ) → IsCalendarName y m d →
         year_of (day_number_of_ymd y m d) ≡ y }
@@ -158,8 +161,8 @@ pub fn names_have_days()
         ordinal_of (day_number_of_yo y o) ≡ o }
 {}
 
-/// A count of days that pass a test grows by at most one a day, and the counts of two stretches add up. Call it where days
-/// are counted in a loop, or by parts.
+/// A count of days that pass a test grows by at most one a day, and the counts of two stretches add up. Call it where a
+/// loop counts days, or where code counts by parts.
 pub fn counts_add_up()
     ensures next { (p : ℤ → Bool) (k : ℕ) (n : ℤ) →
         count_where p (k + 1) n ≡ count_where p k n + (if p (n +ℤ pos k) then 1 else 0) }
@@ -175,9 +178,9 @@ pub fn counts_add_up()
         count_where p k n ≡ count_where q k n }
 {}
 
-/// A count of the days from one to before another that pass a test is that of the two stretches on either side of a day
-/// between, and is one of as many days in a row. Call it where days between two dates are counted, also by a loop that goes
-/// from one to the other.
+/// A count of the days between two days that pass a test is the sum of the counts before and after any day between.
+///
+/// It equals the count over that many days in a row. Call it where code counts the days between two dates.
 pub fn counts_between_days()
     ensures is_count_where { (p : ℤ → Bool) (n : ℤ) (k : ℕ) →
         count_between p n (n +ℤ pos k) ≡ count_where p k n }
@@ -195,8 +198,8 @@ pub fn counts_between_days()
         count_between p a b ≡ count_between q a b }
 {}
 
-/// A test that says the same a week later passes as often in every week. A test of weekdays is one, and passes in a week as
-/// often as its set has members. Call it where whole weeks are counted at once.
+/// A test that is the same a week later passes equally often in each week. A test of weekdays is one, and passes as
+/// often as its set has members. Call it where code counts whole weeks at once.
 pub fn weekly_counts_come_again()
     ensures weeks { (p : ℤ → Bool) → IsWeekly p → (w r : ℕ) (n : ℤ) →
         count_where p (7 * w + r) n ≡ w * count_where p 7 n + count_where p r n }
@@ -208,8 +211,9 @@ pub fn weekly_counts_come_again()
     ensures members { (set : DaySet) (n : ℤ) → count_where (is_on set) 7 n ≡ length (walk set Mon) }
 {}
 
-/// `first_where` is the least date from a date on that passes a test, and is none exactly where none of them does; `date_on`
-/// is that of a set's weekdays. Call it where a search over days is to be said by one word.
+/// `first_where` is the least date from a date on that passes a test. It is none exactly if no such date passes.
+///
+/// `date_on` is the same for the weekdays of a set. Call it to state a search over days in one word.
 pub fn first_where_is_least()
     ensures found { (p : ℤ → Bool) (n e : ℤ) → IsDate n →
         (first_where p n ≡ Some e) ↔ (IsFirstWhere p n e × IsDate e) }
@@ -219,8 +223,8 @@ pub fn first_where_is_least()
     ensures weekdays { (n : ℤ) (set : DaySet) → date_on n set ≡ first_where (is_on set) n }
 {}
 
-/// The dates before one and those from it on are 191,491,529 in all, and a step of a day on or back takes one from those
-/// that lie ahead. Call it where a loop over dates has to come to an end.
+/// The dates before a date and those from it on are 191,491,529 in all. A step of one day, either way,
+/// takes one date from those that lie ahead. Call it where a loop over dates must end.
 pub fn dates_are_counted()
     ensures all { (n : ℤ) → IsDate n → dates_before n + dates_left n ≡ 191_491_529 }
     ensures on { (n : ℤ) → IsDate n → dates_left (n +ℤ pos 1) + 1 ≡ dates_left n }
@@ -228,8 +232,8 @@ pub fn dates_are_counted()
         dates_before (n -ℤ pos 1) + 1 ≡ dates_before n }
 {}
 
-/// The calendar comes again after 146,097 days: 400 years on, and whole weeks. Call it where a rule is tried over one such
-/// cycle to say what it does in all.
+/// The calendar repeats after 146,097 days, which are 400 years and whole weeks. Call it where one such cycle shows
+/// what a rule does in all of them.
 pub fn calendar_comes_again()
     ensures year { (n : ℤ) → year_of (n +ℤ pos 146_097) ≡ year_of n +ℤ pos 400 }
     ensures month { (n : ℤ) → month_of (n +ℤ pos 146_097) ≡ month_of n }
@@ -240,8 +244,8 @@ pub fn calendar_comes_again()
     ensures iso_week { (n : ℤ) → iso_week_of (n +ℤ pos 146_097) ≡ iso_week_of n }
 {}
 
-/// The ISO week of a day is that of its Monday, and two days are in one week of one ISO year exactly if they have one
-/// Monday. Call it where days are put together by ISO week.
+/// The ISO week of a day is that of its Monday. Two days are in the same week of the same ISO year exactly if they have the
+/// same Monday. Call it where code groups days by ISO week.
 pub fn iso_weeks_begin_on_monday()
     ensures weekday { (n : ℤ) → weekday_of (week_first_of n Mon) ≡ Mon }
     ensures year { (n : ℤ) → iso_year_of (week_first_of n Mon) ≡ iso_year_of n }
@@ -250,9 +254,10 @@ pub fn iso_weeks_begin_on_monday()
         ↔ (week_first_of n Mon ≡ week_first_of m Mon) }
 {}
 
-/// From a day to a later one there are k whole years exactly if the k-th birthday of the first has come and the next has not;
-/// the 0th is the day itself. A birthday is where a move by whole years ends, and that of 29 February the day after it,
-/// 1 March, in a common year. Call it where an age is asked for or a day on which it grows.
+/// From a day to a later one pass `k` whole years exactly if the `k`-th birthday has come and the next has not.
+///
+/// Birthday 0 is the day itself. A birthday is where a move by whole years ends; for 29 February it is 1 March in a
+/// common year. Call it for an age, or for the day on which it grows.
 pub fn whole_years_are_birthdays()
     ensures come { (n base : ℤ) (k : ℕ) → (years_between n base ≡ Some k)
         ↔ ((birthday base k ≤ℤ n) × (n <ℤ birthday base (k + 1))) }
@@ -265,8 +270,9 @@ pub fn whole_years_are_birthdays()
         birthday base k ≡ e +ℤ pos 1 }
 {}
 
-/// Days that are known: 1 January 1970, the first and the last date, 1 January of year 1, a Monday, and 30 December 2024, the
-/// 365th day of its year, which is day 739,250.
+/// Known days: 1 January 1970, the first and the last date, and 1 January of year 1, which is a Monday.
+///
+/// The contract also names 30 December 2024, the 365th day of its year and day 739,250.
 pub fn known_days()
     ensures epoch { date_of_ymd (pos 1970) 1 1 ≡ Some (pos 719_163) }
     ensures first { date_of_ymd (neg_ℤ (pos 262_143)) 1 1 ≡ Some (neg_ℤ (pos 95_746_129)) }
@@ -281,8 +287,8 @@ pub fn known_days()
     ensures ordinal { ordinal_of (pos 739_250) ≡ 365 }
 {}
 
-/// Weeks that are known: Monday, 30 December 2024 is in week 1 of 2025, and Sunday, 3 January 2021 in week 53 of 2020;
-/// the year 2021 has no week 53.
+/// Known weeks: Monday, 30 December 2024 is in week 1 of 2025, and Sunday, 3 January 2021 is in week 53 of 2020. The
+/// year 2021 has no week 53.
 pub fn known_weeks()
     ensures year { iso_year_of (pos 739_250) ≡ pos 2025 }
     ensures week { iso_week_of (pos 739_250) ≡ 1 }
@@ -292,10 +298,12 @@ pub fn known_weeks()
     ensures first { week_first_of (pos 737_793) Mon ≡ pos 737_787 }
 {}
 
-/// Moves and differences that are known, each day by its number. A month takes 31 January to 28 February in the year 1
-/// and to 29 February in the year 4, 31 March back to 28 February, and 31 January back to 31 December; twelve take a leap day
-/// to 28 February. From 1 January of the year 1 the last month is 3,145,703 on. From 29 February of the year 4 it is no whole year
-/// to 28 February of the year 5, and one to the day after. January of the year 1 has four Fridays, the third on the 19th.
+/// Known moves and differences, each day by its number.
+///
+/// One month takes 31 January to 28 February in the year 1, and to 29 February in the year 4. One month back takes 31
+/// March to 28 February, and 31 January to 31 December. Twelve months take a leap day to 28 February. From 1 January of
+/// the year 1 the last month is 3,145,703 months later. From 29 February of the year 4 to 28 February of the year 5 is
+/// no whole year, and to the day after passes one. January of the year 1 has four Fridays, the third on the 19th.
 pub fn known_moves()
     ensures to_february { month_move (pos 31) (pos 1) ≡ Some (pos 59) }
     ensures to_leap_day { month_move (pos 1126) (pos 1) ≡ Some (pos 1155) }
@@ -311,9 +319,11 @@ pub fn known_moves()
     ensures no_fifth_friday { date_of_nth_weekday (pos 1) 1 Fri 5 ≡ None }
 {}
 
-/// Dates at intervals that are known, each by its day number. From 31 January of the year 4 by one month lie 29 February and
-/// 31 March; from that leap day by twelve, first 28 February and fourth the next leap day. The last date is a Monday: it is
-/// the first one from six days before it and from itself on, and no Tuesday comes any more.
+/// Known dates at intervals, each by its day number.
+///
+/// From 31 January of the year 4, steps of one month give 29 February and 31 March. From that leap day, steps of twelve
+/// months give 28 February first, and the next leap day fourth. The last date is a Monday. It is the first Monday from
+/// six days before it on, and from itself on. No Tuesday comes after it.
 pub fn known_recurrences()
     ensures first { date_every (pos 1126) (pos 1) 0 ≡ Some (pos 1126) }
     ensures second { date_every (pos 1126) (pos 1) 1 ≡ Some (pos 1155) }

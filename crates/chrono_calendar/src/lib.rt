@@ -1,7 +1,8 @@
-//! The calendar as whole numbers: what a day's number means, the trait of the stored forms of a date, the arithmetic of dates over
-//! any of them, and the laws of names, weeks and month moves.
+//! The calendar as whole numbers: day numbers, stored forms of a date, and date arithmetic.
 //!
-//! Beside these stand the flags of a year, which come from a table, and the counter of steps.
+//! A stored form is what a date is kept as, and [`DayForm`] is the trait of all stored forms. The functions of
+//! [`forms`] compute dates over any stored form. The functions of [`law`] state laws of dates, weeks and months. The
+//! crate also has the flags of a year, which come from a table, and the counter of steps.
 #![tactic(auto)]
 
 pub mod counted_years;

@@ -1,4 +1,4 @@
-//! Months counted one after another, and the day of a month that a move ends on.
+//! Months counted one after another, and the day of the month on which a move ends.
 ghost use Rattle.std.specs.Prelude.{◌≡◌, ◌+ℤ◌, min, SomeIff};
 ghost use Rattle.std.specs.Int.{IsInRange};
 ghost use Rattle.chrono_units.specs.Years.{IsYear, month_length as length_of_month};
@@ -9,7 +9,7 @@ use chrono_units::year::{MAX_YEAR, MIN_YEAR, is_leap_year, month_length};
 // The months of the library's years.
 const MONTHS: i64 = (MAX_YEAR - MIN_YEAR + 1) as i64 * 12;
 
-/// The year and the month that lie `k` months after a month, if the library has that year.
+/// Returns the year and the month `k` months after a month, if the library has that year.
 #[inline]
 pub(crate) fn month_after(year: i32, month: u32, k: i64) -> Option<(i32, u32)>
     requires year { IsYear year }
@@ -30,7 +30,7 @@ pub(crate) fn month_after(year: i32, month: u32, k: i64) -> Option<(i32, u32)>
     Some(((target / 12) as i32 + MIN_YEAR, target % 12 + 1))
 }
 
-/// The day of the month, or the month's last day if that is earlier.
+/// Returns `day`, or the month's last day if that is earlier.
 #[inline]
 pub(crate) fn day_within(year: i32, month: u32, day: u32) -> u32
     requires { IsInRange 1 12 month }

@@ -4,9 +4,9 @@ ghost use Rattle.std.specs.Prelude.{◌≡◌, ℕ, ◌+◌, ◌≤◌};
 use crate::tally::Tally;
 use std::marker::Model;
 
-/// How many steps were taken. It takes no bytes, and only proofs see the number.
+/// A counter of steps. It takes no bytes at run time, and only proofs see its number.
 ///
-/// It is not `Drop`: whoever begins a counter has to [`end`](Steps::end) it, so that none is thrown away or written over.
+/// It is not `Drop`. The owner of a counter must call [`end`](Steps::end), so that no counter is lost or overwritten.
 pub struct Steps {
     tally: Tally,
 }
@@ -18,7 +18,13 @@ impl Model for Steps {
 }
 
 impl Steps {
-    /// A counter at 0.
+    /// Returns a counter at 0.
+    ///
+    /// ```
+    /// let steps = Steps::new();
+    /// steps.end();
+    /// std::mem::size_of::<Steps>() // 0
+    /// ```
     #[inline]
     pub fn new() -> Steps
         ensures { result ≡ 0 }
@@ -28,7 +34,14 @@ impl Steps {
         }
     }
 
-    /// Counts one step more.
+    /// Counts one more step.
+    ///
+    /// ```
+    /// let mut steps = Steps::new();
+    /// steps.tick();
+    /// steps.end();
+    /// std::mem::size_of::<Steps>() // 0
+    /// ```
     #[inline]
     pub fn tick(&mut self)
         ensures { self.new ≡ self.old + 1 }
@@ -36,7 +49,14 @@ impl Steps {
         self.tally = Tally::after(&self.tally);
     }
 
-    /// Ends the counter, whose number nobody asks for any more.
+    /// Ends the counter.
+    ///
+    /// ```
+    /// let mut steps = Steps::new();
+    /// let flags = YearFlags::from_year_counted(2024, &mut steps);
+    /// steps.end();
+    /// flags.bits() // 6
+    /// ```
     #[inline]
     pub fn end(self) {
         let Steps { tally: _ } = self;

@@ -1,4 +1,4 @@
-//! The flags of a year: its length and the weekday before it, which give the ISO weeks of its days.
+//! The flags of a year: its length and the weekday of the day before it. They determine the ISO weeks of its days.
 ghost use Rattle.std.specs.Prelude.{◌≡◌, ℕ, ◌+◌, ◌/◌, ◌<◌, SomeIff, ℤ, pos};
 ghost use Rattle.std.specs.Int.{IsInRange, int_rem_euclid};
 ghost use Rattle.chrono_units.specs.Years.{year_length};
@@ -13,8 +13,8 @@ use std::marker::Model;
 
 /// The flags of a year, a number of four binary digits.
 ///
-/// The highest digit (8) is set in a common year. The others name the weekday of the last day
-/// before the year, from 1 for Tuesday to 7 for Monday. Contracts see the flags as that number.
+/// The highest digit (8) is set in a common year. The others name the weekday of the last day before the year, from 1 for
+/// Tuesday to 7 for Monday. Contracts see the flags as that number.
 #[derive(Clone, Copy, PartialEq, Eq)]
 pub struct YearFlags {
     number: u8,
@@ -35,9 +35,13 @@ impl Model for YearFlags {
 }
 
 impl YearFlags {
-    /// The flags of a year of the proleptic Gregorian calendar, any that an `i32` holds.
+    /// Returns the flags of the proleptic Gregorian year `year`. Each `i32` is allowed.
     ///
-    /// Those of 2024, a leap year after a Sunday, are 6.
+    /// ```
+    /// YearFlags::from_year(2024).bits() // 6
+    /// ```
+    ///
+    /// The year 2024 is a leap year after a Sunday.
     #[inline]
     pub fn from_year(year: i32) -> YearFlags
         ensures value { result ≡ flags_of_year year }
@@ -49,7 +53,14 @@ impl YearFlags {
         flags
     }
 
-    /// The flags of a year, in one step.
+    /// Returns the flags of the year `year`. It adds one step to `steps`.
+    ///
+    /// ```
+    /// let mut steps = Steps::new();
+    /// let flags = YearFlags::from_year_counted(2023, &mut steps);
+    /// steps.end();
+    /// flags.bits() // 13
+    /// ```
     #[inline]
     pub fn from_year_counted(year: i32, steps: &mut Steps) -> YearFlags
         ensures value { result ≡ flags_of_year year }
@@ -61,7 +72,11 @@ impl YearFlags {
         }
     }
 
-    /// The number of the flags: 1 to 7 for a leap year, 9 to 15 for a common year.
+    /// Returns the number of the flags: 1 to 7 for a leap year, 9 to 15 for a common year.
+    ///
+    /// ```
+    /// YearFlags::from_year(2024).bits() // 6
+    /// ```
     #[inline]
     pub fn bits(&self) -> u8
         ensures value { result ≡ self.now }
@@ -70,7 +85,14 @@ impl YearFlags {
         self.number
     }
 
-    /// The flags with a number, or `None` if it is none of the fourteen that years have.
+    /// Returns the flags with the number `bits`.
+    ///
+    /// Returns `None` if `bits` is none of the fourteen numbers that years have.
+    ///
+    /// ```
+    /// YearFlags::from_bits(6)?.ndays() // 366
+    /// YearFlags::from_bits(8) == None // true
+    /// ```
     #[inline]
     pub fn from_bits(bits: u8) -> Option<YearFlags>
         ensures { SomeIff result (IsYearFlags bits) bits }
@@ -81,7 +103,11 @@ impl YearFlags {
         Some(YearFlags { number: bits })
     }
 
-    /// The days of the year: 366 in a leap year, 365 in a common year.
+    /// Returns the number of days in the year: 366 in a leap year, 365 in a common year.
+    ///
+    /// ```
+    /// YearFlags::from_year(2024).ndays() // 366
+    /// ```
     #[inline]
     pub fn ndays(&self) -> u32
         ensures { (y : ℤ) → self.now ≡ flags_of_year y → result ≡ year_length y }
@@ -89,10 +115,14 @@ impl YearFlags {
         366 - u32::from(self.bits() / 8)
     }
 
-    /// What is added to an ordinal of the year to count its ISO week: week `(ordinal + delta) / 7`.
+    /// Returns the number `delta`, from 3 to 9, that gives the ISO week of a day: week `(ordinal + delta) / 7`.
     ///
-    /// The week so counted is 0 for a day of the ISO year before (ISO 8601), and
-    /// [`nisoweeks`](YearFlags::nisoweeks) + 1 for a day of the next. The number added is from 3 to 9.
+    /// ```
+    /// (365 + YearFlags::from_year(2021).isoweek_delta()) / 7 // 52
+    /// ```
+    ///
+    /// The week is 0 for a day of the ISO year before (ISO 8601). It is [`nisoweeks`](YearFlags::nisoweeks) + 1 for a
+    /// day of the ISO year after.
     #[inline]
     pub fn isoweek_delta(&self) -> u32
         ensures week { (y : ℤ) (o : ℕ) → self.now ≡ flags_of_year y → IsOrdinalName y o →
@@ -103,8 +133,14 @@ impl YearFlags {
         if digits < 3 { digits + 7 } else { digits }
     }
 
-    /// The weeks of the ISO year (ISO 8601): 53 in a year that begins on Thursday, or on Wednesday if it
-    /// is a leap year, and else 52.
+    /// Returns the number of weeks in the ISO year (ISO 8601): 52 or 53.
+    ///
+    /// A year has 53 weeks if it begins on Thursday, or if it is a leap year and begins on Wednesday.
+    ///
+    /// ```
+    /// YearFlags::from_year(2020).nisoweeks() // 53
+    /// YearFlags::from_year(2021).nisoweeks() // 52
+    /// ```
     #[inline]
     pub fn nisoweeks(&self) -> u32
         ensures weeks { (y : ℤ) → self.now ≡ flags_of_year y → result ≡ weeks_of_iso_year y }

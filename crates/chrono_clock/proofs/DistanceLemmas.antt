@@ -176,3 +176,8 @@ land-away t x way =
 pub distance-turned : (a b : TimeOfDay) → distance a b ≡ neg_ℤ (distance b a)
 unfolding distance
 distance-turned a b = omega (arith, signed)
+
+-- of two plain times it is the difference of their places
+pub distance-plain : (a b : TimeOfDay) → IsPlain a → IsPlain b → distance a b ≡ pos (place a) -ℤ pos (place b)
+unfolding distance
+distance-plain a b h k = omega (arith, signed, beside-plain a b k, beside-plain b a h)

@@ -3,22 +3,27 @@ use Rattle.std.specs.Prelude.{List, fold, take, length, ◌≡◌, ℕ, ◌*◌,
 use Rattle.std.specs.Int.{int_div_euclid, int_rem_euclid}
 pub use Rattle.chrono_text.specs.Text.{nanos_per_second}
 
--- the nanoseconds of each unit
+-- the nanoseconds of a minute
 abbrev pub nanos_per_minute : ℕ
 nanos_per_minute = 60 * nanos_per_second
 
+-- the nanoseconds of an hour
 abbrev pub nanos_per_hour : ℕ
 nanos_per_hour = 60 * nanos_per_minute
 
+-- the nanoseconds of a day
 abbrev pub nanos_per_day : ℕ
 nanos_per_day = 24 * nanos_per_hour
 
+-- the nanoseconds of a week
 abbrev pub nanos_per_week : ℕ
 nanos_per_week = 7 * nanos_per_day
 
+-- the nanoseconds of a microsecond
 abbrev pub nanos_per_micro : ℕ
 nanos_per_micro = 1_000
 
+-- the nanoseconds of a millisecond
 abbrev pub nanos_per_milli : ℕ
 nanos_per_milli = 1_000 * nanos_per_micro
 
@@ -58,10 +63,11 @@ whole_units unit x = int_div x (pos unit)
 abbrev pub past_seconds : ℤ → ℤ
 past_seconds x = int_rem x (pos nanos_per_second)
 
--- the seconds of a duration rounded down, and the nanoseconds past those
+-- the seconds of a duration, rounded down
 abbrev pub floor_secs : ℤ → ℤ
 floor_secs x = int_div_euclid x (pos nanos_per_second)
 
+-- the nanoseconds of a duration past its seconds rounded down
 abbrev pub past_floor : ℤ → ℕ
 past_floor x = unsigned_abs (int_rem_euclid x (pos nanos_per_second))
 

@@ -9,6 +9,7 @@ pub record Moment : Type 0 where
   pub date : ℤ
   pub time : TimeOfDay
 
+-- the day n at the time t
 abbrev pub moment : ℤ → TimeOfDay → Moment
 moment n t = record { date = n; time = t }
 

@@ -1,4 +1,5 @@
--- Times of day: their parts, where a duration leads from a time, and how far two times are apart.
+-- Times of day (ISO 8601): their parts, where a duration leads from a time, and how far two times are apart.
+-- A time is a second from 0 to 86,399 and a fraction of it in nanoseconds, which is a second or more in a leap second.
 use Rattle.std.specs.Prelude.{◌≡◌, ℕ, ◌+◌, ◌*◌, ◌/◌, ◌%◌, ◌<◌, ◌≤◌, Bool, ◌&&◌, ◌==◌, nat_lt, nat_le, if◌then◌else◌, ℤ, pos, neg_ℤ, ◌+ℤ◌, ◌-ℤ◌, ◌<ℤ◌, ◌≤ℤ◌, ◌⊎◌, unsigned_abs, refl}
 use Rattle.std.specs.Int.{int_div_euclid, int_rem_euclid}
 use Rattle.std.specs.Int.RustNames.{int_lt}
@@ -21,23 +22,27 @@ pub record IsTime (t : TimeOfDay) : Type 0 where
   pub second : t.second < seconds_per_day
   pub fraction : t.fraction < 2 * nanos_per_second
 
--- the time lies in a leap second, or in no leap second
+-- whether the time t lies in a leap second
 abbrev pub is_leap : TimeOfDay → Bool
 is_leap t = nat_le nanos_per_second t.fraction
 
+-- the time t lies in a leap second: its fraction is a second or more
 abbrev pub IsLeap : TimeOfDay → Type 0
 IsLeap t = nanos_per_second ≤ t.fraction
 
+-- the time t lies in no leap second: its fraction is below a second
 abbrev pub IsPlain : TimeOfDay → Type 0
 IsPlain t = t.fraction < nanos_per_second
 
--- the parts that a clock shows
+-- the hour that a clock shows, from 0 to 23
 abbrev pub hour_of : TimeOfDay → ℕ
 hour_of t = t.second / 3_600
 
+-- the minute that a clock shows, from 0 to 59
 abbrev pub minute_of : TimeOfDay → ℕ
 minute_of t = t.second / 60 % 60
 
+-- the second that a clock shows, from 0 to 59
 abbrev pub second_of : TimeOfDay → ℕ
 second_of t = t.second % 60
 
@@ -45,7 +50,7 @@ second_of t = t.second % 60
 abbrev pub hour12_of : TimeOfDay → ℕ
 hour12_of t = if hour_of t % 12 == 0 then 12 else hour_of t % 12
 
--- these parts are those of a clock
+-- the hour is below 24, the minute below 60, and the second below 60 (ISO 8601)
 pub record IsClock (hour minute second : ℕ) : Type 0 where
   pub hour_in_day : hour < 24
   pub minute_in_hour : minute < 60
@@ -55,20 +60,23 @@ pub record IsClock (hour minute second : ℕ) : Type 0 where
 abbrev pub FractionFits : ℕ → ℕ → Type 0
 FractionFits second fraction = (fraction < 2 * nanos_per_second) × (nanos_per_second ≤ fraction → second ≡ 59)
 
--- the time of some parts
+-- the time of an hour, a minute, a second and a fraction
 abbrev pub time_at : ℕ → ℕ → ℕ → ℕ → TimeOfDay
 time_at hour minute second fraction = record { second = hour * 3_600 + minute * 60 + second; fraction = fraction }
 
--- the time with one part replaced
+-- the time t with another hour
 abbrev pub time_with_hour : TimeOfDay → ℕ → TimeOfDay
 time_with_hour t hour = time_at hour (minute_of t) (second_of t) t.fraction
 
+-- the time t with another minute
 abbrev pub time_with_minute : TimeOfDay → ℕ → TimeOfDay
 time_with_minute t minute = time_at (hour_of t) minute (second_of t) t.fraction
 
+-- the time t with another second of the minute
 abbrev pub time_with_second : TimeOfDay → ℕ → TimeOfDay
 time_with_second t second = time_at (hour_of t) (minute_of t) second t.fraction
 
+-- the time t with another fraction
 abbrev pub time_with_fraction : TimeOfDay → ℕ → TimeOfDay
 time_with_fraction t fraction = record { second = t.second; fraction = fraction }
 

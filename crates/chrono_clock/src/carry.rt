@@ -4,7 +4,7 @@ ghost use Rattle.chrono_clock.specs.Duration.{nanos_of, nanos_per_second};
 
 use crate::lengths::NANOS_PER_SEC;
 
-/// The same number of nanoseconds, with less than a second of them past the seconds: one second is carried if need be.
+/// Returns the same number of nanoseconds, with less than a second of them past the seconds. It carries at most one second.
 #[inline]
 pub(crate) fn carried(secs: i64, nanos: u32) -> (i64, u32)
     requires few { unsigned_abs secs < 2 ^ 62 }

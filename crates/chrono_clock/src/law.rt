@@ -1,4 +1,4 @@
-//! The ends of the day and of durations, and texts of times that are known, each as the contract of a function.
+//! Known values: the ends of the day and of durations, and texts of known times. Each is the contract of a function.
 ghost use Rattle.std.specs.Prelude.{◌≡◌, pos, neg_ℤ, codes};
 ghost use Rattle.chrono_text.specs.Text.{duration_text};
 ghost use Rattle.chrono_clock.specs.Duration.{longest};
@@ -7,21 +7,21 @@ ghost use Rattle.chrono_clock.specs.TimeText.{time_text};
 
 use crate::{NaiveTime, TimeDelta};
 
-/// [`NaiveTime::MIN`], which is midnight.
+/// Returns [`NaiveTime::MIN`], which is midnight.
 pub fn first_time() -> NaiveTime
     ensures { result ≡ time_at 0 0 0 0 }
 {
     NaiveTime::MIN
 }
 
-/// [`NaiveTime::MAX`], which is 23:59:59.999999999.
+/// Returns [`NaiveTime::MAX`], which is 23:59:59.999999999.
 pub fn last_time() -> NaiveTime
     ensures { result ≡ time_at 23 59 59 999_999_999 }
 {
     NaiveTime::MAX
 }
 
-/// [`TimeDelta::MIN`], which is `i64::MAX` milliseconds back, and its text.
+/// Returns [`TimeDelta::MIN`], which is -`i64::MAX` milliseconds. The contract also states its text.
 pub fn least_duration() -> TimeDelta
     ensures value { result ≡ neg_ℤ (pos longest) }
     ensures text { duration_text result ≡ codes "-PT9223372036854775.807S" }
@@ -29,7 +29,7 @@ pub fn least_duration() -> TimeDelta
     TimeDelta::MIN
 }
 
-/// [`TimeDelta::MAX`], which is `i64::MAX` milliseconds, and its text.
+/// Returns [`TimeDelta::MAX`], which is `i64::MAX` milliseconds. The contract also states its text.
 pub fn greatest_duration() -> TimeDelta
     ensures value { result ≡ pos longest }
     ensures text { duration_text result ≡ codes "PT9223372036854775.807S" }
@@ -37,7 +37,7 @@ pub fn greatest_duration() -> TimeDelta
     TimeDelta::MAX
 }
 
-/// Texts of times of day that are known: with a fraction of six digits, and with one of three in a leap second.
+/// States the texts of two times: one with a fraction of six digits, and one in a leap second with a fraction of three.
 pub fn known_time_texts()
     ensures six_digits { time_text (time_at 13 4 56 500_001_000) ≡ codes "13:04:56.500001" }
     ensures leap { time_text (time_at 23 59 59 1_042_000_000) ≡ codes "23:59:60.042" }

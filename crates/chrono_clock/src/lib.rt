@@ -1,8 +1,8 @@
 //! Durations and times of day, to the nanosecond.
 //!
-//! A [`TimeDelta`] is one whole number of nanoseconds, and every call answers that number's arithmetic. A [`NaiveTime`]
-//! is a second of the day and a fraction of it, and a duration moves a time on a line that holds the time's own leap
-//! second. [`Timelike`] reads and replaces the fields of whatever has a time of day.
+//! A [`TimeDelta`] is one whole number of nanoseconds, and its functions compute with that number. A [`NaiveTime`] is a
+//! second of the day and a fraction of a second. A time in a leap second keeps that leap second when a duration moves
+//! it. [`Timelike`] reads and replaces the fields of a value that has a time of day.
 #![tactic(auto)]
 
 mod carry;

@@ -1,7 +1,7 @@
-//! Times of day: the type, its constructors, and how durations move times and measure between them.
+//! Times of day: the type, its constructors, moves by durations, and differences.
 //!
-//! The operators stand in `ops`, the order in `order`, and the texts in `text`.
-ghost use Rattle.std.specs.Prelude.{◌≡◌, ℕ, ℤ, pos, ◌<◌, ◌≤◌, ◌^◌, ◌+◌, ◌*◌, ◌%◌, ◌<ℤ◌, ◌⊎◌, ◌+ℤ◌, ◌*ℤ◌, neg_ℤ, unsigned_abs};
+//! The operators are in `ops`, the order in `order`, and the text in `text`.
+ghost use Rattle.std.specs.Prelude.{◌≡◌, ℕ, ℤ, pos, ◌<◌, ◌≤◌, ◌^◌, ◌+◌, ◌*◌, ◌%◌, ◌<ℤ◌, ◌⊎◌, ◌+ℤ◌, ◌-ℤ◌, ◌*ℤ◌, neg_ℤ, unsigned_abs};
 ghost use Rattle.std.specs.Option.{SomeIff};
 ghost use Rattle.chrono_clock.specs.Duration.{nanos_of, nanos_per_second, nanos_per_milli, nanos_per_micro};
 ghost use Rattle.chrono_clock.specs.Time.{IsTime, seconds_per_day, IsClock, FractionFits, TimeOfDay, SameWay, TimeMovesAddUp, IsEarlier, IsEarlierLanding, IsLeap, IsPlain, landing_of, is_leap, place, place_beside, plain_landing, leap_landing, land, distance, time_at};
@@ -22,9 +22,9 @@ const SHIFT_DAYS: i64 = 500_000_000_000;
 
 /// A time of day, to the nanosecond, with leap seconds.
 ///
-/// A time is a second of the day, from 0 to 86,399, and a fraction of it in nanoseconds. A fraction of 1,000,000,000 or
-/// more, up to 1,999,999,999, lies in the leap second that follows that second; leap seconds are not looked up, so any
-/// minute may have one. Times are ordered, equal and hashed by second and then fraction, and the default is midnight.
+/// A time is a second of the day, from 0 to 86,399, and a fraction of it in nanoseconds. A fraction from 1,000,000,000
+/// to 1,999,999,999 lies in the leap second that follows that second. The library has no list of leap seconds, so every
+/// minute may have one. Times compare by second, then by fraction. The default is midnight.
 #[derive(Clone, Copy, PartialEq, Eq, Hash)]
 pub struct NaiveTime {
     // The second of the day.
@@ -51,15 +51,20 @@ impl NaiveTime {
     /// Midnight, the first time of the day.
     pub const MIN: NaiveTime = NaiveTime { secs: 0, frac: 0 };
 
-    /// The last time of the day in no leap second: 23:59:59.999999999.
+    /// 23:59:59.999999999, the last time of the day that is not in a leap second.
     pub const MAX: NaiveTime = NaiveTime {
         secs: 86_399,
         frac: 999_999_999,
     };
 
-    /// The time of this hour, minute and second.
+    /// Returns the time with this hour, minute and second.
     ///
-    /// `None` exactly if `hour` is 24 or more, or `minute` or `second` is 60 or more.
+    /// Returns `None` if `hour` is 24 or more, or `minute` or `second` is 60 or more.
+    ///
+    /// ```
+    /// NaiveTime::from_hms_opt(9, 30, 0) // Some(09:30:00)
+    /// NaiveTime::from_hms_opt(24, 0, 0) // None
+    /// ```
     #[inline]
     pub fn from_hms_opt(hour: u32, minute: u32, second: u32) -> Option<NaiveTime>
         ensures { SomeIff result (IsClock hour minute second) (time_at hour minute second 0) }
@@ -67,10 +72,16 @@ impl NaiveTime {
         NaiveTime::from_hms_nano_opt(hour, minute, second, 0)
     }
 
-    /// The time of this hour, minute and second, and so many milliseconds past it.
+    /// Returns the time `milli` milliseconds after this hour, minute and second.
     ///
-    /// `None` exactly as for [`from_hms_nano_opt`](Self::from_hms_nano_opt): the milliseconds go up to 1,999 at second
-    /// 59, and else up to 999.
+    /// Returns `None` if `hour` is 24 or more, `minute` or `second` is 60 or more, or `milli` is too large. The largest
+    /// `milli` is 999, or 1,999 if `second` is 59: then 1,000 and more lie in a leap second.
+    ///
+    /// ```
+    /// NaiveTime::from_hms_milli_opt(9, 30, 0, 250) // Some(09:30:00.250)
+    /// NaiveTime::from_hms_milli_opt(23, 59, 59, 1_500) // Some(23:59:60.500)
+    /// NaiveTime::from_hms_milli_opt(9, 30, 0, 1_500) // None
+    /// ```
     #[inline]
     pub fn from_hms_milli_opt(hour: u32, minute: u32, second: u32, milli: u32) -> Option<NaiveTime>
         ensures { SomeIff result
@@ -80,10 +91,15 @@ impl NaiveTime {
         NaiveTime::from_hms_nano_opt(hour, minute, second, milli.checked_mul(NANOS_PER_MILLI)?)
     }
 
-    /// The time of this hour, minute and second, and so many microseconds past it.
+    /// Returns the time `micro` microseconds after this hour, minute and second.
     ///
-    /// `None` exactly as for [`from_hms_nano_opt`](Self::from_hms_nano_opt): the microseconds go up to 1,999,999 at
-    /// second 59, and else up to 999,999.
+    /// Returns `None` if `hour` is 24 or more, `minute` or `second` is 60 or more, or `micro` is too large. The largest
+    /// `micro` is 999,999, or 1,999,999 if `second` is 59: then 1,000,000 and more lie in a leap second.
+    ///
+    /// ```
+    /// NaiveTime::from_hms_micro_opt(9, 30, 0, 250) // Some(09:30:00.000250)
+    /// NaiveTime::from_hms_micro_opt(9, 30, 0, 1_000_000) // None
+    /// ```
     #[inline]
     pub fn from_hms_micro_opt(hour: u32, minute: u32, second: u32, micro: u32) -> Option<NaiveTime>
         ensures { SomeIff result (IsClock hour minute second × FractionFits second (micro * nanos_per_micro))
@@ -92,10 +108,15 @@ impl NaiveTime {
         NaiveTime::from_hms_nano_opt(hour, minute, second, micro.checked_mul(NANOS_PER_MICRO)?)
     }
 
-    /// The time of this hour, minute and second, and so many nanoseconds past it.
+    /// Returns the time `nano` nanoseconds after this hour, minute and second.
     ///
-    /// `None` exactly if `hour` is 24 or more, `minute` or `second` is 60 or more, `nano` is 2,000,000,000 or more, or
-    /// `nano` is 1,000,000,000 or more, which is a leap second, and `second` is not 59.
+    /// Returns `None` if `hour` is 24 or more, `minute` or `second` is 60 or more, or `nano` is too large. The largest
+    /// `nano` is 999,999,999, or 1,999,999,999 if `second` is 59: then 1,000,000,000 and more lie in a leap second.
+    ///
+    /// ```
+    /// NaiveTime::from_hms_nano_opt(9, 30, 0, 250) // Some(09:30:00.000000250)
+    /// NaiveTime::from_hms_nano_opt(9, 30, 59, 1_000_000_000) // Some(09:30:60)
+    /// ```
     #[inline]
     pub fn from_hms_nano_opt(hour: u32, minute: u32, second: u32, nano: u32) -> Option<NaiveTime>
         ensures { SomeIff result (IsClock hour minute second × FractionFits second nano)
@@ -108,10 +129,15 @@ impl NaiveTime {
         NaiveTime::from_num_seconds_from_midnight_opt(secs, nano)
     }
 
-    /// The time so many seconds after midnight, and so many nanoseconds past those.
+    /// Returns the time `secs` seconds and `nano` nanoseconds after midnight.
     ///
-    /// `None` exactly if `secs` is 86,400 or more, `nano` is 2,000,000,000 or more, or `nano` is 1,000,000,000 or more
-    /// and `secs` is not the last second of a minute.
+    /// Returns `None` if `secs` is 86,400 or more, or `nano` is too large. The largest `nano` is 999,999,999, or
+    /// 1,999,999,999 if `secs` is the last second of a minute.
+    ///
+    /// ```
+    /// NaiveTime::from_num_seconds_from_midnight_opt(3_600, 0) // Some(01:00:00)
+    /// NaiveTime::from_num_seconds_from_midnight_opt(86_400, 0) // None
+    /// ```
     #[inline]
     pub fn from_num_seconds_from_midnight_opt(secs: u32, nano: u32) -> Option<NaiveTime>
         ensures { SomeIff result ((secs < seconds_per_day) × FractionFits (secs % 60) nano)
@@ -126,11 +152,18 @@ impl NaiveTime {
         Some(NaiveTime { secs, frac: nano })
     }
 
-    /// The time that a duration leads to, and the seconds of the whole days that it passes.
+    /// Returns the time that `rhs` leads to, and the seconds of the whole days that the move passes.
     ///
-    /// From a plain time the clock goes on without leap seconds. From a time inside a leap second the clock has that
-    /// one leap second: a duration that ends inside it gives a time inside it, and one that ends past it comes one second
-    /// less far. The seconds of days are a multiple of 86,400, negative for days back.
+    /// These seconds are a multiple of 86,400. They are negative for a move to an earlier day.
+    ///
+    /// ```
+    /// let time = NaiveTime::from_hms_opt(23, 59, 58)?;
+    /// time.overflowing_add_signed(TimeDelta::seconds(5)) // (00:00:03, 86400)
+    /// ```
+    ///
+    /// A move from a time outside a leap second ignores leap seconds. A move from inside a leap second counts that one
+    /// leap second. If it ends inside, the result is in the leap second; if it ends later, it arrives one second
+    /// earlier.
     #[inline]
     pub fn overflowing_add_signed(&self, rhs: TimeDelta) -> (NaiveTime, i64)
         ensures time { result.0 ≡ (land self.now rhs).time }
@@ -154,10 +187,15 @@ impl NaiveTime {
         (time, days * SECS_PER_DAY as i64)
     }
 
-    /// The time that a duration leads to, and the whole days that it passes, negative for days back and fewer than 2^40.
+    /// Returns the time that `rhs` leads to, and the number of whole days that the move passes.
     ///
-    /// It is the move of [`overflowing_add_signed`](Self::overflowing_add_signed), counted in days: five seconds after
-    /// 23:59:58 it is 00:00:03, one day on, and five seconds before 00:00:03 it is 23:59:58, one day back.
+    /// The number is negative for a move to an earlier day, and smaller than 2^40 either way. The move is that of
+    /// [`overflowing_add_signed`](Self::overflowing_add_signed).
+    ///
+    /// ```
+    /// NaiveTime::from_hms_opt(23, 59, 58)?.landing(TimeDelta::seconds(5)) // (00:00:03, 1)
+    /// NaiveTime::from_hms_opt(0, 0, 3)?.landing(TimeDelta::seconds(-5)) // (23:59:58, -1)
+    /// ```
     #[inline]
     pub fn landing(&self, rhs: TimeDelta) -> (NaiveTime, i64)
         ensures time { result.0 ≡ (land self.now rhs).time }
@@ -186,10 +224,15 @@ impl NaiveTime {
         }
     }
 
-    /// The time that a duration leads back to, and the seconds of the whole days that it passes back.
+    /// Returns the time `rhs` earlier, and the seconds of the whole days that the move passes backwards.
     ///
-    /// The time is that of [`overflowing_add_signed`](Self::overflowing_add_signed) by the negated duration, and the
-    /// seconds are the negated ones.
+    /// The time is that of [`overflowing_add_signed`](Self::overflowing_add_signed) for the negated duration. The
+    /// seconds have the opposite sign.
+    ///
+    /// ```
+    /// let time = NaiveTime::from_hms_opt(0, 0, 3)?;
+    /// time.overflowing_sub_signed(TimeDelta::seconds(5)) // (23:59:58, 86400)
+    /// ```
     #[inline]
     pub fn overflowing_sub_signed(&self, rhs: TimeDelta) -> (NaiveTime, i64)
         ensures time { result.0 ≡ (land self.now (neg_ℤ rhs)).time }
@@ -201,10 +244,15 @@ impl NaiveTime {
         (time, -seconds)
     }
 
-    /// The duration from `rhs` to this time of the same day, negative if this time is earlier.
+    /// Returns the duration from `rhs` to this time of the same day. It is negative if this time is earlier.
     ///
-    /// The leap second of either time counts if it comes before the other. So the answer is
-    /// sometimes longer than a day, though by under one second.
+    /// ```
+    /// let start = NaiveTime::from_hms_opt(9, 30, 0)?;
+    /// NaiveTime::from_hms_opt(11, 0, 0)?.signed_duration_since(start).num_minutes() // 90
+    /// ```
+    ///
+    /// If one of the times lies in a leap second, the part of that leap second between the two times counts. So the
+    /// result can be longer than a day, by less than one second.
     #[inline]
     pub fn signed_duration_since(self, rhs: NaiveTime) -> TimeDelta
         ensures value { result ≡ distance self rhs }
@@ -218,6 +266,8 @@ impl NaiveTime {
         ensures later { IsEarlier rhs self → pos 0 <ℤ result }
         ensures same { self ≡ rhs → result ≡ pos 0 }
         ensures earlier { IsEarlier self rhs → result <ℤ pos 0 }
+        // Of two times in no leap second it is the difference of their places in the day.
+        ensures plain { IsPlain self → IsPlain rhs → result ≡ pos (place self) -ℤ pos (place rhs) }
         // From this time to `rhs` it is as far, with the other sign.
         ensures turned { result ≡ neg_ℤ (distance rhs self) }
     {
@@ -368,7 +418,7 @@ fn landed_on_leap_line(start: u32, secs: i64, nanos: u32) -> (NaiveTime, i64)
 impl Default for NaiveTime {
     ghost is_default = { λ t. t ≡ record { second = 0; fraction = 0 } };
 
-    /// Midnight.
+    /// Returns midnight.
     #[inline]
     fn default() -> NaiveTime {
         NaiveTime::MIN

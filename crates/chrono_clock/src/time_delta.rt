@@ -1,7 +1,7 @@
 //! Durations: the type, its ends and its stored parts.
 //!
-//! Durations are made of units and read in units in `units`, added, multiplied and divided in `ops`, compared in
-//! `order`, summed in `sum` and written in `text`.
+//! Whole units are in `units`, arithmetic in `ops`, the order in `order`, sums of iterators in `sum`, and the text in
+//! `text`.
 ghost use Rattle.std.specs.Prelude.{◌≡◌, ℕ, ℤ, pos, ◌<◌, ◌^◌, ◌+ℤ◌, ◌*ℤ◌, neg_ℤ, unsigned_abs, IsTrue, ◌↔◌};
 ghost use Rattle.std.specs.Option.{SomeIff};
 ghost use Rattle.chrono_clock.specs.Duration.{IsDuration, longest, nanos_per_second, nanos_of, floor_secs, past_floor};
@@ -15,11 +15,11 @@ mod sum;
 mod text;
 mod units;
 
-/// A duration: a whole number of nanoseconds, negative, zero or positive.
+/// A duration: a whole number of nanoseconds, which can be negative.
 ///
-/// Its size is at most `i64::MAX` milliseconds, about 292 million years. Durations are ordered, equal and hashed as
-/// that number, and the default is zero. `{}` writes an ISO 8601 duration in seconds, with a sign before it if need be:
-/// `PT0.042S` for 42 milliseconds, `-PT86400S` for a day back and `P0D` for zero.
+/// Its size is at most `i64::MAX` milliseconds, about 292 million years. Durations compare as that number, and the
+/// default is zero. `{}` writes an ISO 8601 duration in seconds, with `-` before a negative one: `PT0.042S` is 42
+/// milliseconds, `-PT86400S` is minus one day, and `P0D` is zero.
 #[derive(Clone, Copy, Debug)]
 pub struct TimeDelta {
     // The whole seconds, rounded down.
@@ -61,22 +61,27 @@ const MAX_SECS: i64 = 9_223_372_036_854_775;
 const MAX_NANOS: u32 = 807_000_000;
 
 impl TimeDelta {
-    /// The least duration, of -`i64::MAX` milliseconds.
+    /// The least duration, -`i64::MAX` milliseconds.
     pub const MIN: TimeDelta = TimeDelta {
         secs: MIN_SECS,
         nanos: MIN_NANOS,
     };
 
-    /// The greatest duration, of `i64::MAX` milliseconds.
+    /// The greatest duration, `i64::MAX` milliseconds.
     pub const MAX: TimeDelta = TimeDelta {
         secs: MAX_SECS,
         nanos: MAX_NANOS,
     };
 
-    /// The duration of `secs` seconds and `nanos` nanoseconds more.
+    /// Returns the duration of `secs` seconds plus `nanos` nanoseconds.
     ///
-    /// `None` exactly if `nanos` is 1,000,000,000 or more, or the duration would pass [`MIN`](Self::MIN) or
-    /// [`MAX`](Self::MAX). A duration of -1.5 seconds is `TimeDelta::new(-2, 500_000_000)`.
+    /// Returns `None` if `nanos` is 1,000,000,000 or more, or the duration is below [`MIN`](Self::MIN) or above
+    /// [`MAX`](Self::MAX).
+    ///
+    /// ```
+    /// TimeDelta::new(-2, 500_000_000)?.num_milliseconds() // -1500
+    /// TimeDelta::new(0, 1_000_000_000) // None
+    /// ```
     #[inline]
     pub fn new(secs: i64, nanos: u32) -> Option<TimeDelta>
         ensures { SomeIff result ((nanos < nanos_per_second) × IsDuration (nanos_of secs nanos))
@@ -88,7 +93,11 @@ impl TimeDelta {
         TimeDelta::from_stored(secs, nanos)
     }
 
-    /// [`MIN`](Self::MIN), the least duration.
+    /// Returns [`MIN`](Self::MIN), the least duration.
+    ///
+    /// ```
+    /// TimeDelta::min_value().num_milliseconds() // -9223372036854775807
+    /// ```
     #[inline]
     pub fn min_value() -> TimeDelta
         ensures { result ≡ neg_ℤ (pos longest) }
@@ -96,7 +105,11 @@ impl TimeDelta {
         TimeDelta::MIN
     }
 
-    /// [`MAX`](Self::MAX), the greatest duration.
+    /// Returns [`MAX`](Self::MAX), the greatest duration.
+    ///
+    /// ```
+    /// TimeDelta::max_value().num_milliseconds() // 9223372036854775807
+    /// ```
     #[inline]
     pub fn max_value() -> TimeDelta
         ensures { result ≡ pos longest }
@@ -104,7 +117,11 @@ impl TimeDelta {
         TimeDelta::MAX
     }
 
-    /// The duration of no nanosecond.
+    /// Returns the duration of zero nanoseconds.
+    ///
+    /// ```
+    /// TimeDelta::zero() == TimeDelta::seconds(0) // true
+    /// ```
     #[inline]
     pub fn zero() -> TimeDelta
         ensures { result ≡ pos 0 }
@@ -112,7 +129,11 @@ impl TimeDelta {
         TimeDelta { secs: 0, nanos: 0 }
     }
 
-    /// Whether the duration is zero.
+    /// Returns whether the duration is zero.
+    ///
+    /// ```
+    /// TimeDelta::seconds(0).is_zero() // true
+    /// ```
     #[inline]
     pub fn is_zero(&self) -> bool
         ensures { IsTrue result ↔ (self.now ≡ pos 0) }
@@ -176,7 +197,7 @@ impl TimeDelta {
 impl Default for TimeDelta {
     ghost is_default = { λ x. x ≡ pos 0 };
 
-    /// The duration of no nanosecond.
+    /// Returns the duration of zero nanoseconds.
     #[inline]
     fn default() -> TimeDelta {
         TimeDelta::zero()

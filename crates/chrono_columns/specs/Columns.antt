@@ -27,27 +27,31 @@ abbrev pub count_entry : Option ℕ → ℕ
 count_entry (Some n) = n
 count_entry None = 0
 
--- of the date with the number n: its year, its ordinal, its month and its day
+-- the year of the date with the number n, or the least `i32`
 unfoldable pub year_entry : ℤ → ℤ
 year_entry n = number_entry (option_map year_of (date_of_day n))
 
+-- the ordinal of the date with the number n, or 0
 unfoldable pub ordinal_entry : ℤ → ℕ
 ordinal_entry n = count_entry (option_map ordinal_of (date_of_day n))
 
+-- the month of the date with the number n, or 0
 unfoldable pub month_entry : ℤ → ℕ
 month_entry n = count_entry (option_map month_of (date_of_day n))
 
+-- the day of the month of the date with the number n, or 0
 unfoldable pub day_entry : ℤ → ℕ
 day_entry n = count_entry (option_map day_of (date_of_day n))
 
--- its weekday, from 1 for Monday to 7 for Sunday
+-- the weekday of the date n, from 1 for Monday to 7 for Sunday, or 0
 unfoldable pub weekday_entry : ℤ → ℕ
 weekday_entry n = count_entry (option_map (λ d. number_from_monday (weekday_of d)) (date_of_day n))
 
--- its ISO year, and its week there
+-- the ISO year of the date with the number n, or the least `i32`
 unfoldable pub iso_year_entry : ℤ → ℤ
 iso_year_entry n = number_entry (option_map iso_year_of (date_of_day n))
 
+-- the ISO week of the date with the number n, or 0
 unfoldable pub iso_week_entry : ℤ → ℕ
 iso_week_entry n = count_entry (option_map iso_week_of (date_of_day n))
 
@@ -55,10 +59,11 @@ iso_week_entry n = count_entry (option_map iso_week_of (date_of_day n))
 unfoldable pub date_entry : ℤ → ℕ → ℕ → ℤ
 date_entry y m d = number_entry (date_of_ymd y m d)
 
--- the date k days after the date n, and the date k months after it
+-- the date k days after the date n, or the least `i32`
 unfoldable pub later_entry : ℤ → ℤ → ℤ
 later_entry k n = number_entry (option_and_then (λ d. date_of_day (d +ℤ k)) (date_of_day n))
 
+-- the date k months after the date n, or the least `i32`
 unfoldable pub months_later_entry : ℤ → ℤ → ℤ
 months_later_entry k n = number_entry (option_and_then (λ d. month_move d k) (date_of_day n))
 
@@ -70,10 +75,11 @@ distance_entry n m = number_entry (option_and_then (λ d. option_map (λ e. d -�
 unfoldable pub first_on_entry : DaySet → ℤ → ℤ
 first_on_entry set n = number_entry (option_and_then (λ d. date_on d set) (date_of_day n))
 
--- the date so many days after 1 January 1970, and the days from then to the date n
+-- the date so many days after 1 January 1970, or the least `i32`
 unfoldable pub unix_date_entry : ℤ → ℤ
 unix_date_entry z = number_entry (date_of_day (z +ℤ unix_epoch_day))
 
+-- the days from 1 January 1970 to the date n, or the least `i64`
 unfoldable pub unix_days_entry : ℤ → ℤ
 unix_days_entry n = wide_entry (option_map (λ d. d -ℤ unix_epoch_day) (date_of_day n))
 

@@ -14,7 +14,7 @@ const CODES_OF_TWO: [u8; 200] = [
     57, 54, 57, 55, 57, 56, 57, 57,
 ];
 
-/// The two digits of a number below 100.
+/// Returns the two digits of a number below 100.
 #[inline]
 pub(crate) fn codes_of_two(number: u32) -> (u8, u8)
     requires { number < 100 }

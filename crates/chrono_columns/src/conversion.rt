@@ -1,7 +1,8 @@
-//! From the day number of a date to its names (ISO 8601), by closed formulas in lanes of 32 bits.
+//! From the day number of a date to its year, month and day (ISO 8601), by closed formulas in lanes of 32 bits.
 //!
-//! Days are counted here from a cycle of 400 years so early that no number is negative. But for one product with 2^39 / 1461
-//! no number has more than 32 bits, and nothing is asked before it is computed, so several dates are converted side by side.
+//! Days are counted here from a cycle of 400 years so early that no number is negative.
+//! No number has more than 32 bits, but for one product with 2^39 / 1461.
+//! There is no branch before a value is computed, so several dates are converted side by side.
 ghost use Rattle.std.specs.Prelude.{◌≡◌, ◌+◌, ◌*◌, ◌/◌, ◌%◌, ◌<◌, pos, neg_ℤ, ◌+ℤ◌, ◌≤ℤ◌};
 ghost use Rattle.chrono_units.specs.Weekday.{number_from_monday};
 ghost use Rattle.chrono_calendar.specs.Days.{IsDate, day_of, days_before_year, month_of, ordinal_of, year_of};
@@ -50,7 +51,7 @@ pub(crate) fn year_after(years: u32) -> i32
     years as i32 + 1 - YEARS_TO_ONE
 }
 
-// The leap days that so many centuries lack of one in every fourth year.
+// How many leap days `centuries` centuries have less than if every fourth year were leap.
 #[inline]
 fn missing_leap_days(centuries: u32) -> u32
     requires { centuries < 6_000 }
@@ -92,7 +93,7 @@ pub(crate) fn years_and_place(days: u32) -> (u32, u32)
     (years, (quarter - QUARTERS_OF_YEAR * years) / 4)
 }
 
-/// The year and the ordinal of a date.
+/// Returns the year and the ordinal of a date.
 #[inline]
 pub(crate) fn year_and_ordinal(date: i32) -> (i32, u32)
     requires { IsDate date }
@@ -115,7 +116,7 @@ pub(crate) fn month_from_march(place: u32) -> (u32, u32)
     (scaled / 65_536, scaled % 65_536 / 2_141 + 1)
 }
 
-/// The year, the month and the day of the month of a date.
+/// Returns the year, the month and the day of the month of a date.
 #[inline]
 pub(crate) fn year_month_day(date: i32) -> (i32, u32, u32)
     requires { IsDate date }
@@ -133,7 +134,7 @@ pub(crate) fn year_month_day(date: i32) -> (i32, u32, u32)
     }
 }
 
-/// The weekday of a date, from 1 for Monday to 7 for Sunday. The days are counted from a Monday.
+/// Returns the weekday of a date, from 1 for Monday to 7 for Sunday. The days are counted from a Monday.
 #[inline]
 pub(crate) fn weekday(date: i32) -> u32
     requires { IsDate date }
@@ -143,7 +144,7 @@ pub(crate) fn weekday(date: i32) -> u32
     days_before(date) % 7 + 1
 }
 
-/// The ISO year of a date and the week there, which are those of the Thursday of its week.
+/// Returns the ISO year of a date and its week. They are those of the Thursday of the date's week.
 #[inline]
 pub(crate) fn iso_year_and_week(date: i32) -> (i32, u32)
     requires { IsDate date }

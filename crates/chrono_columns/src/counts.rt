@@ -4,7 +4,11 @@ ghost use Rattle.chrono_calendar.specs.Days.{is_date as date_range};
 
 use crate::nearest::is_date;
 
-/// How many numbers of a column are dates.
+/// Returns how many elements of `dates` are dates.
+///
+/// ```
+/// count_dates(&[738_945, NONE, i32::MAX]) // 1
+/// ```
 pub fn count_dates(dates: &[i32]) -> usize
     ensures { result ≡ count_by date_range dates.now }
 {

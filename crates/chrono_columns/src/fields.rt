@@ -1,4 +1,4 @@
-//! What one element of a column is called: the names of a number that is a date, or what stands for none.
+//! The fields of one element of a column, or what stands for a missing one.
 ghost use Rattle.std.specs.Prelude.{◌≡◌};
 ghost use Rattle.chrono_columns.specs.Columns.{day_entry, iso_week_entry, iso_year_entry, month_entry, ordinal_entry, weekday_entry, year_entry};
 
@@ -6,7 +6,7 @@ use crate::conversion::{iso_year_and_week, weekday, year_and_ordinal, year_month
 use crate::nearest::{is_date, nearest_date};
 use crate::none::NONE;
 
-/// The weekday, from 1 for Monday to 7 for Sunday, or 0.
+/// Returns the weekday, from 1 for Monday to 7 for Sunday, or 0.
 #[inline]
 pub(crate) fn weekday_of_number(number: i32) -> u8
     ensures { result ≡ weekday_entry number }
@@ -15,7 +15,7 @@ pub(crate) fn weekday_of_number(number: i32) -> u8
     if is_date(number) { day as u8 } else { 0 }
 }
 
-/// The year, or [`NONE`].
+/// Returns the year, or [`NONE`].
 #[inline]
 pub(crate) fn year_of_number(number: i32) -> i32
     ensures { result ≡ year_entry number }
@@ -24,7 +24,7 @@ pub(crate) fn year_of_number(number: i32) -> i32
     if is_date(number) { year } else { NONE }
 }
 
-/// The day of the year from 1, or 0.
+/// Returns the day of the year from 1, or 0.
 #[inline]
 pub(crate) fn ordinal_of_number(number: i32) -> u16
     ensures { result ≡ ordinal_entry number }
@@ -33,7 +33,7 @@ pub(crate) fn ordinal_of_number(number: i32) -> u16
     if is_date(number) { ordinal as u16 } else { 0 }
 }
 
-/// The year, the month and the day of the month, or [`NONE`] and twice 0.
+/// Returns the year, the month and the day of the month, or [`NONE`] and twice 0.
 #[inline]
 pub(crate) fn name_of_number(number: i32) -> (i32, u8, u8)
     ensures year { result.0 ≡ year_entry number }
@@ -48,7 +48,7 @@ pub(crate) fn name_of_number(number: i32) -> (i32, u8, u8)
     }
 }
 
-/// The ISO year, or [`NONE`].
+/// Returns the ISO year, or [`NONE`].
 #[inline]
 pub(crate) fn iso_year_of_number(number: i32) -> i32
     ensures { result ≡ iso_year_entry number }
@@ -57,7 +57,7 @@ pub(crate) fn iso_year_of_number(number: i32) -> i32
     if is_date(number) { year } else { NONE }
 }
 
-/// The week of that year, or 0.
+/// Returns the week of the ISO year, or 0.
 #[inline]
 pub(crate) fn iso_week_of_number(number: i32) -> u8
     ensures { result ≡ iso_week_entry number }

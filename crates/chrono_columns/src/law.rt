@@ -2,7 +2,7 @@
 ghost use Rattle.std.specs.Prelude.{◌≡◌, codes, pos, neg_ℤ, replicate};
 ghost use Rattle.chrono_columns.specs.Columns.{date_entry, day_entry, distance_entry, iso_week_entry, iso_year_entry, later_entry, month_entry, months_later_entry, ordinal_entry, text_entry, unix_date_entry, unix_days_entry, weekday_entry, year_entry};
 
-/// What stands for none has no names; no date is a day or a month later than it, and it is no distance from a date.
+/// A missing date has no fields and no text. No date is a day or a month later than it, and its distance is missing.
 #[tactic(auto, unfolding(chrono_calendar::specs::Days::date_of_day, crate::specs::Columns::year_entry, crate::specs::Columns::ordinal_entry, crate::specs::Columns::month_entry, crate::specs::Columns::day_entry, crate::specs::Columns::weekday_entry, crate::specs::Columns::iso_year_entry, crate::specs::Columns::iso_week_entry, crate::specs::Columns::later_entry, crate::specs::Columns::months_later_entry, crate::specs::Columns::distance_entry, crate::specs::Columns::unix_days_entry, crate::specs::Columns::text_entry))]
 pub fn none_comes_of_none()
     ensures year { year_entry (neg_ℤ (pos 2_147_483_648)) ≡ neg_ℤ (pos 2_147_483_648) }
@@ -19,7 +19,7 @@ pub fn none_comes_of_none()
     ensures text { text_entry (neg_ℤ (pos 2_147_483_648)) ≡ replicate 10 0 }
 {}
 
-/// Entries of known dates: 1 January of year 1 is a Monday, 1970 begins at 0 days, and 2023 had no 29 February.
+/// Known dates: 1 January of year 1 is a Monday, 1970 begins at 0 days, and 2023 has no 29 February.
 #[tactic(auto, unfolding(chrono_calendar::specs::Days::date_of_day, chrono_calendar::specs::Days::date_of_ymd, crate::specs::Columns::weekday_entry, crate::specs::Columns::date_entry, crate::specs::Columns::later_entry, crate::specs::Columns::distance_entry, crate::specs::Columns::unix_date_entry, crate::specs::Columns::unix_days_entry))]
 pub fn known_entries()
     ensures weekday { weekday_entry (pos 1) ≡ 1 }
@@ -30,7 +30,8 @@ pub fn known_entries()
     ensures unix_days { unix_days_entry (pos 719_163) ≡ pos 0 }
 {}
 
-/// Texts of known dates: 29 February 2024, the first and the last day of the years from 0 to 9999, and the days beside these, which have none.
+/// Known texts: those of 29 February 2024, and of the first and last day of the years 0 to 9999.
+/// The day before the first and the day after the last have none.
 pub fn known_texts()
     ensures leap_day { text_entry (pos 738_945) ≡ codes "2024-02-29" }
     ensures first { text_entry (neg_ℤ (pos 365)) ≡ codes "0000-01-01" }

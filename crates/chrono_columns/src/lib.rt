@@ -1,11 +1,19 @@
-//! Columns of dates: each call fills a slice with what holds of each element of others, by the words of the calendar.
+//! Columns of dates: each function computes one calendar operation for every element of a slice.
 //!
-//! A date is its day number as an `i32`, in which 1 January of year 1 is 1. The least `i32` ([`NONE`]) stands for a date, a year
-//! or a distance that there is not, and 0 for a month, a day, an ordinal, a week or a weekday. A number that is no date has no
-//! names, and none comes of none.
+//! ```
+//! let mut dates = [0; 2];
+//! read_dates(&[*b"2024-02-29", *b"2023-02-29"], &mut dates);
+//! dates // [738945, -2147483648]
+//! ```
 //!
-//! But for those of [`first_on`] an element is computed with no branch: a number that is no date is taken for the nearest one, and
-//! what comes of it is then chosen or not. So a compiler turns their loops into vector code. No call takes memory.
+//! A date is its day number as an `i32`: day 1 is 1 January of year 1.
+//! The least `i32` ([`NONE`]) stands for a missing date, year or distance.
+//! 0 stands for a missing month, day, ordinal, week or weekday.
+//! A number outside the calendar counts as missing. Every operation on a missing date gives a missing value.
+//!
+//! No function allocates memory. The slices of one call must have the same length.
+//! All functions but [`first_on`] compute an element without a branch, so that a compiler makes vector code of their loops.
+//! An invalid number is first replaced by the nearest date. At the end the result is kept or replaced by [`NONE`] or 0.
 #![tactic(auto)]
 
 mod codes;

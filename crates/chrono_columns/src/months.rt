@@ -1,4 +1,6 @@
-//! Moves by months, in lanes of 32 bits. Months are counted from March of the year -262,400, as the days are from its 1st.
+//! Moves by months, in lanes of 32 bits.
+//!
+//! Months are counted from March of the year -262,400, as the days are from its 1st.
 ghost use Rattle.std.specs.Prelude.{◌≡◌, ◌+◌, ◌-◌, ◌*◌, ◌/◌, ◌<◌, true, false, pos, neg_ℤ, ◌+ℤ◌, ◌-ℤ◌, ◌≤ℤ◌, ◌<ℤ◌};
 ghost use Rattle.std.specs.Int.{IsInRange};
 ghost use Rattle.chrono_units.specs.Years.{IsYear};
@@ -84,7 +86,8 @@ fn days_before_month(month: u32) -> u32
     (979 * month - 2_919) / 32
 }
 
-// The date of a day of a month, or of its last day if that is earlier: a month ends where the next begins, or with its year.
+// The date of a day of a month, or of its last day if that is earlier.
+// A month ends where the next begins, or with its year.
 #[inline]
 fn date_in_month(month: u32, day: u32) -> i32
     requires year { IsYear (year_of_month_index (pos month -ℤ pos 3_148_798)) }
@@ -103,7 +106,7 @@ fn date_in_month(month: u32, day: u32) -> i32
     (start + place) as i32 - (DAYS_TO_ONE + DAYS_FROM_MARCH as i32)
 }
 
-/// The date so many months later, or [`NONE`].
+/// Returns the date `months` months later, or [`NONE`].
 #[inline]
 pub(crate) fn months_later(number: i32, months: i32) -> i32
     ensures { result ≡ months_later_entry months number }

@@ -1,4 +1,4 @@
-//! Where one element of a column is moved to, and how far it lies from another.
+//! One element moved by days, and its distance from another.
 ghost use Rattle.std.specs.Prelude.{◌≡◌, pos, neg_ℤ, ◌≤ℤ◌, ◌<ℤ◌};
 ghost use Rattle.chrono_columns.specs.Columns.{distance_entry, later_entry};
 
@@ -22,7 +22,7 @@ fn nearest_count(days: i32) -> i32
     if days > PAST_ALL { PAST_ALL } else { days }
 }
 
-/// The date so many days later, or [`NONE`].
+/// Returns the date `days` days later, or [`NONE`].
 #[inline]
 pub(crate) fn days_later(number: i32, days: i32) -> i32
     ensures { result ≡ later_entry days number }
@@ -35,7 +35,7 @@ pub(crate) fn days_later(number: i32, days: i32) -> i32
     }
 }
 
-/// The days from the second date to the first, or [`NONE`].
+/// Returns the days from `base` to `number`, or [`NONE`].
 #[inline]
 pub(crate) fn days_from(number: i32, base: i32) -> i32
     ensures { result ≡ distance_entry number base }

@@ -1,4 +1,4 @@
-//! From a name to the date that has it, in lanes of 32 bits.
+//! From a year, a month and a day to the date, in lanes of 32 bits.
 ghost use Rattle.std.specs.Prelude.{◌≡◌, ◌&&◌, nat_le, ◌+◌, ◌*◌, ◌/◌, ◌-◌, ◌<◌, ◌≤◌, pos, ◌+ℤ◌};
 ghost use Rattle.std.specs.Int.{IsInRange};
 ghost use Rattle.chrono_units.specs.Years.{IsYear, is_leap_year as leap_rule};
@@ -59,7 +59,7 @@ fn has_day(length: u8, day: u8) -> bool
     day.wrapping_sub(1) < length
 }
 
-/// The date of a year, a month and a day, or [`NONE`].
+/// Returns the date of a year, a month and a day, or [`NONE`].
 #[inline]
 pub(crate) fn date_of_name(year: i32, month: u8, day: u8) -> i32
     ensures { result ≡ date_entry year month day }

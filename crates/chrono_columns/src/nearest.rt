@@ -1,4 +1,4 @@
-//! The values of a range that are nearest to any numbers.
+//! The value of a range that is nearest to a number.
 ghost use Rattle.std.specs.Prelude.{◌≡◌, ◌&&◌, nat_le};
 ghost use Rattle.std.specs.Int.{IsInRange};
 ghost use Rattle.chrono_units.specs.Years.{IsYear, is_year};
@@ -7,7 +7,7 @@ ghost use Rattle.chrono_calendar.specs.Days.{IsDate, is_date};
 use chrono_calendar::ends::{FIRST_DAY, LAST_DAY};
 use chrono_units::year::{MAX_YEAR, MIN_YEAR};
 
-/// The date nearest to a number: the number itself where it is one.
+/// Returns the date nearest to a number. For a date it is the number itself.
 #[inline]
 pub(crate) fn nearest_date(number: i32) -> i32
     ensures in_range { IsDate result }
@@ -16,7 +16,7 @@ pub(crate) fn nearest_date(number: i32) -> i32
     number.max(FIRST_DAY).min(LAST_DAY)
 }
 
-/// Whether a number is a date, and so the nearest one itself.
+/// Returns whether a number is a date, and so the nearest one itself.
 #[inline]
 pub(crate) fn is_date(number: i32) -> bool
     ensures { result ≡ is_date number }
@@ -24,7 +24,7 @@ pub(crate) fn is_date(number: i32) -> bool
     nearest_date(number) == number
 }
 
-/// The year nearest to a number, of those that have dates.
+/// Returns the year nearest to a number, of those that have dates.
 #[inline]
 pub(crate) fn nearest_year(number: i32) -> i32
     ensures in_range { IsYear result }
@@ -33,7 +33,7 @@ pub(crate) fn nearest_year(number: i32) -> i32
     number.max(MIN_YEAR).min(MAX_YEAR)
 }
 
-/// Whether a number is a year that has dates.
+/// Returns whether a number is a year that has dates.
 #[inline]
 pub(crate) fn is_year(number: i32) -> bool
     ensures { result ≡ is_year number }
@@ -41,7 +41,7 @@ pub(crate) fn is_year(number: i32) -> bool
     nearest_year(number) == number
 }
 
-/// The month nearest to a number.
+/// Returns the month nearest to a number.
 #[inline]
 pub(crate) fn nearest_month(number: u8) -> u32
     ensures in_range { IsInRange 1 12 result }
@@ -50,7 +50,7 @@ pub(crate) fn nearest_month(number: u8) -> u32
     u32::from(number).max(1).min(12)
 }
 
-/// Whether a number is that of a month.
+/// Returns whether a number is that of a month.
 #[inline]
 pub(crate) fn is_month(number: u8) -> bool
     ensures { result ≡ (nat_le 1 number && nat_le number 12) }

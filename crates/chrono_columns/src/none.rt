@@ -1,7 +1,7 @@
-//! The numbers that stand for none.
+//! The numbers that stand for missing values.
 
-/// Stands for a date, a year or a distance that there is not.
+/// The number for a missing date, year or distance: the least `i32`.
 pub const NONE: i32 = i32::MIN;
 
-/// Stands for none among days in 64 bits, as numpy's `NaT` does.
+/// The number for a missing value among days in 64 bits: the least `i64`, as numpy's `NaT`.
 pub const NOT_A_TIME: i64 = i64::MIN;

@@ -28,7 +28,17 @@ fn first_of_number(number: i32, weekdays: WeekdaySet) -> i32
     }
 }
 
-/// The first date from each on, itself counted, whose weekday is in the set, and [`NONE`](crate::NONE) where there is none.
+/// Writes for each of `dates` the first date from it on whose weekday is in `weekdays`. The date itself can be it.
+///
+/// It writes [`NONE`](crate::NONE) where the date is missing or no such date follows.
+/// Requires that `out` is as long as `dates`.
+///
+/// ```
+/// use chrono_datetime::{Weekday, WeekdaySet};
+/// let mut out = [0; 2];
+/// first_on(&[738_945, NONE], WeekdaySet::single(Weekday::Mon), &mut out);
+/// out // [738949, -2147483648]
+/// ```
 pub fn first_on(dates: &[i32], weekdays: WeekdaySet, out: &mut [i32])
     requires { length out.old ≡ length dates.now }
     ensures { out.new ≡ map (first_on_entry weekdays) dates.now }

@@ -30,7 +30,7 @@ fn number_of_two(tens: u8, ones: u8) -> (u8, bool)
     )
 }
 
-/// The date whose text it is, or [`NONE`].
+/// Returns the date that the text writes, or [`NONE`].
 #[inline]
 pub(crate) fn date_of_text(text: [u8; 10]) -> i32
     ensures { IsTextEntry text result }

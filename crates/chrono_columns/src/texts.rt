@@ -42,7 +42,17 @@ fn write_block(dates: &[i32], texts: &mut [[u8; 10]])
     write_names(&years[..count], &months[..count], &days[..count], texts);
 }
 
-/// The text of each date (ISO 8601 calendar date), and ten zero bytes where there is none or its year is not from 0 to 9999.
+/// Writes the text of each of `dates`, such as `2024-02-29` (ISO 8601 calendar date).
+///
+/// It writes ten zero bytes where the date is missing or its year is not from 0 to 9999.
+/// Requires that `texts` is as long as `dates`.
+///
+/// ```
+/// let mut texts = [[0; 10]; 2];
+/// write_dates(&[738_945, NONE], &mut texts);
+/// texts[0] == *b"2024-02-29" // true
+/// texts[1] // [0, 0, 0, 0, 0, 0, 0, 0, 0, 0]
+/// ```
 pub fn write_dates(dates: &[i32], texts: &mut [[u8; 10]])
     requires { length texts.old ≡ length dates.now }
     ensures { texts.new ≡ map text_entry dates.now }
@@ -55,7 +65,15 @@ pub fn write_dates(dates: &[i32], texts: &mut [[u8; 10]])
     }
 }
 
-/// The date whose text each is (ISO 8601 calendar date), and [`NONE`](crate::NONE) for a text of no date.
+/// Writes the date that each of `texts` is the text of (ISO 8601 calendar date).
+///
+/// It writes [`NONE`](crate::NONE) where a text is no date. Requires that `out` is as long as `texts`.
+///
+/// ```
+/// let mut out = [0; 2];
+/// read_dates(&[*b"2024-02-29", *b"2023-02-29"], &mut out);
+/// out // [738945, -2147483648]
+/// ```
 pub fn read_dates(texts: &[[u8; 10]], out: &mut [i32])
     requires { length out.old ≡ length texts.now }
     ensures { (i : ℕ) → i < length texts.now

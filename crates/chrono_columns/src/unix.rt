@@ -1,4 +1,6 @@
-//! Between a column of dates and one of the days since 1 January 1970, in 64 bits as numpy's `datetime64[D]` has them.
+//! Between a column of dates and one of the days since 1 January 1970.
+//!
+//! These have 64 bits, as numpy's `datetime64[D]`.
 ghost use Rattle.std.specs.Prelude.{◌≡◌, length, map, ◌+ℤ◌, pos};
 ghost use Rattle.chrono_calendar.specs.Days.{IsDate, is_date as date_range};
 ghost use Rattle.chrono_columns.specs.Columns.{unix_date_entry, unix_days_entry};
@@ -52,7 +54,16 @@ fn days_of_date(number: i32) -> i64
     if is_date(number) { days } else { NOT_A_TIME }
 }
 
-/// The date so many days after 1 January 1970, and [`NONE`] where there is none, so for [`NOT_A_TIME`].
+/// Writes the date of each of `days`, which count from 1 January 1970.
+///
+/// It writes [`NONE`] where the date would be out of range, and so for [`NOT_A_TIME`].
+/// Requires that `out` is as long as `days`.
+///
+/// ```
+/// let mut out = [0; 2];
+/// from_unix_days(&[0, NOT_A_TIME], &mut out);
+/// out // [719163, -2147483648]
+/// ```
 pub fn from_unix_days(days: &[i64], out: &mut [i32])
     requires { length out.old ≡ length days.now }
     ensures { out.new ≡ map unix_date_entry days.now }
@@ -62,7 +73,15 @@ pub fn from_unix_days(days: &[i64], out: &mut [i32])
     }
 }
 
-/// The days from 1 January 1970 to each date, and [`NOT_A_TIME`] where there is none.
+/// Writes the days from 1 January 1970 to each of `dates`, and [`NOT_A_TIME`] where the date is missing.
+///
+/// Requires that `out` is as long as `dates`.
+///
+/// ```
+/// let mut out = [0; 2];
+/// to_unix_days(&[719_163, 738_945], &mut out);
+/// out // [0, 19782]
+/// ```
 pub fn to_unix_days(dates: &[i32], out: &mut [i64])
     requires { length out.old ≡ length dates.now }
     ensures { out.new ≡ map unix_days_entry dates.now }

@@ -1,4 +1,4 @@
-//! The texts of single names: ten bytes in a year from 0 to 9999 (ISO 8601 calendar date).
+//! The text of one year, month and day: ten bytes for a year from 0 to 9999 (ISO 8601 calendar date).
 ghost use Rattle.std.specs.Prelude.{◌≡◌, ◌<◌, pos, ◌≤ℤ◌};
 ghost use Rattle.chrono_text.specs.Text.{calendar_text};
 ghost use Rattle.chrono_columns.specs.Columns.{has_four_digits, name_text_entry};
@@ -39,7 +39,7 @@ fn text_of_name(year: u32, month: u32, day: u32) -> [u8; 10]
     ]
 }
 
-/// The text of a year from 0 to 9999, a month and a day; of another year ten zero bytes.
+/// Returns the text of a year from 0 to 9999, a month and a day. For another year it returns ten zero bytes.
 #[inline]
 pub(crate) fn text_of_name_entry(year: i32, month: u8, day: u8) -> [u8; 10]
     requires month { month < 100 }

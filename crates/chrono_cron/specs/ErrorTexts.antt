@@ -29,6 +29,7 @@ fault_text RangeTurnedRound = codes "a range whose end is below its beginning"
 fault_text StepOfZero = codes "a step of 0"
 fault_text StepOfNumber = codes "a step behind a number alone"
 
+-- the line of an error: its field, its byte, and what is wrong there
 unfoldable pub error_text : ScheduleError → List ℕ
 error_text e = field_in_front e.field ++ (codes "byte " ++ (decimal e.byte ++ (codes ": " ++ fault_text e.fault)))
 

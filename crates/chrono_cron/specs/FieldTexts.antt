@@ -8,13 +8,15 @@ use Rattle.chrono_cron.specs.Steps.{is_by_steps}
 use Rattle.chrono_cron.specs.declared.names.Names.{Names}
 use Rattle.chrono_cron.specs.declared.names.Names.TheVariants.{Numbers, Months, Weekdays}
 
--- what stands before and behind the first byte of a kind, and whether there is one
+-- what stands before the first byte `sign` of a text
 abbrev pub before : ℕ → List ℕ → List ℕ
 before sign text = before_first (λ x. x == sign) text
 
+-- what stands behind the first byte `sign` of a text
 abbrev pub behind : ℕ → List ℕ → List ℕ
 behind sign text = after_first (λ x. x == sign) text
 
+-- whether a byte `sign` stands in the text
 abbrev pub stands_in : ℕ → List ℕ → Bool
 stands_in sign text = nat_lt (position_or_len (λ x. x == sign) text) (length text)
 
@@ -41,6 +43,7 @@ spelled_number names text = option_or (short_number_of text) (number_of_name nam
 abbrev pub within : ℕ → ℕ → ℕ → Option ℕ
 within low high n = if nat_le low n && nat_le n high then Some n else None
 
+-- the number that a text spells, if it is from `low` to `high`
 unfoldable pub number_in : Names → ℕ → ℕ → List ℕ → Option ℕ
 number_in names low high text = option_and_then (within low high) (spelled_number names text)
 
@@ -70,6 +73,7 @@ item_lists names low high text k =
 abbrev pub onto : Bool → Option Bool → Option Bool
 onto here others = option_map (λ there. here || there) others
 
+-- whether one of the items lists k; none if one of them cannot be read
 abbrev pub items_list : Names → ℕ → ℕ → List (List ℕ) → ℕ → Option Bool
 items_list names low high [] k = Some false
 items_list names low high (item ∷ items) k = option_and_then (λ here. onto here (items_list names low high items k)) (item_lists names low high item k)

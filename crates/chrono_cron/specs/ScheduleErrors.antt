@@ -31,10 +31,11 @@ first_wrong (minute ∷ hour ∷ day ∷ month ∷ weekday ∷ []) =
     (unless_read (weekdays_list weekday 0) Weekday None))))
 first_wrong others = None
 
+-- the first field of the text that cannot be read, if the text has five fields
 unfoldable pub wrong_field : List ℕ → Option ScheduleField
 wrong_field text = first_wrong (words text)
 
--- how many fields stand before a field, the names that it has for its numbers, and the least and the greatest of these
+-- how many fields stand before a field
 abbrev pub place_of_field : ScheduleField → ℕ
 place_of_field Minute = 0
 place_of_field Hour = 1
@@ -42,16 +43,19 @@ place_of_field Day = 2
 place_of_field Month = 3
 place_of_field Weekday = 4
 
+-- the names that a field has for its numbers
 abbrev pub names_of_field : ScheduleField → Names
 names_of_field Month = Months
 names_of_field Weekday = Weekdays
 names_of_field others = Numbers
 
+-- the least number of a field
 abbrev pub least_of_field : ScheduleField → ℕ
 least_of_field Day = 1
 least_of_field Month = 1
 least_of_field others = 0
 
+-- the greatest number of a field
 abbrev pub greatest_of_field : ScheduleField → ℕ
 greatest_of_field Minute = 59
 greatest_of_field Hour = 23
@@ -64,6 +68,7 @@ abbrev pub unspelled_fault : List ℕ → ScheduleFault
 unspelled_fault [] = Empty
 unspelled_fault (first ∷ rest) = if is_ascii_alphabetic first then UnknownName else NotANumber
 
+-- what is wrong with a text that is none of a field's numbers
 unfoldable pub number_fault : Names → List ℕ → ScheduleFault
 number_fault names text = if is_some (spelled_number names text) then OutOfRange else unspelled_fault text
 
@@ -71,6 +76,7 @@ number_fault names text = if is_some (spelled_number names text) then OutOfRange
 abbrev pub last_fault : Names → ℕ → ℕ → List ℕ → ScheduleFault
 last_fault names low high text = if is_some (number_in names low high text) then RangeTurnedRound else number_fault names text
 
+-- what is wrong with a text that is no step
 abbrev pub step_fault : List ℕ → ScheduleFault
 step_fault text = if is_some (spelled_number Numbers text) then StepOfZero else number_fault Numbers text
 
@@ -95,9 +101,11 @@ names_days Day item = names_day item
 names_days Weekday item = names_weekday item
 names_days others item = false
 
+-- whether an item of a field can be read
 unfoldable pub is_item : ScheduleField → List ℕ → Bool
 is_item field item = names_days field item || is_some (item_lists (names_of_field field) (least_of_field field) (greatest_of_field field) item 0)
 
+-- what is wrong with a placed item of a field, and where
 unfoldable pub fault_in : ScheduleField → ℕ × List ℕ → ℕ × ScheduleFault
 fault_in field item =
     let fault = item_fault (names_of_field field) (least_of_field field) (greatest_of_field field) item.1 in
@@ -109,9 +117,11 @@ first_fault field [] = (0, Empty)
 first_fault field (item ∷ []) = fault_in field item
 first_fault field (item ∷ next ∷ more) = if is_item field item.1 then first_fault field (next ∷ more) else fault_in field item
 
+-- what is wrong with a placed field, and where
 unfoldable pub field_fault : ScheduleField → ℕ × List ℕ → ℕ × ScheduleFault
 field_fault field word = first_fault field (placed_items word.0 word.1)
 
+-- the error of a field, a place, and what is wrong there
 abbrev pub error_at : Option ScheduleField → ℕ × ScheduleFault → ScheduleError
 error_at field fault = record { field = field; byte = fault.0; fault = fault.1 }
 
@@ -120,9 +130,11 @@ abbrev pub begins_with_at : List ℕ → Bool
 begins_with_at [] = false
 begins_with_at (first ∷ rest) = first == byte "@"
 
+-- what is wrong with a text of one word: it is no nickname, or has too few fields
 abbrev pub one_word_fault : ℕ → ℕ × List ℕ → ℕ × ScheduleFault
 one_word_fault end word = if begins_with_at word.1 then (word.0, UnknownNickname) else (end, TooFewFields)
 
+-- what is wrong with words that are not five: none, too few or too many
 abbrev pub words_fault : ℕ → List (ℕ × List ℕ) → ℕ × ScheduleFault
 words_fault end [] = (end, Empty)
 words_fault end (word ∷ []) = one_word_fault end word
@@ -134,6 +146,7 @@ abbrev pub error_of : ℕ → List (ℕ × List ℕ) → Option ScheduleField �
 error_of end words None = error_at None (words_fault end words)
 error_of end words (Some field) = error_at (Some field) (field_fault field (first_word (drop (place_of_field field) words)))
 
+-- the error of a text that is no schedule: the field, its place, and what is wrong
 unfoldable pub schedule_error : List ℕ → ScheduleError
 schedule_error text = error_of (length text) (placed_words 0 text) (wrong_field text)
 

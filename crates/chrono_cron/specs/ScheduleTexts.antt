@@ -19,6 +19,7 @@ use Rattle.chrono_cron.specs.declared.sets.Sets.{Sets}
 abbrev pub is_blank : ℕ → Bool
 is_blank x = x == byte " " || x == byte "\t"
 
+-- whether a text has a byte
 abbrev pub is_some_text : List ℕ → Bool
 is_some_text [] = false
 is_some_text (x ∷ rest) = true
@@ -43,6 +44,7 @@ spelled_out [] = []
 spelled_out (word ∷ []) = words (meaning_of word)
 spelled_out (word ∷ next ∷ more) = word ∷ next ∷ more
 
+-- the fields of a text, in which a nickname is spelled out
 unfoldable pub fields_of : List ℕ → List (List ℕ)
 fields_of text = spelled_out (words text)
 
@@ -66,6 +68,7 @@ from_end_of text =
 unfoldable pub is_last_workday_text : List ℕ → Bool
 is_last_workday_text text = str_eq_ignore_ascii_case text (codes "LW")
 
+-- the number 0 for `LW`, the month's last workday
 abbrev pub last_workday_of : List ℕ → Option ℕ
 last_workday_of text = if is_last_workday_text text then Some 0 else None
 
@@ -93,6 +96,7 @@ number_by NthWeekday = nth_weekday_of
 unfoldable pub names_day : List ℕ → Bool
 names_day item = is_some (from_end_of item) || (is_last_workday_text item || is_some (nearest_workday_of item))
 
+-- whether an item names one day of the month by its weekday
 unfoldable pub names_weekday : List ℕ → Bool
 names_weekday item = is_some (last_weekday_of item) || is_some (nth_weekday_of item)
 
@@ -118,6 +122,7 @@ days_list text k = items_list Numbers 1 31 (other_items (names_by Numbers) text)
 abbrev pub weekday_items_list : List ℕ → ℕ → Option Bool
 weekday_items_list text k = items_list Weekdays 0 7 (other_items (names_by Weekdays) text) k
 
+-- whether the field of weekdays lists k; 7 stands for Sunday too
 unfoldable pub weekdays_list : List ℕ → ℕ → Option Bool
 weekdays_list text k =
     option_and_then (λ here. option_map (λ seven. nat_lt k 7 && (here || (k == 0 && seven))) (weekday_items_list text 7)) (weekday_items_list text k)
@@ -127,9 +132,11 @@ abbrev pub is_number : ℕ → Option ℕ → Bool
 is_number k None = false
 is_number k (Some n) = k == n
 
+-- whether an item of the field has the number k, as `number` reads items
 unfoldable pub an_item_is : (List ℕ → Option ℕ) → List ℕ → ℕ → Bool
 an_item_is number text k = list_any (λ item. is_number k (number item)) (items_of text)
 
+-- whether a text begins with `*`
 unfoldable pub begins_with_star : List ℕ → Bool
 begins_with_star text = slice_index text 0 == byte "*"
 
@@ -137,13 +144,15 @@ begins_with_star text = slice_index text 0 == byte "*"
 abbrev pub AreListed : NumberSet → (ℕ → Option Bool) → Type 0
 AreListed set listed = (k : ℕ) → k < 64 → listed k ≡ Some (has set k)
 
+-- the set has exactly the numbers below 64 that are named
 abbrev pub AreNamed : NumberSet → (ℕ → Bool) → Type 0
 AreNamed set named = (k : ℕ) → k < 64 → named k ≡ has set k
 
--- a set of numbers below 64, as every `NumberSet` is, and the sets of a schedule are such
+-- a set of numbers below 64, as every `NumberSet` is
 abbrev pub IsNumberSet : NumberSet → Type 0
 IsNumberSet set = set.digits < 2 ^ 64
 
+-- each set of the schedule has numbers below 64 alone, as every `NumberSet` has
 pub record AreNumberSets (s : Sets) : Type 0 where
   pub minutes : IsNumberSet s.minutes
   pub hours : IsNumberSet s.hours

@@ -75,6 +75,7 @@ plain_text set count low = field_text (number_items (are_all set count low) set 
 unfoldable pub is_starred_by_day : Sets → Bool
 is_starred_by_day s = not s.either && (are_all s.days 31 1 || (not (are_all s.weekdays 7 0) && has s.days 1))
 
+-- whether the field of weekdays is written with a `*` in front
 unfoldable pub is_starred_by_weekday : Sets → Bool
 is_starred_by_weekday s = not s.either && (are_all s.weekdays 7 0 || (not (are_all s.days 31 1) && (not (has s.days 1) && has s.weekdays 0)))
 

@@ -1,4 +1,4 @@
-//! `After`: the moments at which a schedule is due, one after another.
+//! `After`: the moments at which a schedule is due, in order.
 ghost use Rattle.std.specs.Prelude.{◌≡◌, ◌≤◌, ℕ, pos, length, IfSome, IfNone, IsTrue, false, Some};
 ghost use Rattle.std.specs.Iterator.{YieldsFirst, item_count};
 ghost use Rattle.chrono_datetime.specs.Moment.{Moment, IsBefore, IsMoment, moment};
@@ -27,23 +27,30 @@ const PAST_LEAP_SECOND: u32 = 2_000_000_000;
 // The seconds of a minute.
 const SECONDS: u32 = 60;
 
-/// The moments after a start at which a schedule is due, in order and each once, up to the last in the calendar. From
-/// [`Schedule::after`].
+/// The moments after a start at which a schedule is due, in order, to the end of the calendar.
 ///
-/// Once none is left the iterator is ended: it gives nothing more, and stays so.
+/// [`Schedule::after`] makes it. After its last moment the iterator returns `None` from then on.
 #[derive(Clone, Copy, PartialEq, Eq, Debug)]
 pub struct After {
     /// The schedule.
     pub schedule: Schedule,
-    /// The moment after which the next one lies: the start at first, then the moment that was given last, and
-    /// [`NaiveDateTime::MAX`] once the iterator is ended.
+    /// The moment after which the iterator goes on: first the start, then the last moment that it returned.
+    /// It is [`NaiveDateTime::MAX`] once no moment is left.
     pub last: NaiveDateTime,
 }
 
 impl After {
-    /// The next moment at which the schedule is due; `None` exactly if it is not due any more in the calendar.
+    /// Returns the next moment at which the schedule is due. Returns `None` if none is left in the calendar.
     ///
-    /// It is [`next`](Iterator::next), which says to a loop which list of moments is left; this says which moment comes.
+    /// ```
+    /// use chrono_datetime::{AndTime, NaiveDate};
+    /// let schedule = read_schedule(b"30 4 1,15 * 5").ok()?;
+    /// let mut moments = schedule.after(NaiveDate::from_ymd_opt(2024, 2, 9)?.and_hms_opt(4, 30, 0)?);
+    /// moments.step() // Some(2024-02-15T04:30:00)
+    /// ```
+    ///
+    /// It does what [`next`](Iterator::next) does. The contract of `next` names the list of moments that is left.
+    /// The contract of `step` names the moment that it returns.
     pub fn step(&mut self) -> Option<NaiveDateTime>
         ensures member { IfSome result (λ m. IsTrue (is_due self.old.schedule.sets m)) }
         ensures later { IfSome result (λ m. IsBefore self.old.last m) }
@@ -76,12 +83,13 @@ impl Iterator for After {
 
     ghost remaining = { item_count dues_left };
 
-    /// The next moment at which the schedule is due; `None` exactly if it is not due any more in the calendar.
+    /// Returns the next moment at which the schedule is due. Returns `None` if none is left in the calendar.
     fn next(&mut self) -> Option<NaiveDateTime> {
         self.step()
     }
 
-    /// At least none, and at most as many moments as minutes begin after the last one: none once the iterator is ended.
+    /// Returns 0 and, as the upper bound, the number of minutes that begin after the last moment.
+    /// The upper bound is 0 once no moment is left.
     #[inline]
     fn size_hint(&self) -> (usize, Option<usize>)
         ensures value { result ≡ (0, Some (minutes_left self.now.last)) }

@@ -1,4 +1,4 @@
-//! The reading of the two fields of days: the days that their items name, and the numbers that all others list.
+//! Reading the two fields of days. Some of their items name days, and the others list numbers.
 ghost use Rattle.std.specs.Prelude.{◌≡◌, ◌<◌, ◌==◌, ◌&&◌, ◌||◌, nat_lt, ℕ, false, Some, if◌then◌else◌, IfSome};
 ghost use Rattle.std.specs.Option.{option_map};
 ghost use Rattle.chrono_cron.specs.Due.{has};

@@ -1,4 +1,4 @@
-//! Items of the two fields of days that name days of a month: `L`, `L-k`, `LW`, `kW`, `dL` and `d#k`.
+//! Items of the two fields of days that name days of a month. They are `L`, `L-k`, `LW`, `kW`, `dL` and `d#k`.
 ghost use Rattle.std.specs.Prelude.{◌≡◌, ◌≤◌, ◌<◌, ◌-◌, ◌==◌, ℕ, length, take, drop, slice_index, IfSome, IfNone, is_some};
 ghost use Rattle.std.specs.Char.{to_ascii_lowercase};
 ghost use Rattle.std.specs.Str.{str_eq_ignore_ascii_case};

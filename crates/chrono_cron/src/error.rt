@@ -4,63 +4,70 @@ ghost use Rattle.chrono_cron.specs.ErrorTexts.{error_text, fault_text, field_in_
 
 use std::fmt;
 
-/// A field of a schedule's text.
+/// One of the five fields of a schedule.
 #[derive(Clone, Copy, PartialEq, Eq, Debug)]
 pub enum ScheduleField {
-    /// The first: minutes past the hour.
+    /// The first field: minutes past the hour.
     Minute,
-    /// The second: hours.
+    /// The second field: hours.
     Hour,
-    /// The third: days of the month.
+    /// The third field: days of the month.
     Day,
-    /// The fourth: months.
+    /// The fourth field: months.
     Month,
-    /// The fifth: weekdays.
+    /// The fifth field: weekdays.
     Weekday,
 }
 
-/// Why a text writes no schedule.
+/// What is wrong with a string that is no schedule.
 #[derive(Clone, Copy, PartialEq, Eq, Debug)]
 pub enum ScheduleFault {
-    /// Nothing stands there: the text has no word, or a field has an item, a number or a step without a byte.
+    /// Something is missing: the string is blank, or an item, a number or a step in a field is empty.
     Empty,
-    /// The text ends before it has five fields.
+    /// The string has fewer than five fields.
     TooFewFields,
-    /// A word stands behind the fifth field.
+    /// The string has more than five fields.
     TooManyFields,
-    /// The text is one word that begins with `@` and is no nickname.
+    /// The string is one word that begins with `@`, but no nickname such as `@daily`.
     UnknownNickname,
-    /// Letters that are no name which may stand there.
+    /// The letters are no name of a month or a weekday that the field takes.
     UnknownName,
-    /// Neither a number of one digit or two, nor letters.
+    /// The item is neither a number of one or two digits nor letters.
     NotANumber,
-    /// A number or a name that is none of the field's.
+    /// The number or the name is not one of the field's.
     OutOfRange,
-    /// A range whose end is below its beginning.
+    /// The range ends below its beginning, such as `5-3`.
     RangeTurnedRound,
-    /// A step of 0.
+    /// The step is 0.
     StepOfZero,
-    /// A step behind a number alone: it may stand behind `*` and behind a range.
+    /// The step follows a single number. A step may only follow `*` or a range.
     StepOfNumber,
 }
 
-/// What is wrong with a text that writes no schedule, and where: of some faults the first.
+/// What is wrong with a string that is no schedule, and where. If several things are wrong, this is the first.
+///
+/// ```
+/// let error = read_schedule(b"5,60 * * * *").err()?;
+/// (error.field, error.byte, error.fault) // (Some(Minute), 2, OutOfRange)
+/// error.to_string(rt.alloc()).ok()? // "minute, byte 2: a number that is out of range"
+/// ```
 #[derive(Clone, Copy, PartialEq, Eq, Debug)]
 pub struct ScheduleError {
-    /// The first field that cannot be read; `None` where the text has not five fields.
+    /// The first field that cannot be read. `None` if there are not five fields.
     pub field: Option<ScheduleField>,
-    /// Where in the text the fault stands, in bytes from 0: the number, name or step of the field's first item that cannot be read, and the
-    /// slash itself where a step stands behind a number alone. The word behind the fifth field, or a nickname that is none; the text's length
-    /// where something is missing at its end.
+    /// The position of the error in the string, in bytes from 0.
+    ///
+    /// In a field it is where the wrong number, name or step begins. For [`StepOfNumber`](ScheduleFault::StepOfNumber) it is the slash. Without a
+    /// field it is where the sixth field or the unknown nickname begins. If something is missing at the end, it is the string's length.
     pub byte: usize,
-    /// What is wrong there.
+    /// What is wrong at that byte.
     pub fault: ScheduleFault,
 }
 
 impl fmt::Display for ScheduleError {
     ghost output = { λ error. Some (error_text error) };
 
-    /// Writes one line, as `minute, byte 2: a number that is out of range`, or `byte 9: fewer than five fields` where no field is told.
+    /// Writes one line, such as `minute, byte 2: a number that is out of range`. Without a field it is such as `byte 9: fewer than five fields`.
     fn fmt<W: fmt::Write>(&self, f: &mut fmt::Formatter<W>) -> fmt::Result {
         let field = field_in_front(self.field);
         let fault = fault_text(self.fault);

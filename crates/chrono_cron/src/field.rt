@@ -19,11 +19,25 @@ const STAR: u8 = b'*';
 // The greatest number of two digits.
 const MOST: u32 = 99;
 
-/// The numbers that a field lists, each of them from `low` to `high`; `None` exactly if its text is no such field.
+/// Returns the numbers that the field `text` lists, each from `low` to `high`.
 ///
-/// A field is one item or more with commas between: `*`, a number, a range `a-b` whose end is not below its beginning, or `*` or a range by
-/// steps, `*/n` and `a-b/n`, counted from the range's beginning and above 0. Numbers have one digit or two; where the field has names, in
-/// letters of any case, one may stand for its number, in a range too, but not for a step.
+/// Returns `None` if `text` is no such field. Requires `high < 64`.
+///
+/// ```
+/// let hours = read_field(b"8-18/2", Names::Numbers, 0, 23)?;
+/// (hours.contains(10), hours.contains(11)) // (true, false)
+/// read_field(b"8-24", Names::Numbers, 0, 23).is_none() // true
+/// ```
+///
+/// A field is one item or more, with commas between them. These are the items:
+///
+/// - `*`: all numbers;
+/// - `a`: a number;
+/// - `a-b`: a range, whose end is not below its beginning;
+/// - `*/n` and `a-b/n`: every `n`-th number of a range, from its beginning on. `n` is above 0.
+///
+/// Numbers have one or two digits. A name from `names`, in letters of any case, may replace its number.
+/// A step has no name.
 pub fn read_field(text: &[u8], names: Names, low: u32, high: u32) -> Option<NumberSet>
     requires { high < 64 }
     ensures { (k : ℕ) → k < 64 → option_map (λ set. has set k) result ≡ field_lists names low high text.now k }

@@ -1,4 +1,4 @@
-//! Days, moments and texts that are known, and what holds of all, each as a clause of a function that does nothing.
+//! Known days, moments and texts, and laws of schedules. Each is a clause of a function that does nothing.
 ghost use Rattle.std.specs.Prelude.{◌≡◌, ◌<◌, ◌≤◌, ◌-◌, ℕ, ◌+◌, ◌^◌, true, false, pos, [], ◌∷◌, codes};
 ghost use Rattle.chrono_cron.specs.Due.{has, is_due};
 ghost use Rattle.chrono_cron.specs.DueMoments.{dues_after};
@@ -13,10 +13,14 @@ ghost use Rattle.chrono_cron.specs.declared.names.Names.TheVariants.{Months, Num
 use crate::number_set::NumberSet;
 use crate::schedule::Schedule;
 
-/// Days of 2024 that are known: 31 May is `L` and the 30th is not, 28 February is `L-1`; 29 March, a Friday, is `LW`, and so is Tuesday,
-/// 30 April; 14 June, a Friday, is `14W` and `15W`, and 16 September, a Monday, is `15W`; 3 June, a Monday, is `1W`, 29 March is `31W`,
-/// and neither goes into another month: 31 May is not `1W`, and February has no `31W`; 23 February is `5L`, 29 March is `5#5`, and
-/// 10 March is `0#2`.
+/// Known days of 2024.
+///
+/// - 31 May is `L` and the 30th is not. 28 February is `L-1`.
+/// - Friday, 29 March is `LW`, and so is Tuesday, 30 April.
+/// - Friday, 14 June is `14W` and `15W`. Monday, 16 September is `15W`.
+/// - Monday, 3 June is `1W`, and 29 March is `31W`. Neither goes into another month.
+///   31 May is not `1W`, and February has no `31W`.
+/// - 23 February is `5L`, 29 March is `5#5`, and 10 March is `0#2`.
 pub fn known_month_days()
     ensures last { is_named (named 1 0 false 0 0) (pos 739_037) ≡ true }
     ensures before_last { is_named (named 1 0 false 0 0) (pos 739_036) ≡ false }
@@ -38,10 +42,14 @@ pub fn known_month_days()
     ensures second_sunday { is_named (named 0 0 false 0 (2 ^ 7)) (pos 738_955) ≡ true }
 {}
 
-/// Moments of 2024 at which schedules are known to be due or not. `0 0 29 2 *` is due on 29 February at midnight, and neither on the day
-/// before, on 29 March, a minute or an hour later, nor within that minute. `30 4 1,15 * 5` goes by either field: it is due on Friday,
-/// 9 February, and on Thursday the 15th, and not on Wednesday between them. `0 0 */2 * 1` goes by both: it is due on Monday, 11 March,
-/// and neither on Monday the 4th nor on Sunday the 3rd, on which `0 0 * * 0` is due.
+/// Moments of 2024 at which known schedules are due or not.
+///
+/// `0 0 29 2 *` is due on 29 February at midnight. It is not due on the day before, nor on 29 March.
+/// It is not due a minute or an hour later, nor within that minute.
+/// `30 4 1,15 * 5` goes by either field. So it is due on Friday, 9 February and on Thursday the 15th.
+/// It is not due on Wednesday between them. `0 0 */2 * 1` goes by both fields.
+/// So it is due on Monday, 11 March, but not on Monday the 4th and not on Sunday the 3rd.
+/// On that Sunday `0 0 * * 0` is due.
 pub fn known_schedules()
     ensures leap_day { is_due (fields 1 1 (2 ^ 29) (2 ^ 2) 127 false) (moment_at (pos 738_945) 0 0 0 0) ≡ true }
     ensures day_before { is_due (fields 1 1 (2 ^ 29) (2 ^ 2) 127 false) (moment_at (pos 738_944) 0 0 0 0) ≡ false }
@@ -60,16 +68,20 @@ pub fn known_schedules()
     ensures sunday { is_due (fields 1 1 4_294_967_294 8_190 1 false) (moment_at (pos 738_948) 0 0 0 0) ≡ true }
 {}
 
-/// After 23:57:30 on the calendar's last date, 31 December 262142, `* * * * *` is due at 23:58 and at 23:59, and after the second of
-/// these no more.
+/// The last two moments of `* * * * *` in the calendar.
+///
+/// After 23:57:30 on 31 December 262142 it is due at 23:58 and at 23:59, and then no more.
 pub fn known_last_dues()
     ensures two { dues_after each_minute (moment_at (pos 95_745_399) 23 57 30 0) ≡
         (moment_at (pos 95_745_399) 23 58 0 0 ∷ moment_at (pos 95_745_399) 23 59 0 0 ∷ []) }
     ensures none { dues_after each_minute (moment_at (pos 95_745_399) 23 59 0 0) ≡ [] }
 {}
 
-/// Schedules that are known in text: each minute is all stars, and all days are ranges if either field of days will do; numbers stand in
-/// ranges as long as can be; where both fields have to match, one begins with `*`, by the 1st or by Sunday; and names stand behind numbers.
+/// Known texts of schedules.
+///
+/// Each minute is all stars, and all days are ranges if either field of days is enough.
+/// Numbers are written in ranges that are as long as possible.
+/// If both fields have to match, one begins with `*`: by the 1st or by Sunday. Named days follow the numbers.
 pub fn known_texts()
     ensures stars { schedule_text each_minute ≡ codes "* * * * *" }
     ensures ranges { schedule_text (fields 1_073_741_825 261_632 4_294_967_294 5_100 62 false) ≡ codes "0,30 9-17 * 2-3,5-9,12 1-5" }
@@ -84,23 +96,28 @@ pub fn ranges_list_the_members(set: NumberSet, low: u32, end: u32)
     ensures { (k : ℕ) → low ≤ k → k < end → one_lists (ranges_from set (end - low) low) k ≡ has set k }
 {}
 
-/// A field of minutes, of hours or of months that is written is read back: the text that is written for a set with a member, and with none
-/// but the field's own numbers, is a field that lists that set.
+/// The text that is written for a field of minutes, hours or months is read back as the same set.
+///
+/// This holds for a set with a member and with the field's own numbers alone.
 pub fn written_fields_are_read(set: NumberSet)
     ensures minutes { LieBetween set 0 60 → Member set → AreListed set (field_lists Numbers 0 59 (plain_text set 60 0)) }
     ensures hours { LieBetween set 0 24 → Member set → AreListed set (field_lists Numbers 0 23 (plain_text set 24 0)) }
     ensures months { LieBetween set 1 13 → Member set → AreListed set (field_lists Months 1 12 (plain_text set 12 1)) }
 {}
 
-/// A schedule that is written is read back: the text that is written for it is a text of it, so that `read_schedule` gives these sets. It has to be
-/// one that a text tells: with numbers of its fields alone, with no empty field, and, where both fields of days have to match, with the 1st or
-/// Sunday listed.
+/// The text that is written for a schedule is a text of it. So `read_schedule` returns the same sets.
+///
+/// The schedule has to be one that a text can write. It has numbers of its fields alone, and no empty field.
+/// If both fields of days have to match, it lists the 1st or Sunday.
 pub fn written_schedules_are_read(schedule: &Schedule)
     ensures { IsTold schedule.now.sets → IsScheduleText (schedule_text schedule.now.sets) schedule.now.sets }
 {}
 
-/// A schedule that is read is one that a text tells, whatever its text is: with numbers of its fields alone, with no empty field, and, where both fields
-/// of days have to match, with the 1st or Sunday listed. So it can be written, and what is written is read back as it was.
+/// A schedule that was read is one that a text can write, whatever its text is.
+///
+/// It has numbers of its fields alone, and no empty field.
+/// If both fields of days have to match, it lists the 1st or Sunday.
+/// So it can be written, and that text is read back as the same schedule.
 pub fn read_schedules_are_told(text: &[u8], schedule: &Schedule)
     ensures { IsScheduleText text.now schedule.now.sets → IsTold schedule.now.sets }
 {}

@@ -1,10 +1,16 @@
-//! Cron schedules: whether one is due at a moment, and the next and the last moment at which it is.
+//! Cron schedules: whether one is due at a moment, and the next and the last moment at which it is due.
 //!
-//! Days and minutes are those of `chrono_datetime`'s naive date-times: no zone is known here, and no daylight-saving time. A layer
-//! over zones maps these moments, and says what it does with one that comes twice or not at all.
+//! ```
+//! use chrono_datetime::{AndTime, NaiveDate};
+//! let schedule = read_schedule(b"0 9 * * mon-fri").ok()?;
+//! schedule.next_after(NaiveDate::from_ymd_opt(2024, 3, 1)?.and_hms_opt(9, 0, 0)?) // Some(2024-03-04T09:00:00)
+//! ```
 //!
-//! Texts are read by [`read_schedule`], which names their dialect, and [`check_schedule`] says what is wrong with one that is none. A field of `*` lists every number, and where one of the two fields of days
-//! begins so, `either` is false: the rule of cronie.
+//! [`read_schedule`] parses a schedule, and says which dialect it reads.
+//! Days and minutes are those of `chrono_datetime`'s naive date-times. There is no time zone and no daylight-saving time.
+//! A layer with time zones maps these moments. It decides what to do with one that comes twice or not at all.
+//!
+//! A field `*` lists every number. If a field of days begins with `*`, `either` is false (the rule of cronie).
 #![tactic(auto)]
 
 mod after;
@@ -30,6 +36,6 @@ pub use field::read_field;
 pub use month_days::MonthDays;
 pub use names::Names;
 pub use number_set::NumberSet;
-pub use reading::{check_schedule, read_schedule};
+pub use reading::read_schedule;
 pub use schedule::Schedule;
 pub use sets::Sets;

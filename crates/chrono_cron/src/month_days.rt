@@ -1,4 +1,4 @@
-//! `MonthDays`: days of a month that are named by its end, its workdays and its weeks, as Quartz and croner write them.
+//! `MonthDays`: days named by the end, the workdays and the weeks of a month, as Quartz and croner write them.
 ghost use Rattle.std.specs.Prelude.{◌≡◌, ◌+◌, ◌-◌, ◌*◌, ◌/◌, ◌%◌, ◌≤◌, ◌<◌, ◌==◌, nat_le, nat_lt, ◌&&◌, ◌||◌, ℕ, false, IsTrue};
 ghost use Rattle.chrono_cron.specs.Due.{has, is_friday_for, is_last_workday, is_monday_for, is_named_by_place, is_named_by_weekday, is_nearest_workday, is_workday};
 
@@ -11,23 +11,31 @@ const FRIDAY: u64 = 0b010_0000;
 
 const WORKDAYS: u64 = 0b011_1110;
 
-/// Days of a month, named by its end, its workdays and its weeks. Workdays are Monday to Friday, weekdays count from 0 for Sunday.
+/// Days of a month, named by its end, its workdays and its weeks.
+///
+/// Workdays are Monday to Friday. Weekdays count from 0 for Sunday.
 #[derive(Clone, Copy, PartialEq, Eq, Debug)]
 pub struct MonthDays {
-    /// `L` and `L-k`: the day that so many days of the month follow, 0 for the last.
+    /// `L` and `L-k`: the day that `k` days of the month follow. 0 is the last day.
     pub from_end: NumberSet,
-    /// `kW`: the workday of the month that is nearest to its k-th day; none in a month without a k-th day.
+    /// `kW`: the workday of the month that is nearest to its `k`-th day. A month without a `k`-th day has none.
     pub nearest_workdays: NumberSet,
     /// `LW`: the last workday of the month.
     pub last_workday: bool,
-    /// `dL`: the last of the month's days with the weekday d.
+    /// `dL`: the last day of the month with the weekday `d`.
     pub last_weekdays: NumberSet,
-    /// `d#k`: the k-th of the month's days with the weekday d, as the number 7 · (k - 1) + d; none if there are fewer.
+    /// `d#k`: the `k`-th day of the month with the weekday `d`. The set has it as the number 7 · (k - 1) + d.
+    ///
+    /// A month with fewer such days has none.
     pub nth_weekdays: NumberSet,
 }
 
 impl MonthDays {
-    /// No day.
+    /// Returns the value that names no day.
+    ///
+    /// ```
+    /// read_schedule(b"0 0 1 * *").ok()?.sets.month_days == MonthDays::none() // true
+    /// ```
     #[inline]
     pub fn none() -> MonthDays
         ensures place { (p follow w : ℕ) → is_named_by_place result p follow w ≡ false }
@@ -56,8 +64,8 @@ impl MonthDays {
         all.is_empty() && !self.last_workday
     }
 
-    // Of the days of a month, by their places in it, those that are named by its end and its workdays; `before` is the weekday of the
-    // day before the first.
+    // The days of a month, by their places in it, that are named by its end and its workdays.
+    // `before` is the weekday of the day before the first.
     pub(crate) fn by_place(&self, length: u32, before: u32) -> NumberSet
         requires long { 28 ≤ length }
         requires short { length ≤ 31 }

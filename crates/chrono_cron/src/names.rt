@@ -10,11 +10,11 @@ const WEEKDAYS: &[u8] = b"sunmontuewedthufrisat";
 /// The names that a field has for its numbers.
 #[derive(Clone, Copy, PartialEq, Eq, Debug)]
 pub enum Names {
-    /// None: the field has numbers alone.
+    /// The field has no names, only numbers.
     Numbers,
-    /// Those of the months, `jan` to `dec` for 1 to 12.
+    /// The names of the months: `jan` to `dec` for 1 to 12.
     Months,
-    /// Those of the weekdays, `sun` to `sat` for 0 to 6.
+    /// The names of the weekdays: `sun` to `sat` for 0 to 6.
     Weekdays,
 }
 

@@ -18,9 +18,12 @@ pub struct NumberSet {
 }
 
 impl NumberSet {
-    /// The set of the numbers whose digits are 1: k is a member if that for 2^k is.
+    /// Returns the set of the numbers `k` for which `digits` has the digit of 2^k.
     ///
-    /// So 5, which is 101 in binary, is the set of 0 and 2.
+    /// ```
+    /// let set = NumberSet::from_digits(0b101);
+    /// (set.contains(0), set.contains(1), set.contains(2)) // (true, false, true)
+    /// ```
     #[inline]
     #[tactic(auto, unfolding(crate::specs::Due::has))]
     pub fn from_digits(digits: u64) -> NumberSet
@@ -29,8 +32,14 @@ impl NumberSet {
         NumberSet { digits }
     }
 
-    /// The numbers from `first` to `last` that lie a whole number of steps behind `first`, as a field lists them by `a-b/n`: 9, 11 and 13
-    /// from 9 to 14 by steps of 2. None if `last` is below `first`.
+    /// Returns every `step`-th number from `first` to `last`, as a field lists them by `a-b/n`.
+    ///
+    /// The set is empty if `last` is below `first`. Requires `last < 64` and `step > 0`.
+    ///
+    /// ```
+    /// let set = NumberSet::by_steps(9, 14, 2);
+    /// set == NumberSet::from_digits((1 << 9) | (1 << 11) | (1 << 13)) // true
+    /// ```
     pub fn by_steps(first: u32, last: u32, step: u32) -> NumberSet
         requires last { last < 64 }
         requires step { 0 < step }
@@ -56,7 +65,11 @@ impl NumberSet {
         self.union(NumberSet::from_digits(1).raised(number))
     }
 
-    /// Whether the number is a member.
+    /// Returns whether `number` is a member. Requires `number < 64`.
+    ///
+    /// ```
+    /// NumberSet::by_steps(9, 14, 2).contains(11) // true
+    /// ```
     #[inline]
     #[tactic(auto, using(std::proofs::lemmas::Nat::Bits::shr_and_one), unfolding(crate::specs::Due::has))]
     pub fn contains(self, number: u32) -> bool
@@ -66,7 +79,13 @@ impl NumberSet {
         (self.digits >> number) & 1 == 1
     }
 
-    /// The least member from `from` on that is below `end`; `None` exactly if there is none.
+    /// Returns the least member that is at least `from` and below `end`. Requires `from < 64`.
+    ///
+    /// Returns `None` if there is none.
+    ///
+    /// ```
+    /// NumberSet::by_steps(9, 14, 2).first_in(10, 60) // Some(11)
+    /// ```
     #[inline]
     pub fn first_in(self, from: u32, end: u32) -> Option<u32>
         requires { from < 64 }
@@ -84,7 +103,13 @@ impl NumberSet {
         if first < end { Some(first) } else { None }
     }
 
-    /// The greatest member below `end` that is not below `from`; `None` exactly if there is none.
+    /// Returns the greatest member that is at least `from` and below `end`. Requires `end < 64`.
+    ///
+    /// Returns `None` if there is none.
+    ///
+    /// ```
+    /// NumberSet::by_steps(9, 14, 2).last_in(0, 13) // Some(11)
+    /// ```
     #[inline]
     pub fn last_in(self, from: u32, end: u32) -> Option<u32>
         requires { end < 64 }
@@ -121,8 +146,8 @@ impl NumberSet {
         end
     }
 
-    // Of the days of a month, by their places in it, those with a weekday of this set, from 0 for Sunday; `before` is the weekday of the
-    // day before the first.
+    // The days of a month, by their places in it, that have a weekday of this set. Weekdays count from 0 for Sunday.
+    // `before` is the weekday of the day before the first.
     #[inline]
     pub(crate) fn every_week(self, before: u32) -> NumberSet
         requires { before < 7 }

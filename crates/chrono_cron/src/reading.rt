@@ -15,30 +15,35 @@ use crate::sets::Sets;
 use crate::words::{Fields, five_words, meaning_of, next_word};
 use std::str::FromStr;
 
-/// The schedule that the text writes, as `30 4 1,15 * mon-fri`; `None` exactly if it writes none.
+/// Reads a schedule as cron writes it, such as `30 4 1,15 * mon-fri`. Returns the [`Schedule`].
 ///
-/// It is five fields with blanks, spaces or tabs, between them, before and behind: minutes 0 to 59, hours 0 to 23, days of the month 1 to 31,
-/// months 1 to 12 or `jan` to `dec`, and weekdays 0 to 7 or `sun` to `sat`, where 0 and 7 are Sunday. Each is read as [`crate::read_field`] says.
-/// An item of the days may be `L`, `L-k`, `LW` or `kW`, one of the weekdays `dL` or `d#k`, letters in either case ([`crate::MonthDays`]).
-/// `@yearly`, `@annually`, `@monthly`, `@weekly`, `@daily`, `@midnight` and `@hourly` stand for the five fields that they mean.
+/// If `text` is no schedule, returns what is wrong and where, as a [`ScheduleError`]. It names the first of the five fields that cannot be read.
+/// It names no field if there are more than five fields or fewer.
 ///
-/// The rule of days is that of POSIX and cronie: a day will do that is listed by either field of days if neither text begins with `*`; else
-/// both have to list it.
-pub fn read_schedule(text: &[u8]) -> Option<Schedule>
-    ensures read { IfSome result (λ s. IsScheduleText text.now s.sets) }
-    // Whatever sets the text lists are the answer's: no text is refused, and none has two meanings.
-    ensures every { (s : Sets) → AreNumberSets s → IsScheduleText text.now s → result ≡ Some (record { sets = s }) }
-    ensures none { IfNone result ((s : Sets) → ¬ IsScheduleText text.now s) }
-{
-    check_schedule(text).ok()
-}
-
-/// The schedule that the text writes, as [`read_schedule`] reads it, or what is wrong with the text, and where.
+/// ```
+/// read_schedule(b"0 12 * * 1-5").is_ok() // true
+/// let error = read_schedule(b"0 25 * * *").err()?;
+/// (error.field, error.byte, error.fault) // (Some(Hour), 2, OutOfRange)
+/// ```
 ///
-/// Of the five fields the first that cannot be read is told, and none where there are more or fewer. The fault stands at a byte of the text,
-/// or where it ends: see [`ScheduleError`].
-pub fn check_schedule(text: &[u8]) -> Result<Schedule, ScheduleError>
+/// Spaces or tabs stand between the fields, and may stand before and behind them. The fields, in order:
+///
+/// - minutes, 0 to 59;
+/// - hours, 0 to 23;
+/// - days of the month, 1 to 31;
+/// - months, 1 to 12 or `jan` to `dec`;
+/// - weekdays, 0 to 7 or `sun` to `sat`. 0 and 7 are both Sunday.
+///
+/// [`crate::read_field`] says how each is read. An item of the days may be `L`, `L-k`, `LW` or `kW`. An item of the weekdays may be `dL` or
+/// `d#k`. Their letters may have either case: see [`crate::MonthDays`].
+///
+/// Seven nicknames stand for five fields: `@yearly`, `@annually`, `@monthly`, `@weekly`, `@daily`, `@midnight` and `@hourly`.
+///
+/// Days follow the rule of POSIX and cronie. If neither field of days begins with `*`, a day needs to be in only one of them. Otherwise it has
+/// to be in both.
+pub fn read_schedule(text: &[u8]) -> Result<Schedule, ScheduleError>
     ensures read { IfOk result (λ s. IsScheduleText text.now s.sets) }
+    // Whatever sets the text lists are the answer's: no text is refused, and none has two meanings.
     ensures every { (s : Sets) → AreNumberSets s → IsScheduleText text.now s → result ≡ Ok (record { sets = s }) }
     ensures found { IsErr result ↔ ((s : Sets) → ¬ IsScheduleText text.now s) }
     ensures error { IfErr result (λ e. e ≡ schedule_error text.now) }
@@ -125,9 +130,9 @@ impl FromStr for Schedule {
 
     ghost from_str_gives = { IsChecked };
 
-    /// The schedule that the text writes, as [`check_schedule`] reads it.
+    /// Reads a schedule as [`read_schedule`] does.
     fn from_str(text: &str) -> Result<Schedule, ScheduleError> {
-        check_schedule(text.as_bytes())
+        read_schedule(text.as_bytes())
     }
 }
 

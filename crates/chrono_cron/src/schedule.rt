@@ -18,15 +18,24 @@ const MINUTES_PER_DAY: u32 = 1_440;
 // The seconds of a minute.
 const SECONDS: u32 = 60;
 
-/// A schedule of cron.
+/// A cron schedule.
 #[derive(Clone, Copy, PartialEq, Eq, Debug)]
 pub struct Schedule {
-    /// What its fields list.
+    /// The numbers and days that its fields list.
     pub sets: Sets,
 }
 
 impl Schedule {
-    /// Whether the schedule is due at the moment: at the beginning of a minute, as 09:30:00, and nowhere within it.
+    /// Returns whether the schedule is due at `moment`.
+    ///
+    /// It is due at the beginning of a minute, such as 09:30:00, and never within one.
+    ///
+    /// ```
+    /// use chrono_datetime::{AndTime, NaiveDate};
+    /// let schedule = read_schedule(b"30 4 1,15 * 5").ok()?;
+    /// schedule.is_due(NaiveDate::from_ymd_opt(2024, 2, 15)?.and_hms_opt(4, 30, 0)?) // true
+    /// schedule.is_due(NaiveDate::from_ymd_opt(2024, 2, 15)?.and_hms_opt(4, 30, 1)?) // false
+    /// ```
     #[tactic(auto, unfolding(crate::specs::Due::is_due))]
     pub fn is_due(&self, moment: NaiveDateTime) -> bool
         ensures { result ≡ is_due self.now.sets moment }
@@ -37,24 +46,42 @@ impl Schedule {
         self.sets.is_day(moment.date()) && self.sets.is_minute(second / SECONDS) && begins_minute
     }
 
-    /// Whether the schedule is due at no moment at all, as on 30 February.
+    /// Returns whether the schedule is due at no moment at all.
+    ///
+    /// ```
+    /// read_schedule(b"0 0 30 2 *").ok()?.never_due() // true
+    /// ```
     pub fn never_due(&self) -> bool
         ensures { IsTrue result ↔ IsNeverDue self.now.sets }
     {
         self.sets.is_never_due()
     }
 
-    /// Whether the two schedules mean the same minutes: whether they are due at the same moments. `==` says instead whether their
-    /// fields list the same numbers.
+    /// Returns whether `self` and `other` are due at the same moments.
     ///
-    /// It looks at each day of 400 years, after which the calendar comes again, up to the first that one of the two has alone.
+    /// ```
+    /// let (one, other) = (read_schedule(b"0 0 31 1-3 *").ok()?, read_schedule(b"0 0 31 1,3 *").ok()?);
+    /// (one.same_minutes(&other), one == other) // (true, false)
+    /// ```
+    ///
+    /// `==` compares the numbers that their fields list instead.
+    /// This function looks at the days of 400 years, after which the calendar repeats.
+    /// It stops at the first day that only one of the two has.
     pub fn same_minutes(&self, other: &Schedule) -> bool
         ensures { IsTrue result ↔ MeanTheSame self.now.sets other.now.sets }
     {
         mean_the_same(&self.sets, &other.sets)
     }
 
-    /// The first moment after `start` at which the schedule is due; `None` exactly if it is not due any more in the calendar.
+    /// Returns the first moment after `start` at which the schedule is due.
+    ///
+    /// Returns `None` if there is none in the calendar.
+    ///
+    /// ```
+    /// use chrono_datetime::{AndTime, NaiveDate};
+    /// let start = NaiveDate::from_ymd_opt(2024, 3, 1)?.and_hms_opt(0, 0, 0)?;
+    /// read_schedule(b"0 0 29 2 *").ok()?.next_after(start) // Some(2028-02-29T00:00:00)
+    /// ```
     pub fn next_after(&self, start: NaiveDateTime) -> Option<NaiveDateTime>
         ensures member { IfSome result (λ m. IsTrue (is_due self.now.sets m)) }
         ensures later { IfSome result (λ m. IsBefore start m) }
@@ -80,7 +107,15 @@ impl Schedule {
         Some(NaiveDateTime::new(day, beginning(minute)))
     }
 
-    /// The last moment before `start` at which the schedule is due; `None` exactly if it never was in the calendar.
+    /// Returns the last moment before `start` at which the schedule is due.
+    ///
+    /// Returns `None` if there is none in the calendar.
+    ///
+    /// ```
+    /// use chrono_datetime::{AndTime, NaiveDate};
+    /// let start = NaiveDate::from_ymd_opt(2024, 2, 1)?.and_hms_opt(0, 0, 0)?;
+    /// read_schedule(b"0 0 29 2 *").ok()?.prev_before(start) // Some(2020-02-29T00:00:00)
+    /// ```
     pub fn prev_before(&self, start: NaiveDateTime) -> Option<NaiveDateTime>
         ensures member { IfSome result (λ m. IsTrue (is_due self.now.sets m)) }
         ensures earlier { IfSome result (λ m. IsBefore m start) }
@@ -105,7 +140,16 @@ impl Schedule {
         Some(NaiveDateTime::new(day, beginning(minute)))
     }
 
-    /// The moments after `start` at which the schedule is due, in order and each once, up to the last in the calendar.
+    /// Returns an iterator over the moments after `start` at which the schedule is due.
+    ///
+    /// They come in order, to the end of the calendar.
+    ///
+    /// ```
+    /// use chrono_datetime::{AndTime, NaiveDate};
+    /// let start = NaiveDate::from_ymd_opt(2024, 3, 1)?.and_hms_opt(0, 0, 0)?;
+    /// let mut moments = read_schedule(b"0 9 L * *").ok()?.after(start);
+    /// (moments.next(), moments.next()) // (Some(2024-03-31T09:00:00), Some(2024-04-30T09:00:00))
+    /// ```
     #[inline]
     pub fn after(&self, start: NaiveDateTime) -> After
         ensures schedule { result.schedule ≡ self.now }

@@ -20,7 +20,9 @@ const HOURS: u32 = 24;
 // The minutes of an hour.
 const MINUTES: u32 = 60;
 
-/// What the five fields of a schedule list. A number that a field cannot have counts for nothing, but where two are compared.
+/// What the five fields of a schedule list.
+///
+/// A number that a field cannot have makes no difference, except when two values are compared.
 #[derive(Clone, Copy, PartialEq, Eq, Debug)]
 pub struct Sets {
     /// The minutes past the hour, 0 to 59.
@@ -33,14 +35,21 @@ pub struct Sets {
     pub months: NumberSet,
     /// The weekdays, from 0 for Sunday to 6.
     pub weekdays: NumberSet,
-    /// Days of the month that are named by its end, its workdays and its weeks.
+    /// The days that are named by the end, the workdays and the weeks of the month.
     pub month_days: MonthDays,
-    /// Whether a day will do that has its day of the month or its weekday listed or named; else it has to have both.
+    /// Whether one field of days is enough. If false, a day has to match both its day of the month and its weekday.
     pub either: bool,
 }
 
 impl Sets {
-    /// Whether the date is one of the schedule's.
+    /// Returns whether the fields of days and months list `date`.
+    ///
+    /// ```
+    /// use chrono_datetime::NaiveDate;
+    /// let sets = read_schedule(b"30 4 1,15 * 5").ok()?.sets;
+    /// sets.is_day(NaiveDate::from_ymd_opt(2024, 2, 9)?) // true
+    /// sets.is_day(NaiveDate::from_ymd_opt(2024, 2, 14)?) // false
+    /// ```
     #[inline]
     #[tactic(auto, unfolding(crate::specs::Due::is_day))]
     pub fn is_day(&self, date: NaiveDate) -> bool
@@ -70,7 +79,8 @@ impl Sets {
         self.is_enough(by_day, by_weekday)
     }
 
-    // Whether the date is listed, where days are named: called seldom, and so kept out of the way of a plain schedule.
+    // Whether the date is listed by a schedule that names days.
+    // It is called seldom, and so kept out of the way of a plain schedule.
     #[cold]
     fn is_listed_in_month(&self, date: NaiveDate) -> bool
         ensures { result ≡ is_listed self.now date }
@@ -90,7 +100,11 @@ impl Sets {
         }
     }
 
-    /// Whether the minute of a day, counted from midnight, is one of the schedule's.
+    /// Returns whether the fields list `minute`, which is counted from midnight. Requires `minute < 1440`.
+    ///
+    /// ```
+    /// read_schedule(b"30 4 1,15 * 5").ok()?.sets.is_minute(4 * 60 + 30) // true
+    /// ```
     #[inline]
     #[tactic(auto, unfolding(crate::specs::Due::is_minute))]
     pub fn is_minute(&self, minute: u32) -> bool
@@ -201,9 +215,17 @@ impl Sets {
         None
     }
 
-    /// The first date of the schedule from `date` on; `None` exactly if none lies there.
+    /// Returns the first day from `date` on that the fields list. It can be `date` itself.
     ///
-    /// Days of the month and weekdays come again after 400 years, so that no search goes farther.
+    /// Returns `None` if there is none in the calendar.
+    ///
+    /// ```
+    /// use chrono_datetime::NaiveDate;
+    /// let sets = read_schedule(b"0 0 29 2 *").ok()?.sets;
+    /// sets.first_day(NaiveDate::from_ymd_opt(2024, 3, 1)?) // Some(2028-02-29)
+    /// ```
+    ///
+    /// Days of the month and weekdays repeat after 400 years, so that no search goes farther.
     pub fn first_day(&self, date: NaiveDate) -> Option<NaiveDate>
         ensures in_range { IfSome result (λ e. IsDate e) }
         ensures member { IfSome result (λ e. IsTrue (is_day self.now e)) }
@@ -218,7 +240,11 @@ impl Sets {
         self.first_day_up_to(date, last)
     }
 
-    /// Whether the schedule is due at no moment at all, as on 30 February.
+    /// Returns whether the fields list no moment at all.
+    ///
+    /// ```
+    /// read_schedule(b"0 0 30 2 *").ok()?.sets.is_never_due() // true
+    /// ```
     pub fn is_never_due(&self) -> bool
         ensures { IsTrue result ↔ IsNeverDue self.now }
     {
@@ -298,9 +324,17 @@ impl Sets {
         None
     }
 
-    /// The last date of the schedule up to `date`; `None` exactly if none lies there.
+    /// Returns the last day up to `date` that the fields list. It can be `date` itself.
     ///
-    /// Days of the month and weekdays come again after 400 years, so that no search goes farther.
+    /// Returns `None` if there is none in the calendar.
+    ///
+    /// ```
+    /// use chrono_datetime::NaiveDate;
+    /// let sets = read_schedule(b"0 0 29 2 *").ok()?.sets;
+    /// sets.last_day(NaiveDate::from_ymd_opt(2024, 2, 1)?) // Some(2020-02-29)
+    /// ```
+    ///
+    /// Days of the month and weekdays repeat after 400 years, so that no search goes farther.
     pub fn last_day(&self, date: NaiveDate) -> Option<NaiveDate>
         ensures member { IfSome result (λ e. IsTrue (is_day self.now e)) }
         ensures not_after { IfSome result (λ e. e ≤ℤ date) }
@@ -338,7 +372,15 @@ impl Sets {
         Some(hour * MINUTES + minute)
     }
 
-    /// The first minute of a day, from that one on, that is one of the schedule's; `None` exactly if none is.
+    /// Returns the first minute of a day from the minute `from` on that the fields list.
+    ///
+    /// Returns `None` if there is none. Minutes are counted from midnight. Requires `from <= 1440`.
+    ///
+    /// ```
+    /// let sets = read_schedule(b"0 9-17 * * *").ok()?.sets;
+    /// sets.first_minute(9 * 60 + 1) // Some(600)
+    /// sets.first_minute(17 * 60 + 1) // None
+    /// ```
     #[inline]
     pub fn first_minute(&self, from: u32) -> Option<u32>
         requires { from ≤ 1440 }
@@ -382,7 +424,14 @@ impl Sets {
         Some(hour * MINUTES + minute)
     }
 
-    /// The last minute of a day, before that one, that is one of the schedule's; `None` exactly if none is.
+    /// Returns the last minute of a day before the minute `end` that the fields list.
+    ///
+    /// Returns `None` if there is none. Minutes are counted from midnight. Requires `end <= 1440`.
+    ///
+    /// ```
+    /// let sets = read_schedule(b"0 9-17 * * *").ok()?.sets;
+    /// sets.last_minute(10 * 60) // Some(540)
+    /// ```
     #[inline]
     pub fn last_minute(&self, end: u32) -> Option<u32>
         requires { end ≤ 1440 }

@@ -31,7 +31,14 @@ pub(crate) enum Naming {
 }
 
 impl Schedule {
-    /// Puts the five fields of the schedule, as `0 9-17 * * 1-5`, behind a text. There is room for 1,000 bytes.
+    /// Appends the five fields of the schedule to `text`. Requires that `text` has space for 1,000 more bytes.
+    ///
+    /// ```
+    /// use chrono_text::Text;
+    /// let mut text = Text::<1000>::new();
+    /// read_schedule(b"0 9-17 * * mon-fri").ok()?.put_into(&mut text);
+    /// std::str::from_utf8(text.as_bytes()) // Ok("0 9-17 * * 1-5")
+    /// ```
     pub fn put_into<const N: usize>(&self, text: &mut Text<N>)
         requires { length text.old + 1000 ≤ N }
         ensures text { text.new ≡ text.old ++ schedule_text self.now.sets }
@@ -54,12 +61,18 @@ impl fmt::Display for Schedule {
 
     ghost styled_output = { λ s _. Some (schedule_text s.sets) };
 
-    /// Writes the five fields with a space between each two, as `0 9-17 * * 1-5`: `*` for a field that lists all its numbers, and else the
-    /// numbers that it lists, rising, in ranges as long as can be; behind them `L`, `L-3`, `LW`, `15W`, `5L` and `5#2`.
+    /// Writes the five fields with a space between each two, such as `0 9-17 * * 1-5`.
     ///
-    /// Of the two fields of days none begins with `*` if either will do, so that all days are `1-31`. If both have to match, one does: so
-    /// `*/31,1,15 * 5` are the 1st and the 15th where they are Fridays. A schedule that no such text tells writes its fields without `*`: where
-    /// both have to match and neither the 1st nor Sunday is listed, or where a field lists nothing.
+    /// A field that lists all its numbers is `*`.
+    /// Any other has its numbers, rising, in ranges that are as long as possible.
+    /// After them come `L`, `L-3`, `LW`, `15W`, `5L` and `5#2`.
+    ///
+    /// If either field of days is enough, neither begins with `*`. So all days are `1-31`.
+    /// If both have to match, one begins with `*`. So `*/31,1,15 * 5` is the 1st and the 15th where they are Fridays.
+    ///
+    /// Two kinds of schedules are written but not read back. One kind lists nothing in a field.
+    /// In the other both fields of days have to match, but neither the 1st nor Sunday is listed.
+    /// Then neither of these two fields begins with `*`.
     ///
     /// A width, a fill, an alignment, a sign or a precision makes no difference.
     fn fmt<W: fmt::Write>(&self, f: &mut fmt::Formatter<W>) -> fmt::Result {

@@ -112,7 +112,7 @@ fn one_word_fault(end: usize, word: &Word) -> (usize, ScheduleFault)
     }
 }
 
-// The first word of a text that begins at a place or behind it; `None` exactly if there is none.
+// The first word of a text that begins at a place or after it. `None` if there is none.
 pub(crate) fn next_word(text: &[u8], from: usize) -> Option<Word<'_>>
     requires { from ≤ length text.now }
     ensures some { IfSome result (λ w. placed_words from (drop from text.now)

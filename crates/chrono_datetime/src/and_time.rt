@@ -12,17 +12,32 @@ use chrono_naive::NaiveDate;
 /// Puts a date together with a time of day.
 ///
 /// A contract sees such a value as the day number of its date.
+///
+/// ```
+/// let date = NaiveDate::from_ymd_opt(2024, 2, 29)?;
+/// date.and_hms_opt(9, 30, 0) // Some(2024-02-29T09:30:00)
+/// ```
 pub trait AndTime: Sized {
     // The day number of the date.
     ghost day: { Self → ℤ };
 
-    /// The date-time at this date and the time.
+    /// Returns the date-time at this date and `time`.
+    ///
+    /// ```
+    /// let time = NaiveTime::from_hms_opt(9, 30, 0)?;
+    /// NaiveDate::from_ymd_opt(2024, 2, 29)?.and_time(time) // 2024-02-29T09:30:00
+    /// ```
     fn and_time(&self, time: NaiveTime) -> NaiveDateTime
         ensures { result ≡ moment (day self.now) time };
 
-    /// The date-time at this date and the hour, minute and second.
+    /// Returns the date-time at this date and this hour, minute and second.
     ///
-    /// `None` exactly if `hour` is 24 or more, or `min` or `sec` is 60 or more.
+    /// Returns `None` if `hour` is 24 or more, or if `min` or `sec` is 60 or more.
+    ///
+    /// ```
+    /// NaiveDate::from_ymd_opt(2024, 2, 29)?.and_hms_opt(9, 30, 0) // Some(2024-02-29T09:30:00)
+    /// NaiveDate::from_ymd_opt(2024, 2, 29)?.and_hms_opt(24, 0, 0) // None
+    /// ```
     #[inline]
     fn and_hms_opt(&self, hour: u32, min: u32, sec: u32) -> Option<NaiveDateTime>
         ensures { SomeIff result (IsClock hour min sec)
@@ -31,10 +46,15 @@ pub trait AndTime: Sized {
         Some(self.and_time(NaiveTime::from_hms_opt(hour, min, sec)?))
     }
 
-    /// The date-time at this date and the hour, minute and second, and so many milliseconds past it.
+    /// Returns the date-time at this date, hour, minute and second, and `milli` milliseconds later.
     ///
-    /// `None` exactly where [`NaiveTime::from_hms_milli_opt`] is: the milliseconds go up to 1,999 at second 59, and else
-    /// up to 999.
+    /// Returns `None` if [`NaiveTime::from_hms_milli_opt`] does. `milli` is at most 999, or 1,999 in second 59,
+    /// where 1,000 and more lie in a leap second.
+    ///
+    /// ```
+    /// NaiveDate::from_ymd_opt(2016, 12, 31)?.and_hms_milli_opt(23, 59, 59, 1_500) // Some(2016-12-31T23:59:60.500)
+    /// NaiveDate::from_ymd_opt(2016, 12, 31)?.and_hms_milli_opt(23, 59, 58, 1_500) // None
+    /// ```
     #[inline]
     fn and_hms_milli_opt(&self, hour: u32, min: u32, sec: u32, milli: u32) -> Option<NaiveDateTime>
         ensures { SomeIff result (IsClock hour min sec × FractionFits sec (milli * nanos_per_milli))
@@ -43,10 +63,15 @@ pub trait AndTime: Sized {
         Some(self.and_time(NaiveTime::from_hms_milli_opt(hour, min, sec, milli)?))
     }
 
-    /// The date-time at this date and the hour, minute and second, and so many microseconds past it.
+    /// Returns the date-time at this date, hour, minute and second, and `micro` microseconds later.
     ///
-    /// `None` exactly where [`NaiveTime::from_hms_micro_opt`] is: the microseconds go up to 1,999,999 at second 59, and
-    /// else up to 999,999.
+    /// Returns `None` if [`NaiveTime::from_hms_micro_opt`] does. `micro` is at most 999,999, or 1,999,999 in
+    /// second 59, where 1,000,000 and more lie in a leap second.
+    ///
+    /// ```
+    /// NaiveDate::from_ymd_opt(2024, 2, 29)?.and_hms_micro_opt(9, 30, 0, 250) // Some(2024-02-29T09:30:00.000250)
+    /// NaiveDate::from_ymd_opt(2024, 2, 29)?.and_hms_micro_opt(9, 30, 0, 1_000_000) // None
+    /// ```
     #[inline]
     fn and_hms_micro_opt(&self, hour: u32, min: u32, sec: u32, micro: u32) -> Option<NaiveDateTime>
         ensures { SomeIff result (IsClock hour min sec × FractionFits sec (micro * nanos_per_micro))
@@ -55,10 +80,15 @@ pub trait AndTime: Sized {
         Some(self.and_time(NaiveTime::from_hms_micro_opt(hour, min, sec, micro)?))
     }
 
-    /// The date-time at this date and the hour, minute and second, and so many nanoseconds past it.
+    /// Returns the date-time at this date, hour, minute and second, and `nano` nanoseconds later.
     ///
-    /// `None` exactly where [`NaiveTime::from_hms_nano_opt`] is: the nanoseconds go up to 1,999,999,999 at second 59,
-    /// and else up to 999,999,999.
+    /// Returns `None` if [`NaiveTime::from_hms_nano_opt`] does. `nano` is at most 999,999,999, or 1,999,999,999
+    /// in second 59, where 1,000,000,000 and more lie in a leap second.
+    ///
+    /// ```
+    /// NaiveDate::from_ymd_opt(2024, 2, 29)?.and_hms_nano_opt(9, 30, 0, 250) // Some(2024-02-29T09:30:00.000000250)
+    /// NaiveDate::from_ymd_opt(2024, 2, 29)?.and_hms_nano_opt(9, 30, 0, 1_000_000_000) // None
+    /// ```
     #[inline]
     fn and_hms_nano_opt(&self, hour: u32, min: u32, sec: u32, nano: u32) -> Option<NaiveDateTime>
         ensures { SomeIff result (IsClock hour min sec × FractionFits sec nano)

@@ -1,5 +1,5 @@
-//! The ends of the date-times and values that are known, each as the contract of a function; and the laws of the crates
-//! below.
+//! Laws of date-times, each as the contract of a function: their ends, and known values. It passes on the laws of the
+//! crates below.
 ghost use Rattle.std.specs.Prelude.{◌≡◌, pos, neg_ℤ, Some, None, codes};
 ghost use Rattle.std.specs.Str.{byte};
 ghost use Rattle.std.proofs.Common.{Less};
@@ -20,9 +20,9 @@ pub use chrono_naive::law::{
     iso_names_are_in_order, iso_weeks_begin_on_monday, known_date_texts, known_days, known_moves,
     known_recurrences, known_weeks, last_date, later_multiples_are_later, month_moves_add_up,
     month_moves_come_back, month_moves_keep_order, month_moves_reach_dates,
-    months_are_days_in_a_row, names_have_days, ordinal_names_are_in_order, weekdays_follow,
-    weekly_counts_come_again, weeks_have_one_first_day, whole_years_are_birthdays,
-    years_and_months_rise,
+    months_are_days_in_a_row, names_have_days, ordinal_names_are_in_order,
+    sevens_of_days_have_each_weekday, weekdays_follow, weekly_counts_come_again,
+    weeks_have_one_first_day, whole_years_are_birthdays, years_and_months_rise,
 };
 pub use chrono_units::law::named_sets;
 
@@ -34,7 +34,7 @@ pub fn first_date_time() -> (NaiveDateTime, NaiveDateTime)
     (NaiveDateTime::MIN, MIN_DATETIME)
 }
 
-/// The last date-time in no leap second, as [`NaiveDateTime::MAX`] and as [`MAX_DATETIME`]: day 95,745,399,
+/// The last date-time outside a leap second, as [`NaiveDateTime::MAX`] and as [`MAX_DATETIME`]: day 95,745,399,
 /// 23:59:59.999999999.
 pub fn last_date_time() -> (NaiveDateTime, NaiveDateTime)
     ensures of_type { result.0 ≡ moment (pos 95_745_399) (time_at 23 59 59 999_999_999) }
@@ -43,9 +43,11 @@ pub fn last_date_time() -> (NaiveDateTime, NaiveDateTime)
     (NaiveDateTime::MAX, MAX_DATETIME)
 }
 
-/// Moves that are known. From half a second into the leap second at the end of 30 June 2015, which is day 735,779, half a
-/// second on is midnight of the next day, and a second back is 23:59:59.5. The leap second at the end of the last date can
-/// be reached to its end, and what comes after it is no date.
+/// Known moves from 23:59:60.5 on two dates.
+///
+/// On 30 June 2015, which is day 735,779, half a second later is midnight of the next day. One second earlier is
+/// 23:59:59.5. On the last date, 499,999,999 nanoseconds later is still in the leap second. Half a second later is past
+/// the last date.
 pub fn known_reaches()
     ensures next_day { let leap = moment (pos 735_779) (time_at 23 59 59 1_500_000_000) in
         reach leap (pos 500_000_000) ≡ Some (moment (pos 735_780) (time_at 0 0 0 0)) }
@@ -59,8 +61,10 @@ pub fn known_reaches()
         reach leap (pos 500_000_000) ≡ None }
 {}
 
-/// Distances that are known, from half a second into the same leap second of 2015: one o'clock of the next day is
-/// 3,599.5 s past it, and midnight half a second before it, though it comes later.
+/// Known distances from 23:59:60.5 on 30 June 2015, in a leap second.
+///
+/// The distance to one o'clock of the next day is 3,599.5 s. The distance to midnight is -0.5 s, although midnight comes
+/// later.
 #[tactic(auto, unfolding(crate::specs::Moment::moment_distance, chrono_clock::specs::Time::distance))]
 pub fn known_moment_distances()
     ensures one_o_clock { let leap = moment (pos 735_779) (time_at 23 59 59 1_500_000_000) in
@@ -69,8 +73,7 @@ pub fn known_moment_distances()
         moment_distance (moment (pos 735_780) (time_at 0 0 0 0)) leap ≡ neg_ℤ (pos 500_000_000) }
 {}
 
-/// Comparisons that are known: an earlier date comes first though its time is later, then the second though its fraction is
-/// larger, and then the fraction.
+/// Known comparisons: by date first, whatever the times; then by second, whatever the fractions; then by fraction.
 pub fn known_moment_order()
     ensures by_date { moment_cmp (moment (pos 1) (time_at 23 59 59 0))
         (moment (pos 2) (time_at 0 0 0 0)) ≡ Less }
@@ -80,7 +83,7 @@ pub fn known_moment_order()
         (moment (pos 1) (time_at 0 0 1 1)) ≡ Less }
 {}
 
-/// Texts that are known, with a space and with a `T`: in a leap second, and with a fraction of six digits.
+/// Known texts: in a leap second with a space, and with a fraction of six digits and a `T`.
 pub fn known_moment_texts()
     ensures leap { moment_text (byte " ") (moment (pos 736_153) (time_at 23 59 59 1_500_000_000))
         ≡ codes "2016-07-08 23:59:60.500" }

@@ -1,8 +1,9 @@
 //! Date-times: a date and a time of day, with no time zone.
 //!
-//! A [`NaiveDateTime`] is a [`NaiveDate`] and a [`NaiveTime`], and a duration moves it on a line that holds the leap second
-//! of its own time. [`AndTime`] puts a date and a time together. A user lists this crate alone: it passes on the names of
-//! the crates below.
+//! A [`NaiveDateTime`] is a [`NaiveDate`] and a [`NaiveTime`]. A duration ([`TimeDelta`]) moves it. [`AndTime`] puts a date
+//! and a time together.
+//!
+//! A user lists this crate alone: it passes on the names of the crates below.
 #![tactic(auto)]
 
 mod and_time;

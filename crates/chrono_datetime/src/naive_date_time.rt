@@ -1,7 +1,12 @@
 //! `NaiveDateTime`: the type, its ends and parts, and its moves and differences by durations.
 //!
-//! Its order stands in `order`, its fields in `fields`, its moves by months and days in `moves`, its operators in `ops`,
-//! and its printed texts in `text`.
+//! The modules below it have the rest:
+//!
+//! - `order`: comparing date-times
+//! - `fields`: reading the fields, and replacing them
+//! - `moves`: moves by months and days
+//! - `ops`: the operators
+//! - `text`: the printed texts
 ghost use Rattle.std.specs.Prelude.{◌≡◌, pos, neg_ℤ, ◌<ℤ◌, ◌↔◌, ◌⊎◌, IfSome, IsSome, Some};
 ghost use Rattle.chrono_clock.specs.Time.{IsPlain, time_at};
 ghost use Rattle.chrono_naive.specs.Days.{IsDate};
@@ -21,16 +26,31 @@ use std::marker::Model;
 const FARTHEST_DAYS: i32 = 191_491_528;
 
 /// The first date-time, [`NaiveDateTime::MIN`].
+///
+/// ```
+/// MIN_DATETIME // -262143-01-01T00:00:00
+/// ```
 pub const MIN_DATETIME: NaiveDateTime = NaiveDateTime::MIN;
 
-/// The last date-time in no leap second, [`NaiveDateTime::MAX`].
+/// The last date-time outside a leap second, [`NaiveDateTime::MAX`].
+///
+/// ```
+/// MAX_DATETIME // +262142-12-31T23:59:59.999999999
+/// ```
 pub const MAX_DATETIME: NaiveDateTime = NaiveDateTime::MAX;
 
 /// A date and a time of day, with no time zone (ISO 8601 date and time of day).
 ///
-/// Contracts see it as the date's day number and the time's second and fraction. A move by a duration
-/// goes along a line that holds the leap second of the starting time, if it is in one, and no other. Date-times are
-/// equal, ordered and hashed by date and then time of day, and the default is 1 January 1970, 00:00:00.
+/// Contracts see it as the date's day number and the time's second and fraction. Date-times are equal, ordered
+/// and hashed by date and then by time of day. The default is 1 January 1970, 00:00:00.
+///
+/// A duration moves a date-time along a line of seconds. If the starting time is in a leap second, the line
+/// contains that leap second; it contains no other.
+///
+/// ```
+/// let start = NaiveDate::from_ymd_opt(2024, 2, 28)?.and_hms_opt(23, 0, 0)?;
+/// start.checked_add_signed(TimeDelta::hours(2)) // Some(2024-02-29T01:00:00)
+/// ```
 #[derive(Clone, Copy, PartialEq, Eq, Hash)]
 pub struct NaiveDateTime {
     date: NaiveDate,
@@ -51,20 +71,33 @@ impl Model for NaiveDateTime {
 
 impl NaiveDateTime {
     /// The first date-time: 1 January of year -262,143, 00:00:00.
+    ///
+    /// ```
+    /// NaiveDateTime::MIN // -262143-01-01T00:00:00
+    /// ```
     pub const MIN: NaiveDateTime = NaiveDateTime {
         date: NaiveDate::MIN,
         time: NaiveTime::MIN,
     };
 
-    /// The last date-time in no leap second: 31 December of year 262,142, 23:59:59.999999999.
+    /// The last date-time outside a leap second: 31 December of year 262,142, 23:59:59.999999999.
     ///
-    /// A leap second after it is a date-time too, and compares greater.
+    /// A time in the leap second after it is a date-time too, and is greater.
+    ///
+    /// ```
+    /// NaiveDateTime::MAX // +262142-12-31T23:59:59.999999999
+    /// ```
     pub const MAX: NaiveDateTime = NaiveDateTime {
         date: NaiveDate::MAX,
         time: NaiveTime::MAX,
     };
 
-    /// The date-time at this date and time of day.
+    /// Returns the date-time at `date` and `time`.
+    ///
+    /// ```
+    /// let date = NaiveDate::from_ymd_opt(2024, 2, 29)?;
+    /// NaiveDateTime::new(date, NaiveTime::from_hms_opt(9, 30, 0)?) // 2024-02-29T09:30:00
+    /// ```
     #[inline]
     pub fn new(date: NaiveDate, time: NaiveTime) -> NaiveDateTime
         ensures { result ≡ moment date time }
@@ -72,7 +105,11 @@ impl NaiveDateTime {
         NaiveDateTime { date, time }
     }
 
-    /// The date.
+    /// Returns the date.
+    ///
+    /// ```
+    /// NaiveDate::from_ymd_opt(2024, 2, 29)?.and_hms_opt(9, 30, 0)?.date() // 2024-02-29
+    /// ```
     #[inline]
     pub fn date(&self) -> NaiveDate
         ensures { result ≡ self.now.date }
@@ -80,7 +117,11 @@ impl NaiveDateTime {
         self.date
     }
 
-    /// The time of day.
+    /// Returns the time of day.
+    ///
+    /// ```
+    /// NaiveDate::from_ymd_opt(2024, 2, 29)?.and_hms_opt(9, 30, 0)?.time() // 09:30:00
+    /// ```
     #[inline]
     pub fn time(&self) -> NaiveTime
         ensures { result ≡ self.now.time }
@@ -88,12 +129,27 @@ impl NaiveDateTime {
         self.time
     }
 
-    /// The date-time that lies a duration later; `None` exactly if the day on which the move ends is past the date of
-    /// [`MAX`](Self::MAX), or for a negative duration before that of [`MIN`](Self::MIN).
+    /// Returns the date-time that lies `rhs` later, or earlier if `rhs` is negative.
     ///
-    /// From inside a leap second the move counts the rest of that second; a leap second that the move passes elsewhere has
-    /// no place on the line. So half a second after 30 June 2015, 23:59:60.5, it is 1 July 2015, 00:00:00. A leap second
-    /// on the last date can be reached, though it is past [`MAX`](Self::MAX).
+    /// Returns `None` if the move ends on a day after that of [`MAX`](Self::MAX) or before that of
+    /// [`MIN`](Self::MIN).
+    ///
+    /// ```
+    /// let start = NaiveDate::from_ymd_opt(2024, 2, 28)?.and_hms_opt(23, 0, 0)?;
+    /// start.checked_add_signed(TimeDelta::hours(2)) // Some(2024-02-29T01:00:00)
+    /// NaiveDateTime::MAX.checked_add_signed(TimeDelta::nanoseconds(1)) // None
+    /// ```
+    ///
+    /// A move from inside a leap second counts the rest of that second. A move counts no other leap second that
+    /// it passes.
+    ///
+    /// ```
+    /// let leap = NaiveDate::from_ymd_opt(2015, 6, 30)?.and_hms_milli_opt(23, 59, 59, 1_500)?;
+    /// leap.checked_add_signed(TimeDelta::milliseconds(500)) // Some(2015-07-01T00:00:00)
+    /// ```
+    ///
+    /// From inside a leap second on the last date, a move can end later in that second, so after
+    /// [`MAX`](Self::MAX).
     #[inline]
     pub fn checked_add_signed(self, rhs: TimeDelta) -> Option<NaiveDateTime>
         ensures value { result ≡ reach self rhs }
@@ -116,9 +172,17 @@ impl NaiveDateTime {
         Some(NaiveDateTime { date, time })
     }
 
-    /// The date-time that lies a duration earlier: where [`checked_add_signed`](Self::checked_add_signed) by the negated
-    /// duration ends, from inside a leap second too. `None` exactly if the day on which the move ends is before the date
-    /// of [`MIN`](Self::MIN), or for a negative duration past that of [`MAX`](Self::MAX).
+    /// Returns the date-time that lies `rhs` earlier, or later if `rhs` is negative. The result is that of
+    /// [`checked_add_signed`](Self::checked_add_signed) with `-rhs`, also from inside a leap second.
+    ///
+    /// Returns `None` if the move ends on a day before that of [`MIN`](Self::MIN) or after that of
+    /// [`MAX`](Self::MAX).
+    ///
+    /// ```
+    /// let end = NaiveDate::from_ymd_opt(2024, 3, 1)?.and_hms_opt(1, 0, 0)?;
+    /// end.checked_sub_signed(TimeDelta::hours(2)) // Some(2024-02-29T23:00:00)
+    /// NaiveDateTime::MIN.checked_sub_signed(TimeDelta::nanoseconds(1)) // None
+    /// ```
     #[inline]
     pub fn checked_sub_signed(self, rhs: TimeDelta) -> Option<NaiveDateTime>
         ensures value { result ≡ reach self (neg_ℤ rhs) }
@@ -135,9 +199,23 @@ impl NaiveDateTime {
         self.checked_add_signed(-rhs)
     }
 
-    /// How far this date-time is from `rhs`: the days between the dates, of 86,400 seconds each, and how
-    /// far the times are apart. A leap second counts if one of the two times is in it and has the smaller
-    /// second of day.
+    /// Returns the duration from `rhs` to this date-time. It is the days between the dates, of 86,400 seconds
+    /// each, plus the duration between the times of day.
+    ///
+    /// ```
+    /// let start = NaiveDate::from_ymd_opt(2024, 2, 28)?.and_hms_opt(23, 0, 0)?;
+    /// let end = NaiveDate::from_ymd_opt(2024, 3, 1)?.and_hms_opt(1, 0, 0)?;
+    /// end.signed_duration_since(start).num_hours() // 26
+    /// ```
+    ///
+    /// A leap second counts if one of the two times is in it and has the smaller second of day. So the result
+    /// may be negative although `rhs` is the earlier one.
+    ///
+    /// ```
+    /// let leap = NaiveDate::from_ymd_opt(2015, 6, 30)?.and_hms_milli_opt(23, 59, 59, 1_500)?;
+    /// let midnight = NaiveDate::from_ymd_opt(2015, 7, 1)?.and_hms_opt(0, 0, 0)?;
+    /// midnight.signed_duration_since(leap).num_milliseconds() // -500
+    /// ```
     #[inline]
     pub fn signed_duration_since(self, rhs: NaiveDateTime) -> TimeDelta
         ensures value { result ≡ moment_distance self rhs }
@@ -182,7 +260,7 @@ impl NaiveDateTime {
 impl Default for NaiveDateTime {
     ghost is_default = { λ m. m ≡ moment (pos 719_163) (time_at 0 0 0 0) };
 
-    /// 1 January 1970, 00:00:00.
+    /// Returns 1 January 1970, 00:00:00.
     #[inline]
     fn default() -> NaiveDateTime {
         NaiveDateTime::from(NaiveDate::default())
@@ -192,7 +270,7 @@ impl Default for NaiveDateTime {
 impl From<NaiveDate> for NaiveDateTime {
     ghost from_gives = { λ d m. m ≡ moment d (time_at 0 0 0 0) };
 
-    /// The date-time at midnight, the first of the date.
+    /// Returns the date-time at 00:00:00 of `date`.
     #[inline]
     fn from(date: NaiveDate) -> NaiveDateTime {
         NaiveDateTime::new(date, NaiveTime::MIN)
@@ -202,7 +280,7 @@ impl From<NaiveDate> for NaiveDateTime {
 impl From<NaiveDateTime> for NaiveDate {
     ghost from_gives = { λ m d. d ≡ m.date };
 
-    /// The date of the date-time.
+    /// Returns the date of `datetime`.
     #[inline]
     fn from(datetime: NaiveDateTime) -> NaiveDate {
         datetime.date()

@@ -30,7 +30,7 @@ is_leap_flags f = nat_lt f 8
 abbrev pub IsDayOfMonth : MonthDayFlags → Type 0
 IsDayOfMonth a = IsInRange 1 12 a.month × IsInRange 1 (month_length_in (is_leap_flags a.flags) a.month) a.day
 
--- and this is its place in the year
+-- the place in the year of a month's day, in a year of these flags
 abbrev pub ordinal_of_month_day : MonthDayFlags → ℕ
 ordinal_of_month_day a = days_of_months_in (is_leap_flags a.flags) (a.month - 1) + a.day
 

@@ -1,15 +1,23 @@
-//! Cycles of 400 years, which have 146,097 days each and are counted from 1 January of year 0.
+//! Cycles of 400 years. Each has 146,097 days, counted from 1 January of its year 0.
 ghost use Rattle.std.specs.Prelude.{◌≡◌, ◌+◌, ◌/◌, ◌<◌, ◌≤◌, pos, ◌+ℤ◌};
 ghost use Rattle.chrono_calendar.specs.Days.{IsOrdinalName, day_number_of_yo};
 
 use crate::tables::year_deltas::year_delta;
 use chrono_calendar::Steps;
 
-/// The year of the cycle, from 0 to 399, and the ordinal of the day that lies that many days after the
-/// cycle's first, from 0 to 146,096. It takes one step if years of 365 days lead to that year, and two if they lead to the
-/// year after it.
+/// Returns the year of the cycle, from 0 to 399, and the day of the year, for the day `cycle` days after the cycle's first.
 ///
-/// The day 365 is 31 December of year 0: `cycle_to_yo(365, steps)` is `(0, 366)`.
+/// Requires `cycle` to be from 0 to 146,096.
+///
+/// ```
+/// use chrono_calendar::Steps;
+/// let mut steps = Steps::new();
+/// let found = cycle_to_yo(365, &mut steps);
+/// steps.end();
+/// found // (0, 366)
+/// ```
+///
+/// It divides by 365 first. It adds one step to `steps` if that gives the year, and two if it gives the year after.
 #[inline]
 pub fn cycle_to_yo(cycle: u32, steps: &mut Steps) -> (u32, u32)
     requires { cycle < 146_097 }
@@ -33,8 +41,18 @@ pub fn cycle_to_yo(cycle: u32, steps: &mut Steps) -> (u32, u32)
     )
 }
 
-/// How many days after the cycle's first the day with an ordinal lies, in a year of the cycle from 0
-/// to 399. It takes one step.
+/// Returns how many days after the cycle's first day lies the day `ordinal` of the year `year`. It adds one step to
+/// `steps`.
+///
+/// Requires `year` to be from 0 to 399.
+///
+/// ```
+/// use chrono_calendar::Steps;
+/// let mut steps = Steps::new();
+/// let days = yo_to_cycle(1, 1, &mut steps);
+/// steps.end();
+/// days // 366
+/// ```
 #[inline]
 pub fn yo_to_cycle(year: u32, ordinal: u32, steps: &mut Steps) -> u32
     requires year { year < 400 }

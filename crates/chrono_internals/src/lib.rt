@@ -1,7 +1,7 @@
-//! Parts that chrono keeps inside, offered beside the library: a month and a day with a year's flags, and the days of a cycle of
-//! 400 years, by three tables that these parts alone read.
+//! Parts that chrono keeps private: a month and day with a year's flags, and the days of a cycle of 400 years.
 //!
-//! No date is made of them, and no crate of the library lists this one.
+//! They read three tables of their own. The dates of the library are not made of these parts, and no library crate uses
+//! this one.
 #![tactic(auto)]
 
 mod cycle;

@@ -1,4 +1,4 @@
-//! A month and a day with the flags of a year, between a calendar name and an ordinal.
+//! A month and a day with the flags of a year, to convert between a month with a day and an ordinal.
 ghost use Rattle.std.specs.Prelude.{◌≡◌, ◌+◌, ◌*◌, ◌/◌, ◌%◌, ◌≤◌, SomeIff};
 ghost use Rattle.std.specs.Int.{IsInRange};
 ghost use Rattle.chrono_calendar.specs.Flags.{IsYearFlags};
@@ -9,7 +9,7 @@ use crate::tables::ol_to_mdl::ol_to_mdl;
 use chrono_calendar::{Steps, YearFlags};
 use std::marker::Model;
 
-/// A month, a day and the flags of a year, which need not name a real day: 30 February can be held.
+/// A month, a day and the flags of a year. They need not be a real day: 30 February is allowed.
 ///
 /// It is stored as `(month << 9) + (day << 4) + flags`. Contracts see the three numbers.
 #[derive(Clone, Copy, PartialEq, Eq)]
@@ -35,8 +35,15 @@ impl Model for Mdf {
 }
 
 impl Mdf {
-    /// The month and the day with the flags, or `None` if the month is above 12 or the day above 31.
-    /// A month or a day of 0 is held too.
+    /// Returns the month `month` and the day `day` with the flags `flags`. A month or a day of 0 is allowed.
+    ///
+    /// Returns `None` if `month` is above 12 or `day` is above 31.
+    ///
+    /// ```
+    /// use chrono_calendar::YearFlags;
+    /// Mdf::new(2, 29, YearFlags::from_year(2024))?.ordinal() // Some(60)
+    /// Mdf::new(13, 1, YearFlags::from_year(2024)) == None // true
+    /// ```
     #[inline]
     pub fn new(month: u32, day: u32, flags: YearFlags) -> Option<Mdf>
         ensures { SomeIff result ((month ≤ 12) × (day ≤ 31))
@@ -50,10 +57,16 @@ impl Mdf {
         })
     }
 
-    /// The month and the day of an ordinal, in a year with these flags.
+    /// Returns the month and the day of an ordinal, in a year with the flags `flags`.
     ///
-    /// `ol` is `(ordinal << 1) + l`, from 2 to 732, where l is 1 if the flags are a common year's and else 0.
-    /// So 120 with the flags 6, those of 2024, is 29 February.
+    /// `ol` is `(ordinal << 1) + l`, where `l` is 0 for a leap year and 1 for a common year. Requires `ol` to be from 2
+    /// to 732, and `l` to fit `flags`.
+    ///
+    /// ```
+    /// use chrono_calendar::YearFlags;
+    /// let date = Mdf::from_ol(60 << 1, YearFlags::from_year(2024));
+    /// (date.month(), date.day()) // (2, 29)
+    /// ```
     #[inline]
     pub fn from_ol(ol: u32, flags: YearFlags) -> Mdf
         requires ol { IsInRange 2 732 ol }
@@ -68,7 +81,12 @@ impl Mdf {
         }
     }
 
-    /// The month that is held, from 0 to 12.
+    /// Returns the month: 0 to 12.
+    ///
+    /// ```
+    /// use chrono_calendar::YearFlags;
+    /// Mdf::new(2, 30, YearFlags::from_year(2024))?.month() // 2
+    /// ```
     #[inline]
     pub fn month(&self) -> u32
         ensures value { result ≡ self.now.month }
@@ -77,7 +95,12 @@ impl Mdf {
         self.bits >> 9
     }
 
-    /// The day that is held, from 0 to 31.
+    /// Returns the day: 0 to 31.
+    ///
+    /// ```
+    /// use chrono_calendar::YearFlags;
+    /// Mdf::new(2, 30, YearFlags::from_year(2024))?.day() // 30
+    /// ```
     #[inline]
     pub fn day(&self) -> u32
         ensures value { result ≡ self.now.day }
@@ -86,7 +109,14 @@ impl Mdf {
         (self.bits >> 4) % 32
     }
 
-    /// The same with another month, or `None` if the month is above 12.
+    /// Returns the same day and flags with the month `month`.
+    ///
+    /// Returns `None` if `month` is above 12.
+    ///
+    /// ```
+    /// use chrono_calendar::YearFlags;
+    /// Mdf::new(2, 29, YearFlags::from_year(2024))?.with_month(1)?.ordinal() // Some(29)
+    /// ```
     #[inline]
     pub fn with_month(&self, month: u32) -> Option<Mdf>
         ensures { SomeIff result (month ≤ 12) (record self.now { month = month }) }
@@ -99,7 +129,14 @@ impl Mdf {
         })
     }
 
-    /// The same with another day, or `None` if the day is above 31.
+    /// Returns the same month and flags with the day `day`.
+    ///
+    /// Returns `None` if `day` is above 31.
+    ///
+    /// ```
+    /// use chrono_calendar::YearFlags;
+    /// Mdf::new(2, 29, YearFlags::from_year(2024))?.with_day(1)?.ordinal() // Some(32)
+    /// ```
     #[inline]
     pub fn with_day(&self, day: u32) -> Option<Mdf>
         ensures { SomeIff result (day ≤ 31) (record self.now { day = day }) }
@@ -112,7 +149,13 @@ impl Mdf {
         })
     }
 
-    /// The same month and day with other flags.
+    /// Returns the same month and day with the flags `flags`.
+    ///
+    /// ```
+    /// use chrono_calendar::YearFlags;
+    /// let date = Mdf::new(2, 29, YearFlags::from_year(2024))?;
+    /// date.with_flags(YearFlags::from_year(2023)).ordinal() // None
+    /// ```
     #[inline]
     pub fn with_flags(&self, flags: YearFlags) -> Mdf
         ensures { result ≡ record self.now { flags = flags } }
@@ -122,7 +165,15 @@ impl Mdf {
         }
     }
 
-    /// The place of the day in its year, or `None` if a year with these flags has no such day.
+    /// Returns the day of the year.
+    ///
+    /// Returns `None` if a year with these flags has no such day.
+    ///
+    /// ```
+    /// use chrono_calendar::YearFlags;
+    /// Mdf::new(2, 29, YearFlags::from_year(2024))?.ordinal() // Some(60)
+    /// Mdf::new(2, 29, YearFlags::from_year(2023))?.ordinal() // None
+    /// ```
     #[inline]
     pub fn ordinal(&self) -> Option<u32>
         ensures { SomeIff result (IsDayOfMonth self.now) (ordinal_of_month_day self.now) }
@@ -133,8 +184,14 @@ impl Mdf {
         }
     }
 
-    /// The place of the day in its year and the flags, as `(ordinal << 4) + flags`, or `None` if a year
-    /// with these flags has no such day.
+    /// Returns the day of the year and the flags, as `(ordinal << 4) + flags`.
+    ///
+    /// Returns `None` if a year with these flags has no such day.
+    ///
+    /// ```
+    /// use chrono_calendar::YearFlags;
+    /// Mdf::new(2, 29, YearFlags::from_year(2024))?.ordinal_and_flags() // Some(966)
+    /// ```
     #[inline]
     pub fn ordinal_and_flags(&self) -> Option<u32>
         ensures value { SomeIff result (IsDayOfMonth self.now)

@@ -1,4 +1,4 @@
-//! The tables of these parts: each has a module of its own, where a single function reads it.
+//! The tables of this crate. Each has a module of its own, where a single function reads it.
 
 pub(crate) mod mdl_to_ol;
 pub(crate) mod ol_to_mdl;

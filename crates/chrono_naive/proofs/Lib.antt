@@ -16,4 +16,7 @@ pub mod DateTextLemmas
 -- The rest serve this crate's own proofs alone.
 mod DayMoves
 mod DateListLemmas
+mod FirstSoon
+mod IsoYears
 mod KnownValues
+mod TakenDates

@@ -1,5 +1,7 @@
 -- Days in a row, and the lists that the iterators over dates run through.
-use Rattle.std.specs.Prelude.{◌≡◌, ℕ, zero, suc, ◌/◌, false, List, [], ◌∷◌, ℤ, pos, neg_ℤ, ◌+ℤ◌, ◌-ℤ◌, ◌≤ℤ◌, unsigned_abs}
+use Rattle.std.specs.Prelude.{◌≡◌, ℕ, zero, suc, ◌/◌, false, List, [], ◌∷◌, ℤ, pos, neg_ℤ, ◌+ℤ◌, ◌-ℤ◌, ◌≤ℤ◌, unsigned_abs, take}
+use Rattle.std.specs.Iterator.Adapters.{take_count, take_source}
+use Rattle.std.specs.declared.iter.Take.{Take}
 use Rattle.std.specs.declared.ops.RangeInclusive.{RangeInclusive}
 use Rattle.std.specs.Range.{range_inclusive_start, range_inclusive_end, range_inclusive_exhausted}
 use Rattle.chrono_calendar.specs.Recurrence.{past_last_date, dates_left}
@@ -28,6 +30,14 @@ days_from n = in_steps 1 (dates_left n) n
 -- n and the dates after it, week after week, as long as the week after is a date too
 unfoldable pub weeks_from : ℤ → List ℤ
 weeks_from n = in_steps 7 (days_left n / 7) n
+
+-- those of these lists that `take` lets through
+abbrev pub days_taken : Take ℤ → List ℤ
+days_taken t = take (take_count t) (days_from (take_source t))
+
+-- the dates that `take` leaves of an iterator of weeks
+abbrev pub weeks_taken : Take ℤ → List ℤ
+weeks_taken t = take (take_count t) (weeks_from (take_source t))
 
 -- the seven days of the week that begins with the day first
 abbrev pub days_of_week : ℤ → List ℤ

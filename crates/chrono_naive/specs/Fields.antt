@@ -29,7 +29,7 @@ pub record IsoYearAndWeek : Type 0 where
   pub year : ℤ
   pub week : ℕ
 
--- those of the day n
+-- the ISO year and the ISO week of the day n
 abbrev pub iso_year_and_week_of : ℤ → IsoYearAndWeek
 iso_year_and_week_of n = record { year = iso_year_of n; week = iso_week_of n }
 

@@ -23,7 +23,11 @@ impl Model for Days {
 }
 
 impl Days {
-    /// That many days.
+    /// Returns a move of `count` days.
+    ///
+    /// ```
+    /// NaiveDate::from_ymd_opt(2024, 2, 28)?.checked_add_days(Days::new(2)) // Some(2024-03-01)
+    /// ```
     #[inline]
     pub fn new(count: u64) -> Days
         ensures { result ≡ count }

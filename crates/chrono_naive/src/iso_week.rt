@@ -8,7 +8,8 @@ mod text;
 
 use std::marker::Model;
 
-/// A week of an ISO year (ISO 8601 week date): weeks begin on Monday, and the first of a year holds its first Thursday.
+/// A week of an ISO year (ISO 8601 week date). A week begins on Monday, and the first week of a year contains
+/// the year's first Thursday.
 ///
 /// Contracts see the ISO year and the week. Weeks are ordered by the year, then by the week.
 #[derive(Clone, Copy, PartialEq, Eq, Hash)]
@@ -41,8 +42,12 @@ impl IsoWeek {
         IsoWeek { year, week }
     }
 
-    /// The ISO year, from -262,143 to 262,143. It is the calendar year of the week's Thursday, so it may be the year before
-    /// or after a day's own.
+    /// Returns the ISO year, from -262,143 to 262,143. It is the calendar year of the week's Thursday, so it
+    /// may be the year before or after that of a day in the week.
+    ///
+    /// ```
+    /// NaiveDate::from_ymd_opt(2024, 12, 30)?.iso_week().year() // 2025
+    /// ```
     #[inline]
     pub fn year(&self) -> i32
         ensures value { result ≡ self.now.year }
@@ -51,7 +56,11 @@ impl IsoWeek {
         self.year
     }
 
-    /// The week in the ISO year, from 1 to 53.
+    /// Returns the week of the ISO year, from 1 to 53.
+    ///
+    /// ```
+    /// NaiveDate::from_ymd_opt(2021, 1, 3)?.iso_week().week() // 53
+    /// ```
     #[inline]
     pub fn week(&self) -> u32
         ensures value { result ≡ self.now.week }
@@ -60,7 +69,11 @@ impl IsoWeek {
         self.week
     }
 
-    /// The week in the ISO year counted from 0.
+    /// Returns the week of the ISO year counted from 0, from 0 to 52.
+    ///
+    /// ```
+    /// NaiveDate::from_ymd_opt(2021, 1, 3)?.iso_week().week0() // 52
+    /// ```
     #[inline]
     pub fn week0(&self) -> u32
         ensures value { result + 1 ≡ self.now.week }

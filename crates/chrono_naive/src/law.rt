@@ -1,7 +1,10 @@
-//! The ends of the dates, and laws of their names, weeks, month moves, lists and texts, each as the contract of a function.
-ghost use Rattle.std.specs.Prelude.{◌≡◌, ◌≤◌, ◌+◌, ◌*◌, ◌/◌, ◌≤ℤ◌, ◌+ℤ◌, ℕ, ℤ, Some, None, pos, neg_ℤ, length, slice_get, codes};
-ghost use Rattle.chrono_calendar.specs.Days.{IsDate, date_of_day, year_of};
+//! Laws of dates, each as the contract of a function: the ends of the dates, their names, weeks, month moves, lists and
+//! texts.
+ghost use Rattle.std.specs.Prelude.{◌≡◌, ◌↔◌, ◌<◌, ◌≤◌, ◌+◌, ◌-◌, ◌*◌, ◌/◌, ◌≤ℤ◌, ◌+ℤ◌, ℕ, ℤ, Some, None, pos, neg_ℤ, length, slice_get, codes};
+ghost use Rattle.chrono_units.specs.declared.weekday.Weekday.{Weekday};
+ghost use Rattle.chrono_calendar.specs.Days.{IsDate, date_of_day, day_of, month_of, year_of};
 ghost use Rattle.chrono_calendar.specs.Recurrence.{dates_left};
+ghost use Rattle.chrono_calendar.specs.Weeks.{date_of_nth_weekday, weekday_of};
 ghost use Rattle.chrono_naive.specs.DateLists.{IsDayCursor, days_from, days_left, weeks_from};
 ghost use Rattle.chrono_naive.specs.DateText.{date_text};
 
@@ -49,9 +52,10 @@ pub fn last_date() -> (NaiveDate, NaiveDate)
     (NaiveDate::MAX, MAX_DATE)
 }
 
-/// Counted from 0, the `k`-th date of the days from one on is the day `k` days on, if that is a date, and the `k`-th of the
-/// weeks is the day `7 * k` days on, if a date lies a week after it. Call it where an iterator's items are said by their
-/// place, or are counted.
+/// States which date each item of an iterator is, and how many items there are. Items are counted from 0.
+///
+/// Item `k` of [`NaiveDate::iter_days`] lies `k` days after the start, if that is a date. Item `k` of
+/// [`NaiveDate::iter_weeks`] lies `7 * k` days after the start, if the day a week after it is a date.
 pub fn dates_lie_in_steps()
     ensures day { (n : ℤ) (k : ℕ) → IsDayCursor n →
         slice_get (days_from n) k ≡ date_of_day (n +ℤ pos k) }
@@ -63,7 +67,17 @@ pub fn dates_lie_in_steps()
     ensures weeks { (n : ℤ) → length (weeks_from n) ≡ days_left n / 7 }
 {}
 
-/// Texts that are known: of two dates with years of four digits, the first day of year 0 and the day before, and both ends.
+/// States which day of a month is the `k`-th with its weekday: that of the `k`-th seven days. So a Friday from the 15th to
+/// the 21st is the third Friday.
+pub fn sevens_of_days_have_each_weekday()
+    ensures nth { (n : ℤ) (k : ℕ) → IsDate n → 7 * (k - 1) < day_of n → day_of n ≤ 7 * k →
+        date_of_nth_weekday (year_of n) (month_of n) (weekday_of n) k ≡ Some n }
+    ensures is { (n : ℤ) (k : ℕ) (d : Weekday) → IsDate n →
+        (date_of_nth_weekday (year_of n) (month_of n) d k ≡ Some n)
+        ↔ ((weekday_of n ≡ d) × (7 * (k - 1) < day_of n) × (day_of n ≤ 7 * k)) }
+{}
+
+/// Known texts of six dates: two with years of four digits, the first day of year 0, the day before it, and both ends.
 pub fn known_date_texts()
     ensures plain { date_text (pos 735_438) ≡ codes "2014-07-24" }
     ensures day_739250 { date_text (pos 739_250) ≡ codes "2024-12-30" }

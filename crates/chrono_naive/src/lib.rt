@@ -1,4 +1,7 @@
 //! Dates of the proleptic Gregorian calendar, with no time zone.
+//!
+//! [`NaiveDate`] is a date, and [`Datelike`] has its fields. [`NaiveWeek`] and [`IsoWeek`] are weeks. [`Days`] and [`Months`]
+//! are moves, as is [`TimeDelta`], a duration.
 #![tactic(auto)]
 
 mod datelike;

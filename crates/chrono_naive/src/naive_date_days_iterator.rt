@@ -1,6 +1,6 @@
 //! `NaiveDateDaysIterator`: dates, day after day.
 //!
-//! Its order stands in `order`.
+//! The module `order` compares iterators.
 ghost use Rattle.std.specs.Prelude.{◌≡◌, pos, ◌+ℤ◌, ◌-ℤ◌, length, OnSome, IfNone, Some, None};
 ghost use Rattle.std.specs.Iterator.{IsFinite, YieldsFirst, item_count, size};
 ghost use Rattle.std.specs.Option.{SomeIff};
@@ -15,13 +15,20 @@ use chrono_calendar::ends::LAST_DAY;
 use std::iter::FusedIterator;
 use std::marker::Model;
 
-/// The dates from a date on, day after day, up to [`NaiveDate::MAX`]. From [`NaiveDate::iter_days`].
+/// The dates from a date on, day after day, up to [`NaiveDate::MAX`]. Made by [`NaiveDate::iter_days`].
 ///
-/// Once [`next`](Iterator::next) has given the last date the iterator is ended: it gives nothing more at either end, and
-/// stays so.
+/// Once [`next`](Iterator::next) has returned the last date, the iterator is ended. It then returns nothing
+/// more at either end.
 ///
-/// Contracts see it as its cursor, the day number of the date that it would give next, or the number after the last
-/// date's once it is ended. Iterators are equal, ordered and hashed as that number.
+/// Contracts see it as its cursor, the day number of the date that it returns next. The cursor of an ended
+/// iterator is the number after that of the last date. Iterators are equal, ordered and hashed as their
+/// cursors.
+///
+/// ```
+/// let mut days = NaiveDate::MAX.iter_days();
+/// days.next() // Some(+262142-12-31)
+/// days.next() // None
+/// ```
 #[derive(Clone, Copy, Eq, Hash, Debug)]
 pub struct NaiveDateDaysIterator {
     cursor: i32,
@@ -51,9 +58,18 @@ impl NaiveDateDaysIterator {
         }
     }
 
-    /// The date at the cursor, which then stands one day later; `None` once the last date was given.
+    /// Returns the date at the cursor, and moves the cursor one day later.
     ///
-    /// It is [`next`](Iterator::next), which says to a loop which list of dates is left; this says which date comes.
+    /// Returns `None` if the last date was returned before.
+    ///
+    /// It does what [`next`](Iterator::next) does. Its contract says which date comes; that of `next` says
+    /// which dates are left, for a loop.
+    ///
+    /// ```
+    /// let mut days = NaiveDate::from_ymd_opt(2024, 2, 28)?.iter_days();
+    /// days.step() // Some(2024-02-28)
+    /// days.step() // Some(2024-02-29)
+    /// ```
     #[inline]
     pub fn step(&mut self) -> Option<NaiveDate>
         ensures date { SomeIff result (IsDate self.old) self.old }
@@ -69,10 +85,18 @@ impl NaiveDateDaysIterator {
         Some(next)
     }
 
-    /// The date at the cursor, which then stands one day earlier; `None` if that would be before
-    /// [`NaiveDate::MIN`], with the cursor left where it is, and `None` for an iterator that is ended.
+    /// Returns the date at the cursor, and moves the cursor one day earlier. So it goes back from the date that
+    /// the iterator returns next, and not from the end of its dates.
     ///
-    /// So it goes back from the date that the iterator would give next, and not from the end of its dates.
+    /// Returns `None` if the cursor would be before [`NaiveDate::MIN`]; the cursor then stays. Also returns
+    /// `None` for an iterator that is ended.
+    ///
+    /// ```
+    /// let mut days = NaiveDate::from_ymd_opt(2024, 3, 1)?.iter_days();
+    /// days.next_back() // Some(2024-03-01)
+    /// days.next_back() // Some(2024-02-29)
+    /// NaiveDate::MIN.iter_days().next_back() // None
+    /// ```
     #[inline]
     pub fn next_back(&mut self) -> Option<NaiveDate>
         ensures date { SomeIff result (IsDate self.old × IsDate (self.old -ℤ pos 1)) self.old }
@@ -95,13 +119,19 @@ impl Iterator for NaiveDateDaysIterator {
 
     ghost remaining = { item_count days_from };
 
-    /// The date at the cursor, which then stands one day later; `None` once the last date was given.
+    /// Returns the date at the cursor, and moves the cursor one day later.
+    ///
+    /// Returns `None` if the last date was returned before.
     #[inline]
     fn next(&mut self) -> Option<NaiveDate> {
         self.step()
     }
 
-    /// The number of dates that are left, exactly.
+    /// Returns the exact number of dates that are left, as both bounds.
+    ///
+    /// ```
+    /// NaiveDate::MAX.iter_days().size_hint() // (1, Some(1))
+    /// ```
     #[inline]
     fn size_hint(&self) -> (usize, Option<usize>)
         ensures list { result ≡ (length (days_from self.now), Some (length (days_from self.now))) }
@@ -113,7 +143,11 @@ impl Iterator for NaiveDateDaysIterator {
 }
 
 impl ExactSizeIterator for NaiveDateDaysIterator {
-    /// The number of dates that are left: none of an ended iterator.
+    /// Returns the number of dates that are left. It is 0 for an ended iterator.
+    ///
+    /// ```
+    /// NaiveDate::from_ymd_opt(262142, 12, 30)?.iter_days().len() // 2
+    /// ```
     #[inline]
     fn len(&self) -> usize
         ensures finite { IsFinite (item_count days_from self.now) }

@@ -10,9 +10,15 @@ use chrono_calendar::ends::LAST_DAY;
 use std::iter::FusedIterator;
 use std::marker::Model;
 
-/// The dates from a date on, week after week. From [`NaiveDate::iter_weeks`].
+/// The dates from a date on, week after week. Made by [`NaiveDate::iter_weeks`].
 ///
-/// Contracts see it as its cursor, the day number of the date that it would give next.
+/// Contracts see it as its cursor, the day number of the date that it returns next.
+///
+/// ```
+/// let mut weeks = NaiveDate::from_ymd_opt(2024, 2, 29)?.iter_weeks();
+/// weeks.next() // Some(2024-02-29)
+/// weeks.next() // Some(2024-03-07)
+/// ```
 #[derive(Clone, Copy, PartialEq, Eq, PartialOrd, Ord, Hash, Debug)]
 pub struct NaiveDateWeeksIterator {
     cursor: NaiveDate,
@@ -51,10 +57,19 @@ impl NaiveDateWeeksIterator {
         Some(date)
     }
 
-    /// The date at the cursor, which then stands one week later; `None` if that would be past
-    /// [`NaiveDate::MAX`], with the cursor left where it is.
+    /// Returns the date at the cursor, and moves the cursor one week later.
     ///
-    /// It is [`next`](Iterator::next), which says to a loop which list of dates is left; this says which date comes.
+    /// Returns `None` if the cursor would be after [`NaiveDate::MAX`]; the cursor then stays.
+    ///
+    /// It does what [`next`](Iterator::next) does. Its contract says which date comes; that of `next` says
+    /// which dates are left, for a loop.
+    ///
+    /// ```
+    /// let mut weeks = NaiveDate::from_ymd_opt(2024, 2, 29)?.iter_weeks();
+    /// weeks.step() // Some(2024-02-29)
+    /// weeks.step() // Some(2024-03-07)
+    /// NaiveDate::MAX.iter_weeks().step() // None
+    /// ```
     #[inline]
     pub fn step(&mut self) -> Option<NaiveDate>
         ensures date { SomeIff result (IsDate (self.old +ℤ pos 7)) self.old }
@@ -65,10 +80,17 @@ impl NaiveDateWeeksIterator {
         self.move_by(7)
     }
 
-    /// The date at the cursor, which then stands one week earlier; `None` if that would be before
-    /// [`NaiveDate::MIN`], with the cursor left where it is.
+    /// Returns the date at the cursor, and moves the cursor one week earlier. So it goes back from the date
+    /// that the iterator returns next, and not from the end of its dates.
     ///
-    /// So it goes back from the date that the iterator would give next, and not from the end of its dates.
+    /// Returns `None` if the cursor would be before [`NaiveDate::MIN`]; the cursor then stays.
+    ///
+    /// ```
+    /// let mut weeks = NaiveDate::from_ymd_opt(2024, 3, 7)?.iter_weeks();
+    /// weeks.next_back() // Some(2024-03-07)
+    /// weeks.next_back() // Some(2024-02-29)
+    /// NaiveDate::MIN.iter_weeks().next_back() // None
+    /// ```
     #[inline]
     pub fn next_back(&mut self) -> Option<NaiveDate>
         ensures date { SomeIff result (IsDate (self.old -ℤ pos 7)) self.old }
@@ -86,14 +108,19 @@ impl Iterator for NaiveDateWeeksIterator {
 
     ghost remaining = { item_count weeks_from };
 
-    /// The date at the cursor, which then stands one week later; `None` if that would be past
-    /// [`NaiveDate::MAX`], with the cursor left where it is.
+    /// Returns the date at the cursor, and moves the cursor one week later.
+    ///
+    /// Returns `None` if the cursor would be after [`NaiveDate::MAX`]; the cursor then stays.
     #[inline]
     fn next(&mut self) -> Option<NaiveDate> {
         self.step()
     }
 
-    /// The number of dates that are left, exactly.
+    /// Returns the exact number of dates that are left, as both bounds.
+    ///
+    /// ```
+    /// NaiveDate::MAX.iter_weeks().size_hint() // (0, Some(0))
+    /// ```
     #[inline]
     fn size_hint(&self) -> (usize, Option<usize>)
         ensures { result ≡ (length (weeks_from self.now), Some (length (weeks_from self.now))) }
@@ -104,7 +131,11 @@ impl Iterator for NaiveDateWeeksIterator {
 }
 
 impl ExactSizeIterator for NaiveDateWeeksIterator {
-    /// The number of dates that are left.
+    /// Returns the number of dates that are left.
+    ///
+    /// ```
+    /// NaiveDate::from_ymd_opt(262142, 12, 1)?.iter_weeks().len() // 4
+    /// ```
     #[inline]
     fn len(&self) -> usize {
         (LAST_DAY - self.cursor.day_number()) as usize / 7

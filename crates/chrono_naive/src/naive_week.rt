@@ -1,4 +1,4 @@
-//! `NaiveWeek`: the week that holds a date and begins on a day of one's choice.
+//! `NaiveWeek`: the week that contains a date and begins on a given weekday.
 ghost use Rattle.std.specs.Prelude.{◌≡◌, pos, ◌+ℤ◌, IsTrue, IsSome, IfSome, ◌↔◌};
 ghost use Rattle.std.specs.Ordering.{int_eq};
 ghost use Rattle.chrono_calendar.specs.Days.{IsDate, date_of_day};
@@ -9,11 +9,16 @@ use crate::naive_date::NaiveDate;
 use std::marker::Model;
 use std::ops::RangeInclusive;
 
-/// Seven days in a row, one of them a date. From [`NaiveDate::week`].
+/// Seven consecutive days, at least one of which is a date. Made by [`NaiveDate::week`].
 ///
-/// Contracts see a week as the number of its first day, which need not be a date: the week of
-/// [`NaiveDate::MIN`] may begin before it. Two weeks are equal exactly if they have the same seven days, and then they
-/// hash alike.
+/// Contracts see a week as the number of its first day. That day need not be a date: the week of
+/// [`NaiveDate::MIN`] may begin before it. Two weeks are equal if they have the same seven days, and equal
+/// weeks hash alike.
+///
+/// ```
+/// let week = NaiveDate::from_ymd_opt(2024, 2, 29)?.week(Weekday::Mon);
+/// (week.checked_first_day(), week.checked_last_day()) // (Some(2024-02-26), Some(2024-03-03))
+/// ```
 #[derive(Clone, Copy, Eq, Hash, Debug)]
 pub struct NaiveWeek {
     first: i32,
@@ -42,7 +47,13 @@ impl NaiveWeek {
         NaiveWeek { first }
     }
 
-    /// The first day of the week, which has to be a date.
+    /// Returns the first day of the week.
+    ///
+    /// Requires that this day is a date. [`checked_first_day`](Self::checked_first_day) requires nothing.
+    ///
+    /// ```
+    /// NaiveDate::from_ymd_opt(2024, 2, 29)?.week(Weekday::Mon).first_day() // 2024-02-26
+    /// ```
     #[inline]
     pub fn first_day(&self) -> NaiveDate
         requires { IsDate self.now }
@@ -51,7 +62,14 @@ impl NaiveWeek {
         self.checked_first_day().unwrap()
     }
 
-    /// The first day of the week; `None` exactly if it is no date.
+    /// Returns the first day of the week.
+    ///
+    /// Returns `None` if this day is before [`NaiveDate::MIN`].
+    ///
+    /// ```
+    /// NaiveDate::from_ymd_opt(2024, 2, 29)?.week(Weekday::Mon).checked_first_day() // Some(2024-02-26)
+    /// NaiveDate::MIN.week(Weekday::Fri).checked_first_day() // None
+    /// ```
     #[inline]
     pub fn checked_first_day(&self) -> Option<NaiveDate>
         ensures date { result ≡ date_of_day self.now }
@@ -61,7 +79,13 @@ impl NaiveWeek {
         NaiveDate::from_num_days_from_ce_opt(self.first)
     }
 
-    /// The last day of the week, which has to be a date.
+    /// Returns the last day of the week.
+    ///
+    /// Requires that this day is a date. [`checked_last_day`](Self::checked_last_day) requires nothing.
+    ///
+    /// ```
+    /// NaiveDate::from_ymd_opt(2024, 2, 29)?.week(Weekday::Mon).last_day() // 2024-03-03
+    /// ```
     #[inline]
     pub fn last_day(&self) -> NaiveDate
         requires { IsDate (self.now +ℤ pos 6) }
@@ -70,7 +94,14 @@ impl NaiveWeek {
         self.checked_last_day().unwrap()
     }
 
-    /// The last day of the week; `None` exactly if it is no date.
+    /// Returns the last day of the week.
+    ///
+    /// Returns `None` if this day is after [`NaiveDate::MAX`].
+    ///
+    /// ```
+    /// NaiveDate::from_ymd_opt(2024, 2, 29)?.week(Weekday::Mon).checked_last_day() // Some(2024-03-03)
+    /// NaiveDate::MAX.week(Weekday::Mon).checked_last_day() // None
+    /// ```
     #[inline]
     pub fn checked_last_day(&self) -> Option<NaiveDate>
         ensures date { result ≡ date_of_day (self.now +ℤ pos 6) }
@@ -80,7 +111,14 @@ impl NaiveWeek {
         NaiveDate::from_num_days_from_ce_opt(self.first + 6)
     }
 
-    /// The days of the week, from the first to the last, which both have to be dates.
+    /// Returns the days of the week, from the first to the last.
+    ///
+    /// Requires that both are dates. [`checked_days`](Self::checked_days) requires nothing.
+    ///
+    /// ```
+    /// let days = NaiveDate::from_ymd_opt(2024, 2, 29)?.week(Weekday::Mon).days();
+    /// (*days.start(), *days.end()) // (2024-02-26, 2024-03-03)
+    /// ```
     #[inline]
     pub fn days(&self) -> RangeInclusive<NaiveDate>
         requires first { IsDate self.now }
@@ -90,7 +128,15 @@ impl NaiveWeek {
         self.first_day()..=self.last_day()
     }
 
-    /// The days of the week, from the first to the last; `None` exactly if one of these is no date.
+    /// Returns the days of the week, from the first to the last.
+    ///
+    /// Returns `None` if the first or the last day is not a date.
+    ///
+    /// ```
+    /// let days = NaiveDate::from_ymd_opt(2024, 2, 29)?.week(Weekday::Mon).checked_days()?;
+    /// (*days.start(), *days.end()) // (2024-02-26, 2024-03-03)
+    /// NaiveDate::MAX.week(Weekday::Mon).checked_days().is_none() // true
+    /// ```
     #[inline]
     pub fn checked_days(&self) -> Option<RangeInclusive<NaiveDate>>
         ensures exists { IsSome result ↔ (IsDate self.now × IsDate (self.now +ℤ pos 6)) }
@@ -111,7 +157,7 @@ impl PartialEq for NaiveWeek {
 
     ghost laws = { Prim.search (comparing, rules) };
 
-    /// Whether the two weeks have the same seven days.
+    /// Returns whether the two weeks have the same seven days.
     #[inline]
     fn eq(&self, other: &NaiveWeek) -> bool
         ensures number { result ≡ int_eq self.now other.now }

@@ -1,12 +1,12 @@
 -- Where the date of a date-time ends: no text of a date has a `T` or a space in it.
-use Rattle.std.proofs.Common.{subst, codes, Bool, true, not, ◌&&◌, ◌==◌, ◌≢◌, ◌-◌, ◌≡◌, ℕ, zero, suc, ◌+◌, ◌<◌, ◌≤◌, List, [], ◌∷◌, ◌++◌, length, get_or, take, drop, ℤ, pos, negsuc, unsigned_abs, inl, inr, Some, refl, sym, ap, ◌∙◌, arith, length-append}
+use Rattle.std.proofs.Common.{◌⊎◌, add-one, drop-cons, length-take, take-append-drop, subst, codes, Bool, true, not, ◌&&◌, ◌==◌, ◌≢◌, ◌-◌, ◌≡◌, ℕ, zero, suc, ◌+◌, ◌<◌, ◌≤◌, List, [], ◌∷◌, ◌++◌, length, get_or, take, drop, ℤ, pos, negsuc, unsigned_abs, inl, inr, Some, refl, sym, ap, ◌∙◌, arith, length-append}
 use Rattle.std.specs.Fmt.{decimal}
 use Rattle.std.specs.List.{AllByRecursion}
 use Rattle.std.specs.Str.Parse.{AllDigits}
 use Rattle.std.proofs.lemmas.Bool.{and_parts}
 use Rattle.std.proofs.lemmas.Bool.Decides.{nat_tests}
 use Rattle.std.proofs.lemmas.Fmt.{decimal_is_IsNumeral}
-use Rattle.std.proofs.lemmas.List.{get_or_append_left, get_or_at, take_at, drop_at, drop-drop, take_rest}
+use Rattle.std.proofs.lemmas.List.{get_or-take, get_or_append_left, get_or_at, take_at, drop_at, drop-drop, take_rest}
 use Rattle.std.proofs.lemmas.Str.Parse.{digit_from_value}
 use Rattle.chrono_datetime.specs.Days.{IsDate}
 use Rattle.chrono_datetime.specs.NameLaws.{DatesHaveOneCalendarName}
@@ -15,6 +15,8 @@ use Rattle.chrono_datetime.specs.Time.{TimeOfDay}
 use Rattle.std.proofs.lemmas.Option.{same_Some}
 use Rattle.chrono_text.specs.Text.{all_digits, two_digits, year_digits, year_text}
 use Rattle.chrono_reading.specs.DateTexts.{IsDateText}
+use Rattle.chrono_reading.specs.DateTimeErrors.{IsErrorAbout, IsOfNoDate, IsOfNoTime}
+use Rattle.chrono_reading.specs.declared.error.ReadError.{ReadError}
 use Rattle.chrono_reading.specs.DateTimeTexts.{IsSeparator, IsDateTimeText, SameDateTime}
 use Rattle.chrono_reading.specs.TimeTexts.{IsTimeText}
 use Rattle.chrono_reading.proofs.DateLemmas.{calendar_text-parts, date_of_ymd-small, date_text-same}
@@ -161,3 +163,21 @@ IsDateTimeText-same text other m n same inside law is also =
       written = is.written;
       other_written = ap (λ (t : List ℕ). t ++ also.separator ∷ also.time) date ∙ also.written;
     }
+
+-- the first separator ends the date of a text
+pub IsErrorAbout-at : (text : List ℕ) (at : ℕ) (e : ReadError) → at < length text → IsSeparator (get_or text at 0) → ((k : ℕ) → k < at → ¬ IsSeparator (get_or text k 0))
+    → IsOfNoDate (take at text) e ⊎ IsOfNoTime (take at text) (take (length text - (at + 1)) (drop (at + 1) text)) e → IsErrorAbout text e
+IsErrorAbout-at text at e within found first error = record {
+  date = take at text;
+  separator = get_or text at 0;
+  time = take (length text - (at + 1)) (drop (at + 1) text);
+  first = λ k less.
+      let before : k < at = omega (arith, less, length-take at text) in
+      let same : get_or (take at text) k 0 ≡ get_or text k 0 = get_or-take at text k 0 before in
+      subst (λ c. ¬ IsSeparator c) (sym same) (first k before);
+  between = found;
+  written =
+      let behind : get_or text at 0 ∷ take (length text - (at + 1)) (drop (at + 1) text) ≡ drop at text = rw (take_rest text (at + 1), add-one) (sym (drop-cons text at 0 within)) in
+      rw behind (take-append-drop at text);
+  error = error;
+}

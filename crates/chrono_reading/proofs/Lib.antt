@@ -6,3 +6,7 @@ mod DurationTextLemmas
 mod PrintedLemmas
 mod NameLemmas
 mod NearMisses
+mod FittingLemmas
+mod ResultLemmas
+mod PartsLemmas
+mod OneErrorLemmas

@@ -3,3 +3,10 @@ pub mod DateTexts
 pub mod TimeTexts
 pub mod DateTimeTexts
 pub mod DurationTexts
+pub mod Fitting
+pub mod DateErrors
+pub mod TimeErrors
+pub mod DateTimeErrors
+pub mod DurationErrors
+pub mod NameErrors
+pub mod ErrorTexts

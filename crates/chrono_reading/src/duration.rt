@@ -1,24 +1,46 @@
 //! Durations.
-ghost use Rattle.std.specs.Prelude.{◌≡◌, ◌≢◌, ◌<◌, ◌≤◌, ◌+◌, ◌*◌, ◌^◌, ◌++◌, ◌<ℤ◌, ℕ, ℤ, pos, Some, IfSome, IfNone, IsSomeAnd, IsTrue, ◌↔◌, ◌∷◌, List, codes, length, slice_index, unsigned_abs};
+ghost use Rattle.std.specs.Prelude.{◌≡◌, ◌≢◌, ◌<◌, ◌≤◌, ◌+◌, ◌*◌, ◌^◌, ◌++◌, ◌<ℤ◌, ℕ, ℤ, pos, Some, IfSome, IfNone, IsSomeAnd, IsTrue, ◌↔◌, ◌∷◌, List, codes, length, slice_index, unsigned_abs, Ok, IfOk, IfErr};
 ghost use Rattle.std.specs.Fmt.{decimal};
 ghost use Rattle.std.specs.Option.{SomeIff};
 ghost use Rattle.std.specs.Str.{byte};
 ghost use Rattle.chrono_datetime.specs.Duration.{IsDuration, longest, nanos_per_second};
+ghost use Rattle.chrono_reading.specs.DurationErrors.{duration_error};
 ghost use Rattle.chrono_reading.specs.DurationTexts.{IsDurationText, IsSecondsText};
 ghost use Rattle.chrono_text.specs.Fractions.{IsFractionText};
 
+use crate::duration_error::duration_error;
+use crate::error::ReadError;
 use chrono_datetime::TimeDelta;
 use chrono_text::{read_decimal, read_fraction};
 
-/// The duration that the text writes in seconds (ISO 8601 duration), as `PT0.042S` or `-PT86400S`: `P0D` for zero, and else
-/// a `-` if it is negative, `PT`, the whole seconds with no 0 in front of others, nothing or a point and one to nine digits,
-/// and `S`.
+/// Reads a duration in seconds (ISO 8601), such as `PT0.042S` or `-PT86400S`. Returns the duration.
 ///
-/// `None` for every other text: for one of zero in seconds, and for one past [`TimeDelta::MIN`] or [`TimeDelta::MAX`].
+/// If `text` is no such duration, returns what is wrong and at which byte, as a [`ReadError`].
+///
+/// ```
+/// read_duration(b"-PT1.50S").ok() // Some(TimeDelta { secs: -2, nanos: 500000000 })
+/// read_duration(b"PT0S").err() // Some(ReadError { cause: ZeroInSeconds, byte: 2 })
+/// ```
+///
+/// Zero is `P0D`. Any other duration is `-` if it is negative, `PT`, the whole seconds, and `S`. A point and one to nine digits may stand before
+/// the `S`. The whole seconds have no 0 in front of other digits. The duration lies from [`TimeDelta::MIN`] to [`TimeDelta::MAX`].
 #[inline]
-pub fn read_duration(text: &[u8]) -> Option<TimeDelta>
-    ensures read { IfSome result (λ x. IsDurationText text.now x) }
+pub fn read_duration(text: &[u8]) -> Result<TimeDelta, ReadError>
+    ensures read { IfOk result (λ x. IsDurationText text.now x) }
     // Whatever duration has this text is the answer: no text is refused, and none has two meanings.
+    ensures every { (x : ℤ) → IsDurationText text.now x → result ≡ Ok x }
+    ensures error { IfErr result (λ e. e ≡ duration_error text.now) }
+{
+    match duration_named(text) {
+        Some(duration) => Ok(duration),
+        None => Err(duration_error(text)),
+    }
+}
+
+// The duration that the text writes.
+#[inline]
+fn duration_named(text: &[u8]) -> Option<TimeDelta>
+    ensures read { IfSome result (λ x. IsDurationText text.now x) }
     ensures every { (x : ℤ) → IsDurationText text.now x → result ≡ Some x }
 {
     if is_zero(text) {

@@ -1,6 +1,7 @@
-//! Laws of the texts that are read, each as the contract of a function: what is printed is a text of its value, so that it
-//! is read back; a text has one value; and two texts of one value differ only where the grammar says so. Beside them stand
-//! texts that are known, and near misses.
+//! Laws of the texts that are read, each as the contract of a function.
+//!
+//! What is printed is a text of its value, so it is read back. A text has one value. Two texts of one value differ only as the laws say. Known
+//! texts, near misses and errors stand below.
 ghost use Rattle.std.specs.Prelude.{◌≡◌, ◌+◌, ◌++◌, ◌∷◌, ◌⊎◌, ◌↔◌, [], ℕ, ℤ, List, codes, neg_ℤ, pos};
 ghost use Rattle.chrono_datetime.specs.DateText.{date_text};
 ghost use Rattle.chrono_datetime.specs.Days.{IsDate, ordinal_of, year_of};
@@ -18,6 +19,10 @@ ghost use Rattle.chrono_datetime.specs.declared.Month.{Month};
 ghost use Rattle.chrono_datetime.specs.declared.Month.TheVariants.{September};
 ghost use Rattle.chrono_datetime.specs.declared.Weekday.{Weekday};
 ghost use Rattle.chrono_datetime.specs.declared.Weekday.TheVariants.{Mon, Thu};
+ghost use Rattle.chrono_reading.specs.DateErrors.{IsDateError, IsOrdinalDateError, IsWeekDateError, error_at};
+ghost use Rattle.chrono_reading.specs.declared.error.ReadError.{ReadError};
+ghost use Rattle.chrono_reading.specs.TimeErrors.{IsTimeError};
+ghost use Rattle.chrono_reading.specs.declared.error.ReadCause.TheVariants.{DayAbove, MonthAbove12, NotThisForm, OrdinalAbove, WeekAbove};
 ghost use Rattle.chrono_reading.specs.DateTimeTexts.{IsDateTimeText, IsSeparator, SameDateTime};
 ghost use Rattle.chrono_reading.specs.DurationTexts.{IsDurationText, SameSeconds};
 ghost use Rattle.chrono_reading.specs.TimeTexts.{IsTimeText, SameClock};
@@ -32,15 +37,15 @@ use chrono_datetime::law::{
     dates_have_one_calendar_name, dates_have_one_iso_name, dates_have_one_ordinal_name, known_days,
     known_weeks,
 };
-use chrono_datetime::{Datelike, NaiveDate};
+use chrono_datetime::{Datelike, NaiveDate, Weekday};
 pub use chrono_text::law::texts_of_a_fraction_differ_in_last_zeros;
 
-/// What `{}` writes for a weekday is a text of it, so it is read as that weekday.
+/// `{}` prints a text of the weekday, which is read as that weekday.
 pub fn printed_weekdays_are_read()
     ensures { (d : Weekday) → IsWeekdayText (weekday_text d) d }
 {}
 
-/// The name of a month is a text of it, so it is read as that month.
+/// The name of a month is a text of it, which is read as that month.
 pub fn names_of_months_are_read()
     ensures { (m : Month) → IsMonthText (month_name m) m }
 {}
@@ -59,19 +64,19 @@ pub fn texts_have_one_month(text: &[u8])
     let _month = read_month(text);
 }
 
-/// Of two texts of one weekday one is the other or its first three letters, in letters of any case.
+/// Of two texts of one weekday, one is the other or its first three letters. Their letters may differ in case.
 pub fn texts_of_a_weekday_differ_in_case_and_length()
     ensures { (text other : List ℕ) (d : Weekday) → IsWeekdayText text d → IsWeekdayText other d
         → IsNameText text other ⊎ IsNameText other text }
 {}
 
-/// Of two texts of one month one is the other or its first three letters, in letters of any case.
+/// Of two texts of one month, one is the other or its first three letters. Their letters may differ in case.
 pub fn texts_of_a_month_differ_in_case_and_length()
     ensures { (text other : List ℕ) (m : Month) → IsMonthText text m → IsMonthText other m
         → IsNameText text other ⊎ IsNameText other text }
 {}
 
-/// What `{}` writes for a date is a text of it, so it is read as that date.
+/// `{}` prints a text of the date, which is read as that date.
 pub fn printed_dates_are_read()
     ensures { (n : ℤ) → IsDate n → IsDateText (date_text n) n }
 {
@@ -85,17 +90,17 @@ pub fn texts_have_one_date(text: &[u8])
     let _date = read_date(text);
 }
 
-/// The one text of a date is what `{}` writes for it.
+/// The one text of a date is what `{}` prints of it.
 pub fn dates_have_one_text(text: &[u8])
     ensures { (n : ℤ) → IsDateText text.now n → IsDate n × (text.now ≡ date_text n) }
 {
-    if let Some(date) = read_date(text) {
+    if let Ok(date) = read_date(text) {
         let _number = date.num_days_from_ce();
         dates_have_one_calendar_name();
     }
 }
 
-/// A year and the place in it that name a date, the place in three digits behind a `-`, are read as that date.
+/// A year, `-` and the day of the year in three digits are read as that date.
 pub fn ordinal_names_are_read()
     ensures { (n : ℤ) → IsDate n
         → IsOrdinalDateText (ordinal_text (year_of n) (ordinal_of n)) n }
@@ -110,19 +115,18 @@ pub fn texts_have_one_ordinal_date(text: &[u8])
     let _date = read_ordinal_date(text);
 }
 
-/// The one ordinal name of a date is its year and its place in it, in three digits behind a `-`.
+/// The one ordinal name of a date is its year, `-` and its day of the year in three digits.
 pub fn dates_have_one_ordinal_text(text: &[u8])
     ensures { (n : ℤ) → IsOrdinalDateText text.now n → IsDate n
         × (text.now ≡ ordinal_text (year_of n) (ordinal_of n)) }
 {
-    if let Some(date) = read_ordinal_date(text) {
+    if let Ok(date) = read_ordinal_date(text) {
         let _number = date.num_days_from_ce();
         dates_have_one_ordinal_name();
     }
 }
 
-/// The ISO year and week that name a date, as `{:?}` writes them, and the number of its weekday behind a `-` are read as that
-/// date.
+/// The ISO year and week as `{:?}` prints them, `-` and the number of the weekday are read as that date.
 pub fn week_names_are_read(date: NaiveDate)
     ensures { IsWeekDateText (week_date_text (iso_year_of date) (iso_week_of date)
         (number_from_monday (weekday_of date))) date }
@@ -141,19 +145,19 @@ pub fn texts_have_one_week_date(text: &[u8])
     let _date = read_week_date(text);
 }
 
-/// The one week name of a date is its ISO year and week, as `{:?}` writes them, and the number of its weekday behind a `-`.
+/// The one week name of a date is its ISO year and week as `{:?}` prints them, `-` and the number of its weekday.
 pub fn dates_have_one_week_text(text: &[u8])
     ensures { (n : ℤ) → IsWeekDateText text.now n → IsDate n
         × (text.now ≡ week_date_text (iso_year_of n) (iso_week_of n)
         (number_from_monday (weekday_of n))) }
 {
-    if let Some(date) = read_week_date(text) {
+    if let Ok(date) = read_week_date(text) {
         let _number = date.num_days_from_ce();
         dates_have_one_iso_name();
     }
 }
 
-/// What `{}` writes for a time of day is a text of it, so it is read as that time, if a leap fraction stands at second 59.
+/// `{}` prints a text of the time, which is read as that time. A leap fraction has to stand at second 59.
 pub fn printed_times_are_read()
     ensures { (t : TimeOfDay) → IsTime t → FractionFits (second_of t) t.fraction
         → IsTimeText (time_text t) t }
@@ -166,15 +170,14 @@ pub fn texts_have_one_time(text: &[u8])
     let _time = read_time(text);
 }
 
-/// Two texts of one time of day have the same hour, minute and second in their first eight bytes, and differ behind those
-/// in zeros at the end of the fraction alone.
+/// Two texts of one time of day have the same first eight bytes. Behind those they differ only in zeros at the end of the fraction.
 pub fn texts_of_a_time_differ_in_last_zeros()
     ensures { (text other : List ℕ) (t : TimeOfDay) → IsTimeText text t → IsTimeText other t
         → SameClock text other }
 {}
 
-/// What `{}` and `{:?}` write for a date-time, with a space and with a `T`, are texts of it, so they are read as that
-/// date-time, if a leap fraction stands at second 59.
+/// `{}` and `{:?}` print texts of the date-time, with a space and with a `T`. They are read as that date-time. A leap fraction has to stand at second
+/// 59.
 pub fn printed_date_times_are_read()
     ensures { (m : Moment) (separator : ℕ) → IsDate m.date → IsTime m.time
         → FractionFits (second_of m.time) m.time.fraction → IsSeparator separator
@@ -191,19 +194,18 @@ pub fn texts_have_one_date_time(text: &[u8])
     let _date_time = read_date_time(text);
 }
 
-/// Two texts of one date-time have the same date, a `T` or a space each, and times that differ in zeros at the end of the
-/// fraction alone.
+/// Two texts of one date-time have the same date, and a `T` or a space each. Their times differ only in zeros at the end of the fraction.
 pub fn texts_of_a_date_time_differ_in_separator_and_last_zeros(text: &[u8])
     ensures { (other : List ℕ) (m : Moment) → IsDateTimeText text.now m → IsDateTimeText other m
         → SameDateTime text.now other }
 {
-    if let Some(date_time) = read_date_time(text) {
+    if let Ok(date_time) = read_date_time(text) {
         let _number = date_time.date().num_days_from_ce();
         dates_have_one_calendar_name();
     }
 }
 
-/// What `{}` writes for a duration is a text of it, so it is read as that duration.
+/// `{}` prints a text of the duration, which is read as that duration.
 pub fn printed_durations_are_read()
     ensures { (x : ℤ) → IsDuration x → IsDurationText (duration_text x) x }
 {}
@@ -215,14 +217,14 @@ pub fn texts_have_one_duration(text: &[u8])
     let _duration = read_duration(text);
 }
 
-/// Two texts of one duration are the same, or have the same sign and whole seconds and differ in zeros at the end of the
-/// fraction alone.
+/// Two texts of one duration are the same, or they have the same sign and whole seconds. Then they differ only in zeros at the end of the
+/// fraction.
 pub fn texts_of_a_duration_differ_in_last_zeros()
     ensures { (text other : List ℕ) (x : ℤ) → IsDurationText text x → IsDurationText other x
         → (text ≡ other) ⊎ SameSeconds text other }
 {}
 
-/// Texts that are known to name a weekday or a month, and two that name none.
+/// Known texts of weekdays and months, and two texts that name none.
 pub fn known_texts_of_names()
     ensures any_case { IsWeekdayText (codes "mON") Mon }
     ensures whole { IsWeekdayText (codes "THURSDAY") Thu }
@@ -232,9 +234,14 @@ pub fn known_texts_of_names()
     ensures two_letters { (m : Month) → ¬ IsMonthText (codes "Ja") m }
 {}
 
-/// Texts of dates that are known: a leap day by calendar and by ordinal, a year of five digits, the day before the year 0,
-/// the first date and the last; 30 December 2024 in week 1 of 2025, and 3 January 2021 in week 53 of 2020. A month of one
-/// digit, 29 February 1900 and a year 0 with a sign are in no text of a date.
+/// Known texts of dates:
+///
+/// - a leap day, by calendar and by ordinal;
+/// - a year of five digits, and the day before the year 0;
+/// - the first date and the last;
+/// - 30 December 2024 in week 1 of 2025, and 3 January 2021 in week 53 of 2020.
+///
+/// A month of one digit, 29 February 1900 and a year 0 with a sign are invalid.
 pub fn known_texts_of_dates()
     ensures leap_day { IsDateText (codes "2024-02-29") (pos 738_945) }
     ensures ordinal { IsOrdinalDateText (codes "2024-060") (pos 738_945) }
@@ -252,8 +259,9 @@ pub fn known_texts_of_dates()
     known_weeks();
 }
 
-/// Texts of times of day that are known: midnight with a fraction and without, and leap seconds at the end of a day and in
-/// its middle. An hour 24, a second 61, an hour of one digit and a point with no digit are in no text of a time.
+/// Known texts of times of day: midnight with a fraction and without, and leap seconds at the end of a day and in its middle.
+///
+/// An hour 24, a second 61, an hour of one digit and a point with no digit are invalid.
 pub fn known_texts_of_times()
     ensures midnight { IsTimeText (codes "00:00:00") (time_at 0 0 0 0) }
     ensures zeros { IsTimeText (codes "00:00:00.000") (time_at 0 0 0 0) }
@@ -266,8 +274,7 @@ pub fn known_texts_of_times()
     ensures no_digit { (t : TimeOfDay) → ¬ IsTimeText (codes "01:02:03.") t }
 {}
 
-/// Texts of date-times that are known, of the leap second after a leap day: with a `T`, and with a space and a fraction. With
-/// a small `t` it is a text of none.
+/// Known texts of the leap second after a leap day: with a `T`, and with a space and a fraction. A small `t` is invalid.
 pub fn known_texts_of_date_times()
     ensures with_t { IsDateTimeText (codes "2024-02-29T23:59:60")
         (moment (pos 738_945) (time_at 23 59 59 1_000_000_000)) }
@@ -279,8 +286,9 @@ pub fn known_texts_of_date_times()
     known_texts_of_times();
 }
 
-/// Texts of durations that are known: zero, a second and a half back with a zero at the end and without, and a day. No text
-/// of a duration is in small letters, has a `+`, or writes zero in seconds.
+/// Known texts of durations: zero, a second and a half back with a zero at the end and without, and a day.
+///
+/// Small letters, a `+` and zero in seconds are invalid.
 pub fn known_texts_of_durations()
     ensures zero { IsDurationText (codes "P0D") (pos 0) }
     ensures back { IsDurationText (codes "-PT1.5S") (neg_ℤ (pos 1_500_000_000)) }
@@ -289,4 +297,24 @@ pub fn known_texts_of_durations()
     ensures small_letters { (x : ℤ) → ¬ IsDurationText (codes "pt1s") x }
     ensures plus { (x : ℤ) → ¬ IsDurationText (codes "+PT1S") x }
     ensures zero_seconds { (x : ℤ) → ¬ IsDurationText (codes "PT0S") x }
+{}
+
+/// Known errors, each with its byte: 29 February 2023, month 13, a month of one digit, day 366 of 2023, and week 53 of 2021.
+pub fn known_errors_of_dates()
+    ensures day { IsDateError (codes "2023-02-29") (error_at (DayAbove 28) 8) }
+    ensures month { IsDateError (codes "2024-13-01") (error_at MonthAbove12 5) }
+    ensures one_digit { IsDateError (codes "2024-2-29") (error_at NotThisForm 6) }
+    ensures ordinal { IsOrdinalDateError (codes "2023-366") (error_at (OrdinalAbove 365) 5) }
+    ensures week_53 { IsWeekDateError (codes "2021-W53-1") (error_at (WeekAbove 52) 6) }
+{
+    known_weeks();
+    let _date = NaiveDate::from_isoywd_opt(2021, 53, Weekday::Mon);
+}
+
+/// A text has at most one error as a date, as an ordinal date, as a week date and as a time of day.
+pub fn texts_have_one_error(text: &[u8])
+    ensures date { (a b : ReadError) → IsDateError text.now a → IsDateError text.now b → a ≡ b }
+    ensures ordinal_date { (a b : ReadError) → IsOrdinalDateError text.now a → IsOrdinalDateError text.now b → a ≡ b }
+    ensures week_date { (a b : ReadError) → IsWeekDateError text.now a → IsWeekDateError text.now b → a ≡ b }
+    ensures time { (a b : ReadError) → IsTimeError text.now a → IsTimeError text.now b → a ≡ b }
 {}

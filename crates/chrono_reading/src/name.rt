@@ -1,18 +1,38 @@
 //! The names of weekdays and months.
-ghost use Rattle.std.specs.Prelude.{◌≡◌, ◌∷◌, [], ◌≤◌, ◌⊎◌, Some, IfSome, IfNone, IsTrue, ◌↔◌, length, map, take, drop};
+ghost use Rattle.std.specs.Prelude.{◌≡◌, ◌∷◌, [], ◌≤◌, ◌⊎◌, Some, Ok, IfSome, IfNone, IfOk, IfErr, IsTrue, ◌↔◌, length, map, take, drop};
 ghost use Rattle.std.specs.Char.{to_ascii_lowercase};
 ghost use Rattle.chrono_datetime.specs.Month.{month_name};
 ghost use Rattle.chrono_datetime.specs.declared.Month.{Month};
 ghost use Rattle.chrono_datetime.specs.declared.Weekday.{Weekday};
+ghost use Rattle.chrono_reading.specs.NameErrors.{in_common, month_error, more_of, weekday_error};
 ghost use Rattle.chrono_reading.specs.NameTexts.{IsMonthText, IsNameText, IsWeekdayText, weekday_name};
 
+use crate::error::{ReadCause, ReadError, error_at};
 use chrono_datetime::{Month, Weekday};
 
-/// The weekday that the text names: its English name or the first three letters of it, in letters of any case. So
-/// `Fri`, `fri` and `FRIDAY` are Friday.
+/// Reads the name of a weekday, such as `Fri`, `fri` or `FRIDAY`. Returns the weekday.
 ///
-/// `None` for every other text.
-pub fn read_weekday(text: &[u8]) -> Option<Weekday>
+/// If `text` is no such name, returns an error with the first byte that no name has there, as a [`ReadError`].
+///
+/// ```
+/// read_weekday(b"fri").ok() // Some(Fri)
+/// read_weekday(b"Fryday").err() // Some(ReadError { cause: UnknownName, byte: 2 })
+/// ```
+///
+/// A name is the whole English name or its first three letters. Its letters may be in either case.
+pub fn read_weekday(text: &[u8]) -> Result<Weekday, ReadError>
+    ensures read { IfOk result (λ d. IsWeekdayText text.now d) }
+    ensures every { (d : Weekday) → IsWeekdayText text.now d → result ≡ Ok d }
+    ensures error { IfErr result (λ e. e ≡ weekday_error text.now) }
+{
+    match weekday_named(text) {
+        Some(weekday) => Ok(weekday),
+        None => Err(weekday_error(text)),
+    }
+}
+
+// The weekday that the text names.
+fn weekday_named(text: &[u8]) -> Option<Weekday>
     ensures read { IfSome result (λ d. IsWeekdayText text.now d) }
     ensures every { (d : Weekday) → IsWeekdayText text.now d → result ≡ Some d }
 {
@@ -24,11 +44,29 @@ pub fn read_weekday(text: &[u8]) -> Option<Weekday>
     }
 }
 
-/// The month that the text names: its English name or the first three letters of it, in letters of any case. So `Feb`,
-/// `feb` and `FEBRUARY` are February.
+/// Reads the name of a month, such as `Feb`, `feb` or `FEBRUARY`. Returns the month.
 ///
-/// `None` for every other text.
-pub fn read_month(text: &[u8]) -> Option<Month>
+/// If `text` is no such name, returns an error with the first byte that no name has there, as a [`ReadError`].
+///
+/// ```
+/// read_month(b"FEBRUARY").ok() // Some(February)
+/// read_month(b"Febr").err() // Some(ReadError { cause: UnknownName, byte: 4 })
+/// ```
+///
+/// A name is the whole English name or its first three letters. Its letters may be in either case.
+pub fn read_month(text: &[u8]) -> Result<Month, ReadError>
+    ensures read { IfOk result (λ m. IsMonthText text.now m) }
+    ensures every { (m : Month) → IsMonthText text.now m → result ≡ Ok m }
+    ensures error { IfErr result (λ e. e ≡ month_error text.now) }
+{
+    match month_named(text) {
+        Some(month) => Ok(month),
+        None => Err(month_error(text)),
+    }
+}
+
+// The month that the text names.
+fn month_named(text: &[u8]) -> Option<Month>
     ensures read { IfSome result (λ m. IsMonthText text.now m) }
     ensures every { (m : Month) → IsMonthText text.now m → result ≡ Some m }
 {
@@ -114,4 +152,63 @@ fn month_of_letters(letters: [u8; 3]) -> Option<Month>
         b"dec" => Some(Month::December),
         _ => None,
     }
+}
+
+// Why a text names no weekday.
+#[cold]
+#[tactic(auto, unfolding(crate::specs::NameErrors::weekday_error))]
+fn weekday_error(text: &[u8]) -> ReadError
+    ensures { result ≡ weekday_error text.now }
+{
+    let most = in_common(b"Sunday", text);
+    let most = more_of(in_common(b"Saturday", text), most);
+    let most = more_of(in_common(b"Friday", text), most);
+    let most = more_of(in_common(b"Thursday", text), most);
+    let most = more_of(in_common(b"Wednesday", text), most);
+    let most = more_of(in_common(b"Tuesday", text), most);
+    let most = more_of(in_common(b"Monday", text), most);
+    error_at(ReadCause::UnknownName, most)
+}
+
+// Why a text names no month.
+#[cold]
+#[tactic(auto, unfolding(crate::specs::NameErrors::month_error))]
+fn month_error(text: &[u8]) -> ReadError
+    ensures { result ≡ month_error text.now }
+{
+    let most = in_common(b"December", text);
+    let most = more_of(in_common(b"November", text), most);
+    let most = more_of(in_common(b"October", text), most);
+    let most = more_of(in_common(b"September", text), most);
+    let most = more_of(in_common(b"August", text), most);
+    let most = more_of(in_common(b"July", text), most);
+    let most = more_of(in_common(b"June", text), most);
+    let most = more_of(in_common(b"May", text), most);
+    let most = more_of(in_common(b"April", text), most);
+    let most = more_of(in_common(b"March", text), most);
+    let most = more_of(in_common(b"February", text), most);
+    let most = more_of(in_common(b"January", text), most);
+    error_at(ReadCause::UnknownName, most)
+}
+
+// The greater of two numbers.
+#[tactic(auto, unfolding(crate::specs::NameErrors::more_of))]
+fn more_of(one: usize, other: usize) -> usize
+    ensures { result ≡ more_of one other }
+{
+    if one < other { other } else { one }
+}
+
+// How many bytes a name and a text begin with in common, in letters of any case.
+fn in_common(name: &[u8], text: &[u8]) -> usize
+    ensures { result ≡ in_common name.now text.now }
+{
+    let mut len = 0;
+    while len < name.len() && len < text.len() {
+        if name[len].to_ascii_lowercase() != text[len].to_ascii_lowercase() {
+            return len;
+        }
+        len += 1;
+    }
+    len
 }

@@ -5,7 +5,7 @@ use Rattle.chrono_datetime.specs.Years.{year_length}
 use Rattle.chrono_datetime.proofs.Signed.{signed}
 use Rattle.chrono_datetime.proofs.Cycles.{ordinal_name-again}
 
-year_length-again : (y z : ℤ) → z ≡ y +ℤ pos 400 → year_length z ≡ year_length y
+pub year_length-again : (y z : ℤ) → z ≡ y +ℤ pos 400 → year_length z ≡ year_length y
 year_length-again y z e = grind (arith, signed, e)
 
 pub record StandAlike (n m : ℤ) : Type 0 where

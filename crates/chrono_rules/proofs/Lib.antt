@@ -20,6 +20,7 @@ mod PlacesBack
 mod PlacesFromEnd
 mod PlacesInPeriods
 mod RecurrenceWalks
+mod Repeated
 mod RisingLists
 mod RuleAscii
 mod RuleBack

@@ -20,7 +20,7 @@ use Rattle.chrono_rules.specs.declared.rule.Rule.{Rule}
 use Rattle.chrono_rules.proofs.Passed.{and-none}
 use Rattle.chrono_rules.proofs.Skipped.{test_not}
 
-many : (k n : ℕ) → 0 < n → k ≤ k * n
+pub many : (k n : ℕ) → 0 < n → k ≤ k * n
 many zero n some = omega arith
 many (suc k) n some = omega (arith, many k n some)
 

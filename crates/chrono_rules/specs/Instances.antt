@@ -19,13 +19,15 @@ use Rattle.chrono_rules.specs.declared.rule.Frequency.{Frequency}
 use Rattle.chrono_rules.specs.declared.rule.Frequency.TheVariants.{Daily, Weekly, Monthly, Yearly}
 use Rattle.chrono_rules.specs.declared.rule.Rule.{Rule}
 
--- sets without a member
+-- the set of numbers without a member
 abbrev pub no_numbers : NumberSet
 no_numbers = record { digits = 0 }
 
+-- the set of places without a member
 abbrev pub no_places : PlaceSet
 no_places = record { words = 0 ∷ 0 ∷ 0 ∷ 0 ∷ 0 ∷ 0 ∷ [] }
 
+-- the set of weekdays without a member
 abbrev pub no_weekdays : WeekdayPlaces
 no_weekdays = record { every = no_numbers; front = 0 ∷ 0 ∷ 0 ∷ 0 ∷ 0 ∷ 0 ∷ 0 ∷ []; back = 0 ∷ 0 ∷ 0 ∷ 0 ∷ 0 ∷ 0 ∷ 0 ∷ [] }
 
@@ -37,6 +39,7 @@ plain f = record { frequency = f; interval = 1; end = Never; months = no_numbers
 unfoldable pub has : NumberSet → ℕ → Bool
 has set k = bit_at set.digits k == 1
 
+-- k is a member of the set of places
 unfoldable pub has_place : PlaceSet → ℕ → Bool
 has_place set k = bit_at (slice_index_or set.words (k / 64) 0) (k % 64) == 1
 
@@ -44,22 +47,27 @@ has_place set k = bit_at (slice_index_or set.words (k / 64) 0) (k % 64) == 1
 abbrev pub are_zero : List ℕ → Bool
 are_zero words = not (list_any (λ w. not (w == 0)) words)
 
--- the rule lacks a part
+-- the rule has no BYMONTH
 abbrev pub lacks_months : Rule → Bool
 lacks_months r = r.months.digits == 0
 
+-- the rule has no BYMONTHDAY
 abbrev pub lacks_month_days : Rule → Bool
 lacks_month_days r = (r.month_days.digits == 0) && (r.month_days_from_end.digits == 0)
 
+-- the rule has no BYDAY
 abbrev pub lacks_weekdays : Rule → Bool
 lacks_weekdays r = (r.weekdays.every.digits == 0) && (are_zero r.weekdays.front && are_zero r.weekdays.back)
 
+-- the rule has no BYYEARDAY
 abbrev pub lacks_year_days : Rule → Bool
 lacks_year_days r = are_zero r.year_days.words && are_zero r.year_days_from_end.words
 
+-- the rule has no BYWEEKNO
 abbrev pub lacks_weeks : Rule → Bool
 lacks_weeks r = (r.weeks.digits == 0) && (r.weeks_from_end.digits == 0)
 
+-- the rule has no BYSETPOS
 abbrev pub lacks_positions : Rule → Bool
 lacks_positions r = are_zero r.positions.words && are_zero r.positions_from_end.words
 
@@ -70,13 +78,14 @@ period_of Weekly start n = int_div_euclid (week_first_of n start) (pos 7)
 period_of Monthly start n = month_index_of n
 period_of Yearly start n = year_of n
 
--- the first day of the period of the day n, and the day after its last
+-- the first day of the period of the day n
 unfoldable pub period_first : Frequency → Weekday → ℤ → ℤ
 period_first Daily start n = n
 period_first Weekly start n = week_first_of n start
 period_first Monthly start n = month_first_of n
 period_first Yearly start n = (n +ℤ pos 1) -ℤ pos (ordinal_of n)
 
+-- the day after the last of the period of the day n
 unfoldable pub period_end : Frequency → Weekday → ℤ → ℤ
 period_end Daily start n = n +ℤ pos 1
 period_end Weekly start n = week_first_of n start +ℤ pos 7
@@ -104,22 +113,24 @@ fills_month Weekly r = false
 fills_month Monthly r = false
 fills_month Yearly r = lacks_months r && fills_day Yearly r
 
+-- the day n agrees with what the start fills in
 abbrev pub filled : Rule → ℤ → ℤ → Bool
 filled r start n =
     (not (fills_weekday r.frequency r) || (days_from_monday (weekday_of n) == days_from_monday (weekday_of start)))
     && ((not (fills_day r.frequency r) || (day_of n == day_of start)) && (not (fills_month r.frequency r) || (month_of n == month_of start)))
 
--- a numbered weekday counts in the month, in a rule by months or one that names months, and else in the year: the day's place there, and
--- the days behind it
+-- whether a numbered weekday counts in its month, and not in its year
 unfoldable pub counts_in_month : Frequency → Rule → Bool
 counts_in_month Daily r = true
 counts_in_month Weekly r = true
 counts_in_month Monthly r = true
 counts_in_month Yearly r = not (lacks_months r)
 
+-- the place of the day n in its month or in its year, as the rule counts
 abbrev pub place_of : Rule → ℤ → ℕ
 place_of r n = if counts_in_month r.frequency r then day_of n else ordinal_of n
 
+-- the days behind the day n in its month or in its year, as the rule counts
 abbrev pub days_behind : Rule → ℤ → ℕ
 days_behind r n = if counts_in_month r.frequency r then month_length_of n - day_of n else year_length (year_of n) - ordinal_of n
 
@@ -138,16 +149,19 @@ names_weekday r w place behind =
     && ((bit_at (slice_index_or r.weekdays.front w 0) (1 + (place - 1) / 7) == 1)
     || (bit_at (slice_index_or r.weekdays.back w 0) (1 + behind / 7) == 1)))
 
+-- BYDAY names the day n
 unfoldable pub on_weekday : Rule → ℤ → Bool
 on_weekday r n = names_weekday r (days_from_monday (weekday_of n)) (place_of r n) (days_behind r n)
 
+-- BYMONTHDAY names the day n, from the front of its month or from the end
 unfoldable pub on_month_day : Rule → ℤ → Bool
 on_month_day r n = has r.month_days (day_of n) || has r.month_days_from_end ((month_length_of n - day_of n) + 1)
 
+-- BYYEARDAY names the day n, from the front of its year or from the end
 unfoldable pub on_year_day : Rule → ℤ → Bool
 on_year_day r n = has_place r.year_days (ordinal_of n) || has_place r.year_days_from_end ((year_length (year_of n) - ordinal_of n) + 1)
 
--- a week belongs to the year of its fourth day, whose place there numbers it
+-- BYWEEKNO names the week of the day n, which belongs to the year of its fourth day
 unfoldable pub in_week : Rule → ℤ → Bool
 in_week r n =
     let fourth = week_first_of n r.week_start +ℤ pos 3 in

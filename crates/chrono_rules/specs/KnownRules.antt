@@ -66,9 +66,10 @@ daily_until last = record { frequency = Daily; interval = 1; end = Until last; m
 abbrev pub tenths : RecurrenceSet
 tenths = record { rule = daily; start = pos 729_269; dates = pos 729_270 ∷ pos 729_271 ∷ []; exceptions = pos 729_271 ∷ pos 729_279 ∷ [] }
 
--- moments of a day: midnight, and one o'clock with so many nanoseconds
+-- the day n at midnight
 abbrev pub at_midnight : ℤ → Moment
 at_midnight n = record { date = n; time = record { second = 0; fraction = 0 } }
 
+-- the day n at one o'clock and some nanoseconds
 abbrev pub at_one : ℤ → ℕ → Moment
 at_one n nanoseconds = record { date = n; time = record { second = 3600; fraction = nanoseconds } }

@@ -33,9 +33,11 @@ place_of digits most (sign ∷ text) =
 abbrev pub with_number : NumberSet → ℕ → NumberSet
 with_number set n = record { digits = bit_or set.digits (2 ^ n) }
 
+-- no number from the front and none from the end
 abbrev pub no_ends : BothEnds
 no_ends = record { front = no_numbers; back = no_numbers }
 
+-- the numbers and a place, from the front or from the end
 abbrev pub with_place : BothEnds → Place → BothEnds
 with_place ends p =
     if p.from_end then record { front = ends.front; back = with_number ends.back p.number }
@@ -45,6 +47,7 @@ with_place ends p =
 unfoldable pub with_place_text : ℕ → ℕ → BothEnds → List ℕ → Option BothEnds
 with_place_text digits most ends text = option_map (with_place ends) (place_of digits most text)
 
+-- the numbers that a text lists between commas, each with a sign or none
 unfoldable pub ends_of : ℕ → ℕ → List ℕ → Option BothEnds
 ends_of digits most text = through (with_place_text digits most) no_ends (pieces (byte ",") text)
 
@@ -64,14 +67,17 @@ weekday_of_letters text =
 abbrev pub with_each : WeekdayPlaces → ℕ → WeekdayPlaces
 with_each days w = record { every = with_number days.every w; front = days.front; back = days.back }
 
+-- the words with the digit n of the word w set
 abbrev pub with_word : List ℕ → ℕ → ℕ → List ℕ
 with_word words w n = slice_set words w (bit_or (slice_index_or words w 0) (2 ^ n))
 
+-- the weekdays and the n-th w, from the front or from the end
 abbrev pub with_nth : WeekdayPlaces → ℕ → Place → WeekdayPlaces
 with_nth days w p =
     if p.from_end then record { every = days.every; front = days.front; back = with_word days.back w p.number }
     else record { every = days.every; front = with_word days.front w p.number; back = days.back }
 
+-- the weekdays and w, behind a number that the text writes or none
 unfoldable pub with_weekday : WeekdayPlaces → List ℕ → ℕ → Option WeekdayPlaces
 with_weekday days [] w = Some (with_each days w)
 with_weekday days (b ∷ bs) w = option_map (with_nth days w) (place_of 2 53 (b ∷ bs))
@@ -80,6 +86,7 @@ with_weekday days (b ∷ bs) w = option_map (with_nth days w) (place_of 2 53 (b 
 unfoldable pub with_weekday_text : WeekdayPlaces → List ℕ → Option WeekdayPlaces
 with_weekday_text days text = option_and_then (with_weekday days (take (length text - 2) text)) (weekday_of_letters (drop (length text - 2) text))
 
+-- the weekdays that a text lists between commas, each with a number in front or none
 unfoldable pub weekdays_of : List ℕ → Option WeekdayPlaces
 weekdays_of text = through with_weekday_text no_weekdays (pieces (byte ",") text)
 

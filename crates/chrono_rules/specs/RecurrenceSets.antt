@@ -25,7 +25,7 @@ is_listed days n = list_any (λ d. int_eq d n) days
 unfoldable pub is_given : RecurrenceSet → ℤ → Bool
 is_given s n = is_instance s.rule s.start n || is_listed s.dates n
 
--- and no exception
+-- the day is an instance or a date of the set, and no exception (RFC 5545, 3.8.5)
 unfoldable pub is_in_recurrence : RecurrenceSet → ℤ → Bool
 is_in_recurrence s n = is_given s n && not (is_listed s.exceptions n)
 

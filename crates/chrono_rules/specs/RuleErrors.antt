@@ -57,6 +57,7 @@ are_digits text = nat_le 1 (length text) && all_ascii_digits text
 abbrev pub digits_fault : List ℕ → RuleFault
 digits_fault text = if are_digits text then OutOfRange else NotANumber
 
+-- why a text is no number of a part
 unfoldable pub number_fault : List ℕ → RuleFault
 number_fault [] = Empty
 number_fault (b ∷ bs) = digits_fault (b ∷ bs)
@@ -72,7 +73,7 @@ weekday_fault [] = Empty
 weekday_fault (b ∷ bs) =
     if is_some (weekday_of_letters (drop (length (b ∷ bs) - 2) (b ∷ bs))) then place_fault (take (length (b ∷ bs) - 2) (b ∷ bs)) else NotAWeekday
 
--- whether an item of a list can be read, and why not
+-- whether an item of the part's list can be read
 unfoldable pub reads_item : RulePart → List ℕ → Bool
 reads_item ByMonth item = is_some (number_of 2 12 item)
 reads_item ByMonthDay item = is_some (place_of 2 31 item)
@@ -80,6 +81,7 @@ reads_item ByDay item = is_some (with_weekday_text no_weekdays item)
 reads_item ByWeekNo item = is_some (place_of 2 53 item)
 reads_item part item = is_some (place_of 3 366 item)
 
+-- why an item of the part's list cannot be read
 unfoldable pub item_fault : RulePart → List ℕ → RuleFault
 item_fault ByMonth item = number_fault item
 item_fault ByDay item = weekday_fault item
@@ -94,6 +96,7 @@ list_fault part (item ∷ items) = if reads_item part item then list_fault part 
 abbrev pub word_fault : RuleFault → List ℕ → RuleFault
 word_fault fault text = if length text == 0 then Empty else fault
 
+-- why a value of the part cannot be read
 unfoldable pub value_fault : RulePart → List ℕ → RuleFault
 value_fault Freq text = word_fault NotAFrequency text
 value_fault Interval text = number_fault text
@@ -113,6 +116,7 @@ abbrev pub until_fault : List (List ℕ) → List (List ℕ) → RuleFault
 until_fault [] untils = values_fault Until untils
 until_fault (c ∷ counts) untils = BesideCount
 
+-- why a part of the text cannot be read
 unfoldable pub part_fault : List ℕ → RulePart → RuleFault
 part_fault text Until = until_fault (values_in text (codes "COUNT=")) (values_in text (codes "UNTIL="))
 part_fault text part = values_fault part (values_by text part)
@@ -121,6 +125,7 @@ part_fault text part = values_fault part (values_by text part)
 abbrev pub part_error : List ℕ → RulePart → RuleError
 part_error text part = record { part = Some part; fault = part_fault text part }
 
+-- the first of some parts that cannot be read; the last if all others can
 abbrev pub first_unread : List ℕ → List RulePart → RulePart → RuleError
 first_unread text [] last = part_error text last
 first_unread text (p ∷ ps) last = if is_read text p then first_unread text ps last else part_error text p
@@ -129,6 +134,7 @@ first_unread text (p ∷ ps) last = if is_read text p then first_unread text ps 
 abbrev pub parts_but_last : List RulePart
 parts_but_last = Freq ∷ Interval ∷ Count ∷ Until ∷ ByMonth ∷ ByMonthDay ∷ ByDay ∷ ByYearDay ∷ ByWeekNo ∷ BySetPos ∷ []
 
+-- the first part of a text that cannot be read, and why
 unfoldable pub unread_error : List ℕ → RuleError
 unread_error text = first_unread text parts_but_last Wkst
 
@@ -195,15 +201,18 @@ fault_words (NumbersNotWith f) = codes "number does not go with "
 fault_words NumbersBesideWeeks = codes "number does not go with BYWEEKNO"
 fault_words Alone = codes "needs another BY part"
 
+-- the word of FREQ that stands behind what is wrong, if there is one
 unfoldable pub fault_frequency : RuleFault → Option Frequency
 fault_frequency (NotWith f) = Some f
 fault_frequency (NumbersNotWith f) = Some f
 fault_frequency fault = None
 
+-- the text of a word of FREQ, or nothing
 abbrev pub frequency_behind : Option Frequency → List ℕ
 frequency_behind None = []
 frequency_behind (Some f) = frequency_text f
 
+-- what is wrong, with the word of FREQ behind it
 abbrev pub fault_text : RuleFault → List ℕ
 fault_text fault = fault_words fault ++ frequency_behind (fault_frequency fault)
 
@@ -212,6 +221,7 @@ abbrev pub in_front : Option RulePart → List ℕ
 in_front None = []
 in_front (Some part) = part_name part ++ codes ": "
 
+-- the line of an error: the part's name, if there is one, and what is wrong
 unfoldable pub error_text : RuleError → List ℕ
 error_text e = in_front e.part ++ fault_text e.fault
 

@@ -39,6 +39,7 @@ is_list_part p =
     is_named (codes "BYMONTH=") p || (is_named (codes "BYMONTHDAY=") p || (is_named (codes "BYDAY=") p
     || (is_named (codes "BYYEARDAY=") p || (is_named (codes "BYWEEKNO=") p || is_named (codes "BYSETPOS=") p))))
 
+-- whether a part has a name that rules over days have
 abbrev pub is_part : List ℕ → Bool
 is_part p =
     is_named (codes "FREQ=") p || (is_named (codes "INTERVAL=") p || (is_named (codes "COUNT=") p
@@ -54,9 +55,11 @@ said read without (v ∷ w ∷ more) = None
 abbrev pub above_0 : ℕ → Option ℕ
 above_0 n = if n == 0 then None else Some n
 
+-- the number above 0 that a text writes
 unfoldable pub interval_of : List ℕ → Option ℕ
 interval_of text = option_and_then above_0 (count_of text)
 
+-- the frequency that a text names, in letters of either case
 unfoldable pub frequency_of : List ℕ → Option Frequency
 frequency_of text =
     if str_eq_ignore_ascii_case text (codes "DAILY") then Some Daily
@@ -82,6 +85,7 @@ end_of (c ∷ counts) (u ∷ untils) = None
 unfoldable pub with_month_text : NumberSet → List ℕ → Option NumberSet
 with_month_text set text = option_map (with_number set) (number_of 2 12 text)
 
+-- the months that a text lists between commas
 unfoldable pub months_of : List ℕ → Option NumberSet
 months_of text = through with_month_text no_numbers (pieces (byte ",") text)
 
@@ -89,9 +93,11 @@ months_of text = through with_month_text no_numbers (pieces (byte ",") text)
 abbrev pub no_year_ends : YearEnds
 no_year_ends = record { front = no_places; back = no_places }
 
+-- the set and the number n
 abbrev pub with_day : PlaceSet → ℕ → PlaceSet
 with_day set n = record { words = with_word set.words (n / 64) (n % 64) }
 
+-- the numbers and a place, from the front or from the end
 abbrev pub with_year_place : YearEnds → Place → YearEnds
 with_year_place ends p =
     if p.from_end then record { front = ends.front; back = with_day ends.back p.number }
@@ -101,6 +107,7 @@ with_year_place ends p =
 unfoldable pub with_year_text : YearEnds → List ℕ → Option YearEnds
 with_year_text ends text = option_map (with_year_place ends) (place_of 3 366 text)
 
+-- the numbers from 1 to 366 that a text lists between commas, with signs or none
 unfoldable pub year_ends_of : List ℕ → Option YearEnds
 year_ends_of text = through with_year_text no_year_ends (pieces (byte ",") text)
 
@@ -126,6 +133,7 @@ has_year_parts Yearly = true
 abbrev pub lacks_numbers : Rule → Bool
 lacks_numbers r = are_zero r.weekdays.front && are_zero r.weekdays.back
 
+-- whether weekdays of the rule may be numbered: by months or years, and not beside weeks
 abbrev pub may_have_numbers : Rule → Bool
 may_have_numbers r = has_numbers r.frequency && lacks_weeks r
 
@@ -133,6 +141,7 @@ may_have_numbers r = has_numbers r.frequency && lacks_weeks r
 abbrev pub lacks_lists : Rule → Bool
 lacks_lists r = lacks_months r && (lacks_month_days r && (lacks_weekdays r && (lacks_year_days r && lacks_weeks r)))
 
+-- the parts of the rule go together, as RFC 5545 (3.3.10) allows them
 abbrev pub fits : Rule → Bool
 fits r =
     (has_month_days r.frequency || lacks_month_days r)

@@ -34,6 +34,7 @@ unfoldable pub lists : Listed → ℕ → Bool
 lists (Numbers set) n = has set n
 lists (Places set) n = has_place set n
 
+-- the number that all numbers of the list are below
 unfoldable pub limit : Listed → ℕ
 limit (Numbers set) = 64
 limit (Places set) = 384
@@ -42,6 +43,7 @@ limit (Places set) = 384
 abbrev pub item_at : Listed → Naming → Bool → ℕ → List (List ℕ)
 item_at listed naming from_end n = if lists listed n then item_text naming from_end n ∷ [] else []
 
+-- the items of the listed numbers among as many numbers from n on, rising
 unfoldable pub items : Listed → Naming → Bool → ℕ → ℕ → List (List ℕ)
 items listed naming from_end zero n = []
 items listed naming from_end (suc count) n = item_at listed naming from_end n ++ items listed naming from_end count (n + 1)
@@ -68,9 +70,11 @@ abbrev pub behind : ℕ → List (List ℕ) → List ℕ
 behind sep [] = []
 behind sep (text ∷ texts) = (sep ∷ text) ++ behind sep texts
 
+-- items behind others, or as the first of a list
 abbrev pub listed_on : Bool → List (List ℕ) → List ℕ
 listed_on begun items = if begun then behind (byte ",") items else list_text items
 
+-- whether there is an item
 abbrev pub some_in : List (List ℕ) → Bool
 some_in [] = false
 some_in (item ∷ items) = true
@@ -88,6 +92,7 @@ abbrev pub four_digits : ℤ → List ℕ
 four_digits y =
     if int_le (pos 0) y && int_le y (pos 9_999) then two_digits (unsigned_abs y / 100) ++ two_digits (unsigned_abs y % 100) else signed_decimal y
 
+-- a date in eight digits, if its year is from 0 to 9999
 abbrev pub day_text : ℤ → List ℕ
 day_text n = (four_digits (year_of n) ++ two_digits (month_of n)) ++ two_digits (day_of n)
 

@@ -1,9 +1,11 @@
 //! The last instance of a rule before a day.
-ghost use Rattle.std.specs.Prelude.{◌≡◌, ◌≤◌, ◌<◌, ◌≤ℤ◌, ◌<ℤ◌, ℤ, true, false, IsTrue, IfSome, IfNone};
+ghost use Rattle.std.specs.Prelude.{◌≡◌, ◌==◌, ◌≤◌, ◌<◌, ◌+◌, ◌*◌, if◌then◌else◌, ◌≤ℤ◌, ◌<ℤ◌, ◌+ℤ◌, ℤ, pos, true, false, IsTrue, IfSome, IfNone};
 ghost use Rattle.chrono_datetime.specs.Days.{IsDate};
 ghost use Rattle.chrono_datetime.specs.Recurrence.{count_between};
-ghost use Rattle.chrono_rules.specs.Instances.{is_counted, is_instance, is_member};
+ghost use Rattle.chrono_rules.specs.Instances.{is_counted, is_instance, is_member, not_after};
 
+use crate::periods::moved;
+use crate::repeats::LONGEST_PERIOD;
 use crate::rule::{End, Rule};
 use chrono_datetime::{Datelike, NaiveDate};
 
@@ -17,7 +19,7 @@ impl Rule {
         ensures none { IfNone result ((d : ℤ) → day <ℤ d → d <ℤ end → IsDate d → is_member self.now start d ≡ false) }
     {
         let next = day.succ_opt()?;
-        self.first_member_before(start, next, end)
+        self.first_between(start, next, end)
     }
 
     // The last member from a day on that lies before another.
@@ -28,7 +30,7 @@ impl Rule {
         ensures greatest { IfSome result (λ e. (d : ℤ) → e <ℤ d → d <ℤ end → IsDate d → is_member self.now start d ≡ false) }
         ensures none { IfNone result ((d : ℤ) → first ≤ℤ d → d <ℤ end → IsDate d → is_member self.now start d ≡ false) }
     {
-        let found = self.first_member_before(start, first, end)?;
+        let found = self.first_between(start, first, end)?;
         let mut last = found;
         while let Some(member) = self.member_after(start, last, end) {
             last = member;
@@ -40,17 +42,50 @@ impl Rule {
     fn end_of_until(&self, day: NaiveDate) -> NaiveDate
         ensures not_after { result ≤ℤ day }
         ensures behind { (start : ℤ) (d : ℤ) → result ≤ℤ d → d <ℤ day → is_member self.now start d ≡ false }
+        ensures inside { (d : ℤ) → d <ℤ result → not_after self.now.end d ≡ true }
     {
-        let End::Until(last) = self.end else {
-            return day;
-        };
-        match last.succ_opt() {
-            Some(next) if next < day => next,
-            _ => day,
+        match self.end {
+            End::Never => day,
+            End::Count(_) => day,
+            End::Until(last) => {
+                let (number, end) = (last.num_days_from_ce(), day.num_days_from_ce());
+                if number < end { moved(last, 1) } else { day }
+            }
         }
     }
 
-    // The last member before a day. It is looked for in stretches, each a day longer than all behind it.
+    // The day that lies a cycle and 366 days before a day; the start if it is later.
+    fn cycle_before(&self, start: NaiveDate, day: NaiveDate) -> NaiveDate
+        ensures not_before { start ≤ℤ result }
+        ensures far { start <ℤ result → (result +ℤ pos (366 + 146_097 * (if self.now.interval == 0 then 1 else self.now.interval))) ≡ day }
+        ensures in_range { IsDate day }
+    {
+        match day.moved_by_days(0 - LONGEST_PERIOD - self.cycle()) {
+            Some(first) if start < first => first,
+            _ => start,
+        }
+    }
+
+    // The last member before a day, from `floor` on. It is looked for in stretches, each a day longer than all after it.
+    fn last_from(&self, start: NaiveDate, floor: NaiveDate, top: NaiveDate) -> Option<NaiveDate>
+        ensures member { IfSome result (λ e. is_member self.now start e ≡ true) }
+        ensures before { IfSome result (λ e. e <ℤ top) }
+        ensures greatest { IfSome result (λ e. (d : ℤ) → e <ℤ d → d <ℤ top → is_member self.now start d ≡ false) }
+        ensures none { IfNone result ((d : ℤ) → floor ≤ℤ d → d <ℤ top → is_member self.now start d ≡ false) }
+    {
+        let mut behind = top;
+        while floor.num_days_from_ce() < behind.num_days_from_ce() {
+            let first = stretch_before(floor, behind, top);
+            if let Some(last) = self.last_between(start, first, behind.num_days_from_ce()) {
+                return Some(last);
+            }
+            behind = first;
+        }
+        None
+    }
+
+    // The last member before a day.
+    // If a cycle has none, only the first 366 days from the start on are left.
     fn last_member(&self, start: NaiveDate, end: NaiveDate) -> Option<NaiveDate>
         ensures member { IfSome result (λ e. is_member self.now start e ≡ true) }
         ensures before { IfSome result (λ e. e <ℤ end) }
@@ -58,15 +93,16 @@ impl Rule {
         ensures none { IfNone result ((d : ℤ) → d <ℤ end → IsDate d → is_member self.now start d ≡ false) }
     {
         let top = self.end_of_until(end);
-        let mut behind = top;
-        while start.num_days_from_ce() < behind.num_days_from_ce() {
-            let first = stretch_before(start, behind, top);
-            if let Some(last) = self.last_between(start, first, behind.num_days_from_ce()) {
-                return Some(last);
-            }
-            behind = first;
+        let floor = self.cycle_before(start, top);
+        if let Some(last) = self.last_from(start, floor, top) {
+            return Some(last);
         }
-        None
+        let (begin, bottom) = (start.num_days_from_ce(), floor.num_days_from_ce());
+        if bottom <= begin {
+            return None;
+        }
+        let day = self.last_between(start, start, begin + 366)?;
+        Some(day)
     }
 
     // The first day from the start on that has so many members before it, from the start on; `day` if that is earlier.
@@ -100,8 +136,16 @@ impl Rule {
         }
     }
 
-    /// The last instance before the day, of the rule from the start on; `None` exactly if there is none. COUNT is counted from the start by
-    /// each call.
+    /// Returns the last instance before `day` of the rule that begins on `start`. Returns `None` if there is none.
+    ///
+    /// ```
+    /// use chrono_datetime::NaiveDate;
+    /// let rule = read_rule(b"FREQ=MONTHLY;BYDAY=-1FR").ok()?;
+    /// let (start, day) = (NaiveDate::from_ymd_opt(2024, 1, 1)?, NaiveDate::from_ymd_opt(2024, 3, 29)?);
+    /// rule.prev_before(start, day) // Some(2024-02-23)
+    /// ```
+    ///
+    /// Every call counts the instances of a rule with COUNT from `start` on.
     #[tactic(auto, unfolding(crate::specs::Instances::is_instance))]
     pub fn prev_before(&self, start: NaiveDate, day: NaiveDate) -> Option<NaiveDate>
         ensures member { IfSome result (λ e. IsTrue (is_instance self.now start e)) }

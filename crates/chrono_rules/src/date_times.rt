@@ -11,7 +11,17 @@ use chrono_datetime::{NaiveDateTime, NaiveTime, Timelike};
 pub use iterator::InstanceDateTimes;
 
 impl Rule {
-    /// Whether the moment is an instance of the rule from the start on: its day is one, and it has the start's time of day.
+    /// Returns whether `moment` is an instance of the rule that begins at `start`.
+    ///
+    /// Its day is an instance, and it has the time of day of `start`.
+    ///
+    /// ```
+    /// use chrono_datetime::{AndTime, NaiveDate};
+    /// let rule = read_rule(b"FREQ=WEEKLY").ok()?;
+    /// let start = NaiveDate::from_ymd_opt(2024, 1, 1)?.and_hms_opt(9, 30, 0)?;
+    /// rule.is_instance_at(start, NaiveDate::from_ymd_opt(2024, 1, 8)?.and_hms_opt(9, 30, 0)?) // true
+    /// rule.is_instance_at(start, NaiveDate::from_ymd_opt(2024, 1, 8)?.and_hms_opt(9, 0, 0)?) // false
+    /// ```
     #[tactic(auto, unfolding(crate::specs::InstanceMoments::is_instance_at))]
     pub fn is_instance_at(&self, start: NaiveDateTime, moment: NaiveDateTime) -> bool
         ensures { result ≡ is_instance_at self.now start moment }
@@ -28,8 +38,18 @@ impl Rule {
             && self.is_instance(start.date(), moment.date())
     }
 
-    /// The first instance after the moment, of the rule from the start on, at the start's time of day; `None` exactly if there is none in
-    /// the calendar. An UNTIL of the rule is a day, the whole of which counts: an instance on it is one whatever the start's time.
+    /// Returns the first instance after `moment` of the rule that begins at `start`, at the time of day of `start`.
+    ///
+    /// Returns `None` if there is none in the calendar.
+    ///
+    /// ```
+    /// use chrono_datetime::{AndTime, NaiveDate};
+    /// let rule = read_rule(b"FREQ=WEEKLY").ok()?;
+    /// let start = NaiveDate::from_ymd_opt(2024, 1, 1)?.and_hms_opt(9, 30, 0)?;
+    /// rule.next_date_time(start, start) // Some(2024-01-08T09:30:00)
+    /// ```
+    ///
+    /// UNTIL is a whole day. An instance on that day counts at any time of day.
     pub fn next_date_time(
         &self,
         start: NaiveDateTime,
@@ -59,8 +79,19 @@ impl Rule {
             && self.is_instance(start.date(), moment.date())
     }
 
-    /// The last instance before the moment, of the rule from the start on, at the start's time of day; `None` exactly if there is none. An
-    /// UNTIL of the rule is a day, the whole of which counts.
+    /// Returns the last instance before `moment` of the rule that begins at `start`, at the time of day of `start`.
+    ///
+    /// Returns `None` if there is none.
+    ///
+    /// ```
+    /// use chrono_datetime::{AndTime, NaiveDate};
+    /// let rule = read_rule(b"FREQ=WEEKLY").ok()?;
+    /// let start = NaiveDate::from_ymd_opt(2024, 1, 1)?.and_hms_opt(9, 30, 0)?;
+    /// rule.prev_date_time(start, NaiveDate::from_ymd_opt(2024, 1, 8)?.and_hms_opt(9, 30, 0)?)
+    /// // Some(2024-01-01T09:30:00)
+    /// ```
+    ///
+    /// UNTIL is a whole day. An instance on that day counts at any time of day.
     pub fn prev_date_time(
         &self,
         start: NaiveDateTime,

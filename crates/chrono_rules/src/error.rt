@@ -1,4 +1,4 @@
-//! `RuleError`: what is wrong with a text that writes no rule, and in which of its parts.
+//! `RuleError`: what is wrong with a string that is no rule, and in which part.
 ghost use Rattle.std.specs.Prelude.{◌≡◌, ◌+◌, ◌≤◌, ◌++◌, Some, length};
 ghost use Rattle.chrono_rules.specs.RuleErrors.{error_text, fault_frequency, fault_text, fault_words, frequency_text, in_front, part_name};
 
@@ -9,78 +9,84 @@ use std::fmt;
 // No line of an error is longer.
 const LONGEST: usize = 64;
 
-/// A part of a rule's text.
+/// A part of a rule, such as `FREQ=DAILY`.
 #[derive(Clone, Copy, PartialEq, Eq, Debug)]
 pub enum RulePart {
-    /// What the rule's periods are (FREQ).
+    /// FREQ: the unit of the rule's periods.
     Freq,
-    /// Each how-many-th period counts (INTERVAL).
+    /// INTERVAL: which periods count, such as every second one.
     Interval,
-    /// How many instances there are (COUNT).
+    /// COUNT: the number of instances.
     Count,
-    /// The last day (UNTIL).
+    /// UNTIL: no instance is after this day.
     Until,
-    /// Months (BYMONTH).
+    /// BYMONTH: months.
     ByMonth,
-    /// Days of the month (BYMONTHDAY).
+    /// BYMONTHDAY: days of the month.
     ByMonthDay,
-    /// Weekdays (BYDAY).
+    /// BYDAY: weekdays.
     ByDay,
-    /// Days of the year (BYYEARDAY).
+    /// BYYEARDAY: days of the year.
     ByYearDay,
-    /// Weeks of the year (BYWEEKNO).
+    /// BYWEEKNO: weeks of the year.
     ByWeekNo,
-    /// Positions among the days of a period (BYSETPOS).
+    /// BYSETPOS: positions among the days of a period.
     BySetPos,
-    /// The weekday on which weeks begin (WKST).
+    /// WKST: the weekday on which weeks begin.
     Wkst,
 }
 
-/// Why a text writes no rule.
+/// What is wrong with a string that is no rule.
 #[derive(Clone, Copy, PartialEq, Eq, Debug)]
 pub enum RuleFault {
-    /// A part has no name that rules have.
+    /// The part has an unknown name.
     Unknown,
-    /// BYHOUR stands there, which rules over days do not have.
+    /// The part is BYHOUR. Rules over days do not have it.
     OfHours,
-    /// BYMINUTE stands there, likewise.
+    /// The part is BYMINUTE. Rules over days do not have it.
     OfMinutes,
-    /// BYSECOND stands there, likewise.
+    /// The part is BYSECOND. Rules over days do not have it.
     OfSeconds,
-    /// The part has to stand there, and does not.
+    /// The part is required and missing.
     Missing,
-    /// The part stands there more than once.
+    /// The part occurs more than once.
     Twice,
-    /// Nothing stands behind its name, or nothing where an item of its list should.
+    /// The value or an item of its list is empty.
     Empty,
-    /// It is none of the four words of FREQ.
+    /// The value is not `DAILY`, `WEEKLY`, `MONTHLY` or `YEARLY`.
     NotAFrequency,
-    /// It is not written by digits.
+    /// The value or an item is not a number.
     NotANumber,
-    /// It is a number that the part cannot have, or one of more digits than its numbers have.
+    /// The number is out of the part's range, or has too many digits.
     OutOfRange,
-    /// It is no date of eight digits.
+    /// The value is no date of eight digits, such as `19971224`.
     NotADate,
-    /// It does not end with a weekday's two letters.
+    /// The item does not end with the two letters of a weekday, such as `MO`.
     NotAWeekday,
-    /// COUNT stands there, too.
+    /// UNTIL does not go with COUNT.
     BesideCount,
     /// The part does not go with this FREQ.
     NotWith(Frequency),
-    /// A weekday with a number does not go with this FREQ.
+    /// A weekday with a number, such as `-1FR`, does not go with this FREQ.
     NumbersNotWith(Frequency),
     /// A weekday with a number does not go with BYWEEKNO.
     NumbersBesideWeeks,
-    /// No other list stands there.
+    /// BYSETPOS needs another BY part.
     Alone,
 }
 
-/// What is wrong with a text that writes no rule. It prints as one line: `BYMONTHDAY: does not go with WEEKLY`.
+/// What is wrong with a string that is no rule, and in which part. It prints as one line.
+///
+/// ```
+/// let error = read_rule(b"FREQ=WEEKLY;BYMONTHDAY=1").err()?;
+/// (error.part, error.fault) // (Some(ByMonthDay), NotWith(Weekly))
+/// error.to_string(rt.alloc()).ok()? // "BYMONTHDAY: does not go with WEEKLY"
+/// ```
 #[derive(Clone, Copy, PartialEq, Eq, Debug)]
 pub struct RuleError {
-    /// The part that is wrong; `None` where a part has no name that rules over days have.
+    /// The wrong part. `None` if a part has no name that rules over days have.
     pub part: Option<RulePart>,
-    /// What is wrong with it.
+    /// What is wrong with the part.
     pub fault: RuleFault,
 }
 
@@ -102,7 +108,7 @@ impl fmt::Display for RuleError {
 
     ghost styled_output = { λ e _. Some (error_text e) };
 
-    /// Writes the part's name and what is wrong with it, as `BYMONTHDAY: does not go with WEEKLY`, whatever width or precision is asked for.
+    /// Writes the part's name and what is wrong with it, such as `BYMONTHDAY: does not go with WEEKLY`. It ignores width and precision.
     fn fmt<W: fmt::Write>(&self, f: &mut fmt::Formatter<W>) -> fmt::Result {
         let mut text = Text::<LONGEST>::new();
         self.put_into(&mut text);

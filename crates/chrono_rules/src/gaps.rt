@@ -1,4 +1,4 @@
-//! How far the digits of a set leave out places in a row.
+//! How many places in a row a set leaves out.
 ghost use Rattle.std.specs.Prelude.{◌≡◌, ◌≤◌, ◌<◌, ◌+◌, ◌-◌, ℕ};
 ghost use Rattle.std.specs.Int.{bit_at};
 

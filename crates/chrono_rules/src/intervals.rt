@@ -1,4 +1,4 @@
-//! How far the next period lies that INTERVAL counts.
+//! The distance to the next period that INTERVAL counts.
 ghost use Rattle.std.specs.Prelude.{◌≡◌, ◌≤ℤ◌, ◌<ℤ◌, ◌+ℤ◌, ℤ, ℕ, pos, false};
 ghost use Rattle.chrono_rules.specs.Instances.{is_member, period_of};
 

@@ -15,10 +15,10 @@ use std::marker::Model;
 // The number after that of the last date.
 pub(crate) const PAST_LAST_DAY: i32 = 95_745_400;
 
-/// The instances of a rule from a start on, in order and each once, up to the last in the calendar. From [`Rule::instances`] and
-/// [`Rule::instances_from`].
+/// The instances of a rule from a start on, in order, to the end of the calendar.
 ///
-/// Contracts see it as the list of the days that are left, by their numbers. Once none is left it gives `None` from then on.
+/// [`Rule::instances`] and [`Rule::instances_from`] make it. After its last day it returns `None` from then on.
+/// Contracts see it as the list of the days that are left, by their numbers.
 #[derive(Drop)]
 pub struct Instances {
     rule: Rule,
@@ -44,7 +44,18 @@ impl Model for Instances {
 }
 
 impl Rule {
-    /// The instances of the rule from the start on, in order, up to the last in the calendar.
+    /// Returns an iterator over the instances of the rule that begins on `start`.
+    ///
+    /// They come in order, to the end of the calendar.
+    ///
+    /// ```
+    /// use chrono_datetime::NaiveDate;
+    /// let start = NaiveDate::from_ymd_opt(2024, 1, 31)?;
+    /// let mut days = read_rule(b"FREQ=MONTHLY").ok()?.instances(start);
+    /// (days.next(), days.next()) // (Some(2024-01-31), Some(2024-03-31))
+    /// ```
+    ///
+    /// So a month without the day has no instance (RFC 5545, 3.3.10).
     #[inline]
     pub fn instances(&self, start: NaiveDate) -> Instances
         ensures { result ≡ instances_from self.now start start }
@@ -52,7 +63,17 @@ impl Rule {
         self.instances_from(start, start)
     }
 
-    /// The instances of the rule from the day on, itself among them if it is one; COUNT is counted from the start.
+    /// Returns an iterator over the instances on `day` and later of the rule that begins on `start`.
+    ///
+    /// COUNT counts from `start`.
+    ///
+    /// ```
+    /// use chrono_datetime::NaiveDate;
+    /// let rule = read_rule(b"FREQ=DAILY;COUNT=10").ok()?;
+    /// let (start, day) = (NaiveDate::from_ymd_opt(2024, 1, 1)?, NaiveDate::from_ymd_opt(2024, 1, 10)?);
+    /// let mut days = rule.instances_from(start, day);
+    /// (days.next(), days.next()) // (Some(2024-01-10), None)
+    /// ```
     #[inline]
     pub fn instances_from(&self, start: NaiveDate, day: NaiveDate) -> Instances
         ensures { result ≡ instances_from self.now start day }
@@ -65,7 +86,8 @@ impl Rule {
         }
     }
 
-    // What a walk from the day on keeps of the past: where the rule has COUNT, how many members come before it, but no more than that.
+    // What a walk from the day on keeps of the past, if the rule has COUNT.
+    // It is how many members come before the day, but no more than COUNT.
     pub(crate) fn seen_before(&self, start: NaiveDate, day: NaiveDate) -> u32
         ensures kept { IsKept self.now start day result }
         ensures few { result ≤ dates_before day }
@@ -136,7 +158,7 @@ impl Iterator for Instances {
 
     ghost remaining = { item_count (λ left. left) };
 
-    /// The first of the instances that are left; `None` once none is.
+    /// Removes the first of the instances that are left and returns it. Returns `None` once none is left.
     fn next(&mut self) -> Option<NaiveDate> {
         let from = NaiveDate::from_num_days_from_ce_opt(self.from)?;
         let Some(day) = self.rule.first_instance(self.start, from, self.seen) else {
@@ -148,7 +170,7 @@ impl Iterator for Instances {
         Some(day)
     }
 
-    /// At least none, and at most as many instances as dates are left.
+    /// Returns 0 and, as the upper bound, the number of dates that are left.
     #[inline]
     fn size_hint(&self) -> (usize, Option<usize>)
         ensures lower { IsWithinCount result.0 (item_count (λ left. left) self.now) }

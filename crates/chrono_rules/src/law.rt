@@ -1,4 +1,7 @@
-//! Instances and texts of rules that are known, and that what is written is read, each as a clause of a function that does nothing.
+//! Known instances and texts of rules, and laws of texts. Each is a clause of a function that does nothing.
+//!
+//! Where a law says so, its dates are 2,000 years earlier than those that it names.
+//! These are five whole cycles of 400 years, after which the calendar repeats. So less has to be counted.
 ghost use Rattle.std.specs.Prelude.{◌≡◌, ◌+◌, ◌^◌, ◌==◌, ◌&&◌, true, false, Some, [], ◌∷◌, neg_ℤ, pos, codes};
 ghost use Rattle.chrono_datetime.specs.declared.Weekday.TheVariants.{Mon, Sun};
 ghost use Rattle.chrono_rules.specs.InstanceLists.{instances_from};
@@ -18,9 +21,12 @@ ghost use Rattle.chrono_rules.specs.declared.rule.Frequency.TheVariants.{Daily, 
 use crate::places::{NumberSet, PlaceSet};
 use crate::rule::Rule;
 
-/// Instances that RFC 5545 gives in section 3.8.5.3. Every other week on Tuesday and Sunday, four times from Tuesday, 5 August 1997: with
-/// weeks that begin on Monday the 10th, the 19th and the 24th, with weeks that begin on Sunday the 17th, the 19th and the 31st; no fifth
-/// time. Every tenth day, five times from 2 September 1997: the 12th, and 12 October for the last time.
+/// Instances that RFC 5545 gives (3.8.5.3).
+///
+/// The first rule is every other week on Tuesday and Sunday, four times from Tuesday, 5 August 1997.
+/// With weeks from Monday on, the others are the 10th, the 19th and the 24th.
+/// With weeks from Sunday on, they are the 17th, the 19th and the 31st. There is no fifth time.
+/// The second rule is every tenth day, five times from 2 September 1997. The 12th is one, and 12 October is the last.
 pub fn known_rules()
     ensures monday_10 { is_instance (fortnightly Mon) (pos 729_241) (pos 729_246) ≡ true }
     ensures monday_17 { is_instance (fortnightly Mon) (pos 729_241) (pos 729_253) ≡ false }
@@ -37,12 +43,14 @@ pub fn known_rules()
     ensures october_22 { is_instance daily (pos 729_269) (pos 729_319) ≡ false }
 {}
 
-/// Weeks of the year (BYWEEKNO): Monday of the 20th from 12 May 1997 (RFC 5545, 3.8.5.3), the week's Monday where no weekday is named;
-/// Monday of the last one, which is the 52nd of 1997 and the 53rd of 1998 (ISO 8601); Sunday of the first week of 2000, by weeks
-/// that begin on Sunday and on Monday (WKST). A week is numbered in the year of its fourth day, and INTERVAL and BYSETPOS go by the year in
-/// which a day lies: Monday of week 1 of 2025 is a day of 2024, and the
-/// first Monday of weeks 1 and 2 in 1998 is that of week 2. Each is 2,000 years earlier here, by five whole cycles of 400 years, so that little is to
-/// be counted.
+/// Weeks of the year (BYWEEKNO), 2,000 years earlier.
+///
+/// - Monday of week 20 from 12 May 1997 (RFC 5545, 3.8.5.3). If no weekday is named, it is the week's Monday.
+/// - Monday of the last week, which is the 52nd of 1997 and the 53rd of 1998 (ISO 8601).
+/// - Sunday of the first week of 2000, with weeks that begin on Sunday and on Monday (WKST).
+///
+/// A week has its number in the year of its fourth day. INTERVAL and BYSETPOS go by the year in which a day lies.
+/// So Monday of week 1 of 2025 is a day of 2024. The first Monday of weeks 1 and 2 in 1998 is that of week 2.
 pub fn known_weeks()
     ensures week_20_1998 { is_instance (by_weeks Mon (2 ^ 20) 0 1) (neg_ℤ (pos 1329)) (neg_ℤ (pos 965)) ≡ true }
     ensures week_20_1999 { is_instance (by_weeks Mon (2 ^ 20) 0 1) (neg_ℤ (pos 1329)) (neg_ℤ (pos 594)) ≡ true }
@@ -64,9 +72,10 @@ pub fn known_weeks()
     ensures week_20_day_135 { is_instance (by_week_days (2 ^ 20) 0 (0 ∷ 0 ∷ 2 ^ 7 ∷ 0 ∷ 0 ∷ 0 ∷ [])) (neg_ℤ (pos 1329)) (neg_ℤ (pos 961)) ≡ true }
 {}
 
-/// Days of the year (BYYEARDAY): every third year on the 1st, the 100th and the 200th from 1 January 1997 (3.8.5.3), and from the end
-/// -1, which is 31 December, and -306, which is 1 March (3.3.10), in leap years too. Each is 2,000 years earlier here, by five whole
-/// cycles of 400 years, so that little is to be counted.
+/// Days of the year (BYYEARDAY), 2,000 years earlier.
+///
+/// Every third year on the 1st, the 100th and the 200th day, from 1 January 1997 (RFC 5545, 3.8.5.3).
+/// From the end, -1 is 31 December and -306 is 1 March (3.3.10), in leap years too.
 pub fn known_year_days()
     ensures front_1997 { is_instance (by_year_days 3 (2 ∷ 2 ^ 36 ∷ 0 ∷ 256 ∷ 0 ∷ 0 ∷ []) no_places.words) (neg_ℤ (pos 1460)) (neg_ℤ (pos 1361)) ≡ true }
     ensures front_1998 { is_instance (by_year_days 3 (2 ∷ 2 ^ 36 ∷ 0 ∷ 256 ∷ 0 ∷ 0 ∷ []) no_places.words) (neg_ℤ (pos 1460)) (neg_ℤ (pos 996)) ≡ false }
@@ -79,10 +88,12 @@ pub fn known_year_days()
     ensures back_december_2000 { is_instance (by_year_days 1 no_places.words (2 ∷ 0 ∷ 0 ∷ 0 ∷ 2 ^ 50 ∷ 0 ∷ [])) (neg_ℤ (pos 1460)) (pos 0) ≡ true }
 {}
 
-/// Numbered weekdays (BYDAY): the 20th Monday of the year and the last, the first Friday of the month, the fifth, and the last Monday but one of it (3.8.5.3),
-/// and the last Sunday of October, which counts in its month though the rule is one by years (3.6.5); any of a list, Monday or the first Friday,
-/// will do. Each is 2,000 years earlier here,
-/// by five whole cycles of 400 years, so that little is to be counted.
+/// Numbered weekdays (BYDAY), 2,000 years earlier.
+///
+/// - From 3.8.5.3: the 20th Monday of the year and the last, and the first Friday of the month.
+///   Also the fifth Friday, and the last Monday but one.
+/// - From 3.6.5: the last Sunday of October. It counts in its month, though the rule is yearly.
+/// - A list: Monday or the first Friday. Any of its items is enough.
 pub fn known_weekdays()
     ensures of_year_early { is_instance (by_weekdays Yearly 0 (2 ^ 20 ∷ 0 ∷ 0 ∷ 0 ∷ 0 ∷ 0 ∷ 0 ∷ []) no_weekdays.back) (neg_ℤ (pos 1322)) (neg_ℤ (pos 965)) ≡ false }
     ensures of_year_monday { is_instance (by_weekdays Yearly 0 (2 ^ 20 ∷ 0 ∷ 0 ∷ 0 ∷ 0 ∷ 0 ∷ 0 ∷ []) no_weekdays.back) (neg_ℤ (pos 1322)) (neg_ℤ (pos 958)) ≡ true }
@@ -105,10 +116,13 @@ pub fn known_weekdays()
     ensures either_late { is_instance monday_or_first_friday (neg_ℤ (pos 1216)) (neg_ℤ (pos 1206)) ≡ false }
 {}
 
-/// Days of the month (BYMONTHDAY): the third to the last; and the start's day where none is named: the 10th in June and July (3.8.5.3),
-/// and, of a rule by months, weeks or years alone, its day of the month, of the week or of the year (3.3.10); of rules by years, months and days in
-/// June and July none in August; of one by every 18th month from September 1997 none in March 1998, and one in March 1999. Each is 2,000 years
-/// earlier here, by five whole cycles of 400 years, so that little is to be counted.
+/// Days of the month (BYMONTHDAY), 2,000 years earlier.
+///
+/// The first is the third day from the end. Where none is named, it is the start's day.
+/// So it is the 10th in June and July (3.8.5.3).
+/// A rule by months, weeks or years alone takes the start's day of the month, of the week or of the year (3.3.10).
+/// A yearly rule with days in June and July has none in August.
+/// A rule by every 18th month from September 1997 has none in March 1998, and one in March 1999.
 pub fn known_month_days()
     ensures third_to_last_october { is_instance (by_month_days Monthly 0 0 8) (neg_ℤ (pos 1190)) (neg_ℤ (pos 1159)) ≡ true }
     ensures third_to_last_february { is_instance (by_month_days Monthly 0 0 8) (neg_ℤ (pos 1190)) (neg_ℤ (pos 1039)) ≡ true }
@@ -132,9 +146,10 @@ pub fn known_month_days()
     ensures months_18_later { is_instance (by_months 18 (2 ^ 10)) (neg_ℤ (pos 1208)) (neg_ℤ (pos 662)) ≡ true }
 {}
 
-/// What the start fills in where it is no day of each period: a rule by years from 29 February has instances in leap years alone, and one by
-/// months from the 31st in months of 31 days, as dates that do not exist are left out (3.3.10). Each is 2,000 years earlier here, by five
-/// whole cycles of 400 years, so that little is to be counted.
+/// What the start fills in where a period lacks the day, 2,000 years earlier.
+///
+/// A yearly rule from 29 February has instances in leap years alone.
+/// A monthly rule from the 31st has instances in months of 31 days. Dates that do not exist are left out (3.3.10).
 pub fn known_gaps()
     ensures leap_day_28 { is_instance (plain Yearly) (neg_ℤ (pos 306)) (pos 59) ≡ false }
     ensures leap_day_march { is_instance (plain Yearly) (neg_ℤ (pos 306)) (pos 60) ≡ false }
@@ -144,8 +159,14 @@ pub fn known_gaps()
     ensures day_31_may { is_instance (plain Monthly) (neg_ℤ (pos 335)) (neg_ℤ (pos 214)) ≡ true }
 {}
 
-/// Days by their place in the period (BYSETPOS): the third of the month's Tuesdays, Wednesdays and Thursdays, in the start's own month too, whose first two lie before it, and its last workday but one
-/// (3.8.5.3); the first and the last of Monday and Sunday in weeks that begin on either (WKST); the first of a day alone, which is its last, and no second; the second Monday and the last of a year. Each is 2,000 years earlier here, by five whole cycles of 400 years, so that little is to be counted.
+/// Days by their place in the period (BYSETPOS), 2,000 years earlier.
+///
+/// - The third of the month's Tuesdays, Wednesdays and Thursdays (3.8.5.3).
+///   In the start's own month the first two lie before the start, and count too.
+/// - The month's last workday but one (3.8.5.3).
+/// - The first and the last of Monday and Sunday, with weeks that begin on either (WKST).
+/// - The first of a single day, which is its last. There is no second.
+/// - The second Monday of a year and the last.
 pub fn known_positions()
     ensures third_start { is_instance (by_positions Monthly Mon 14 8 0) (neg_ℤ (pos 1214)) (neg_ℤ (pos 1214)) ≡ true }
     ensures third_october { is_instance (by_positions Monthly Mon 14 8 0) (neg_ℤ (pos 1214)) (neg_ℤ (pos 1181)) ≡ true }
@@ -170,8 +191,10 @@ pub fn known_positions()
     ensures day_last { is_instance (by_positions Daily Mon 1 0 2) (neg_ℤ (pos 1216)) (neg_ℤ (pos 1210)) ≡ true }
 {}
 
-/// The day of an UNTIL is an instance, and none is behind it; none is before the start; an interval of 0 is read as 1 (3.3.10). Each is 2,000
-/// years earlier here, by five whole cycles of 400 years, so that little is to be counted.
+/// Ends of rules, 2,000 years earlier.
+///
+/// The day of UNTIL is an instance, and no later day is. No day before the start is one.
+/// An interval of 0 means 1 (3.3.10).
 pub fn known_ends()
     ensures until_itself { is_instance (daily_until (neg_ℤ (pos 1104))) (neg_ℤ (pos 1216)) (neg_ℤ (pos 1104)) ≡ true }
     ensures until_behind { is_instance (daily_until (neg_ℤ (pos 1104))) (neg_ℤ (pos 1216)) (neg_ℤ (pos 1103)) ≡ false }
@@ -181,7 +204,9 @@ pub fn known_ends()
     ensures interval_2 { is_instance (every_days 2) (neg_ℤ (pos 1216)) (neg_ℤ (pos 1215)) ≡ false }
 {}
 
-/// Every other day, behind its start, up to the last date of the calendar; and of five days (COUNT) the last, asked from it on.
+/// Lists of instances: every other day to the last date of the calendar.
+///
+/// Of five days (COUNT), the list from the last day on has that day alone.
 pub fn known_lists()
     ensures second { instances_from (every_days 2) (pos 95_745_395) (pos 95_745_396) ≡ pos 95_745_397 ∷ pos 95_745_399 ∷ [] }
     ensures before_start { instances_from (every_days 1) (pos 95_745_399) (pos 95_745_397) ≡ pos 95_745_399 ∷ [] }
@@ -196,8 +221,10 @@ pub fn known_moments()
     ensures second { is_instance_at (every_days 2) (at_midnight (pos 729_269)) (at_one (pos 729_271) 0) ≡ false }
 {}
 
-/// Every tenth day from 2 September 1997 with the two days behind it as dates beside the instances, and the second of these and the second instance as
-/// exceptions: what RDATE and EXDATE mean (RFC 5545, 3.8.5.1 and 3.8.5.2).
+/// A known recurrence with RDATE and EXDATE (RFC 5545, 3.8.5.1 and 3.8.5.2).
+///
+/// It is every tenth day from 2 September 1997, plus the two days after the start.
+/// The second of these and the second instance are exceptions.
 pub fn known_recurrence()
     ensures instance { is_in_recurrence tenths (pos 729269) ≡ true }
     ensures date { is_in_recurrence tenths (pos 729270) ≡ true }
@@ -207,10 +234,14 @@ pub fn known_recurrence()
     ensures next { is_in_recurrence tenths (pos 729289) ≡ true }
 {}
 
-/// What texts say that RFC 5545 gives in section 3.8.5.3, an UNTIL as its date: every other day; each day until Christmas Eve; Tuesday and
-/// Thursday of every other week, by weeks from Sunday on; the first Friday, both the first and the last Sunday, and the last Monday but one of
-/// the month; its third day from the end, and its first and its last; June and July; days of the year; Monday of week 20; the last workday
-/// but one of the month; and the Tuesday behind the first Monday of November.
+/// What texts of RFC 5545 say (3.8.5.3), with UNTIL as a date.
+///
+/// - Every other day, and each day until Christmas Eve.
+/// - Tuesday and Thursday of every other week, with weeks from Sunday on.
+/// - The first Friday, the first and the last Sunday, and the last Monday but one of the month.
+/// - The third day of the month from the end, and its first and its last.
+/// - June and July, days of the year, and Monday of week 20.
+/// - The last workday but one of the month, and the Tuesday after the first Monday of November.
 pub fn known_rule_texts()
     ensures every_other_day { IsRuleText (codes "FREQ=DAILY;INTERVAL=2") every_other_day }
     ensures until_christmas { IsRuleText (codes "FREQ=DAILY;UNTIL=19971224") until_christmas }
@@ -227,7 +258,7 @@ pub fn known_rule_texts()
     ensures election_day { IsRuleText (codes "FREQ=YEARLY;INTERVAL=4;BYMONTH=11;BYDAY=TU;BYMONTHDAY=2,3,4,5,6,7,8") election_day }
 {}
 
-/// What is written for some of these rules: parts in one order, and numbers too.
+/// What is written for some of these rules: the parts in one order, and the numbers too.
 pub fn known_written_rules()
     ensures every_other_week { rule_text every_other_week ≡ codes "FREQ=WEEKLY;INTERVAL=2;COUNT=8;BYDAY=TU,TH;WKST=SU" }
     ensures both_sundays { rule_text both_sundays ≡ codes "FREQ=MONTHLY;INTERVAL=2;COUNT=10;BYDAY=1SU,-1SU" }
@@ -237,8 +268,9 @@ pub fn known_written_rules()
     ensures election_day { rule_text election_day ≡ codes "FREQ=YEARLY;INTERVAL=4;BYMONTH=11;BYMONTHDAY=2,3,4,5,6,7,8;BYDAY=TU" }
 {}
 
-/// A list of months, of days of the month or of weeks that is written is read back as its numbers: those from the front and those from the end,
-/// of which there is one, and none that the list cannot have.
+/// The text of a list of months, days of the month or weeks is read back as its numbers.
+///
+/// It has one number at least, from the front or from the end, and none that the list cannot have.
 pub fn written_numbers_are_read(front: NumberSet, back: NumberSet)
     ensures months { lie_within 12 front.digits ≡ true → (front.digits == 0) ≡ false
         → months_of (list_text (items (Numbers front) Number false 12 1)) ≡ Some front }
@@ -248,19 +280,26 @@ pub fn written_numbers_are_read(front: NumberSet, back: NumberSet)
         → ends_of 2 53 (list_text (both_items (Numbers front) (Numbers back) 53)) ≡ Some (record { front = front; back = back }) }
 {}
 
-/// A list of days of the year, or of positions, that is written is read back, likewise.
+/// The text of a list of days of the year, or of positions, is read back as its numbers.
+///
+/// It has one number at least, from the front or from the end, and none that the list cannot have.
 pub fn written_year_days_are_read(front: &PlaceSet, back: &PlaceSet)
     ensures { places_within front.now.words ≡ true → places_within back.now.words ≡ true → (are_zero front.now.words && are_zero back.now.words) ≡ false
         → year_ends_of (list_text (both_items (Places front.now) (Places back.now) 366)) ≡ Some (record { front = front.now; back = back.now }) }
 {}
 
-/// A rule that is written is read back: the text that is written for it is a text of it, so that `read_rule` gives it again. It has to be one that a
-/// text tells: with an interval from 1 on, with an UNTIL in a year from 0 to 9999, with numbers of its parts alone, and with parts that go together.
+/// The text that is written for a rule is a text of it. So `read_rule` returns the rule again.
+///
+/// The rule has to be one that a text can write.
+/// Its interval is at least 1, and its UNTIL is in a year from 0 to 9999.
+/// Its parts have their own numbers alone, and go together.
 pub fn written_rules_are_read(rule: Rule)
     ensures { IsTold rule → IsRuleText (rule_text rule) rule }
 {}
 
-/// A rule that is read is one that a text tells, whatever its text is. So it can be written, and what is written is read back as it was.
+/// A rule that was read is one that a text can write, whatever its text is.
+///
+/// So it can be written, and that text is read back as the same rule.
 pub fn read_rules_are_told(text: &[u8], rule: &Rule)
     ensures { IsRuleText text.now rule.now → IsTold rule.now }
 {}

@@ -1,6 +1,14 @@
 //! Recurrence rules of RFC 5545 over days: what a rule says, and which days are its instances.
 //!
-//! A rule is of a fixed size and takes no memory. Days are the dates of `chrono_datetime`; no zone is known here.
+//! ```
+//! use chrono_datetime::NaiveDate;
+//! let rule = read_rule(b"FREQ=MONTHLY;BYDAY=-1FR").ok()?;
+//! let start = NaiveDate::from_ymd_opt(2024, 1, 1)?;
+//! rule.next_after(start, start) // Some(2024-01-26)
+//! ```
+//!
+//! A [`Rule`] has a fixed size and allocates no memory. Days are the dates of `chrono_datetime`.
+//! There is no time zone.
 #![tactic(auto)]
 
 mod before;
@@ -22,6 +30,7 @@ mod place_text;
 mod places;
 mod positions;
 mod recurrence;
+mod repeats;
 mod rule;
 mod rule_parts;
 mod rule_text;
@@ -41,6 +50,6 @@ pub use place_text::{BothEnds, Place, read_month_days, read_weeks};
 pub use places::{NumberSet, PlaceSet, WeekdayPlaces};
 pub use recurrence::{Recurrence, RecurrenceDays};
 pub use rule::{End, Frequency, Rule};
-pub use rule_text::{check_rule, read_rule};
+pub use rule_text::read_rule;
 pub use weekday_text::read_weekdays;
 pub use year_text::{YearEnds, read_year_days};

@@ -1,4 +1,4 @@
-//! Searches in a list of dates that rise.
+//! Searches in a strictly increasing list of dates.
 ghost use Rattle.std.specs.Prelude.{◌≡◌, ◌≤◌, ◌↔◌, ◌≤ℤ◌, ◌<ℤ◌, ℤ, true, false, length, IfSome, IfNone};
 ghost use Rattle.std.specs.List.Sorted.{IsPartitionPoint};
 ghost use Rattle.chrono_datetime.specs.Days.{IsDate};

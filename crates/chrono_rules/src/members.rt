@@ -135,8 +135,17 @@ impl Rule {
             .contains(self.place_from_end(start, date))
     }
 
-    /// Whether the date's place among the days of its period that pass, from the front or from the back, is one that BYSETPOS names; true
-    /// where the rule has none.
+    /// Returns whether BYSETPOS names the place of `date` among the days of its period that pass the other parts.
+    ///
+    /// Places count from the front or from the back. Returns true if the rule has no BYSETPOS.
+    ///
+    /// ```
+    /// use chrono_datetime::NaiveDate;
+    /// let rule = read_rule(b"FREQ=MONTHLY;BYDAY=MO,TU,WE,TH,FR;BYSETPOS=-1").ok()?;
+    /// let start = NaiveDate::from_ymd_opt(2024, 1, 1)?;
+    /// rule.in_positions(start, NaiveDate::from_ymd_opt(2024, 1, 31)?) // true
+    /// rule.in_positions(start, NaiveDate::from_ymd_opt(2024, 1, 30)?) // false
+    /// ```
     #[tactic(auto, unfolding(crate::specs::Instances::in_positions))]
     pub fn in_positions(&self, start: NaiveDate, date: NaiveDate) -> bool
         ensures { result ≡ in_positions self.now start date }
@@ -145,7 +154,14 @@ impl Rule {
             || (self.has_place(start, date) || self.has_place_from_end(start, date))
     }
 
-    /// Whether the date is an instance of the rule from the start on, but for COUNT.
+    /// Returns whether `date` is an instance of the rule that begins on `start`, if COUNT is left out.
+    ///
+    /// ```
+    /// use chrono_datetime::NaiveDate;
+    /// let rule = read_rule(b"FREQ=DAILY;COUNT=2").ok()?;
+    /// let (start, date) = (NaiveDate::from_ymd_opt(2024, 1, 1)?, NaiveDate::from_ymd_opt(2024, 1, 3)?);
+    /// (rule.is_member(start, date), rule.is_instance(start, date)) // (true, false)
+    /// ```
     #[tactic(auto, unfolding(crate::specs::Instances::is_member))]
     pub fn is_member(&self, start: NaiveDate, date: NaiveDate) -> bool
         ensures { result ≡ is_member self.now start date }
@@ -195,7 +211,17 @@ impl Rule {
         }
     }
 
-    /// How many instances lie from the start up to the date, itself counted if it is one. They are found one after another.
+    /// Returns how many instances the rule has from `start` to `date`, both included.
+    ///
+    /// The calendar repeats after 400 years.
+    /// So the function counts the instances of 400 years one by one, and adds whole cycles of 400 years.
+    /// With INTERVAL, a cycle is 400 years times the interval.
+    ///
+    /// ```
+    /// use chrono_datetime::NaiveDate;
+    /// let (start, date) = (NaiveDate::from_ymd_opt(2024, 1, 1)?, NaiveDate::from_ymd_opt(2024, 1, 31)?);
+    /// read_rule(b"FREQ=WEEKLY").ok()?.count_to(start, date) // 5
+    /// ```
     pub fn count_to(&self, start: NaiveDate, date: NaiveDate) -> u32
         ensures { result ≡ count_between (is_instance self.now start) start (date +ℤ pos 1) }
     {
@@ -219,7 +245,17 @@ impl Rule {
         }
     }
 
-    /// Whether the date is an instance of the rule from the start on. A start that does not pass is none.
+    /// Returns whether `date` is an instance of the rule that begins on `start`.
+    ///
+    /// ```
+    /// use chrono_datetime::NaiveDate;
+    /// let rule = read_rule(b"FREQ=MONTHLY;BYDAY=-1FR").ok()?;
+    /// let start = NaiveDate::from_ymd_opt(2024, 1, 1)?;
+    /// rule.is_instance(start, NaiveDate::from_ymd_opt(2024, 1, 26)?) // true
+    /// rule.is_instance(start, start) // false
+    /// ```
+    ///
+    /// So `start` is no instance unless the rule has it.
     #[tactic(auto, unfolding(crate::specs::Instances::is_instance))]
     pub fn is_instance(&self, start: NaiveDate, date: NaiveDate) -> bool
         ensures { result ≡ is_instance self.now start date }
@@ -227,8 +263,19 @@ impl Rule {
         self.is_member(start, date) && self.is_counted(start, date)
     }
 
-    /// The first instance after the day, of the rule from the start on; `None` exactly if there is none in the calendar. Where no instance comes
-    /// the search goes on to the calendar's end, and COUNT is counted from the start by each call; [`Rule::instances`] counts it once.
+    /// Returns the first instance after `day` of the rule that begins on `start`.
+    ///
+    /// Returns `None` if there is none in the calendar.
+    ///
+    /// ```
+    /// use chrono_datetime::NaiveDate;
+    /// let rule = read_rule(b"FREQ=YEARLY").ok()?;
+    /// let start = NaiveDate::from_ymd_opt(2024, 2, 29)?;
+    /// rule.next_after(start, start) // Some(2028-02-29)
+    /// ```
+    ///
+    /// The calendar repeats after 400 years. So a search looks at the periods of about 400 years at most.
+    /// Every call counts the instances of a rule with COUNT from `start` on. [`Rule::instances`] counts them once.
     #[tactic(auto, unfolding(crate::specs::Instances::is_instance))]
     pub fn next_after(&self, start: NaiveDate, day: NaiveDate) -> Option<NaiveDate>
         ensures member { IfSome result (λ e. IsTrue (is_instance self.now start e)) }
@@ -236,6 +283,9 @@ impl Rule {
         ensures least { IfSome result (λ e. (d : ℤ) → day <ℤ d → d <ℤ e → is_instance self.now start d ≡ false) }
         ensures none { IfNone result ((d : ℤ) → day <ℤ d → IsDate d → is_instance self.now start d ≡ false) }
     {
+        if !self.may_follow(0) {
+            return None;
+        }
         let next = self.first_member(start, day.succ_opt()?)?;
         if self.is_counted(start, next) {
             Some(next)

@@ -6,8 +6,16 @@ use crate::pieces::first_piece;
 use crate::place_text::read_from_one;
 use crate::places::NumberSet;
 
-/// The months that BYMONTH lists, as `6,7`: numbers of one digit or two from 1 to 12 between commas; `None` exactly if the text is no such
-/// list (RFC 5545, section 3.3.10).
+/// Returns the months that a BYMONTH list names, such as `6,7` (RFC 5545, 3.3.10).
+///
+/// `text` is numbers of one or two digits from 1 to 12, with commas between them.
+/// Returns `None` if it is no such list.
+///
+/// ```
+/// let months = read_months(b"6,7")?;
+/// (months.contains(6), months.contains(8)) // (true, false)
+/// read_months(b"13") // None
+/// ```
 pub fn read_months(text: &[u8]) -> Option<NumberSet>
     ensures { result ≡ months_of text.now }
 {

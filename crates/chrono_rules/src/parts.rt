@@ -1,4 +1,4 @@
-//! The tests that the BY parts of a rule are.
+//! The BY parts of a rule, as tests of a date.
 ghost use Rattle.std.specs.Prelude.{◌≡◌, ◌==◌, ◌<◌};
 ghost use Rattle.std.specs.Int.{IsInRange, bit_at};
 ghost use Rattle.chrono_datetime.specs.Days.{year_of};
@@ -167,8 +167,19 @@ impl Rule {
         }
     }
 
-    /// Whether the date is one of the days that BYDAY names: each of its weekday, or the k-th of them from either end of its month, in a rule
-    /// by months or one with BYMONTH, and else of its year. Numbers count in rules by months and years alone.
+    /// Returns whether BYDAY names `date`.
+    ///
+    /// An item without a number names every day with its weekday.
+    /// An item with a number `k` names the `k`-th such day.
+    /// In a monthly rule, and in a yearly one with BYMONTH, `k` counts in the month, and else in the year.
+    /// A negative number counts from the end. Numbers count in monthly and yearly rules alone.
+    ///
+    /// ```
+    /// use chrono_datetime::NaiveDate;
+    /// let rule = read_rule(b"FREQ=MONTHLY;BYDAY=-1FR").ok()?;
+    /// rule.on_weekday(NaiveDate::from_ymd_opt(2024, 1, 26)?) // true
+    /// rule.on_weekday(NaiveDate::from_ymd_opt(2024, 1, 19)?) // false
+    /// ```
     #[tactic(auto, unfolding(crate::specs::Instances::on_weekday))]
     pub fn on_weekday(&self, date: NaiveDate) -> bool
         ensures { result ≡ on_weekday self.now date }
@@ -185,7 +196,15 @@ impl Rule {
                 )))
     }
 
-    /// Whether the date's week is one of those that BYWEEKNO names, from either end of the week's year.
+    /// Returns whether BYWEEKNO names the week of `date`, from either end of the week's year.
+    ///
+    /// ```
+    /// use chrono_datetime::NaiveDate;
+    /// let rule = read_rule(b"FREQ=YEARLY;BYWEEKNO=1").ok()?;
+    /// rule.in_week(NaiveDate::from_ymd_opt(2024, 12, 30)?) // true
+    /// ```
+    ///
+    /// So week 1 of 2025 begins in 2024.
     #[tactic(auto, unfolding(crate::specs::Instances::in_week))]
     pub fn in_week(&self, date: NaiveDate) -> bool
         ensures { result ≡ in_week self.now date }
@@ -196,7 +215,17 @@ impl Rule {
         self.weeks.contains(1 + (place - 1) / 7) || self.weeks_from_end.contains(1 + behind / 7)
     }
 
-    /// Whether the date passes each BY part that the rule has, BYSETPOS aside, and has what the start says where the rule does not.
+    /// Returns whether `date` passes every BY part of the rule, BYSETPOS aside.
+    ///
+    /// Where the rule has no BY part, `date` needs what `start` has.
+    /// For example, it needs its weekday in a weekly rule.
+    ///
+    /// ```
+    /// use chrono_datetime::NaiveDate;
+    /// let (start, rule) = (NaiveDate::from_ymd_opt(2024, 1, 1)?, read_rule(b"FREQ=WEEKLY").ok()?);
+    /// rule.passes(start, NaiveDate::from_ymd_opt(2024, 1, 8)?) // true
+    /// rule.passes(start, NaiveDate::from_ymd_opt(2024, 1, 9)?) // false
+    /// ```
     #[tactic(auto, unfolding(crate::specs::Instances::passes))]
     pub fn passes(&self, start: NaiveDate, date: NaiveDate) -> bool
         ensures { result ≡ passes self.now start date }
@@ -209,7 +238,13 @@ impl Rule {
                             && (self.lacks_weeks() || self.in_week(date))))))
     }
 
-    /// Whether the date is one of the days that BYYEARDAY names, from either end of the year.
+    /// Returns whether BYYEARDAY names `date`, from either end of the year.
+    ///
+    /// ```
+    /// use chrono_datetime::NaiveDate;
+    /// let rule = read_rule(b"FREQ=YEARLY;BYYEARDAY=-1").ok()?;
+    /// rule.on_year_day(NaiveDate::from_ymd_opt(2024, 12, 31)?) // true
+    /// ```
     #[tactic(auto, unfolding(crate::specs::Instances::on_year_day))]
     pub fn on_year_day(&self, date: NaiveDate) -> bool
         ensures { result ≡ on_year_day self.now date }

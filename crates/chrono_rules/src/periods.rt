@@ -51,7 +51,14 @@ impl Rule {
         self.period_of(date) - self.period_of(start)
     }
 
-    /// Whether the date's period is a whole number of intervals from the start's, earlier or later.
+    /// Returns whether the period of `date` is a whole number of intervals from that of `start`, earlier or later.
+    ///
+    /// ```
+    /// use chrono_datetime::NaiveDate;
+    /// let (start, rule) = (NaiveDate::from_ymd_opt(2024, 1, 1)?, read_rule(b"FREQ=WEEKLY;INTERVAL=2").ok()?);
+    /// rule.in_interval(start, NaiveDate::from_ymd_opt(2024, 1, 8)?) // false
+    /// rule.in_interval(start, NaiveDate::from_ymd_opt(2024, 1, 17)?) // true
+    /// ```
     #[tactic(auto, unfolding(crate::specs::Instances::in_interval))]
     pub fn in_interval(&self, start: NaiveDate, date: NaiveDate) -> bool
         ensures { result ≡ in_interval self.now start date }

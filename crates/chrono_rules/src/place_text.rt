@@ -11,7 +11,7 @@ use crate::places::NumberSet;
 pub struct Place {
     /// Whether it counts from the end.
     pub from_end: bool,
-    /// The number, 1 for the first or the last.
+    /// The number. 1 is the first or the last.
     pub number: u32,
 }
 
@@ -54,7 +54,7 @@ impl BothEnds {
     }
 }
 
-// The number from 1 to `most` that the text writes by no more digits than so many.
+// The number from 1 to `most` that the text writes in at most `digits` digits.
 #[tactic(auto, unfolding(crate::specs::Places::number_of))]
 pub(crate) fn read_from_one(text: &[u8], digits: usize, most: u32) -> Option<u32>
     requires { digits ≤ 9 }
@@ -100,23 +100,40 @@ fn placed(number: Option<u32>, from_end: bool) -> Option<Place>
     }
 }
 
-/// The days of the month that BYMONTHDAY lists, as `1,-1`: numbers of one digit or two from 1 to 31 between commas, each with a sign or
-/// none, of which `-` counts from the month's end; `None` exactly if the text is no such list (RFC 5545, section 3.3.10).
+/// Returns the days of the month that a BYMONTHDAY list names, such as `1,-1` (RFC 5545, 3.3.10).
+///
+/// `text` is numbers of one or two digits from 1 to 31, with commas between them. Each has a sign or none.
+/// `-` counts from the end of the month. Returns `None` if `text` is no such list.
+///
+/// ```
+/// let days = read_month_days(b"1,-2")?;
+/// (days.front.contains(1), days.back.contains(2)) // (true, true)
+/// read_month_days(b"32") // None
+/// ```
 pub fn read_month_days(text: &[u8]) -> Option<BothEnds>
     ensures { result ≡ ends_of 2 31 text.now }
 {
     read_both_ends(text, 2, 31)
 }
 
-/// The weeks of the year that BYWEEKNO lists, as `20,-1`: numbers of one digit or two from 1 to 53 between commas, each with a sign or
-/// none, of which `-` counts from the year's end; `None` exactly if the text is no such list (RFC 5545, section 3.3.10).
+/// Returns the weeks of the year that a BYWEEKNO list names, such as `20,-1` (RFC 5545, 3.3.10).
+///
+/// `text` is numbers of one or two digits from 1 to 53, with commas between them. Each has a sign or none.
+/// `-` counts from the end of the year. Returns `None` if `text` is no such list.
+///
+/// ```
+/// let weeks = read_weeks(b"20,-1")?;
+/// (weeks.front.contains(20), weeks.back.contains(1)) // (true, true)
+/// read_weeks(b"54") // None
+/// ```
 pub fn read_weeks(text: &[u8]) -> Option<BothEnds>
     ensures { result ≡ ends_of 2 53 text.now }
 {
     read_both_ends(text, 2, 53)
 }
 
-// The numbers from 1 to `most` that the text lists between commas, each with a sign or none, by no more digits than so many.
+// The numbers from 1 to `most` that the text lists between commas, each with a sign or none.
+// Each has at most `digits` digits.
 fn read_both_ends(text: &[u8], digits: usize, most: u32) -> Option<BothEnds>
     requires few { digits ≤ 9 }
     requires small { most < 64 }

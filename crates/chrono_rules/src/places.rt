@@ -1,4 +1,4 @@
-//! The sets that the BY parts of a rule list, at a fixed size.
+//! The sets that the BY parts of a rule list. Each has a fixed size.
 ghost use Rattle.std.specs.Prelude.{◌≡◌, ◌<◌, ◌==◌, ◌&&◌, ℕ};
 ghost use Rattle.std.specs.Int.{bit_at};
 ghost use Rattle.chrono_rules.specs.Instances.{are_zero, has, has_place, no_numbers, no_places, no_weekdays};
@@ -8,12 +8,16 @@ ghost use Rattle.chrono_rules.specs.RuleTexts.{with_day};
 /// A set of numbers from 0 to 63, stored as binary digits.
 #[derive(Clone, Copy, PartialEq, Eq, Debug)]
 pub struct NumberSet {
-    /// The digit for 2^k says whether k is a member.
+    /// The binary digits. `k` is a member if the digit of 2^k is 1.
     pub digits: u64,
 }
 
 impl NumberSet {
-    /// The empty set.
+    /// Returns the empty set.
+    ///
+    /// ```
+    /// NumberSet::none() // NumberSet { digits: 0 }
+    /// ```
     #[inline]
     pub fn none() -> NumberSet
         ensures { result ≡ no_numbers }
@@ -21,7 +25,11 @@ impl NumberSet {
         NumberSet { digits: 0 }
     }
 
-    /// Whether the number, 0 to 63, is a member.
+    /// Returns whether `number` is a member. Requires `number < 64`.
+    ///
+    /// ```
+    /// NumberSet::none().with(6).contains(6) // true
+    /// ```
     #[inline]
     #[tactic(auto, using(std::proofs::lemmas::Nat::Bits::shr_and_one), unfolding(crate::specs::Instances::has))]
     pub fn contains(self, number: u32) -> bool
@@ -31,7 +39,11 @@ impl NumberSet {
         (self.digits >> number) & 1 == 1
     }
 
-    /// The set and the number, 0 to 63.
+    /// Returns the set with `number` added. Requires `number < 64`.
+    ///
+    /// ```
+    /// NumberSet::none().with(0).with(2) // NumberSet { digits: 5 }
+    /// ```
     #[inline]
     pub fn with(self, number: u32) -> NumberSet
         requires { number < 64 }
@@ -42,7 +54,11 @@ impl NumberSet {
         }
     }
 
-    /// Whether there is no member.
+    /// Returns whether the set has no member.
+    ///
+    /// ```
+    /// NumberSet::none().with(6).is_empty() // false
+    /// ```
     #[inline]
     pub fn is_empty(self) -> bool
         ensures { result ≡ (self.digits == 0) }
@@ -51,15 +67,19 @@ impl NumberSet {
     }
 }
 
-/// A set of numbers from 0 to 383, wide enough for the days of a year.
+/// A set of numbers from 0 to 383, large enough for the days of a year.
 #[derive(Clone, Copy, PartialEq, Eq, Debug)]
 pub struct PlaceSet {
-    /// The digit for 2^(k % 64) of the word k / 64 says whether k is a member.
+    /// The binary digits. `k` is a member if the word `k / 64` has the digit of 2^(k % 64).
     pub words: [u64; 6],
 }
 
 impl PlaceSet {
-    /// The empty set.
+    /// Returns the empty set.
+    ///
+    /// ```
+    /// PlaceSet::none().contains(366) // false
+    /// ```
     #[inline]
     pub fn none() -> PlaceSet
         ensures { result ≡ no_places }
@@ -69,7 +89,11 @@ impl PlaceSet {
         }
     }
 
-    /// Whether the number, 0 to 383, is a member.
+    /// Returns whether `number` is a member. Requires `number < 384`.
+    ///
+    /// ```
+    /// PlaceSet::none().with(366).contains(366) // true
+    /// ```
     #[inline]
     #[tactic(auto, using(std::proofs::lemmas::Nat::Bits::shr_and_one), unfolding(crate::specs::Instances::has_place))]
     pub fn contains(&self, number: u32) -> bool
@@ -79,7 +103,11 @@ impl PlaceSet {
         (self.words[(number / 64) as usize] >> (number % 64)) & 1 == 1
     }
 
-    /// The set and the number, 0 to 383.
+    /// Returns the set with `number` added. Requires `number < 384`.
+    ///
+    /// ```
+    /// PlaceSet::none().with(65) // PlaceSet { words: [0, 2, 0, 0, 0, 0] }
+    /// ```
     #[inline]
     pub fn with(self, number: u32) -> PlaceSet
         requires { number < 384 }
@@ -91,7 +119,11 @@ impl PlaceSet {
         set
     }
 
-    /// Whether there is no member.
+    /// Returns whether the set has no member.
+    ///
+    /// ```
+    /// PlaceSet::none().is_empty() // true
+    /// ```
     #[inline]
     pub fn is_empty(&self) -> bool
         ensures { result ≡ are_zero self.now.words }
@@ -112,19 +144,23 @@ pub(crate) fn are_zero(words: &[u64]) -> bool
     all == 0
 }
 
-/// Weekdays, each of its days or the k-th of them, from the front or from the back; weekdays count from 0 for Monday.
+/// Weekdays of BYDAY, with or without numbers. Weekdays count from 0 for Monday.
 #[derive(Clone, Copy, PartialEq, Eq, Debug)]
 pub struct WeekdayPlaces {
-    /// The weekdays of which every day counts, as `MO`.
+    /// The weekdays without a number, such as `MO`. They name every such day.
     pub every: NumberSet,
-    /// For each weekday the digits of the k for which its k-th day counts, as `1MO`.
+    /// The positive numbers of each weekday, such as `1MO`. The digit of 2^k stands for its `k`-th day.
     pub front: [u64; 7],
-    /// For each weekday the digits of the k for which its k-th day from the back counts, as `-1MO`.
+    /// The negative numbers of each weekday, such as `-1MO`. The digit of 2^k stands for its `k`-th day from the end.
     pub back: [u64; 7],
 }
 
 impl WeekdayPlaces {
-    /// No day.
+    /// Returns the value that names no day.
+    ///
+    /// ```
+    /// Rule::new(Frequency::Daily).weekdays == WeekdayPlaces::none() // true
+    /// ```
     #[inline]
     pub fn none() -> WeekdayPlaces
         ensures { result ≡ no_weekdays }
@@ -136,7 +172,11 @@ impl WeekdayPlaces {
         }
     }
 
-    /// Whether it names no day.
+    /// Returns whether it names no day.
+    ///
+    /// ```
+    /// read_rule(b"FREQ=MONTHLY;BYDAY=-1FR").ok()?.weekdays.is_empty() // false
+    /// ```
     #[inline]
     pub fn is_empty(&self) -> bool
         ensures { result ≡ ((self.now.every.digits == 0) && (are_zero self.now.front && are_zero self.now.back)) }

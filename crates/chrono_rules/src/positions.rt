@@ -36,8 +36,9 @@ impl Rule {
         self.count_passing(start, day, 0, end)
     }
 
-    // How many of the period's days pass up to the date, of which so many pass before it; `None` if it passes and has a place that
-    // BYSETPOS names, where so many pass before a day in front of it, and so many from that day on.
+    // How many of the period's days pass from some day up to the date. `passed` of them are before the date.
+    // `None` if the date passes and BYSETPOS names its place.
+    // In the period `before` days pass before that day, and `left` from it on.
     #[inline]
     fn passed_with(
         &self,
@@ -98,8 +99,9 @@ impl Rule {
         later
     }
 
-    // How many days from this one on have no place that BYSETPOS names, at most those of its period, which ends so many days later, where it names no place
-    // of theirs from the front: they are looked at from the period's end back, up to the last place that is named.
+    // How many days from this one on have no place that BYSETPOS names, at most those of its period.
+    // The period ends `end` days later, and BYSETPOS names none of their places from the front.
+    // They are looked at from the period's end back, up to the last place that is named.
     fn days_to_place_from_end(&self, start: NaiveDate, day: NaiveDate, end: i64) -> i64
         requires some { lacks_positions self.now ≡ false }
         requires end { (day +ℤ end) ≡ period_end self.now.frequency self.now.week_start day }

@@ -1,4 +1,4 @@
-//! `Recurrence`: a rule with dates beside its instances and exceptions from both.
+//! `Recurrence`: a rule with extra dates and exceptions.
 ghost use Rattle.std.specs.Prelude.{◌≡◌, ◌↔◌, IsSome, IfSome};
 ghost use Rattle.chrono_rules.specs.RecurrenceSets.{AreRising, is_given, is_in_recurrence};
 
@@ -11,11 +11,13 @@ use chrono_datetime::NaiveDate;
 pub use days::RecurrenceDays;
 use std::marker::Model;
 
-/// The instances of a rule from a start on, and dates beside them (RDATE), without exceptions from both (EXDATE): the recurrence set of
-/// RFC 5545 (3.8.5.1, 3.8.5.2) over days. A day that is both an instance and a date beside them is in it once.
+/// A rule from a start on, with extra dates (RDATE) and exceptions (EXDATE).
 ///
-/// The dates and the exceptions are slices of the caller's, which rise. Contracts see a recurrence as a record `RecurrenceSet`. A start that
-/// does not pass the rule is not in the set, unless it is one of the dates.
+/// It is the recurrence set of RFC 5545 (3.8.5.1 and 3.8.5.2) over days.
+/// A day that is both an instance of the rule and an extra date is in it once.
+/// The start is in it only if the rule has it, or if it is one of the dates.
+///
+/// The dates and the exceptions are slices of the caller's. Contracts see a recurrence as a record `RecurrenceSet`.
 #[derive(Drop)]
 pub struct Recurrence<'a> {
     rule: Rule,
@@ -35,9 +37,15 @@ impl<'a> Model for Recurrence<'a> {
 }
 
 impl<'a> Recurrence<'a> {
-    /// The recurrence of a rule from a start on, with dates beside its instances and exceptions, both of which rise.
+    /// Returns the recurrence of `rule` from `start` on, plus `dates` (RDATE), minus `exceptions` (EXDATE).
     ///
-    /// [`try_new`](Self::try_new) takes lists of which that is not known.
+    /// Requires that both lists are strictly increasing. [`try_new`](Self::try_new) checks them.
+    ///
+    /// ```
+    /// use chrono_datetime::NaiveDate;
+    /// let (start, rule) = (NaiveDate::from_ymd_opt(2024, 1, 1)?, read_rule(b"FREQ=DAILY").ok()?);
+    /// Recurrence::new(rule, start, &[], &[start]).next_after(start) // Some(2024-01-02)
+    /// ```
     #[inline]
     pub fn new(
         rule: Rule,
@@ -57,7 +65,15 @@ impl<'a> Recurrence<'a> {
         }
     }
 
-    /// The same of lists that may not rise; `None` exactly if one of them does not.
+    /// Returns the recurrence of `rule` from `start` on, plus `dates` (RDATE), minus `exceptions` (EXDATE).
+    ///
+    /// Returns `None` if one of the lists is not strictly increasing.
+    ///
+    /// ```
+    /// use chrono_datetime::NaiveDate;
+    /// let (start, rule) = (NaiveDate::from_ymd_opt(2024, 1, 1)?, read_rule(b"FREQ=DAILY").ok()?);
+    /// Recurrence::try_new(rule, start, &[start, start], &[]).is_none() // true
+    /// ```
     pub fn try_new(
         rule: Rule,
         start: NaiveDate,
@@ -83,7 +99,13 @@ impl<'a> Recurrence<'a> {
         self.rule.is_instance(self.start, date) || is_listed(self.dates, date)
     }
 
-    /// Whether the day is in the recurrence: an instance of the rule or a date beside it, and no exception.
+    /// Returns whether `date` is in the recurrence: an instance of the rule or an extra date, and no exception.
+    ///
+    /// ```
+    /// use chrono_datetime::NaiveDate;
+    /// let (start, rule) = (NaiveDate::from_ymd_opt(2024, 1, 1)?, read_rule(b"FREQ=DAILY").ok()?);
+    /// Recurrence::new(rule, start, &[], &[start]).is_instance(start) // false
+    /// ```
     #[tactic(auto, unfolding(crate::specs::RecurrenceSets::is_in_recurrence))]
     pub fn is_instance(&self, date: NaiveDate) -> bool
         ensures { result ≡ is_in_recurrence self.now date }

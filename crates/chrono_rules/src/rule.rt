@@ -1,70 +1,83 @@
-//! `Rule`: a recurrence rule (RFC 5545, section 3.3.10), as far as it is over days.
+//! `Rule`: a recurrence rule over days (RFC 5545, section 3.3.10).
 ghost use Rattle.std.specs.Prelude.{◌≡◌};
 ghost use Rattle.chrono_rules.specs.Instances.{not_after, on_month_day, plain};
 
 use crate::places::{NumberSet, PlaceSet, WeekdayPlaces};
 use chrono_datetime::{Datelike, NaiveDate, Weekday};
 
-/// What a rule's periods are (FREQ).
+/// FREQ: the kind of a rule's periods.
 #[derive(Clone, Copy, PartialEq, Eq, Debug)]
 pub enum Frequency {
-    /// Days.
+    /// Each period is a day.
     Daily,
-    /// Weeks, which begin on the rule's first weekday.
+    /// Each period is a week. It begins on the rule's `week_start`.
     Weekly,
-    /// Months.
+    /// Each period is a month.
     Monthly,
-    /// Years.
+    /// Each period is a year.
     Yearly,
 }
 
-/// Where a rule ends (COUNT, UNTIL).
+/// COUNT or UNTIL: where a rule ends.
 #[derive(Clone, Copy, PartialEq, Eq, Debug)]
 pub enum End {
-    /// Nowhere.
+    /// The rule never ends.
     Never,
-    /// With so many instances, counted from the start.
+    /// COUNT: the rule has at most this many instances, counted from the start.
     Count(u32),
-    /// With this day, itself an instance if the rest of the rule has it.
+    /// UNTIL: no instance is after this day. The day itself can be one.
     Until(NaiveDate),
 }
 
-/// A recurrence rule over days (RFC 5545, 3.3.10). A BY part with an empty set is one that the rule does not have. A number that a part
-/// cannot have, as the month 13, names no day; a part with such numbers alone lets none pass.
+/// A recurrence rule over days (RFC 5545, 3.3.10).
+///
+/// A BY part with an empty set is one that the rule does not have.
+/// A number that a part cannot have, such as the month 13, names no day.
+/// A part that has such numbers alone lets no day pass.
 #[derive(Clone, Copy, PartialEq, Eq, Debug)]
 pub struct Rule {
-    /// What its periods are.
+    /// FREQ: the kind of the rule's periods.
     pub frequency: Frequency,
-    /// Each how-many-th period counts, from the start's on; 0 is read as 1 (INTERVAL).
+    /// INTERVAL: use every `interval`-th period, beginning with the one that contains the start. 0 means 1.
+    ///
+    /// For example, `Weekly` with 2 is every other week.
     pub interval: u32,
-    /// Where it ends.
+    /// COUNT or UNTIL: where the rule ends.
     pub end: End,
-    /// The months, 1 to 12 (BYMONTH).
+    /// BYMONTH: the months, 1 to 12.
     pub months: NumberSet,
-    /// The days of the month, 1 to 31 (BYMONTHDAY).
+    /// BYMONTHDAY: the days of the month, 1 to 31.
     pub month_days: NumberSet,
-    /// The same from the month's end, 1 for the last, which RFC 5545 writes as -1.
+    /// BYMONTHDAY: the days of the month from its end. 1 is the last day, which RFC 5545 writes as -1.
     pub month_days_from_end: NumberSet,
-    /// The weekdays (BYDAY).
+    /// BYDAY: the weekdays.
     pub weekdays: WeekdayPlaces,
-    /// The days of the year, 1 to 366 (BYYEARDAY).
+    /// BYYEARDAY: the days of the year, 1 to 366.
     pub year_days: PlaceSet,
-    /// The same from the year's end, 1 for the last.
+    /// BYYEARDAY: the days of the year from its end. 1 is the last day.
     pub year_days_from_end: PlaceSet,
-    /// The weeks of the year, 1 to 53 (BYWEEKNO): a week begins on `week_start`, and belongs to the year of its fourth day.
+    /// BYWEEKNO: the weeks of the year, 1 to 53.
+    ///
+    /// A week begins on `week_start`, and belongs to the year of its fourth day.
     pub weeks: NumberSet,
-    /// The same from the end of the week's year, 1 for the last.
+    /// BYWEEKNO: the weeks from the end of the week's year. 1 is the last week.
     pub weeks_from_end: NumberSet,
-    /// Of the days of a period that pass all other parts, the k-th, 1 to 366 (BYSETPOS). Days before the start take their places too.
+    /// BYSETPOS: the `k`-th of the days of a period that pass all other parts, 1 to 366.
+    ///
+    /// Days before the start count too.
     pub positions: PlaceSet,
-    /// The same from the last of them, 1 for that.
+    /// BYSETPOS: the same days from the end. 1 is the last of them.
     pub positions_from_end: PlaceSet,
-    /// The weekday on which weeks begin (WKST), Monday where RFC 5545 has none.
+    /// WKST: the weekday on which weeks begin. RFC 5545 takes Monday if a rule has none.
     pub week_start: Weekday,
 }
 
 impl Rule {
-    /// The rule that has a FREQ alone: every period, without end, with weeks that begin on Monday.
+    /// Returns the rule with FREQ alone: every period counts, it never ends, and weeks begin on Monday.
+    ///
+    /// ```
+    /// Rule::new(Frequency::Weekly) == read_rule(b"FREQ=WEEKLY").ok()? // true
+    /// ```
     #[inline]
     pub fn new(frequency: Frequency) -> Rule
         ensures { result ≡ plain frequency }
@@ -86,7 +99,13 @@ impl Rule {
             week_start: Weekday::Mon,
         }
     }
-    /// Whether the date is not behind the rule's UNTIL; true of each date where the rule has none.
+    /// Returns whether `date` is not after UNTIL. Returns true if the rule has no UNTIL.
+    ///
+    /// ```
+    /// use chrono_datetime::NaiveDate;
+    /// let rule = read_rule(b"FREQ=DAILY;UNTIL=20241231").ok()?;
+    /// rule.not_after(NaiveDate::from_ymd_opt(2024, 12, 31)?) // true
+    /// ```
     #[tactic(auto, unfolding(crate::specs::Instances::not_after))]
     pub fn not_after(&self, date: NaiveDate) -> bool
         ensures { result ≡ not_after self.now.end date }
@@ -98,7 +117,13 @@ impl Rule {
         }
     }
 
-    /// Whether the date is one of the days that BYMONTHDAY names, from either end of the month.
+    /// Returns whether BYMONTHDAY names `date`, from either end of the month.
+    ///
+    /// ```
+    /// use chrono_datetime::NaiveDate;
+    /// let rule = read_rule(b"FREQ=MONTHLY;BYMONTHDAY=-1").ok()?;
+    /// rule.on_month_day(NaiveDate::from_ymd_opt(2024, 2, 29)?) // true
+    /// ```
     #[tactic(auto, unfolding(crate::specs::Instances::on_month_day))]
     pub fn on_month_day(&self, date: NaiveDate) -> bool
         ensures { result ≡ on_month_day self.now date }

@@ -1,5 +1,5 @@
 //! The texts of rules.
-ghost use Rattle.std.specs.Prelude.{◌≡◌, ◌↔◌, true, false, Some, None, Ok, Err, IfSome, IfNone, IfOk, IsErr};
+ghost use Rattle.std.specs.Prelude.{◌≡◌, ◌↔◌, true, false, Some, None, Ok, Err, IfSome, IfOk, IsErr};
 ghost use Rattle.chrono_rules.specs.RuleErrors.{IsChecked, are_named, unfit_error, unnamed_fault, unread_error};
 ghost use Rattle.chrono_rules.specs.RuleTexts.{IsRuleText, Says, fits, has_month_days, has_year_parts, lacks_lists, lacks_numbers, may_have_numbers, parts};
 ghost use Rattle.chrono_rules.specs.declared.rule.Rule.{Rule};
@@ -14,33 +14,34 @@ use crate::rule_parts::{
 use crate::values::are_parts;
 use std::str::FromStr;
 
-/// The rule that the text writes (RFC 5545, section 3.3.10), as `FREQ=MONTHLY;BYDAY=-1FR`; `None` exactly if it writes none.
+/// Reads a recurrence rule of RFC 5545 (section 3.3.10), such as `FREQ=MONTHLY;BYDAY=-1FR`. Returns the [`Rule`].
 ///
-/// It is parts `NAME=VALUE` with `;` between, in any order and each at most once, FREQ always: FREQ (`DAILY`, `WEEKLY`, `MONTHLY`, `YEARLY`),
-/// INTERVAL (1 to 4294967295), COUNT (0 to 4294967295) or UNTIL (a date, as `19971224`), BYMONTH, BYMONTHDAY, BYDAY, BYYEARDAY, BYWEEKNO,
-/// BYSETPOS and WKST. Names, and the words of values, may be in letters of either case, as strings of an ABNF are.
+/// If `text` is no rule, returns the wrong part and what is wrong with it, as a [`RuleError`].
 ///
-/// None is read that RFC 5545 forbids: BYMONTHDAY does not go with WEEKLY, BYYEARDAY and BYWEEKNO go with YEARLY alone, numbers of weekdays
-/// go with MONTHLY and YEARLY and not beside BYWEEKNO, and BYSETPOS has to stand beside another list. Rules of hours, minutes and seconds,
-/// and an UNTIL with a time of day, are not over days and are not read.
-pub fn read_rule(text: &[u8]) -> Option<Rule>
-    ensures read { IfSome result (λ r. IsRuleText text.now r) }
-    // Whatever rule the text writes is the answer: no text is refused, and none has two meanings.
-    ensures every { (r : Rule) → IsRuleText text.now r → result ≡ Some r }
-    ensures none { IfNone result ((r : Rule) → ¬ IsRuleText text.now r) }
-{
-    match check_rule(text) {
-        Ok(rule) => Some(rule),
-        Err(_) => None,
-    }
-}
-
-/// The rule that the text writes, as [`read_rule`] reads it, or what is wrong with the text, and in which part.
+/// ```
+/// read_rule(b"FREQ=MONTHLY;BYDAY=-1FR").is_ok() // true
+/// let error = read_rule(b"FREQ=WEEKLY;BYMONTHDAY=1").err()?;
+/// (error.part, error.fault) // (Some(ByMonthDay), NotWith(Weekly))
+/// ```
 ///
-/// Told first is a part whose name no rule over days has, by its name if it is BYHOUR, BYMINUTE or BYSECOND; then, in the order of
-/// [`RulePart`], the first part that cannot be read; and where each can, the first that does not go with the others.
-pub fn check_rule(text: &[u8]) -> Result<Rule, RuleError>
+/// A rule is parts `NAME=VALUE` with `;` between them, in any order, each at most once. FREQ is always there:
+///
+/// - FREQ: `DAILY`, `WEEKLY`, `MONTHLY` or `YEARLY`;
+/// - INTERVAL: 1 to 4294967295;
+/// - COUNT, 0 to 4294967295, or UNTIL, a date such as `19971224`;
+/// - BYMONTH, BYMONTHDAY, BYDAY, BYYEARDAY, BYWEEKNO, BYSETPOS and WKST.
+///
+/// The letters of names and of words may have either case, as in an ABNF.
+///
+/// It refuses what RFC 5545 forbids. BYMONTHDAY does not go with WEEKLY. BYYEARDAY and BYWEEKNO go with YEARLY only. Numbers of weekdays go with
+/// MONTHLY and YEARLY, and not with BYWEEKNO. BYSETPOS needs another BY part. It also refuses rules of hours, minutes and seconds, and an UNTIL
+/// with a time of day.
+///
+/// Of several errors it returns the first in this order. First comes a part with an unknown name. Then, in the order of [`RulePart`], a part that
+/// cannot be read. Then a part that does not go with the others.
+pub fn read_rule(text: &[u8]) -> Result<Rule, RuleError>
     ensures read { IfOk result (λ r. IsRuleText text.now r) }
+    // Whatever rule the text writes is the answer: no text is refused, and none has two meanings.
     ensures every { (r : Rule) → IsRuleText text.now r → result ≡ Ok r }
     ensures found { IsErr result ↔ ((r : Rule) → ¬ IsRuleText text.now r) }
     // Told first is a name that no rule over days has, whatever the parts say.
@@ -70,9 +71,9 @@ impl FromStr for Rule {
 
     ghost from_str_gives = { IsChecked };
 
-    /// The rule that the text writes, as [`check_rule`] reads it.
+    /// Reads a rule as [`read_rule`] does.
     fn from_str(text: &str) -> Result<Rule, RuleError> {
-        check_rule(text.as_bytes())
+        read_rule(text.as_bytes())
     }
 }
 

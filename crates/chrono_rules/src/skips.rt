@@ -1,14 +1,16 @@
 //! What a search for a member passes over at once.
-ghost use Rattle.std.specs.Prelude.{◌≡◌, ◌≤◌, ◌<◌, ◌+◌, ◌-◌, ◌%◌, ◌==◌, ◌≤ℤ◌, ◌<ℤ◌, ◌+ℤ◌, ℤ, ℕ, neg_ℤ, pos, true, false, IsFalse, IsTrue, IfSome, IfNone};
+ghost use Rattle.std.specs.Prelude.{◌≡◌, ◌≤◌, ◌<◌, ◌+◌, ◌-◌, ◌*◌, ◌%◌, ◌==◌, if◌then◌else◌, ◌≤ℤ◌, ◌<ℤ◌, ◌+ℤ◌, ℤ, ℕ, neg_ℤ, pos, true, false, IsFalse, IsTrue, IfSome, IfNone};
 ghost use Rattle.std.specs.Int.{IsInRange};
 ghost use Rattle.chrono_datetime.specs.Days.{IsDate, day_of, month_of};
 ghost use Rattle.chrono_datetime.specs.MonthMoves.{month_index, month_index_of, month_length_of};
+ghost use Rattle.chrono_datetime.specs.Recurrence.{past_last_date};
 ghost use Rattle.chrono_datetime.specs.Years.{month_length};
-ghost use Rattle.chrono_rules.specs.Instances.{is_member, names_weekday, on_month_day, on_weekday};
+ghost use Rattle.chrono_rules.specs.Instances.{is_member, names_weekday, not_after, on_month_day, on_weekday};
 
 use crate::gaps::{gap_around, gap_down, gap_up};
 use crate::iterator::PAST_LAST_DAY;
 use crate::parts::has_digit;
+use crate::repeats::{first_of_last_year, later_of};
 use crate::rule::{End, Rule};
 use chrono_datetime::{Datelike, Month, NaiveDate};
 
@@ -264,6 +266,7 @@ impl Rule {
     pub(crate) fn end_before(&self, end: i32) -> i32
         ensures not_behind { result ≤ℤ end }
         ensures behind { (start : ℤ) (d : ℤ) → result ≤ℤ d → d <ℤ end → is_member self.now start d ≡ false }
+        ensures inside { (d : ℤ) → d <ℤ result → not_after self.now.end d ≡ true }
     {
         match self.end {
             End::Never => end,
@@ -307,8 +310,8 @@ impl Rule {
         self.candidate(start, next, end)
     }
 
-    // The first member from the date on that lies before a day.
-    pub(crate) fn first_member_before(
+    // The first member from the date on that lies before a day. It looks at one candidate after another.
+    pub(crate) fn first_between(
         &self,
         start: NaiveDate,
         date: NaiveDate,
@@ -327,6 +330,58 @@ impl Rule {
         while !self.is_member(start, day) {
             day = self.later(start, day, last)?;
         }
+        Some(day)
+    }
+
+    // The first member from the date on that lies before a day. It looks at one cycle and at the calendar's last year.
+    pub(crate) fn first_member_before(
+        &self,
+        start: NaiveDate,
+        date: NaiveDate,
+        end: i32,
+    ) -> Option<NaiveDate>
+        ensures member { IfSome result (λ e. is_member self.now start e ≡ true) }
+        ensures not_before { IfSome result (λ e. date ≤ℤ e) }
+        ensures before { IfSome result (λ e. e <ℤ end) }
+        ensures in_range { IfSome result (λ e. IsDate e) }
+        ensures least { IfSome result (λ e. (d : ℤ) → date ≤ℤ d → d <ℤ e → is_member self.now start d ≡ false) }
+        ensures none { IfNone result ((d : ℤ) → date ≤ℤ d → d <ℤ end → IsDate d → is_member self.now start d ≡ false) }
+    {
+        let from = later_of(start, date);
+        match self.cycle_behind(from, end) {
+            Some(near) => self.first_in_cycle(start, date, from, near, end),
+            None => self.first_between(start, date, end),
+        }
+    }
+
+    // The first member from the date on that lies before a day. `near` lies 366 days and a cycle behind `from`.
+    fn first_in_cycle(
+        &self,
+        start: NaiveDate,
+        date: NaiveDate,
+        from: NaiveDate,
+        near: NaiveDate,
+        end: i32,
+    ) -> Option<NaiveDate>
+        requires begun { start ≤ℤ from }
+        requires order { date ≤ℤ from }
+        requires from { IsDate from }
+        requires date { IsDate date }
+        requires at { near ≡ from +ℤ pos (366 + 146_097 * (if self.now.interval == 0 then 1 else self.now.interval)) }
+        requires before { near <ℤ end }
+        requires early { (near +ℤ pos 366) ≤ℤ past_last_date }
+        ensures member { IfSome result (λ e. is_member self.now start e ≡ true) }
+        ensures not_before { IfSome result (λ e. date ≤ℤ e) }
+        ensures before { IfSome result (λ e. e <ℤ end) }
+        ensures in_range { IfSome result (λ e. IsDate e) }
+        ensures least { IfSome result (λ e. (d : ℤ) → date ≤ℤ d → d <ℤ e → is_member self.now start d ≡ false) }
+        ensures none { IfNone result ((d : ℤ) → date ≤ℤ d → d <ℤ end → IsDate d → is_member self.now start d ≡ false) }
+    {
+        if let Some(day) = self.first_between(start, date, near.num_days_from_ce()) {
+            return Some(day);
+        }
+        let rest = first_of_last_year();
+        let day = self.first_between(start, rest, end)?;
         Some(day)
     }
 

@@ -1,4 +1,4 @@
-//! The parts of a rule's text, and what stands behind their names.
+//! The parts of a rule's text, and the values after their names.
 ghost use Rattle.std.specs.Prelude.{◌≡◌, ◌≤◌, ◌∷◌, [], true, false, IfSome, IfNone, IsTrue, IsFalse, length, drop};
 ghost use Rattle.std.specs.List.{list_all};
 ghost use Rattle.std.specs.Str.{byte, str_eq_ignore_ascii_case};

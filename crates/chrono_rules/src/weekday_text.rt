@@ -7,8 +7,15 @@ use crate::place_text::{Place, read_place};
 use crate::places::WeekdayPlaces;
 use crate::values::is_same_text;
 
-/// The weekdays that the text lists between commas, each by its two letters, of either case, and with a number from 1 to 53 in front or none (BYDAY):
-/// `TU,SU`, `1MO,-1FR`; `None` exactly if one of them is not written so.
+/// Returns the weekdays that a BYDAY list names, such as `TU,SU` or `1MO,-1FR` (RFC 5545, 3.3.10).
+///
+/// `text` is items with commas between them. Each is the two letters of a weekday, of either case.
+/// A number from 1 to 53 may stand before them, with a sign or none. Returns `None` if `text` is no such list.
+///
+/// ```
+/// read_weekdays(b"TU,SU")?.every // NumberSet { digits: 66 }
+/// read_weekdays(b"54MO") // None
+/// ```
 pub fn read_weekdays(text: &[u8]) -> Option<WeekdayPlaces>
     ensures { result ≡ weekdays_of text.now }
 {

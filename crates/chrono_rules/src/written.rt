@@ -20,7 +20,14 @@ use std::fmt;
 const LONGEST: usize = 17_000;
 
 impl Rule {
-    /// Puts the rule's text, as `FREQ=MONTHLY;BYDAY=-1FR`, behind another text. Asks for room for 17,000 bytes.
+    /// Appends the rule's text to `text`. Requires that `text` has space for 17,000 more bytes.
+    ///
+    /// ```
+    /// use chrono_text::Text;
+    /// let mut text = Text::<17_000>::new();
+    /// read_rule(b"byday=-1fr;freq=monthly").ok()?.put_into(&mut text);
+    /// text.as_str() // "FREQ=MONTHLY;BYDAY=-1FR"
+    /// ```
     pub fn put_into<const N: usize>(&self, text: &mut Text<N>)
         requires { length text.old + 17000 ≤ N }
         ensures text { text.new ≡ text.old ++ rule_text self.now }
@@ -177,13 +184,19 @@ impl fmt::Display for Rule {
 
     ghost styled_output = { λ r _. Some (rule_text r) };
 
-    /// Writes the rule's text, as `FREQ=MONTHLY;BYDAY=-1FR`: FREQ, INTERVAL, COUNT or UNTIL, BYMONTH, BYMONTHDAY, BYDAY, BYYEARDAY, BYWEEKNO,
-    /// BYSETPOS and WKST in this order, each but FREQ left out where the rule says what its absence says. A list has the numbers that count from
-    /// the front first, each kind rising, and weekdays without a number before all others.
+    /// Writes the rule's text, such as `FREQ=MONTHLY;BYDAY=-1FR`.
     ///
-    /// Numbers that a part cannot have are left out. A part that has such numbers alone is written with no value, and an UNTIL outside the years 0
-    /// to 9999 with another year than of four digits; neither can be read. A rule that was read is written so that it is read again. A width, a fill,
-    /// an alignment, a sign or a precision makes no difference.
+    /// The parts come in this order: FREQ, INTERVAL, COUNT or UNTIL, BYMONTH, BYMONTHDAY, BYDAY, BYYEARDAY, BYWEEKNO,
+    /// BYSETPOS, WKST. A part other than FREQ is left out if its value is what a missing part means.
+    /// A list first has the numbers that count from the front. Each kind of number rises.
+    /// Weekdays without a number come before all others.
+    ///
+    /// A rule that was read is written so that it is read again. Two kinds of rules are written but cannot be read.
+    /// A part that has only numbers which it cannot have is written with no value.
+    /// An UNTIL outside the years 0 to 9999 is written with a year that does not have four digits.
+    /// Otherwise numbers that a part cannot have are left out.
+    ///
+    /// A width, a fill, an alignment, a sign or a precision makes no difference.
     fn fmt<W: fmt::Write>(&self, f: &mut fmt::Formatter<W>) -> fmt::Result {
         let mut text = Text::<LONGEST>::new();
         self.put_into(&mut text);

@@ -45,9 +45,16 @@ impl YearEnds {
     }
 }
 
-/// The days of the year that BYYEARDAY lists, or the positions that BYSETPOS lists, as `1,-1`: numbers of one digit to three from 1 to 366
-/// between commas, each with a sign or none, of which `-` counts from the end; `None` exactly if the text is no such list (RFC 5545, section
-/// 3.3.10).
+/// Returns the numbers of a BYYEARDAY or BYSETPOS list, such as `1,-1` (RFC 5545, 3.3.10).
+///
+/// `text` is numbers of one to three digits from 1 to 366, with commas between them. Each has a sign or none.
+/// `-` counts from the end. Returns `None` if `text` is no such list.
+///
+/// ```
+/// let days = read_year_days(b"1,-306")?;
+/// (days.front.contains(1), days.back.contains(306)) // (true, true)
+/// read_year_days(b"367") // None
+/// ```
 pub fn read_year_days(text: &[u8]) -> Option<YearEnds>
     ensures { result ≡ year_ends_of text.now }
 {

@@ -9,10 +9,11 @@ use Rattle.chrono_calendar.specs.Flags.{flags_of_year}
 abbrev pub packed_name : ℤ → ℕ → ℤ
 packed_name y o = y *ℤ pos 8192 +ℤ pos (o * 16 + flags_of_year y)
 
--- the year and the ordinal in such a number
+-- the year in a stored number
 abbrev pub packed_year : ℤ → ℤ
 packed_year z = int_div_euclid z (pos 8192)
 
+-- the ordinal in a stored number
 abbrev pub packed_ordinal : ℤ → ℕ
 packed_ordinal z = unsigned_abs (int_rem_euclid z (pos 8192)) / 16
 

@@ -1,9 +1,8 @@
-//! Between the day number of a date and its ordinal name (ISO 8601 ordinal date), by closed formulas.
+//! Conversions between a day number and a year with a day of the year, by closed formulas.
 //!
-//! Counting begins here with a cycle of 400 years so early that it gives no negative number, since
-//! an unsigned number is divided by a constant with one product and one shift. The cycle begins on
-//! 1 January of a year 1 above a multiple of 400: the leap year then ends its four years, and the
-//! long century its four centuries.
+//! The count begins with a cycle of 400 years so early that no number is negative. An unsigned number is divided by a
+//! constant with one product and one shift. The cycle begins on 1 January of a year that is 1 above a multiple of 400.
+//! So a leap year ends each four years, and the long century ends each four centuries.
 
 ghost use Rattle.std.specs.Prelude.{◌≡◌, ◌+◌, ◌*◌, ◌/◌, ◌%◌, ◌<◌, ◌≤◌, pos, neg_ℤ, ◌+ℤ◌, ◌≤ℤ◌};
 ghost use Rattle.chrono_units.specs.Years.{IsYear};
@@ -49,7 +48,7 @@ pub(crate) fn days_to_year(year: i32) -> u32
     days_counted_before(year)
 }
 
-/// The days before 1 January of a year, counted from 1 January of year 1.
+/// Returns the number of days before 1 January of the year `year`, counted from 1 January of year 1.
 #[inline]
 pub(crate) fn days_before_year(year: i32) -> i32
     requires { IsYear year }
@@ -67,8 +66,9 @@ fn leap_days_left_out(centuries: u32) -> u32
     (3 * centuries + 3) / 4
 }
 
-/// The last quarter of a day, where quarters of a day are counted from 0 and every fourth year is taken for leap: by the
-/// day and the whole centuries before it.
+/// Returns the last quarter of the day `day`, in a count of quarters of days in which each fourth year is a leap year.
+///
+/// `centuries` is the number of whole centuries before the day.
 #[inline]
 pub(crate) fn last_quarter(day: u32, centuries: u32) -> u32
     requires day { day < 200_000_000 }
@@ -78,11 +78,10 @@ pub(crate) fn last_quarter(day: u32, centuries: u32) -> u32
     4 * (day + leap_days_left_out(centuries)) + 3
 }
 
-/// The whole years of 365 1/4 days before a quarter of a day, and what part of its own year is past, in parts of which a
-/// year has 2^39.
+/// Returns the number of whole years of 365 1/4 days before a quarter of a day, and the part of the next year that is past.
 ///
-/// Division by 1461 quarters is a product with 2^39 / 1461, rounded up: above its 39 lowest binary digits stands the
-/// quotient, and these are the remainder, in parts of a year, and less than a quarter more.
+/// The part counts units of which a year has 2^39. Division by 1461 quarters is a product with 2^39 / 1461, rounded up.
+/// The quotient stands above the 39 lowest binary digits. These digits are the part, plus less than a quarter.
 #[inline]
 pub(crate) fn years_and_part(quarter: u32) -> (u32, u64)
     requires { quarter < 1_000_000_000 }
@@ -107,7 +106,7 @@ pub(crate) fn years_and_place(day: u32) -> (u32, u32)
     (years, ((QUARTERS_OF_YEAR * part) >> 41) as u32)
 }
 
-/// The year of a date's day number, and the place of the day there, from 1.
+/// Returns the year of the day with the number `days`, and the day of the year, from 1.
 #[inline]
 pub(crate) fn year_and_ordinal(days: i32) -> (i32, u32)
     requires { IsDate days }

@@ -14,12 +14,10 @@ use chrono_units::Weekday;
 use chrono_units::year::{is_leap_year, is_year, year_length};
 use std::marker::Model;
 
-/// A date of the proleptic Gregorian calendar, stored as its day number, which is 1 on 1 January of
-/// year 1.
+/// A date of the proleptic Gregorian calendar, stored as its day number. 1 January of year 1 has the number 1.
 ///
-/// So days are added, subtracted and compared as numbers, and the year, the ordinal, the month, the
-/// day of the month and the weekday are found by divisions. Contracts see a form as the number it
-/// holds.
+/// Adding, subtracting and comparing days works on these numbers. Divisions give the year, the month, the day and the
+/// weekday. Contracts see a form as its day number.
 #[derive(Clone, Copy, PartialEq, Eq, PartialOrd, Ord, Hash, Debug)]
 pub struct CountedForm {
     days: i32,
@@ -45,7 +43,12 @@ impl CountedForm {
     /// The last date, +262142-12-31.
     pub const MAX: CountedForm = CountedForm { days: LAST_DAY };
 
-    /// The first date, [`CountedForm::MIN`], whose day number is -95,746,129.
+    /// Returns the first date, whose day number is -95,746,129.
+    ///
+    /// ```
+    /// use chrono_calendar::DayForm;
+    /// CountedForm::min_value().year_month_day() // (-262143, 1, 1)
+    /// ```
     #[inline]
     pub fn min_value() -> CountedForm
         ensures { result ≡ neg_ℤ (pos 95_746_129) }
@@ -53,7 +56,12 @@ impl CountedForm {
         CountedForm::MIN
     }
 
-    /// The last date, [`CountedForm::MAX`], whose day number is 95,745,399.
+    /// Returns the last date, whose day number is 95,745,399.
+    ///
+    /// ```
+    /// use chrono_calendar::DayForm;
+    /// CountedForm::max_value().year_month_day() // (262142, 12, 31)
+    /// ```
     #[inline]
     pub fn max_value() -> CountedForm
         ensures { result ≡ pos 95_745_399 }

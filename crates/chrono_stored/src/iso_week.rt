@@ -1,4 +1,4 @@
-//! The ISO year and week of a day (ISO 8601 week date), by the Thursday of its week.
+//! The ISO year and week of a day (ISO 8601 week date), from the Thursday of its week.
 
 ghost use Rattle.std.specs.Prelude.{◌≡◌, ◌+◌, ◌-◌, ◌*◌, ◌/◌, ◌<◌, ◌≤◌, pos, neg_ℤ, ◌≤ℤ◌};
 ghost use Rattle.std.specs.Int.{IsInRange};
@@ -43,10 +43,10 @@ fn years_and_weeks(weeks: u32) -> (u32, u32)
     (years, ((WEEKS_OF_YEAR * part) >> 58) as u32)
 }
 
-/// The ISO year of a date's day number, and the week there.
+/// Returns the ISO year of the day with the number `days`, and its week there.
 ///
-/// The days are counted from a Monday, so whole weeks and three days are before each Thursday. The
-/// week belongs to that day's year, and the Thursdays of the year count its weeks.
+/// The days are counted from a Monday, so each Thursday comes after whole weeks and three days. The week belongs to the
+/// year of its Thursday, and the Thursdays of a year count its weeks.
 #[inline]
 pub(crate) fn iso_year_and_week(days: i32) -> (i32, u32)
     requires { IsDate days }

@@ -1,5 +1,7 @@
-//! The stored forms of a date: what a calendar date is kept as, behind the trait
-//! [`chrono_calendar::DayForm`] of all such forms.
+//! The stored forms of a date: what a calendar date is kept as.
+//!
+//! Each form has the trait [`chrono_calendar::DayForm`]. [`PackedForm`] keeps the year and the day of the year, and
+//! [`CountedForm`] keeps the day number.
 #![tactic(auto)]
 
 mod conversion;

@@ -1,10 +1,8 @@
-//! Between the day number of a date and its calendar name (ISO 8601 calendar date), by closed
-//! formulas.
+//! Conversions between a day number and a year, month and day, by closed formulas.
 //!
-//! A year is read here from March to February, so that the leap day is its last. The months from
-//! March on then follow one another so evenly that one linear formula, rounded down, tells the month
-//! of a day, and another the days before a month. January and February are the months 13 and 14 of
-//! the year before.
+//! Years go from March to February here, so the leap day is the last day of a year. The lengths of the months from
+//! March on are so even that one linear formula, rounded down, gives the month of a day. Another gives the days before
+//! a month. January and February are the months 13 and 14 of the year before.
 
 ghost use Rattle.std.specs.Prelude.{◌≡◌, ◌+◌, ◌-◌, ◌*◌, ◌/◌, ◌%◌, ◌<◌, ◌≤◌, pos, ◌+ℤ◌, ◌-ℤ◌, unsigned_abs, SomeIff};
 ghost use Rattle.std.specs.Int.{IsInRange};
@@ -36,7 +34,7 @@ fn month_from_march(place: u32) -> (u32, u32)
     (scaled / 65_536, scaled % 65_536 / 2_141 + 1)
 }
 
-/// The year, the month and the day of the month of a date's day number.
+/// Returns the year, the month and the day of the month of the day with the number `days`.
 #[inline]
 pub(crate) fn year_month_day(days: i32) -> (i32, u32, u32)
     requires { IsDate days }
@@ -62,7 +60,7 @@ fn days_before_month(month: u32) -> u32
     (979 * month - 2_919) / 32
 }
 
-/// The months from March of the year -262,400 to the month of a date's day number, and the day of that month.
+/// Returns the number of months from March of the year -262,400 to the month of a day, and the day of that month.
 #[inline]
 pub(crate) fn months_and_day(days: i32) -> (u32, u32)
     requires { IsDate days }
@@ -75,7 +73,7 @@ pub(crate) fn months_and_day(days: i32) -> (u32, u32)
     (years * 12 + month - 3, day)
 }
 
-/// So many months more, or fewer for a negative number, if that is a month of the library.
+/// Returns `months + k`, if that is a month of the library. `k` can be negative.
 #[inline]
 pub(crate) fn months_later(months: u32, k: i64) -> Option<u32>
     ensures { SomeIff result (IsYear (year_of_month_index (pos months +ℤ k -ℤ pos 3_148_798)))
@@ -88,11 +86,10 @@ pub(crate) fn months_later(months: u32, k: i64) -> Option<u32>
     Some(moved as u32)
 }
 
-/// The day number of a day of the month that so many months from March of the year -262,400 precede, or of the month's last
-/// day if that is earlier.
+/// Returns the day number of the day `day` of a month, or of the month's last day if that is earlier.
 ///
-/// The month ends where the next begins, and February where the year from March does. Both are asked at once, with no branch
-/// on what they answer.
+/// `months` is the number of months from March of the year -262,400 to the month. The month ends where the next begins, and
+/// February where the year from March ends. The function computes both ends, with no branch.
 #[inline]
 pub(crate) fn day_number_within(months: u32, day: u32) -> i32
     requires year { IsYear (year_of_month_index (pos months -ℤ pos 3_148_798)) }
@@ -110,10 +107,11 @@ pub(crate) fn day_number_within(months: u32, day: u32) -> i32
     (start + place) as i32 - (DAYS_TO_ONE + DAYS_FROM_MARCH as i32)
 }
 
-/// The day number of a day of a month, or `None` if the library has no such year, or the year has no such day.
+/// Returns the day number of a day of a month.
 ///
-/// A month ends where the next begins, and February where the year from March does, which is as long as the calendar
-/// year. Few days come past the first 365, so the leap rule is seldom asked.
+/// Returns `None` if the library has no such year, or the year has no such day. A month ends where the next begins, and
+/// February where the year from March ends. That year is as long as the calendar year. Few days come after its first
+/// 365, so the leap rule is seldom needed.
 #[inline]
 pub(crate) fn day_number(year: i32, month: u32, day: u32) -> Option<i32>
     ensures { SomeIff result (IsYear year × IsCalendarName year month day) (day_number_of_ymd year month day) }

@@ -1,7 +1,7 @@
-//! Between the place of a day in its year and its month and day there, by closed formulas.
+//! Conversions between a day of the year and a month with a day, by closed formulas.
 //!
-//! A year is read here as if February had 30 days: then the months of 31 and 30 days follow one
-//! another so evenly that one linear formula, rounded down, tells the month of a day.
+//! February has 30 days in these formulas. The lengths of the months are then so even that one linear formula, rounded
+//! down, gives the month of a day.
 
 ghost use Rattle.std.specs.Prelude.{◌≡◌, ◌+◌, ◌-◌, ◌≤◌, SomeIff, if◌then◌else◌};
 ghost use Rattle.std.specs.Int.{IsInRange};
@@ -16,8 +16,7 @@ fn missing_days(leap: bool) -> u32
     if leap { 1 } else { 2 }
 }
 
-/// The month of a day of a leap year or of a common year, and the place of the day there, all
-/// counted from 1.
+/// Returns the month and the day of the month of the day `ordinal` of a leap year or of a common year, all from 1.
 #[inline]
 pub(crate) fn month_day(leap: bool, ordinal: u32) -> (u32, u32)
     requires { IsInRange 1 (if leap then 366 else 365) ordinal }
@@ -48,8 +47,9 @@ fn days_before_month(leap: bool, month: u32) -> u32
     }
 }
 
-/// The place in a leap year or in a common year of a day of a month, all counted from 1, or `None`
-/// if such years have no such day. A month ends where the next one begins.
+/// Returns the day of the year of a day of a month, in a leap year or in a common year, all from 1.
+///
+/// Returns `None` if such years have no such day. A month ends where the next one begins.
 #[inline]
 pub(crate) fn ordinal_of_month_day(leap: bool, month: u32, day: u32) -> Option<u32>
     ensures { SomeIff result

@@ -1,4 +1,4 @@
-//! The packed form of a date: its year, its place there and the flags of its year in one number.
+//! The packed form of a date: its year, its day of the year and the flags of its year in one number.
 
 ghost use Rattle.std.specs.Prelude.{◌≡◌, SomeIff, pos, neg_ℤ};
 ghost use Rattle.chrono_units.specs.Years.{IsYear};
@@ -17,12 +17,11 @@ use std::cmp::Ordering;
 use std::hash::{Hash, Hasher};
 use std::marker::Model;
 
-/// A date of the proleptic Gregorian calendar, stored as `(year << 13) + (ordinal << 4) + flags`,
-/// where the flags are the [`YearFlags`] of the year.
+/// A date of the proleptic Gregorian calendar, stored as `(year << 13) + (ordinal << 4) + flags`.
 ///
-/// So the year, the ordinal and the weekday are read by a shift, a mask and a small remainder, and
-/// two forms compare as their dates do. Contracts see a form as the day number of its date, which
-/// is 1 on 1 January of year 1, and each day number has one form.
+/// The flags are the [`YearFlags`] of the year. A shift, a mask and a small remainder give the year, the ordinal and
+/// the weekday. Two forms compare as their dates do. Contracts see a form as the day number of its date: 1 for 1
+/// January of year 1. Each day number has exactly one form.
 #[derive(Clone, Copy, Debug)]
 pub struct PackedForm {
     packed: i32,
@@ -58,7 +57,12 @@ impl PackedForm {
         packed: 2_147_473_118,
     };
 
-    /// The first date, [`PackedForm::MIN`], whose day number is -95,746,129.
+    /// Returns the first date, whose day number is -95,746,129.
+    ///
+    /// ```
+    /// use chrono_calendar::DayForm;
+    /// PackedForm::min_value().year_month_day() // (-262143, 1, 1)
+    /// ```
     #[inline]
     #[tactic(auto, using(crate::proofs::Ends::ends))]
     pub fn min_value() -> PackedForm
@@ -67,7 +71,12 @@ impl PackedForm {
         PackedForm::MIN
     }
 
-    /// The last date, [`PackedForm::MAX`], whose day number is 95,745,399.
+    /// Returns the last date, whose day number is 95,745,399.
+    ///
+    /// ```
+    /// use chrono_calendar::DayForm;
+    /// PackedForm::max_value().year_month_day() // (262142, 12, 31)
+    /// ```
     #[inline]
     #[tactic(auto, using(crate::proofs::Ends::ends))]
     pub fn max_value() -> PackedForm
@@ -76,9 +85,13 @@ impl PackedForm {
         PackedForm::MAX
     }
 
-    /// The stored number, which the date alone determines, however the form was made.
+    /// Returns the stored number. It depends on the date alone.
     ///
-    /// That of `PackedForm::MIN` is -2,147,475,430: year -262,143, ordinal 1, flags 10.
+    /// ```
+    /// use chrono_calendar::DayForm;
+    /// PackedForm::from_yo(2024, 60)?.bits() // 16581574
+    /// PackedForm::MIN.bits() // -2147475430
+    /// ```
     #[inline]
     pub fn bits(&self) -> i32
         ensures { result ≡ packed_name (year_of self.now) (ordinal_of self.now) }

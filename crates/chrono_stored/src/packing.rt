@@ -1,5 +1,4 @@
-//! A year, an ordinal and the flags of the year as one number: put together, and read by shifts and
-//! masks.
+//! A year, an ordinal and the flags of the year as one number, packed and read by shifts and masks.
 
 ghost use Rattle.std.specs.Prelude.{◌≡◌, ◌+◌, ◌*◌, ◌%◌, ◌≤◌, nat_lt, pos, ◌+ℤ◌, ◌*ℤ◌};
 ghost use Rattle.std.specs.Int.{int_rem_euclid};
@@ -25,7 +24,7 @@ const COMMON_YEAR: u8 = 8;
 
 const WEEKDAY_DIGITS: u8 = 7;
 
-/// The number of a year, an ordinal and flags: `(year << 13) + (ordinal << 4) + flags`.
+/// Returns the number of a year, an ordinal and flags: `(year << 13) + (ordinal << 4) + flags`.
 #[inline]
 pub(crate) fn packed_number(year: i32, ordinal: u32, flags: u8) -> i32
     requires year { IsYear year }
@@ -36,7 +35,7 @@ pub(crate) fn packed_number(year: i32, ordinal: u32, flags: u8) -> i32
     (year << DIGITS_BELOW_YEAR) + ((ordinal << DIGITS_BELOW_ORDINAL) as i32) + i32::from(flags)
 }
 
-/// The year in such a number: what stands above its 13 lowest binary digits.
+/// Returns the year in such a number: what stands above its 13 lowest binary digits.
 #[inline]
 pub(crate) fn year_in(packed: i32) -> i32
     ensures { result ≡ packed_year packed }
@@ -44,7 +43,7 @@ pub(crate) fn year_in(packed: i32) -> i32
     packed >> DIGITS_BELOW_YEAR
 }
 
-/// The ordinal in such a number: the nine digits above the lowest four.
+/// Returns the ordinal in such a number: the nine digits above the lowest four.
 #[inline]
 pub(crate) fn ordinal_in(packed: i32) -> u32
     ensures { result ≡ packed_ordinal packed }
@@ -52,7 +51,7 @@ pub(crate) fn ordinal_in(packed: i32) -> u32
     ((packed & ORDINAL_AND_FLAGS) >> DIGITS_BELOW_ORDINAL) as u32
 }
 
-/// The flags in such a number: its lowest four digits.
+/// Returns the flags in such a number: its lowest four digits.
 #[inline]
 pub(crate) fn flags_in(packed: i32) -> u8
     ensures { pos result ≡ int_rem_euclid packed (pos 16) }
@@ -60,7 +59,7 @@ pub(crate) fn flags_in(packed: i32) -> u8
     (packed & FLAGS) as u8
 }
 
-/// Whether the flags are those of a leap year, which lack the digit 8 of a common year.
+/// Returns whether the flags are those of a leap year. They lack the digit 8 of a common year.
 #[inline]
 pub(crate) fn is_leap_by(flags: u8) -> bool
     ensures { result ≡ nat_lt flags 8 }
@@ -68,8 +67,9 @@ pub(crate) fn is_leap_by(flags: u8) -> bool
     flags < COMMON_YEAR
 }
 
-/// The weekday of a day of a year, by its ordinal and the flags of the year, whose low three digits
-/// are the days from a Monday on to the last day before the year.
+/// Returns the weekday of a day of a year, from its ordinal and the flags of the year.
+///
+/// The low three digits of the flags are the number of days from a Monday to the last day before the year.
 #[inline]
 pub(crate) fn weekday_by(ordinal: u32, flags: u8) -> Weekday
     requires { ordinal ≤ 366 }

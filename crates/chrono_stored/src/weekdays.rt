@@ -1,11 +1,11 @@
-//! The weekdays by a remainder of 7.
+//! Weekdays as remainders of 7.
 
 ghost use Rattle.std.specs.Prelude.{◌≡◌, ◌%◌};
 ghost use Rattle.chrono_units.specs.Weekday.{weekday_from_monday};
 
 use chrono_units::Weekday;
 
-/// The weekday that comes as many days after a Monday.
+/// Returns the weekday `days` days after a Monday.
 #[inline]
 pub(crate) fn days_after_monday(days: u32) -> Weekday
     ensures { result ≡ weekday_from_monday (days % 7) }

@@ -39,16 +39,19 @@ WritesNumber text z =
 abbrev pub within : ℤ → ℤ → ℤ → Option ℤ
 within low high z = if int_le low z && int_le z high then Some z else None
 
--- a number as a value of each type
+-- the number, if it fits an `i64`
 unfoldable pub to_i64 : ℤ → Option ℤ
 to_i64 = within (negsuc (2 ^ 63 - 1)) (pos (2 ^ 63 - 1))
 
+-- the number, if it fits an `i32`
 unfoldable pub to_i32 : ℤ → Option ℤ
 to_i32 = within (negsuc (2 ^ 31 - 1)) (pos (2 ^ 31 - 1))
 
+-- the number, if it fits a `u32`
 unfoldable pub to_u32 : ℤ → Option ℕ
 to_u32 z = option_map unsigned_abs (within (pos 0) (pos (2 ^ 32 - 1)) z)
 
+-- the number, if it fits a `u8`
 unfoldable pub to_u8 : ℤ → Option ℕ
 to_u8 z = option_map unsigned_abs (within (pos 0) (pos (2 ^ 8 - 1)) z)
 

@@ -1,4 +1,5 @@
 -- The texts of numbers as ISO 8601 writes them: digits, decimals, years, dates, weeks, times of day and durations, as lists of ASCII codes.
+-- Such texts are `2024-02-29`, `2024-060`, `2024-W09-4`, `23:59:60.500` and `PT1.5S`.
 use Rattle.std.specs.Prelude.{◌≡◌, ℕ, zero, suc, ◌+◌, ◌-◌, ◌/◌, ◌%◌, ◌^◌, ◌==◌, nat_lt, nat_le, Bool, List, [], ◌∷◌, ◌++◌, if◌then◌else◌, codes, ℤ, pos, neg_ℤ, unsigned_abs, refl}
 use Rattle.std.specs.Fmt.{decimal, digits, sign_text}
 use Rattle.std.specs.Int.{is_negative}

@@ -1,4 +1,4 @@
-//! Years, dates and weeks as ISO 8601 writes them.
+//! Texts of years, dates and weeks, in the form of ISO 8601.
 ghost use Rattle.std.specs.Prelude.{◌≡◌, ◌+◌, ◌<◌, ◌≤◌, ◌++◌, length, unsigned_abs};
 ghost use Rattle.std.specs.Str.{IsAscii};
 ghost use Rattle.chrono_text.specs.Text.{year_digits, year_text, calendar_text, ordinal_text, week_text, week_date_text};
@@ -7,9 +7,15 @@ use crate::digits::codes_of_two;
 use crate::text::Text;
 
 impl<const N: usize> Text<N> {
-    /// Puts a year, a month and a day of the month with `-` between (ISO 8601 calendar date).
+    /// Appends a year, a month and a day of the month, separated by `-` (ISO 8601 calendar date).
     ///
-    /// The year has at most six digits, the month and the day are below 100, and there is room for 13 bytes.
+    /// Requires `year` to have at most six digits, `month` and `day` to be below 100, and 13 free bytes.
+    ///
+    /// ```
+    /// let mut text = Text::<13>::new();
+    /// text.push_calendar_date(2024, 2, 29);
+    /// text.as_str() // "2024-02-29"
+    /// ```
     pub fn push_calendar_date(&mut self, year: i32, month: u32, day: u32)
         requires year { unsigned_abs year < 1_000_000 }
         requires month { month < 100 }
@@ -26,9 +32,15 @@ impl<const N: usize> Text<N> {
         self.push_two(day);
     }
 
-    /// Puts a year, `-` and a day of the year in three digits (ISO 8601 ordinal date).
+    /// Appends a year, `-` and a day of the year in three digits (ISO 8601 ordinal date).
     ///
-    /// The year has at most six digits, the ordinal is below 1,000, and there is room for 11 bytes.
+    /// Requires `year` to have at most six digits, `ordinal` to be below 1,000, and 11 free bytes.
+    ///
+    /// ```
+    /// let mut text = Text::<11>::new();
+    /// text.push_ordinal_date(2024, 60);
+    /// text.as_str() // "2024-060"
+    /// ```
     pub fn push_ordinal_date(&mut self, year: i32, ordinal: u32)
         requires year { unsigned_abs year < 1_000_000 }
         requires ordinal { ordinal < 1_000 }
@@ -42,9 +54,15 @@ impl<const N: usize> Text<N> {
         self.push_three(ordinal);
     }
 
-    /// Puts a year, `-W`, a week of the year, `-` and a weekday from 1 for Monday to 7 for Sunday (ISO 8601 week date).
+    /// Appends a year, `-W`, a week, `-` and a weekday, 1 for Monday to 7 for Sunday (ISO 8601 week date).
     ///
-    /// The year has at most six digits, the week is below 100, the weekday below 10, and there is room for 13 bytes.
+    /// Requires `year` to have at most six digits, `week` to be below 100, `weekday` to be below 10, and 13 free bytes.
+    ///
+    /// ```
+    /// let mut text = Text::<13>::new();
+    /// text.push_week_date(2024, 9, 4);
+    /// text.as_str() // "2024-W09-4"
+    /// ```
     pub fn push_week_date(&mut self, year: i32, week: u32, weekday: u32)
         requires year { unsigned_abs year < 1_000_000 }
         requires week { week < 100 }
@@ -59,9 +77,15 @@ impl<const N: usize> Text<N> {
         self.push(b'0' + weekday as u8);
     }
 
-    /// Puts a year, `-W` and a week of the year (ISO 8601 week date, without its day).
+    /// Appends a year, `-W` and a week (ISO 8601 week date without its day).
     ///
-    /// The year has at most six digits, the week is below 100, and there is room for 11 bytes.
+    /// Requires `year` to have at most six digits, `week` to be below 100, and 11 free bytes.
+    ///
+    /// ```
+    /// let mut text = Text::<11>::new();
+    /// text.push_week(2024, 9);
+    /// text.as_str() // "2024-W09"
+    /// ```
     pub fn push_week(&mut self, year: i32, week: u32)
         requires year { unsigned_abs year < 1_000_000 }
         requires week { week < 100 }

@@ -1,4 +1,4 @@
-//! Numbers in decimal.
+//! Numbers as decimal texts.
 ghost use Rattle.std.specs.Prelude.{◌≡◌, ◌+◌, ◌%◌, ◌^◌, ◌<◌, ◌≤◌, ◌++◌, [], length, nat_lt, if◌then◌else◌};
 ghost use Rattle.std.specs.Fmt.{decimal, signed_decimal};
 ghost use Rattle.chrono_text.specs.Text.{all_digits};
@@ -7,7 +7,13 @@ use crate::digits::codes_of_two;
 use crate::text::Text;
 
 impl<const N: usize> Text<N> {
-    /// Puts a number in decimal, with a `-` if it is below 0. There is room for 20 bytes.
+    /// Appends the number `n` in decimal, with `-` before a negative one. Requires 20 free bytes.
+    ///
+    /// ```
+    /// let mut text = Text::<20>::new();
+    /// text.push_i32(-42);
+    /// text.as_str() // "-42"
+    /// ```
     pub fn push_i32(&mut self, n: i32)
         requires { length self.old + 20 ≤ N }
         ensures text { self.new ≡ self.old ++ signed_decimal n }
@@ -17,7 +23,15 @@ impl<const N: usize> Text<N> {
         self.push_natural(u64::from(n.unsigned_abs()));
     }
 
-    /// Puts a number in decimal, with no branch on how many digits it has up to eight. There is room for 19 bytes.
+    /// Appends the number `n` in decimal. Requires 19 free bytes.
+    ///
+    /// ```
+    /// let mut text = Text::<19>::new();
+    /// text.push_u32(1_024);
+    /// text.as_str() // "1024"
+    /// ```
+    ///
+    /// For up to eight digits it has no branch on the number of digits.
     pub fn push_u32(&mut self, n: u32)
         requires { length self.old + 19 ≤ N }
         ensures text { self.new ≡ self.old ++ decimal n }
@@ -26,7 +40,15 @@ impl<const N: usize> Text<N> {
         self.push_natural(u64::from(n));
     }
 
-    /// Puts a number in decimal, faster if it has at most four digits, such as a day of a year. There is room for 19 bytes.
+    /// Appends the number `n` in decimal. Requires 19 free bytes.
+    ///
+    /// ```
+    /// let mut text = Text::<19>::new();
+    /// text.push_short_u32(366);
+    /// text.as_str() // "366"
+    /// ```
+    ///
+    /// It is faster than [`push_u32`](Self::push_u32) for at most four digits, such as those of a day of the year.
     pub fn push_short_u32(&mut self, n: u32)
         requires { length self.old + 19 ≤ N }
         ensures text { self.new ≡ self.old ++ decimal n }

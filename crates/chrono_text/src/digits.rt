@@ -1,4 +1,4 @@
-//! Numbers in a fixed number of digits.
+//! Numbers as texts with a fixed number of digits.
 ghost use Rattle.std.specs.Prelude.{◌≡◌, ◌+◌, ◌/◌, ◌%◌, ◌<◌, ◌≤◌, ◌++◌, length};
 ghost use Rattle.std.specs.Str.{byte};
 ghost use Rattle.chrono_text.specs.Text.{two_digits, all_digits};

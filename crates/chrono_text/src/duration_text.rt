@@ -1,4 +1,4 @@
-//! Durations as ISO 8601 writes them.
+//! Texts of durations, in the form of ISO 8601.
 ghost use Rattle.std.specs.Prelude.{◌≡◌, ◌≢◌, ◌+◌, ◌*◌, ◌%◌, ◌^◌, ◌<◌, ◌≤◌, ◌++◌, ℕ, length};
 ghost use Rattle.std.specs.Str.{IsAscii};
 ghost use Rattle.chrono_text.specs.Text.{nanos_per_second, fraction_text, seconds_text};
@@ -7,10 +7,17 @@ use crate::text::Text;
 use crate::time_text::{NANOS_PER_MICRO, NANOS_PER_MILLI};
 
 impl<const N: usize> Text<N> {
-    /// Puts a duration of so many seconds and nanoseconds past them (ISO 8601 duration), as `-PT0.5S`.
+    /// Appends a duration of `seconds` seconds and `nanos` nanoseconds (ISO 8601 duration). `-` comes before a negative
+    /// one.
     ///
-    /// The seconds have at most 16 digits, the nanoseconds are below 1,000,000,000, and there is room for 33 bytes, of which at
-    /// most 30 are put. Seconds and nanoseconds of 0 are put as `PT0S`.
+    /// Requires `seconds` to have at most 16 digits, `nanos` to be below 1,000,000,000, and 33 free bytes. The text has
+    /// at most 30 bytes. Zero is `PT0S`.
+    ///
+    /// ```
+    /// let mut text = Text::<33>::new();
+    /// text.push_seconds(true, 0, 500_000_000);
+    /// text.as_str() // "-PT0.5S"
+    /// ```
     pub fn push_seconds(&mut self, negative: bool, seconds: u64, nanos: u32)
         requires seconds { seconds < 10 ^ 16 }
         requires nanos { nanos < nanos_per_second }

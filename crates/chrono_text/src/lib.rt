@@ -1,8 +1,8 @@
-//! Numbers as texts, and back: the room of bytes that all texts are put into, [`Text`], with one writer of each text of ISO 8601 that is
-//! printed here, and one reader of digits, of whole numbers, of fractions and of years.
+//! Numbers as texts, and back: writers and readers of the texts of ISO 8601.
 //!
-//! Here are numbers and bytes alone. What a year, a month or a weekday is, the crates above know; they put the texts of their values
-//! together by these writers, and take them apart by these readers.
+//! [`Text`] is a buffer of fixed size, and its `push_` functions append one text each. The `read_` functions read
+//! digits, whole numbers, fractions of a second and years. This crate has numbers and bytes only. The crates above know
+//! what a year, a month or a weekday is, and build their texts from these writers and readers.
 #![tactic(auto)]
 
 mod date_text;

@@ -1,10 +1,12 @@
-//! The bytes of a line, with those that follow them in the input.
+//! The bytes of a line, together with the bytes that follow them in the input.
 ghost use Rattle.std.specs.Prelude.{◌≡◌, ◌<◌, ◌≤◌, ◌==◌, ℕ, List, length, take, drop, slice_index};
 
 use std::marker::Model;
 
-/// The bytes of a line from some place on. Those that follow in the input are known too, so that as many bytes
-/// can be looked at together where the line has fewer; what is read is told by the line alone.
+/// The bytes of a line from some position on.
+///
+/// It also knows the bytes that follow in the input, so that code can load a fixed number of bytes at once. They change no
+/// result: readers read the line alone.
 #[derive(Drop)]
 pub struct Line<'a> {
     bytes: &'a [u8],
@@ -20,7 +22,11 @@ impl<'a> Model for Line<'a> {
 }
 
 impl<'a> Line<'a> {
-    /// The first `len` bytes.
+    /// Returns the line of the first `len` bytes of `bytes`. Requires `bytes` to have that many.
+    ///
+    /// ```
+    /// Line::new(b"one\ntwo", 3).len() // 3
+    /// ```
     #[inline]
     pub fn new(bytes: &'a [u8], len: usize) -> Line<'a>
         requires { len ≤ length bytes.now }
@@ -29,7 +35,11 @@ impl<'a> Line<'a> {
         Line { bytes, len }
     }
 
-    /// All the bytes, with none known behind them.
+    /// Returns the line of all of `bytes`, with no bytes after it.
+    ///
+    /// ```
+    /// Line::whole(b"one").len() // 3
+    /// ```
     #[inline]
     pub fn whole(bytes: &'a [u8]) -> Line<'a>
         ensures { result ≡ bytes.now }
@@ -40,7 +50,11 @@ impl<'a> Line<'a> {
         }
     }
 
-    /// How many bytes there are.
+    /// Returns the number of bytes of the line.
+    ///
+    /// ```
+    /// Line::new(b"one\ntwo", 3).len() // 3
+    /// ```
     #[inline]
     pub fn len(&self) -> usize
         ensures { result ≡ length self.now }
@@ -48,7 +62,11 @@ impl<'a> Line<'a> {
         self.len
     }
 
-    /// Whether there is no byte.
+    /// Returns whether the line has no byte.
+    ///
+    /// ```
+    /// Line::whole(b"").is_empty() // true
+    /// ```
     #[inline]
     pub fn is_empty(&self) -> bool
         ensures { result ≡ length self.now == 0 }
@@ -56,7 +74,11 @@ impl<'a> Line<'a> {
         self.len == 0
     }
 
-    /// The bytes of the line alone.
+    /// Returns the bytes of the line alone.
+    ///
+    /// ```
+    /// Line::new(b"one\ntwo", 3).as_slice() // [111, 110, 101]
+    /// ```
     #[inline]
     pub fn as_slice(&self) -> &'a [u8]
         ensures { result.now ≡ self.now }
@@ -64,7 +86,11 @@ impl<'a> Line<'a> {
         &self.bytes[..self.len]
     }
 
-    /// The byte at a place.
+    /// Returns the byte at the position `at`. Requires `at` to be less than the length of the line.
+    ///
+    /// ```
+    /// Line::whole(b"one").byte(0) // 111
+    /// ```
     #[inline]
     pub fn byte(&self, at: usize) -> u8
         requires { at < length self.now }
@@ -82,7 +108,11 @@ impl<'a> Line<'a> {
         self.bytes
     }
 
-    /// What is left without the first `count` bytes.
+    /// Returns the line without its first `count` bytes. Requires the line to have that many.
+    ///
+    /// ```
+    /// Line::whole(b"one").skip(2).len() // 1
+    /// ```
     #[inline]
     pub fn skip(&self, count: usize) -> Line<'a>
         requires { count ≤ length self.now }

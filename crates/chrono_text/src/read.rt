@@ -1,4 +1,4 @@
-//! The reading of digits, of whole numbers, of fractions and of years.
+//! Readers of digits, whole numbers, fractions of a second and years.
 
 mod decimal;
 mod digit;

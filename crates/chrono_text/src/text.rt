@@ -1,4 +1,4 @@
-//! Bytes one after another, in a room of fixed size.
+//! A text of bytes in a buffer of fixed size.
 ghost use Rattle.std.specs.Prelude.{◌≡◌, ◌+◌, ◌-◌, ◌<◌, ◌≤◌, ◌++◌, ◌∷◌, ◌↔◌, ℕ, List, [], IsTrue, length, take, if◌then◌else◌};
 ghost use Rattle.std.specs.Fmt.{WritesOnOk, WritesStyledOnOk};
 ghost use Rattle.std.specs.Str.{IsAscii};
@@ -7,7 +7,7 @@ use std::fmt;
 use std::marker::Model;
 use std::str::from_utf8_unchecked;
 
-/// At most `N` bytes, one behind another: a text that grows at its end.
+/// A text of at most `N` bytes that grows at its end.
 #[derive(Debug, Drop)]
 pub struct Text<const N: usize> {
     bytes: [u8; N],
@@ -23,7 +23,11 @@ impl<const N: usize> Model for Text<N> {
 }
 
 impl<const N: usize> Text<N> {
-    /// No byte yet.
+    /// Returns a text with no byte.
+    ///
+    /// ```
+    /// Text::<8>::new().is_empty() // true
+    /// ```
     pub fn new() -> Text<N>
         ensures { result ≡ [] }
     {
@@ -33,7 +37,13 @@ impl<const N: usize> Text<N> {
         }
     }
 
-    /// The bytes, at most `N`.
+    /// Returns the bytes, at most `N`.
+    ///
+    /// ```
+    /// let mut text = Text::<8>::new();
+    /// text.push(b'a');
+    /// text.as_bytes() // [97]
+    /// ```
     pub fn as_bytes(&self) -> &[u8]
         ensures value { result.now ≡ self.now }
         ensures fits { length result.now ≤ N }
@@ -41,7 +51,13 @@ impl<const N: usize> Text<N> {
         &self.bytes[..self.len]
     }
 
-    /// The bytes as a string. They have to be ASCII.
+    /// Returns the bytes as a string. Requires them to be ASCII.
+    ///
+    /// ```
+    /// let mut text = Text::<8>::new();
+    /// text.push(b'a');
+    /// text.as_str() // "a"
+    /// ```
     #[inline]
     pub fn as_str(&self) -> &str
         requires { IsAscii self.now }
@@ -51,7 +67,8 @@ impl<const N: usize> Text<N> {
         unsafe { from_utf8_unchecked(self.as_bytes()) }
     }
 
-    /// Hands the bytes to a formatter in one piece, whatever width, fill or precision is asked for. They have to be ASCII.
+    /// Writes the bytes to the formatter `f` in one piece. Requires them to be ASCII. Width, fill and precision change
+    /// nothing.
     #[inline]
     pub fn print<W: fmt::Write>(&self, f: &mut fmt::Formatter<W>) -> fmt::Result
         requires { IsAscii self.now }
@@ -61,28 +78,51 @@ impl<const N: usize> Text<N> {
         f.write_str(self.as_str())
     }
 
-    /// Whether there is no byte.
+    /// Returns whether the text has no byte.
+    ///
+    /// ```
+    /// Text::<8>::new().is_empty() // true
+    /// ```
     pub fn is_empty(&self) -> bool
         ensures { IsTrue result ↔ (self.now ≡ []) }
     {
         self.len == 0
     }
 
-    /// How many bytes more there is room for.
+    /// Returns the number of free bytes.
+    ///
+    /// ```
+    /// let mut text = Text::<8>::new();
+    /// text.push(b'a');
+    /// text.room() // 7
+    /// ```
     pub fn room(&self) -> usize
         ensures { length self.now + result ≡ N }
     {
         N - self.len
     }
 
-    /// Drops all bytes.
+    /// Removes all bytes.
+    ///
+    /// ```
+    /// let mut text = Text::<8>::new();
+    /// text.push(b'a');
+    /// text.clear();
+    /// text.is_empty() // true
+    /// ```
     pub fn clear(&mut self)
         ensures { self.new ≡ [] }
     {
         self.len = 0;
     }
 
-    /// Puts a byte at the end.
+    /// Appends `byte`. Requires a free byte.
+    ///
+    /// ```
+    /// let mut text = Text::<8>::new();
+    /// text.push(b'a');
+    /// text.as_str() // "a"
+    /// ```
     #[inline]
     pub fn push(&mut self, byte: u8)
         requires { length self.old < N }
@@ -93,7 +133,14 @@ impl<const N: usize> Text<N> {
         self.len = at + 1;
     }
 
-    /// Puts a byte at the end if it is wanted, with no branch.
+    /// Appends `byte` if `wanted` is true, with no branch. Requires a free byte.
+    ///
+    /// ```
+    /// let mut text = Text::<8>::new();
+    /// text.push_if(true, b'a');
+    /// text.push_if(false, b'b');
+    /// text.as_str() // "a"
+    /// ```
     #[inline]
     pub fn push_if(&mut self, wanted: bool, byte: u8)
         requires { length self.old < N }
@@ -104,7 +151,13 @@ impl<const N: usize> Text<N> {
         self.len = at + usize::from(wanted);
     }
 
-    /// Puts bytes at the end.
+    /// Appends the bytes of `text`. Requires as many free bytes.
+    ///
+    /// ```
+    /// let mut text = Text::<8>::new();
+    /// text.push_text(b"abc");
+    /// text.as_str() // "abc"
+    /// ```
     #[inline]
     pub fn push_text(&mut self, text: &[u8])
         requires { length self.old + length text.now ≤ N }
@@ -126,7 +179,13 @@ impl<const N: usize> Text<N> {
         self.len -= count;
     }
 
-    /// Puts as many of the bytes at the end as there is room for.
+    /// Appends the bytes of `more`, up to the number of free bytes.
+    ///
+    /// ```
+    /// let mut text = Text::<2>::new();
+    /// text.push_clipped(b"abc");
+    /// text.as_str() // "ab"
+    /// ```
     pub fn push_clipped(&mut self, more: &[u8])
         ensures { self.new ≡ take N (self.old ++ more.now) }
     {

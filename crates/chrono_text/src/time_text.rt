@@ -1,25 +1,32 @@
-//! Times of day as ISO 8601 writes them.
+//! Texts of times of day, in the form of ISO 8601.
 ghost use Rattle.std.specs.Prelude.{◌≡◌, ◌+◌, ◌*◌, ◌<◌, ◌≤◌, ◌++◌, length};
 ghost use Rattle.std.specs.Str.{IsAscii};
 ghost use Rattle.chrono_text.specs.Text.{nanos_per_second, subsecond_text, clock_text};
 
 use crate::text::Text;
 
-/// The nanoseconds of a second.
+/// The number of nanoseconds in a second.
 pub const NANOS_PER_SEC: u32 = 1_000_000_000;
 
-/// The nanoseconds of a millisecond.
+/// The number of nanoseconds in a millisecond.
 pub const NANOS_PER_MILLI: u32 = 1_000_000;
 
-/// The nanoseconds of a microsecond.
+/// The number of nanoseconds in a microsecond.
 pub const NANOS_PER_MICRO: u32 = 1_000;
 
 impl<const N: usize> Text<N> {
-    /// Puts an hour, a minute, a second and the nanoseconds past it (ISO 8601 time of day).
+    /// Appends an hour, a minute, a second and `fraction` nanoseconds past it (ISO 8601 time of day).
     ///
-    /// The four are below 24, 60, 60 and 2,000,000,000, and there is room for 18 bytes.
+    /// Requires `hour` to be below 24, `minute` and `second` below 60, and `fraction` below 2,000,000,000. Requires 18
+    /// free bytes.
     ///
-    /// A fraction of 1,000,000,000 or more is that of a leap second: it shows as one second more.
+    /// ```
+    /// let mut text = Text::<18>::new();
+    /// text.push_clock(23, 59, 59, 1_500_000_000);
+    /// text.as_str() // "23:59:60.500"
+    /// ```
+    ///
+    /// A fraction of 1,000,000,000 or more lies in a leap second, which appears as one second more.
     pub fn push_clock(&mut self, hour: u32, minute: u32, second: u32, fraction: u32)
         requires hour { hour < 24 }
         requires minute { minute < 60 }

@@ -137,7 +137,7 @@ fn print_durations(mut generator: Generator, count: u64) -> u64 {
 fn read_dates(mut generator: Generator, count: u64) -> u64 {
     let texts = table(&mut generator, text);
     sum_of!(generator, count, drawn => match read_date(&texts[first(drawn)]) {
-        Some(date) => of_signed(i64::from(date.num_days_from_ce())),
-        None => 0,
+        Ok(date) => of_signed(i64::from(date.num_days_from_ce())),
+        Err(_) => 0,
     })
 }

@@ -1,4 +1,4 @@
--- Years and months of the proleptic Gregorian calendar, whose year 0 is the year before year 1.
+-- Years and months of the proleptic Gregorian calendar (ISO 8601-1, 4.2.1), whose year 0 is the year before year 1.
 use Rattle.std.specs.Prelude.{ℕ, ◌%◌, Bool, not, ◌&&◌, ◌||◌, ◌==◌, if◌then◌else◌, int_le, ℤ, pos, neg_ℤ, ◌≤ℤ◌, unsigned_abs}
 
 -- the number k divides z

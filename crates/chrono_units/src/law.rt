@@ -4,7 +4,7 @@ ghost use Rattle.chrono_units.specs.WeekdaySet.{all_days, no_days};
 
 use crate::weekday_set::WeekdaySet;
 
-/// [`WeekdaySet::EMPTY`] has no day, and [`WeekdaySet::ALL`] has all seven.
+/// Returns [`WeekdaySet::EMPTY`], which has no day, and [`WeekdaySet::ALL`], which has all seven.
 pub fn named_sets() -> (WeekdaySet, WeekdaySet)
     ensures empty { result.0 ≡ no_days }
     ensures all { result.1 ≡ all_days }

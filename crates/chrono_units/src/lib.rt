@@ -1,8 +1,7 @@
-//! The units of the proleptic Gregorian calendar: weekdays and sets of weekdays, months, and the
-//! leap rule and lengths of its years.
+//! Units of the proleptic Gregorian calendar: weekdays, sets of weekdays, months, and the leap rule.
 //!
-//! Each call's contract says its value by counting: by the cycle of seven days or of twelve months,
-//! by the numbers of days and months, by the members of a set, or by the leap rule.
+//! Each contract defines its value by counting. It counts through the cycle of seven days or twelve months, or through the
+//! members of a set. The lengths of months and years follow from the leap rule.
 #![tactic(auto)]
 
 pub mod law;

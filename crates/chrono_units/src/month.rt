@@ -17,7 +17,7 @@ use std::cmp::Ordering;
 
 /// A month of the year.
 ///
-/// The months form a cycle of twelve, and compare by their numbers, January being the least.
+/// The months form a cycle of twelve. They compare by their numbers, so January is the least.
 #[derive(Clone, Copy, PartialEq, Eq, Hash, Debug)]
 pub enum Month {
     /// January.
@@ -47,7 +47,11 @@ pub enum Month {
 }
 
 impl Month {
-    /// The next month of the cycle: `Month::December.succ()` is January.
+    /// Returns the next month of the cycle. January comes after December.
+    ///
+    /// ```
+    /// Month::December.succ() // January
+    /// ```
     #[inline]
     pub fn succ(&self) -> Month
         ensures { result ≡ next_month self.now }
@@ -68,7 +72,11 @@ impl Month {
         }
     }
 
-    /// The previous month of the cycle: `Month::January.pred()` is December.
+    /// Returns the previous month of the cycle. December comes before January.
+    ///
+    /// ```
+    /// Month::January.pred() // December
+    /// ```
     #[inline]
     pub fn pred(&self) -> Month
         ensures { result ≡ previous_month self.now }
@@ -89,7 +97,11 @@ impl Month {
         }
     }
 
-    /// The number of the month: 1 for January, 12 for December.
+    /// Returns the number of the month: 1 for January, 12 for December.
+    ///
+    /// ```
+    /// Month::December.number_from_month() // 12
+    /// ```
     #[inline]
     pub fn number_from_month(&self) -> u32
         ensures { result ≡ number_from_month self.now }
@@ -97,7 +109,11 @@ impl Month {
         *self as u32 + 1
     }
 
-    /// The English name of the month, as `"January"`.
+    /// Returns the English name of the month.
+    ///
+    /// ```
+    /// Month::January.name() // "January"
+    /// ```
     #[inline]
     pub fn name(&self) -> &'static str
         ensures { result.now ≡ month_name self.now }
@@ -118,10 +134,15 @@ impl Month {
         }
     }
 
-    /// The days of this month in that year of the proleptic Gregorian calendar, 28 to 31; `None` for
-    /// a year below -262,143 or above 262,142, and for no other.
+    /// Returns how many days the month has in the year `year`: 28 to 31.
     ///
-    /// `Month::February.num_days(1900)` is `Some(28)`, and of year 0, which is leap, `Some(29)`.
+    /// Returns `None` if `year` is below -262,143 or above 262,142.
+    ///
+    /// ```
+    /// Month::February.num_days(1900) // Some(28)
+    /// Month::February.num_days(0) // Some(29)
+    /// Month::January.num_days(262_143) // None
+    /// ```
     #[inline]
     pub fn num_days(&self, year: i32) -> Option<u8>
         ensures { SomeIff result (IsYear year) (length_of_month year (number_from_month self.now)) }
@@ -133,7 +154,14 @@ impl Month {
         }
     }
 
-    /// The month of a number from 1 (January) to 12 (December); `None` for any other number.
+    /// Returns the month with the number `n`: 1 is January, 12 is December.
+    ///
+    /// Returns `None` for any other number.
+    ///
+    /// ```
+    /// Month::from_u32(2) // Some(February)
+    /// Month::from_u32(13) // None
+    /// ```
     #[inline]
     pub fn from_u32(n: u32) -> Option<Month>
         ensures { SomeIff result ((1 ≤ n) × (n ≤ 12)) (month_from_number n) }
@@ -155,7 +183,14 @@ impl Month {
         }
     }
 
-    /// The month of a number from 1 (January) to 12 (December); `None` for any other number.
+    /// Returns the month with the number `n`: 1 is January, 12 is December.
+    ///
+    /// Returns `None` for any other number.
+    ///
+    /// ```
+    /// Month::from_u64(12) // Some(December)
+    /// Month::from_u64(0) // None
+    /// ```
     #[inline]
     pub fn from_u64(n: u64) -> Option<Month>
         ensures { SomeIff result ((1 ≤ n) × (n ≤ 12)) (month_from_number n) }
@@ -163,8 +198,14 @@ impl Month {
         Month::from_u32(cast(n)?)
     }
 
-    /// The month of a number from 1 (January) to 12 (December); `None` for any other number, so for
-    /// every negative one.
+    /// Returns the month with the number `n`: 1 is January, 12 is December.
+    ///
+    /// Returns `None` for any other number.
+    ///
+    /// ```
+    /// Month::from_i64(2) // Some(February)
+    /// Month::from_i64(-2) // None
+    /// ```
     #[inline]
     pub fn from_i64(n: i64) -> Option<Month>
         ensures { SomeIff result ((pos 1 ≤ℤ n) × (n ≤ℤ pos 12))
@@ -210,7 +251,7 @@ impl TryFrom<u8> for Month {
 
     ghost try_from_gives = { λ n r. OkIff r ((1 ≤ n) × (n ≤ 12)) (month_from_number n) };
 
-    /// The month of a number from 1 (January) to 12 (December), else the error.
+    /// Returns the month with the number `value`: 1 is January, 12 is December. Any other number is an error.
     #[inline]
     fn try_from(value: u8) -> Result<Month, OutOfRange> {
         Month::from_u32(u32::from(value)).ok_or(OutOfRange::new())

@@ -11,7 +11,7 @@ use std::marker::Model;
 
 /// A number of calendar months, by which a date can be moved.
 ///
-/// Contracts see it as that number, by which such spans compare.
+/// Contracts see it as that number. Spans compare by their numbers.
 #[derive(Clone, Copy, PartialEq, Eq, Hash, Debug)]
 pub struct Months {
     count: u32,
@@ -28,7 +28,11 @@ impl Model for Months {
 }
 
 impl Months {
-    /// That many months.
+    /// Returns a span of `count` months.
+    ///
+    /// ```
+    /// Months::new(14).as_u32() // 14
+    /// ```
     #[inline]
     pub fn new(count: u32) -> Months
         ensures { result ≡ count }
@@ -36,7 +40,11 @@ impl Months {
         Months { count }
     }
 
-    /// The number of months.
+    /// Returns the number of months.
+    ///
+    /// ```
+    /// Months::new(3).as_u32() // 3
+    /// ```
     #[inline]
     pub fn as_u32(&self) -> u32
         ensures { result ≡ self.now }
@@ -54,7 +62,7 @@ impl Ord for Months {
 
     ghost matches_eq = { Prim.search (comparing, rules) };
 
-    /// Spans compare by their numbers of months.
+    /// Compares spans by their numbers of months.
     #[inline]
     fn cmp(&self, other: &Months) -> Ordering
         ensures count { result ≡ nat_cmp self.now other.now }

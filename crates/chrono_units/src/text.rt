@@ -16,7 +16,16 @@ const LONGEST_SET: usize = 35;
 const SET_DIGITS: usize = 19;
 
 impl Weekday {
-    /// Puts the English name of the day in three letters behind a text. There is room for 3 bytes.
+    /// Appends the English name of the day, in three letters, to `text`.
+    ///
+    /// Requires 3 free bytes in `text`.
+    ///
+    /// ```
+    /// use chrono_text::Text;
+    /// let mut text = Text::<8>::new();
+    /// Weekday::Thu.put_into(&mut text);
+    /// text.as_str() // "Thu"
+    /// ```
     #[inline]
     pub fn put_into<const N: usize>(self, text: &mut Text<N>)
         requires { length text.old + 3 ≤ N }
@@ -34,7 +43,7 @@ impl fmt::Display for Weekday {
 
     ghost styled_output = { λ d spec. Some (padded spec (weekday_text d)) };
 
-    /// Writes the English name of the day in three letters, with the width, fill and alignment asked for.
+    /// Writes the English name of the day in three letters. Width, fill and alignment apply.
     fn fmt<W: fmt::Write>(&self, f: &mut fmt::Formatter<W>) -> fmt::Result {
         f.pad(short_name(*self))
     }
@@ -57,7 +66,16 @@ fn short_name(day: Weekday) -> &'static str
 }
 
 impl WeekdaySet {
-    /// Puts the members from Monday on in brackets, as `[Mon, Thu]`, behind a text. There is room for 35 bytes.
+    /// Appends the members in brackets, in the order Monday to Sunday, to `text`.
+    ///
+    /// Requires 35 free bytes in `text`.
+    ///
+    /// ```
+    /// use chrono_text::Text;
+    /// let mut text = Text::<35>::new();
+    /// WeekdaySet::from_array([Weekday::Thu, Weekday::Mon]).put_into(&mut text);
+    /// text.as_str() // "[Mon, Thu]"
+    /// ```
     pub fn put_into<const N: usize>(self, text: &mut Text<N>)
         requires { length text.old + 35 ≤ N }
         ensures text { text.new ≡ text.old ++ set_text self }
@@ -90,7 +108,7 @@ impl fmt::Display for WeekdaySet {
 
     ghost styled_output = { λ s _. Some (set_text s) };
 
-    /// Writes the days from Monday on in brackets, as `[Mon, Thu]`, whatever width or precision is asked for.
+    /// Writes the members in brackets, in the order Monday to Sunday, as `[Mon, Thu]`. Width and precision change nothing.
     fn fmt<W: fmt::Write>(&self, f: &mut fmt::Formatter<W>) -> fmt::Result {
         let mut text = Text::<LONGEST_SET>::new();
         self.put_into(&mut text);
@@ -101,8 +119,9 @@ impl fmt::Display for WeekdaySet {
 impl fmt::Debug for WeekdaySet {
     ghost debug_output = { λ s. Some (set_digits_text s) };
 
-    /// Writes a digit for each day, 1 for a member, from Sunday down to Monday, as `WeekdaySet(0001001)`, whatever
-    /// width or precision is asked for.
+    /// Writes a digit for each day, from Sunday down to Monday, as `WeekdaySet(0001001)`. A member has 1, any other day 0.
+    ///
+    /// Width and precision change nothing.
     fn fmt<W: fmt::Write>(&self, f: &mut fmt::Formatter<W>) -> fmt::Result
         ensures writes { WritesOnOk W.write_str_gives f.old result
             (set_digits_text self.now) f.new }

@@ -10,8 +10,8 @@ use num_traits::cast;
 
 /// A day of the week.
 ///
-/// The days form a cycle of seven, Monday to Sunday, in the order of ISO 8601. They have no order
-/// among themselves: compare a number of theirs, as that of [`Weekday::num_days_from_monday`].
+/// The days form a cycle of seven, Monday to Sunday, in the order of ISO 8601. Weekdays do not compare: compare their
+/// numbers, for example those of [`Weekday::num_days_from_monday`].
 #[derive(Clone, Copy, PartialEq, Eq, Hash, Debug)]
 pub enum Weekday {
     /// Monday.
@@ -31,7 +31,11 @@ pub enum Weekday {
 }
 
 impl Weekday {
-    /// The next day of the week: `Weekday::Mon.succ()` is Tuesday, `Weekday::Sun.succ()` Monday.
+    /// Returns the next day of the week. Monday comes after Sunday.
+    ///
+    /// ```
+    /// Weekday::Sun.succ() // Mon
+    /// ```
     #[inline]
     pub fn succ(&self) -> Weekday
         ensures { result ≡ next_weekday self.now }
@@ -47,7 +51,11 @@ impl Weekday {
         }
     }
 
-    /// The previous day of the week: `Weekday::Mon.pred()` is Sunday.
+    /// Returns the previous day of the week. Sunday comes before Monday.
+    ///
+    /// ```
+    /// Weekday::Mon.pred() // Sun
+    /// ```
     #[inline]
     pub fn pred(&self) -> Weekday
         ensures { result ≡ previous_weekday self.now }
@@ -63,7 +71,11 @@ impl Weekday {
         }
     }
 
-    /// The number of the day as ISO 8601 counts the days of a week: Monday is 1 and Sunday 7.
+    /// Returns the ISO 8601 number of the day: 1 for Monday, 7 for Sunday.
+    ///
+    /// ```
+    /// Weekday::Sun.number_from_monday() // 7
+    /// ```
     #[inline]
     pub fn number_from_monday(&self) -> u32
         ensures { result ≡ number_from_monday self.now }
@@ -71,7 +83,11 @@ impl Weekday {
         self.num_days_from_monday() + 1
     }
 
-    /// The number of the day from Sunday on: Sunday is 1 and Saturday 7.
+    /// Returns the number of the day, counted from Sunday: 1 for Sunday, 7 for Saturday.
+    ///
+    /// ```
+    /// Weekday::Sat.number_from_sunday() // 7
+    /// ```
     #[inline]
     pub fn number_from_sunday(&self) -> u32
         ensures { result ≡ number_from_sunday self.now }
@@ -79,7 +95,11 @@ impl Weekday {
         self.num_days_from_sunday() + 1
     }
 
-    /// The days from Monday on to this day: 0 for Monday, 6 for Sunday.
+    /// Returns how many days the day is after Monday: 0 for Monday, 6 for Sunday.
+    ///
+    /// ```
+    /// Weekday::Sun.num_days_from_monday() // 6
+    /// ```
     #[inline]
     pub fn num_days_from_monday(&self) -> u32
         ensures { result ≡ days_from_monday self.now }
@@ -87,7 +107,11 @@ impl Weekday {
         *self as u32
     }
 
-    /// The days from Sunday on to this day: 0 for Sunday, 6 for Saturday.
+    /// Returns how many days the day is after Sunday: 0 for Sunday, 6 for Saturday.
+    ///
+    /// ```
+    /// Weekday::Mon.num_days_from_sunday() // 1
+    /// ```
     #[inline]
     pub fn num_days_from_sunday(&self) -> u32
         ensures { result ≡ days_from_sunday self.now }
@@ -95,9 +119,14 @@ impl Weekday {
         self.days_since(Weekday::Sun)
     }
 
-    /// The days from `other` on to the first day that is this weekday, 0 to 6.
+    /// Returns how many days pass from `other` until the next day that is `self`: 0 to 6.
     ///
-    /// `Weekday::Mon.days_since(Weekday::Sun)` is 1. A day since itself is 0.
+    /// A day since itself is 0.
+    ///
+    /// ```
+    /// Weekday::Mon.days_since(Weekday::Sun) // 1
+    /// Weekday::Sun.days_since(Weekday::Mon) // 6
+    /// ```
     #[inline]
     pub fn days_since(&self, other: Weekday) -> u32
         ensures { result ≡ days_since self.now other }
@@ -107,7 +136,14 @@ impl Weekday {
         if to < from { to + 7 - from } else { to - from }
     }
 
-    /// The day of a number from 0 (Monday) to 6 (Sunday); `None` for any other number.
+    /// Returns the day with the number `n`: 0 is Monday, 6 is Sunday.
+    ///
+    /// Returns `None` for any other number.
+    ///
+    /// ```
+    /// Weekday::from_u32(6) // Some(Sun)
+    /// Weekday::from_u32(7) // None
+    /// ```
     #[inline]
     pub fn from_u32(n: u32) -> Option<Weekday>
         ensures { SomeIff result (n < 7) (weekday_from_monday n) }
@@ -124,7 +160,14 @@ impl Weekday {
         }
     }
 
-    /// The day of a number from 0 (Monday) to 6 (Sunday); `None` for any other number.
+    /// Returns the day with the number `n`: 0 is Monday, 6 is Sunday.
+    ///
+    /// Returns `None` for any other number.
+    ///
+    /// ```
+    /// Weekday::from_u64(0) // Some(Mon)
+    /// Weekday::from_u64(7) // None
+    /// ```
     #[inline]
     pub fn from_u64(n: u64) -> Option<Weekday>
         ensures { SomeIff result (n < 7) (weekday_from_monday n) }
@@ -132,8 +175,14 @@ impl Weekday {
         Weekday::from_u32(cast(n)?)
     }
 
-    /// The day of a number from 0 (Monday) to 6 (Sunday); `None` for any other number, so for every
-    /// negative one.
+    /// Returns the day with the number `n`: 0 is Monday, 6 is Sunday.
+    ///
+    /// Returns `None` for any other number.
+    ///
+    /// ```
+    /// Weekday::from_i64(1) // Some(Tue)
+    /// Weekday::from_i64(-1) // None
+    /// ```
     #[inline]
     pub fn from_i64(n: i64) -> Option<Weekday>
         ensures { SomeIff result ((pos 0 ≤ℤ n) × (n <ℤ pos 7))
@@ -148,7 +197,7 @@ impl TryFrom<u8> for Weekday {
 
     ghost try_from_gives = { λ n r. OkIff r (n < 7) (weekday_from_monday n) };
 
-    /// The day of a number from 0 (Monday) to 6 (Sunday), else the error.
+    /// Returns the day with the number `value`: 0 is Monday, 6 is Sunday. Any other number is an error.
     #[inline]
     fn try_from(value: u8) -> Result<Weekday, OutOfRange> {
         Weekday::from_u32(u32::from(value)).ok_or(OutOfRange::new())

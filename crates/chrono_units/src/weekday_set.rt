@@ -21,9 +21,9 @@ use std::marker::Model;
 
 /// A set of weekdays.
 ///
-/// Contracts see it as the record that says of each day whether it is a member. Sets compare by
-/// the number whose seven binary digits are the days, Monday's being the lowest: so {Sun}, which is
-/// 64, is greater than the set of all other days, which is 63.
+/// Contracts see it as a record that says for each day whether it is a member. Sets compare by a number of seven binary
+/// digits, one for each day, with Monday's as the lowest. So {Sun} is 64, and is greater than the set of all other
+/// days, which is 63. `{:?}` prints these digits.
 #[derive(Clone, Copy)]
 pub struct WeekdaySet {
     // The set's number, whose digit 7 is always 0.
@@ -56,7 +56,11 @@ impl WeekdaySet {
     /// The set of all seven days.
     pub const ALL: WeekdaySet = WeekdaySet { digits: 0b111_1111 };
 
-    /// The set of the days in the array.
+    /// Returns the set of the days in the array `days`.
+    ///
+    /// ```
+    /// WeekdaySet::from_array([Weekday::Mon, Weekday::Thu]) // WeekdaySet(0001001)
+    /// ```
     pub fn from_array<const C: usize>(days: [Weekday; C]) -> WeekdaySet
         ensures { result ≡ set.set_of days.entry }
     {
@@ -67,9 +71,13 @@ impl WeekdaySet {
         members
     }
 
-    /// The set of the days that the iterator gives, which must end.
+    /// Returns the set of the days that the iterator `iter` yields. The iterator must end.
     ///
-    /// It takes the place of `collect`, which takes an allocator that a set does not need.
+    /// Use it in place of `collect`, which needs an allocator.
+    ///
+    /// ```
+    /// WeekdaySet::from_iter([Weekday::Sun, Weekday::Mon].into_iter()) // WeekdaySet(1000001)
+    /// ```
     pub fn from_iter<I: Iterator<Item = Weekday>>(iter: I) -> WeekdaySet
         requires callable { I.can_next iter }
         requires ends { IsFinite (I.remaining iter) }
@@ -83,7 +91,11 @@ impl WeekdaySet {
         members
     }
 
-    /// The set of that one day.
+    /// Returns the set of one day, `weekday`.
+    ///
+    /// ```
+    /// WeekdaySet::single(Weekday::Tue) // WeekdaySet(0000010)
+    /// ```
     #[inline]
     pub fn single(weekday: Weekday) -> WeekdaySet
         ensures { result ≡ set.single weekday }
@@ -93,7 +105,14 @@ impl WeekdaySet {
         }
     }
 
-    /// The day, if the set has just one member; `None` for any other set.
+    /// Returns the only member of the set.
+    ///
+    /// Returns `None` if the set is empty or has more than one member.
+    ///
+    /// ```
+    /// WeekdaySet::single(Weekday::Tue).single_day() // Some(Tue)
+    /// WeekdaySet::ALL.single_day() // None
+    /// ```
     #[inline]
     pub fn single_day(self) -> Option<Weekday>
         // A day is answered exactly if the set has that day alone.
@@ -106,7 +125,13 @@ impl WeekdaySet {
         }
     }
 
-    /// Adds the day. True exactly if that changed the set, so if the day was not in it.
+    /// Adds `day`. Returns whether that changed the set.
+    ///
+    /// ```
+    /// let mut set = WeekdaySet::EMPTY;
+    /// set.insert(Weekday::Mon) // true
+    /// set.insert(Weekday::Mon) // false
+    /// ```
     #[inline]
     pub fn insert(&mut self, day: Weekday) -> bool
         ensures is_new { result ≡ not (set.contains self.old day) }
@@ -119,7 +144,13 @@ impl WeekdaySet {
         is_new
     }
 
-    /// Removes the day. True exactly if that changed the set, so if the day was in it.
+    /// Removes `day`. Returns whether that changed the set.
+    ///
+    /// ```
+    /// let mut set = WeekdaySet::ALL;
+    /// set.remove(Weekday::Sun) // true
+    /// set // WeekdaySet(0111111)
+    /// ```
     #[inline]
     pub fn remove(&mut self, day: Weekday) -> bool
         ensures was_member { result ≡ set.contains self.old day }
@@ -132,7 +163,12 @@ impl WeekdaySet {
         was_member
     }
 
-    /// Whether every day of this set is in `other`.
+    /// Returns whether every day of this set is in `other`.
+    ///
+    /// ```
+    /// let weekend = WeekdaySet::from_array([Weekday::Sat, Weekday::Sun]);
+    /// WeekdaySet::single(Weekday::Sun).is_subset(weekend) // true
+    /// ```
     #[inline]
     pub fn is_subset(self, other: WeekdaySet) -> bool
         ensures { IsTrue result ↔ set.IsSubset self other }
@@ -140,7 +176,12 @@ impl WeekdaySet {
         self.difference(other).is_empty()
     }
 
-    /// The days in both sets.
+    /// Returns the days that are in both sets.
+    ///
+    /// ```
+    /// let weekend = WeekdaySet::from_array([Weekday::Sat, Weekday::Sun]);
+    /// weekend.intersection(WeekdaySet::single(Weekday::Sun)) // WeekdaySet(1000000)
+    /// ```
     #[inline]
     pub fn intersection(self, other: WeekdaySet) -> WeekdaySet
         ensures { result ≡ set.intersection self other }
@@ -150,7 +191,11 @@ impl WeekdaySet {
         }
     }
 
-    /// The days in this set, in `other` or in both.
+    /// Returns the days that are in this set, in `other` or in both.
+    ///
+    /// ```
+    /// WeekdaySet::single(Weekday::Mon).union(WeekdaySet::single(Weekday::Tue)) // WeekdaySet(0000011)
+    /// ```
     #[inline]
     pub fn union(self, other: WeekdaySet) -> WeekdaySet
         ensures { result ≡ set.union self other }
@@ -160,7 +205,12 @@ impl WeekdaySet {
         }
     }
 
-    /// The days in just one of the two sets.
+    /// Returns the days that are in exactly one of the two sets.
+    ///
+    /// ```
+    /// let weekend = WeekdaySet::from_array([Weekday::Sat, Weekday::Sun]);
+    /// weekend.symmetric_difference(WeekdaySet::single(Weekday::Sun)) // WeekdaySet(0100000)
+    /// ```
     #[inline]
     pub fn symmetric_difference(self, other: WeekdaySet) -> WeekdaySet
         ensures { result ≡ set.symmetric_difference self other }
@@ -170,7 +220,11 @@ impl WeekdaySet {
         }
     }
 
-    /// The days in this set that are not in `other`.
+    /// Returns the days of this set that are not in `other`.
+    ///
+    /// ```
+    /// WeekdaySet::ALL.difference(WeekdaySet::single(Weekday::Sun)) // WeekdaySet(0111111)
+    /// ```
     #[inline]
     pub fn difference(self, other: WeekdaySet) -> WeekdaySet
         ensures { result ≡ set.difference self other }
@@ -180,7 +234,14 @@ impl WeekdaySet {
         }
     }
 
-    /// The first day of the set from Monday on; `None` if it is empty.
+    /// Returns the first day of the set, in the order Monday to Sunday.
+    ///
+    /// Returns `None` if the set is empty.
+    ///
+    /// ```
+    /// WeekdaySet::from_array([Weekday::Sun, Weekday::Tue]).first() // Some(Tue)
+    /// WeekdaySet::EMPTY.first() // None
+    /// ```
     #[inline]
     pub fn first(self) -> Option<Weekday>
         ensures { result ≡ set.first_day (walk self Weekday.Mon) }
@@ -188,7 +249,14 @@ impl WeekdaySet {
         lowest_day(self.digits)
     }
 
-    /// The last day of the set before the next Monday; `None` if it is empty.
+    /// Returns the last day of the set, in the order Monday to Sunday.
+    ///
+    /// Returns `None` if the set is empty.
+    ///
+    /// ```
+    /// WeekdaySet::from_array([Weekday::Sun, Weekday::Tue]).last() // Some(Sun)
+    /// WeekdaySet::EMPTY.last() // None
+    /// ```
     #[inline]
     pub fn last(self) -> Option<Weekday>
         ensures { result ≡ set.last_day (walk self Weekday.Mon) }
@@ -196,9 +264,12 @@ impl WeekdaySet {
         highest_day(self.digits)
     }
 
-    /// The members of the set in week order from `start` on, going on with Monday after Sunday.
+    /// Returns an iterator over the members, in the order of the week from `start`. Monday follows Sunday.
     ///
-    /// The set of Monday, Thursday and Sunday gives, from Wednesday on, Thursday, Sunday, Monday.
+    /// ```
+    /// let mut days = WeekdaySet::from_array([Weekday::Mon, Weekday::Thu, Weekday::Sun]).iter(Weekday::Wed);
+    /// (days.next(), days.next(), days.next(), days.next()) // (Some(Thu), Some(Sun), Some(Mon), None)
+    /// ```
     #[inline]
     pub fn iter(self, start: Weekday) -> WeekdaySetIter
         ensures { result ≡ walk self start }
@@ -206,9 +277,15 @@ impl WeekdaySet {
         WeekdaySetIter::new(self, start)
     }
 
-    /// The days from `from` on to the first member, 0 to 6: 0 if `from` is one. `None` exactly if the set is empty.
+    /// Returns how many days pass from `from` until the first member: 0 to 6. A member itself has 0.
     ///
-    /// From a Saturday it is three days to the first day of the set of Tuesday and Thursday.
+    /// Returns `None` if the set is empty.
+    ///
+    /// ```
+    /// let set = WeekdaySet::from_array([Weekday::Tue, Weekday::Thu]);
+    /// set.days_until(Weekday::Sat) // Some(3)
+    /// WeekdaySet::EMPTY.days_until(Weekday::Sat) // None
+    /// ```
     #[inline]
     pub fn days_until(self, from: Weekday) -> Option<u32>
         ensures days { result ≡ set.days_until self from }
@@ -227,7 +304,11 @@ impl WeekdaySet {
         Some(ahead.trailing_zeros())
     }
 
-    /// Whether the day is in the set.
+    /// Returns whether `day` is in the set.
+    ///
+    /// ```
+    /// WeekdaySet::single(Weekday::Tue).contains(Weekday::Tue) // true
+    /// ```
     #[inline]
     pub fn contains(self, day: Weekday) -> bool
         ensures { result ≡ set.contains self day }
@@ -235,7 +316,11 @@ impl WeekdaySet {
         self.digits & digit(day) != 0
     }
 
-    /// Whether the set has no day.
+    /// Returns whether the set has no day.
+    ///
+    /// ```
+    /// WeekdaySet::EMPTY.is_empty() // true
+    /// ```
     #[inline]
     pub fn is_empty(self) -> bool
         ensures { IsTrue result ↔ (self ≡ set.no_days) }
@@ -243,7 +328,11 @@ impl WeekdaySet {
         self.digits == 0
     }
 
-    /// The number of days in the set, 0 to 7.
+    /// Returns the number of days in the set: 0 to 7.
+    ///
+    /// ```
+    /// WeekdaySet::from_array([Weekday::Tue, Weekday::Thu, Weekday::Tue]).len() // 2
+    /// ```
     #[inline]
     pub fn len(self) -> u8
         ensures { result ≡ length (walk self Weekday.Mon) }
@@ -283,7 +372,7 @@ impl WeekdaySet {
 impl Default for WeekdaySet {
     ghost is_default = { λ days. days ≡ set.no_days };
 
-    /// The set with no day.
+    /// Returns the set with no day.
     #[inline]
     fn default() -> WeekdaySet {
         Self::EMPTY

@@ -1,4 +1,4 @@
-//! The members of a set of weekdays, one after another, taken from either end.
+//! An iterator over the members of a set of weekdays, from either end.
 
 ghost use Rattle.std.specs.Prelude.{◌≡◌, length, Some, ⊤};
 ghost use Rattle.std.specs.Iterator.{YieldsFirst, YieldsLast, item_count};
@@ -10,10 +10,10 @@ use std::alloc::AllocError;
 use std::iter::FusedIterator;
 use std::marker::Model;
 
-/// The members of a set in week order from a day on. From [`WeekdaySet::iter`].
+/// An iterator over the members of a set, in the order of the week from a given day. [`WeekdaySet::iter`] returns it.
 ///
-/// Contracts see it as the list of the days that are left. `next` takes the first of them and
-/// `next_back` the last, and once none is left both give `None` from then on.
+/// Contracts see it as the list of the days that are left. `next` takes the first of them and `next_back` the last. Once no
+/// day is left, both return `None`.
 #[derive(Debug, Drop)]
 pub struct WeekdaySetIter {
     days: WeekdaySet,
@@ -68,7 +68,7 @@ impl Iterator for WeekdaySetIter {
         Some(day)
     }
 
-    /// The number of days that are left, exactly.
+    /// Returns the exact number of days that are left, as both bounds.
     #[inline]
     fn size_hint(&self) -> (usize, Option<usize>)
         ensures { result ≡ (length self.now, Some (length self.now)) }

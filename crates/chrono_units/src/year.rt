@@ -1,6 +1,6 @@
-//! The years of the proleptic Gregorian calendar: the leap rule and the lengths that follow from it.
+//! Years of the proleptic Gregorian calendar: the leap rule, and the lengths of years and months.
 //!
-//! Year 0 is the year before year 1, as ISO 8601 counts them, and the rule holds for every year.
+//! Year 0 is the year before year 1, as in ISO 8601. The leap rule holds for every year.
 
 ghost use Rattle.std.specs.Prelude.{◌≡◌, ◌≤◌};
 ghost use Rattle.chrono_units.specs.Years.{is_leap_year as leap_rule, is_year as year_range, month_length_in, year_length as length_of_year};
@@ -11,7 +11,12 @@ pub const MIN_YEAR: i32 = -262_143;
 /// The last year of the library.
 pub const MAX_YEAR: i32 = 262_142;
 
-/// Whether the library has dates of this year, from [`MIN_YEAR`] to [`MAX_YEAR`].
+/// Returns whether the library has dates of the year `year`, so whether it is from [`MIN_YEAR`] to [`MAX_YEAR`].
+///
+/// ```
+/// year::is_year(262_142) // true
+/// year::is_year(262_143) // false
+/// ```
 #[inline]
 pub fn is_year(year: i32) -> bool
     ensures { result ≡ year_range year }
@@ -19,9 +24,12 @@ pub fn is_year(year: i32) -> bool
     MIN_YEAR <= year && year <= MAX_YEAR
 }
 
-/// Whether the year is leap: a multiple of 4 that is no multiple of 100, unless it is one of 400.
+/// Returns whether the year `year` is a leap year: a multiple of 4, but not of 100 unless also of 400.
 ///
-/// So 2024, 2000 and 0 are leap, and 2023 and 1900 are not.
+/// ```
+/// (year::is_leap_year(2024), year::is_leap_year(2000), year::is_leap_year(0)) // (true, true, true)
+/// (year::is_leap_year(2023), year::is_leap_year(1900)) // (false, false)
+/// ```
 #[inline]
 pub fn is_leap_year(year: i32) -> bool
     ensures { result ≡ leap_rule year }
@@ -33,7 +41,11 @@ pub fn is_leap_year(year: i32) -> bool
     }
 }
 
-/// The days of the year: 366 if it is leap, else 365.
+/// Returns how many days the year `year` has: 366 if it is a leap year, else 365.
+///
+/// ```
+/// year::year_length(2024) // 366
+/// ```
 #[inline]
 pub fn year_length(year: i32) -> u32
     ensures { result ≡ length_of_year year }
@@ -41,7 +53,14 @@ pub fn year_length(year: i32) -> u32
     if is_leap_year(year) { 366 } else { 365 }
 }
 
-/// The days of a month, from 1 for January to 12, in a leap year or in a common year: 28 to 31.
+/// Returns how many days the month `month` has, in a leap year or in a common year: 28 to 31.
+///
+/// Requires `month` to be from 1 to 12.
+///
+/// ```
+/// year::month_length(true, 2) // 29
+/// year::month_length(false, 2) // 28
+/// ```
 #[inline]
 pub fn month_length(leap: bool, month: u32) -> u8
     requires from_january { 1 ≤ month }

@@ -41,7 +41,6 @@ pub fn next_weekday(date: NaiveDate) -> Option<NaiveDate>
         IsTrue (contains (set_of (Mon ∷ Tue ∷ Wed ∷ Thu ∷ Fri ∷ [])) (weekday_of e))) }
     ensures near { IfSome result (λ e. e ≤ℤ (date +ℤ pos 2)) }
 {
-    law::weekdays_follow();
     date.first_on(WeekdaySet::from_array([
         Weekday::Mon,
         Weekday::Tue,

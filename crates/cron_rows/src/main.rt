@@ -111,11 +111,11 @@ fn is_written(arguments: &str, expected: &str) -> bool {
 // Whether a text is read as the schedule of the numbers behind it.
 fn is_read(text: &str, expected: &str) -> bool {
     match read_schedule(text.as_bytes()) {
-        Some(schedule) => {
+        Ok(schedule) => {
             let mut words = expected.split_ascii_whitespace();
             sets_of(&mut words) == Some(schedule.sets) && words.next().is_none()
         }
-        None => expected == "none",
+        Err(_) => expected == "none",
     }
 }
 
@@ -129,7 +129,9 @@ fn are_dues(arguments: &str, expected: &str) -> Option<bool> {
         second.parse().ok()?,
         fraction.parse().ok()?,
     )?;
-    let mut moments = read_schedule(text.as_bytes())?.after(NaiveDateTime::new(date, time));
+    let mut moments = read_schedule(text.as_bytes())
+        .ok()?
+        .after(NaiveDateTime::new(date, time));
     for word in expected.split_ascii_whitespace() {
         let minutes: i64 = word.parse().ok()?;
         if minutes_to(moments.next()?) != minutes {

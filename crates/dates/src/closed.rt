@@ -1,10 +1,92 @@
-//! Which days are closed, by the options of a request.
+//! Which days are closed, by the options of a command.
 
+use crate::asked::Asked;
+use crate::fault::{Fault, expected};
+use crate::options::{CALENDAR, HOLIDAYS, WEEKEND};
+use crate::texts::weekday_named;
 use chrono_business::{HolidayRule, england_and_wales, target, us_federal};
 use chrono_datetime::{Datelike, NaiveDate, Weekday, WeekdaySet};
-use dates_request::{HolidayCalendar, Options};
+use command_words::Word;
 use std::alloc::Allocator;
 use std::io;
+
+/// A calendar of holidays by rules.
+#[derive(Clone, Copy)]
+pub(crate) enum HolidayCalendar {
+    /// `us-federal`.
+    UsFederal,
+    /// `target`.
+    Target,
+    /// `england`.
+    England,
+}
+
+/// Which days are closed.
+#[derive(Clone, Copy)]
+pub(crate) struct Closed<'a> {
+    /// The weekend.
+    pub weekend: WeekdaySet,
+    /// The holidays by rules.
+    pub calendar: Option<HolidayCalendar>,
+    /// The file of holidays.
+    pub file: Option<Word<'a>>,
+}
+
+// Which days are closed by the options.
+pub(crate) fn closed_of<'a>(asked: &Asked<'a, impl Allocator>) -> Result<Closed<'a>, Fault<'a>> {
+    let weekend = match asked.value(WEEKEND) {
+        Some(word) => value!(weekend_of(word)),
+        None => WeekdaySet::from_array([Weekday::Sat, Weekday::Sun]),
+    };
+    let calendar = match asked.value(CALENDAR) {
+        Some(word) => calendar_named(word.text),
+        None => None,
+    };
+    let file = asked.value(HOLIDAYS);
+    match file {
+        Some(word) if word.text.is_empty() => Err(expected(word, "the name of a file")),
+        _ => Ok(Closed {
+            weekend,
+            calendar,
+            file,
+        }),
+    }
+}
+
+// The weekend that a word names.
+fn weekend_of<'a>(word: Word<'a>) -> Result<WeekdaySet, Fault<'a>> {
+    match weekend_named(word.text) {
+        Some(days) => Ok(days),
+        None => Err(expected(word, "none, or at most two weekdays as fri,sat")),
+    }
+}
+
+// The weekend that a text names: `none`, a weekday, or two with a comma between them.
+fn weekend_named(text: &str) -> Option<WeekdaySet> {
+    if text == "none" {
+        return Some(WeekdaySet::EMPTY);
+    }
+    match text.split_once(',') {
+        Some((first, second)) => {
+            let first = WeekdaySet::single(weekday_named(first)?);
+            Some(first.union(WeekdaySet::single(weekday_named(second)?)))
+        }
+        None => Some(WeekdaySet::single(weekday_named(text)?)),
+    }
+}
+
+// The calendar that a text names.
+fn calendar_named(text: &str) -> Option<HolidayCalendar> {
+    if text == "us-federal" {
+        Some(HolidayCalendar::UsFederal)
+    } else if text == "target" {
+        Some(HolidayCalendar::Target)
+    } else if text == "england" {
+        Some(HolidayCalendar::England)
+    } else {
+        None
+    }
+}
 
 /// The first and the last of some years.
 #[derive(Clone, Copy)]
@@ -18,14 +100,6 @@ pub(crate) fn years_of(from: NaiveDate, to: NaiveDate) -> Years {
     Years {
         first: from.year().min(to.year()),
         last: from.year().max(to.year()),
-    }
-}
-
-// The weekend of the options: Saturday and Sunday where none is given.
-pub(crate) fn weekend_of(options: Options) -> WeekdaySet {
-    match options.weekend {
-        Some(days) => days,
-        None => WeekdaySet::from_array([Weekday::Sat, Weekday::Sun]),
     }
 }
 
@@ -68,15 +142,15 @@ pub(crate) fn both_years(known: Years, years: Years) -> Years {
     }
 }
 
-// Puts the holidays of the options' rules in these years, in the years of days that are listed, and in a year before and behind
+// Puts the holidays of a calendar's rules in these years, in the years of days that are listed, and in a year before and behind
 // them into the list of these.
 pub(crate) fn put_ruled(
-    options: Options,
+    calendar: Option<HolidayCalendar>,
     years: Years,
     days: &mut Vec<NaiveDate, impl Allocator>,
 ) -> io::Result<()> {
     let years = with_years_of(years, days.as_slice());
-    match options.calendar {
+    match calendar {
         Some(HolidayCalendar::UsFederal) => put_rules(&us_federal(), years, days),
         Some(HolidayCalendar::Target) => put_rules(&target(), years, days),
         Some(HolidayCalendar::England) => put_rules(&england_and_wales(), years, days),

@@ -1,12 +1,13 @@
 //! The holidays of a command: read once, and put together once for the lines that touch the same years.
 
-use crate::closed::{Years, both_years, put_ruled, weekend_of};
-use crate::line_reader::LineReader;
+use crate::closed::{Closed, HolidayCalendar, Years, both_years, put_ruled};
+use crate::lines::LineReader;
 use crate::reason::{Reason, reason_of_line};
 use crate::source::{Source, refuse_source};
+use crate::texts::read_day;
 use chrono_business::{Calendar, without_weekends};
-use chrono_datetime::NaiveDate;
-use dates_request::{NoDay, Options, Request, read_day};
+use chrono_datetime::{NaiveDate, WeekdaySet};
+use chrono_reading::ReadError;
 use std::alloc::Allocator;
 use std::fs;
 use std::io::{self, Eprint, ErrorKind};
@@ -15,7 +16,8 @@ use std::rt::Files;
 /// The holidays by the options of a command.
 #[derive(Drop)]
 pub(crate) struct Holidays<A: Allocator> {
-    options: Options,
+    weekend: WeekdaySet,
+    calendar: Option<HolidayCalendar>,
     // Those that the file of the options lists.
     listed: Vec<NaiveDate, A>,
     // These and those of the rules in some years, in order and but for those on the weekend.
@@ -35,7 +37,7 @@ impl<A: Allocator> Holidays<A> {
         if !self.have(years) {
             self.put_together(years)?;
         }
-        match Calendar::try_new(weekend_of(self.options), self.days.as_slice()) {
+        match Calendar::try_new(self.weekend, self.days.as_slice()) {
             Ok(calendar) => Ok(calendar),
             // (not reached: they are in order, each once, and none is on the weekend)
             Err(_) => Err(io::Error::from(ErrorKind::InvalidData)),
@@ -61,10 +63,10 @@ impl<A: Allocator> Holidays<A> {
         for day in self.listed.as_slice() {
             self.days.push(*day)?;
         }
-        put_ruled(self.options, years, &mut self.days)?;
+        put_ruled(self.calendar, years, &mut self.days)?;
         self.days.as_mut_slice().sort_unstable();
         self.days.dedup();
-        let weekend = weekend_of(self.options);
+        let weekend = self.weekend;
         let count = without_weekends(weekend, self.days.as_mut_slice());
         self.days.truncate(count);
         self.years = Some(years);
@@ -72,45 +74,25 @@ impl<A: Allocator> Holidays<A> {
     }
 }
 
-// The holidays that the words of a request name; `None` where their file cannot be read or a line of it is no day, which is said.
+// The holidays of a command; `None` where their file cannot be read or a line of it is no day, which is said.
 pub(crate) fn read_holidays<R: Alloc + Eprint + Files>(
     rt: &R,
-    words: &[String<impl Allocator>],
-    request: &Request,
+    closed: Closed<'_>,
 ) -> io::Result<Option<Holidays<R::A>>> {
-    let options = options_of(request);
     let mut listed: Vec<NaiveDate, _> = Vec::new(rt.alloc());
-    if let Some(behind) = options.file {
-        let place = words.len().saturating_sub(behind);
-        if let Some(file) = words.get(place.saturating_sub(1)) {
-            let name = file.as_str();
-            if !put_file(rt, Source::File { place, name }, name, &mut listed)? {
-                return Ok(None);
-            }
+    if let Some(word) = closed.file {
+        let (place, name) = (word.place, word.text);
+        if !put_file(rt, Source::File { place, name }, name, &mut listed)? {
+            return Ok(None);
         }
     }
     Ok(Some(Holidays {
-        options,
+        weekend: closed.weekend,
+        calendar: closed.calendar,
         listed,
         days: Vec::new(rt.alloc()),
         years: None,
     }))
-}
-
-// Which days are closed by a request.
-fn options_of(request: &Request) -> Options {
-    match *request {
-        Request::Add { options, .. }
-        | Request::DistanceInOpenDays { options, .. }
-        | Request::Open { options, .. }
-        | Request::Rolled { options, .. } => options,
-        Request::Sheet { options, .. } => options.closed,
-        _ => Options {
-            weekend: None,
-            calendar: None,
-            file: None,
-        },
-    }
 }
 
 // Puts the day of each line of a file into the list; false where it cannot be read or a line is no day, which is said.
@@ -151,7 +133,7 @@ fn say_no_day(
     source: Source<'_>,
     number: u64,
     line: &[u8],
-    why: NoDay,
+    why: ReadError,
 ) -> io::Result<bool> {
     let expected = "expected a day as 2024-02-29";
     let _ = match reason_of_line(line, why) {

@@ -1,33 +1,82 @@
-//! Standard input, line by line.
+//! Lines of input, of each of which only so many bytes are kept, and commands that answer each of them.
 
-use crate::fault::{ANSWERED, NONE};
-use crate::line_reader::LineReader;
-use crate::print::print_answer;
-use crate::source::{Source, refuse_source};
-use dates_answer::{Answer, Key};
-use dates_request::{Form, read_day};
-use std::io::{self, Eprint};
+use crate::fault::{ANSWERED, WRONG};
+use crate::source::{Place, Source, refuse_source};
+use std::alloc::Allocator;
+use std::io::{self, BufRead, BufReader, Eprint, Read};
 
-// Each line of the input by all names of its day, or `none`.
-pub(crate) fn answer_lines(
+/// So many bytes of a line are kept; no text of as many names a day or a date-time.
+pub(crate) const MOST_BYTES: usize = 65_536;
+
+/// The lines of a reader, one after another.
+#[derive(Drop)]
+pub(crate) struct LineReader<R: Read, A: Allocator> {
+    reader: BufReader<R, A>,
+    line: Vec<u8, A>,
+}
+
+impl<R: Read, A: Allocator + Clone> LineReader<R, A> {
+    // The lines of the reader.
+    pub(crate) fn new(alloc: A, reader: R) -> io::Result<LineReader<R, A>>
+    where
+        R: Drop,
+    {
+        let line = Vec::new(alloc.clone()?);
+        let reader = BufReader::new(alloc, reader)?;
+        Ok(LineReader { reader, line })
+    }
+
+    // The next line without the `\n` at its end, where there is one: its first `MOST_BYTES` at most, the others are passed over.
+    pub(crate) fn next_line(&mut self) -> io::Result<Option<&[u8]>> {
+        self.line.clear();
+        let mut front = self.reader.by_ref().take(MOST_BYTES as u64);
+        let count = front.read_until(b'\n', &mut self.line)?;
+        if count == 0 {
+            return Ok(None);
+        }
+        if self.line.as_slice().last() == Some(&b'\n') {
+            self.line.pop();
+        } else if count == MOST_BYTES {
+            self.reader.skip_until(b'\n')?;
+        }
+        Ok(Some(self.line.as_slice()))
+    }
+}
+
+// Whether so many bytes of a line were kept that there may have been more.
+pub(crate) fn is_cut(line: &[u8]) -> bool {
+    line.len() >= MOST_BYTES
+}
+
+/// A command that answers each line of the input in the place of a day.
+pub(crate) trait EachLine {
+    /// Answers a line; the exit status.
+    fn answer_line<R: Print + Eprint>(
+        &mut self,
+        rt: &R,
+        place: Place,
+        line: &[u8],
+    ) -> io::Result<u8>;
+}
+
+// Answers each line of the input; the exit status.
+pub(crate) fn answer_lines<C: EachLine>(
     rt: &(impl Alloc + Print + Eprint + Input),
-    form: Form,
+    command: &mut C,
 ) -> io::Result<u8> {
     let mut status = ANSWERED;
     let mut lines = LineReader::new(rt.alloc(), rt.reader())?;
-    for _ in 0..u64::MAX {
+    for number in 1..u64::MAX {
         let line = match lines.next_line() {
             Ok(Some(line)) => line,
             Ok(None) => break,
             Err(fault) => return refuse_source(rt, Source::Input, &fault),
         };
-        match read_day(line) {
-            Ok(date) => print_answer(rt, form, Answer::Names(date))?,
-            Err(_) => {
-                print_answer(rt, form, Answer::Nothing(Key::Date))?;
-                status = NONE;
-            }
+        let of_line = command.answer_line(rt, Place::Line(number), line)?;
+        if of_line == WRONG {
+            return Ok(WRONG);
         }
+        status = status.max(of_line);
     }
     Ok(status)
 }

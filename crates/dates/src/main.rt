@@ -1,37 +1,51 @@
-//! `dates` answers what a person at a terminal asks of dates. `docs/DATES.md` has its commands.
+//! `dates` prints what a person at a terminal asks of dates. `table.rt` has its commands.
 #![tactic(auto)]
 
+// The value of a result; its fault is returned.
+macro_rules! value {
+    ($read:expr) => {
+        match $read {
+            Ok(value) => value,
+            Err(fault) => return Err(fault),
+        }
+    };
+}
+
 mod add;
-mod answer;
+mod asked;
+mod cal;
+mod check;
 mod closed;
-mod distance;
+mod day;
+mod diff;
 mod due;
-mod each;
+mod easter;
 mod fault;
-mod file;
-mod help;
 mod holidays;
-mod line_reader;
+mod leap;
 mod lines;
 mod open;
-mod print;
+mod options;
 mod quoted;
 mod reason;
-mod recurring;
-mod sequence;
-mod sheet;
+mod roll;
+mod rule;
+mod seq;
 mod source;
-mod year;
+mod table;
+mod texts;
+mod values;
+mod week;
+mod weekday;
 
-use answer::answer_words;
-use dates_request::{Form, Request, Wrong, form_of, read_request};
-use each::answer_each;
+use command_words::Word;
 use fault::{WRONG, refuse_arguments};
 use std::alloc::Allocator;
 use std::env::{self, Env};
 use std::io::{self, Eprint, ErrorKind};
 use std::process::ExitCode;
 use std::rt::Files;
+use table::answer_words;
 
 fn main(rt: HostRuntime) -> ExitCode {
     match run(&rt) {
@@ -53,26 +67,22 @@ fn run(rt: &(impl Env + Alloc + Print + Eprint + Input + Files)) -> io::Result<u
         Ok(arguments) => arguments,
         Err(fault) => return refuse_arguments(rt, fault),
     };
-    let mut words: Vec<_, _> = arguments.skip(1).collect(rt.alloc())?;
-    let (form, request) = asked_by(rt, words.as_slice())?;
-    if form == Form::Json {
-        let _ = words.pop();
-    }
-    match request {
-        Ok(request) => answer_words(rt, form, &request, words.as_slice()),
-        Err(wrong) => answer_each(rt, form, &mut words, wrong),
-    }
+    let texts: Vec<_, _> = arguments.skip(1).collect(rt.alloc())?;
+    let words = words_of(rt, texts.as_slice())?;
+    answer_words(rt, words.as_slice())
 }
 
-// In which form the words want an answer, and what they ask for, or which of them is wrong.
-fn asked_by(
-    rt: &impl Alloc,
-    words: &[String<impl Allocator>],
-) -> io::Result<(Form, Result<Request, Wrong>)> {
-    let texts: Vec<&[u8], _> = words
-        .iter()
-        .map(|word| word.as_str().as_bytes())
-        .collect(rt.alloc())?;
-    let (form, asking) = form_of(texts.as_slice());
-    Ok((form, read_request(asking)))
+// The arguments by their places.
+fn words_of<'a, R: Alloc>(
+    rt: &R,
+    texts: &'a [String<impl Allocator>],
+) -> io::Result<Vec<Word<'a>, R::A>> {
+    let mut words = Vec::new(rt.alloc());
+    let mut place: usize = 0;
+    for text in texts {
+        place = place.saturating_add(1);
+        let text = text.as_str();
+        words.push(Word { place, text })?;
+    }
+    Ok(words)
 }

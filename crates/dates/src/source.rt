@@ -1,7 +1,7 @@
 //! Where lines come from, and what is said where they cannot be read.
 
 use crate::fault::WRONG;
-use crate::quoted::Word;
+use crate::quoted::Shown;
 use std::fmt;
 use std::io::{self, Eprint};
 
@@ -24,7 +24,7 @@ impl fmt::Display for Source<'_> {
         match self {
             Source::Input => f.write_str("standard input"),
             Source::File { place, name } => {
-                let name = Word { text: name };
+                let name = Shown { text: name };
                 write!(f, "argument {place}, {name}")
             }
         }

@@ -8,7 +8,7 @@ use Rattle.chrono_calendar.proofs.Signed.{signed}
 use Rattle.chrono_calendar.proofs.Dates.{date_of_day-SomeIff}
 use Rattle.chrono_calendar.proofs.MonthMoveLaws.{month_move-parts}
 use Rattle.chrono_calendar.proofs.Rising.{month_index_of-rises}
-use Rattle.dates_request.specs.declared.span.Unit.TheVariants.{Days, Weeks, Months, Years}
+use Rattle.dates_answer.specs.declared.span.Unit.TheVariants.{Days, Weeks, Months, Years}
 use Rattle.dates_answer.specs.Moves.{unit_move}
 use Rattle.dates_answer.specs.Distances.{IsMostBack, IsMostForth, IsUnitsBetween}
 use Rattle.dates_answer.proofs.MonthDistances.{later_month, reaches, at_move}

@@ -7,8 +7,8 @@ use Rattle.chrono_calendar.proofs.Dates.{date_of_day-SomeIff}
 use Rattle.chrono_calendar.proofs.MonthOrder.{month_of-range}
 use Rattle.chrono_calendar.proofs.MonthMoveLaws.{year_of-range}
 use Rattle.chrono_calendar.proofs.Moves.{year_of_month_index-below, year_of_month_index-above, month_move-None}
-use Rattle.dates_request.specs.declared.span.Unit.{Unit}
-use Rattle.dates_request.specs.declared.span.Unit.TheVariants.{Days, Weeks, Months, Years}
+use Rattle.dates_answer.specs.declared.span.Unit.{Unit}
+use Rattle.dates_answer.specs.declared.span.Unit.TheVariants.{Days, Weeks, Months, Years}
 use Rattle.dates_answer.specs.Moves.{unit_move}
 
 -- more of a unit than there are days

@@ -3,8 +3,8 @@ use Rattle.std.proofs.Common.{◌≡◌, Some, refl, sym, arith, ℤ, pos, neg_�
 use Rattle.chrono_calendar.specs.Days.{IsDate, days_of_years, days_before_year, days_of_months_in, ordinal_name_of, days_after_zero, days_before_zero, month_of_ordinal, day_of_ordinal}
 use Rattle.chrono_calendar.specs.MonthMoves.{month_index_of, month_move}
 use Rattle.chrono_calendar.proofs.Signed.{signed}
-use Rattle.dates_request.specs.declared.span.Unit.{Unit}
-use Rattle.dates_request.specs.declared.span.Unit.TheVariants.{Months, Years}
+use Rattle.dates_answer.specs.declared.span.Unit.{Unit}
+use Rattle.dates_answer.specs.declared.span.Unit.TheVariants.{Months, Years}
 use Rattle.dates_answer.specs.Moves.{unit_move}
 use Rattle.dates_answer.specs.Distances.{IsMostBack, IsMostForth, IsUnitsBetween}
 use Rattle.dates_answer.specs.Parts.{IsMonthsLeft, IsPartsBetween}

@@ -2,8 +2,8 @@
 use Rattle.std.proofs.Common.{◌≡◌, Option, Some, None, IfSome, IsSomeAnd, sym, ap, ◌∙◌, arith, ℤ, ◌-ℤ◌, ◌≤ℤ◌, ◌<ℤ◌}
 use Rattle.std.proofs.lemmas.Int.{by_lt_z}
 use Rattle.chrono_calendar.proofs.Signed.{signed}
-use Rattle.dates_request.specs.declared.span.Unit.{Unit}
-use Rattle.dates_request.specs.declared.span.Unit.TheVariants.{Months, Years}
+use Rattle.dates_answer.specs.declared.span.Unit.{Unit}
+use Rattle.dates_answer.specs.declared.span.Unit.TheVariants.{Months, Years}
 use Rattle.dates_answer.specs.declared.parts.Parts.{Parts}
 use Rattle.dates_answer.specs.Moves.{unit_move}
 use Rattle.dates_answer.specs.Distances.{IsMostBack, IsMostForth, IsUnitsBetween}

@@ -12,7 +12,7 @@ use Rattle.chrono_calendar.proofs.MonthOrder.{day_at-exists, earlier_month}
 use Rattle.chrono_calendar.proofs.MonthMoveLaws.{month_move-parts, month_move-exists}
 use Rattle.chrono_calendar.proofs.EveryMonths.{date_every-start}
 use Rattle.chrono_calendar.proofs.Rising.{month_index_of-rises}
-use Rattle.dates_request.specs.declared.span.Unit.TheVariants.{Months}
+use Rattle.dates_answer.specs.declared.span.Unit.TheVariants.{Months}
 use Rattle.dates_answer.specs.Moves.{unit_move}
 use Rattle.dates_answer.specs.Distances.{IsMostBack, IsMostForth}
 use Rattle.dates_answer.proofs.FarMoves.{month_index_of-range}

@@ -8,8 +8,8 @@ use Rattle.chrono_calendar.proofs.Signed.{signed}
 use Rattle.chrono_calendar.proofs.Dates.{date_of_day-SomeIff}
 use Rattle.chrono_calendar.proofs.MonthMoveLaws.{month_move-parts}
 use Rattle.chrono_calendar.proofs.Rising.{month_index_of-rises}
-use Rattle.dates_request.specs.declared.span.Unit.{Unit}
-use Rattle.dates_request.specs.declared.span.Unit.TheVariants.{Days, Months, Years}
+use Rattle.dates_answer.specs.declared.span.Unit.{Unit}
+use Rattle.dates_answer.specs.declared.span.Unit.TheVariants.{Days, Months, Years}
 use Rattle.dates_answer.specs.Moves.{moved_from, unit_move}
 use Rattle.dates_answer.specs.Distances.{IsMostBack, IsMostForth, IsUnitsBetween}
 use Rattle.dates_answer.specs.Parts.{IsMonthsBack, IsMonthsForth, IsMonthsLeft, IsPartsBetween}

@@ -5,7 +5,7 @@ use Rattle.std.specs.Int.RustNames.{FitsSigned}
 use Rattle.std.specs.Option.{SomeIff}
 use Rattle.chrono_calendar.specs.Days.{IsDate}
 use Rattle.chrono_calendar.proofs.Dates.{by_test}
-use Rattle.dates_request.specs.declared.span.Unit.{Unit}
+use Rattle.dates_answer.specs.declared.span.Unit.{Unit}
 use Rattle.dates_answer.specs.Moves.{unit_move}
 use Rattle.dates_answer.specs.Sequences.{up_to}
 use Rattle.dates_answer.proofs.FarMoves.{IsFar, unit_move-far}

@@ -1,7 +1,7 @@
 -- Spans one after another, by the place of the next.
 use Rattle.std.proofs.Common.{◌≡◌, ℕ, ◌+◌, ◌<◌, ◌≤◌, ℤ, List, length, drop, get_or, Some, None, Ok, Err, refl, add-one, drop-cons}
 use Rattle.std.proofs.lemmas.List.{drop_all}
-use Rattle.dates_request.specs.declared.span.Span.{Span}
+use Rattle.dates_answer.specs.declared.span.Span.{Span}
 use Rattle.dates_answer.specs.Moves.{moved_from, span_move}
 
 pub goes_on : (spans : List Span) (k : ℕ) (n m : ℤ) (d : Span) → k < length spans → Some m ≡ span_move n (get_or spans k d) → moved_from (drop k spans) k n ≡ moved_from (drop (k + 1) spans) (k + 1) m

@@ -1,6 +1,6 @@
 -- How many whole units lie between two days.
 use Rattle.std.specs.Prelude.{ℤ, pos, ◌≤ℤ◌, ◌<ℤ◌, IfSome, IsSomeAnd}
-use Rattle.dates_request.specs.declared.span.Unit.{Unit}
+use Rattle.dates_answer.specs.declared.span.Unit.{Unit}
 use Rattle.dates_answer.specs.Moves.{unit_move}
 
 -- z is the most by which the day from, moved on, is not past the day to

@@ -4,6 +4,5 @@ pub mod Distances
 pub mod Parts
 pub mod Sheets
 pub mod DayNames
-pub mod Conventions
-pub mod Ways
+pub mod Quoted
 pub mod Lines

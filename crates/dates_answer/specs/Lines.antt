@@ -10,8 +10,8 @@ use Rattle.chrono_datetime.specs.Fields.{unix_epoch_day}
 use Rattle.chrono_datetime.specs.MomentText.{moment_text}
 use Rattle.chrono_datetime.specs.Text.{duration_text}
 use Rattle.chrono_datetime.specs.Weeks.{weekday_of}
-use Rattle.dates_request.specs.declared.form.Form.{Form}
-use Rattle.dates_request.specs.declared.form.Form.TheVariants as forms
+use Rattle.dates_answer.specs.declared.form.Form.{Form}
+use Rattle.dates_answer.specs.declared.form.Form.TheVariants as forms
 use Rattle.dates_answer.specs.DayNames.{names_text, ordinal_name, week_name}
 use Rattle.dates_answer.specs.declared.line.Answer.{Answer}
 use Rattle.dates_answer.specs.declared.line.Answer.TheVariants as answers
@@ -41,6 +41,7 @@ key_text keys.Years = codes "years"
 key_text keys.OpenDays = codes "open_days"
 key_text keys.Open = codes "open"
 key_text keys.Leap = codes "leap"
+key_text keys.Weekday = codes "weekday"
 
 -- a number and its unit, if it is not 0
 unfoldable pub part_texts : ℤ → ℕ → List (List ℕ)
@@ -65,6 +66,7 @@ parts_text p = spaced_or_no_days (part_texts p.years (byte "y") ++ part_texts p.
 unfoldable pub answer_text : Answer → List ℕ
 answer_text (answers.Names n) = names_text n
 answer_text (answers.Date n) = date_text n
+answer_text (answers.Weekday day) = weekday_name day
 answer_text (answers.Moment m) = moment_text (byte "T") m
 answer_text (answers.Duration x) = duration_text x
 answer_text (answers.Number key z) = signed_decimal z
@@ -91,6 +93,7 @@ parts_object p = codes "{\"years\":" ++ (signed_decimal p.years ++ (codes ",\"mo
 unfoldable pub answer_object : Answer → List ℕ
 answer_object (answers.Names n) = names_object n
 answer_object (answers.Date n) = codes "{\"date\":\"" ++ (date_text n ++ codes "\"}")
+answer_object (answers.Weekday day) = codes "{\"weekday\":\"" ++ (weekday_name day ++ codes "\"}")
 answer_object (answers.Moment m) = codes "{\"moment\":\"" ++ (moment_text (byte "T") m ++ codes "\"}")
 answer_object (answers.Duration x) = codes "{\"duration\":\"" ++ (duration_text x ++ codes "\"}")
 answer_object (answers.Number key z) = codes "{\"" ++ (key_text key ++ (codes "\":" ++ (signed_decimal z ++ codes "}")))

@@ -2,9 +2,9 @@
 use Rattle.std.specs.Prelude.{ℕ, suc, ℤ, pos, ◌+ℤ◌, ◌*ℤ◌, List, [], ◌∷◌, Option, Some, None, Result, Ok, Err}
 use Rattle.chrono_datetime.specs.Days.{date_of_day}
 use Rattle.chrono_datetime.specs.MonthMoves.{month_move}
-use Rattle.dates_request.specs.declared.span.Span.{Span}
-use Rattle.dates_request.specs.declared.span.Unit.{Unit}
-use Rattle.dates_request.specs.declared.span.Unit.TheVariants.{Days, Weeks, Months, Years}
+use Rattle.dates_answer.specs.declared.span.Span.{Span}
+use Rattle.dates_answer.specs.declared.span.Unit.{Unit}
+use Rattle.dates_answer.specs.declared.span.Unit.TheVariants.{Days, Weeks, Months, Years}
 use Rattle.dates_answer.specs.declared.moves.Stop.{Stop}
 
 -- the day n moved by z of a unit at once, if that is a date: a week is seven days and a year twelve months

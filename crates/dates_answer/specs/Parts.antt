@@ -1,6 +1,6 @@
 -- Years, months and days between two days.
 use Rattle.std.specs.Prelude.{◌≡◌, ℤ, pos, neg_ℤ, ◌-ℤ◌, ◌≤ℤ◌, ◌<ℤ◌, IfSome, IsSomeAnd}
-use Rattle.dates_request.specs.declared.span.Unit.TheVariants.{Months, Years}
+use Rattle.dates_answer.specs.declared.span.Unit.TheVariants.{Months, Years}
 use Rattle.dates_answer.specs.Moves.{unit_move}
 use Rattle.dates_answer.specs.Distances.{IsUnitsBetween}
 use Rattle.dates_answer.specs.declared.parts.Parts.{Parts}

@@ -1,7 +1,7 @@
 -- Sequences of days, each so many spans from the first.
 use Rattle.std.specs.Prelude.{ℕ, ℤ, pos, ◌*ℤ◌, int_le, if◌then◌else◌, Option, Some, None}
 use Rattle.std.specs.Option.{option_and_then}
-use Rattle.dates_request.specs.declared.span.Span.{Span}
+use Rattle.dates_answer.specs.declared.span.Span.{Span}
 use Rattle.dates_answer.specs.Moves.{unit_move}
 
 -- the day n, if it does not lie past the day end for one who goes on, or back where the number is below 0

@@ -3,13 +3,15 @@ ghost use Rattle.std.specs.Prelude.{◌≡◌, ◌-ℤ◌, ◌≤ℤ◌, ◌<ℤ
 ghost use Rattle.chrono_datetime.specs.Days.{IsDate};
 ghost use Rattle.chrono_datetime.specs.MonthMoves.{month_index_of};
 ghost use Rattle.dates_answer.specs.Distances.{IsMostBack, IsMostForth, IsUnitsBetween};
-ghost use Rattle.dates_request.specs.declared.span.Unit.TheVariants.{Months, Weeks, Years};
+ghost use Rattle.dates_answer.specs.declared.span.Unit.TheVariants.{Months, Weeks, Years};
 
+use crate::span::Unit;
 use chrono_datetime::{Datelike, NaiveDate};
-use dates_request::Unit;
 
-/// The whole units from one day to another, below 0 where the second is the earlier: the most by which the first, moved, is not
-/// past the second. So from 31 January 2024 to 29 February it is one month, and from 29 February 2024 to 27 February 2025 no year.
+/// Returns the whole units from `from` to `to`: the most by which `from` moves without passing `to`.
+///
+/// The number is negative if `to` is earlier. From 31 January 2024 to 29 February is one month. From 29 February 2024 to
+/// 27 February 2025 is no year.
 pub fn distance(from: NaiveDate, to: NaiveDate, unit: Unit) -> i64
     ensures { IsUnitsBetween unit from to result }
 {

@@ -3,8 +3,8 @@ ghost use Rattle.std.specs.Prelude.{◌≡◌, ◌∷◌, [], ℤ, pos, neg_ℤ,
 ghost use Rattle.chrono_datetime.specs.declared.Weekday.TheVariants.{Mon, Sun};
 ghost use Rattle.chrono_datetime.specs.WeekdaySet.{no_days};
 ghost use Rattle.chrono_business.specs.OpenDays.{closed};
-ghost use Rattle.dates_request.specs.declared.span.Unit.TheVariants.{Days, Months, Weeks, Years};
-ghost use Rattle.dates_request.specs.declared.form.Form.TheVariants.{Text, Json};
+ghost use Rattle.dates_answer.specs.declared.span.Unit.TheVariants.{Days, Months, Weeks, Years};
+ghost use Rattle.dates_answer.specs.declared.form.Form.TheVariants.{Text, Json};
 ghost use Rattle.dates_answer.specs.declared.line.Answer.TheVariants.{Date, Names, Nothing, Number, Parts, Week, Whether};
 ghost use Rattle.dates_answer.specs.declared.line.Key.TheVariants as keys;
 ghost use Rattle.dates_answer.specs.declared.parts.Parts as parts;
@@ -15,8 +15,11 @@ ghost use Rattle.dates_answer.specs.Parts.{IsPartsBetween};
 ghost use Rattle.dates_answer.specs.Sequences.{sequence_day};
 ghost use Rattle.dates_answer.specs.Sheets.{cells_of_row, row_text, sheet_day};
 
-/// Days moved by spans, each day by its number: 31 January of the year 1 by a month is 28 February, 1 January by two weeks the 15th,
-/// 29 February of the year 4 by a year 28 February; by a week on and a day back 1 January is the 7th; a day behind the last date there is none.
+/// States known moves of days by spans.
+///
+/// In year 1, a month after 31 January is 28 February, and two weeks after 1 January is the 15th. A day before 1 January is day 0.
+/// A year after 29 February of year 4 is 28 February. A week later and then a day earlier than 1 January is the 7th. A day earlier and
+/// then two days later than the last date is out of range, and the second span is reported.
 pub fn known_moves()
     ensures month { unit_move Months (pos 31) (pos 1) ≡ Some (pos 59) }
     ensures weeks { unit_move Weeks (pos 1) (pos 2) ≡ Some (pos 15) }
@@ -28,8 +31,10 @@ pub fn known_moves()
         ≡ Err (record { step = 1; date = pos 95_745_398 }) }
 {}
 
-/// Days of sequences: by a month from 31 January of the year 1 there is 31 March at place 2, which may be the end, but not past it; by three
-/// days back from 10 January there is 4 January at place 2, and behind it none if that is the end.
+/// States known days of sequences.
+///
+/// By one month from 31 January of year 1, place 2 is 31 March if the sequence ends there, and nothing if it ends a day earlier.
+/// By three days back from 10 January to 4 January, place 2 is 4 January, and place 3 is nothing.
 pub fn known_sequences()
     ensures from_the_first { sequence_day (pos 31) (pos 90) (record { count = pos 1; unit = Months }) 2 ≡ Some (pos 90) }
     ensures past_the_end { sequence_day (pos 31) (pos 89) (record { count = pos 1; unit = Months }) 2 ≡ None }
@@ -37,26 +42,30 @@ pub fn known_sequences()
     ensures back_past_the_end { sequence_day (pos 10) (pos 4) (record { count = neg_ℤ (pos 3); unit = Days }) 3 ≡ None }
 {}
 
-/// Years, months and days between known days: from 31 January of the year 4 to 1 March one month and one day, and as many back; from
-/// 29 February of the year 4 to 28 February of the year 8 three years, eleven months and 31 days.
+/// States known years, months and days between two days.
+///
+/// From 31 January of year 4 to 1 March there are one month and one day, and as many back. From 29 February of year 4 to 28 February
+/// of year 8 there are three years, eleven months and 31 days.
 pub fn known_parts()
     ensures forth { IsPartsBetween (pos 1126) (pos 1156) (record { years = pos 0; months = pos 1; days = pos 1 }) }
     ensures back { IsPartsBetween (pos 1156) (pos 1126) (record { years = pos 0; months = neg_ℤ (pos 1); days = neg_ℤ (pos 1) }) }
     ensures eleven { IsPartsBetween (pos 1155) (pos 2615) (record { years = pos 3; months = pos 11; days = pos 31 }) }
 {}
 
-/// Between two days lie no other years, months and days.
+/// States that the years, months and days between two days are unique.
 pub fn parts_are_the_only_ones()
     ensures { (from to : ℤ) (p q : parts.Parts) → IsPartsBetween from to p → IsPartsBetween from to q → (p.years ≡ q.years) × (p.months ≡ q.months) × (p.days ≡ q.days) }
 {}
 
-/// The line of 1 January of the year 1.
+/// States the line of 1 January of year 1.
 pub fn known_names()
     ensures first { names_text (pos 1) ≡ codes "0001-01-01 0001-001 0001-W01-1 Mon 1 -719162" }
 {}
 
-/// Lines of known answers, as texts and as objects: a day, a week, years and days without months, no days, a number, a day by its names, and
-/// that there is none.
+/// States known lines of answers.
+///
+/// As text: a week, years and days without months, no days, and `yes`. As JSON: a date, a number, a day by its names, no answer, and a
+/// day of a sheet.
 pub fn known_lines()
     ensures week { line_text Text (Week (pos 1) (pos 7)) ≡ codes "0001-01-01 0001-01-07" }
     ensures parts { line_text Text (Parts (record { years = pos 1; months = pos 0; days = pos 3 })) ≡ codes "1y 3d" }
@@ -70,7 +79,9 @@ pub fn known_lines()
     ensures day_of_sheet { day_object (pos 1) false ≡ codes "{\"date\":\"0001-01-01\",\"week\":\"0001-W01-1\",\"weekday\":\"Monday\",\"open\":false}" }
 {}
 
-/// Cells of January of the year 1, which begins on a Monday, those of its last row, of which the 30th is a holiday, and how a row is written.
+/// States known cells of January of year 1, which begins on a Monday.
+///
+/// They are cells of its first and last rows. In the last row the 30th is a holiday. A further row shows how a row is written.
 pub fn known_sheets()
     ensures first { sheet_day (pos 15) Mon 0 0 ≡ Some (pos 1) }
     ensures before_first { sheet_day (pos 15) Sun 0 0 ≡ None }

@@ -1,28 +1,29 @@
-//! What requests of `dates` are answered with: days moved by spans, how far two days lie apart, where days roll, when schedules are due, leap
-//! years, and months as sheets.
+//! What `dates` answers with: days moved by spans, how far two days lie apart, months as sheets, and the lines that say it.
 #![tactic(auto)]
 
 mod between;
-mod due;
+mod form;
 pub mod law;
 mod line;
 mod moves;
 mod names;
 mod parts;
-mod roll;
+mod quoted;
 mod row;
+mod said;
 mod sequence;
 mod sheet;
-mod year;
+mod span;
 
 pub use between::distance;
-pub use due::{Way, due_next};
+pub use form::Form;
 pub use line::{Answer, DayObject, Key, Line};
 pub use moves::{Stop, moved, moved_by_all};
 pub use names::{DayNames, OrdinalName, WeekName};
 pub use parts::{Parts, parts_between};
-pub use roll::rolled;
+pub use quoted::Quoted;
 pub use row::{Cell, SheetRow};
+pub use said::{VersionLine, WrongLine};
 pub use sequence::sequence_day;
 pub use sheet::MonthSheet;
-pub use year::is_leap;
+pub use span::{Span, Unit};

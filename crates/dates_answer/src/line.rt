@@ -3,10 +3,10 @@ ghost use Rattle.std.specs.Prelude.{◌≡◌, Some, codes, if◌then◌else◌}
 ghost use Rattle.std.specs.Fmt.{WritesOnOk};
 ghost use Rattle.dates_answer.specs.Lines.{answer_object, answer_text, day_object, key_text, line_text, names_object, numbers_in_object, parts_object, parts_text, weekday_name};
 
+use crate::form::Form;
 use crate::names::{DayNames, OrdinalName, WeekName};
 use crate::parts::Parts;
 use chrono_datetime::{Datelike, NaiveDate, NaiveDateTime, TimeDelta, Weekday};
-use dates_request::Form;
 use std::fmt;
 
 /// The key under which an object of JSON has an answer.
@@ -32,6 +32,8 @@ pub enum Key {
     Open,
     /// Whether a year is a leap year.
     Leap,
+    /// A weekday.
+    Weekday,
 }
 
 /// What a line says.
@@ -41,6 +43,8 @@ pub enum Answer {
     Names(NaiveDate),
     /// A day.
     Date(NaiveDate),
+    /// A weekday.
+    Weekday(Weekday),
     /// A date-time.
     Moment(NaiveDateTime),
     /// How long it is between two date-times.
@@ -144,6 +148,7 @@ fn write_text<W: fmt::Write>(answer: Answer, f: &mut fmt::Formatter<W>) -> fmt::
     match answer {
         Answer::Names(date) => write!(f, "{}", DayNames { date }),
         Answer::Date(date) => write!(f, "{date}"),
+        Answer::Weekday(day) => f.write_str(weekday_name(day)),
         Answer::Moment(moment) => write!(f, "{moment:?}"),
         Answer::Duration(duration) => write!(f, "{duration}"),
         Answer::Number(_, number) => write!(f, "{number}"),
@@ -170,6 +175,7 @@ fn write_object<W: fmt::Write>(answer: Answer, f: &mut fmt::Formatter<W>) -> fmt
     match answer {
         Answer::Names(date) => write_names(date, f),
         Answer::Date(date) => write!(f, "{{\"date\":\"{date}\"}}"),
+        Answer::Weekday(day) => write!(f, "{{\"weekday\":\"{}\"}}", weekday_name(day)),
         Answer::Moment(moment) => write!(f, "{{\"moment\":\"{moment:?}\"}}"),
         Answer::Duration(duration) => write!(f, "{{\"duration\":\"{duration}\"}}"),
         Answer::Number(key, number) => write!(f, "{{\"{key}\":{number}}}"),
@@ -264,5 +270,6 @@ fn key_name(key: Key) -> &'static str
         Key::OpenDays => "open_days",
         Key::Open => "open",
         Key::Leap => "leap",
+        Key::Weekday => "weekday",
     }
 }

@@ -4,20 +4,21 @@ ghost use Rattle.chrono_datetime.specs.Days.{IsDate, date_of_day};
 ghost use Rattle.chrono_datetime.specs.MonthMoves.{month_move};
 ghost use Rattle.dates_answer.specs.Moves.{moved_from, span_move, unit_move};
 
+use crate::span::{Span, Unit};
 use chrono_datetime::{Datelike, NaiveDate};
-use dates_request::{Span, Unit};
 
-/// A span that leads out of the calendar, among spans one after another.
+/// The first of several spans that leads out of the calendar.
 #[derive(Clone, Copy)]
 pub struct Stop {
-    /// Which of the spans it is, from 0 on.
+    /// The place of the span. The first one has 0.
     pub step: usize,
     /// The date that it leads out from.
     pub date: NaiveDate,
 }
 
-/// The date moved by spans, one after another, as 29 February 2024 by a year back and then three days on comes to 3 March 2023;
-/// an error exactly where one of them leads out of the calendar.
+/// Returns `date` moved by each of `spans` in turn. 29 February 2024 by a year back and then three days on leads to 3 March 2023.
+///
+/// Returns the first span that leads out of the calendar, if there is one, as a [`Stop`].
 pub fn moved_by_all(date: NaiveDate, spans: &[Span]) -> Result<NaiveDate, Stop>
     ensures { result ≡ moved_from spans.now 0 date }
 {
@@ -34,8 +35,9 @@ pub fn moved_by_all(date: NaiveDate, spans: &[Span]) -> Result<NaiveDate, Stop>
     Ok(reached)
 }
 
-/// The date that is a span away, which a month or a year on is the same day of its month or, where that is shorter, its last;
-/// `None` exactly where the span leads out of the calendar.
+/// Returns `date` moved by `span`. A month or a year leads to the same day of the month, or to the last day of a shorter month.
+///
+/// Returns `None` if the span leads out of the calendar.
 pub fn moved(date: NaiveDate, span: Span) -> Option<NaiveDate>
     ensures { result ≡ span_move date span }
 {

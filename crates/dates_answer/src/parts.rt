@@ -1,30 +1,32 @@
 //! Years, months and days between two days.
 ghost use Rattle.std.specs.Prelude.{◌≡◌, ◌∷◌, [], Ok};
-ghost use Rattle.dates_request.specs.declared.span.Unit.TheVariants.{Days, Months, Years};
+ghost use Rattle.dates_answer.specs.declared.span.Unit.TheVariants.{Days, Months, Years};
 ghost use Rattle.dates_answer.specs.Moves.{moved_from};
 ghost use Rattle.dates_answer.specs.Parts.{IsMonthsLeft, IsPartsBetween};
 
 use crate::between::{days_between, distance};
 use crate::moves::moved_by;
+use crate::span::Unit;
 use chrono_datetime::NaiveDate;
-use dates_request::Unit;
 
-/// Years, months and days, none above 0 where they go back.
+/// Years, months and days. None is above 0 if they go back.
 #[derive(Clone, Copy)]
 pub struct Parts {
     /// The whole years.
     pub years: i64,
-    /// The whole months behind them, from -11 to 11.
+    /// The whole months after the years, from -11 to 11.
     pub months: i64,
-    /// The days behind these.
+    /// The days after the months.
     pub days: i64,
 }
 
-/// The years, months and days by which one comes from one day to another, by each in turn: the most whole years by which the first, moved, is
-/// not past the second, from there the most months, of eleven at most, and the days that are left. All go back where the second is the earlier.
+/// Returns the years, months and days that lead from `from` to `to`, each in turn.
 ///
-/// So from 31 January 2024 to 1 March 2025 it is one year, one month and one day, and from 29 February 2024 to 28 February 2028 three
-/// years, eleven months and 31 days, since four years would be past it and three come to 28 February 2027.
+/// They are the most whole years by which `from` moves without passing `to`, then the most months, at most eleven, then the days that
+/// are left. All go back if `to` is earlier.
+///
+/// From 31 January 2024 to 1 March 2025 is one year, one month and one day. From 29 February 2024 to 28 February 2028 is three years,
+/// eleven months and 31 days. Four years would pass it, and three lead to 28 February 2027.
 pub fn parts_between(from: NaiveDate, to: NaiveDate) -> Parts
     ensures is { IsPartsBetween from to result }
     ensures adds_up { moved_from (record { count = result.years; unit = Years } ∷ record { count = result.months; unit = Months } ∷ record { count = result.days; unit = Days } ∷ []) 0 from ≡ Ok to }

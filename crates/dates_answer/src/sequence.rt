@@ -4,12 +4,14 @@ ghost use Rattle.dates_answer.specs.Sequences.{moved_times, sequence_day, up_to}
 
 use crate::between::days_between;
 use crate::moves::moved_by;
+use crate::span::Span;
 use chrono_datetime::NaiveDate;
-use dates_request::Span;
 
-/// The day of a sequence at a place, counted from 0: the first day moved by so many spans at once, so that 31 January 2024 by a month has
-/// 29 February at place 1 and 31 March at place 2. `None` exactly where there is no such date, or where it lies past the end: behind it, or
-/// before it where the span goes back.
+/// Returns the day at `place` of a sequence: `first` moved once by `place` times `step`. Place 0 is `first`.
+///
+/// From 31 January 2024 by one month, place 1 is 29 February and place 2 is 31 March.
+///
+/// Returns `None` if there is no such date, or if it lies past `end`. If `step` goes back, a date before `end` is past it.
 pub fn sequence_day(first: NaiveDate, end: NaiveDate, step: Span, place: u32) -> Option<NaiveDate>
     ensures { result ≡ sequence_day first end step place }
 {

@@ -61,14 +61,14 @@ fn numbers(answer: &str) -> Option<Numbers> {
 // What the call reads; `None` if there is no such call.
 fn numbers_of(call: &str, text: &[u8]) -> Option<Option<Numbers>> {
     let read = match call {
-        "date" => of_date(read_date(text)),
-        "ordinal_date" => of_date(read_ordinal_date(text)),
-        "week_date" => of_date(read_week_date(text)),
-        "time" => of_time(read_time(text)),
-        "date_time" => of_date_time(read_date_time(text)),
-        "duration" => of_duration(read_duration(text)),
-        "weekday" => of_number(read_weekday(text).map(|day| day.number_from_monday())),
-        "month" => of_number(read_month(text).map(|month| month.number_from_month())),
+        "date" => of_date(read_date(text).ok()),
+        "ordinal_date" => of_date(read_ordinal_date(text).ok()),
+        "week_date" => of_date(read_week_date(text).ok()),
+        "time" => of_time(read_time(text).ok()),
+        "date_time" => of_date_time(read_date_time(text).ok()),
+        "duration" => of_duration(read_duration(text).ok()),
+        "weekday" => of_number(read_weekday(text).ok().map(|day| day.number_from_monday())),
+        "month" => of_number(read_month(text).ok().map(|month| month.number_from_month())),
         _ => return None,
     };
     Some(read)

@@ -6,6 +6,8 @@
 //! in place of the days says that these do not rise. A word `*times` there says that so many calls of `next_after`, each from the day that the
 //! last one gave, lead to the day, and a word `calls` that each other call of the rule is tried at each day: see `calls`. Other lines are rows of
 //! texts that are written: see `texts`.
+//!
+//! A line `after rule start day = found` compares what `next_after` returns with a day or with `none`, and `before` does so for `prev_before`.
 #![tactic(auto)]
 
 mod beside;
@@ -44,6 +46,8 @@ fn is_answered<A: Allocator>(
     };
     match row.split_once(' ') {
         Some(("text", text)) => texts::is_written(text, answer, alloc),
+        Some(("after", call)) => Ok(is_found(call, answer, false).unwrap_or(false)),
+        Some(("before", call)) => Ok(is_found(call, answer, true).unwrap_or(false)),
         Some(_) => {
             if beside.takes(row)? {
                 Ok(has_recurrence(beside, row, answer).unwrap_or(false))
@@ -61,8 +65,40 @@ fn has_recurrence<A: Allocator>(beside: &Beside<A>, row: &str, days: &str) -> Op
         return None;
     };
     match read_rule(text.as_bytes()) {
-        Some(rule) => beside.has_days(rule, start, days),
-        None => None,
+        Ok(rule) => beside.has_days(rule, start, days),
+        Err(_) => None,
+    }
+}
+
+// Whether `next_after` returns this for the rule, the start and the day of the call, or `prev_before` does.
+fn is_found(call: &str, answer: &str, before: bool) -> Option<bool> {
+    let Some((text, start, day)) = arguments_of_call(call) else {
+        return None;
+    };
+    match read_rule(text.as_bytes()) {
+        Ok(rule) => Some(is_returned(&rule, start, day, answer, before)),
+        Err(_) => None,
+    }
+}
+
+// The rule's text, the start and the day of a call.
+fn arguments_of_call(call: &str) -> Option<(&str, NaiveDate, NaiveDate)> {
+    let mut words = call.split_ascii_whitespace();
+    let text = words.next()?;
+    let start = day_of(words.next()?)?;
+    Some((text, start, day_of(words.next()?)?))
+}
+
+// Whether `next_after` returns the day that a word writes, or `None` for `none`. With `before`, it is `prev_before`.
+fn is_returned(rule: &Rule, start: NaiveDate, day: NaiveDate, answer: &str, before: bool) -> bool {
+    let found = if before {
+        rule.prev_before(start, day)
+    } else {
+        rule.next_after(start, day)
+    };
+    match found {
+        Some(date) => day_of(answer) == Some(date),
+        None => answer == "none",
     }
 }
 
@@ -71,8 +107,8 @@ fn has_days(row: &str, days: &str) -> bool {
     match arguments_of(row) {
         Some((text, start)) => match times_of(row) {
             Some(times) => match read_rule(text.as_bytes()) {
-                Some(rule) => leads_to(&rule, start, times, days).unwrap_or(false),
-                None => false,
+                Ok(rule) => leads_to(&rule, start, times, days).unwrap_or(false),
+                Err(_) => false,
             },
             None => has_instances(text, start, days, is_of_calls(row)).unwrap_or(false),
         },
@@ -120,14 +156,14 @@ fn is_of_calls(row: &str) -> bool {
 // Whether these are instances of the rule that the text writes, or `none` where it writes none.
 fn has_instances(text: &str, start: NaiveDate, days: &str, by_calls: bool) -> Option<bool> {
     match read_rule(text.as_bytes()) {
-        Some(rule) => {
+        Ok(rule) => {
             if by_calls {
                 calls::are_instances(&rule, start, days)
             } else {
                 are_instances(&rule, start, days)
             }
         }
-        None => Some(days == "none"),
+        Err(_) => Some(days == "none"),
     }
 }
 

@@ -1,8 +1,9 @@
 /** Dates. */
 
+import { annotation, ISO8601, refuseArgument, refuseOther, withoutAnnotation } from "./calendar.js";
 import { Duration } from "./duration.js";
 import { library, NONE, readDate, textOfDate } from "./library.js";
-import { clipped, integer, isInt32, isUint32, largestUnitOf, optionsOf, overflowOf } from "./numbers.js";
+import { clipped, integer, isInt32, isUint32, largestUnitOf, overflowOf } from "./numbers.js";
 import { PlainDateTime } from "./plain_date_time.js";
 import { forLibrary, forTemporal } from "./texts.js";
 
@@ -24,8 +25,8 @@ const MONTH_CODE = /^M(0[1-9]|1[0-2])$/;
 /** Refuses a calendar other than ISO 8601's, of which an object names its own as `calendar` or `calendarId`. */
 function refuseCalendar({ calendar, calendarId }) {
   for (const name of [calendar, calendarId]) {
-    if (name !== undefined && `${name}`.toLowerCase() !== "iso8601") {
-      throw new RangeError(`calendar ${name}: it is iso8601`);
+    if (name !== undefined) {
+      refuseOther(name);
     }
   }
 }
@@ -89,8 +90,12 @@ function numberOf(year, month, day) {
 export class PlainDate {
   #number;
 
-  /** The date of a year, a month from 1 to 12 and a day of it; RangeError if there is none. */
-  constructor(isoYear, isoMonth, isoDay) {
+  /**
+   * The date of a year, a month from 1 to 12 and a day of it; RangeError if there is none, or if the calendar is not
+   * `iso8601`.
+   */
+  constructor(isoYear, isoMonth, isoDay, calendar) {
+    refuseArgument(calendar);
     this.#number =
       isoYear === BY_NUMBER
         ? isoMonth
@@ -109,7 +114,7 @@ export class PlainDate {
   static from(item, options) {
     const overflow = overflowOf(options);
     if (typeof item === "string") {
-      return PlainDate.#found(readDate(forLibrary(item)), `${JSON.stringify(item)}: no text of a date`);
+      return PlainDate.#found(readDate(forLibrary(withoutAnnotation(item))), `${JSON.stringify(item)}: no text of a date`);
     }
     if (item instanceof PlainDate) {
       return new PlainDate(BY_NUMBER, item.#number);
@@ -173,7 +178,7 @@ export class PlainDate {
 
   /** The calendar that the names belong to. */
   get calendarId() {
-    return "iso8601";
+    return ISO8601;
   }
 
   /** The day number, in which 1 January of year 1 is 1. */
@@ -329,10 +334,13 @@ export class PlainDate {
     return time === undefined ? midnight : midnight.with(timeOf(time));
   }
 
-  /** The text of ISO 8601, such as `2024-02-29`; a year below 0 or above 9999 has a sign and six digits. */
+  /**
+   * The text of ISO 8601, such as `2024-02-29`; a year below 0 or above 9999 has a sign and six digits. The option
+   * `calendarName` asks for the calendar behind it: "always" writes `2024-02-29[u-ca=iso8601]`.
+   */
   toString(options) {
-    optionsOf(options);
-    return forTemporal(textOfDate(this.#number));
+    const calendar = annotation(options);
+    return forTemporal(textOfDate(this.#number)) + calendar;
   }
 
   toJSON() {

@@ -1,5 +1,6 @@
 /** Dates with a time of day. */
 
+import { annotation, refuseArgument, withoutAnnotation } from "./calendar.js";
 import { Duration } from "./duration.js";
 import { dateOf, dateTimeAt, distance, moved, NONE, readDate, readDateTime, secondOfDayOf, textOfDateTime } from "./library.js";
 import { between, clipped, integer, largestUnitOf, overflowOf, refuseRounding } from "./numbers.js";
@@ -51,9 +52,10 @@ export class PlainDateTime {
 
   /**
    * The date-time of a date and what a clock shows, 60 being the leap second that follows 59; RangeError if there is
-   * none.
+   * none, or if the calendar is not `iso8601`.
    */
-  constructor(isoYear, isoMonth, isoDay, hour, minute, second, millisecond, microsecond, nanosecond) {
+  constructor(isoYear, isoMonth, isoDay, hour, minute, second, millisecond, microsecond, nanosecond, calendar) {
+    refuseArgument(calendar);
     if (isoYear === BY_NUMBERS) {
       this.#moment = isoMonth;
     } else {
@@ -93,7 +95,7 @@ export class PlainDateTime {
   }
 
   static #read(text) {
-    const known = forLibrary(text);
+    const known = forLibrary(withoutAnnotation(text));
     const date = readDate(known);
     const moment = date === NONE ? readDateTime(known) : dateTimeAt(date, 0, 0);
     return PlainDateTime.#found(moment, `${JSON.stringify(text)}: no text of a date-time`);
@@ -213,7 +215,8 @@ export class PlainDateTime {
   /** The text of ISO 8601, such as `2024-02-29T12:00:00.5`; a year below 0 or above 9999 has a sign and six digits. */
   toString(options) {
     refuseRounding(options, "texts");
-    return forTemporal(textOfDateTime(this.#moment));
+    const calendar = annotation(options);
+    return forTemporal(textOfDateTime(this.#moment)) + calendar;
   }
 
   toJSON() {

@@ -53,6 +53,10 @@
   const calls = [
     (it, a) => it.PlainDate.from(a.date, a.overflow),
     (it, a) => new it.PlainDate(a.date.year, a.date.month, a.date.day),
+    (it, a) => new it.PlainDate(a.date.year, a.date.month, a.date.day, a.calendar),
+    (it, a) => new it.PlainDateTime(2024, 2, 29, 0, 0, 0, 0, 0, 0, a.calendar),
+    (it, a) => it.PlainDate.from(a.date).toString(a.annotation),
+    (it, a) => it.PlainDateTime.from({ ...a.date, ...a.time }).toString(a.annotation),
     (it, a) => it.PlainDate.from(a.date)[a.field],
     (it, a) => it.PlainDate.from(a.text),
     (it, a) => it.PlainDate.from(a.date).with({ [a.part]: a.number }, a.overflow),
@@ -89,13 +93,15 @@
     const given = {
       date: date(), other: date(), time: time(), otherTime: time(), overflow: overflow(), field: among(...FIELDS),
       clock: among("hour", "minute", "second", "millisecond", "microsecond", "nanosecond"), part: among("year", "month", "day"),
-      duration: duration(UNITS), exact: duration(exact), otherExact: duration(exact), unit: among("day", "weeks", "month", "years", "auto"),
+      duration: duration(UNITS), calendar: among(undefined, "iso8601", "ISO8601", "nonsense", "", null, 8601),
+      annotation: among(undefined, {}, null, ...["auto", "always", "never", "critical", "sometimes", undefined].map((it) => ({ calendarName: it }))),
+      exact: duration(exact), otherExact: duration(exact), unit: among("day", "weeks", "month", "years", "auto"),
       exactUnit: among("auto", "day", "hours", "minute", "seconds", "millisecond"), durationField: among(...UNITS, "sign", "blank"),
     };
     // (a leap second is a second of its own here, and 59 for Temporal)
     given.number = given.clock === "second" ? draw(60) : among(draw(13), draw(40), draw(1_100));
     const sampled = answered(() => Temporal.PlainDate.from(given.date));
-    given.text = texts(sampled.includes("-") ? sampled : "2024-02-29");
+    given.text = texts(`${sampled.includes("-") ? sampled : "2024-02-29"}${among("", "", "[u-ca=iso8601]", "[!u-ca=iso8601]", "[u-ca=nonsense]")}`);
     given.clockText = `${among("12:34:56", "00:00:00", "23:59:59", "24:00:00", "12:60:00")}${among("", ".5", ".123456789", ".000000001", ".250", ".")}`;
     given.durationText = texts(`${Temporal.Duration.from(given.duration)}`);
     if (isBeyond(given.date) || isBeyond(given.other)) {

@@ -112,6 +112,26 @@ test("months by their codes, and calendars", () => {
   }
 });
 
+test("calendars that constructors are given, and annotations", () => {
+  assert.equal(`${new PlainDate(2024, 2, 29, "ISO8601")}`, "2024-02-29");
+  assert.equal(`${new PlainDateTime(2024, 2, 29, 12, 0, 0, 0, 0, 0, "iso8601")}`, "2024-02-29T12:00:00");
+  for (const name of ["nonsense", "gregory", "hebrew", ""]) {
+    refused(() => new PlainDate(2024, 2, 29, name));
+    refused(() => new PlainDateTime(2024, 2, 29, 12, 0, 0, 0, 0, 0, name));
+    refused(() => PlainDate.from(`2024-02-29[u-ca=${name}]`));
+  }
+  assert.throws(() => new PlainDate(2024, 2, 29, null), TypeError);
+  const [date, moment] = [new PlainDate(2024, 2, 29), new PlainDateTime(2024, 2, 29, 12)];
+  for (const [calendarName, annotation] of [["auto", ""], ["never", ""], ["always", "[u-ca=iso8601]"], ["critical", "[!u-ca=iso8601]"]]) {
+    assert.equal(date.toString({ calendarName }), `2024-02-29${annotation}`);
+    assert.equal(moment.toString({ calendarName }), `2024-02-29T12:00:00${annotation}`);
+    assert.equal(PlainDate.from(date.toString({ calendarName })).equals(date), true);
+    assert.equal(PlainDateTime.from(moment.toString({ calendarName })).equals(moment), true);
+  }
+  refused(() => date.toString({ calendarName: "sometimes" }));
+  refused(() => moment.toString({ calendarName: "toString" }));
+});
+
 test("options that are none", () => {
   const [date, time] = [new PlainDate(2024, 2, 29), new PlainDateTime(2024, 2, 29)];
   for (const it of [PlainDate, PlainDateTime]) {

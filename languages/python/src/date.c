@@ -448,7 +448,7 @@ static PyObject *date_reduce(PyObject *self, PyObject *unused)
 /* ---- the type */
 
 static PyGetSetDef fields[] = {
-    {"number", date_number, NULL, "The day number: 1 for 1 January of year 1, as toordinal answers.", NULL},
+    {"number", date_number, NULL, "The day number: 1 for 1 January of year 1, as toordinal returns.", NULL},
     {"year", date_year, NULL, "The year; 0 is the year before year 1.", NULL},
     {"month", date_month, NULL, "The month, from 1 for January to 12.", NULL},
     {"day", date_day, NULL, "The day of the month, from 1.", NULL},
@@ -460,52 +460,55 @@ static PyGetSetDef fields[] = {
 
 static PyMethodDef methods[] = {
     {"from_number", from_number, METH_O | METH_CLASS,
-     "from_number($type, number, /)\n--\n\nThe date with a day number; ValueError if there is none."},
+     "from_number($type, number, /)\n--\n\nReturns the date with this day number; ValueError if there is none."},
     {"fromordinal", from_number, METH_O | METH_CLASS,
-     "fromordinal($type, number, /)\n--\n\nThe same as from_number, by the name that datetime has for it."},
+     "fromordinal($type, number, /)\n--\n\nThe same as from_number, by datetime's name."},
     {"from_ordinal", METHOD(from_year_and_ordinal), METH_FASTCALL | METH_CLASS,
-     "from_ordinal($type, year, ordinal, /)\n--\n\nThe date of a year and a day of it from 1 to 366 (ISO 8601 ordinal date)."},
+     "from_ordinal($type, year, ordinal, /)\n--\n\n"
+     "Returns the date of a year and a day of it, from 1 to 366 (ISO 8601 ordinal date)."},
     {"from_iso_week", METHOD(from_iso_week), METH_FASTCALL | METH_CLASS,
      "from_iso_week($type, year, week, weekday, /)\n--\n\n"
-     "The date of an ISO year, a week from 1 to 53 and a weekday from 1 for Monday (ISO 8601 week date)."},
+     "Returns the date of an ISO year, a week from 1 to 53 and a weekday from 1 for Monday (ISO 8601 week date)."},
     {"from_weekday_of_month", METHOD(from_weekday_of_month), METH_FASTCALL | METH_CLASS,
      "from_weekday_of_month($type, year, month, weekday, n, /)\n--\n\n"
-     "The month's n-th Monday or other weekday, from the first, which is 1, to the fifth."},
-    {"from_date", from_date, METH_O | METH_CLASS, "from_date($type, date, /)\n--\n\nThe date that a datetime.date is."},
+     "Returns the n-th such weekday of the month. For example, weekday 5 and n 3 is the third Friday."},
+    {"from_date", from_date, METH_O | METH_CLASS, "from_date($type, date, /)\n--\n\nReturns the date equal to a datetime.date."},
     {"fromisoformat", from_iso_format, METH_O | METH_CLASS,
-     "fromisoformat($type, text, /)\n--\n\nThe date with a text, exactly as isoformat writes it."},
+     "fromisoformat($type, text, /)\n--\n\nReturns the date with this text. It reads only what isoformat writes."},
     {"isoformat", iso_format, METH_NOARGS,
      "isoformat($self, /)\n--\n\n"
-     "The date as YYYY-MM-DD; a year below 0 or above 9999 has a sign and at least four digits."},
+     "Returns the date as YYYY-MM-DD. A year below 0 or above 9999 has a sign and at least four digits."},
     {"isocalendar", date_iso_calendar, METH_NOARGS,
-     "isocalendar($self, /)\n--\n\nISO year, week and weekday, as a tuple with these names."},
+     "isocalendar($self, /)\n--\n\nReturns ISO year, week and weekday, as a named tuple."},
     {"weekday", date_weekday, METH_NOARGS,
-     "weekday($self, /)\n--\n\nThe weekday as datetime counts it, from 0 for Monday to 6; isoweekday answers a Weekday."},
+     "weekday($self, /)\n--\n\nReturns the weekday as datetime counts it, from 0 for Monday to 6. isoweekday returns a Weekday."},
     {"isoweekday", date_iso_weekday, METH_NOARGS,
-     "isoweekday($self, /)\n--\n\nThe Weekday, which is a number from 1 for Monday to 7."},
-    {"toordinal", date_to_ordinal, METH_NOARGS, "toordinal($self, /)\n--\n\nThe day number: 1 for 1 January of year 1."},
+     "isoweekday($self, /)\n--\n\nReturns the Weekday, a number from 1 for Monday to 7."},
+    {"toordinal", date_to_ordinal, METH_NOARGS, "toordinal($self, /)\n--\n\nReturns the day number: 1 for 1 January of year 1."},
     {"replace", METHOD(date_replace), METH_FASTCALL | METH_KEYWORDS,
      "replace($self, /, year=..., month=..., day=...)\n--\n\n"
-     "The date with these parts in place of its own; ValueError if there is none."},
+     "Returns the date with these parts in place of its own; ValueError if it does not exist."},
     {"add_months", add_months, METH_O,
      "add_months($self, months, /)\n--\n\n"
-     "The same day so many months later, or earlier if they are negative; the last day of a month that is too short."},
+     "Returns the date that many months later, or earlier if negative. If that month is too short, returns its last day.\n\n"
+     ">>> Date(2024, 1, 31).add_months(1)\nDate(2024, 2, 29)"},
     {"every_months", METHOD(every_months), METH_FASTCALL,
      "every_months($self, months, index, /)\n--\n\n"
-     "The date index * months months later in one move, so that a 31st comes back after a shorter month.\n\n"
-     "The index is not negative, or ValueError is raised. If either number is 0 the date stays, however large the other is."},
+     "Returns the date index * months months later, in one move. So a 31st comes back after a shorter month.\n\n"
+     ">>> Date(2024, 1, 31).every_months(1, 2)\nDate(2024, 3, 31)\n\n"
+     "Raises ValueError if index is negative. If either number is 0, returns the same date."},
     {"years_since", years_since, METH_O,
      "years_since($self, base, /)\n--\n\n"
-     "The whole years from a date that is not later; those of an age. ValueError if it is later."},
+     "Returns the whole years since base, as for an age; ValueError if base is later."},
     {"week_first_day", METHOD(week_first_day), METH_FASTCALL | METH_KEYWORDS,
-     "week_first_day($self, /, start=1)\n--\n\nThe first day of the date's week, where weeks begin on that weekday."},
+     "week_first_day($self, /, start=1)\n--\n\nReturns the first day of the date's week, for weeks that begin on start."},
     {"first_on", first_on, METH_O,
      "first_on($self, weekdays, /)\n--\n\n"
-     "The first date from this one on that is one of the weekdays; ValueError if there is none of them."},
+     "Returns the first date, from this one on, that has one of the weekdays; ValueError if weekdays is empty."},
     {"to_date", to_date, METH_NOARGS,
-     "to_date($self, /)\n--\n\nThe same as a datetime.date; OverflowError outside the years 1 to 9999."},
+     "to_date($self, /)\n--\n\nReturns the same date as a datetime.date; OverflowError outside the years 1 to 9999."},
     {"__format__", formatted, METH_O,
-     "__format__($self, format, /)\n--\n\nThe text in a width, as format(str(self), format). There are no formats of strftime."},
+     "__format__($self, format, /)\n--\n\nFormats the text: format(str(self), format). There are no strftime formats."},
     {"__reduce__", date_reduce, METH_NOARGS, "__reduce__($self, /)\n--\n\nWhat pickle and copy keep."},
     {NULL, NULL, 0, NULL},
 };
@@ -513,10 +516,12 @@ static PyMethodDef methods[] = {
 PyDoc_STRVAR(documentation,
 "Date(year, month, day)\n--\n\n"
 "A date of the proleptic Gregorian calendar, from 1 January of year -262143 to 31 December of year 262142.\n\n"
-"The year before year 1 is year 0 (ISO 8601). A date is one number, by which it is compared and hashed; its text is\n"
-"YYYY-MM-DD. In the years 1 to 9999 number, names and text are those of datetime.date.\n\n"
-"Where there is no such date a name raises ValueError, which names the part, and a move OverflowError. A pattern takes a date\n"
-"apart as its name: case Date(2024, month, day).");
+">>> Date(2024, 2, 29) + 1\nDate(2024, 3, 1)\n\n"
+"The year before year 1 is year 0 (ISO 8601). A date is one number, by which it is compared and hashed. Its text is\n"
+"YYYY-MM-DD. In the years 1 to 9999 number, names and text are those of datetime.date. A Date is never equal to a\n"
+"datetime.date: convert with from_date or to_date first.\n\n"
+"An invalid date raises ValueError, which names the part. A move outside the calendar raises OverflowError.\n"
+"Patterns work: case Date(2024, month, day).");
 
 static PyType_Slot slots[] = {
     {Py_tp_doc, (void *)documentation},

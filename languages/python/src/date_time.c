@@ -4,7 +4,7 @@
 PyTypeObject *date_time_type;
 static Blocks kept;
 
-enum { SECOND = 1000000000, LAST_SECOND = 59 };
+enum { SECOND = 1000000000, MICROSECOND = 1000, LAST_SECOND = 59 };
 
 /* The parts of a clock, in the order of parameters: hour, minute, second and nanosecond. */
 enum { HOUR, MINUTE, CLOCK_SECOND, NANOSECOND, CLOCK };
@@ -118,14 +118,18 @@ static PyObject *date_time_of(PyTypeObject *kind, calendar_date_time moment)
 
 static PyObject *date_time_new(PyTypeObject *kind, PyObject *arguments, PyObject *keywords)
 {
+    static const char wanted[] = "a Date, as in DateTime(Date(2024, 2, 29), 12),";
     PyObject *parts[PARTS];
     int64_t clock[CLOCK] = {0};
     calendar_date_time moment;
+    if (PyTuple_Size(arguments) > 0 && !is_date(PyTuple_GetItem(arguments, 0))) {
+        return refuse_type(wanted, PyTuple_GetItem(arguments, 0));
+    }
     if (!take_tuple(&of_date_and_clock, arguments, keywords, parts)) {
         return NULL;
     }
     if (!is_date(parts[0])) {
-        return refuse_type("a Date", parts[0]);
+        return refuse_type(wanted, parts[0]);
     }
     for (int i = 0; i < CLOCK; i++) {
         if (parts[1 + i] && !read_whole(parts[1 + i], &clock[i])) {
@@ -260,6 +264,19 @@ static PyObject *date_time_nanosecond(PyObject *self, void *unused)
     return PyLong_FromLong(moment_of(self).nanos % SECOND);
 }
 
+static PyObject *date_time_microsecond(PyObject *self, void *unused)
+{
+    (void)unused;
+    return PyLong_FromLong(moment_of(self).nanos % SECOND / MICROSECOND);
+}
+
+static PyObject *date_time_zone(PyObject *self, void *unused)
+{
+    (void)self;
+    (void)unused;
+    Py_RETURN_NONE;
+}
+
 static PyObject *date_time_weekday(PyObject *self, PyObject *unused)
 {
     (void)unused;
@@ -353,6 +370,38 @@ static size_t length_of_date(const char *bytes, size_t length)
     return i;
 }
 
+/* Whether the bytes have the form of a time of day, a separator in front of it; then its parts are written. */
+static bool has_clock_form(const char *bytes, size_t length, int64_t clock[CLOCK])
+{
+    enum { HOURS_AT = 1, MINUTES_AT = 4, SECONDS_AT = 7, POINT_AT = 9, PLACES = 9 };
+    if (length < POINT_AT || bytes[MINUTES_AT - 1] != ':' || bytes[SECONDS_AT - 1] != ':') {
+        return false;
+    }
+    clock[HOUR] = read_digits(bytes + HOURS_AT, 2);
+    clock[MINUTE] = read_digits(bytes + MINUTES_AT, 2);
+    clock[CLOCK_SECOND] = read_digits(bytes + SECONDS_AT, 2);
+    clock[NANOSECOND] = 0;
+    size_t places = length > POINT_AT ? length - POINT_AT - 1 : 0;
+    bool has_fraction = length == POINT_AT
+        || (bytes[POINT_AT] == '.' && 0 < places && places <= PLACES && read_digits(bytes + POINT_AT + 1, places) >= 0);
+    return has_fraction && clock[HOUR] >= 0 && clock[MINUTE] >= 0 && clock[CLOCK_SECOND] >= 0;
+}
+
+/* Refuses a text of no date-time; where its date is right and its time has the form of one, by the first wrong part. */
+static void refuse_date_time_text(PyObject *text, const char *bytes, size_t length)
+{
+    int64_t clock[CLOCK];
+    size_t date = length_of_date(bytes, length);
+    if (calendar_read_date((const uint8_t *)bytes, date) != CALENDAR_NONE && has_clock_form(bytes + date, length - date, clock)) {
+        for (int part = 0; part < CLOCK; part++) {
+            if (!shows(clock, part)) {
+                return;
+            }
+        }
+    }
+    refuse_text(text, bytes, date, "date-time");
+}
+
 static PyObject *from_iso_format(PyObject *kind, PyObject *text)
 {
     Py_ssize_t length;
@@ -362,7 +411,7 @@ static PyObject *from_iso_format(PyObject *kind, PyObject *text)
     }
     calendar_date_time moment = calendar_read_date_time((const uint8_t *)bytes, (size_t)length);
     if (moment.nanos == CALENDAR_NO_NANOS) {
-        refuse_text(text, bytes, length_of_date(bytes, (size_t)length), "date-time");
+        refuse_date_time_text(text, bytes, (size_t)length);
         return NULL;
     }
     return date_time_of((PyTypeObject *)kind, moment);
@@ -418,50 +467,54 @@ static PyObject *date_time_reduce(PyObject *self, PyObject *unused)
 /* ---- the type */
 
 static PyGetSetDef fields[] = {
-    {"seconds", date_time_seconds, NULL, "The seconds from 1970-01-01T00:00:00 on, leap seconds not counted.", NULL},
+    {"seconds", date_time_seconds, NULL, "The seconds since 1970-01-01T00:00:00, without leap seconds.", NULL},
     {"nanos", date_time_nanos, NULL,
-     "The nanoseconds past them; 1,000,000,000 and more lie in the leap second that follows.", NULL},
+     "The nanoseconds after them. 1,000,000,000 or more lie in the leap second that follows.", NULL},
     {"date", date_time_date, NULL, "The date.", NULL},
     {"year", date_time_year, NULL, "The year; 0 is the year before year 1.", NULL},
     {"month", date_time_month, NULL, "The month, from 1 for January to 12.", NULL},
     {"day", date_time_day, NULL, "The day of the month, from 1.", NULL},
-    {"second_of_day", second_of_day, NULL, "The second of the day, from 0 to 86,399; of a leap second that before it.", NULL},
+    {"second_of_day", second_of_day, NULL,
+     "The second of the day, from 0 to 86,399. A leap second has the number of the second before it.", NULL},
     {"hour", date_time_hour, NULL, "The hour, from 0 to 23.", NULL},
     {"minute", date_time_minute, NULL, "The minute of the hour, from 0 to 59.", NULL},
-    {"second", date_time_second, NULL, "The second of the minute, from 0 to 59; 60 in a leap second.", NULL},
+    {"second", date_time_second, NULL, "The second of the minute, from 0 to 59, or 60 in a leap second.", NULL},
     {"nanosecond", date_time_nanosecond, NULL,
-     "The nanoseconds past the second that a clock shows, from 0 to 999,999,999.", NULL},
+     "The nanoseconds after the second, from 0 to 999,999,999.", NULL},
+    {"microsecond", date_time_microsecond, NULL,
+     "The whole microseconds after the second, from 0 to 999,999. numpy reads them. The text keeps all nanoseconds.", NULL},
+    {"tzinfo", date_time_zone, NULL, "None: a DateTime has no time zone.", NULL},
     {NULL, NULL, NULL, NULL, NULL},
 };
 
 static PyMethodDef methods[] = {
     {"from_seconds", METHOD(from_seconds), METH_FASTCALL | METH_KEYWORDS | METH_CLASS,
-     "from_seconds($type, /, seconds, nanos=0)\n--\n\nThe date-time that has these fields; ValueError if none has."},
+     "from_seconds($type, /, seconds, nanos=0)\n--\n\nReturns the date-time with these fields; ValueError if there is none."},
     {"from_datetime", from_datetime, METH_O | METH_CLASS,
-     "from_datetime($type, moment, /)\n--\n\nThe date-time that a datetime.datetime is, which has no time zone."},
+     "from_datetime($type, moment, /)\n--\n\nReturns the date-time equal to a datetime.datetime without time zone."},
     {"fromisoformat", from_iso_format, METH_O | METH_CLASS,
      "fromisoformat($type, text, /)\n--\n\n"
-     "The date-time with a text: that of a date, T or a space, HH:MM:SS, and perhaps a point and up to nine digits."},
+     "Returns the date-time with this text: a date, T or a space, and HH:MM:SS. A point and up to nine digits may follow."},
     {"isoformat", iso_format, METH_NOARGS,
      "isoformat($self, /)\n--\n\n"
-     "The date-time as YYYY-MM-DDTHH:MM:SS, with three, six or nine digits of a fraction that is not 0."},
+     "Returns the date-time as YYYY-MM-DDTHH:MM:SS. A fraction that is not 0 has three, six or nine digits."},
     {"isocalendar", date_time_iso_calendar, METH_NOARGS,
-     "isocalendar($self, /)\n--\n\nISO year, week and weekday, as a tuple with these names."},
+     "isocalendar($self, /)\n--\n\nReturns ISO year, week and weekday, as a named tuple."},
     {"weekday", date_time_weekday, METH_NOARGS,
-     "weekday($self, /)\n--\n\nThe weekday as datetime counts it, from 0 for Monday to 6; isoweekday answers a Weekday."},
+     "weekday($self, /)\n--\n\nReturns the weekday as datetime counts it, from 0 for Monday to 6. isoweekday returns a Weekday."},
     {"isoweekday", date_time_iso_weekday, METH_NOARGS,
-     "isoweekday($self, /)\n--\n\nThe Weekday, which is a number from 1 for Monday to 7."},
+     "isoweekday($self, /)\n--\n\nReturns the Weekday, a number from 1 for Monday to 7."},
     {"toordinal", date_time_to_ordinal, METH_NOARGS,
-     "toordinal($self, /)\n--\n\nThe day number of the date: 1 for 1 January of year 1."},
+     "toordinal($self, /)\n--\n\nReturns the day number of the date: 1 for 1 January of year 1."},
     {"replace", METHOD(date_time_replace), METH_FASTCALL | METH_KEYWORDS,
      "replace($self, /, year=..., month=..., day=..., hour=..., minute=..., second=..., nanosecond=...)\n--\n\n"
-     "The date-time with these parts in place of its own; ValueError if there is none."},
+     "Returns the date-time with these parts in place of its own; ValueError if it does not exist."},
     {"to_datetime", to_datetime, METH_NOARGS,
      "to_datetime($self, /)\n--\n\n"
-     "The same as a datetime.datetime; OverflowError outside the years 1 to 9999, ValueError in a leap second and for a part of a\n"
-     "microsecond."},
+     "Returns the same date-time as a datetime.datetime. Raises OverflowError outside the years 1 to 9999. Raises ValueError in\n"
+     "a leap second or for a fraction of a microsecond."},
     {"__format__", formatted, METH_O,
-     "__format__($self, format, /)\n--\n\nThe text in a width, as format(str(self), format). There are no formats of strftime."},
+     "__format__($self, format, /)\n--\n\nFormats the text: format(str(self), format). There are no strftime formats."},
     {"__reduce__", date_time_reduce, METH_NOARGS, "__reduce__($self, /)\n--\n\nWhat pickle and copy keep."},
     {NULL, NULL, 0, NULL},
 };
@@ -469,11 +522,12 @@ static PyMethodDef methods[] = {
 PyDoc_STRVAR(documentation,
 "DateTime(date, hour=0, minute=0, second=0, nanosecond=0)\n--\n\n"
 "A date with a time of day, to the nanosecond, in no time zone.\n\n"
-"The time may lie in a leap second, the second 60 of a minute. From there a move goes on a line that holds this leap second\n"
-"and no other. Date-times are compared by date, then by time of day.\n\n"
+">>> print(DateTime(Date(2016, 12, 31), 23, 59, 60) + Duration(seconds=1))\n2017-01-01T00:00:00\n\n"
+"The time can be in a leap second, the second 60 of a minute. A move from there counts this leap second and no other.\n"
+"Date-times are compared by date, then by time of day.\n\n"
 "In a difference a leap second counts if one of the two is in it and has the smaller second of the day. So the sign of the\n"
-"difference tells the order of two times of one date, but not always of two dates: 2017-01-01T00:00:00 is -0.5 seconds from\n"
-"2016-12-31T23:59:60.5, which is before it.");
+"difference is the order on one date, but not always across two. For example, 2017-01-01T00:00:00 is -0.5 seconds from\n"
+"2016-12-31T23:59:60.5, which is earlier.");
 
 static PyType_Slot slots[] = {
     {Py_tp_doc, (void *)documentation},

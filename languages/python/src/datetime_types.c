@@ -6,6 +6,9 @@
 /* The days of datetime: 1 January of year 1 is the first. */
 enum { FIRST_DAY = 1, LAST_DAY = 3652059, LONGEST_DAYS = 999999999 };
 
+/* The nanoseconds of a microsecond. */
+enum { MICROSECOND = 1000 };
+
 static PyTypeObject *date_class, *datetime_class, *timedelta_class;
 static PyObject *from_ordinal;
 
@@ -123,15 +126,40 @@ static int64_t number_at(const PyObject *it, Py_ssize_t place)
     return number;
 }
 
-bool read_timedelta(PyObject *it, int64_t *days, int64_t *seconds, int64_t *microseconds)
+/* Reads the nanoseconds past the microseconds that an object of a class derived from datetime's keeps, as pandas' do; 0 where
+ * it has none. */
+static bool read_nanoseconds(PyObject *it, const PyTypeObject *class, const char *name, int64_t *nanoseconds)
 {
+    *nanoseconds = 0;
+    if (Py_TYPE(it) == class || !PyObject_HasAttrString(it, name)) {
+        return true;
+    }
+    if (!take_whole(PyObject_GetAttrString(it, name), nanoseconds)) {
+        return false;
+    }
+    bool is_part = 0 <= *nanoseconds && *nanoseconds < MICROSECOND;
+    if (!is_part) {
+        refuse_part(name, *nanoseconds, "past the microseconds they are 0 to 999");
+    }
+    return is_part;
+}
+
+bool read_timedelta(PyObject *it, int64_t *days, int64_t *seconds, int64_t *nanoseconds)
+{
+    int64_t microseconds, past;
     if (has_places) {
         *days = number_at(it, fields[0].place);
         *seconds = number_at(it, fields[1].place);
-        *microseconds = number_at(it, fields[2].place);
-        return true;
+        microseconds = number_at(it, fields[2].place);
+    } else if (!read_field(&fields[0], it, days) || !read_field(&fields[1], it, seconds)
+               || !read_field(&fields[2], it, &microseconds)) {
+        return false;
     }
-    return read_field(&fields[0], it, days) && read_field(&fields[1], it, seconds) && read_field(&fields[2], it, microseconds);
+    if (!read_nanoseconds(it, timedelta_class, "nanoseconds", &past)) {
+        return false;
+    }
+    *nanoseconds = MICROSECOND * microseconds + past;
+    return true;
 }
 
 bool read_python_date(PyObject *it, int32_t *number)
@@ -165,7 +193,11 @@ bool read_python_datetime(PyObject *it, int32_t *number, int64_t clock[4])
             return false;
         }
     }
-    clock[3] *= 1000;
+    int64_t past;
+    if (!read_nanoseconds(it, datetime_class, "nanosecond", &past)) {
+        return false;
+    }
+    clock[3] = MICROSECOND * clock[3] + past;
     return read_python_date(it, number);
 }
 

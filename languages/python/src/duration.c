@@ -66,7 +66,7 @@ PyObject *duration_of(PyTypeObject *kind, calendar_duration length)
 
 bool read_length(PyObject *it, calendar_duration *length, bool *is_one)
 {
-    int64_t days, seconds, microseconds;
+    int64_t days, seconds, nanoseconds;
     *is_one = true;
     if (is_duration(it)) {
         *length = length_of(it);
@@ -76,10 +76,10 @@ bool read_length(PyObject *it, calendar_duration *length, bool *is_one)
     if (!*is_one) {
         return true;
     }
-    if (!read_timedelta(it, &days, &seconds, &microseconds)) {
+    if (!read_timedelta(it, &days, &seconds, &nanoseconds)) {
         return false;
     }
-    *length = length_from(days * DAY + seconds, microseconds * MICROSECOND);
+    *length = length_from(days * DAY + seconds, nanoseconds);
     return true;
 }
 
@@ -327,14 +327,16 @@ static PyGetSetDef fields[] = {
 
 static PyMethodDef methods[] = {
     {"from_nanoseconds", from_nanoseconds, METH_O | METH_CLASS,
-     "from_nanoseconds($type, nanoseconds, /)\n--\n\nThe length of so many nanoseconds; OverflowError if that is too long."},
+     "from_nanoseconds($type, nanoseconds, /)\n--\n\n"
+     "Returns the duration of this many nanoseconds; OverflowError if that is too long."},
     {"from_timedelta", from_timedelta, METH_O | METH_CLASS,
-     "from_timedelta($type, length, /)\n--\n\nThe length that Python's own type has."},
+     "from_timedelta($type, length, /)\n--\n\nReturns the duration equal to a datetime.timedelta."},
     {"to_timedelta", to_timedelta, METH_NOARGS,
      "to_timedelta($self, /)\n--\n\n"
-     "The same as a datetime.timedelta; OverflowError beyond 999,999,999 days, ValueError for a part of a microsecond."},
+     "Returns the same duration as a datetime.timedelta. Raises OverflowError beyond 999,999,999 days, and ValueError for a\n"
+     "fraction of a microsecond."},
     {"__format__", formatted, METH_O,
-     "__format__($self, format, /)\n--\n\nThe text in a width, as format(str(self), format)."},
+     "__format__($self, format, /)\n--\n\nFormats the text: format(str(self), format)."},
     {"__reduce__", duration_reduce, METH_NOARGS, "__reduce__($self, /)\n--\n\nWhat pickle and copy keep."},
     {NULL, NULL, 0, NULL},
 };
@@ -342,7 +344,8 @@ static PyMethodDef methods[] = {
 PyDoc_STRVAR(documentation,
 "Duration(*, days=0, hours=0, minutes=0, seconds=0, nanoseconds=0)\n--\n\n"
 "A length of time in whole nanoseconds, forward or back, of at most 2^63 - 1 milliseconds.\n\n"
-"It is the sum of its parts, a day being 24 hours; OverflowError if that is too long. Of no length it is false.");
+">>> Duration(days=1) + Duration(hours=1) == Duration(hours=25)\nTrue\n\n"
+"It is the sum of its parts. A day is 24 hours. Raises OverflowError if the sum is too long. The duration 0 is false.");
 
 static PyType_Slot slots[] = {
     {Py_tp_doc, (void *)documentation},

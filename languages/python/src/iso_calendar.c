@@ -102,7 +102,7 @@ static PyGetSetDef fields[] = {
 };
 
 static PyType_Slot slots[] = {
-    {Py_tp_doc, (void *)"ISO year, week and weekday of a date, as a tuple whose parts have names."},
+    {Py_tp_doc, (void *)"ISO year, week and weekday of a date, as a named tuple."},
     {Py_tp_getset, fields},
     SLOT(Py_tp_repr, iso_repr),
     {0, NULL},

@@ -43,19 +43,20 @@ static PyObject *days_until(PyObject *module, PyObject *const *arguments, Py_ssi
 
 static PyMethodDef functions[] = {
     {"is_leap_year", is_leap_year, METH_O,
-     "is_leap_year(year, /)\n--\n\nWhether a year, which may lie beyond those of dates, has 366 days."},
+     "is_leap_year(year, /)\n--\n\nReturns whether a year has 366 days. The year can lie outside the calendar."},
     {"days_in_month", METHOD(days_in_month), METH_FASTCALL,
-     "days_in_month(year, month, /)\n--\n\nThe days of a month from 1 to 12; ValueError if there is no such month in a year of dates."},
+     "days_in_month(year, month, /)\n--\n\n"
+     "Returns the days of a month from 1 to 12; ValueError if the month or year is out of range."},
     {"days_until", METHOD(days_until), METH_FASTCALL,
      "days_until(weekdays, start, /)\n--\n\n"
-     "The days from a weekday forward to the first of some weekdays, 0 to 6; ValueError if there is none of them."},
+     "Returns the days from start to the next of the weekdays, 0 to 6; ValueError if weekdays is empty."},
     {NULL, NULL, 0, NULL},
 };
 
 static struct PyModuleDef definition = {
     .m_base = PyModuleDef_HEAD_INIT,
     .m_name = "proved_calendar._calendar",
-    .m_doc = "Dates, date-times and durations, by functions that are proved to answer what counting gives.",
+    .m_doc = "Dates, date-times and durations, by functions that are proved to return what counting gives.",
     /* (the types stand in variables of these files, so there is one of each in a process) */
     .m_size = -1,
     .m_methods = functions,

@@ -224,10 +224,11 @@ bool is_python_date(PyObject *it);
 bool is_python_datetime(PyObject *it);
 bool is_timedelta(PyObject *it);
 
-/* The parts of a timedelta. */
-bool read_timedelta(PyObject *it, int64_t *days, int64_t *seconds, int64_t *microseconds);
+/* The parts of a timedelta, with the nanoseconds past its microseconds that a class derived from it keeps, as pandas' does. */
+bool read_timedelta(PyObject *it, int64_t *days, int64_t *seconds, int64_t *nanoseconds);
 
-/* The day number of a `datetime.date`, and the parts of a `datetime.datetime` that has no time zone. */
+/* The day number of a `datetime.date`, and the parts of a `datetime.datetime` that has no time zone, with the nanoseconds past
+ * its microseconds that a class derived from it keeps, as pandas' does. */
 bool read_python_date(PyObject *it, int32_t *number);
 bool read_python_datetime(PyObject *it, int32_t *number, int64_t clock[4]);
 
@@ -243,6 +244,8 @@ void refuse_ordinal(int64_t year, int64_t ordinal);
 void refuse_iso_week(int64_t year, int64_t week, int64_t weekday);
 void refuse_weekday_of_month(int64_t year, int64_t month, int64_t weekday, int64_t n);
 void refuse_month(int64_t year, int64_t month);
+/* The number that some digits write; -1 if they are other bytes. */
+int read_digits(const char *bytes, size_t length);
 /* Of a text, the first bytes are where its date stands. */
 void refuse_text(PyObject *text, const char *bytes, size_t length, const char *kind);
 

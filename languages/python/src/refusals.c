@@ -108,8 +108,7 @@ void refuse_weekday_of_month(int64_t year, int64_t month, int64_t weekday, int64
     }
 }
 
-/* The number that some digits write; -1 if they are other bytes. */
-static int digits(const char *bytes, size_t length)
+int read_digits(const char *bytes, size_t length)
 {
     int number = 0;
     for (size_t i = 0; i < length; i++) {
@@ -129,10 +128,10 @@ static bool has_form(const char *bytes, size_t length, int name[3])
     if (length < places + 4 || length > places + 6 || bytes[length - 6] != '-' || bytes[length - 3] != '-') {
         return false;
     }
-    int year = digits(bytes + has_sign, length - places);
+    int year = read_digits(bytes + has_sign, length - places);
     name[0] = has_sign && bytes[0] == '-' ? -year : year;
-    name[1] = digits(bytes + length - 5, 2);
-    name[2] = digits(bytes + length - 2, 2);
+    name[1] = read_digits(bytes + length - 5, 2);
+    name[2] = read_digits(bytes + length - 2, 2);
     return year >= 0 && name[1] >= 0 && name[2] >= 0;
 }
 

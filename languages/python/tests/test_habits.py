@@ -13,6 +13,15 @@ import tracemalloc
 import unittest
 from datetime import timedelta
 
+try:
+    import numpy
+except ImportError:
+    numpy = None
+try:
+    import pandas
+except ImportError:
+    pandas = None
+
 import proved_calendar
 from proved_calendar import Date, DateTime, Duration, IsoCalendarDate, Weekday, days_in_month, days_until, is_leap_year
 
@@ -384,6 +393,47 @@ class Datetime(unittest.TestCase):
         self.assertRaisesRegex(ValueError, "microseconds", Duration(nanoseconds=1).to_timedelta)
         self.assertRaises(TypeError, Duration.from_timedelta, HOUR)
 
+    def test_nanoseconds_of_derived_classes(self):
+        class Timestamp(datetime.datetime):
+            nanosecond = 789
+
+        class Timedelta(timedelta):
+            nanoseconds = 7
+
+        stamp, length = Timestamp(2024, 2, 29, 12, 30, 15, 250_000), Timedelta(microseconds=-1)
+        self.assertEqual(DateTime.from_datetime(stamp), NOON.replace(nanosecond=250_000_789))
+        self.assertEqual(Duration.from_timedelta(length), Duration(nanoseconds=-993))
+        for moved in (NOON + length, length + NOON):
+            self.assertEqual(moved, NOON + Duration(nanoseconds=-993))
+        self.assertEqual(NOON - length, NOON + Duration(nanoseconds=993))
+        self.assertEqual(HOUR + length, Duration(hours=1, nanoseconds=-993))
+        for wrong in (-1, 1_000, 10**30):
+            Timestamp.nanosecond = Timedelta.nanoseconds = wrong
+            self.assertRaisesRegex(ValueError, "nanosecond .*0 to 999", DateTime.from_datetime, stamp)
+            self.assertRaisesRegex(ValueError, "nanoseconds .*0 to 999", Duration.from_timedelta, length)
+        Timestamp.nanosecond = Timedelta.nanoseconds = "7"
+        self.assertRaises(TypeError, DateTime.from_datetime, stamp)
+        self.assertRaises(TypeError, Duration.from_timedelta, length)
+
+    @unittest.skipUnless(pandas, "there is no pandas")
+    def test_pandas(self):
+        stamp, length = pandas.Timestamp("2024-02-29T12:30:15.250000789"), pandas.Timedelta(7, "ns")
+        self.assertEqual(DateTime.from_datetime(stamp).isoformat(), "2024-02-29T12:30:15.250000789")
+        self.assertEqual(NOON + length, NOON.replace(nanosecond=250_000_007))
+        self.assertEqual(Duration.from_timedelta(-length), Duration(nanoseconds=-7))
+
+    def test_parts_that_others_read(self):
+        self.assertEqual((NOON.microsecond, NOON.replace(nanosecond=250_000_789).microsecond, LEAP_SECOND.microsecond), (250_000, 250_000, 0))
+        self.assertIsNone(NOON.tzinfo)
+
+    @unittest.skipUnless(numpy, "there is no numpy")
+    def test_numpy(self):
+        self.assertEqual(numpy.datetime64(NOON), numpy.datetime64("2024-02-29T12:30:15.250"))
+        self.assertEqual(numpy.array([NOON], "M8[s]")[0], numpy.datetime64("2024-02-29T12:30:15"))
+        self.assertEqual(numpy.array([NOON]).astype("M8[us]")[0], numpy.datetime64("2024-02-29T12:30:15.250"))
+        self.assertEqual(numpy.datetime64(str(NOON.replace(nanosecond=1))), numpy.datetime64("2024-02-29T12:30:15.000000001"))
+        self.assertRaises(ValueError, numpy.datetime64, LEAP_SECOND)
+
 
 class Refusals(unittest.TestCase):
     def test_messages(self):
@@ -418,7 +468,14 @@ class Refusals(unittest.TestCase):
             lambda: Date.fromisoformat("2024-02-2x"): "'2024-02-2x' is no text of a date",
             lambda: Date.fromisoformat(""): "'' is no text of a date",
             lambda: DateTime.fromisoformat("2024-02-30T12:00:00"): "day 30 of 2024-02: the month has 29 days",
-            lambda: DateTime.fromisoformat("2024-02-29T24:00:00"): "'2024-02-29T24:00:00' is no text of a date-time",
+            lambda: DateTime.fromisoformat("2024-02-29T24:00:00"): "hour 24: hours are 0 to 23",
+            lambda: DateTime.fromisoformat("2024-02-29 23:60:00.5"): "minute 60: minutes are 0 to 59",
+            lambda: DateTime.fromisoformat("2024-02-29T00:00:61"): "second 61: seconds are 0 to 59, and 60 in a leap second",
+            lambda: DateTime.fromisoformat("2024-02-30T24:00:00"): "day 30 of 2024-02: the month has 29 days",
+            lambda: DateTime.fromisoformat("2024-02-29T24:00"): "'2024-02-29T24:00' is no text of a date-time",
+            lambda: DateTime.fromisoformat("2024-02-29T24:00:00."): "'2024-02-29T24:00:00.' is no text of a date-time",
+            lambda: DateTime.fromisoformat("2024-02-29T24:00:00.1234567890"): "'2024-02-29T24:00:00.1234567890' is no text of a date-time",
+            lambda: DateTime.fromisoformat("2024-02-29T24:00:00Z"): "'2024-02-29T24:00:00Z' is no text of a date-time",
             lambda: DateTime(LEAP_DAY, 24): "hour 24: hours are 0 to 23",
             lambda: DateTime(LEAP_DAY, 0, -1): "minute -1: minutes are 0 to 59",
             lambda: DateTime(LEAP_DAY, 0, 0, 61): "second 61: seconds are 0 to 59, and 60 in a leap second",
@@ -440,7 +497,10 @@ class Refusals(unittest.TestCase):
             lambda: Date(2024, 2, 29, 1): "Date takes at most 3 arguments by place, not 4",
             lambda: Date(2024, 2, 29, day=1): "Date is given day twice",
             lambda: LEAP_DAY.replace(hour=1): "replace has no parameter 'hour'",
-            lambda: DateTime("2024-02-29"): "a Date is wanted, not str",
+            lambda: DateTime("2024-02-29"): "a Date, as in DateTime(Date(2024, 2, 29), 12), is wanted, not str",
+            lambda: DateTime(2024, 2, 29): "a Date, as in DateTime(Date(2024, 2, 29), 12), is wanted, not int",
+            lambda: DateTime(2024, 2, 29, 12, 30, 15, 0): "a Date, as in DateTime(Date(2024, 2, 29), 12), is wanted, not int",
+            lambda: DateTime(date=THEIR_LEAP_DAY): "a Date, as in DateTime(Date(2024, 2, 29), 12), is wanted, not date",
             lambda: Date.fromisoformat(b"2024-02-29"): "a str is wanted, not bytes",
             lambda: Date(2024, 2, 1.5): "'float' object cannot be interpreted as an integer",
             lambda: LEAP_DAY.years_since(NOON): "a Date is wanted, not DateTime",

@@ -1,4 +1,4 @@
-//! What is answered of a value of another crate that has no like.
+//! The error of a conversion from or to a type of another crate.
 
 use core::error::Error;
 use core::fmt;

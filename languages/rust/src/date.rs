@@ -8,14 +8,14 @@ use core::str::{from_utf8, FromStr};
 use crate::calls::*;
 use crate::{DateTime, ParseError, Weekday, WeekdaySet};
 
-/// The longest texts of a date, such as `-262143-01-01`, have so many bytes.
+/// The number of bytes of the longest text of a date, such as `-262143-01-01`.
 const TEXT_ROOM: usize = 13;
 
 /// A date of the proleptic Gregorian calendar, from 1 January of year -262143 to 31 December of year 262142.
 ///
-/// The year before year 1 is year 0 (ISO 8601). A date is one number, by which it is compared and hashed, and an
-/// `Option` of one takes no more room. Its text, which is printed and read, is `YYYY-MM-DD`; a year below 0 or above
-/// 9999 has a sign and at least four digits.
+/// The year before year 1 is year 0 (ISO 8601). A date is one number, by which it is compared and hashed, and
+/// `Option<Date>` is as small. It is printed and read as `YYYY-MM-DD`. A year below 0 or above 9999 has a sign and at
+/// least four digits.
 ///
 /// ```
 /// use proved_calendar::Date;
@@ -52,7 +52,7 @@ impl Date {
     /// ```
     pub const UNIX_EPOCH: Date = Date::known(UNIX_EPOCH);
 
-    /// The date that a function of the library answers.
+    /// The date that a function of the library returns.
     const fn found(number: i32) -> Option<Date> {
         match NonZeroU32::new(number.wrapping_sub(NONE) as u32) {
             Some(place) => Some(Date { place }),
@@ -68,7 +68,7 @@ impl Date {
         }
     }
 
-    /// The date of a year, a month from 1 to 12 and a day of it (ISO 8601 calendar date); `None` if there is none.
+    /// The date with this year, month and day (ISO 8601 calendar date). `None` if it does not exist.
     ///
     /// ```
     /// use proved_calendar::Date;
@@ -80,7 +80,7 @@ impl Date {
         Date::found(calendar_from_ymd(year, month, day))
     }
 
-    /// The date of a year and a day of it from 1 to 366 (ISO 8601 ordinal date); `None` if there is none.
+    /// The day `ordinal` of `year`, from 1 to 366 (ISO 8601 ordinal date). `None` if it does not exist.
     ///
     /// ```
     /// use proved_calendar::Date;
@@ -92,7 +92,7 @@ impl Date {
         Date::found(calendar_from_yo(year, ordinal))
     }
 
-    /// The date of an ISO year, a week from 1 to 53 and a weekday (ISO 8601 week date); `None` if there is none.
+    /// The date with this ISO year, week and weekday (ISO 8601 week date). `None` if it does not exist.
     ///
     /// ```
     /// use proved_calendar::{Date, Weekday};
@@ -104,7 +104,7 @@ impl Date {
         Date::found(calendar_from_isoywd(year, week, weekday.number()))
     }
 
-    /// The month's n-th day with the weekday, from the first, which is 1; `None` past the last.
+    /// The `n`-th such weekday of the month, counted from 1. `None` if the month has fewer.
     ///
     /// ```
     /// use proved_calendar::{Date, Weekday};
@@ -223,7 +223,7 @@ impl Date {
         calendar_iso_week(self.number()) as u32
     }
 
-    /// The date so many days later, or earlier for a negative number; `None` beyond the calendar.
+    /// The date `days` days later, or earlier if `days` is negative. `None` if it is out of range.
     ///
     /// ```
     /// use proved_calendar::Date;
@@ -235,8 +235,8 @@ impl Date {
         Date::found(calendar_add_days(self.number(), days))
     }
 
-    /// The same day so many months later, or earlier for a negative number, or the last day of a shorter month; `None`
-    /// beyond the calendar.
+    /// The same day `months` months later, or earlier if `months` is negative. If that month is too short, its last
+    /// day. `None` if it is out of range.
     ///
     /// ```
     /// use proved_calendar::Date;
@@ -248,8 +248,8 @@ impl Date {
         Date::found(calendar_add_months(self.number(), months))
     }
 
-    /// The date `index * months` months later in one move, so that a 31st comes back after a shorter month; `None`
-    /// beyond the calendar.
+    /// The date `index * months` months later in one move, so that a 31st comes back after a shorter month. `None` if
+    /// it is out of range.
     ///
     /// ```
     /// use proved_calendar::Date;
@@ -262,7 +262,7 @@ impl Date {
         Date::found(calendar_every_months(self.number(), months, index))
     }
 
-    /// The whole years from the base to this date; `None` if it comes before the base.
+    /// The whole years from `base` to this date. `None` if this date is before `base`.
     ///
     /// ```
     /// use proved_calendar::Date;
@@ -288,7 +288,7 @@ impl Date {
         Date::found(calendar_week_first_day(self.number(), start.number()))
     }
 
-    /// The first date from this one on, itself counted, whose weekday is in the set; `None` if there is none.
+    /// The first date from this one on whose weekday is in `weekdays`; it may be this date. `None` if there is none.
     ///
     /// ```
     /// use proved_calendar::{Date, Weekday};
@@ -300,7 +300,7 @@ impl Date {
         Date::found(calendar_first_on(self.number(), weekdays.members))
     }
 
-    /// The date-time at a time of this date, where the second 60 is a leap second; `None` if no clock shows that time.
+    /// The date-time at this date and time of day. Second 60 is a leap second. `None` if the time is invalid.
     ///
     /// ```
     /// use proved_calendar::Date;
@@ -346,7 +346,7 @@ impl fmt::Debug for Date {
 impl FromStr for Date {
     type Err = ParseError;
 
-    /// The date with exactly this text, as it is printed.
+    /// The date with exactly this text, as `Display` prints it.
     fn from_str(text: &str) -> Result<Date, ParseError> {
         // SAFETY: so many bytes lie in the text.
         let number = unsafe { calendar_read_date(text.as_ptr(), text.len()) };

@@ -11,15 +11,16 @@ use crate::{Date, Duration, ParseError};
 /// The nanoseconds of a second.
 const NANOS: u32 = 1_000_000_000;
 
-/// The longest texts of a date-time, such as `-262143-01-01T00:00:00.000000001`, have so many bytes.
+/// The number of bytes of the longest text of a date-time, such as `-262143-01-01T00:00:00.000000001`.
 const TEXT_ROOM: usize = 32;
 
 /// A date with a time of day, to the nanosecond, in no time zone.
 ///
-/// The time may lie in a leap second, the second 60 of a minute. From there a move goes on a line that holds this leap
-/// second and no other. Date-times are compared by date, then by time of day. Printed is the date's text, `T` and
-/// `HH:MM:SS`, with three, six or nine digits of a fraction that is not 0; a text that is read may have a space for the
-/// `T`, and any number of digits from one to nine. An `Option` of one takes no more room.
+/// The time may lie in a leap second, the second 60 of a minute. From there a move counts the rest of this leap second,
+/// and no other leap second. Date-times are compared by date, then by time of day. `Option<DateTime>` is as small.
+///
+/// It prints as the date's text, `T` and `HH:MM:SS`. A fraction that is not 0 has three, six or nine digits. A string that
+/// is parsed may have a space for the `T`, and one to nine digits of a fraction.
 ///
 /// ```
 /// use proved_calendar::DateTime;
@@ -35,7 +36,7 @@ pub struct DateTime {
 }
 
 impl DateTime {
-    /// The date-time that a function of the library answers.
+    /// The date-time that a function of the library returns.
     fn found(moment: Moment) -> Option<DateTime> {
         let after = NonZeroU32::new(moment.nanos.wrapping_sub(NO_NANOS))?;
         Some(DateTime {
@@ -52,8 +53,8 @@ impl DateTime {
         }
     }
 
-    /// The date-time at a second of a date, from 0 to 86,399, and so many nanoseconds past it. From 1,000,000,000 on
-    /// they lie in the leap second that follows the last second of a minute; `None` if there is no such time.
+    /// The date-time at a second of a date, from 0 to 86,399, and `nanos` nanoseconds past it. In the last second of a
+    /// minute, 1,000,000,000 and more lie in the leap second that follows. `None` if the time is invalid.
     ///
     /// ```
     /// use proved_calendar::{Date, DateTime};
@@ -84,8 +85,8 @@ impl DateTime {
         )
     }
 
-    /// The date-time with these seconds since 1970-01-01T00:00:00, leap seconds not counted, and nanoseconds past them,
-    /// of which 1,000,000,000 and more lie in the leap second that follows; `None` if there is none.
+    /// The date-time `seconds` seconds after 1970-01-01T00:00:00, leap seconds not counted, and `nanos` nanoseconds past
+    /// that. 1,000,000,000 nanoseconds and more lie in the leap second that follows. `None` if there is none.
     ///
     /// ```
     /// use proved_calendar::DateTime;
@@ -136,7 +137,7 @@ impl DateTime {
         Date::from_number(number).expect("a date-time has a date")
     }
 
-    /// The second of the day, from 0 to 86,399; of a leap second that before it.
+    /// The second of the day, from 0 to 86,399. In a leap second it is the second before.
     ///
     /// ```
     /// use proved_calendar::Date;
@@ -191,7 +192,7 @@ impl DateTime {
         self.nanos() % NANOS
     }
 
-    /// The date-time so much later, or earlier for a negative duration; `None` beyond the calendar.
+    /// The date-time that lies `by` later, or earlier if `by` is negative. `None` if it is out of range.
     ///
     /// ```
     /// use proved_calendar::{Date, Duration};
@@ -204,7 +205,7 @@ impl DateTime {
         DateTime::found(calendar_date_time_add(self.moment(), by.span()))
     }
 
-    /// The date-time so much earlier, or later for a negative duration; `None` beyond the calendar.
+    /// The date-time that lies `by` earlier, or later if `by` is negative. `None` if it is out of range.
     ///
     /// ```
     /// use proved_calendar::{Date, Duration};
@@ -217,9 +218,9 @@ impl DateTime {
     }
 }
 
-/// How far the left date-time is from the right one. A leap second counts if one of them is in it and has the smaller
-/// second of the day. So the sign of the difference tells the order of two times of one date, but not always of two
-/// dates: 2017-01-01T00:00:00 is -0.5 seconds from 2016-12-31T23:59:60.5, which is before it.
+/// The duration from the right date-time to the left one. A leap second counts if one of them is in it and has the
+/// smaller second of the day. So the sign tells the order of two times of one date, but not always of two dates. From
+/// 2016-12-31T23:59:60.5 to 2017-01-01T00:00:00 it is -0.5 seconds.
 ///
 /// ```
 /// use proved_calendar::DateTime;

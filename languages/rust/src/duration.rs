@@ -15,13 +15,13 @@ const NANOS: i128 = 1_000_000_000;
 /// The nanoseconds of the longest duration.
 const LONGEST: i128 = i64::MAX as i128 * 1_000_000;
 
-/// The longest texts of a duration, such as `-PT9223372036854775.000000001S`, have so many bytes.
+/// The number of bytes of the longest text of a duration, such as `-PT9223372036854775.000000001S`.
 const TEXT_ROOM: usize = 30;
 
 /// A length of time in whole nanoseconds, forward or back, of at most 2^63 - 1 milliseconds.
 ///
-/// Printed is ISO 8601's text in seconds, with the fewest digits of a fraction, or `P0D` if it is no time; a text that
-/// is read may have more digits, up to nine.
+/// It prints as ISO 8601's text in seconds, with the fewest digits of a fraction; zero prints as `P0D`. A string that is
+/// parsed may have more digits of a fraction, up to nine.
 ///
 /// ```
 /// use proved_calendar::Duration;
@@ -49,7 +49,7 @@ impl Duration {
         after: NonZeroU32::MIN,
     };
 
-    /// The duration that a function of the library answers.
+    /// The duration that a function of the library returns.
     pub(crate) fn found(span: Span) -> Option<Duration> {
         let after = NonZeroU32::new(span.nanos.wrapping_sub(NO_NANOS))?;
         Some(Duration {
@@ -66,7 +66,7 @@ impl Duration {
         }
     }
 
-    /// So many seconds; `None` if that is too long.
+    /// The duration of `seconds` seconds. `None` if it is too long.
     ///
     /// ```
     /// use proved_calendar::Duration;
@@ -78,7 +78,7 @@ impl Duration {
         Duration::from_nanoseconds(i128::from(seconds) * NANOS)
     }
 
-    /// So many nanoseconds; `None` if that is too long.
+    /// The duration of `nanoseconds` nanoseconds. `None` if it is too long.
     ///
     /// ```
     /// use proved_calendar::Duration;
@@ -174,7 +174,7 @@ impl Neg for Duration {
 ///
 /// # Panics
 ///
-/// If the sum is too long, as the operators of `core::time::Duration` do; [`Duration::checked_add`] answers `None`
+/// If the sum is too long, as the operators of `core::time::Duration` do; [`Duration::checked_add`] returns `None`
 /// there.
 ///
 /// ```
@@ -195,7 +195,7 @@ impl Add for Duration {
 ///
 /// # Panics
 ///
-/// If it is too long; [`Duration::checked_sub`] answers `None` there.
+/// If it is too long; [`Duration::checked_sub`] returns `None` there.
 ///
 /// ```
 /// use proved_calendar::Duration;

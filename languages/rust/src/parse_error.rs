@@ -1,4 +1,4 @@
-//! What is answered of a text that has no value.
+//! The error of a string that cannot be parsed.
 
 use core::error::Error;
 use core::fmt;

@@ -34,7 +34,7 @@ impl From<DateTime> for NaiveDateTime {
     }
 }
 
-/// A leap second stands only behind the last second of a minute here.
+/// Here a leap second can only follow the last second of a minute.
 impl TryFrom<NaiveDateTime> for DateTime {
     type Error = ConversionError;
 

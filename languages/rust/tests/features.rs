@@ -69,6 +69,14 @@ fn texts_by_serde() {
 }
 
 #[test]
+fn example_with_chrono() {
+    use chrono::NaiveDate;
+    let theirs = NaiveDate::from(Date::from_ymd(2024, 2, 29).unwrap());
+    let ours = Date::try_from(theirs).unwrap();
+    assert_eq!(ours.to_string(), "2024-02-29");
+}
+
+#[test]
 fn values_of_chrono() {
     use chrono::{Datelike, NaiveDate, NaiveDateTime, Timelike};
     for moment in date_times() {

@@ -8,11 +8,18 @@ use crate::holiday_error::HolidayError;
 use chrono_datetime::{Datelike, NaiveDate, WeekdaySet};
 
 impl<'a> Calendar<'a> {
-    /// The calendar that is closed on these weekdays and on these days; an error if the days do not rise, or if one
-    /// of them is on the weekend.
+    /// Returns the calendar that is closed on the days of `weekend` and on `holidays`, if the holidays are valid.
     ///
-    /// The error names the first day that is wrong. Of a day that is both on the weekend and not later than the one in
-    /// front of it, it says that it is on the weekend.
+    /// Returns an error if the holidays are not strictly increasing, or if one of them is on the weekend.
+    /// The error has the place of the first wrong holiday, counted from 0.
+    /// If both faults apply to that holiday, the error is `OnWeekend`.
+    ///
+    /// ```
+    /// use chrono_datetime::{NaiveDate, Weekday, WeekdaySet};
+    /// let holidays = [NaiveDate::from_ymd_opt(2024, 1, 1)?, NaiveDate::from_ymd_opt(2024, 6, 1)?];
+    /// let weekend = WeekdaySet::from_array([Weekday::Sat, Weekday::Sun]);
+    /// Calendar::try_new(weekend, &holidays).err() // Some(OnWeekend(1))
+    /// ```
     pub fn try_new(
         weekend: WeekdaySet,
         holidays: &'a [NaiveDate],

@@ -9,9 +9,17 @@ use crate::holiday_list::insert_all;
 use chrono_datetime::NaiveDate;
 
 impl<'a> Calendar<'a> {
-    /// The calendar that is closed on each day on which this one is or another, and open on all others.
+    /// Returns the calendar that is open on the days on which both `self` and `other` are open.
     ///
-    /// Its holidays are written at the beginning of a slice; `None` exactly if the slice is too short for them.
+    /// It writes the holidays at the beginning of `out`. Returns `None` if `out` is too short for them.
+    ///
+    /// ```
+    /// use chrono_datetime::{NaiveDate, Weekday, WeekdaySet};
+    /// let saturdays = Calendar::new(WeekdaySet::from_array([Weekday::Sat]), &[]);
+    /// let sundays = Calendar::new(WeekdaySet::from_array([Weekday::Sun]), &[]);
+    /// let joined = saturdays.joined(&sundays, &mut [])?;
+    /// joined.next_open(NaiveDate::from_ymd_opt(2024, 3, 30)?) // Some(2024-04-01)
+    /// ```
     pub fn joined<'b>(&self, other: &Calendar<'_>, out: &'b mut [NaiveDate]) -> Option<Calendar<'b>>
         ensures weekend { IfSome result (λ c. c.weekend ≡ union self.now.weekend other.now.weekend) }
         ensures open { IfSome result (λ c. (d : ℤ) →

@@ -1,7 +1,8 @@
 //! The rank of a day, how many open days the dates before it have, and the open day of a rank.
 //!
-//! A rank is the workdays before the day, by whole weeks, less the holidays before it, by a search. The open day of a
-//! rank comes behind the holidays that have no larger one, and they say which workday it is.
+//! A rank is the number of workdays before the day, less the holidays before it.
+//! Whole weeks give the first number, and a search gives the second.
+//! The open day of a rank comes after the holidays that have no larger rank. Their number says which workday it is.
 ghost use Rattle.std.specs.Prelude.{◌≡◌, ◌<◌, ◌≤◌, ◌≤ℤ◌, ◌<ℤ◌, ◌+ℤ◌, ◌-ℤ◌, ℕ, ℤ, true, pos, neg_ℤ, length, slice_index_or, IfSome, IfNone};
 ghost use Rattle.std.specs.List.{AllWithin};
 ghost use Rattle.std.specs.List.Sorted.{IsPartitionPoint};
@@ -139,8 +140,8 @@ impl<'a> Calendar<'a> {
     }
 }
 
-// The step of a search if the first number is less than the second, and else 0: with no branch, since a processor cannot
-// guess which of them is the less.
+// Returns `step` if `first` is less than `second`, and else 0.
+// It has no branch, since a processor cannot guess which of them is less.
 #[inline]
 fn step_if_less(step: usize, first: i64, second: i64) -> usize
     requires least { neg_ℤ (pos 10_000_000_000) ≤ℤ (second -ℤ first) }

@@ -1,18 +1,26 @@
-//! Dates that are rolled to open days.
+//! Moving closed dates to open days.
 ghost use Rattle.std.specs.Prelude.{◌≡◌, ℤ, IfSome, IfNone};
 ghost use Rattle.chrono_datetime.specs.Days.{IsDate};
 ghost use Rattle.chrono_business.specs.Rolls.{RollsTo};
-ghost use Rattle.chrono_business.specs.declared.roll.Roll.TheVariants.{ModifiedFollowing, ModifiedPreceding, Nearest};
+ghost use Rattle.chrono_business.specs.declared.roll.Roll.TheVariants.{ModifiedFollowing, ModifiedPreceding, NearestIsda, NearestQuantLib};
 
 use crate::calendar::Calendar;
 use crate::roll::Roll;
-use chrono_datetime::{Datelike, NaiveDate};
+use chrono_datetime::{Datelike, NaiveDate, Weekday, WeekdaySet};
 
 impl<'a> Calendar<'a> {
-    /// The date that a date rolls to; `None` exactly if there is none.
+    /// Returns the date that `date` moves to by `roll`. An open date stays.
     ///
-    /// So of a calendar that is closed on Saturday and Sunday alone, Saturday, 30 March 2024 goes by `Following` to
-    /// Monday, 1 April, and by `ModifiedFollowing` to Friday, 29 March.
+    /// Returns `None` if there is no such open day in the calendar.
+    ///
+    /// ```
+    /// use chrono_datetime::{NaiveDate, Weekday, WeekdaySet};
+    /// let calendar = Calendar::new(WeekdaySet::from_array([Weekday::Sat, Weekday::Sun]), &[]);
+    /// let saturday = NaiveDate::from_ymd_opt(2024, 3, 30)?;
+    /// calendar.roll(saturday, Roll::Following) // Some(2024-04-01)
+    /// calendar.roll(saturday, Roll::ModifiedFollowing) // Some(2024-03-29)
+    /// calendar.roll(saturday.succ_opt()?, Roll::NearestIsda) // Some(2024-04-01)
+    /// ```
     pub fn roll(&self, date: NaiveDate, roll: Roll) -> Option<NaiveDate>
         ensures exists { IfSome result (λ e. IsDate e) }
         ensures rolled { IfSome result (λ e. RollsTo self.now roll date e) }
@@ -27,7 +35,8 @@ impl<'a> Calendar<'a> {
             Roll::Preceding => self.last_open(date),
             Roll::ModifiedFollowing => self.modified_following(date),
             Roll::ModifiedPreceding => self.modified_preceding(date),
-            Roll::Nearest => self.nearest_open(date),
+            Roll::NearestIsda => self.nearest_isda(date),
+            Roll::NearestQuantLib => self.nearest_open(date),
         }
     }
 
@@ -55,11 +64,25 @@ impl<'a> Calendar<'a> {
         }
     }
 
+    // The next open day from a Sunday or a Monday on, and the last one up to any other day.
+    fn nearest_isda(&self, date: NaiveDate) -> Option<NaiveDate>
+        ensures exists { IfSome result (λ e. IsDate e) }
+        ensures rolled { IfSome result (λ e. RollsTo self.now NearestIsda date e) }
+        ensures none { IfNone result ((e : ℤ) → IsDate e → ¬ RollsTo self.now NearestIsda date e) }
+    {
+        let onward = WeekdaySet::from_array([Weekday::Sun, Weekday::Mon]);
+        if onward.contains(date.weekday()) {
+            self.next_open(date)
+        } else {
+            self.last_open(date)
+        }
+    }
+
     // The open day that is nearest, and of two the later.
     fn nearest_open(&self, date: NaiveDate) -> Option<NaiveDate>
         ensures exists { IfSome result (λ e. IsDate e) }
-        ensures rolled { IfSome result (λ e. RollsTo self.now Nearest date e) }
-        ensures none { IfNone result ((e : ℤ) → IsDate e → ¬ RollsTo self.now Nearest date e) }
+        ensures rolled { IfSome result (λ e. RollsTo self.now NearestQuantLib date e) }
+        ensures none { IfNone result ((e : ℤ) → IsDate e → ¬ RollsTo self.now NearestQuantLib date e) }
     {
         let Some(last) = self.last_open(date) else {
             return self.next_open(date);

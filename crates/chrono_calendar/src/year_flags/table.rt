@@ -24,7 +24,7 @@ const YEAR_TO_FLAGS: [u8; 400] = [
     13, 14, 15, 1, 11, 12, 13, 6, 9, 10, 11,
 ];
 
-/// The flags of a year from 0 to 399, in one step.
+/// Returns the flags of the year `year` of the cycle, from 0 to 399. It adds one step to `steps`.
 #[inline]
 pub(crate) fn year_to_flags(year: u32, steps: &mut Steps) -> u8
     requires { year < 400 }

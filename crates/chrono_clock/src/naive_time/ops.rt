@@ -1,4 +1,4 @@
-//! The operators of times of day: moves by durations, and differences.
+//! Operators of times of day: moves by durations, and differences.
 ghost use Rattle.std.specs.Prelude.{◌≡◌, neg_ℤ};
 ghost use Rattle.chrono_clock.specs.Time.{land, distance};
 
@@ -10,7 +10,7 @@ impl Add<TimeDelta> for NaiveTime {
 
     ghost add_gives = { λ t x r. r ≡ (land t x).time };
 
-    /// The time that the duration leads to, around midnight if need be.
+    /// Returns the time that `rhs` leads to. The clock passes midnight if needed.
     #[inline]
     fn add(self, rhs: TimeDelta) -> NaiveTime {
         self.overflowing_add_signed(rhs).0
@@ -22,7 +22,7 @@ impl Sub<TimeDelta> for NaiveTime {
 
     ghost sub_gives = { λ t x r. r ≡ (land t (neg_ℤ x)).time };
 
-    /// The time that the duration leads back to, around midnight if need be.
+    /// Returns the time `rhs` earlier. The clock passes midnight if needed.
     #[inline]
     fn sub(self, rhs: TimeDelta) -> NaiveTime {
         self.overflowing_sub_signed(rhs).0
@@ -32,7 +32,7 @@ impl Sub<TimeDelta> for NaiveTime {
 impl AddAssign<TimeDelta> for NaiveTime {
     ghost add_assign_gives = { λ t x r. r ≡ (land t x).time };
 
-    /// Moves the time on by a duration.
+    /// Moves the time by `rhs`.
     #[inline]
     fn add_assign(&mut self, rhs: TimeDelta) {
         *self = *self + rhs;
@@ -42,7 +42,7 @@ impl AddAssign<TimeDelta> for NaiveTime {
 impl SubAssign<TimeDelta> for NaiveTime {
     ghost sub_assign_gives = { λ t x r. r ≡ (land t (neg_ℤ x)).time };
 
-    /// Moves the time back by a duration.
+    /// Moves the time back by `rhs`.
     #[inline]
     fn sub_assign(&mut self, rhs: TimeDelta) {
         *self = *self - rhs;
@@ -54,7 +54,7 @@ impl Sub<NaiveTime> for NaiveTime {
 
     ghost sub_gives = { λ a b r. r ≡ distance a b };
 
-    /// The duration of [`signed_duration_since`](NaiveTime::signed_duration_since).
+    /// Returns the duration of [`signed_duration_since`](NaiveTime::signed_duration_since).
     #[inline]
     fn sub(self, rhs: NaiveTime) -> TimeDelta {
         self.signed_duration_since(rhs)

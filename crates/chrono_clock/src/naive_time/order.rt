@@ -18,7 +18,7 @@ impl Ord for NaiveTime {
 
     ghost matches_eq = { Prim.search (comparing, rules) };
 
-    /// Times compare by second of the day, and in one second by fraction.
+    /// Compares times by second of the day, then by fraction.
     #[inline]
     fn cmp(&self, other: &NaiveTime) -> Ordering
         ensures order { result ≡ time_cmp self.now other.now }

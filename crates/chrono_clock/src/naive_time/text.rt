@@ -12,8 +12,16 @@ use std::fmt;
 const LONGEST: usize = 18;
 
 impl NaiveTime {
-    /// Puts the time as ISO 8601 writes it, with none, 3, 6 or 9 digits of its fraction, as `23:59:60.500`, behind a text. A leap
-    /// second shows as one second more. There is room for 18 bytes.
+    /// Appends the time in the form of ISO 8601 to `text`. The fraction has 0, 3, 6 or 9 digits.
+    ///
+    /// Requires 18 free bytes in `text`. A leap second appears as one second more.
+    ///
+    /// ```
+    /// use chrono_text::Text;
+    /// let mut text = Text::<18>::new();
+    /// NaiveTime::from_hms_milli_opt(23, 59, 59, 1_500)?.put_into(&mut text);
+    /// text.as_str() // "23:59:60.500"
+    /// ```
     #[inline]
     pub fn put_into<const N: usize>(&self, text: &mut Text<N>)
         requires { length text.old + 18 ≤ N }
@@ -30,9 +38,9 @@ impl fmt::Display for NaiveTime {
 
     ghost styled_output = { λ t _. Some (time_text t) };
 
-    /// Writes the time as ISO 8601 does, with as few digits of its fraction as hold it: none, 3, 6 or 9.
+    /// Writes the time in the form of ISO 8601. The fraction has 0, 3, 6 or 9 digits, as few as hold it.
     ///
-    /// A width, a fill, an alignment, a sign or a precision makes no difference.
+    /// Width, fill, alignment, sign and precision change nothing.
     fn fmt<W: fmt::Write>(&self, f: &mut fmt::Formatter<W>) -> fmt::Result {
         let mut text = Text::<LONGEST>::new();
         self.put_into(&mut text);

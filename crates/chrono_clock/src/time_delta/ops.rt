@@ -1,4 +1,4 @@
-//! Arithmetic of durations: sums, differences, products, quotients, negatives and sizes.
+//! Arithmetic of durations: sums, differences, products, quotients, negatives and absolute values.
 ghost use Rattle.std.specs.Prelude.{◌≡◌, ◌≢◌, ℤ, pos, ◌<◌, ◌≤◌, ◌^◌, ◌+ℤ◌, ◌-ℤ◌, ◌*ℤ◌, neg_ℤ, int_div, int_rem, unsigned_abs};
 ghost use Rattle.std.specs.Option.{SomeIff};
 ghost use Rattle.chrono_clock.specs.Duration.{IsDuration, nanos_per_second, nanos_of, two_step_quotient};
@@ -10,7 +10,14 @@ use crate::time_delta::{MAX_SECS, MIN_SECS};
 use std::ops::{Add, AddAssign, Div, Mul, Neg, Sub, SubAssign};
 
 impl TimeDelta {
-    /// The sum of two durations; `None` exactly out of range.
+    /// Returns the sum of the two durations.
+    ///
+    /// Returns `None` if the sum is out of range.
+    ///
+    /// ```
+    /// TimeDelta::hours(1).checked_add(&TimeDelta::minutes(30)) == Some(TimeDelta::minutes(90)) // true
+    /// TimeDelta::MAX.checked_add(&TimeDelta::nanoseconds(1)) // None
+    /// ```
     #[inline]
     pub fn checked_add(&self, rhs: &TimeDelta) -> Option<TimeDelta>
         ensures { SomeIff result (IsDuration (self.now +ℤ rhs.now)) (self.now +ℤ rhs.now) }
@@ -19,7 +26,14 @@ impl TimeDelta {
         TimeDelta::from_stored(secs, nanos)
     }
 
-    /// The difference of two durations; `None` exactly out of range.
+    /// Returns this duration minus `rhs`.
+    ///
+    /// Returns `None` if the difference is out of range.
+    ///
+    /// ```
+    /// TimeDelta::hours(1).checked_sub(&TimeDelta::minutes(90)) == Some(TimeDelta::minutes(-30)) // true
+    /// TimeDelta::MIN.checked_sub(&TimeDelta::nanoseconds(1)) // None
+    /// ```
     #[inline]
     pub fn checked_sub(&self, rhs: &TimeDelta) -> Option<TimeDelta>
         ensures { SomeIff result (IsDuration (self.now -ℤ rhs.now)) (self.now -ℤ rhs.now) }
@@ -31,7 +45,14 @@ impl TimeDelta {
         TimeDelta::from_stored(secs, nanos)
     }
 
-    /// The duration so many times; `None` exactly out of range.
+    /// Returns the duration multiplied by `rhs`.
+    ///
+    /// Returns `None` if the product is out of range.
+    ///
+    /// ```
+    /// TimeDelta::minutes(30).checked_mul(3) == Some(TimeDelta::minutes(90)) // true
+    /// TimeDelta::MAX.checked_mul(2) // None
+    /// ```
     #[inline]
     pub fn checked_mul(&self, rhs: i32) -> Option<TimeDelta>
         ensures { SomeIff result (IsDuration (self.now *ℤ rhs)) (self.now *ℤ rhs) }
@@ -42,10 +63,17 @@ impl TimeDelta {
         )
     }
 
-    /// The duration divided by `rhs`; `None` exactly if `rhs` is 0.
+    /// Returns the duration divided by `rhs`.
     ///
-    /// The seconds, rounded down, and the nanoseconds past them are divided apart, and each of these two quotients is
-    /// rounded towards zero to nanoseconds. So -1 ns by 2 is -1 ns.
+    /// Returns `None` if `rhs` is 0.
+    ///
+    /// ```
+    /// TimeDelta::minutes(90).checked_div(3) == Some(TimeDelta::minutes(30)) // true
+    /// TimeDelta::nanoseconds(-1).checked_div(2)?.num_nanoseconds() // Some(-1)
+    /// ```
+    ///
+    /// It divides two parts: the seconds, rounded down, and the nanoseconds past them. Each quotient is rounded towards
+    /// zero to nanoseconds. So half of -1 ns is -1 ns.
     #[inline]
     pub fn checked_div(&self, rhs: i32) -> Option<TimeDelta>
         ensures { SomeIff result (rhs ≢ pos 0) (two_step_quotient self.now rhs) }
@@ -60,7 +88,11 @@ impl TimeDelta {
         from_parts(secs as i128, rest + nanos)
     }
 
-    /// The size of the duration, which is a duration too, also for [`MIN`](Self::MIN).
+    /// Returns the absolute value of the duration. It exists for each duration, also for [`MIN`](Self::MIN).
+    ///
+    /// ```
+    /// TimeDelta::seconds(-90).abs().num_seconds() // 90
+    /// ```
     #[inline]
     pub fn abs(&self) -> TimeDelta
         ensures { result ≡ pos (unsigned_abs self.now) }
@@ -122,7 +154,7 @@ impl Add for TimeDelta {
 
     ghost add_gives = { λ a b r. r ≡ a +ℤ b };
 
-    /// The sum, which has to be in range.
+    /// Returns the sum. It requires the sum to be in range.
     #[inline]
     fn add(self, rhs: TimeDelta) -> TimeDelta {
         self.checked_add(&rhs).unwrap()
@@ -136,7 +168,7 @@ impl Sub for TimeDelta {
 
     ghost sub_gives = { λ a b r. r ≡ a -ℤ b };
 
-    /// The difference, which has to be in range.
+    /// Returns the difference. It requires the difference to be in range.
     #[inline]
     fn sub(self, rhs: TimeDelta) -> TimeDelta {
         self.checked_sub(&rhs).unwrap()
@@ -148,7 +180,7 @@ impl AddAssign for TimeDelta {
 
     ghost add_assign_gives = { λ a b r. r ≡ a +ℤ b };
 
-    /// Adds a duration; the sum has to be in range.
+    /// Adds `rhs`. It requires the sum to be in range.
     #[inline]
     fn add_assign(&mut self, rhs: TimeDelta) {
         *self = *self + rhs;
@@ -160,7 +192,7 @@ impl SubAssign for TimeDelta {
 
     ghost sub_assign_gives = { λ a b r. r ≡ a -ℤ b };
 
-    /// Takes a duration away; the difference has to be in range.
+    /// Subtracts `rhs`. It requires the difference to be in range.
     #[inline]
     fn sub_assign(&mut self, rhs: TimeDelta) {
         *self = *self - rhs;
@@ -174,7 +206,7 @@ impl Mul<i32> for TimeDelta {
 
     ghost mul_gives = { λ a b r. r ≡ a *ℤ b };
 
-    /// The duration so many times, which has to be in range.
+    /// Returns the duration multiplied by `rhs`. It requires the product to be in range.
     #[inline]
     fn mul(self, rhs: i32) -> TimeDelta {
         self.checked_mul(rhs).unwrap()
@@ -188,7 +220,7 @@ impl Div<i32> for TimeDelta {
 
     ghost div_gives = { λ a b r. r ≡ two_step_quotient a b };
 
-    /// The quotient of [`checked_div`](TimeDelta::checked_div) by a number other than 0.
+    /// Returns the quotient of [`checked_div`](TimeDelta::checked_div). It requires `rhs` to be other than 0.
     #[inline]
     fn div(self, rhs: i32) -> TimeDelta {
         self.checked_div(rhs).unwrap()
@@ -200,7 +232,7 @@ impl Neg for TimeDelta {
 
     ghost neg_gives = { λ a r. r ≡ neg_ℤ a };
 
-    /// The duration the other way, which is in range for every duration.
+    /// Returns the negated duration, which is in range for each duration.
     #[inline]
     fn neg(self) -> TimeDelta {
         if self.nanos == 0 {

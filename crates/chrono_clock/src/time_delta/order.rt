@@ -1,4 +1,4 @@
-//! Equality, order and hash of durations, which are those of their numbers.
+//! Equality, order and hash of durations: those of their numbers of nanoseconds.
 ghost use Rattle.std.proofs.Common.{rules};
 ghost use Rattle.std.specs.Cmp.{partial_order_from_own_ties};
 ghost use Rattle.std.specs.Cmp.Rules.{comparing, hashing};

@@ -7,10 +7,14 @@ ghost use Rattle.chrono_clock.specs.Duration.{IsDuration, total, StaysInRange};
 use crate::TimeDelta;
 
 impl TimeDelta {
-    /// The sum of the durations that the iterator gives, zero if it gives none.
+    /// Returns the sum of the durations that `iter` yields, or zero if it yields none. The iterator must end.
     ///
-    /// The durations are added from the first on, and the answer is `None` exactly if the sum of a beginning of them is
-    /// out of range, whatever comes after. The iterator has to end.
+    /// Returns `None` if one of the partial sums is out of range, whatever comes after it.
+    ///
+    /// ```
+    /// let parts = [TimeDelta::minutes(5), TimeDelta::seconds(30)];
+    /// TimeDelta::checked_sum(parts.into_iter())?.num_seconds() // 330
+    /// ```
     pub fn checked_sum<I: Iterator<Item = TimeDelta> + Drop>(iter: I) -> Option<TimeDelta>
         requires can { I.can_next iter }
         requires ends { IsFinite (I.remaining iter) }
@@ -26,7 +30,12 @@ impl TimeDelta {
         Some(sum)
     }
 
-    /// As [`checked_sum`](Self::checked_sum), over references.
+    /// Returns the sum as [`checked_sum`](Self::checked_sum) does, of references to durations.
+    ///
+    /// ```
+    /// let parts = [TimeDelta::minutes(5), TimeDelta::seconds(30)];
+    /// TimeDelta::checked_sum_refs(parts.iter())?.num_seconds() // 330
+    /// ```
     pub fn checked_sum_refs<'a, I: Iterator<Item = &'a TimeDelta> + Drop>(
         iter: I,
     ) -> Option<TimeDelta>

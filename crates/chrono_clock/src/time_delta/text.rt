@@ -12,8 +12,16 @@ use std::fmt;
 const ROOM: usize = 33;
 
 impl TimeDelta {
-    /// Puts the duration in seconds (ISO 8601 duration), as `-PT0.5S`, or `P0D` for zero, behind a text. There is room for 33
-    /// bytes, and at most 30 are put.
+    /// Appends the duration in seconds to `text` (ISO 8601 duration). Zero is `P0D`.
+    ///
+    /// Requires 33 free bytes in `text`. The text has at most 30 bytes.
+    ///
+    /// ```
+    /// use chrono_text::Text;
+    /// let mut text = Text::<33>::new();
+    /// TimeDelta::milliseconds(-500).put_into(&mut text);
+    /// text.as_str() // "-PT0.5S"
+    /// ```
     #[inline]
     pub fn put_into<const N: usize>(&self, text: &mut Text<N>)
         requires { length text.old + 33 ≤ N }
@@ -46,7 +54,7 @@ impl fmt::Display for TimeDelta {
 
     ghost styled_output = { λ x _. Some (duration_text x) };
 
-    /// Writes the duration in seconds (ISO 8601 duration), whatever width, fill or precision is asked for.
+    /// Writes the duration in seconds (ISO 8601 duration). Width, fill and precision change nothing.
     fn fmt<W: fmt::Write>(&self, f: &mut fmt::Formatter<W>) -> fmt::Result {
         let mut text = Text::<ROOM>::new();
         self.put_into(&mut text);

@@ -14,7 +14,14 @@ use crate::time_delta::MAX_SECS;
 const SECS_PER_WEEK: i64 = 604_800;
 
 impl TimeDelta {
-    /// The duration of so many weeks of 604,800 seconds; `None` exactly out of range.
+    /// Returns the duration of `weeks` weeks of 604,800 seconds.
+    ///
+    /// Returns `None` if it is out of range.
+    ///
+    /// ```
+    /// TimeDelta::try_weeks(2)?.num_days() // 14
+    /// TimeDelta::try_weeks(i64::MAX) // None
+    /// ```
     #[inline]
     pub fn try_weeks(weeks: i64) -> Option<TimeDelta>
         ensures { SomeIff result (IsDuration (units_of nanos_per_week weeks))
@@ -23,7 +30,11 @@ impl TimeDelta {
         try_units(weeks, SECS_PER_WEEK)
     }
 
-    /// The duration of so many weeks, which has to be in range.
+    /// Returns the duration of `weeks` weeks. It requires that duration to be in range.
+    ///
+    /// ```
+    /// TimeDelta::weeks(2).num_days() // 14
+    /// ```
     #[inline]
     pub fn weeks(weeks: i64) -> TimeDelta
         requires { IsDuration (units_of nanos_per_week weeks) }
@@ -32,7 +43,14 @@ impl TimeDelta {
         TimeDelta::try_weeks(weeks).unwrap()
     }
 
-    /// The duration of so many days of 86,400 seconds; `None` exactly out of range.
+    /// Returns the duration of `days` days of 86,400 seconds.
+    ///
+    /// Returns `None` if it is out of range.
+    ///
+    /// ```
+    /// TimeDelta::try_days(2)?.num_hours() // 48
+    /// TimeDelta::try_days(i64::MAX) // None
+    /// ```
     #[inline]
     pub fn try_days(days: i64) -> Option<TimeDelta>
         ensures { SomeIff result (IsDuration (units_of nanos_per_day days)) (units_of nanos_per_day days) }
@@ -40,7 +58,11 @@ impl TimeDelta {
         try_units(days, SECS_PER_DAY as i64)
     }
 
-    /// The duration of so many days, which has to be in range.
+    /// Returns the duration of `days` days. It requires that duration to be in range.
+    ///
+    /// ```
+    /// TimeDelta::days(2).num_hours() // 48
+    /// ```
     #[inline]
     pub fn days(days: i64) -> TimeDelta
         requires { IsDuration (units_of nanos_per_day days) }
@@ -49,7 +71,14 @@ impl TimeDelta {
         TimeDelta::try_days(days).unwrap()
     }
 
-    /// The duration of so many hours of 3,600 seconds; `None` exactly out of range.
+    /// Returns the duration of `hours` hours of 3,600 seconds.
+    ///
+    /// Returns `None` if it is out of range.
+    ///
+    /// ```
+    /// TimeDelta::try_hours(2)?.num_minutes() // 120
+    /// TimeDelta::try_hours(i64::MAX) // None
+    /// ```
     #[inline]
     pub fn try_hours(hours: i64) -> Option<TimeDelta>
         ensures { SomeIff result (IsDuration (units_of nanos_per_hour hours))
@@ -58,7 +87,11 @@ impl TimeDelta {
         try_units(hours, SECS_PER_HOUR as i64)
     }
 
-    /// The duration of so many hours, which has to be in range.
+    /// Returns the duration of `hours` hours. It requires that duration to be in range.
+    ///
+    /// ```
+    /// TimeDelta::hours(2).num_minutes() // 120
+    /// ```
     #[inline]
     pub fn hours(hours: i64) -> TimeDelta
         requires { IsDuration (units_of nanos_per_hour hours) }
@@ -67,7 +100,14 @@ impl TimeDelta {
         TimeDelta::try_hours(hours).unwrap()
     }
 
-    /// The duration of so many minutes of 60 seconds; `None` exactly out of range.
+    /// Returns the duration of `minutes` minutes of 60 seconds.
+    ///
+    /// Returns `None` if it is out of range.
+    ///
+    /// ```
+    /// TimeDelta::try_minutes(2)?.num_seconds() // 120
+    /// TimeDelta::try_minutes(i64::MAX) // None
+    /// ```
     #[inline]
     pub fn try_minutes(minutes: i64) -> Option<TimeDelta>
         ensures { SomeIff result (IsDuration (units_of nanos_per_minute minutes))
@@ -76,7 +116,11 @@ impl TimeDelta {
         try_units(minutes, SECS_PER_MINUTE as i64)
     }
 
-    /// The duration of so many minutes, which has to be in range.
+    /// Returns the duration of `minutes` minutes. It requires that duration to be in range.
+    ///
+    /// ```
+    /// TimeDelta::minutes(2).num_seconds() // 120
+    /// ```
     #[inline]
     pub fn minutes(minutes: i64) -> TimeDelta
         requires { IsDuration (units_of nanos_per_minute minutes) }
@@ -85,7 +129,14 @@ impl TimeDelta {
         TimeDelta::try_minutes(minutes).unwrap()
     }
 
-    /// The duration of so many seconds; `None` exactly out of range.
+    /// Returns the duration of `seconds` seconds.
+    ///
+    /// Returns `None` if it is out of range.
+    ///
+    /// ```
+    /// TimeDelta::try_seconds(90)?.num_minutes() // 1
+    /// TimeDelta::try_seconds(i64::MAX) // None
+    /// ```
     #[inline]
     pub fn try_seconds(seconds: i64) -> Option<TimeDelta>
         ensures { SomeIff result (IsDuration (units_of nanos_per_second seconds))
@@ -101,7 +152,11 @@ impl TimeDelta {
         }
     }
 
-    /// The duration of so many seconds, which has to be in range.
+    /// Returns the duration of `seconds` seconds. It requires that duration to be in range.
+    ///
+    /// ```
+    /// TimeDelta::seconds(90).num_minutes() // 1
+    /// ```
     #[inline]
     pub fn seconds(seconds: i64) -> TimeDelta
         requires { IsDuration (units_of nanos_per_second seconds) }
@@ -110,7 +165,14 @@ impl TimeDelta {
         TimeDelta::try_seconds(seconds).unwrap()
     }
 
-    /// The duration of so many milliseconds; `None` exactly out of range, which is for `i64::MIN`.
+    /// Returns the duration of `milliseconds` milliseconds.
+    ///
+    /// Returns `None` for `i64::MIN`, the only number whose duration is out of range.
+    ///
+    /// ```
+    /// TimeDelta::try_milliseconds(1_500)?.num_seconds() // 1
+    /// TimeDelta::try_milliseconds(i64::MIN) // None
+    /// ```
     #[inline]
     pub fn try_milliseconds(milliseconds: i64) -> Option<TimeDelta>
         ensures { SomeIff result (IsDuration (units_of nanos_per_milli milliseconds))
@@ -123,7 +185,11 @@ impl TimeDelta {
         }
     }
 
-    /// The duration of so many milliseconds, which must not be `i64::MIN`.
+    /// Returns the duration of `milliseconds` milliseconds. It requires `milliseconds` to be other than `i64::MIN`.
+    ///
+    /// ```
+    /// TimeDelta::milliseconds(1_500).num_seconds() // 1
+    /// ```
     #[inline]
     pub fn milliseconds(milliseconds: i64) -> TimeDelta
         requires { IsDuration (units_of nanos_per_milli milliseconds) }
@@ -135,7 +201,11 @@ impl TimeDelta {
         )
     }
 
-    /// The duration of so many microseconds.
+    /// Returns the duration of `microseconds` microseconds.
+    ///
+    /// ```
+    /// TimeDelta::microseconds(1_500).num_milliseconds() // 1
+    /// ```
     #[inline]
     pub fn microseconds(microseconds: i64) -> TimeDelta
         ensures { result ≡ units_of nanos_per_micro microseconds }
@@ -146,7 +216,11 @@ impl TimeDelta {
         )
     }
 
-    /// The duration of so many nanoseconds.
+    /// Returns the duration of `nanos` nanoseconds.
+    ///
+    /// ```
+    /// TimeDelta::nanoseconds(-1) // TimeDelta { secs: -1, nanos: 999999999 }
+    /// ```
     #[inline]
     pub fn nanoseconds(nanos: i64) -> TimeDelta
         ensures { result ≡ nanos }
@@ -155,7 +229,11 @@ impl TimeDelta {
         from_signed(nanos / second, (nanos % second) as i32)
     }
 
-    /// The whole weeks of the duration, rounded towards zero.
+    /// Returns the number of whole weeks, rounded towards zero.
+    ///
+    /// ```
+    /// TimeDelta::days(-20).num_weeks() // -2
+    /// ```
     #[inline]
     pub fn num_weeks(&self) -> i64
         ensures { result ≡ whole_units nanos_per_week self.now }
@@ -163,7 +241,11 @@ impl TimeDelta {
         self.num_seconds() / SECS_PER_WEEK
     }
 
-    /// The whole days of the duration, rounded towards zero.
+    /// Returns the number of whole days of 86,400 seconds, rounded towards zero.
+    ///
+    /// ```
+    /// TimeDelta::hours(-47).num_days() // -1
+    /// ```
     #[inline]
     pub fn num_days(&self) -> i64
         ensures value { result ≡ whole_units nanos_per_day self.now }
@@ -172,7 +254,11 @@ impl TimeDelta {
         self.num_seconds() / SECS_PER_DAY as i64
     }
 
-    /// The whole hours of the duration, rounded towards zero.
+    /// Returns the number of whole hours, rounded towards zero.
+    ///
+    /// ```
+    /// TimeDelta::minutes(150).num_hours() // 2
+    /// ```
     #[inline]
     pub fn num_hours(&self) -> i64
         ensures { result ≡ whole_units nanos_per_hour self.now }
@@ -180,7 +266,11 @@ impl TimeDelta {
         self.num_seconds() / SECS_PER_HOUR as i64
     }
 
-    /// The whole minutes of the duration, rounded towards zero.
+    /// Returns the number of whole minutes, rounded towards zero.
+    ///
+    /// ```
+    /// TimeDelta::seconds(150).num_minutes() // 2
+    /// ```
     #[inline]
     pub fn num_minutes(&self) -> i64
         ensures { result ≡ whole_units nanos_per_minute self.now }
@@ -188,7 +278,11 @@ impl TimeDelta {
         self.num_seconds() / SECS_PER_MINUTE as i64
     }
 
-    /// The whole seconds of the duration, rounded towards zero: -1 for -1.5 seconds.
+    /// Returns the number of whole seconds, rounded towards zero.
+    ///
+    /// ```
+    /// TimeDelta::milliseconds(-1_500).num_seconds() // -1
+    /// ```
     #[inline]
     pub fn num_seconds(&self) -> i64
         ensures value { result ≡ whole_units nanos_per_second self.now }
@@ -197,7 +291,11 @@ impl TimeDelta {
         self.secs + self.has_negative_rest() as i64
     }
 
-    /// The whole milliseconds of the duration, rounded towards zero.
+    /// Returns the number of whole milliseconds, rounded towards zero.
+    ///
+    /// ```
+    /// TimeDelta::microseconds(-1_500).num_milliseconds() // -1
+    /// ```
     #[inline]
     pub fn num_milliseconds(&self) -> i64
         ensures { result ≡ whole_units nanos_per_milli self.now }
@@ -205,7 +303,14 @@ impl TimeDelta {
         self.num_seconds() * 1_000 + self.subsec_millis() as i64
     }
 
-    /// The whole microseconds of the duration, rounded towards zero; `None` exactly if they are no i64.
+    /// Returns the number of whole microseconds, rounded towards zero.
+    ///
+    /// Returns `None` if that number does not fit an `i64`.
+    ///
+    /// ```
+    /// TimeDelta::seconds(2).num_microseconds() // Some(2000000)
+    /// TimeDelta::MAX.num_microseconds() // None
+    /// ```
     #[inline]
     pub fn num_microseconds(&self) -> Option<i64>
         ensures { SomeIff result (FitsSigned w64 (whole_units nanos_per_micro self.now))
@@ -214,7 +319,14 @@ impl TimeDelta {
         i64::try_from(self.num_seconds() as i128 * 1_000_000 + self.subsec_micros() as i128).ok()
     }
 
-    /// The nanoseconds of the duration; `None` exactly if they are no i64.
+    /// Returns the number of nanoseconds.
+    ///
+    /// Returns `None` if that number does not fit an `i64`.
+    ///
+    /// ```
+    /// TimeDelta::seconds(2).num_nanoseconds() // Some(2000000000)
+    /// TimeDelta::MAX.num_nanoseconds() // None
+    /// ```
     #[inline]
     pub fn num_nanoseconds(&self) -> Option<i64>
         ensures { SomeIff result (FitsSigned w64 self.now) self.now }
@@ -222,7 +334,11 @@ impl TimeDelta {
         i64::try_from(self.total_nanos()).ok()
     }
 
-    /// The whole milliseconds past the whole seconds, from -999 to 999, with the duration's sign.
+    /// Returns the whole milliseconds past the whole seconds: -999 to 999, with the sign of the duration.
+    ///
+    /// ```
+    /// TimeDelta::milliseconds(-1_500).subsec_millis() // -500
+    /// ```
     #[inline]
     pub fn subsec_millis(&self) -> i32
         ensures { result ≡ whole_units nanos_per_milli (past_seconds self.now) }
@@ -230,7 +346,11 @@ impl TimeDelta {
         self.subsec_nanos() / NANOS_PER_MILLI as i32
     }
 
-    /// The whole microseconds past the whole seconds, from -999,999 to 999,999, with the duration's sign.
+    /// Returns the whole microseconds past the whole seconds: -999,999 to 999,999, with the sign of the duration.
+    ///
+    /// ```
+    /// TimeDelta::milliseconds(-1_500).subsec_micros() // -500000
+    /// ```
     #[inline]
     pub fn subsec_micros(&self) -> i32
         ensures { result ≡ whole_units nanos_per_micro (past_seconds self.now) }
@@ -238,7 +358,11 @@ impl TimeDelta {
         self.subsec_nanos() / NANOS_PER_MICRO as i32
     }
 
-    /// The nanoseconds past the whole seconds, from -999,999,999 to 999,999,999, with the duration's sign.
+    /// Returns the nanoseconds past the whole seconds: -999,999,999 to 999,999,999, with the sign of the duration.
+    ///
+    /// ```
+    /// TimeDelta::milliseconds(-1_500).subsec_nanos() // -500000000
+    /// ```
     #[inline]
     pub fn subsec_nanos(&self) -> i32
         ensures { result ≡ past_seconds self.now }

@@ -1,4 +1,4 @@
-//! The fields of the date and of the time of day, read and replaced. What replaces a field of one half keeps the other.
+//! The fields of the date and of the time of day, read and replaced. Replacing a field of one half keeps the other half.
 
 use crate::NaiveDateTime;
 use chrono_clock::Timelike;
@@ -91,7 +91,7 @@ impl Datelike for NaiveDateTime {
         Some(self.with_date(self.date.with_ordinal0(ordinal0)?))
     }
 
-    /// The day number of the date: 1 for 1 January of year 1, 0 for the day before, 719,163 for 1 January 1970.
+    /// Returns the day number of the date, in which 1 January of year 1 is 1 and the day before it is 0.
     #[inline]
     fn num_days_from_ce(&self) -> i32 {
         self.date.num_days_from_ce()

@@ -9,10 +9,16 @@ use crate::NaiveDateTime;
 use chrono_naive::{Days, Months};
 
 impl NaiveDateTime {
-    /// The same day of the month so many months later, or the last day of that month if it is shorter, at the same time
-    /// of day; `None` exactly if the year of that month is past 262,142.
+    /// Returns the same day and time of day `rhs` months later. If that month is too short, returns its last
+    /// day.
     ///
-    /// So 30 January 2023, 23:00, and one month make 28 February 2023, 23:00.
+    /// Returns `None` if the year would be after 262,142.
+    ///
+    /// ```
+    /// let start = NaiveDate::from_ymd_opt(2023, 1, 30)?.and_hms_opt(23, 0, 0)?;
+    /// start.checked_add_months(Months::new(1)) // Some(2023-02-28T23:00:00)
+    /// NaiveDateTime::MAX.checked_add_months(Months::new(1)) // None
+    /// ```
     #[inline]
     pub fn checked_add_months(self, rhs: Months) -> Option<NaiveDateTime>
         ensures value { result ≡ moment_on (month_move self.date (pos rhs)) self.time }
@@ -32,8 +38,16 @@ impl NaiveDateTime {
         Some(self.with_date(self.date.checked_add_months(rhs)?))
     }
 
-    /// The same day of the month so many months earlier, or the last day of that month if it is shorter, at the same
-    /// time of day; `None` exactly if the year of that month is before -262,143.
+    /// Returns the same day and time of day `rhs` months earlier. If that month is too short, returns its last
+    /// day.
+    ///
+    /// Returns `None` if the year would be before -262,143.
+    ///
+    /// ```
+    /// let end = NaiveDate::from_ymd_opt(2024, 3, 31)?.and_hms_opt(23, 0, 0)?;
+    /// end.checked_sub_months(Months::new(1)) // Some(2024-02-29T23:00:00)
+    /// NaiveDateTime::MIN.checked_sub_months(Months::new(1)) // None
+    /// ```
     #[inline]
     pub fn checked_sub_months(self, rhs: Months) -> Option<NaiveDateTime>
         ensures value { result ≡ moment_on (month_move self.date (neg_ℤ (pos rhs))) self.time }
@@ -53,8 +67,15 @@ impl NaiveDateTime {
         Some(self.with_date(self.date.checked_sub_months(rhs)?))
     }
 
-    /// The date-time at the same time of day so many days later; `None` exactly if that day is past
-    /// [`MAX`](Self::MAX).
+    /// Returns the date-time `days` days later, at the same time of day.
+    ///
+    /// Returns `None` if that day is after the date of [`MAX`](Self::MAX).
+    ///
+    /// ```
+    /// let start = NaiveDate::from_ymd_opt(2024, 2, 28)?.and_hms_opt(23, 0, 0)?;
+    /// start.checked_add_days(Days::new(2)) // Some(2024-03-01T23:00:00)
+    /// NaiveDateTime::MAX.checked_add_days(Days::new(1)) // None
+    /// ```
     #[inline]
     pub fn checked_add_days(self, days: Days) -> Option<NaiveDateTime>
         ensures value { result ≡ moment_on (date_of_day (self.date +ℤ pos days)) self.time }
@@ -67,8 +88,15 @@ impl NaiveDateTime {
         Some(self.with_date(self.date.checked_add_days(days)?))
     }
 
-    /// The date-time at the same time of day so many days earlier; `None` exactly if that day is before
-    /// [`MIN`](Self::MIN).
+    /// Returns the date-time `days` days earlier, at the same time of day.
+    ///
+    /// Returns `None` if that day is before the date of [`MIN`](Self::MIN).
+    ///
+    /// ```
+    /// let end = NaiveDate::from_ymd_opt(2024, 3, 1)?.and_hms_opt(23, 0, 0)?;
+    /// end.checked_sub_days(Days::new(2)) // Some(2024-02-28T23:00:00)
+    /// NaiveDateTime::MIN.checked_sub_days(Days::new(1)) // None
+    /// ```
     #[inline]
     pub fn checked_sub_days(self, days: Days) -> Option<NaiveDateTime>
         ensures value { result ≡ moment_on (date_of_day (self.date -ℤ pos days)) self.time }

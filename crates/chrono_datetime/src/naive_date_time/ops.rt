@@ -1,4 +1,4 @@
-//! Operators on date-times, each on the condition that its checked form answers a date-time.
+//! Operators on date-times. Each requires that its checked form returns `Some`.
 ghost use Rattle.std.specs.Prelude.{◌≡◌, pos, neg_ℤ, ◌+ℤ◌, ◌-ℤ◌, IsSome, Some};
 ghost use Rattle.chrono_naive.specs.Days.{IsDate};
 ghost use Rattle.chrono_naive.specs.MonthMoves.{month_move};
@@ -16,7 +16,10 @@ impl Add<TimeDelta> for NaiveDateTime {
 
     ghost add_gives = { λ m x r. reach m x ≡ Some r };
 
-    /// The date-time that the duration leads to, whose date has to be in range.
+    /// Returns the date-time that lies `rhs` later, as
+    /// [`checked_add_signed`](NaiveDateTime::checked_add_signed) does.
+    ///
+    /// Requires that its date is in range.
     #[inline]
     fn add(self, rhs: TimeDelta) -> NaiveDateTime {
         self.checked_add_signed(rhs).unwrap()
@@ -28,7 +31,9 @@ impl AddAssign<TimeDelta> for NaiveDateTime {
 
     ghost add_assign_gives = { λ m x r. reach m x ≡ Some r };
 
-    /// Moves the date-time on by the duration; its date has to stay in range.
+    /// Moves the date-time later by `rhs`.
+    ///
+    /// Requires that the new date is in range.
     #[inline]
     fn add_assign(&mut self, rhs: TimeDelta) {
         *self = *self + rhs;
@@ -42,8 +47,10 @@ impl Add<Months> for NaiveDateTime {
 
     ghost add_gives = { λ m k r. moment_on (month_move m.date (pos k)) m.time ≡ Some r };
 
-    /// The same day of the month so many months later, or the last day of that month if it is shorter, at the same time
-    /// of day; it has to be in range.
+    /// Returns the same day and time of day `rhs` months later. If that month is too short, returns its last
+    /// day.
+    ///
+    /// Requires that the year stays in range.
     #[inline]
     fn add(self, rhs: Months) -> NaiveDateTime {
         self.checked_add_months(rhs).unwrap()
@@ -57,8 +64,10 @@ impl Sub<Months> for NaiveDateTime {
 
     ghost sub_gives = { λ m k r. moment_on (month_move m.date (neg_ℤ (pos k))) m.time ≡ Some r };
 
-    /// The same day of the month so many months earlier, or the last day of that month if it is shorter, at the same
-    /// time of day; it has to be in range.
+    /// Returns the same day and time of day `rhs` months earlier. If that month is too short, returns its last
+    /// day.
+    ///
+    /// Requires that the year stays in range.
     #[inline]
     fn sub(self, rhs: Months) -> NaiveDateTime {
         self.checked_sub_months(rhs).unwrap()
@@ -72,7 +81,9 @@ impl Add<Days> for NaiveDateTime {
 
     ghost add_gives = { λ m d r. r ≡ moment (m.date +ℤ pos d) m.time };
 
-    /// The date-time at the same time of day so many days later, which has to be in range.
+    /// Returns the date-time `days` days later, at the same time of day.
+    ///
+    /// Requires that its date is in range.
     #[inline]
     fn add(self, days: Days) -> NaiveDateTime {
         self.checked_add_days(days).unwrap()
@@ -86,7 +97,9 @@ impl Sub<Days> for NaiveDateTime {
 
     ghost sub_gives = { λ m d r. r ≡ moment (m.date -ℤ pos d) m.time };
 
-    /// The date-time at the same time of day so many days earlier, which has to be in range.
+    /// Returns the date-time `days` days earlier, at the same time of day.
+    ///
+    /// Requires that its date is in range.
     #[inline]
     fn sub(self, days: Days) -> NaiveDateTime {
         self.checked_sub_days(days).unwrap()
@@ -100,7 +113,10 @@ impl Sub<TimeDelta> for NaiveDateTime {
 
     ghost sub_gives = { λ m x r. reach m (neg_ℤ x) ≡ Some r };
 
-    /// The date-time that the duration leads back to, whose date has to be in range.
+    /// Returns the date-time that lies `rhs` earlier, as
+    /// [`checked_sub_signed`](NaiveDateTime::checked_sub_signed) does.
+    ///
+    /// Requires that its date is in range.
     #[inline]
     fn sub(self, rhs: TimeDelta) -> NaiveDateTime {
         self.checked_sub_signed(rhs).unwrap()
@@ -112,7 +128,9 @@ impl SubAssign<TimeDelta> for NaiveDateTime {
 
     ghost sub_assign_gives = { λ m x r. reach m (neg_ℤ x) ≡ Some r };
 
-    /// Moves the date-time back by the duration; its date has to stay in range.
+    /// Moves the date-time earlier by `rhs`.
+    ///
+    /// Requires that the new date is in range.
     #[inline]
     fn sub_assign(&mut self, rhs: TimeDelta) {
         *self = *self - rhs;
@@ -124,8 +142,8 @@ impl Sub<NaiveDateTime> for NaiveDateTime {
 
     ghost sub_gives = { λ a b r. r ≡ moment_distance a b };
 
-    /// How far this date-time is from `rhs`, as
-    /// [`signed_duration_since`](NaiveDateTime::signed_duration_since) gives it.
+    /// Returns the duration from `rhs` to this date-time, as
+    /// [`signed_duration_since`](NaiveDateTime::signed_duration_since) does.
     #[inline]
     fn sub(self, rhs: NaiveDateTime) -> TimeDelta {
         self.signed_duration_since(rhs)

@@ -18,7 +18,7 @@ impl Ord for NaiveDateTime {
 
     ghost matches_eq = { Prim.search (comparing, rules) };
 
-    /// Date-times compare by date, and on one date by time of day.
+    /// Compares the dates, and on one date the times of day.
     #[inline]
     fn cmp(&self, other: &NaiveDateTime) -> Ordering
         ensures order { result ≡ moment_cmp self.now other.now }

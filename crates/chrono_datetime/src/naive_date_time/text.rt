@@ -12,8 +12,17 @@ use std::fmt;
 const LONGEST: usize = 32;
 
 impl NaiveDateTime {
-    /// Puts the date, the separator and the time of day, as `2024-02-29T23:59:60.500` (ISO 8601 date and time of day, where the
-    /// separator is a `T`), behind a text. There is room for 32 bytes; they are ASCII if the separator is.
+    /// Appends the date, `separator` and the time of day to `text`, as `2024-02-29T23:59:60.500`. With the
+    /// separator `T` it is an ISO 8601 date and time of day. The bytes are ASCII if `separator` is.
+    ///
+    /// Requires free space for 32 bytes in `text`.
+    ///
+    /// ```
+    /// use chrono_text::Text;
+    /// let mut text = Text::<32>::new();
+    /// NaiveDate::from_ymd_opt(2024, 2, 29)?.and_hms_opt(9, 30, 0)?.put_into(&mut text, b'T');
+    /// text.as_str() // "2024-02-29T09:30:00"
+    /// ```
     #[inline]
     pub fn put_into<const N: usize>(&self, text: &mut Text<N>, separator: u8)
         requires { length text.old + 32 ≤ N }

@@ -1,7 +1,7 @@
-//! The way from a month and a day to their ordinal.
+//! The table from a month and a day to their ordinal.
 //!
-//! A month, a day and a year's length have the number mdl, `(month << 6) + (day << 1) + l`, and an
-//! ordinal has the number ol, `(ordinal << 1) + l`: leap years have 0 for l, all others 1.
+//! `mdl` is `(month << 6) + (day << 1) + l` and `ol` is `(ordinal << 1) + l`, where `l` is 0 for a leap year and 1 for
+//! a common year.
 ghost use Rattle.std.specs.Prelude.{◌≡◌, ◌+◌, ◌<◌};
 ghost use Rattle.chrono_internals.specs.Tables.{mdl_adjustment};
 
@@ -46,8 +46,7 @@ const MDL_TO_OL: [u8; 832] = [
     100, 98, 100,
 ];
 
-/// How far the number of a month, a day and a year's length lies above that of their ordinal, in one
-/// step. It is 0 if the calendar has no such day.
+/// Returns `mdl - ol`, or 0 if the calendar has no such day. It adds one step to `steps`.
 #[inline]
 pub(crate) fn mdl_to_ol(mdl: u32, steps: &mut Steps) -> u8
     requires { mdl < 832 }

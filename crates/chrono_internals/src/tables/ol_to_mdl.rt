@@ -1,4 +1,4 @@
-//! The way from an ordinal to its month and day, by the numbers mdl and ol of the way back.
+//! The table from an ordinal to its month and day, with the numbers `mdl` and `ol` of the other table.
 ghost use Rattle.std.specs.Prelude.{◌≡◌, ◌+◌, ◌<◌};
 ghost use Rattle.chrono_internals.specs.Tables.{ol_adjustment};
 
@@ -39,8 +39,7 @@ const OL_TO_MDL: [u8; 733] = [
     100, 98, 100, 98, 100, 98, 100, 98, 100, 98, 100, 98, 100, 98, 100, 98, 100, 98, 100, 98,
 ];
 
-/// How far the number of a month, a day and a year's length lies above that of their ordinal, at that
-/// ordinal's number, in one step.
+/// Returns `mdl - ol` for the number `ol` of an ordinal. It adds one step to `steps`.
 #[inline]
 pub(crate) fn ol_to_mdl(ol: u32, steps: &mut Steps) -> u8
     requires { ol < 733 }

@@ -25,7 +25,7 @@ const YEAR_DELTAS: [u8; 401] = [
     96, 96, 96, 96, 97, 97, 97, 97,
 ];
 
-/// How many of the years 0 to `years` - 1 are leap years, in one step.
+/// Returns how many of the years from 0 to `years - 1` are leap years. It adds one step to `steps`.
 #[inline]
 pub(crate) fn year_delta(years: u32, steps: &mut Steps) -> u8
     requires { years ≤ 400 }

@@ -18,7 +18,7 @@ impl Ord for IsoWeek {
 
     ghost matches_eq = { Prim.search (comparing, rules) };
 
-    /// Weeks compare by the ISO year, and in one ISO year by the week.
+    /// Compares the ISO years, and in one ISO year the weeks.
     #[inline]
     fn cmp(&self, other: &IsoWeek) -> Ordering
         ensures { result ≡ iso_week_cmp self.now other.now }

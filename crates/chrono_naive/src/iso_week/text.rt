@@ -12,8 +12,17 @@ use std::fmt;
 const LONGEST: usize = 11;
 
 impl IsoWeek {
-    /// Puts the ISO year, `-W` and the week (ISO 8601 week date, without its day), as `2025-W01`, behind a text; a year
-    /// before 0 or after 9999 has its sign. There is room for 11 bytes.
+    /// Appends the ISO year, `-W` and the week to `text`. This is an ISO 8601 week date without its day. A year
+    /// before 0 or after 9999 has its sign.
+    ///
+    /// Requires free space for 11 bytes in `text`.
+    ///
+    /// ```
+    /// use chrono_text::Text;
+    /// let mut text = Text::<11>::new();
+    /// NaiveDate::from_ymd_opt(2024, 12, 30)?.iso_week().put_into(&mut text);
+    /// text.as_str() // "2025-W01"
+    /// ```
     #[inline]
     pub fn put_into<const N: usize>(&self, text: &mut Text<N>)
         requires { length text.old + 11 ≤ N }
@@ -28,7 +37,7 @@ impl IsoWeek {
 impl fmt::Debug for IsoWeek {
     ghost debug_output = { λ w. Some (iso_week_text w) };
 
-    /// Writes the ISO year, `-W` and the week (ISO 8601 week date, without its day), as `2025-W01`.
+    /// Writes the ISO year, `-W` and the week, as `2025-W01` (ISO 8601 week date without its day).
     ///
     /// A width, a fill, an alignment, a sign or a precision makes no difference.
     fn fmt<W: fmt::Write>(&self, f: &mut fmt::Formatter<W>) -> fmt::Result

@@ -11,10 +11,12 @@ use chrono_calendar::{DayForm, forms};
 use chrono_units::Weekday;
 
 impl NaiveDate {
-    /// The year, the month, from 1 for January, and the day of the month, from 1: what [`Datelike`] reads one by one, by one
-    /// reading of the date.
+    /// Returns the year, the month and the day of the month, from one reading of the date. January is month 1,
+    /// and the first day is 1. [`Datelike`] reads the three one by one.
     ///
-    /// So 29 February 2024 gives `(2024, 2, 29)`.
+    /// ```
+    /// NaiveDate::from_ymd_opt(2024, 2, 29)?.year_month_day() // (2024, 2, 29)
+    /// ```
     #[inline]
     pub fn year_month_day(&self) -> (i32, u32, u32)
         ensures year { result.0 ≡ year_of self.now }
@@ -124,7 +126,7 @@ impl Datelike for NaiveDate {
         self.with_ordinal(ordinal0.checked_add(1)?)
     }
 
-    /// The day number: 1 for 1 January of year 1, 0 for the day before, 719,163 for 1 January 1970.
+    /// Returns the day number, in which 1 January of year 1 is 1 and the day before it is 0.
     #[inline]
     fn num_days_from_ce(&self) -> i32
         ensures value { result ≡ self.now }

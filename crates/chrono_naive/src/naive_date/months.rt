@@ -7,9 +7,11 @@ use crate::naive_date::NaiveDate;
 use chrono_units::year::{is_leap_year, month_length};
 
 impl NaiveDate {
-    /// The first day of the month that the date lies in.
+    /// Returns the first day of the date's month.
     ///
-    /// So of 29 February 2024 it is 1 February.
+    /// ```
+    /// NaiveDate::from_ymd_opt(2024, 2, 29)?.first_day_of_month() // 2024-02-01
+    /// ```
     #[inline]
     pub fn first_day_of_month(&self) -> NaiveDate
         ensures first { result ≡ month_first_of self.now }
@@ -24,9 +26,11 @@ impl NaiveDate {
         self.moved_by_days(1 - i64::from(day)).unwrap()
     }
 
-    /// The last day of the month that the date lies in.
+    /// Returns the last day of the date's month.
     ///
-    /// So of 1 February 2024 it is the 29th.
+    /// ```
+    /// NaiveDate::from_ymd_opt(2024, 2, 1)?.last_day_of_month() // 2024-02-29
+    /// ```
     #[inline]
     pub fn last_day_of_month(&self) -> NaiveDate
         ensures last { result ≡ month_last_of self.now }
@@ -44,9 +48,14 @@ impl NaiveDate {
             .unwrap()
     }
 
-    /// The first day of the month after the one that the date lies in; `None` exactly in December of the year 262,142.
+    /// Returns the first day of the month after the date's month.
     ///
-    /// So of 31 January 2024 it is 1 February.
+    /// Returns `None` in December of year 262,142.
+    ///
+    /// ```
+    /// NaiveDate::from_ymd_opt(2024, 1, 31)?.first_of_next_month() // Some(2024-02-01)
+    /// NaiveDate::MAX.first_of_next_month() // None
+    /// ```
     #[inline]
     pub fn first_of_next_month(&self) -> Option<NaiveDate>
         ensures date { result ≡ date_of_day (month_last_of self.now +ℤ pos 1) }
@@ -68,9 +77,14 @@ impl NaiveDate {
         self.last_day_of_month().moved_by_days(1)
     }
 
-    /// The last day of the month before the one that the date lies in; `None` exactly in January of the year -262,143.
+    /// Returns the last day of the month before the date's month.
     ///
-    /// So of 1 March 2024 it is 29 February.
+    /// Returns `None` in January of year -262,143.
+    ///
+    /// ```
+    /// NaiveDate::from_ymd_opt(2024, 3, 1)?.last_of_previous_month() // Some(2024-02-29)
+    /// NaiveDate::MIN.last_of_previous_month() // None
+    /// ```
     #[inline]
     pub fn last_of_previous_month(&self) -> Option<NaiveDate>
         ensures date { result ≡ date_of_day (month_first_of self.now -ℤ pos 1) }

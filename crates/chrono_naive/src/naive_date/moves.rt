@@ -1,17 +1,19 @@
-//! Moves of a date by days, by months and by durations, the difference of dates, and what is reached from a date: weeks and
-//! iterators.
+//! Moves of a date by days, by months and by durations. Also the difference of dates, the weeks of a date, and iterators
+//! from it on.
 ghost use Rattle.std.specs.Prelude.{◌≡◌, ◌+◌, ◌≤◌, ℤ, pos, neg_ℤ, ◌+ℤ◌, ◌-ℤ◌, ◌*ℤ◌, ◌≤ℤ◌, ◌<ℤ◌, length, min, unsigned_abs, false, Some, IsSome, IfSome, IfNone, IsSomeAnd, IsTrue, ◌↔◌};
 ghost use Rattle.std.specs.Iterator.{YieldsFirst};
+ghost use Rattle.std.specs.Iterator.Adapters.{take_steps};
 ghost use Rattle.std.specs.Iterator.Runs.{YieldsInOrder};
 ghost use Rattle.chrono_units.specs.Years.{IsYear};
-ghost use Rattle.chrono_units.specs.WeekdaySet.{DaySet, IsSubset, contains};
+ghost use Rattle.chrono_units.specs.WeekdaySet.{DaySet, IsSubset, contains, walk};
+ghost use Rattle.chrono_units.specs.declared.weekday.Weekday.TheVariants.{Mon};
 ghost use Rattle.chrono_clock.specs.Duration.{nanos_per_day, units_of, whole_units};
 ghost use Rattle.chrono_calendar.specs.Days.{IsDate, date_of_day, day_of, year_of};
 ghost use Rattle.chrono_calendar.specs.Weeks.{week_first_of, weekday_of};
 ghost use Rattle.chrono_calendar.specs.MonthMoves.{MonthMovesAddUp, ComesBack, KeepsOrder, LaterMultiplesAreLater, month_index_of, month_length_of, month_move, year_of_month_index};
 ghost use Rattle.chrono_calendar.specs.Recurrence.{IsLastOfFebruary, IsLeapDay, date_every, date_on, dates_left};
 ghost use Rattle.chrono_calendar.specs.YearsBetween.{years_between as whole_years};
-ghost use Rattle.chrono_naive.specs.DateLists.{days_from, weeks_from};
+ghost use Rattle.chrono_naive.specs.DateLists.{days_from, days_taken, weeks_from, weeks_taken};
 
 use crate::days::Days;
 use crate::naive_date::NaiveDate;
@@ -25,10 +27,15 @@ use chrono_units::year::is_year;
 use chrono_units::{Months, Weekday, WeekdaySet};
 
 impl NaiveDate {
-    /// The date so many days later, or earlier for a negative number; `None` exactly if that is past [`MAX`](Self::MAX) or
-    /// before [`MIN`](Self::MIN).
+    /// Returns the date `days` days later, or earlier if `days` is negative.
     ///
-    /// So 28 February 2024 moved by 2 is 1 March, and 1 January 2024 moved by -1 is 31 December 2023.
+    /// Returns `None` if that is after [`MAX`](Self::MAX) or before [`MIN`](Self::MIN).
+    ///
+    /// ```
+    /// NaiveDate::from_ymd_opt(2024, 2, 28)?.moved_by_days(2) // Some(2024-03-01)
+    /// NaiveDate::from_ymd_opt(2024, 1, 1)?.moved_by_days(-1) // Some(2023-12-31)
+    /// NaiveDate::MAX.moved_by_days(1) // None
+    /// ```
     #[inline]
     pub fn moved_by_days(self, days: i64) -> Option<NaiveDate>
         ensures date { result ≡ date_of_day (self +ℤ days) }
@@ -44,7 +51,14 @@ impl NaiveDate {
         date
     }
 
-    /// The date so many days later; `None` exactly if that is past [`MAX`](Self::MAX).
+    /// Returns the date `days` days later.
+    ///
+    /// Returns `None` if that is after [`MAX`](Self::MAX).
+    ///
+    /// ```
+    /// NaiveDate::from_ymd_opt(2024, 2, 28)?.checked_add_days(Days::new(2)) // Some(2024-03-01)
+    /// NaiveDate::MAX.checked_add_days(Days::new(1)) // None
+    /// ```
     #[inline]
     pub fn checked_add_days(self, days: Days) -> Option<NaiveDate>
         ensures date { result ≡ date_of_day (self +ℤ pos days) }
@@ -58,8 +72,17 @@ impl NaiveDate {
         date
     }
 
-    /// The date so many days later, as [`checked_add_days`](Self::checked_add_days) gives it, with its steps counted:
-    /// one, so at most four, whether there is such a date or not.
+    /// Returns the date `days` days later, as [`checked_add_days`](Self::checked_add_days) does, and counts the
+    /// steps in `steps`. It takes one step, whether that date exists or not.
+    ///
+    /// ```
+    /// use chrono_calendar::Steps;
+    /// let start = NaiveDate::from_ymd_opt(2024, 2, 28)?;
+    /// let mut steps = Steps::new();
+    /// let date = start.checked_add_days_counted(Days::new(2), &mut steps);
+    /// steps.end();
+    /// date // Some(2024-03-01)
+    /// ```
     #[inline]
     pub fn checked_add_days_counted(self, days: Days, steps: &mut Steps) -> Option<NaiveDate>
         ensures date { result ≡ date_of_day (self +ℤ pos days) }
@@ -70,7 +93,14 @@ impl NaiveDate {
         self.moved_by_days_counted(days.clipped(), steps)
     }
 
-    /// The date so many days earlier; `None` exactly if that is before [`MIN`](Self::MIN).
+    /// Returns the date `days` days earlier.
+    ///
+    /// Returns `None` if that is before [`MIN`](Self::MIN).
+    ///
+    /// ```
+    /// NaiveDate::from_ymd_opt(2024, 3, 1)?.checked_sub_days(Days::new(2)) // Some(2024-02-28)
+    /// NaiveDate::MIN.checked_sub_days(Days::new(1)) // None
+    /// ```
     #[inline]
     pub fn checked_sub_days(self, days: Days) -> Option<NaiveDate>
         ensures date { result ≡ date_of_day (self -ℤ pos days) }
@@ -81,7 +111,14 @@ impl NaiveDate {
         self.moved_by_days(-days.clipped())
     }
 
-    /// The next date; `None` exactly for [`MAX`](Self::MAX).
+    /// Returns the next date.
+    ///
+    /// Returns `None` for [`MAX`](Self::MAX).
+    ///
+    /// ```
+    /// NaiveDate::from_ymd_opt(2024, 2, 28)?.succ_opt() // Some(2024-02-29)
+    /// NaiveDate::MAX.succ_opt() // None
+    /// ```
     #[inline]
     pub fn succ_opt(&self) -> Option<NaiveDate>
         ensures date { result ≡ date_of_day (self.now +ℤ pos 1) }
@@ -94,7 +131,14 @@ impl NaiveDate {
         self.moved_by_days(1)
     }
 
-    /// The date before; `None` exactly for [`MIN`](Self::MIN).
+    /// Returns the date before this one.
+    ///
+    /// Returns `None` for [`MIN`](Self::MIN).
+    ///
+    /// ```
+    /// NaiveDate::from_ymd_opt(2024, 3, 1)?.pred_opt() // Some(2024-02-29)
+    /// NaiveDate::MIN.pred_opt() // None
+    /// ```
     #[inline]
     pub fn pred_opt(&self) -> Option<NaiveDate>
         ensures date { result ≡ date_of_day (self.now -ℤ pos 1) }
@@ -123,10 +167,16 @@ impl NaiveDate {
         })
     }
 
-    /// The same day so many months later, or earlier for a negative number, or the last day of that month if it is shorter;
-    /// `None` exactly if the year of that month is not from -262,143 to 262,142.
+    /// Returns the same day `months` months later, or earlier if `months` is negative. If that month is too
+    /// short, returns its last day.
     ///
-    /// So 31 January 2024 moved by 1 is 29 February, and 31 March 2024 moved by -13 is 28 February 2023.
+    /// Returns `None` if the year would not be from -262,143 to 262,142.
+    ///
+    /// ```
+    /// NaiveDate::from_ymd_opt(2024, 1, 31)?.moved_by_months(1) // Some(2024-02-29)
+    /// NaiveDate::from_ymd_opt(2024, 3, 31)?.moved_by_months(-13) // Some(2023-02-28)
+    /// NaiveDate::MAX.moved_by_months(1) // None
+    /// ```
     #[inline]
     pub fn moved_by_months(self, months: i64) -> Option<NaiveDate>
         ensures date { result ≡ month_move self months }
@@ -148,10 +198,14 @@ impl NaiveDate {
         })
     }
 
-    /// The same day so many months later, or the last day of that month if it is shorter; `None` exactly if the year of
-    /// that month is past 262,142.
+    /// Returns the same day `months` months later. If that month is too short, returns its last day.
     ///
-    /// So 31 January 2022 and one month make 28 February 2022.
+    /// Returns `None` if the year would be after 262,142.
+    ///
+    /// ```
+    /// NaiveDate::from_ymd_opt(2024, 1, 31)?.checked_add_months(Months::new(1)) // Some(2024-02-29)
+    /// NaiveDate::MAX.checked_add_months(Months::new(1)) // None
+    /// ```
     #[inline]
     pub fn checked_add_months(self, months: Months) -> Option<NaiveDate>
         ensures date { result ≡ month_move self (pos months) }
@@ -169,8 +223,14 @@ impl NaiveDate {
         self.moved_by_months(i64::from(months.as_u32()))
     }
 
-    /// The same day so many months earlier, or the last day of that month if it is shorter; `None` exactly if the year of
-    /// that month is before -262,143.
+    /// Returns the same day `months` months earlier. If that month is too short, returns its last day.
+    ///
+    /// Returns `None` if the year would be before -262,143.
+    ///
+    /// ```
+    /// NaiveDate::from_ymd_opt(2024, 3, 31)?.checked_sub_months(Months::new(1)) // Some(2024-02-29)
+    /// NaiveDate::MIN.checked_sub_months(Months::new(1)) // None
+    /// ```
     #[inline]
     pub fn checked_sub_months(self, months: Months) -> Option<NaiveDate>
         ensures date { result ≡ month_move self (neg_ℤ (pos months)) }
@@ -188,11 +248,18 @@ impl NaiveDate {
         self.moved_by_months(-i64::from(months.as_u32()))
     }
 
-    /// The same day `k` times `i` months later, or earlier for a negative `k`, or the last day of that month if it is shorter;
-    /// `None` exactly if that month's year is not from -262,143 to 262,142.
+    /// Returns the same day `k * i` months later, or earlier if `k` is negative. If that month is too short,
+    /// returns its last day.
     ///
-    /// It is one move from this date, and not `i` moves in a row: from 31 January 2024 every month, the dates are 29 February
-    /// and then 31 March.
+    /// Returns `None` if the year would not be from -262,143 to 262,142.
+    ///
+    /// It is one move from this date and not `i` moves in a row, so a short month does not change the later
+    /// dates.
+    ///
+    /// ```
+    /// NaiveDate::from_ymd_opt(2024, 1, 31)?.every_months(1, 1) // Some(2024-02-29)
+    /// NaiveDate::from_ymd_opt(2024, 1, 31)?.every_months(1, 2) // Some(2024-03-31)
+    /// ```
     #[inline]
     pub fn every_months(self, k: i32, i: u32) -> Option<NaiveDate>
         ensures date { result ≡ date_every self k i }
@@ -210,10 +277,16 @@ impl NaiveDate {
         self.moved_by_months(i64::from(k) * i64::from(i))
     }
 
-    /// The date later by the whole days of the duration, earlier if it is negative; `None` exactly if that is past
-    /// [`MAX`](Self::MAX) or before [`MIN`](Self::MIN).
+    /// Returns the date later by the whole days of `rhs`, or earlier if `rhs` is negative. The days are rounded
+    /// towards zero, so a duration of less than a day moves no date.
     ///
-    /// The days are rounded towards zero: 23 hours move no date, and nor does -1 nanosecond.
+    /// Returns `None` if the date would be after [`MAX`](Self::MAX) or before [`MIN`](Self::MIN).
+    ///
+    /// ```
+    /// NaiveDate::from_ymd_opt(2024, 2, 28)?.checked_add_signed(TimeDelta::hours(47)) // Some(2024-02-29)
+    /// NaiveDate::from_ymd_opt(2024, 2, 28)?.checked_add_signed(TimeDelta::hours(-23)) // Some(2024-02-28)
+    /// NaiveDate::MAX.checked_add_signed(TimeDelta::days(1)) // None
+    /// ```
     #[inline]
     pub fn checked_add_signed(self, rhs: TimeDelta) -> Option<NaiveDate>
         ensures date { result ≡ date_of_day (self +ℤ whole_units nanos_per_day rhs) }
@@ -223,11 +296,17 @@ impl NaiveDate {
         self.moved_by_days(rhs.num_days())
     }
 
-    /// The date earlier by the whole days of the duration, later if it is negative; `None` exactly if that is before
-    /// [`MIN`](Self::MIN) or past [`MAX`](Self::MAX).
+    /// Returns the date earlier by the whole days of `rhs`, or later if `rhs` is negative. The days are rounded
+    /// towards zero, so a duration of less than a day moves no date.
     ///
-    /// The days are rounded towards zero: 23 hours move no date, and nor does -1 nanosecond. So it is the move by `-rhs` that
-    /// [`checked_add_signed`](Self::checked_add_signed) makes.
+    /// Returns `None` if the date would be before [`MIN`](Self::MIN) or after [`MAX`](Self::MAX).
+    ///
+    /// The result is that of [`checked_add_signed`](Self::checked_add_signed) with `-rhs`.
+    ///
+    /// ```
+    /// NaiveDate::from_ymd_opt(2024, 3, 1)?.checked_sub_signed(TimeDelta::hours(47)) // Some(2024-02-29)
+    /// NaiveDate::MIN.checked_sub_signed(TimeDelta::days(1)) // None
+    /// ```
     #[inline]
     pub fn checked_sub_signed(self, rhs: TimeDelta) -> Option<NaiveDate>
         ensures date { result ≡ date_of_day (self -ℤ whole_units nanos_per_day rhs) }
@@ -239,7 +318,13 @@ impl NaiveDate {
         self.moved_by_days(-rhs.num_days())
     }
 
-    /// The duration from `rhs` to this date, in days of 86,400 seconds; negative if this date is the earlier.
+    /// Returns the duration from `rhs` to this date, in days of 86,400 seconds. It is negative if this date is
+    /// the earlier one.
+    ///
+    /// ```
+    /// let base = NaiveDate::from_ymd_opt(2024, 2, 28)?;
+    /// NaiveDate::from_ymd_opt(2024, 3, 1)?.signed_duration_since(base).num_days() // 2
+    /// ```
     #[inline]
     pub fn signed_duration_since(self, rhs: NaiveDate) -> TimeDelta
         ensures { result ≡ units_of nanos_per_day (self -ℤ rhs) }
@@ -247,10 +332,16 @@ impl NaiveDate {
         TimeDelta::days(i64::from(self.day_number() - rhs.day_number()))
     }
 
-    /// The whole years from `base` to this date: the difference of their years, less one if this month and day come before
-    /// those of `base`; `None` exactly if this date is before `base`.
+    /// Returns the number of whole years from `base` to this date. It is the difference of the years, less one
+    /// if this month and day come before those of `base`.
     ///
-    /// So one who was born on 29 February 2004 is 18 on 1 March 2022, and 17 on 28 February 2022.
+    /// Returns `None` if this date is before `base`.
+    ///
+    /// ```
+    /// let birth = NaiveDate::from_ymd_opt(2004, 2, 29)?;
+    /// NaiveDate::from_ymd_opt(2022, 3, 1)?.years_since(birth) // Some(18)
+    /// NaiveDate::from_ymd_opt(2022, 2, 28)?.years_since(birth) // Some(17)
+    /// ```
     #[inline]
     pub fn years_since(&self, base: NaiveDate) -> Option<u32>
         ensures { result ≡ whole_years self.now base }
@@ -258,7 +349,12 @@ impl NaiveDate {
         forms::years_between(&self.form, &base.form)
     }
 
-    /// The days from the earlier of two dates to the later.
+    /// Returns the number of days between the two dates, whichever is the earlier one.
+    ///
+    /// ```
+    /// let other = NaiveDate::from_ymd_opt(2024, 3, 1)?;
+    /// NaiveDate::from_ymd_opt(2024, 2, 28)?.abs_diff(other) == Days::new(2) // true
+    /// ```
     #[inline]
     pub fn abs_diff(self, rhs: NaiveDate) -> Days
         ensures { result ≡ unsigned_abs (self -ℤ rhs) }
@@ -266,7 +362,15 @@ impl NaiveDate {
         Days::new(u64::from(self.day_number().abs_diff(rhs.day_number())))
     }
 
-    /// The week that holds the date and begins on `start`.
+    /// Returns the week that contains the date and begins on `start`.
+    ///
+    /// A week near [`MIN`](Self::MIN) or [`MAX`](Self::MAX) may have days that are not dates. The checked
+    /// functions of [`NaiveWeek`] return `None` then.
+    ///
+    /// ```
+    /// NaiveDate::from_ymd_opt(2024, 2, 29)?.week(Weekday::Mon).checked_first_day() // Some(2024-02-26)
+    /// NaiveDate::from_ymd_opt(2024, 2, 29)?.week(Weekday::Sun).checked_first_day() // Some(2024-02-25)
+    /// ```
     #[inline]
     pub fn week(&self, start: Weekday) -> NaiveWeek
         ensures first { result ≡ week_first_of self.now start }
@@ -278,10 +382,17 @@ impl NaiveDate {
         NaiveWeek::new(forms::week_first(&self.form, start))
     }
 
-    /// The first date not before this one whose weekday is in the set: the date itself, if its own is. `None` exactly if no date
-    /// from this one to [`MAX`](Self::MAX) has such a weekday, so for every empty set.
+    /// Returns the first date from this one on whose weekday is in `set`. It is this date, if its own weekday
+    /// is in `set`.
     ///
-    /// So from 30 December 2024, a Monday, the first Tuesday or Thursday is the 31st.
+    /// Returns `None` if no date from this one to [`MAX`](Self::MAX) has such a weekday. For an empty set that
+    /// is always so.
+    ///
+    /// ```
+    /// let set = WeekdaySet::from_array([Weekday::Tue, Weekday::Thu]);
+    /// NaiveDate::from_ymd_opt(2024, 12, 30)?.first_on(set) // Some(2024-12-31)
+    /// NaiveDate::from_ymd_opt(2024, 12, 30)?.first_on(WeekdaySet::EMPTY) // None
+    /// ```
     #[inline]
     pub fn first_on(self, set: WeekdaySet) -> Option<NaiveDate>
         ensures date { result ≡ date_on self set }
@@ -293,6 +404,10 @@ impl NaiveDate {
             contains set (weekday_of d) ≡ false) }
         ensures not_before { IfSome result (λ e. self ≤ℤ e) }
         ensures near { IfSome result (λ e. e <ℤ (self +ℤ pos 7)) }
+        // Of a set that lacks two weekdays at most, it is at most two days later.
+        ensures within_two { 5 ≤ length (walk set Mon) → IfSome result (λ e. e ≤ℤ (self +ℤ pos 2)) }
+        // If six dates follow this one, a set that is not empty has such a date.
+        ensures exists { 1 ≤ length (walk set Mon) → IsDate (self +ℤ pos 6) → IsSome result }
         ensures start { IsTrue (contains set (weekday_of self)) → result ≡ Some self }
         // Asked again from the answer it is the answer.
         ensures again { IfSome result (λ e. date_on e set ≡ Some e) }
@@ -307,7 +422,13 @@ impl NaiveDate {
         })
     }
 
-    /// This date and those after it, day after day, up to [`MAX`](Self::MAX).
+    /// Returns an iterator over this date and all later dates, up to [`MAX`](Self::MAX).
+    ///
+    /// ```
+    /// let mut days = NaiveDate::from_ymd_opt(2024, 2, 28)?.iter_days();
+    /// days.next() // Some(2024-02-28)
+    /// days.next() // Some(2024-02-29)
+    /// ```
     #[inline]
     pub fn iter_days(&self) -> NaiveDateDaysIterator
         ensures start { result ≡ self.now }
@@ -316,13 +437,23 @@ impl NaiveDate {
         ensures few { length (days_from self.now) ≤ 191_491_529 }
         // Any calls of `next` give the list's dates in order: what chains of iterators are proved by.
         ensures runs { YieldsInOrder (YieldsFirst days_from) days_from }
+        // After `take(n)` they give the first `n` dates of the list.
+        ensures taken { YieldsInOrder (take_steps (YieldsFirst days_from)) days_taken }
     {
         // No date is before the first or past the last.
         prove!(self.day_number() <= LAST_DAY);
         NaiveDateDaysIterator::new(*self)
     }
 
-    /// This date and those after it, week after week, as long as the week after is a date too.
+    /// Returns an iterator over this date and the dates 7, 14, 21 and so on days later. It leaves out a date
+    /// that has no date 7 days after it.
+    ///
+    /// ```
+    /// let mut weeks = NaiveDate::from_ymd_opt(2024, 2, 28)?.iter_weeks();
+    /// weeks.next() // Some(2024-02-28)
+    /// weeks.next() // Some(2024-03-06)
+    /// NaiveDate::MAX.iter_weeks().next() // None
+    /// ```
     #[inline]
     pub fn iter_weeks(&self) -> NaiveDateWeeksIterator
         ensures start { result ≡ self.now }
@@ -330,6 +461,8 @@ impl NaiveDate {
         ensures few { length (weeks_from self.now) ≤ 27_355_932 }
         // Any calls of `next` give the list's dates in order: what chains of iterators are proved by.
         ensures runs { YieldsInOrder (YieldsFirst weeks_from) weeks_from }
+        // After `take(n)` they give the first `n` dates of the list.
+        ensures taken { YieldsInOrder (take_steps (YieldsFirst weeks_from)) weeks_taken }
     {
         // No date is before the first or past the last.
         prove!(self.day_number() <= LAST_DAY);

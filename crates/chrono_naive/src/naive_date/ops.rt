@@ -1,4 +1,4 @@
-//! Operators on dates, each on the condition that its checked form answers a date.
+//! Operators on dates. Each requires that its checked form returns `Some`.
 ghost use Rattle.std.specs.Prelude.{◌≡◌, pos, neg_ℤ, ◌+ℤ◌, ◌-ℤ◌, IsSome, Some};
 ghost use Rattle.chrono_clock.specs.Duration.{nanos_per_day, units_of, whole_units};
 ghost use Rattle.chrono_calendar.specs.Days.{IsDate};
@@ -17,7 +17,9 @@ impl Add<TimeDelta> for NaiveDate {
 
     ghost add_gives = { λ a b r. r ≡ a +ℤ whole_units nanos_per_day b };
 
-    /// The date later by the whole days of the duration, which has to be in range.
+    /// Returns the date later by the whole days of `rhs`.
+    ///
+    /// Requires that this date is in range.
     #[inline]
     fn add(self, rhs: TimeDelta) -> NaiveDate {
         self.checked_add_signed(rhs).unwrap()
@@ -29,7 +31,9 @@ impl AddAssign<TimeDelta> for NaiveDate {
 
     ghost add_assign_gives = { λ a b r. r ≡ a +ℤ whole_units nanos_per_day b };
 
-    /// Moves the date on by the whole days of the duration; it has to stay in range.
+    /// Moves the date by the whole days of `rhs`.
+    ///
+    /// Requires that the new date is in range.
     #[inline]
     fn add_assign(&mut self, rhs: TimeDelta) {
         *self = *self + rhs;
@@ -43,7 +47,9 @@ impl Add<Months> for NaiveDate {
 
     ghost add_gives = { λ a m r. month_move a (pos m) ≡ Some r };
 
-    /// The same day so many months later, or the last day of that month if it is shorter; it has to be in range.
+    /// Returns the same day `months` months later. If that month is too short, returns its last day.
+    ///
+    /// Requires that the year stays in range.
     #[inline]
     fn add(self, months: Months) -> NaiveDate {
         self.checked_add_months(months).unwrap()
@@ -57,7 +63,9 @@ impl Sub<Months> for NaiveDate {
 
     ghost sub_gives = { λ a m r. month_move a (neg_ℤ (pos m)) ≡ Some r };
 
-    /// The same day so many months earlier, or the last day of that month if it is shorter; it has to be in range.
+    /// Returns the same day `months` months earlier. If that month is too short, returns its last day.
+    ///
+    /// Requires that the year stays in range.
     #[inline]
     fn sub(self, months: Months) -> NaiveDate {
         self.checked_sub_months(months).unwrap()
@@ -71,7 +79,9 @@ impl Add<Days> for NaiveDate {
 
     ghost add_gives = { λ a d r. r ≡ a +ℤ pos d };
 
-    /// The date so many days later, which has to be in range.
+    /// Returns the date `days` days later.
+    ///
+    /// Requires that this date is in range.
     #[inline]
     fn add(self, days: Days) -> NaiveDate {
         self.checked_add_days(days).unwrap()
@@ -85,7 +95,9 @@ impl Sub<Days> for NaiveDate {
 
     ghost sub_gives = { λ a d r. r ≡ a -ℤ pos d };
 
-    /// The date so many days earlier, which has to be in range.
+    /// Returns the date `days` days earlier.
+    ///
+    /// Requires that this date is in range.
     #[inline]
     fn sub(self, days: Days) -> NaiveDate {
         self.checked_sub_days(days).unwrap()
@@ -99,7 +111,9 @@ impl Sub<TimeDelta> for NaiveDate {
 
     ghost sub_gives = { λ a b r. r ≡ a -ℤ whole_units nanos_per_day b };
 
-    /// The date earlier by the whole days of the duration, which has to be in range.
+    /// Returns the date earlier by the whole days of `rhs`.
+    ///
+    /// Requires that this date is in range.
     #[inline]
     fn sub(self, rhs: TimeDelta) -> NaiveDate {
         self.checked_sub_signed(rhs).unwrap()
@@ -111,7 +125,9 @@ impl SubAssign<TimeDelta> for NaiveDate {
 
     ghost sub_assign_gives = { λ a b r. r ≡ a -ℤ whole_units nanos_per_day b };
 
-    /// Moves the date back by the whole days of the duration; it has to stay in range.
+    /// Moves the date back by the whole days of `rhs`.
+    ///
+    /// Requires that the new date is in range.
     #[inline]
     fn sub_assign(&mut self, rhs: TimeDelta) {
         *self = *self - rhs;
@@ -123,8 +139,8 @@ impl Sub<NaiveDate> for NaiveDate {
 
     ghost sub_gives = { λ a b r. r ≡ units_of nanos_per_day (a -ℤ b) };
 
-    /// The duration from `rhs` to this date, as
-    /// [`signed_duration_since`](NaiveDate::signed_duration_since) gives it.
+    /// Returns the duration from `rhs` to this date, as
+    /// [`signed_duration_since`](NaiveDate::signed_duration_since) does.
     #[inline]
     fn sub(self, rhs: NaiveDate) -> TimeDelta {
         self.signed_duration_since(rhs)

@@ -19,8 +19,8 @@ impl Ord for NaiveDate {
 
     ghost matches_eq = { Prim.search (comparing, rules) };
 
-    /// Dates compare by their day numbers, which is by their calendar names, by their ordinal names and by
-    /// their ISO names.
+    /// Compares the day numbers. That is also the order of the calendar names, of the ordinal names and of the
+    /// ISO names.
     #[inline]
     fn cmp(&self, other: &NaiveDate) -> Ordering
         ensures number { result ≡ int_cmp self.now other.now }

@@ -12,8 +12,17 @@ use std::fmt;
 const LONGEST: usize = 13;
 
 impl NaiveDate {
-    /// Puts the calendar name (ISO 8601 calendar date), as `2024-02-29`, behind a text; a year before 0 or after 9999 has its
-    /// sign. There is room for 13 bytes.
+    /// Appends the calendar name to `text`, as `2024-02-29` (ISO 8601 calendar date). A year before 0 or after
+    /// 9999 has its sign.
+    ///
+    /// Requires free space for 13 bytes in `text`.
+    ///
+    /// ```
+    /// use chrono_text::Text;
+    /// let mut text = Text::<13>::new();
+    /// NaiveDate::from_ymd_opt(2024, 2, 29)?.put_into(&mut text);
+    /// text.as_str() // "2024-02-29"
+    /// ```
     #[inline]
     pub fn put_into<const N: usize>(&self, text: &mut Text<N>)
         requires { length text.old + 13 ≤ N }
@@ -31,7 +40,7 @@ impl fmt::Display for NaiveDate {
 
     ghost styled_output = { λ n _. Some (date_text n) };
 
-    /// Writes the calendar name (ISO 8601 calendar date), as `2024-02-29`; a year before 0 or after 9999 has its sign.
+    /// Writes the calendar name (ISO 8601 calendar date), as `2024-02-29`. A year before 0 or after 9999 has its sign.
     ///
     /// A width, a fill, an alignment, a sign or a precision makes no difference.
     fn fmt<W: fmt::Write>(&self, f: &mut fmt::Formatter<W>) -> fmt::Result {

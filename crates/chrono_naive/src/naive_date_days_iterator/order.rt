@@ -13,7 +13,7 @@ impl PartialEq for NaiveDateDaysIterator {
 
     ghost laws = { Prim.search (comparing, rules) };
 
-    /// Whether both would give the same date next, or both are ended.
+    /// Returns whether both return the same date next, or both are ended.
     #[inline]
     fn eq(&self, other: &NaiveDateDaysIterator) -> bool
         ensures { result ≡ int_eq self.now other.now }
@@ -31,7 +31,7 @@ impl Ord for NaiveDateDaysIterator {
 
     ghost matches_eq = { Prim.search (comparing, rules) };
 
-    /// Iterators compare by the date that they would give next, an ended one after all others.
+    /// Compares the dates that the two return next. An ended iterator is greater than all others.
     #[inline]
     fn cmp(&self, other: &NaiveDateDaysIterator) -> Ordering
         ensures { result ≡ int_cmp self.now other.now }

@@ -10,10 +10,10 @@ use chrono_datetime::{NaiveDate, NaiveDateTime, NaiveTime};
 use std::iter::FusedIterator;
 use std::marker::Model;
 
-/// The instances of a rule at the time of day of its start, in order and each once, up to the last in the calendar. From
-/// [`Rule::date_times`] and [`Rule::date_times_from`].
+/// The instances of a rule at the time of day of its start, in order, to the end of the calendar.
 ///
-/// Contracts see it as the list of the moments that are left. Once none is left it gives `None` from then on.
+/// [`Rule::date_times`] and [`Rule::date_times_from`] make it. After its last moment it returns `None` from then on.
+/// Contracts see it as the list of the moments that are left.
 #[derive(Drop)]
 pub struct InstanceDateTimes {
     days: Instances,
@@ -31,8 +31,18 @@ impl Model for InstanceDateTimes {
 }
 
 impl Rule {
-    /// The instances of the rule at the start's time of day, from the start on, in order, up to the last in the calendar. An UNTIL of the
-    /// rule is a day, the whole of which counts.
+    /// Returns an iterator over the instances of the rule from `start` on, at the time of day of `start`.
+    ///
+    /// They come in order, to the end of the calendar.
+    ///
+    /// ```
+    /// use chrono_datetime::{AndTime, NaiveDate};
+    /// let start = NaiveDate::from_ymd_opt(2024, 1, 1)?.and_hms_opt(9, 30, 0)?;
+    /// let mut moments = read_rule(b"FREQ=WEEKLY").ok()?.date_times(start);
+    /// (moments.next(), moments.next()) // (Some(2024-01-01T09:30:00), Some(2024-01-08T09:30:00))
+    /// ```
+    ///
+    /// UNTIL is a whole day. An instance on that day counts at any time of day.
     #[inline]
     pub fn date_times(&self, start: NaiveDateTime) -> InstanceDateTimes
         ensures { result ≡ instance_moments self.now start start.date }
@@ -40,7 +50,16 @@ impl Rule {
         self.date_times_from(start, start.date())
     }
 
-    /// Those of the day and later ones; COUNT is counted from the start.
+    /// Returns an iterator over the instances of the rule on `day` and later, at the time of day of `start`.
+    ///
+    /// The rule still begins at `start`, and COUNT counts from there.
+    ///
+    /// ```
+    /// use chrono_datetime::{AndTime, NaiveDate};
+    /// let start = NaiveDate::from_ymd_opt(2024, 1, 1)?.and_hms_opt(9, 30, 0)?;
+    /// let day = NaiveDate::from_ymd_opt(2024, 1, 15)?;
+    /// read_rule(b"FREQ=WEEKLY;COUNT=3").ok()?.date_times_from(start, day).next() // Some(2024-01-15T09:30:00)
+    /// ```
     #[inline]
     #[tactic(auto, unfolding(crate::specs::InstanceMoments::instance_moments))]
     pub fn date_times_from(&self, start: NaiveDateTime, day: NaiveDate) -> InstanceDateTimes
@@ -60,13 +79,13 @@ impl Iterator for InstanceDateTimes {
 
     ghost remaining = { item_count (λ left. left) };
 
-    /// The first of the instances that are left; `None` once none is.
+    /// Removes the first of the instances that are left and returns it. Returns `None` once none is left.
     fn next(&mut self) -> Option<NaiveDateTime> {
         let day = self.days.next()?;
         Some(NaiveDateTime::new(day, self.time))
     }
 
-    /// At least none, and at most as many instances as dates are left.
+    /// Returns 0 and, as the upper bound, the number of dates that are left.
     #[inline]
     fn size_hint(&self) -> (usize, Option<usize>)
         ensures lower { IsWithinCount result.0 (item_count (λ left. left) self.now) }

@@ -12,10 +12,10 @@ use chrono_datetime::{Datelike, NaiveDate};
 use std::iter::FusedIterator;
 use std::marker::Model;
 
-/// The days of a recurrence, in order and each once, up to the last in the calendar. From [`Recurrence::iter`] and
-/// [`Recurrence::iter_from`].
+/// The days of a recurrence, in order, to the end of the calendar.
 ///
-/// Contracts see it as the list of the days that are left, by their numbers. Once none is left it gives `None` from then on.
+/// [`Recurrence::iter`] and [`Recurrence::iter_from`] make it. After its last day it returns `None` from then on.
+/// Contracts see it as the list of the days that are left, by their numbers.
 #[derive(Drop)]
 pub struct RecurrenceDays<'b, 'a> {
     recurrence: &'b Recurrence<'a>,
@@ -41,7 +41,16 @@ impl<'b, 'a> Model for RecurrenceDays<'b, 'a> {
 }
 
 impl<'a> Recurrence<'a> {
-    /// The days of the recurrence from the first date on, in order, up to the last in the calendar.
+    /// Returns an iterator over the days of the recurrence, in order, to the end of the calendar.
+    ///
+    /// ```
+    /// use chrono_datetime::NaiveDate;
+    /// let (start, rule) = (NaiveDate::from_ymd_opt(2024, 1, 1)?, read_rule(b"FREQ=WEEKLY").ok()?);
+    /// let (dates, exceptions) = ([NaiveDate::from_ymd_opt(2024, 1, 3)?], [start]);
+    /// let recurrence = Recurrence::new(rule, start, &dates, &exceptions);
+    /// let mut days = recurrence.iter();
+    /// (days.next(), days.next()) // (Some(2024-01-03), Some(2024-01-08))
+    /// ```
     #[inline]
     pub fn iter<'b>(&'b self) -> RecurrenceDays<'b, 'a>
         ensures { result ≡ recurrence_from self.now first_date }
@@ -55,7 +64,14 @@ impl<'a> Recurrence<'a> {
         }
     }
 
-    /// The days of the recurrence from the day on, itself among them if it is one.
+    /// Returns an iterator over the days of the recurrence from `day` on. `day` itself can be one.
+    ///
+    /// ```
+    /// use chrono_datetime::NaiveDate;
+    /// let (start, rule) = (NaiveDate::from_ymd_opt(2024, 1, 1)?, read_rule(b"FREQ=WEEKLY").ok()?);
+    /// let recurrence = Recurrence::new(rule, start, &[], &[]);
+    /// recurrence.iter_from(NaiveDate::from_ymd_opt(2024, 1, 8)?).next() // Some(2024-01-08)
+    /// ```
     #[inline]
     pub fn iter_from<'b>(&'b self, day: NaiveDate) -> RecurrenceDays<'b, 'a>
         ensures { result ≡ recurrence_from self.now day }
@@ -75,7 +91,7 @@ impl<'b, 'a> Iterator for RecurrenceDays<'b, 'a> {
 
     ghost remaining = { item_count (λ left. left) };
 
-    /// The first of the days that are left; `None` once none is.
+    /// Removes the first of the days that are left and returns it. Returns `None` once none is left.
     fn next(&mut self) -> Option<NaiveDate> {
         let from = NaiveDate::from_num_days_from_ce_opt(self.from)?;
         let Some(found) = self.recurrence.first_from(from, self.seen) else {
@@ -87,7 +103,7 @@ impl<'b, 'a> Iterator for RecurrenceDays<'b, 'a> {
         Some(found.day)
     }
 
-    /// At least none, and at most as many days as dates are left.
+    /// Returns 0 and, as the upper bound, the number of dates that are left.
     #[inline]
     fn size_hint(&self) -> (usize, Option<usize>)
         ensures lower { IsWithinCount result.0 (item_count (λ left. left) self.now) }

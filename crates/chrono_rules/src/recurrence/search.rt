@@ -70,7 +70,13 @@ impl<'a> Recurrence<'a> {
         }
     }
 
-    /// The first day of the recurrence after this one; `None` exactly if there is none in the calendar.
+    /// Returns the first day of the recurrence after `day`. Returns `None` if there is none in the calendar.
+    ///
+    /// ```
+    /// use chrono_datetime::NaiveDate;
+    /// let (start, rule) = (NaiveDate::from_ymd_opt(2024, 1, 1)?, read_rule(b"FREQ=WEEKLY").ok()?);
+    /// Recurrence::new(rule, start, &[], &[]).next_after(start) // Some(2024-01-08)
+    /// ```
     pub fn next_after(&self, day: NaiveDate) -> Option<NaiveDate>
         ensures member { IfSome result (λ e. IsTrue (is_in_recurrence self.now e)) }
         ensures later { IfSome result (λ e. day <ℤ e) }
@@ -103,7 +109,14 @@ impl<'a> Recurrence<'a> {
         Some(instance)
     }
 
-    /// The last day of the recurrence before this one; `None` exactly if there is none.
+    /// Returns the last day of the recurrence before `day`. Returns `None` if there is none.
+    ///
+    /// ```
+    /// use chrono_datetime::NaiveDate;
+    /// let (start, rule) = (NaiveDate::from_ymd_opt(2024, 1, 1)?, read_rule(b"FREQ=WEEKLY").ok()?);
+    /// let recurrence = Recurrence::new(rule, start, &[], &[]);
+    /// recurrence.prev_before(NaiveDate::from_ymd_opt(2024, 1, 8)?) // Some(2024-01-01)
+    /// ```
     pub fn prev_before(&self, day: NaiveDate) -> Option<NaiveDate>
         ensures member { IfSome result (λ e. IsTrue (is_in_recurrence self.now e)) }
         ensures earlier { IfSome result (λ e. e <ℤ day) }

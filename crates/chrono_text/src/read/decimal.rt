@@ -1,11 +1,19 @@
-//! Numbers read as they are printed.
+//! Numbers read from the texts that print them.
 ghost use Rattle.std.specs.Prelude.{◌≡◌, ◌≢◌, ◌<◌, ◌≤◌, ◌^◌, ℕ, Some, IfSome, IsTrue, ◌↔◌, length, slice_index};
 ghost use Rattle.std.specs.Fmt.{decimal};
 ghost use Rattle.std.specs.Str.{byte};
 
 use crate::read::places::value_of_all;
 
-/// The number below 10^18 that the text writes in decimal, with no 0 in front of others; `None` exactly if there is none.
+/// Returns the number that `text` writes in decimal.
+///
+/// Returns `None` if `text` is not such a text: if it has other bytes than digits, a leading 0 before other digits, or more
+/// than 18 digits.
+///
+/// ```
+/// read_decimal(b"366") // Some(366)
+/// read_decimal(b"0366") // None
+/// ```
 #[inline]
 pub fn read_decimal(text: &[u8]) -> Option<u64>
     ensures some { IfSome result (λ n. (n < 10 ^ 18) × (decimal n ≡ text.now)) }

@@ -8,8 +8,16 @@ use crate::read::places::read_all;
 // A nanosecond stands in the last of these places behind the point.
 const MOST_PLACES: usize = 9;
 
-/// The nanoseconds past a second that the text writes (ISO 8601 decimal fraction), below 1,000,000,000: 0 if it is empty, and else
-/// as a point and one to nine digits. `None` exactly for every other text.
+/// Returns the nanoseconds that `text` writes: a point and one to nine digits (ISO 8601 decimal fraction), or nothing
+/// for 0.
+///
+/// Returns `None` for any other text.
+///
+/// ```
+/// read_fraction(b".5") // Some(500000000)
+/// read_fraction(b"") // Some(0)
+/// read_fraction(b"5") // None
+/// ```
 #[inline]
 pub fn read_fraction(text: &[u8]) -> Option<u32>
     ensures some { IfSome result (λ n. (n < nanos_per_second) × IsFractionText text.now n) }

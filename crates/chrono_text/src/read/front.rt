@@ -1,6 +1,6 @@
-//! The digits in front of a text: their value, and how many they are.
+//! The digits at the front of a text: their value, and how many they are.
 //!
-//! A value past a `u64` counts as its greatest number.
+//! A value that does not fit a `u64` counts as the greatest `u64`.
 ghost use Rattle.std.specs.Prelude.{◌≡◌, ◌-◌, ◌^◌, ◌<◌, ◌≤◌, min, length, take, slice_index};
 ghost use Rattle.std.specs.Int.{IsInRange};
 ghost use Rattle.std.specs.Str.{byte};

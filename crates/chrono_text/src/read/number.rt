@@ -12,10 +12,16 @@ use crate::read::way::Way;
 
 const MINUS: u8 = b'-';
 
-/// The whole number that stands in front of a text, before the byte `stop` or the end, if it fits an `i64`, and how many bytes
-/// it takes: an optional `-` and one digit or more. `stop` is no digit. `None` exactly if none stands there or it does not fit.
+/// Returns the whole number at the front of `text`, and how many bytes it takes.
 ///
-/// Example: of `-42 7`, before a space, the number is -42, which takes 3 bytes.
+/// The number is an optional `-` and one digit or more. It ends before the byte `stop` or at the end of `text`.
+/// Requires `stop` not to be a digit. `way` changes the speed only.
+///
+/// Returns `None` if no number is there, or it does not fit an `i64`.
+///
+/// ```
+/// read_number(&Line::whole(b"-42 7"), b' ', Way::Short) // Some((-42, 3))
+/// ```
 #[inline(always)]
 pub fn read_number(text: &Line<'_>, stop: u8, way: Way) -> Option<(i64, usize)>
     requires { ¬ (IsInRange (byte "0") (byte "9") stop) }

@@ -7,7 +7,14 @@ ghost use Rattle.chrono_text.specs.Text.{two_digits, all_digits};
 use crate::read::digit::digit;
 use crate::read::front::leading_digits;
 
-/// The number below 100 that two digits write; `None` exactly if one of the bytes is no digit.
+/// Returns the number below 100 that two digits write.
+///
+/// Returns `None` if a byte is not a digit.
+///
+/// ```
+/// read_two(b'0', b'7') // Some(7)
+/// read_two(b' ', b'7') // None
+/// ```
 #[inline]
 pub fn read_two(tens: u8, ones: u8) -> Option<u32>
     ensures some { IfSome result (λ n. (n < 100) × (two_digits n ≡ tens ∷ ones ∷ [])) }
@@ -21,7 +28,13 @@ pub fn read_two(tens: u8, ones: u8) -> Option<u32>
     Some(10 * u32::from(tens) + u32::from(ones))
 }
 
-/// The number below 1,000 that three digits write; `None` exactly if one of the bytes is no digit.
+/// Returns the number below 1,000 that three digits write.
+///
+/// Returns `None` if a byte is not a digit.
+///
+/// ```
+/// read_three(b'0', b'6', b'0') // Some(60)
+/// ```
 #[inline]
 pub fn read_three(hundreds: u8, tens: u8, ones: u8) -> Option<u32>
     ensures some { IfSome result (λ n.
@@ -37,7 +50,13 @@ pub fn read_three(hundreds: u8, tens: u8, ones: u8) -> Option<u32>
     Some(10 * front + u32::from(last))
 }
 
-/// The number below 10,000 that four digits write; `None` exactly if one of the bytes is no digit.
+/// Returns the number below 10,000 that the four bytes of `digits` write.
+///
+/// Returns `None` if a byte is not a digit.
+///
+/// ```
+/// read_four([b'2', b'0', b'2', b'4']) // Some(2024)
+/// ```
 #[inline]
 pub fn read_four(digits: [u8; 4]) -> Option<u32>
     ensures some { IfSome result (λ n. (n < 10_000) × (all_digits 4 n ≡ digits)) }

@@ -1,12 +1,12 @@
 //! Ways to read a number.
 
-/// How a number is best read. What is read does not depend on it.
+/// A way to read a number. It changes the speed, never the result.
 #[derive(Clone, Copy, Debug, PartialEq, Eq)]
 pub enum Way {
-    /// As one digit or two, which it is likely to have, with no branch on which of them it is.
+    /// For a number that probably has one or two digits. It has no branch on which of them it is.
     Short,
-    /// Sixteen bytes together, with no branch on how many digits it has up to eight.
+    /// For a longer number. It loads sixteen bytes at once, and has no branch on the number of digits up to eight.
     InLanes,
-    /// Digit by digit, since nothing that is read later waits for its end.
+    /// For a number after which nothing else is read. It reads digit by digit.
     DigitByDigit,
 }

@@ -6,8 +6,16 @@ ghost use Rattle.chrono_text.specs.Text.{year_digits, year_text};
 use crate::read::decimal::read_decimal;
 use crate::read::places::read_four;
 
-/// The year that the text writes as it is printed (ISO 8601, with a sign where it is expanded), if it has at most six digits: four from 0 to 9999, and else a sign and at least
-/// four, with no 0 in front of five or six.
+/// Returns the year of at most six digits that `text` writes, in the form of ISO 8601.
+///
+/// A year from 0 to 9999 has four digits and no sign. Any other year has a sign and four to six digits. Five or six
+/// digits do not begin with 0. Returns `None` for any other text.
+///
+/// ```
+/// read_year(b"2024") // Some(2024)
+/// read_year(b"+12024") // Some(12024)
+/// read_year(b"+2024") // None
+/// ```
 #[inline]
 pub fn read_year(text: &[u8]) -> Option<i32>
     ensures some { IfSome result (λ y. (unsigned_abs y < 1_000_000) × (year_text y ≡ text.now)) }

@@ -63,3 +63,11 @@ returns-clause-eurobond_to_february c =
 pub returns-clause-bond_from_29th : goal.returns-clause-bond_from_29th
 unfolding date_of_ymd days_before_year days_of_years days_of_months_in
 returns-clause-bond_from_29th c = bond (pos 738_914) (pos 738_976) (pos 2024) (pos 2024) 1 29 3 31 refl refl ∙ refl
+
+pub returns-clause-bond_from_30th : goal.returns-clause-bond_from_30th
+unfolding date_of_ymd days_before_year days_of_years days_of_months_in
+returns-clause-bond_from_30th c = bond (pos 738_915) (pos 738_976) (pos 2024) (pos 2024) 1 30 3 31 refl refl ∙ refl
+
+pub returns-clause-bond_from_31st : goal.returns-clause-bond_from_31st
+unfolding date_of_ymd days_before_year days_of_years days_of_months_in
+returns-clause-bond_from_31st c = bond (pos 738_916) (pos 738_976) (pos 2024) (pos 2024) 1 31 3 31 refl refl ∙ refl

@@ -61,3 +61,15 @@ pub returns-clause-memorial_day : goal.returns-clause-memorial_day
 unfolding date_of_rule date_named from_saturday from_sunday date_of_easter easter_day epact days_to_moon date_of_nth_weekday days_with_weekday date_of_ymd date_of_day days_before_year days_of_years days_of_months_in
 returns-clause-memorial_day c =
     ap (λ (o : Option ℤ). option_and_then (λ n. date_of_day (n +ℤ moved_by Stays n)) o) (last_by_name (pos 2_024) (pos 739_007) 5 Mon refl) ∙ refl
+
+pub returns-clause-first_year : goal.returns-clause-first_year
+unfolding date_of_rule date_named from_saturday from_sunday date_of_easter easter_day epact days_to_moon date_of_nth_weekday days_with_weekday date_of_ymd date_of_day days_before_year days_of_years days_of_months_in
+returns-clause-first_year c = refl
+
+pub returns-clause-last_year : goal.returns-clause-last_year
+unfolding date_of_rule date_named from_saturday from_sunday date_of_easter easter_day epact days_to_moon date_of_nth_weekday days_with_weekday date_of_ymd date_of_day days_before_year days_of_years days_of_months_in
+returns-clause-last_year c = refl
+
+pub returns-clause-after_the_last_year : goal.returns-clause-after_the_last_year
+unfolding date_of_rule date_named from_saturday from_sunday date_of_easter easter_day epact days_to_moon date_of_nth_weekday days_with_weekday date_of_ymd date_of_day days_before_year days_of_years days_of_months_in
+returns-clause-after_the_last_year c = refl

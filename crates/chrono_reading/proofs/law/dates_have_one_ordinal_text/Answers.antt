@@ -1,10 +1,10 @@
-use Rattle.std.proofs.lemmas.Option.{same_Some}
+use Rattle.chrono_reading.proofs.ResultLemmas.{same_Ok}
 use Rattle.chrono_reading.proofs.DateLemmas.{ordinal_text-only}
 use Rattle.chrono_reading.proofs.law.dates_have_one_ordinal_text.Goals as goal
 
-pub returns-in-Some : goal.returns-in-Some
-returns-in-Some c = λ n is.
-    ordinal_text-only _ n c.in-Some.date (same_Some _ _ (c.in-Some.ensures.every n is)) (rw c.num_days_from_ce-number.ensures.value at c.num_days_from_ce-number.ensures.in_range) c.dates_have_one_ordinal_name.ensures is
+pub returns-in-Ok : goal.returns-in-Ok
+returns-in-Ok c = λ n is.
+    ordinal_text-only _ n c.in-Ok.date (same_Ok _ _ (c.in-Ok.ensures.every n is)) (rw c.num_days_from_ce-number.ensures.value at c.num_days_from_ce-number.ensures.in_range) c.dates_have_one_ordinal_name.ensures is
 
 pub returns-in_default : goal.returns-in_default
-returns-in_default c = λ n is. absurd (c.in_default.not-Some n (c.read_ordinal_date.ensures.every n is))
+returns-in_default c = λ n is. absurd (c.in_default.not-Ok n (c.read_ordinal_date.ensures.every n is))

@@ -1,7 +1,7 @@
 use Rattle.std.proofs.Common.{sym, ◌∙◌}
-use Rattle.std.proofs.lemmas.Option.{same_Some}
+use Rattle.chrono_reading.proofs.ResultLemmas.{same_Ok}
 use Rattle.chrono_reading.proofs.law.texts_have_one_week_date.Goals as goal
 
 pub returns : goal.returns
 returns c = λ a b first second.
-    same_Some a b (sym (c.read_week_date-date.ensures.every a first) ∙ c.read_week_date-date.ensures.every b second)
+    same_Ok a b (sym (c.read_week_date-date.ensures.every a first) ∙ c.read_week_date-date.ensures.every b second)

@@ -46,3 +46,7 @@ returns-in-NoWeek g c = rw c.in-NoWeek.is (record { writes = c.write-in-NoWeek.e
 pub returns-in-NoParts : goal.returns-in-NoParts
 unfolding answer_object
 returns-in-NoParts g c = rw c.in-NoParts.is (record { writes = c.write_str.ensures.writes })
+
+pub returns-in-Weekday : goal.returns-in-Weekday
+unfolding answer_object
+returns-in-Weekday g c = rw c.in-Weekday.is (record { writes = rw c.weekday_name.ensures at c.write-in-Weekday.ensures.writes })

@@ -33,7 +33,7 @@ returns-in-Week g c = rw c.in-Week.is (record { writes = c.write-in-Week.ensures
 
 pub returns-in-Whether : goal.returns-in-Whether
 unfolding answer_text
-returns-in-Whether g c = rw c.in-Whether.is (record { writes = rw c.yes_or_no.ensures at c.write_str.ensures.writes })
+returns-in-Whether g c = rw c.in-Whether.is (record { writes = rw c.yes_or_no.ensures at c.write_str-in-Whether.ensures.writes })
 
 pub returns-in-Nothing : goal.returns-in-Nothing
 unfolding answer_text
@@ -46,3 +46,7 @@ returns-in-NoParts g c = rw c.in-NoParts.is (record { writes = c.write_str-in-No
 pub returns-in-NoWeek : goal.returns-in-NoWeek
 unfolding answer_text
 returns-in-NoWeek g c = rw c.in-NoWeek.is (record { writes = c.write_str-in-NoWeek.ensures.writes })
+
+pub returns-in-Weekday : goal.returns-in-Weekday
+unfolding answer_text
+returns-in-Weekday g c = rw c.in-Weekday.is (record { writes = rw c.weekday_name.ensures at c.write_str.ensures.writes })

@@ -2,7 +2,7 @@ use Rattle.std.proofs.Common.{◌≡◌, ℕ, ◌+◌, ◌*◌, ◌-◌, ◌<◌
 use Rattle.std.proofs.lemmas.Int.{to_z-of_z}
 use Rattle.chrono_clock.specs.Time.{TimeOfDay, distance, land}
 use Rattle.chrono_clock.specs.Signed.{signed}
-use Rattle.chrono_clock.proofs.DistanceLemmas.{land-distance, distance-later, distance-earlier, distance-same, distance-turned}
+use Rattle.chrono_clock.proofs.DistanceLemmas.{land-distance, distance-later, distance-earlier, distance-same, distance-turned, distance-plain}
 use Rattle.chrono_clock.proofs.naive_time.NaiveTime.signed_duration_since.Goals as goal
 
 -- what lies between two places, from their seconds and fractions with two seconds lent to the fractions
@@ -35,3 +35,6 @@ returns-clause-same c = λ h. returns-clause-value c ∙ distance-same c.args.se
 
 pub returns-clause-earlier : goal.returns-clause-earlier
 returns-clause-earlier c = λ h. rw (returns-clause-value c) (distance-earlier c.args.self c.args.rhs c.second_beside-here.ensures.time c.second_beside-there.ensures.time h)
+
+pub returns-clause-plain : goal.returns-clause-plain
+returns-clause-plain c = λ here there. returns-clause-value c ∙ distance-plain c.args.self c.args.rhs here there

@@ -1,5 +1,6 @@
 use Rattle.std.proofs.Common.{Some, rules}
 use Rattle.chrono_calendar.proofs.GivenNames.{given_iso, iso_days_inside, weeks_of_iso_year-range}
+use Rattle.chrono_naive.proofs.IsoYears.{first_exists, if_before, if_first}
 use Rattle.chrono_naive.proofs.naive_date.NaiveDate.from_isoywd_opt.Goals as goal
 
 -- ---- where there is no such date
@@ -16,6 +17,10 @@ returns-in_err-from_iso-clause-inside c =
 
 pub returns-in_err-from_iso-clause-weeks : goal.returns-in_err-from_iso-clause-weeks
 returns-in_err-from_iso-clause-weeks c = weeks_of_iso_year-range c.args.year
+
+pub returns-in_err-from_iso-clause-first_exists : goal.returns-in_err-from_iso-clause-first_exists
+returns-in_err-from_iso-clause-first_exists c =
+    λ one monday. first_exists c.from_residual.result c.args.year c.args.week c.args.weekday one monday (returns-in_err-from_iso-clause-exists c)
 
 -- ---- and where there is one
 
@@ -36,3 +41,15 @@ returns-clause-weekday c = (given_iso (Some c.in_ok-from_iso.field-0) c.args.yea
 
 pub returns-clause-weeks : goal.returns-clause-weeks
 returns-clause-weeks c = weeks_of_iso_year-range c.args.year
+
+pub returns-clause-first : goal.returns-clause-first
+returns-clause-first c =
+    λ one monday. if_first (Some c.in_ok-from_iso.field-0) c.args.year c.args.week c.args.weekday one monday (returns-clause-year c) (returns-clause-week c) (returns-clause-weekday c)
+
+pub returns-clause-before : goal.returns-clause-before
+returns-clause-before c =
+    λ one monday. if_before (Some c.in_ok-from_iso.field-0) c.args.year c.args.week c.args.weekday one monday (returns-clause-year c) (returns-clause-week c) (returns-clause-weekday c)
+
+pub returns-clause-first_exists : goal.returns-clause-first_exists
+returns-clause-first_exists c =
+    λ one monday. first_exists (Some c.in_ok-from_iso.field-0) c.args.year c.args.week c.args.weekday one monday (returns-clause-exists c)

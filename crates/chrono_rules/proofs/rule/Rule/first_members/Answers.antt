@@ -1,34 +1,94 @@
-use Rattle.std.proofs.Common.{sym, arith}
-use Rattle.std.proofs.lemmas.Int.{by_lt_z}
+use Rattle.std.proofs.Common.{◌≡◌, sym, ap, ◌∙◌, arith, ℤ, pos, ◌-ℤ◌}
+use Rattle.chrono_datetime.specs.Recurrence.{count_between}
+use Rattle.chrono_datetime.proofs.CountBetween.{count_between-empty, count_between-sum}
 use Rattle.chrono_datetime.proofs.Signed.{casts, signed}
-use Rattle.chrono_datetime.proofs.CountBetween.{count_between-empty}
 use Rattle.chrono_rules.specs.Instances.{is_member}
-use Rattle.chrono_rules.proofs.Counts.{count-kept, count-member}
+use Rattle.chrono_rules.proofs.Counts.{count-grows, count-kept}
+use Rattle.chrono_rules.proofs.Repeated.{cycle_of}
 use Rattle.chrono_rules.proofs.rule.Rule.first_members.Goals as goal
 
-pub loop-seen-init : goal.loop-seen-init
-loop-seen-init c = record {
-  low = omega (arith, signed);
-  high = c.requires;
-  counted = sym (count_between-empty (is_member c.args.self.now c.args.start) c.args.start c.args.start (omega (arith, signed)));
-  few = omega arith;
-  fewer = λ d low high. absurd (omega (arith, signed, low, high));
-}
+pub members_from-requires-clause-counted : goal.members_from-requires-clause-counted
+members_from-requires-clause-counted c = sym (count_between-empty (is_member c.args.self.now c.args.start) c.args.start c.args.start (omega (arith, signed)))
 
-pub loop-seen-preserved : goal.loop-seen-preserved
-loop-seen-preserved c =
-    let r = c.args.self.now in
-    let inv = c.loop-seen.invariant in
-    let found = c.in-Some.ensures in
-    let end = c.num_days_from_ce-behind.ensures in
-    let test = c.loop-seen-test.true in record {
-      low = omega (arith, signed, inv.low, found.not_before, c.moved-day.ensures);
-      high = omega (arith, casts, found.before, end.value, end.in_range, c.moved-day.ensures);
-      counted = count-member r c.args.start c.loop-seen.day c.in-Some.member c.moved-day.result c.loop-seen.seen inv.counted inv.low found.not_before c.moved-day.ensures found.member found.least;
-      few = omega (arith, test);
-      fewer = λ d low high. by_lt_z d c.loop-seen.day
-          (λ lt. inv.fewer d low lt)
-          (λ ge.
-          let same = count-kept (is_member r c.args.start) c.args.start c.loop-seen.day d ge (λ e from to. found.least e from (omega (arith, signed, to, high, c.moved-day.ensures))) in
-          omega (arith, same, inv.counted, test));
-    }
+pub moved-base-requires : goal.moved-base-requires
+moved-base-requires c =
+    let next = c.in-Some.ensures in
+    let date = c.cycle_behind.ensures.in_range in
+    (omega (arith, signed, date.0), omega (arith, signed, next.at, next.early))
+
+pub members_from-year-requires-clause-counted : goal.members_from-year-requires-clause-counted
+members_from-year-requires-clause-counted c = sym (count_between-empty (is_member c.args.self.now c.args.start) c.args.start c.args.start (omega (arith, signed)))
+
+pub returns-then-year-most-clause-high : goal.returns-then-year-most-clause-high
+returns-then-year-most-clause-high c =
+    let next = c.in-Some.ensures in
+    omega (arith, casts, c.members_from-year.ensures.high, c.moved-base.ensures, next.at, next.before, c.last_of_cycles-last.ensures.not_after, c.last_of_cycles-last.type_inv)
+
+pub members_from-walked-requires-clause-counted : goal.members_from-walked-requires-clause-counted
+members_from-walked-requires-clause-counted c =
+    let year = c.members_from-year.ensures in
+    year.counted ∙ sym (count-kept (is_member c.args.self.now c.args.start) c.args.start c.members_from-year.result.day c.moved-base.result year.high (year.all (omega (arith, c.if-year-most.false))))
+
+pub members_from-walked-requires-clause-fewer : goal.members_from-walked-requires-clause-fewer
+members_from-walked-requires-clause-fewer c = λ d low less.
+    let p = is_member c.args.self.now c.args.start in
+    let year = c.members_from-year.ensures in
+    let same = count-kept p c.args.start c.members_from-year.result.day c.moved-base.result year.high (year.all (omega (arith, c.if-year-most.false))) in
+    omega (arith, year.counted, same, c.if-year-most.false, count-grows p c.args.start d c.moved-base.result (omega (arith, signed, less)))
+
+pub returns-then-walked-most-clause-high : goal.returns-then-walked-most-clause-high
+returns-then-walked-most-clause-high c =
+    omega (arith, casts, c.members_from-walked.ensures.high, c.in-Some.ensures.before, c.last_of_cycles-last.ensures.not_after, c.last_of_cycles-last.type_inv)
+
+pub overflow_sub-each : goal.overflow_sub-each
+overflow_sub-each c =
+    let p = is_member c.args.self.now c.args.start in
+    let year = c.members_from-year.ensures in
+    let walked = c.members_from-walked.ensures in
+    let first = count-kept p c.args.start c.members_from-year.result.day c.moved-base.result year.high (year.all (omega (arith, c.if-year-most.false))) in
+    let second = count-kept p c.args.start c.members_from-walked.result.day c.in-Some.next walked.high (walked.all (omega (arith, c.if-walked-most.false))) in
+    omega (arith, year.counted, first, walked.counted, second, count-grows p c.args.start c.moved-base.result c.in-Some.next (omega (arith, signed, c.moved-base.ensures, c.in-Some.ensures.at)))
+
+pub cycles_on-skipped-requires-clause-begun : goal.cycles_on-skipped-requires-clause-begun
+cycles_on-skipped-requires-clause-begun c = omega (arith, signed, c.in-Some.ensures.at)
+
+pub cycles_on-skipped-requires-clause-low : goal.cycles_on-skipped-requires-clause-low
+cycles_on-skipped-requires-clause-low c = omega (arith, signed, c.in-Some.ensures.at, c.cycle_behind.ensures.in_range)
+
+pub cycles_on-skipped-requires-clause-order : goal.cycles_on-skipped-requires-clause-order
+cycles_on-skipped-requires-clause-order c = omega (arith, casts, c.in-Some.ensures.before, c.from-far.ensures, c.last_of_cycles-last.type_inv)
+
+pub cycles_on-skipped-requires-clause-inside : goal.cycles_on-skipped-requires-clause-inside
+cycles_on-skipped-requires-clause-inside c = λ d less.
+    c.last_of_cycles-last.ensures.inside d (omega (arith, casts, less, c.from-far.ensures, c.last_of_cycles-last.type_inv))
+
+pub cycles_on-skipped-requires-clause-last : goal.cycles_on-skipped-requires-clause-last
+cycles_on-skipped-requires-clause-last c = omega (arith, casts, c.last_of_cycles-last.ensures.early, c.from-far.ensures, c.last_of_cycles-last.type_inv)
+
+pub members_from-requires-2-clause-order : goal.members_from-requires-2-clause-order
+members_from-requires-2-clause-order c =
+    omega (arith, casts, c.cycles_on-skipped.ensures.high, c.last_of_cycles-last.ensures.not_after, c.from-far.ensures, c.last_of_cycles-last.type_inv)
+
+pub cycles_on-skipped-requires-clause-counted : goal.cycles_on-skipped-requires-clause-counted
+cycles_on-skipped-requires-clause-counted c =
+    let walked = c.members_from-walked.ensures in
+    walked.counted ∙ sym (count-kept (is_member c.args.self.now c.args.start) c.args.start c.members_from-walked.result.day c.in-Some.next walked.high (walked.all (omega (arith, c.if-walked-most.false))))
+
+pub cycles_on-skipped-requires-clause-each : goal.cycles_on-skipped-requires-clause-each
+cycles_on-skipped-requires-clause-each c =
+    let p = is_member c.args.self.now c.args.start in
+    let year = c.members_from-year.ensures in
+    let walked = c.members_from-walked.ensures in
+    let base : ℤ = c.moved-base.result in
+    let next : ℤ = c.in-Some.next in
+    let first = count-kept p c.args.start c.members_from-year.result.day base year.high (year.all (omega (arith, c.if-year-most.false))) in
+    let second = count-kept p c.args.start c.members_from-walked.result.day next walked.high (walked.all (omega (arith, c.if-walked-most.false))) in
+    let both = count_between-sum p c.args.start base next (omega (arith, signed, c.moved-base.ensures)) (omega (arith, signed, c.moved-base.ensures, c.in-Some.ensures.at)) in
+    let back : next -ℤ pos (cycle_of c.args.self.now) ≡ base = omega (arith, signed, c.moved-base.ensures, c.in-Some.ensures.at) in
+    let there : count_between p (next -ℤ pos (cycle_of c.args.self.now)) next ≡ count_between p base next = ap (λ (d : ℤ). count_between p d next) back in
+    omega (arith, year.counted, first, walked.counted, second, both, there)
+
+pub members_from-requires-2-clause-fewer : goal.members_from-requires-2-clause-fewer
+members_from-requires-2-clause-fewer c = λ d low less.
+    let far = c.cycles_on-skipped.ensures in
+    omega (arith, far.counted, far.few, count-grows (is_member c.args.self.now c.args.start) c.args.start d c.cycles_on-skipped.result.day (omega (arith, signed, less)))

@@ -2,6 +2,7 @@ use Rattle.std.proofs.Common.{sym, ◌∙◌, arith}
 use Rattle.std.proofs.lemmas.Int.{by_lt_z}
 use Rattle.chrono_datetime.proofs.Signed.{signed}
 use Rattle.chrono_rules.proofs.Counts.{ended-later, no_member, not_counted}
+use Rattle.chrono_rules.proofs.Repeated.{count_none}
 use Rattle.chrono_rules.proofs.rule.Rule.next_after.Goals as goal
 
 pub returns-in_err-next-clause-none : goal.returns-in_err-next-clause-none
@@ -18,3 +19,7 @@ returns-else-is_counted-clause-none c = λ d later is.
     by_lt_z d c.in_ok-next.next
     (λ lt. no_member c.args.self.now c.args.start d (c.in_ok-next.ensures.least d (omega (arith, signed, c.in_ok-succ_opt.ensures.moved, later)) lt))
     (λ ge. not_counted c.args.self.now c.args.start d (ended-later c.args.self.now.end c.args.self.now c.args.start c.in_ok-next.next d ge (sym c.is_counted.ensures ∙ c.if-is_counted.false)))
+
+pub returns-then-not-may_follow-clause-none : goal.returns-then-not-may_follow-clause-none
+returns-then-not-may_follow-clause-none c = λ d later is.
+    not_counted c.args.self.now c.args.start d (count_none c.args.self.now.end c.args.self.now c.args.start d (sym c.may_follow.ensures ∙ c.if-not-may_follow.true))

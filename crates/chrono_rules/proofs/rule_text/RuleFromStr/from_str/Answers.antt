@@ -4,12 +4,12 @@ use Rattle.chrono_rules.proofs.rule_text.RuleFromStr.from_str.Goals as goal
 
 pub returns : goal.returns
 returns c =
-    let checked : IsChecked c.as_bytes.result.now c.check_rule.result = record {
-      read = c.check_rule.ensures.read;
-      every = c.check_rule.ensures.every;
-      found = c.check_rule.ensures.found;
-      unknown = c.check_rule.ensures.unknown;
-      unread = c.check_rule.ensures.unread;
-      unfit = c.check_rule.ensures.unfit;
+    let checked : IsChecked c.as_bytes.result.now c.read_rule.result = record {
+      read = c.read_rule.ensures.read;
+      every = c.read_rule.ensures.every;
+      found = c.read_rule.ensures.found;
+      unknown = c.read_rule.ensures.unknown;
+      unread = c.read_rule.ensures.unread;
+      unfit = c.read_rule.ensures.unfit;
     } in
     rw (sym c.as_bytes.ensures.value) checked

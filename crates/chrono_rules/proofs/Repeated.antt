@@ -1,0 +1,383 @@
+-- The days of a rule repeat after 400 years for each period that INTERVAL counts.
+use Rattle.std.proofs.Common.{◌≡◌, ◌==◌, ℕ, zero, suc, ◌+◌, ◌-◌, ◌*◌, ◌/◌, ◌%◌, ◌<◌, ◌≤◌, Bool, true, false, cond, ◌&&◌, ◌||◌, not, refl, sym, ap, ◌∙◌, arith, ℤ, pos, ◌+ℤ◌, ◌-ℤ◌, ◌≤ℤ◌, ◌<ℤ◌, int_le, unsigned_abs}
+use Rattle.std.specs.Int.{int_rem_euclid}
+use Rattle.std.proofs.lemmas.Int.{by_lt_z, int_rem_euclid_is}
+use Rattle.std.proofs.lemmas.Bool.Decides.{nat_tests}
+use Rattle.std.proofs.Math.Nat.{add-mul-mod_self_right}
+use Rattle.chrono_datetime.specs.Days.{IsDate, day_of, month_of, ordinal_of, year_of}
+use Rattle.chrono_datetime.specs.MonthMoves.{month_length_of}
+use Rattle.chrono_datetime.specs.Recurrence.{count_between, first_date, past_last_date}
+use Rattle.chrono_datetime.specs.Years.{is_leap_year, month_length_in, year_length}
+use Rattle.chrono_datetime.specs.Weekday.{days_from_monday, days_since}
+use Rattle.chrono_datetime.specs.Weeks.{week_first_of, weekday_of}
+use Rattle.chrono_datetime.specs.declared.Weekday.{Weekday}
+use Rattle.chrono_datetime.proofs.CountBetween.{count_between-empty, count_between-first, count_between-sum}
+use Rattle.chrono_datetime.proofs.CountWhere.{one_if}
+use Rattle.chrono_datetime.proofs.Cycles.{calendar_name-again, ordinal_name-again}
+use Rattle.chrono_datetime.proofs.MonthDays.{day_of-bounds, later_in_month, month-next}
+use Rattle.chrono_datetime.proofs.Signed.{signed}
+use Rattle.chrono_datetime.proofs.WeekDays.{week_first_of-place, weekday_of-weeks}
+use Rattle.chrono_rules.specs.Instances.{counts_in_month, date_passes, fills_day, fills_month, fills_weekday, has, has_place, in_interval, in_positions, in_week, is_counted, is_member, lacks_month_days, lacks_months, lacks_weekdays, lacks_weeks, lacks_year_days, names_weekday, not_after, on_month_day, on_weekday, on_year_day, passes, period_end, period_first, period_of}
+use Rattle.chrono_rules.specs.InstanceLists.{may_follow}
+use Rattle.chrono_rules.specs.declared.rule.End.{End}
+use Rattle.chrono_rules.specs.declared.rule.End.TheVariants.{Never, Count, Until}
+use Rattle.chrono_rules.specs.declared.rule.Frequency.{Frequency}
+use Rattle.chrono_rules.specs.declared.rule.Frequency.TheVariants.{Daily, Monthly, Weekly, Yearly}
+use Rattle.chrono_rules.specs.declared.rule.Rule.{Rule}
+use Rattle.chrono_rules.proofs.Cycles.{year_length-again}
+use Rattle.chrono_rules.proofs.Passed.{and-none}
+use Rattle.chrono_rules.proofs.PeriodsLeftOut.{many}
+use Rattle.chrono_rules.proofs.PlacesInPeriods.{date_passes-is, from_period, to_period}
+use Rattle.chrono_rules.proofs.YearsOfDates.{ordinal_of-bounds}
+
+-- ---- what the calendar says of a day, and of one that is whole cycles later
+
+pub record IsAlike (n m : ℤ) (k : ℕ) : Type 0 where
+  pub weekday : weekday_of m ≡ weekday_of n
+  pub year : year_of m ≡ year_of n +ℤ pos (400 * k)
+  pub month : month_of m ≡ month_of n
+  pub day : day_of m ≡ day_of n
+  pub ordinal : ordinal_of m ≡ ordinal_of n
+  pub month_length : month_length_of m ≡ month_length_of n
+  pub year_length : year_length (year_of m) ≡ year_length (year_of n)
+
+-- the last day of a month repeats, and so does the month's length
+month_length-most : (n m : ℤ) → day_of m ≡ day_of n → ((k : ℕ) → day_of (m +ℤ pos k) ≡ day_of (n +ℤ pos k)) → month_length_of m ≤ month_length_of n
+month_length-most n m place again =
+    let bounds = day_of-bounds n in
+    let behind = month_length_of n - day_of n + 1 in
+    let next = month-next n (n +ℤ pos behind) (omega (arith, signed, bounds)) in
+    by_lt_z (pos (month_length_of n)) (pos (month_length_of m))
+    (λ longer.
+    let within = later_in_month m (m +ℤ pos behind) behind refl (omega (arith, signed, place, bounds, longer)) in
+    absurd (omega (arith, within.day, again behind, next.1, place, bounds)))
+    (λ le. omega (arith, signed, le))
+
+one_cycle : (n m : ℤ) → m ≡ n +ℤ pos 146_097 → IsAlike n m 1
+one_cycle n m e =
+    let name = calendar_name-again n m e in
+    let again = ordinal_name-again n m e in
+    let later : (k : ℕ) → day_of (m +ℤ pos k) ≡ day_of (n +ℤ pos k) = λ k. (calendar_name-again (n +ℤ pos k) (m +ℤ pos k) (omega (arith, signed, e))).1 in record {
+      weekday = weekday_of-weeks n m 20_871 e;
+      year = again.0;
+      month = name.0;
+      day = name.1;
+      ordinal = again.1;
+      month_length = omega (arith, month_length-most n m name.1 later, month_length-most m n (sym name.1) (λ k. sym (later k)));
+      year_length = year_length-again (year_of n) (year_of m) again.0;
+    }
+
+pub alike : (n m : ℤ) (k : ℕ) → m ≡ n +ℤ pos (146_097 * k) → IsAlike n m k
+alike n m zero e =
+    let same : m ≡ n = omega (arith, signed, e) in record {
+      weekday = ap weekday_of same;
+      year = omega (arith, signed, ap year_of same);
+      month = ap month_of same;
+      day = ap day_of same;
+      ordinal = ap ordinal_of same;
+      month_length = ap (λ (d : ℤ). month_length_of d) same;
+      year_length = ap (λ (d : ℤ). year_length (year_of d)) same;
+    }
+alike n m (suc k) e =
+    let l : ℤ = n +ℤ pos (146_097 * k) in
+    let up = alike n l k refl in
+    let one = one_cycle l m (omega (arith, signed, e)) in record {
+      weekday = one.weekday ∙ up.weekday;
+      year = omega (arith, signed, one.year, up.year);
+      month = one.month ∙ up.month;
+      day = one.day ∙ up.day;
+      ordinal = one.ordinal ∙ up.ordinal;
+      month_length = one.month_length ∙ up.month_length;
+      year_length = one.year_length ∙ up.year_length;
+    }
+
+-- ---- the parts of a rule
+
+week_at : Rule → ℕ → ℕ → Bool
+week_at r ordinal year = has r.weeks (1 + (ordinal - 1) / 7) || has r.weeks_from_end (1 + (year - ordinal) / 7)
+
+in_week-is : (r : Rule) (n f : ℤ) → f ≡ week_first_of n r.week_start +ℤ pos 3 → in_week r n ≡ week_at r (ordinal_of f) (year_length (year_of f))
+unfolding in_week week_at
+in_week-is r n f e = ap (λ (f : ℤ). week_at r (ordinal_of f) (year_length (year_of f))) (sym e)
+
+week_at-same : (r : Rule) (o p y z : ℕ) → o ≡ p → y ≡ z → week_at r o y ≡ week_at r p z
+week_at-same r o p y z os ys = ap (λ o. week_at r o y) os ∙ ap (week_at r p) ys
+
+in_week-again : (r : Rule) (n m : ℤ) (k : ℕ) → m ≡ n +ℤ pos (146_097 * k) → in_week r m ≡ in_week r n
+in_week-again r n m k e =
+    let f : ℤ = week_first_of n r.week_start +ℤ pos 3 in
+    let g : ℤ = week_first_of m r.week_start +ℤ pos 3 in
+    let weekday = (alike n m k e).weekday in
+    let same = ap (λ (x : Weekday). days_since x r.week_start) weekday in
+    let is = alike f g k (omega (arith, signed, e, same)) in
+    in_week-is r m g refl ∙ (week_at-same r (ordinal_of g) (ordinal_of f) (year_length (year_of g)) (year_length (year_of f)) is.ordinal is.year_length ∙ sym (in_week-is r n f refl))
+
+abbrev passes_at : Rule → ℤ → Weekday → ℕ → ℕ → ℕ → ℕ → ℕ → Bool → Bool
+passes_at r start weekday month day length ordinal year week =
+    ((not (fills_weekday r.frequency r) || (days_from_monday weekday == days_from_monday (weekday_of start)))
+    && ((not (fills_day r.frequency r) || (day == day_of start)) && (not (fills_month r.frequency r) || (month == month_of start))))
+    && ((lacks_months r || has r.months month)
+    && ((lacks_month_days r || (has r.month_days day || has r.month_days_from_end ((length - day) + 1)))
+    && ((lacks_weekdays r || names_weekday r (days_from_monday weekday) (cond (counts_in_month r.frequency r) day ordinal) (cond (counts_in_month r.frequency r) (length - day) (year - ordinal)))
+    && ((lacks_year_days r || (has_place r.year_days ordinal || has_place r.year_days_from_end ((year - ordinal) + 1))) && (lacks_weeks r || week)))))
+
+passes-is : (r : Rule) (start n : ℤ) → passes r start n ≡ passes_at r start (weekday_of n) (month_of n) (day_of n) (month_length_of n) (ordinal_of n) (year_length (year_of n)) (in_week r n)
+unfolding passes on_month_day on_weekday on_year_day
+passes-is r start n = refl
+
+passes_at-same : (r : Rule) (start : ℤ) (w v : Weekday) (m n d e l k o p y z : ℕ) (a b : Bool) → w ≡ v → m ≡ n → d ≡ e → l ≡ k → o ≡ p → y ≡ z → a ≡ b → passes_at r start w m d l o y a ≡ passes_at r start v n e k p z b
+passes_at-same r start w v m n d e l k o p y z a b ws ms ds ls os ys weeks = rw (ws, ms, ds, ls, os, ys, weeks) refl
+
+pub passes-again : (r : Rule) (start n m : ℤ) (k : ℕ) → m ≡ n +ℤ pos (146_097 * k) → passes r start m ≡ passes r start n
+passes-again r start n m k e =
+    let is = alike n m k e in
+    passes-is r start m
+    ∙ (passes_at-same r start (weekday_of m) (weekday_of n) (month_of m) (month_of n) (day_of m) (day_of n) (month_length_of m) (month_length_of n) (ordinal_of m) (ordinal_of n) (year_length (year_of m)) (year_length (year_of n)) (in_week r m) (in_week r n)
+    is.weekday is.month is.day is.month_length is.ordinal is.year_length (in_week-again r n m k e)
+    ∙ sym (passes-is r start n))
+
+-- ---- INTERVAL
+
+-- the periods of one cycle
+abbrev periods : Frequency → ℕ
+periods Daily = 146_097
+periods Weekly = 20_871
+periods Monthly = 4_800
+periods Yearly = 400
+
+period_of-again : (f : Frequency) (w : Weekday) (n m : ℤ) (k : ℕ) → m ≡ n +ℤ pos (146_097 * k) → period_of f w m ≡ period_of f w n +ℤ pos (periods f * k)
+unfolding period_of
+period_of-again Daily w n m k e = e
+period_of-again Weekly w n m k e = omega (arith, signed, e, ap (λ (x : Weekday). days_since x w) (alike n m k e).weekday)
+period_of-again Monthly w n m k e =
+    let is = alike n m k e in
+    omega (arith, signed, is.year, is.month)
+period_of-again Yearly w n m k e = (alike n m k e).year
+
+rem-again : (a b : ℤ) (n p : ℕ) → 0 < n → b ≡ a +ℤ pos (p * n) → unsigned_abs (int_rem_euclid b (pos n)) ≡ unsigned_abs (int_rem_euclid a (pos n))
+rem-again a b n p some at =
+    let k : ℕ = unsigned_abs a in
+    let m : ℕ = unsigned_abs (a +ℤ pos (k * n)) in
+    let up : a +ℤ pos (k * n) ≡ pos m = omega (arith, signed, many k n some) in
+    let here : unsigned_abs (int_rem_euclid a (pos n)) ≡ m % n = ap unsigned_abs (int_rem_euclid_is a (pos n) n k m some refl up) in
+    let there : unsigned_abs (int_rem_euclid b (pos n)) ≡ (m + p * n) % n = ap unsigned_abs (int_rem_euclid_is b (pos n) n k (m + p * n) some refl (omega (arith, signed, up, at))) in
+    there ∙ (add-mul-mod_self_right m p n ∙ sym here)
+
+-- how many periods lie from one that counts to the next
+abbrev pub step_of : Rule → ℕ
+step_of r = cond (r.interval == 0) 1 r.interval
+
+step_of-some : (i : ℕ) → 0 < cond (i == 0) 1 i
+step_of-some zero = omega arith
+step_of-some (suc i) = grind arith
+
+in_interval-again : (r : Rule) (start n m : ℤ) → m ≡ n +ℤ pos (146_097 * step_of r) → in_interval r start m ≡ in_interval r start n
+unfolding in_interval
+in_interval-again r start n m e =
+    let s : ℕ = step_of r in
+    let there = period_of-again r.frequency r.week_start n m s e in
+    let a : ℤ = period_of r.frequency r.week_start n -ℤ period_of r.frequency r.week_start start in
+    let b : ℤ = period_of r.frequency r.week_start m -ℤ period_of r.frequency r.week_start start in
+    ap (λ x. x == 0) (rem-again a b s (periods r.frequency) (step_of-some r.interval) (omega (arith, signed, there)))
+
+-- ---- BYSETPOS
+
+first-again : (f : Frequency) (w : Weekday) (n m : ℤ) (k : ℕ) → m ≡ n +ℤ pos (146_097 * k) → period_first f w m ≡ period_first f w n +ℤ pos (146_097 * k)
+unfolding period_first
+first-again Daily w n m k e = e
+first-again Weekly w n m k e = omega (arith, signed, e, ap (λ (x : Weekday). days_since x w) (alike n m k e).weekday)
+first-again Monthly w n m k e = omega (arith, signed, e, (alike n m k e).day)
+first-again Yearly w n m k e = omega (arith, signed, e, (alike n m k e).ordinal)
+
+end-again : (f : Frequency) (w : Weekday) (n m : ℤ) (k : ℕ) → m ≡ n +ℤ pos (146_097 * k) → period_end f w m ≡ period_end f w n +ℤ pos (146_097 * k)
+unfolding period_end
+end-again Daily w n m k e = omega (arith, signed, e)
+end-again Weekly w n m k e = omega (arith, signed, e, ap (λ (x : Weekday). days_since x w) (alike n m k e).weekday)
+end-again Monthly w n m k e =
+    let is = alike n m k e in
+    omega (arith, signed, e, is.day, is.month_length)
+end-again Yearly w n m k e =
+    let is = alike n m k e in
+    omega (arith, signed, e, is.ordinal, is.year_length)
+
+at_most_31 : (leap : Bool) (m : ℕ) → month_length_in leap m ≤ 31
+at_most_31 leap m = grind arith
+
+at_most_366 : (y : ℤ) → year_length y ≤ 366
+at_most_366 y = grind arith
+
+-- no period is longer than a year of 366 days
+first-near : (f : Frequency) (w : Weekday) (n : ℤ) → n ≤ℤ (period_first f w n +ℤ pos 366)
+unfolding period_first
+first-near Daily w n = omega (arith, signed)
+first-near Weekly w n = omega (arith, signed, (week_first_of-place n (week_first_of n w) w refl).2)
+first-near Monthly w n = omega (arith, signed, day_of-bounds n, at_most_31 (is_leap_year (year_of n)) (month_of n))
+first-near Yearly w n = omega (arith, signed, ordinal_of-bounds n, at_most_366 (year_of n))
+
+end-near : (f : Frequency) (w : Weekday) (n : ℤ) → period_end f w n ≤ℤ (n +ℤ pos 366)
+unfolding period_end
+end-near Daily w n = omega (arith, signed)
+end-near Weekly w n = omega (arith, signed, (week_first_of-place n (week_first_of n w) w refl).1)
+end-near Monthly w n = omega (arith, signed, day_of-bounds n, at_most_31 (is_leap_year (year_of n)) (month_of n))
+end-near Yearly w n = omega (arith, signed, ordinal_of-bounds n, at_most_366 (year_of n))
+
+-- a count of days that are so many days later
+pub count-shifted : (p q : ℤ → Bool) (a c b d : ℤ) (s k : ℕ) → c ≡ a +ℤ pos k → b ≡ a +ℤ pos s → d ≡ c +ℤ pos s → ((e f : ℤ) → a ≤ℤ e → e <ℤ c → f ≡ e +ℤ pos s → q f ≡ p e) → count_between q b d ≡ count_between p a c
+count-shifted p q a c b d s zero at first last same =
+    omega (arith, count_between-empty q b d (omega (arith, signed, at, first, last)), count_between-empty p a c (omega (arith, signed, at)))
+count-shifted p q a c b d s (suc k) at first last same =
+    let up = count-shifted p q (a +ℤ pos 1) c (b +ℤ pos 1) d s k (omega (arith, signed, at)) (omega (arith, signed, first)) last (λ e f low high is. same e f (omega (arith, signed, low)) high is) in
+    let here = count_between-first p a (a +ℤ pos 1) c (omega (arith, signed, at)) refl in
+    let there = count_between-first q b (b +ℤ pos 1) d (omega (arith, signed, at, first, last)) refl in
+    let one = ap (λ t. one_if t) (same a b (omega (arith, signed)) (omega (arith, signed, at)) first) in
+    omega (arith, up, here, there, one)
+
+-- of the days from which a whole year lies before the calendar's ends
+date_passes-again : (r : Rule) (start e f : ℤ) (k : ℕ) → f ≡ e +ℤ pos (146_097 * k) → first_date ≤ℤ e → f <ℤ past_last_date → date_passes r start f ≡ date_passes r start e
+date_passes-again r start e f k at low high =
+    date_passes-is r start f (omega (arith, signed, at, low), omega (arith, signed, high))
+    ∙ (passes-again r start e f k at
+    ∙ sym (date_passes-is r start e (omega (arith, signed, low), omega (arith, signed, at, high))))
+
+in_positions-again : (r : Rule) (start n m : ℤ) (k : ℕ) → m ≡ n +ℤ pos (146_097 * k) → (first_date +ℤ pos 366) ≤ℤ n → (m +ℤ pos 366) ≤ℤ past_last_date → in_positions r start m ≡ in_positions r start n
+unfolding in_positions
+in_positions-again r start n m k e low high =
+    let p = date_passes r start in
+    let f = r.frequency in
+    let w = r.week_start in
+    let first = period_first f w n in
+    let end = period_end f w n in
+    let near = first-near f w n in
+    let firsts = first-again f w n m k e in
+    let ends = end-again f w n m k e in
+    let front : count_between p (period_first f w m) (m +ℤ pos 1) ≡ count_between p first (n +ℤ pos 1) =
+    count-shifted p p first (n +ℤ pos 1) (period_first f w m) (m +ℤ pos 1) (146_097 * k) (unsigned_abs ((n +ℤ pos 1) -ℤ first))
+    (omega (arith, signed, from_period f w n)) firsts (omega (arith, signed, e))
+    (λ d g from to at. date_passes-again r start d g k at (omega (arith, signed, from, near, low)) (omega (arith, signed, to, at, e, high))) in
+    let back : count_between p m (period_end f w m) ≡ count_between p n end =
+    count-shifted p p n end m (period_end f w m) (146_097 * k) (unsigned_abs (end -ℤ n))
+    (omega (arith, signed, to_period f w n)) e ends
+    (λ d g from to at. date_passes-again r start d g k at (omega (arith, signed, from, low)) (omega (arith, signed, to, at, e, ends, end-near f w m, high))) in
+    rw (front, back) refl
+
+-- ---- the members
+
+-- a day that UNTIL lets be lies before no other that it does not
+pub not_after-earlier : (u : End) (n m : ℤ) → n ≤ℤ m → not_after u m ≡ true → not_after u n ≡ true
+unfolding not_after
+not_after-earlier Never n m le is = is
+not_after-earlier (Count c) n m le is = is
+not_after-earlier (Until u) n m le is = grind (arith, signed, le, is)
+
+-- so many days, and from the first of them to the last a rule is the same as a whole number of cycles later
+abbrev pub cycle_of : Rule → ℕ
+cycle_of r = 146_097 * step_of r
+
+pub member-again : (r : Rule) (start n m : ℤ) → m ≡ n +ℤ pos (cycle_of r) → start ≤ℤ n → (first_date +ℤ pos 366) ≤ℤ n → (m +ℤ pos 366) ≤ℤ past_last_date → not_after r.end m ≡ true → is_member r start m ≡ is_member r start n
+unfolding is_member
+member-again r start n m e from low high until =
+    let here : int_le start n ≡ true = grind (arith, signed, from) in
+    let there : int_le start m ≡ true = grind (arith, signed, from, e) in
+    rw (here, there, until, not_after-earlier r.end n m (omega (arith, signed, e)) until, in_interval-again r start n m e, passes-again r start n m (step_of r) e, in_positions-again r start n m (step_of r) e low high) refl
+
+-- a day that UNTIL does not let be is no member
+pub until_none : (r : Rule) (start d : ℤ) → not_after r.end d ≡ false → is_member r start d ≡ false
+unfolding is_member
+until_none r start d past = and-none (int_le start d) _ (rw past refl)
+
+-- where a day is none, so is the one that lies a cycle later
+none-again : (r : Rule) (start n m : ℤ) (b : Bool) → not_after r.end m ≡ b → m ≡ n +ℤ pos (cycle_of r) → start ≤ℤ n → (first_date +ℤ pos 366) ≤ℤ n → (m +ℤ pos 366) ≤ℤ past_last_date → is_member r start n ≡ false → is_member r start m ≡ false
+none-again r start n m true until e from low high none = member-again r start n m e from low high until ∙ none
+none-again r start n m false until e from low high none = until_none r start m until
+
+cycle_of-some : (r : Rule) → 0 < cycle_of r
+cycle_of-some r = omega (arith, step_of-some r.interval)
+
+-- where no day of a cycle is a member, no later one is, but for the calendar's last year
+none_later : (r : Rule) (start from : ℤ) (k : ℕ) (d : ℤ) → start ≤ℤ from → (first_date +ℤ pos 366) ≤ℤ from → ((e : ℤ) → from ≤ℤ e → e <ℤ (from +ℤ pos (cycle_of r)) → is_member r start e ≡ false) → from ≤ℤ d → d <ℤ (from +ℤ pos (cycle_of r + k)) → (d +ℤ pos 366) ≤ℤ past_last_date → is_member r start d ≡ false
+none_later r start from zero d begun low none le less high = none d le (omega (arith, signed, less))
+none_later r start from (suc k) d begun low none le less high =
+    by_lt_z d (from +ℤ pos (cycle_of r))
+    (λ lt. none d le lt)
+    (λ ge.
+    let e : ℤ = d -ℤ pos (cycle_of r) in
+    let some = cycle_of-some r in
+    none-again r start e d (not_after r.end d) refl (omega (arith, signed)) (omega (arith, signed, begun, ge)) (omega (arith, signed, low, ge)) high
+    (none_later r start from k e begun low none (omega (arith, signed, ge)) (omega (arith, signed, less, some)) (omega (arith, signed, high))))
+
+pub none_from : (r : Rule) (start from d : ℤ) → start ≤ℤ from → (first_date +ℤ pos 366) ≤ℤ from → ((e : ℤ) → from ≤ℤ e → e <ℤ (from +ℤ pos (cycle_of r)) → is_member r start e ≡ false) → from ≤ℤ d → (d +ℤ pos 366) ≤ℤ past_last_date → is_member r start d ≡ false
+none_from r start from d begun low none le high =
+    none_later r start from (unsigned_abs (d -ℤ from)) d begun low none le (omega (arith, signed, le, cycle_of-some r)) high
+
+-- where no day of a cycle is a member, no earlier one is, but for a year from the start on
+none_earlier : (r : Rule) (start to : ℤ) (k : ℕ) (d : ℤ) → (to +ℤ pos 366) ≤ℤ past_last_date → ((e : ℤ) → e <ℤ to → not_after r.end e ≡ true) → ((e : ℤ) → (to -ℤ pos (cycle_of r)) ≤ℤ e → e <ℤ to → is_member r start e ≡ false) → d <ℤ to → (to -ℤ pos (cycle_of r + k)) ≤ℤ d → start ≤ℤ d → (first_date +ℤ pos 366) ≤ℤ d → is_member r start d ≡ false
+none_earlier r start to zero d high until none less le begun low = none d (omega (arith, signed, le)) less
+none_earlier r start to (suc k) d high until none less le begun low =
+    by_lt_z d (to -ℤ pos (cycle_of r))
+    (λ lt.
+    let e : ℤ = d +ℤ pos (cycle_of r) in
+    let some = cycle_of-some r in
+    sym (member-again r start d e refl begun low (omega (arith, signed, lt, high)) (until e (omega (arith, signed, lt))))
+    ∙ none_earlier r start to k e high until none (omega (arith, signed, lt)) (omega (arith, signed, le, some)) (omega (arith, signed, begun)) (omega (arith, signed, low)))
+    (λ ge. none d ge less)
+
+pub none_up_to : (r : Rule) (start to d : ℤ) → (to +ℤ pos 366) ≤ℤ past_last_date → ((e : ℤ) → e <ℤ to → not_after r.end e ≡ true) → ((e : ℤ) → (to -ℤ pos (cycle_of r)) ≤ℤ e → e <ℤ to → is_member r start e ≡ false) → d <ℤ to → start ≤ℤ d → (first_date +ℤ pos 366) ≤ℤ d → is_member r start d ≡ false
+none_up_to r start to d high until none less begun low =
+    none_earlier r start to (unsigned_abs (to -ℤ d)) d high until none less (omega (arith, signed, less, cycle_of-some r)) begun low
+
+-- what a search of a cycle leaves to look at: the calendar's last year, and the first from the start on
+pub none_far : (r : Rule) (start date from near d : ℤ) → start ≤ℤ from → date ≤ℤ from → IsDate from → IsDate date → near ≡ from +ℤ pos (366 + cycle_of r) → (near +ℤ pos 366) ≤ℤ past_last_date → ((e : ℤ) → date ≤ℤ e → e <ℤ near → IsDate e → is_member r start e ≡ false) → date ≤ℤ d → (d +ℤ pos 366) ≤ℤ past_last_date → is_member r start d ≡ false
+none_far r start date from near d begun after from-date date-date at past none low high =
+    by_lt_z d near
+    (λ lt. none d low lt (omega (arith, signed, date-date.0, low), omega (arith, signed, lt, past)))
+    (λ ge.
+    none_from r start (from +ℤ pos 366) d (omega (arith, signed, begun)) (omega (arith, signed, from-date.0))
+    (λ e from-e less. none e (omega (arith, signed, from-e, after)) (omega (arith, signed, less, at)) (omega (arith, signed, from-date.0, from-e), omega (arith, signed, less, at, past)))
+    (omega (arith, signed, ge, at)) high)
+
+pub none_near : (r : Rule) (start floor top d : ℤ) → IsDate start → IsDate top → floor +ℤ pos (366 + cycle_of r) ≡ top → ((e : ℤ) → floor ≤ℤ e → e <ℤ top → is_member r start e ≡ false) → ((e : ℤ) → e <ℤ top → not_after r.end e ≡ true) → (start +ℤ pos 366) ≤ℤ d → d <ℤ top → is_member r start d ≡ false
+none_near r start floor top d start-date top-date at none until low less =
+    by_lt_z d floor
+    (λ lt.
+    none_up_to r start (top -ℤ pos 366) d (omega (arith, signed, top-date.1)) (λ e under. until e (omega (arith, signed, under)))
+    (λ e from under. none e (omega (arith, signed, from, at)) (omega (arith, signed, under)))
+    (omega (arith, signed, lt, at)) (omega (arith, signed, low)) (omega (arith, signed, low, start-date.0)))
+    (λ ge. none d ge less)
+
+-- a cycle later there are as many members
+pub count-again : (r : Rule) (start a c b d : ℤ) → a ≤ℤ c → b ≡ a +ℤ pos (cycle_of r) → d ≡ c +ℤ pos (cycle_of r) → start ≤ℤ a → (first_date +ℤ pos 366) ≤ℤ a → (d +ℤ pos 366) ≤ℤ past_last_date → ((e : ℤ) → e <ℤ d → not_after r.end e ≡ true) → count_between (is_member r start) b d ≡ count_between (is_member r start) a c
+count-again r start a c b d le first last begun low high until =
+    count-shifted (is_member r start) (is_member r start) a c b d (cycle_of r) (unsigned_abs (c -ℤ a)) (omega (arith, signed, le)) first last
+    (λ e f from to at. member-again r start e f at (omega (arith, signed, begun, from)) (omega (arith, signed, low, from)) (omega (arith, signed, at, to, last, high)) (until f (omega (arith, signed, at, to, last))))
+
+-- one cycle more
+pub next_cycle : (r : Rule) (start day next last : ℤ) → next ≡ day +ℤ pos (cycle_of r) → next ≤ℤ last → (start +ℤ pos (cycle_of r)) ≤ℤ day → (first_date +ℤ pos (366 + cycle_of r)) ≤ℤ day → (last +ℤ pos 366) ≤ℤ past_last_date → ((e : ℤ) → e <ℤ last → not_after r.end e ≡ true) → (count_between (is_member r start) day next ≡ count_between (is_member r start) (day -ℤ pos (cycle_of r)) day) × (count_between (is_member r start) start next ≡ count_between (is_member r start) start day + count_between (is_member r start) day next)
+next_cycle r start day next last at high begun low past until =
+    let from : ℤ = day -ℤ pos (cycle_of r) in (
+      count-again r start from day day next (omega (arith, signed)) (omega (arith, signed)) at (omega (arith, signed, begun)) (omega (arith, signed, low)) (omega (arith, signed, high, past)) (λ e less. until e (omega (arith, signed, less, high))),
+      count_between-sum (is_member r start) start day next (omega (arith, signed, begun)) (omega (arith, signed, at)),
+    )
+
+-- ---- days that UNTIL lets be
+
+pub not_after-never : (f : End) (d : ℤ) → f ≡ Never → not_after f d ≡ true
+unfolding not_after
+not_after-never f d is = ap (λ f. not_after f d) is
+
+pub not_after-count : (f : End) (c : ℕ) (d : ℤ) → f ≡ Count c → not_after f d ≡ true
+unfolding not_after
+not_after-count f c d is = ap (λ f. not_after f d) is
+
+pub not_after-until : (f : End) (u d : ℤ) → f ≡ Until u → d ≤ℤ u → not_after f d ≡ true
+unfolding not_after
+not_after-until f u d is le =
+    let may : int_le d u ≡ true = grind (arith, signed, le) in
+    ap (λ f. not_after f d) is ∙ may
+
+-- ---- COUNT=0
+
+pub count_none : (f : End) (r : Rule) (start d : ℤ) → may_follow f 0 ≡ false → is_counted f r start d ≡ false
+unfolding is_counted may_follow
+count_none Never r start d full = full
+count_none (Until u) r start d full = full
+count_none (Count c) r start d full = grind (arith, nat_tests, full)

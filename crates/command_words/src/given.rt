@@ -1,0 +1,94 @@
+//! What a program asks of the words that are read.
+ghost use Rattle.std.specs.Prelude.{◌≡◌, map};
+ghost use Rattle.std.specs.Option.{option_map};
+ghost use Rattle.command_words.specs.Words.{is_given, missing, pair, seen, value_named, first_value};
+
+use crate::table::{Command, Operand, Opt};
+use crate::words::{Given, Word, Words, is_given};
+use std::alloc::Allocator;
+
+impl<'a, A: Allocator> Words<'a, A> {
+    /// Returns the value of an option as it is given first; else its default, as a word at place 0.
+    pub fn value(&self, option: Opt) -> Option<Word<'a>>
+        ensures { option_map seen result ≡ value_named option (map pair self.now.options.items) }
+    {
+        match first_value(self.options.as_slice(), option.name) {
+            Some(value) => Some(value),
+            None if option.default.is_empty() => None,
+            None => Some(Word {
+                place: 0,
+                text: option.default,
+            }),
+        }
+    }
+
+    /// Returns whether an option is given.
+    pub fn has(&self, option: Opt) -> bool
+        ensures { result ≡ is_given option.name.now (map pair self.now.options.items) }
+    {
+        is_given(self.options.as_slice(), option.name)
+    }
+
+    /// Returns the first option of a table that has to be given and is not.
+    pub fn missing(&self, table: &'static [Opt]) -> Option<Opt>
+        ensures { result ≡ missing (map pair self.now.options.items) table.now }
+    {
+        let mut rest = table;
+        while let [option, others @ ..] = rest {
+            if option.required && !is_given(self.options.as_slice(), option.name) {
+                return Some(*option);
+            }
+            rest = others;
+        }
+        None
+    }
+
+    /// Returns the operand at a place, counted from 0.
+    pub fn operand(&self, place: usize) -> Option<Word<'a>> {
+        match self.operands.get(place) {
+            Some(word) => Some(*word),
+            None => None,
+        }
+    }
+
+    /// Returns the first operand that has to be there by the command's row and is not.
+    pub fn missing_operand(&self, command: &Command) -> Option<Operand> {
+        let mut left = self.operands.len();
+        for operand in command.operands {
+            if operand.required {
+                if left == 0 {
+                    return Some(*operand);
+                }
+                left -= 1;
+            }
+        }
+        None
+    }
+
+    /// Returns the first operand for which the command's row has no place.
+    pub fn extra_operand(&self, command: &Command) -> Option<Word<'a>> {
+        let mut places: usize = 0;
+        for operand in command.operands {
+            if operand.many {
+                return None;
+            }
+            let words = if operand.keyword.is_empty() { 1 } else { 2 };
+            places = places.saturating_add(words);
+        }
+        self.operand(places)
+    }
+}
+
+// The value of the first option with that name.
+fn first_value<'a>(options: &[Given<'a>], name: &str) -> Option<Word<'a>>
+    ensures { option_map seen result ≡ first_value name.now (map pair options.now) }
+{
+    let mut rest = options;
+    while let [given, others @ ..] = rest {
+        if name == given.option.name {
+            return Some(given.value);
+        }
+        rest = others;
+    }
+    None
+}

@@ -1,0 +1,249 @@
+//! A month or a year as a sheet.
+
+use crate::asked::Asked;
+use crate::closed::{Closed, closed_of, years_of};
+use crate::easter::Year;
+use crate::fault::{ANSWERED, Fault, WRONG, refuse};
+use crate::holidays::{Holidays, read_holidays};
+use crate::options::{CALENDAR, HELP, HOLIDAYS, JSON, WEEKDAYS, WEEKEND};
+use crate::reason::reason_of;
+use crate::texts::read_month;
+use crate::values::{weekday_of, year_of};
+use chrono_business::Calendar;
+use chrono_datetime::{Datelike, Month, NaiveDate, Weekday};
+use command_words::{Command, OPERAND, OPTION, Operand, Opt, Word};
+use dates_answer::{Answer, DayObject, Form, Key, MonthSheet};
+use std::alloc::Allocator;
+use std::io::{self, Eprint};
+use std::rt::Files;
+
+const FIRST: Opt = Opt {
+    name: "--first",
+    value: "DAY",
+    values: WEEKDAYS,
+    default: "mon",
+    help: "on which weekday weeks begin (default: mon)",
+    ..OPTION
+};
+
+/// `cal`.
+pub(crate) fn command() -> Command {
+    Command {
+        name: "cal",
+        operands: &[Operand {
+            name: "MONTH|YEAR",
+            ..OPERAND
+        }],
+        options: &[FIRST, WEEKEND, CALENDAR, HOLIDAYS, JSON, HELP],
+        help: "print a month or a year as a sheet",
+        more: "A MONTH is written as 2024-02, a YEAR as 2024.\n\
+            Each row begins with its ISO week, that of its Thursday. * marks a closed day.",
+        example: "$ dates cal 2021-02\n\
+            \x20   February 2021\n\
+            \x20   Mo Tu We Th Fr Sa Su\n\
+            W05  1  2  3  4  5  6* 7*\n\
+            W06  8  9 10 11 12 13*14*\n\
+            W07 15 16 17 18 19 20*21*\n\
+            W08 22 23 24 25 26 27*28*",
+    }
+}
+
+// What a sheet shows.
+#[derive(Clone, Copy)]
+enum Time {
+    // The month that begins on a day.
+    Month(NaiveDate),
+    // A year.
+    Year(i32),
+}
+
+// The month or the year as sheets with closed days marked; `none` where the calendar has no such year. The exit status.
+pub(crate) fn answer(
+    rt: &(impl Alloc + Print + Eprint + Files),
+    asked: &Asked<'_, impl Allocator>,
+) -> io::Result<u8> {
+    let form = asked.form;
+    let (time, start, closed) = match read(asked) {
+        Ok(read) => read,
+        Err(fault) => return refuse(rt, &command(), form, NOTHING, fault),
+    };
+    let Some(mut holidays) = read_holidays(rt, closed)? else {
+        return Ok(WRONG);
+    };
+    match time {
+        Time::Month(first) => answer_month(rt, form, first, start, &mut holidays),
+        Time::Year(year) => match NaiveDate::from_ymd_opt(year, 1, 1) {
+            Some(first) => answer_year(rt, form, first, start, &mut holidays),
+            None => refuse(rt, &command(), form, NOTHING, Fault::Outside(year)),
+        },
+    }
+}
+
+// That there is no such day.
+const NOTHING: Answer = Answer::Nothing(Key::Date);
+
+// Reads what is shown, on which weekday its weeks begin, and which days are closed.
+fn read<'a>(asked: &Asked<'a, impl Allocator>) -> Result<(Time, Weekday, Closed<'a>), Fault<'a>> {
+    let time = value!(time_of(value!(asked.first("MONTH|YEAR"))));
+    let start = match asked.value(FIRST) {
+        Some(word) => value!(weekday_of(word)),
+        None => Weekday::Mon,
+    };
+    Ok((time, start, value!(closed_of(asked))))
+}
+
+// The month or the year that a word names.
+fn time_of<'a>(word: Word<'a>) -> Result<Time, Fault<'a>> {
+    let error = match read_month(word.text.as_bytes()) {
+        Ok(first) => return Ok(Time::Month(first)),
+        Err(error) => error,
+    };
+    match year_of(word) {
+        Ok(year) => Ok(Time::Year(year)),
+        Err(_) => Err(Fault::Expected(
+            word,
+            reason_of(error),
+            "a month as 2024-02 or a year as 2024",
+        )),
+    }
+}
+
+// The month that begins on a day.
+fn answer_month(
+    rt: &impl Print,
+    form: Form,
+    month: NaiveDate,
+    start: Weekday,
+    holidays: &mut Holidays<impl Allocator>,
+) -> io::Result<u8> {
+    let calendar = holidays.calendar(years_of(month, month))?;
+    match form {
+        Form::Text => print_month(rt, &MonthSheet { month, start }, &calendar)?,
+        Form::Json => print_days(rt, month, month.last_day_of_month().day(), &calendar)?,
+    }
+    Ok(ANSWERED)
+}
+
+// The year that begins on a day.
+fn answer_year(
+    rt: &impl Print,
+    form: Form,
+    first: NaiveDate,
+    start: Weekday,
+    holidays: &mut Holidays<impl Allocator>,
+) -> io::Result<u8> {
+    let calendar = holidays.calendar(years_of(first, first))?;
+    match form {
+        Form::Text => print_year(rt, first, start, &calendar)?,
+        Form::Json => print_days(rt, first, days_of_year(first), &calendar)?,
+    }
+    Ok(ANSWERED)
+}
+
+// A month alone.
+fn print_month(rt: &impl Print, sheet: &MonthSheet, calendar: &Calendar) -> io::Result<()> {
+    let year = Year {
+        year: sheet.month.year(),
+    };
+    println!(rt; "    {} {year}", name_of(sheet))?;
+    println!(rt; "{}", heading(sheet.start))?;
+    for row in 0..6 {
+        if sheet.has_days(row) {
+            println!(rt; "{}", sheet.row(row, calendar))?;
+        }
+    }
+    Ok(())
+}
+
+// The months of the year that begins on a day, three side by side.
+fn print_year(
+    rt: &impl Print,
+    first: NaiveDate,
+    start: Weekday,
+    calendar: &Calendar,
+) -> io::Result<()> {
+    println!(rt; "{:37}{}", "", Year { year: first.year() })?;
+    for quarter in 0..4u32 {
+        println!(rt; "")?;
+        let months = 3 * i64::from(quarter);
+        let left = month_of(first, months, start);
+        let middle = month_of(first, months + 1, start);
+        let right = month_of(first, months + 2, start);
+        print_quarter(rt, &left, &middle, &right, calendar)?;
+    }
+    Ok(())
+}
+
+// The sheet of the month so many months on.
+fn month_of(first: NaiveDate, months: i64, start: Weekday) -> MonthSheet {
+    MonthSheet {
+        month: first.moved_by_months(months).unwrap_or(first),
+        start,
+    }
+}
+
+// Three months side by side.
+fn print_quarter(
+    rt: &impl Print,
+    left: &MonthSheet,
+    middle: &MonthSheet,
+    right: &MonthSheet,
+    calendar: &Calendar,
+) -> io::Result<()> {
+    println!(rt;
+        "    {:<23}    {:<23}    {}",
+        name_of(left),
+        name_of(middle),
+        name_of(right)
+    )?;
+    let heading = heading(left.start);
+    println!(rt; "{heading}  {heading}  {heading}")?;
+    for row in 0..6 {
+        if left.has_days(row) || middle.has_days(row) || right.has_days(row) {
+            println!(rt;
+                "{}  {}  {}",
+                left.row(row, calendar),
+                middle.row(row, calendar),
+                right.row(row, calendar)
+            )?;
+        }
+    }
+    Ok(())
+}
+
+// So many days from one on, each with its week, its weekday and whether it is open.
+fn print_days(
+    rt: &impl Print,
+    first: NaiveDate,
+    count: u32,
+    calendar: &Calendar,
+) -> io::Result<()> {
+    for date in first.iter_days().take(count as usize) {
+        let is_open = calendar.is_open(date);
+        println!(rt; "{}", DayObject { date, is_open })?;
+    }
+    Ok(())
+}
+
+// How many days the year of a day has.
+fn days_of_year(date: NaiveDate) -> u32 {
+    if date.leap_year() { 366 } else { 365 }
+}
+
+// The name of a sheet's month.
+fn name_of(sheet: &MonthSheet) -> &'static str {
+    Month::from_u32(sheet.month.month()).map_or("", |month| month.name())
+}
+
+// The weekdays above the columns of a sheet whose weeks begin on one, 25 columns wide.
+fn heading(start: Weekday) -> &'static str {
+    match start {
+        Weekday::Mon => "    Mo Tu We Th Fr Sa Su ",
+        Weekday::Tue => "    Tu We Th Fr Sa Su Mo ",
+        Weekday::Wed => "    We Th Fr Sa Su Mo Tu ",
+        Weekday::Thu => "    Th Fr Sa Su Mo Tu We ",
+        Weekday::Fri => "    Fr Sa Su Mo Tu We Th ",
+        Weekday::Sat => "    Sa Su Mo Tu We Th Fr ",
+        Weekday::Sun => "    Su Mo Tu We Th Fr Sa ",
+    }
+}

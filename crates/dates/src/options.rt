@@ -1,0 +1,54 @@
+//! Rows that several commands share.
+
+use command_words::{OPERAND, OPTION, Operand, Opt};
+
+/// The weekdays by their names.
+pub(crate) const WEEKDAYS: &[&str] = &["mon", "tue", "wed", "thu", "fri", "sat", "sun"];
+
+/// A day.
+pub(crate) const DAY: Operand = Operand {
+    name: "DAY",
+    ..OPERAND
+};
+
+/// `--json`.
+pub(crate) const JSON: Opt = Opt {
+    name: "--json",
+    help: "print JSON, an object a line",
+    ..OPTION
+};
+
+/// `--help`.
+pub(crate) const HELP: Opt = Opt {
+    name: "--help",
+    help: "print this help",
+    ..OPTION
+};
+
+/// `--weekend`.
+pub(crate) const WEEKEND: Opt = Opt {
+    name: "--weekend",
+    value: "DAYS",
+    values: &["mon", "tue", "wed", "thu", "fri", "sat", "sun", "none"],
+    default: "sat,sun",
+    help: "closed weekdays, two at most: none, fri or fri,sat\n(default: sat,sun)",
+    ..OPTION
+};
+
+/// `--calendar`.
+pub(crate) const CALENDAR: Opt = Opt {
+    name: "--calendar",
+    value: "NAME",
+    values: &["us-federal", "target", "england"],
+    any: false,
+    help: "holidays by rules: us-federal (from 1971 on),\ntarget (from 1999 on) or england (from 1978 on)",
+    ..OPTION
+};
+
+/// `--holidays`.
+pub(crate) const HOLIDAYS: Opt = Opt {
+    name: "--holidays",
+    value: "FILE",
+    help: "holidays of a file, of which each line is a day",
+    ..OPTION
+};

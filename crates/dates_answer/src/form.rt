@@ -1,0 +1,10 @@
+//! The forms of answers.
+
+/// The form of answers.
+#[derive(Clone, Copy, Debug, PartialEq, Eq)]
+pub enum Form {
+    /// A text.
+    Text,
+    /// An object of JSON (RFC 8259) a line.
+    Json,
+}

@@ -1,0 +1,69 @@
+//! Lines of `check`, and the version of a program.
+ghost use Rattle.std.specs.Prelude.{Some};
+ghost use Rattle.dates_answer.specs.Quoted.{version_line, wrong_line};
+
+use crate::form::Form;
+use crate::quoted::Quoted;
+use std::fmt;
+
+/// A line of input that is no day: as a text, such as `2: the month has 29 days`, or as an object of JSON.
+#[derive(Clone, Copy)]
+pub struct WrongLine<'a, 'b> {
+    /// The form that is wanted.
+    pub form: Form,
+    /// The number of the line, from 1 on.
+    pub number: u64,
+    /// Its text.
+    pub text: &'a str,
+    /// Why it is no day.
+    pub reason: &'b str,
+}
+
+impl fmt::Display for WrongLine<'_, '_> {
+    ghost output = { λ l. Some (wrong_line l.form l.number l.text.now l.reason.now) };
+
+    /// Writes the number and the reason, and in an object the text too.
+    fn fmt<W: fmt::Write>(&self, f: &mut fmt::Formatter<W>) -> fmt::Result {
+        let number = self.number;
+        let text = Quoted { text: self.text };
+        let reason = Quoted { text: self.reason };
+        match self.form {
+            Form::Text => write!(f, "{number}: {}", self.reason),
+            Form::Json => {
+                write!(
+                    f,
+                    "{{\"line\":{number},\"text\":{text},\"reason\":{reason}}}"
+                )
+            }
+        }
+    }
+}
+
+/// The version of a program: as a text, such as `dates 0.1.0`, or as an object of JSON.
+#[derive(Clone, Copy)]
+pub struct VersionLine {
+    /// The form that is wanted.
+    pub form: Form,
+    /// The name of the program.
+    pub program: &'static str,
+    /// Its version.
+    pub version: &'static str,
+}
+
+impl fmt::Display for VersionLine {
+    ghost output = { λ l. Some (version_line l.form l.program.now l.version.now) };
+
+    /// Writes the name and the version, and in an object the version alone.
+    fn fmt<W: fmt::Write>(&self, f: &mut fmt::Formatter<W>) -> fmt::Result {
+        let VersionLine {
+            form,
+            program,
+            version,
+        } = *self;
+        let quoted = Quoted { text: version };
+        match form {
+            Form::Text => write!(f, "{program} {version}"),
+            Form::Json => write!(f, "{{\"version\":{quoted}}}"),
+        }
+    }
+}

@@ -1,0 +1,23 @@
+//! Spans: whole numbers of days, weeks, months or years.
+
+/// What a span counts.
+#[derive(Clone, Copy, Debug, PartialEq, Eq)]
+pub enum Unit {
+    /// Days, `d`.
+    Days,
+    /// Weeks, `w`.
+    Weeks,
+    /// Months, `m`.
+    Months,
+    /// Years, `y`.
+    Years,
+}
+
+/// A whole number of a unit, below 0 where it goes back.
+#[derive(Clone, Copy, Debug, PartialEq, Eq)]
+pub struct Span {
+    /// How many.
+    pub count: i64,
+    /// Of what.
+    pub unit: Unit,
+}

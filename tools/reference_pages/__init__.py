@@ -1,0 +1,1 @@
+"""The modules of tools/reference: they read sources, and write pages of them."""

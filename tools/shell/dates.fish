@@ -1,0 +1,65 @@
+complete -c dates -n __fish_use_subcommand -a add -d 'move a day or a date-time by each span in turn'
+complete -c dates -n '__fish_seen_subcommand_from add' -l weekend -r -a 'mon tue wed thu fri sat sun none '
+complete -c dates -n '__fish_seen_subcommand_from add' -l calendar -r -a 'us-federal target england '
+complete -c dates -n '__fish_seen_subcommand_from add' -l holidays -r -a ''
+complete -c dates -n '__fish_seen_subcommand_from add' -l json
+complete -c dates -n '__fish_seen_subcommand_from add' -l help
+complete -c dates -n __fish_use_subcommand -a diff -d 'print the days or whole units between two days'
+complete -c dates -n '__fish_seen_subcommand_from diff' -l weekend -r -a 'mon tue wed thu fri sat sun none '
+complete -c dates -n '__fish_seen_subcommand_from diff' -l calendar -r -a 'us-federal target england '
+complete -c dates -n '__fish_seen_subcommand_from diff' -l holidays -r -a ''
+complete -c dates -n '__fish_seen_subcommand_from diff' -l json
+complete -c dates -n '__fish_seen_subcommand_from diff' -l help
+complete -c dates -n __fish_use_subcommand -a seq -d 'print the days from one to another'
+complete -c dates -n '__fish_seen_subcommand_from seq' -l json
+complete -c dates -n '__fish_seen_subcommand_from seq' -l help
+complete -c dates -n __fish_use_subcommand -a week -d 'print the first and the last day of a week'
+complete -c dates -n '__fish_seen_subcommand_from week' -l json
+complete -c dates -n '__fish_seen_subcommand_from week' -l help
+complete -c dates -n __fish_use_subcommand -a weekday -d 'print the weekday of a day'
+complete -c dates -n '__fish_seen_subcommand_from weekday' -l json
+complete -c dates -n '__fish_seen_subcommand_from weekday' -l help
+complete -c dates -n __fish_use_subcommand -a easter -d 'print Easter Sunday of a year'
+complete -c dates -n '__fish_seen_subcommand_from easter' -l json
+complete -c dates -n '__fish_seen_subcommand_from easter' -l help
+complete -c dates -n __fish_use_subcommand -a leap -d 'print whether a year is a leap year'
+complete -c dates -n '__fish_seen_subcommand_from leap' -l json
+complete -c dates -n '__fish_seen_subcommand_from leap' -l help
+complete -c dates -n __fish_use_subcommand -a open -d 'print whether a day is open'
+complete -c dates -n '__fish_seen_subcommand_from open' -l weekend -r -a 'mon tue wed thu fri sat sun none '
+complete -c dates -n '__fish_seen_subcommand_from open' -l calendar -r -a 'us-federal target england '
+complete -c dates -n '__fish_seen_subcommand_from open' -l holidays -r -a ''
+complete -c dates -n '__fish_seen_subcommand_from open' -l json
+complete -c dates -n '__fish_seen_subcommand_from open' -l help
+complete -c dates -n __fish_use_subcommand -a roll -d 'print where a closed day goes'
+complete -c dates -n '__fish_seen_subcommand_from roll' -l weekend -r -a 'mon tue wed thu fri sat sun none '
+complete -c dates -n '__fish_seen_subcommand_from roll' -l calendar -r -a 'us-federal target england '
+complete -c dates -n '__fish_seen_subcommand_from roll' -l holidays -r -a ''
+complete -c dates -n '__fish_seen_subcommand_from roll' -l json
+complete -c dates -n '__fish_seen_subcommand_from roll' -l help
+complete -c dates -n __fish_use_subcommand -a check -d 'print the lines that are no days, and why'
+complete -c dates -n '__fish_seen_subcommand_from check' -l json
+complete -c dates -n '__fish_seen_subcommand_from check' -l help
+complete -c dates -n __fish_use_subcommand -a next -d 'print when a schedule is due next'
+complete -c dates -n '__fish_seen_subcommand_from next' -l from -r -a ''
+complete -c dates -n '__fish_seen_subcommand_from next' -l count -r -a ''
+complete -c dates -n '__fish_seen_subcommand_from next' -l json
+complete -c dates -n '__fish_seen_subcommand_from next' -l help
+complete -c dates -n __fish_use_subcommand -a prev -d 'print when a schedule was due before'
+complete -c dates -n '__fish_seen_subcommand_from prev' -l from -r -a ''
+complete -c dates -n '__fish_seen_subcommand_from prev' -l count -r -a ''
+complete -c dates -n '__fish_seen_subcommand_from prev' -l json
+complete -c dates -n '__fish_seen_subcommand_from prev' -l help
+complete -c dates -n __fish_use_subcommand -a rule -d 'print the instances of a recurrence rule'
+complete -c dates -n '__fish_seen_subcommand_from rule' -l start -r -a ''
+complete -c dates -n '__fish_seen_subcommand_from rule' -l from -r -a ''
+complete -c dates -n '__fish_seen_subcommand_from rule' -l count -r -a ''
+complete -c dates -n '__fish_seen_subcommand_from rule' -l json
+complete -c dates -n '__fish_seen_subcommand_from rule' -l help
+complete -c dates -n __fish_use_subcommand -a cal -d 'print a month or a year as a sheet'
+complete -c dates -n '__fish_seen_subcommand_from cal' -l first -r -a 'mon tue wed thu fri sat sun '
+complete -c dates -n '__fish_seen_subcommand_from cal' -l weekend -r -a 'mon tue wed thu fri sat sun none '
+complete -c dates -n '__fish_seen_subcommand_from cal' -l calendar -r -a 'us-federal target england '
+complete -c dates -n '__fish_seen_subcommand_from cal' -l holidays -r -a ''
+complete -c dates -n '__fish_seen_subcommand_from cal' -l json
+complete -c dates -n '__fish_seen_subcommand_from cal' -l help
