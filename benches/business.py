@@ -8,7 +8,7 @@ made on pseudo-random dates of the years 2019 to 2030, and a count goes to anoth
 The best of seven rounds counts, by processor time, less that of drawing the dates alone. numpy's calls go over an array of as many
 dates, so that what is compared is the time for an element.
 
-It needs crates/business_timed/out/business_timed, which `rt run` and `rt ci` leave there, and for the comparison python3-numpy.
+It needs crates/timed_business/out/timed_business, which `rt run` and `rt ci` leave there, and for the comparison python3-numpy.
 """
 import os
 import resource
@@ -21,7 +21,7 @@ sys.path.insert(0, os.path.join(TOP, "checks"))
 
 import business
 
-TIMED = os.path.join(TOP, "crates", "business_timed", "out", "business_timed")
+TIMED = os.path.join(TOP, "crates", "timed_business", "out", "timed_business")
 ROUNDS = 7
 NUMPY = {"is_open": "is_busday", "open_days": "busday_count", "add_open_days": "busday_offset"}
 
@@ -60,10 +60,9 @@ def of_numpy(calendar, count):
 
 def main():
     if not os.path.exists(TIMED):
-        print("there is no crates/business_timed/out/business_timed: `rt run` in crates/business_timed builds it")
+        print("there is no crates/timed_business/out/timed_business: `rt run` in crates/timed_business builds it")
         return 1
-    if business.numpy is None and sys.executable != business.DEBIAN and os.path.exists(business.DEBIAN):
-        return subprocess.run([business.DEBIAN, os.path.abspath(__file__), *sys.argv[1:]]).returncode
+    business.restart_without(business.numpy)
     count = int(sys.argv[1]) if len(sys.argv) > 1 else 5_000_000
     days = [it.toordinal() for year in range(2020, 2031) for it in business.federal(year)]
     calendar = business.Calendar("1111100", days, min(days), min(days))

@@ -3,7 +3,7 @@
 
     benches/calls.py [COUNT]        (20 million if left out)
 
-It needs crates/chrono_timed/out/chrono_timed, which `rt run` leaves there, and librust-chrono-dev with cargo: benches/chrono_timed
+It needs crates/timed_chrono/out/timed_chrono, which `rt run` leaves there, and librust-chrono-dev with cargo: benches/chrono_timed
 is its twin over that library.
 
 A call of a date is made of a `NaiveDate`, as a user makes it, and of both stored forms, by their own calls and those of
@@ -18,9 +18,11 @@ import subprocess
 import sys
 import tempfile
 
-from lines import TOP, build_over_chrono
+TOP = os.path.dirname(os.path.dirname(os.path.abspath(__file__)))
+sys.path.insert(0, os.path.join(TOP, "tools"))
+from debian import build_over_chrono  # noqa: E402
 
-CHRONO_SUMS = os.path.join(TOP, "crates", "chrono_timed", "out", "chrono_timed")
+CHRONO_SUMS = os.path.join(TOP, "crates", "timed_chrono", "out", "timed_chrono")
 ROUNDS = 21
 
 # Calls of each whose answers are compared before any is timed.
@@ -128,7 +130,7 @@ def row(best, call, count):
 def main():
     count = int(sys.argv[1]) if len(sys.argv) > 1 else 20_000_000
     with tempfile.TemporaryDirectory() as folder:
-        runs = list(all_runs(CHRONO_SUMS, build_over_chrono(folder, "chrono_timed")))
+        runs = list(all_runs(CHRONO_SUMS, build_over_chrono(folder, "benches/chrono_timed")))
         compare_sums(runs)
         best = best_times(runs, count)
     print(f"{count} calls of each, in nanoseconds a call, and how many times as fast as chrono's ours are (last: as the bare formula)\n")

@@ -10,7 +10,8 @@ interpreter or Debian's, numpy.
 
 Each program fills a column with dates of the 400 years from 1800 on, compares the answers before any is timed, and then makes all calls
 in turn; the least time of each counts, by processor time, as nanoseconds an element. In the first table a column has 32,768
-elements, which the second cache holds; in the second as many millions as were asked for.
+elements, which the second cache holds; in the second as many millions as were asked for. The loops of C are built twice: with the
+flags by which the kit compiles Rattle, and by -O3 alone, in the columns that say plain.
 """
 import os
 import shutil
@@ -18,7 +19,9 @@ import subprocess
 import sys
 import tempfile
 
-from lines import TOP, build_over_chrono
+TOP = os.path.dirname(os.path.dirname(os.path.abspath(__file__)))
+sys.path.insert(0, os.path.join(TOP, "tools"))
+from debian import build_over_chrono  # noqa: E402
 
 OUT = os.path.join(TOP, "crates", "calendar_c", "out")
 SOURCES = os.path.join(TOP, "benches", "columns")
@@ -29,6 +32,11 @@ CALLS = (
     "add_days_each_in_place", "first_on",
 )
 SHORT, ROUNDS = 32_768, 60
+# What the kit passes to its compiler besides -O3 and the level. The two that end in `licm` keep a loop from holding constants in registers.
+KIT_FLAGS = (
+    "-no-trap-after-noreturn", "-expand-div-rem-bits=64", "-expand-fp-convert-bits=64", "-trap-unreachable", "-no-x86-call-frame-opt",
+    "-disable-machine-licm", "-disable-postra-machine-licm", "-sink-common-insts=false",
+)
 INTERPRETERS = (sys.executable, "/usr/bin/python3")
 
 
@@ -40,11 +48,13 @@ def kit_compiler():
 
 def build(room, level, library):
     """The program for a level of processors: the library, and the loops of C by the same compiler."""
-    limits, program = f"{room}/limits-{level}.o", f"{room}/columns-{level}"
-    compiler = [kit_compiler(), "-O3", f"-march={level}", "-c", f"{SOURCES}/limits.c", "-o", limits]
-    subprocess.run(compiler, check=True)
+    program, loops = f"{room}/columns-{level}", []
+    for name, flags in (("limit", [word for it in KIT_FLAGS for word in ("-mllvm", it)]), ("plain", ["-DPLAIN"])):
+        loops.append(f"{room}/{name}-{level}.o")
+        compiler = [kit_compiler(), "-O3", f"-march={level}", *flags, "-c", f"{SOURCES}/limits.c", "-o", loops[-1]]
+        subprocess.run(compiler, check=True)
     headers = f"-I{os.path.join(TOP, 'languages', 'c')}"
-    words = ["cc", "-std=c99", "-O2", headers, f"{SOURCES}/columns_timed.c", limits, library, "-o", program]
+    words = ["cc", "-std=c99", "-O2", headers, f"{SOURCES}/columns_timed.c", *loops, library, "-o", program]
     subprocess.run(words, check=True)
     return program
 
@@ -63,7 +73,7 @@ def programs(room):
     if not found:
         sys.exit(f"there is no {LIBRARIES['x86-64-v2']}: run `rt lib` in crates/calendar_c")
     if shutil.which("cargo"):
-        found["chrono"] = [build_over_chrono(room, os.path.join("columns", "chrono_columns_timed"))]
+        found["chrono"] = [build_over_chrono(room, "benches/columns/chrono_columns_timed")]
     else:
         print("not run: chrono, since there is no cargo")
     python = interpreter_with_numpy()
@@ -81,16 +91,18 @@ def times(words, count, rounds):
 
 
 def table(measured, levels):
-    """The rows of a table: ours, one by one, the loop of C and the copy of each level, and then chrono and numpy."""
-    heads = [f"{it} {level}" for level in levels for it in ("ours", "one by one", "loop of C", "times as fast", "copy")]
+    """The rows of a table: ours, one by one, the loops of C and the copy of each level, and then chrono and numpy."""
+    titles = ("ours", "one by one", "loop of C", "times as fast", "plain", "times as fast", "copy")
+    heads = [f"{it} {level}" for level in levels for it in titles]
     print("| Column | " + " | ".join([*heads, "chrono", "numpy"]) + " |")
     print("|---" * (len(heads) + 3) + "|")
     for call in CALLS:
         cells = []
         for level in levels:
-            ours, single, limit, copy = (measured[level].get((call, who)) for who in ("ours", "single", "limit", "copy"))
-            ratio = limit / ours if limit else None
-            cells += [f"{it:.2f}" if it else "" for it in (ours, single, limit, ratio, copy)]
+            taken = {who: measured[level].get((call, who)) for who in ("ours", "single", "limit", "plain", "copy")}
+            ratios = {who: taken[who] / taken["ours"] if taken[who] else None for who in ("limit", "plain")}
+            shown = (taken["ours"], taken["single"], taken["limit"], ratios["limit"], taken["plain"], ratios["plain"], taken["copy"])
+            cells += [f"{it:.2f}" if it else "" for it in shown]
         for who in ("chrono", "numpy"):
             taken = measured.get(who, {}).get((call, who))
             cells.append(f"{taken:.1f}" if taken else "")

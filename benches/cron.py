@@ -3,7 +3,7 @@
 
     benches/cron.py
 
-It needs crates/cron_rows/out/cron_rows, which `rt run` leaves there. A row `year` of it finds the next due moment after each of the
+It needs crates/rows_cron/out/rows_cron, which `rt run` leaves there. A row `year` of it finds the next due moment after each of the
 525,600 minutes of 365 days; what a row costs beyond one that only asks whether a moment is due, divided by them, is the time of a
 call, the making of the start and the sum included. A row `walk` of it does the same by trying one day of `iter_days` after another, but for a
 schedule that is never due, for which that goes to the end of the calendar. The best of seven runs counts, by processor time. The schedules that are due
@@ -68,7 +68,7 @@ def croniter_nanos(text, schedule):
 
 def main():
     if not os.path.exists(PROGRAM):
-        print("not run: everything, since there is no crates/cron_rows/out/cron_rows")
+        print("not run: everything, since there is no crates/rows_cron/out/rows_cron")
         return 0
     try:
         import croniter  # noqa: F401

@@ -18,8 +18,10 @@ import sys
 import tempfile
 
 TOP = os.path.dirname(os.path.dirname(os.path.abspath(__file__)))
+sys.path.insert(0, os.path.join(TOP, "tools"))
+from debian import PYTHON  # noqa: E402
+
 DATES = os.path.join(TOP, "crates", "dates", "out", "dates")
-DEBIAN = "/usr/bin/python3"
 ROUNDS = 9
 STARTS = 200
 
@@ -84,13 +86,13 @@ def main():
             "dates": [DATES, "-"],
             "dateutils": ["dateutils.dconv", "-f", "%F %Y-%j %G-W%V-%u %a"],
             "GNU date": ["date", "-u", "-f", "-", "+%F %Y-%j %G-W%V-%u %a"],
-            "Python": [DEBIAN, "-c", NAMED],
+            "Python": [PYTHON, "-c", NAMED],
         }, lines, 4)
         end = str(datetime.date(1800, 1, 1) + datetime.timedelta(count - 1))
         compare(f"{count} days in a row", {
             "dates": [DATES, "seq", "1800-01-01", end],
             "dateutils": ["dateutils.dseq", "1800-01-01", end],
-            "Python": [DEBIAN, "-c", ROW, "1800-01-01", end],
+            "Python": [PYTHON, "-c", ROW, "1800-01-01", end],
         }, none, 1)
         compare("a start for each day moved by a month", {
             "dates": [DATES, "add", "2024-01-31", "1m"],

@@ -20,10 +20,11 @@ import tempfile
 import zipfile
 
 from calls import COMPARED, best_times, compare_sums
-from lines import TOP, build_over_chrono
 
+TOP = os.path.dirname(os.path.dirname(os.path.abspath(__file__)))
 sys.path.insert(0, os.path.join(TOP, "tools"))
 import packages  # noqa: E402
+from debian import build_over_chrono  # noqa: E402
 from packages import python  # noqa: E402
 
 LIBRARY = os.path.join(TOP, "crates", "calendar_c", "out", "libcalendar_c.a")
@@ -57,7 +58,7 @@ def build(folder):
     with zipfile.ZipFile(wheel) as it:
         it.extractall(f"{folder}/python")
     os.environ["PYTHONPATH"] = f"{folder}/python"
-    rust = build_over_chrono(folder, os.path.join("languages", "rust_sums"))
+    rust = build_over_chrono(folder, "benches/languages/rust_sums")
     return {"C": f"{folder}/c_sums", "Python": f"{SOURCES}/python_sums.py", "Rust": rust}
 
 

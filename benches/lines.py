@@ -22,6 +22,9 @@ import sys
 import tempfile
 
 TOP = os.path.dirname(os.path.dirname(os.path.abspath(__file__)))
+sys.path.insert(0, os.path.join(TOP, "tools"))
+from debian import build_over_chrono  # noqa: E402
+
 CALTOOL = os.path.join(TOP, "crates", "caltool", "out", "caltool")
 ROUNDS = 31
 
@@ -74,24 +77,6 @@ def write_lines(folder, name, lines):
     return path
 
 
-def debian_registry():
-    """The folder in which Debian keeps the sources of Rust libraries."""
-    listed = subprocess.run(["dpkg", "-L", "librust-chrono-dev"], check=True, capture_output=True, text=True)
-    manifest = next(name for name in listed.stdout.split() if name.endswith("/Cargo.toml"))
-    return os.path.dirname(os.path.dirname(manifest))
-
-
-def build_over_chrono(folder, name):
-    """Builds a program over Debian's chrono, in a folder named as from this one; where it then lies."""
-    target = os.path.join(folder, "target")
-    env = dict(os.environ, CARGO_TARGET_DIR=target)
-    command = ["cargo", "build", "--release", "--offline", "--quiet"]
-    command += ["--config", 'source.crates-io.replace-with="debian"']
-    command += ["--config", f'source.debian.directory="{debian_registry()}"']
-    subprocess.run(command, cwd=os.path.join(TOP, "benches", name), env=env, check=True)
-    return os.path.join(target, "release", os.path.basename(name))
-
-
 def sum_of_answers(program, path):
     """A sum of all that the program writes for the lines of a file."""
     with open(path, "rb") as source:
@@ -141,7 +126,7 @@ def main():
     count = int(sys.argv[1]) if len(sys.argv) > 1 else 100_000
     chance = random.Random(1)
     with tempfile.TemporaryDirectory() as folder:
-        programs = [CALTOOL, *(build_over_chrono(folder, name) for name in ("chrono_tuned", "chrono_lines"))]
+        programs = [CALTOOL, *(build_over_chrono(folder, f"benches/{name}") for name in ("chrono_tuned", "chrono_lines"))]
         files = {it: write_lines(folder, it, (a_line(chance, it) for _ in range(count))) for it in COMMANDS}
         names = list(COMMANDS)
         mixed = (a_line(chance, chance.choice(names)) for _ in range(count * 10 // 3))

@@ -3,7 +3,7 @@
 
     benches/rules.py
 
-It needs crates/rules_rows/out/rules_rows, which `rt run` and `rt ci` leave there. A row of it says how many calls of `next_after`, each from the day that the last one
+It needs crates/rows_rules/out/rows_rules, which `rt run` and `rt ci` leave there. A row of it says how many calls of `next_after`, each from the day that the last one
 gave, lead to the last instance of 400 years, which a walk over the days has found before: that is the call alone, 100,000 times. In another row all of these instances are looked for by
 `next_after`, read and tested by `is_instance`. dateutil gives the same instances one after another, which are compared first; and its `after` is asked, as `next_after` is, for the
 instance behind each of some days that lie evenly between the first and the last, which is compared too. The best of seven runs counts, by processor time.
@@ -18,7 +18,7 @@ import time
 TOP = os.path.dirname(os.path.dirname(os.path.abspath(__file__)))
 sys.path.insert(0, os.path.join(TOP, "checks"))
 import rules_days
-from rules_days import DAILY, DEBIAN, MONTHLY, ROWS, WEEKLY, YEARLY, Date, Rule, at_midnight, made_by_dateutil, of_dateutil, walked
+from rules_days import DAILY, MONTHLY, ROWS, WEEKLY, YEARLY, Date, Rule, at_midnight, made_by_dateutil, of_dateutil, restart_without, walked
 
 CALLS = 100_000
 ASKED = 20
@@ -80,10 +80,9 @@ def seconds_of_after(rule, start, days):
 
 def main():
     if not os.path.exists(ROWS):
-        print("not run: everything, since there is no crates/rules_rows/out/rules_rows")
+        print("not run: everything, since there is no crates/rows_rules/out/rows_rules")
         return
-    if not rules_days.rrule and sys.executable != DEBIAN and os.path.exists(DEBIAN):
-        os.execv(DEBIAN, [DEBIAN, *sys.argv])
+    restart_without(rules_days.rrule)
     if not rules_days.rrule:
         print("not run: dateutil, since it is not installed")
     alone = seconds_of("")

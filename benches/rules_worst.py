@@ -1,13 +1,14 @@
 #!/usr/bin/env python3
 """Looks for slow rules and schedules: the slowest of random texts of at most 500 bytes.
 
-    benches/rules_worst.py [--seed N] [--rules N] [--program FILE] [--most SECONDS]
+    benches/rules_worst.py [--seed N] [--rules N] [--program FILE]
 
 It makes 10,000 random recurrence rules and as many random cron schedules, or as many as --rules says.
-The program crates/rules_rows asks each rule for its next and its previous instance: from the calendar's beginning, from a
-day of today's years, and from the calendar's end. crates/cron_rows asks each schedule in the same places.
+The program crates/rows_rules asks each rule for its next and its previous instance: from the calendar's beginning, from a
+day of today's years, and from the calendar's end. crates/rows_cron asks each schedule in the same places.
 At first 64 calls share a process. The calls of the slowest processes then run alone.
-The script prints the ten slowest with their processor times, and exits with status 1 if one takes more than --most (0.5 s).
+The script prints the ten slowest with their processor times: of rules without INTERVAL, of those with one, and of schedules.
+It exits with status 1 if a call takes more than 50 ms, or more than 500 ms for a rule with INTERVAL, which makes the cycle long.
 `rt run` and `rt ci` leave the two programs in their out/ folders.
 """
 import argparse
@@ -18,13 +19,15 @@ import subprocess
 import sys
 
 TOP = os.path.dirname(os.path.dirname(os.path.abspath(__file__)))
-RULES = os.path.join(TOP, "crates", "rules_rows", "out", "rules_rows")
-SCHEDULES = os.path.join(TOP, "crates", "cron_rows", "out", "cron_rows")
+RULES = os.path.join(TOP, "crates", "rows_rules", "out", "rows_rules")
+SCHEDULES = os.path.join(TOP, "crates", "rows_cron", "out", "rows_cron")
 FIRST, TODAY, LAST = -95_746_129, 739_000, 95_745_399
 WEEKDAYS = ("MO", "TU", "WE", "TH", "FR", "SA", "SU")
 LONGEST = 500
 AT_ONCE = 64
 SHOWN = 10
+# The most seconds of a call, and those of a call for a rule with INTERVAL.
+MOST, MOST_OF_INTERVALS = 0.05, 0.5
 
 
 def numbers(draw, most, signed, many):
@@ -127,22 +130,32 @@ def grouped(rows):
     return [rows[it:it + AT_ONCE] for it in range(0, len(rows), AT_ONCE)]
 
 
+def shown(name, program, rows, most):
+    """Prints the slowest of the calls. Returns whether each takes at most so many seconds."""
+    worst = slowest(program, grouped(rows))
+    print(f"{name}, at most {most * 1000:.0f} ms:")
+    for took, row in worst:
+        print(f"{took * 1000:9.1f} ms  {row.removesuffix(' = 0')}")
+    return all(took <= most for took, _ in worst)
+
+
 def main():
     """Prints the slowest calls of rules, and those of schedules."""
     words = argparse.ArgumentParser()
     words.add_argument("--seed", type=int, default=1)
     words.add_argument("--rules", type=int, default=10_000)
     words.add_argument("--program", default=RULES)
-    words.add_argument("--most", type=float, default=0.5)
     given = words.parse_args()
     draw = random.Random(given.seed)
-    rules = [row for _ in range(given.rules) for row in rule_rows(rule(draw))]
-    worst = slowest(given.program, grouped(rules))
+    texts = [rule(draw) for _ in range(given.rules)]
+    plain = [row for text in texts if "INTERVAL" not in text for row in rule_rows(text)]
+    spaced = [row for text in texts if "INTERVAL" in text for row in rule_rows(text)]
+    results = [shown("rules without INTERVAL", given.program, plain, MOST),
+               shown("rules with INTERVAL", given.program, spaced, MOST_OF_INTERVALS)]
     if os.path.exists(SCHEDULES):
-        worst += slowest(SCHEDULES, grouped(row for _ in range(given.rules) for row in schedule_rows(draw)))
-    for took, row in worst:
-        print(f"{took * 1000:9.1f} ms  {row.removesuffix(' = 0')}")
-    return 1 if max(took for took, _ in worst) > given.most else 0
+        rows = [row for _ in range(given.rules) for row in schedule_rows(draw)]
+        results.append(shown("schedules", SCHEDULES, rows, MOST))
+    return 0 if all(results) else 1
 
 
 if __name__ == "__main__":

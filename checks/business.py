@@ -2,9 +2,9 @@
 """Holds the calls of chrono_business to a walk day by day, and to numpy where it is installed.
 
     checks/business.py [--seed N]      (seed 1, if left out)
-    checks/business.py --write         writes the rows of crates/business_rows/stdin
+    checks/business.py --write         writes the rows of crates/rows_business/stdin
 
-The program crates/business_rows answers rows; here they are made. Calendars: closed on Saturday and Sunday alone, with the
+The program crates/rows_business answers rows; here they are made. Calendars: closed on Saturday and Sunday alone, with the
 federal holidays of the United States from 2020 to 2030 (5 U.S.C. 6103, each found by walking its month), on Friday and Saturday, on
 random weekdays with random holidays, never closed and never open. The walk goes over 400 years of each of two calendars, and asks of
 each day whether it is open and how many open days lie before it; all other calls are asked at random dates. `add_open_days` is
@@ -14,7 +14,7 @@ with what is wrong first. Easter is held to the method of Meeus, Jones and Butch
 where it is installed; each holiday of the given calendars up to 2049 to a reading of its own here, and so are the holidays of random rules in random years,
 listed with room for them or too little, lists without weekends, and two random calendars joined.
 
-It needs crates/business_rows/out/business_rows, which `rt run` and `rt ci` leave there.
+It needs crates/rows_business/out/rows_business, which `rt run` and `rt ci` leave there.
 """
 import argparse
 import bisect
@@ -22,14 +22,15 @@ import calendar as months
 import datetime
 import os
 import random
-import re
-import subprocess
 import sys
 
-TOP = os.path.dirname(os.path.dirname(os.path.abspath(__file__)))
-ROWS = os.path.join(TOP, "crates", "business_rows", "out", "business_rows")
-STDIN = os.path.join(TOP, "crates", "business_rows", "stdin")
-DEBIAN = "/usr/bin/python3"
+from row_programs import TOP, failed_rows, program_of
+
+sys.path.insert(0, os.path.join(TOP, "tools"))
+from debian import restart_without  # noqa: E402
+
+ROWS = program_of("rows_business")
+STDIN = os.path.join(TOP, "crates", "rows_business", "stdin")
 
 try:
     import numpy
@@ -478,17 +479,6 @@ thirty_360 732554 732735 = 178
 thirty_e_360 732554 732735 = 178"""
 
 
-def answered(rows):
-    """How many rows the program answers otherwise, and of how many."""
-    ran = subprocess.run([ROWS], input="\n".join(rows) + "\n", stdout=subprocess.PIPE, text=True, timeout=900)
-    lines = ran.stdout.splitlines()
-    counts = re.fullmatch(r"(\d+) lines, (\d+) of them answered otherwise", lines[-1] if lines else "")
-    for it in lines[:5]:
-        if it.startswith("line "):
-            print(it)
-    return (len(rows), int(counts[2])) if counts and int(counts[1]) == len(rows) else (len(rows), len(rows))
-
-
 def main():
     wanted = argparse.ArgumentParser(description=__doc__, formatter_class=argparse.RawDescriptionHelpFormatter)
     wanted.add_argument("--seed", type=int, default=1)
@@ -508,11 +498,10 @@ def main():
             it.write("\n".join(few) + "\n")
         return 0
     if not os.path.exists(ROWS):
-        print("there is no crates/business_rows/out/business_rows: `rt run` in crates/business_rows builds it\n0 passed, 1 failed")
+        print("there is no crates/rows_business/out/rows_business: `rt run` in crates/rows_business builds it\n0 passed, 1 failed")
         return 1
-    if numpy is None and sys.executable != DEBIAN and os.path.exists(DEBIAN):
-        return subprocess.run([DEBIAN, os.path.abspath(__file__), "--seed", str(given.seed)]).returncode
-    parts = {"the rows of business_rows": few}
+    restart_without(numpy)
+    parts = {"the rows of rows_business": few}
     for place, it in enumerate(made[:2]):
         parts[f"400 years day by day, calendar {place + 1}"] = [it.row(), *walked(it)]
     parts["Easter of 200,000 years"] = [made[1].row(), *easters(-100_000, 100_000)]
@@ -529,9 +518,9 @@ def main():
         parts["numpy"] = [row for it in open_ones for row in (it.row(), *by_numpy(chance, it, 1_500))]
     passed = failed = 0
     for name, rows in parts.items():
-        count, others = answered(rows)
-        print(f"{name}: {count} rows, {others} answered otherwise")
-        passed, failed = passed + count - others, failed + others
+        others = failed_rows(ROWS, rows)
+        print(f"{name}: {len(rows)} rows, {others} answered otherwise")
+        passed, failed = passed + len(rows) - others, failed + others
     print(f"{passed} passed, {failed} failed")
     return 1 if failed else 0
 

@@ -2,7 +2,7 @@
 """Holds chrono_cron to a second reading of schedules, which tries days and minutes one after another.
 
     checks/cron.py [--rows N] [--seed N]      (20,000 generated rows, and ten times as many texts of fields and of schedules, from seed 1, if left out)
-    checks/cron.py --write                    (crates/cron_rows/stdin made again)
+    checks/cron.py --write                    (crates/rows_cron/stdin made again)
 
 A schedule is read here from its text of five fields, and a moment is due by the definition: its month, its hour and its minute are
 listed, and so are its day of the month and its weekday, or one of these where neither text begins with `*`. Days that a field names by
@@ -10,7 +10,7 @@ the month's end, its workdays or its weeks (`L`, `L-3`, `LW`, `15W`, `5L`, `5#2`
 found by trying each day from the start's on, and each minute of a day that passes, to the end of the calendar; a schedule of which
 no day passes in 400 years, in which days and weekdays come again, is never due. Calendar dates are those of checks/counted.py.
 
-The rows of crates/cron_rows/stdin are held to it, some answers that are written out, and generated ones: schedules with wide and with narrow fields, starts at
+The rows of crates/rows_cron/stdin are held to it, some answers that are written out, and generated ones: schedules with wide and with narrow fields, starts at
 both ends of the calendar, in leap seconds, at due moments and beside them; and for twelve schedules the next moment after every minute of
 a year, and all that the iterator gives, held to the minutes of a year that are due by the definition.
 
@@ -24,15 +24,14 @@ import functools
 import os
 import random
 import re
-import subprocess
 import sys
 from datetime import date as Date
 
 from counted import FIRST_DAY, LAST_DAY, day_of, name_of, weekday_of
+from row_programs import TOP, failed_rows, program_of
 
-TOP = os.path.dirname(os.path.dirname(os.path.abspath(__file__)))
-ROWS = os.path.join(TOP, "crates", "cron_rows", "stdin")
-PROGRAM = os.path.join(TOP, "crates", "cron_rows", "out", "cron_rows")
+ROWS = os.path.join(TOP, "crates", "rows_cron", "stdin")
+PROGRAM = program_of("rows_cron")
 
 FIELDS = ((0, 59), (0, 23), (1, 31), (1, 12), (0, 7))
 CYCLE = 146_097
@@ -121,7 +120,7 @@ def item_numbers(item, low, high, names):
     """The numbers that an item of a field lists, or None if it is none: `*`, a number, a range, or steps through one of the last two kinds of span."""
     spelled = spellings(low, high, names)
     span, slash, step = item.partition("/")
-    if slash and step not in spellings(1, 99, "numbers"):
+    if slash and not (re.fullmatch("[0-9]{1,3}", step) and int(step)):
         return None
     if span == "*":
         first, last = low, high
@@ -162,7 +161,7 @@ def read_schedule(text):
     """The eleven numbers of the schedule that a text tells, as a row has them, or None if the text is none."""
     words = [it for it in re.split("[ \t]", text) if it]
     if len(words) == 1:
-        words = NICKNAMES.get(words[0], words[0]).split(" ")
+        words = NICKNAMES.get(words[0].lower(), words[0]).split(" ")
     if len(words) != 5:
         return None
     sets, named = [], {"ends": set(), "nearest": set(), "last": set(), "lasts": set(), "nths": set()}
@@ -536,7 +535,10 @@ READ_OUT = """\
 @hourly | 0 * * * *
 @yearly | 0 0 1 1 *
 @weekly | 0 0 * * 0
+@DAILY | 0 0 * * *
 @reboot | none
+*/120 5-20/100 * * * | 0 5 * * *
+*/1000 * * * * | none
 */15 9-17 * jan,MAR mon-fri | 0,15,30,45 9-17 * 1,3 1-5
 5 4 * * sun | 5 4 * * 0
 5 4 * * fri-7 | 5 4 * * 0,5-6
@@ -598,8 +600,8 @@ DUE_OUT = """\
 
 # Whole texts that are none: no time to tell, a nickname in other case, too few fields and too many, numbers past a field's range, ranges backwards, steps
 # behind a number, empty items, names in the wrong field or too long, and days that no month names.
-NONE_OUT = """@reboot;;@Daily;@;@daily 0;;  ;*;* * * *;* * * * * *;0 0 * * * # daily;60 * * * *;* 24 * * *;* * 0 * *;* * 32 * *;* * * 0 *;* * * 13 *;* * * * 8\
-;*/0 * * * *;*/100 * * * *;5/2 * * * *;5-3 * * * *;0-60 * * * *;1,,2 * * * *;1, * * * *;,1 * * * *;1- * * * *;-1 * * * *;+1 * * * *;1.5 * * * *;005 * * * *\
+NONE_OUT = """@reboot;;@Dayly;@;@daily 0;;@every 5m;TZ=UTC 0 0 * * *;  ;*;* * * *;* * * * * *;0 0 * * * # daily;60 * * * *;* 24 * * *;* * 0 * *;* * 32 * *;* * * 0 *;* * * 13 *;* * * * 8\
+;*/0 * * * *;*/1000 * * * *;*/000 * * * *;*/0x1 * * * *;*/10x * * * *;*/x10 * * * *;5/2 * * * *;5-3 * * * *;0-60 * * * *;1,,2 * * * *;1, * * * *;,1 * * * *;1- * * * *;-1 * * * *;+1 * * * *;1.5 * * * *;005 * * * *\
 ;** * * * *;~ * * * *;* * ? * *;* * * feb-jan *;* * * january *;* * * mon *;* * mon * *;* * * * jan;* * * * sunday;* * * * sat-sun;mon * * * *;* L * * *;L * * * *\
 ;* * L-0 * *;* * L-31 * *;* * L- * *;* * L/2 * *;* * 0W * *;* * 32W * *;* * W * *;* * WL * *;* * 1-5W * *;* * 5L * *;* * 5#2 * *;* * * L *;* * * * L;* * * * LW\
 ;* * * * 8L;* * * * 5#0;* * * * 5#6;* * * * #2;* * * * 5#;* * * * 5W;* * * * 1-5L;0 0 * * 0,""".split(";")
@@ -679,7 +681,7 @@ ERROR_OUT = """\
  | none 0 empty
   \t | none 3 empty
 @reboot | none 0 nickname
- @Daily | none 1 nickname
+ @Dayly | none 1 nickname
 @daily 0 | none 8 few
 * | none 1 few
 * * * * | none 7 few
@@ -699,7 +701,10 @@ ERROR_OUT = """\
 0 0 1 13 8 | month 6 range
 */0 * * * * | minute 2 zero
 0,0-30/00 * * * * | minute 7 zero
-*/100 * * * * | minute 2 number
+*/100 * * * * | none
+*/000 * * * * | minute 2 zero
+*/1000 * * * * | minute 2 range
+*/12x * * * * | minute 2 number
 */ * * * * | minute 2 empty
 * */x * * * | hour 4 name
 */2/3 * * * * | minute 2 number
@@ -721,19 +726,44 @@ ERROR_OUT = """\
 ** * * * * | minute 0 number
 * * ? * * | day 4 number
 * * * feb-jan * | month 10 turned
-* * * january * | month 6 name
+* * * january * | month 6 long
+* * * 1-marx * | month 8 long
+* * * ja * | month 6 name
 * * mon * * | day 4 name
 * L * * * | hour 2 name
 * * * * mon-sun | weekday 12 turned
-* * * * 1,sunday | weekday 10 name
-* * L,L-31 * * | day 6 name
-* * LW,32W * * | day 7 number
+* * * * 1,sunday | weekday 10 long
+* * * * monday#2 | weekday 8 long
+* * L,L-31 * * | day 8 range
+* * L-0 * * | day 6 range
+* * L- * * | day 6 empty
+* * L-x * * | day 6 name
+* * LW,32W * * | day 7 range
+* * 0W * * | day 4 range
+* * 100W * * | day 4 number
+* * xW * * | day 4 name
+* * W * * | day 4 name
 * * 15W,L,32 * * | day 10 range
-* * * * 5L,5#6 | weekday 11 number
+* * * * 5L,5#6 | weekday 13 range
+* * * * 5#0 | weekday 10 range
+* * * * 8#2 | weekday 8 range
+* * * * #2 | weekday 8 empty
+* * * * 5# | weekday 10 empty
+* * * * 8l,1 | weekday 8 range
+* * * * 1-5L | weekday 10 number
 * * * * L | weekday 8 name
 * * * * 5#2,8 | weekday 12 range
 * * * * * | none
  @daily | none
+@DAILY | none
+	@Every 5m | none 1 every
+@every 1 2 3 4 5 | none 0 every
+@every | none 0 every
+TZ=UTC 0 0 * * * | none 0 zone
+ CRON_TZ=UTC @daily | none 1 zone
+CRON_TZ 0 0 * * * | none 16 many
+TZ 0 0 * * * | none 11 many
+@daily 0 | none 8 few
 0 0 L,15W jan-mar 5#2,7L | none"""
 
 
@@ -766,15 +796,6 @@ def are_read_out():
     return all(read_schedule(it) == Schedule(it, False).words() for it in KNOWN)
 
 
-def answered(rows):
-    """Runs the program over rows; how many it answers, and what it prints of the others."""
-    text = "".join(f"{it}\n" for it in rows)
-    ran = subprocess.run([PROGRAM], input=text, stdout=subprocess.PIPE, text=True, check=True, timeout=600)
-    *others, last = ran.stdout.splitlines()
-    complete = last.startswith(f"{len(rows)} lines, ")
-    return (len(rows) - len(others) if complete else 0), others
-
-
 def main():
     parser = argparse.ArgumentParser()
     parser.add_argument("--rows", type=int, default=20_000)
@@ -789,11 +810,11 @@ def main():
         standing = file.read().splitlines()
     passed, failed = int(standing == known()), int(standing != known())
     if failed:
-        print("the rows of crates/cron_rows/stdin are others than this reading gives")
+        print("the rows of crates/rows_cron/stdin are others than this reading gives")
     read_out = are_read_out() and are_due_out() and are_leap_days()
     passed, failed = passed + int(read_out), failed + int(not read_out)
     if not os.path.exists(PROGRAM):
-        print("not run: the rows by the program, since there is no crates/cron_rows/out/cron_rows")
+        print("not run: the rows by the program, since there is no crates/rows_cron/out/rows_cron")
         print(f"{passed} passed, {failed} failed")
         return failed
     start = (day_of(2023, 11, 15), 0, 0)
@@ -813,11 +834,9 @@ def main():
         ("iterators over 400 years", [row_of("cycle", Schedule(it), start) for it in CYCLES]),
         ("iterators over years", [row_of("dues", Schedule(it), start) for it in YEARS]),
     ):
-        right, others = answered(rows)
-        print(f"{name}: {len(rows)}, {len(rows) - right} of them answered otherwise (seed {arguments.seed})")
-        for other in others[:3]:
-            print(f"  {other}")
-        passed, failed = passed + int(right == len(rows)), failed + int(right != len(rows))
+        others = failed_rows(PROGRAM, rows)
+        print(f"{name}: {len(rows)}, {others} of them answered otherwise (seed {arguments.seed})")
+        passed, failed = passed + int(not others), failed + int(others > 0)
     print(f"{passed} passed, {failed} failed")
     return int(failed > 0)
 

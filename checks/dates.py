@@ -43,7 +43,7 @@ COMPLETED = [("dates roll 2024-03-30 following --c", ["--calendar"]), ("dates ro
              ("dates roll 2024-03-30 n", ["nearest"]), ("dates open 2024-03-30 --calendar e", ["england"]),
              ("dates open 2024-03-30 --weekend s", ["sat", "sun"]), ("dates open 2024-03-30 --weekend n", ["none"]),
              ("dates cal 2024-03 --first ''", ["mon", "tue", "wed", "thu", "fri", "sat", "sun"]), ("dates cal 2024-03 --first n", []),
-             ("dates diff 2024-02-29 2024-03-30 in ''", ["d", "w", "m", "y", "b", "ymd"]), ("dates diff 2024-02-29 2024-03-30 in y", ["y", "ymd"]),
+             ("dates diff 2024-02-29 2024-03-30 in ''", ["d", "w", "m", "mo", "y", "b", "ymd"]), ("dates diff 2024-02-29 2024-03-30 in y", ["y", "ymd"]),
              (f"dates open 2024-03-30 --holidays {TOP}/docs/dat", [f"{TOP}/docs/dates.md"]), (f"dates check {TOP}/docs/dat", [f"{TOP}/docs/dates.md"]),
              ("dates open 2024-03-30 --holidays two", [SPACED]), ("dates check two", [SPACED]), ("dates check 'two w'", [SPACED]),
              ("dates check --j", ["--json"])]

@@ -11,7 +11,7 @@ the command alone, whichever years the lines before it lie in. With `--json` eac
 and status and standard error are the same. A fifth of the commands is spoiled: a word is turned to one that cannot stand there, what has to follow is cut off, a word too many
 is put behind, or a day is one that its month has not. What is said of them has to name that word, its place and what was expected.
 
-Behind them the rules of crates/rules_rows are asked for, the date examples of RFC 5545 among them, with `--start` and with or without `--from` and `--count`; the
+Behind them the rules of crates/rows_rules are asked for, the date examples of RFC 5545 among them, with `--start` and with or without `--from` and `--count`; the
 answers are those that stand there.
 
 It needs crates/dates/out/dates, which `rt run` and `rt ci` leave there, and numpy and dateutil of Debian's Python.
@@ -34,8 +34,10 @@ import cron
 import rules_days
 
 TOP = os.path.dirname(os.path.dirname(os.path.abspath(__file__)))
+sys.path.insert(0, os.path.join(TOP, "tools"))
+from debian import restart_without  # noqa: E402
+
 DATES = os.path.join(TOP, "crates", "dates", "out", "dates")
-DEBIAN = "/usr/bin/python3"
 
 try:
     import numpy
@@ -174,7 +176,7 @@ class Closed:
 
 
 def moved(date, count, unit):
-    return date + relativedelta(**{{"d": "days", "w": "weeks", "m": "months", "y": "years"}[unit]: count})
+    return date + relativedelta(**{{"d": "days", "w": "weeks", "m": "months", "mo": "months", "y": "years"}[unit]: count})
 
 
 def apart(start, end, unit):
@@ -203,11 +205,11 @@ def a_count(chance, wide):
 
 def a_move(chance, timed, closed):
     """A word that moves a start, and the move."""
-    unit = chance.choice(["d", "w", "m", "y"] + ["b"] * 2 * bool(closed) + ["h", "min", "s", "PT"] * timed)
+    unit = chance.choice(["d", "w", "mo" if timed else "m", "mo", "y"] + ["b"] * 2 * bool(closed) + ["h", "min", "s", "PT"] * timed)
     if unit == "PT":
         length = Span(microseconds=chance.choice((0, 1_500_000, chance.randint(-10**13, 10**13))))
         return duration_text(length), lambda it: it + length
-    count = a_count(chance, {"d": 3000, "w": 500, "m": 300, "y": 40, "b": 300, "h": 9000, "min": 10**5, "s": 10**6}[unit])
+    count = a_count(chance, {"d": 3000, "w": 500, "m": 300, "mo": 300, "y": 40, "b": 300, "h": 9000, "min": 10**5, "s": 10**6}[unit])
     if unit in ("h", "min", "s"):
         length = Span(seconds=count * {"h": 3600, "min": 60, "s": 1}[unit])
         return f"{count}{unit}", lambda it: it + length
@@ -508,7 +510,7 @@ def of_rule(chance, _):
 
 
 def examples():
-    """The rows of crates/rules_rows that ask for a rule's instances, as commands: all of them or as many as the row has, one of them, those behind one, and none."""
+    """The rows of crates/rows_rules that ask for a rule's instances, as commands: all of them or as many as the row has, one of them, those behind one, and none."""
     made = []
     with open(rules_days.EXAMPLES, encoding="ascii") as rows:
         rows = [words for words in map(str.split, rows) if words[0].startswith("3.") and words[3] == "="]
@@ -585,12 +587,12 @@ EXPECTED = {
     "first": "a day as 2024-02-29 or a command; dates --help lists them",
     "day": "a day as 2024-02-29, 2024-060 or 2024-W09-4",
     "start": "a day as 2024-02-29 or a date-time as 2024-02-29T04:30",
-    "move": "a span as 3d, -2w, 1m, 4y, 5b, 36h, 90min, 15s or PT1.5S",
+    "move": "a span as 3d, -2w, 1mo, 4y, 5b, 36h, 90min, 15s or PT1.5S",
     "step": "a span as 3d, -2w, 1m or 4y",
     "year": "a year as 2024",
     "week": "a week as 2024-W09",
     "in": "in and a unit, as 'in w'",
-    "unit": "d, w, m, y, b or ymd",
+    "unit": "d, w, m, mo, y, b or ymd",
     "convention": ", ".join(ROLLS[1:]) + " or unadjusted",
     "--weekend": "none, or at most two weekdays as fri,sat",
     "--calendar": "us-federal, target or england",
@@ -761,8 +763,7 @@ def main():
     if not os.path.exists(DATES):
         print("there is no crates/dates/out/dates: `rt run` in crates/dates builds it\n0 passed, 1 failed")
         return 1
-    if numpy is None and sys.executable != DEBIAN and os.path.exists(DEBIAN):
-        return subprocess.run([DEBIAN, os.path.abspath(__file__), *sys.argv[1:]]).returncode
+    restart_without(numpy)
     if numpy is None:
         print("not run: the commands of dates, since there is no numpy or no dateutil\n0 passed, 0 failed")
         return 0

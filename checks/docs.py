@@ -37,6 +37,7 @@ from reference_pages import library, make, pages  # noqa: E402
 TOP = os.path.dirname(os.path.dirname(os.path.abspath(__file__)))
 # The pages that checks read or plant faults in.
 README, TUTORIAL, CALLING, CALTOOL, TRUST = "README.md", "docs/tutorial.md", "CALLING.md", "docs/caltool.md", "docs/trust.md"
+CONTRIBUTING = "CONTRIBUTING.md"
 CHRONO, PROMISES, ARCHITECTURE, PROVING = "docs/chrono.md", "docs/promises.md", "docs/architecture.md", "docs/proving.md"
 # Folders with nothing of the tree's own, beside which a caller from Python may build a shared object.
 LEFT_OUT = (".git", "out", "dist", "target", "__pycache__")
@@ -45,7 +46,7 @@ COMMENTS = {".rt": r"//[^\n]*", ".rs": r"//[^\n]*", ".antt": r"--[^\n]*", ".c": 
             ".py": r'""".*?"""|#[^\n]*', ".pyi": r"#[^\n]*", ".toml": r"#[^\n]*", ".js": r"//[^\n]*|/\*.*?\*/", ".ts": r"//[^\n]*|/\*.*?\*/"}
 # Names that no source declares, by the reason.
 ABSENT = {
-    "of Rust and its std": """From Option Display DoubleEndedIterator Drop Eq FromIterator FromPrimitive FromStr Hash
+    "of Rust and its std": """From Display DoubleEndedIterator String Drop Eq FromIterator FromPrimitive FromStr Hash
         IntoIterator Ok Result Some Sum TryFrom collect fmt::Write format if match mod requires self str u8 unsafe unwrap""",
     "of the kit: its words, its tactics and its std": """IfSome_then SomeIff agree_below agree_below_at num_traits omega refl subst
         unfoldable view_is ensures """,
@@ -55,23 +56,23 @@ ABSENT = {
     "of C": "int32_t memcpy",
     "of Rust's compiler and of the kit's options": "ConversionError serde target_feature wasm64",
     "read from the environment": "CALENDAR_FOLDER CMAKE_PREFIX_PATH PKG_CONFIG_PATH",
-    "of chrono, and left out here": """parse_from_str parse_and_remainder ParseMonthError ParseWeekdayError format_with_items
-        format_localized format_localized_with_items and_utc and_local_timezone checked_add_offset checked_sub_offset FixedOffset
-        BEFORE_MIN AFTER_MAX UNIX_EPOCH timestamp from_timestamp as_seconds_f64 as_seconds_f32 from_std to_std OutOfRangeError
-        from_isoywd from_num_days_from_ce from_hms from_hms_milli from_hms_micro from_hms_nano
-        from_num_seconds_from_midnight and_hms and_hms_milli and_hms_micro and_hms_nano NaiveDate::succ NaiveDate::pred""",
+    "of chrono, and left out here": """from_timestamp_opt timestamp_nanos parse_from_rfc2822 parse_from_str parse_and_remainder ParseMonthError ParseWeekdayError format_with_items
+        format_localized format_localized_with_items and_utc and_local_timezone Local
+        BEFORE_MIN AFTER_MAX UNIX_EPOCH as_seconds_f64 as_seconds_f32 from_std to_std OutOfRangeError
+        from_isoywd from_num_days_from_ce from_hms
+        from_num_seconds_from_midnight and_hms NaiveDate::succ NaiveDate::pred""",
     "files and modules of chrono": "naive internals isoweek",
-    "words of CMake, of the shell and of a line": "find_package cc head move pkg-config",
-    "words of the program dates": "MONTH UNIT CONVENTION us-federal modified-following modified-preceding",
+    "words of CMake, of the shell and of a line": "find_package cc move pkg-config",
+    "words of the program dates": "MONTH UNIT CONVENTION mo us-federal modified-following modified-preceding",
     "digits of a number": "_294_967_297",
-    "texts and digits of a text": "P0D PT59M59 PT90S PT007S PT1H30M PT5400S PT0S PT90M min",
+    "texts and digits of a text": "P0D PT59M59 PT90S PT007S PT1H30M PT5400S PT0S",
     "made by tools/dist": "SHA256SUMS",
-    "in the place of a name, or a part of names": "LAW ARGS condition with_ _opt",
+    "in the place of a name, or a part of names": "LAW ARGS condition with_ _opt _milli _micro _nano",
 }
 # Files and folders that are rightly not there, by the reason.
 NO_FILES = {
     "left by a build": "dist crates/caltool/out/caltool crates/dates/out/dates out out/libcalendar_c.a",
-    "where a package is installed": "include/calendar.h lib/libcalendar-v3.a lib/libcalendar.a lib/libcalendar.so.0 libcalendar-v3.a lib/pkgconfig lib/pkgconfig/calendar.pc lib/cmake/calendar libcalendar.so",
+    "where a package is installed": "include/calendar.h lib/libcalendar-v3.a lib/libcalendar.a lib/libcalendar.so.0 libcalendar-v3.a lib/pkgconfig lib/pkgconfig/calendar.pc lib/cmake/calendar",
     "an option of a compiler": "-Ilanguages/c",
     "of the kit": "docs/WALKS.md",
     "of the reader": "main.c",
@@ -83,6 +84,8 @@ SPAN = re.compile(r"`([^`]+)`")
 FENCE = re.compile(r"^```.*?^```$", re.M | re.S)
 PLACE = re.compile(r"[\w./-]*/[\w./-]*|[\w.-]+\.(?:rt|antt|py|md|edits?|h|c|rs|txt|so|a)")
 FOLDERS = re.compile(r"(?<![\w/.])(?:crates|docs|checks|tools|benches|languages)/[\w./-]*\w")
+# From one crate's folder to another's.
+NEXT_CRATE = re.compile(r"\bcd \.\./(\w+)")
 LINK = re.compile(r"\]\(([^)#\s]*)(?:#([^)\s]*))?\)")
 DECLARED = {
     ".rt": re.compile(r"\b(?:fn|struct|enum|trait|const|type|mod|ghost|ensures|requires) (\w+)|^ *(?:pub )?(\w+):"
@@ -218,6 +221,7 @@ def named_places(documents):
             yield span, part
     for path, text in documents.items():
         yield from ((it, Part(path, "", "")) for it in FOLDERS.findall(text))
+        yield from ((f"crates/{it}", Part(path, "", "")) for it in NEXT_CRATE.findall(text))
 
 
 def quoted(documents):
@@ -378,7 +382,7 @@ def lines_of(tree, crate):
 
 
 def texts_of_none(tree):
-    return sum(it.endswith(" = none") for it in tree.files["crates/reading_rows/stdin"].splitlines())
+    return sum(it.endswith(" = none") for it in tree.files["crates/rows_reading/stdin"].splitlines())
 
 
 def commands(tree):
@@ -417,11 +421,11 @@ def length(tree, path, array):
 
 
 def kinds_of_error(tree):
-    return length(tree, "caltool_tests/src/hostile.rt", "KINDS")
+    return length(tree, "tests_caltool/src/hostile.rt", "KINDS")
 
 
 def fractions_and_moves(tree):
-    return tuple(length(tree, "chrono_tests/src/naive_time/every_second.rt", it) for it in ("FRACTIONS", "MOVES"))
+    return tuple(length(tree, "tests_chrono/src/naive_time/every_second.rt", it) for it in ("FRACTIONS", "MOVES"))
 
 
 def lines_of_fuzz(tree):
@@ -433,11 +437,6 @@ def lines_of_proof(tree, module, name):
     folder = f"crates/chrono_uses/proofs/{module}/{name}/"
     lines = [it for path, text in tree.files.items() if path.startswith(folder) for it in text.splitlines()]
     return len([it for it in lines if it.strip() and not re.match(r" *--|use ", it)]), len(lines)
-
-
-def lines_of_callers(tree):
-    each = [lines_of_proof(tree, *it[:2]) for it in re.findall(CALLER, tree.documents[CALLING], re.M)]
-    return tuple(map(sum, zip(*each)))
 
 
 def lines_in(texts):
@@ -474,12 +473,12 @@ COUNTS = [
     (r"(\w+) edits carry a right body", twins),
     (r"finds (\d+) wrong bodies planted", lambda _: len(rules.PLANTED)),
     (r"(\w+) (?:cases|arms) or\s+more", lambda _: rules.MANY),
-    (r"`(?P<crate>chrono_rows)` \(([\d,]+) single calls", lines_of),
-    (r"`(?P<crate>caltool_rows)`\s+\(([\d,]+)\s+lines", lines_of),
-    (r"`(?P<crate>reading_rows)` \(([\d,]+) texts", lines_of),
+    (r"`(?P<crate>rows_chrono)` \(([\d,]+) single calls", lines_of),
+    (r"`(?P<crate>rows_caltool)`\s+\(([\d,]+)\s+lines", lines_of),
+    (r"`(?P<crate>rows_reading)` \(([\d,]+) texts", lines_of),
     (r"texts, ([\d,]+) of them of no value", texts_of_none),
-    (r"`caltool` over ([\d,]+) lines", lambda tree: lines_of(tree, "caltool_rows")),
-    (r"([\d,]+) rows of `chrono_rows` at the ends", rows_at_ends),
+    (r"`caltool` over ([\d,]+) lines", lambda tree: lines_of(tree, "rows_caltool")),
+    (r"([\d,]+) rows of `rows_chrono` at the ends", rows_at_ends),
     (r"at the ends of the types of (\d+) calls", lambda _: len(ends.CALLS)),
     (r"(\d+) cases of the program", cases_of_statuses),
     (r"each of (\d+) kinds of error", kinds_of_error),
@@ -492,9 +491,8 @@ COUNTS = [
     (r"some ([\d,]+) lines in the `specs/` folders", lines_of_all_specs),
     (r"^\| (?P<those>`\w+/specs/[^|]*) \| (\d+) \|", lines_of_specs),
     (r"about (\d+) lines", lines_to_read),
-    (r"^## (\w+) callers", callers),
+    (r"These (\w+) have the longest answers", callers),
     (CALLER, lines_of_proof),
-    (r"^\| all \| \| (\d+) \| (\d+) \|", lines_of_callers),
 ]
 
 
@@ -529,6 +527,7 @@ PLANTED = [
     (files, README, "(docs/reference/README.md)", "(docs/reference/READER.md)"),
     (files, README, "(docs/reference/README.md)", "(docs/reference/README.md#chrono_days)"),
     (files, README, "(cd crates/dates && rt try", "(cd crates/date && rt try"),
+    (files, CONTRIBUTING, "cd ../tests_chrono", "cd ../chrono_tests"),
     (names, CALLING, "`Datelike::num_days_from_ce`", "`Datelike::num_days_from_bce`"),
     (names, CALLING, "`Datelike::num_days_from_ce`", "`Timelike::num_days_from_ce`"),
     (names, CHRONO, "`chrono_units::year`", "`chrono_units::years`"),
@@ -551,12 +550,12 @@ PLANTED = [
     (comments, "crates/chrono_units/specs/Years.antt", "-- the days of a year\n", ""),
     (comments, "crates/chrono_naive/src/naive_date.rt", "impl NaiveDate {\n", "impl NaiveDate {\n    /// See [`NaiveDate::day_after`].\n"),
     (comments, "crates/chrono_naive/src/naive_date.rt", "impl NaiveDate {\n", "impl NaiveDate {\n    pub const FIRST: i32 = 1;\n"),
-    (crates, ARCHITECTURE, "cron_rows", "rows_of_cron"),
+    (crates, ARCHITECTURE, "rows_cron", "rows_of_cron"),
     (pasted, README, "| rt run)", "| rt runs)"),
     (pasted, README, "`2025-02-28`", "`2025-02-27`"),
     (pasted, README, "# 2024-02-29 738945 Thu 2024-W09 60 ", "# 2024-02-29 738946 Thu 2024-W09 60 "),
     (pasted, CALTOOL, "| `2025-01-01 739252 ", "| `2025-01-01 739253 "),
-    (pasted, TUTORIAL, "checked my_invoices::due, 1 of 1", "checked my_invoices::due, 1 of 2"),
+    (pasted, TUTORIAL, "fn my_invoices::due: proved", "fn my_invoices::due: refused"),
 ]
 
 

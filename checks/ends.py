@@ -1,10 +1,10 @@
 #!/usr/bin/env python3
-"""A second opinion on the rows of chrono_rows, counted, and on whether they reach the ends of every type.
+"""A second opinion on the rows of rows_chrono, counted, and on whether they reach the ends of every type.
 
-    checks/ends.py              compares each row of crates/chrono_rows/stdin with what is counted here
+    checks/ends.py              compares each row of crates/rows_chrono/stdin with what is counted here
     checks/ends.py --missing    prints the rows that are wanted and do not stand there
 
-Each call of a row is read here a second time, plainly, in whole numbers over checks/counted.py. A call that chrono_rows would
+Each call of a row is read here a second time, plainly, in whole numbers over checks/counted.py. A call that rows_chrono would
 make and that is not read here fails the check, as it would need no row. Wanted are, of each call: each
 end of each argument with the others in the middle of their types, and each choice of ends for all arguments at once. The ends are
 those of the machine's numbers, the longest durations, the first and the last date, midnight, the last second of the day and its
@@ -20,7 +20,7 @@ from counted import (DAY, FIRST_DAY, FIRST_YEAR, LAST_DAY, LAST_YEAR, LONGEST, N
                      month_move, name_of, ordinal_of, week_of, weekday_of, years_between)
 
 TOP = os.path.dirname(os.path.dirname(os.path.abspath(__file__)))
-CRATE = os.path.join(TOP, "crates", "chrono_rows")
+CRATE = os.path.join(TOP, "crates", "rows_chrono")
 ROWS = os.path.join(CRATE, "stdin")
 
 EPOCH = 719_163
@@ -387,7 +387,7 @@ MOMENTS = {
 OWNERS = {"Weekday": WEEKDAYS, "WeekdaySet": SETS, "Month": MONTHS_OF_YEAR, "Months": SPANS, "TimeDelta": DURATIONS,
           "NaiveTime": TIMES, "NaiveDate": DATES, "NaiveWeek": WEEKS, "IsoWeek": ISO_WEEKS, "NaiveDateTime": MOMENTS}
 CALLS = {f"{owner}.{name}": call for owner, calls in OWNERS.items() for name, call in calls.items()}
-# The modules of chrono_rows, with the types whose calls they make.
+# The modules of rows_chrono, with the types whose calls they make.
 MODULES = {"weekdays": ["Weekday"], "sets": ["WeekdaySet"], "months": ["Month", "Months"], "durations": ["TimeDelta"],
            "times": ["NaiveTime"], "dates": ["NaiveDate"], "weeks": ["NaiveWeek", "IsoWeek"],
            "date_times": ["NaiveDateTime"], "forms": ["NaiveDate", "NaiveWeek"]}
@@ -422,7 +422,7 @@ def wanted(name):
 
 
 def unread():
-    """The calls that the modules of chrono_rows would make and that are not read here."""
+    """The calls that the modules of rows_chrono would make and that are not read here."""
     for module, owners in MODULES.items():
         with open(os.path.join(CRATE, "src", f"{module}.rt"), encoding="utf-8") as it:
             made = re.findall(r'"(\w+)"\s*(?:=>|\||if\b)', it.read())

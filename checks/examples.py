@@ -8,8 +8,8 @@ An example is a fenced block with no language in a doc comment of crates/CRATE/s
 with ` // ` and the text that `{:?}` prints of the value; a long value stands on the next line behind `// `. All examples become
 one program in a copy of the crates, with those of docs/layers.md: each is the body of a function `fn example(rt: &HostRuntime) -> Option<()>`, in a file that
 imports all public names of its crate. `rt try` runs the program unproved. A failure is a value that is not the printed one, an
-example that does not compile, stops early or shows no value, and a public function with no example. The modules `law`, whose
-functions state laws, are left out, and so is what no caller of the crate can name.
+example that does not compile, stops early or shows no value, and a public function with no example. A function of a module `law`
+that returns nothing states a law, and needs none. What no caller of the crate can name is left out.
 
 With chrono_units the check tries itself too: a wrong value, a misspelt name and an example taken away have to be found there.
 """
@@ -26,8 +26,9 @@ from results import Results, read
 
 TOP = os.path.dirname(os.path.dirname(os.path.abspath(__file__)))
 LIBRARIES = (
-    "chrono_units", "chrono_clock", "chrono_calendar", "chrono_internals", "chrono_stored", "chrono_naive", "chrono_datetime",
-    "chrono_reading", "chrono_cron", "chrono_business", "chrono_rules", "chrono_columns",
+    "chrono_sets", "chrono_units", "chrono_clock", "chrono_calendar", "chrono_internals", "chrono_stored", "chrono_naive", "chrono_datetime",
+    "chrono_instant", "chrono_zoned", "zone_table", "zone_rule", "chrono_reading", "chrono_stamps", "chrono_cron", "chrono_business",
+    "chrono_rules", "chrono_columns",
 )
 # Libraries whose functions need no example; what examples they have are run.
 OPTIONAL = ("chrono_text",)
@@ -90,8 +91,7 @@ class Library:
         self.kinds = {name for _, name in self.reached}
         self.examples, self.functions = [], []
         for path, text in sources.items():
-            if "law" not in self.module(path):
-                self.read(path, text)
+            self.read(path, text)
 
     def module(self, path):
         inside = path.partition("/src/")[2].removesuffix(".rt")
@@ -106,9 +106,8 @@ class Library:
             self.reached.add((module, name))
             names.append(name)
         for name in re.findall(r"^pub mod (\w+)", text, re.M):
-            if name != "law":
-                self.public((*module, name))
-                names.append(name)
+            self.public((*module, name))
+            names.append(name)
         for path, several, one in USE.findall(text):
             for name in re.findall(r"[\w ]+", several or one):
                 inner, _, new = name.strip().partition(" as ")
@@ -159,6 +158,8 @@ class Library:
     def function(self, path, line, owner):
         """The name of the public function that begins in a line, or None."""
         free, member = PUBLIC_FUNCTION.match(line), line.startswith("    ") and not line.startswith("     ")
+        if free and "law" in self.module(path) and "->" not in line:
+            return None
         if free:
             return free[1] if (self.module(path), free[1]) in self.reached else None
         if not (member and owner and owner[1] in self.kinds):

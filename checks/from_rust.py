@@ -17,11 +17,10 @@ from wrong_lines import edits, planted
 
 TOP = os.path.dirname(os.path.dirname(os.path.abspath(__file__)))
 sys.path.insert(0, f"{TOP}/tools")
+from debian import FROM_DEBIAN, REGISTRY  # noqa: E402
 from packages import rust  # noqa: E402
 
 FOLDER = f"{TOP}/languages/rust"
-REGISTRY = "/usr/share/cargo/registry"
-FROM_DEBIAN = ["--config", 'source.crates-io.replace-with="debian"', "--config", f'source.debian.directory="{REGISTRY}"']
 
 # The crates of the features, as the project of the tests lists them.
 FEATURES = {

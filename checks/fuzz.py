@@ -5,9 +5,10 @@
 
 The lines come of a grammar of near misses: numbers at the ends of their types and of the calendar, days that a month may not
 have, signs, zeros and spaces where they do not belong, numbers past every width, words cut or misspelt, a byte dropped, doubled
-or struck wrong, lines about as long as a line may be, bytes of any kind; and each byte in each place of two short lines. What they
-answer is counted (checks/counted.py); nothing is taken from the program's own sources. The first line answered otherwise is
-printed with its seed. The answers that stand in crates/caltool_rows, which another library gave, are counted again too.
+or struck wrong, lines about as long as a line may be, lines and numbers about as long as the bytes that are read at once, bytes
+of any kind; and each byte in each place of two short lines. What they answer is counted (checks/counted.py); nothing is taken
+from the program's own sources. The first line answered otherwise is printed with its seed. The answers that stand in
+crates/rows_caltool, which another library gave, are counted again too.
 """
 import argparse
 import os
@@ -22,7 +23,7 @@ from counted import (DAY, FIRST_DAY, FIRST_YEAR, LAST_DAY, LAST_YEAR, LONGEST, N
 
 TOP = os.path.dirname(os.path.dirname(os.path.abspath(__file__)))
 CALTOOL = os.path.join(TOP, "crates", "caltool", "out", "caltool")
-ROWS = os.path.join(TOP, "crates", "caltool_rows")
+ROWS = os.path.join(TOP, "crates", "rows_caltool")
 
 WEEKDAYS = ["Mon", "Tue", "Wed", "Thu", "Fri", "Sat", "Sun"]
 LONGEST_LINE = 120
@@ -227,7 +228,10 @@ def written(chance, number):
     slip = chance.random()
     if slip < 0.004:
         return chance.choice(["+" + text, "-" + text, "", "-", text + "-", text + ".", "0x" + text, text + "e0", "9" * 40])
-    if slip < 0.006:
+    if slip < 0.02:
+        # (as many digits as are read at once, or one more or fewer)
+        return sign + str(abs(number)).zfill(chance.choice([8, 16]) + chance.randint(-1, 1))
+    if slip < 0.022:
         # (a number that is the same to whoever drops its high bits)
         return sign + str(abs(number) + 2 ** chance.choice([8, 16, 32, 64, 128]))
     return text
@@ -249,6 +253,11 @@ def a_line(chance):
     elif slip < 0.05:
         length = len(" ".join(words))
         words[-1] = words[-1].rjust(len(words[-1]) + max(0, LONGEST_LINE + chance.randint(-2, 2) - length), "0")
+    elif 0.07 <= slip < 0.1:
+        # (a line of as many bytes as are looked at together, or one more or fewer, with a number that reaches so far)
+        length, at = len(" ".join(words)), chance.randrange(len(words))
+        words[at] = words[at].zfill(len(words[at]) + max(0, chance.choice([16, 32, 48, 64, 80]) + chance.randint(-1, 1) - length))
+        words[-1] += chance.choice(["", "", " "])
     line = " ".join(words).encode("latin-1")
     return struck(chance, line) if 0.05 <= slip < 0.07 else line
 
@@ -269,13 +278,13 @@ def each_byte():
 
 
 def are_rows_counted():
-    """Whether the answers of caltool_rows are what counting gives."""
+    """Whether the answers of rows_caltool are what counting gives."""
     with open(f"{ROWS}/stdin", "rb") as lines, open(f"{ROWS}/stdout", "rb") as answers:
         lines, answers = (it.read().decode("latin-1").removesuffix("\n").split("\n") for it in (lines, answers))
     otherwise = [it for it, did in zip(lines, answers) if answer(it.encode("latin-1")) != did]
     for it in otherwise[:10]:
-        print(f"crates/caltool_rows: {it!r} has to be {answer(it.encode('latin-1'))!r}")
-    print(f"{len(lines)} lines of crates/caltool_rows counted again")
+        print(f"crates/rows_caltool: {it!r} has to be {answer(it.encode('latin-1'))!r}")
+    print(f"{len(lines)} lines of crates/rows_caltool counted again")
     return 0 < len(lines) == len(answers) and not otherwise
 
 

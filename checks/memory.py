@@ -7,6 +7,7 @@ The tests below stand in a fresh repository beside copies of the libraries, and 
 which refuses the N-th request of each test. Each text is printed once for each number of its bytes that there is room for at
 first, so that every write in it is once the one that asks for more and is refused. A test passes if its text is whole, and is
 refused if it ends by the error of the allocator; anything else, a text cut short above all, fails the check.
+The errors of schedules and rules are printed for each fault, field and part. So a `Display` that fails for one of them is found.
 That `caltool` itself takes no memory is tried in checks/statuses.py.
 """
 import os
@@ -16,10 +17,10 @@ import subprocess
 import sys
 import tempfile
 
-from outside import below, copy_crates, listed_crates
+from outside import all_below, copy_crates, listed_crates
 
 TOP = os.path.dirname(os.path.dirname(os.path.abspath(__file__)))
-USED = "chrono_datetime"
+USED = ("chrono_datetime", "chrono_cron", "chrono_rules")
 # The requests that are refused: for the room, for more where there is some room, and one that no test makes.
 FIRST, SECOND, NONE = 1, 2, 40
 HEAD = """//! Values printed into texts that grow.
@@ -27,7 +28,9 @@ HEAD = """//! Values printed into texts that grow.
 
 #[cfg(test)]
 mod tests {
+    use chrono_cron::{ScheduleError, ScheduleFault, ScheduleField};
     use chrono_datetime::{Datelike, NaiveDate, NaiveDateTime, NaiveTime, OutOfRange, TimeDelta, Weekday, WeekdaySet};
+    use chrono_rules::{Frequency, RuleError, RuleFault, RulePart};
     use std::fmt::Write;
     use std::test::Fail;
 """
@@ -52,6 +55,59 @@ TEXTS = [
     ("date_times", "NaiveDateTime::MIN, NaiveDateTime::MAX", "{} {:?}",
      "-262143-01-01 00:00:00 +262142-12-31T23:59:59.999999999"),
 ]
+# What an error of a schedule says of each field and of each fault, and an error of a rule of each part and of each fault.
+FIELDS = {"Minute": "minute", "Hour": "hour", "Day": "day of the month", "Month": "month", "Weekday": "weekday"}
+SCHEDULE_FAULTS = {
+    "Empty": "nothing stands there", "TooFewFields": "fewer than five fields", "TooManyFields": "more than five fields",
+    "UnknownNickname": "an unknown nickname", "Interval": "an interval, which is no schedule",
+    "TimeZone": "a time zone, which no schedule has", "UnknownName": "an unknown name",
+    "LongName": "a name of more than three letters", "NotANumber": "no number of one digit or two",
+    "OutOfRange": "a number that is out of range", "RangeTurnedRound": "a range whose end is below its beginning",
+    "StepOfZero": "a step of 0", "StepOfNumber": "a step behind a number alone",
+}
+PARTS = ["Freq", "Interval", "Count", "Until", "ByMonth", "ByMonthDay", "ByDay", "ByYearDay", "ByWeekNo", "BySetPos", "Wkst"]
+RULE_FAULTS = {
+    "Unknown": "unknown part", "OfHours": "BYHOUR: not in rules over days", "OfMinutes": "BYMINUTE: not in rules over days",
+    "OfSeconds": "BYSECOND: not in rules over days", "Extension": "an X- part, which is not read",
+    "OfCalendars": "RSCALE: not in rules of RFC 5545", "OfSkips": "SKIP: not in rules of RFC 5545", "Blank": "a blank",
+    "Missing": "missing", "Twice": "stands twice", "Empty": "empty", "NotAFrequency": "not DAILY, WEEKLY, MONTHLY or YEARLY",
+    "NotANumber": "not a number", "Range": "a range; list each with commas", "OutOfRange": "number out of range",
+    "NotADate": "not a date as 19971224", "WithTime": "a time stands behind the date", "NotAWeekday": "not a weekday as MO",
+    "BesideCount": "does not go with COUNT", "NumbersBesideWeeks": "number does not go with BYWEEKNO",
+    "Alone": "needs another BY part",
+} | {
+    f"{fault}(Frequency::{name})": f"{text} {name.upper()}"
+    for fault, text in (("NotWith", "does not go with"), ("NumbersNotWith", "number does not go with"))
+    for name in ("Daily", "Weekly", "Monthly", "Yearly")
+}
+
+
+def schedule_error(field, byte, fault):
+    field = f"Some(ScheduleField::{field})" if field else "None"
+    return f"ScheduleError {{ field: {field}, byte: {byte}, fault: ScheduleFault::{fault} }}"
+
+
+def rule_error(part, fault):
+    part = f"Some(RulePart::{part})" if part else "None"
+    return f"RuleError {{ part: {part}, fault: RuleFault::{fault} }}"
+
+
+# Each field and part with one fault, and each fault with one field or part and with none.
+ERRORS = [
+    *((schedule_error(field, 7, "Empty"), f"{text}, byte 7: nothing stands there") for field, text in FIELDS.items()),
+    *((schedule_error(None, 10, fault), f"byte 10: {text}") for fault, text in SCHEDULE_FAULTS.items()),
+    *((schedule_error("Day", 0, fault), f"day of the month, byte 0: {text}") for fault, text in SCHEDULE_FAULTS.items()),
+    *((rule_error(part, "Empty"), f"{part.upper()}: empty") for part in PARTS),
+    *((rule_error(None, fault), text) for fault, text in RULE_FAULTS.items()),
+    *((rule_error("ByDay", fault), f"BYDAY: {text}") for fault, text in RULE_FAULTS.items()),
+]
+TEXTS += [
+    ("errors", f"{rule_error('ByMonthDay', 'NotWith(Frequency::Weekly)')}, {schedule_error('Month', 12, 'StepOfZero')}", "{} {}",
+     "BYMONTHDAY: does not go with WEEKLY month, byte 12: a step of 0"),
+]
+# Each test: its text, and for how many bytes there is room at first. Of the errors one by one there is room for none.
+TESTS = [(text, room) for text in TEXTS for room in range(len(text[-1]))]
+TESTS += [((f"error_{k}", value, "{}", text), 0) for k, (value, text) in enumerate(ERRORS)]
 # How `rt try` tells of a test, and what it says of one that ended by the allocator's error.
 TOLD = re.compile(r"^test tests::(\w+) \.\.\. (ok|FAILED)\n((?:    .*\n)*)", re.M)
 REFUSED = re.compile(r"    error: Alloc(Error|Failed)")
@@ -59,18 +115,17 @@ REFUSED = re.compile(r"    error: Alloc(Error|Failed)")
 
 def make_repository(room):
     crates = listed_crates()
-    libraries = below(USED, crates)
+    libraries = all_below(USED, crates)
     copy_crates(room, libraries)
     os.makedirs(f"{room}/crates/printed/src")
     with open(f"{room}/crates.txt", "w", encoding="utf-8") as it:
         it.writelines(f"{name}: {' '.join(crates[name])}\n" for name in libraries)
-        it.write(f"printed: {USED}\n")
+        it.write(f"printed: {' '.join(USED)}\n")
     with open(f"{room}/crates/printed/src/lib.rt", "w", encoding="utf-8") as it:
         it.write(HEAD)
         it.writelines(
             TEST.format(name=name, values=values, form=form, text=text, room=room)
-            for name, values, form, text in TEXTS
-            for room in range(len(text))
+            for (name, values, form, text), room in TESTS
         )
         it.write("}\n")
 
@@ -79,7 +134,7 @@ def main():
     if not shutil.which("rt"):
         print("not run: there is no rt, the Rattle kit's command\n0 passed, 1 failed")
         return 1
-    tests, passed, refused, failed = sum(len(text) for *_, text in TEXTS), 0, 0, 0
+    tests, passed, refused, failed = len(TESTS), 0, 0, 0
     with tempfile.TemporaryDirectory(prefix="memory-") as room:
         make_repository(room)
         for request in (FIRST, SECOND, NONE):

@@ -21,7 +21,7 @@ sys.path.insert(0, os.path.join(os.path.dirname(os.path.dirname(os.path.abspath(
 from gate import load_rt  # noqa: E402
 
 TOP = os.path.dirname(os.path.dirname(os.path.abspath(__file__)))
-USED = "chrono_reading"
+USED = ("chrono_reading", "chrono_cron", "chrono_business", "chrono_rules", "chrono_zoned")
 PAGES = ("docs/tutorial.md", "docs/callers.md")
 QUOTED = re.compile(r"^`(crates(?:\.txt|/[\w/.]+))`:\n\n```\w*\n(.*?)^```$", re.M | re.S)
 
@@ -51,6 +51,11 @@ def below(name, crates):
     return [*found, name]
 
 
+def all_below(names, crates):
+    """Some crates and those that they use, lowest first."""
+    return list(dict.fromkeys(it for name in names for it in below(name, crates)))
+
+
 def copy_crates(room, names):
     """Copies the sources of some crates into a repository."""
     for name in names:
@@ -62,7 +67,7 @@ def copy_crates(room, names):
 def make_repository(room):
     """Writes the repository; the names of its libraries and of its callers."""
     crates, files = listed_crates(), quoted_files()
-    libraries = below(USED, crates)
+    libraries = all_below(USED, crates)
     copy_crates(room, libraries)
     own = files.pop("crates.txt", "")
     with open(f"{room}/crates.txt", "w", encoding="utf-8") as it:

@@ -41,6 +41,7 @@ ELSEWHERE = {
     "./check": "it runs this check",
     "tools/setup": "`.ci/run` runs it",
     "tools/dist": "its parts are made and used by checks/languages.py and checks/javascript.py",
+    "tools/dist state": "it packs a proved tree",
     "(cd dist && sha256sum --check SHA256SUMS)": "dist/ is left by tools/dist",
     "python3 -m venv env && env/bin/pip install dist/*.whl": "checks/from_python.py installs the wheel so",
     "cargo add --path dist/rust/proved-calendar": "checks/from_rust.py",
@@ -118,7 +119,7 @@ def lines_in_order(wanted, shown):
 def make_room(room, names):
     """Writes a repository of some crates and of those below, with what is proved of the libraries."""
     crates = outside.listed_crates()
-    names = list(dict.fromkeys(it for name in names for it in outside.below(name, crates)))
+    names = outside.all_below(names, crates)
     outside.copy_crates(room, names)
     with open(f"{room}/crates.txt", "w", encoding="utf-8") as it:
         it.writelines(f"{name}: {' '.join(crates[name])}\n" for name in names)

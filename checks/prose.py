@@ -3,7 +3,8 @@
 
     checks/prose.py [-s N] [FILE ..]
 
-It measures each page written by hand (those of docs/reference are made by a tool) and the doc comments of each library:
+It measures each page written by hand, and of each library the doc comments and the comments of its definitions (specs/), of which
+docs/reference is made:
 
   average    the words of a sentence, on average at most 18
   long       sentences of over 30 words, at most 5 in 100, and none of over 40
@@ -64,18 +65,20 @@ def read(path):
         return it.read()
 
 
-def doc_comments(text):
-    """The doc comments of a source as a page; what stands between two of them parts them."""
-    found = (re.match(r"\s*//[/!] ?(.*)$", line) for line in text.split("\n"))
+def comments(text, mark=r"//[/!]"):
+    """The doc comments of a source, or what stands behind another mark, as a page; what stands between two of them parts them."""
+    found = (re.match(rf"\s*{mark} ?(.*)$", line) for line in text.split("\n"))
     return "\n".join(it[1] if it else "" for it in found)
 
 
 def page_of(name):
-    """A page, or the doc comments of a source, or of all sources of a library."""
+    """A page, or the comments of a source or of definitions, or all these of a library."""
     if "/" not in name and "." not in name:
-        paths = sorted(glob.glob(f"crates/{name}/src/**/*.rt", root_dir=TOP, recursive=True))
-        return "\n\n".join(doc_comments(read(it)) for it in paths)
-    return doc_comments(read(name)) if name.endswith((".rt", ".rs")) else read(name)
+        found = (glob.glob(f"crates/{name}/{it}", root_dir=TOP, recursive=True) for it in ("src/**/*.rt", "specs/**/*.antt"))
+        return "\n\n".join(page_of(it) for paths in found for it in sorted(paths))
+    if name.endswith(".antt"):
+        return comments(read(name), "--")
+    return comments(read(name)) if name.endswith((".rt", ".rs")) else read(name)
 
 
 def sentences_of(paragraph):
@@ -155,7 +158,7 @@ def planted():
     """Tries the measures on the planted faults; how many were not found."""
     missed = [name for name, page in PLANTED.items() if name not in {it for it, _ in faults(page)}]
     as_comment = "\n".join(f"    /// {line}" for line in PLANTED["longest"].split("\n"))
-    if "longest" not in {it for it, _ in faults(doc_comments(as_comment))}:
+    if "longest" not in {it for it, _ in faults(comments(as_comment))}:
         missed.append("longest in a doc comment")
     missed += ["nothing"] if list(faults(SHORT)) else []
     for name in missed:

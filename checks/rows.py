@@ -1,5 +1,5 @@
 #!/usr/bin/env python3
-"""Makes every answer of the rows of chrono_rows again, and compares it with the one that stands there.
+"""Makes every answer of the rows of rows_chrono again, and compares it with the one that stands there.
 
     checks/rows.py            compares
     checks/rows.py --write    puts the answers that are made here where others stand
@@ -12,7 +12,6 @@ another year, whose order was wrong, and arguments at which it panics.
 """
 import os
 import re
-import shutil
 import subprocess
 import sys
 import tempfile
@@ -21,8 +20,8 @@ import textwrap
 from ends import CALLS, ROWS, answer
 
 TOP = os.path.dirname(os.path.dirname(os.path.abspath(__file__)))
-sys.path.insert(0, os.path.join(TOP, "benches"))
-from lines import build_over_chrono  # noqa: E402
+sys.path.insert(0, os.path.join(TOP, "tools"))
+from debian import build_over_chrono, why_no_chrono  # noqa: E402
 
 PROGRAM = os.path.join(TOP, "checks", "chrono_answers")
 # What the program answers where it has no answer and where chrono panics, and for a word that it is not asked for.
@@ -35,14 +34,6 @@ def read_rows():
         return [tuple(line.split(" = ", 1)) for line in it.read().splitlines()]
 
 
-def why_no_chrono():
-    """What is missing to ask chrono, if something is."""
-    if not shutil.which("cargo"):
-        return "there is no cargo"
-    listed = shutil.which("dpkg") and subprocess.run(["dpkg", "-L", "librust-chrono-dev"], capture_output=True, check=False)
-    return None if listed and listed.returncode == 0 else "there is no librust-chrono-dev"
-
-
 def chrono_version():
     """The version that the program is built over."""
     with open(os.path.join(PROGRAM, "Cargo.lock"), encoding="utf-8") as it:
@@ -52,7 +43,7 @@ def chrono_version():
 def by_chrono(calls):
     """What chrono answers to each call, in the program's words."""
     with tempfile.TemporaryDirectory(prefix="rows-") as folder:
-        program = build_over_chrono(folder, PROGRAM)
+        program = build_over_chrono(folder, "checks/chrono_answers")
         asked = "".join(f"{call}\n" for call in calls).encode()
         return subprocess.run([program], input=asked, stdout=subprocess.PIPE, check=True).stdout.decode().splitlines()
 

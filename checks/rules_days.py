@@ -3,7 +3,7 @@
 
     checks/rules_days.py [--seed N] [--rules N] [--walks N]      (seed 1, 600 rules and none walked besides, if left out)
 
-The program crates/rules_rows answers rows; here they are made. dateutil's rrule gives the first instances of random rules, of the parts that
+The program crates/rows_rules answers rows; here they are made. dateutil's rrule gives the first instances of random rules, of the parts that
 RFC 5545 allows together, and its rruleset those of the same with dates beside them and exceptions (RDATE, EXDATE). A walk by RFC 5545, 3.3.10, asks of each day of
 400 years whether it is an instance of some rules, and of as many random ones as --walks says. What is written for random rules is beside a second writing, and read again.
 
@@ -18,10 +18,10 @@ Where dateutil reads the RFC otherwise, no such rule is made for it, and the wal
 - BYWEEKNO=52 and 53. Days from 1 January on that lie in the last week of the year before have its number, by ISO 8601, as 3.3.10 asks: 1 January 2011
   is in week 52. dateutil counts that year's weeks by the length of the next one (`lnumweeks`), and has the day in week 53.
 
-The instances of the RFC's examples in crates/rules_rows are walked again too, but where dates stand beside the rule.
+The instances of the RFC's examples in crates/rows_rules are walked again too, but where dates stand beside the rule.
 
 A start that is no instance is none for both: dateutil does not give it either, and COUNT does not count it.
-It needs crates/rules_rows/out/rules_rows, which `rt run` and `rt ci` leave there.
+It needs crates/rows_rules/out/rows_rules, which `rt run` and `rt ci` leave there.
 """
 import argparse
 import calendar
@@ -29,14 +29,15 @@ import datetime
 import itertools
 import os
 import random
-import re
-import subprocess
 import sys
 
-TOP = os.path.dirname(os.path.dirname(os.path.abspath(__file__)))
-ROWS = os.path.join(TOP, "crates", "rules_rows", "out", "rules_rows")
-EXAMPLES = os.path.join(TOP, "crates", "rules_rows", "stdin")
-DEBIAN = "/usr/bin/python3"
+from row_programs import TOP, failed_rows, program_of
+
+sys.path.insert(0, os.path.join(TOP, "tools"))
+from debian import restart_without  # noqa: E402
+
+ROWS = program_of("rows_rules")
+EXAMPLES = os.path.join(TOP, "crates", "rows_rules", "stdin")
 DAILY, WEEKLY, MONTHLY, YEARLY = range(4)
 FREQUENCIES = ("DAILY", "WEEKLY", "MONTHLY", "YEARLY")
 WEEKDAYS = ("MO", "TU", "WE", "TH", "FR", "SA", "SU")
@@ -81,7 +82,7 @@ class Rule:
         return ";".join(f"{name}={value}" for name, value in parts if value)
 
     def row(self, start, days, ended, dates=(), exceptions=()):
-        """A row of rules_rows."""
+        """A row of rows_rules."""
         beside = [f"+{it.toordinal()}" for it in dates] + [f"-{it.toordinal()}" for it in exceptions]
         words = ["rule", self.text(), start.toordinal(), *beside, "=", *(it.toordinal() for it in days), *(["end"] if ended else [])]
         return " ".join(map(str, words))
@@ -359,12 +360,8 @@ def texts(rule):
 
 
 def asked(name, rows):
-    """How many rows hold and how many do not; those that do not are printed."""
-    ran = subprocess.run([ROWS], input="".join(row + "\n" for row in rows), capture_output=True, text=True, check=False)
-    last = re.fullmatch(r"(\d+) lines, (\d+) of them answered otherwise", ran.stdout.splitlines()[-1] if ran.stdout else "")
-    failed = int(last[2]) if last and int(last[1]) == len(rows) and ran.returncode == 0 else max(len(rows), 1)
-    for line in ran.stdout.splitlines()[: min(failed, 10)]:
-        print(line[:300])
+    """How many rows hold and how many do not; the first that do not are printed."""
+    failed = failed_rows(ROWS, rows)
     print(f"{name}: {len(rows) - failed} of {len(rows)}")
     return len(rows) - failed, failed
 
@@ -376,10 +373,9 @@ def main():
     wanted.add_argument("--walks", type=int, default=0)
     options = wanted.parse_args()
     if not os.path.exists(ROWS):
-        print("not run: everything, since there is no crates/rules_rows/out/rules_rows")
+        print("not run: everything, since there is no crates/rows_rules/out/rows_rules")
         return 0
-    if not rrule and sys.executable != DEBIAN and subprocess.run([DEBIAN, "-c", "import dateutil"], capture_output=True, check=False).returncode == 0:
-        os.execv(DEBIAN, [DEBIAN, *sys.argv])
+    restart_without(rrule)
     chance = random.Random(options.seed)
     rows = []
     walks = random.Random(options.seed)

@@ -1,5 +1,5 @@
 #!/usr/bin/env python3
-"""A second opinion on the rows of reading_rows: each text read here by the grammar of docs/reference/definitions.md and counted.
+"""A second opinion on the rows of rows_reading: each text read here by the grammar of docs/reference/definitions.md and counted.
 
     checks/texts.py
 
@@ -17,7 +17,7 @@ from counted import LONGEST, NANOS, day_in_year, day_of, day_of_week_date
 from rows import LACKS, by_chrono, chrono_version, why_no_chrono
 
 TOP = os.path.dirname(os.path.dirname(os.path.abspath(__file__)))
-ROWS = os.path.join(TOP, "crates", "reading_rows", "stdin")
+ROWS = os.path.join(TOP, "crates", "rows_reading", "stdin")
 
 # Four digits, or a sign and the digits of a year past those: of a year below 0, at least four.
 YEAR = r"([0-9]{4}|[+][1-9][0-9]{4,}|-(?!0000)[0-9]{4}|-[1-9][0-9]{4,})"

@@ -7,12 +7,16 @@
 #include <string.h>
 #include <time.h>
 
-void limit_weekdays(const int32_t *, uint8_t *, size_t);
-void limit_split(const int32_t *, int32_t *, uint8_t *, uint8_t *, size_t);
-void limit_join(const int32_t *, const uint8_t *, const uint8_t *, int32_t *, size_t);
-void limit_add_months(const int32_t *, int32_t, int32_t *, size_t);
-void limit_write_dates(const int32_t *, uint8_t *, size_t);
-void limit_read_dates(const uint8_t *, int32_t *, size_t);
+/* The loops of C, by the kit's flags and by -O3 alone. */
+#define LOOPS_OF(who) \
+    void who##_weekdays(const int32_t *, uint8_t *, size_t); \
+    void who##_split(const int32_t *, int32_t *, uint8_t *, uint8_t *, size_t); \
+    void who##_join(const int32_t *, const uint8_t *, const uint8_t *, int32_t *, size_t); \
+    void who##_add_months(const int32_t *, int32_t, int32_t *, size_t); \
+    void who##_write_dates(const int32_t *, uint8_t *, size_t); \
+    void who##_read_dates(const uint8_t *, int32_t *, size_t);
+LOOPS_OF(limit)
+LOOPS_OF(plain)
 void copy_text(const int32_t *, uint8_t *, size_t);
 void copy_1(const int32_t *, uint8_t *, size_t);
 void copy_4(const int32_t *, int32_t *, size_t);
@@ -54,9 +58,18 @@ static double now(void)
 
 /* ---- the calls: columns, the same one by one, the loops of C, and copies */
 
+#define RUNS_OF(who) \
+    static void weekdays_##who(void) { who##_weekdays(dates, small, n); } \
+    static void split_##who(void) { who##_split(dates, years, months, days, n); } \
+    static void join_##who(void) { who##_join(years, months, days, numbers, n); } \
+    static void add_months_##who(void) { who##_add_months(dates, 7, numbers, n); } \
+    static void write_dates_##who(void) { who##_write_dates(dates, texts, n); } \
+    static void read_dates_##who(void) { who##_read_dates(texts, numbers, n); }
+RUNS_OF(limit)
+RUNS_OF(plain)
+
 static void weekdays_ours(void) { calendar_column_weekdays(dates, n, small, n); }
 static void weekdays_single(void) { for (size_t i = 0; i < n; i++) small[i] = (uint8_t)calendar_weekday(dates[i]); }
-static void weekdays_limit(void) { limit_weekdays(dates, small, n); }
 static void weekdays_copy(void) { copy_1(dates, small, n); }
 static void years_ours(void) { calendar_column_years(dates, n, numbers, n); }
 static void years_single(void) { for (size_t i = 0; i < n; i++) numbers[i] = calendar_year(dates[i]); }
@@ -64,7 +77,6 @@ static void years_copy(void) { copy_4(dates, numbers, n); }
 static void ordinals_ours(void) { calendar_column_ordinals(dates, n, ordinals, n); }
 static void iso_weeks_ours(void) { calendar_column_iso_weeks(dates, n, numbers, n, small, n); }
 static void split_ours(void) { calendar_column_split(dates, n, years, n, months, n, days, n); }
-static void split_limit(void) { limit_split(dates, years, months, days, n); }
 static void split_copy(void) { copy_split(dates, years, months, days, n); }
 static void split_single(void)
 {
@@ -75,7 +87,6 @@ static void split_single(void)
 }
 static void join_ours(void) { calendar_column_join(years, n, months, n, days, n, numbers, n); }
 static void join_single(void) { for (size_t i = 0; i < n; i++) numbers[i] = calendar_from_ymd(years[i], months[i], days[i]); }
-static void join_limit(void) { limit_join(years, months, days, numbers, n); }
 static void join_copy(void) { copy_join(years, months, days, numbers, n); }
 static void add_days_ours(void) { calendar_column_add_days(dates, n, 1000, numbers, n); }
 static void add_days_single(void) { for (size_t i = 0; i < n; i++) numbers[i] = calendar_add_days(dates[i], 1000); }
@@ -86,7 +97,6 @@ static void first_on_ours(void) { calendar_column_first_on(dates, n, MONDAY_AND_
 static void first_on_single(void) { for (size_t i = 0; i < n; i++) numbers[i] = calendar_first_on(dates[i], MONDAY_AND_FRIDAY); }
 static void add_months_ours(void) { calendar_column_add_months(dates, n, 7, numbers, n); }
 static void add_months_single(void) { for (size_t i = 0; i < n; i++) numbers[i] = calendar_add_months(dates[i], 7); }
-static void add_months_limit(void) { limit_add_months(dates, 7, numbers, n); }
 static void add_months_copy(void) { copy_4(dates, numbers, n); }
 static void days_between_ours(void) { calendar_column_days_between(dates, n, years, n, numbers, n); }
 static void to_unix_days_ours(void) { calendar_column_to_unix_days(dates, n, wide, n); }
@@ -97,11 +107,9 @@ static void add_months_in_place_ours(void) { calendar_column_add_months_in_place
 static volatile size_t there;
 static void count_dates_ours(void) { there = calendar_column_count_dates(dates, n); }
 static void write_dates_ours(void) { calendar_column_write_dates(dates, n, texts, n); }
-static void write_dates_limit(void) { limit_write_dates(dates, texts, n); }
 static void write_dates_copy(void) { copy_text(dates, texts, n); }
 static void write_dates_single(void) { for (size_t i = 0; i < n; i++) calendar_write_date(dates[i], texts + 10 * i, 10); }
 static void read_dates_ours(void) { calendar_column_read_dates(texts, n, numbers, n); }
-static void read_dates_limit(void) { limit_read_dates(texts, numbers, n); }
 static void read_dates_single(void) { for (size_t i = 0; i < n; i++) numbers[i] = calendar_read_date(texts + 10 * i, 10); }
 
 typedef struct {
@@ -110,25 +118,25 @@ typedef struct {
 } timed;
 
 static const timed all[] = {
-    {"weekdays", "ours", weekdays_ours}, {"weekdays", "single", weekdays_single}, {"weekdays", "limit", weekdays_limit},
+    {"weekdays", "ours", weekdays_ours}, {"weekdays", "single", weekdays_single}, {"weekdays", "limit", weekdays_limit}, {"weekdays", "plain", weekdays_plain},
     {"weekdays", "copy", weekdays_copy},
     {"years", "ours", years_ours}, {"years", "single", years_single}, {"years", "copy", years_copy},
     {"ordinals", "ours", ordinals_ours}, {"iso_weeks", "ours", iso_weeks_ours},
-    {"split", "ours", split_ours}, {"split", "single", split_single}, {"split", "limit", split_limit}, {"split", "copy", split_copy},
-    {"join", "ours", join_ours}, {"join", "single", join_single}, {"join", "limit", join_limit}, {"join", "copy", join_copy},
+    {"split", "ours", split_ours}, {"split", "single", split_single}, {"split", "limit", split_limit}, {"split", "plain", split_plain}, {"split", "copy", split_copy},
+    {"join", "ours", join_ours}, {"join", "single", join_single}, {"join", "limit", join_limit}, {"join", "plain", join_plain}, {"join", "copy", join_copy},
     {"add_days", "ours", add_days_ours}, {"add_days", "single", add_days_single}, {"add_days", "copy", add_days_copy},
     {"add_days_each", "ours", add_days_each_ours}, {"add_days_each", "single", add_days_each_single},
     {"first_on", "ours", first_on_ours}, {"first_on", "single", first_on_single},
     {"add_months", "ours", add_months_ours}, {"add_months", "single", add_months_single},
-    {"add_months", "limit", add_months_limit}, {"add_months", "copy", add_months_copy},
+    {"add_months", "limit", add_months_limit}, {"add_months", "plain", add_months_plain}, {"add_months", "copy", add_months_copy},
     {"days_between", "ours", days_between_ours}, {"to_unix_days", "ours", to_unix_days_ours},
     {"from_unix_days", "ours", from_unix_days_ours},
     {"add_days_in_place", "ours", add_days_in_place_ours}, {"add_months_in_place", "ours", add_months_in_place_ours},
     {"add_days_each_in_place", "ours", add_days_each_in_place_ours},
     {"count_dates", "ours", count_dates_ours},
     {"write_dates", "ours", write_dates_ours}, {"write_dates", "single", write_dates_single},
-    {"write_dates", "copy", write_dates_copy}, {"write_dates", "limit", write_dates_limit},
-    {"read_dates", "ours", read_dates_ours}, {"read_dates", "single", read_dates_single}, {"read_dates", "limit", read_dates_limit},
+    {"write_dates", "copy", write_dates_copy}, {"write_dates", "limit", write_dates_limit}, {"write_dates", "plain", write_dates_plain},
+    {"read_dates", "ours", read_dates_ours}, {"read_dates", "single", read_dates_single}, {"read_dates", "limit", read_dates_limit}, {"read_dates", "plain", read_dates_plain},
 };
 
 #define CALLS (sizeof all / sizeof *all)
@@ -138,6 +146,7 @@ static void compare(void)
 {
     bool same = true;
     weekdays_ours(), memcpy(wanted, small, n), weekdays_limit(), same &= !memcmp(wanted, small, n);
+    weekdays_plain(), same &= !memcmp(wanted, small, n);
     weekdays_single(), same &= !memcmp(wanted, small, n);
     years_ours(), memcpy(wanted, numbers, 4 * n), years_single(), same &= !memcmp(wanted, numbers, 4 * n);
     add_days_ours(), memcpy(wanted, numbers, 4 * n), add_days_single(), same &= !memcmp(wanted, numbers, 4 * n);
@@ -147,15 +156,17 @@ static void compare(void)
     first_on_ours(), memcpy(wanted, numbers, 4 * n), first_on_single(), same &= !memcmp(wanted, numbers, 4 * n);
     add_months_ours(), memcpy(wanted, numbers, 4 * n), add_months_single(), same &= !memcmp(wanted, numbers, 4 * n);
     add_months_limit(), same &= !memcmp(wanted, numbers, 4 * n);
+    add_months_plain(), same &= !memcmp(wanted, numbers, 4 * n);
     split_limit(), join_limit(), same &= !memcmp(dates, numbers, 4 * n);
+    split_plain(), join_plain(), same &= !memcmp(dates, numbers, 4 * n);
     split_single(), join_single(), same &= !memcmp(dates, numbers, 4 * n);
     split_ours(), join_ours(), same &= !memcmp(dates, numbers, 4 * n);
     to_unix_days_ours(), from_unix_days_ours(), same &= !memcmp(dates, numbers, 4 * n);
-    void (*const writers[])(void) = {write_dates_ours, write_dates_limit, write_dates_single};
-    void (*const readers[])(void) = {read_dates_ours, read_dates_limit, read_dates_single};
-    for (int i = 0; i < 3; i++) {
+    void (*const writers[])(void) = {write_dates_ours, write_dates_limit, write_dates_plain, write_dates_single};
+    void (*const readers[])(void) = {read_dates_ours, read_dates_limit, read_dates_plain, read_dates_single};
+    for (int i = 0; i < 4; i++) {
         memset(texts, 0, 10 * n), writers[i]();
-        for (int j = 0; j < 3; j++) memset(numbers, 0, 4 * n), readers[j](), same &= !memcmp(dates, numbers, 4 * n);
+        for (int j = 0; j < 4; j++) memset(numbers, 0, 4 * n), readers[j](), same &= !memcmp(dates, numbers, 4 * n);
     }
     if (!same) {
         fprintf(stderr, "the answers are not the same, so nothing was timed\n");

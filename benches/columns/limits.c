@@ -1,6 +1,13 @@
-/* The columns of the calendar as plain loops of C, by the same formulas: what a compiler makes of them is the limit.
+/* The columns of the calendar as loops of C, by the same formulas: what a compiler makes of them is the limit.
  *
- * It is built without headers, so that the kit's compiler, which has none, can build it. */
+ * It is built twice: with the flags by which the kit compiles Rattle, and with PLAIN by -O3 alone. It has no headers, so that the
+ * kit's compiler, which has none, can build it. */
+#ifdef PLAIN
+#define LOOP(call) plain_##call
+#else
+#define LOOP(call) limit_##call
+#endif
+
 typedef __INT32_TYPE__ int32_t;
 typedef __UINT32_TYPE__ uint32_t;
 typedef __UINT64_TYPE__ uint64_t;
@@ -32,7 +39,7 @@ static inline uint32_t days_to(uint32_t years)
     return 1461 * years / 4 - centuries + centuries / 4;
 }
 
-void limit_weekdays(const int32_t *restrict dates, uint8_t *restrict out, size_t n)
+void LOOP(weekdays)(const int32_t *restrict dates, uint8_t *restrict out, size_t n)
 {
     for (size_t i = 0; i < n; i++) {
         int32_t date = within(dates[i], FIRST, LAST);
@@ -41,7 +48,7 @@ void limit_weekdays(const int32_t *restrict dates, uint8_t *restrict out, size_t
     }
 }
 
-void limit_split(const int32_t *restrict dates, int32_t *restrict years, uint8_t *restrict months, uint8_t *restrict days, size_t n)
+void LOOP(split)(const int32_t *restrict dates, int32_t *restrict years, uint8_t *restrict months, uint8_t *restrict days, size_t n)
 {
     for (size_t i = 0; i < n; i++) {
         int32_t date = within(dates[i], FIRST, LAST);
@@ -53,7 +60,7 @@ void limit_split(const int32_t *restrict dates, int32_t *restrict years, uint8_t
     }
 }
 
-void limit_join(const int32_t *restrict years, const uint8_t *restrict months, const uint8_t *restrict days, int32_t *restrict out, size_t n)
+void LOOP(join)(const int32_t *restrict years, const uint8_t *restrict months, const uint8_t *restrict days, int32_t *restrict out, size_t n)
 {
     for (size_t i = 0; i < n; i++) {
         int32_t year = within(years[i], -262143, 262142), month = within(months[i], 1, 12);
@@ -66,7 +73,7 @@ void limit_join(const int32_t *restrict years, const uint8_t *restrict months, c
     }
 }
 
-void limit_add_months(const int32_t *restrict dates, int32_t months, int32_t *restrict out, size_t n)
+void LOOP(add_months)(const int32_t *restrict dates, int32_t months, int32_t *restrict out, size_t n)
 {
     int32_t count = within(months, -7000000, 7000000);
     for (size_t i = 0; i < n; i++) {
@@ -84,13 +91,13 @@ void limit_add_months(const int32_t *restrict dates, int32_t months, int32_t *re
 /* Texts in blocks: the names of each date side by side, then its digits as one number of 64 bits. */
 enum { BLOCK = 256 };
 
-void limit_write_dates(const int32_t *restrict dates, uint8_t *restrict texts, size_t n)
+void LOOP(write_dates)(const int32_t *restrict dates, uint8_t *restrict texts, size_t n)
 {
     int32_t years[BLOCK];
     uint8_t months[BLOCK], days[BLOCK];
     for (size_t i = 0; i < n; i += BLOCK) {
         size_t left = n - i < BLOCK ? n - i : BLOCK;
-        limit_split(dates + i, years, months, days, left);
+        LOOP(split)(dates + i, years, months, days, left);
         for (size_t j = 0; j < left; j++) {
             uint32_t year = (uint32_t)years[j], hundreds = year / 100;
             uint64_t pairs = (uint64_t)hundreds | (uint64_t)(year - 100 * hundreds) << 16 | (uint64_t)months[j] << 32 | (uint64_t)days[j] << 48;
@@ -104,7 +111,7 @@ void limit_write_dates(const int32_t *restrict dates, uint8_t *restrict texts, s
     }
 }
 
-void limit_read_dates(const uint8_t *restrict texts, int32_t *restrict dates, size_t n)
+void LOOP(read_dates)(const uint8_t *restrict texts, int32_t *restrict dates, size_t n)
 {
     int32_t years[BLOCK];
     uint8_t months[BLOCK], days[BLOCK];
@@ -123,19 +130,11 @@ void limit_read_dates(const uint8_t *restrict texts, int32_t *restrict dates, si
             months[j] = right ? (uint8_t)(pairs >> 32) : 0;
             days[j] = (uint8_t)(pairs >> 48);
         }
-        limit_join(years, months, days, dates + i, left);
+        LOOP(join)(years, months, days, dates + i, left);
     }
 }
 
-void copy_text(const int32_t *restrict dates, uint8_t *restrict texts, size_t n)
-{
-    for (size_t i = 0; i < n; i++) {
-        uint64_t front = (uint32_t)dates[i] * 0x100000001ull;
-        __builtin_memcpy(texts + 10 * i, &front, 8);
-        __builtin_memcpy(texts + 10 * i + 8, &dates[i], 2);
-    }
-}
-
+#ifndef PLAIN
 /* What memory allows: as many bytes read and written as in each column, and nothing computed. */
 void copy_1(const int32_t *restrict dates, uint8_t *restrict out, size_t n)
 {
@@ -156,3 +155,13 @@ void copy_join(const int32_t *restrict years, const uint8_t *restrict months, co
 {
     for (size_t i = 0; i < n; i++) out[i] = years[i] + months[i] + days[i];
 }
+
+void copy_text(const int32_t *restrict dates, uint8_t *restrict texts, size_t n)
+{
+    for (size_t i = 0; i < n; i++) {
+        uint64_t front = (uint32_t)dates[i] * 0x100000001ull;
+        __builtin_memcpy(texts + 10 * i, &front, 8);
+        __builtin_memcpy(texts + 10 * i + 8, &dates[i], 2);
+    }
+}
+#endif

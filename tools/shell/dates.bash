@@ -12,7 +12,7 @@ _dates()
     diff:--weekend) COMPREPLY=($(compgen -W $'mon\ntue\nwed\nthu\nfri\nsat\nsun\nnone\n' -- "$word")) ;;
     diff:--calendar) COMPREPLY=($(compgen -W $'us-federal\ntarget\nengland\n' -- "$word")) ;;
     diff:--holidays) COMPREPLY+=($(compgen -f -- "$word")); compopt -o filenames 2>/dev/null ;;
-    diff:in) COMPREPLY=($(compgen -W $'d\nw\nm\ny\nb\nymd\n' -- "$word")) ;;
+    diff:in) COMPREPLY=($(compgen -W $'d\nw\nm\nmo\ny\nb\nymd\n' -- "$word")) ;;
     diff:*) COMPREPLY=($(compgen -W $'--weekend\n--calendar\n--holidays\n--json\n--help\n' -- "$word")) ;;
     seq:*) COMPREPLY=($(compgen -W $'--json\n--help\n' -- "$word")) ;;
     week:*) COMPREPLY=($(compgen -W $'--json\n--help\n' -- "$word")) ;;

@@ -16,9 +16,9 @@ use Rattle.chrono_datetime.specs.Moment.{Moment, moment_distance, reach}
 use Rattle.chrono_reading.specs.DateTimeTexts.{IsDateTimeText}
 use Rattle.chrono_reading.specs.TimeTexts.{IsTimeText}
 use Rattle.chrono_text.proofs.FractionLemmas.{IsFractionText-below}
-use Rattle.calendar_c.specs.DateTimes.{duration_named, duration_or_none, moment_named, numbers_of, numbers_or_none}
+use Rattle.calendar_c.specs.DateTimes.{duration_from_c, duration_or_none, moment_from_c, numbers_for_c, numbers_or_none}
 use Rattle.calendar_c.specs.declared.date_time_numbers.CalendarDateTime.{CalendarDateTime}
-use Rattle.calendar_c.proofs.DateTimeLemmas.{IsTimeNamed, found, moment_named-facts, moment_named-none, numbers_of-again}
+use Rattle.calendar_c.proofs.DateTimeLemmas.{IsTimeNamed, found, moment_from_c-facts, moment_from_c-none, numbers_for_c-again}
 
 -- ---- moves
 
@@ -45,17 +45,17 @@ land-named t x h =
     (λ plain. subst EndsNamed (sym (land-plain t x plain)) (plain_named (pos (place t) +ℤ x)))
     (λ leap. subst EndsNamed (sym (land-leap t x leap)) (leap_named t.second t.fraction (pos (place t) +ℤ x) h leap))
 
-reach-again : (o : Option Moment) (m : Moment) (x : ℤ) → IsNamed m.time → o ≡ reach m x → moment_named (numbers_or_none o) ≡ o
+reach-again : (o : Option Moment) (m : Moment) (x : ℤ) → IsNamed m.time → o ≡ reach m x → moment_from_c (numbers_or_none o) ≡ o
 unfolding reach
-reach-again None m x h e = moment_named-none None refl
+reach-again None m x h e = moment_from_c-none None refl
 reach-again (Some n) m x h e =
     let is = found true (date_of_day (m.date +ℤ (land m.time x).day)) (land m.time x).time n e in
-    numbers_of-again n (date_of_day-number n.date (m.date +ℤ (land m.time x).day) (sym is.1)).0 (subst IsNamed is.2 (land-named m.time x h))
+    numbers_for_c-again n (date_of_day-number n.date (m.date +ℤ (land m.time x).day) (sym is.1)).0 (subst IsNamed is.2 (land-named m.time x h))
 
-pub moved-again : (a : CalendarDateTime) (start : Option Moment) (by : Option ℤ) → start ≡ moment_named a → moment_named (numbers_or_none (option_and_then (λ m. option_and_then (reach m) by) start)) ≡ option_and_then (λ m. option_and_then (reach m) by) start
-moved-again a None by e = moment_named-none None refl
-moved-again a (Some m) None e = moment_named-none None refl
-moved-again a (Some m) (Some x) e = reach-again (reach m x) m x (moment_named-facts a m e).1 refl
+pub moved-again : (a : CalendarDateTime) (start : Option Moment) (by : Option ℤ) → start ≡ moment_from_c a → moment_from_c (numbers_or_none (option_and_then (λ m. option_and_then (reach m) by) start)) ≡ option_and_then (λ m. option_and_then (reach m) by) start
+moved-again a None by e = moment_from_c-none None refl
+moved-again a (Some m) None e = moment_from_c-none None refl
+moved-again a (Some m) (Some x) e = reach-again (reach m x) m x (moment_from_c-facts a m e).1 refl
 
 -- ---- texts
 
@@ -79,9 +79,9 @@ IsNamed-shown text t h =
     let second : h.second < 60 = grind (arith, nat_tests, plain, h.second_in_minute) in
     (omega (arith, h.hour_in_day, h.minute_in_hour, second), (omega (arith, below), λ leap. absurd (omega (arith, below, leap))))))
 
-pub text-again : (text : List ℕ) (m : Moment) → IsDateTimeText text m → moment_named (numbers_of m) ≡ Some m
+pub text-again : (text : List ℕ) (m : Moment) → IsDateTimeText text m → moment_from_c (numbers_for_c m) ≡ Some m
 text-again text m h =
-    numbers_of-again m (IsDate-named m.date h.date_written.year h.date_written.month h.date_written.day h.date_written.names) (IsNamed-shown h.time m.time h.time_written)
+    numbers_for_c-again m (IsDate-named m.date h.date_written.year h.date_written.month h.date_written.day h.date_written.names) (IsNamed-shown h.time m.time h.time_written)
 
 -- ---- distances
 
@@ -95,22 +95,22 @@ unfolding moment_distance distance
 IsDuration-moment_distance m n d e t u =
     omega (arith, signed, d.0, d.1, e.0, e.1, t.0, t.1.0, u.0, u.1.0, few (is_leap n.time && nat_lt n.time.second m.time.second), few (is_leap m.time && nat_lt m.time.second n.time.second))
 
-duration_named-again : (x : ℤ) → IsDuration x → duration_named (duration_or_none (Some x)) ≡ Some x
-unfolding duration_named duration_of_parts
-duration_named-again x h =
+duration_from_c-again : (x : ℤ) → IsDuration x → duration_from_c (duration_or_none (Some x)) ≡ Some x
+unfolding duration_from_c duration_of_parts
+duration_from_c-again x h =
     let is : nanos_of (floor_secs x) (past_floor x) ≡ x = omega (arith, signed) in
     let test : (nat_lt (past_floor x) 1_000_000_000 && nat_le (unsigned_abs x) longest) ≡ true = grind (arith, nat_tests) in
     rw (is, test) refl
 
-duration_named-none : (o : Option ℤ) → o ≡ None → duration_named (duration_or_none o) ≡ o
-unfolding duration_named duration_of_parts
-duration_named-none None e = refl
-duration_named-none (Some x) e = absurd cc
+duration_from_c-none : (o : Option ℤ) → o ≡ None → duration_from_c (duration_or_none o) ≡ o
+unfolding duration_from_c duration_of_parts
+duration_from_c-none None e = refl
+duration_from_c-none (Some x) e = absurd cc
 
-pub distance-again : (a b : CalendarDateTime) (m n : Option Moment) → m ≡ moment_named a → n ≡ moment_named b → duration_named (duration_or_none (option_and_then (λ o. option_map (moment_distance o) n) m)) ≡ option_and_then (λ o. option_map (moment_distance o) n) m
-distance-again a b None n d e = duration_named-none None refl
-distance-again a b (Some m) None d e = duration_named-none None refl
+pub distance-again : (a b : CalendarDateTime) (m n : Option Moment) → m ≡ moment_from_c a → n ≡ moment_from_c b → duration_from_c (duration_or_none (option_and_then (λ o. option_map (moment_distance o) n) m)) ≡ option_and_then (λ o. option_map (moment_distance o) n) m
+distance-again a b None n d e = duration_from_c-none None refl
+distance-again a b (Some m) None d e = duration_from_c-none None refl
 distance-again a b (Some m) (Some n) d e =
-    let is = moment_named-facts a m d in
-    let also = moment_named-facts b n e in
-    duration_named-again (moment_distance m n) (IsDuration-moment_distance m n is.0 also.0 is.1 also.1)
+    let is = moment_from_c-facts a m d in
+    let also = moment_from_c-facts b n e in
+    duration_from_c-again (moment_distance m n) (IsDuration-moment_distance m n is.0 also.0 is.1 also.1)

@@ -28,24 +28,24 @@ abbrev pub second_of_seconds : ℤ → ℕ
 second_of_seconds s = unsigned_abs (int_rem_euclid s (pos seconds_per_day))
 
 -- the date-time of so many seconds since 1970 and nanoseconds past them, if there is one
-unfoldable pub moment_named : CalendarDateTime → Option Moment
-moment_named a = moment_at (day_of_seconds a.seconds) (second_of_seconds a.seconds) a.nanos
+unfoldable pub moment_from_c : CalendarDateTime → Option Moment
+moment_from_c a = moment_at (day_of_seconds a.seconds) (second_of_seconds a.seconds) a.nanos
 
 -- the two numbers of a date-time
-abbrev pub numbers_of : Moment → CalendarDateTime
-numbers_of m = record {
+abbrev pub numbers_for_c : Moment → CalendarDateTime
+numbers_for_c m = record {
   seconds = (m.date -ℤ unix_epoch_day) *ℤ pos seconds_per_day +ℤ pos m.time.second;
   nanos = m.time.fraction;
 }
 
 -- those that stand for a date-time, if there is one
 abbrev pub numbers_or_none : Option Moment → CalendarDateTime
-numbers_or_none (Some m) = numbers_of m
+numbers_or_none (Some m) = numbers_for_c m
 numbers_or_none None = record { seconds = pos 0; nanos = 2 ^ 32 - 1 }
 
 -- the duration of so many seconds and nanoseconds past them, if there is one
-unfoldable pub duration_named : CalendarDuration → Option ℤ
-duration_named a = duration_of_parts a.seconds a.nanos
+unfoldable pub duration_from_c : CalendarDuration → Option ℤ
+duration_from_c a = duration_of_parts a.seconds a.nanos
 
 -- the two numbers that stand for a duration, if there is one
 abbrev pub duration_or_none : Option ℤ → CalendarDuration

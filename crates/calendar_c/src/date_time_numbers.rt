@@ -1,7 +1,7 @@
 //! Date-times and durations as the two numbers that stand for them.
 ghost use Rattle.std.specs.Prelude.{◌≡◌};
 ghost use Rattle.chrono_clock.specs.Duration.{floor_secs, past_floor};
-ghost use Rattle.calendar_c.specs.DateTimes.{duration_named, duration_or_none, moment_at, moment_named, numbers_of, numbers_or_none};
+ghost use Rattle.calendar_c.specs.DateTimes.{duration_from_c, duration_or_none, moment_at, moment_from_c, numbers_for_c, numbers_or_none};
 
 use crate::arguments::date_of;
 use chrono_calendar::ends::FIRST_DAY;
@@ -52,7 +52,7 @@ pub(crate) fn date_time_at(day: i32, second: u32, nanos: u32) -> Option<NaiveDat
 // The date-time for which the numbers stand.
 #[inline]
 pub(crate) fn date_time_of(moment: CalendarDateTime) -> Option<NaiveDateTime>
-    ensures { result ≡ moment_named moment }
+    ensures { result ≡ moment_from_c moment }
 {
     if moment.seconds < FIRST_SECOND || moment.seconds > LAST_SECOND {
         return None;
@@ -65,8 +65,8 @@ pub(crate) fn date_time_of(moment: CalendarDateTime) -> Option<NaiveDateTime>
 
 // The numbers of a date-time.
 #[inline]
-fn numbers_of(date_time: NaiveDateTime) -> CalendarDateTime
-    ensures { result ≡ numbers_of date_time }
+fn numbers_for_c(date_time: NaiveDateTime) -> CalendarDateTime
+    ensures { result ≡ numbers_for_c date_time }
 {
     let day = i64::from(date_time.date().to_epoch_days());
     let second = i64::from(date_time.time().num_seconds_from_midnight());
@@ -82,7 +82,7 @@ pub(crate) fn numbers_or_none(date_time: Option<NaiveDateTime>) -> CalendarDateT
     ensures { result ≡ numbers_or_none date_time }
 {
     match date_time {
-        Some(date_time) => numbers_of(date_time),
+        Some(date_time) => numbers_for_c(date_time),
         None => CalendarDateTime {
             seconds: 0,
             nanos: NO_NANOS,
@@ -93,7 +93,7 @@ pub(crate) fn numbers_or_none(date_time: Option<NaiveDateTime>) -> CalendarDateT
 // The duration for which the numbers stand.
 #[inline]
 pub(crate) fn duration_of(duration: CalendarDuration) -> Option<TimeDelta>
-    ensures { result ≡ duration_named duration }
+    ensures { result ≡ duration_from_c duration }
 {
     TimeDelta::new(duration.seconds, duration.nanos)
 }

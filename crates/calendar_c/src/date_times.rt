@@ -3,7 +3,7 @@ ghost use Rattle.std.specs.Prelude.{◌≡◌, pos};
 ghost use Rattle.std.specs.Option.{option_and_then, option_map};
 ghost use Rattle.chrono_datetime.specs.Moment.{moment_distance, reach};
 ghost use Rattle.calendar_c.specs.Answers.{count_or_none, or_none};
-ghost use Rattle.calendar_c.specs.DateTimes.{duration_named, duration_or_none, moment_at, moment_named, numbers_or_none};
+ghost use Rattle.calendar_c.specs.DateTimes.{duration_from_c, duration_or_none, moment_at, moment_from_c, numbers_or_none};
 
 use crate::answers::NONE;
 use crate::date_time_numbers::{
@@ -21,7 +21,7 @@ pub extern "C" fn calendar_date_time_new(
 ) -> CalendarDateTime
     ensures numbers { result ≡ numbers_or_none (moment_at date second_of_day nanos) }
     // The numbers that are answered stand for that date-time again, and for none if there is none.
-    ensures named { moment_named result ≡ moment_at date second_of_day nanos }
+    ensures named { moment_from_c result ≡ moment_at date second_of_day nanos }
 {
     numbers_or_none(date_time_at(date, second_of_day, nanos))
 }
@@ -29,7 +29,7 @@ pub extern "C" fn calendar_date_time_new(
 /// Returns the date of a date-time.
 #[unsafe(no_mangle)]
 pub extern "C" fn calendar_date_time_date(moment: CalendarDateTime) -> i32
-    ensures { result ≡ or_none (option_map (λ m. m.date) (moment_named moment)) }
+    ensures { result ≡ or_none (option_map (λ m. m.date) (moment_from_c moment)) }
 {
     match date_time_of(moment) {
         Some(moment) => moment.date().num_days_from_ce(),
@@ -40,7 +40,7 @@ pub extern "C" fn calendar_date_time_date(moment: CalendarDateTime) -> i32
 /// Returns the second of the day of a date-time, from 0 to 86,399.
 #[unsafe(no_mangle)]
 pub extern "C" fn calendar_date_time_second_of_day(moment: CalendarDateTime) -> i32
-    ensures { result ≡ count_or_none (option_map (λ m. m.time.second) (moment_named moment)) }
+    ensures { result ≡ count_or_none (option_map (λ m. m.time.second) (moment_from_c moment)) }
 {
     match date_time_of(moment) {
         Some(moment) => moment.time().num_seconds_from_midnight() as i32,
@@ -55,9 +55,9 @@ pub extern "C" fn calendar_date_time_add(
     by: CalendarDuration,
 ) -> CalendarDateTime
     ensures numbers { result ≡ numbers_or_none
-        (option_and_then (λ m. option_and_then (reach m) (duration_named by)) (moment_named moment)) }
-    ensures named { moment_named result
-        ≡ option_and_then (λ m. option_and_then (reach m) (duration_named by)) (moment_named moment) }
+        (option_and_then (λ m. option_and_then (reach m) (duration_from_c by)) (moment_from_c moment)) }
+    ensures named { moment_from_c result
+        ≡ option_and_then (λ m. option_and_then (reach m) (duration_from_c by)) (moment_from_c moment) }
 {
     numbers_or_none(moved(moment, by))
 }
@@ -69,9 +69,9 @@ pub extern "C" fn calendar_date_time_since(
     base: CalendarDateTime,
 ) -> CalendarDuration
     ensures numbers { result ≡ duration_or_none
-        (option_and_then (λ m. option_map (moment_distance m) (moment_named base)) (moment_named moment)) }
-    ensures named { duration_named result
-        ≡ option_and_then (λ m. option_map (moment_distance m) (moment_named base)) (moment_named moment) }
+        (option_and_then (λ m. option_map (moment_distance m) (moment_from_c base)) (moment_from_c moment)) }
+    ensures named { duration_from_c result
+        ≡ option_and_then (λ m. option_map (moment_distance m) (moment_from_c base)) (moment_from_c moment) }
 {
     duration_or_none(distance(moment, base))
 }
@@ -80,7 +80,7 @@ pub extern "C" fn calendar_date_time_since(
 #[inline]
 fn moved(moment: CalendarDateTime, by: CalendarDuration) -> Option<NaiveDateTime>
     ensures { result
-        ≡ option_and_then (λ m. option_and_then (reach m) (duration_named by)) (moment_named moment) }
+        ≡ option_and_then (λ m. option_and_then (reach m) (duration_from_c by)) (moment_from_c moment) }
 {
     let moment = date_time_of(moment)?;
     moment.checked_add_signed(duration_of(by)?)
@@ -90,7 +90,7 @@ fn moved(moment: CalendarDateTime, by: CalendarDuration) -> Option<NaiveDateTime
 #[inline]
 fn distance(moment: CalendarDateTime, base: CalendarDateTime) -> Option<TimeDelta>
     ensures { result
-        ≡ option_and_then (λ m. option_map (moment_distance m) (moment_named base)) (moment_named moment) }
+        ≡ option_and_then (λ m. option_map (moment_distance m) (moment_from_c base)) (moment_from_c moment) }
 {
     let moment = date_time_of(moment)?;
     Some(moment.signed_duration_since(date_time_of(base)?))

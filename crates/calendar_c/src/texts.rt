@@ -9,7 +9,7 @@ ghost use Rattle.chrono_datetime.specs.MomentText.{moment_text};
 ghost use Rattle.chrono_reading.specs.DateTexts.{IsDateText};
 ghost use Rattle.chrono_reading.specs.DateTimeTexts.{IsDateTimeText};
 ghost use Rattle.calendar_c.specs.Answers.{count_or_none, none_number};
-ghost use Rattle.calendar_c.specs.DateTimes.{moment_named, numbers_of, numbers_or_none};
+ghost use Rattle.calendar_c.specs.DateTimes.{moment_from_c, numbers_for_c, numbers_or_none};
 ghost use Rattle.calendar_c.specs.Texts.{length_of, overwritten, text_within};
 
 use crate::answers::{NONE, number_or_none};
@@ -55,11 +55,11 @@ pub extern "C" fn calendar_read_date(text: &[u8]) -> i32
 #[unsafe(no_mangle)]
 pub extern "C" fn calendar_write_date_time(moment: CalendarDateTime, text: &mut [u8]) -> i32
     ensures length { result ≡ count_or_none
-        (length_of (text_within (length text.old) (option_map (moment_text (byte "T")) (moment_named moment)))) }
-    ensures enough { (m : Moment) → moment_named moment ≡ Some m → 32 ≤ length text.old
+        (length_of (text_within (length text.old) (option_map (moment_text (byte "T")) (moment_from_c moment)))) }
+    ensures enough { (m : Moment) → moment_from_c moment ≡ Some m → 32 ≤ length text.old
         → result ≡ pos (length (moment_text (byte "T") m)) }
     ensures bytes { text.new
-        ≡ overwritten (text_within (length text.old) (option_map (moment_text (byte "T")) (moment_named moment))) text.old }
+        ≡ overwritten (text_within (length text.old) (option_map (moment_text (byte "T")) (moment_from_c moment))) text.old }
 {
     let Some(moment) = date_time_of(moment) else {
         return NONE;
@@ -73,9 +73,9 @@ pub extern "C" fn calendar_write_date_time(moment: CalendarDateTime, text: &mut 
 /// fraction of one to nine digits.
 #[unsafe(no_mangle)]
 pub extern "C" fn calendar_read_date_time(text: &[u8]) -> CalendarDateTime
-    ensures read { (result ≡ numbers_or_none None) ⊎ ((m : Moment) × (result ≡ numbers_of m) × IsDateTimeText text.now m) }
-    ensures every { (m : Moment) → IsDateTimeText text.now m → result ≡ numbers_of m }
-    ensures named { (m : Moment) → IsDateTimeText text.now m → moment_named result ≡ Some m }
+    ensures read { (result ≡ numbers_or_none None) ⊎ ((m : Moment) × (result ≡ numbers_for_c m) × IsDateTimeText text.now m) }
+    ensures every { (m : Moment) → IsDateTimeText text.now m → result ≡ numbers_for_c m }
+    ensures named { (m : Moment) → IsDateTimeText text.now m → moment_from_c result ≡ Some m }
 {
     numbers_or_none(read_date_time(text).ok())
 }

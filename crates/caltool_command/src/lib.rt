@@ -16,8 +16,8 @@ mod ways;
 mod words;
 
 pub use arguments::{CalendarDate, ClockTime, DateAndTime, MonthSpan};
-pub use chrono_text::Line;
 pub use chrono_text::law::numbers_are_texts;
+pub use chrono_text::{Line, split_line};
 pub use command::Command;
 pub use command_line::{command_of, read_line};
 pub use law::{known_commands, known_errors, lines_are_commands, words_are_unique};

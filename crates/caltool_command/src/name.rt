@@ -3,7 +3,7 @@ ghost use Rattle.std.specs.Prelude.{◌≡◌};
 ghost use Rattle.caltool_command.specs.Commands.{name_of};
 
 use crate::ways::Ways;
-use chrono_text::Way::{DigitByDigit, InLanes, Short};
+use chrono_text::Way::{Long, Short};
 
 /// A command word, which begins a line.
 #[derive(Clone, Copy, Debug, PartialEq, Eq)]
@@ -40,22 +40,21 @@ pub enum Name {
 
 impl Name {
     // How each of the command's numbers is best read; the last way is that of all further ones, too. A month, an hour or a weekday
-    // has one digit or two; a year, a fraction or a count may have more. An ordinal ends its line, so no other number waits for it.
+    // has one digit or two; a year, a fraction or a count may have more.
     #[inline]
     pub(crate) fn ways(self) -> Ways {
         match self {
             Name::Ymd | Name::Iwd | Name::Wom | Name::Week | Name::On | Name::Every => {
-                Ways::of(&[InLanes, Short])
+                Ways::of(&[Long, Short])
             }
-            Name::Yo => Ways::of(&[InLanes, DigitByDigit]),
-            Name::Day => Ways::of(&[InLanes]),
-            Name::Days | Name::Months => Ways::of(&[InLanes, Short, Short, InLanes]),
-            Name::Move => Ways::of(&[InLanes, Short, Short, Short, Short, Short, InLanes]),
+            Name::Yo | Name::Day => Ways::of(&[Long]),
+            Name::Days | Name::Months => Ways::of(&[Long, Short, Short, Long]),
+            Name::Move => Ways::of(&[Long, Short, Short, Short, Short, Short, Long]),
             Name::Diff => Ways::of(&[
-                InLanes, Short, Short, Short, Short, Short, InLanes, InLanes, Short, Short, Short,
-                Short, Short, InLanes,
+                Long, Short, Short, Short, Short, Short, Long, Long, Short, Short, Short, Short,
+                Short, Long,
             ]),
-            Name::Since => Ways::of(&[InLanes, Short, Short, InLanes, Short]),
+            Name::Since => Ways::of(&[Long, Short, Short, Long, Short]),
             Name::Set => Ways::of(&[Short]),
         }
     }

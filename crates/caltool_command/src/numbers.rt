@@ -1,5 +1,5 @@
 //! The numbers of a line.
-ghost use Rattle.std.specs.Prelude.{◌≡◌, ◌<◌, ◌≤◌, ◌++◌, ◌∷◌, ℤ, List, [], length, take};
+ghost use Rattle.std.specs.Prelude.{◌≡◌, ◌≤◌, ℤ, List, [], length, take, IfSome};
 ghost use Rattle.std.specs.Option.{option_map};
 ghost use Rattle.caltool_command.specs.Private.{EndsWord, numbers_behind};
 
@@ -43,14 +43,8 @@ impl Numbers {
         requires short { length text ≤ 120 }
         ensures { numbers_behind text.entry ≡ option_map (λ _. self.new) result }
     {
-        self.clear();
-        let mut rest = text;
-        let mut ways = ways;
-        while !rest.is_empty() {
-            let (number, after) = next_number(&rest.skip(1), ways.next())?;
-            self.push(number);
-            rest = after;
-        }
+        self.len = 0;
+        self.len = read_items(&mut self.items, text, ways)?;
         Some(())
     }
 
@@ -60,18 +54,24 @@ impl Numbers {
     {
         &self.items[..self.len]
     }
+}
 
-    fn push(&mut self, number: i64)
-        requires { length self.old < 60 }
-        ensures { self.new ≡ self.old ++ number ∷ [] }
-    {
-        self.items[self.len] = number;
-        self.len += 1;
+// Reads the numbers behind the first space of a text, and returns how many they are. What is read does not depend on `ways`.
+#[inline]
+fn read_items(items: &mut [i64; ROOM], text: Line<'_>, ways: Ways) -> Option<usize>
+    requires space { EndsWord text }
+    requires short { length text ≤ 120 }
+    ensures read { numbers_behind text.entry ≡ option_map (λ len. take len items.new) result }
+    ensures within { IfSome result (λ len. len ≤ 60) }
+{
+    let mut len = 0;
+    let mut rest = text;
+    let mut ways = ways;
+    while !rest.is_empty() {
+        let (number, after) = next_number(&rest.skip(1), ways.next())?;
+        items[len] = number;
+        len += 1;
+        rest = after;
     }
-
-    fn clear(&mut self)
-        ensures { self.new ≡ [] }
-    {
-        self.len = 0;
-    }
+    Some(len)
 }

@@ -1,8 +1,7 @@
 //! The words of a line: its name, and the numbers after it.
-ghost use Rattle.std.specs.Prelude.{◌≡◌, ◌<◌, ◌≤◌, ◌∷◌, length, take, drop, slice_index, IfSome, IfNone, None};
+ghost use Rattle.std.specs.Prelude.{◌≡◌, ◌<◌, ◌≤◌, ◌∷◌, length, drop, IfSome, IfNone, None};
 ghost use Rattle.std.specs.Option.{option_map};
-ghost use Rattle.std.specs.Str.{byte};
-ghost use Rattle.caltool_command.specs.Words.{words, IsWord};
+ghost use Rattle.caltool_command.specs.Words.{words};
 ghost use Rattle.caltool_command.specs.Grammar.{numbers_of};
 ghost use Rattle.caltool_command.specs.Private.{EndsWord, numbers_behind};
 
@@ -16,25 +15,9 @@ pub(crate) fn split_name<'a>(line: &Line<'a>) -> (&'a [u8], Line<'a>)
     ensures space { EndsWord result.1 }
     ensures shorter { length result.1 ≤ length line.now }
 {
-    let bytes = line.as_slice();
-    let len = word_len(bytes);
-    let (word, _) = bytes.split_at(len);
+    let len = line.bytes_before(SPACE);
+    let (word, _) = line.as_slice().split_at(len);
     (word, line.skip(len))
-}
-
-// How long the first word is.
-#[inline]
-fn word_len(line: &[u8]) -> usize
-    ensures within { result ≤ length line.now }
-    ensures word { IsWord (take result line.now) }
-    ensures space { result < length line.now → slice_index line.now result ≡ byte " " }
-{
-    for (len, byte) in line.iter().enumerate() {
-        if *byte == SPACE {
-            return len;
-        }
-    }
-    line.len()
 }
 
 // The number that the first word writes, if it fits an `i64`, and what follows that word.

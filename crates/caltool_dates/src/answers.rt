@@ -58,10 +58,6 @@ impl CommandAnswers for DateAnswers {
         (week.checked_first_day(), week.checked_last_day())
     }
 
-    fn years_between(date: NaiveDate, base: NaiveDate) -> Option<u32> {
-        date.years_since(base)
-    }
-
     fn first_on(date: NaiveDate, days: WeekdaySet) -> Option<NaiveDate> {
         date.first_on(days)
     }

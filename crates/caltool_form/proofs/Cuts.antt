@@ -2,7 +2,7 @@
 use Rattle.std.proofs.Common.{◌≡◌, ◌==◌, ◌<◌, ℕ, List, [], ◌∷◌, ◌++◌, length, refl, ap, sym, ◌∙◌, append_assoc, arith}
 use Rattle.std.specs.List.{flat_map, join_with_byte, AllByRecursion}
 use Rattle.std.proofs.lemmas.List.Splits.{join_with_byte-slice_split, slice_split_none, slice_split_at}
-use Rattle.caltool_form.specs.Lines.{pieces, but_last, last_part, ended_lines, rest_of, IsPiece, IsCut}
+use Rattle.caltool_form.specs.Lines.{newline_parts, but_last, last_part, ended_lines, rest_of, IsPiece, IsCut}
 use Rattle.caltool_form.proofs.Pieces.{some_pieces, no_newline}
 use Rattle.caltool_command.proofs.Parts.{plain_parts}
 
@@ -29,13 +29,13 @@ cut_into bytes [] some joined plain = absurd (omega arith)
 cut_into bytes (part ∷ parts) some joined plain = record { joined = sym joined ∙ joined_parts part parts; lines = plain_ended part parts plain; last = plain_last part parts plain }
 
 pub lines_are : (bytes : List ℕ) → IsCut bytes (ended_lines bytes) (rest_of bytes)
-lines_are bytes = cut_into bytes (pieces bytes) (some_pieces bytes) (join_with_byte-slice_split 10 bytes) (plain_parts 10 bytes)
+lines_are bytes = cut_into bytes (newline_parts bytes) (some_pieces bytes) (join_with_byte-slice_split 10 bytes) (plain_parts 10 bytes)
 
-pieces_of : (cut : List (List ℕ)) (rest : List ℕ) → AllByRecursion IsPiece cut → IsPiece rest → pieces (joined_of cut rest) ≡ cut ++ rest ∷ []
+pieces_of : (cut : List (List ℕ)) (rest : List ℕ) → AllByRecursion IsPiece cut → IsPiece rest → newline_parts (joined_of cut rest) ≡ cut ++ rest ∷ []
 pieces_of [] rest plain last = slice_split_none (λ x. x == 10) rest (no_newline rest last)
 pieces_of (line ∷ cut) rest plain last =
     let step : joined_of (line ∷ cut) rest ≡ line ++ 10 ∷ joined_of cut rest = simp append_assoc in
-    ap pieces step ∙ slice_split_at (λ x. x == 10) line 10 (joined_of cut rest) (no_newline line plain.0) refl ∙ ap (λ l. line ∷ l) (pieces_of cut rest plain.1 last)
+    ap newline_parts step ∙ slice_split_at (λ x. x == 10) line 10 (joined_of cut rest) (no_newline line plain.0) refl ∙ ap (λ l. line ∷ l) (pieces_of cut rest plain.1 last)
 
 before_end : (cut : List (List ℕ)) (rest : List ℕ) → but_last (cut ++ rest ∷ []) ≡ cut
 before_end [] rest = refl

@@ -3,3 +3,4 @@ mod Pieces
 mod Progress
 mod Cuts
 mod Tests
+mod Days

@@ -9,7 +9,7 @@ use Rattle.std.proofs.lemmas.Grind.{flat_map-append}
 use Rattle.std.proofs.Math.Seq.{take-append-add}
 use Rattle.std.proofs.KnownBytes.{Appends-trans}
 use Rattle.std.specs.Io.KnownBytes.{Appends}
-use Rattle.caltool_form.specs.Lines.{pieces, but_last, last_part, ended_lines, rest_of, last_line, IsPiece}
+use Rattle.caltool_form.specs.Lines.{newline_parts, but_last, last_part, ended_lines, rest_of, last_line, IsPiece}
 use Rattle.caltool_form.specs.Private.{onto_front, pieces_after}
 use Rattle.caltool_form.specs.Answers.{answer_of, answer_to, answers_of}
 use Rattle.caltool_command.specs.Commands.{is_long, command_of}
@@ -30,7 +30,7 @@ cons-last_part : (part : List ℕ) (parts : List (List ℕ)) → 0 < length part
 cons-last_part part [] some = absurd (omega arith)
 cons-last_part part (next ∷ parts) some = refl
 
-pub some_pieces : (bytes : List ℕ) → 0 < length (pieces bytes)
+pub some_pieces : (bytes : List ℕ) → 0 < length (newline_parts bytes)
 some_pieces bytes = omega (arith, length-slice_split (λ x. x == 10) bytes)
 
 pub no_newline : (xs : List ℕ) → IsPiece xs → All (λ x. (x == 10) ≡ false) xs
@@ -40,24 +40,24 @@ onto_nothing : (parts : List (List ℕ)) → 0 < length parts → onto_front [] 
 onto_nothing [] some = absurd (omega arith)
 onto_nothing (part ∷ parts) some = refl
 
-pub pieces_after-nothing : (bytes : List ℕ) → pieces_after [] bytes ≡ pieces bytes
-pieces_after-nothing bytes = onto_nothing (pieces bytes) (some_pieces bytes)
+pub pieces_after-nothing : (bytes : List ℕ) → pieces_after [] bytes ≡ newline_parts bytes
+pieces_after-nothing bytes = onto_nothing (newline_parts bytes) (some_pieces bytes)
 
 -- bytes without a newline end no line
 pub pieces_after-piece : (line xs : List ℕ) → IsPiece xs → pieces_after line xs ≡ (line ++ xs) ∷ []
 pieces_after-piece line xs plain = ap (onto_front line) (slice_split_none (λ x. x == 10) xs (no_newline xs plain))
 
 -- a line ends at the first newline
-pieces_after-line : (line xs ys : List ℕ) → IsPiece xs → pieces_after line (xs ++ 10 ∷ ys) ≡ (line ++ xs) ∷ pieces ys
+pieces_after-line : (line xs ys : List ℕ) → IsPiece xs → pieces_after line (xs ++ 10 ∷ ys) ≡ (line ++ xs) ∷ newline_parts ys
 pieces_after-line line xs ys plain = ap (onto_front line) (slice_split_at (λ x. x == 10) xs 10 ys (no_newline xs plain) refl)
 
 pub but_last-line : (line xs ys : List ℕ) → IsPiece xs → but_last (pieces_after line (xs ++ 10 ∷ ys)) ≡ (line ++ xs) ∷ but_last (pieces_after [] ys)
 but_last-line line xs ys plain =
-    ap but_last (pieces_after-line line xs ys plain) ∙ cons-but_last (line ++ xs) (pieces ys) (some_pieces ys) ∙ ap (λ l. (line ++ xs) ∷ but_last l) (sym (pieces_after-nothing ys))
+    ap but_last (pieces_after-line line xs ys plain) ∙ cons-but_last (line ++ xs) (newline_parts ys) (some_pieces ys) ∙ ap (λ l. (line ++ xs) ∷ but_last l) (sym (pieces_after-nothing ys))
 
 pub last_part-line : (line xs ys : List ℕ) → IsPiece xs → last_part (pieces_after line (xs ++ 10 ∷ ys)) ≡ last_part (pieces_after [] ys)
 last_part-line line xs ys plain =
-    ap last_part (pieces_after-line line xs ys plain) ∙ cons-last_part (line ++ xs) (pieces ys) (some_pieces ys) ∙ ap last_part (sym (pieces_after-nothing ys))
+    ap last_part (pieces_after-line line xs ys plain) ∙ cons-last_part (line ++ xs) (newline_parts ys) (some_pieces ys) ∙ ap last_part (sym (pieces_after-nothing ys))
 
 -- the parts of two texts: those that end in the first, and those of the second behind what stands last
 
@@ -71,23 +71,23 @@ first_byte x [] behind some = absurd (omega arith)
 first_byte x (part ∷ []) behind some = onto_first-onto_front x part behind
 first_byte x (part ∷ next ∷ parts) behind some = refl
 
-pieces-append : (xs ys : List ℕ) → pieces (xs ++ ys) ≡ ended_lines xs ++ pieces_after (rest_of xs) ys
-pieces-append [] ys = sym (pieces_after-nothing ys)
-pieces-append (x ∷ xs) ys =
+newline_parts-append : (xs ys : List ℕ) → newline_parts (xs ++ ys) ≡ ended_lines xs ++ pieces_after (rest_of xs) ys
+newline_parts-append [] ys = sym (pieces_after-nothing ys)
+newline_parts-append (x ∷ xs) ys =
     let is_newline = λ (y : ℕ). y == 10 in
-    let behind = pieces ys in
-    elim (cases_eq x 10) as (λ _. pieces (x ∷ xs ++ ys) ≡ ended_lines (x ∷ xs) ++ pieces_after (rest_of (x ∷ xs)) ys) [
+    let behind = newline_parts ys in
+    elim (cases_eq x 10) as (λ _. newline_parts (x ∷ xs ++ ys) ≡ ended_lines (x ∷ xs) ++ pieces_after (rest_of (x ∷ xs)) ys) [
       | inl is ↦
           let test = eq-eqb x 10 is in
-          let here : pieces (x ∷ xs) ≡ [] ∷ pieces xs = slice_split-cons_yes is_newline x xs test in
-          let ends : ended_lines (x ∷ xs) ≡ [] ∷ ended_lines xs = ap but_last here ∙ cons-but_last [] (pieces xs) (some_pieces xs) in
-          let last : rest_of (x ∷ xs) ≡ rest_of xs = ap last_part here ∙ cons-last_part [] (pieces xs) (some_pieces xs) in
-          slice_split-cons_yes is_newline x (xs ++ ys) test ∙ ap (λ l. [] ∷ l) (pieces-append xs ys)
+          let here : newline_parts (x ∷ xs) ≡ [] ∷ newline_parts xs = slice_split-cons_yes is_newline x xs test in
+          let ends : ended_lines (x ∷ xs) ≡ [] ∷ ended_lines xs = ap but_last here ∙ cons-but_last [] (newline_parts xs) (some_pieces xs) in
+          let last : rest_of (x ∷ xs) ≡ rest_of xs = ap last_part here ∙ cons-last_part [] (newline_parts xs) (some_pieces xs) in
+          slice_split-cons_yes is_newline x (xs ++ ys) test ∙ ap (λ l. [] ∷ l) (newline_parts-append xs ys)
           ∙ ap (λ l. l ++ onto_front (rest_of xs) behind) (sym ends) ∙ ap (λ l. ended_lines (x ∷ xs) ++ onto_front l behind) (sym last)
       | inr ne ↦
           let test = ne_eqb x 10 ne in
-          let here : pieces (x ∷ xs) ≡ onto_first x (pieces xs) = slice_split-cons_no is_newline x xs test in
-          slice_split-cons_no is_newline x (xs ++ ys) test ∙ ap (onto_first x) (pieces-append xs ys) ∙ first_byte x (pieces xs) behind (some_pieces xs)
+          let here : newline_parts (x ∷ xs) ≡ onto_first x (newline_parts xs) = slice_split-cons_no is_newline x xs test in
+          slice_split-cons_no is_newline x (xs ++ ys) test ∙ ap (onto_first x) (newline_parts-append xs ys) ∙ first_byte x (newline_parts xs) behind (some_pieces xs)
           ∙ ap (λ parts. but_last parts ++ onto_front (last_part parts) behind) (sym here)
     ]
 
@@ -162,10 +162,10 @@ pub ended_more : (kept bytes more : List ℕ) → take 121 kept ≡ take 121 (re
     → answers_of answer_of (ended_lines (bytes ++ more))
     ≡ answers_of answer_of (ended_lines bytes) ++ answers_of answer_of (but_last (pieces_after kept more))
 ended_more kept bytes more h =
-    ap (λ parts. answers_of answer_of (but_last parts)) (pieces-append bytes more)
-    ∙ ap (answers_of answer_of) (but_last-append (ended_lines bytes) (rest_of bytes) (pieces more))
+    ap (λ parts. answers_of answer_of (but_last parts)) (newline_parts-append bytes more)
+    ∙ ap (answers_of answer_of) (but_last-append (ended_lines bytes) (rest_of bytes) (newline_parts more))
     ∙ flat_map-append _ (ended_lines bytes) (but_last (pieces_after (rest_of bytes) more))
-    ∙ ap (λ l. answers_of answer_of (ended_lines bytes) ++ l) (sym (same_ended kept (rest_of bytes) (pieces more) h))
+    ∙ ap (λ l. answers_of answer_of (ended_lines bytes) ++ l) (sym (same_ended kept (rest_of bytes) (newline_parts more) h))
 
 pub same_last : (a b : List ℕ) → take 121 a ≡ take 121 b
     → answers_of answer_of (last_line a) ≡ answers_of answer_of (last_line b)
@@ -181,5 +181,5 @@ same_left a b (part ∷ next ∷ parts) h = refl
 
 pub rest_more : (kept bytes more : List ℕ) → take 121 kept ≡ take 121 (rest_of bytes) → take 121 (last_part (pieces_after kept more)) ≡ take 121 (rest_of (bytes ++ more))
 rest_more kept bytes more h =
-    same_left kept (rest_of bytes) (pieces more) h
-    ∙ ap (take 121) (sym (ap last_part (pieces-append bytes more) ∙ last_part-append (ended_lines bytes) (rest_of bytes) (pieces more)))
+    same_left kept (rest_of bytes) (newline_parts more) h
+    ∙ ap (take 121) (sym (ap last_part (newline_parts-append bytes more) ∙ last_part-append (ended_lines bytes) (rest_of bytes) (newline_parts more)))

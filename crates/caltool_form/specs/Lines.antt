@@ -4,8 +4,8 @@ use Rattle.std.specs.List.{flat_map, slice_split, AllByRecursion}
 use Rattle.std.specs.Str.{byte}
 
 -- the parts of the bytes between the newlines
-abbrev pub pieces : List ℕ → List (List ℕ)
-pieces bytes = slice_split (λ x. x == byte "\n") bytes
+abbrev pub newline_parts : List ℕ → List (List ℕ)
+newline_parts bytes = slice_split (λ x. x == byte "\n") bytes
 
 -- all parts but the last
 abbrev pub but_last : List (List ℕ) → List (List ℕ)
@@ -21,11 +21,11 @@ last_part (part ∷ next ∷ parts) = last_part (next ∷ parts)
 
 -- the lines that a newline ends
 abbrev pub ended_lines : List ℕ → List (List ℕ)
-ended_lines bytes = but_last (pieces bytes)
+ended_lines bytes = but_last (newline_parts bytes)
 
 -- what stands after the last newline
 abbrev pub rest_of : List ℕ → List ℕ
-rest_of bytes = last_part (pieces bytes)
+rest_of bytes = last_part (newline_parts bytes)
 
 -- a last piece without a newline is a line if it is not empty
 abbrev pub last_line : List ℕ → List (List ℕ)

@@ -11,6 +11,7 @@ ghost use Rattle.caltool_form.specs.Named.{date_named as the_date, duration_name
 use crate::command_answers::CommandAnswers;
 use crate::named::{duration_named, time_named};
 use caltool_command::{CalendarDate, DateAndTime, MonthSpan};
+use chrono_calendar::forms;
 use chrono_clock::{NaiveTime, TimeDelta};
 use chrono_units::WeekdaySet;
 
@@ -76,13 +77,18 @@ pub(crate) fn moved_every<A: CommandAnswers>(
     A::every_months(date_named::<A>(date)?, months, times)
 }
 
-// The whole years from the second date to the first.
+// The whole years from the second date to the first, which the years, months and days tell.
 pub(crate) fn years_since<A: CommandAnswers>(date: CalendarDate, base: CalendarDate) -> Option<u32>
     ensures { result
         ≡ option_and_then (λ n. option_and_then (λ m. years_between n m) (the_date base))
         (the_date date) }
 {
-    A::years_between(date_named::<A>(date)?, date_named::<A>(base)?)
+    date_named::<A>(date)?;
+    date_named::<A>(base)?;
+    forms::years_between_names(
+        (date.year, date.month, date.day),
+        (base.year, base.month, base.day),
+    )
 }
 
 // The date-time a duration later.

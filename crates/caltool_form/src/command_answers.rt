@@ -8,7 +8,6 @@ ghost use Rattle.chrono_calendar.specs.Days.{IsCalendarName, date_of_day, date_o
 ghost use Rattle.chrono_calendar.specs.MonthMoves.{month_move};
 ghost use Rattle.chrono_calendar.specs.Recurrence.{date_every, date_on};
 ghost use Rattle.chrono_calendar.specs.Weeks.{date_of_iso, date_of_nth_weekday, iso_week_of, iso_year_of, week_first_of, weekday_of};
-ghost use Rattle.chrono_calendar.specs.YearsBetween.{years_between as whole_years};
 ghost use Rattle.caltool_form.specs.Named.{months_of, reach};
 
 use caltool_command::MonthSpan;
@@ -69,10 +68,6 @@ pub trait CommandAnswers {
             ≡ date_of_day (week_first_of (number date) start) }
         ensures last { option_map number result.1
             ≡ date_of_day (week_first_of (number date) start +ℤ pos 6) };
-
-    /// Returns the number of whole years from `base` to `date`, or `None` if `date` is before `base`.
-    fn years_between(date: Self::Date, base: Self::Date) -> Option<u32>
-        ensures { result ≡ whole_years (number date) (number base) };
 
     /// Returns the first date from `date` on whose weekday is in `days`. Returns `None` if `days` is empty, or the date
     /// is out of range.

@@ -67,10 +67,6 @@ impl<F: DayForm> CommandAnswers for FormAnswers<F> {
         (forms::from_day(first), forms::from_day(first + 6))
     }
 
-    fn years_between(date: F, base: F) -> Option<u32> {
-        forms::years_between(&date, &base)
-    }
-
     fn first_on(date: F, days: WeekdaySet) -> Option<F> {
         forms::first_on(date, days)
     }

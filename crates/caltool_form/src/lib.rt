@@ -14,7 +14,6 @@ mod fault;
 mod form_answers;
 mod law;
 mod named;
-mod newline;
 mod output;
 mod run;
 mod texts;

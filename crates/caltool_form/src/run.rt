@@ -10,10 +10,9 @@ ghost use Rattle.caltool_form.specs.declared.watch.Mark.{Mark};
 
 use crate::command_answers::CommandAnswers;
 use crate::fault::RunFault;
-use crate::newline::first_line;
 use crate::output::{KEPT, Output};
 use crate::watch::{WatchedReader, WatchedWriter};
-use caltool_command::Line;
+use caltool_command::{Line, split_line};
 use chrono_text::Text;
 use std::io::{Read, Write};
 
@@ -124,7 +123,7 @@ fn answer_piece<A: CommandAnswers, W: Write>(
     ensures fault { IfErr result (λ e. e ≡ RunFault.Write) }
 {
     let mut rest = piece;
-    while let Some((line, after)) = first_line(rest) {
+    while let Some((line, after)) = split_line(rest, b'\n') {
         out.make_room(w)?;
         out.answer_carried::<A>(carried, &line);
         rest = after;

@@ -1,5 +1,5 @@
 //! The texts of the results of commands, each appended to a text. The text of no result is `none`.
-ghost use Rattle.std.specs.Prelude.{◌≡◌, ◌≤◌, ◌+◌, ◌*◌, ◌++◌, length, codes};
+ghost use Rattle.std.specs.Prelude.{◌≡◌, ◌≤◌, ◌+◌, ◌++◌, length, codes};
 ghost use Rattle.std.specs.Fmt.{decimal, signed_decimal};
 ghost use Rattle.std.specs.Option.{option_map};
 ghost use Rattle.std.specs.Str.{byte};
@@ -11,13 +11,14 @@ ghost use Rattle.chrono_clock.specs.TimeText.{time_text};
 ghost use Rattle.chrono_calendar.specs.Days.{ordinal_of};
 ghost use Rattle.chrono_calendar.specs.Weeks.{iso_week_of, iso_year_of, week_first_of, weekday_of};
 ghost use Rattle.caltool_form.specs.SpacedDays.{spaced_days_text};
+ghost use Rattle.caltool_form.specs.Private.{listed_days_text};
 ghost use Rattle.caltool_form.specs.Answers.{date_line, names_of, week_line};
 ghost use Rattle.caltool_form.specs.Texts.{date_text, moment_text, text_or_none};
 
 use crate::command_answers::CommandAnswers;
 use chrono_clock::{NaiveTime, TimeDelta, Timelike};
 use chrono_text::Text;
-use chrono_units::{Weekday, WeekdaySet, WeekdaySetIter};
+use chrono_units::{Weekday, WeekdaySet};
 
 // What stands for a value that does not exist.
 fn push_none<const N: usize>(out: &mut Text<N>)
@@ -128,25 +129,90 @@ pub(crate) fn push_years<const N: usize>(out: &mut Text<N>, years: Option<u32>)
     }
 }
 
-// A set, and its days in week order from the start.
+// A set, and its days in week order from the start. No branch depends on the set, since processors guess that badly.
 pub(crate) fn push_set_and_walk<const N: usize>(out: &mut Text<N>, days: WeekdaySet, start: Weekday)
     requires { length out.old + 63 ≤ N }
     ensures text { out.new ≡ out.old ++ (set_text days ++ spaced_days_text (walk days start)) }
     ensures fits { length out.new ≤ length out.old + 63 }
 {
-    days.put_into(out);
-    push_spaced_days(out, days.iter(start));
+    push_set(out, days);
+    push_spaced_days(out, days, start);
 }
 
-// Days, each after a space.
-fn push_spaced_days<const N: usize>(out: &mut Text<N>, mut days: WeekdaySetIter)
-    requires { length out.old + 4 * length days ≤ N }
-    ensures text { out.new ≡ out.old ++ spaced_days_text days }
-    ensures fits { length out.new ≤ length out.old + 4 * length days }
+// A set, in brackets.
+fn push_set<const N: usize>(out: &mut Text<N>, days: WeekdaySet)
+    requires { length out.old + 36 ≤ N }
+    ensures text { out.new ≡ out.old ++ set_text days }
+    ensures fits { length out.new ≤ length out.old + 35 }
 {
-    while let Some(day) = days.next() {
-        out.push(b' ');
-        day.put_into(out);
+    out.push(b'[');
+    push_listed_days(out, days);
+    // No comma stands behind the last day.
+    out.shorten(2 * usize::from(days.len().min(1)));
+    out.push(b']');
+}
+
+// The days of a set from Monday on, each before a comma and a space.
+#[inline]
+fn push_listed_days<const N: usize>(out: &mut Text<N>, days: WeekdaySet)
+    requires { length out.old + 35 ≤ N }
+    ensures text { out.new ≡ out.old ++ listed_days_text (walk days Weekday.Mon) }
+    ensures fits { length out.new ≤ length out.old + 35 }
+{
+    let mut day = Weekday::Mon;
+    let mut left = 7u32;
+    while left > 0 {
+        out.push_text_if(days.contains(day), listed_name(day));
+        day = day.succ();
+        left -= 1;
+    }
+}
+
+// The days of a set in week order from the start, each after a space.
+#[inline]
+fn push_spaced_days<const N: usize>(out: &mut Text<N>, days: WeekdaySet, start: Weekday)
+    requires { length out.old + 28 ≤ N }
+    ensures text { out.new ≡ out.old ++ spaced_days_text (walk days start) }
+    ensures fits { length out.new ≤ length out.old + 28 }
+{
+    let mut day = start;
+    let mut left = 7u32;
+    while left > 0 {
+        out.push_text_if(days.contains(day), spaced_name(day));
+        day = day.succ();
+        left -= 1;
+    }
+}
+
+// The name of a day before a comma and a space, to be put at once.
+#[inline]
+fn listed_name(day: Weekday) -> [u8; 5]
+    ensures { result ≡ weekday_text day ++ codes ", " }
+{
+    match day {
+        Weekday::Mon => *b"Mon, ",
+        Weekday::Tue => *b"Tue, ",
+        Weekday::Wed => *b"Wed, ",
+        Weekday::Thu => *b"Thu, ",
+        Weekday::Fri => *b"Fri, ",
+        Weekday::Sat => *b"Sat, ",
+        Weekday::Sun => *b"Sun, ",
+    }
+}
+
+// The name of a day after a space, to be put at once.
+#[inline]
+fn spaced_name(day: Weekday) -> [u8; 4]
+    ensures { result ≡ codes " " ++ weekday_text day }
+{
+    match day {
+        Weekday::Mon => *b" Mon",
+        Weekday::Tue => *b" Tue",
+        Weekday::Wed => *b" Wed",
+        Weekday::Thu => *b" Thu",
+        Weekday::Fri => *b" Fri",
+        Weekday::Sat => *b" Sat",
+        Weekday::Sun => *b" Sun",
     }
 }
 

@@ -10,7 +10,9 @@ use Rattle.std.proofs.lemmas.Int.{by_lt_z}
 use Rattle.chrono_datetime.specs.WeekdaySet.{DaySet}
 use Rattle.chrono_datetime.proofs.Signed.{signed}
 use Rattle.chrono_datetime.proofs.CountWhere.{one_if}
-use Rattle.chrono_business.specs.OpenDays.{AreRising, is_holiday, is_workday}
+use Rattle.chrono_datetime.specs.RisingDates.{AreRising}
+use Rattle.chrono_business.specs.OpenDays.{is_holiday, is_workday}
+use Rattle.chrono_datetime.proofs.RisingLists.{int_eq-other}
 
 -- how many days of the list come before t
 unfoldable pub early : List ℤ → ℤ → ℕ
@@ -23,10 +25,6 @@ one_if-true b h = ap one_if h
 
 pub one_if-false : (b : Bool) → b ≡ false → one_if b ≡ 0
 one_if-false b h = ap one_if h
-
-pub false_unless : (b : Bool) → (b ≡ true → ⊥) → b ≡ false
-false_unless true h = absurd (h refl)
-false_unless false h = refl
 
 is_before : (x t : ℤ) → x <ℤ t → one_if (int_lt x t) ≡ 1
 is_before x t h = let yes : int_lt x t ≡ true = grind (arith, signed) in one_if-true (int_lt x t) yes
@@ -74,9 +72,6 @@ at_once : (b c : Bool) → b ≡ true → one_if (b || c) ≡ 1
 at_once true c h = refl
 at_once false c h = absurd (false≢true h)
 
-is_other : (x t : ℤ) → (x ≡ t → ⊥) → int_eq x t ≡ false
-is_other x t h = false_unless (int_eq x t) (λ yes. h ((Decides-int_eq x t).0 yes))
-
 pub early-next : (xs : List ℤ) (t u : ℤ) → AreRising xs → u ≡ t +ℤ pos 1 → early xs u ≡ early xs t + one_if (is_holiday xs t)
 unfolding early
 early-next [] t u rising e = refl
@@ -84,12 +79,12 @@ early-next (x ∷ xs) t u rising e =
     let rest = early-next xs t u (rising_behind x xs rising) e in
     by_lt_z x t
     (λ lt.
-    let not_here = either (int_eq x t) (is_holiday xs t) (is_other x t (λ same. omega (arith, signed, lt, same))) in
+    let not_here = either (int_eq x t) (is_holiday xs t) (int_eq-other x t (λ same. omega (arith, signed, lt, same))) in
     omega (arith, is_before x t lt, is_before x u (omega (arith, signed, lt, e)), rest, not_here))
     (λ ge.
     by_lt_z t x
     (λ gt.
-    let not_here = either (int_eq x t) (is_holiday xs t) (is_other x t (λ same. omega (arith, signed, gt, same))) in
+    let not_here = either (int_eq x t) (is_holiday xs t) (int_eq-other x t (λ same. omega (arith, signed, gt, same))) in
     omega (arith, is_not_before x t ge, is_not_before x u (omega (arith, signed, gt, e)), rest, not_here))
     (λ le.
     let same : x ≡ t = omega (arith, signed, le, ge) in

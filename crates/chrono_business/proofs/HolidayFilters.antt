@@ -6,7 +6,8 @@ use Rattle.std.proofs.lemmas.List.{append-nil, get_or-set_other, take_more, take
 use Rattle.std.proofs.lemmas.List.Elements.{All-filter, filter-append, filter_passes}
 use Rattle.chrono_datetime.specs.Days.{IsDate}
 use Rattle.chrono_datetime.specs.WeekdaySet.{DaySet}
-use Rattle.chrono_business.specs.OpenDays.{AreHolidays, AreRising, is_workday}
+use Rattle.chrono_datetime.specs.RisingDates.{AreRising}
+use Rattle.chrono_business.specs.OpenDays.{AreHolidays, is_workday}
 use Rattle.chrono_business.proofs.Early.{rising_behind}
 
 -- ---- one day after another

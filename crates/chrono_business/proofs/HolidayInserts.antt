@@ -15,7 +15,8 @@ use Rattle.chrono_datetime.specs.Days.{IsDate}
 use Rattle.chrono_datetime.specs.WeekdaySet.{DaySet}
 use Rattle.chrono_datetime.proofs.Signed.{signed}
 use Rattle.chrono_datetime.proofs.CountWhere.{one_if}
-use Rattle.chrono_business.specs.OpenDays.{AreHolidays, AreRising, is_holiday, is_workday}
+use Rattle.chrono_datetime.specs.RisingDates.{AreRising}
+use Rattle.chrono_business.specs.OpenDays.{AreHolidays, is_holiday, is_workday}
 use Rattle.chrono_business.proofs.Early.{early, early-at, early-next, holiday_behind, in_order, one_if-true, past_place}
 
 -- ---- a day put behind so many of a list and turned to its place

@@ -13,6 +13,7 @@ use Rattle.chrono_business.specs.declared.holiday_rule.HolidayRule.{HolidayRule}
 use Rattle.chrono_business.specs.HolidayRules.{date_of_rule}
 use Rattle.chrono_business.specs.OpenDays.{AreHolidays, is_holiday, is_workday}
 use Rattle.chrono_business.specs.HolidayLists.{AreHolidaysWith, AreTooMany, IsOfRules}
+use Rattle.std.proofs.Math.Bool.{or-true}
 
 -- ---- days of P, to which those of Q are added
 
@@ -168,10 +169,6 @@ or_first : (a b : Bool) → a ≡ true → (a || b) ≡ true
 or_first true b h = refl
 or_first false b h = absurd (false≢true h)
 
-or_second : (a b : Bool) → b ≡ true → (a || b) ≡ true
-or_second true b h = refl
-or_second false b h = h
-
 pub list-parts : (xs : List ℤ) (i : ℕ) (r d : ℤ) → i < length xs → r ≡ slice_index_or xs i r → is_holiday (take (i + 1) xs) d ≡ true → (is_holiday (take i xs) d ≡ true) ⊎ (d ≡ r)
 list-parts xs i r d within is h =
     elim (either (is_holiday (take i xs) d) (int_eq (slice_index_or xs i r) d) (sym (list_any_more (λ e. int_eq e d) xs i r within) ∙ h)) [
@@ -185,7 +182,7 @@ list-more xs i r d within h = list_any_more (λ e. int_eq e d) xs i r within ∙
 pub list-next : (xs : List ℤ) (i : ℕ) (r d : ℤ) → i < length xs → d ≡ slice_index_or xs i r → is_holiday (take (i + 1) xs) d ≡ true
 list-next xs i r d within same =
     list_any_more (λ e. int_eq e d) xs i r within
-    ∙ or_second (is_holiday (take i xs) d) (int_eq (slice_index_or xs i r) d) ((Decides-int_eq (slice_index_or xs i r) d).1 (sym same))
+    ∙ (ap (λ t. is_holiday (take i xs) d || t) ((Decides-int_eq (slice_index_or xs i r) d).1 (sym same)) ∙ or-true (is_holiday (take i xs) d))
 
 -- a day that stands in the list is one of it
 pub list-in : (xs : List ℤ) (i : ℕ) (r d : ℤ) → i < length xs → d ≡ slice_index_or xs i r → is_holiday xs d ≡ true

@@ -1,10 +1,10 @@
 -- The last day of a month with a weekday.
-use Rattle.std.proofs.Common.{◌≡◌, ℕ, ◌≤◌, Bool, Option, Some, None, refl, sym, ◌∙◌, arith, ℤ, ◌≤ℤ◌}
+use Rattle.std.proofs.Common.{◌≡◌, ℕ, ◌≤◌, ◌-◌, Bool, Option, Some, None, refl, sym, ◌∙◌, arith, ℤ, pos, ◌+ℤ◌, ◌≤ℤ◌}
 use Rattle.std.specs.Option.{option_and_then}
 use Rattle.std.proofs.lemmas.Int.{by_lt_z}
 use Rattle.std.proofs.lemmas.Option.{none-some}
 use Rattle.chrono_datetime.specs.declared.Weekday.{Weekday}
-use Rattle.chrono_datetime.specs.Years.{is_leap_year, month_length_in}
+use Rattle.chrono_datetime.specs.Years.{is_leap_year, month_length, month_length_in}
 use Rattle.chrono_datetime.specs.Days.{date_of_day, date_of_ymd, month_of, year_of}
 use Rattle.chrono_datetime.specs.MonthMoves.{InSameMonth, month_last_of}
 use Rattle.chrono_datetime.specs.Weeks.{week_first_of, weekday_of}
@@ -61,3 +61,9 @@ last_weekday-last y e f m weekday is month on = by_month y e m weekday (f ≤ℤ
     let again = week_first_of-only (month_last_of first) f weekday on end (omega (arith, signed, place.2, lt)) in
     omega (arith, signed, again, w.day))
     (λ ge. ge))
+
+-- by the name of the month's first day
+pub last_by_name : (y first : ℤ) (m : ℕ) (weekday : Weekday) → date_of_ymd y m 1 ≡ Some first → date_of_last_weekday y m weekday ≡ date_of_day (week_first_of (first +ℤ pos (month_length y m - 1)) weekday)
+last_by_name y first m weekday e =
+    let name = date_of_ymd-name first y m 1 e in
+    rw e (rw (name.0, name.1, name.2) refl)

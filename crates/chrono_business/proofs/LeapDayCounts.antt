@@ -19,9 +19,6 @@ ordinal-exists n =
     let same : ordinal_of_ymd (year_of n) (month_of n) (day_of n) ≡ ordinal_of n = omega (arith, signed, number-ordinal_name n, number-calendar_name n) in
     rw same at h
 
-pub year_length-short : (y : ℤ) → year_length y ≤ 366
-year_length-short y = grind arith
-
 -- b is the name of the day after that with the name a
 abbrev IsNext : OrdinalName → OrdinalName → Type 0
 IsNext a b =

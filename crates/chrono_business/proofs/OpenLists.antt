@@ -10,17 +10,12 @@ use Rattle.chrono_datetime.specs.DateLists.{in_steps}
 use Rattle.chrono_datetime.specs.Recurrence.{count_between, count_where, days_between, first_date}
 use Rattle.chrono_datetime.proofs.Signed.{signed}
 use Rattle.chrono_datetime.proofs.CountWhere.{one_if}
-use Rattle.chrono_datetime.proofs.CountBetween.{count_between-empty, count_between-sum}
+use Rattle.chrono_datetime.proofs.CountBetween.{count_between-empty, count_between-sum, days_between-ahead}
 use Rattle.chrono_business.specs.OpenDays.{Closed, is_open, open_days}
 use Rattle.chrono_business.specs.OpenDayLists.{open_days_list}
 use Rattle.chrono_business.proofs.Ranks.{open-behind, open-rises}
 
 -- ---- days in a row
-
-days-ahead : (a b : ℤ) (k : ℕ) → b ≡ a +ℤ pos k → days_between a b ≡ k
-days-ahead a b k e =
-    let ahead : int_le a b ≡ true = grind (arith, signed) in
-    ap (λ t. cond t (unsigned_abs (b -ℤ a)) 0) ahead ∙ omega (arith, signed, e)
 
 row-sum : (j k i : ℕ) (a m : ℤ) → i ≡ j + k → m ≡ a +ℤ pos j → in_steps 1 i a ≡ in_steps 1 j a ++ in_steps 1 k m
 unfolding in_steps
@@ -63,16 +58,16 @@ list-sum c a b e ab be =
     let b-at : b ≡ a +ℤ pos j = omega (arith, signed, ab) in
     let e-at : e ≡ b +ℤ pos k = omega (arith, signed, be) in
     let P : ℤ → Bool = is_open c in
-    ap (λ h. filter P (in_steps 1 h a)) (days-ahead a e (j + k) (omega (arith, signed, b-at, e-at)))
+    ap (λ h. filter P (in_steps 1 h a)) (days_between-ahead a e (j + k) (omega (arith, signed, b-at, e-at)))
     ∙ (ap (filter P) (row-sum j k (j + k) a b refl b-at)
     ∙ (filter-append P (in_steps 1 j a) (in_steps 1 k b)
-    ∙ (ap (λ h. filter P (in_steps 1 h a) ++ filter P (in_steps 1 k b)) (sym (days-ahead a b j b-at))
-    ∙ ap (λ h. filter P (in_steps 1 (days_between a b) a) ++ filter P (in_steps 1 h b)) (sym (days-ahead b e k e-at)))))
+    ∙ (ap (λ h. filter P (in_steps 1 h a) ++ filter P (in_steps 1 k b)) (sym (days_between-ahead a b j b-at))
+    ∙ ap (λ h. filter P (in_steps 1 (days_between a b) a) ++ filter P (in_steps 1 h b)) (sym (days_between-ahead b e k e-at)))))
 
 one-open_day : (c : Closed) (e n : ℤ) → n ≡ e +ℤ pos 1 → is_open c e ≡ true → open_days_list c e n ≡ e ∷ []
 unfolding open_days_list in_steps
 one-open_day c e n at is =
-    ap (λ k. filter (is_open c) (in_steps 1 k e)) (days-ahead e n 1 at) ∙ ap (λ b. cond b (e ∷ []) []) is
+    ap (λ k. filter (is_open c) (in_steps 1 k e)) (days_between-ahead e n 1 at) ∙ ap (λ b. cond b (e ∷ []) []) is
 
 first-of_list : (c : Closed) (a e n b : ℤ) → a ≤ℤ e → e <ℤ b → n ≡ e +ℤ pos 1 → is_open c e ≡ true → open_days c a e ≡ 0 → open_days_list c a b ≡ e ∷ open_days_list c n b
 first-of_list c a e n b low high at is none =
@@ -120,16 +115,3 @@ length-by_ranks c a b a-is b-is =
 pub none-by_ranks : (c : Closed) (a b : ℤ) → first_date ≤ℤ a → first_date ≤ℤ b → open_days c first_date b ≤ open_days c first_date a → open_days_list c a b ≡ []
 none-by_ranks c a b a-is b-is few =
     empty (open_days_list c a b) (omega (arith, length-by_ranks c a b a-is b-is, few))
-
--- ---- a call that takes a day leaves fewer
-
-taken : (xs ys : List ℤ) (x : ℤ) → length xs ≡ suc (length ys) → MakesProgress (λ _. ⊤) (item_count (λ left. left)) xs (Some x) ys
-taken xs ys x fewer =
-    let less : length ys < length xs = omega (arith, fewer) in
-    record { on = λ _. (tt, tt, less); keeps = tt; rests = λ _. tt }
-
-pub first-goes : (xs ys : List ℤ) (x : ℤ) → xs ≡ x ∷ ys → MakesProgress (λ _. ⊤) (item_count (λ left. left)) xs (Some x) ys
-first-goes xs ys x e = taken xs ys x (ap length e)
-
-pub last-goes : (xs ys : List ℤ) (x : ℤ) → xs ≡ ys ++ x ∷ [] → MakesProgress (λ _. ⊤) (item_count (λ left. left)) xs (Some x) ys
-last-goes xs ys x e = taken xs ys x (omega (arith, ap length e, length-append ys (x ∷ [])))

@@ -1,6 +1,6 @@
 -- Moves by open days: from the next open day, from the previous one, and so that the first open day behind a closed day is 1
 -- from it. What the rank of the day found says of them, and their laws.
-use Rattle.std.proofs.Common.{◌≡◌, ◌↔◌, ℕ, ◌+◌, ◌<◌, ◌≤◌, true, false, refl, sym, ap, ◌∙◌, arith, ℤ, pos, neg_ℤ, ◌+ℤ◌, ◌-ℤ◌, ◌≤ℤ◌, ◌<ℤ◌, unsigned_abs, Option, Some, None, IfSome, IfNone}
+use Rattle.std.proofs.Common.{◌≡◌, ◌↔◌, ℕ, ◌<◌, ◌≤◌, true, false, refl, sym, ap, ◌∙◌, arith, ℤ, pos, neg_ℤ, ◌+ℤ◌, ◌-ℤ◌, ◌≤ℤ◌, ◌<ℤ◌, Option, Some, None, IfSome, IfNone}
 use Rattle.std.proofs.lemmas.Int.{by_lt_z}
 use Rattle.chrono_datetime.specs.Days.{IsDate}
 use Rattle.chrono_datetime.specs.Recurrence.{first_date, past_last_date}

@@ -4,7 +4,7 @@ use Rattle.std.specs.Prelude.{slice_index_or}
 use Rattle.std.specs.List.{AllWithin}
 use Rattle.std.specs.List.Sorted.{IsPartitionPoint}
 use Rattle.std.proofs.Math.Nat.{div-add-mod, mul_comm}
-use Rattle.std.proofs.lemmas.Bool.{false≢true}
+use Rattle.std.proofs.lemmas.Bool.{false≢true, false_from_ne_true}
 use Rattle.std.proofs.lemmas.Int.{by_lt_z}
 use Rattle.chrono_datetime.specs.Days.{IsDate}
 use Rattle.chrono_datetime.specs.Recurrence.{count_where, first_date, past_last_date}
@@ -12,7 +12,7 @@ use Rattle.chrono_datetime.proofs.Signed.{signed}
 use Rattle.chrono_datetime.proofs.CountWhere.{count_where-next, count_where-no_days, count_where-sum, one_if}
 use Rattle.chrono_datetime.proofs.CountBetween.{count_between-empty, count_between-le, count_between-next, count_between-sum, count_between-where}
 use Rattle.chrono_business.specs.OpenDays.{AreHolidays, Closed, IsNthOpenBack, IsNthOpenFrom, is_holiday, is_open, is_workday, open_days, open_days_signed}
-use Rattle.chrono_business.proofs.Early.{early, early-at, early-next, early-none, early-place, false_unless, holiday_on_workday, in_order, one_if-true}
+use Rattle.chrono_business.proofs.Early.{early, early-at, early-next, early-none, early-place, holiday_on_workday, in_order, one_if-true}
 use Rattle.chrono_business.proofs.Workdays.{no_workdays, workday-weeks, workdays-weeks}
 
 -- ---- counts between days
@@ -28,7 +28,7 @@ open-behind c a b e ab at is = omega (arith, count_between-next (is_open c) a b 
 -- where none is counted each day is closed
 pub closed-between : (c : Closed) (a b d : ℤ) → open_days c a b ≡ 0 → a ≤ℤ d → d <ℤ b → is_open c d ≡ false
 closed-between c a b d none low high =
-    false_unless (is_open c d) (λ is.
+    false_from_ne_true (is_open c d) (λ is.
     let next : ℤ = d +ℤ pos 1 in
     omega (arith, none, open-behind c a d next low refl is, open-rises c a next b (omega (arith, signed, low)) (omega (arith, signed, high))))
 

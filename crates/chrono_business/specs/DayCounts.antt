@@ -13,8 +13,8 @@ days_of_360 a b first last =
 abbrev pub at_most_30 : ℕ → ℕ
 at_most_30 d = if d == 31 then 30 else d
 
--- the numerator over 360 of "30/360" or "Bond Basis", section 4.16(f): the first day is at most the 30th, and so is
--- the last if the first is later than the 29th
+-- the numerator over 360 of "30/360" or "Bond Basis", section 4.16(f). The first day is at most the 30th. If the first
+-- is later than the 29th, the last is at most the 30th too
 abbrev pub days_30_360 : ℤ → ℤ → ℤ
 days_30_360 a b =
     days_of_360 a b (at_most_30 (day_of a))
@@ -29,10 +29,10 @@ abbrev pub in_leap_year : ℤ → Bool
 in_leap_year n = is_leap_year (year_of n)
 
 -- how many of the days from a to before b pass the test; if b is before a those from b to before a, as a negative number
-abbrev pub days_where : (ℤ → Bool) → ℤ → ℤ → ℤ
-days_where p a b = pos (count_between p a b) -ℤ pos (count_between p b a)
+abbrev pub days_passing : (ℤ → Bool) → ℤ → ℤ → ℤ
+days_passing p a b = pos (count_between p a b) -ℤ pos (count_between p b a)
 
 -- the numerator over 365 times 366 of "Actual/Actual (ISDA)", section 4.16(b): each day of a leap year is a 366th of a
 -- year, each other day a 365th
 abbrev pub days_actual_actual : ℤ → ℤ → ℤ
-days_actual_actual a b = pos 365 *ℤ days_where in_leap_year a b +ℤ pos 366 *ℤ days_where (λ n. not (in_leap_year n)) a b
+days_actual_actual a b = pos 365 *ℤ days_passing in_leap_year a b +ℤ pos 366 *ℤ days_passing (λ n. not (in_leap_year n)) a b

@@ -25,9 +25,9 @@ lunar_correction y = int_div_euclid (pos 8 *ℤ century_of y +ℤ pos 13) (pos 2
 unfoldable pub epact : ℤ → ℕ
 epact y = unsigned_abs (int_rem_euclid (pos (11 * (golden_number y - 1)) +ℤ ((pos 8 -ℤ solar_correction y) +ℤ lunar_correction y)) (pos 30))
 
--- the days from 8 March to the new moon of the golden number g and the epact e, which are those from 21 March to the 14th
--- day of that moon: the epacts stand at the days from 23 down to 0 and on from 29, and the last two of them, 25 and 24,
--- a day earlier: 24 always, and 25 in the later years of the cycle
+-- the days from 8 March to the new moon of the golden number g and the epact e. They are also those from 21 March to the
+-- 14th day of that moon. The epacts stand at the days from 23 down to 0, and on from 29. The last two of them, 25 and 24,
+-- stand a day earlier: 24 always, and 25 in the later years of the cycle
 unfoldable pub days_to_moon : ℕ → ℕ → ℕ
 days_to_moon g e =
     let days = (53 - e) % 30 in

@@ -11,9 +11,9 @@ use Rattle.chrono_business.specs.HolidayRules.{rule_of}
 abbrev still : ℤ
 still = pos 262_142
 
--- the federal holidays of the United States from 1971 on: New Year's Day, the birthdays of King and of Washington, Memorial
--- Day, Juneteenth, Independence Day, Labor Day, Columbus Day, Veterans Day on a Monday and again on its day, Thanksgiving
--- and Christmas Day
+-- the federal holidays of the United States from 1971 on: New Year's Day, the birthdays of King and of Washington,
+-- Memorial Day, Juneteenth, Independence Day and Labor Day. Then Columbus Day, Veterans Day on a Monday and again on its
+-- day, Thanksgiving and Christmas Day
 unfoldable pub us_federal_rules : List HolidayRule
 us_federal_rules =
     rule_of (Fixed January 1) ToNearer (pos 1_971) still

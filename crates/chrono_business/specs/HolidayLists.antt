@@ -3,7 +3,8 @@ use Rattle.std.specs.Prelude.{◌≡◌, ℕ, ◌<◌, ◌⊎◌, true, List, le
 use Rattle.chrono_datetime.specs.WeekdaySet.{DaySet}
 use Rattle.chrono_business.specs.declared.holiday_rule.HolidayRule.{HolidayRule}
 use Rattle.chrono_business.specs.HolidayRules.{date_of_rule}
-use Rattle.chrono_business.specs.OpenDays.{AreHolidays, AreRising, is_holiday, is_workday}
+use Rattle.chrono_datetime.specs.RisingDates.{AreRising}
+use Rattle.chrono_business.specs.OpenDays.{AreHolidays, is_holiday, is_workday}
 
 -- the day d is the date of one of the rules, of one of the years from `first` to `last`
 pub record IsOfRules (rules : List HolidayRule) (first last d : ℤ) : Type 0 where

@@ -23,11 +23,11 @@ abbrev pub date_of_easter_plus : ℤ → ℤ → Option ℤ
 date_of_easter_plus y days = option_and_then (λ e. date_of_day (e +ℤ days)) (date_of_easter y)
 
 -- the date that is named in the year y
-unfoldable pub date_named : HolidayDay → ℤ → Option ℤ
-date_named (Fixed month day) y = date_of_ymd y (number_from_month month) day
-date_named (NthWeekday n weekday month) y = date_of_nth_weekday y (number_from_month month) weekday n
-date_named (LastWeekday weekday month) y = date_of_last_weekday y (number_from_month month) weekday
-date_named (EasterPlus days) y = date_of_easter_plus y days
+unfoldable pub holiday_named : HolidayDay → ℤ → Option ℤ
+holiday_named (Fixed month day) y = date_of_ymd y (number_from_month month) day
+holiday_named (NthWeekday n weekday month) y = date_of_nth_weekday y (number_from_month month) weekday n
+holiday_named (LastWeekday weekday month) y = date_of_last_weekday y (number_from_month month) weekday
+holiday_named (EasterPlus days) y = date_of_easter_plus y days
 
 -- the days by which a holiday on Saturday is moved
 unfoldable pub from_saturday : Moved → ℤ
@@ -62,4 +62,4 @@ holds_in r y = int_le r.first_year y && int_le y r.last_year
 -- the date of the rule of the year y: the date that is named there, moved
 unfoldable pub date_of_rule : HolidayRule → ℤ → Option ℤ
 date_of_rule r y =
-    if holds_in r y then option_and_then (λ n. date_of_day (n +ℤ moved_by r.moved n)) (date_named r.day y) else None
+    if holds_in r y then option_and_then (λ n. date_of_day (n +ℤ moved_by r.moved n)) (holiday_named r.day y) else None

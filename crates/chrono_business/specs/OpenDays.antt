@@ -1,10 +1,10 @@
 -- Open days: those that are neither on the weekend nor holidays, and how many of them there are between two days.
-use Rattle.std.specs.Prelude.{◌≡◌, ℕ, ◌<◌, Bool, true, not, ◌&&◌, List, length, slice_index_or, ℤ, pos, ◌+ℤ◌, ◌-ℤ◌, ◌≤ℤ◌, ◌<ℤ◌, unsigned_abs}
-use Rattle.std.specs.List.{All, list_any}
-use Rattle.std.specs.Ordering.{int_eq}
+use Rattle.std.specs.Prelude.{◌≡◌, ℕ, Bool, true, not, ◌&&◌, List, ℤ, pos, ◌+ℤ◌, ◌-ℤ◌, ◌≤ℤ◌, ◌<ℤ◌, unsigned_abs}
+use Rattle.std.specs.List.{All}
 use Rattle.chrono_datetime.specs.WeekdaySet.{DaySet}
 use Rattle.chrono_datetime.specs.Days.{IsDate}
 use Rattle.chrono_datetime.specs.Recurrence.{count_between, is_on}
+use Rattle.chrono_datetime.specs.RisingDates.{AreRising, is_listed}
 
 -- what a calendar closes: each of these weekdays, and these days
 pub record Closed : Type 0 where
@@ -21,15 +21,11 @@ is_workday weekend n = not (is_on weekend n)
 
 -- the day is one of the holidays
 abbrev pub is_holiday : List ℤ → ℤ → Bool
-is_holiday holidays n = list_any (λ h. int_eq h n) holidays
+is_holiday holidays n = is_listed holidays n
 
 -- the day is neither on the weekend nor a holiday
 unfoldable pub is_open : Closed → ℤ → Bool
 is_open c n = is_workday c.weekend n && not (is_holiday c.holidays n)
-
--- each day of the list is before those behind it
-abbrev pub AreRising : List ℤ → Type 0
-AreRising xs = (i j : ℕ) (d : ℤ) → i < j → j < length xs → slice_index_or xs i d <ℤ slice_index_or xs j d
 
 -- what the holidays of a calendar are: dates that rise, none of them on the weekend
 pub record AreHolidays (weekend : DaySet) (holidays : List ℤ) : Type 0 where
@@ -69,22 +65,22 @@ pub record IsNthOpenBefore (c : Closed) (d : ℤ) (n : ℕ) (e : ℤ) : Type 0 w
   pub before : e <ℤ d
   pub count : open_days c e d ≡ n
 
--- the day d moved by n open days is e: the n-th open day after d, or before d, and by 0 the first one from d on. So from a
--- closed day the next open day counts as the first, and the last one before it as the first back (QuantLib, `advance`;
--- pandas, `BDay`; and, but for n = 0, Excel, `WORKDAY`)
+-- the day d moved by n open days is e: the n-th open day after d, or before d. By 0 it is the first one from d on. So from
+-- a closed day the next open day counts as the first, and the last one before it as the first back. QuantLib (`advance`)
+-- and pandas (`BDay`) count so, and Excel (`WORKDAY`) unless n is 0
 pub record IsMovedByOpenDays (c : Closed) (d n e : ℤ) : Type 0 where
   pub on : pos 0 <ℤ n → IsNthOpenAfter c d (unsigned_abs n) e
   pub zero : n ≡ pos 0 → IsNthOpenFrom c d 0 e
   pub back : n <ℤ pos 0 → IsNthOpenBefore c d (unsigned_abs n) e
 
--- the next open day from d on, moved by n open days, is e: e is open, and n of the days from d to before e are (numpy,
--- `busday_offset` with roll='forward')
+-- the next open day from d on, moved by n open days, is e: e is open, and so are n of the days from d to before e. numpy's
+-- `busday_offset` counts so with roll='forward'
 pub record IsMovedFromNext (c : Closed) (d n e : ℤ) : Type 0 where
   pub passes : is_open c e ≡ true
   pub count : open_days_signed c d e ≡ n
 
--- the last open day up to d, moved by n open days, is e: e is open, and n of the days behind d up to e are (numpy,
--- `busday_offset` with roll='backward')
+-- the last open day up to d, moved by n open days, is e: e is open, and so are n of the days after d up to e. numpy's
+-- `busday_offset` counts so with roll='backward'
 pub record IsMovedFromPrevious (c : Closed) (d n e : ℤ) : Type 0 where
   pub passes : is_open c e ≡ true
   pub count : open_days_signed c (d +ℤ pos 1) (e +ℤ pos 1) ≡ n

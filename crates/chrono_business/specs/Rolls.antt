@@ -43,9 +43,9 @@ pub record IsNearestOpen (c : Closed) (d e : ℤ) : Type 0 where
 abbrev pub sunday_and_monday : DaySet
 sunday_and_monday = set_of (Sun ∷ Mon ∷ [])
 
--- d rolls to e: by `ModifiedFollowing` to the next open day, or to the last one where the rest of the month is
--- closed, and by `ModifiedPreceding` the other way round; by `NearestIsda` on a Sunday or a Monday to the next open day, and
--- on other days to the last one (ISDA 2006, section 4.12(a)(iv)); by `NearestQuantLib` to the nearest (QuantLib, `Nearest`)
+-- d rolls to e. `ModifiedFollowing` takes the next open day, or the last one if the rest of the month is closed.
+-- `ModifiedPreceding` does so the other way round. `NearestIsda` takes the next open day on a Sunday or a Monday, and the
+-- last one on other days (ISDA 2006, section 4.12(a)(iv)). `NearestQuantLib` takes the nearest (QuantLib, `Nearest`)
 abbrev pub RollsTo : Closed → Roll → ℤ → ℤ → Type 0
 RollsTo c Unadjusted d e = e ≡ d
 RollsTo c Following d e = IsNextOpen c d e

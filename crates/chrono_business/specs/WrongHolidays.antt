@@ -11,8 +11,8 @@ pub record AreRightBefore (weekend : DaySet) (xs : List ℤ) (i : ℕ) : Type 0 
   pub within : i < length xs
   pub holidays : AreHolidays weekend (take i xs)
 
--- the day at the place i is the first wrong one: it is on the weekend, or it is a workday and not later than the one in
--- front of it
+-- the day at the place i is the first wrong one. It is on the weekend, or it is a workday that is not later than the one
+-- before it
 abbrev pub IsWrong : DaySet → List ℤ → HolidayError → Type 0
 IsWrong weekend xs (OnWeekend i) = AreRightBefore weekend xs i × ((d : ℤ) → is_on weekend (slice_index_or xs i d) ≡ true)
 IsWrong weekend xs (NotRising i) =

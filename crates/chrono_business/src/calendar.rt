@@ -13,7 +13,7 @@ mod ranks;
 mod rolls;
 
 use crate::workweek::Workweek;
-use chrono_datetime::{NaiveDate, WeekdaySet};
+use chrono_datetime::{NaiveDate, RisingDates, WeekdaySet};
 use std::marker::Model;
 
 /// A weekend, and the holidays that are not on it.
@@ -22,7 +22,7 @@ use std::marker::Model;
 #[derive(Drop)]
 pub struct Calendar<'a> {
     week: Workweek,
-    holidays: &'a [NaiveDate],
+    holidays: RisingDates<'a>,
 }
 
 impl<'a> Model for Calendar<'a> {
@@ -30,9 +30,9 @@ impl<'a> Model for Calendar<'a> {
 
     ghost Value = { Closed };
 
-    ghost view = { λ c. record { weekend = c.week; holidays = c.holidays.now } };
+    ghost view = { λ c. record { weekend = c.week; holidays = c.holidays } };
 
-    ghost invariant = { λ c. AreHolidays c.week c.holidays.now };
+    ghost invariant = { λ c. AreHolidays c.week c.holidays };
 }
 
 impl<'a> Calendar<'a> {
@@ -54,7 +54,7 @@ impl<'a> Calendar<'a> {
     {
         Calendar {
             week: Workweek::new(weekend),
-            holidays,
+            holidays: RisingDates::new(holidays),
         }
     }
 }

@@ -1,11 +1,12 @@
 //! Lists of holidays in the caller's memory. They are strictly increasing.
 ghost use Rattle.std.specs.Prelude.{◌≡◌, ◌≤◌, ◌<◌, ◌⊎◌, ◌+◌, ◌++◌, ◌∷◌, ℤ, true, false, length, take, drop, filter, Some, IfSome, IfNone};
-ghost use Rattle.chrono_business.specs.OpenDays.{AreHolidays, AreRising, is_holiday, is_workday};
+ghost use Rattle.chrono_datetime.specs.RisingDates.{AreRising};
+ghost use Rattle.chrono_business.specs.OpenDays.{AreHolidays, is_holiday, is_workday};
 ghost use Rattle.chrono_business.specs.HolidayRules.{date_of_rule};
 ghost use Rattle.chrono_business.specs.HolidayLists.{AreHolidaysWith, AreTooMany, IsOfRules};
 
 use crate::holiday_rule::HolidayRule;
-use chrono_datetime::{Datelike, NaiveDate, WeekdaySet};
+use chrono_datetime::{Datelike, LAST_DAY, NaiveDate, WeekdaySet};
 
 /// Writes the holidays of `rules` for the years from `first_year` to `last_year` at the beginning of `out`.
 ///
@@ -190,6 +191,3 @@ fn insert_at(dates: &mut [NaiveDate], len: usize, place: usize, date: NaiveDate)
     dates[place..len + 1].rotate_right(1);
     Some(len + 1)
 }
-
-// The day number of the last date.
-const LAST_DAY: i32 = 95_745_399;

@@ -6,7 +6,7 @@ ghost use Rattle.std.specs.Prelude.{◌≡◌, ◌==◌, if◌then◌else◌, po
 ghost use Rattle.std.specs.Option.{option_and_then};
 ghost use Rattle.chrono_datetime.specs.Weekday.{days_from_monday};
 ghost use Rattle.chrono_datetime.specs.Days.{IsDate, date_of_day};
-ghost use Rattle.chrono_business.specs.HolidayRules.{date_named, date_of_easter_plus, date_of_last_weekday, date_of_rule, from_saturday, from_sunday, moved_by};
+ghost use Rattle.chrono_business.specs.HolidayRules.{holiday_named, date_of_easter_plus, date_of_last_weekday, date_of_rule, from_saturday, from_sunday, moved_by};
 
 use crate::computus::easter;
 use chrono_datetime::{Datelike, Month, NaiveDate, Weekday};
@@ -64,9 +64,9 @@ impl HolidayDay {
     /// HolidayDay::NthWeekday(4, Weekday::Thu, Month::November).date_in(2024) // Some(2024-11-28)
     /// HolidayDay::Fixed(Month::February, 29).date_in(2023) // None
     /// ```
-    #[tactic(auto, unfolding(crate::specs::HolidayRules::date_named))]
+    #[tactic(auto, unfolding(crate::specs::HolidayRules::holiday_named))]
     pub fn date_in(self, year: i32) -> Option<NaiveDate>
-        ensures { result ≡ date_named self year }
+        ensures { result ≡ holiday_named self year }
     {
         match self {
             HolidayDay::Fixed(month, day) => {

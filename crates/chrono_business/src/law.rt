@@ -371,7 +371,8 @@ pub fn known_wrong_holidays()
 ///
 /// By a rule of 1 January of each year, day 738,886 is a holiday of the years 2024 to 2024, and not of 2025.
 /// That one day is too many for no places, and not for one. The list of it adds it to the empty list.
-/// The empty list lacks it, and a list with the day after it has too much.
+/// The empty list lacks it, and a list with the day after it has too much, also beside it.
+/// A list that had the day after it keeps that day. Saturday, 30 December 2023 (day 738,884) is added to no list.
 pub fn known_holiday_lists()
     ensures of_year { IsOfRules (rule_of (Fixed January 1) Stays (pos 2_000) (pos 2_100) ∷ []) (pos 2_024) (pos 2_024)
         (pos 738_886) }
@@ -382,6 +383,9 @@ pub fn known_holiday_lists()
     ensures added { AreHolidaysWith (set_of (Sat ∷ Sun ∷ [])) [] (λ d. d ≡ pos 738_886) (pos 738_886 ∷ []) }
     ensures lacking { AreHolidaysWith (set_of (Sat ∷ Sun ∷ [])) [] (λ d. d ≡ pos 738_886) [] → ⊥ }
     ensures other { AreHolidaysWith (set_of (Sat ∷ Sun ∷ [])) [] (λ d. d ≡ pos 738_886) (pos 738_887 ∷ []) → ⊥ }
+    ensures more { AreHolidaysWith (set_of (Sat ∷ Sun ∷ [])) [] (λ d. d ≡ pos 738_886) (pos 738_886 ∷ pos 738_887 ∷ []) → ⊥ }
+    ensures dropped { AreHolidaysWith (set_of (Sat ∷ Sun ∷ [])) (pos 738_887 ∷ []) (λ d. d ≡ pos 738_886) (pos 738_886 ∷ []) → ⊥ }
+    ensures saturday { AreHolidaysWith (set_of (Sat ∷ Sun ∷ [])) [] (λ d. d ≡ pos 738_884) [] }
 {}
 
 /// Known holidays of the given calendars: what each rule names, in its order.
@@ -405,4 +409,45 @@ pub fn known_given_calendars()
         Some (pos 738_309) ∷ None ∷ [] }
     ensures england_and_wales_from_christmas { map (λ r. date_of_rule r (pos 2_022)) (drop 19 england_and_wales_rules) ≡
         Some (pos 738_516) ∷ Some (pos 738_515) ∷ None ∷ None ∷ None ∷ Some (pos 738_417) ∷ None ∷ [] }
+{}
+
+/// Known holidays of the given calendars: what each rule names in its first year, or in its last one.
+///
+/// The last Mondays of May and August are those of `known_last_mondays`.
+pub fn known_first_and_last_years()
+    ensures target_first { map (λ r. date_of_rule r r.first_year) target_rules ≡
+        Some (pos 729_755) ∷ Some (pos 730_113) ∷ Some (pos 730_231) ∷ Some (pos 730_234) ∷ Some (pos 730_241) ∷ Some (pos 730_480) ∷ Some (pos 730_119) ∷ Some (pos 730_850) ∷ [] }
+    ensures us_federal_first { map (λ r. date_of_rule r r.first_year) (take 3 us_federal_rules) ≡
+        Some (pos 719_528) ∷ Some (pos 725_026) ∷ Some (pos 719_573) ∷ [] }
+    ensures us_federal_first_from_june { map (λ r. date_of_rule r r.first_year) (drop 4 us_federal_rules) ≡
+        Some (pos 737_959) ∷ Some (pos 719_713) ∷ Some (pos 719_776) ∷ Some (pos 719_811) ∷ Some (pos 719_825) ∷ Some (pos 722_398) ∷ Some (pos 719_856) ∷ Some (pos 719_885) ∷ [] }
+    ensures us_federal_last { map (λ r. date_of_rule r r.last_year) (take 1 (drop 8 us_federal_rules)) ≡
+        Some (pos 722_016) ∷ [] }
+    ensures england_and_wales_first { map (λ r. date_of_rule r r.first_year) (take 8 england_and_wales_rules) ≡
+        Some (pos 722_086) ∷ Some (pos 722_167) ∷ Some (pos 722_170) ∷ Some (pos 722_205) ∷ Some (pos 728_421) ∷ Some (pos 728_785) ∷ Some (pos 737_553) ∷ Some (pos 737_913) ∷ [] }
+    ensures england_and_wales_may_last { map (λ r. date_of_rule r r.last_year) (take 4 (drop 3 england_and_wales_rules)) ≡
+        Some (pos 728_050) ∷ Some (pos 728_421) ∷ Some (pos 737_185) ∷ Some (pos 737_553) ∷ [] }
+    ensures england_and_wales_2002 { map (λ r. date_of_rule r r.first_year) (take 2 (drop 9 england_and_wales_rules)) ≡
+        Some (pos 731_004) ∷ Some (pos 731_005) ∷ [] }
+    ensures england_and_wales_2012 { map (λ r. date_of_rule r r.first_year) (take 2 (drop 12 england_and_wales_rules)) ≡
+        Some (pos 734_658) ∷ Some (pos 734_659) ∷ [] }
+    ensures england_and_wales_2022 { map (λ r. date_of_rule r r.first_year) (take 2 (drop 15 england_and_wales_rules)) ≡
+        Some (pos 738_308) ∷ Some (pos 738_309) ∷ [] }
+    ensures england_and_wales_first_from_christmas { map (λ r. date_of_rule r r.first_year) (drop 19 england_and_wales_rules) ≡
+        Some (pos 722_443) ∷ Some (pos 722_444) ∷ Some (pos 723_390) ∷ Some (pos 730_119) ∷ Some (pos 734_256) ∷ Some (pos 738_417) ∷ Some (pos 738_648) ∷ [] }
+    ensures england_and_wales_last { map (λ r. date_of_rule r r.last_year) (drop 21 england_and_wales_rules) ≡
+        Some (pos 723_390) ∷ Some (pos 730_119) ∷ Some (pos 734_256) ∷ Some (pos 738_417) ∷ Some (pos 738_648) ∷ [] }
+{}
+
+/// Known last Mondays of May and August in the given calendars, in the first year of each rule and in its last one.
+pub fn known_last_mondays()
+    ensures memorial_day { (r : HolidayRule) → date_of_rule (slice_index_or us_federal_rules 3 r) (pos 1_971) ≡ Some (pos 719_678) }
+    ensures spring_of_1978 { (r : HolidayRule) → date_of_rule (slice_index_or england_and_wales_rules 8 r) (pos 1_978) ≡ Some (pos 722_233) }
+    ensures spring_of_2001 { (r : HolidayRule) → date_of_rule (slice_index_or england_and_wales_rules 8 r) (pos 2_001) ≡ Some (pos 730_633) }
+    ensures spring_of_2003 { (r : HolidayRule) → date_of_rule (slice_index_or england_and_wales_rules 11 r) (pos 2_003) ≡ Some (pos 731_361) }
+    ensures spring_of_2011 { (r : HolidayRule) → date_of_rule (slice_index_or england_and_wales_rules 11 r) (pos 2_011) ≡ Some (pos 734_287) }
+    ensures spring_of_2013 { (r : HolidayRule) → date_of_rule (slice_index_or england_and_wales_rules 14 r) (pos 2_013) ≡ Some (pos 735_015) }
+    ensures spring_of_2021 { (r : HolidayRule) → date_of_rule (slice_index_or england_and_wales_rules 14 r) (pos 2_021) ≡ Some (pos 737_941) }
+    ensures spring_of_2023 { (r : HolidayRule) → date_of_rule (slice_index_or england_and_wales_rules 17 r) (pos 2_023) ≡ Some (pos 738_669) }
+    ensures summer_of_1978 { (r : HolidayRule) → date_of_rule (slice_index_or england_and_wales_rules 18 r) (pos 1_978) ≡ Some (pos 722_324) }
 {}

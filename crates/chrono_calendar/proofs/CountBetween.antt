@@ -6,7 +6,7 @@ use Rattle.chrono_calendar.proofs.CountWhere.{count_where-le, count_where-next, 
 use Rattle.chrono_calendar.proofs.Signed.{signed}
 
 -- so many days lie between a day and the one as many days on
-days_between-ahead : (a b : ℤ) (k : ℕ) → b ≡ a +ℤ pos k → days_between a b ≡ k
+pub days_between-ahead : (a b : ℤ) (k : ℕ) → b ≡ a +ℤ pos k → days_between a b ≡ k
 days_between-ahead a b k e =
     let ahead : int_le a b ≡ true = grind (arith, signed) in
     ap (λ t. cond t (unsigned_abs (b -ℤ a)) 0) ahead ∙ omega (arith, signed, e)

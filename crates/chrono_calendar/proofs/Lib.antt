@@ -29,8 +29,8 @@ pub mod GivenNames
 pub mod GivenWeekdays
 pub mod Birthdays
 pub mod Rising
+pub mod WholeYears
 -- The rest serve this crate's own proofs alone.
 mod GhostWalks
 mod NthWeekdays
 mod Refusals
-mod WholeYears

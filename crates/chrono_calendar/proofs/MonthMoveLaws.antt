@@ -41,9 +41,9 @@ month_move-range n k e h =
     rw (← named.number) at (day_number_in_range (year_of e) (ordinal_of e) (rw year at (is_year-fact (year_of_month_index (month_index_of n +ℤ k)) move.year)) named.exists)
 
 -- a fact of a move that may not exist
-if_some : (b : Bool) (v : ℤ) (P : ℤ → Type 0) → P v → IfSome (cond b (Some v) None) P
-if_some true v P p = p
-if_some false v P p = tt
+pub IfSome-cond : (b : Bool) (v : ℤ) (P : ℤ → Type 0) → P v → IfSome (cond b (Some v) None) P
+IfSome-cond true v P p = p
+IfSome-cond false v P p = tt
 
 is_some_and : (b : Bool) (v w : ℤ) (P : ℤ → Type 0) → b ≡ true → v ≡ w → P w → IsSomeAnd (cond b (Some v) None) P
 is_some_and true v w P e same p = subst P (sym same) p
@@ -69,7 +69,7 @@ pub month_move-KeepsOrder : (n k e : ℤ) → month_move n k ≡ Some e → Keep
 unfolding month_move
 month_move-KeepsOrder n k e h =
     let moved = month_move-is n k e h in
-    λ later le. if_some (is_year (year_of_month_index (month_index_of later +ℤ k))) (day_number_in_month (month_index_of later +ℤ k) (day_of later)) (λ x. e ≤ℤ x)
+    λ later le. IfSome-cond (is_year (year_of_month_index (month_index_of later +ℤ k))) (day_number_in_month (month_index_of later +ℤ k) (day_of later)) (λ x. e ≤ℤ x)
     (rw moved.day (in_order n later (month_index_of n) (month_index_of later) k (day_of n) (day_of later) (day_at-exists n) (day_at-exists later) le))
 
 -- days whose months have one index are in the same month
@@ -159,7 +159,7 @@ month_move-LaterMultiplesAreLater n k i e h m =
     let moved = month_move-at n (k *ℤ pos i) e (month_move-is n (k *ℤ pos i) e m) in
     λ j lt.
     let later = day_at-moved (month_index_of n +ℤ k *ℤ pos j) (day_of n) (day_at-exists n).first in
-    if_some (is_year (year_of_month_index (month_index_of n +ℤ k *ℤ pos j))) (day_number_in_month (month_index_of n +ℤ k *ℤ pos j) (day_of n)) (λ x. e <ℤ x)
+    IfSome-cond (is_year (year_of_month_index (month_index_of n +ℤ k *ℤ pos j))) (day_number_in_month (month_index_of n +ℤ k *ℤ pos j) (day_of n)) (λ x. e <ℤ x)
     (earlier_month _ _ _ _ _ _ moved later (omega (arith, signed, more_months k i j h lt)))
 
 -- the laws, of an answer that is the move

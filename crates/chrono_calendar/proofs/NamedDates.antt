@@ -1,5 +1,5 @@
 -- Which numbers and names are dates: from one to the other.
-use Rattle.std.proofs.Common.{Option, ◌≡◌, ℕ, Bool, true, false, ◌&&◌, cond, Some, None, refl, sym, ap, ◌∙◌, ℤ}
+use Rattle.std.proofs.Common.{Option, ◌≡◌, ℕ, Bool, true, false, ◌&&◌, cond, Some, None, refl, sym, ap, ◌∙◌, ℤ, arith, pos, ◌+ℤ◌, to_z, of_z, w32}
 use Rattle.std.proofs.lemmas.Bool.{and_parts}
 use Rattle.std.proofs.lemmas.Option.{cond_some}
 use Rattle.std.specs.Cmp.Derive.{both_true}
@@ -8,6 +8,7 @@ use Rattle.chrono_calendar.specs.Days.{IsDate, is_date, IsOrdinalName, is_ordina
 use Rattle.chrono_calendar.proofs.Names.{ordinal_name_of-number, year_of-number, ordinal_of-number, day_number_in_range, year_in_range}
 use Rattle.chrono_calendar.proofs.Months.{ordinal_within, month_of_ordinal-exists, month_of_ordinal-unique}
 use Rattle.chrono_calendar.proofs.Dates.{is_year-fact, is_year-test, is_date-fact, is_date-test, is_ordinal_name-fact, is_ordinal_name-test, is_calendar_name-fact, is_calendar_name-test}
+use Rattle.chrono_calendar.proofs.Signed.{casts}
 
 -- tests that hold together are one
 pub same_test : (a b : Bool) → (a ≡ true → b ≡ true) → (b ≡ true → a ≡ true) → a ≡ b
@@ -115,3 +116,7 @@ calendar_name-number y m d h =
 -- a day whose year is one of the library's is a date
 pub IsDate-year : (n : ℤ) → IsYear (year_of n) → IsDate n
 IsDate-year n h = rw (number-ordinal_name n) at (day_number_in_range (year_of n) (ordinal_of n) h (ordinal_name_of-number n).exists)
+
+-- the number of the next day, computed in a machine word
+pub next_day-fits : (r d : ℤ) → r ≡ d → IsDate r → to_z w32 (of_z w32 (to_z w32 (of_z w32 r) +ℤ pos 1)) ≡ d +ℤ pos 1
+next_day-fits r d e h = omega (arith, casts, e, h.0, h.1)

@@ -1,16 +1,16 @@
 -- The whole years between two days, from the years and the order of the days in them.
-use Rattle.std.proofs.Common.{◌≡◌, ℕ, ◌+◌, ◌-◌, ◌*◌, ◌<◌, ◌≤◌, inl, inr, Bool, true, false, cond, nat_lt, Some, None, refl, sym, ap, arith, ℤ, pos, ◌-ℤ◌, ◌≤ℤ◌, ◌<ℤ◌, unsigned_abs, int_lt}
+use Rattle.std.proofs.Common.{◌≡◌, ℕ, ◌+◌, ◌-◌, ◌*◌, ◌<◌, ◌≤◌, inl, inr, Bool, true, false, cond, nat_lt, Some, None, refl, sym, ap, ◌∙◌, arith, ℤ, pos, ◌-ℤ◌, ◌≤ℤ◌, ◌<ℤ◌, unsigned_abs, int_lt}
 use mir.Val.{bool_byte}
 use Rattle.std.proofs.lemmas.Bool.Decides.{nat_tests}
 use Rattle.std.proofs.lemmas.Bool.{cases_order, ltb-true}
 use Rattle.std.proofs.lemmas.Int.{ints, by_lt_z}
 use Rattle.chrono_units.specs.Years.{is_leap_year}
-use Rattle.chrono_calendar.specs.Days.{year_of, month_of, day_of}
+use Rattle.chrono_calendar.specs.Days.{day_number_of_ymd, year_of, month_of, day_of}
 use Rattle.chrono_calendar.specs.YearsBetween.{is_earlier_in_year, years_between}
 use Rattle.chrono_calendar.proofs.Signed.{signed}
 use Rattle.chrono_calendar.proofs.Months.{month_length_in-bounds}
 use Rattle.chrono_calendar.proofs.Order.{earlier_year, earlier_month, same_month}
-use Rattle.chrono_calendar.proofs.NamedDates.{calendar_name-exists}
+use Rattle.chrono_calendar.proofs.NamedDates.{calendar_name-exists, number-calendar_name}
 
 -- the order of days in a year by one number
 is_earlier_in_year-code : (m d p q : ℕ) → d < 32 → q < 32 → nat_lt (m * 32 + d) (p * 32 + q) ≡ is_earlier_in_year m d p q
@@ -82,3 +82,7 @@ years_between-Some n base k h =
     let test : int_lt n base ≡ false = grind (arith, ints, after) in
     let earlier = is_earlier_in_year-code (month_of n) (day_of n) (month_of base) (day_of base) (omega (arith, place_bounds n)) (omega (arith, place_bounds base)) in
     rw (test, ← earlier) (ap Some (counted_value k (year_of n) (year_of base) (nat_lt (place n) (place base)) h))
+
+-- the name of a day has its number
+pub number-named : (n y : ℤ) (m d : ℕ) → y ≡ year_of n → m ≡ month_of n → d ≡ day_of n → day_number_of_ymd y m d ≡ n
+number-named n y m d year month day = ap (λ z. day_number_of_ymd z m d) year ∙ ap (λ i. day_number_of_ymd (year_of n) i d) month ∙ ap (day_number_of_ymd (year_of n) (month_of n)) day ∙ number-calendar_name n

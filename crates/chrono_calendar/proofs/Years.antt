@@ -1,11 +1,12 @@
 -- The days before a year in closed form.
-use Rattle.std.proofs.Common.{◌≡◌, ℕ, zero, suc, ◌+◌, ◌-◌, ◌%◌, cond, refl, ap, arith, ℤ, pos, negsuc, ◌+ℤ◌, ◌-ℤ◌, ◌*ℤ◌, unsigned_abs}
+use Rattle.std.proofs.Common.{◌≡◌, ℕ, zero, suc, ◌+◌, ◌-◌, ◌%◌, cond, refl, ap, arith, ℤ, pos, negsuc, ◌+ℤ◌, ◌-ℤ◌, ◌*ℤ◌, unsigned_abs, ◌<◌}
 use Rattle.std.proofs.lemmas.Bool.{cond_both, eqb-true, eqb-false}
 use Rattle.std.proofs.lemmas.Bool.Decides.{nat_tests}
 use Rattle.std.specs.Int.{int_div_euclid}
-use Rattle.chrono_units.specs.Years.{divides, year_length}
+use Rattle.chrono_units.specs.Years.{divides, year_length, IsYear}
 use Rattle.chrono_calendar.specs.Days.{days_of_years, days_before_year}
 use Rattle.chrono_calendar.proofs.Signed.{signed}
+use Rattle.std.proofs.lemmas.Int.{ints}
 
 -- 1 for a leap year, and else 0
 abbrev pub leap_day : ℤ → ℕ
@@ -91,3 +92,8 @@ pub days_before_year-next : (y next : ℤ) → next ≡ y +ℤ pos 1 → days_be
 days_before_year-next y next e =
     let q : y ≡ (y -ℤ pos 1) +ℤ pos 1 = omega (arith, signed) in
     rw (days_before_year-to_year y next e, days_before_year-to_year (y -ℤ pos 1) y q) (days_to_year-next (y -ℤ pos 1) y q)
+
+-- a year's size has at most six digits
+pub IsYear-small : (y : ℤ) → IsYear y → unsigned_abs y < 1_000_000
+IsYear-small (pos n) h = omega (arith, ints, h.1)
+IsYear-small (negsuc n) h = omega (arith, ints, h.0)

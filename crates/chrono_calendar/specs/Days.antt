@@ -8,8 +8,8 @@ unfoldable pub days_of_years : ℤ → ℕ → ℕ
 days_of_years y zero = 0
 days_of_years y (suc n) = days_of_years y n + year_length (y +ℤ pos n)
 
--- the days before 1 January of the year y, counted from 1 January of year 1:
--- those of the years 1 to y - 1, and for a year before 1 those of the years y to 0, as a negative number
+-- the days before 1 January of the year y, counted from 1 January of year 1. They are those of the years 1 to y - 1. For
+-- a year before 1 they are those of the years y to 0, as a negative number
 unfoldable pub days_before_year : ℤ → ℤ
 days_before_year (pos zero) = neg_ℤ (pos (days_of_years (pos 0) 1))
 days_before_year (pos (suc n)) = pos (days_of_years (pos 1) n)

@@ -23,8 +23,8 @@ weeks_of_iso_year y = iso_week_of (day_number_of_ymd y 12 28)
 abbrev pub IsIsoWeek : ℤ → ℕ → Type 0
 IsIsoWeek y w = IsInRange 1 (weeks_of_iso_year y) w
 
--- the ISO week of the o-th day of the year y, counted in that year:
--- 0 for a day of the ISO year before, and one more than the weeks for a day of the next
+-- the ISO week of the o-th day of the year y, counted in that year. It is 0 for a day of the ISO year before. For a day of
+-- the next ISO year it is one more than the weeks
 unfoldable pub week_counted_in : ℤ → ℕ → ℕ
 week_counted_in y o =
     let n = day_number_of_yo y o in

@@ -39,8 +39,8 @@ month_first_of n = n -ℤ pos (day_of n - 1)
 abbrev pub month_last_of : ℤ → ℤ
 month_last_of n = n +ℤ pos (month_length_of n - day_of n)
 
--- the day that the day n comes to when it is moved by k months: its day of the month in the month that is k months later,
--- or the last day of that month if it is shorter; none if the library does not have the year of that month
+-- the day n moved by k months: the same day of the month k months later, or the last day of that month if it is shorter.
+-- None if the library does not have the year of that month
 unfoldable pub month_move : ℤ → ℤ → Option ℤ
 month_move n k =
     let target = month_index_of n +ℤ k in
@@ -64,8 +64,8 @@ pub record IsMonthMoveBack (n e back : ℤ) : Type 0 where
 abbrev pub ComesBack : ℤ → ℤ → ℤ → Type 0
 ComesBack n k e = IsSomeAnd (month_move e k) (λ back. IsMonthMoveBack n e back)
 
--- e is the day n moved by k months: moved on by any number of months more, it comes to the month in which one move of n
--- by the sum ends, and to a day there that is not later
+-- e is the day n moved by k months. Moved on by any number of months more, e comes to a day of the month in which one move
+-- of n by the sum ends. That day is not later than the end of the one move
 abbrev pub MonthMovesAddUp : ℤ → ℤ → ℤ → Type 0
 MonthMovesAddUp n k e = (more : ℤ) → IfSome (month_move e more) (λ twice.
     IsSomeAnd (month_move n (k +ℤ more)) (λ once. InSameMonth twice once × (twice ≤ℤ once)))

@@ -1,5 +1,5 @@
--- Laws of numbers, names and weeks: each date has one number and one name of each kind, names lie in the order of the days,
--- and a week has one first day.
+-- Laws of numbers, names and weeks. Each date has one number and one name of each kind. Names lie in the order of the
+-- days. A week has one first day.
 use Rattle.std.specs.Prelude.{◌≡◌, ℕ, ℤ, pos, ◌+ℤ◌, ◌≤ℤ◌, ◌<ℤ◌, Some, ◌↔◌}
 use Rattle.std.specs.Ordering.{int_cmp, nat_cmp, ordering_then}
 use Rattle.std.specs.declared.cmp.Ordering.{Ordering}
@@ -42,8 +42,8 @@ iso_cmp n m =
     (ordering_then (nat_cmp (iso_week_of n) (iso_week_of m))
     (nat_cmp (days_from_monday (weekday_of n)) (days_from_monday (weekday_of m))))
 
--- m is the first day of the week that begins on the weekday start and holds n exactly if it has that weekday and n is
--- one of the seven days from it on
+-- m is the first day of the week that begins on the weekday start and holds n. This is so exactly if m has that weekday
+-- and n is one of the seven days from m on
 abbrev pub WeeksHaveOneFirstDay : Type 0
 WeeksHaveOneFirstDay =
     (n m : ℤ) (start : Weekday) →

@@ -6,8 +6,8 @@ use Rattle.chrono_calendar.specs.Days.{day_number_of_ymd, year_of, month_of, day
 abbrev pub is_earlier_in_year : ℕ → ℕ → ℕ → ℕ → Bool
 is_earlier_in_year m d p q = nat_lt m p || ((m == p) && nat_lt d q)
 
--- the years from the year of base to that of n, less one if n comes earlier in its year than base in its own;
--- none if n is before base
+-- the years from the year of base to that of n, less one if n comes earlier in its year than base in its own. None if n is
+-- before base
 unfoldable pub years_between : ℤ → ℤ → Option ℕ
 years_between n base =
     let years = unsigned_abs (year_of n -ℤ year_of base) in

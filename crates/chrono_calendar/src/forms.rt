@@ -5,7 +5,8 @@
 ghost use Rattle.std.specs.Prelude.{◌≡◌, pos, neg_ℤ, ◌+◌, ◌≤◌, ◌+ℤ◌, ◌≤ℤ◌, ◌<ℤ◌, IfSome};
 ghost use Rattle.std.specs.Int.{IsInRange};
 ghost use Rattle.std.specs.Option.{option_map};
-ghost use Rattle.chrono_calendar.specs.Days.{date_of_day, days_before_year};
+ghost use Rattle.chrono_units.specs.Years.{IsYear};
+ghost use Rattle.chrono_calendar.specs.Days.{IsCalendarName, date_of_day, day_number_of_ymd, days_before_year};
 ghost use Rattle.chrono_calendar.specs.Weeks.{IsFirstOfWeek, date_of_iso, date_of_nth_weekday, days_from_sunday_of, iso_week_of, iso_year_of, week_first_of, weekday_of};
 ghost use Rattle.chrono_calendar.specs.MonthMoves.{month_move};
 ghost use Rattle.chrono_calendar.specs.Recurrence.{date_every, date_on};
@@ -259,8 +260,25 @@ pub fn nth_weekday<F: DayForm>(year: i32, month: u32, weekday: Weekday, n: u8) -
 pub fn years_between<F: DayForm>(f: &F, base: &F) -> Option<u32>
     ensures { result ≡ whole_years (F.number f.now) (F.number base.now) }
 {
-    let (year, month, day) = f.year_month_day();
-    let (base_year, base_month, base_day) = base.year_month_day();
+    years_between_names(f.year_month_day(), base.year_month_day())
+}
+
+/// Returns the number of whole years from the date with the name `base` to that with the name `date`, as [`years_between`]
+/// does.
+///
+/// A name is a year, a month and a day of the month. Requires the dates to exist.
+///
+/// ```
+/// forms::years_between_names((2001, 2, 28), (2000, 2, 29)) // Some(0)
+/// ```
+#[inline]
+pub fn years_between_names(date: (i32, u32, u32), base: (i32, u32, u32)) -> Option<u32>
+    requires date { IsYear date.0 × IsCalendarName date.0 date.1 date.2 }
+    requires base { IsYear base.0 × IsCalendarName base.0 base.1 base.2 }
+    ensures { result ≡ whole_years (day_number_of_ymd date.0 date.1 date.2) (day_number_of_ymd base.0 base.1 base.2) }
+{
+    let (year, month, day) = date;
+    let (base_year, base_month, base_day) = base;
     let is_earlier = month * 32 + day < base_month * 32 + base_day; // no month has 32 days
     let years = year - base_year - i32::from(is_earlier);
     if years < 0 {

@@ -44,19 +44,19 @@ pub land-leap : (t : TimeOfDay) (x : ℤ) → IsLeap t → land t x ≡ leap_lan
 unfolding land
 land-leap t x h = let e = is_leap-leap t h in rw e refl
 
-is_below : (a b : ℤ) → a <ℤ b → int_lt a b ≡ true
-is_below a b h = grind (arith, ints)
+pub int_lt-below : (a b : ℤ) → a <ℤ b → int_lt a b ≡ true
+int_lt-below a b h = grind (arith, ints)
 
-is_not_below : (a b : ℤ) → b ≤ℤ a → int_lt a b ≡ false
-is_not_below a b h = grind (arith, ints)
+pub int_lt-above : (a b : ℤ) → b ≤ℤ a → int_lt a b ≡ false
+int_lt-above a b h = grind (arith, ints)
 
 pub leap_landing-before : (s : ℕ) (p : ℤ) → p <ℤ pos ((s + 1) * 1_000_000_000) → leap_landing s p ≡ plain_landing p
-leap_landing-before s p h = rw (is_below p (pos ((s + 1) * 1_000_000_000)) h) refl
+leap_landing-before s p h = rw (int_lt-below p (pos ((s + 1) * 1_000_000_000)) h) refl
 
 pub leap_landing-inside : (s : ℕ) (p : ℤ) → pos ((s + 1) * 1_000_000_000) ≤ℤ p → p <ℤ pos ((s + 2) * 1_000_000_000) → leap_landing s p ≡ record { day = pos 0; time = record { second = s; fraction = unsigned_abs (p -ℤ pos (s * 1_000_000_000)) } }
-leap_landing-inside s p h k = rw (is_not_below p (pos ((s + 1) * 1_000_000_000)) h, is_below p (pos ((s + 2) * 1_000_000_000)) k) refl
+leap_landing-inside s p h k = rw (int_lt-above p (pos ((s + 1) * 1_000_000_000)) h, int_lt-below p (pos ((s + 2) * 1_000_000_000)) k) refl
 
 pub leap_landing-past : (s : ℕ) (p : ℤ) → pos ((s + 2) * 1_000_000_000) ≤ℤ p → leap_landing s p ≡ plain_landing (p -ℤ pos 1_000_000_000)
 leap_landing-past s p h =
     let h' : pos ((s + 1) * 1_000_000_000) ≤ℤ p = omega (arith, signed) in
-    rw (is_not_below p (pos ((s + 1) * 1_000_000_000)) h', is_not_below p (pos ((s + 2) * 1_000_000_000)) h) refl
+    rw (int_lt-above p (pos ((s + 1) * 1_000_000_000)) h', int_lt-above p (pos ((s + 2) * 1_000_000_000)) h) refl

@@ -118,6 +118,14 @@ landing_of t = record { day = pos 0; time = t }
 abbrev pub later : ℤ → Landing → Landing
 later days l = record { day = days +ℤ l.day; time = l.time }
 
+-- ---- clocks at an offset
+
+-- what a clock shows that is x seconds ahead of one that shows t: the fraction stays, and no leap second is counted
+abbrev pub clock_ahead : TimeOfDay → ℤ → Landing
+clock_ahead t x =
+    let second = pos t.second +ℤ x in
+    record { day = int_div_euclid second (pos seconds_per_day); time = record { second = unsigned_abs (int_rem_euclid second (pos seconds_per_day)); fraction = t.fraction } }
+
 -- ---- distances
 
 -- the place of a time as seen from another, whose leap second counts if it comes first
@@ -183,6 +191,20 @@ distance-last_leap = refl
 distance-past_leap : distance (time_at 3 5 59 0) (time_at 3 5 57 1_000_000_000) ≡ pos 2_000_000_000
 unfolding distance
 distance-past_leap = refl
+
+-- ---- known values, of clocks at an offset
+
+-- an hour ahead of 23:30 it is 00:30 of the next day, and a second behind midnight it is the last second of the day before
+clock_ahead-an_hour : clock_ahead (time_at 23 30 0 0) (pos 3_600) ≡ record { day = pos 1; time = time_at 0 30 0 0 }
+clock_ahead-an_hour = refl
+
+clock_ahead-a_second_behind : clock_ahead (time_at 0 0 0 0) (neg_ℤ (pos 1)) ≡ record { day = neg_ℤ (pos 1); time = time_at 23 59 59 0 }
+clock_ahead-a_second_behind = refl
+
+-- half an hour behind the middle of the leap second of a day it is the middle of that of another minute
+clock_ahead-leap : clock_ahead last_leap (neg_ℤ (pos 1_800)) ≡ landing_of (time_at 23 29 59 1_500_000_000)
+unfolding last_leap
+clock_ahead-leap = refl
 
 -- ---- known values, of the order
 

@@ -8,6 +8,10 @@ ghost use Rattle.chrono_clock.specs.TimeText.{time_text};
 use crate::{NaiveTime, TimeDelta};
 
 /// Returns [`NaiveTime::MIN`], which is midnight.
+///
+/// ```
+/// law::first_time() // 00:00:00
+/// ```
 pub fn first_time() -> NaiveTime
     ensures { result ≡ time_at 0 0 0 0 }
 {
@@ -15,6 +19,10 @@ pub fn first_time() -> NaiveTime
 }
 
 /// Returns [`NaiveTime::MAX`], which is 23:59:59.999999999.
+///
+/// ```
+/// law::last_time() // 23:59:59.999999999
+/// ```
 pub fn last_time() -> NaiveTime
     ensures { result ≡ time_at 23 59 59 999_999_999 }
 {
@@ -22,6 +30,10 @@ pub fn last_time() -> NaiveTime
 }
 
 /// Returns [`TimeDelta::MIN`], which is -`i64::MAX` milliseconds. The contract also states its text.
+///
+/// ```
+/// law::least_duration().num_milliseconds() // -9223372036854775807
+/// ```
 pub fn least_duration() -> TimeDelta
     ensures value { result ≡ neg_ℤ (pos longest) }
     ensures text { duration_text result ≡ codes "-PT9223372036854775.807S" }
@@ -30,6 +42,10 @@ pub fn least_duration() -> TimeDelta
 }
 
 /// Returns [`TimeDelta::MAX`], which is `i64::MAX` milliseconds. The contract also states its text.
+///
+/// ```
+/// law::greatest_duration().num_milliseconds() // 9223372036854775807
+/// ```
 pub fn greatest_duration() -> TimeDelta
     ensures value { result ≡ pos longest }
     ensures text { duration_text result ≡ codes "PT9223372036854775.807S" }

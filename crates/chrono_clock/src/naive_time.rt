@@ -1,6 +1,6 @@
 //! Times of day: the type, its constructors, moves by durations, and differences.
 //!
-//! The operators are in `ops`, the order in `order`, and the text in `text`.
+//! The operators are in `ops`, the order in `order`, the text in `text`, and clocks at an offset in `offset`.
 ghost use Rattle.std.specs.Prelude.{◌≡◌, ℕ, ℤ, pos, ◌<◌, ◌≤◌, ◌^◌, ◌+◌, ◌*◌, ◌%◌, ◌<ℤ◌, ◌⊎◌, ◌+ℤ◌, ◌-ℤ◌, ◌*ℤ◌, neg_ℤ, unsigned_abs};
 ghost use Rattle.std.specs.Option.{SomeIff};
 ghost use Rattle.chrono_clock.specs.Duration.{nanos_of, nanos_per_second, nanos_per_milli, nanos_per_micro};
@@ -13,6 +13,7 @@ use crate::lengths::{
 };
 use std::marker::Model;
 
+mod offset;
 mod ops;
 mod order;
 mod text;

@@ -10,9 +10,3 @@ use Rattle.chrono_calendar.proofs.Signed.{signed}
 -- a month of the library is less than 7,000,000 months from any other
 pub near_month : (begun k : ℤ) → pos 0 ≤ℤ begun → begun <ℤ pos 7_000_000 → IsYear (year_of_month_index (begun +ℤ k -ℤ pos 3_148_798)) → (neg_ℤ (pos 7_000_000) <ℤ k) × (k <ℤ pos 7_000_000)
 near_month begun k low high year = (omega (arith, signed, low, high, year), omega (arith, signed, low, high, year))
-
-pub month_move-None : (n k : ℤ) → (IsYear (year_of_month_index (month_index_of n +ℤ k)) → ⊥) → None ≡ month_move n k
-unfolding month_move
-month_move-None n k past =
-    let i = month_index_of n +ℤ k in
-    None-cond (is_year (year_of_month_index i)) (Some (day_number_in_month i (day_of n))) (λ t. past (is_year-fact (year_of_month_index i) t))

@@ -14,6 +14,7 @@ use Rattle.chrono_text.proofs.DigitLemmas.{by_size, decimal_below}
 use Rattle.chrono_text.proofs.TextLemmas.{calendar_text_injective, length-calendar_text, year_text-four, year_text-more}
 use Rattle.chrono_reading.specs.DateTexts.{IsDateText}
 use Rattle.chrono_columns.specs.Columns.{IsTextEntry, date_entry, number_entry}
+use Rattle.chrono_calendar.proofs.Years.{IsYear-small}
 
 -- ---- which names have ten bytes
 
@@ -44,14 +45,11 @@ record SmallName (y : ℤ) (m d : ℕ) : Type 0 where
   month : m < 100
   day : d < 100
 
-small_year : (y : ℤ) → IsYear y → unsigned_abs y < 1_000_000
-small_year y h = grind (arith, ints, h.0, h.1)
-
 small_name : (y : ℤ) (m d : ℕ) (n : ℤ) → date_of_ymd y m d ≡ Some n → SmallName y m d
 small_name y m d n e =
     let named = (given_ymd (Some n) y m d (sym e)).0.0 refl in
     let last = (month_length_in-bounds (is_leap_year y) m).1 in
-    record { year = small_year y named.0; month = omega (arith, named.1.0); day = omega (arith, named.1.1, last) }
+    record { year = IsYear-small y named.0; month = omega (arith, named.1.0); day = omega (arith, named.1.1, last) }
 
 -- ---- the ten bytes
 

@@ -8,19 +8,19 @@ use Rattle.std.specs.Int.{int_div_euclid, int_rem_euclid}
 use Rattle.chrono_datetime.specs.Moment.{Moment, moment, IsBefore, IsMoment}
 use Rattle.chrono_datetime.specs.Time.{time_at}
 use Rattle.chrono_datetime.proofs.Signed.{signed}
-use Rattle.chrono_cron.specs.declared.after.After.{After}
-use Rattle.chrono_cron.specs.declared.sets.Sets.{Sets}
+use Rattle.chrono_cron.specs.declared.search.dues.Dues.{Dues}
+use Rattle.chrono_cron.specs.declared.field_sets.FieldSets.{FieldSets}
 use Rattle.chrono_cron.specs.Due.{is_due}
-use Rattle.chrono_cron.specs.DueMoments.{minute_at, minute_of, minutes_left, minutes_from, dues_after}
-use Rattle.chrono_cron.proofs.Order.{due_parts}
+use Rattle.chrono_cron.specs.DueMoments.{minute_at, minute_number_of, minutes_left, minutes_from, dues_after}
+use Rattle.chrono_cron.proofs.MomentOrder.{due_parts}
 
 -- ---- minutes in a row, and moments
 
-minute_at-later : (start : Moment) (k : ℤ) → minute_of start <ℤ k → IsBefore start (minute_at k)
+minute_at-later : (start : Moment) (k : ℤ) → minute_number_of start <ℤ k → IsBefore start (minute_at k)
 minute_at-later start k less =
     by_lt_z start.date (int_div_euclid k (pos 1440)) (λ lt. inl lt) (λ ge. inr (omega (arith, signed, ge, less), inl (omega (arith, signed, ge, less))))
 
-minute_at-earlier : (m : Moment) (k : ℤ) → m.time.second < 86_400 → m.time.second % 60 ≡ 0 → k <ℤ minute_of m → IsBefore (minute_at k) m
+minute_at-earlier : (m : Moment) (k : ℤ) → m.time.second < 86_400 → m.time.second % 60 ≡ 0 → k <ℤ minute_number_of m → IsBefore (minute_at k) m
 minute_at-earlier m k small whole less =
     by_lt_z (int_div_euclid k (pos 1440)) m.date (λ lt. inl lt) (λ ge. inr (omega (arith, signed, small, ge, less), inl (omega (arith, signed, small, whole, ge, less))))
 
@@ -31,17 +31,17 @@ minute_at-moment k low high =
       time = record { second = omega (arith, signed); fraction = omega arith };
     }
 
-minute_at-same : (m : Moment) → m.time.second < 86_400 → m.time.second % 60 ≡ 0 → m.time.fraction ≡ 0 → minute_at (minute_of m) ≡ m
+minute_at-same : (m : Moment) → m.time.second < 86_400 → m.time.second % 60 ≡ 0 → m.time.fraction ≡ 0 → minute_at (minute_number_of m) ≡ m
 minute_at-same m small whole none =
-    let date : int_div_euclid (minute_of m) (pos 1440) ≡ m.date = omega (arith, signed, small) in
-    let second : 0 * 3_600 + unsigned_abs (int_rem_euclid (minute_of m) (pos 1440)) * 60 + 0 ≡ m.time.second = omega (arith, signed, small, whole) in
+    let date : int_div_euclid (minute_number_of m) (pos 1440) ≡ m.date = omega (arith, signed, small) in
+    let second : 0 * 3_600 + unsigned_abs (int_rem_euclid (minute_number_of m) (pos 1440)) * 60 + 0 ≡ m.time.second = omega (arith, signed, small, whole) in
     rw (date, second, sym none) refl
 
 -- a minute's beginning that comes later lies in a later minute
-minute_of-later : (start m : Moment) → start.time.second < 86_400 → m.time.second % 60 ≡ 0 → m.time.fraction ≡ 0 → IsBefore start m → minute_of start <ℤ minute_of m
-minute_of-later start m small whole none (inl later) = omega (arith, signed, small, later)
-minute_of-later start m small whole none (inr (date, inl later)) = omega (arith, signed, date, whole, later)
-minute_of-later start m small whole none (inr (date, inr same)) = absurd (omega (arith, same.1, none))
+minute_number_of-later : (start m : Moment) → start.time.second < 86_400 → m.time.second % 60 ≡ 0 → m.time.fraction ≡ 0 → IsBefore start m → minute_number_of start <ℤ minute_number_of m
+minute_number_of-later start m small whole none (inl later) = omega (arith, signed, small, later)
+minute_number_of-later start m small whole none (inr (date, inl later)) = omega (arith, signed, date, whole, later)
+minute_number_of-later start m small whole none (inr (date, inr same)) = absurd (omega (arith, same.1, none))
 
 -- ---- the list
 
@@ -49,31 +49,31 @@ kept-few : (b : Bool) (x : Moment) (xs : List Moment) (n : ℕ) → length xs �
 kept-few true x xs n few = omega (arith, few)
 kept-few false x xs n few = omega (arith, few)
 
-due-few : (s : Sets) (k : ℕ) (n : ℤ) → length (filter (is_due s) (minutes_from k n)) ≤ k
+due-few : (s : FieldSets) (k : ℕ) (n : ℤ) → length (filter (is_due s) (minutes_from k n)) ≤ k
 unfolding minutes_from
 due-few s zero n = omega arith
 due-few s (suc k) n =
     kept-few (is_due s (minute_at n)) (minute_at n) (filter (is_due s) (minutes_from k (n +ℤ pos 1))) k (due-few s k (n +ℤ pos 1))
 
-pub dues_after-few : (s : Sets) (m : Moment) → length (dues_after s m) ≤ minutes_left m
+pub dues_after-few : (s : FieldSets) (m : Moment) → length (dues_after s m) ≤ minutes_left m
 unfolding dues_after
-dues_after-few s m = due-few s (minutes_left m) (minute_of m +ℤ pos 1)
+dues_after-few s m = due-few s (minutes_left m) (minute_number_of m +ℤ pos 1)
 
 -- one minute more in front
-minutes-in_front : (s : Sets) (b : Bool) (t k : ℕ) (n : ℤ) → t ≡ suc k → is_due s (minute_at n) ≡ b → filter (is_due s) (minutes_from t n) ≡ cond b (minute_at n ∷ filter (is_due s) (minutes_from k (n +ℤ pos 1))) (filter (is_due s) (minutes_from k (n +ℤ pos 1)))
+minutes-in_front : (s : FieldSets) (b : Bool) (t k : ℕ) (n : ℤ) → t ≡ suc k → is_due s (minute_at n) ≡ b → filter (is_due s) (minutes_from t n) ≡ cond b (minute_at n ∷ filter (is_due s) (minutes_from k (n +ℤ pos 1))) (filter (is_due s) (minutes_from k (n +ℤ pos 1)))
 unfolding minutes_from
 minutes-in_front s b t k n count first =
     ap (λ t. filter (is_due s) (minutes_from t n)) count
     ∙ ap (λ b. cond b (minute_at n ∷ filter (is_due s) (minutes_from k (n +ℤ pos 1))) (filter (is_due s) (minutes_from k (n +ℤ pos 1)))) first
 
-none_among : (s : Sets) (k : ℕ) (n : ℤ) → ((d : ℤ) → n ≤ℤ d → d <ℤ (n +ℤ pos k) → is_due s (minute_at d) ≡ false) → filter (is_due s) (minutes_from k n) ≡ []
+none_among : (s : FieldSets) (k : ℕ) (n : ℤ) → ((d : ℤ) → n ≤ℤ d → d <ℤ (n +ℤ pos k) → is_due s (minute_at d) ≡ false) → filter (is_due s) (minutes_from k n) ≡ []
 unfolding minutes_from
 none_among s zero n none = refl
 none_among s (suc k) n none =
     minutes-in_front s false (suc k) k n refl (none n (omega (arith, signed)) (omega (arith, signed)))
     ∙ none_among s k (n +ℤ pos 1) (λ d low high. none d (omega (arith, signed, low)) (omega (arith, signed, high)))
 
-first_among : (s : Sets) (t k r : ℕ) (n e : ℤ) → t ≡ k + suc r → e ≡ n +ℤ pos k → ((d : ℤ) → n ≤ℤ d → d <ℤ e → is_due s (minute_at d) ≡ false) → is_due s (minute_at e) ≡ true → filter (is_due s) (minutes_from t n) ≡ minute_at e ∷ filter (is_due s) (minutes_from r (e +ℤ pos 1))
+first_among : (s : FieldSets) (t k r : ℕ) (n e : ℤ) → t ≡ k + suc r → e ≡ n +ℤ pos k → ((d : ℤ) → n ≤ℤ d → d <ℤ e → is_due s (minute_at d) ≡ false) → is_due s (minute_at e) ≡ true → filter (is_due s) (minutes_from t n) ≡ minute_at e ∷ filter (is_due s) (minutes_from r (e +ℤ pos 1))
 first_among s t zero r n e count at none due =
     let here : n ≡ e = omega (arith, signed, at) in
     minutes-in_front s true t r n (omega (arith, count)) (ap (λ d. is_due s (minute_at d)) here ∙ due)
@@ -84,39 +84,39 @@ first_among s t (suc k) r n e count at none due =
 
 -- ---- what a step takes from it
 
-pub dues_after-none : (s : Sets) (start : Moment) → IsMoment start → ((q : Moment) → IsMoment q → IsBefore start q → is_due s q ≡ false) → dues_after s start ≡ []
+pub dues_after-none : (s : FieldSets) (start : Moment) → IsMoment start → ((q : Moment) → IsMoment q → IsBefore start q → is_due s q ≡ false) → dues_after s start ≡ []
 unfolding dues_after
 dues_after-none s start is none =
-    none_among s (minutes_left start) (minute_of start +ℤ pos 1)
+    none_among s (minutes_left start) (minute_number_of start +ℤ pos 1)
     (λ d low high.
     none (minute_at d)
     (minute_at-moment d (omega (arith, signed, is.date.0, low)) (omega (arith, signed, is.date.1, is.time.second, high)))
     (minute_at-later start d (omega (arith, signed, low))))
 
-pub dues_after-first : (s : Sets) (start m : Moment) → IsMoment start → IsMoment m → is_due s m ≡ true → IsBefore start m → ((q : Moment) → IsMoment q → IsBefore start q → IsBefore q m → is_due s q ≡ false) → dues_after s start ≡ m ∷ dues_after s m
+pub dues_after-first : (s : FieldSets) (start m : Moment) → IsMoment start → IsMoment m → is_due s m ≡ true → IsBefore start m → ((q : Moment) → IsMoment q → IsBefore start q → IsBefore q m → is_due s q ≡ false) → dues_after s start ≡ m ∷ dues_after s m
 unfolding dues_after
 dues_after-first s start m is end due later least =
     let at = due_parts s m due in
-    let less = minute_of-later start m is.time.second at.second at.fraction later in
+    let less = minute_number_of-later start m is.time.second at.second at.fraction later in
     let here = minute_at-same m end.time.second at.second at.fraction in
-    let skipped : ℕ = unsigned_abs (minute_of m -ℤ (minute_of start +ℤ pos 1)) in
+    let skipped : ℕ = unsigned_abs (minute_number_of m -ℤ (minute_number_of start +ℤ pos 1)) in
     let count : minutes_left start ≡ skipped + suc (minutes_left m) = omega (arith, signed, less, end.date.1, end.time.second) in
-    first_among s (minutes_left start) skipped (minutes_left m) (minute_of start +ℤ pos 1) (minute_of m) count (omega (arith, signed, less))
+    first_among s (minutes_left start) skipped (minutes_left m) (minute_number_of start +ℤ pos 1) (minute_number_of m) count (omega (arith, signed, less))
     (λ d low high.
     least (minute_at d)
     (minute_at-moment d (omega (arith, signed, is.date.0, low)) (omega (arith, signed, end.date.1, end.time.second, high)))
     (minute_at-later start d (omega (arith, signed, low)))
     (minute_at-earlier m d end.time.second at.second high))
     (ap (is_due s) here ∙ due)
-    ∙ ap (λ x. x ∷ filter (is_due s) (minutes_from (minutes_left m) (minute_of m +ℤ pos 1))) here
+    ∙ ap (λ x. x ∷ filter (is_due s) (minutes_from (minutes_left m) (minute_number_of m +ℤ pos 1))) here
 
 -- none is left after the last moment of the calendar
-pub dues_after-end : (s : Sets) (m : Moment) → m ≡ moment (pos 95_745_399) (time_at 23 59 59 999_999_999) → dues_after s m ≡ []
+pub dues_after-end : (s : FieldSets) (m : Moment) → m ≡ moment (pos 95_745_399) (time_at 23 59 59 999_999_999) → dues_after s m ≡ []
 unfolding dues_after minutes_from
 dues_after-end s m end = rw end refl
 
 -- and takes one from what is left
-pub YieldsFirst-goes : (rest : After → List Moment) (s : After) (o : Option Moment) (t : After) → YieldsFirst rest s o t → MakesProgress (λ _. ⊤) (item_count rest) s o t
+pub YieldsFirst-goes : (rest : Dues → List Moment) (s : Dues) (o : Option Moment) (t : Dues) → YieldsFirst rest s o t → MakesProgress (λ _. ⊤) (item_count rest) s o t
 YieldsFirst-goes rest s None t h = record { on = λ _. tt; keeps = tt; rests = λ _. tt }
 YieldsFirst-goes rest s (Some x) t h =
     let fewer : length (rest t) < length (rest s) = omega (arith, ap length h) in

@@ -1,18 +1,18 @@
 -- The first field of a text that cannot be read, and the error of a text.
-use Rattle.std.proofs.Common.{◌≡◌, ◌∷◌, ℕ, Bool, List, [], length, drop, Option, Some, None, refl, sym, ap, ◌∙◌, arith}
+use Rattle.std.proofs.Common.{◌≡◌, ◌∷◌, ℕ, Bool, List, [], length, drop, Option, Some, None, refl, sym, ap, ◌∙◌}
 use Rattle.std.specs.Prelude.{map}
 use Rattle.std.proofs.lemmas.Option.{none-some}
-use Rattle.chrono_cron.specs.declared.error.ScheduleField.{ScheduleField}
-use Rattle.chrono_cron.specs.declared.error.ScheduleField.TheVariants.{Minute, Hour, Day, Month, Weekday}
-use Rattle.chrono_cron.specs.declared.names.Names.TheVariants.{Numbers, Months}
-use Rattle.chrono_cron.specs.declared.sets.Sets.{Sets}
-use Rattle.chrono_cron.specs.Due.{has}
+use Rattle.chrono_sets.specs.Numbers.{has}
+use Rattle.chrono_cron.specs.declared.text.schedule_error.ScheduleField.{ScheduleField}
+use Rattle.chrono_cron.specs.declared.text.schedule_error.ScheduleField.TheVariants.{Minute, Hour, Day, Month, Weekday}
+use Rattle.chrono_cron.specs.declared.text.number_names.Names.TheVariants.{Numbers, Months}
+use Rattle.chrono_cron.specs.declared.field_sets.FieldSets.{FieldSets}
 use Rattle.chrono_cron.specs.FieldTexts.{field_lists}
 use Rattle.chrono_cron.specs.PlacedWords.{first_word, placed_words}
 use Rattle.chrono_cron.specs.ScheduleTexts.{IsScheduleText, days_list, fields_of, weekdays_list}
-use Rattle.chrono_cron.specs.ScheduleErrors.{error_at, error_of, field_fault, first_wrong, place_of_field, schedule_error, unless_read, words_fault, wrong_field}
-use Rattle.chrono_cron.specs.declared.error.ScheduleFault.{ScheduleFault}
-use Rattle.chrono_cron.proofs.WordLemmas.{AreNotFive, words_of}
+use Rattle.chrono_cron.specs.ScheduleErrors.{schedule_error_at, error_of, field_fault, first_wrong, place_of_field, schedule_error, unless_read, words_fault, wrong_field}
+use Rattle.chrono_cron.specs.declared.text.schedule_error.ScheduleFault.{ScheduleFault}
+use Rattle.chrono_cron.proofs.TextWords.{AreNotFive, words_of}
 
 -- words that are not five
 first_wrong-others : (words : List (ℕ × List ℕ)) → AreNotFive words → first_wrong (map (λ word. word.1) words) ≡ None
@@ -61,23 +61,23 @@ wrong-weekday minute hour day month weekday a b c d m h f n w =
     was_read _ Minute _ a m ∙ was_read _ Hour _ b h ∙ was_read _ Day _ c f ∙ was_read _ Month _ d n ∙ unread _ Weekday _ w
 
 -- a text with a field that cannot be read is no schedule's
-first_wrong-none : (text : List ℕ) (s : Sets) → IsScheduleText text s → first_wrong (fields_of text) ≡ None
+first_wrong-none : (text : List ℕ) (s : FieldSets) → IsScheduleText text s → first_wrong (fields_of text) ≡ None
 first_wrong-none text s is =
-    ap first_wrong is.written ∙ was_read _ Minute _ (has s.minutes 0) (is.minutes 0 (omega arith)) ∙ was_read _ Hour _ (has s.hours 0) (is.hours 0 (omega arith))
-    ∙ was_read _ Day _ (has s.days 0) (is.days 0 (omega arith)) ∙ was_read _ Month _ (has s.months 0) (is.months 0 (omega arith)) ∙ was_read _ Weekday _ (has s.weekdays 0) (is.weekdays 0 (omega arith))
+    ap first_wrong is.written ∙ was_read _ Minute _ (has s.minutes 0) (is.minutes 0) ∙ was_read _ Hour _ (has s.hours 0) (is.hours 0)
+    ∙ was_read _ Day _ (has s.days 0) (is.days 0) ∙ was_read _ Month _ (has s.months 0) (is.months 0) ∙ was_read _ Weekday _ (has s.weekdays 0) (is.weekdays 0)
 
-pub none-wrong : (text : List ℕ) (fields : List (List ℕ)) (s : Sets) (field : ScheduleField) → fields_of text ≡ fields → first_wrong fields ≡ Some field → IsScheduleText text s → ⊥
+pub none-wrong : (text : List ℕ) (fields : List (List ℕ)) (s : FieldSets) (field : ScheduleField) → fields_of text ≡ fields → first_wrong fields ≡ Some field → IsScheduleText text s → ⊥
 none-wrong text fields s field e wrong is = none-some field (sym (first_wrong-none text s is) ∙ (ap first_wrong e ∙ wrong))
 
 -- the error of a text
-pub error-others : (text : List ℕ) (fault : ℕ × ScheduleFault) → AreNotFive (placed_words 0 text) → fault ≡ words_fault (length text) (placed_words 0 text) → error_at None fault ≡ schedule_error text
+pub error-others : (text : List ℕ) (fault : ℕ × ScheduleFault) → AreNotFive (placed_words 0 text) → fault ≡ words_fault (length text) (placed_words 0 text) → schedule_error_at None fault ≡ schedule_error text
 unfolding schedule_error
-error-others text fault others e = ap (error_at None) e ∙ sym (ap (error_of (length text) (placed_words 0 text)) (wrong-others text others))
+error-others text fault others e = ap (schedule_error_at None) e ∙ sym (ap (error_of (length text) (placed_words 0 text)) (wrong-others text others))
 
 pub error-five : (text : List ℕ) (words : List (ℕ × List ℕ)) (field : ScheduleField) (word : ℕ × List ℕ) → placed_words 0 text ≡ words → wrong_field text ≡ Some field
-    → first_word (drop (place_of_field field) words) ≡ word → error_at (Some field) (field_fault field word) ≡ schedule_error text
+    → first_word (drop (place_of_field field) words) ≡ word → schedule_error_at (Some field) (field_fault field word) ≡ schedule_error text
 unfolding schedule_error
 error-five text words field word e wrong is =
-    ap (λ w. error_at (Some field) (field_fault field w)) (sym is)
+    ap (λ w. schedule_error_at (Some field) (field_fault field w)) (sym is)
     ∙ ap (λ ws. error_of (length text) ws (Some field)) (sym e)
     ∙ ap (error_of (length text) (placed_words 0 text)) (sym wrong)

@@ -1,52 +1,39 @@
 -- A text of a schedule lists one family of sets.
-use Rattle.std.proofs.Common.{◌≡◌, ◌==◌, ◌<◌, ◌&&◌, ℕ, Bool, List, [], get_or, Option, sym, ap, ◌∙◌, arith}
+use Rattle.std.proofs.Common.{◌≡◌, ◌&&◌, ℕ, Bool, List, [], get_or, Option, sym, ap, ◌∙◌}
 use Rattle.std.specs.Prelude.{not}
 use Rattle.std.proofs.lemmas.Option.{same_Some}
-use Rattle.std.proofs.lemmas.Nat.Bits.{bit_at-lt, same_from_bits_below}
-use Rattle.std.specs.Int.{bit_at}
+use Rattle.chrono_sets.specs.Numbers.{Numbers as FiniteSet, has}
+use Rattle.chrono_sets.proofs.Members.{same_set}
 use Rattle.chrono_cron.specs.declared.month_days.MonthDays.{MonthDays}
-use Rattle.chrono_cron.specs.declared.names.Names.TheVariants.{Numbers, Months}
-use Rattle.chrono_cron.specs.declared.number_set.NumberSet.{NumberSet}
-use Rattle.chrono_cron.specs.declared.sets.Sets.{Sets}
-use Rattle.chrono_cron.specs.Due.{has}
+use Rattle.chrono_cron.specs.declared.text.number_names.Names.TheVariants.{Numbers, Months}
+use Rattle.chrono_cron.specs.declared.field_sets.FieldSets.{FieldSets}
 use Rattle.chrono_cron.specs.FieldTexts.{field_lists}
-use Rattle.chrono_cron.specs.ScheduleTexts.{AreListed, AreNamed, AreNumberSets, IsNumberSet, IsScheduleText, an_item_is, begins_with_star, days_list, from_end_of, last_weekday_of, last_workday_of, nearest_workday_of, nth_weekday_of, weekdays_list}
+use Rattle.chrono_cron.specs.ScheduleTexts.{AreListed, AreNamed, IsScheduleText, an_item_is, begins_with_star, days_list, from_end_of, last_weekday_of, last_workday_of, nearest_workday_of, nth_weekday_of, weekdays_list}
 
--- two sets of numbers below 64 with the same members are the same
-same_digit : (a b : ℕ) → a < 2 → b < 2 → (a == 1) ≡ (b == 1) → a ≡ b
-same_digit a b p q e = grind arith
+-- two sets that list the same, or of which the same numbers are named
+same_listed : (s t : FiniteSet) (listed : List ℕ → ℕ → Option Bool) (one other : List ℕ) → one ≡ other → AreListed s (listed one) → AreListed t (listed other) → s ≡ t
+same_listed s t listed one other e here there = same_set s t (λ k. same_Some (has s k) (has t k) (sym (here k) ∙ ap (λ text. listed text k) e ∙ there k))
 
-same_digits : (s t : NumberSet) (k : ℕ) → has s k ≡ has t k → bit_at s.digits k ≡ bit_at t.digits k
-unfolding has
-same_digits s t k e = same_digit (bit_at s.digits k) (bit_at t.digits k) (bit_at-lt s.digits k) (bit_at-lt t.digits k) e
-
-same_set : (s t : NumberSet) → IsNumberSet s → IsNumberSet t → ((k : ℕ) → k < 64 → has s k ≡ has t k) → s ≡ t
-same_set s t p q same = ap (λ n. record { digits = n }) (same_from_bits_below 64 s.digits t.digits p q (λ k lt. same_digits s t k (same k lt)))
-
-same_listed : (s t : NumberSet) (listed : List ℕ → ℕ → Option Bool) (one other : List ℕ) → one ≡ other → IsNumberSet s → IsNumberSet t → AreListed s (listed one) → AreListed t (listed other) → s ≡ t
-same_listed s t listed one other e p q here there =
-    same_set s t p q (λ k lt. same_Some (has s k) (has t k) (sym (here k lt) ∙ ap (λ text. listed text k) e ∙ there k lt))
-
-same_named : (s t : NumberSet) (named : List ℕ → ℕ → Bool) (one other : List ℕ) → one ≡ other → IsNumberSet s → IsNumberSet t → AreNamed s (named one) → AreNamed t (named other) → s ≡ t
-same_named s t named one other e p q here there = same_set s t p q (λ k lt. sym (here k lt) ∙ ap (λ text. named text k) e ∙ there k lt)
+same_named : (s t : FiniteSet) (named : List ℕ → ℕ → Bool) (one other : List ℕ) → one ≡ other → AreNamed s (named one) → AreNamed t (named other) → s ≡ t
+same_named s t named one other e here there = same_set s t (λ k. sym (here k) ∙ ap (λ text. named text k) e ∙ there k)
 
 -- the fields of a text, each by its place
 abbrev field_at : ℕ → List (List ℕ) → List ℕ
 field_at n fields = get_or fields n []
 
-abbrev days_of : NumberSet → NumberSet → Bool → NumberSet → NumberSet → MonthDays
+abbrev days_of : FiniteSet → FiniteSet → Bool → FiniteSet → FiniteSet → MonthDays
 days_of ends nearest last lasts nths = record { from_end = ends; nearest_workdays = nearest; last_workday = last; last_weekdays = lasts; nth_weekdays = nths }
 
-abbrev sets_of : NumberSet → NumberSet → NumberSet → NumberSet → NumberSet → MonthDays → Bool → Sets
+abbrev sets_of : FiniteSet → FiniteSet → FiniteSet → FiniteSet → FiniteSet → MonthDays → Bool → FieldSets
 sets_of minutes hours days months weekdays named either =
     record { minutes = minutes; hours = hours; days = days; months = months; weekdays = weekdays; month_days = named; either = either }
 
 -- days and sets whose parts are the same
-same_days_of : (a b c d : NumberSet) (l : Bool) (e f g h : NumberSet) (m : Bool) → a ≡ e → b ≡ f → l ≡ m → c ≡ g → d ≡ h → days_of a b l c d ≡ days_of e f m g h
+same_days_of : (a b c d : FiniteSet) (l : Bool) (e f g h : FiniteSet) (m : Bool) → a ≡ e → b ≡ f → l ≡ m → c ≡ g → d ≡ h → days_of a b l c d ≡ days_of e f m g h
 same_days_of a b c d l e f g h m p q r s t =
     ap (λ x. days_of x b l c d) p ∙ ap (λ x. days_of e x l c d) q ∙ ap (λ x. days_of e f x c d) r ∙ ap (λ x. days_of e f m x d) s ∙ ap (days_of e f m g) t
 
-same_sets_of : (s t : Sets) → s.minutes ≡ t.minutes → s.hours ≡ t.hours → s.days ≡ t.days → s.months ≡ t.months → s.weekdays ≡ t.weekdays → s.month_days ≡ t.month_days → s.either ≡ t.either → s ≡ t
+same_sets_of : (s t : FieldSets) → s.minutes ≡ t.minutes → s.hours ≡ t.hours → s.days ≡ t.days → s.months ≡ t.months → s.weekdays ≡ t.weekdays → s.month_days ≡ t.month_days → s.either ≡ t.either → s ≡ t
 same_sets_of s t a b c d e f g =
     ap (λ x. sets_of x s.hours s.days s.months s.weekdays s.month_days s.either) a
     ∙ ap (λ x. sets_of t.minutes x s.days s.months s.weekdays s.month_days s.either) b
@@ -56,8 +43,8 @@ same_sets_of s t a b c d e f g =
     ∙ ap (λ x. sets_of t.minutes t.hours t.days t.months t.weekdays x s.either) f
     ∙ ap (sets_of t.minutes t.hours t.days t.months t.weekdays t.month_days) g
 
-pub one_reading : (text : List ℕ) (s t : Sets) → AreNumberSets s → AreNumberSets t → IsScheduleText text s → IsScheduleText text t → s ≡ t
-one_reading text s t p q one other =
+pub one_reading : (text : List ℕ) (s t : FieldSets) → IsScheduleText text s → IsScheduleText text t → s ≡ t
+one_reading text s t one other =
     let same = sym one.written ∙ other.written in
     let minute = ap (field_at 0) same in
     let hour = ap (field_at 1) same in
@@ -67,17 +54,17 @@ one_reading text s t p q one other =
     let m = one.month_days in
     let n = other.month_days in
     let named = same_days_of _ _ _ _ s.month_days.last_workday _ _ _ _ t.month_days.last_workday
-    (same_named _ _ (an_item_is from_end_of) one.day other.day day p.from_end q.from_end m.from_end n.from_end)
-    (same_named _ _ (an_item_is nearest_workday_of) one.day other.day day p.nearest_workdays q.nearest_workdays m.nearest_workdays n.nearest_workdays)
+    (same_named _ _ (an_item_is from_end_of) one.day other.day day m.from_end n.from_end)
+    (same_named _ _ (an_item_is nearest_workday_of) one.day other.day day m.nearest_workdays n.nearest_workdays)
     (sym m.last_workday ∙ ap (λ text. an_item_is last_workday_of text 0) day ∙ n.last_workday)
-    (same_named _ _ (an_item_is last_weekday_of) one.weekday other.weekday weekday p.last_weekdays q.last_weekdays m.last_weekdays n.last_weekdays)
-    (same_named _ _ (an_item_is nth_weekday_of) one.weekday other.weekday weekday p.nth_weekdays q.nth_weekdays m.nth_weekdays n.nth_weekdays) in
+    (same_named _ _ (an_item_is last_weekday_of) one.weekday other.weekday weekday m.last_weekdays n.last_weekdays)
+    (same_named _ _ (an_item_is nth_weekday_of) one.weekday other.weekday weekday m.nth_weekdays n.nth_weekdays) in
     let either = sym one.either ∙ ap (λ text. not (begins_with_star text) && not (begins_with_star one.weekday)) day
     ∙ ap (λ text. not (begins_with_star other.day) && not (begins_with_star text)) weekday ∙ other.either in
     same_sets_of s t
-    (same_listed _ _ (field_lists Numbers 0 59) one.minute other.minute minute p.minutes q.minutes one.minutes other.minutes)
-    (same_listed _ _ (field_lists Numbers 0 23) one.hour other.hour hour p.hours q.hours one.hours other.hours)
-    (same_listed _ _ days_list one.day other.day day p.days q.days one.days other.days)
-    (same_listed _ _ (field_lists Months 1 12) one.month other.month month p.months q.months one.months other.months)
-    (same_listed _ _ weekdays_list one.weekday other.weekday weekday p.weekdays q.weekdays one.weekdays other.weekdays)
+    (same_listed _ _ (field_lists Numbers 0 59) one.minute other.minute minute one.minutes other.minutes)
+    (same_listed _ _ (field_lists Numbers 0 23) one.hour other.hour hour one.hours other.hours)
+    (same_listed _ _ days_list one.day other.day day one.days other.days)
+    (same_listed _ _ (field_lists Months 1 12) one.month other.month month one.months other.months)
+    (same_listed _ _ weekdays_list one.weekday other.weekday weekday one.weekdays other.weekdays)
     named either

@@ -1,25 +1,21 @@
 -- Words for days that are known to be named or not.
-use Rattle.std.specs.Prelude.{ℕ, ◌-◌, Bool, ◌||◌, ℤ}
+use Rattle.std.specs.Prelude.{ℕ, ◌-◌, Bool, ◌||◌, List, ℤ}
 use Rattle.chrono_datetime.specs.Days.{day_of}
 use Rattle.chrono_datetime.specs.MonthMoves.{month_length_of}
 use Rattle.chrono_datetime.specs.Weekday.{days_from_sunday}
 use Rattle.chrono_datetime.specs.Weeks.{weekday_of}
+use Rattle.chrono_sets.specs.Numbers.{numbers}
 use Rattle.chrono_cron.specs.declared.month_days.MonthDays.{MonthDays}
-use Rattle.chrono_cron.specs.declared.number_set.NumberSet.{NumberSet}
 use Rattle.chrono_cron.specs.Due.{is_named_by_place, is_named_by_weekday}
 
--- the set of the numbers whose binary digits are 1
-abbrev pub set_of_digits : ℕ → NumberSet
-set_of_digits n = record { digits = n }
-
--- the days L and L-k, kW, LW, dL and d#k by such sets
-abbrev pub named : ℕ → ℕ → Bool → ℕ → ℕ → MonthDays
-named ends nearest last lasts nths =
-    record { from_end = set_of_digits ends; nearest_workdays = set_of_digits nearest; last_workday = last; last_weekdays = set_of_digits lasts; nth_weekdays = set_of_digits nths }
+-- the days L and L-k, kW, LW, dL and d#k, by lists of their numbers
+abbrev pub days_named : List ℕ → List ℕ → Bool → List ℕ → List ℕ → MonthDays
+days_named ends nearest last lasts nths =
+    record { from_end = numbers ends; nearest_workdays = numbers nearest; last_workday = last; last_weekdays = numbers lasts; nth_weekdays = numbers nths }
 
 -- the day n is one of them
-unfoldable pub is_named : MonthDays → ℤ → Bool
-is_named m n =
+unfoldable pub is_named_day : MonthDays → ℤ → Bool
+is_named_day m n =
     let p = day_of n in
     let follow = month_length_of n - p in
     let w = days_from_sunday (weekday_of n) in

@@ -1,24 +1,56 @@
 -- Words for moments at which a schedule is known to be due or not.
-use Rattle.std.specs.Prelude.{ℕ, ◌-◌, ◌^◌, Bool, true, false, ℤ}
+use Rattle.std.specs.Prelude.{ℕ, zero, suc, ◌+◌, ◌*◌, Bool, true, false, List, [], ◌∷◌, map, ℤ}
 use Rattle.chrono_datetime.specs.Moment.{Moment, moment}
 use Rattle.chrono_datetime.specs.Time.{time_at}
-use Rattle.chrono_cron.specs.declared.sets.Sets.{Sets}
-use Rattle.chrono_cron.specs.KnownMonthDays.{named, set_of_digits}
+use Rattle.chrono_sets.specs.Numbers.{numbers}
+use Rattle.chrono_cron.specs.declared.field_sets.FieldSets.{FieldSets}
+use Rattle.chrono_cron.specs.Due.{no_month_days}
+use Rattle.chrono_cron.specs.KnownMonthDays.{days_named}
 
--- what five fields list, each as the number whose binary digits tell its members, with no days that are named
-abbrev pub fields : ℕ → ℕ → ℕ → ℕ → ℕ → Bool → Sets
+-- so many numbers in a row, of which n is the first
+abbrev pub in_a_row : ℕ → ℕ → List ℕ
+in_a_row zero n = []
+in_a_row (suc count) n = n ∷ in_a_row count (n + 1)
+
+-- the days of a month, from the 1st to the 31st
+abbrev pub every_day : List ℕ
+every_day = in_a_row 31 1
+
+-- the odd ones of them
+abbrev pub odd_days : List ℕ
+odd_days = map (λ k. 2 * k + 1) (in_a_row 16 0)
+
+-- the months, from January on
+abbrev pub every_month : List ℕ
+every_month = in_a_row 12 1
+
+-- the weekdays, from Sunday on
+abbrev pub every_weekday : List ℕ
+every_weekday = in_a_row 7 0
+
+-- what five fields list, with no days that are named
+abbrev pub fields : List ℕ → List ℕ → List ℕ → List ℕ → List ℕ → Bool → FieldSets
 fields minutes hours days months weekdays either =
-    record { minutes = set_of_digits minutes; hours = set_of_digits hours; days = set_of_digits days; months = set_of_digits months; weekdays = set_of_digits weekdays; month_days = named 0 0 false 0 0; either = either }
+    record { minutes = numbers minutes; hours = numbers hours; days = numbers days; months = numbers months; weekdays = numbers weekdays; month_days = no_month_days; either = either }
 
--- midnight, on days and weekdays that are listed and on days that are named, where either field will do
-abbrev pub fields_with : ℕ → ℕ → ℕ → ℕ → ℕ → Bool → ℕ → ℕ → Sets
-fields_with days months weekdays ends nearest last lasts nths =
-    record { minutes = set_of_digits 1; hours = set_of_digits 1; days = set_of_digits days; months = set_of_digits months; weekdays = set_of_digits weekdays; month_days = named ends nearest last lasts nths; either = true }
+-- midnight in each month, on days that are named, where either field will do
+abbrev pub fields_with : List ℕ → List ℕ → Bool → List ℕ → List ℕ → FieldSets
+fields_with ends nearest last lasts nths =
+    record { minutes = numbers (0 ∷ []); hours = numbers (0 ∷ []); days = numbers []; months = numbers every_month; weekdays = numbers []; month_days = days_named ends nearest last lasts nths; either = true }
+
+-- midnight in each month, on days before the end of the month that have one of the weekdays
+abbrev pub last_days_on : List ℕ → List ℕ → FieldSets
+last_days_on ends weekdays =
+    record { minutes = numbers (0 ∷ []); hours = numbers (0 ∷ []); days = numbers []; months = numbers every_month; weekdays = numbers weekdays; month_days = days_named ends [] false [] []; either = false }
 
 -- the moment of a day at an hour, a minute, a second and a fraction of it in nanoseconds
-abbrev pub moment_at : ℤ → ℕ → ℕ → ℕ → ℕ → Moment
-moment_at n hour minute second fraction = moment n (time_at hour minute second fraction)
+abbrev pub known_moment : ℤ → ℕ → ℕ → ℕ → ℕ → Moment
+known_moment n hour minute second fraction = moment n (time_at hour minute second fraction)
 
 -- `* * * * *`
-abbrev pub each_minute : Sets
-each_minute = fields (2 ^ 60 - 1) (2 ^ 24 - 1) (2 ^ 32 - 2) (2 ^ 13 - 2) 127 false
+abbrev pub each_minute : FieldSets
+each_minute = fields (in_a_row 60 0) (in_a_row 24 0) every_day every_month every_weekday false
+
+-- the same but for the minutes, of which it has none
+abbrev pub no_minute : FieldSets
+no_minute = fields [] (in_a_row 24 0) every_day every_month every_weekday false

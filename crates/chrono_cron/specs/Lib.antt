@@ -7,6 +7,5 @@ pub mod KnownSchedules
 pub mod PlacedWords
 pub mod ScheduleErrors
 pub mod ScheduleTexts
-pub mod Steps
-pub mod ToldSchedules
+pub mod WritableSchedules
 pub mod WrittenTexts

@@ -1,19 +1,18 @@
 -- The texts of schedules, and what they list: five fields with blanks between, or a nickname that stands for such fields.
-use Rattle.std.specs.Prelude.{◌≡◌, ℕ, ◌+◌, ◌-◌, ◌*◌, ◌%◌, ◌^◌, ◌<◌, ◌==◌, nat_lt, Bool, true, false, not, ◌&&◌, ◌||◌, if◌then◌else◌, List, [], ◌∷◌, length, take, drop, slice_index, Option, Some, None, codes, is_some, refl}
+use Rattle.std.specs.Prelude.{◌≡◌, ℕ, ◌+◌, ◌-◌, ◌*◌, ◌%◌, ◌==◌, nat_lt, Bool, true, false, not, ◌&&◌, ◌||◌, if◌then◌else◌, List, [], ◌∷◌, length, take, drop, slice_index, Option, Some, None, codes, is_some, refl}
 use Rattle.std.specs.Char.{to_ascii_lowercase}
 use Rattle.std.specs.Option.{option_map, option_and_then}
 use Rattle.std.specs.List.{filter, list_any, slice_split}
-use Rattle.std.specs.Str.{byte, bytes_eq, str_eq_ignore_ascii_case}
-use Rattle.chrono_cron.specs.Due.{has}
-use Rattle.chrono_text.specs.Numbers.{natural_of}
-use Rattle.chrono_cron.specs.FieldTexts.{before, behind, field_lists, item_lists, items_list, number_in, number_of_name, place_of_name, range_of, short_number_of, span_of, spelled_number}
-use Rattle.chrono_cron.specs.declared.day_names.DayName.{DayName}
-use Rattle.chrono_cron.specs.declared.day_names.DayName.TheVariants.{FromEnd, LastWorkday, NearestWorkday, LastWeekday, NthWeekday}
+use Rattle.std.specs.Str.{byte, str_eq_ignore_ascii_case}
+use Rattle.chrono_text.specs.Lists.{pieces}
+use Rattle.chrono_text.specs.Numbers.{digits_of, natural_of}
+use Rattle.chrono_sets.specs.Numbers.{Numbers as FiniteSet, has}
+use Rattle.chrono_datetime.specs.Names.{month_of_letters, weekday_of_letters}
+use Rattle.chrono_cron.specs.FieldTexts.{before_byte, behind_byte, field_lists, item_lists, items_list, number_between, number_of_name, range_of, item_span, spelled_number, step_of}
 use Rattle.chrono_cron.specs.declared.month_days.MonthDays.{MonthDays}
-use Rattle.chrono_cron.specs.declared.names.Names.{Names}
-use Rattle.chrono_cron.specs.declared.names.Names.TheVariants.{Numbers, Months, Weekdays}
-use Rattle.chrono_cron.specs.declared.number_set.NumberSet.{NumberSet}
-use Rattle.chrono_cron.specs.declared.sets.Sets.{Sets}
+use Rattle.chrono_cron.specs.declared.text.number_names.Names.{Names}
+use Rattle.chrono_cron.specs.declared.text.number_names.Names.TheVariants.{Numbers, Months, Weekdays}
+use Rattle.chrono_cron.specs.declared.field_sets.FieldSets.{FieldSets}
 
 -- a space or a tab
 abbrev pub is_blank : ℕ → Bool
@@ -25,28 +24,29 @@ is_some_text [] = false
 is_some_text (x ∷ rest) = true
 
 -- what stands between the blanks of a text, before them and behind them
-unfoldable pub words : List ℕ → List (List ℕ)
-words text = filter is_some_text (slice_split is_blank text)
+unfoldable pub text_words : List ℕ → List (List ℕ)
+text_words text = filter is_some_text (slice_split is_blank text)
 
--- the five fields that a nickname stands for; any other word stands for itself
-unfoldable pub meaning_of : List ℕ → List ℕ
-meaning_of word =
-    if bytes_eq word (codes "@yearly") || bytes_eq word (codes "@annually") then codes "0 0 1 1 *"
-    else if bytes_eq word (codes "@monthly") then codes "0 0 1 * *"
-    else if bytes_eq word (codes "@weekly") then codes "0 0 * * 0"
-    else if bytes_eq word (codes "@daily") || bytes_eq word (codes "@midnight") then codes "0 0 * * *"
-    else if bytes_eq word (codes "@hourly") then codes "0 * * * *"
+-- the five fields that a nickname stands for; any other word stands for itself. They are those of the crontab(5) of systemd-cron, such as
+-- "Run once a year, "0 0 1 1 *"". Letters of either case are our choice
+unfoldable pub nickname_meaning : List ℕ → List ℕ
+nickname_meaning word =
+    if str_eq_ignore_ascii_case word (codes "@yearly") || str_eq_ignore_ascii_case word (codes "@annually") then codes "0 0 1 1 *"
+    else if str_eq_ignore_ascii_case word (codes "@monthly") then codes "0 0 1 * *"
+    else if str_eq_ignore_ascii_case word (codes "@weekly") then codes "0 0 * * 0"
+    else if str_eq_ignore_ascii_case word (codes "@daily") || str_eq_ignore_ascii_case word (codes "@midnight") then codes "0 0 * * *"
+    else if str_eq_ignore_ascii_case word (codes "@hourly") then codes "0 * * * *"
     else word
 
 -- the words of a text, or those that its one word stands for
 abbrev pub spelled_out : List (List ℕ) → List (List ℕ)
 spelled_out [] = []
-spelled_out (word ∷ []) = words (meaning_of word)
+spelled_out (word ∷ []) = text_words (nickname_meaning word)
 spelled_out (word ∷ next ∷ more) = word ∷ next ∷ more
 
 -- the fields of a text, in which a nickname is spelled out
 unfoldable pub fields_of : List ℕ → List (List ℕ)
-fields_of text = spelled_out (words text)
+fields_of text = spelled_out (text_words text)
 
 -- what stands before a letter with which a text ends, in either case; none if it ends otherwise
 abbrev pub before_letter : ℕ → List ℕ → Option (List ℕ)
@@ -54,14 +54,14 @@ before_letter letter text =
     if to_ascii_lowercase (slice_index text (length text - 1)) == letter then Some (take (length text - 1) text) else None
 
 -- the weekday that a number or a name says, from 0 for Sunday, for which 7 stands too
-abbrev pub weekday_of_text : List ℕ → Option ℕ
-weekday_of_text text = option_map (λ d. d % 7) (number_in Weekdays 0 7 text)
+abbrev pub spelled_weekday : List ℕ → Option ℕ
+spelled_weekday text = option_map (λ d. d % 7) (number_between Weekdays 0 7 text)
 
 -- `L`, the month's last day, and `L-k`: how many days of the month follow it
 unfoldable pub from_end_of : List ℕ → Option ℕ
 from_end_of text =
     if str_eq_ignore_ascii_case text (codes "L") then Some 0
-    else if str_eq_ignore_ascii_case (take 2 text) (codes "L-") then number_in Numbers 1 30 (drop 2 text)
+    else if str_eq_ignore_ascii_case (take 2 text) (codes "L-") then number_between Numbers 1 30 (drop 2 text)
     else None
 
 -- `LW`, the month's last workday; told as the number 0
@@ -74,41 +74,33 @@ last_workday_of text = if is_last_workday_text text then Some 0 else None
 
 -- `kW`, the workday that is nearest to the month's k-th day: k
 unfoldable pub nearest_workday_of : List ℕ → Option ℕ
-nearest_workday_of text = option_and_then (number_in Numbers 1 31) (before_letter (byte "w") text)
+nearest_workday_of text = option_and_then (number_between Numbers 1 31) (before_letter (byte "w") text)
 
 -- `dL`, the month's last day with the weekday d: d
 unfoldable pub last_weekday_of : List ℕ → Option ℕ
-last_weekday_of text = option_and_then weekday_of_text (before_letter (byte "l") text)
+last_weekday_of text = option_and_then spelled_weekday (before_letter (byte "l") text)
 
 -- `d#k`, the month's k-th day with the weekday d: the number 7 * (k - 1) + d
 unfoldable pub nth_weekday_of : List ℕ → Option ℕ
-nth_weekday_of text = option_and_then (λ d. option_map (λ k. 7 * (k - 1) + d) (number_in Numbers 1 5 (behind (byte "#") text))) (weekday_of_text (before (byte "#") text))
-
--- the number of a name by its kind
-abbrev pub number_by : DayName → List ℕ → Option ℕ
-number_by FromEnd = from_end_of
-number_by LastWorkday = last_workday_of
-number_by NearestWorkday = nearest_workday_of
-number_by LastWeekday = last_weekday_of
-number_by NthWeekday = nth_weekday_of
+nth_weekday_of text = option_and_then (λ d. option_map (λ k. 7 * (k - 1) + d) (number_between Numbers 1 5 (behind_byte (byte "#") text))) (spelled_weekday (before_byte (byte "#") text))
 
 -- the item of a field names a day of the month by its place, or by its weekday
-unfoldable pub names_day : List ℕ → Bool
-names_day item = is_some (from_end_of item) || (is_last_workday_text item || is_some (nearest_workday_of item))
+unfoldable pub names_by_place : List ℕ → Bool
+names_by_place item = is_some (from_end_of item) || (is_last_workday_text item || is_some (nearest_workday_of item))
 
 -- whether an item names one day of the month by its weekday
-unfoldable pub names_weekday : List ℕ → Bool
-names_weekday item = is_some (last_weekday_of item) || is_some (nth_weekday_of item)
+unfoldable pub names_by_weekday : List ℕ → Bool
+names_by_weekday item = is_some (last_weekday_of item) || is_some (nth_weekday_of item)
 
 -- an item of a field with these names names days: of the field of days, which has none, and of that of weekdays
 unfoldable pub names_by : Names → List ℕ → Bool
-names_by Numbers item = names_day item
+names_by Numbers item = names_by_place item
 names_by Months item = false
-names_by Weekdays item = names_weekday item
+names_by Weekdays item = names_by_weekday item
 
 -- the items of a field, with commas between
 abbrev pub items_of : List ℕ → List (List ℕ)
-items_of text = slice_split (λ x. x == byte ",") text
+items_of text = pieces (byte ",") text
 
 -- those of them that fail a test
 abbrev pub other_items : (List ℕ → Bool) → List ℕ → List (List ℕ)
@@ -118,7 +110,7 @@ other_items names text = filter (λ item. not (names item)) (items_of text)
 unfoldable pub days_list : List ℕ → ℕ → Option Bool
 days_list text k = items_list Numbers 1 31 (other_items (names_by Numbers) text) k
 
--- the same of the field of weekdays, in which 7 stands for Sunday too
+-- the same of the field of weekdays, in which 7 stands for Sunday too: "0 or 7 is Sun, or use names" in crontab(5)
 abbrev pub weekday_items_list : List ℕ → ℕ → Option Bool
 weekday_items_list text k = items_list Weekdays 0 7 (other_items (names_by Weekdays) text) k
 
@@ -141,28 +133,12 @@ unfoldable pub begins_with_star : List ℕ → Bool
 begins_with_star text = slice_index text 0 == byte "*"
 
 -- the set has the numbers that are listed
-abbrev pub AreListed : NumberSet → (ℕ → Option Bool) → Type 0
-AreListed set listed = (k : ℕ) → k < 64 → listed k ≡ Some (has set k)
+abbrev pub AreListed : FiniteSet → (ℕ → Option Bool) → Type 0
+AreListed set listed = (k : ℕ) → listed k ≡ Some (has set k)
 
--- the set has exactly the numbers below 64 that are named
-abbrev pub AreNamed : NumberSet → (ℕ → Bool) → Type 0
-AreNamed set named = (k : ℕ) → k < 64 → named k ≡ has set k
-
--- a set of numbers below 64, as every `NumberSet` is
-abbrev pub IsNumberSet : NumberSet → Type 0
-IsNumberSet set = set.digits < 2 ^ 64
-
--- each set of the schedule has numbers below 64 alone, as every `NumberSet` has
-pub record AreNumberSets (s : Sets) : Type 0 where
-  pub minutes : IsNumberSet s.minutes
-  pub hours : IsNumberSet s.hours
-  pub days : IsNumberSet s.days
-  pub months : IsNumberSet s.months
-  pub weekdays : IsNumberSet s.weekdays
-  pub from_end : IsNumberSet s.month_days.from_end
-  pub nearest_workdays : IsNumberSet s.month_days.nearest_workdays
-  pub last_weekdays : IsNumberSet s.month_days.last_weekdays
-  pub nth_weekdays : IsNumberSet s.month_days.nth_weekdays
+-- the set has exactly the numbers that are named
+abbrev pub AreNamed : FiniteSet → (ℕ → Bool) → Type 0
+AreNamed set named = (k : ℕ) → named k ≡ has set k
 
 -- the days that the items of the two fields of days name
 pub record AreNamedDays (day weekday : List ℕ) (m : MonthDays) : Type 0 where
@@ -172,9 +148,17 @@ pub record AreNamedDays (day weekday : List ℕ) (m : MonthDays) : Type 0 where
   pub last_weekdays : AreNamed m.last_weekdays (an_item_is last_weekday_of weekday)
   pub nth_weekdays : AreNamed m.nth_weekdays (an_item_is nth_weekday_of weekday)
 
+-- the days m, and that which an item names, are the days n
+pub record AreNamedWith (m : MonthDays) (item : List ℕ) (n : MonthDays) : Type 0 where
+  pub from_end : (k : ℕ) → has n.from_end k ≡ (has m.from_end k || is_number k (from_end_of item))
+  pub nearest_workdays : (k : ℕ) → has n.nearest_workdays k ≡ (has m.nearest_workdays k || is_number k (nearest_workday_of item))
+  pub last_workday : n.last_workday ≡ (m.last_workday || is_last_workday_text item)
+  pub last_weekdays : (k : ℕ) → has n.last_weekdays k ≡ (has m.last_weekdays k || is_number k (last_weekday_of item))
+  pub nth_weekdays : (k : ℕ) → has n.nth_weekdays k ≡ (has m.nth_weekdays k || is_number k (nth_weekday_of item))
+
 -- a text of the schedule that lists these sets: its fields are minutes, hours, days of the month, months and weekdays; either field of
 -- days will do if neither begins with `*`
-pub record IsScheduleText (text : List ℕ) (s : Sets) : Type 0 where
+pub record IsScheduleText (text : List ℕ) (s : FieldSets) : Type 0 where
   pub minute : List ℕ
   pub hour : List ℕ
   pub day : List ℕ
@@ -191,53 +175,132 @@ pub record IsScheduleText (text : List ℕ) (s : Sets) : Type 0 where
 
 -- known values: blanks before, between and behind the words, and a nickname with blanks about it
 fields_of-blanks : fields_of (codes "  5 \t4  * * 7 ") ≡ codes "5" ∷ codes "4" ∷ codes "*" ∷ codes "*" ∷ codes "7" ∷ []
-unfolding fields_of words
+unfolding fields_of text_words
 fields_of-blanks = refl
 
 fields_of-hourly : fields_of (codes " @hourly ") ≡ codes "0" ∷ codes "*" ∷ codes "*" ∷ codes "*" ∷ codes "*" ∷ []
-unfolding fields_of words meaning_of
+unfolding fields_of text_words nickname_meaning
 fields_of-hourly = refl
+
+fields_of-daily : fields_of (codes "@DaiLY") ≡ codes "0" ∷ codes "0" ∷ codes "*" ∷ codes "*" ∷ codes "*" ∷ []
+unfolding fields_of text_words nickname_meaning
+fields_of-daily = refl
 
 -- names in letters of any case, in ranges too; 7 stands for Sunday, and a range may end with it
 month-name : field_lists Months 1 12 (codes "jAn-Mar") 2 ≡ Some true
-unfolding field_lists item_lists span_of range_of number_in spelled_number short_number_of number_of_name place_of_name natural_of
+unfolding field_lists item_lists step_of item_span range_of number_between spelled_number digits_of number_of_name month_of_letters weekday_of_letters natural_of
 month-name = refl
 
 weekdays_list-seven : weekdays_list (codes "5-7") 0 ≡ Some true
-unfolding weekdays_list names_by names_weekday last_weekday_of nth_weekday_of item_lists span_of range_of number_in spelled_number short_number_of number_of_name place_of_name natural_of
+unfolding weekdays_list names_by names_by_weekday last_weekday_of nth_weekday_of item_lists step_of item_span range_of number_between spelled_number digits_of number_of_name month_of_letters weekday_of_letters natural_of
 weekdays_list-seven = refl
 
 -- a week has no day 7, and Sunday is listed where either of its numbers is
 weekdays_list-sunday : weekdays_list (codes "SUN") 0 ≡ Some true
-unfolding weekdays_list names_by names_weekday last_weekday_of nth_weekday_of item_lists span_of range_of number_in spelled_number short_number_of number_of_name place_of_name natural_of
+unfolding weekdays_list names_by names_by_weekday last_weekday_of nth_weekday_of item_lists step_of item_span range_of number_between spelled_number digits_of number_of_name month_of_letters weekday_of_letters natural_of
 weekdays_list-sunday = refl
 
 weekdays_list-no_seven : weekdays_list (codes "7") 7 ≡ Some false
-unfolding weekdays_list names_by names_weekday last_weekday_of nth_weekday_of item_lists span_of range_of number_in spelled_number short_number_of number_of_name place_of_name natural_of
+unfolding weekdays_list names_by names_by_weekday last_weekday_of nth_weekday_of item_lists step_of item_span range_of number_between spelled_number digits_of number_of_name month_of_letters weekday_of_letters natural_of
 weekdays_list-no_seven = refl
 
 -- a name is read in a list beside a number, and lists none; `L` alone is no weekday
 days_list-named : days_list (codes "L-3,15") 15 ≡ Some true
-unfolding days_list names_by names_day from_end_of is_last_workday_text nearest_workday_of item_lists span_of range_of number_in spelled_number short_number_of number_of_name place_of_name natural_of
+unfolding days_list names_by names_by_place from_end_of is_last_workday_text nearest_workday_of item_lists step_of item_span range_of number_between spelled_number digits_of number_of_name month_of_letters weekday_of_letters natural_of
 days_list-named = refl
 
 weekdays_list-no_weekday : weekdays_list (codes "L") 0 ≡ None
-unfolding weekdays_list names_by names_weekday last_weekday_of nth_weekday_of item_lists span_of range_of number_in spelled_number short_number_of number_of_name place_of_name natural_of
+unfolding weekdays_list names_by names_by_weekday last_weekday_of nth_weekday_of item_lists step_of item_span range_of number_between spelled_number digits_of number_of_name month_of_letters weekday_of_letters natural_of
 weekdays_list-no_weekday = refl
 
 -- names of days
 from_end_of-three : from_end_of (codes "l-3") ≡ Some 3
-unfolding from_end_of number_in spelled_number short_number_of number_of_name natural_of
+unfolding from_end_of number_between spelled_number digits_of number_of_name natural_of
 from_end_of-three = refl
 
 nearest_workday_of-fifteen : nearest_workday_of (codes "15W") ≡ Some 15
-unfolding nearest_workday_of number_in spelled_number short_number_of number_of_name natural_of
+unfolding nearest_workday_of number_between spelled_number digits_of number_of_name natural_of
 nearest_workday_of-fifteen = refl
 
 last_weekday_of-friday : last_weekday_of (codes "friL") ≡ Some 5
-unfolding last_weekday_of number_in spelled_number short_number_of number_of_name place_of_name natural_of
+unfolding last_weekday_of number_between spelled_number digits_of number_of_name month_of_letters weekday_of_letters natural_of
 last_weekday_of-friday = refl
 
 nth_weekday_of-second_sunday : nth_weekday_of (codes "7#2") ≡ Some 7
-unfolding nth_weekday_of number_in spelled_number short_number_of number_of_name place_of_name natural_of
+unfolding nth_weekday_of number_between spelled_number digits_of number_of_name month_of_letters weekday_of_letters natural_of
 nth_weekday_of-second_sunday = refl
+
+-- each other nickname, and a word that is none
+nickname_meaning-yearly : nickname_meaning (codes "@yearly") ≡ codes "0 0 1 1 *"
+unfolding nickname_meaning
+nickname_meaning-yearly = refl
+
+nickname_meaning-annually : nickname_meaning (codes "@annually") ≡ codes "0 0 1 1 *"
+unfolding nickname_meaning
+nickname_meaning-annually = refl
+
+nickname_meaning-monthly : nickname_meaning (codes "@monthly") ≡ codes "0 0 1 * *"
+unfolding nickname_meaning
+nickname_meaning-monthly = refl
+
+nickname_meaning-weekly : nickname_meaning (codes "@weekly") ≡ codes "0 0 * * 0"
+unfolding nickname_meaning
+nickname_meaning-weekly = refl
+
+nickname_meaning-midnight : nickname_meaning (codes "@midnight") ≡ codes "0 0 * * *"
+unfolding nickname_meaning
+nickname_meaning-midnight = refl
+
+nickname_meaning-none : nickname_meaning (codes "@day") ≡ codes "@day"
+unfolding nickname_meaning
+nickname_meaning-none = refl
+
+-- the ends of the numbers of named days
+from_end_of-last : from_end_of (codes "L") ≡ Some 0
+unfolding from_end_of number_between spelled_number digits_of number_of_name month_of_letters weekday_of_letters natural_of
+from_end_of-last = refl
+
+from_end_of-thirty : from_end_of (codes "L-30") ≡ Some 30
+unfolding from_end_of number_between spelled_number digits_of number_of_name month_of_letters weekday_of_letters natural_of
+from_end_of-thirty = refl
+
+from_end_of-nothing : from_end_of (codes "L-0") ≡ None
+unfolding from_end_of number_between spelled_number digits_of number_of_name month_of_letters weekday_of_letters natural_of
+from_end_of-nothing = refl
+
+is_last_workday_text-small : is_last_workday_text (codes "lw") ≡ true
+unfolding is_last_workday_text
+is_last_workday_text-small = refl
+
+nearest_workday_of-last : nearest_workday_of (codes "31w") ≡ Some 31
+unfolding nearest_workday_of number_between spelled_number digits_of number_of_name month_of_letters weekday_of_letters natural_of
+nearest_workday_of-last = refl
+
+nearest_workday_of-nothing : nearest_workday_of (codes "0W") ≡ None
+unfolding nearest_workday_of number_between spelled_number digits_of number_of_name month_of_letters weekday_of_letters natural_of
+nearest_workday_of-nothing = refl
+
+nth_weekday_of-fifth_friday : nth_weekday_of (codes "fri#5") ≡ Some 33
+unfolding nth_weekday_of number_between spelled_number digits_of number_of_name month_of_letters weekday_of_letters natural_of
+nth_weekday_of-fifth_friday = refl
+
+nth_weekday_of-nothing : nth_weekday_of (codes "5#0") ≡ None
+unfolding nth_weekday_of number_between spelled_number digits_of number_of_name month_of_letters weekday_of_letters natural_of
+nth_weekday_of-nothing = refl
+
+-- days that are named list no numbers, and numbers past the ends are no items
+days_list-names_alone : days_list (codes "LW,15W,L") 15 ≡ Some false
+unfolding days_list names_by names_by_place from_end_of is_last_workday_text nearest_workday_of item_lists step_of item_span range_of number_between spelled_number digits_of number_of_name month_of_letters weekday_of_letters natural_of
+days_list-names_alone = refl
+
+days_list-zeroth : days_list (codes "0") 1 ≡ None
+unfolding days_list names_by names_by_place from_end_of is_last_workday_text nearest_workday_of item_lists step_of item_span range_of number_between spelled_number digits_of number_of_name month_of_letters weekday_of_letters natural_of
+days_list-zeroth = refl
+
+weekdays_list-names_alone : weekdays_list (codes "5L,5#2") 5 ≡ Some false
+unfolding weekdays_list names_by names_by_weekday last_weekday_of nth_weekday_of item_lists step_of item_span range_of number_between spelled_number digits_of number_of_name month_of_letters weekday_of_letters natural_of
+weekdays_list-names_alone = refl
+
+weekdays_list-eight : weekdays_list (codes "8") 1 ≡ None
+unfolding weekdays_list names_by names_by_weekday last_weekday_of nth_weekday_of item_lists step_of item_span range_of number_between spelled_number digits_of number_of_name month_of_letters weekday_of_letters natural_of
+weekdays_list-eight = refl

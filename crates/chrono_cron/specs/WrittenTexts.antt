@@ -3,11 +3,10 @@ use Rattle.std.specs.Prelude.{ℕ, zero, suc, ◌+◌, ◌/◌, ◌%◌, ◌==�
 use Rattle.std.specs.List.{join_with_byte}
 use Rattle.std.specs.Str.{byte}
 use Rattle.chrono_text.specs.Text.{two_digits}
-use Rattle.chrono_cron.specs.declared.number_set.NumberSet.{NumberSet}
-use Rattle.chrono_cron.specs.declared.sets.Sets.{Sets}
-use Rattle.chrono_cron.specs.declared.text.Naming.{Naming}
-use Rattle.chrono_cron.specs.declared.text.Naming.TheVariants.{FromEnd, Workday, LastWeekday, NthWeekday}
-use Rattle.chrono_cron.specs.Due.{has}
+use Rattle.chrono_sets.specs.Numbers.{Numbers as FiniteSet, has}
+use Rattle.chrono_cron.specs.declared.field_sets.FieldSets.{FieldSets}
+use Rattle.chrono_cron.specs.declared.text.schedule_writer.DayName.{DayName}
+use Rattle.chrono_cron.specs.declared.text.schedule_writer.DayName.TheVariants.{FromEnd, NearestWorkday, LastWeekday, NthWeekday}
 
 -- a number in one digit or two
 abbrev pub number_text : ℕ → List ℕ
@@ -18,14 +17,14 @@ abbrev pub range_text : ℕ × ℕ → List ℕ
 range_text range = if range.0 == range.1 then number_text range.0 else number_text range.0 ++ codes "-" ++ number_text range.1
 
 -- ranges of greater numbers, and n in front: that makes the first of them longer, if it begins right behind n
-abbrev pub in_front : ℕ → List (ℕ × ℕ) → List (ℕ × ℕ)
-in_front n [] = (n, n) ∷ []
-in_front n (range ∷ ranges) = if range.0 == n + 1 then (n, range.1) ∷ ranges else (n, n) ∷ range ∷ ranges
+abbrev pub put_in_front : ℕ → List (ℕ × ℕ) → List (ℕ × ℕ)
+put_in_front n [] = (n, n) ∷ []
+put_in_front n (range ∷ ranges) = if range.0 == n + 1 then (n, range.1) ∷ ranges else (n, n) ∷ range ∷ ranges
 
 -- of so many numbers from n on, the members, in ranges that are as long as can be
-unfoldable pub ranges_from : NumberSet → ℕ → ℕ → List (ℕ × ℕ)
+unfoldable pub ranges_from : FiniteSet → ℕ → ℕ → List (ℕ × ℕ)
 ranges_from set zero n = []
-ranges_from set (suc count) n = if has set n then in_front n (ranges_from set count (n + 1)) else ranges_from set count (n + 1)
+ranges_from set (suc count) n = if has set n then put_in_front n (ranges_from set count (n + 1)) else ranges_from set count (n + 1)
 
 -- whether one of the ranges lists k
 abbrev pub one_lists : List (ℕ × ℕ) → ℕ → Bool
@@ -33,26 +32,26 @@ one_lists [] k = false
 one_lists (range ∷ ranges) k = (nat_le range.0 k && nat_le k range.1) || one_lists ranges k
 
 -- whether all of so many numbers from n on are members
-unfoldable pub are_all : NumberSet → ℕ → ℕ → Bool
+unfoldable pub are_all : FiniteSet → ℕ → ℕ → Bool
 are_all set zero n = true
 are_all set (suc count) n = has set n && are_all set count (n + 1)
 
 -- how days are named by a number: L and L-k, kW, dL, and d#k
-abbrev pub name_text : Naming → ℕ → List ℕ
+abbrev pub name_text : DayName → ℕ → List ℕ
 name_text FromEnd k = if k == 0 then codes "L" else codes "L-" ++ number_text k
-name_text Workday k = number_text k ++ codes "W"
+name_text NearestWorkday k = number_text k ++ codes "W"
 name_text LastWeekday d = number_text d ++ codes "L"
 name_text NthWeekday k = number_text (k % 7) ++ codes "#" ++ number_text (k / 7 + 1)
 
 -- of so many numbers from n on, the members as such names
-unfoldable pub names_from : Naming → NumberSet → ℕ → ℕ → List (List ℕ)
+unfoldable pub names_from : DayName → FiniteSet → ℕ → ℕ → List (List ℕ)
 names_from naming set zero n = []
 names_from naming set (suc count) n =
     if has set n then name_text naming n ∷ names_from naming set count (n + 1) else names_from naming set count (n + 1)
 
 -- the items that list numbers, of a field of so many from `low` on. A field that has to begin with `*` is that alone if it lists all; if not, a step
 -- past the field's end lists `low` alone
-unfoldable pub number_items : Bool → NumberSet → ℕ → ℕ → List (List ℕ)
+unfoldable pub number_items : Bool → FiniteSet → ℕ → ℕ → List (List ℕ)
 number_items starred set count low =
     if starred then (if are_all set count low then codes "*" ∷ [] else (codes "*/" ++ number_text count) ∷ map range_text (ranges_from set count low))
     else map range_text (ranges_from set count low)
@@ -67,32 +66,32 @@ abbrev pub field_text : List (List ℕ) → List ℕ
 field_text items = join_with_byte (byte ",") items
 
 -- the minutes, the hours or the months: `*`, or a list
-unfoldable pub plain_text : NumberSet → ℕ → ℕ → List ℕ
+unfoldable pub plain_text : FiniteSet → ℕ → ℕ → List ℕ
 plain_text set count low = field_text (number_items (are_all set count low) set count low)
 
--- where a day has to match both of its fields, each that lists all its numbers begins with `*`; if neither does, then that of days does
--- if it lists the 1st, and else that of weekdays if it lists Sunday
-unfoldable pub is_starred_by_day : Sets → Bool
+-- where a day has to match both of its fields, each that lists all its numbers begins with `*`. If neither does, then that
+-- of days does if it lists the 1st, and else that of weekdays if it lists Sunday
+unfoldable pub is_starred_by_day : FieldSets → Bool
 is_starred_by_day s = not s.either && (are_all s.days 31 1 || (not (are_all s.weekdays 7 0) && has s.days 1))
 
 -- whether the field of weekdays is written with a `*` in front
-unfoldable pub is_starred_by_weekday : Sets → Bool
+unfoldable pub is_starred_by_weekday : FieldSets → Bool
 is_starred_by_weekday s = not s.either && (are_all s.weekdays 7 0 || (not (are_all s.days 31 1) && (not (has s.days 1) && has s.weekdays 0)))
 
 -- the days: the numbers that are listed, L and L-k, LW, and kW
-unfoldable pub day_items : Sets → List (List ℕ)
-day_items s =
+unfoldable pub day_field_items : FieldSets → List (List ℕ)
+day_field_items s =
     number_items (is_starred_by_day s) s.days 31 1 ++ names_from FromEnd s.month_days.from_end 31 0
-    ++ (if s.month_days.last_workday then codes "LW" ∷ [] else []) ++ names_from Workday s.month_days.nearest_workdays 31 1
+    ++ (if s.month_days.last_workday then codes "LW" ∷ [] else []) ++ names_from NearestWorkday s.month_days.nearest_workdays 31 1
 
 -- the weekdays: the numbers that are listed, from 0 for Sunday, dL, and d#k
-unfoldable pub weekday_items : Sets → List (List ℕ)
-weekday_items s =
+unfoldable pub weekday_field_items : FieldSets → List (List ℕ)
+weekday_field_items s =
     number_items (is_starred_by_weekday s) s.weekdays 7 0 ++ names_from LastWeekday s.month_days.last_weekdays 7 0
     ++ names_from NthWeekday s.month_days.nth_weekdays 35 0
 
 -- the five fields with a space between each two
-unfoldable pub schedule_text : Sets → List ℕ
+unfoldable pub schedule_text : FieldSets → List ℕ
 schedule_text s =
-    plain_text s.minutes 60 0 ++ codes " " ++ plain_text s.hours 24 0 ++ codes " " ++ field_text (day_items s)
-    ++ codes " " ++ plain_text s.months 12 1 ++ codes " " ++ field_text (weekday_items s)
+    plain_text s.minutes 60 0 ++ codes " " ++ plain_text s.hours 24 0 ++ codes " " ++ field_text (day_field_items s)
+    ++ codes " " ++ plain_text s.months 12 1 ++ codes " " ++ field_text (weekday_field_items s)

@@ -13,29 +13,19 @@
 //! A field `*` lists every number. If a field of days begins with `*`, `either` is false (the rule of cronie).
 #![tactic(auto)]
 
-mod after;
-mod day_fields;
-mod day_names;
-mod error;
-mod faults;
-mod field;
+mod field_sets;
 pub mod law;
 mod month_days;
-mod names;
-mod number_set;
-mod reading;
-mod same;
 mod schedule;
-mod sets;
+mod search;
 mod text;
-mod words;
 
-pub use after::After;
-pub use error::{ScheduleError, ScheduleFault, ScheduleField};
-pub use field::read_field;
+pub use chrono_sets::NumberSet;
+pub use field_sets::FieldSets;
 pub use month_days::MonthDays;
-pub use names::Names;
-pub use number_set::NumberSet;
-pub use reading::read_schedule;
 pub use schedule::Schedule;
-pub use sets::Sets;
+pub use search::dues::Dues;
+pub use text::field::read_field;
+pub use text::number_names::Names;
+pub use text::schedule_error::{ScheduleError, ScheduleFault, ScheduleField};
+pub use text::schedule_reader::read_schedule;

@@ -1,15 +1,16 @@
 //! `MonthDays`: days named by the end, the workdays and the weeks of a month, as Quartz and croner write them.
 ghost use Rattle.std.specs.Prelude.{◌≡◌, ◌+◌, ◌-◌, ◌*◌, ◌/◌, ◌%◌, ◌≤◌, ◌<◌, ◌==◌, nat_le, nat_lt, ◌&&◌, ◌||◌, ℕ, false, IsTrue};
-ghost use Rattle.chrono_cron.specs.Due.{has, is_friday_for, is_last_workday, is_monday_for, is_named_by_place, is_named_by_weekday, is_nearest_workday, is_workday};
+ghost use Rattle.chrono_sets.specs.Numbers.{has};
+ghost use Rattle.chrono_cron.specs.Due.{is_friday_for, is_last_workday, is_monday_for, is_named_by_place, is_named_by_weekday, is_nearest_workday, is_monday_to_friday, no_month_days};
 
-use crate::number_set::NumberSet;
+use chrono_sets::NumberSet;
 
-// The digits of the sets of Monday, of Friday, and of Monday to Friday.
-const MONDAY: u64 = 0b000_0010;
+// Monday and Friday, counted from 0 for Sunday, and the day behind the last workday.
+const MONDAY: u32 = 1;
 
-const FRIDAY: u64 = 0b010_0000;
+const FRIDAY: u32 = 5;
 
-const WORKDAYS: u64 = 0b011_1110;
+const SATURDAY: u32 = 6;
 
 /// Days of a month, named by its end, its workdays and its weeks.
 ///
@@ -38,10 +39,11 @@ impl MonthDays {
     /// ```
     #[inline]
     pub fn none() -> MonthDays
+        ensures value { result ≡ no_month_days }
         ensures place { (p follow w : ℕ) → is_named_by_place result p follow w ≡ false }
         ensures weekday { (p follow w : ℕ) → is_named_by_weekday result p follow w ≡ false }
     {
-        let none = NumberSet::from_digits(0);
+        let none = NumberSet::none();
         MonthDays {
             from_end: none,
             nearest_workdays: none,
@@ -107,10 +109,10 @@ fn last_workday(length: u32, before: u32) -> NumberSet
     ensures { (k : ℕ) → 1 ≤ k → k ≤ length →
         has result k ≡ is_last_workday (length - k) ((k + before) % 7) }
 {
-    let friday = NumberSet::from_digits(FRIDAY)
+    let friday = NumberSet::single(FRIDAY)
         .every_week(before)
         .between(length - 2, length + 1);
-    let workday = NumberSet::from_digits(WORKDAYS)
+    let workday = NumberSet::range(MONDAY, SATURDAY)
         .every_week(before)
         .between(length, length + 1);
     friday.union(workday)
@@ -125,7 +127,7 @@ fn nearest_workdays(asked: NumberSet, length: u32, before: u32) -> NumberSet
     ensures { (k : ℕ) → 1 ≤ k → k ≤ length →
         has result k ≡ is_nearest_workday asked k (length - k) ((k + before) % 7) }
 {
-    let workdays = NumberSet::from_digits(WORKDAYS).every_week(before);
+    let workdays = NumberSet::range(MONDAY, SATURDAY).every_week(before);
     let others = fridays_for(asked, length, before).union(mondays_for(asked, before));
     workdays.intersection(asked).union(others)
 }
@@ -139,7 +141,7 @@ fn fridays_for(asked: NumberSet, length: u32, before: u32) -> NumberSet
     ensures { (k : ℕ) → 1 ≤ k → k ≤ length →
         has result k ≡ is_friday_for asked k (length - k) ((k + before) % 7) }
 {
-    let fridays = NumberSet::from_digits(FRIDAY).every_week(before);
+    let fridays = NumberSet::single(FRIDAY).every_week(before);
     let saturday = asked.lowered(1).between(0, length);
     let sunday = asked.lowered(2).between(length - 2, length - 1);
     fridays.intersection(saturday.union(sunday))
@@ -151,7 +153,7 @@ fn mondays_for(asked: NumberSet, before: u32) -> NumberSet
     requires { before < 7 }
     ensures { (k : ℕ) → 1 ≤ k → k < 40 → has result k ≡ is_monday_for asked k ((k + before) % 7) }
 {
-    let mondays = NumberSet::from_digits(MONDAY).every_week(before);
+    let mondays = NumberSet::single(MONDAY).every_week(before);
     let sunday = asked.raised(1).between(2, 40);
     let saturday = asked.raised(2).between(3, 4);
     mondays.intersection(sunday.union(saturday))

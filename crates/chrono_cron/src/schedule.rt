@@ -1,28 +1,23 @@
 //! `Schedule`: the moments at which something is due, and the next and the last of them.
-ghost use Rattle.std.specs.Prelude.{◌≡◌, ◌↔◌, ◌<◌, ◌≤◌, ℕ, length, IfSome, IfNone, IsTrue, false};
+ghost use Rattle.std.specs.Prelude.{◌≡◌, ◌↔◌, ◌<◌, ◌≤◌, ℕ, length, IfSome, IfNone, IsTrue};
 ghost use Rattle.std.specs.Iterator.{YieldsFirst};
 ghost use Rattle.std.specs.Iterator.Runs.{YieldsInOrder};
-ghost use Rattle.chrono_datetime.specs.Moment.{Moment, IsBefore, IsMoment};
-ghost use Rattle.chrono_datetime.specs.Time.{IsEarlier, time_at};
-ghost use Rattle.chrono_cron.specs.Due.{IsNeverDue, MeanTheSame, is_due};
+ghost use Rattle.chrono_datetime.specs.Moment.{IsBefore};
+ghost use Rattle.chrono_datetime.specs.Time.{IsEarlier, IsPlain, time_at};
+ghost use Rattle.chrono_cron.specs.Due.{IsNeverDue, MeanTheSame, NotDueAfter, NotDueBefore, NotDueBetween, is_due};
 ghost use Rattle.chrono_cron.specs.DueMoments.{dues_after, dues_left};
 
-use crate::after::{After, lies_in_calendar};
-use crate::same::mean_the_same;
-use crate::sets::Sets;
+use crate::field_sets::FieldSets;
+use crate::search::dues::{Dues, lies_in_calendar};
+use crate::search::minutes::{MINUTES_PER_DAY, SECONDS};
+use crate::search::same_moments::mean_the_same;
 use chrono_datetime::{NaiveDateTime, NaiveTime, Timelike};
-
-// The minutes of a day.
-const MINUTES_PER_DAY: u32 = 1_440;
-
-// The seconds of a minute.
-const SECONDS: u32 = 60;
 
 /// A cron schedule.
 #[derive(Clone, Copy, PartialEq, Eq, Debug)]
 pub struct Schedule {
     /// The numbers and days that its fields list.
-    pub sets: Sets,
+    pub sets: FieldSets,
 }
 
 impl Schedule {
@@ -85,10 +80,10 @@ impl Schedule {
     pub fn next_after(&self, start: NaiveDateTime) -> Option<NaiveDateTime>
         ensures member { IfSome result (λ m. IsTrue (is_due self.now.sets m)) }
         ensures later { IfSome result (λ m. IsBefore start m) }
-        ensures least { IfSome result (λ m. (q : Moment) → IsMoment q → IsBefore start q → IsBefore q m →
-            is_due self.now.sets q ≡ false) }
-        ensures none { IfNone result ((q : Moment) → IsMoment q → IsBefore start q →
-            is_due self.now.sets q ≡ false) }
+        // It lies in no leap second.
+        ensures plain { IfSome result (λ m. IsPlain m.time) }
+        ensures least { IfSome result (λ m. NotDueBetween self.now.sets start m) }
+        ensures none { IfNone result (NotDueAfter self.now.sets start) }
     {
         let date = start.date();
         let begun = start.time().num_seconds_from_midnight() / SECONDS;
@@ -119,10 +114,10 @@ impl Schedule {
     pub fn prev_before(&self, start: NaiveDateTime) -> Option<NaiveDateTime>
         ensures member { IfSome result (λ m. IsTrue (is_due self.now.sets m)) }
         ensures earlier { IfSome result (λ m. IsBefore m start) }
-        ensures greatest { IfSome result (λ m. (q : Moment) → IsMoment q → IsBefore m q → IsBefore q start →
-            is_due self.now.sets q ≡ false) }
-        ensures none { IfNone result ((q : Moment) → IsMoment q → IsBefore q start →
-            is_due self.now.sets q ≡ false) }
+        // It lies in no leap second.
+        ensures plain { IfSome result (λ m. IsPlain m.time) }
+        ensures greatest { IfSome result (λ m. NotDueBetween self.now.sets m start) }
+        ensures none { IfNone result (NotDueBefore self.now.sets start) }
     {
         let date = start.date();
         if let Some(minute) = self.sets.last_on(date, begun_before(start.time())) {
@@ -151,7 +146,7 @@ impl Schedule {
     /// (moments.next(), moments.next()) // (Some(2024-03-31T09:00:00), Some(2024-04-30T09:00:00))
     /// ```
     #[inline]
-    pub fn after(&self, start: NaiveDateTime) -> After
+    pub fn after(&self, start: NaiveDateTime) -> Dues
         ensures schedule { result.schedule ≡ self.now }
         ensures start { result.last ≡ start }
         // There are no more minutes than that in all.
@@ -160,7 +155,7 @@ impl Schedule {
         ensures runs { YieldsInOrder (YieldsFirst dues_left) dues_left }
     {
         lies_in_calendar(start);
-        After {
+        Dues {
             schedule: *self,
             last: start,
         }

@@ -5,7 +5,7 @@ use Rattle.std.proofs.lemmas.Int.{by_lt_z, ints}
 use Rattle.std.specs.Option.{option_map}
 use Rattle.chrono_clock.specs.Time.{TimeOfDay, IsTime, IsPlain, IsEarlier, landing_of, land, later, place, distance}
 use Rattle.chrono_clock.proofs.TimeLemmas.{is_leap-plain}
-use Rattle.chrono_clock.proofs.DistanceLemmas.{land-distance, land-distance_days, distance-later, distance-earlier, distance-same}
+use Rattle.chrono_clock.proofs.DistanceLemmas.{land-distance, land-distance_days, distance-later, distance-earlier, distance-same, distance-plain}
 use Rattle.chrono_clock.proofs.MomentLemmas.{moment_distance-turned}
 use Rattle.chrono_naive.specs.Days.{IsDate, date_of_day}
 use Rattle.chrono_naive.proofs.NamedDates.{date_of_day-Some}
@@ -36,11 +36,6 @@ IfSome-turned None m x h = tt
 IfSome-turned (Some e) m x h = λ way. omega (arith, ints, moment_distance-turned m e, h way)
 
 -- ---- the sign of a distance is the order
-
--- a plain distance is that of the places
-distance-plain : (s t : TimeOfDay) → IsPlain s → IsPlain t → distance s t ≡ pos (place s) -ℤ pos (place t)
-unfolding distance
-distance-plain s t p q = rw (is_leap-plain t q, is_leap-plain s p) (omega (arith, ints))
 
 -- what a clear order of two date-times says of the distances both ways
 abbrev Outdistances : Moment → Moment → Type 0

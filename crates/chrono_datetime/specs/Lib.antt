@@ -1,6 +1,7 @@
 pub use Rattle.chrono_units.specs.Years
 pub use Rattle.chrono_units.specs.Weekday
 pub use Rattle.chrono_units.specs.Month
+pub use Rattle.chrono_units.specs.Names
 pub use Rattle.chrono_units.specs.WeekdaySet
 pub use Rattle.chrono_clock.specs.Duration
 pub use Rattle.chrono_text.specs.Text
@@ -17,6 +18,8 @@ pub use Rattle.chrono_naive.specs.Recurrence
 pub use Rattle.chrono_naive.specs.Fields
 pub use Rattle.chrono_naive.specs.DateLists
 pub use Rattle.chrono_naive.specs.DateText
+pub use Rattle.chrono_naive.specs.RisingDates
 pub use Rattle.chrono_units.specs.WeekdayText
 pub mod Moment
 pub mod MomentText
+pub mod PassedOver

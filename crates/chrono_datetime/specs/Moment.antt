@@ -28,13 +28,13 @@ moment_cmp =
     then_cmp (on (λ m. m.date) int_cmp)
     (then_cmp (on (λ m. m.time.second) nat_cmp) (on (λ m. m.time.fraction) nat_cmp))
 
--- e was reached from m by x: a second move by y ends where the one move by the sum ends, or neither ends at a date,
--- if m is in no leap second, or the moves go the same way
+-- e was reached from m by x. A second move by y ends where the one move by the sum ends, or neither ends at a date. This
+-- holds if m is in no leap second, or if the moves go the same way
 abbrev pub MovesAddUp : Moment → ℤ → Moment → Type 0
 MovesAddUp m x e = (y : ℤ) → IsDuration (x +ℤ y) → IsPlain m.time ⊎ SameWay x y → reach e y ≡ reach m (x +ℤ y)
 
--- a move by the distance of a from b leads back to a: if neither is in a leap second, or if both have one date and
--- a is in no leap second, or both are in the same one
+-- a move by the distance of a from b leads back to a. This holds if neither is in a leap second, or if both are in the
+-- same one. It also holds if both have one date and a is in no leap second
 abbrev pub LeadsBack : Moment → Moment → Type 0
 LeadsBack a b =
     (IsPlain a.time × IsPlain b.time)

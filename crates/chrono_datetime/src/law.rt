@@ -27,6 +27,10 @@ pub use chrono_naive::law::{
 pub use chrono_units::law::named_sets;
 
 /// The first date-time, as [`NaiveDateTime::MIN`] and as [`MIN_DATETIME`]: day -95,746,129, 00:00:00.
+///
+/// ```
+/// law::first_date_time().0 // -262143-01-01T00:00:00
+/// ```
 pub fn first_date_time() -> (NaiveDateTime, NaiveDateTime)
     ensures of_type { result.0 ≡ moment (neg_ℤ (pos 95_746_129)) (time_at 0 0 0 0) }
     ensures of_crate { result.1 ≡ moment (neg_ℤ (pos 95_746_129)) (time_at 0 0 0 0) }
@@ -36,6 +40,10 @@ pub fn first_date_time() -> (NaiveDateTime, NaiveDateTime)
 
 /// The last date-time outside a leap second, as [`NaiveDateTime::MAX`] and as [`MAX_DATETIME`]: day 95,745,399,
 /// 23:59:59.999999999.
+///
+/// ```
+/// law::last_date_time().0 // +262142-12-31T23:59:59.999999999
+/// ```
 pub fn last_date_time() -> (NaiveDateTime, NaiveDateTime)
     ensures of_type { result.0 ≡ moment (pos 95_745_399) (time_at 23 59 59 999_999_999) }
     ensures of_crate { result.1 ≡ moment (pos 95_745_399) (time_at 23 59 59 999_999_999) }

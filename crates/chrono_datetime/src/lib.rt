@@ -12,8 +12,8 @@ mod naive_date_time;
 
 pub use and_time::AndTime;
 pub use chrono_naive::{
-    Datelike, Days, IsoWeek, MAX_DATE, MIN_DATE, Month, Months, NaiveDate, NaiveDateDaysIterator,
-    NaiveDateWeeksIterator, NaiveTime, NaiveWeek, OutOfRange, TimeDelta, Timelike, Weekday,
-    WeekdaySet, WeekdaySetIter,
+    Datelike, Days, FIRST_DAY, IsoWeek, LAST_DAY, MAX_DATE, MIN_DATE, Month, Months, NaiveDate,
+    NaiveDateDaysIterator, NaiveDateWeeksIterator, NaiveTime, NaiveWeek, OutOfRange, RisingDates,
+    TimeDelta, Timelike, Weekday, WeekdaySet, WeekdaySetIter,
 };
 pub use naive_date_time::{MAX_DATETIME, MIN_DATETIME, NaiveDateTime};

@@ -13,17 +13,13 @@ use Rattle.chrono_naive.specs.DateText.{date_text, iso_week_text}
 use Rattle.chrono_naive.specs.Fields.{IsIsoYear, IsoYearAndWeek}
 use Rattle.std.specs.Int.{IsInRange}
 use Rattle.std.specs.Str.{IsAscii}
+use Rattle.chrono_calendar.proofs.Years.{IsYear-small}
 
 -- a date with a calendar name has that name's text
 pub date_text-named : (n y : ℤ) (m d : ℕ) → date_of_ymd y m d ≡ Some n → date_text n ≡ calendar_text y m d
 date_text-named n y m d e =
     let name = date_of_ymd-name n y m d e in
     λ i. calendar_text (sym name.0 i) (sym name.1 i) (sym name.2 i)
-
--- a year's size, a month and a day of the month are small
-year_size : (y : ℤ) → IsYear y → unsigned_abs y < 1_000_000
-year_size (pos n) h = omega (arith, ints, h.1)
-year_size (negsuc n) h = omega (arith, ints, h.0)
 
 iso_year_size : (y : ℤ) → IsIsoYear y → unsigned_abs y < 2 ^ 64
 iso_year_size (pos n) h = omega (arith, ints, h.1)
@@ -40,8 +36,8 @@ pub date_text_injective : (n m : ℤ) → IsDate n → IsDate m → date_text n 
 date_text_injective n m first second e =
     let names =
     calendar_text_injective (year_of n) (year_of m) (month_of n) (month_of m) (day_of n) (day_of m)
-    (omega (arith, year_size (year_of n) (year_of-range n first)))
-    (omega (arith, year_size (year_of m) (year_of-range m second)))
+    (omega (arith, IsYear-small (year_of n) (year_of-range n first)))
+    (omega (arith, IsYear-small (year_of m) (year_of-range m second)))
     (month_of-small n) (month_of-small m) (day_of-small n) (day_of-small m) e
     in
     sym (number-calendar_name n) ∙ (λ i. day_number_of_ymd (names.0 i) (names.1 i) (names.2 i)) ∙ number-calendar_name m
@@ -49,7 +45,7 @@ date_text_injective n m first second e =
 -- every byte of the texts is ASCII
 pub IsAscii-date_text : (n : ℤ) → IsYear (year_of n) → IsAscii (date_text n)
 IsAscii-date_text n h =
-    IsAscii-calendar_text (year_of n) (month_of n) (day_of n) (omega (arith, year_size (year_of n) h)) (month_of-small n) (day_of-small n)
+    IsAscii-calendar_text (year_of n) (month_of n) (day_of n) (omega (arith, IsYear-small (year_of n) h)) (month_of-small n) (day_of-small n)
 
 pub IsAscii-iso_week_text : (w : IsoYearAndWeek) → IsIsoYear w.year → IsInRange 1 53 w.week → IsAscii (iso_week_text w)
 IsAscii-iso_week_text w h k = IsAscii-week_text w.year w.week (iso_year_size w.year h) (omega (arith, k.1))
@@ -63,4 +59,4 @@ pub length-date_text-four : (n : ℤ) → pos 0 ≤ℤ year_of n → year_of n �
 length-date_text-four n low high = omega (arith, length-calendar_text (year_of n) (month_of n) (day_of n), four_digits (year_of n) low high)
 
 pub length-date_text-le : (n : ℤ) → IsDate n → length (date_text n) ≤ 13
-length-date_text-le n h = omega (arith, length-calendar_text (year_of n) (month_of n) (day_of n), length-year_text-le (year_of n) (year_size (year_of n) (year_of-range n h)))
+length-date_text-le n h = omega (arith, length-calendar_text (year_of n) (month_of n) (day_of n), length-year_text-le (year_of n) (IsYear-small (year_of n) (year_of-range n h)))

@@ -1,5 +1,6 @@
 -- Lemmas that other crates cite stand in these modules.
 pub use Rattle.chrono_calendar.proofs.Signed
+pub use Rattle.chrono_calendar.proofs.Names
 pub use Rattle.chrono_calendar.proofs.NamedDates
 pub use Rattle.chrono_calendar.proofs.WeekDays
 pub use Rattle.chrono_calendar.proofs.IsoWeeks
@@ -13,10 +14,12 @@ pub use Rattle.chrono_calendar.proofs.CountWhere
 pub use Rattle.chrono_calendar.proofs.CountBetween
 pub use Rattle.chrono_calendar.proofs.Birthdays
 pub mod DateTextLemmas
+pub mod RisingLists
 -- The rest serve this crate's own proofs alone.
 mod DayMoves
 mod DateListLemmas
 mod FirstSoon
 mod IsoYears
 mod KnownValues
+mod LaterMonths
 mod TakenDates

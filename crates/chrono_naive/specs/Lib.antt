@@ -1,6 +1,7 @@
 pub use Rattle.chrono_units.specs.Years
 pub use Rattle.chrono_units.specs.Weekday
 pub use Rattle.chrono_units.specs.Month
+pub use Rattle.chrono_units.specs.Names
 pub use Rattle.chrono_units.specs.WeekdaySet
 pub use Rattle.chrono_clock.specs.Duration
 pub use Rattle.chrono_clock.specs.Time
@@ -17,3 +18,4 @@ pub use Rattle.chrono_calendar.specs.Recurrence
 pub mod Fields
 pub mod DateLists
 pub mod DateText
+pub mod RisingDates

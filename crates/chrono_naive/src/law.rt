@@ -37,6 +37,10 @@ pub fn dates_have_texts_of_their_own()
 {}
 
 /// The first date, as [`NaiveDate::MIN`] and as [`MIN_DATE`]: its day number is -95,746,129.
+///
+/// ```
+/// law::first_date() // (-262143-01-01, -262143-01-01)
+/// ```
 pub fn first_date() -> (NaiveDate, NaiveDate)
     ensures of_type { result.0 ≡ neg_ℤ (pos 95_746_129) }
     ensures of_crate { result.1 ≡ neg_ℤ (pos 95_746_129) }
@@ -45,6 +49,10 @@ pub fn first_date() -> (NaiveDate, NaiveDate)
 }
 
 /// The last date, as [`NaiveDate::MAX`] and as [`MAX_DATE`]: its day number is 95,745,399.
+///
+/// ```
+/// law::last_date() // (+262142-12-31, +262142-12-31)
+/// ```
 pub fn last_date() -> (NaiveDate, NaiveDate)
     ensures of_type { result.0 ≡ pos 95_745_399 }
     ensures of_crate { result.1 ≡ pos 95_745_399 }

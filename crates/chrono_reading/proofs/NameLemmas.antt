@@ -5,7 +5,7 @@ use Rattle.std.specs.Char.{to_ascii_lowercase}
 use Rattle.chrono_datetime.specs.WeekdayText.{weekday_text}
 use Rattle.chrono_datetime.specs.declared.Weekday.{Weekday}
 use Rattle.chrono_datetime.specs.declared.Weekday.TheVariants.{Mon, Tue, Wed, Thu, Fri, Sat, Sun}
-use Rattle.chrono_reading.specs.NameTexts.{IsNameText, IsWeekdayText, SameLetters}
+use Rattle.chrono_datetime.specs.Names.{IsNameText, IsWeekdayText, SameLetters}
 
 -- the first three letters of texts with the same letters
 cut_same : (text name : List ℕ) → SameLetters text name → SameLetters (take 3 name) (take 3 text)

@@ -16,7 +16,7 @@ use Rattle.chrono_text.specs.Text.{all_digits, two_digits, year_digits, year_tex
 use Rattle.chrono_datetime.specs.Time.{TimeOfDay}
 use Rattle.chrono_reading.specs.DateTexts.{IsDateText}
 use Rattle.chrono_reading.specs.DurationTexts.{IsDurationText, IsSecondsText}
-use Rattle.chrono_reading.specs.NameTexts.{IsNameText, weekday_name}
+use Rattle.chrono_datetime.specs.Names.{IsNameText, weekday_name}
 use Rattle.chrono_text.specs.Fractions.{IsFractionText}
 use Rattle.chrono_reading.specs.TimeTexts.{IsTimeText}
 use Rattle.chrono_reading.specs.DateErrors.{HasDateParts}

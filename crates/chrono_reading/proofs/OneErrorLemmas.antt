@@ -1,14 +1,15 @@
 -- A text has one error of a kind at most.
-use Rattle.std.proofs.Common.{◌⊎◌, inl, inr, ◌≡◌, ◌≢◌, ◌+◌, ◌^◌, ◌<◌, ℕ, ℤ, pos, unsigned_abs, List, [], ◌∷◌, ◌++◌, codes, length, get_or, drop, append_assoc, refl, sym, ap, ◌∙◌, arith}
+use Rattle.std.proofs.Common.{inl, inr, ◌≡◌, ◌+◌, ◌<◌, ℕ, ℤ, unsigned_abs, List, [], ◌∷◌, ◌++◌, codes, length, get_or, drop, append_assoc, refl, sym, ap, ◌∙◌, arith}
 use Rattle.std.proofs.lemmas.Int.{ints}
 use Rattle.chrono_datetime.specs.Fields.{IsIsoYear}
 use Rattle.chrono_datetime.specs.Years.{IsYear}
 use Rattle.chrono_text.specs.Text.{all_digits, calendar_text, two_digits, year_text}
 use Rattle.chrono_text.proofs.DigitLemmas.{all_digits-one}
 use Rattle.chrono_text.proofs.TextLemmas.{calendar_text_injective, same_parts}
-use Rattle.chrono_reading.specs.DateErrors.{HasDateParts, HasOrdinalParts, HasWeekParts, IsDateError, IsErrorByYear, IsOrdinalDateError, IsWeekDateError, calendar_error, ordinal_error, week_error}
-use Rattle.chrono_reading.specs.TimeErrors.{HasTimeParts, IsTimeError, clock_error}
+use Rattle.chrono_reading.specs.DateErrors.{IsDateError, IsErrorByYear, IsOrdinalDateError, IsWeekDateError, calendar_error, ordinal_error, week_error}
+use Rattle.chrono_reading.specs.TimeErrors.{IsTimeError}
 use Rattle.chrono_reading.specs.declared.error.ReadError.{ReadError}
+use Rattle.chrono_calendar.proofs.Years.{IsYear-small}
 
 -- the byte of a text at a place
 abbrev byte : ℕ → List ℕ → ℕ
@@ -29,9 +30,6 @@ by_year IsOne text other f g a b small same fg (inr p) (inl q) = absurd (q.0 p.0
 by_year IsOne text other f g a b small same fg (inr p) (inr q) =
     p.3 ∙ (ap f (year_one p.0 q.0 (small p.0 p.1) (small q.0 q.1) (p.2 ∙ (same ∙ sym q.2))) ∙ (fg q.0 ∙ sym q.3))
 
-year_small : (y : ℤ) → IsYear y → unsigned_abs y < 1_000_000
-year_small y is = omega (arith, ints)
-
 iso_year_small : (y : ℤ) → IsIsoYear y → unsigned_abs y < 1_000_000
 iso_year_small y is = omega (arith, ints)
 
@@ -47,7 +45,7 @@ date_one text a b (inr p) (inr q) =
     let parts = same_parts p.0 q.0 (45 ∷ two_digits p.1 ++ 45 ∷ two_digits p.2) (45 ∷ two_digits q.1 ++ 45 ∷ two_digits q.2) refl (sym (date_tail p.0 p.1 p.2) ∙ (p.3.written ∙ (sym q.3.written ∙ date_tail q.0 q.1 q.2))) in
     let month : p.1 ≡ q.1 = omega (arith, ap (byte 1) parts.1, ap (byte 2) parts.1) in
     let day : p.2 ≡ q.2 = omega (arith, ap (byte 4) parts.1, ap (byte 5) parts.1) in
-    by_year IsYear p.0 q.0 (λ y. calendar_error y p.1 p.2 (length p.0)) (λ y. calendar_error y q.1 q.2 (length q.0)) a b year_small parts.0
+    by_year IsYear p.0 q.0 (λ y. calendar_error y p.1 p.2 (length p.0)) (λ y. calendar_error y q.1 q.2 (length q.0)) a b IsYear-small parts.0
     (λ y. rw (parts.0, month, day) refl) p.4 q.4
 
 ordinal_tail : (year : List ℕ) (o : ℕ) → year ++ codes "-" ++ all_digits 3 o ≡ year ++ 45 ∷ all_digits 3 o
@@ -60,7 +58,7 @@ ordinal_one text a b (inr p) (inl q) = absurd (q.0 p.0 p.1 p.2)
 ordinal_one text a b (inr p) (inr q) =
     let parts = same_parts p.0 q.0 (45 ∷ all_digits 3 p.1) (45 ∷ all_digits 3 q.1) refl (sym (ordinal_tail p.0 p.1) ∙ (p.2.written ∙ (sym q.2.written ∙ ordinal_tail q.0 q.1))) in
     let ordinal : p.1 ≡ q.1 = all_digits-one 3 p.1 q.1 p.2.small q.2.small (ap (drop 1) parts.1) in
-    by_year IsYear p.0 q.0 (λ y. ordinal_error y p.1 (length p.0)) (λ y. ordinal_error y q.1 (length q.0)) a b year_small parts.0
+    by_year IsYear p.0 q.0 (λ y. ordinal_error y p.1 (length p.0)) (λ y. ordinal_error y q.1 (length q.0)) a b IsYear-small parts.0
     (λ y. rw (parts.0, ordinal) refl) p.3 q.3
 
 week_tail : (year : List ℕ) (w d : ℕ) → year ++ codes "-W" ++ two_digits w ++ codes "-" ++ (48 + d) ∷ [] ≡ year ++ (45 ∷ 87 ∷ two_digits w ++ 45 ∷ (48 + d) ∷ [])

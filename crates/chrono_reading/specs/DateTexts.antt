@@ -23,8 +23,8 @@ pub record IsOrdinalDateText (text : List ℕ) (n : ℤ) : Type 0 where
   pub names : date_of_yo year ordinal ≡ Some n
   pub written : ordinal_text year ordinal ≡ text
 
--- a text of the date n: the ISO year, the week of it from 1 to 53 and the weekday, from 1 for Monday, that name it (ISO 8601
--- week date)
+-- a text of the date n: the ISO year, its week from 1 to 53, and the weekday from 1 for Monday. They name the date (ISO
+-- 8601 week date)
 pub record IsWeekDateText (text : List ℕ) (n : ℤ) : Type 0 where
   pub year : ℤ
   pub week : ℕ

@@ -1,4 +1,3 @@
-pub mod NameTexts
 pub mod DateTexts
 pub mod TimeTexts
 pub mod DateTimeTexts

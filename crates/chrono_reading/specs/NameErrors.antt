@@ -2,6 +2,10 @@
 use Rattle.std.specs.Prelude.{◌≡◌, ◌==◌, ℕ, List, [], ◌∷◌, codes, nat_lt, if◌then◌else◌, refl}
 use Rattle.std.specs.Char.{to_ascii_lowercase}
 use Rattle.std.specs.List.{common_prefix_len}
+use Rattle.chrono_datetime.specs.Month.{month_name}
+use Rattle.chrono_datetime.specs.Names.{weekday_name}
+use Rattle.chrono_datetime.specs.declared.Month.TheVariants.{January, February, March, April, May, June, July, September, October, November, December}
+use Rattle.chrono_datetime.specs.declared.Weekday.TheVariants.{Mon, Tue, Wed, Thu, Fri, Sat, Sun}
 use Rattle.chrono_reading.specs.DateErrors.{error_at}
 use Rattle.chrono_reading.specs.declared.error.ReadCause.TheVariants.{UnknownName}
 use Rattle.chrono_reading.specs.declared.error.ReadError.{ReadError}
@@ -23,13 +27,13 @@ most_in_common (name ∷ next ∷ names) text = more_of (in_common name text) (m
 -- the error of a text that names no weekday: it begins behind what the text has in common with the best name
 unfoldable pub weekday_error : List ℕ → ReadError
 weekday_error text = error_at UnknownName (most_in_common
-    (codes "Monday" ∷ codes "Tuesday" ∷ codes "Wednesday" ∷ codes "Thursday" ∷ codes "Friday" ∷ codes "Saturday" ∷ codes "Sunday" ∷ []) text)
+    (weekday_name Mon ∷ weekday_name Tue ∷ weekday_name Wed ∷ weekday_name Thu ∷ weekday_name Fri ∷ weekday_name Sat ∷ weekday_name Sun ∷ []) text)
 
 -- the error of a text that names no month: it begins behind what the text has in common with the best name
 unfoldable pub month_error : List ℕ → ReadError
 month_error text = error_at UnknownName (most_in_common
-    (codes "January" ∷ codes "February" ∷ codes "March" ∷ codes "April" ∷ codes "May" ∷ codes "June" ∷ codes "July" ∷ codes "August"
-    ∷ codes "September" ∷ codes "October" ∷ codes "November" ∷ codes "December" ∷ []) text)
+    (month_name January ∷ month_name February ∷ month_name March ∷ month_name April ∷ month_name May ∷ month_name June ∷ month_name July ∷ codes "August"
+    ∷ month_name September ∷ month_name October ∷ month_name November ∷ month_name December ∷ []) text)
 
 -- known values: a letter that no name has there, one too many, and a name cut short
 weekday_error-letter : weekday_error (codes "Fryday") ≡ error_at UnknownName 2

@@ -1,4 +1,4 @@
-//! Date-times.
+//! Reads date-times.
 ghost use Rattle.std.specs.Prelude.{◌≡◌, ◌<◌, ℕ, Some, Ok, IfSome, IfNone, IfOk, IfErr, IsTrue, ◌↔◌, length, slice_index};
 ghost use Rattle.chrono_datetime.specs.Moment.{Moment};
 ghost use Rattle.chrono_reading.specs.DateTimeErrors.{IsDateTimeError};

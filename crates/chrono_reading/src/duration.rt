@@ -1,4 +1,4 @@
-//! Durations.
+//! Reads durations.
 ghost use Rattle.std.specs.Prelude.{◌≡◌, ◌≢◌, ◌<◌, ◌≤◌, ◌+◌, ◌*◌, ◌^◌, ◌++◌, ◌<ℤ◌, ℕ, ℤ, pos, Some, IfSome, IfNone, IsSomeAnd, IsTrue, ◌↔◌, ◌∷◌, List, codes, length, slice_index, unsigned_abs, Ok, IfOk, IfErr};
 ghost use Rattle.std.specs.Fmt.{decimal};
 ghost use Rattle.std.specs.Option.{SomeIff};

@@ -27,7 +27,7 @@ ghost use Rattle.chrono_reading.specs.DateTimeTexts.{IsDateTimeText, IsSeparator
 ghost use Rattle.chrono_reading.specs.DurationTexts.{IsDurationText, SameSeconds};
 ghost use Rattle.chrono_reading.specs.TimeTexts.{IsTimeText, SameClock};
 ghost use Rattle.chrono_reading.specs.DateTexts.{IsDateText, IsOrdinalDateText, IsWeekDateText};
-ghost use Rattle.chrono_reading.specs.NameTexts.{IsMonthText, IsNameText, IsWeekdayText};
+ghost use Rattle.chrono_datetime.specs.Names.{IsMonthText, IsNameText, IsWeekdayText};
 
 use crate::{
     read_date, read_date_time, read_duration, read_month, read_ordinal_date, read_time,

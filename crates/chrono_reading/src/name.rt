@@ -1,11 +1,9 @@
 //! The names of weekdays and months.
-ghost use Rattle.std.specs.Prelude.{◌≡◌, ◌∷◌, [], ◌≤◌, ◌⊎◌, Some, Ok, IfSome, IfNone, IfOk, IfErr, IsTrue, ◌↔◌, length, map, take, drop};
-ghost use Rattle.std.specs.Char.{to_ascii_lowercase};
-ghost use Rattle.chrono_datetime.specs.Month.{month_name};
+ghost use Rattle.std.specs.Prelude.{◌≡◌, Ok, IfOk, IfErr};
+ghost use Rattle.chrono_datetime.specs.Names.{IsMonthText, IsWeekdayText};
 ghost use Rattle.chrono_datetime.specs.declared.Month.{Month};
 ghost use Rattle.chrono_datetime.specs.declared.Weekday.{Weekday};
 ghost use Rattle.chrono_reading.specs.NameErrors.{in_common, month_error, more_of, weekday_error};
-ghost use Rattle.chrono_reading.specs.NameTexts.{IsMonthText, IsNameText, IsWeekdayText, weekday_name};
 
 use crate::error::{ReadCause, ReadError, error_at};
 use chrono_datetime::{Month, Weekday};
@@ -25,22 +23,9 @@ pub fn read_weekday(text: &[u8]) -> Result<Weekday, ReadError>
     ensures every { (d : Weekday) → IsWeekdayText text.now d → result ≡ Ok d }
     ensures error { IfErr result (λ e. e ≡ weekday_error text.now) }
 {
-    match weekday_named(text) {
+    match Weekday::from_name(text) {
         Some(weekday) => Ok(weekday),
         None => Err(weekday_error(text)),
-    }
-}
-
-// The weekday that the text names.
-fn weekday_named(text: &[u8]) -> Option<Weekday>
-    ensures read { IfSome result (λ d. IsWeekdayText text.now d) }
-    ensures every { (d : Weekday) → IsWeekdayText text.now d → result ≡ Some d }
-{
-    let weekday = weekday_of_letters(first_letters(text)?)?;
-    if is_name(text, weekday_name(weekday)) {
-        Some(weekday)
-    } else {
-        None
     }
 }
 
@@ -59,98 +44,9 @@ pub fn read_month(text: &[u8]) -> Result<Month, ReadError>
     ensures every { (m : Month) → IsMonthText text.now m → result ≡ Ok m }
     ensures error { IfErr result (λ e. e ≡ month_error text.now) }
 {
-    match month_named(text) {
+    match Month::from_name(text) {
         Some(month) => Ok(month),
         None => Err(month_error(text)),
-    }
-}
-
-// The month that the text names.
-fn month_named(text: &[u8]) -> Option<Month>
-    ensures read { IfSome result (λ m. IsMonthText text.now m) }
-    ensures every { (m : Month) → IsMonthText text.now m → result ≡ Some m }
-{
-    let month = month_of_letters(first_letters(text)?)?;
-    if is_name(text, month.name().as_bytes()) {
-        Some(month)
-    } else {
-        None
-    }
-}
-
-// The first three letters of a text, in lower case.
-fn first_letters(text: &[u8]) -> Option<[u8; 3]>
-    ensures some { IfSome result (λ letters. letters ≡ take 3 (map to_ascii_lowercase text.now)) }
-    ensures none { IfNone result (length text.now ≤ 2) }
-{
-    if let [first, second, third, ..] = text {
-        Some([
-            first.to_ascii_lowercase(),
-            second.to_ascii_lowercase(),
-            third.to_ascii_lowercase(),
-        ])
-    } else {
-        None
-    }
-}
-
-// Whether a text is this name of three letters or more, or its first three, in letters of any case.
-fn is_name(text: &[u8], name: &[u8]) -> bool
-    requires { 3 ≤ length name.now }
-    ensures { IsTrue result ↔ IsNameText text.now name.now }
-{
-    text.eq_ignore_ascii_case(name) || text.eq_ignore_ascii_case(&name[..3])
-}
-
-// The English name of a weekday.
-fn weekday_name(weekday: Weekday) -> &'static [u8]
-    ensures { result.now ≡ weekday_name weekday }
-{
-    match weekday {
-        Weekday::Mon => b"Monday",
-        Weekday::Tue => b"Tuesday",
-        Weekday::Wed => b"Wednesday",
-        Weekday::Thu => b"Thursday",
-        Weekday::Fri => b"Friday",
-        Weekday::Sat => b"Saturday",
-        Weekday::Sun => b"Sunday",
-    }
-}
-
-// The weekday whose name begins with these small letters, if one does.
-fn weekday_of_letters(letters: [u8; 3]) -> Option<Weekday>
-    ensures { (d : Weekday) → letters ≡ take 3 (map to_ascii_lowercase (weekday_name d)) → result ≡ Some d }
-{
-    match &letters {
-        b"mon" => Some(Weekday::Mon),
-        b"tue" => Some(Weekday::Tue),
-        b"wed" => Some(Weekday::Wed),
-        b"thu" => Some(Weekday::Thu),
-        b"fri" => Some(Weekday::Fri),
-        b"sat" => Some(Weekday::Sat),
-        b"sun" => Some(Weekday::Sun),
-        _ => None,
-    }
-}
-
-// The month whose name begins with these small letters, if one does.
-fn month_of_letters(letters: [u8; 3]) -> Option<Month>
-    ensures { (m : Month) → letters ≡ take 3 (map to_ascii_lowercase (month_name m)) → result ≡ Some m }
-{
-    match &letters {
-        b"jan" => Some(Month::January),
-        b"feb" => Some(Month::February),
-        b"mar" => Some(Month::March),
-        b"apr" => Some(Month::April),
-        b"may" => Some(Month::May),
-        b"jun" => Some(Month::June),
-        b"jul" => Some(Month::July),
-        b"aug" => Some(Month::August),
-        b"sep" => Some(Month::September),
-        b"oct" => Some(Month::October),
-        b"nov" => Some(Month::November),
-        b"dec" => Some(Month::December),
-        _ => None,
     }
 }
 
@@ -160,13 +56,13 @@ fn month_of_letters(letters: [u8; 3]) -> Option<Month>
 fn weekday_error(text: &[u8]) -> ReadError
     ensures { result ≡ weekday_error text.now }
 {
-    let most = in_common(b"Sunday", text);
-    let most = more_of(in_common(b"Saturday", text), most);
-    let most = more_of(in_common(b"Friday", text), most);
-    let most = more_of(in_common(b"Thursday", text), most);
-    let most = more_of(in_common(b"Wednesday", text), most);
-    let most = more_of(in_common(b"Tuesday", text), most);
-    let most = more_of(in_common(b"Monday", text), most);
+    let most = in_common(Weekday::Sun.name().as_bytes(), text);
+    let most = more_of(in_common(Weekday::Sat.name().as_bytes(), text), most);
+    let most = more_of(in_common(Weekday::Fri.name().as_bytes(), text), most);
+    let most = more_of(in_common(Weekday::Thu.name().as_bytes(), text), most);
+    let most = more_of(in_common(Weekday::Wed.name().as_bytes(), text), most);
+    let most = more_of(in_common(Weekday::Tue.name().as_bytes(), text), most);
+    let most = more_of(in_common(Weekday::Mon.name().as_bytes(), text), most);
     error_at(ReadCause::UnknownName, most)
 }
 
@@ -176,18 +72,18 @@ fn weekday_error(text: &[u8]) -> ReadError
 fn month_error(text: &[u8]) -> ReadError
     ensures { result ≡ month_error text.now }
 {
-    let most = in_common(b"December", text);
-    let most = more_of(in_common(b"November", text), most);
-    let most = more_of(in_common(b"October", text), most);
-    let most = more_of(in_common(b"September", text), most);
-    let most = more_of(in_common(b"August", text), most);
-    let most = more_of(in_common(b"July", text), most);
-    let most = more_of(in_common(b"June", text), most);
-    let most = more_of(in_common(b"May", text), most);
-    let most = more_of(in_common(b"April", text), most);
-    let most = more_of(in_common(b"March", text), most);
-    let most = more_of(in_common(b"February", text), most);
-    let most = more_of(in_common(b"January", text), most);
+    let most = in_common(Month::December.name().as_bytes(), text);
+    let most = more_of(in_common(Month::November.name().as_bytes(), text), most);
+    let most = more_of(in_common(Month::October.name().as_bytes(), text), most);
+    let most = more_of(in_common(Month::September.name().as_bytes(), text), most);
+    let most = more_of(in_common(Month::August.name().as_bytes(), text), most);
+    let most = more_of(in_common(Month::July.name().as_bytes(), text), most);
+    let most = more_of(in_common(Month::June.name().as_bytes(), text), most);
+    let most = more_of(in_common(Month::May.name().as_bytes(), text), most);
+    let most = more_of(in_common(Month::April.name().as_bytes(), text), most);
+    let most = more_of(in_common(Month::March.name().as_bytes(), text), most);
+    let most = more_of(in_common(Month::February.name().as_bytes(), text), most);
+    let most = more_of(in_common(Month::January.name().as_bytes(), text), most);
     error_at(ReadCause::UnknownName, most)
 }
 

@@ -1,4 +1,4 @@
-//! Ordinal dates.
+//! Reads ordinal dates.
 ghost use Rattle.std.specs.Prelude.{◌≡◌, ◌<◌, ◌≤◌, ◌+◌, length, ◌^◌, ◌∷◌, ℕ, ℤ, List, Some, Ok, IfSome, IfNone, IfOk, IfErr};
 ghost use Rattle.std.specs.Str.{byte};
 ghost use Rattle.chrono_datetime.specs.Years.{IsYear, year_length};

@@ -1,4 +1,4 @@
-//! Times of day.
+//! Reads times of day.
 ghost use Rattle.std.specs.Prelude.{◌≡◌, ◌<◌, ◌≤◌, ◌∷◌, ◌++◌, ℕ, length, Some, Ok, IfSome, IfNone, IfOk, IfErr};
 ghost use Rattle.std.specs.Option.{SomeIff};
 ghost use Rattle.std.specs.Str.{byte};

@@ -1,4 +1,4 @@
-//! Week dates.
+//! Reads week dates.
 ghost use Rattle.std.specs.Prelude.{◌≡◌, ◌≢◌, ◌+◌, ◌<◌, ◌≤◌, length, ◌^◌, ◌∷◌, ◌++◌, [], ℕ, ℤ, List, Some, Ok, IfSome, IfNone, IfOk, IfErr};
 ghost use Rattle.std.specs.Int.{IsInRange};
 ghost use Rattle.std.specs.Str.{byte};

@@ -9,7 +9,7 @@ use Rattle.chrono_datetime.proofs.Signed.{signed}
 use Rattle.chrono_rules.specs.Instances.{is_counted, is_instance, is_member}
 use Rattle.chrono_rules.specs.InstanceLists.{may_follow, seen_before, seen_with}
 use Rattle.chrono_rules.specs.declared.rule.End.{End}
-use Rattle.chrono_rules.specs.declared.rule.End.TheVariants.{Never, Count, Until}
+use Rattle.chrono_rules.specs.declared.rule.End.TheVariants.{Count, Never, Until}
 use Rattle.chrono_rules.specs.declared.rule.Rule.{Rule}
 
 pub counted-next : (p : ℤ → Bool) (a b c : ℤ) (n m : ℕ) → n ≡ count_between p a b → m ≡ n + cond (p b) 1 0 → a ≤ℤ b → c ≡ b +ℤ pos 1 → m ≡ count_between p a c

@@ -10,9 +10,9 @@ use Rattle.chrono_datetime.specs.Days.{date_of_ymd, day_of, month_of, year_of}
 use Rattle.chrono_datetime.specs.Years.{is_leap_year}
 use Rattle.chrono_datetime.proofs.NamedDates.{IsDate-year, calendar_name-exists, date_of_ymd-again}
 use Rattle.chrono_datetime.proofs.Signed.{signed}
-use Rattle.chrono_rules.specs.Pieces.{count_of, digits_of, up_to, with_digits}
+use Rattle.chrono_rules.specs.Digits.{count_of, digits_of, up_to, with_digits}
 use Rattle.chrono_rules.specs.RuleTexts.{above_0, date_of, interval_of}
-use Rattle.chrono_rules.specs.WrittenRules.{day_text, four_digits}
+use Rattle.chrono_rules.specs.WrittenRules.{basic_date_text, four_digits}
 use Rattle.chrono_rules.proofs.ListsBack.{decimal_back}
 use Rattle.chrono_rules.proofs.WordBytes.{are_word_bytes, is_digit, is_word_byte}
 
@@ -77,7 +77,7 @@ name_small n =
     let few = length_few (is_leap_year (year_of n)) (m == 2) ((m == 4) || (m == 6) || (m == 9) || (m == 11)) in
     (omega (arith, name.0.1), omega (arith, name.1.1, few))
 
-pub day_back : (n : ℤ) → pos 0 ≤ℤ year_of n → year_of n ≤ℤ pos 9_999 → date_of (day_text n) ≡ Some n
+pub day_back : (n : ℤ) → pos 0 ≤ℤ year_of n → year_of n ≤ℤ pos 9_999 → date_of (basic_date_text n) ≡ Some n
 day_back n low high =
     let year = year_digits (year_of n) low high in
     let size = name_small n in
@@ -93,7 +93,7 @@ two_words n rest small are =
     let low = is_digit (48 + n % 10) (omega arith) (omega arith) in
     and_from (is_word_byte (48 + n / 10)) (are_word_bytes ((48 + n % 10) ∷ rest)) high (and_from (is_word_byte (48 + n % 10)) (are_word_bytes rest) low are)
 
-pub day_words : (n : ℤ) → pos 0 ≤ℤ year_of n → year_of n ≤ℤ pos 9_999 → are_word_bytes (day_text n) ≡ true
+pub day_words : (n : ℤ) → pos 0 ≤ℤ year_of n → year_of n ≤ℤ pos 9_999 → are_word_bytes (basic_date_text n) ≡ true
 day_words n low high =
     let year = year_digits (year_of n) low high in
     let size = name_small n in

@@ -6,14 +6,14 @@ use Rattle.std.specs.Str.{IsAscii}
 use Rattle.std.proofs.lemmas.Bool.{and_parts, ltb-true}
 use Rattle.std.proofs.lemmas.Str.{IsAscii-append}
 use Rattle.std.proofs.lemmas.Str.Ascii.{IsAscii-nil, IsAscii-cons}
-use Rattle.chrono_rules.specs.declared.error.RuleError.{RuleError}
-use Rattle.chrono_rules.specs.declared.error.RuleFault.{RuleFault}
-use Rattle.chrono_rules.specs.declared.error.RuleFault.TheVariants.{Unknown, OfHours, OfMinutes, OfSeconds, Missing, Twice, Empty, NotAFrequency, NotANumber, OutOfRange, NotADate, NotAWeekday, BesideCount, NotWith, NumbersNotWith, NumbersBesideWeeks, Alone}
-use Rattle.chrono_rules.specs.declared.error.RulePart.{RulePart}
-use Rattle.chrono_rules.specs.declared.error.RulePart.TheVariants.{Freq, Interval, Count, Until, ByMonth, ByMonthDay, ByDay, ByYearDay, ByWeekNo, BySetPos, Wkst}
+use Rattle.chrono_rules.specs.declared.text.rule_error.RuleError.{RuleError}
+use Rattle.chrono_rules.specs.declared.text.rule_error.RuleFault.{RuleFault}
+use Rattle.chrono_rules.specs.declared.text.rule_error.RuleFault.TheVariants.{Alone, BesideCount, Blank, Empty, Extension, Missing, NotADate, NotAFrequency, NotANumber, NotAWeekday, NotWith, NumbersBesideWeeks, NumbersNotWith, OfCalendars, OfHours, OfMinutes, OfSeconds, OfSkips, OutOfRange, Range, Twice, Unknown, WithTime}
+use Rattle.chrono_rules.specs.declared.text.rule_error.RulePart.{RulePart}
+use Rattle.chrono_rules.specs.declared.text.rule_error.RulePart.TheVariants.{ByDay, ByMonth, ByMonthDay, BySetPos, ByWeekNo, ByYearDay, Count, Freq, Interval, Until, Wkst}
 use Rattle.chrono_rules.specs.declared.rule.Frequency.{Frequency}
-use Rattle.chrono_rules.specs.declared.rule.Frequency.TheVariants.{Daily, Weekly, Monthly, Yearly}
-use Rattle.chrono_rules.specs.RuleErrors.{error_text, fault_frequency, fault_text, fault_words, frequency_behind, frequency_text, in_front, part_name}
+use Rattle.chrono_rules.specs.declared.rule.Frequency.TheVariants.{Daily, Monthly, Weekly, Yearly}
+use Rattle.chrono_rules.specs.RuleErrors.{fault_frequency, fault_words, frequency_behind, frequency_text, in_front, part_name, rule_error_text, rule_fault_text}
 
 -- a test that computes
 abbrev pub is_low : ℕ → Bool
@@ -56,6 +56,12 @@ words_low Unknown = refl
 words_low OfHours = refl
 words_low OfMinutes = refl
 words_low OfSeconds = refl
+words_low Extension = refl
+words_low OfCalendars = refl
+words_low OfSkips = refl
+words_low Blank = refl
+words_low Range = refl
+words_low WithTime = refl
 words_low Missing = refl
 words_low Twice = refl
 words_low Empty = refl
@@ -74,8 +80,8 @@ front_ascii : (o : Option RulePart) → IsAscii (in_front o)
 front_ascii None = IsAscii-nil
 front_ascii (Some part) = IsAscii-append (part_name part) (codes ": ") (low_ascii (part_name part) (name_low part)) (low_ascii (codes ": ") refl)
 
-pub error_ascii : (e : RuleError) → IsAscii (error_text e)
-unfolding error_text
+pub error_ascii : (e : RuleError) → IsAscii (rule_error_text e)
+unfolding rule_error_text
 error_ascii e =
-    IsAscii-append (in_front e.part) (fault_text e.fault) (front_ascii e.part)
+    IsAscii-append (in_front e.part) (rule_fault_text e.fault) (front_ascii e.part)
     (IsAscii-append (fault_words e.fault) (frequency_behind (fault_frequency e.fault)) (low_ascii (fault_words e.fault) (words_low e.fault)) (behind_ascii (fault_frequency e.fault)))

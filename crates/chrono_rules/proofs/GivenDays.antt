@@ -3,22 +3,23 @@ use Rattle.std.proofs.Common.{◌≡◌, Bool, true, false, ◌||◌, ◌&&◌, 
 use Rattle.std.proofs.lemmas.Int.{by_lt_z}
 use Rattle.chrono_datetime.proofs.Signed.{signed}
 use Rattle.chrono_rules.specs.Instances.{is_instance}
-use Rattle.chrono_rules.specs.RecurrenceSets.{RecurrenceSet, is_given, is_in_recurrence, is_listed}
+use Rattle.chrono_datetime.specs.RisingDates.{is_listed}
+use Rattle.chrono_rules.specs.RecurrenceSets.{RecurrenceSet, is_in_recurrence, is_instance_or_date}
 
 either-second : (a b : Bool) → b ≡ true → (a || b) ≡ true
 either-second true b is = refl
 either-second false b is = is
 
-pub given-instance : (s : RecurrenceSet) (e : ℤ) → is_instance s.rule s.start e ≡ true → is_given s e ≡ true
-unfolding is_given
+pub given-instance : (s : RecurrenceSet) (e : ℤ) → is_instance s.rule s.start e ≡ true → is_instance_or_date s e ≡ true
+unfolding is_instance_or_date
 given-instance s e is = rw is refl
 
-pub given-date : (s : RecurrenceSet) (e : ℤ) → is_listed s.dates e ≡ true → is_given s e ≡ true
-unfolding is_given
+pub given-date : (s : RecurrenceSet) (e : ℤ) → is_listed s.dates e ≡ true → is_instance_or_date s e ≡ true
+unfolding is_instance_or_date
 given-date s e is = either-second (is_instance s.rule s.start e) (is_listed s.dates e) is
 
-pub not_given : (s : RecurrenceSet) (d : ℤ) → is_instance s.rule s.start d ≡ false → is_listed s.dates d ≡ false → is_given s d ≡ false
-unfolding is_given
+pub not_given : (s : RecurrenceSet) (d : ℤ) → is_instance s.rule s.start d ≡ false → is_listed s.dates d ≡ false → is_instance_or_date s d ≡ false
+unfolding is_instance_or_date
 not_given s d instance listed = rw (instance, listed) refl
 
 and-false : (b : Bool) → (b && false) ≡ false
@@ -28,13 +29,13 @@ and-false false = refl
 -- an exception is not in the recurrence, nor is a day that is not given
 pub excepted : (s : RecurrenceSet) (d : ℤ) → is_listed s.exceptions d ≡ true → is_in_recurrence s d ≡ false
 unfolding is_in_recurrence
-excepted s d is = ap (λ b. is_given s d && not b) is ∙ and-false (is_given s d)
+excepted s d is = ap (λ b. is_instance_or_date s d && not b) is ∙ and-false (is_instance_or_date s d)
 
-pub not_in : (s : RecurrenceSet) (d : ℤ) → is_given s d ≡ false → is_in_recurrence s d ≡ false
+pub not_in : (s : RecurrenceSet) (d : ℤ) → is_instance_or_date s d ≡ false → is_in_recurrence s d ≡ false
 unfolding is_in_recurrence
 not_in s d none = rw none refl
 
-pub in_recurrence : (s : RecurrenceSet) (e : ℤ) → is_given s e ≡ true → is_listed s.exceptions e ≡ false → is_in_recurrence s e ≡ true
+pub in_recurrence : (s : RecurrenceSet) (e : ℤ) → is_instance_or_date s e ≡ true → is_listed s.exceptions e ≡ false → is_in_recurrence s e ≡ true
 unfolding is_in_recurrence
 in_recurrence s e given kept = rw (given, kept) refl
 

@@ -3,7 +3,7 @@ use Rattle.std.proofs.Common.{◌≡◌, ℕ, ◌==◌, Bool, true, false, not, 
 use Rattle.std.specs.List.{join_with_byte, list_all}
 use Rattle.std.proofs.lemmas.Bool.{and_from, and_parts, not-true}
 use Rattle.std.proofs.lemmas.List.Folds.{list_all-append}
-use Rattle.chrono_rules.specs.Pieces.{begun, pieces}
+use Rattle.chrono_rules.specs.Split.{begun, pieces}
 use Rattle.chrono_rules.specs.WrittenRules.{behind}
 use Rattle.chrono_rules.proofs.ListLemmas.{join_behind}
 

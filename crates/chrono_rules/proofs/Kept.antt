@@ -7,7 +7,7 @@ use Rattle.chrono_datetime.proofs.Signed.{signed}
 use Rattle.chrono_rules.specs.Instances.{is_counted, is_instance, is_member}
 use Rattle.chrono_rules.specs.InstanceLists.{IsKept, may_follow, seen_before, seen_with}
 use Rattle.chrono_rules.specs.declared.rule.End.{End}
-use Rattle.chrono_rules.specs.declared.rule.End.TheVariants.{Never, Count, Until}
+use Rattle.chrono_rules.specs.declared.rule.End.TheVariants.{Count, Never, Until}
 use Rattle.chrono_rules.specs.declared.rule.Rule.{Rule}
 use Rattle.chrono_rules.proofs.Counts.{ended-later, first_follows, none_follows, not_counted, seen-kept}
 use Rattle.chrono_rules.proofs.Walks.{walk-seen}

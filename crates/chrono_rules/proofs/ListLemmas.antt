@@ -1,10 +1,11 @@
 -- Items of lists one after another, and texts behind separators.
 use Rattle.std.proofs.Common.{◌≡◌, ℕ, zero, suc, ◌+◌, ◌-◌, ◌<◌, ◌≤◌, Bool, true, false, ◌||◌, if◌then◌else◌, List, [], ◌∷◌, ◌++◌, refl, sym, ap, ◌∙◌, arith, append_assoc, append-nil, drop, get_or, length}
 use Rattle.std.specs.List.{join_with_byte}
-use Rattle.chrono_rules.specs.declared.listing.Listed.{Listed}
-use Rattle.chrono_rules.specs.declared.listing.Listed.TheVariants.{Numbers, Places}
-use Rattle.chrono_rules.specs.declared.listing.Naming.{Naming}
-use Rattle.chrono_rules.specs.declared.listing.Naming.TheVariants.{Numbered}
+use Rattle.chrono_sets.specs.Numbers.{Numbers, no_numbers}
+use Rattle.chrono_rules.specs.declared.text.list_writer.ListedSet.{ListedSet}
+use Rattle.chrono_rules.specs.declared.text.list_writer.ListedSet.TheVariants.{Large, Small}
+use Rattle.chrono_rules.specs.declared.text.list_writer.Naming.{Naming}
+use Rattle.chrono_rules.specs.declared.text.list_writer.Naming.TheVariants.{Numbered}
 use Rattle.chrono_rules.specs.WrittenRules.{behind, item_at, items, limit, listed_on, numbered_items, part_unless, some_in, text_unless}
 
 -- behind a first text, each of the others has a separator
@@ -36,14 +37,14 @@ part_behind true name value = refl
 part_behind false name value = append-nil ((59 ∷ name) ++ value)
 
 -- one item of the rest of a list
-pub items_next : (listed : Listed) (naming : Naming) (from_end : Bool) (end n : ℕ) → n < end
+pub items_next : (listed : Numbers) (naming : Naming) (from_end : Bool) (end n : ℕ) → n < end
     → items listed naming from_end (end - n) n ≡ item_at listed naming from_end n ++ items listed naming from_end (end - (n + 1)) (n + 1)
 unfolding items
 items_next listed naming from_end end n less =
     let one : end - n ≡ suc (end - (n + 1)) = omega (arith, less) in
     ap (λ count. items listed naming from_end count n) one
 
-pub items_end : (listed : Listed) (naming : Naming) (from_end : Bool) (end n : ℕ) → end ≤ n → items listed naming from_end (end - n) n ≡ []
+pub items_end : (listed : Numbers) (naming : Naming) (from_end : Bool) (end n : ℕ) → end ≤ n → items listed naming from_end (end - n) n ≡ []
 unfolding items
 items_end listed naming from_end end n past =
     let none : end - n ≡ 0 = omega (arith, past) in
@@ -79,25 +80,25 @@ pub sign_short : (wanted : Bool) (byte : ℕ) → length (if wanted then byte �
 sign_short true byte = omega arith
 sign_short false byte = omega arith
 
-pub limit_within : (listed : Listed) → limit listed ≤ 384
+pub limit_within : (listed : ListedSet) → limit listed ≤ 384
 unfolding limit
-limit_within (Numbers set) = omega arith
-limit_within (Places set) = omega arith
+limit_within (Small set) = omega arith
+limit_within (Large set) = omega arith
 
 -- the weekdays that are left
-pub numbered_next : (from_end : Bool) (words : List ℕ) (w v : ℕ) → w < length words
-    → numbered_items from_end (drop w words) v ≡ items (Numbers (record { digits = get_or words w 0 })) (Numbered v) from_end 53 1 ++ numbered_items from_end (drop (suc w) words) (v + 1)
+pub numbered_next : (from_end : Bool) (sets : List Numbers) (w v : ℕ) → w < length sets
+    → numbered_items from_end (drop w sets) v ≡ items (get_or sets w no_numbers) (Numbered v) from_end 53 1 ++ numbered_items from_end (drop (suc w) sets) (v + 1)
 unfolding numbered_items
 numbered_next from_end [] w v less = absurd (omega (arith, less))
-numbered_next from_end (digits ∷ words) zero v less = refl
-numbered_next from_end (digits ∷ words) (suc w) v less = numbered_next from_end words w v (omega (arith, less))
+numbered_next from_end (set ∷ sets) zero v less = refl
+numbered_next from_end (set ∷ sets) (suc w) v less = numbered_next from_end sets w v (omega (arith, less))
 
-pub numbered_end : (from_end : Bool) (words : List ℕ) (w v : ℕ) → length words ≤ w → numbered_items from_end (drop w words) v ≡ []
+pub numbered_end : (from_end : Bool) (sets : List Numbers) (w v : ℕ) → length sets ≤ w → numbered_items from_end (drop w sets) v ≡ []
 unfolding numbered_items
 numbered_end from_end [] zero v past = refl
 numbered_end from_end [] (suc w) v past = refl
-numbered_end from_end (digits ∷ words) zero v past = absurd (omega (arith, past))
-numbered_end from_end (digits ∷ words) (suc w) v past = numbered_end from_end words w v (omega (arith, past))
+numbered_end from_end (set ∷ sets) zero v past = absurd (omega (arith, past))
+numbered_end from_end (set ∷ sets) (suc w) v past = numbered_end from_end sets w v (omega (arith, past))
 
 -- a list's part that the rule has, and what is put for parts one after another
 pub part_put : (old mid new name value : List ℕ) (lacks : Bool) → lacks ≡ false → mid ≡ old ++ name → new ≡ mid ++ value → new ≡ old ++ text_unless lacks (name ++ value)

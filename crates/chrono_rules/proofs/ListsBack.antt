@@ -1,27 +1,24 @@
 -- Lists of numbers that are written are read back.
-use Rattle.std.proofs.Common.{◌≡◌, ℕ, zero, suc, ◌+◌, ◌-◌, ◌*◌, ◌%◌, ◌^◌, ◌<◌, ◌≤◌, ◌==◌, nat_le, nat_lt, Bool, true, false, ◌&&◌, if◌then◌else◌, List, [], ◌∷◌, ◌++◌, length, Option, Some, None, refl, sym, ap, ◌∙◌, arith, bit_or, bit_and}
+use Rattle.std.proofs.Common.{◌≡◌, ℕ, zero, suc, ◌+◌, ◌-◌, ◌*◌, ◌^◌, ◌<◌, ◌≤◌, ◌==◌, nat_le, nat_lt, Bool, true, false, ◌&&◌, ◌||◌, if◌then◌else◌, List, [], ◌∷◌, ◌++◌, length, Option, Some, None, refl, sym, ap, ◌∙◌, subst, inl, inr, arith}
 use Rattle.std.specs.Char.{is_ascii_digit}
 use Rattle.std.specs.Fmt.{decimal, sign_text}
-use Rattle.std.specs.Int.{bit_at}
 use Rattle.std.specs.Option.{option_and_then, option_map}
 use Rattle.std.specs.Str.{all_ascii_digits}
-use Rattle.std.proofs.Math.Nat.{mod-eq_of_lt, mod-lt}
-use Rattle.std.proofs.lemmas.Bool.{and_from, and_parts, eqb-true, eqb-false, false≢true, le-leb, leb-true, ltb-true}
+use Rattle.std.proofs.lemmas.Bool.{and_from, and_parts, cases_lt, false≢true, le-leb, le-ltb, leb-true, lt-ltb, ne_eqb}
+use Rattle.std.proofs.lemmas.Bool.Decides.{nat_tests}
 use Rattle.std.proofs.lemmas.Fmt.{decimal_nonempty, digits_decimal, digits_value-decimal, length-decimal-le}
 use Rattle.std.proofs.lemmas.Option.{same_Some}
-use Rattle.std.proofs.lemmas.Nat.{mod-pow-add, or_disjoint, pow_pos}
-use Rattle.std.proofs.lemmas.Nat.Bits.{and_pow, bit_at-lt, bit_at_above}
-use Rattle.chrono_rules.specs.declared.listing.Listed.TheVariants.{Numbers}
-use Rattle.chrono_rules.specs.declared.listing.Naming.{Naming}
-use Rattle.chrono_rules.specs.declared.listing.Naming.TheVariants.{Number}
-use Rattle.chrono_rules.specs.declared.place_text.BothEnds.{BothEnds}
-use Rattle.chrono_rules.specs.declared.places.NumberSet.{NumberSet}
-use Rattle.chrono_rules.specs.Instances.{has, no_numbers}
-use Rattle.chrono_rules.specs.Pieces.{digits_of, through, with_digits}
-use Rattle.chrono_rules.specs.Places.{ends_of, from_one, no_ends, number_of, place, place_of, with_number, with_place, with_place_text}
-use Rattle.chrono_rules.specs.RuleTexts.{months_of, with_month_text}
-use Rattle.chrono_rules.specs.ToldRules.{lie_within}
-use Rattle.chrono_rules.specs.WrittenRules.{both_items, item_text, items, list_text, lists}
+use Rattle.chrono_sets.specs.Numbers.{Numbers, has, is_empty, lies_within, no_numbers, with_number}
+use Rattle.chrono_sets.proofs.Members.{has-no_numbers, has-with_number, lies_within-has, same_set}
+use Rattle.chrono_rules.specs.Digits.{digits_of, with_digits}
+use Rattle.chrono_rules.specs.NumberLists.{ends_of, from_one, listed_number, month_list_of, no_ends, no_year_ends, signed_number, signed_number_of, with_month_text, with_signed, with_signed_day, with_signed_text, with_year_text, year_ends_of}
+use Rattle.chrono_rules.specs.Split.{through}
+use Rattle.chrono_rules.specs.WritableRules.{is_from_one_to}
+use Rattle.chrono_rules.specs.WrittenRules.{both_items, item_text, items, list_text}
+use Rattle.chrono_rules.specs.declared.text.list_writer.Naming.{Naming}
+use Rattle.chrono_rules.specs.declared.text.list_writer.Naming.TheVariants.{Number}
+use Rattle.chrono_rules.specs.declared.text.number_list.BothEnds.{BothEnds}
+use Rattle.chrono_rules.specs.declared.text.year_day_list.YearEnds.{YearEnds}
 use Rattle.chrono_rules.proofs.JoinedTexts.{pieces_joined}
 use Rattle.chrono_rules.proofs.WordBytes.{both_words, items_words, own, read_on, words_lack}
 
@@ -43,14 +40,14 @@ digits_back most n fits short =
     let is = and_from (nat_le 1 (length (decimal n))) (nat_le (length (decimal n)) most) (le-leb 1 (length (decimal n)) (decimal_nonempty n fits)) (le-leb (length (decimal n)) most short) in
     ap (λ t. if t then with_digits 0 (decimal n) else None) is ∙ decimal_back n fits
 
-number_back : (digits most n : ℕ) → n < 2 ^ 64 → 1 ≤ n → n ≤ most → length (decimal n) ≤ digits → number_of digits most (decimal n) ≡ Some n
-unfolding number_of
+number_back : (digits most n : ℕ) → n < 2 ^ 64 → 1 ≤ n → n ≤ most → length (decimal n) ≤ digits → listed_number digits most (decimal n) ≡ Some n
+unfolding listed_number
 number_back digits most n fits some within short =
     ap (option_and_then (from_one most)) (digits_back digits n fits short)
     ∙ ap (λ t. if t then Some n else None) (and_from (nat_le 1 n) (nat_le n most) (le-leb 1 n some) (le-leb n most within))
 
-plain_place : (digits most : ℕ) (text : List ℕ) → all_ascii_digits text ≡ true → 0 < length text → place_of digits most text ≡ option_map (place false) (number_of digits most text)
-unfolding place_of
+plain_place : (digits most : ℕ) (text : List ℕ) → all_ascii_digits text ≡ true → 0 < length text → signed_number_of digits most text ≡ option_map (signed_number false) (listed_number digits most text)
+unfolding signed_number_of
 plain_place digits most [] are some = absurd (omega (arith, some))
 plain_place digits most (b ∷ bs) are some =
     let parts = and_parts (is_ascii_digit b) (all_ascii_digits bs) are in
@@ -59,31 +56,53 @@ plain_place digits most (b ∷ bs) are some =
     let plus : (b == 43) ≡ false = grind arith in
     rw (minus, plus) refl
 
-pub place_back : (from_end : Bool) (digits most n : ℕ) → n < 2 ^ 64 → 1 ≤ n → n ≤ most → length (decimal n) ≤ digits → place_of digits most (sign_text from_end ++ decimal n) ≡ Some (place from_end n)
-unfolding place_of
-place_back true digits most n fits some within short = ap (option_map (place true)) (number_back digits most n fits some within short)
+pub place_back : (from_end : Bool) (digits most n : ℕ) → n < 2 ^ 64 → 1 ≤ n → n ≤ most → length (decimal n) ≤ digits → signed_number_of digits most (sign_text from_end ++ decimal n) ≡ Some (signed_number from_end n)
+unfolding signed_number_of
+place_back true digits most n fits some within short = ap (option_map (signed_number true)) (number_back digits most n fits some within short)
 place_back false digits most n fits some within short =
-    plain_place digits most (decimal n) (digits_decimal own n fits) (decimal_nonempty n fits) ∙ ap (option_map (place false)) (number_back digits most n fits some within short)
+    plain_place digits most (decimal n) (digits_decimal own n fits) (decimal_nonempty n fits) ∙ ap (option_map (signed_number false)) (number_back digits most n fits some within short)
 
--- ---- binary digits, one after another from the lowest
+-- ---- the members of a set below a number, one after another
 
-next_low : (d n : ℕ) → d % 2 ^ (n + 1) ≡ bit_at d n * 2 ^ n + d % 2 ^ n
-next_low d n =
-    let turned : n + 1 ≡ 1 + n = omega arith in
-    ap (λ k. d % 2 ^ k) turned ∙ mod-pow-add d 1 n
+-- the members of s are those of t below n
+abbrev IsBelow : Numbers → Numbers → ℕ → Type 0
+IsBelow s t n = (k : ℕ) → has s k ≡ (has t k && nat_lt k n)
 
-pub with_bit : (d n : ℕ) → bit_at d n ≡ 1 → bit_or (d % 2 ^ n) (2 ^ n) ≡ d % 2 ^ (n + 1)
-with_bit d n is =
-    let small : d % 2 ^ n < 2 ^ n = mod-lt d (pow_pos n) in
-    let gone : 0 * 2 ^ n ≡ 0 = omega arith in
-    let none : bit_and (d % 2 ^ n) (2 ^ n) ≡ 0 = and_pow (d % 2 ^ n) n ∙ ap (λ b. b * 2 ^ n) (bit_at_above (d % 2 ^ n) n n small (omega arith)) ∙ gone in
-    let one : 1 * 2 ^ n + d % 2 ^ n ≡ d % 2 ^ n + 2 ^ n = omega arith in
-    or_disjoint (d % 2 ^ n) (2 ^ n) none ∙ sym (next_low d n ∙ ap (λ b. b * 2 ^ n + d % 2 ^ n) is ∙ one)
+-- a test of numbers below n, and of those up to n
+one_more : (b : Bool) (k n : ℕ) → (k ≡ n → b ≡ true) → ((b && nat_lt k n) || (k == n)) ≡ (b && nat_lt k (n + 1))
+one_more true k n is = grind (arith, nat_tests)
+one_more false k n is = ne_eqb k n (λ e. false≢true (is e))
 
-pub without_bit : (d n : ℕ) → bit_at d n ≡ 0 → d % 2 ^ n ≡ d % 2 ^ (n + 1)
-without_bit d n is =
-    let none : 0 * 2 ^ n + d % 2 ^ n ≡ d % 2 ^ n = omega arith in
-    sym (next_low d n ∙ ap (λ b. b * 2 ^ n + d % 2 ^ n) is ∙ none)
+no_more : (b : Bool) (k n : ℕ) → (k ≡ n → b ≡ false) → (b && nat_lt k n) ≡ (b && nat_lt k (n + 1))
+no_more false k n not = refl
+no_more true k n not = elim (cases_lt k n) [
+  | inl less ↦ lt-ltb k n less ∙ sym (lt-ltb k (n + 1) (omega (arith, less)))
+  | inr more ↦
+      let other : k ≡ n → ⊥ = λ e. false≢true (sym (not e)) in
+      le-ltb k n more ∙ sym (le-ltb k (n + 1) (omega (arith, more, other)))
+]
+
+below_with : (s t : Numbers) (n : ℕ) → IsBelow s t n → has t n ≡ true → IsBelow (with_number s n) t (n + 1)
+below_with s t n below is k = has-with_number s n k ∙ ap (λ b. b || (k == n)) (below k) ∙ one_more (has t k) k n (λ e. ap (has t) e ∙ is)
+
+below_without : (s t : Numbers) (n : ℕ) → IsBelow s t n → has t n ≡ false → IsBelow s t (n + 1)
+below_without s t n below is k = below k ∙ no_more (has t k) k n (λ e. ap (has t) e ∙ is)
+
+none_below : (b : Bool) (k n : ℕ) → (b ≡ true → n ≤ k) → false ≡ (b && nat_lt k n)
+none_below false k n from = refl
+none_below true k n from = sym (le-ltb k n (from refl))
+
+-- no member lies below the first that a set may have
+below_first : (first end : ℕ) (t : Numbers) → lies_within first end t ≡ true → IsBelow no_numbers t first
+below_first first end t within k = has-no_numbers k ∙ none_below (has t k) k first (λ is. (lies_within-has first end t within k is).0)
+
+all_below : (b : Bool) (k n : ℕ) → (b ≡ true → k < n) → (b && nat_lt k n) ≡ b
+all_below false k n to = refl
+all_below true k n to = lt-ltb k n (to refl)
+
+-- those below the number past the last are all
+below_end : (first end : ℕ) (s t : Numbers) → lies_within first end t ≡ true → IsBelow s t end → s ≡ t
+below_end first end s t within below = same_set s t (λ k. below k ∙ all_below (has t k) k end (λ is. (lies_within-has first end t within k is).1))
 
 -- ---- what is read of a list that is written
 
@@ -94,91 +113,116 @@ through_append {S} step s (x ∷ xs) ys = elim (step s x) as (λ o. option_and_t
   | Some t ↦ through_append step t xs ys
 ]
 
-one_step : {S : Type 0} (step : S → List ℕ → Option S) (state : ℕ → S) (item : List ℕ) (rest : List (List ℕ)) (d n : ℕ) (b : Bool) → (bit_at d n == 1) ≡ b
-    → step (state (d % 2 ^ n)) item ≡ Some (state (bit_or (d % 2 ^ n) (2 ^ n)))
-    → through step (state (d % 2 ^ n)) ((if b then item ∷ [] else []) ++ rest) ≡ through step (state (d % 2 ^ (n + 1))) rest
-one_step step state item rest d n true is made =
-    ap (option_and_then (λ t. through step t rest)) made ∙ ap (λ a. through step (state a) rest) (with_bit d n (eqb-true (bit_at d n) 1 is))
-one_step step state item rest d n false is made =
-    let other = eqb-false (bit_at d n) 1 is in
-    let none : bit_at d n ≡ 0 = omega (arith, other, bit_at-lt d n) in
-    ap (λ a. through step (state a) rest) (without_bit d n none)
+-- ---- sets of numbers
 
-pub through_bits : {S : Type 0} (step : S → List ℕ → Option S) (state : ℕ → S) (naming : Naming) (from_end : Bool) (d count n : ℕ)
-    → ((a k : ℕ) → n ≤ k → k < n + count → step (state a) (item_text naming from_end k) ≡ Some (state (bit_or a (2 ^ k))))
-    → through step (state (d % 2 ^ n)) (items (Numbers (record { digits = d })) naming from_end count n) ≡ Some (state (d % 2 ^ (n + count)))
-unfolding items lists has
-through_bits step state naming from_end d zero n steps =
+one_step : {S : Type 0} (step : S → List ℕ → Option S) (state : Numbers → S) (item : List ℕ) (rest : List (List ℕ)) (s t : Numbers) (n : ℕ) (b : Bool) → has t n ≡ b → IsBelow s t n
+    → step (state s) item ≡ Some (state (with_number s n))
+    → (u : Numbers) × (through step (state s) ((if b then item ∷ [] else []) ++ rest) ≡ through step (state u) rest) × IsBelow u t (n + 1)
+one_step step state item rest s t n true is below made = (with_number s n, ap (option_and_then (λ t. through step t rest)) made, below_with s t n below is)
+one_step step state item rest s t n false is below made = (s, refl, below_without s t n below is)
+
+-- the items of a set's members give a state with them
+through_items : {S : Type 0} (step : S → List ℕ → Option S) (state : Numbers → S) (naming : Naming) (from_end : Bool) (t : Numbers) (count n : ℕ) (s : Numbers) → IsBelow s t n
+    → ((u : Numbers) (k : ℕ) → n ≤ k → k < n + count → step (state u) (item_text naming from_end k) ≡ Some (state (with_number u k)))
+    → (u : Numbers) × (through step (state s) (items t naming from_end count n) ≡ Some (state u)) × IsBelow u t (n + count)
+unfolding items
+through_items step state naming from_end t zero n s below steps =
     let same : n ≡ n + 0 = omega arith in
-    ap (λ k. Some (state (d % 2 ^ k))) same
-through_bits step state naming from_end d (suc count) n steps =
+    (s, refl, subst (IsBelow s t) same below)
+through_items step state naming from_end t (suc count) n s below steps =
     let more : (n + 1) + count ≡ n + suc count = omega arith in
-    one_step step state (item_text naming from_end n) (items (Numbers (record { digits = d })) naming from_end count (n + 1)) d n (bit_at d n == 1) refl (steps (d % 2 ^ n) n (omega arith) (omega arith))
-    ∙ through_bits step state naming from_end d count (n + 1) (λ a k from below. steps a k (omega (arith, from)) (omega (arith, below)))
-    ∙ ap (λ k. Some (state (d % 2 ^ k))) more
+    let one = one_step step state (item_text naming from_end n) (items t naming from_end count (n + 1)) s t n (has t n) refl below (steps s n (omega arith) (omega arith)) in
+    let rest = through_items step state naming from_end t count (n + 1) one.0 one.2 (λ u k from under. steps u k (omega (arith, from)) (omega (arith, under))) in
+    (rest.0, one.1 ∙ rest.1, subst (IsBelow rest.0 t) more rest.2)
 
--- ---- sets of numbers from 1 to `most`
+-- a set of numbers from the first on, below the end
+pub set_back : {S : Type 0} (step : S → List ℕ → Option S) (state : Numbers → S) (naming : Naming) (from_end : Bool) (first count : ℕ) (t : Numbers) → lies_within first (first + count) t ≡ true
+    → ((u : Numbers) (k : ℕ) → first ≤ k → k < first + count → step (state u) (item_text naming from_end k) ≡ Some (state (with_number u k)))
+    → through step (state no_numbers) (items t naming from_end count first) ≡ Some (state t)
+set_back step state naming from_end first count t within steps =
+    let read = through_items step state naming from_end t count first no_numbers (below_first first (first + count) t within) steps in
+    read.1 ∙ ap (λ u. Some (state u)) (below_end first (first + count) read.0 t within read.2)
 
-abbrev set_of : ℕ → NumberSet
-set_of d = record { digits = d }
-
-starts : (most d : ℕ) → lie_within most d ≡ true → 0 ≡ d % 2 ^ 1
-starts most d is = sym (eqb-true (d % 2) 0 (and_parts (d % 2 == 0) (nat_lt d (2 ^ (most + 1))) is).0)
-
-ends : (most d : ℕ) → lie_within most d ≡ true → d % 2 ^ (1 + most) ≡ d
-ends most d is =
-    let turned : 1 + most ≡ most + 1 = omega arith in
-    ap (λ k. d % 2 ^ k) turned ∙ mod-eq_of_lt (ltb-true d (2 ^ (most + 1)) (and_parts (d % 2 == 0) (nat_lt d (2 ^ (most + 1))) is).1)
-
-pub set_back : {S : Type 0} (step : S → List ℕ → Option S) (state : ℕ → S) (naming : Naming) (from_end : Bool) (most d : ℕ) → lie_within most d ≡ true
-    → ((a k : ℕ) → 1 ≤ k → k < 1 + most → step (state a) (item_text naming from_end k) ≡ Some (state (bit_or a (2 ^ k))))
-    → through step (state 0) (items (Numbers (record { digits = d })) naming from_end most 1) ≡ Some (state d)
-set_back step state naming from_end most d is steps =
-    ap (λ a. through step (state a) (items (Numbers (record { digits = d })) naming from_end most 1)) (starts most d is)
-    ∙ through_bits step state naming from_end d most 1 steps ∙ ap (λ a. Some (state a)) (ends most d is)
-
--- BYMONTH
-month_step : (a k : ℕ) → 1 ≤ k → k < 1 + 12 → with_month_text (record { digits = a }) (item_text Number false k) ≡ Some (record { digits = bit_or a (2 ^ k) })
-unfolding with_month_text item_text
-month_step a k some within =
-    ap (option_map (with_number (record { digits = a }))) (number_back 2 12 k (omega (arith, within)) some (omega (arith, within)) (length-decimal-le 2 k (omega arith) (omega (arith, within)) (omega (arith, within))))
+-- a set of numbers from 1 to `most`
+pub from_one_back : {S : Type 0} (step : S → List ℕ → Option S) (state : Numbers → S) (naming : Naming) (from_end : Bool) (most : ℕ) (t : Numbers) → is_from_one_to most t ≡ true
+    → ((u : Numbers) (k : ℕ) → 1 ≤ k → k < 1 + most → step (state u) (item_text naming from_end k) ≡ Some (state (with_number u k)))
+    → through step (state no_numbers) (items t naming from_end most 1) ≡ Some (state t)
+from_one_back step state naming from_end most t within steps =
+    let turned : most + 1 ≡ 1 + most = omega arith in
+    set_back step state naming from_end 1 most t (subst (λ end. lies_within 1 end t ≡ true) turned within) steps
 
 pub some_of : {S : Type 0} (step : S → List ℕ → Option S) (s t : S) (texts : List (List ℕ)) → through step s texts ≡ Some t → (s ≡ t → ⊥) → texts ≡ [] → ⊥
 some_of step s t texts is differ none = differ (same_Some s t (sym (ap (through step s) none) ∙ is))
 
-pub months_back : (d : ℕ) → lie_within 12 d ≡ true → (d == 0) ≡ false → months_of (list_text (items (Numbers (set_of d)) Number false 12 1)) ≡ Some (set_of d)
-unfolding months_of
-months_back d is some =
-    let texts = items (Numbers (set_of d)) Number false 12 1 in
-    let made = set_back with_month_text set_of Number false 12 d is month_step in
-    let differ : set_of 0 ≡ set_of d → ⊥ = λ e. eqb-false d 0 some (sym (ap (λ (s : NumberSet). s.digits) e)) in
-    ap (through with_month_text no_numbers) (pieces_joined 44 texts (some_of with_month_text (set_of 0) (set_of d) texts made differ) (words_lack 44 texts refl (items_words (Numbers (set_of d)) Number false 12 1 (omega arith)))) ∙ made
+-- BYMONTH
+month_step : (u : Numbers) (k : ℕ) → 1 ≤ k → k < 1 + 12 → with_month_text u (item_text Number false k) ≡ Some (with_number u k)
+unfolding with_month_text item_text
+month_step u k some within =
+    ap (option_map (with_number u)) (number_back 2 12 k (omega (arith, within)) some (omega (arith, within)) (length-decimal-le 2 k (omega arith) (omega (arith, within)) (omega (arith, within))))
+
+pub months_back : (t : Numbers) → is_from_one_to 12 t ≡ true → is_empty t ≡ false → month_list_of (list_text (items t Number false 12 1)) ≡ Some t
+unfolding month_list_of
+months_back t is some =
+    let texts = items t Number false 12 1 in
+    let made = from_one_back with_month_text (λ u. u) Number false 12 t is month_step in
+    let differ : no_numbers ≡ t → ⊥ = λ e. false≢true (sym some ∙ sym (ap (λ (s : Numbers). is_empty s) e)) in
+    ap (through with_month_text no_numbers) (pieces_joined 44 texts (some_of with_month_text no_numbers t texts made differ) (words_lack 44 texts refl (items_words t Number false 12 1 (omega arith)))) ∙ made
 
 -- BYMONTHDAY and BYWEEKNO
-abbrev ends_with : ℕ → ℕ → BothEnds
-ends_with front back = record { front = set_of front; back = set_of back }
+abbrev ends_with : Numbers → Numbers → BothEnds
+ends_with front back = record { front = front; back = back }
 
-front_step : (most back a k : ℕ) → most < 64 → 1 ≤ k → k < 1 + most → with_place_text 2 most (ends_with a back) (item_text Number false k) ≡ Some (ends_with (bit_or a (2 ^ k)) back)
-unfolding with_place_text item_text
-front_step most back a k small some within =
-    ap (option_map (with_place (ends_with a back))) (place_back false 2 most k (omega (arith, small, within)) some (omega (arith, within)) (length-decimal-le 2 k (omega arith) (omega (arith, small, within)) (omega (arith, small, within))))
+front_step : (most : ℕ) (back u : Numbers) (k : ℕ) → most < 64 → 1 ≤ k → k < 1 + most → with_signed_text 2 most (ends_with u back) (item_text Number false k) ≡ Some (ends_with (with_number u k) back)
+unfolding with_signed_text item_text
+front_step most back u k small some within =
+    ap (option_map (with_signed (ends_with u back))) (place_back false 2 most k (omega (arith, small, within)) some (omega (arith, within)) (length-decimal-le 2 k (omega arith) (omega (arith, small, within)) (omega (arith, small, within))))
 
-back_step : (most front a k : ℕ) → most < 64 → 1 ≤ k → k < 1 + most → with_place_text 2 most (ends_with front a) (item_text Number true k) ≡ Some (ends_with front (bit_or a (2 ^ k)))
-unfolding with_place_text item_text
-back_step most front a k small some within =
-    ap (option_map (with_place (ends_with front a))) (place_back true 2 most k (omega (arith, small, within)) some (omega (arith, within)) (length-decimal-le 2 k (omega arith) (omega (arith, small, within)) (omega (arith, small, within))))
+back_step : (most : ℕ) (front u : Numbers) (k : ℕ) → most < 64 → 1 ≤ k → k < 1 + most → with_signed_text 2 most (ends_with front u) (item_text Number true k) ≡ Some (ends_with front (with_number u k))
+unfolding with_signed_text item_text
+back_step most front u k small some within =
+    ap (option_map (with_signed (ends_with front u))) (place_back true 2 most k (omega (arith, small, within)) some (omega (arith, within)) (length-decimal-le 2 k (omega arith) (omega (arith, small, within)) (omega (arith, small, within))))
 
-pub ends_back : (most front back : ℕ) → most < 64 → lie_within most front ≡ true → lie_within most back ≡ true → ((front == 0) && (back == 0)) ≡ false
-    → ends_of 2 most (list_text (both_items (Numbers (set_of front)) (Numbers (set_of back)) most)) ≡ Some (ends_with front back)
+pub ends_back : (most : ℕ) (front back : Numbers) → most < 64 → is_from_one_to most front ≡ true → is_from_one_to most back ≡ true → (is_empty front && is_empty back) ≡ false
+    → ends_of 2 most (list_text (both_items front back most)) ≡ Some (ends_with front back)
 unfolding ends_of
 ends_back most front back small is also some =
-    let step = with_place_text 2 most in
-    let xs = items (Numbers (set_of front)) Number false most 1 in
-    let ys = items (Numbers (set_of back)) Number true most 1 in
-    let first = set_back step (λ a. ends_with a 0) Number false most front is (λ a k from within. front_step most 0 a k small from within) in
-    let second = set_back step (λ a. ends_with front a) Number true most back also (λ a k from within. back_step most front a k small from within) in
-    let made = through_append step (ends_with 0 0) xs ys ∙ ap (option_and_then (λ t. through step t ys)) first ∙ second in
-    let differ : ends_with 0 0 ≡ ends_with front back → ⊥ =
-    λ e. false≢true (sym some ∙ sym (ap (λ (t : BothEnds). (t.front.digits == 0) && (t.back.digits == 0)) e)) in
-    let lack = words_lack 44 (xs ++ ys) refl (both_words (Numbers (set_of front)) (Numbers (set_of back)) most (omega (arith, small))) in
-    ap (through step no_ends) (pieces_joined 44 (xs ++ ys) (some_of step (ends_with 0 0) (ends_with front back) (xs ++ ys) made differ) lack) ∙ made
+    let step = with_signed_text 2 most in
+    let xs = items front Number false most 1 in
+    let ys = items back Number true most 1 in
+    let first = from_one_back step (λ u. ends_with u no_numbers) Number false most front is (λ u k from within. front_step most no_numbers u k small from within) in
+    let second = from_one_back step (λ u. ends_with front u) Number true most back also (λ u k from within. back_step most front u k small from within) in
+    let made = through_append step no_ends xs ys ∙ ap (option_and_then (λ t. through step t ys)) first ∙ second in
+    let differ : no_ends ≡ ends_with front back → ⊥ = λ e. false≢true (sym some ∙ sym (ap (λ (t : BothEnds). is_empty t.front && is_empty t.back) e)) in
+    let lack = words_lack 44 (xs ++ ys) refl (both_words front back most (omega (arith, small))) in
+    ap (through step no_ends) (pieces_joined 44 (xs ++ ys) (some_of step no_ends (ends_with front back) (xs ++ ys) made differ) lack) ∙ made
+
+-- BYYEARDAY and BYSETPOS
+abbrev year_ends_with : Numbers → Numbers → YearEnds
+year_ends_with front back = record { front = front; back = back }
+
+day_short : (k : ℕ) → k < 367 → length (decimal k) ≤ 3
+day_short k within = length-decimal-le 3 k (omega arith) (omega (arith, within)) (omega (arith, within))
+
+front_day : (u back : Numbers) (k : ℕ) → 1 ≤ k → k < 1 + 366 → with_year_text (year_ends_with u back) (item_text Number false k) ≡ Some (year_ends_with (with_number u k) back)
+unfolding with_year_text item_text
+front_day u back k some within =
+    ap (option_map (with_signed_day (year_ends_with u back))) (place_back false 3 366 k (omega (arith, within)) some (omega (arith, within)) (day_short k (omega (arith, within))))
+
+back_day : (front u : Numbers) (k : ℕ) → 1 ≤ k → k < 1 + 366 → with_year_text (year_ends_with front u) (item_text Number true k) ≡ Some (year_ends_with front (with_number u k))
+unfolding with_year_text item_text
+back_day front u k some within =
+    ap (option_map (with_signed_day (year_ends_with front u))) (place_back true 3 366 k (omega (arith, within)) some (omega (arith, within)) (day_short k (omega (arith, within))))
+
+pub year_ends_back : (front back : Numbers) → is_from_one_to 366 front ≡ true → is_from_one_to 366 back ≡ true → (is_empty front && is_empty back) ≡ false
+    → year_ends_of (list_text (both_items front back 366)) ≡ Some (year_ends_with front back)
+unfolding year_ends_of
+year_ends_back front back is also some =
+    let step = with_year_text in
+    let xs = items front Number false 366 1 in
+    let ys = items back Number true 366 1 in
+    let first = from_one_back step (λ u. year_ends_with u no_numbers) Number false 366 front is (λ u k from within. front_day u no_numbers k from within) in
+    let second = from_one_back step (λ u. year_ends_with front u) Number true 366 back also (λ u k from within. back_day front u k from within) in
+    let made = through_append step no_year_ends xs ys ∙ ap (option_and_then (λ t. through step t ys)) first ∙ second in
+    let differ : no_year_ends ≡ year_ends_with front back → ⊥ = λ e. false≢true (sym some ∙ sym (ap (λ (t : YearEnds). is_empty t.front && is_empty t.back) e)) in
+    let lack = words_lack 44 (xs ++ ys) refl (both_words front back 366 (omega arith)) in
+    ap (through step no_year_ends) (pieces_joined 44 (xs ++ ys) (some_of step no_year_ends (year_ends_with front back) (xs ++ ys) made differ) lack) ∙ made

@@ -2,7 +2,8 @@
 use Rattle.std.proofs.Common.{◌≡◌, Bool, true, false, ◌&&◌, refl, ap, ◌∙◌, arith, ℤ, ◌≤ℤ◌, ◌<ℤ◌, int_le}
 use Rattle.std.proofs.lemmas.Int.{by_lt_z}
 use Rattle.chrono_datetime.proofs.Signed.{signed}
-use Rattle.chrono_rules.specs.Instances.{in_interval, is_member, not_after, passes}
+use Rattle.chrono_rules.specs.Instances.{in_interval, is_member, not_after}
+use Rattle.chrono_rules.specs.ByParts.{passes}
 use Rattle.chrono_rules.specs.declared.rule.End.{End}
 use Rattle.chrono_rules.specs.declared.rule.End.TheVariants.{Until}
 use Rattle.chrono_rules.specs.declared.rule.Rule.{Rule}

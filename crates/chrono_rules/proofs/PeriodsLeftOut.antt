@@ -13,7 +13,8 @@ use Rattle.chrono_datetime.proofs.IsoWeeks.{days_from_monday-of}
 use Rattle.chrono_datetime.proofs.MonthOrder.{month_of-range}
 use Rattle.chrono_datetime.proofs.Rising.{month_index_of-rises, year_of-rises}
 use Rattle.chrono_datetime.proofs.Signed.{signed}
-use Rattle.chrono_rules.specs.Instances.{in_interval, is_member, not_after, period_of}
+use Rattle.chrono_rules.specs.Instances.{in_interval, is_member, not_after}
+use Rattle.chrono_rules.specs.Periods.{period_of}
 use Rattle.chrono_rules.specs.declared.rule.Frequency.{Frequency}
 use Rattle.chrono_rules.specs.declared.rule.Frequency.TheVariants.{Daily, Monthly, Weekly, Yearly}
 use Rattle.chrono_rules.specs.declared.rule.Rule.{Rule}

@@ -3,7 +3,8 @@ use Rattle.std.proofs.Common.{◌≡◌, ◌≢◌, Bool, ◌&&◌, if◌then◌
 use Rattle.std.proofs.lemmas.Bool.{lt-leb}
 use Rattle.std.proofs.lemmas.List.{take_all}
 use Rattle.std.specs.Option.{option_and_then}
-use Rattle.chrono_rules.specs.Pieces.{begun, pieces, pieces_behind, through, up_to, with_digits}
+use Rattle.chrono_rules.specs.Split.{begun, pieces, pieces_behind, through}
+use Rattle.chrono_rules.specs.Digits.{up_to, with_digits}
 
 -- the bytes before the first separator are the first piece
 pub first_piece : (sep n : ℕ) (text : List ℕ) → ((k : ℕ) → k < n → get_or text k 0 ≢ sep) → n ≤ length text → (n < length text → get_or text n 0 ≡ sep)

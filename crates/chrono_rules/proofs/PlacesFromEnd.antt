@@ -1,9 +1,6 @@
 -- The places of a period's passing days, counted from its end.
-use Rattle.std.proofs.Common.{◌≡◌, ℕ, ◌+◌, ◌-◌, ◌*◌, ◌/◌, ◌%◌, ◌<◌, ◌≤◌, nat_lt, Bool, true, false, cond, ◌&&◌, refl, sym, ap, ◌∙◌, arith, inl, inr, ℤ, pos, ◌+ℤ◌, ◌≤ℤ◌, ◌<ℤ◌, int_le}
-use Rattle.std.specs.Prelude.{slice_index_or}
-use Rattle.std.specs.Int.{bit_at}
+use Rattle.std.proofs.Common.{◌≡◌, ℕ, ◌+◌, ◌-◌, ◌<◌, ◌≤◌, nat_lt, Bool, true, false, cond, ◌&&◌, refl, sym, ap, ◌∙◌, arith, ℤ, pos, ◌+ℤ◌, ◌≤ℤ◌, ◌<ℤ◌, int_le}
 use Rattle.std.proofs.lemmas.Int.{by_lt_z}
-use Rattle.std.proofs.lemmas.Bool.{cases_lt}
 use Rattle.std.proofs.lemmas.Bool.Decides.{nat_tests}
 use Rattle.chrono_datetime.specs.Days.{IsDate, day_of, days_before_year}
 use Rattle.chrono_datetime.specs.MonthMoves.{month_length_of}
@@ -16,14 +13,18 @@ use Rattle.chrono_datetime.proofs.MonthDays.{day_of-bounds}
 use Rattle.chrono_datetime.proofs.NamedDates.{number-ordinal_name}
 use Rattle.chrono_datetime.proofs.Signed.{signed}
 use Rattle.chrono_datetime.proofs.WeekDays.{week_first_of-only, week_first_of-place}
-use Rattle.chrono_rules.specs.Instances.{are_zero, date_passes, has_place, in_interval, in_positions, is_member, lacks_positions, not_after, passes, period_end, period_first}
-use Rattle.chrono_rules.specs.declared.places.PlaceSet.{PlaceSet}
+use Rattle.chrono_sets.specs.Numbers.{Numbers, has, is_empty}
+use Rattle.chrono_sets.proofs.Members.{has-none}
+use Rattle.chrono_rules.specs.ByParts.{date_passes, passes}
+use Rattle.chrono_rules.specs.Instances.{in_interval, in_positions, is_member, not_after}
+use Rattle.chrono_rules.specs.RuleParts.{lacks_positions}
+use Rattle.chrono_rules.specs.Periods.{period_end, period_first}
 use Rattle.chrono_rules.specs.declared.rule.Frequency.{Frequency}
 use Rattle.chrono_rules.specs.declared.rule.Frequency.TheVariants.{Daily, Monthly, Weekly, Yearly}
 use Rattle.chrono_rules.specs.declared.rule.Rule.{Rule}
 use Rattle.chrono_rules.proofs.Passed.{and-none, no_pass}
 use Rattle.chrono_rules.proofs.YearsOfDates.{same_year}
-use Rattle.chrono_rules.proofs.PlacesInPeriods.{date_passes-is, from_period, front_place, no_word, none_named, same_month_end, same_month_first}
+use Rattle.chrono_rules.proofs.PlacesInPeriods.{date_passes-is, from_period, front_place, same_month_end, same_month_first}
 
 -- ---- all days to the end of a period have that end
 
@@ -55,27 +56,27 @@ same_end Yearly w n d low high date =
 
 -- ---- days behind the last place that is named from the front
 
-front_passed : (r : Rule) (start day d : ℤ) (before last : ℕ) (b : Bool) → are_zero r.positions.words ≡ b → day ≤ℤ d → period_first r.frequency r.week_start d ≡ period_first r.frequency r.week_start day → (b ≡ false → before ≡ count_between (date_passes r start) (period_first r.frequency r.week_start day) day) → last ≤ before → ((k : ℕ) → last < k → has_place r.positions k ≡ false) → date_passes r start d ≡ true → has_place r.positions (count_between (date_passes r start) (period_first r.frequency r.week_start d) (d +ℤ pos 1)) ≡ false
-front_passed r start day d before last true zero low first before-is full none is = none_named r.positions _ zero
+front_passed : (r : Rule) (start day d : ℤ) (before last : ℕ) (b : Bool) → is_empty r.positions ≡ b → day ≤ℤ d → period_first r.frequency r.week_start d ≡ period_first r.frequency r.week_start day → (b ≡ false → before ≡ count_between (date_passes r start) (period_first r.frequency r.week_start day) day) → last ≤ before → ((k : ℕ) → last < k → has r.positions k ≡ false) → date_passes r start d ≡ true → has r.positions (count_between (date_passes r start) (period_first r.frequency r.week_start d) (d +ℤ pos 1)) ≡ false
+front_passed r start day d before last true zero low first before-is full none is = has-none r.positions _ zero
 front_passed r start day d before last false some low first before-is full none is =
     let p = date_passes r start in
     let here = front_place p (period_first r.frequency r.week_start day) day d before (count_between p day d) (from_period r.frequency r.week_start day) low (before-is refl) refl is in
     let count : count_between p (period_first r.frequency r.week_start d) (d +ℤ pos 1) ≡ before + count_between p day d + 1 = ap (λ (m : ℤ). count_between p m (d +ℤ pos 1)) first ∙ sym here in
     none _ (omega (arith, count, full))
 
-pub behind_front : (r : Rule) (start day d : ℤ) (before last : ℕ) → day ≤ℤ d → d <ℤ period_end r.frequency r.week_start day → IsDate d → (are_zero r.positions.words ≡ false → before ≡ count_between (date_passes r start) (period_first r.frequency r.week_start day) day) → last ≤ before → ((k : ℕ) → last < k → has_place r.positions k ≡ false) → date_passes r start d ≡ true → has_place r.positions (count_between (date_passes r start) (period_first r.frequency r.week_start d) (d +ℤ pos 1)) ≡ false
+pub behind_front : (r : Rule) (start day d : ℤ) (before last : ℕ) → day ≤ℤ d → d <ℤ period_end r.frequency r.week_start day → IsDate d → (is_empty r.positions ≡ false → before ≡ count_between (date_passes r start) (period_first r.frequency r.week_start day) day) → last ≤ before → ((k : ℕ) → last < k → has r.positions k ≡ false) → date_passes r start d ≡ true → has r.positions (count_between (date_passes r start) (period_first r.frequency r.week_start d) (d +ℤ pos 1)) ≡ false
 behind_front r start day d before last low high date before-is full none is =
-    front_passed r start day d before last (are_zero r.positions.words) refl low (same_first r.frequency r.week_start day d low high date) before-is full none is
+    front_passed r start day d before last (is_empty r.positions) refl low (same_first r.frequency r.week_start day d low high date) before-is full none is
 
 -- ---- a day that has neither place
 
 abbrev pub front_of : Rule → ℤ → ℤ → ℕ
 front_of r start d = count_between (date_passes r start) (period_first r.frequency r.week_start d) (d +ℤ pos 1)
 
-off_place : (r : Rule) (start d end : ℤ) → lacks_positions r ≡ false → has_place r.positions (front_of r start d) ≡ false → period_end r.frequency r.week_start d ≡ end → has_place r.positions_from_end (count_between (date_passes r start) d end) ≡ false → is_member r start d ≡ false
+off_place : (r : Rule) (start d end : ℤ) → lacks_positions r ≡ false → has r.positions (front_of r start d) ≡ false → period_end r.frequency r.week_start d ≡ end → has r.positions_from_end (count_between (date_passes r start) d end) ≡ false → is_member r start d ≡ false
 unfolding in_positions is_member
 off_place r start d end named front end-is none =
-    let back : has_place r.positions_from_end (count_between (date_passes r start) d (period_end r.frequency r.week_start d)) ≡ false = rw end-is none in
+    let back : has r.positions_from_end (count_between (date_passes r start) d (period_end r.frequency r.week_start d)) ≡ false = rw end-is none in
     let off : in_positions r start d ≡ false = rw (named, front, back) refl in
     and-none (int_le start d) _ (and-none (not_after r.end d) _ (and-none (in_interval r start d) _ (and-none (passes r start d) _ off)))
 
@@ -84,18 +85,18 @@ pub counted-back : (p : ℤ → Bool) (e a c : ℤ) (n m : ℕ) → n ≡ count_
 counted-back p e a c n m n-is m-is less at = omega (arith, n-is, m-is, count_between-first p e a c less at)
 
 -- that day, if it does not pass or has another place
-not_named : (s : PlaceSet) (n m : ℕ) → m ≡ n + 1 → (nat_lt n m && has_place s m) ≡ false → has_place s m ≡ false
+not_named : (s : Numbers) (n m : ℕ) → m ≡ n + 1 → (nat_lt n m && has s m) ≡ false → has s m ≡ false
 not_named s n m one none =
     let less : nat_lt n m ≡ true = grind (arith, nat_tests, one) in
     rw less at none
 
-pub off_day_back : (r : Rule) (start e end : ℤ) (n m : ℕ) (b : Bool) → date_passes r start e ≡ b → IsDate e → lacks_positions r ≡ false → (b ≡ true → has_place r.positions (front_of r start e) ≡ false) → period_end r.frequency r.week_start e ≡ end → m ≡ count_between (date_passes r start) e end → m ≡ n + cond b 1 0 → (nat_lt n m && has_place r.positions_from_end m) ≡ false → is_member r start e ≡ false
+pub off_day_back : (r : Rule) (start e end : ℤ) (n m : ℕ) (b : Bool) → date_passes r start e ≡ b → IsDate e → lacks_positions r ≡ false → (b ≡ true → has r.positions (front_of r start e) ≡ false) → period_end r.frequency r.week_start e ≡ end → m ≡ count_between (date_passes r start) e end → m ≡ n + cond b 1 0 → (nat_lt n m && has r.positions_from_end m) ≡ false → is_member r start e ≡ false
 off_day_back r start e end n m false out date named front end-is m-is step none = no_pass r start e (sym (date_passes-is r start e date) ∙ out)
 off_day_back r start e end n m true is date named front end-is m-is step none =
-    off_place r start e end named (front refl) end-is (ap (has_place r.positions_from_end) (sym m-is) ∙ not_named r.positions_from_end n m step none)
+    off_place r start e end named (front refl) end-is (ap (has r.positions_from_end) (sym m-is) ∙ not_named r.positions_from_end n m step none)
 
 -- a day in front of as many as the last place that is named
-pub before_places : (r : Rule) (start d a end : ℤ) (n last : ℕ) (b : Bool) → date_passes r start d ≡ b → IsDate d → lacks_positions r ≡ false → (b ≡ true → has_place r.positions (front_of r start d) ≡ false) → period_end r.frequency r.week_start d ≡ end → d <ℤ a → a ≤ℤ end → n ≡ count_between (date_passes r start) a end → last ≤ n → ((k : ℕ) → last < k → has_place r.positions_from_end k ≡ false) → is_member r start d ≡ false
+pub before_places : (r : Rule) (start d a end : ℤ) (n last : ℕ) (b : Bool) → date_passes r start d ≡ b → IsDate d → lacks_positions r ≡ false → (b ≡ true → has r.positions (front_of r start d) ≡ false) → period_end r.frequency r.week_start d ≡ end → d <ℤ a → a ≤ℤ end → n ≡ count_between (date_passes r start) a end → last ≤ n → ((k : ℕ) → last < k → has r.positions_from_end k ≡ false) → is_member r start d ≡ false
 before_places r start d a end n last false out date named front end-is less high n-is full none = no_pass r start d (sym (date_passes-is r start d date) ∙ out)
 before_places r start d a end n last true is date named front end-is less high n-is full none =
     let p = date_passes r start in
@@ -119,24 +120,3 @@ from_chosen r start day d e later first x false is at low high here behind =
     (λ ge. let same : d ≡ e = omega (arith, signed, ge, low) in ap (is_member r start) same ∙ here refl)
 
 -- ---- the last place of a set
-
-pub no_words : (s : PlaceSet) (word k : ℕ) → word ≡ 0 → slice_index_or s.words word 0 ≡ 0 → ((i : ℕ) → word < i → slice_index_or s.words i 0 ≡ 0) → has_place s k ≡ false
-no_words s word k first zero above =
-    elim (cases_lt word (k / 64)) [
-      | inl lt ↦ no_word s k (above (k / 64) lt)
-      | inr ge ↦ no_word s k (ap (λ i. slice_index_or s.words i 0) (omega (arith, first, ge)) ∙ zero)
-    ]
-
-pub past_last : (s : PlaceSet) (word gap k : ℕ) → gap ≤ 63 → ((i : ℕ) → word < i → slice_index_or s.words i 0 ≡ 0) → ((j : ℕ) → j < gap → bit_at (slice_index_or s.words word 0) (63 - j) ≡ 0) → 64 * word + (63 - gap) < k → has_place s k ≡ false
-unfolding has_place
-past_last s word gap k small above none past =
-    elim (cases_lt word (k / 64)) [
-      | inl lt ↦ no_word s k (above (k / 64) lt)
-      | inr ge ↦
-          let at : k / 64 ≡ word = omega (arith, ge, past) in
-          let j : ℕ = 63 - k % 64 in
-          let bit : bit_at (slice_index_or s.words word 0) (63 - j) ≡ 0 = none j (omega (arith, at, past, small)) in
-          let place : k % 64 ≡ 63 - j = omega arith in
-          let zero : bit_at (slice_index_or s.words (k / 64) 0) (k % 64) ≡ 0 = ap (λ w. bit_at (slice_index_or s.words w 0) (k % 64)) at ∙ ap (bit_at (slice_index_or s.words word 0)) place ∙ bit in
-          rw zero refl
-    ]

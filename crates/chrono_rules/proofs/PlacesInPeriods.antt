@@ -1,11 +1,6 @@
 -- The places of a period's passing days, of which BYSETPOS names some.
-use Rattle.std.proofs.Common.{◌≡◌, ◌==◌, ℕ, zero, suc, ◌+◌, ◌-◌, ◌/◌, ◌%◌, ◌<◌, ◌≤◌, Bool, true, false, cond, not, ◌||◌, List, [], ◌∷◌, length, refl, sym, ap, ◌∙◌, arith, ℤ, pos, ◌+ℤ◌, ◌-ℤ◌, ◌≤ℤ◌, ◌<ℤ◌, int_le, unsigned_abs}
-use Rattle.std.specs.Prelude.{slice_index_or}
-use Rattle.std.specs.Int.{bit_at}
+use Rattle.std.proofs.Common.{◌≡◌, ℕ, ◌+◌, ◌-◌, ◌<◌, ◌≤◌, Bool, true, false, cond, ◌||◌, refl, sym, ap, ◌∙◌, arith, ℤ, pos, ◌+ℤ◌, ◌-ℤ◌, ◌≤ℤ◌, ◌<ℤ◌, int_le, unsigned_abs}
 use Rattle.std.proofs.lemmas.Bool.{false≢true}
-use Rattle.std.proofs.lemmas.Bool.Decides.{nat_tests}
-use Rattle.std.proofs.lemmas.List.{get_or_past}
-use Rattle.std.proofs.lemmas.Nat.Bits.{bit_at-zero}
 use Rattle.chrono_datetime.specs.Days.{IsDate, day_of, days_before_year, is_date, month_of, ordinal_of, year_of}
 use Rattle.chrono_datetime.specs.MonthMoves.{month_first_of, month_last_of, month_length_of}
 use Rattle.chrono_datetime.specs.Recurrence.{count_between}
@@ -18,8 +13,12 @@ use Rattle.chrono_datetime.proofs.MonthDays.{day_of-bounds, later_in_month}
 use Rattle.chrono_datetime.proofs.NamedDates.{number-ordinal_name}
 use Rattle.chrono_datetime.proofs.Signed.{signed}
 use Rattle.chrono_datetime.proofs.WeekDays.{week_first_of-only, week_first_of-place}
-use Rattle.chrono_rules.specs.Instances.{are_zero, date_passes, has_place, in_interval, in_positions, is_member, lacks_positions, not_after, on_year_day, passes, period_end, period_first}
-use Rattle.chrono_rules.specs.declared.places.PlaceSet.{PlaceSet}
+use Rattle.chrono_sets.specs.Numbers.{Numbers, has, is_empty}
+use Rattle.chrono_sets.proofs.Members.{has-none}
+use Rattle.chrono_rules.specs.ByParts.{date_passes, on_year_day, passes}
+use Rattle.chrono_rules.specs.Instances.{in_interval, in_positions, is_member, not_after}
+use Rattle.chrono_rules.specs.RuleParts.{lacks_positions}
+use Rattle.chrono_rules.specs.Periods.{period_end, period_first}
 use Rattle.chrono_rules.specs.declared.rule.Frequency.{Frequency}
 use Rattle.chrono_rules.specs.declared.rule.Frequency.TheVariants.{Daily, Monthly, Weekly, Yearly}
 use Rattle.chrono_rules.specs.declared.rule.Rule.{Rule}
@@ -89,30 +88,9 @@ to_period Yearly w n = omega (arith, signed, ordinal_of-bounds n)
 
 -- ---- places that a set has
 
-split : (a b : Bool) → not (not a || b) ≡ true → (a ≡ true) × (not b ≡ true)
-split true true h = absurd (false≢true h)
-split true false h = (refl, refl)
-split false b h = absurd (false≢true h)
-
-zero_word : (words : List ℕ) (i : ℕ) → are_zero words ≡ true → slice_index_or words i 0 ≡ 0
-zero_word [] i is = get_or_past [] i 0 (omega arith)
-zero_word (w ∷ ws) zero is = grind (arith, nat_tests, (split (w == 0) _ is).0)
-zero_word (w ∷ ws) (suc i) is = zero_word ws i (split (w == 0) _ is).1
-
-pub no_word : (s : PlaceSet) (k : ℕ) → slice_index_or s.words (k / 64) 0 ≡ 0 → has_place s k ≡ false
-unfolding has_place
-no_word s k none =
-    ap (λ (w : ℕ). bit_at w (k % 64) == 1) none ∙ ap (λ (b : ℕ). b == 1) (bit_at-zero (k % 64))
-
-pub none_named : (s : PlaceSet) (k : ℕ) → are_zero s.words ≡ true → has_place s k ≡ false
-none_named s k is = no_word s k (zero_word s.words (k / 64) is)
-
-pub past_places : (s : PlaceSet) (k : ℕ) → length s.words ≡ 6 → 384 ≤ k → has_place s k ≡ false
-past_places s k long past = no_word s k (get_or_past s.words (k / 64) 0 (omega (arith, long, past)))
-
-not_at : (s : PlaceSet) (b : Bool) (k place : ℕ) → are_zero s.words ≡ b → (b ≡ false → k ≡ place) → has_place s k ≡ false → has_place s place ≡ false
-not_at s true k place is same none = none_named s place is
-not_at s false k place is same none = ap (has_place s) (sym (same refl)) ∙ none
+not_at : (s : Numbers) (b : Bool) (k place : ℕ) → is_empty s ≡ b → (b ≡ false → k ≡ place) → has s k ≡ false → has s place ≡ false
+not_at s true k place is same none = has-none s place is
+not_at s false k place is same none = ap (has s) (sym (same refl)) ∙ none
 
 neither : (a b : Bool) → (a || b) ≡ false → (a ≡ false) × (b ≡ false)
 neither true b h = absurd (false≢true (sym h))
@@ -131,17 +109,17 @@ back_place p day e end left passed le high left-is passed-is = omega (arith, lef
 before_or_at : (a b : ℤ) → a <ℤ b → a ≤ℤ b
 before_or_at a b less = omega (arith, signed, less)
 
-pub off_position : (r : Rule) (start day e : ℤ) (before left passed : ℕ) → lacks_positions r ≡ false → day ≤ℤ e → period_first r.frequency r.week_start e ≡ period_first r.frequency r.week_start day → period_end r.frequency r.week_start e ≡ period_end r.frequency r.week_start day → (are_zero r.positions.words ≡ false → before ≡ count_between (date_passes r start) (period_first r.frequency r.week_start day) day) → (are_zero r.positions_from_end.words ≡ false → left ≡ count_between (date_passes r start) day (period_end r.frequency r.week_start day)) → passed ≡ count_between (date_passes r start) day e → date_passes r start e ≡ true → (has_place r.positions (before + passed + 1) || has_place r.positions_from_end (left - passed)) ≡ false → is_member r start e ≡ false
+pub off_position : (r : Rule) (start day e : ℤ) (before left passed : ℕ) → lacks_positions r ≡ false → day ≤ℤ e → period_first r.frequency r.week_start e ≡ period_first r.frequency r.week_start day → period_end r.frequency r.week_start e ≡ period_end r.frequency r.week_start day → (is_empty r.positions ≡ false → before ≡ count_between (date_passes r start) (period_first r.frequency r.week_start day) day) → (is_empty r.positions_from_end ≡ false → left ≡ count_between (date_passes r start) day (period_end r.frequency r.week_start day)) → passed ≡ count_between (date_passes r start) day e → date_passes r start e ≡ true → (has r.positions (before + passed + 1) || has r.positions_from_end (left - passed)) ≡ false → is_member r start e ≡ false
 unfolding in_positions is_member
 off_position r start day e before left passed named le first end before-is left-is passed-is is none =
     let p = date_passes r start in
     let low : period_first r.frequency r.week_start day ≤ℤ day = from_period r.frequency r.week_start day in
     let high : e ≤ℤ period_end r.frequency r.week_start day = rw end at (before_or_at e _ (to_period r.frequency r.week_start e)) in
     let places = neither _ _ none in
-    let a : has_place r.positions (count_between p (period_first r.frequency r.week_start e) (e +ℤ pos 1)) ≡ false =
-    rw first (not_at r.positions (are_zero r.positions.words) (before + passed + 1) _ refl (λ some. front_place p _ day e before passed low le (before-is some) passed-is is) places.0) in
-    let b : has_place r.positions_from_end (count_between p e (period_end r.frequency r.week_start e)) ≡ false =
-    rw end (not_at r.positions_from_end (are_zero r.positions_from_end.words) (left - passed) _ refl (λ some. back_place p day e _ left passed le high (left-is some) passed-is) places.1) in
+    let a : has r.positions (count_between p (period_first r.frequency r.week_start e) (e +ℤ pos 1)) ≡ false =
+    rw first (not_at r.positions (is_empty r.positions) (before + passed + 1) _ refl (λ some. front_place p _ day e before passed low le (before-is some) passed-is is) places.0) in
+    let b : has r.positions_from_end (count_between p e (period_end r.frequency r.week_start e)) ≡ false =
+    rw end (not_at r.positions_from_end (is_empty r.positions_from_end) (left - passed) _ refl (λ some. back_place p day e _ left passed le high (left-is some) passed-is) places.1) in
     let off : in_positions r start e ≡ false = rw (named, a, b) refl in
     and-none (int_le start e) _ (and-none (not_after r.end e) _ (and-none (in_interval r start e) _ (and-none (passes r start e) _ off)))
 
@@ -154,32 +132,14 @@ date_passes-is r start e date =
 
 -- ---- a day that does not pass, or has no place that is named
 
-pub off_day : (r : Rule) (start day e : ℤ) (before left passed : ℕ) (b : Bool) → passes r start e ≡ b → IsDate e → lacks_positions r ≡ false → day ≤ℤ e → period_first r.frequency r.week_start e ≡ period_first r.frequency r.week_start day → period_end r.frequency r.week_start e ≡ period_end r.frequency r.week_start day → (are_zero r.positions.words ≡ false → before ≡ count_between (date_passes r start) (period_first r.frequency r.week_start day) day) → (are_zero r.positions_from_end.words ≡ false → left ≡ count_between (date_passes r start) day (period_end r.frequency r.week_start day)) → passed ≡ count_between (date_passes r start) day e → (passes r start e ≡ true → (has_place r.positions (before + passed + 1) || has_place r.positions_from_end (left - passed)) ≡ false) → is_member r start e ≡ false
+pub off_day : (r : Rule) (start day e : ℤ) (before left passed : ℕ) (b : Bool) → passes r start e ≡ b → IsDate e → lacks_positions r ≡ false → day ≤ℤ e → period_first r.frequency r.week_start e ≡ period_first r.frequency r.week_start day → period_end r.frequency r.week_start e ≡ period_end r.frequency r.week_start day → (is_empty r.positions ≡ false → before ≡ count_between (date_passes r start) (period_first r.frequency r.week_start day) day) → (is_empty r.positions_from_end ≡ false → left ≡ count_between (date_passes r start) day (period_end r.frequency r.week_start day)) → passed ≡ count_between (date_passes r start) day e → (passes r start e ≡ true → (has r.positions (before + passed + 1) || has r.positions_from_end (left - passed)) ≡ false) → is_member r start e ≡ false
 off_day r start day e before left passed false out date named le first end before-is left-is passed-is none = no_pass r start e out
 off_day r start day e before left passed true is date named le first end before-is left-is passed-is none =
     off_position r start day e before left passed named le first end before-is left-is passed-is (date_passes-is r start e date ∙ is) (none is)
 
--- ---- places in one word of a set
-
-pub off_word_up : (s : PlaceSet) (from j : ℕ) → j < 64 - from % 64 → bit_at (slice_index_or s.words (from / 64) 0) (from % 64 + j) ≡ 0 → has_place s (from + j) ≡ false
-unfolding has_place
-off_word_up s from j lt none =
-    let word : (from + j) / 64 ≡ from / 64 = omega (arith, lt) in
-    let place : (from + j) % 64 ≡ from % 64 + j = omega (arith, lt) in
-    let bit : bit_at (slice_index_or s.words ((from + j) / 64) 0) ((from + j) % 64) ≡ 0 = ap (λ w. bit_at (slice_index_or s.words w 0) ((from + j) % 64)) word ∙ ap (bit_at (slice_index_or s.words (from / 64) 0)) place ∙ none in
-    rw bit refl
-
-pub off_word_down : (s : PlaceSet) (from j : ℕ) → j ≤ from % 64 → bit_at (slice_index_or s.words (from / 64) 0) (from % 64 - j) ≡ 0 → has_place s (from - j) ≡ false
-unfolding has_place
-off_word_down s from j le none =
-    let word : (from - j) / 64 ≡ from / 64 = omega (arith, le) in
-    let place : (from - j) % 64 ≡ from % 64 - j = omega (arith, le) in
-    let bit : bit_at (slice_index_or s.words ((from - j) / 64) 0) ((from - j) % 64) ≡ 0 = ap (λ w. bit_at (slice_index_or s.words w 0) ((from - j) % 64)) word ∙ ap (bit_at (slice_index_or s.words (from / 64) 0)) place ∙ none in
-    rw bit refl
-
 -- a day of the same month that BYYEARDAY does not name, from either end of the year
 pub off_year_day : (r : Rule) (n d : ℤ) (k back : ℕ) → n ≤ℤ d → d <ℤ (n +ℤ pos k) → k ≤ month_length_of n - day_of n + 1 → back ≡ year_length (year_of n) - ordinal_of n + 1
-    → ((j : ℕ) → j < k → has_place r.year_days (ordinal_of n + j) ≡ false) → ((j : ℕ) → j < k → has_place r.year_days_from_end (back - j) ≡ false) → on_year_day r d ≡ false
+    → ((j : ℕ) → j < k → has r.year_days (ordinal_of n + j) ≡ false) → ((j : ℕ) → j < k → has r.year_days_from_end (back - j) ≡ false) → on_year_day r d ≡ false
 unfolding on_year_day
 off_year_day r n d k back low high few back-is front end =
     let j = unsigned_abs (d -ℤ n) in
@@ -192,6 +152,6 @@ off_year_day r n d k back low high few back-is front end =
     let lt : j < k = omega (arith, signed, low, high) in
     let place : ordinal_of d ≡ ordinal_of n + j = omega (arith, signed, low, first) in
     let behind : year_length (year_of d) - ordinal_of d + 1 ≡ back - j = omega (arith, signed, low, first, last, here, there, back-is) in
-    let a : has_place r.year_days (ordinal_of d) ≡ false = ap (has_place r.year_days) place ∙ front j lt in
-    let b : has_place r.year_days_from_end (year_length (year_of d) - ordinal_of d + 1) ≡ false = ap (has_place r.year_days_from_end) behind ∙ end j lt in
+    let a : has r.year_days (ordinal_of d) ≡ false = ap (has r.year_days) place ∙ front j lt in
+    let b : has r.year_days_from_end (year_length (year_of d) - ordinal_of d + 1) ≡ false = ap (has r.year_days_from_end) behind ∙ end j lt in
     rw (a, b) refl

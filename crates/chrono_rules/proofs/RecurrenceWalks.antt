@@ -9,7 +9,7 @@ use Rattle.chrono_rules.specs.Instances.{is_member}
 use Rattle.chrono_rules.specs.InstanceLists.{IsKept, seen_before}
 use Rattle.chrono_rules.specs.RecurrenceSets.{RecurrenceSet, is_in_recurrence, recurrence_from}
 use Rattle.chrono_rules.specs.declared.rule.End.{End}
-use Rattle.chrono_rules.specs.declared.rule.End.TheVariants.{Never, Count, Until}
+use Rattle.chrono_rules.specs.declared.rule.End.TheVariants.{Count, Never, Until}
 use Rattle.chrono_rules.specs.declared.rule.Rule.{Rule}
 use Rattle.chrono_rules.proofs.DayLists.{days-few, days-first, days-none}
 use Rattle.chrono_rules.proofs.Kept.{kept-counted}

@@ -17,10 +17,14 @@ use Rattle.chrono_datetime.proofs.Cycles.{calendar_name-again, ordinal_name-agai
 use Rattle.chrono_datetime.proofs.MonthDays.{day_of-bounds, later_in_month, month-next}
 use Rattle.chrono_datetime.proofs.Signed.{signed}
 use Rattle.chrono_datetime.proofs.WeekDays.{week_first_of-place, weekday_of-weeks}
-use Rattle.chrono_rules.specs.Instances.{counts_in_month, date_passes, fills_day, fills_month, fills_weekday, has, has_place, in_interval, in_positions, in_week, is_counted, is_member, lacks_month_days, lacks_months, lacks_weekdays, lacks_weeks, lacks_year_days, names_weekday, not_after, on_month_day, on_weekday, on_year_day, passes, period_end, period_first, period_of}
+use Rattle.chrono_rules.specs.ByParts.{counts_in_month, date_passes, fills_day, fills_month, fills_weekday, in_week, names_weekday, on_month_day, on_weekday, on_year_day, passes}
+use Rattle.chrono_sets.specs.Numbers.{has}
+use Rattle.chrono_rules.specs.Instances.{in_interval, in_positions, is_counted, is_member, not_after}
+use Rattle.chrono_rules.specs.RuleParts.{lacks_month_days, lacks_months, lacks_weekdays, lacks_weeks, lacks_year_days}
+use Rattle.chrono_rules.specs.Periods.{period_end, period_first, period_of}
 use Rattle.chrono_rules.specs.InstanceLists.{may_follow}
 use Rattle.chrono_rules.specs.declared.rule.End.{End}
-use Rattle.chrono_rules.specs.declared.rule.End.TheVariants.{Never, Count, Until}
+use Rattle.chrono_rules.specs.declared.rule.End.TheVariants.{Count, Never, Until}
 use Rattle.chrono_rules.specs.declared.rule.Frequency.{Frequency}
 use Rattle.chrono_rules.specs.declared.rule.Frequency.TheVariants.{Daily, Monthly, Weekly, Yearly}
 use Rattle.chrono_rules.specs.declared.rule.Rule.{Rule}
@@ -119,7 +123,7 @@ passes_at r start weekday month day length ordinal year week =
     && ((lacks_months r || has r.months month)
     && ((lacks_month_days r || (has r.month_days day || has r.month_days_from_end ((length - day) + 1)))
     && ((lacks_weekdays r || names_weekday r (days_from_monday weekday) (cond (counts_in_month r.frequency r) day ordinal) (cond (counts_in_month r.frequency r) (length - day) (year - ordinal)))
-    && ((lacks_year_days r || (has_place r.year_days ordinal || has_place r.year_days_from_end ((year - ordinal) + 1))) && (lacks_weeks r || week)))))
+    && ((lacks_year_days r || (has r.year_days ordinal || has r.year_days_from_end ((year - ordinal) + 1))) && (lacks_weeks r || week)))))
 
 passes-is : (r : Rule) (start n : ℤ) → passes r start n ≡ passes_at r start (weekday_of n) (month_of n) (day_of n) (month_length_of n) (ordinal_of n) (year_length (year_of n)) (in_week r n)
 unfolding passes on_month_day on_weekday on_year_day

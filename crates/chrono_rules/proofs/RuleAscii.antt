@@ -10,14 +10,13 @@ use Rattle.std.proofs.lemmas.Str.{IsAscii-append}
 use Rattle.std.proofs.lemmas.Str.Ascii.{IsAscii-nil, IsAscii-cons}
 use Rattle.chrono_text.specs.Text.{two_digits}
 use Rattle.chrono_datetime.specs.Weekday.{days_from_monday}
-use Rattle.chrono_rules.specs.declared.listing.Listed.{Listed}
-use Rattle.chrono_rules.specs.declared.listing.Listed.TheVariants.{Numbers, Places}
-use Rattle.chrono_rules.specs.declared.listing.Naming.{Naming}
-use Rattle.chrono_rules.specs.declared.listing.Naming.TheVariants.{Number, Each, Numbered}
+use Rattle.chrono_sets.specs.Numbers.{Numbers, has}
+use Rattle.chrono_rules.specs.declared.text.list_writer.Naming.{Naming}
+use Rattle.chrono_rules.specs.declared.text.list_writer.Naming.TheVariants.{Each, Number, Numbered}
 use Rattle.chrono_rules.specs.declared.rule.Rule.{Rule}
-use Rattle.chrono_rules.specs.Instances.{lacks_month_days, lacks_months, lacks_positions, lacks_weekdays, lacks_weeks, lacks_year_days}
+use Rattle.chrono_rules.specs.RuleParts.{lacks_month_days, lacks_months, lacks_positions, lacks_weekdays, lacks_weeks, lacks_year_days}
 use Rattle.chrono_rules.specs.RuleErrors.{frequency_text}
-use Rattle.chrono_rules.specs.WrittenRules.{behind, both_items, end_parts, four_digits, item_at, item_text, items, later_parts, list_parts, list_text, lists, numbered_items, part_unless, rule_text, weekday_items, weekday_letters}
+use Rattle.chrono_rules.specs.WrittenRules.{behind, both_items, end_parts, four_digits, item_at, item_text, items, later_parts, list_parts, list_text, numbered_items, part_unless, rule_text, weekday_items, weekday_letters}
 use Rattle.chrono_rules.proofs.ErrorLines.{frequency_ascii, low_ascii}
 use Rattle.chrono_rules.proofs.ListLemmas.{behind_append, join_behind}
 
@@ -88,30 +87,30 @@ item_ascii Number from_end n small = signed_ascii from_end n small
 item_ascii Each from_end n small = letters_ascii n
 item_ascii (Numbered w) from_end n small = IsAscii-append (sign_text from_end ++ decimal n) (weekday_letters w) (signed_ascii from_end n small) (letters_ascii w)
 
-items_ascii : (listed : Listed) (naming : Naming) (from_end : Bool) (count n : ℕ) → n + count ≤ 384 → AreAscii (items listed naming from_end count n)
+items_ascii : (listed : Numbers) (naming : Naming) (from_end : Bool) (count n : ℕ) → n + count ≤ 384 → AreAscii (items listed naming from_end count n)
 unfolding items
 items_ascii listed naming from_end zero n within = tt
 items_ascii listed naming from_end (suc count) n within =
     both (item_at listed naming from_end n) (items listed naming from_end count (n + 1))
-    (each_of (lists listed n) (item_text naming from_end n ∷ []) [] (item_ascii naming from_end n (omega (arith, within)), tt) tt)
+    (each_of (has listed n) (item_text naming from_end n ∷ []) [] (item_ascii naming from_end n (omega (arith, within)), tt) tt)
     (items_ascii listed naming from_end count (n + 1) (omega (arith, within)))
 
-numbered_ascii : (from_end : Bool) (words : List ℕ) (w : ℕ) → AreAscii (numbered_items from_end words w)
+numbered_ascii : (from_end : Bool) (sets : List Numbers) (w : ℕ) → AreAscii (numbered_items from_end sets w)
 unfolding numbered_items
 numbered_ascii from_end [] w = tt
-numbered_ascii from_end (digits ∷ words) w =
-    both (items (Numbers (record { digits = digits })) (Numbered w) from_end 53 1) (numbered_items from_end words (w + 1))
-    (items_ascii (Numbers (record { digits = digits })) (Numbered w) from_end 53 1 (omega arith)) (numbered_ascii from_end words (w + 1))
+numbered_ascii from_end (set ∷ sets) w =
+    both (items set (Numbered w) from_end 53 1) (numbered_items from_end sets (w + 1))
+    (items_ascii set (Numbered w) from_end 53 1 (omega arith)) (numbered_ascii from_end sets (w + 1))
 
-both_ascii : (front back : Listed) (most : ℕ) → most < 384 → AreAscii (both_items front back most)
+both_ascii : (front back : Numbers) (most : ℕ) → most < 384 → AreAscii (both_items front back most)
 both_ascii front back most small =
     both (items front Number false most 1) (items back Number true most 1)
     (items_ascii front Number false most 1 (omega (arith, small))) (items_ascii back Number true most 1 (omega (arith, small)))
 
 weekdays_ascii : (r : Rule) → AreAscii (weekday_items r)
 weekdays_ascii r =
-    both (items (Numbers r.weekdays.every) Each false 7 0) (numbered_items false r.weekdays.front 0 ++ numbered_items true r.weekdays.back 0)
-    (items_ascii (Numbers r.weekdays.every) Each false 7 0 (omega arith))
+    both (items r.weekdays.every Each false 7 0) (numbered_items false r.weekdays.front 0 ++ numbered_items true r.weekdays.back 0)
+    (items_ascii r.weekdays.every Each false 7 0 (omega arith))
     (both (numbered_items false r.weekdays.front 0) (numbered_items true r.weekdays.back 0) (numbered_ascii false r.weekdays.front 0) (numbered_ascii true r.weekdays.back 0))
 
 part_ascii : (lacks : Bool) (name value : List ℕ) → IsAscii name → IsAscii value → AreAscii (part_unless lacks name value)
@@ -123,12 +122,12 @@ list_ascii lacks name texts h are = part_ascii lacks name (list_text texts) h (j
 
 lists_ascii : (r : Rule) → AreAscii (list_parts r)
 lists_ascii r =
-    both _ _ (list_ascii (lacks_months r) (codes "BYMONTH=") (items (Numbers r.months) Number false 12 1) (low_ascii (codes "BYMONTH=") refl) (items_ascii (Numbers r.months) Number false 12 1 (omega arith)))
-    (both _ _ (list_ascii (lacks_month_days r) (codes "BYMONTHDAY=") _ (low_ascii (codes "BYMONTHDAY=") refl) (both_ascii (Numbers r.month_days) (Numbers r.month_days_from_end) 31 (omega arith)))
+    both _ _ (list_ascii (lacks_months r) (codes "BYMONTH=") (items r.months Number false 12 1) (low_ascii (codes "BYMONTH=") refl) (items_ascii r.months Number false 12 1 (omega arith)))
+    (both _ _ (list_ascii (lacks_month_days r) (codes "BYMONTHDAY=") _ (low_ascii (codes "BYMONTHDAY=") refl) (both_ascii r.month_days r.month_days_from_end 31 (omega arith)))
     (both _ _ (list_ascii (lacks_weekdays r) (codes "BYDAY=") _ (low_ascii (codes "BYDAY=") refl) (weekdays_ascii r))
-    (both _ _ (list_ascii (lacks_year_days r) (codes "BYYEARDAY=") _ (low_ascii (codes "BYYEARDAY=") refl) (both_ascii (Places r.year_days) (Places r.year_days_from_end) 366 (omega arith)))
-    (both _ _ (list_ascii (lacks_weeks r) (codes "BYWEEKNO=") _ (low_ascii (codes "BYWEEKNO=") refl) (both_ascii (Numbers r.weeks) (Numbers r.weeks_from_end) 53 (omega arith)))
-    (list_ascii (lacks_positions r) (codes "BYSETPOS=") _ (low_ascii (codes "BYSETPOS=") refl) (both_ascii (Places r.positions) (Places r.positions_from_end) 366 (omega arith)))))))
+    (both _ _ (list_ascii (lacks_year_days r) (codes "BYYEARDAY=") _ (low_ascii (codes "BYYEARDAY=") refl) (both_ascii r.year_days r.year_days_from_end 366 (omega arith)))
+    (both _ _ (list_ascii (lacks_weeks r) (codes "BYWEEKNO=") _ (low_ascii (codes "BYWEEKNO=") refl) (both_ascii r.weeks r.weeks_from_end 53 (omega arith)))
+    (list_ascii (lacks_positions r) (codes "BYSETPOS=") _ (low_ascii (codes "BYSETPOS=") refl) (both_ascii r.positions r.positions_from_end 366 (omega arith)))))))
 
 start_ascii : (lacks : Bool) (w : ℕ) → AreAscii (part_unless lacks (codes "WKST=") (weekday_letters w))
 start_ascii lacks w = part_ascii lacks (codes "WKST=") (weekday_letters w) (low_ascii (codes "WKST=") refl) (letters_ascii w)

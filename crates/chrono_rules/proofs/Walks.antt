@@ -7,7 +7,7 @@ use Rattle.chrono_datetime.proofs.Signed.{signed}
 use Rattle.chrono_rules.specs.Instances.{is_instance, is_member}
 use Rattle.chrono_rules.specs.InstanceLists.{instances_from, seen_before, seen_with}
 use Rattle.chrono_rules.specs.declared.rule.End.{End}
-use Rattle.chrono_rules.specs.declared.rule.End.TheVariants.{Never, Count, Until}
+use Rattle.chrono_rules.specs.declared.rule.End.TheVariants.{Count, Never, Until}
 use Rattle.chrono_rules.specs.declared.rule.Rule.{Rule}
 use Rattle.chrono_rules.proofs.Counts.{seen-kept, seen-next}
 use Rattle.chrono_rules.proofs.DayLists.{days-few, days-first, days-none}

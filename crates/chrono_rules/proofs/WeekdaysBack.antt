@@ -1,26 +1,25 @@
 -- Lists of weekdays, with numbers or without, that are written are read back.
-use Rattle.std.proofs.Common.{◌≡◌, ℕ, zero, suc, ◌+◌, ◌-◌, ◌%◌, ◌^◌, ◌<◌, ◌≤◌, ◌==◌, Bool, true, false, ◌&&◌, List, [], ◌∷◌, ◌++◌, length, set, take, drop, replicate, Some, refl, sym, ap, ◌∙◌, arith, append_assoc, length-append, bit_or}
+use Rattle.std.proofs.Common.{◌≡◌, ℕ, zero, suc, ◌+◌, ◌-◌, ◌<◌, ◌≤◌, Bool, true, false, ◌&&◌, List, [], ◌∷◌, ◌++◌, length, set, take, drop, replicate, Some, refl, sym, ap, ◌∙◌, arith, append_assoc, length-append}
 use Rattle.std.specs.Fmt.{decimal, sign_text}
 use Rattle.std.specs.List.{list_all}
 use Rattle.std.specs.Option.{option_and_then, option_map}
-use Rattle.std.proofs.Math.Nat.{mod-eq_of_lt}
 use Rattle.std.proofs.Math.Seq.{drop-append_seam, get_or-append_seam, set-append_seam, take-append_seam}
 use Rattle.std.proofs.lemmas.Bool.{and_parts, false≢true}
 use Rattle.std.proofs.lemmas.Fmt.{decimal_nonempty, length-decimal-le}
-use Rattle.chrono_rules.specs.declared.listing.Listed.TheVariants.{Numbers}
-use Rattle.chrono_rules.specs.declared.listing.Naming.TheVariants.{Each, Numbered}
-use Rattle.chrono_rules.specs.declared.places.WeekdayPlaces.{WeekdayPlaces}
-use Rattle.chrono_rules.specs.Instances.{are_zero, no_weekdays}
-use Rattle.chrono_rules.specs.Pieces.{through}
-use Rattle.chrono_rules.specs.Places.{place, place_of, weekday_of_letters, weekdays_of, with_nth, with_weekday, with_weekday_text, with_word}
-use Rattle.chrono_rules.specs.ToldRules.{lie_within}
+use Rattle.chrono_sets.specs.Numbers.{Numbers, are_empty, is_empty, lies_within, no_numbers, with_number}
+use Rattle.chrono_rules.specs.NumberLists.{signed_number, signed_number_of, weekday_of_letters, weekdays_of, with_nth, with_nth_of, with_weekday, with_weekday_text}
+use Rattle.chrono_rules.specs.RuleParts.{no_weekdays}
+use Rattle.chrono_rules.specs.Split.{through}
+use Rattle.chrono_rules.specs.WritableRules.{is_from_one_to}
 use Rattle.chrono_rules.specs.WrittenRules.{item_text, items, list_text, numbered_items, weekday_letters}
+use Rattle.chrono_rules.specs.declared.text.list_writer.Naming.TheVariants.{Each, Numbered}
+use Rattle.chrono_rules.specs.declared.weekday_places.WeekdayPlaces.{WeekdayPlaces}
 use Rattle.chrono_rules.proofs.JoinedTexts.{all_of, pieces_joined}
-use Rattle.chrono_rules.proofs.ListsBack.{place_back, set_back, some_of, through_append, through_bits}
+use Rattle.chrono_rules.proofs.ListsBack.{from_one_back, place_back, set_back, some_of, through_append}
 use Rattle.chrono_rules.proofs.WordBytes.{are_word_bytes, items_words, numbered_words, words_lack}
 
-abbrev days_with : ℕ → List ℕ → List ℕ → WeekdayPlaces
-days_with every front back = record { every = record { digits = every }; front = front; back = back }
+abbrev days_with : Numbers → List Numbers → List Numbers → WeekdayPlaces
+days_with every front back = record { every = every; front = front; back = back }
 
 -- a weekday's two letters name it
 letters_back : (w : ℕ) → w < 7 → (length (weekday_letters w) ≡ 2) × (weekday_of_letters (weekday_letters w) ≡ Some w)
@@ -46,19 +45,19 @@ cut_back days front letters w two is =
     ∙ ap (option_and_then (with_weekday days front)) is
 
 -- weekdays without a number
-each_step : (a w : ℕ) → w < 7 → with_weekday_text (days_with a no_weekdays.front no_weekdays.back) (item_text Each false w) ≡ Some (days_with (bit_or a (2 ^ w)) no_weekdays.front no_weekdays.back)
+each_step : (u : Numbers) (w : ℕ) → w < 7 → with_weekday_text (days_with u no_weekdays.front no_weekdays.back) (item_text Each false w) ≡ Some (days_with (with_number u w) no_weekdays.front no_weekdays.back)
 unfolding item_text with_weekday
-each_step a w less =
+each_step u w less =
     let letters = letters_back w less in
-    cut_back (days_with a no_weekdays.front no_weekdays.back) [] (weekday_letters w) w letters.0 letters.1
+    cut_back (days_with u no_weekdays.front no_weekdays.back) [] (weekday_letters w) w letters.0 letters.1
 
 -- weekdays with a number
-with_number_text : (days : WeekdayPlaces) (text : List ℕ) (w : ℕ) → 0 < length text → with_weekday days text w ≡ option_map (with_nth days w) (place_of 2 53 text)
+with_number_text : (days : WeekdayPlaces) (text : List ℕ) (w : ℕ) → 0 < length text → with_weekday days text w ≡ option_map (with_nth days w) (signed_number_of 2 53 text)
 unfolding with_weekday
 with_number_text days [] w some = absurd (omega (arith, some))
 with_number_text days (b ∷ bs) w some = refl
 
-nth_step : (days : WeekdayPlaces) (from_end : Bool) (w k : ℕ) → w < 7 → 1 ≤ k → k < 1 + 53 → with_weekday_text days (item_text (Numbered w) from_end k) ≡ Some (with_nth days w (place from_end k))
+nth_step : (days : WeekdayPlaces) (from_end : Bool) (w k : ℕ) → w < 7 → 1 ≤ k → k < 1 + 53 → with_weekday_text days (item_text (Numbered w) from_end k) ≡ Some (with_nth days w (signed_number from_end k))
 unfolding item_text
 nth_step days from_end w k less some within =
     let letters = letters_back w less in
@@ -67,65 +66,64 @@ nth_step days from_end w k less some within =
     cut_back days text (weekday_letters w) w letters.0 letters.1 ∙ with_number_text days text w has
     ∙ ap (option_map (with_nth days w)) (place_back from_end 2 53 k (omega (arith, within)) some (omega (arith, within)) (length-decimal-le 2 k (omega arith) (omega (arith, within)) (omega (arith, within))))
 
-word_here : (before after : List ℕ) (a n : ℕ) → with_word (before ++ a ∷ after) (length before) n ≡ before ++ bit_or a (2 ^ n) ∷ after
-word_here before after a n =
-    ap (λ x. set (before ++ a ∷ after) (length before) (bit_or x (2 ^ n))) (get_or-append_seam before a after 0) ∙ set-append_seam before a after (bit_or a (2 ^ n))
+nth_here : (before after : List Numbers) (u : Numbers) (n : ℕ) → with_nth_of (before ++ u ∷ after) (length before) n ≡ before ++ with_number u n ∷ after
+nth_here before after u n =
+    ap (λ x. set (before ++ u ∷ after) (length before) (with_number x n)) (get_or-append_seam before u after no_numbers) ∙ set-append_seam before u after (with_number u n)
 
--- as many words that are 0
-abbrev pub blank : List ℕ → List ℕ
+-- as many sets without a member
+abbrev pub blank : List Numbers → List Numbers
 blank [] = []
-blank (d ∷ ds) = 0 ∷ blank ds
+blank (s ∷ sets) = no_numbers ∷ blank sets
 
-pub blank_is : (ds : List ℕ) → blank ds ≡ replicate (length ds) 0
+pub blank_is : (sets : List Numbers) → blank sets ≡ replicate (length sets) no_numbers
 blank_is [] = refl
-blank_is (d ∷ ds) = ap (λ rest. 0 ∷ rest) (blank_is ds)
+blank_is (s ∷ sets) = ap (λ rest. no_numbers ∷ rest) (blank_is sets)
 
-numbered_back : (state : List ℕ → WeekdayPlaces) (from_end : Bool) (before words : List ℕ) → length before + length words ≤ 7 → list_all (lie_within 53) words ≡ true
-    → ((ws : List ℕ) (w k : ℕ) → w < 7 → 1 ≤ k → k < 1 + 53 → with_weekday_text (state ws) (item_text (Numbered w) from_end k) ≡ Some (state (with_word ws w k)))
-    → through with_weekday_text (state (before ++ blank words)) (numbered_items from_end words (length before)) ≡ Some (state (before ++ words))
+numbered_back : (state : List Numbers → WeekdayPlaces) (from_end : Bool) (before sets : List Numbers) → length before + length sets ≤ 7 → list_all (is_from_one_to 53) sets ≡ true
+    → ((xs : List Numbers) (w k : ℕ) → w < 7 → 1 ≤ k → k < 1 + 53 → with_weekday_text (state xs) (item_text (Numbered w) from_end k) ≡ Some (state (with_nth_of xs w k)))
+    → through with_weekday_text (state (before ++ blank sets)) (numbered_items from_end sets (length before)) ≡ Some (state (before ++ sets))
 unfolding numbered_items
 numbered_back state from_end before [] room are steps = refl
-numbered_back state from_end before (d ∷ words) room are steps =
-    let parts = and_parts (lie_within 53 d) (list_all (lie_within 53) words) are in
+numbered_back state from_end before (t ∷ sets) room are steps =
+    let parts = and_parts (is_from_one_to 53 t) (list_all (is_from_one_to 53) sets) are in
     let w = length before in
-    let rest = blank words in
-    let xs = items (Numbers (record { digits = d })) (Numbered w) from_end 53 1 in
-    let ys = numbered_items from_end words (w + 1) in
-    let one = set_back with_weekday_text (λ a. state (before ++ a ∷ rest)) (Numbered w) from_end 53 d parts.0
-    (λ a k some within. steps (before ++ a ∷ rest) w k (omega (arith, room)) some within ∙ ap (λ ws. Some (state ws)) (word_here before rest a k)) in
-    let next : w + 1 ≡ length (before ++ d ∷ []) = omega (arith, length-append before (d ∷ [])) in
-    through_append with_weekday_text (state (before ++ 0 ∷ rest)) xs ys
+    let rest = blank sets in
+    let xs = items t (Numbered w) from_end 53 1 in
+    let ys = numbered_items from_end sets (w + 1) in
+    let one = from_one_back with_weekday_text (λ u. state (before ++ u ∷ rest)) (Numbered w) from_end 53 t parts.0
+    (λ u k some within. steps (before ++ u ∷ rest) w k (omega (arith, room)) some within ∙ ap (λ sets. Some (state sets)) (nth_here before rest u k)) in
+    let next : w + 1 ≡ length (before ++ t ∷ []) = omega (arith, length-append before (t ∷ [])) in
+    through_append with_weekday_text (state (before ++ no_numbers ∷ rest)) xs ys
     ∙ ap (option_and_then (λ t. through with_weekday_text t ys)) one
-    ∙ ap (λ ws. through with_weekday_text (state ws) ys) (sym (append_assoc before (d ∷ []) rest))
-    ∙ ap (λ k. through with_weekday_text (state ((before ++ d ∷ []) ++ rest)) (numbered_items from_end words k)) next
-    ∙ numbered_back state from_end (before ++ d ∷ []) words (omega (arith, room, next)) parts.1 steps
-    ∙ ap (λ ws. Some (state ws)) (append_assoc before (d ∷ []) words)
+    ∙ ap (λ sets. through with_weekday_text (state sets) ys) (sym (append_assoc before (t ∷ []) rest))
+    ∙ ap (λ k. through with_weekday_text (state ((before ++ t ∷ []) ++ rest)) (numbered_items from_end sets k)) next
+    ∙ numbered_back state from_end (before ++ t ∷ []) sets (omega (arith, room, next)) parts.1 steps
+    ∙ ap (λ sets. Some (state sets)) (append_assoc before (t ∷ []) sets)
 
 -- those of all seven weekdays
-seven_back : (state : List ℕ → WeekdayPlaces) (from_end : Bool) (words : List ℕ) → length words ≡ 7 → list_all (lie_within 53) words ≡ true
-    → ((ws : List ℕ) (w k : ℕ) → w < 7 → 1 ≤ k → k < 1 + 53 → with_weekday_text (state ws) (item_text (Numbered w) from_end k) ≡ Some (state (with_word ws w k)))
-    → through with_weekday_text (state no_weekdays.front) (numbered_items from_end words 0) ≡ Some (state words)
-seven_back state from_end words seven are steps =
-    ap (λ ws. through with_weekday_text (state ws) (numbered_items from_end words 0)) (sym (blank_is words ∙ ap (λ n. replicate n 0) seven))
-    ∙ numbered_back state from_end [] words (omega (arith, seven)) are steps
+seven_back : (state : List Numbers → WeekdayPlaces) (from_end : Bool) (sets : List Numbers) → length sets ≡ 7 → list_all (is_from_one_to 53) sets ≡ true
+    → ((xs : List Numbers) (w k : ℕ) → w < 7 → 1 ≤ k → k < 1 + 53 → with_weekday_text (state xs) (item_text (Numbered w) from_end k) ≡ Some (state (with_nth_of xs w k)))
+    → through with_weekday_text (state no_weekdays.front) (numbered_items from_end sets 0) ≡ Some (state sets)
+seven_back state from_end sets seven are steps =
+    ap (λ xs. through with_weekday_text (state xs) (numbered_items from_end sets 0)) (sym (blank_is sets ∙ ap (λ n. replicate n no_numbers) seven))
+    ∙ numbered_back state from_end [] sets (omega (arith, seven)) are steps
 
-pub weekdays_back : (every : ℕ) (front back : List ℕ) → every < 2 ^ 7 → length front ≡ 7 → length back ≡ 7 → list_all (lie_within 53) front ≡ true → list_all (lie_within 53) back ≡ true
-    → ((every == 0) && (are_zero front && are_zero back)) ≡ false
-    → weekdays_of (list_text (items (Numbers (record { digits = every })) Each false 7 0 ++ (numbered_items false front 0 ++ numbered_items true back 0))) ≡ Some (days_with every front back)
+pub weekdays_back : (every : Numbers) (front back : List Numbers) → lies_within 0 7 every ≡ true → length front ≡ 7 → length back ≡ 7 → list_all (is_from_one_to 53) front ≡ true → list_all (is_from_one_to 53) back ≡ true
+    → (is_empty every && (are_empty front && are_empty back)) ≡ false
+    → weekdays_of (list_text (items every Each false 7 0 ++ (numbered_items false front 0 ++ numbered_items true back 0))) ≡ Some (days_with every front back)
 unfolding weekdays_of
 weekdays_back every front back small seven also is too some =
     let step = with_weekday_text in
     let none = no_weekdays.front in
-    let xs = items (Numbers (record { digits = every })) Each false 7 0 in
+    let xs = items every Each false 7 0 in
     let ys = numbered_items false front 0 in
     let zs = numbered_items true back 0 in
-    let start : 0 ≡ every % 2 ^ 0 = omega arith in
-    let first = ap (λ a. through step (days_with a none none) xs) start ∙ through_bits step (λ a. days_with a none none) Each false every 7 0 (λ a k from within. each_step a k within) ∙ ap (λ a. Some (days_with a none none)) (mod-eq_of_lt small) in
-    let second = seven_back (λ ws. days_with every ws none) false front seven is (λ ws w k less from within. nth_step (days_with every ws none) false w k less from within) in
-    let third = seven_back (λ ws. days_with every front ws) true back also too (λ ws w k less from within. nth_step (days_with every front ws) true w k less from within) in
-    let made = through_append step (days_with 0 none none) xs (ys ++ zs) ∙ ap (option_and_then (λ t. through step t (ys ++ zs))) first
+    let first = set_back step (λ u. days_with u none none) Each false 0 7 every small (λ u k from within. each_step u k within) in
+    let second = seven_back (λ sets. days_with every sets none) false front seven is (λ sets w k less from within. nth_step (days_with every sets none) false w k less from within) in
+    let third = seven_back (λ sets. days_with every front sets) true back also too (λ sets w k less from within. nth_step (days_with every front sets) true w k less from within) in
+    let made = through_append step no_weekdays xs (ys ++ zs) ∙ ap (option_and_then (λ t. through step t (ys ++ zs))) first
     ∙ through_append step (days_with every none none) ys zs ∙ ap (option_and_then (λ t. through step t zs)) second ∙ third in
-    let differ : days_with 0 none none ≡ days_with every front back → ⊥ =
-    λ e. false≢true (sym some ∙ sym (ap (λ (t : WeekdayPlaces). (t.every.digits == 0) && (are_zero t.front && are_zero t.back)) e)) in
-    let words = all_of are_word_bytes xs (ys ++ zs) (items_words (Numbers (record { digits = every })) Each false 7 0 (omega arith)) (all_of are_word_bytes ys zs (numbered_words false front 0) (numbered_words true back 0)) in
-    ap (through step no_weekdays) (pieces_joined 44 (xs ++ (ys ++ zs)) (some_of step (days_with 0 none none) (days_with every front back) (xs ++ (ys ++ zs)) made differ) (words_lack 44 (xs ++ (ys ++ zs)) refl words)) ∙ made
+    let differ : no_weekdays ≡ days_with every front back → ⊥ =
+    λ e. false≢true (sym some ∙ sym (ap (λ (t : WeekdayPlaces). is_empty t.every && (are_empty t.front && are_empty t.back)) e)) in
+    let words = all_of are_word_bytes xs (ys ++ zs) (items_words every Each false 7 0 (omega arith)) (all_of are_word_bytes ys zs (numbered_words false front 0) (numbered_words true back 0)) in
+    ap (through step no_weekdays) (pieces_joined 44 (xs ++ (ys ++ zs)) (some_of step no_weekdays (days_with every front back) (xs ++ (ys ++ zs)) made differ) (words_lack 44 (xs ++ (ys ++ zs)) refl words)) ∙ made

@@ -8,11 +8,10 @@ use Rattle.std.specs.Str.{all_ascii_digits}
 use Rattle.std.proofs.lemmas.Bool.{and_from, and_parts, eqb-true, false≢true, le-leb, or_left, or_right}
 use Rattle.std.proofs.lemmas.Fmt.{digits_decimal}
 use Rattle.std.proofs.lemmas.Str.Parse.{IsNumeralModel, numerals_by_fold}
-use Rattle.chrono_rules.specs.declared.listing.Listed.{Listed}
-use Rattle.chrono_rules.specs.declared.listing.Listed.TheVariants.{Numbers}
-use Rattle.chrono_rules.specs.declared.listing.Naming.{Naming}
-use Rattle.chrono_rules.specs.declared.listing.Naming.TheVariants.{Each, Number, Numbered}
-use Rattle.chrono_rules.specs.WrittenRules.{both_items, item_at, item_text, items, list_text, lists, numbered_items, weekday_letters}
+use Rattle.chrono_sets.specs.Numbers.{Numbers, has}
+use Rattle.chrono_rules.specs.declared.text.list_writer.Naming.{Naming}
+use Rattle.chrono_rules.specs.declared.text.list_writer.Naming.TheVariants.{Each, Number, Numbered}
+use Rattle.chrono_rules.specs.WrittenRules.{both_items, item_at, item_text, items, list_text, numbered_items, weekday_letters}
 use Rattle.chrono_rules.proofs.JoinedTexts.{all_of, lacks}
 
 -- a capital letter, a digit or `-`
@@ -98,21 +97,21 @@ one_words : (b : Bool) (text : List ℕ) → are_word_bytes text ≡ true → li
 one_words true text are = and_from (are_word_bytes text) true are refl
 one_words false text are = refl
 
-pub items_words : (listed : Listed) (naming : Naming) (from_end : Bool) (count n : ℕ) → n + count ≤ 384 → list_all are_word_bytes (items listed naming from_end count n) ≡ true
+pub items_words : (listed : Numbers) (naming : Naming) (from_end : Bool) (count n : ℕ) → n + count ≤ 384 → list_all are_word_bytes (items listed naming from_end count n) ≡ true
 unfolding items
 items_words listed naming from_end zero n within = refl
 items_words listed naming from_end (suc count) n within =
     all_of are_word_bytes (item_at listed naming from_end n) (items listed naming from_end count (n + 1))
-    (one_words (lists listed n) (item_text naming from_end n) (item_words naming from_end n (omega (arith, within)))) (items_words listed naming from_end count (n + 1) (omega (arith, within)))
+    (one_words (has listed n) (item_text naming from_end n) (item_words naming from_end n (omega (arith, within)))) (items_words listed naming from_end count (n + 1) (omega (arith, within)))
 
-pub both_words : (front back : Listed) (most : ℕ) → most < 384 → list_all are_word_bytes (both_items front back most) ≡ true
+pub both_words : (front back : Numbers) (most : ℕ) → most < 384 → list_all are_word_bytes (both_items front back most) ≡ true
 both_words front back most small =
     all_of are_word_bytes (items front Number false most 1) (items back Number true most 1)
     (items_words front Number false most 1 (omega (arith, small))) (items_words back Number true most 1 (omega (arith, small)))
 
-pub numbered_words : (from_end : Bool) (words : List ℕ) (w : ℕ) → list_all are_word_bytes (numbered_items from_end words w) ≡ true
+pub numbered_words : (from_end : Bool) (sets : List Numbers) (w : ℕ) → list_all are_word_bytes (numbered_items from_end sets w) ≡ true
 unfolding numbered_items
 numbered_words from_end [] w = refl
-numbered_words from_end (digits ∷ words) w =
-    all_of are_word_bytes (items (Numbers (record { digits = digits })) (Numbered w) from_end 53 1) (numbered_items from_end words (w + 1))
-    (items_words (Numbers (record { digits = digits })) (Numbered w) from_end 53 1 (omega arith)) (numbered_words from_end words (w + 1))
+numbered_words from_end (set ∷ sets) w =
+    all_of are_word_bytes (items set (Numbered w) from_end 53 1) (numbered_items from_end sets (w + 1))
+    (items_words set (Numbered w) from_end 53 1 (omega arith)) (numbered_words from_end sets (w + 1))

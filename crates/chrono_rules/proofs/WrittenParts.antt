@@ -5,19 +5,18 @@ use Rattle.std.specs.Fmt.{decimal}
 use Rattle.std.specs.List.{list_all}
 use Rattle.std.proofs.lemmas.Bool.{false≢true}
 use Rattle.chrono_datetime.specs.Weekday.{days_from_monday}
-use Rattle.chrono_rules.specs.declared.listing.Listed.{Listed}
-use Rattle.chrono_rules.specs.declared.listing.Listed.TheVariants.{Numbers, Places}
-use Rattle.chrono_rules.specs.declared.listing.Naming.TheVariants.{Each, Number}
+use Rattle.chrono_sets.specs.Numbers.{Numbers}
+use Rattle.chrono_rules.specs.declared.text.list_writer.Naming.TheVariants.{Each, Number}
 use Rattle.chrono_rules.specs.declared.rule.End.{End}
-use Rattle.chrono_rules.specs.declared.rule.End.TheVariants.{Never, Count, Until}
+use Rattle.chrono_rules.specs.declared.rule.End.TheVariants.{Count, Never, Until}
 use Rattle.chrono_rules.specs.declared.rule.Frequency.{Frequency}
-use Rattle.chrono_rules.specs.declared.rule.Frequency.TheVariants.{Daily, Weekly, Monthly, Yearly}
+use Rattle.chrono_rules.specs.declared.rule.Frequency.TheVariants.{Daily, Monthly, Weekly, Yearly}
 use Rattle.chrono_rules.specs.declared.rule.Rule.{Rule}
-use Rattle.chrono_rules.specs.Instances.{lacks_month_days, lacks_months, lacks_positions, lacks_weekdays, lacks_weeks, lacks_year_days}
+use Rattle.chrono_rules.specs.RuleParts.{lacks_month_days, lacks_months, lacks_positions, lacks_weekdays, lacks_weeks, lacks_year_days}
 use Rattle.chrono_rules.specs.RuleErrors.{frequency_text}
 use Rattle.chrono_rules.specs.RuleTexts.{parts}
-use Rattle.chrono_rules.specs.ToldRules.{IsTold, IsToldEnd}
-use Rattle.chrono_rules.specs.WrittenRules.{both_items, day_text, end_parts, items, later_parts, list_parts, list_text, part_unless, numbered_items, rule_text, some_in, weekday_items, weekday_letters}
+use Rattle.chrono_rules.specs.WritableRules.{IsWritableRule, IsWritableEnd}
+use Rattle.chrono_rules.specs.WrittenRules.{basic_date_text, both_items, end_parts, items, later_parts, list_parts, list_text, numbered_items, part_unless, rule_text, some_in, weekday_items, weekday_letters}
 use Rattle.chrono_rules.proofs.EndsBack.{day_words}
 use Rattle.chrono_rules.proofs.JoinedTexts.{all_of, lacks, pieces_joined}
 use Rattle.chrono_rules.proofs.PartValues.{Part, part_texts, parts_lack}
@@ -41,25 +40,25 @@ lacks_until (Until n) = false
 abbrev pub until_text : End → List ℕ
 until_text Never = []
 until_text (Count n) = []
-until_text (Until n) = day_text n
+until_text (Until n) = basic_date_text n
 
 abbrev part : Bool → List ℕ → List ℕ → Part
 part lacks name value = record { lacks = lacks; name = name; value = value }
 
 abbrev pub months_text : Rule → List ℕ
-months_text r = list_text (items (Numbers r.months) Number false 12 1)
+months_text r = list_text (items r.months Number false 12 1)
 
 abbrev pub month_days_text : Rule → List ℕ
-month_days_text r = list_text (both_items (Numbers r.month_days) (Numbers r.month_days_from_end) 31)
+month_days_text r = list_text (both_items r.month_days r.month_days_from_end 31)
 
 abbrev pub year_days_text : Rule → List ℕ
-year_days_text r = list_text (both_items (Places r.year_days) (Places r.year_days_from_end) 366)
+year_days_text r = list_text (both_items r.year_days r.year_days_from_end 366)
 
 abbrev pub weeks_text : Rule → List ℕ
-weeks_text r = list_text (both_items (Numbers r.weeks) (Numbers r.weeks_from_end) 53)
+weeks_text r = list_text (both_items r.weeks r.weeks_from_end 53)
 
 abbrev pub positions_text : Rule → List ℕ
-positions_text r = list_text (both_items (Places r.positions) (Places r.positions_from_end) 366)
+positions_text r = list_text (both_items r.positions r.positions_from_end 366)
 
 abbrev pub start_text : Rule → List ℕ
 start_text r = weekday_letters (days_from_monday r.week_start)
@@ -116,48 +115,48 @@ frequency_lacks Weekly = refl
 frequency_lacks Monthly = refl
 frequency_lacks Yearly = refl
 
-count_lacks : (e : End) → IsToldEnd e → lacks 59 (count_text e) ≡ true
-count_lacks Never told = refl
-count_lacks (Count n) told = word_lacks 59 (decimal n) refl (decimal_words n (omega (arith, told)))
-count_lacks (Until n) told = refl
+count_lacks : (e : End) → IsWritableEnd e → lacks 59 (count_text e) ≡ true
+count_lacks Never can = refl
+count_lacks (Count n) can = word_lacks 59 (decimal n) refl (decimal_words n (omega (arith, can)))
+count_lacks (Until n) can = refl
 
-until_lacks : (e : End) → IsToldEnd e → lacks 59 (until_text e) ≡ true
-until_lacks Never told = refl
-until_lacks (Count n) told = refl
-until_lacks (Until n) told = word_lacks 59 (day_text n) refl (day_words n told.0 told.1)
+until_lacks : (e : End) → IsWritableEnd e → lacks 59 (until_text e) ≡ true
+until_lacks Never can = refl
+until_lacks (Count n) can = refl
+until_lacks (Until n) can = word_lacks 59 (basic_date_text n) refl (day_words n can.0 can.1)
 
 weekdays_lack : (r : Rule) → lacks 59 (list_text (weekday_items r)) ≡ true
 weekdays_lack r =
-    let xs = items (Numbers r.weekdays.every) Each false 7 0 in
+    let xs = items r.weekdays.every Each false 7 0 in
     let ys = numbered_items false r.weekdays.front 0 in
     let zs = numbered_items true r.weekdays.back 0 in
     list_lacks (xs ++ (ys ++ zs))
-    (all_of are_word_bytes xs (ys ++ zs) (items_words (Numbers r.weekdays.every) Each false 7 0 (omega arith)) (all_of are_word_bytes ys zs (numbered_words false r.weekdays.front 0) (numbered_words true r.weekdays.back 0)))
+    (all_of are_word_bytes xs (ys ++ zs) (items_words r.weekdays.every Each false 7 0 (omega arith)) (all_of are_word_bytes ys zs (numbered_words false r.weekdays.front 0) (numbered_words true r.weekdays.back 0)))
 
-both_lack : (front back : Listed) (most : ℕ) → most < 384 → lacks 59 (list_text (both_items front back most)) ≡ true
+both_lack : (front back : Numbers) (most : ℕ) → most < 384 → lacks 59 (list_text (both_items front back most)) ≡ true
 both_lack front back most small = list_lacks (both_items front back most) (both_words front back most small)
 
-texts_lack : (r : Rule) → IsTold r → list_all (lacks 59) (part_texts (all_parts r)) ≡ true
-texts_lack r told =
+texts_lack : (r : Rule) → IsWritableRule r → list_all (lacks 59) (part_texts (all_parts r)) ≡ true
+texts_lack r can =
     parts_lack (all_parts r) (
       (refl, frequency_lacks r.frequency),
       (
-        (refl, word_lacks 59 (decimal r.interval) refl (decimal_words r.interval (omega (arith, told.interval.1)))),
+        (refl, word_lacks 59 (decimal r.interval) refl (decimal_words r.interval (omega (arith, can.interval.1)))),
         (
-          (refl, count_lacks r.end told.end),
+          (refl, count_lacks r.end can.end),
           (
-            (refl, until_lacks r.end told.end),
+            (refl, until_lacks r.end can.end),
             (
-              (refl, list_lacks (items (Numbers r.months) Number false 12 1) (items_words (Numbers r.months) Number false 12 1 (omega arith))),
+              (refl, list_lacks (items r.months Number false 12 1) (items_words r.months Number false 12 1 (omega arith))),
               (
-                (refl, both_lack (Numbers r.month_days) (Numbers r.month_days_from_end) 31 (omega arith)),
+                (refl, both_lack r.month_days r.month_days_from_end 31 (omega arith)),
                 (
                   (refl, weekdays_lack r),
                   (
-                    (refl, both_lack (Places r.year_days) (Places r.year_days_from_end) 366 (omega arith)),
+                    (refl, both_lack r.year_days r.year_days_from_end 366 (omega arith)),
                     (
-                      (refl, both_lack (Numbers r.weeks) (Numbers r.weeks_from_end) 53 (omega arith)),
-                      ((refl, both_lack (Places r.positions) (Places r.positions_from_end) 366 (omega arith)), ((refl, word_lacks 59 (start_text r) refl (letters_words (days_from_monday r.week_start))), tt)),
+                      (refl, both_lack r.weeks r.weeks_from_end 53 (omega arith)),
+                      ((refl, both_lack r.positions r.positions_from_end 366 (omega arith)), ((refl, word_lacks 59 (start_text r) refl (letters_words (days_from_monday r.week_start))), tt)),
                     ),
                   ),
                 ),
@@ -168,8 +167,8 @@ texts_lack r told =
       ),
     )
 
-pub parts_back : (r : Rule) → IsTold r → parts (rule_text r) ≡ part_texts (all_parts r)
+pub parts_back : (r : Rule) → IsWritableRule r → parts (rule_text r) ≡ part_texts (all_parts r)
 unfolding rule_text
-parts_back r told =
+parts_back r can =
     let first = codes "FREQ=" ++ frequency_text r.frequency in
-    pieces_joined 59 (first ∷ later_parts r) (λ none. false≢true (sym (ap some_in none))) (ap (list_all (lacks 59)) (parts_row r) ∙ texts_lack r told) ∙ parts_row r
+    pieces_joined 59 (first ∷ later_parts r) (λ none. false≢true (sym (ap some_in none))) (ap (list_all (lacks 59)) (parts_row r) ∙ texts_lack r can) ∙ parts_row r

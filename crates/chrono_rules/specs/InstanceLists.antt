@@ -4,7 +4,7 @@ use Rattle.chrono_datetime.specs.DateLists.{days_from}
 use Rattle.chrono_datetime.specs.Recurrence.{count_between}
 use Rattle.chrono_rules.specs.Instances.{is_instance, is_member}
 use Rattle.chrono_rules.specs.declared.rule.End.{End}
-use Rattle.chrono_rules.specs.declared.rule.End.TheVariants.{Never, Count, Until}
+use Rattle.chrono_rules.specs.declared.rule.End.TheVariants.{Count, Never, Until}
 use Rattle.chrono_rules.specs.declared.rule.Rule.{Rule}
 
 -- of the dates from n on, day after day, those that are instances of the rule from the start on

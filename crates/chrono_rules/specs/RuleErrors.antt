@@ -1,18 +1,21 @@
 -- What is told of a text that no rule has, and why a rule's parts do not go together.
-use Rattle.std.specs.Prelude.{◌≡◌, ◌↔◌, ◌==◌, ℕ, ◌-◌, nat_le, Bool, true, false, not, ◌&&◌, ◌||◌, List, [], ◌∷◌, ◌++◌, length, take, drop, if◌then◌else◌, Option, Some, None, Result, Ok, Err, IfOk, IsErr, codes, refl}
-use Rattle.std.specs.List.{list_all}
+use Rattle.std.specs.Prelude.{◌≡◌, ◌↔◌, ◌==◌, ℕ, ◌-◌, nat_le, nat_lt, Bool, true, false, not, ◌&&◌, ◌||◌, List, [], ◌∷◌, ◌++◌, length, take, drop, slice_index, if◌then◌else◌, Option, Some, None, Result, Ok, Err, IfOk, IsErr, codes, refl}
+use Rattle.std.specs.List.{list_all, list_any}
 use Rattle.std.specs.Option.{is_some}
 use Rattle.std.specs.Str.{all_ascii_digits, byte}
 use Rattle.chrono_datetime.specs.declared.Weekday.TheVariants.{Mon}
-use Rattle.chrono_rules.specs.Instances.{has_numbers, lacks_month_days, lacks_year_days, lacks_weeks, no_numbers, no_weekdays, plain}
-use Rattle.chrono_rules.specs.Pieces.{count_of, digits_of, pieces}
-use Rattle.chrono_rules.specs.Places.{ends_of, no_ends, number_of, place_of, weekday_of_letters, weekdays_of, with_weekday, with_weekday_text}
-use Rattle.chrono_rules.specs.RuleTexts.{IsRuleText, Says, end_of, fits, frequency_of, has_month_days, has_year_parts, interval_of, is_named, is_part, lacks_numbers, months_of, may_have_numbers, no_year_ends, parts, said, values_in, weekday_of_text, year_ends_of}
-use Rattle.chrono_rules.specs.declared.error.RuleError.{RuleError}
-use Rattle.chrono_rules.specs.declared.error.RuleFault.{RuleFault}
-use Rattle.chrono_rules.specs.declared.error.RuleFault.TheVariants.{Unknown, OfHours, OfMinutes, OfSeconds, Missing, Twice, Empty, NotAFrequency, NotANumber, OutOfRange, NotADate, NotAWeekday, BesideCount, NotWith, NumbersNotWith, NumbersBesideWeeks, Alone}
-use Rattle.chrono_rules.specs.declared.error.RulePart.{RulePart}
-use Rattle.chrono_rules.specs.declared.error.RulePart.TheVariants.{Freq, Interval, Count, Until, ByMonth, ByMonthDay, ByDay, ByYearDay, ByWeekNo, BySetPos, Wkst}
+use Rattle.chrono_sets.specs.Numbers.{no_numbers, numbers}
+use Rattle.chrono_rules.specs.Digits.{count_of, digits_of}
+use Rattle.chrono_rules.specs.Split.{pieces}
+use Rattle.chrono_rules.specs.ByParts.{has_numbers}
+use Rattle.chrono_rules.specs.NumberLists.{ends_of, listed_number, month_list_of, no_ends, no_year_ends, signed_number_of, weekday_of_letters, weekdays_of, with_nth_of, with_weekday, with_weekday_text, year_ends_of}
+use Rattle.chrono_rules.specs.RuleParts.{lacks_month_days, lacks_weeks, lacks_year_days, no_weekdays, plain}
+use Rattle.chrono_rules.specs.RuleTexts.{IsRuleText, Says, end_of, fits, frequency_of, has_month_days, has_year_parts, interval_of, is_named, is_part, lacks_numbers, may_have_numbers, parts, rule_body, said, values_in, weekday_of_text}
+use Rattle.chrono_rules.specs.declared.text.rule_error.RuleError.{RuleError}
+use Rattle.chrono_rules.specs.declared.text.rule_error.RuleFault.{RuleFault}
+use Rattle.chrono_rules.specs.declared.text.rule_error.RuleFault.TheVariants.{Unknown, OfHours, OfMinutes, OfSeconds, Extension, OfCalendars, OfSkips, Blank, Missing, Twice, Empty, NotAFrequency, NotANumber, Range, OutOfRange, NotADate, WithTime, NotAWeekday, BesideCount, NotWith, NumbersNotWith, NumbersBesideWeeks, Alone}
+use Rattle.chrono_rules.specs.declared.text.rule_error.RulePart.{RulePart}
+use Rattle.chrono_rules.specs.declared.text.rule_error.RulePart.TheVariants.{Freq, Interval, Count, Until, ByMonth, ByMonthDay, ByDay, ByYearDay, ByWeekNo, BySetPos, Wkst}
 use Rattle.chrono_rules.specs.declared.rule.Frequency.{Frequency}
 use Rattle.chrono_rules.specs.declared.rule.Frequency.TheVariants.{Daily, Weekly, Monthly, Yearly}
 use Rattle.chrono_rules.specs.declared.rule.Rule.{Rule}
@@ -41,7 +44,7 @@ is_read text Freq = is_some (said frequency_of None (values_in text (codes "FREQ
 is_read text Interval = is_some (said interval_of (Some 1) (values_in text (codes "INTERVAL=")))
 is_read text Count = is_some (said count_of (Some 0) (values_in text (codes "COUNT=")))
 is_read text Until = is_some (end_of (values_in text (codes "COUNT=")) (values_in text (codes "UNTIL=")))
-is_read text ByMonth = is_some (said months_of (Some no_numbers) (values_in text (codes "BYMONTH=")))
+is_read text ByMonth = is_some (said month_list_of (Some no_numbers) (values_in text (codes "BYMONTH=")))
 is_read text ByMonthDay = is_some (said (ends_of 2 31) (Some no_ends) (values_in text (codes "BYMONTHDAY=")))
 is_read text ByDay = is_some (said weekdays_of (Some no_weekdays) (values_in text (codes "BYDAY=")))
 is_read text ByYearDay = is_some (said year_ends_of (Some no_year_ends) (values_in text (codes "BYYEARDAY=")))
@@ -53,9 +56,17 @@ is_read text Wkst = is_some (said weekday_of_text (Some Mon) (values_in text (co
 abbrev pub are_digits : List ℕ → Bool
 are_digits text = nat_le 1 (length text) && all_ascii_digits text
 
--- why a text is no number that a part may have: it is not digits, or another number or too many digits
-abbrev pub digits_fault : List ℕ → RuleFault
-digits_fault text = if are_digits text then OutOfRange else NotANumber
+-- a space or a tab stands in the text
+abbrev pub has_blank : List ℕ → Bool
+has_blank text = list_any (λ b. b == byte " " || b == byte "\t") text
+
+-- a `-` stands behind the first byte
+abbrev pub is_range : List ℕ → Bool
+is_range text = list_any (λ b. b == byte "-") (drop 1 text)
+
+-- why a text is no number that a part may have: it is another number or too many digits, it has a blank, it is a range, or none of these
+unfoldable pub digits_fault : List ℕ → RuleFault
+digits_fault text = if are_digits text then OutOfRange else if has_blank text then Blank else if is_range text then Range else NotANumber
 
 -- why a text is no number of a part
 unfoldable pub number_fault : List ℕ → RuleFault
@@ -63,29 +74,33 @@ number_fault [] = Empty
 number_fault (b ∷ bs) = digits_fault (b ∷ bs)
 
 -- with a sign in front, or none
-unfoldable pub place_fault : List ℕ → RuleFault
-place_fault [] = Empty
-place_fault (b ∷ bs) = if (b == byte "-") || (b == byte "+") then digits_fault bs else digits_fault (b ∷ bs)
+unfoldable pub signed_fault : List ℕ → RuleFault
+signed_fault [] = Empty
+signed_fault (b ∷ bs) = if (b == byte "-") || (b == byte "+") then digits_fault bs else digits_fault (b ∷ bs)
+
+-- a blank in the text, or else another fault
+abbrev pub blank_or : RuleFault → List ℕ → RuleFault
+blank_or fault text = if has_blank text then Blank else fault
 
 -- a weekday, behind a number or not: letters that are none, or what stands in front
 unfoldable pub weekday_fault : List ℕ → RuleFault
 weekday_fault [] = Empty
 weekday_fault (b ∷ bs) =
-    if is_some (weekday_of_letters (drop (length (b ∷ bs) - 2) (b ∷ bs))) then place_fault (take (length (b ∷ bs) - 2) (b ∷ bs)) else NotAWeekday
+    if is_some (weekday_of_letters (drop (length (b ∷ bs) - 2) (b ∷ bs))) then signed_fault (take (length (b ∷ bs) - 2) (b ∷ bs)) else blank_or NotAWeekday (b ∷ bs)
 
 -- whether an item of the part's list can be read
 unfoldable pub reads_item : RulePart → List ℕ → Bool
-reads_item ByMonth item = is_some (number_of 2 12 item)
-reads_item ByMonthDay item = is_some (place_of 2 31 item)
+reads_item ByMonth item = is_some (listed_number 2 12 item)
+reads_item ByMonthDay item = is_some (signed_number_of 2 31 item)
 reads_item ByDay item = is_some (with_weekday_text no_weekdays item)
-reads_item ByWeekNo item = is_some (place_of 2 53 item)
-reads_item part item = is_some (place_of 3 366 item)
+reads_item ByWeekNo item = is_some (signed_number_of 2 53 item)
+reads_item part item = is_some (signed_number_of 3 366 item)
 
 -- why an item of the part's list cannot be read
 unfoldable pub item_fault : RulePart → List ℕ → RuleFault
 item_fault ByMonth item = number_fault item
 item_fault ByDay item = weekday_fault item
-item_fault part item = place_fault item
+item_fault part item = signed_fault item
 
 -- why a list cannot be read: by the first item that cannot
 abbrev pub list_fault : RulePart → List (List ℕ) → RuleFault
@@ -94,14 +109,22 @@ list_fault part (item ∷ items) = if reads_item part item then list_fault part 
 
 -- why a value is not the part's
 abbrev pub word_fault : RuleFault → List ℕ → RuleFault
-word_fault fault text = if length text == 0 then Empty else fault
+word_fault fault text = if length text == 0 then Empty else blank_or fault text
+
+-- a `T` stands behind the eight digits of a date
+abbrev pub has_time : List ℕ → Bool
+has_time text = nat_lt 8 (length text) && ((slice_index text 8 == byte "T") || (slice_index text 8 == byte "t"))
+
+-- why a value of UNTIL is no date: a time of day stands behind one, or it is none
+abbrev pub date_fault : List ℕ → RuleFault
+date_fault text = if has_time text then WithTime else word_fault NotADate text
 
 -- why a value of the part cannot be read
 unfoldable pub value_fault : RulePart → List ℕ → RuleFault
 value_fault Freq text = word_fault NotAFrequency text
 value_fault Interval text = number_fault text
 value_fault Count text = number_fault text
-value_fault Until text = word_fault NotADate text
+value_fault Until text = date_fault text
 value_fault Wkst text = word_fault NotAWeekday text
 value_fault part text = list_fault part (pieces (byte ",") text)
 
@@ -152,13 +175,16 @@ unfit_error r =
 abbrev pub are_named : List ℕ → Bool
 are_named text = list_all is_part (parts text)
 
--- why a part has no such name: it is of a time of day, or of nothing
-abbrev pub name_fault : List ℕ → RuleFault
+-- why a part has no such name: it is of a time of day, of a user or of RFC 7529, it is empty, it has a blank, or it is of nothing
+unfoldable pub name_fault : List ℕ → RuleFault
 name_fault part =
     if is_named (codes "BYHOUR=") part then OfHours
     else if is_named (codes "BYMINUTE=") part then OfMinutes
     else if is_named (codes "BYSECOND=") part then OfSeconds
-    else Unknown
+    else if is_named (codes "X-") part then Extension
+    else if is_named (codes "RSCALE=") part then OfCalendars
+    else if is_named (codes "SKIP=") part then OfSkips
+    else word_fault Unknown part
 
 -- by the first part that has none
 abbrev pub unnamed_fault : List (List ℕ) → RuleFault
@@ -167,12 +193,12 @@ unnamed_fault (p ∷ ps) = if is_part p then unnamed_fault ps else name_fault p
 
 -- what a reading with errors answers
 pub record IsChecked (text : List ℕ) (result : Result Rule RuleError) : Type 0 where
-  pub read : IfOk result (λ r. IsRuleText text r)
-  pub every : (r : Rule) → IsRuleText text r → result ≡ Ok r
-  pub found : IsErr result ↔ ((r : Rule) → ¬ IsRuleText text r)
-  pub unknown : are_named text ≡ false → result ≡ Err (record { part = None; fault = unnamed_fault (parts text) })
-  pub unread : are_named text ≡ true → ((r : Rule) → ¬ Says text r) → result ≡ Err (unread_error text)
-  pub unfit : (r : Rule) → are_named text ≡ true → Says text r → fits r ≡ false → result ≡ Err (unfit_error r)
+  pub read : IfOk result (λ r. IsRuleText (rule_body text) r)
+  pub every : (r : Rule) → IsRuleText (rule_body text) r → result ≡ Ok r
+  pub found : IsErr result ↔ ((r : Rule) → ¬ IsRuleText (rule_body text) r)
+  pub unknown : are_named (rule_body text) ≡ false → result ≡ Err (record { part = None; fault = unnamed_fault (parts (rule_body text)) })
+  pub unread : are_named (rule_body text) ≡ true → ((r : Rule) → ¬ Says (rule_body text) r) → result ≡ Err (unread_error (rule_body text))
+  pub unfit : (r : Rule) → are_named (rule_body text) ≡ true → Says (rule_body text) r → fits r ≡ false → result ≡ Err (unfit_error r)
 
 -- the line that is told of an error: FREQ's words
 unfoldable pub frequency_text : Frequency → List ℕ
@@ -187,13 +213,19 @@ fault_words Unknown = codes "unknown part"
 fault_words OfHours = codes "BYHOUR: not in rules over days"
 fault_words OfMinutes = codes "BYMINUTE: not in rules over days"
 fault_words OfSeconds = codes "BYSECOND: not in rules over days"
+fault_words Extension = codes "an X- part, which is not read"
+fault_words OfCalendars = codes "RSCALE: not in rules of RFC 5545"
+fault_words OfSkips = codes "SKIP: not in rules of RFC 5545"
+fault_words Blank = codes "a blank"
 fault_words Missing = codes "missing"
 fault_words Twice = codes "stands twice"
 fault_words Empty = codes "empty"
 fault_words NotAFrequency = codes "not DAILY, WEEKLY, MONTHLY or YEARLY"
 fault_words NotANumber = codes "not a number"
+fault_words Range = codes "a range; list each with commas"
 fault_words OutOfRange = codes "number out of range"
 fault_words NotADate = codes "not a date as 19971224"
+fault_words WithTime = codes "a time stands behind the date"
 fault_words NotAWeekday = codes "not a weekday as MO"
 fault_words BesideCount = codes "does not go with COUNT"
 fault_words (NotWith f) = codes "does not go with "
@@ -213,8 +245,8 @@ frequency_behind None = []
 frequency_behind (Some f) = frequency_text f
 
 -- what is wrong, with the word of FREQ behind it
-abbrev pub fault_text : RuleFault → List ℕ
-fault_text fault = fault_words fault ++ frequency_behind (fault_frequency fault)
+abbrev pub rule_fault_text : RuleFault → List ℕ
+rule_fault_text fault = fault_words fault ++ frequency_behind (fault_frequency fault)
 
 -- behind the part's name, if there is one
 abbrev pub in_front : Option RulePart → List ℕ
@@ -222,21 +254,71 @@ in_front None = []
 in_front (Some part) = part_name part ++ codes ": "
 
 -- the line of an error: the part's name, if there is one, and what is wrong
-unfoldable pub error_text : RuleError → List ℕ
-error_text e = in_front e.part ++ fault_text e.fault
+unfoldable pub rule_error_text : RuleError → List ℕ
+rule_error_text e = in_front e.part ++ rule_fault_text e.fault
 
 -- known values: a part of hours, of minutes and of seconds, in letters of either case, and the first of several parts without a name of rules over days
 unnamed_fault-hours : unnamed_fault (parts (codes "FREQ=DAILY;byhour=9,10;BYMINUTE=30")) ≡ OfHours
+unfolding name_fault
 unnamed_fault-hours = refl
 
 unnamed_fault-minutes : unnamed_fault (parts (codes "BYMINUTE=30;BYHOUR=9")) ≡ OfMinutes
+unfolding name_fault
 unnamed_fault-minutes = refl
 
 unnamed_fault-seconds : unnamed_fault (parts (codes "FREQ=DAILY;BYSECOND=0;X=1")) ≡ OfSeconds
+unfolding name_fault
 unnamed_fault-seconds = refl
 
 unnamed_fault-first : unnamed_fault (parts (codes "FREQ=DAILY;BYHOURS=9;BYHOUR=9")) ≡ Unknown
+unfolding name_fault
 unnamed_fault-first = refl
+
+-- a part of a user, those of RFC 7529, a blank in front of a name, and nothing
+unnamed_fault-extension : unnamed_fault (parts (codes "FREQ=DAILY;x-note=1;SKIP=OMIT")) ≡ Extension
+unfolding name_fault
+unnamed_fault-extension = refl
+
+unnamed_fault-rscale : unnamed_fault (parts (codes "RSCALE=GREGORIAN;FREQ=DAILY")) ≡ OfCalendars
+unfolding name_fault
+unnamed_fault-rscale = refl
+
+unnamed_fault-skip : unnamed_fault (parts (codes "FREQ=DAILY;SKIP=OMIT")) ≡ OfSkips
+unfolding name_fault
+unnamed_fault-skip = refl
+
+unnamed_fault-blank : unnamed_fault (parts (codes "FREQ=DAILY; COUNT=3")) ≡ Blank
+unfolding name_fault
+unnamed_fault-blank = refl
+
+unnamed_fault-nothing : unnamed_fault (parts []) ≡ Empty
+unfolding name_fault
+unnamed_fault-nothing = refl
+
+-- ranges where a list is due, a date-time, and blanks behind a value
+value_fault-weekday_range : value_fault ByDay (codes "MO-FR") ≡ Range
+unfolding value_fault reads_item item_fault weekday_fault with_weekday_text with_weekday weekday_of_letters signed_fault signed_number_of listed_number digits_of digits_fault
+value_fault-weekday_range = refl
+
+value_fault-day_range : value_fault ByMonthDay (codes "1-5") ≡ Range
+unfolding value_fault reads_item item_fault signed_fault signed_number_of listed_number digits_of digits_fault
+value_fault-day_range = refl
+
+value_fault-two_signs : value_fault ByMonthDay (codes "--5") ≡ NotANumber
+unfolding value_fault reads_item item_fault signed_fault signed_number_of listed_number digits_of digits_fault
+value_fault-two_signs = refl
+
+value_fault-time : value_fault Until (codes "19971224T000000Z") ≡ WithTime
+unfolding value_fault
+value_fault-time = refl
+
+value_fault-blank_behind : value_fault Freq (codes "DAILY ") ≡ Blank
+unfolding value_fault
+value_fault-blank_behind = refl
+
+value_fault-blank_in_list : value_fault ByMonth (codes "1, 2") ≡ Blank
+unfolding value_fault reads_item item_fault number_fault listed_number digits_of digits_fault
+value_fault-blank_in_list = refl
 
 -- a text that lacks FREQ, one that has it twice, and the first of two parts that cannot be read
 unread_error-missing : unread_error (codes "COUNT=3") ≡ record { part = Some Freq; fault = Missing }
@@ -248,7 +330,7 @@ unfolding unread_error is_read part_fault part_name
 unread_error-twice = refl
 
 unread_error-first : unread_error (codes "FREQ=DAILY;WKST=XX;INTERVAL=0") ≡ record { part = Some Interval; fault = OutOfRange }
-unfolding unread_error is_read part_fault part_name value_fault number_fault frequency_of interval_of count_of
+unfolding unread_error is_read part_fault part_name value_fault number_fault frequency_of interval_of count_of digits_fault
 unread_error-first = refl
 
 -- an UNTIL beside a COUNT
@@ -258,47 +340,47 @@ part_fault-until = refl
 
 -- each part by its name, and why its value is not its own
 part_fault-freq_part : part_fault (codes "FREQ=HOURLY") Freq ≡ NotAFrequency
-unfolding part_fault part_name value_fault number_fault reads_item item_fault place_fault place_of weekday_fault with_weekday_text with_weekday weekday_of_letters number_of digits_of
+unfolding part_fault part_name value_fault number_fault reads_item item_fault signed_fault signed_number_of weekday_fault with_weekday_text with_weekday weekday_of_letters listed_number digits_of digits_fault
 part_fault-freq_part = refl
 
 part_fault-interval_part : part_fault (codes "INTERVAL=-1") Interval ≡ NotANumber
-unfolding part_fault part_name value_fault number_fault reads_item item_fault place_fault place_of weekday_fault with_weekday_text with_weekday weekday_of_letters number_of digits_of
+unfolding part_fault part_name value_fault number_fault reads_item item_fault signed_fault signed_number_of weekday_fault with_weekday_text with_weekday weekday_of_letters listed_number digits_of digits_fault
 part_fault-interval_part = refl
 
 part_fault-count_part : part_fault (codes "COUNT=4294967296") Count ≡ OutOfRange
-unfolding part_fault part_name value_fault number_fault reads_item item_fault place_fault place_of weekday_fault with_weekday_text with_weekday weekday_of_letters number_of digits_of
+unfolding part_fault part_name value_fault number_fault reads_item item_fault signed_fault signed_number_of weekday_fault with_weekday_text with_weekday weekday_of_letters listed_number digits_of digits_fault
 part_fault-count_part = refl
 
 part_fault-until_part : part_fault (codes "UNTIL=1997") Until ≡ NotADate
-unfolding part_fault part_name value_fault number_fault reads_item item_fault place_fault place_of weekday_fault with_weekday_text with_weekday weekday_of_letters number_of digits_of
+unfolding part_fault part_name value_fault number_fault reads_item item_fault signed_fault signed_number_of weekday_fault with_weekday_text with_weekday weekday_of_letters listed_number digits_of digits_fault
 part_fault-until_part = refl
 
 part_fault-by_month_part : part_fault (codes "BYMONTH=12,13") ByMonth ≡ OutOfRange
-unfolding part_fault part_name value_fault number_fault reads_item item_fault place_fault place_of weekday_fault with_weekday_text with_weekday weekday_of_letters number_of digits_of
+unfolding part_fault part_name value_fault number_fault reads_item item_fault signed_fault signed_number_of weekday_fault with_weekday_text with_weekday weekday_of_letters listed_number digits_of digits_fault
 part_fault-by_month_part = refl
 
 part_fault-by_month_day_part : part_fault (codes "BYMONTHDAY=-31,-32") ByMonthDay ≡ OutOfRange
-unfolding part_fault part_name value_fault number_fault reads_item item_fault place_fault place_of weekday_fault with_weekday_text with_weekday weekday_of_letters number_of digits_of
+unfolding part_fault part_name value_fault number_fault reads_item item_fault signed_fault signed_number_of weekday_fault with_weekday_text with_weekday weekday_of_letters listed_number digits_of digits_fault
 part_fault-by_month_day_part = refl
 
 part_fault-by_day_part : part_fault (codes "BYDAY=MO,XX") ByDay ≡ NotAWeekday
-unfolding part_fault part_name value_fault number_fault reads_item item_fault place_fault place_of weekday_fault with_weekday_text with_weekday weekday_of_letters number_of digits_of
+unfolding part_fault part_name value_fault number_fault reads_item item_fault signed_fault signed_number_of weekday_fault with_weekday_text with_weekday weekday_of_letters listed_number digits_of digits_fault
 part_fault-by_day_part = refl
 
 part_fault-by_year_day_part : part_fault (codes "BYYEARDAY=-366,x") ByYearDay ≡ NotANumber
-unfolding part_fault part_name value_fault number_fault reads_item item_fault place_fault place_of weekday_fault with_weekday_text with_weekday weekday_of_letters number_of digits_of
+unfolding part_fault part_name value_fault number_fault reads_item item_fault signed_fault signed_number_of weekday_fault with_weekday_text with_weekday weekday_of_letters listed_number digits_of digits_fault
 part_fault-by_year_day_part = refl
 
 part_fault-by_week_no_part : part_fault (codes "BYWEEKNO=53,54") ByWeekNo ≡ OutOfRange
-unfolding part_fault part_name value_fault number_fault reads_item item_fault place_fault place_of weekday_fault with_weekday_text with_weekday weekday_of_letters number_of digits_of
+unfolding part_fault part_name value_fault number_fault reads_item item_fault signed_fault signed_number_of weekday_fault with_weekday_text with_weekday weekday_of_letters listed_number digits_of digits_fault
 part_fault-by_week_no_part = refl
 
 part_fault-by_set_pos_part : part_fault (codes "BYSETPOS=366,0") BySetPos ≡ OutOfRange
-unfolding part_fault part_name value_fault number_fault reads_item item_fault place_fault place_of weekday_fault with_weekday_text with_weekday weekday_of_letters number_of digits_of
+unfolding part_fault part_name value_fault number_fault reads_item item_fault signed_fault signed_number_of weekday_fault with_weekday_text with_weekday weekday_of_letters listed_number digits_of digits_fault
 part_fault-by_set_pos_part = refl
 
 part_fault-wkst_part : part_fault (codes "WKST=1MO") Wkst ≡ NotAWeekday
-unfolding part_fault part_name value_fault number_fault reads_item item_fault place_fault place_of weekday_fault with_weekday_text with_weekday weekday_of_letters number_of digits_of
+unfolding part_fault part_name value_fault number_fault reads_item item_fault signed_fault signed_number_of weekday_fault with_weekday_text with_weekday weekday_of_letters listed_number digits_of digits_fault
 part_fault-wkst_part = refl
 
 -- nothing where a word should stand
@@ -316,56 +398,56 @@ value_fault-no_wkst = refl
 
 -- the greatest number of each list is read, and the one behind it is not
 value_fault-last_by_month : value_fault ByMonth (codes "12,x") ≡ NotANumber
-unfolding value_fault reads_item item_fault number_fault place_fault place_of number_of digits_of
+unfolding value_fault reads_item item_fault number_fault signed_fault signed_number_of listed_number digits_of digits_fault
 value_fault-last_by_month = refl
 
 value_fault-past_by_month : value_fault ByMonth (codes "13,x") ≡ OutOfRange
-unfolding value_fault reads_item item_fault number_fault place_fault place_of number_of digits_of
+unfolding value_fault reads_item item_fault number_fault signed_fault signed_number_of listed_number digits_of digits_fault
 value_fault-past_by_month = refl
 
 value_fault-last_by_month_day : value_fault ByMonthDay (codes "31,x") ≡ NotANumber
-unfolding value_fault reads_item item_fault number_fault place_fault place_of number_of digits_of
+unfolding value_fault reads_item item_fault number_fault signed_fault signed_number_of listed_number digits_of digits_fault
 value_fault-last_by_month_day = refl
 
 value_fault-past_by_month_day : value_fault ByMonthDay (codes "32,x") ≡ OutOfRange
-unfolding value_fault reads_item item_fault number_fault place_fault place_of number_of digits_of
+unfolding value_fault reads_item item_fault number_fault signed_fault signed_number_of listed_number digits_of digits_fault
 value_fault-past_by_month_day = refl
 
 value_fault-last_by_year_day : value_fault ByYearDay (codes "366,x") ≡ NotANumber
-unfolding value_fault reads_item item_fault number_fault place_fault place_of number_of digits_of
+unfolding value_fault reads_item item_fault number_fault signed_fault signed_number_of listed_number digits_of digits_fault
 value_fault-last_by_year_day = refl
 
 value_fault-past_by_year_day : value_fault ByYearDay (codes "367,x") ≡ OutOfRange
-unfolding value_fault reads_item item_fault number_fault place_fault place_of number_of digits_of
+unfolding value_fault reads_item item_fault number_fault signed_fault signed_number_of listed_number digits_of digits_fault
 value_fault-past_by_year_day = refl
 
 value_fault-last_by_week_no : value_fault ByWeekNo (codes "-53,x") ≡ NotANumber
-unfolding value_fault reads_item item_fault number_fault place_fault place_of number_of digits_of
+unfolding value_fault reads_item item_fault number_fault signed_fault signed_number_of listed_number digits_of digits_fault
 value_fault-last_by_week_no = refl
 
 value_fault-past_by_week_no : value_fault ByWeekNo (codes "-54,x") ≡ OutOfRange
-unfolding value_fault reads_item item_fault number_fault place_fault place_of number_of digits_of
+unfolding value_fault reads_item item_fault number_fault signed_fault signed_number_of listed_number digits_of digits_fault
 value_fault-past_by_week_no = refl
 
 value_fault-last_by_set_pos : value_fault BySetPos (codes "-366,x") ≡ NotANumber
-unfolding value_fault reads_item item_fault number_fault place_fault place_of number_of digits_of
+unfolding value_fault reads_item item_fault number_fault signed_fault signed_number_of listed_number digits_of digits_fault
 value_fault-last_by_set_pos = refl
 
 value_fault-past_by_set_pos : value_fault BySetPos (codes "-367,x") ≡ OutOfRange
-unfolding value_fault reads_item item_fault number_fault place_fault place_of number_of digits_of
+unfolding value_fault reads_item item_fault number_fault signed_fault signed_number_of listed_number digits_of digits_fault
 value_fault-past_by_set_pos = refl
 
 -- a list by the first item that cannot be read: past its last number, without a digit, with nothing, and no weekday
 list_fault-past : value_fault ByMonthDay (codes "1,32,x") ≡ OutOfRange
-unfolding value_fault reads_item item_fault place_fault place_of number_of digits_of
+unfolding value_fault reads_item item_fault signed_fault signed_number_of listed_number digits_of digits_fault
 list_fault-past = refl
 
 list_fault-sign : value_fault BySetPos (codes "-") ≡ NotANumber
-unfolding value_fault reads_item item_fault place_fault place_of number_of digits_of
+unfolding value_fault reads_item item_fault signed_fault signed_number_of listed_number digits_of digits_fault
 list_fault-sign = refl
 
 list_fault-comma : value_fault ByMonth (codes "1,,13") ≡ Empty
-unfolding value_fault reads_item item_fault number_fault number_of digits_of
+unfolding value_fault reads_item item_fault number_fault listed_number digits_of digits_fault
 list_fault-comma = refl
 
 list_fault-weekday : value_fault ByDay (codes "MO,2XX") ≡ NotAWeekday
@@ -373,84 +455,84 @@ unfolding value_fault reads_item item_fault weekday_fault with_weekday_text with
 list_fault-weekday = refl
 
 list_fault-numbered : value_fault ByDay (codes "54MO") ≡ OutOfRange
-unfolding value_fault reads_item item_fault weekday_fault with_weekday_text with_weekday weekday_of_letters place_fault place_of number_of digits_of
+unfolding value_fault reads_item item_fault weekday_fault with_weekday_text with_weekday weekday_of_letters signed_fault signed_number_of listed_number digits_of digits_fault
 list_fault-numbered = refl
 
 -- days of the year and weeks in a rule by months, numbers in one by days and beside weeks, and positions alone
-unfit_error-year_day : unfit_error (record (plain Monthly) { year_days = record { words = 2 ∷ 0 ∷ 0 ∷ 0 ∷ 0 ∷ 0 ∷ [] } }) ≡ record { part = Some ByYearDay; fault = NotWith Monthly }
+unfit_error-year_day : unfit_error (record (plain Monthly) { year_days = numbers (1 ∷ []) }) ≡ record { part = Some ByYearDay; fault = NotWith Monthly }
 unfolding unfit_error has_month_days has_year_parts
 unfit_error-year_day = refl
 
-unfit_error-week : unfit_error (record (plain Monthly) { weeks = record { digits = 2 } }) ≡ record { part = Some ByWeekNo; fault = NotWith Monthly }
+unfit_error-week : unfit_error (record (plain Monthly) { weeks = numbers (1 ∷ []) }) ≡ record { part = Some ByWeekNo; fault = NotWith Monthly }
 unfolding unfit_error has_month_days has_year_parts
 unfit_error-week = refl
 
-unfit_error-number : unfit_error (record (plain Daily) { weekdays = record { every = no_numbers; front = 2 ∷ 0 ∷ 0 ∷ 0 ∷ 0 ∷ 0 ∷ 0 ∷ []; back = no_weekdays.back } }) ≡ record { part = Some ByDay; fault = NumbersNotWith Daily }
+unfit_error-number : unfit_error (record (plain Daily) { weekdays = record { every = no_numbers; front = with_nth_of no_weekdays.front 0 1; back = no_weekdays.back } }) ≡ record { part = Some ByDay; fault = NumbersNotWith Daily }
 unfolding unfit_error has_month_days has_year_parts has_numbers
 unfit_error-number = refl
 
-unfit_error-number_of_weeks : unfit_error (record (plain Yearly) { weekdays = record { every = no_numbers; front = 2 ∷ 0 ∷ 0 ∷ 0 ∷ 0 ∷ 0 ∷ 0 ∷ []; back = no_weekdays.back }; weeks = record { digits = 2 } }) ≡ record { part = Some ByDay; fault = NumbersBesideWeeks }
+unfit_error-number_of_weeks : unfit_error (record (plain Yearly) { weekdays = record { every = no_numbers; front = with_nth_of no_weekdays.front 0 1; back = no_weekdays.back }; weeks = numbers (1 ∷ []) }) ≡ record { part = Some ByDay; fault = NumbersBesideWeeks }
 unfolding unfit_error has_month_days has_year_parts has_numbers
 unfit_error-number_of_weeks = refl
 
-unfit_error-position : unfit_error (record (plain Yearly) { positions = record { words = 2 ∷ 0 ∷ 0 ∷ 0 ∷ 0 ∷ 0 ∷ [] } }) ≡ record { part = Some BySetPos; fault = Alone }
+unfit_error-position : unfit_error (record (plain Yearly) { positions = numbers (1 ∷ []) }) ≡ record { part = Some BySetPos; fault = Alone }
 unfolding unfit_error has_month_days has_year_parts has_numbers
 unfit_error-position = refl
 
 -- days of the month in a rule by weeks
-unfit_error-month_day : unfit_error (record (plain Weekly) { month_days = record { digits = 8_192 } }) ≡ record { part = Some ByMonthDay; fault = NotWith Weekly }
+unfit_error-month_day : unfit_error (record (plain Weekly) { month_days = numbers (13 ∷ []) }) ≡ record { part = Some ByMonthDay; fault = NotWith Weekly }
 unfolding unfit_error has_month_days
 unfit_error-month_day = refl
 
 -- lines
-error_text-with : error_text (record { part = Some ByMonthDay; fault = NotWith Weekly }) ≡ codes "BYMONTHDAY: does not go with WEEKLY"
-unfolding error_text fault_words fault_frequency part_name frequency_text
-error_text-with = refl
+rule_error_text-with : rule_error_text (record { part = Some ByMonthDay; fault = NotWith Weekly }) ≡ codes "BYMONTHDAY: does not go with WEEKLY"
+unfolding rule_error_text fault_words fault_frequency part_name frequency_text
+rule_error_text-with = refl
 
-error_text-freq : error_text (record { part = Some Freq; fault = Missing }) ≡ codes "FREQ: missing"
-unfolding error_text fault_words fault_frequency part_name frequency_text
-error_text-freq = refl
+rule_error_text-freq : rule_error_text (record { part = Some Freq; fault = Missing }) ≡ codes "FREQ: missing"
+unfolding rule_error_text fault_words fault_frequency part_name frequency_text
+rule_error_text-freq = refl
 
-error_text-interval : error_text (record { part = Some Interval; fault = OutOfRange }) ≡ codes "INTERVAL: number out of range"
-unfolding error_text fault_words fault_frequency part_name frequency_text
-error_text-interval = refl
+rule_error_text-interval : rule_error_text (record { part = Some Interval; fault = OutOfRange }) ≡ codes "INTERVAL: number out of range"
+unfolding rule_error_text fault_words fault_frequency part_name frequency_text
+rule_error_text-interval = refl
 
-error_text-count : error_text (record { part = Some Count; fault = NotANumber }) ≡ codes "COUNT: not a number"
-unfolding error_text fault_words fault_frequency part_name frequency_text
-error_text-count = refl
+rule_error_text-count : rule_error_text (record { part = Some Count; fault = NotANumber }) ≡ codes "COUNT: not a number"
+unfolding rule_error_text fault_words fault_frequency part_name frequency_text
+rule_error_text-count = refl
 
-error_text-until : error_text (record { part = Some Until; fault = BesideCount }) ≡ codes "UNTIL: does not go with COUNT"
-unfolding error_text fault_words fault_frequency part_name frequency_text
-error_text-until = refl
+rule_error_text-until : rule_error_text (record { part = Some Until; fault = BesideCount }) ≡ codes "UNTIL: does not go with COUNT"
+unfolding rule_error_text fault_words fault_frequency part_name frequency_text
+rule_error_text-until = refl
 
-error_text-by_month : error_text (record { part = Some ByMonth; fault = Empty }) ≡ codes "BYMONTH: empty"
-unfolding error_text fault_words fault_frequency part_name frequency_text
-error_text-by_month = refl
+rule_error_text-by_month : rule_error_text (record { part = Some ByMonth; fault = Empty }) ≡ codes "BYMONTH: empty"
+unfolding rule_error_text fault_words fault_frequency part_name frequency_text
+rule_error_text-by_month = refl
 
-error_text-by_day : error_text (record { part = Some ByDay; fault = NumbersBesideWeeks }) ≡ codes "BYDAY: number does not go with BYWEEKNO"
-unfolding error_text fault_words fault_frequency part_name frequency_text
-error_text-by_day = refl
+rule_error_text-by_day : rule_error_text (record { part = Some ByDay; fault = NumbersBesideWeeks }) ≡ codes "BYDAY: number does not go with BYWEEKNO"
+unfolding rule_error_text fault_words fault_frequency part_name frequency_text
+rule_error_text-by_day = refl
 
-error_text-by_year_day : error_text (record { part = Some ByYearDay; fault = NotWith Monthly }) ≡ codes "BYYEARDAY: does not go with MONTHLY"
-unfolding error_text fault_words fault_frequency part_name frequency_text
-error_text-by_year_day = refl
+rule_error_text-by_year_day : rule_error_text (record { part = Some ByYearDay; fault = NotWith Monthly }) ≡ codes "BYYEARDAY: does not go with MONTHLY"
+unfolding rule_error_text fault_words fault_frequency part_name frequency_text
+rule_error_text-by_year_day = refl
 
-error_text-by_week_no : error_text (record { part = Some ByWeekNo; fault = NotWith Daily }) ≡ codes "BYWEEKNO: does not go with DAILY"
-unfolding error_text fault_words fault_frequency part_name frequency_text
-error_text-by_week_no = refl
+rule_error_text-by_week_no : rule_error_text (record { part = Some ByWeekNo; fault = NotWith Daily }) ≡ codes "BYWEEKNO: does not go with DAILY"
+unfolding rule_error_text fault_words fault_frequency part_name frequency_text
+rule_error_text-by_week_no = refl
 
-error_text-by_set_pos : error_text (record { part = Some BySetPos; fault = Alone }) ≡ codes "BYSETPOS: needs another BY part"
-unfolding error_text fault_words fault_frequency part_name frequency_text
-error_text-by_set_pos = refl
+rule_error_text-by_set_pos : rule_error_text (record { part = Some BySetPos; fault = Alone }) ≡ codes "BYSETPOS: needs another BY part"
+unfolding rule_error_text fault_words fault_frequency part_name frequency_text
+rule_error_text-by_set_pos = refl
 
-error_text-wkst : error_text (record { part = Some Wkst; fault = NotAWeekday }) ≡ codes "WKST: not a weekday as MO"
-unfolding error_text fault_words fault_frequency part_name frequency_text
-error_text-wkst = refl
+rule_error_text-wkst : rule_error_text (record { part = Some Wkst; fault = NotAWeekday }) ≡ codes "WKST: not a weekday as MO"
+unfolding rule_error_text fault_words fault_frequency part_name frequency_text
+rule_error_text-wkst = refl
 
-error_text-unknown : error_text (record { part = None; fault = Unknown }) ≡ codes "unknown part"
-unfolding error_text fault_words fault_frequency
-error_text-unknown = refl
+rule_error_text-unknown : rule_error_text (record { part = None; fault = Unknown }) ≡ codes "unknown part"
+unfolding rule_error_text fault_words fault_frequency
+rule_error_text-unknown = refl
 
-error_text-minutes : error_text (record { part = None; fault = OfMinutes }) ≡ codes "BYMINUTE: not in rules over days"
-unfolding error_text fault_words fault_frequency
-error_text-minutes = refl
+rule_error_text-minutes : rule_error_text (record { part = None; fault = OfMinutes }) ≡ codes "BYMINUTE: not in rules over days"
+unfolding rule_error_text fault_words fault_frequency
+rule_error_text-minutes = refl

@@ -1,5 +1,6 @@
 -- The texts of rules (RFC 5545, section 3.3.10), as `FREQ=MONTHLY;BYDAY=-1FR`.
-use Rattle.std.specs.Prelude.{◌≡◌, ℕ, ◌/◌, ◌%◌, ◌==◌, Bool, true, false, not, ◌&&◌, ◌||◌, List, [], ◌∷◌, length, take, drop, if◌then◌else◌, Option, Some, None, ℤ, pos, codes, refl}
+-- What stands in quotation marks here gives the sense of that section, which may say it in other words.
+use Rattle.std.specs.Prelude.{◌≡◌, ℕ, ◌-◌, ◌==◌, nat_lt, Bool, true, false, not, ◌&&◌, ◌||◌, List, [], ◌∷◌, length, take, drop, slice_index, if◌then◌else◌, Option, Some, None, ℤ, pos, codes, refl}
 use Rattle.std.specs.List.{list_all}
 use Rattle.std.specs.Option.{option_and_then, option_map}
 use Rattle.std.specs.Str.{byte, str_eq_ignore_ascii_case}
@@ -7,13 +8,12 @@ use Rattle.chrono_datetime.specs.Days.{date_of_ymd}
 use Rattle.chrono_datetime.specs.Weekday.{weekday_from_monday}
 use Rattle.chrono_datetime.specs.declared.Weekday.{Weekday}
 use Rattle.chrono_datetime.specs.declared.Weekday.TheVariants.{Mon}
-use Rattle.chrono_rules.specs.Instances.{are_zero, has_numbers, lacks_month_days, lacks_months, lacks_positions, lacks_weekdays, lacks_weeks, lacks_year_days, no_numbers, no_places, no_weekdays, plain}
-use Rattle.chrono_rules.specs.Pieces.{count_of, digits_of, pieces, through}
-use Rattle.chrono_rules.specs.Places.{ends_of, no_ends, number_of, place_of, weekday_of_letters, weekdays_of, with_number, with_word}
-use Rattle.chrono_rules.specs.declared.place_text.Place.{Place}
-use Rattle.chrono_rules.specs.declared.places.NumberSet.{NumberSet}
-use Rattle.chrono_rules.specs.declared.places.PlaceSet.{PlaceSet}
-use Rattle.chrono_rules.specs.declared.year_text.YearEnds.{YearEnds}
+use Rattle.chrono_sets.specs.Numbers.{Numbers, are_empty, no_numbers, numbers}
+use Rattle.chrono_rules.specs.Digits.{count_of, digits_of}
+use Rattle.chrono_rules.specs.Split.{pieces}
+use Rattle.chrono_rules.specs.ByParts.{has_numbers}
+use Rattle.chrono_rules.specs.NumberLists.{ends_of, month_list_of, no_ends, no_year_ends, weekday_of_letters, weekdays_of, with_nth_of, year_ends_of}
+use Rattle.chrono_rules.specs.RuleParts.{lacks_month_days, lacks_months, lacks_positions, lacks_weekdays, lacks_weeks, lacks_year_days, no_weekdays, plain}
 use Rattle.chrono_rules.specs.declared.rule.End.{End}
 use Rattle.chrono_rules.specs.declared.rule.End.TheVariants.{Never, Count, Until}
 use Rattle.chrono_rules.specs.declared.rule.Frequency.{Frequency}
@@ -27,6 +27,22 @@ parts text = pieces (byte ";") text
 -- a part begins with its name and `=`, in letters of either case
 abbrev pub is_named : List ℕ → List ℕ → Bool
 is_named name part = str_eq_ignore_ascii_case (take (length name) part) name
+
+-- the name of the property in which a calendar has a rule (RFC 5545, 3.8.5.3)
+abbrev pub behind_property : List ℕ → List ℕ
+behind_property text = if is_named (codes "RRULE:") text then drop 6 text else text
+
+-- a `;` ends the text
+abbrev pub ends_with_semicolon : List ℕ → Bool
+ends_with_semicolon text = nat_lt 0 (length text) && (slice_index text (length text - 1) == byte ";")
+
+-- the text without one `;` at its end, which some programs write there
+abbrev pub without_semicolon : List ℕ → List ℕ
+without_semicolon text = if ends_with_semicolon text then take (length text - 1) text else text
+
+-- the parts of a rule as the text has them, without `RRULE:` in front and without a `;` at the end
+unfoldable pub rule_body : List ℕ → List ℕ
+rule_body text = without_semicolon (behind_property text)
 
 -- what stands behind a name, in each part that has it
 abbrev pub values : List ℕ → List (List ℕ) → List (List ℕ)
@@ -81,63 +97,33 @@ end_of counts [] = said (λ text. option_map Count (count_of text)) (Some Never)
 end_of [] (u ∷ untils) = said (λ text. option_map Until (date_of text)) (Some Never) (u ∷ untils)
 end_of (c ∷ counts) (u ∷ untils) = None
 
--- a list of months between commas
-unfoldable pub with_month_text : NumberSet → List ℕ → Option NumberSet
-with_month_text set text = option_map (with_number set) (number_of 2 12 text)
-
--- the months that a text lists between commas
-unfoldable pub months_of : List ℕ → Option NumberSet
-months_of text = through with_month_text no_numbers (pieces (byte ",") text)
-
--- numbers from 1 to 366, from the front and from the end
-abbrev pub no_year_ends : YearEnds
-no_year_ends = record { front = no_places; back = no_places }
-
--- the set and the number n
-abbrev pub with_day : PlaceSet → ℕ → PlaceSet
-with_day set n = record { words = with_word set.words (n / 64) (n % 64) }
-
--- the numbers and a place, from the front or from the end
-abbrev pub with_year_place : YearEnds → Place → YearEnds
-with_year_place ends p =
-    if p.from_end then record { front = ends.front; back = with_day ends.back p.number }
-    else record { front = with_day ends.front p.number; back = ends.back }
-
--- a list of such numbers with signs, between commas
-unfoldable pub with_year_text : YearEnds → List ℕ → Option YearEnds
-with_year_text ends text = option_map (with_year_place ends) (place_of 3 366 text)
-
--- the numbers from 1 to 366 that a text lists between commas, with signs or none
-unfoldable pub year_ends_of : List ℕ → Option YearEnds
-year_ends_of text = through with_year_text no_year_ends (pieces (byte ",") text)
-
 -- the weekday that two letters name
 unfoldable pub weekday_of_text : List ℕ → Option Weekday
 weekday_of_text text = option_map weekday_from_monday (weekday_of_letters text)
 
--- what goes with what: days of the month not with weeks
+-- 3.3.10: BYMONTHDAY "MUST NOT be specified when the FREQ rule part is set to WEEKLY"
 unfoldable pub has_month_days : Frequency → Bool
 has_month_days Daily = true
 has_month_days Weekly = false
 has_month_days Monthly = true
 has_month_days Yearly = true
 
--- days of the year and weeks with years alone
+-- 3.3.10: BYYEARDAY "MUST NOT be specified when the FREQ rule part is set to DAILY, WEEKLY, or MONTHLY", and BYWEEKNO is for YEARLY alone
 unfoldable pub has_year_parts : Frequency → Bool
 has_year_parts Daily = false
 has_year_parts Weekly = false
 has_year_parts Monthly = false
 has_year_parts Yearly = true
 
--- numbered weekdays with months and years, and not beside weeks
+-- no weekday of the rule has a number
 abbrev pub lacks_numbers : Rule → Bool
-lacks_numbers r = are_zero r.weekdays.front && are_zero r.weekdays.back
+lacks_numbers r = are_empty r.weekdays.front && are_empty r.weekdays.back
 
--- whether weekdays of the rule may be numbered: by months or years, and not beside weeks
+-- 3.3.10: BYDAY has no "numeric value when the FREQ rule part is not set to MONTHLY or YEARLY", and none "when the BYWEEKNO rule part is specified"
 abbrev pub may_have_numbers : Rule → Bool
 may_have_numbers r = has_numbers r.frequency && lacks_weeks r
 
--- positions beside another list
+-- 3.3.10: BYSETPOS "MUST only be used in conjunction with another BYxxx rule part". The rule has none
 abbrev pub lacks_lists : Rule → Bool
 lacks_lists r = lacks_months r && (lacks_month_days r && (lacks_weekdays r && (lacks_year_days r && lacks_weeks r)))
 
@@ -157,7 +143,7 @@ pub record Says (text : List ℕ) (r : Rule) : Type 0 where
   pub frequency : said frequency_of None (values_in text (codes "FREQ=")) ≡ Some r.frequency
   pub interval : said interval_of (Some 1) (values_in text (codes "INTERVAL=")) ≡ Some r.interval
   pub end : end_of (values_in text (codes "COUNT=")) (values_in text (codes "UNTIL=")) ≡ Some r.end
-  pub months : said months_of (Some no_numbers) (values_in text (codes "BYMONTH=")) ≡ Some r.months
+  pub months : said month_list_of (Some no_numbers) (values_in text (codes "BYMONTH=")) ≡ Some r.months
   pub month_days : said (ends_of 2 31) (Some no_ends) (values_in text (codes "BYMONTHDAY=")) ≡ Some (record { front = r.month_days; back = r.month_days_from_end })
   pub weekdays : said weekdays_of (Some no_weekdays) (values_in text (codes "BYDAY=")) ≡ Some r.weekdays
   pub year_days : said year_ends_of (Some no_year_ends) (values_in text (codes "BYYEARDAY=")) ≡ Some (record { front = r.year_days; back = r.year_days_from_end })
@@ -173,92 +159,112 @@ pub record IsRuleText (text : List ℕ) (r : Rule) : Type 0 where
 
 -- known values: which rules by days, weeks, months and years fit (the table of 3.3.10), with days of the month, of the year, and weeks, from
 -- either end, with months, with weekdays, and with numbered ones from either end
-abbrev fitting : (Frequency → Rule) → List Bool
-fitting rule = fits (rule Daily) ∷ fits (rule Weekly) ∷ fits (rule Monthly) ∷ fits (rule Yearly) ∷ []
+abbrev fits_by_frequency : (Frequency → Rule) → List Bool
+fits_by_frequency rule = fits (rule Daily) ∷ fits (rule Weekly) ∷ fits (rule Monthly) ∷ fits (rule Yearly) ∷ []
 
-abbrev first_day : PlaceSet
-first_day = record { words = 2 ∷ 0 ∷ 0 ∷ 0 ∷ 0 ∷ 0 ∷ [] }
+abbrev first : Numbers
+first = numbers (1 ∷ [])
 
-abbrev first_monday : List ℕ
-first_monday = 2 ∷ 0 ∷ 0 ∷ 0 ∷ 0 ∷ 0 ∷ 0 ∷ []
+abbrev first_monday : List Numbers
+first_monday = with_nth_of no_weekdays.front 0 1
 
-fits-month_days : fitting (λ f. record (plain f) { month_days = record { digits = 2 } }) ≡ true ∷ false ∷ true ∷ true ∷ []
+abbrev mondays : Numbers
+mondays = numbers (0 ∷ [])
+
+fits-month_days : fits_by_frequency (λ f. record (plain f) { month_days = first }) ≡ true ∷ false ∷ true ∷ true ∷ []
 unfolding has_month_days has_year_parts has_numbers
 fits-month_days = refl
 
-fits-month_days_from_end : fitting (λ f. record (plain f) { month_days_from_end = record { digits = 2 } }) ≡ true ∷ false ∷ true ∷ true ∷ []
+fits-month_days_from_end : fits_by_frequency (λ f. record (plain f) { month_days_from_end = first }) ≡ true ∷ false ∷ true ∷ true ∷ []
 unfolding has_month_days has_year_parts has_numbers
 fits-month_days_from_end = refl
 
-fits-year_days : fitting (λ f. record (plain f) { year_days = first_day }) ≡ false ∷ false ∷ false ∷ true ∷ []
+fits-year_days : fits_by_frequency (λ f. record (plain f) { year_days = first }) ≡ false ∷ false ∷ false ∷ true ∷ []
 unfolding has_month_days has_year_parts has_numbers
 fits-year_days = refl
 
-fits-year_days_from_end : fitting (λ f. record (plain f) { year_days_from_end = first_day }) ≡ false ∷ false ∷ false ∷ true ∷ []
+fits-year_days_from_end : fits_by_frequency (λ f. record (plain f) { year_days_from_end = first }) ≡ false ∷ false ∷ false ∷ true ∷ []
 unfolding has_month_days has_year_parts has_numbers
 fits-year_days_from_end = refl
 
-fits-weeks : fitting (λ f. record (plain f) { weeks = record { digits = 2 } }) ≡ false ∷ false ∷ false ∷ true ∷ []
+fits-weeks : fits_by_frequency (λ f. record (plain f) { weeks = first }) ≡ false ∷ false ∷ false ∷ true ∷ []
 unfolding has_month_days has_year_parts has_numbers
 fits-weeks = refl
 
-fits-weeks_from_end : fitting (λ f. record (plain f) { weeks_from_end = record { digits = 2 } }) ≡ false ∷ false ∷ false ∷ true ∷ []
+fits-weeks_from_end : fits_by_frequency (λ f. record (plain f) { weeks_from_end = first }) ≡ false ∷ false ∷ false ∷ true ∷ []
 unfolding has_month_days has_year_parts has_numbers
 fits-weeks_from_end = refl
 
-fits-months : fitting (λ f. record (plain f) { months = record { digits = 2 } }) ≡ true ∷ true ∷ true ∷ true ∷ []
+fits-months : fits_by_frequency (λ f. record (plain f) { months = first }) ≡ true ∷ true ∷ true ∷ true ∷ []
 unfolding has_month_days has_year_parts has_numbers
 fits-months = refl
 
-fits-weekdays : fitting (λ f. record (plain f) { weekdays = record { every = record { digits = 1 }; front = no_weekdays.front; back = no_weekdays.back } }) ≡ true ∷ true ∷ true ∷ true ∷ []
+fits-weekdays : fits_by_frequency (λ f. record (plain f) { weekdays = record { every = mondays; front = no_weekdays.front; back = no_weekdays.back } }) ≡ true ∷ true ∷ true ∷ true ∷ []
 unfolding has_month_days has_year_parts has_numbers
 fits-weekdays = refl
 
-fits-numbers : fitting (λ f. record (plain f) { weekdays = record { every = no_numbers; front = first_monday; back = no_weekdays.back } }) ≡ false ∷ false ∷ true ∷ true ∷ []
+fits-numbers : fits_by_frequency (λ f. record (plain f) { weekdays = record { every = no_numbers; front = first_monday; back = no_weekdays.back } }) ≡ false ∷ false ∷ true ∷ true ∷ []
 unfolding has_month_days has_year_parts has_numbers
 fits-numbers = refl
 
-fits-numbers_from_end : fitting (λ f. record (plain f) { weekdays = record { every = no_numbers; front = no_weekdays.front; back = first_monday } }) ≡ false ∷ false ∷ true ∷ true ∷ []
+fits-numbers_from_end : fits_by_frequency (λ f. record (plain f) { weekdays = record { every = no_numbers; front = no_weekdays.front; back = first_monday } }) ≡ false ∷ false ∷ true ∷ true ∷ []
 unfolding has_month_days has_year_parts has_numbers
 fits-numbers_from_end = refl
 
 -- beside weeks a weekday, but no numbered one
-fits-weekday_of_weeks : fits (record (plain Yearly) { weekdays = record { every = record { digits = 1 }; front = no_weekdays.front; back = no_weekdays.back }; weeks = record { digits = 2 } }) ≡ true
+fits-weekday_of_weeks : fits (record (plain Yearly) { weekdays = record { every = mondays; front = no_weekdays.front; back = no_weekdays.back }; weeks = first }) ≡ true
 unfolding has_month_days has_year_parts has_numbers
 fits-weekday_of_weeks = refl
 
-fits-number_of_weeks : fits (record (plain Yearly) { weekdays = record { every = no_numbers; front = first_monday; back = no_weekdays.back }; weeks = record { digits = 2 } }) ≡ false
+fits-number_of_weeks : fits (record (plain Yearly) { weekdays = record { every = no_numbers; front = first_monday; back = no_weekdays.back }; weeks = first }) ≡ false
 unfolding has_month_days has_year_parts has_numbers
 fits-number_of_weeks = refl
 
 -- positions not alone, and beside each list
-fits-positions_alone : fitting (λ f. record (plain f) { positions = first_day }) ≡ false ∷ false ∷ false ∷ false ∷ []
+fits-positions_alone : fits_by_frequency (λ f. record (plain f) { positions = first }) ≡ false ∷ false ∷ false ∷ false ∷ []
 unfolding has_month_days has_year_parts has_numbers
 fits-positions_alone = refl
 
-fits-positions_from_end_alone : fitting (λ f. record (plain f) { positions_from_end = first_day }) ≡ false ∷ false ∷ false ∷ false ∷ []
+fits-positions_from_end_alone : fits_by_frequency (λ f. record (plain f) { positions_from_end = first }) ≡ false ∷ false ∷ false ∷ false ∷ []
 unfolding has_month_days has_year_parts has_numbers
 fits-positions_from_end_alone = refl
 
-fits-positions_of_months : fitting (λ f. record (plain f) { months = record { digits = 2 }; positions = first_day }) ≡ true ∷ true ∷ true ∷ true ∷ []
+fits-positions_of_months : fits_by_frequency (λ f. record (plain f) { months = first; positions = first }) ≡ true ∷ true ∷ true ∷ true ∷ []
 unfolding has_month_days has_year_parts has_numbers
 fits-positions_of_months = refl
 
-fits-positions_of_month_days : fitting (λ f. record (plain f) { month_days = record { digits = 2 }; positions = first_day }) ≡ true ∷ false ∷ true ∷ true ∷ []
+fits-positions_of_month_days : fits_by_frequency (λ f. record (plain f) { month_days = first; positions = first }) ≡ true ∷ false ∷ true ∷ true ∷ []
 unfolding has_month_days has_year_parts has_numbers
 fits-positions_of_month_days = refl
 
-fits-positions_of_weekdays : fitting (λ f. record (plain f) { weekdays = record { every = record { digits = 1 }; front = no_weekdays.front; back = no_weekdays.back }; positions = first_day }) ≡ true ∷ true ∷ true ∷ true ∷ []
+fits-positions_of_weekdays : fits_by_frequency (λ f. record (plain f) { weekdays = record { every = mondays; front = no_weekdays.front; back = no_weekdays.back }; positions = first }) ≡ true ∷ true ∷ true ∷ true ∷ []
 unfolding has_month_days has_year_parts has_numbers
 fits-positions_of_weekdays = refl
 
-fits-positions_of_year_days : fitting (λ f. record (plain f) { year_days = first_day; positions = first_day }) ≡ false ∷ false ∷ false ∷ true ∷ []
+fits-positions_of_year_days : fits_by_frequency (λ f. record (plain f) { year_days = first; positions = first }) ≡ false ∷ false ∷ false ∷ true ∷ []
 unfolding has_month_days has_year_parts has_numbers
 fits-positions_of_year_days = refl
 
-fits-positions_of_weeks : fitting (λ f. record (plain f) { weeks = record { digits = 2 }; positions = first_day }) ≡ false ∷ false ∷ false ∷ true ∷ []
+fits-positions_of_weeks : fits_by_frequency (λ f. record (plain f) { weeks = first; positions = first }) ≡ false ∷ false ∷ false ∷ true ∷ []
 unfolding has_month_days has_year_parts has_numbers
 fits-positions_of_weeks = refl
+
+-- what stands before and behind the parts: the property's name in letters of either case, once, and one semicolon
+rule_body-property : rule_body (codes "rrule:FREQ=DAILY;") ≡ codes "FREQ=DAILY"
+unfolding rule_body
+rule_body-property = refl
+
+rule_body-plain : rule_body (codes "FREQ=DAILY") ≡ codes "FREQ=DAILY"
+unfolding rule_body
+rule_body-plain = refl
+
+rule_body-twice : rule_body (codes "RRULE:RRULE:FREQ=DAILY;;") ≡ codes "RRULE:FREQ=DAILY;"
+unfolding rule_body
+rule_body-twice = refl
+
+rule_body-nothing : rule_body [] ≡ []
+unfolding rule_body
+rule_body-nothing = refl
 
 -- what stands behind a name, in letters of either case, once, nowhere and twice
 values-one : values_in (codes "FREQ=YEARLY;bymonth=3") (codes "BYMONTH=") ≡ codes "3" ∷ []
@@ -279,26 +285,26 @@ interval_of-zero : interval_of (codes "0") ≡ None
 unfolding interval_of count_of
 interval_of-zero = refl
 
+-- the greatest numbers that fit 32 bits, and the one behind them
+interval_of-greatest : interval_of (codes "4294967295") ≡ Some 4_294_967_295
+unfolding interval_of count_of
+interval_of-greatest = refl
+
+interval_of-past : interval_of (codes "4294967296") ≡ None
+unfolding interval_of count_of
+interval_of-past = refl
+
+count_of-greatest : count_of (codes "4294967295") ≡ Some 4_294_967_295
+unfolding count_of
+count_of-greatest = refl
+
+count_of-past : count_of (codes "4294967296") ≡ None
+unfolding count_of
+count_of-past = refl
+
 count_of-nothing : count_of [] ≡ None
 unfolding count_of
 count_of-nothing = refl
-
--- months have no sign, days of the year have three digits and one
-months_of-two : months_of (codes "6,07") ≡ Some (record { digits = 192 })
-unfolding months_of with_month_text number_of digits_of
-months_of-two = refl
-
-months_of-signed : months_of (codes "-1") ≡ None
-unfolding months_of with_month_text number_of digits_of
-months_of-signed = refl
-
-year_ends_of-both : year_ends_of (codes "1,200,-1") ≡ Some (record { front = record { words = 2 ∷ 0 ∷ 0 ∷ 256 ∷ 0 ∷ 0 ∷ [] }; back = record { words = 2 ∷ 0 ∷ 0 ∷ 0 ∷ 0 ∷ 0 ∷ [] } })
-unfolding year_ends_of with_year_text place_of number_of digits_of
-year_ends_of-both = refl
-
-year_ends_of-past : year_ends_of (codes "367") ≡ None
-unfolding year_ends_of with_year_text place_of number_of digits_of
-year_ends_of-past = refl
 
 -- a day of 1997, none of 1997, and a time of day
 date_of-christmas : date_of (codes "19971224") ≡ date_of_ymd (pos 1997) 12 24

@@ -1,21 +1,23 @@
 -- The text that is written for a rule.
-use Rattle.std.specs.Prelude.{◌≡◌, ℕ, zero, suc, ◌+◌, ◌/◌, ◌%◌, ◌^◌, ◌==◌, nat_le, Bool, true, false, ◌&&◌, if◌then◌else◌, List, [], ◌∷◌, ◌++◌, ℤ, pos, unsigned_abs, int_le, codes, refl}
+use Rattle.std.specs.Prelude.{◌≡◌, ℕ, zero, suc, ◌+◌, ◌/◌, ◌%◌, ◌==◌, nat_le, Bool, true, false, ◌&&◌, if◌then◌else◌, List, [], ◌∷◌, ◌++◌, ℤ, pos, unsigned_abs, int_le, codes, refl}
 use Rattle.std.specs.Fmt.{decimal, digits, sign_text, signed_decimal}
 use Rattle.std.specs.List.{join_with_byte}
 use Rattle.std.specs.Str.{byte}
 use Rattle.chrono_text.specs.Text.{two_digits}
 use Rattle.chrono_datetime.specs.Days.{day_of, month_of, year_of}
 use Rattle.chrono_datetime.specs.Weekday.{days_from_monday}
-use Rattle.chrono_rules.specs.declared.listing.Naming.{Naming}
-use Rattle.chrono_rules.specs.declared.listing.Naming.TheVariants.{Number, Each, Numbered}
-use Rattle.chrono_rules.specs.declared.listing.Listed.{Listed}
-use Rattle.chrono_rules.specs.declared.listing.Listed.TheVariants.{Numbers, Places}
+use Rattle.chrono_sets.specs.Numbers.{Numbers, has, numbers}
 use Rattle.chrono_rules.specs.declared.rule.End.{End}
 use Rattle.chrono_rules.specs.declared.rule.End.TheVariants.{Never, Count, Until}
 use Rattle.chrono_rules.specs.declared.rule.Frequency.TheVariants.{Daily}
 use Rattle.chrono_rules.specs.declared.rule.Rule.{Rule}
-use Rattle.chrono_rules.specs.Instances.{has, has_place, lacks_month_days, lacks_months, lacks_positions, lacks_weekdays, lacks_weeks, lacks_year_days, plain}
+use Rattle.chrono_rules.specs.declared.text.list_writer.Naming.{Naming}
+use Rattle.chrono_rules.specs.declared.text.list_writer.Naming.TheVariants.{Number, Each, Numbered}
+use Rattle.chrono_rules.specs.declared.text.list_writer.ListedSet.{ListedSet}
+use Rattle.chrono_rules.specs.declared.text.list_writer.ListedSet.TheVariants.{Small, Large}
+use Rattle.chrono_rules.specs.NumberLists.{with_nth_of}
 use Rattle.chrono_rules.specs.RuleErrors.{frequency_text}
+use Rattle.chrono_rules.specs.RuleParts.{lacks_month_days, lacks_months, lacks_positions, lacks_weekdays, lacks_weeks, lacks_year_days, no_weekdays, plain}
 
 -- a weekday in two letters, from 0 for Monday
 unfoldable pub weekday_letters : ℕ → List ℕ
@@ -29,37 +31,37 @@ item_text Number from_end n = sign_text from_end ++ decimal n
 item_text Each from_end n = weekday_letters n
 item_text (Numbered w) from_end n = (sign_text from_end ++ decimal n) ++ weekday_letters w
 
--- n is listed; all numbers that can be are below this
-unfoldable pub lists : Listed → ℕ → Bool
-lists (Numbers set) n = has set n
-lists (Places set) n = has_place set n
+-- the numbers that are listed
+unfoldable pub members : ListedSet → Numbers
+members (Small set) = set
+members (Large set) = set
 
--- the number that all numbers of the list are below
-unfoldable pub limit : Listed → ℕ
-limit (Numbers set) = 64
-limit (Places set) = 384
+-- the number that all numbers of the set are below
+unfoldable pub limit : ListedSet → ℕ
+limit (Small set) = 64
+limit (Large set) = 384
 
--- of so many numbers from n on, those that are listed, rising
-abbrev pub item_at : Listed → Naming → Bool → ℕ → List (List ℕ)
-item_at listed naming from_end n = if lists listed n then item_text naming from_end n ∷ [] else []
+-- the item of the number n, if it is listed
+abbrev pub item_at : Numbers → Naming → Bool → ℕ → List (List ℕ)
+item_at listed naming from_end n = if has listed n then item_text naming from_end n ∷ [] else []
 
 -- the items of the listed numbers among as many numbers from n on, rising
-unfoldable pub items : Listed → Naming → Bool → ℕ → ℕ → List (List ℕ)
+unfoldable pub items : Numbers → Naming → Bool → ℕ → ℕ → List (List ℕ)
 items listed naming from_end zero n = []
 items listed naming from_end (suc count) n = item_at listed naming from_end n ++ items listed naming from_end count (n + 1)
 
 -- those of each of the weekdays in a row, from one on
-unfoldable pub numbered_items : Bool → List ℕ → ℕ → List (List ℕ)
+unfoldable pub numbered_items : Bool → List Numbers → ℕ → List (List ℕ)
 numbered_items from_end [] w = []
-numbered_items from_end (digits ∷ words) w = items (Numbers (record { digits = digits })) (Numbered w) from_end 53 1 ++ numbered_items from_end words (w + 1)
+numbered_items from_end (set ∷ sets) w = items set (Numbered w) from_end 53 1 ++ numbered_items from_end sets (w + 1)
 
 -- numbers from 1 to `most`, those that count from the front first
-abbrev pub both_items : Listed → Listed → ℕ → List (List ℕ)
+abbrev pub both_items : Numbers → Numbers → ℕ → List (List ℕ)
 both_items front back most = items front Number false most 1 ++ items back Number true most 1
 
 -- weekdays without a number first
 abbrev pub weekday_items : Rule → List (List ℕ)
-weekday_items r = items (Numbers r.weekdays.every) Each false 7 0 ++ (numbered_items false r.weekdays.front 0 ++ numbered_items true r.weekdays.back 0)
+weekday_items r = items r.weekdays.every Each false 7 0 ++ (numbered_items false r.weekdays.front 0 ++ numbered_items true r.weekdays.back 0)
 
 -- a list has a comma between each two items
 abbrev pub list_text : List (List ℕ) → List ℕ
@@ -93,24 +95,24 @@ four_digits y =
     if int_le (pos 0) y && int_le y (pos 9_999) then two_digits (unsigned_abs y / 100) ++ two_digits (unsigned_abs y % 100) else signed_decimal y
 
 -- a date in eight digits, if its year is from 0 to 9999
-abbrev pub day_text : ℤ → List ℕ
-day_text n = (four_digits (year_of n) ++ two_digits (month_of n)) ++ two_digits (day_of n)
+abbrev pub basic_date_text : ℤ → List ℕ
+basic_date_text n = (four_digits (year_of n) ++ two_digits (month_of n)) ++ two_digits (day_of n)
 
 -- COUNT or UNTIL
 abbrev pub end_parts : End → List (List ℕ)
 end_parts Never = []
 end_parts (Count n) = (codes "COUNT=" ++ decimal n) ∷ []
-end_parts (Until n) = (codes "UNTIL=" ++ day_text n) ∷ []
+end_parts (Until n) = (codes "UNTIL=" ++ basic_date_text n) ∷ []
 
 -- the lists
 abbrev pub list_parts : Rule → List (List ℕ)
 list_parts r =
-    part_unless (lacks_months r) (codes "BYMONTH=") (list_text (items (Numbers r.months) Number false 12 1))
-    ++ (part_unless (lacks_month_days r) (codes "BYMONTHDAY=") (list_text (both_items (Numbers r.month_days) (Numbers r.month_days_from_end) 31))
+    part_unless (lacks_months r) (codes "BYMONTH=") (list_text (items r.months Number false 12 1))
+    ++ (part_unless (lacks_month_days r) (codes "BYMONTHDAY=") (list_text (both_items r.month_days r.month_days_from_end 31))
     ++ (part_unless (lacks_weekdays r) (codes "BYDAY=") (list_text (weekday_items r))
-    ++ (part_unless (lacks_year_days r) (codes "BYYEARDAY=") (list_text (both_items (Places r.year_days) (Places r.year_days_from_end) 366))
-    ++ (part_unless (lacks_weeks r) (codes "BYWEEKNO=") (list_text (both_items (Numbers r.weeks) (Numbers r.weeks_from_end) 53))
-    ++ part_unless (lacks_positions r) (codes "BYSETPOS=") (list_text (both_items (Places r.positions) (Places r.positions_from_end) 366))))))
+    ++ (part_unless (lacks_year_days r) (codes "BYYEARDAY=") (list_text (both_items r.year_days r.year_days_from_end 366))
+    ++ (part_unless (lacks_weeks r) (codes "BYWEEKNO=") (list_text (both_items r.weeks r.weeks_from_end 53))
+    ++ part_unless (lacks_positions r) (codes "BYSETPOS=") (list_text (both_items r.positions r.positions_from_end 366))))))
 
 -- the parts behind FREQ, each left out where the rule says what its absence says
 abbrev pub later_parts : Rule → List (List ℕ)
@@ -129,16 +131,16 @@ rule_text-plain : rule_text (plain Daily) ≡ codes "FREQ=DAILY"
 unfolding rule_text frequency_text
 rule_text-plain = refl
 
-both_items-order : list_text (both_items (Numbers (record { digits = 2 ^ 1 + 2 ^ 31 })) (Numbers (record { digits = 2 ^ 1 })) 31) ≡ codes "1,31,-1"
-unfolding items lists has item_text digits
+both_items-order : list_text (both_items (numbers (1 ∷ 31 ∷ [])) (numbers (1 ∷ [])) 31) ≡ codes "1,31,-1"
+unfolding items has item_text digits
 both_items-order = refl
 
-items-places : list_text (items (Places (record { words = 2 ∷ 0 ∷ 0 ∷ 256 ∷ 0 ∷ 16_384 ∷ [] })) Number true 366 1) ≡ codes "-1,-200,-334"
-unfolding items lists has_place item_text digits
+items-places : list_text (items (numbers (1 ∷ 200 ∷ 334 ∷ [])) Number true 366 1) ≡ codes "-1,-200,-334"
+unfolding items has item_text digits
 items-places = refl
 
-numbered_items-last : list_text (numbered_items true (0 ∷ 0 ∷ 0 ∷ 0 ∷ 4 ∷ 0 ∷ 2 ∷ []) 0) ≡ codes "-2FR,-1SU"
-unfolding numbered_items items lists has item_text digits weekday_letters
+numbered_items-last : list_text (numbered_items true (with_nth_of (with_nth_of no_weekdays.back 4 2) 6 1) 0) ≡ codes "-2FR,-1SU"
+unfolding numbered_items items has item_text digits weekday_letters
 numbered_items-last = refl
 
 four_digits-early : four_digits (pos 33) ≡ codes "0033"

@@ -2,24 +2,31 @@
 //!
 //! Where a law says so, its dates are 2,000 years earlier than those that it names.
 //! These are five whole cycles of 400 years, after which the calendar repeats. So less has to be counted.
-ghost use Rattle.std.specs.Prelude.{◌≡◌, ◌+◌, ◌^◌, ◌==◌, ◌&&◌, true, false, Some, [], ◌∷◌, neg_ℤ, pos, codes};
+ghost use Rattle.std.specs.Prelude.{◌≡◌, ◌&&◌, true, false, Some, [], ◌∷◌, neg_ℤ, pos, codes};
 ghost use Rattle.chrono_datetime.specs.declared.Weekday.TheVariants.{Mon, Sun};
+ghost use Rattle.chrono_sets.specs.Numbers.{is_empty};
 ghost use Rattle.chrono_rules.specs.InstanceLists.{instances_from};
 ghost use Rattle.chrono_rules.specs.InstanceMoments.{is_instance_at};
-ghost use Rattle.chrono_rules.specs.Instances.{are_zero, is_instance, no_places, no_weekdays, plain};
-ghost use Rattle.chrono_rules.specs.KnownRules.{at_midnight, at_one, by_month_days, by_months, by_positions, by_week_days, by_week_years, by_weekdays, by_weeks, by_year_days, daily, daily_until, every_days, fortnightly, monday_or_first_friday, tenths};
+ghost use Rattle.chrono_rules.specs.Instances.{is_instance};
+ghost use Rattle.chrono_rules.specs.KnownRules.{at_midnight, at_one, by_month_days, by_months, by_positions, by_week_days, by_week_years, by_weekdays, by_weeks, by_year_days, daily, daily_until, every_days, fortnightly, monday_or_first_friday, nth_weekday, nth_weekday_from_end, tenths};
 ghost use Rattle.chrono_rules.specs.KnownTexts.{both_sundays, days_of_the_year, election_day, every_other_day, every_other_week, first_and_last, first_friday, june_and_july, last_monday_but_one, last_workday_but_one, monday_of_week_20, third_to_last, until_christmas};
-ghost use Rattle.chrono_rules.specs.Places.{ends_of};
+ghost use Rattle.chrono_rules.specs.NumberLists.{ends_of, month_list_of, year_ends_of};
 ghost use Rattle.chrono_rules.specs.RecurrenceSets.{is_in_recurrence};
-ghost use Rattle.chrono_rules.specs.RuleTexts.{IsRuleText, months_of, year_ends_of};
-ghost use Rattle.chrono_rules.specs.ToldRules.{IsTold, lie_within, places_within};
+ghost use Rattle.chrono_rules.specs.RuleParts.{plain};
+ghost use Rattle.chrono_rules.specs.RuleTexts.{IsRuleText, rule_body};
+ghost use Rattle.chrono_rules.specs.WritableRules.{IsWritableRule, is_from_one_to};
 ghost use Rattle.chrono_rules.specs.WrittenRules.{both_items, items, list_text, rule_text};
-ghost use Rattle.chrono_rules.specs.declared.listing.Listed.TheVariants.{Numbers, Places};
-ghost use Rattle.chrono_rules.specs.declared.listing.Naming.TheVariants.{Number};
 ghost use Rattle.chrono_rules.specs.declared.rule.Frequency.TheVariants.{Daily, Monthly, Weekly, Yearly};
+ghost use Rattle.chrono_rules.specs.declared.text.list_writer.Naming.TheVariants.{Number};
 
-use crate::places::{NumberSet, PlaceSet};
+mod instances;
+
 use crate::rule::Rule;
+use chrono_sets::{NumberSet, PlaceSet};
+pub use instances::{
+    instances_have_listed_month_days, instances_have_listed_weekdays, no_instance_is_after_until,
+    no_instance_is_before_the_start,
+};
 
 /// Instances that RFC 5545 gives (3.8.5.3).
 ///
@@ -52,24 +59,24 @@ pub fn known_rules()
 /// A week has its number in the year of its fourth day. INTERVAL and BYSETPOS go by the year in which a day lies.
 /// So Monday of week 1 of 2025 is a day of 2024. The first Monday of weeks 1 and 2 in 1998 is that of week 2.
 pub fn known_weeks()
-    ensures week_20_1998 { is_instance (by_weeks Mon (2 ^ 20) 0 1) (neg_ℤ (pos 1329)) (neg_ℤ (pos 965)) ≡ true }
-    ensures week_20_1999 { is_instance (by_weeks Mon (2 ^ 20) 0 1) (neg_ℤ (pos 1329)) (neg_ℤ (pos 594)) ≡ true }
-    ensures week_20_1999_early { is_instance (by_weeks Mon (2 ^ 20) 0 1) (neg_ℤ (pos 1329)) (neg_ℤ (pos 601)) ≡ false }
-    ensures week_20_alone_monday { is_instance (by_weeks Mon (2 ^ 20) 0 0) (neg_ℤ (pos 1329)) (neg_ℤ (pos 965)) ≡ true }
-    ensures week_20_alone_tuesday { is_instance (by_weeks Mon (2 ^ 20) 0 0) (neg_ℤ (pos 1329)) (neg_ℤ (pos 964)) ≡ false }
-    ensures last_week_1997 { is_instance (by_weeks Mon 0 2 1) (neg_ℤ (pos 1329)) (neg_ℤ (pos 1105)) ≡ true }
-    ensures last_week_1998_early { is_instance (by_weeks Mon 0 2 1) (neg_ℤ (pos 1329)) (neg_ℤ (pos 741)) ≡ false }
-    ensures last_week_1998 { is_instance (by_weeks Mon 0 2 1) (neg_ℤ (pos 1329)) (neg_ℤ (pos 734)) ≡ true }
-    ensures sunday_weeks_first { is_instance (by_weeks Sun 2 0 64) (neg_ℤ (pos 1329)) (neg_ℤ (pos 364)) ≡ true }
-    ensures sunday_weeks_second { is_instance (by_weeks Sun 2 0 64) (neg_ℤ (pos 1329)) (neg_ℤ (pos 357)) ≡ false }
-    ensures monday_weeks_before { is_instance (by_weeks Mon 2 0 64) (neg_ℤ (pos 1329)) (neg_ℤ (pos 364)) ≡ false }
-    ensures monday_weeks_first { is_instance (by_weeks Mon 2 0 64) (neg_ℤ (pos 1329)) (neg_ℤ (pos 357)) ≡ true }
-    ensures week_53_december { is_instance (by_weeks Mon 0 (2 ^ 53) 1) (pos 5611) (pos 6938) ≡ true }
-    ensures other_years_week_1 { is_instance (by_week_years 2 2 0) (pos 8401) (pos 8765) ≡ true }
-    ensures other_years_next { is_instance (by_week_years 2 2 0) (pos 8401) (pos 9129) ≡ false }
-    ensures first_of_year { is_instance (by_week_years 1 (2 + 4) 2) (neg_ℤ (pos 1216)) (neg_ℤ (pos 1091)) ≡ true }
-    ensures week_20_15th { is_instance (by_week_days (2 ^ 20) (2 ^ 15) no_places.words) (neg_ℤ (pos 1329)) (neg_ℤ (pos 961)) ≡ true }
-    ensures week_20_day_135 { is_instance (by_week_days (2 ^ 20) 0 (0 ∷ 0 ∷ 2 ^ 7 ∷ 0 ∷ 0 ∷ 0 ∷ [])) (neg_ℤ (pos 1329)) (neg_ℤ (pos 961)) ≡ true }
+    ensures week_20_1998 { is_instance (by_weeks Mon (20 ∷ []) [] (0 ∷ [])) (neg_ℤ (pos 1329)) (neg_ℤ (pos 965)) ≡ true }
+    ensures week_20_1999 { is_instance (by_weeks Mon (20 ∷ []) [] (0 ∷ [])) (neg_ℤ (pos 1329)) (neg_ℤ (pos 594)) ≡ true }
+    ensures week_20_1999_early { is_instance (by_weeks Mon (20 ∷ []) [] (0 ∷ [])) (neg_ℤ (pos 1329)) (neg_ℤ (pos 601)) ≡ false }
+    ensures week_20_alone_monday { is_instance (by_weeks Mon (20 ∷ []) [] []) (neg_ℤ (pos 1329)) (neg_ℤ (pos 965)) ≡ true }
+    ensures week_20_alone_tuesday { is_instance (by_weeks Mon (20 ∷ []) [] []) (neg_ℤ (pos 1329)) (neg_ℤ (pos 964)) ≡ false }
+    ensures last_week_1997 { is_instance (by_weeks Mon [] (1 ∷ []) (0 ∷ [])) (neg_ℤ (pos 1329)) (neg_ℤ (pos 1105)) ≡ true }
+    ensures last_week_1998_early { is_instance (by_weeks Mon [] (1 ∷ []) (0 ∷ [])) (neg_ℤ (pos 1329)) (neg_ℤ (pos 741)) ≡ false }
+    ensures last_week_1998 { is_instance (by_weeks Mon [] (1 ∷ []) (0 ∷ [])) (neg_ℤ (pos 1329)) (neg_ℤ (pos 734)) ≡ true }
+    ensures sunday_weeks_first { is_instance (by_weeks Sun (1 ∷ []) [] (6 ∷ [])) (neg_ℤ (pos 1329)) (neg_ℤ (pos 364)) ≡ true }
+    ensures sunday_weeks_second { is_instance (by_weeks Sun (1 ∷ []) [] (6 ∷ [])) (neg_ℤ (pos 1329)) (neg_ℤ (pos 357)) ≡ false }
+    ensures monday_weeks_before { is_instance (by_weeks Mon (1 ∷ []) [] (6 ∷ [])) (neg_ℤ (pos 1329)) (neg_ℤ (pos 364)) ≡ false }
+    ensures monday_weeks_first { is_instance (by_weeks Mon (1 ∷ []) [] (6 ∷ [])) (neg_ℤ (pos 1329)) (neg_ℤ (pos 357)) ≡ true }
+    ensures week_53_december { is_instance (by_weeks Mon [] (53 ∷ []) (0 ∷ [])) (pos 5611) (pos 6938) ≡ true }
+    ensures other_years_week_1 { is_instance (by_week_years 2 (1 ∷ []) []) (pos 8401) (pos 8765) ≡ true }
+    ensures other_years_next { is_instance (by_week_years 2 (1 ∷ []) []) (pos 8401) (pos 9129) ≡ false }
+    ensures first_of_year { is_instance (by_week_years 1 (1 ∷ 2 ∷ []) (1 ∷ [])) (neg_ℤ (pos 1216)) (neg_ℤ (pos 1091)) ≡ true }
+    ensures week_20_15th { is_instance (by_week_days (20 ∷ []) (15 ∷ []) []) (neg_ℤ (pos 1329)) (neg_ℤ (pos 961)) ≡ true }
+    ensures week_20_day_135 { is_instance (by_week_days (20 ∷ []) [] (135 ∷ [])) (neg_ℤ (pos 1329)) (neg_ℤ (pos 961)) ≡ true }
 {}
 
 /// Days of the year (BYYEARDAY), 2,000 years earlier.
@@ -77,15 +84,15 @@ pub fn known_weeks()
 /// Every third year on the 1st, the 100th and the 200th day, from 1 January 1997 (RFC 5545, 3.8.5.3).
 /// From the end, -1 is 31 December and -306 is 1 March (3.3.10), in leap years too.
 pub fn known_year_days()
-    ensures front_1997 { is_instance (by_year_days 3 (2 ∷ 2 ^ 36 ∷ 0 ∷ 256 ∷ 0 ∷ 0 ∷ []) no_places.words) (neg_ℤ (pos 1460)) (neg_ℤ (pos 1361)) ≡ true }
-    ensures front_1998 { is_instance (by_year_days 3 (2 ∷ 2 ^ 36 ∷ 0 ∷ 256 ∷ 0 ∷ 0 ∷ []) no_places.words) (neg_ℤ (pos 1460)) (neg_ℤ (pos 996)) ≡ false }
-    ensures front_2000 { is_instance (by_year_days 3 (2 ∷ 2 ^ 36 ∷ 0 ∷ 256 ∷ 0 ∷ 0 ∷ []) no_places.words) (neg_ℤ (pos 1460)) (neg_ℤ (pos 266)) ≡ true }
-    ensures front_2000_late { is_instance (by_year_days 3 (2 ∷ 2 ^ 36 ∷ 0 ∷ 256 ∷ 0 ∷ 0 ∷ []) no_places.words) (neg_ℤ (pos 1460)) (neg_ℤ (pos 265)) ≡ false }
-    ensures back_march_1997 { is_instance (by_year_days 1 no_places.words (2 ∷ 0 ∷ 0 ∷ 0 ∷ 2 ^ 50 ∷ 0 ∷ [])) (neg_ℤ (pos 1460)) (neg_ℤ (pos 1401)) ≡ true }
-    ensures back_december_1997 { is_instance (by_year_days 1 no_places.words (2 ∷ 0 ∷ 0 ∷ 0 ∷ 2 ^ 50 ∷ 0 ∷ [])) (neg_ℤ (pos 1460)) (neg_ℤ (pos 1096)) ≡ true }
-    ensures back_february_2000 { is_instance (by_year_days 1 no_places.words (2 ∷ 0 ∷ 0 ∷ 0 ∷ 2 ^ 50 ∷ 0 ∷ [])) (neg_ℤ (pos 1460)) (neg_ℤ (pos 306)) ≡ false }
-    ensures back_march_2000 { is_instance (by_year_days 1 no_places.words (2 ∷ 0 ∷ 0 ∷ 0 ∷ 2 ^ 50 ∷ 0 ∷ [])) (neg_ℤ (pos 1460)) (neg_ℤ (pos 305)) ≡ true }
-    ensures back_december_2000 { is_instance (by_year_days 1 no_places.words (2 ∷ 0 ∷ 0 ∷ 0 ∷ 2 ^ 50 ∷ 0 ∷ [])) (neg_ℤ (pos 1460)) (pos 0) ≡ true }
+    ensures front_1997 { is_instance (by_year_days 3 (1 ∷ 100 ∷ 200 ∷ []) []) (neg_ℤ (pos 1460)) (neg_ℤ (pos 1361)) ≡ true }
+    ensures front_1998 { is_instance (by_year_days 3 (1 ∷ 100 ∷ 200 ∷ []) []) (neg_ℤ (pos 1460)) (neg_ℤ (pos 996)) ≡ false }
+    ensures front_2000 { is_instance (by_year_days 3 (1 ∷ 100 ∷ 200 ∷ []) []) (neg_ℤ (pos 1460)) (neg_ℤ (pos 266)) ≡ true }
+    ensures front_2000_late { is_instance (by_year_days 3 (1 ∷ 100 ∷ 200 ∷ []) []) (neg_ℤ (pos 1460)) (neg_ℤ (pos 265)) ≡ false }
+    ensures back_march_1997 { is_instance (by_year_days 1 [] (1 ∷ 306 ∷ [])) (neg_ℤ (pos 1460)) (neg_ℤ (pos 1401)) ≡ true }
+    ensures back_december_1997 { is_instance (by_year_days 1 [] (1 ∷ 306 ∷ [])) (neg_ℤ (pos 1460)) (neg_ℤ (pos 1096)) ≡ true }
+    ensures back_february_2000 { is_instance (by_year_days 1 [] (1 ∷ 306 ∷ [])) (neg_ℤ (pos 1460)) (neg_ℤ (pos 306)) ≡ false }
+    ensures back_march_2000 { is_instance (by_year_days 1 [] (1 ∷ 306 ∷ [])) (neg_ℤ (pos 1460)) (neg_ℤ (pos 305)) ≡ true }
+    ensures back_december_2000 { is_instance (by_year_days 1 [] (1 ∷ 306 ∷ [])) (neg_ℤ (pos 1460)) (pos 0) ≡ true }
 {}
 
 /// Numbered weekdays (BYDAY), 2,000 years earlier.
@@ -95,22 +102,22 @@ pub fn known_year_days()
 /// - From 3.6.5: the last Sunday of October. It counts in its month, though the rule is yearly.
 /// - A list: Monday or the first Friday. Any of its items is enough.
 pub fn known_weekdays()
-    ensures of_year_early { is_instance (by_weekdays Yearly 0 (2 ^ 20 ∷ 0 ∷ 0 ∷ 0 ∷ 0 ∷ 0 ∷ 0 ∷ []) no_weekdays.back) (neg_ℤ (pos 1322)) (neg_ℤ (pos 965)) ≡ false }
-    ensures of_year_monday { is_instance (by_weekdays Yearly 0 (2 ^ 20 ∷ 0 ∷ 0 ∷ 0 ∷ 0 ∷ 0 ∷ 0 ∷ []) no_weekdays.back) (neg_ℤ (pos 1322)) (neg_ℤ (pos 958)) ≡ true }
-    ensures of_month_friday { is_instance (by_weekdays Monthly 0 (0 ∷ 0 ∷ 0 ∷ 0 ∷ 2 ∷ 0 ∷ 0 ∷ []) no_weekdays.back) (neg_ℤ (pos 1213)) (neg_ℤ (pos 1185)) ≡ true }
-    ensures of_month_late { is_instance (by_weekdays Monthly 0 (0 ∷ 0 ∷ 0 ∷ 0 ∷ 2 ∷ 0 ∷ 0 ∷ []) no_weekdays.back) (neg_ℤ (pos 1213)) (neg_ℤ (pos 1178)) ≡ false }
-    ensures of_month_seventh { is_instance (by_weekdays Monthly 0 (0 ∷ 0 ∷ 0 ∷ 0 ∷ 2 ∷ 0 ∷ 0 ∷ []) no_weekdays.back) (neg_ℤ (pos 1213)) (neg_ℤ (pos 1150)) ≡ true }
-    ensures of_month_back_monday { is_instance (by_weekdays Monthly 0 no_weekdays.front (4 ∷ 0 ∷ 0 ∷ 0 ∷ 0 ∷ 0 ∷ 0 ∷ [])) (neg_ℤ (pos 1196)) (neg_ℤ (pos 1168)) ≡ true }
-    ensures of_month_back_late { is_instance (by_weekdays Monthly 0 no_weekdays.front (4 ∷ 0 ∷ 0 ∷ 0 ∷ 0 ∷ 0 ∷ 0 ∷ [])) (neg_ℤ (pos 1196)) (neg_ℤ (pos 1161)) ≡ false }
-    ensures of_month_back_november { is_instance (by_weekdays Monthly 0 no_weekdays.front (4 ∷ 0 ∷ 0 ∷ 0 ∷ 0 ∷ 0 ∷ 0 ∷ [])) (neg_ℤ (pos 1196)) (neg_ℤ (pos 1140)) ≡ true }
-    ensures of_october_early { is_instance (by_weekdays Yearly (2 ^ 10) no_weekdays.front (0 ∷ 0 ∷ 0 ∷ 0 ∷ 0 ∷ 0 ∷ 2 ∷ [])) (neg_ℤ (pos 1460)) (neg_ℤ (pos 1169)) ≡ false }
-    ensures of_october_sunday { is_instance (by_weekdays Yearly (2 ^ 10) no_weekdays.front (0 ∷ 0 ∷ 0 ∷ 0 ∷ 0 ∷ 0 ∷ 2 ∷ [])) (neg_ℤ (pos 1460)) (neg_ℤ (pos 1162)) ≡ true }
-    ensures of_year_back_leap { is_instance (by_weekdays Yearly 0 no_weekdays.front (2 ∷ 0 ∷ 0 ∷ 0 ∷ 0 ∷ 0 ∷ 0 ∷ [])) (pos 3784) (pos 4376) ≡ false }
-    ensures of_year_back_last { is_instance (by_weekdays Yearly 0 no_weekdays.front (2 ∷ 0 ∷ 0 ∷ 0 ∷ 0 ∷ 0 ∷ 0 ∷ [])) (pos 3784) (pos 4383) ≡ true }
-    ensures fifth_friday { is_instance (by_weekdays Monthly 0 (0 ∷ 0 ∷ 0 ∷ 0 ∷ 2 ^ 5 ∷ 0 ∷ 0 ∷ []) no_weekdays.back) (neg_ℤ (pos 1213)) (neg_ℤ (pos 1157)) ≡ true }
-    ensures fifth_of_four { is_instance (by_weekdays Monthly 0 (0 ∷ 0 ∷ 0 ∷ 0 ∷ 2 ^ 5 ∷ 0 ∷ 0 ∷ []) no_weekdays.back) (neg_ℤ (pos 1213)) (neg_ℤ (pos 1192)) ≡ false }
-    ensures of_no_month { is_instance (by_weekdays Weekly 0 (0 ∷ 0 ∷ 0 ∷ 0 ∷ 2 ∷ 0 ∷ 0 ∷ []) no_weekdays.back) (neg_ℤ (pos 1213)) (neg_ℤ (pos 1213)) ≡ false }
-    ensures of_no_day { is_instance (by_weekdays Daily 0 (0 ∷ 0 ∷ 0 ∷ 0 ∷ 2 ∷ 0 ∷ 0 ∷ []) no_weekdays.back) (neg_ℤ (pos 1213)) (neg_ℤ (pos 1213)) ≡ false }
+    ensures of_year_early { is_instance (by_weekdays Yearly [] (nth_weekday 0 20)) (neg_ℤ (pos 1322)) (neg_ℤ (pos 965)) ≡ false }
+    ensures of_year_monday { is_instance (by_weekdays Yearly [] (nth_weekday 0 20)) (neg_ℤ (pos 1322)) (neg_ℤ (pos 958)) ≡ true }
+    ensures of_month_friday { is_instance (by_weekdays Monthly [] (nth_weekday 4 1)) (neg_ℤ (pos 1213)) (neg_ℤ (pos 1185)) ≡ true }
+    ensures of_month_late { is_instance (by_weekdays Monthly [] (nth_weekday 4 1)) (neg_ℤ (pos 1213)) (neg_ℤ (pos 1178)) ≡ false }
+    ensures of_month_seventh { is_instance (by_weekdays Monthly [] (nth_weekday 4 1)) (neg_ℤ (pos 1213)) (neg_ℤ (pos 1150)) ≡ true }
+    ensures of_month_back_monday { is_instance (by_weekdays Monthly [] (nth_weekday_from_end 0 2)) (neg_ℤ (pos 1196)) (neg_ℤ (pos 1168)) ≡ true }
+    ensures of_month_back_late { is_instance (by_weekdays Monthly [] (nth_weekday_from_end 0 2)) (neg_ℤ (pos 1196)) (neg_ℤ (pos 1161)) ≡ false }
+    ensures of_month_back_november { is_instance (by_weekdays Monthly [] (nth_weekday_from_end 0 2)) (neg_ℤ (pos 1196)) (neg_ℤ (pos 1140)) ≡ true }
+    ensures of_october_early { is_instance (by_weekdays Yearly (10 ∷ []) (nth_weekday_from_end 6 1)) (neg_ℤ (pos 1460)) (neg_ℤ (pos 1169)) ≡ false }
+    ensures of_october_sunday { is_instance (by_weekdays Yearly (10 ∷ []) (nth_weekday_from_end 6 1)) (neg_ℤ (pos 1460)) (neg_ℤ (pos 1162)) ≡ true }
+    ensures of_year_back_leap { is_instance (by_weekdays Yearly [] (nth_weekday_from_end 0 1)) (pos 3784) (pos 4376) ≡ false }
+    ensures of_year_back_last { is_instance (by_weekdays Yearly [] (nth_weekday_from_end 0 1)) (pos 3784) (pos 4383) ≡ true }
+    ensures fifth_friday { is_instance (by_weekdays Monthly [] (nth_weekday 4 5)) (neg_ℤ (pos 1213)) (neg_ℤ (pos 1157)) ≡ true }
+    ensures fifth_of_four { is_instance (by_weekdays Monthly [] (nth_weekday 4 5)) (neg_ℤ (pos 1213)) (neg_ℤ (pos 1192)) ≡ false }
+    ensures of_no_month { is_instance (by_weekdays Weekly [] (nth_weekday 4 1)) (neg_ℤ (pos 1213)) (neg_ℤ (pos 1213)) ≡ false }
+    ensures of_no_day { is_instance (by_weekdays Daily [] (nth_weekday 4 1)) (neg_ℤ (pos 1213)) (neg_ℤ (pos 1213)) ≡ false }
     ensures either_monday { is_instance monday_or_first_friday (neg_ℤ (pos 1216)) (neg_ℤ (pos 1210)) ≡ true }
     ensures either_friday { is_instance monday_or_first_friday (neg_ℤ (pos 1216)) (neg_ℤ (pos 1213)) ≡ true }
     ensures either_late { is_instance monday_or_first_friday (neg_ℤ (pos 1216)) (neg_ℤ (pos 1206)) ≡ false }
@@ -124,26 +131,26 @@ pub fn known_weekdays()
 /// A yearly rule with days in June and July has none in August.
 /// A rule by every 18th month from September 1997 has none in March 1998, and one in March 1999.
 pub fn known_month_days()
-    ensures third_to_last_october { is_instance (by_month_days Monthly 0 0 8) (neg_ℤ (pos 1190)) (neg_ℤ (pos 1159)) ≡ true }
-    ensures third_to_last_february { is_instance (by_month_days Monthly 0 0 8) (neg_ℤ (pos 1190)) (neg_ℤ (pos 1039)) ≡ true }
-    ensures third_to_last_late { is_instance (by_month_days Monthly 0 0 8) (neg_ℤ (pos 1190)) (neg_ℤ (pos 1038)) ≡ false }
-    ensures in_july_tenth { is_instance (by_month_days Yearly (2 ^ 6 + 2 ^ 7) 0 0) (neg_ℤ (pos 1300)) (neg_ℤ (pos 1270)) ≡ true }
-    ensures in_july_ninth { is_instance (by_month_days Yearly (2 ^ 6 + 2 ^ 7) 0 0) (neg_ℤ (pos 1300)) (neg_ℤ (pos 1271)) ≡ false }
+    ensures third_to_last_october { is_instance (by_month_days Monthly [] [] (3 ∷ [])) (neg_ℤ (pos 1190)) (neg_ℤ (pos 1159)) ≡ true }
+    ensures third_to_last_february { is_instance (by_month_days Monthly [] [] (3 ∷ [])) (neg_ℤ (pos 1190)) (neg_ℤ (pos 1039)) ≡ true }
+    ensures third_to_last_late { is_instance (by_month_days Monthly [] [] (3 ∷ [])) (neg_ℤ (pos 1190)) (neg_ℤ (pos 1038)) ≡ false }
+    ensures in_july_tenth { is_instance (by_month_days Yearly (6 ∷ 7 ∷ []) [] []) (neg_ℤ (pos 1300)) (neg_ℤ (pos 1270)) ≡ true }
+    ensures in_july_ninth { is_instance (by_month_days Yearly (6 ∷ 7 ∷ []) [] []) (neg_ℤ (pos 1300)) (neg_ℤ (pos 1271)) ≡ false }
     ensures each_month_second { is_instance (plain Monthly) (neg_ℤ (pos 1216)) (neg_ℤ (pos 1186)) ≡ true }
     ensures each_month_third { is_instance (plain Monthly) (neg_ℤ (pos 1216)) (neg_ℤ (pos 1185)) ≡ false }
     ensures each_week_tuesday { is_instance (plain Weekly) (neg_ℤ (pos 1216)) (neg_ℤ (pos 1209)) ≡ true }
     ensures each_week_wednesday { is_instance (plain Weekly) (neg_ℤ (pos 1216)) (neg_ℤ (pos 1208)) ≡ false }
-    ensures each_year_next_month { is_instance (by_month_days Yearly 0 0 0) (neg_ℤ (pos 1216)) (neg_ℤ (pos 1186)) ≡ false }
-    ensures each_year_next_year { is_instance (by_month_days Yearly 0 0 0) (neg_ℤ (pos 1216)) (neg_ℤ (pos 851)) ≡ true }
-    ensures fifteenth_october { is_instance (by_month_days Monthly 0 (2 ^ 15) 0) (neg_ℤ (pos 1216)) (neg_ℤ (pos 1173)) ≡ true }
-    ensures fifteenth_start { is_instance (by_month_days Monthly 0 (2 ^ 15) 0) (neg_ℤ (pos 1216)) (neg_ℤ (pos 1186)) ≡ false }
-    ensures of_year_fifteenth { is_instance (by_month_days Yearly 0 (2 ^ 15) 0) (neg_ℤ (pos 1216)) (neg_ℤ (pos 1173)) ≡ true }
-    ensures in_august { is_instance (by_month_days Yearly (2 ^ 6 + 2 ^ 7) 0 0) (neg_ℤ (pos 1300)) (neg_ℤ (pos 1239)) ≡ false }
-    ensures monthly_in_august { is_instance (by_month_days Monthly (2 ^ 6 + 2 ^ 7) 0 0) (neg_ℤ (pos 1300)) (neg_ℤ (pos 1239)) ≡ false }
-    ensures daily_in_june { is_instance (by_month_days Daily (2 ^ 6 + 2 ^ 7) 0 0) (neg_ℤ (pos 1300)) (neg_ℤ (pos 1299)) ≡ true }
-    ensures daily_in_august { is_instance (by_month_days Daily (2 ^ 6 + 2 ^ 7) 0 0) (neg_ℤ (pos 1300)) (neg_ℤ (pos 1239)) ≡ false }
-    ensures months_6_later { is_instance (by_months 18 (2 ^ 10)) (neg_ℤ (pos 1208)) (neg_ℤ (pos 1027)) ≡ false }
-    ensures months_18_later { is_instance (by_months 18 (2 ^ 10)) (neg_ℤ (pos 1208)) (neg_ℤ (pos 662)) ≡ true }
+    ensures each_year_next_month { is_instance (by_month_days Yearly [] [] []) (neg_ℤ (pos 1216)) (neg_ℤ (pos 1186)) ≡ false }
+    ensures each_year_next_year { is_instance (by_month_days Yearly [] [] []) (neg_ℤ (pos 1216)) (neg_ℤ (pos 851)) ≡ true }
+    ensures fifteenth_october { is_instance (by_month_days Monthly [] (15 ∷ []) []) (neg_ℤ (pos 1216)) (neg_ℤ (pos 1173)) ≡ true }
+    ensures fifteenth_start { is_instance (by_month_days Monthly [] (15 ∷ []) []) (neg_ℤ (pos 1216)) (neg_ℤ (pos 1186)) ≡ false }
+    ensures of_year_fifteenth { is_instance (by_month_days Yearly [] (15 ∷ []) []) (neg_ℤ (pos 1216)) (neg_ℤ (pos 1173)) ≡ true }
+    ensures in_august { is_instance (by_month_days Yearly (6 ∷ 7 ∷ []) [] []) (neg_ℤ (pos 1300)) (neg_ℤ (pos 1239)) ≡ false }
+    ensures monthly_in_august { is_instance (by_month_days Monthly (6 ∷ 7 ∷ []) [] []) (neg_ℤ (pos 1300)) (neg_ℤ (pos 1239)) ≡ false }
+    ensures daily_in_june { is_instance (by_month_days Daily (6 ∷ 7 ∷ []) [] []) (neg_ℤ (pos 1300)) (neg_ℤ (pos 1299)) ≡ true }
+    ensures daily_in_august { is_instance (by_month_days Daily (6 ∷ 7 ∷ []) [] []) (neg_ℤ (pos 1300)) (neg_ℤ (pos 1239)) ≡ false }
+    ensures months_6_later { is_instance (by_months 18 (10 ∷ [])) (neg_ℤ (pos 1208)) (neg_ℤ (pos 1027)) ≡ false }
+    ensures months_18_later { is_instance (by_months 18 (10 ∷ [])) (neg_ℤ (pos 1208)) (neg_ℤ (pos 662)) ≡ true }
 {}
 
 /// What the start fills in where a period lacks the day, 2,000 years earlier.
@@ -168,27 +175,27 @@ pub fn known_gaps()
 /// - The first of a single day, which is its last. There is no second.
 /// - The second Monday of a year and the last.
 pub fn known_positions()
-    ensures third_start { is_instance (by_positions Monthly Mon 14 8 0) (neg_ℤ (pos 1214)) (neg_ℤ (pos 1214)) ≡ true }
-    ensures third_october { is_instance (by_positions Monthly Mon 14 8 0) (neg_ℤ (pos 1214)) (neg_ℤ (pos 1181)) ≡ true }
-    ensures third_late { is_instance (by_positions Monthly Mon 14 8 0) (neg_ℤ (pos 1214)) (neg_ℤ (pos 1180)) ≡ false }
-    ensures third_november { is_instance (by_positions Monthly Mon 14 8 0) (neg_ℤ (pos 1214)) (neg_ℤ (pos 1151)) ≡ true }
-    ensures last_but_one_october { is_instance (by_positions Monthly Mon 31 0 4) (neg_ℤ (pos 1189)) (neg_ℤ (pos 1158)) ≡ true }
-    ensures last_but_one_late { is_instance (by_positions Monthly Mon 31 0 4) (neg_ℤ (pos 1189)) (neg_ℤ (pos 1157)) ≡ false }
-    ensures sunday_weeks_sunday { is_instance (by_positions Weekly Sun 65 2 0) (neg_ℤ (pos 1216)) (neg_ℤ (pos 1211)) ≡ true }
-    ensures sunday_weeks_monday { is_instance (by_positions Weekly Sun 65 2 0) (neg_ℤ (pos 1216)) (neg_ℤ (pos 1210)) ≡ false }
-    ensures monday_weeks_monday { is_instance (by_positions Weekly Mon 65 2 0) (neg_ℤ (pos 1216)) (neg_ℤ (pos 1210)) ≡ true }
-    ensures monday_weeks_sunday { is_instance (by_positions Weekly Mon 65 2 0) (neg_ℤ (pos 1216)) (neg_ℤ (pos 1204)) ≡ false }
-    ensures year_second_monday { is_instance (by_positions Yearly Mon 1 4 0) (neg_ℤ (pos 1216)) (neg_ℤ (pos 1084)) ≡ true }
-    ensures year_february { is_instance (by_positions Yearly Mon 1 4 0) (neg_ℤ (pos 1216)) (neg_ℤ (pos 1056)) ≡ false }
-    ensures year_last_monday { is_instance (by_positions Yearly Mon 1 0 2) (neg_ℤ (pos 1216)) (neg_ℤ (pos 734)) ≡ true }
-    ensures year_november { is_instance (by_positions Yearly Mon 1 0 2) (neg_ℤ (pos 1216)) (neg_ℤ (pos 762)) ≡ false }
-    ensures sunday_weeks_last { is_instance (by_positions Weekly Sun 65 0 2) (neg_ℤ (pos 1216)) (neg_ℤ (pos 1210)) ≡ true }
-    ensures sunday_weeks_last_but_one { is_instance (by_positions Weekly Sun 65 0 2) (neg_ℤ (pos 1216)) (neg_ℤ (pos 1211)) ≡ false }
-    ensures monday_weeks_last { is_instance (by_positions Weekly Mon 65 0 2) (neg_ℤ (pos 1216)) (neg_ℤ (pos 1204)) ≡ true }
-    ensures monday_weeks_last_but_one { is_instance (by_positions Weekly Mon 65 0 2) (neg_ℤ (pos 1216)) (neg_ℤ (pos 1210)) ≡ false }
-    ensures day_first { is_instance (by_positions Daily Mon 1 2 0) (neg_ℤ (pos 1216)) (neg_ℤ (pos 1210)) ≡ true }
-    ensures day_second { is_instance (by_positions Daily Mon 1 4 0) (neg_ℤ (pos 1216)) (neg_ℤ (pos 1210)) ≡ false }
-    ensures day_last { is_instance (by_positions Daily Mon 1 0 2) (neg_ℤ (pos 1216)) (neg_ℤ (pos 1210)) ≡ true }
+    ensures third_start { is_instance (by_positions Monthly Mon (1 ∷ 2 ∷ 3 ∷ []) (3 ∷ []) []) (neg_ℤ (pos 1214)) (neg_ℤ (pos 1214)) ≡ true }
+    ensures third_october { is_instance (by_positions Monthly Mon (1 ∷ 2 ∷ 3 ∷ []) (3 ∷ []) []) (neg_ℤ (pos 1214)) (neg_ℤ (pos 1181)) ≡ true }
+    ensures third_late { is_instance (by_positions Monthly Mon (1 ∷ 2 ∷ 3 ∷ []) (3 ∷ []) []) (neg_ℤ (pos 1214)) (neg_ℤ (pos 1180)) ≡ false }
+    ensures third_november { is_instance (by_positions Monthly Mon (1 ∷ 2 ∷ 3 ∷ []) (3 ∷ []) []) (neg_ℤ (pos 1214)) (neg_ℤ (pos 1151)) ≡ true }
+    ensures last_but_one_october { is_instance (by_positions Monthly Mon (0 ∷ 1 ∷ 2 ∷ 3 ∷ 4 ∷ []) [] (2 ∷ [])) (neg_ℤ (pos 1189)) (neg_ℤ (pos 1158)) ≡ true }
+    ensures last_but_one_late { is_instance (by_positions Monthly Mon (0 ∷ 1 ∷ 2 ∷ 3 ∷ 4 ∷ []) [] (2 ∷ [])) (neg_ℤ (pos 1189)) (neg_ℤ (pos 1157)) ≡ false }
+    ensures sunday_weeks_sunday { is_instance (by_positions Weekly Sun (0 ∷ 6 ∷ []) (1 ∷ []) []) (neg_ℤ (pos 1216)) (neg_ℤ (pos 1211)) ≡ true }
+    ensures sunday_weeks_monday { is_instance (by_positions Weekly Sun (0 ∷ 6 ∷ []) (1 ∷ []) []) (neg_ℤ (pos 1216)) (neg_ℤ (pos 1210)) ≡ false }
+    ensures monday_weeks_monday { is_instance (by_positions Weekly Mon (0 ∷ 6 ∷ []) (1 ∷ []) []) (neg_ℤ (pos 1216)) (neg_ℤ (pos 1210)) ≡ true }
+    ensures monday_weeks_sunday { is_instance (by_positions Weekly Mon (0 ∷ 6 ∷ []) (1 ∷ []) []) (neg_ℤ (pos 1216)) (neg_ℤ (pos 1204)) ≡ false }
+    ensures year_second_monday { is_instance (by_positions Yearly Mon (0 ∷ []) (2 ∷ []) []) (neg_ℤ (pos 1216)) (neg_ℤ (pos 1084)) ≡ true }
+    ensures year_february { is_instance (by_positions Yearly Mon (0 ∷ []) (2 ∷ []) []) (neg_ℤ (pos 1216)) (neg_ℤ (pos 1056)) ≡ false }
+    ensures year_last_monday { is_instance (by_positions Yearly Mon (0 ∷ []) [] (1 ∷ [])) (neg_ℤ (pos 1216)) (neg_ℤ (pos 734)) ≡ true }
+    ensures year_november { is_instance (by_positions Yearly Mon (0 ∷ []) [] (1 ∷ [])) (neg_ℤ (pos 1216)) (neg_ℤ (pos 762)) ≡ false }
+    ensures sunday_weeks_last { is_instance (by_positions Weekly Sun (0 ∷ 6 ∷ []) [] (1 ∷ [])) (neg_ℤ (pos 1216)) (neg_ℤ (pos 1210)) ≡ true }
+    ensures sunday_weeks_last_but_one { is_instance (by_positions Weekly Sun (0 ∷ 6 ∷ []) [] (1 ∷ [])) (neg_ℤ (pos 1216)) (neg_ℤ (pos 1211)) ≡ false }
+    ensures monday_weeks_last { is_instance (by_positions Weekly Mon (0 ∷ 6 ∷ []) [] (1 ∷ [])) (neg_ℤ (pos 1216)) (neg_ℤ (pos 1204)) ≡ true }
+    ensures monday_weeks_last_but_one { is_instance (by_positions Weekly Mon (0 ∷ 6 ∷ []) [] (1 ∷ [])) (neg_ℤ (pos 1216)) (neg_ℤ (pos 1210)) ≡ false }
+    ensures day_first { is_instance (by_positions Daily Mon (0 ∷ []) (1 ∷ []) []) (neg_ℤ (pos 1216)) (neg_ℤ (pos 1210)) ≡ true }
+    ensures day_second { is_instance (by_positions Daily Mon (0 ∷ []) (2 ∷ []) []) (neg_ℤ (pos 1216)) (neg_ℤ (pos 1210)) ≡ false }
+    ensures day_last { is_instance (by_positions Daily Mon (0 ∷ []) [] (1 ∷ [])) (neg_ℤ (pos 1216)) (neg_ℤ (pos 1210)) ≡ true }
 {}
 
 /// Ends of rules, 2,000 years earlier.
@@ -272,34 +279,36 @@ pub fn known_written_rules()
 ///
 /// It has one number at least, from the front or from the end, and none that the list cannot have.
 pub fn written_numbers_are_read(front: NumberSet, back: NumberSet)
-    ensures months { lie_within 12 front.digits ≡ true → (front.digits == 0) ≡ false
-        → months_of (list_text (items (Numbers front) Number false 12 1)) ≡ Some front }
-    ensures month_days { lie_within 31 front.digits ≡ true → lie_within 31 back.digits ≡ true → ((front.digits == 0) && (back.digits == 0)) ≡ false
-        → ends_of 2 31 (list_text (both_items (Numbers front) (Numbers back) 31)) ≡ Some (record { front = front; back = back }) }
-    ensures weeks { lie_within 53 front.digits ≡ true → lie_within 53 back.digits ≡ true → ((front.digits == 0) && (back.digits == 0)) ≡ false
-        → ends_of 2 53 (list_text (both_items (Numbers front) (Numbers back) 53)) ≡ Some (record { front = front; back = back }) }
+    ensures months { is_from_one_to 12 front ≡ true → is_empty front ≡ false
+        → month_list_of (list_text (items front Number false 12 1)) ≡ Some front }
+    ensures month_days { is_from_one_to 31 front ≡ true → is_from_one_to 31 back ≡ true → (is_empty front && is_empty back) ≡ false
+        → ends_of 2 31 (list_text (both_items front back 31)) ≡ Some (record { front = front; back = back }) }
+    ensures weeks { is_from_one_to 53 front ≡ true → is_from_one_to 53 back ≡ true → (is_empty front && is_empty back) ≡ false
+        → ends_of 2 53 (list_text (both_items front back 53)) ≡ Some (record { front = front; back = back }) }
 {}
 
 /// The text of a list of days of the year, or of positions, is read back as its numbers.
 ///
 /// It has one number at least, from the front or from the end, and none that the list cannot have.
 pub fn written_year_days_are_read(front: &PlaceSet, back: &PlaceSet)
-    ensures { places_within front.now.words ≡ true → places_within back.now.words ≡ true → (are_zero front.now.words && are_zero back.now.words) ≡ false
-        → year_ends_of (list_text (both_items (Places front.now) (Places back.now) 366)) ≡ Some (record { front = front.now; back = back.now }) }
+    ensures { is_from_one_to 366 front.now ≡ true → is_from_one_to 366 back.now ≡ true → (is_empty front.now && is_empty back.now) ≡ false
+        → year_ends_of (list_text (both_items front.now back.now 366)) ≡ Some (record { front = front.now; back = back.now }) }
 {}
 
 /// The text that is written for a rule is a text of it. So `read_rule` returns the rule again.
+/// It has no `RRULE:` in front, and no `;` at its end.
 ///
 /// The rule has to be one that a text can write.
 /// Its interval is at least 1, and its UNTIL is in a year from 0 to 9999.
 /// Its parts have their own numbers alone, and go together.
 pub fn written_rules_are_read(rule: Rule)
-    ensures { IsTold rule → IsRuleText (rule_text rule) rule }
+    ensures text { IsWritableRule rule → IsRuleText (rule_text rule) rule }
+    ensures bare { IsWritableRule rule → rule_body (rule_text rule) ≡ rule_text rule }
 {}
 
 /// A rule that was read is one that a text can write, whatever its text is.
 ///
 /// So it can be written, and that text is read back as the same rule.
-pub fn read_rules_are_told(text: &[u8], rule: &Rule)
-    ensures { IsRuleText text.now rule.now → IsTold rule.now }
+pub fn read_rules_are_writable(text: &[u8], rule: &Rule)
+    ensures { IsRuleText (rule_body text.now) rule.now → IsWritableRule rule.now }
 {}

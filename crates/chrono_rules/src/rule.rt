@@ -1,9 +1,12 @@
 //! `Rule`: a recurrence rule over days (RFC 5545, section 3.3.10).
 ghost use Rattle.std.specs.Prelude.{◌≡◌};
-ghost use Rattle.chrono_rules.specs.Instances.{not_after, on_month_day, plain};
+ghost use Rattle.chrono_rules.specs.ByParts.{on_month_day};
+ghost use Rattle.chrono_rules.specs.Instances.{not_after};
+ghost use Rattle.chrono_rules.specs.RuleParts.{plain};
 
-use crate::places::{NumberSet, PlaceSet, WeekdayPlaces};
+use crate::weekday_places::WeekdayPlaces;
 use chrono_datetime::{Datelike, NaiveDate, Weekday};
+use chrono_sets::{NumberSet, PlaceSet};
 
 /// FREQ: the kind of a rule's periods.
 #[derive(Clone, Copy, PartialEq, Eq, Debug)]
@@ -124,7 +127,7 @@ impl Rule {
     /// let rule = read_rule(b"FREQ=MONTHLY;BYMONTHDAY=-1").ok()?;
     /// rule.on_month_day(NaiveDate::from_ymd_opt(2024, 2, 29)?) // true
     /// ```
-    #[tactic(auto, unfolding(crate::specs::Instances::on_month_day))]
+    #[tactic(auto, unfolding(crate::specs::ByParts::on_month_day))]
     pub fn on_month_day(&self, date: NaiveDate) -> bool
         ensures { result ≡ on_month_day self.now date }
     {

@@ -7,7 +7,6 @@ use Rattle.chrono_units.specs.Years.{IsYear, is_leap_year, month_length_in, mont
 use Rattle.chrono_calendar.specs.Days.{days_before_year, IsDate, day_number_of_ymd, day_of, year_of, ordinal_of_ymd}
 use Rattle.chrono_calendar.specs.MonthMoves.{month_index, month_index_of, year_of_month_index, month_of_month_index, day_number_in_month, month_move}
 use Rattle.chrono_calendar.proofs.Signed.{signed}
-use Rattle.chrono_calendar.proofs.Years.{days_before_year-next}
 use Rattle.chrono_calendar.proofs.Names.{day_number_in_range}
 use Rattle.chrono_calendar.proofs.Dates.{is_year-test}
 use Rattle.chrono_calendar.proofs.Months.{month_length_in-bounds, ordinal_within}
@@ -40,41 +39,38 @@ last_place before next end length d e = omega arith
 month_length_in-late : (leap other : Bool) (m : ℕ) → 2 < m → month_length_in leap m ≡ month_length_in other m
 month_length_in-late leap other m h = grind (arith, nat_tests)
 
--- the number that the code comes to, where so many years and months from March are before the month, and so many days before those
--- years and before the next
+-- the number that the code comes to in a month of a year from March of this length, with so many days before the year
 abbrev number_within : ℕ → ℕ → ℕ → ℕ → ℤ
-number_within start next month d =
-    pos (start + min (min ((979 * month - 2919) / 32 + d) ((979 * (month + 1) - 2919) / 32)) (next - start)) -ℤ pos 95_839_938
+number_within start length month d =
+    pos (start + min (min ((979 * month - 2919) / 32 + d) ((979 * (month + 1) - 2919) / 32)) length) -ℤ pos 95_839_938
 
 -- in a month from March to December, of the year z, the year from March ends in the year y after it
-within-late : (y z : ℤ) (m d start next : ℕ) → y ≡ z +ℤ pos 1 → IsInRange 1 12 m → 2 < m → pos start ≡ days_before_year y +ℤ pos 95_839_632 → pos next ≡ days_before_year (y +ℤ pos 1) +ℤ pos 95_839_632 → number_within start next m d ≡ day_number_of_ymd z m (min d (month_length z m))
-within-late y z m d start next e h late from to =
-    let length : next - start ≡ year_length y = omega (arith, signed, days_before_year-next y (y +ℤ pos 1) refl) in
+within-late : (y z : ℤ) (m d start : ℕ) → y ≡ z +ℤ pos 1 → IsInRange 1 12 m → 2 < m → pos start ≡ days_before_year y +ℤ pos 95_839_632 → number_within start (year_length y) m d ≡ day_number_of_ymd z m (min d (month_length z m))
+within-late y z m d start e h late from =
     let end = month_end-march (is_leap_year y) m h late ∙ ap (λ l. (979 * m - 2919) / 32 + l) (month_length_in-late (is_leap_year y) (is_leap_year z) m late) in
-    let last = last_place ((979 * m - 2919) / 32) ((979 * (m + 1) - 2919) / 32) (next - start) (month_length z m) d (rw length end) in
+    let last = last_place ((979 * m - 2919) / 32) ((979 * (m + 1) - 2919) / 32) (year_length y) (month_length z m) d end in
     omega (arith, signed, last, ap days_before_year e, day_number-from_march z m (min d (month_length z m)) h late)
 
 -- January and February end the year from March
-within-early : (y : ℤ) (m d start next : ℕ) → IsInRange 1 12 m → m ≤ 2 → pos start ≡ days_before_year y +ℤ pos 95_839_632 → pos next ≡ days_before_year (y +ℤ pos 1) +ℤ pos 95_839_632 → number_within start next (m + 12) d ≡ day_number_of_ymd y m (min d (month_length y m))
-within-early y m d start next h early from to =
-    let length : next - start ≡ year_length y = omega (arith, signed, days_before_year-next y (y +ℤ pos 1) refl) in
+within-early : (y : ℤ) (m d start : ℕ) → IsInRange 1 12 m → m ≤ 2 → pos start ≡ days_before_year y +ℤ pos 95_839_632 → number_within start (year_length y) (m + 12) d ≡ day_number_of_ymd y m (min d (month_length y m))
+within-early y m d start h early from =
     let ahead : m + 12 + 1 ≡ m + 13 = omega arith in
-    let last = last_place ((979 * (m + 12) - 2919) / 32) ((979 * (m + 12 + 1) - 2919) / 32) (next - start) (month_length y m) d (rw (length, ahead) (month_end-january (is_leap_year y) m h early)) in
+    let last = last_place ((979 * (m + 12) - 2919) / 32) ((979 * (m + 12 + 1) - 2919) / 32) (year_length y) (month_length y m) d (rw ahead (month_end-january (is_leap_year y) m h early)) in
     omega (arith, signed, last, day_number-to_march y m (min d (month_length y m)) h early)
 
-pub number_within-month : (months d start next : ℕ) (y : ℤ) → y +ℤ pos 262_399 ≡ pos (months / 12) → pos start ≡ days_before_year y +ℤ pos 95_839_632 → pos next ≡ days_before_year (y +ℤ pos 1) +ℤ pos 95_839_632 → number_within start next (months % 12 + 3) d ≡ day_number_in_month (pos months -ℤ pos 3_148_798) d
-number_within-month months d start next y years from to =
+pub number_within-month : (months d start : ℕ) (y : ℤ) → y +ℤ pos 262_399 ≡ pos (months / 12) → pos start ≡ days_before_year y +ℤ pos 95_839_632 → number_within start (year_length y) (months % 12 + 3) d ≡ day_number_in_month (pos months -ℤ pos 3_148_798) d
+number_within-month months d start y years from =
     let i = pos months -ℤ pos 3_148_798 in
     let number : ℤ → ℕ → ℤ = λ z m. day_number_of_ymd z m (min d (month_length z m)) in
     let named : (z : ℤ) (m : ℕ) → year_of_month_index i ≡ z → month_of_month_index i ≡ m → number z m ≡ day_number_in_month i d = λ z m e f. sym (ap (λ x. number x (month_of_month_index i)) e ∙ ap (number z) f) in
     ⊎_elim
     (λ low.
-    within-late y (y -ℤ pos 1) (months % 12 + 3) d start next (omega (arith, signed)) (omega arith, omega arith) (omega arith) from to
+    within-late y (y -ℤ pos 1) (months % 12 + 3) d start (omega (arith, signed)) (omega arith, omega arith) (omega arith) from
     ∙ named (y -ℤ pos 1) (months % 12 + 3) (omega (arith, signed)) (omega (arith, signed)))
     (λ high.
     let back : months % 12 - 9 + 12 ≡ months % 12 + 3 = omega arith in
-    ap (λ m. number_within start next m d) (sym back)
-    ∙ within-early y (months % 12 - 9) d start next (omega arith, omega arith) (omega arith) from to
+    ap (λ m. number_within start (year_length y) m d) (sym back)
+    ∙ within-early y (months % 12 - 9) d start (omega arith, omega arith) (omega arith) from
     ∙ named y (months % 12 - 9) (omega (arith, signed)) (omega (arith, signed)))
     (cases_lt (months % 12) 10)
 

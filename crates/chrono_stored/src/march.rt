@@ -89,7 +89,7 @@ pub(crate) fn months_later(months: u32, k: i64) -> Option<u32>
 /// Returns the day number of the day `day` of a month, or of the month's last day if that is earlier.
 ///
 /// `months` is the number of months from March of the year -262,400 to the month. The month ends where the next begins, and
-/// February where the year from March ends. The function computes both ends, with no branch.
+/// February where the year from March ends. Few days come after its first 365, so the leap rule is seldom needed.
 #[inline]
 pub(crate) fn day_number_within(months: u32, day: u32) -> i32
     requires year { IsYear (year_of_month_index (pos months -ℤ pos 3_148_798)) }
@@ -99,12 +99,13 @@ pub(crate) fn day_number_within(months: u32, day: u32) -> i32
 {
     let year = year_after(months / 12);
     let month = months % 12 + 3;
-    let start = days_to_year(year);
-    let length = days_to_year(year + 1) - start;
-    let place = (days_before_month(month) + day)
-        .min(days_before_month(month + 1))
-        .min(length);
-    (start + place) as i32 - (DAYS_TO_ONE + DAYS_FROM_MARCH as i32)
+    let in_month = (days_before_month(month) + day).min(days_before_month(month + 1));
+    let place = if in_month > 365 {
+        in_month.min(year_length(year))
+    } else {
+        in_month
+    };
+    (days_to_year(year) + place) as i32 - (DAYS_TO_ONE + DAYS_FROM_MARCH as i32)
 }
 
 /// Returns the day number of a day of a month.

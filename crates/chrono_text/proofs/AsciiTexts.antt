@@ -13,15 +13,28 @@ use Rattle.std.proofs.lemmas.Str.Ascii.{IsAscii-nil, IsAscii-cons}
 use Rattle.chrono_text.proofs.DigitLemmas.{by_size}
 use Rattle.chrono_text.proofs.TextLemmas.{year_text-four, year_text-more}
 use Rattle.chrono_text.specs.Text.{nanos_per_second, two_digits, all_digits, fraction_digits, fraction_text, subsecond_text, year_digits, year_text, calendar_text, ordinal_text, week_text, week_date_text, clock_text, seconds_text, duration_text}
+use Rattle.std.specs.List.{AllByRecursion}
 
 -- a text put behind nothing
 pub IsAscii-put : (old new text : List ℕ) → new ≡ old ++ text → old ≡ [] → IsAscii text → IsAscii new
 IsAscii-put old new text put none h = subst IsAscii (sym (put ∙ ap (λ front. front ++ text) none)) h
 
 -- one of two texts
-either : (b : Bool) (xs ys : List ℕ) → (b ≡ true → IsAscii xs) → (b ≡ false → IsAscii ys) → IsAscii (if b then xs else ys)
-either true xs ys f g = f refl
-either false xs ys f g = g refl
+pub IsAscii-if : (b : Bool) (xs ys : List ℕ) → (b ≡ true → IsAscii xs) → (b ≡ false → IsAscii ys) → IsAscii (if b then xs else ys)
+IsAscii-if true xs ys f g = f refl
+IsAscii-if false xs ys f g = g refl
+
+-- every text of a list
+abbrev pub AreAscii : List (List ℕ) → Type 0
+AreAscii texts = AllByRecursion IsAscii texts
+
+pub AreAscii-if : (b : Bool) (texts others : List (List ℕ)) → AreAscii texts → AreAscii others → AreAscii (if b then texts else others)
+AreAscii-if true texts others h k = h
+AreAscii-if false texts others h k = k
+
+pub AreAscii-append : (texts others : List (List ℕ)) → AreAscii texts → AreAscii others → AreAscii (texts ++ others)
+AreAscii-append [] others h k = k
+AreAscii-append (text ∷ texts) others (first, rest) k = (first, AreAscii-append texts others rest k)
 
 -- a text and one character behind it
 behind_with : (xs : List ℕ) (x : ℕ) → x < 128 → IsAscii xs → IsAscii (xs ++ x ∷ [])
@@ -32,7 +45,7 @@ behind_with xs x small h = IsAscii-append xs (x ∷ []) h (IsAscii-cons x [] sma
 first_digit : (places n : ℕ) → n < 10 ^ suc places → n / 10 ^ places < 10
 first_digit places n h = div_below n (10 ^ places) 10 (one-le-pow places 10 (omega arith)) (omega (arith, h, pow-succ' 10 places))
 
-IsAscii-all_digits : (places n : ℕ) → n < 10 ^ places → IsAscii (all_digits places n)
+pub IsAscii-all_digits : (places n : ℕ) → n < 10 ^ places → IsAscii (all_digits places n)
 IsAscii-all_digits zero n h = IsAscii-nil
 IsAscii-all_digits (suc places) n h =
     IsAscii-cons (48 + n / 10 ^ places) (all_digits places (n % 10 ^ places)) (omega (arith, first_digit places n h))
@@ -41,18 +54,18 @@ IsAscii-all_digits (suc places) n h =
 IsAscii-fraction_digits : (places n : ℕ) → n < 10 ^ places → IsAscii (fraction_digits places n)
 IsAscii-fraction_digits zero n h = IsAscii-nil
 IsAscii-fraction_digits (suc places) n h =
-    either (n == 0) [] ((48 + n / 10 ^ places) ∷ fraction_digits places (n % 10 ^ places)) (λ _. IsAscii-nil)
+    IsAscii-if (n == 0) [] ((48 + n / 10 ^ places) ∷ fraction_digits places (n % 10 ^ places)) (λ _. IsAscii-nil)
     (λ _. IsAscii-cons (48 + n / 10 ^ places) (fraction_digits places (n % 10 ^ places)) (omega (arith, first_digit places n h))
     (IsAscii-fraction_digits places (n % 10 ^ places) (mod-lt n (one-le-pow places 10 (omega arith)))))
 
-IsAscii-two_digits : (n : ℕ) → n < 100 → IsAscii (two_digits n)
+pub IsAscii-two_digits : (n : ℕ) → n < 100 → IsAscii (two_digits n)
 IsAscii-two_digits n h = IsAscii-cons (48 + n / 10) ((48 + n % 10) ∷ []) (omega arith) (IsAscii-cons (48 + n % 10) [] (omega arith) IsAscii-nil)
 
 -- ---- dates
 
 IsAscii-year_digits : (n : ℕ) → n < 2 ^ 64 → IsAscii (year_digits n)
 IsAscii-year_digits n h =
-    either (nat_lt n 10_000) (all_digits 4 n) (decimal n)
+    IsAscii-if (nat_lt n 10_000) (all_digits 4 n) (decimal n)
     (λ few. IsAscii-all_digits 4 n (grind (arith, few)))
     (λ _. IsAscii-decimal n h)
 
@@ -91,15 +104,15 @@ IsAscii-subsecond_text n h =
     let three = IsAscii-cons 46 (all_digits 3 (n / 1_000_000)) (omega arith) (IsAscii-all_digits 3 (n / 1_000_000) (omega arith)) in
     let six = IsAscii-cons 46 (all_digits 6 (n / 1_000)) (omega arith) (IsAscii-all_digits 6 (n / 1_000) (omega arith)) in
     let nine = IsAscii-cons 46 (all_digits 9 n) (omega arith) (IsAscii-all_digits 9 n h) in
-    either (n == 0) _ _ (λ _. IsAscii-nil) (λ _.
-    either (n % 1_000_000 == 0) _ _ (λ _. three) (λ _.
-    either (n % 1_000 == 0) _ _ (λ _. six) (λ _. nine)))
+    IsAscii-if (n == 0) _ _ (λ _. IsAscii-nil) (λ _.
+    IsAscii-if (n % 1_000_000 == 0) _ _ (λ _. three) (λ _.
+    IsAscii-if (n % 1_000 == 0) _ _ (λ _. six) (λ _. nine)))
 
 pub IsAscii-clock_text : (hour minute second fraction : ℕ) → hour < 24 → minute < 60 → second < 60 → fraction < 2_000_000_000 → IsAscii (clock_text hour minute second fraction)
 IsAscii-clock_text hour minute second fraction h k l f =
     let plain = two_digits second ++ subsecond_text fraction in
     let later = two_digits (second + 1) ++ subsecond_text (fraction - nanos_per_second) in
-    let rest = either (nat_le nanos_per_second fraction) later plain
+    let rest = IsAscii-if (nat_le nanos_per_second fraction) later plain
     (λ _. IsAscii-append (two_digits (second + 1)) _ (IsAscii-two_digits (second + 1) (omega (arith, l))) (IsAscii-subsecond_text (fraction - nanos_per_second) (omega (arith, f))))
     (λ few. IsAscii-append (two_digits second) _ (IsAscii-two_digits second (omega (arith, l))) (IsAscii-subsecond_text fraction (grind (arith, few)))) in
     let hours = behind_with (two_digits hour) 58 (omega arith) (IsAscii-two_digits hour (omega (arith, h))) in
@@ -115,7 +128,7 @@ IsAscii-sign_text false = IsAscii-nil
 
 IsAscii-fraction_text : (n : ℕ) → n < 1_000_000_000 → IsAscii (fraction_text n)
 IsAscii-fraction_text n h =
-    either (n == 0) [] (46 ∷ fraction_digits 9 n) (λ _. IsAscii-nil)
+    IsAscii-if (n == 0) [] (46 ∷ fraction_digits 9 n) (λ _. IsAscii-nil)
     (λ _. IsAscii-cons 46 (fraction_digits 9 n) (omega arith) (IsAscii-fraction_digits 9 n h))
 
 pub IsAscii-seconds_text : (negative : Bool) (seconds nanos : ℕ) → seconds < 2 ^ 64 → nanos < 1_000_000_000 → IsAscii (seconds_text negative seconds nanos)
@@ -128,6 +141,6 @@ IsAscii-seconds_text negative seconds nanos h k =
 
 pub IsAscii-duration_text : (x : ℤ) → unsigned_abs x < 2 ^ 64 * 1_000_000_000 → IsAscii (duration_text x)
 IsAscii-duration_text x h =
-    either (int_eq x (pos 0)) (codes "P0D") (seconds_text (is_negative x) (unsigned_abs x / 1_000_000_000) (unsigned_abs x % 1_000_000_000))
+    IsAscii-if (int_eq x (pos 0)) (codes "P0D") (seconds_text (is_negative x) (unsigned_abs x / 1_000_000_000) (unsigned_abs x % 1_000_000_000))
     (λ _. IsAscii-cons 80 (48 ∷ 68 ∷ []) (omega arith) (IsAscii-cons 48 (68 ∷ []) (omega arith) (IsAscii-cons 68 [] (omega arith) IsAscii-nil)))
     (λ _. IsAscii-seconds_text (is_negative x) (unsigned_abs x / 1_000_000_000) (unsigned_abs x % 1_000_000_000) (omega (arith, h)) (omega arith))

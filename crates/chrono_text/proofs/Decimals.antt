@@ -141,9 +141,9 @@ one_at_most false byte before after is = omega (arith, ap length is, length-appe
 
 -- the digits of a fraction, less the zeros at its end
 
-nothing_left : (places : ℕ) → fraction_digits places 0 ≡ []
-nothing_left zero = refl
-nothing_left (suc places) = refl
+pub fraction_digits-zero : (places : ℕ) → fraction_digits places 0 ≡ []
+fraction_digits-zero zero = refl
+fraction_digits-zero (suc places) = refl
 
 -- a number that is not 0, and zeros behind it
 at_least : (n ending front : ℕ) → n ≡ front * 10 ^ ending → front % 10 ≢ 0 → 10 ^ ending ≤ n
@@ -188,7 +188,7 @@ without_zeros (suc places) n ending front is some within =
           let only : ending ≡ places = omega (arith, few_zeros (suc places) n ending front is some within) in
           let e : suc places - ending ≡ 1 = omega arith in
           let empty : rest ≡ 0 = ap (λ k. k % 10 ^ places) (is ∙ ap (λ k. front * 10 ^ k) only) ∙ mul-mod_left front (10 ^ places) in
-          rw e (ap (λ l. digit ∷ l) (ap (fraction_digits places) empty ∙ nothing_left places))
+          rw e (ap (λ l. digit ∷ l) (ap (fraction_digits places) empty ∙ fraction_digits-zero places))
     ])
 
 -- behind a text: nine digits, less the zeros at their end

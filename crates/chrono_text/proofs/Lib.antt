@@ -5,6 +5,8 @@ pub mod AsciiTexts
 pub mod FractionLemmas
 pub mod Types
 pub mod NumberLemmas
+pub mod ListLemmas
+pub mod NaturalLemmas
+pub mod Decimals
 -- The rest serve this crate's own proofs alone.
-mod Decimals
 mod LaneLemmas

@@ -29,7 +29,7 @@ kept_natural : (b : Bool) (m n : ℕ) → cond b (Some m) None ≡ Some n → (b
 kept_natural true m n h = (refl, cc)
 kept_natural false m n h = let wrong : ⊥ = cc in absurd wrong
 
-natural_read : (text : List ℕ) (n : ℕ) → natural_of text ≡ Some n → AreDigits text × (n ≡ value_of text)
+pub natural_read : (text : List ℕ) (n : ℕ) → natural_of text ≡ Some n → AreDigits text × (n ≡ value_of text)
 unfolding natural_of
 natural_read [] n h = let wrong : ⊥ = cc in absurd wrong
 natural_read (x ∷ xs) n h =
@@ -98,7 +98,7 @@ pub record DigitsInFront (text : List ℕ) (count : ℕ) : Type 0 where
   pub end : count < length text → ¬ (IsInRange 48 57 (get_or text count 0))
 
 -- with a byte behind them no number stands there
-natural_past : (text : List ℕ) (count len : ℕ) → count < len → len ≤ length text → ¬ (IsInRange 48 57 (get_or text count 0)) → natural_of (take len text) ≡ None
+pub natural_past : (text : List ℕ) (count len : ℕ) → count < len → len ≤ length text → ¬ (IsInRange 48 57 (get_or text count 0)) → natural_of (take len text) ≡ None
 natural_past text count len past within other =
     let word = take len text in
     let inside : count < length word = omega (arith, length-take len text) in

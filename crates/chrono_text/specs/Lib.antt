@@ -1,3 +1,5 @@
 pub mod Text
 pub mod Numbers
 pub mod Fractions
+pub mod Lists
+pub mod Marks

@@ -1,5 +1,5 @@
 -- Whole numbers in text.
-use Rattle.std.specs.Prelude.{◌≡◌, ◌<◌, ◌≤◌, ◌==◌, ℕ, ◌+◌, ◌-◌, ◌*◌, ◌^◌, Bool, ◌&&◌, ◌⊎◌, List, [], ◌∷◌, ◌++◌, length, slice_index, ℤ, pos, negsuc, neg_ℤ, unsigned_abs, Option, Some, None, true, false, if◌then◌else◌, int_le, codes, refl}
+use Rattle.std.specs.Prelude.{◌≡◌, ◌<◌, ◌≤◌, ◌==◌, nat_le, ℕ, ◌+◌, ◌-◌, ◌*◌, ◌^◌, Bool, ◌&&◌, ◌⊎◌, List, [], ◌∷◌, ◌++◌, length, slice_index, ℤ, pos, negsuc, neg_ℤ, unsigned_abs, Option, Some, None, true, false, if◌then◌else◌, int_le, codes, refl}
 use Rattle.std.specs.Option.{option_map, option_and_then}
 use Rattle.std.specs.List.{AllByRecursion}
 use Rattle.std.specs.Int.{IsInRange}
@@ -14,6 +14,18 @@ value_of (digit ∷ digits) = (digit - byte "0") * 10 ^ length digits + value_of
 unfoldable pub natural_of : List ℕ → Option ℕ
 natural_of [] = None
 natural_of (digit ∷ digits) = if all_ascii_digits (digit ∷ digits) then Some (value_of (digit ∷ digits)) else None
+
+-- the number that one digit or more write, if they are no more than `most`
+unfoldable pub digits_of : ℕ → List ℕ → Option ℕ
+digits_of most text = if nat_le (length text) most then natural_of text else None
+
+-- the number, if it is no greater
+abbrev pub up_to : ℕ → ℕ → Option ℕ
+up_to most n = if nat_le n most then Some n else None
+
+-- the number that one digit or more write, if it is below 2^32
+unfoldable pub count_of : List ℕ → Option ℕ
+count_of text = option_and_then (up_to (2 ^ 32 - 1)) (natural_of text)
 
 -- the number of this sign and size
 abbrev pub signed : Bool → ℕ → ℤ
@@ -64,7 +76,36 @@ pub record StandsBefore (stop : ℕ) (text : List ℕ) (len : ℕ) : Type 0 wher
   pub within : len ≤ length text
   pub stops : len < length text → slice_index text len ≡ stop
 
--- known values: signs, zeros in front, and what is no number
+-- known values: zeros in front, too many digits, none, and what is no digit
+digits_of-zeros : digits_of 3 (codes "031") ≡ Some 31
+unfolding digits_of natural_of
+digits_of-zeros = refl
+
+digits_of-many : digits_of 2 (codes "031") ≡ None
+unfolding digits_of
+digits_of-many = refl
+
+digits_of-nothing : digits_of 2 [] ≡ None
+unfolding digits_of natural_of
+digits_of-nothing = refl
+
+digits_of-colon : digits_of 2 (codes "1:") ≡ None
+unfolding digits_of natural_of
+digits_of-colon = refl
+
+digits_of-slash : digits_of 2 (codes "/1") ≡ None
+unfolding digits_of natural_of
+digits_of-slash = refl
+
+count_of-greatest : count_of (codes "4294967295") ≡ Some 4_294_967_295
+unfolding count_of natural_of
+count_of-greatest = refl
+
+count_of-above : count_of (codes "4294967296") ≡ None
+unfolding count_of natural_of
+count_of-above = refl
+
+-- signs, zeros in front, and what is no number
 number_of-minus_42 : number_of (codes "-42") ≡ Some (neg_ℤ (pos 42))
 unfolding number_of natural_of
 number_of-minus_42 = refl

@@ -29,9 +29,15 @@ pub(crate) fn codes_of_two(n: u32) -> (u8, u8)
 }
 
 impl<const N: usize> Text<N> {
-    // Puts two digits.
+    /// Appends the number `n` in two digits. Requires `n < 100`, and room for two bytes.
+    ///
+    /// ```
+    /// let mut text: Text<2> = Text::new();
+    /// text.push_two(7);
+    /// text.as_bytes() // [48, 55]
+    /// ```
     #[inline]
-    pub(crate) fn push_two(&mut self, n: u32)
+    pub fn push_two(&mut self, n: u32)
         requires small { n < 100 }
         requires room { length self.old + 2 ≤ N }
         ensures { self.new ≡ self.old ++ two_digits n }
@@ -41,10 +47,18 @@ impl<const N: usize> Text<N> {
         self.push(ones);
     }
 
-    // Puts three digits.
+    /// Appends `n` in three digits.
+    ///
+    /// Requires `n` to be below 1,000, and 3 free bytes.
+    ///
+    /// ```
+    /// let mut text = Text::<8>::new();
+    /// text.push_three(7);
+    /// text.as_str() // "007"
+    /// ```
     #[inline]
     #[tactic(auto, using(crate::proofs::Decimals::places))]
-    pub(crate) fn push_three(&mut self, n: u32)
+    pub fn push_three(&mut self, n: u32)
         requires small { n < 1_000 }
         requires room { length self.old + 3 ≤ N }
         ensures { self.new ≡ self.old ++ all_digits 3 n }
@@ -53,10 +67,18 @@ impl<const N: usize> Text<N> {
         self.push_two(n % 100);
     }
 
-    // Puts four digits.
+    /// Appends `n` in four digits.
+    ///
+    /// Requires `n` to be below 10,000, and 4 free bytes.
+    ///
+    /// ```
+    /// let mut text = Text::<8>::new();
+    /// text.push_four(7);
+    /// text.as_str() // "0007"
+    /// ```
     #[inline]
     #[tactic(auto, using(crate::proofs::Decimals::places))]
-    pub(crate) fn push_four(&mut self, n: u32)
+    pub fn push_four(&mut self, n: u32)
         requires small { n < 10_000 }
         requires room { length self.old + 4 ≤ N }
         ensures { self.new ≡ self.old ++ all_digits 4 n }

@@ -1,7 +1,7 @@
 //! Numbers as texts, and back: writers and readers of the texts of ISO 8601.
 //!
 //! [`Text`] is a buffer of fixed size, and its `push_` functions append one text each. The `read_` functions read
-//! digits, whole numbers, fractions of a second and years. This crate has numbers and bytes only. The crates above know
+//! digits, whole numbers, fractions of a second and years. [`read_list`] reads a list of items. This crate has numbers and bytes only. The crates above know
 //! what a year, a month or a weekday is, and build their texts from these writers and readers.
 #![tactic(auto)]
 
@@ -11,13 +11,18 @@ mod digits;
 mod duration_text;
 pub mod law;
 mod line;
+mod list;
 mod read;
+mod search;
 mod text;
 mod time_text;
 
 pub use line::Line;
+pub use list::{ItemReader, byte_place, first_piece, read_list, same_but_for_case, split_at_byte};
 pub use read::{
-    Way, read_decimal, read_four, read_fraction, read_number, read_three, read_two, read_year,
+    Way, read_count, read_decimal, read_digits, read_four, read_fraction, read_number, read_three,
+    read_two, read_year,
 };
+pub use search::split_line;
 pub use text::Text;
 pub use time_text::{NANOS_PER_MICRO, NANOS_PER_MILLI, NANOS_PER_SEC};

@@ -4,7 +4,8 @@ mod decimal;
 mod digit;
 mod fraction;
 mod front;
-mod lanes;
+pub(crate) mod lanes;
+mod natural;
 mod number;
 mod places;
 mod way;
@@ -12,6 +13,7 @@ mod year;
 
 pub use decimal::read_decimal;
 pub use fraction::read_fraction;
+pub use natural::{read_count, read_digits};
 pub use number::read_number;
 pub use places::{read_four, read_three, read_two};
 pub use way::Way;

@@ -170,9 +170,38 @@ impl<const N: usize> Text<N> {
         self.len = end;
     }
 
-    // Drops so many bytes from the end.
+    /// Appends the bytes of `text` if `wanted` is true, with no branch. Requires as many free bytes in either case.
+    ///
+    /// ```
+    /// let mut text = Text::<8>::new();
+    /// text.push_text_if(true, *b"abc");
+    /// text.push_text_if(false, *b"def");
+    /// text.as_str() // "abc"
+    /// ```
     #[inline]
-    pub(crate) fn shorten(&mut self, count: usize)
+    pub fn push_text_if<const M: usize>(&mut self, wanted: bool, text: [u8; M])
+        requires { length self.old + M ≤ N }
+        ensures { self.new ≡ self.old ++ (if wanted then text.entry else []) }
+    {
+        // Bytes put one by one become one store. A copy of a slice also asks whether the two overlap.
+        let mut put = 0;
+        while put < M {
+            self.push(text[put]);
+            put += 1;
+        }
+        self.shorten(M * usize::from(!wanted));
+    }
+
+    /// Removes the last `count` bytes. Requires the text to have that many.
+    ///
+    /// ```
+    /// let mut text = Text::<8>::new();
+    /// text.push_text(b"abc");
+    /// text.shorten(2);
+    /// text.as_str() // "a"
+    /// ```
+    #[inline]
+    pub fn shorten(&mut self, count: usize)
         requires { count ≤ length self.old }
         ensures { self.new ≡ take (length self.old - count) self.old }
     {

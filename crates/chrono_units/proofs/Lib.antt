@@ -2,6 +2,7 @@
 pub mod SetMembers
 pub mod WeekdayCycle
 pub mod WalkLengths
+pub mod ListsLeft
 pub mod DayNames
 -- The rest serve this crate's own proofs alone.
 mod EachSet

@@ -85,25 +85,25 @@ first_day-single = elim [ Mon ↦ refl | Tue ↦ refl | Wed ↦ refl | Thu ↦ r
 
 -- ---- a day more
 
-or_none : (x y : Bool) → (x || (y || false)) ≡ (x || y)
-or_none true y = refl
-or_none false true = refl
-or_none false false = refl
+pub or-or_false : (x y : Bool) → (x || (y || false)) ≡ (x || y)
+or-or_false true y = refl
+or-or_false false true = refl
+or-or_false false false = refl
 
 -- a list with a day more has the set with that day more
 pub set_of-push : (ds : List Weekday) (d : Weekday) → set_of (ds ++ d ∷ []) ≡ union (set_of ds) (single d)
 set_of-push ds d =
     let grown : (e : Weekday) → list_any (weekday_eq e) (ds ++ d ∷ []) ≡ (list_any (weekday_eq e) ds || weekday_eq e d) =
-    λ e. list_any-append (weekday_eq e) ds (d ∷ []) ∙ or_none _ _ in
+    λ e. list_any-append (weekday_eq e) ds (d ∷ []) ∙ or-or_false _ _ in
     same_days _ _
     (elim [ Mon ↦ grown Mon | Tue ↦ grown Tue | Wed ↦ grown Wed | Thu ↦ grown Thu | Fri ↦ grown Fri | Sat ↦ grown Sat | Sun ↦ grown Sun ])
 
 -- ---- what an insert and a removal change
 
-or_known : (x y : Bool) → (y ≡ true → x ≡ true) → (x || y) ≡ x
-or_known true y h = refl
-or_known false true h = sym (h refl)
-or_known false false h = refl
+pub or-known : (x y : Bool) → (y ≡ true → x ≡ true) → (x || y) ≡ x
+or-known true y h = refl
+or-known false true h = sym (h refl)
+or-known false false h = refl
 
 and_unknown : (x y : Bool) → (y ≡ true → x ≡ false) → (x && not y) ≡ x
 and_unknown true true h = sym (h refl)
@@ -123,7 +123,7 @@ insert_same s d = (
   λ known.
       same_days _ _ (λ e.
       contains-days_where (λ k. contains s k || contains (single d) k) e
-      ∙ or_known _ _ (λ is. ap (contains s) (weekday_eq-true e d (sym (contains-single d e) ∙ is)) ∙ not-false _ known)),
+      ∙ or-known _ _ (λ is. ap (contains s) (weekday_eq-true e d (sym (contains-single d e) ∙ is)) ∙ not-false _ known)),
   λ same.
       ap not
       (sym (ap (λ t. contains t d) same)

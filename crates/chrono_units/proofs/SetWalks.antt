@@ -1,8 +1,5 @@
 -- What is left of a walk when a member is taken from either end.
 use Rattle.std.proofs.Common.{◌≡◌, suc, refl, ap, ◌∙◌, Bool, true, false, ◌&&◌, ◌==◌, List, [], ◌∷◌, ◌++◌, length, arith, rules, Option, Some, None}
-use Rattle.std.specs.Bool.{⊤}
-use Rattle.std.specs.Iterator.{MakesProgress, item_count}
-use Rattle.std.proofs.lemmas.List.{length-append}
 use Rattle.std.proofs.lemmas.Bool.{and_parts, eqb-true, false≢true}
 use Rattle.chrono_units.specs.declared.weekday.Weekday.{Weekday}
 use Rattle.chrono_units.specs.declared.weekday.Weekday.TheVariants.{Mon}
@@ -70,14 +67,3 @@ last_day-none (d ∷ e ∷ ds) h = absurd (search (rules, last_day-none (e ∷ d
 -- a walk is as long from every start
 pub length-walk : (s : DaySet) (start : Weekday) → length (walk s Mon) ≡ length (walk s start)
 length-walk s start = eqb-true _ _ (each_set-at _ (each_day-at _ lengths_agree start) s)
-
--- ---- a call that takes a day leaves fewer
-
-taken : (ds es : List Weekday) (d : Weekday) → length ds ≡ suc (length es) → MakesProgress (λ _. ⊤) (item_count (λ left. left)) ds (Some d) es
-taken ds es d fewer = record { on = λ _. (search rules, search rules, omega (arith, fewer)); keeps = search rules; rests = λ _. search rules }
-
-pub first-goes : (ds es : List Weekday) (d : Weekday) → ds ≡ d ∷ es → MakesProgress (λ _. ⊤) (item_count (λ left. left)) ds (Some d) es
-first-goes ds es d e = taken ds es d (ap length e)
-
-pub last-goes : (ds es : List Weekday) (d : Weekday) → ds ≡ es ++ d ∷ [] → MakesProgress (λ _. ⊤) (item_count (λ left. left)) ds (Some d) es
-last-goes ds es d e = taken ds es d (omega (arith, ap length e, length-append es (d ∷ [])))

@@ -4,3 +4,4 @@ pub mod Weekday
 pub mod WeekdaySet
 pub mod Years
 pub mod WeekdayText
+pub mod Names

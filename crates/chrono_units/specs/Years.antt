@@ -13,8 +13,8 @@ is_leap_year y = divides 4 y && (not (divides 100 y) || divides 400 y)
 abbrev pub year_length : ℤ → ℕ
 year_length y = if is_leap_year y then 366 else 365
 
--- the days of the month m, from 1 for January, in a leap year or in a common year:
--- 30 in April, June, September and November, 28 or 29 in February, else 31
+-- the days of the month m, from 1 for January, in a leap year or in a common year. April, June, September and November
+-- have 30, February has 28 or 29, and the others 31
 abbrev pub month_length_in : Bool → ℕ → ℕ
 month_length_in leap m =
     if m == 2 then (if leap then 29 else 28)

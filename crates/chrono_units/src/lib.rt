@@ -7,6 +7,7 @@
 pub mod law;
 mod month;
 mod months;
+mod names;
 mod out_of_range;
 mod text;
 mod weekday;

@@ -6,8 +6,8 @@ use Rattle.chrono_datetime.specs.WeekdaySet.{DaySet, contains}
 use Rattle.chrono_datetime.specs.Weeks.{weekday_of}
 
 -- the day n has a weekday of the week of work
-unfoldable pub is_workday : DaySet → ℤ → Bool
-is_workday week n = contains week (weekday_of n)
+unfoldable pub is_day_of_work : DaySet → ℤ → Bool
+is_day_of_work week n = contains week (weekday_of n)
 
 -- the day n is in the year y
 unfoldable pub is_in_year : ℤ → ℤ → Bool

@@ -5,24 +5,24 @@ ghost use Rattle.std.specs.Prelude.{◌≡◌, ℤ, ◌≤ℤ◌, ◌<ℤ◌, If
 ghost use Rattle.chrono_datetime.specs.DateLists.{days_from, weeks_from};
 ghost use Rattle.chrono_datetime.specs.Days.{IsDate};
 ghost use Rattle.chrono_datetime.specs.Recurrence.{dates_left};
-ghost use Rattle.chrono_uses.specs.Workdays.{is_in_year, is_workday};
+ghost use Rattle.chrono_uses.specs.Workdays.{is_in_year, is_day_of_work};
 
 use chrono_datetime::{Datelike, NaiveDate, WeekdaySet};
 
 /// Whether a date is worked.
-#[tactic(auto, unfolding(crate::specs::Workdays::is_workday))]
+#[tactic(auto, unfolding(crate::specs::Workdays::is_day_of_work))]
 pub fn is_worked(date: NaiveDate, week: WeekdaySet) -> bool
-    ensures { result ≡ is_workday week date }
+    ensures { result ≡ is_day_of_work week date }
 {
     week.contains(date.weekday())
 }
 
 /// The first workday not before a date; `None` exactly if no date from that one on is worked.
 pub fn next_workday(date: NaiveDate, week: WeekdaySet) -> Option<NaiveDate>
-    ensures worked { IfSome result (λ e. IsTrue (is_workday week e)) }
+    ensures worked { IfSome result (λ e. IsTrue (is_day_of_work week e)) }
     ensures not_before { IfSome result (λ e. date ≤ℤ e) }
-    ensures least { IfSome result (λ e. (d : ℤ) → date ≤ℤ d → d <ℤ e → is_workday week d ≡ false) }
-    ensures none { IfNone result ((d : ℤ) → date ≤ℤ d → IsDate d → is_workday week d ≡ false) }
+    ensures least { IfSome result (λ e. (d : ℤ) → date ≤ℤ d → d <ℤ e → is_day_of_work week d ≡ false) }
+    ensures none { IfNone result ((d : ℤ) → date ≤ℤ d → IsDate d → is_day_of_work week d ≡ false) }
 {
     let mut days = date.iter_days();
     while let Some(day) = days.step() {
@@ -35,7 +35,7 @@ pub fn next_workday(date: NaiveDate, week: WeekdaySet) -> Option<NaiveDate>
 
 /// How many workdays there are from a date on, up to the last date.
 pub fn workdays_left(date: NaiveDate, week: WeekdaySet) -> u32
-    ensures { result ≡ count_by (λ n. is_workday week n) (days_from date) }
+    ensures { result ≡ count_by (λ n. is_day_of_work week n) (days_from date) }
 {
     let mut count = 0;
     for day in date.iter_days() {
@@ -48,7 +48,7 @@ pub fn workdays_left(date: NaiveDate, week: WeekdaySet) -> u32
 
 /// How many of so many dates from one on are workdays.
 pub fn workdays_of(date: NaiveDate, days: usize, week: WeekdaySet) -> usize
-    ensures { result ≡ length (filter (λ n. is_workday week n) (take days (days_from date))) }
+    ensures { result ≡ length (filter (λ n. is_day_of_work week n) (take days (days_from date))) }
 {
     date.iter_days()
         .take(days)

@@ -1,10 +1,10 @@
--- Words, read one after another.
-use Rattle.std.proofs.Common.{◌≡◌, ◌≤◌, ◌-◌, ◌||◌, ℕ, Bool, List, [], ◌∷◌, length, take, drop, get_or, map, Option, Ok, Err, refl, sym, ap, ◌∙◌, arith}
+-- Arguments, read one after another.
+use Rattle.std.proofs.Common.{◌≡◌, ◌≤◌, ◌-◌, ℕ, List, [], ◌∷◌, length, take, drop, get_or, map, Ok, Err, refl, sym, ap, ◌∙◌, arith}
 use Rattle.std.proofs.lemmas.List.{take_all}
 use Rattle.command_words.specs.declared.table.Opt.{Opt}
 use Rattle.command_words.specs.declared.words.Word.{Word}
 use Rattle.command_words.specs.declared.words.Why.{Why}
-use Rattle.command_words.specs.Words.{Meaning, Read, Seen, State, begun_by, finished, is_end, meaning, next, operands_with, options_with, read, seen}
+use Rattle.command_words.specs.Arguments.{Got, Mode, Seen, Step, and_then, finished, read, seen, step}
 
 -- no word, which stands for one past the end
 abbrev pub no_word : Word
@@ -20,25 +20,20 @@ ahead : (words : List Word) → 1 ≤ length words → map seen words ≡ first 
 ahead [] some = absurd (omega arith)
 ahead (w ∷ words) some = ap (λ (rest : List Word). seen w ∷ map seen rest) (sym (take_all _ words (omega arith)))
 
-read_ahead : (table : List Opt) (s : State) (words : List Word) → 1 ≤ length words
-    → read table s (map seen words) ≡ next s (first words) (meaning table s.options s.begun s.ended (first words)) (λ t. read table t (map seen (behind words)))
+read_ahead : (table : List Opt) (g : Got) (m : Mode) (words : List Word) (s : Step) → 1 ≤ length words → step table g m (first words) ≡ s
+    → read table g m (map seen words) ≡ and_then s (λ h k. read table h k (map seen (behind words)))
 unfolding read
-read_ahead table s words some = ap (read table s) (ahead words some)
+read_ahead table g m words s some is = ap (read table g m) (ahead words some) ∙ ap (λ x. and_then x (λ h k. read table h k (map seen (behind words)))) is
 
-pub read_wrong : (table : List Opt) (s : State) (words : List Word) (cause : Why) → 1 ≤ length words
-    → meaning table s.options s.begun s.ended (first words) ≡ Err cause → read table s (map seen words) ≡ Err (first words, cause)
-read_wrong table s words cause some is =
-    read_ahead table s words some ∙ ap (λ m. next s (first words) m (λ t. read table t (map seen (behind words)))) is
+pub read_wrong : (table : List Opt) (g : Got) (m : Mode) (words : List Word) (w : Seen) (cause : Why) → 1 ≤ length words
+    → step table g m (first words) ≡ Err (w, cause) → read table g m (map seen words) ≡ Err (w, cause)
+read_wrong table g m words w cause some is = read_ahead table g m words (Err (w, cause)) some is
 
-pub read_more : (table : List Opt) (s t : State) (words : List Word) (m : Meaning) → 1 ≤ length words
-    → meaning table s.options s.begun s.ended (first words) ≡ Ok m
-    → t.operands ≡ operands_with s.operands (first words) m → t.options ≡ options_with s.options m → t.begun ≡ begun_by (first words) m → t.ended ≡ (s.ended || is_end m)
-    → read table s (map seen words) ≡ read table t (map seen (behind words))
-read_more table s t words m some is a b c d =
-    read_ahead table s words some ∙ ap (λ x. next s (first words) x (λ t. read table t (map seen (behind words)))) is
-    ∙ rw (← a, ← b, ← c, ← d) refl
+pub read_more : (table : List Opt) (g h : Got) (m k : Mode) (words : List Word) → 1 ≤ length words
+    → step table g m (first words) ≡ Ok (h, k) → read table g m (map seen words) ≡ read table h k (map seen (behind words))
+read_more table g h m k words some is = read_ahead table g m words (Ok (h, k)) some is
 
-pub read_end : (table : List Opt) (s : State) (words : List Word) → length words ≡ 0 → read table s (map seen words) ≡ finished s.operands s.options s.begun
+pub read_end : (table : List Opt) (g : Got) (m : Mode) (words : List Word) → length words ≡ 0 → read table g m (map seen words) ≡ finished g m
 unfolding read
-read_end table s [] none = refl
-read_end table s (w ∷ words) none = absurd (omega (arith, none))
+read_end table g m [] none = refl
+read_end table g m (w ∷ words) none = absurd (omega (arith, none))

@@ -1,6 +1,6 @@
 //! Completion of a program's words by bash, zsh and fish.
 
-use crate::table::{Command, Opt, Program};
+use crate::table::{CommandRow, Opt, Program};
 use std::fmt;
 
 /// A shell.
@@ -104,7 +104,7 @@ fn write_offer<W: fmt::Write>(
 }
 
 // What bash offers where a command has an operand or an option.
-fn write_words<W: fmt::Write>(f: &mut fmt::Formatter<W>, command: &Command) -> fmt::Result {
+fn write_words<W: fmt::Write>(f: &mut fmt::Formatter<W>, command: &CommandRow) -> fmt::Result {
     f.write_str("COMPREPLY=($(compgen -W $'")?;
     let mut files = false;
     for operand in command.operands {
@@ -129,7 +129,7 @@ fn write_words<W: fmt::Write>(f: &mut fmt::Formatter<W>, command: &Command) -> f
 fn write_fish<W: fmt::Write>(f: &mut fmt::Formatter<W>, program: &Program<'_>) -> fmt::Result {
     let name = program.name;
     for command in program.commands {
-        let Command {
+        let CommandRow {
             name: word,
             help,
             ..

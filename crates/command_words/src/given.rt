@@ -1,13 +1,13 @@
 //! What a program asks of the words that are read.
 ghost use Rattle.std.specs.Prelude.{◌≡◌, map};
 ghost use Rattle.std.specs.Option.{option_map};
-ghost use Rattle.command_words.specs.Words.{is_given, missing, pair, seen, value_named, first_value};
+ghost use Rattle.command_words.specs.Arguments.{is_given, missing, pair, seen, value_named, first_value};
 
-use crate::table::{Command, Operand, Opt};
-use crate::words::{Given, Word, Words, is_given};
+use crate::table::{CommandRow, Operand, Opt};
+use crate::words::{Arguments, GivenOption, Word, is_given};
 use std::alloc::Allocator;
 
-impl<'a, A: Allocator> Words<'a, A> {
+impl<'a, A: Allocator> Arguments<'a, A> {
     /// Returns the value of an option as it is given first; else its default, as a word at place 0.
     pub fn value(&self, option: Opt) -> Option<Word<'a>>
         ensures { option_map seen result ≡ value_named option (map pair self.now.options.items) }
@@ -52,7 +52,7 @@ impl<'a, A: Allocator> Words<'a, A> {
     }
 
     /// Returns the first operand that has to be there by the command's row and is not.
-    pub fn missing_operand(&self, command: &Command) -> Option<Operand> {
+    pub fn missing_operand(&self, command: &CommandRow) -> Option<Operand> {
         let mut left = self.operands.len();
         for operand in command.operands {
             if operand.required {
@@ -66,7 +66,7 @@ impl<'a, A: Allocator> Words<'a, A> {
     }
 
     /// Returns the first operand for which the command's row has no place.
-    pub fn extra_operand(&self, command: &Command) -> Option<Word<'a>> {
+    pub fn extra_operand(&self, command: &CommandRow) -> Option<Word<'a>> {
         let mut places: usize = 0;
         for operand in command.operands {
             if operand.many {
@@ -80,7 +80,7 @@ impl<'a, A: Allocator> Words<'a, A> {
 }
 
 // The value of the first option with that name.
-fn first_value<'a>(options: &[Given<'a>], name: &str) -> Option<Word<'a>>
+pub(crate) fn first_value<'a>(options: &[GivenOption<'a>], name: &str) -> Option<Word<'a>>
     ensures { option_map seen result ≡ first_value name.now (map pair options.now) }
 {
     let mut rest = options;

@@ -1,6 +1,6 @@
 //! Help, as a terminal of 80 columns shows it.
 
-use crate::table::{Command, Operand, Opt, Program};
+use crate::table::{CommandRow, Operand, Opt, Program};
 use std::fmt;
 
 /// How a command is called, as `dates add [DAY] SPAN... [OPTION]...`.
@@ -9,7 +9,7 @@ pub struct Usage<'a> {
     /// The name of the program.
     pub program: &'a str,
     /// The command.
-    pub command: &'a Command,
+    pub command: &'a CommandRow,
 }
 
 impl fmt::Display for Usage<'_> {
@@ -75,7 +75,7 @@ pub struct CommandHelp<'a, 'b, 'c> {
     /// The program.
     pub program: &'a Program<'b>,
     /// The command.
-    pub command: &'c Command,
+    pub command: &'c CommandRow,
 }
 
 impl fmt::Display for CommandHelp<'_, '_, '_> {

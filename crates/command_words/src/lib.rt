@@ -1,4 +1,4 @@
-//! Command lines read by a table: the operands and the options of a list of words, or the word that breaks the table. Help, a man
+//! CommandRow lines read by a table: the operands and the options of a list of words, or the word that breaks the table. Help, a man
 //! page and completion come from the same table.
 #![tactic(auto)]
 
@@ -13,6 +13,6 @@ mod words;
 pub use completion::{Completion, Shell};
 pub use help::{Choices, CommandHelp, ProgramHelp, Usage};
 pub use man::{ManPage, ReferencePage};
-pub use near::{nearest, nearest_option};
-pub use table::{Command, OPERAND, OPTION, Operand, Opt, Program};
-pub use words::{Given, Why, Word, Words, Wrong, read_words};
+pub use near::nearest;
+pub use table::{CommandRow, OPERAND, OPTION, Operand, Opt, Program};
+pub use words::{Arguments, GivenOption, Why, Word, Wrong, read_words};

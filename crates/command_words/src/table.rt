@@ -38,7 +38,7 @@ pub struct Operand {
 
 /// A command.
 #[derive(Clone, Copy)]
-pub struct Command {
+pub struct CommandRow {
     /// Its name; empty for what the program does without one.
     pub name: &'static str,
     /// Its operands.
@@ -63,7 +63,7 @@ pub struct Program<'a> {
     /// What else there is to know.
     pub more: &'static str,
     /// Its commands.
-    pub commands: &'a [Command],
+    pub commands: &'a [CommandRow],
     /// The options that stand alone, as `--version`.
     pub alone: &'static [Opt],
 }

@@ -1,11 +1,11 @@
 //! Reading the words of a command line: operands, and options with their values in any order.
-ghost use Rattle.std.specs.Prelude.{◌≡◌, ◌||◌, map, Ok, Err, IfErr, IfOk, MatchResult};
+ghost use Rattle.std.specs.Prelude.{◌≡◌, ◌||◌, [], map, Ok, Err, IfOk, MatchResult};
 ghost use Rattle.std.specs.List.{list_any};
 ghost use Rattle.std.specs.Str.{bytes_eq};
 ghost use Rattle.std.specs.Option.{option_map};
-ghost use Rattle.command_words.specs.declared.words.Why.TheVariants as Why;
-ghost use Rattle.command_words.specs.Words.{attached, begun_by, is_end, is_flag, is_given, is_option, may_be, meaning, meaning_of, meaning_of_option, meaning_of_word, name_in, named, operands_with, options_with, pair, read, seen, start, value_in, valued};
+ghost use Rattle.command_words.specs.Arguments.{IsStep, attached, free, got, is_flag, is_given, is_option, may_be, mode_of, name_in, named, pair, read, seen, step, step_of_option, value_in, valued};
 
+use crate::given::first_value;
 use crate::table::Opt;
 use std::alloc::{AllocError, Allocator};
 
@@ -20,7 +20,7 @@ pub struct Word<'a> {
 
 /// An option that is given.
 #[derive(Clone, Copy)]
-pub struct Given<'a> {
+pub struct GivenOption<'a> {
     /// The option.
     pub option: Opt,
     /// Its value, with an empty text for a flag.
@@ -45,7 +45,7 @@ pub enum Why {
 /// A word that breaks the table.
 #[derive(Clone, Copy)]
 pub struct Wrong<'a> {
-    /// The word.
+    /// The word, or the value behind its `=`.
     pub word: Word<'a>,
     /// Why it does.
     pub why: Why,
@@ -53,25 +53,26 @@ pub struct Wrong<'a> {
 
 /// The operands and the options of a command line.
 #[derive(Drop)]
-pub struct Words<'a, A: Allocator> {
+pub struct Arguments<'a, A: Allocator> {
     /// The operands, in their order.
     pub operands: Vec<Word<'a>, A>,
     /// The options, in the order in which they are given.
-    pub options: Vec<Given<'a>, A>,
+    pub options: Vec<GivenOption<'a>, A>,
 }
 
-// What a word is.
+// How the next word is read.
 #[derive(Clone, Copy)]
-pub(crate) enum Piece<'a> {
-    // An operand.
-    Operand,
-    // An option and its value.
-    Given(Opt, Word<'a>),
-    // An option whose value is the next word.
-    Begun(Opt),
-    // The end of the options.
-    End,
+pub(crate) enum Mode<'a> {
+    // As an option where it begins with `--`.
+    Free,
+    // As the value of the option that this word begins.
+    Begun(Opt, Word<'a>),
+    // As an operand.
+    Ended,
 }
+
+// How the next word is read, or the word that breaks the table; or memory is short.
+type Step<'a> = Result<Result<Mode<'a>, Wrong<'a>>, AllocError>;
 
 /// Reads words by a table of options.
 ///
@@ -83,154 +84,107 @@ pub fn read_words<'a, A: Allocator + Clone>(
     alloc: A,
     table: &'static [Opt],
     words: &[Word<'a>],
-) -> Result<Result<Words<'a, A>, Wrong<'a>>, AllocError>
+) -> Result<Result<Arguments<'a, A>, Wrong<'a>>, AllocError>
     ensures { IfOk result (λ r. MatchResult r
-        (λ f. read table.now start (map seen words.now) ≡ Ok (map seen f.operands.items, map pair f.options.items))
-        (λ w. read table.now start (map seen words.now) ≡ Err (seen w.word, w.why))) }
+        (λ f. read table.now ([], []) free (map seen words.now) ≡ Ok (got f.operands.items f.options.items))
+        (λ w. read table.now ([], []) free (map seen words.now) ≡ Err (seen w.word, w.why))) }
 {
-    let mut found = Words {
+    let mut found = Arguments {
         operands: Vec::new(alloc.clone()?),
         options: Vec::new(alloc),
     };
-    let mut begun = None;
-    let mut ended = false;
+    let mut mode = Mode::Free;
     let mut rest = words;
     while let [word, others @ ..] = rest {
-        match piece_of(table, found.options.as_slice(), begun, ended, *word) {
-            Ok(piece) => {
-                put(&mut found, *word, piece)?;
-                begun = begun_by(*word, piece);
-                ended = has_ended(ended, piece);
-            }
-            Err(why) => return Ok(Err(Wrong { word: *word, why })),
+        match read_word(table, &mut found, mode, *word)? {
+            Ok(next) => mode = next,
+            Err(wrong) => return Ok(Err(wrong)),
         }
         rest = others;
     }
-    match begun {
-        Some(given) => Ok(Err(no_value(given))),
-        None => Ok(Ok(found)),
+    let why = Why::NoValue;
+    match mode {
+        Mode::Begun(_, word) => Ok(Err(Wrong { word, why })),
+        Mode::Free => Ok(Ok(found)),
+        Mode::Ended => Ok(Ok(found)),
     }
 }
 
-// The fault where no value follows an option.
-fn no_value<'a>(given: Given<'a>) -> Wrong<'a>
-    ensures word { seen result.word ≡ seen given.entry.value }
-    ensures why { result.why ≡ Why.NoValue }
-{
-    Wrong {
-        word: given.value,
-        why: Why::NoValue,
-    }
-}
-
-// Puts a word that is an operand, or an option with its value, behind the others.
-fn put<'a>(
-    found: &mut Words<'a, impl Allocator>,
-    word: Word<'a>,
-    piece: Piece<'a>,
-) -> Result<(), AllocError>
-    ensures operands { IfOk result (λ u. map seen found.new.operands.items ≡ operands_with (map seen found.old.operands.items) (seen word.entry) (meaning_of piece.entry)) }
-    ensures options { IfOk result (λ u. map pair found.new.options.items ≡ options_with (map pair found.old.options.items) (meaning_of piece.entry)) }
-{
-    match piece {
-        Piece::Operand => found.operands.push(word)?,
-        Piece::Given(option, value) => found.options.push(Given { option, value })?,
-        Piece::Begun(_) | Piece::End => {}
-    }
-    Ok(())
-}
-
-// The option that waits for its value behind a word.
-fn begun_by<'a>(word: Word<'a>, piece: Piece<'a>) -> Option<Given<'a>>
-    ensures { option_map pair result ≡ begun_by (seen word.entry) (meaning_of piece.entry) }
-{
-    match piece {
-        Piece::Begun(option) => Some(Given {
-            option,
-            value: word,
-        }),
-        _ => None,
-    }
-}
-
-// Whether the options ended before a word, or end with it.
-fn has_ended(ended: bool, piece: Piece<'_>) -> bool
-    ensures { result ≡ (ended || is_end (meaning_of piece.entry)) }
-{
-    match piece {
-        Piece::End => true,
-        _ => ended,
-    }
-}
-
-// What a word is behind those options, where one of them may wait for its value.
-fn piece_of<'a>(
+// Reads a word behind others.
+fn read_word<'a>(
     table: &'static [Opt],
-    options: &[Given<'a>],
-    begun: Option<Given<'a>>,
-    ended: bool,
+    found: &mut Arguments<'a, impl Allocator>,
+    mode: Mode<'a>,
     word: Word<'a>,
-) -> Result<Piece<'a>, Why>
-    ensures ok { IfOk result (λ p. meaning table.now (map pair options.now) (option_map pair begun.entry) ended (seen word.entry) ≡ Ok (meaning_of p)) }
-    ensures wrong { IfErr result (λ w. meaning table.now (map pair options.now) (option_map pair begun.entry) ended (seen word.entry) ≡ Err w) }
+) -> Step<'a>
+    ensures { IfOk result (λ r. IsStep (step table.now (got found.old.operands.items found.old.options.items) (mode_of mode.entry) (seen word.entry)) r (got found.new.operands.items found.new.options.items)) }
 {
-    match begun {
-        Some(given) => valued(given.option, word),
-        None => word_piece(table, options, ended, word),
+    match mode {
+        Mode::Begun(option, _) => put_value(found, option, word),
+        Mode::Free if is_option(word.text) => read_option(table, found, word),
+        _ => {
+            found.operands.push(word)?;
+            Ok(Ok(mode))
+        }
     }
 }
 
-// What a word is that is no value of the option in front of it.
-fn word_piece<'a>(
+// Reads a word that begins with `--`.
+fn read_option<'a>(
     table: &'static [Opt],
-    options: &[Given<'a>],
-    ended: bool,
+    found: &mut Arguments<'a, impl Allocator>,
     word: Word<'a>,
-) -> Result<Piece<'a>, Why>
-    ensures ok { IfOk result (λ p. meaning_of_word table.now (map pair options.now) ended (seen word.entry) ≡ Ok (meaning_of p)) }
-    ensures wrong { IfErr result (λ w. meaning_of_word table.now (map pair options.now) ended (seen word.entry) ≡ Err w) }
+) -> Step<'a>
+    ensures { IfOk result (λ r. IsStep (step_of_option table.now (got found.old.operands.items found.old.options.items) (seen word.entry)) r (got found.new.operands.items found.new.options.items)) }
 {
-    if ended || !is_option(word.text) {
-        return Ok(Piece::Operand);
-    }
     if word.text == "--" {
-        return Ok(Piece::End);
+        return Ok(Ok(Mode::Ended));
     }
     let (name, value) = cut(word.text);
+    let why = Why::Unknown;
     match option_named(table, name) {
-        Some(option) => option_piece(option, options, word, value),
-        None => Err(Why::Unknown),
+        Some(option) => put_option(found, option, word, value),
+        None => Ok(Err(Wrong { word, why })),
     }
 }
 
-// What an option is behind those, with the value behind its `=`.
-fn option_piece<'a>(
+// Puts an option behind the others, with what stands behind its `=`, or begins it.
+fn put_option<'a>(
+    found: &mut Arguments<'a, impl Allocator>,
     option: Opt,
-    options: &[Given<'a>],
     word: Word<'a>,
     value: Option<&'a str>,
-) -> Result<Piece<'a>, Why>
-    ensures ok { IfOk result (λ p. meaning_of_option option (map pair options.now) (seen word.entry) (option_map (λ v. v.now) value.entry) ≡ Ok (meaning_of p)) }
-    ensures wrong { IfErr result (λ w. meaning_of_option option (map pair options.now) (seen word.entry) (option_map (λ v. v.now) value.entry) ≡ Err w) }
+) -> Step<'a>
+    ensures { IfOk result (λ r. IsStep (attached option (got found.old.operands.items found.old.options.items) (seen word.entry) (option_map (λ v. v.now) value.entry)) r (got found.new.operands.items found.new.options.items)) }
 {
-    if !option.repeated && is_given(options, option.name) {
-        return Err(Why::Twice);
+    if !option.repeated && is_given(found.options.as_slice(), option.name) {
+        let why = Why::Twice;
+        return Ok(Err(Wrong { word, why }));
     }
-    attached(option, word, value)
+    let place = word.place;
+    let why = Why::Flag;
+    match value {
+        Some(_) if is_flag(option) => Ok(Err(Wrong { word, why })),
+        Some(text) => put_value(found, option, Word { place, text }),
+        None if is_flag(option) => put_value(found, option, Word { place, text: "" }),
+        None => Ok(Ok(Mode::Begun(option, word))),
+    }
 }
 
-// What an option is with the value behind its `=`.
-fn attached<'a>(option: Opt, word: Word<'a>, value: Option<&'a str>) -> Result<Piece<'a>, Why>
-    ensures ok { IfOk result (λ p. attached option (seen word.entry) (option_map (λ v. v.now) value.entry) ≡ Ok (meaning_of p)) }
-    ensures wrong { IfErr result (λ w. attached option (seen word.entry) (option_map (λ v. v.now) value.entry) ≡ Err w) }
+// Puts an option behind the others with a value, if it may have that.
+fn put_value<'a>(
+    found: &mut Arguments<'a, impl Allocator>,
+    option: Opt,
+    value: Word<'a>,
+) -> Step<'a>
+    ensures { IfOk result (λ r. IsStep (valued option (got found.old.operands.items found.old.options.items) (seen value.entry)) r (got found.new.operands.items found.new.options.items)) }
 {
-    let place = word.place;
-    match value {
-        Some(_) if is_flag(option) => Err(Why::Flag),
-        Some(text) => valued(option, Word { place, text }),
-        None if is_flag(option) => Ok(Piece::Given(option, Word { place, text: "" })),
-        None => Ok(Piece::Begun(option)),
+    if !may_be(option, value.text) {
+        let why = Why::Choice(option.values);
+        return Ok(Err(Wrong { word: value, why }));
     }
+    found.options.push(GivenOption { option, value })?;
+    Ok(Ok(Mode::Free))
 }
 
 // Whether an option has no value.
@@ -238,18 +192,6 @@ fn is_flag(option: Opt) -> bool
     ensures { result ≡ is_flag option }
 {
     option.value.is_empty()
-}
-
-// An option with a value that it may have.
-fn valued<'a>(option: Opt, value: Word<'a>) -> Result<Piece<'a>, Why>
-    ensures ok { IfOk result (λ p. valued option (seen value.entry) ≡ Ok (meaning_of p)) }
-    ensures wrong { IfErr result (λ w. valued option (seen value.entry) ≡ Err w) }
-{
-    if may_be(option, value.text) {
-        Ok(Piece::Given(option, value))
-    } else {
-        Err(Why::Choice(option.values))
-    }
 }
 
 // Whether the option may have that value.
@@ -274,17 +216,10 @@ fn is_one_of(text: &str, texts: &[&str]) -> bool
 }
 
 // Whether an option with that name is given.
-pub(crate) fn is_given(options: &[Given<'_>], name: &str) -> bool
+pub(crate) fn is_given(options: &[GivenOption<'_>], name: &str) -> bool
     ensures { result ≡ is_given name.now (map pair options.now) }
 {
-    let mut rest = options;
-    while let [given, others @ ..] = rest {
-        if name == given.option.name {
-            return true;
-        }
-        rest = others;
-    }
-    false
+    first_value(options, name).is_some()
 }
 
 // The option with that name.

@@ -1,25 +1,21 @@
 //! Days and date-times, moved by spans, open days and times.
 
-use crate::asked::{Asked, print_answer};
-use crate::closed::{closed_of, years_of_open_days};
-use crate::fault::{ANSWERED, Fault, NONE, WRONG, expected, refuse};
-use crate::holidays::{Holidays, read_holidays};
-use crate::lines::{EachLine, answer_lines};
-use crate::open::DAY_OR_LINES;
-use crate::options::{CALENDAR, HELP, HOLIDAYS, JSON, WEEKEND};
-use crate::source::Place;
-use crate::texts::{Move, read_moment, read_move};
+use crate::asked::{Asked, Host, print_answer};
+use crate::closed::years_of_open_days;
+use crate::fault::{Fault, NONE};
+use crate::holidays::{Holidays, holidays_of};
+use crate::lines::{EachLine, Place, answer_lines, print_past};
+use crate::options::{DAY_OR_LINES, OPEN_DAYS};
+use crate::texts::{Move, is_timed, read_move};
 use crate::values::{Start, read_start, start_of};
 use chrono_datetime::{NaiveDate, NaiveDateTime};
-use command_words::{Command, OPERAND, Operand, Word};
+use command_words::{CommandRow, OPERAND, Operand, Word};
 use dates_answer::{Answer, Form, Key, moved};
 use std::alloc::Allocator;
-use std::io::{self, Eprint};
-use std::rt::Files;
+use std::io;
 
-/// `add`.
-pub(crate) fn command() -> Command {
-    Command {
+pub(crate) fn command() -> CommandRow {
+    CommandRow {
         name: "add",
         operands: &[
             DAY_OR_LINES,
@@ -29,17 +25,16 @@ pub(crate) fn command() -> Command {
                 ..OPERAND
             },
         ],
-        options: &[WEEKEND, CALENDAR, HOLIDAYS, JSON, HELP],
+        options: OPEN_DAYS,
         help: "move a day or a date-time by each span in turn",
-        more: "A SPAN is a whole number of days, weeks, months or years, as 3d, -2w, 1m and\n\
-            4y, or of open days, as 5b.\n\
+        more: "A SPAN is a whole number of days, weeks, months or years, as 3d, -2w, 1mo and\n\
+            4y, or of open days, as 5b. Of a day, 1m is 1mo too.\n\
             A month or a year leads to the same day of its month, or to its last where that\n\
             is shorter.\n\
             A date-time in place of the day is moved by times too: 36h, 90min, 15s, and\n\
             PT1.5S, seconds alone.\n\
-            Open days are counted from the next open day on, or back from the one before,\n\
-            where the day is closed: from a Saturday 0b leads to Monday, 1b to Tuesday and\n\
-            -1b to Thursday.\n\
+            From a closed day the next open day counts as the first: from a Saturday 1b\n\
+            leads to Monday, as 0b does, and -1b to Friday.\n\
             With - in place of the day, or none, it moves each line of standard input.",
         example: "$ dates add 2024-01-31 1m\n\
             2024-02-29",
@@ -60,45 +55,46 @@ struct Add<'a, A: Allocator> {
     moves: Vec<Move, A>,
     // The words that write them.
     words: Vec<Word<'a>, A>,
+    // Whether one of them is a time.
+    timed: bool,
     holidays: Holidays<A>,
 }
 
 // The day or the date-time, or that of each line, moved; the exit status.
-pub(crate) fn answer<R: Alloc + Print + Eprint + Input + Files>(
+pub(crate) fn answer<'a, R: Host>(
     rt: &R,
-    asked: &Asked<'_, impl Allocator>,
-) -> io::Result<u8> {
+    asked: &mut Asked<'a, impl Allocator>,
+) -> Result<u8, Fault<'a>> {
     let form = asked.form;
-    let (start, words) = match read(asked.words.operands.as_slice()) {
-        Ok(read) => read,
-        Err(fault) => return refuse(rt, &command(), form, Answer::Nothing(Key::Date), fault),
-    };
+    let (start, words) = value!(start_in(asked.words.operands.as_slice()));
     let mut moves: Vec<Move, R::A> = Vec::new(rt.alloc());
-    if let Some(fault) = put_moves(words, takes_times(&start), &mut moves)? {
-        return refuse(rt, &command(), form, Answer::Nothing(Key::Date), fault);
+    if let Some(fault) = put_moves(words, &start, &mut moves)? {
+        return Err(fault);
+    }
+    let timed = has_time(moves.as_slice());
+    if let (Some(word), true) = (
+        short_months(words, moves.as_slice()),
+        timed || is_moment(&start),
+    ) {
+        return Err(Fault::Months(word));
     }
     let words: Vec<Word<'_>, R::A> = words.iter().copied().collect(rt.alloc())?;
-    let closed = match closed_of(asked) {
-        Ok(closed) => closed,
-        Err(fault) => return refuse(rt, &command(), form, Answer::Nothing(Key::Date), fault),
-    };
-    let Some(holidays) = read_holidays(rt, closed)? else {
-        return Ok(WRONG);
-    };
+    let holidays = holidays_of(rt, asked)?;
     let mut add = Add {
         form,
         moves,
         words,
+        timed,
         holidays,
     };
     match start {
-        Some(start) => add.answer_start(rt, Place::Alone, start),
-        None => answer_lines(rt, &mut add),
+        Some(start) => Ok(add.answer_start(rt, Place::Alone, start)?),
+        None => Ok(answer_lines(rt, &mut add)?),
     }
 }
 
-// Reads what is moved, `None` for the lines of the input, and the words of the moves.
-fn read<'b, 'a>(words: &'b [Word<'a>]) -> Result<(Option<Start>, &'b [Word<'a>]), Fault<'a>> {
+// What is moved, `None` for the lines of the input, and the words of the moves.
+fn start_in<'b, 'a>(words: &'b [Word<'a>]) -> Result<(Option<Start>, &'b [Word<'a>]), Fault<'a>> {
     let [first, rest @ ..] = words else {
         return Err(Fault::Missing("SPAN"));
     };
@@ -112,18 +108,10 @@ fn read<'b, 'a>(words: &'b [Word<'a>]) -> Result<(Option<Start>, &'b [Word<'a>])
     Ok((Some(start), rest))
 }
 
-// Whether times may move it, as any line.
-fn takes_times(start: &Option<Start>) -> bool {
-    match start {
-        Some(Start::Day(_)) => false,
-        _ => true,
-    }
-}
-
-// Reads at least one move, of times too where there may be a time of day; the fault where a word is none.
+// Reads at least one move, of which no time moves a day; the fault where a word is none.
 fn put_moves<'a>(
     words: &[Word<'a>],
-    timed: bool,
+    start: &Option<Start>,
     moves: &mut Vec<Move, impl Allocator>,
 ) -> io::Result<Option<Fault<'a>>> {
     if words.is_empty() {
@@ -132,17 +120,60 @@ fn put_moves<'a>(
     for word in words {
         let word = *word;
         match read_move(word.text.as_bytes()) {
-            None => return Ok(Some(expected(word, MOVES))),
-            Some(Move::Time(_)) if !timed => return Ok(Some(expected(word, DAY_MOVES))),
+            None => return Ok(Some(Fault::Expected(word, MOVES))),
+            Some(Move::Time(_)) if is_day(start) => {
+                return Ok(Some(Fault::Expected(word, DAY_MOVES)));
+            }
             Some(by) => moves.push(by)?,
         }
     }
     Ok(None)
 }
 
-const MOVES: &str = "a span as 3d, -2w, 1m, 4y, 5b, 36h, 90min, 15s or PT1.5S";
+const MOVES: &str = "a span as 3d, -2w, 1mo, 4y, 5b, 36h, 90min, 15s or PT1.5S";
 
 const DAY_MOVES: &str = "a span of days, or a date-time before it as 2024-02-29T00:00";
+
+// Whether it is a day.
+fn is_day(start: &Option<Start>) -> bool {
+    match start {
+        Some(Start::Day(_)) => true,
+        _ => false,
+    }
+}
+
+// Whether it is a date-time.
+fn is_moment(start: &Option<Start>) -> bool {
+    match start {
+        Some(Start::DateTime(_)) => true,
+        _ => false,
+    }
+}
+
+// Whether a move is a time.
+fn has_time(moves: &[Move]) -> bool {
+    for by in moves {
+        if let Move::Time(_) = by {
+            return true;
+        }
+    }
+    false
+}
+
+// The first of the words of moves that writes months by `m`.
+fn short_months<'a>(words: &[Word<'a>], moves: &[Move]) -> Option<Word<'a>> {
+    let mut place: usize = 0;
+    for by in moves {
+        if let Move::ShortMonths(_) = by {
+            return match words.get(place) {
+                Some(word) => Some(*word),
+                None => None,
+            };
+        }
+        place = place.saturating_add(1);
+    }
+    None
+}
 
 // The text of the word at a place, or none.
 fn text_at<'a>(words: &[Word<'a>], place: usize) -> &'a str {
@@ -154,21 +185,13 @@ fn text_at<'a>(words: &[Word<'a>], place: usize) -> &'a str {
 
 impl<'a, A: Allocator> Add<'a, A> {
     // What is moved, by each move in turn, or `none` where one leads out of the calendar; the exit status.
-    fn answer_start(
-        &mut self,
-        rt: &(impl Print + Eprint),
-        place: Place,
-        start: Start,
-    ) -> io::Result<u8> {
+    fn answer_start(&mut self, rt: &impl Host, place: Place, start: Start) -> io::Result<u8> {
         let form = self.form;
         match self.moved(start)? {
-            Ok(reached) => {
-                print_answer(rt, form, answer_of(&reached))?;
-                Ok(ANSWERED)
-            }
+            Ok(reached) => print_answer(rt, form, answer_of(&reached)),
             Err(stop) => {
-                let word = text_at(self.words.as_slice(), stop.step);
-                refuse_move(rt, form, place, &stop.from, word)
+                let text = text_at(self.words.as_slice(), stop.step);
+                print_past(rt, form, none_of(&stop.from), place, stop.from, text)
             }
         }
     }
@@ -186,40 +209,27 @@ impl<'a, A: Allocator> Add<'a, A> {
         Ok(Ok(last))
     }
 
-    // Says that a line has no answer; the exit status.
-    fn answer_none(&self, rt: &impl Print, key: Key) -> io::Result<u8> {
-        print_answer(rt, self.form, Answer::Nothing(key))?;
+    // What a date-time of a line comes to, which no `m` moves; the exit status.
+    fn answer_moment(&mut self, rt: &impl Host, place: Place, start: Start) -> io::Result<u8> {
+        let Some(word) = short_months(self.words.as_slice(), self.moves.as_slice()) else {
+            return self.answer_start(rt, place, start);
+        };
+        let text = word.text;
+        print_answer(rt, self.form, Answer::Nothing(Key::Moment))?;
+        let _ = eprintln!(rt; "{place}{start} {text}: months; minutes are {text}in");
         Ok(NONE)
-    }
-
-    // Whether a move is a time.
-    fn is_timed(&self) -> bool {
-        for by in self.moves.as_slice() {
-            if let Move::Time(_) = by {
-                return true;
-            }
-        }
-        false
     }
 }
 
 impl<'a, A: Allocator> EachLine for Add<'a, A> {
-    fn answer_line<R: Print + Eprint>(
-        &mut self,
-        rt: &R,
-        place: Place,
-        line: &[u8],
-    ) -> io::Result<u8> {
-        if self.is_timed() {
-            return match read_moment(line) {
-                Ok(moment) => self.answer_start(rt, place, Start::DateTime(moment)),
-                Err(_) => self.answer_none(rt, Key::Moment),
-            };
-        }
+    fn answer_line(&mut self, rt: &impl Host, place: Place, line: &[u8]) -> io::Result<u8> {
         match read_start(line) {
-            Ok(start) => self.answer_start(rt, place, start),
-            Err(_) if line.contains(&b'T') => self.answer_none(rt, Key::Moment),
-            Err(_) => self.answer_none(rt, Key::Date),
+            Ok(start) if is_timed(line) => self.answer_moment(rt, place, start),
+            Ok(start) if !self.timed => self.answer_start(rt, place, start),
+            _ if self.timed || line.contains(&b'T') => {
+                print_answer(rt, self.form, Answer::Nothing(Key::Moment))
+            }
+            _ => print_answer(rt, self.form, Answer::Nothing(Key::Date)),
         }
     }
 }
@@ -232,25 +242,12 @@ fn answer_of(reached: &Start) -> Answer {
     }
 }
 
-// Says that a move leads out of the calendar; the exit status.
-fn refuse_move(
-    rt: &(impl Print + Eprint),
-    form: Form,
-    place: Place,
-    from: &Start,
-    text: &str,
-) -> io::Result<u8> {
-    match from {
-        Start::Day(date) => {
-            print_answer(rt, form, Answer::Nothing(Key::Date))?;
-            let _ = eprintln!(rt; "{place}{date} {text}: past the calendar's end");
-        }
-        Start::DateTime(moment) => {
-            print_answer(rt, form, Answer::Nothing(Key::Moment))?;
-            let _ = eprintln!(rt; "{place}{moment:?} {text}: past the calendar's end");
-        }
+// That there is no day, or no date-time, as is the start.
+fn none_of(start: &Start) -> Answer {
+    match start {
+        Start::Day(_) => Answer::Nothing(Key::Date),
+        Start::DateTime(_) => Answer::Nothing(Key::Moment),
     }
-    Ok(NONE)
 }
 
 // What lies a move away; a move of days keeps the time of day.
@@ -293,7 +290,7 @@ fn day_moved(
     holidays: &mut Holidays<impl Allocator>,
 ) -> io::Result<Option<NaiveDate>> {
     match by {
-        Move::Calendar(span) => Ok(moved(date, *span)),
+        Move::Calendar(span) | Move::ShortMonths(span) => Ok(moved(date, *span)),
         Move::OpenDays(count) => {
             let years = years_of_open_days(date, *count, holidays.listed());
             Ok(holidays.calendar(years)?.add_open_days(date, *count))

@@ -1,21 +1,18 @@
 //! A month or a year as a sheet.
 
-use crate::asked::Asked;
-use crate::closed::{Closed, closed_of, years_of};
-use crate::easter::Year;
-use crate::fault::{ANSWERED, Fault, WRONG, refuse};
-use crate::holidays::{Holidays, read_holidays};
+use crate::asked::{Asked, Host};
+use crate::closed::years_of;
+use crate::fault::{ANSWERED, Fault};
+use crate::holidays::holidays_of;
 use crate::options::{CALENDAR, HELP, HOLIDAYS, JSON, WEEKDAYS, WEEKEND};
-use crate::reason::reason_of;
 use crate::texts::read_month;
-use crate::values::{weekday_of, year_of};
+use crate::values::{Year, weekday_of, year_of};
 use chrono_business::Calendar;
 use chrono_datetime::{Datelike, Month, NaiveDate, Weekday};
-use command_words::{Command, OPERAND, OPTION, Operand, Opt, Word};
-use dates_answer::{Answer, DayObject, Form, Key, MonthSheet};
+use command_words::{CommandRow, OPERAND, OPTION, Operand, Opt, Word};
+use dates_answer::{DayObject, Form, MonthSheet};
 use std::alloc::Allocator;
-use std::io::{self, Eprint};
-use std::rt::Files;
+use std::io;
 
 const FIRST: Opt = Opt {
     name: "--first",
@@ -26,9 +23,8 @@ const FIRST: Opt = Opt {
     ..OPTION
 };
 
-/// `cal`.
-pub(crate) fn command() -> Command {
-    Command {
+pub(crate) fn command() -> CommandRow {
+    CommandRow {
         name: "cal",
         operands: &[Operand {
             name: "MONTH|YEAR",
@@ -48,104 +44,60 @@ pub(crate) fn command() -> Command {
     }
 }
 
-// What a sheet shows.
+// A month, or a year, that begins on a day.
 #[derive(Clone, Copy)]
-enum Time {
-    // The month that begins on a day.
-    Month(NaiveDate),
-    // A year.
-    Year(i32),
+struct Time {
+    first: NaiveDate,
+    is_year: bool,
 }
 
 // The month or the year as sheets with closed days marked; `none` where the calendar has no such year. The exit status.
-pub(crate) fn answer(
-    rt: &(impl Alloc + Print + Eprint + Files),
-    asked: &Asked<'_, impl Allocator>,
-) -> io::Result<u8> {
-    let form = asked.form;
-    let (time, start, closed) = match read(asked) {
-        Ok(read) => read,
-        Err(fault) => return refuse(rt, &command(), form, NOTHING, fault),
-    };
-    let Some(mut holidays) = read_holidays(rt, closed)? else {
-        return Ok(WRONG);
-    };
-    match time {
-        Time::Month(first) => answer_month(rt, form, first, start, &mut holidays),
-        Time::Year(year) => match NaiveDate::from_ymd_opt(year, 1, 1) {
-            Some(first) => answer_year(rt, form, first, start, &mut holidays),
-            None => refuse(rt, &command(), form, NOTHING, Fault::Outside(year)),
-        },
+pub(crate) fn answer<'a>(
+    rt: &impl Host,
+    asked: &mut Asked<'a, impl Allocator>,
+) -> Result<u8, Fault<'a>> {
+    let Time { first, is_year } = value!(time_of(asked.word(0)));
+    let start = value!(weekday_of(asked.option(FIRST)));
+    let mut holidays = holidays_of(rt, asked)?;
+    let calendar = holidays.calendar(years_of(first, first))?;
+    match asked.form {
+        Form::Text if is_year => print_year(rt, first, start, &calendar)?,
+        Form::Text => print_month(rt, month_of(first, 0, start), &calendar)?,
+        Form::Json if is_year => print_days(rt, first, days_of_year(first), &calendar)?,
+        Form::Json => print_days(rt, first, first.last_day_of_month().day(), &calendar)?,
     }
-}
-
-// That there is no such day.
-const NOTHING: Answer = Answer::Nothing(Key::Date);
-
-// Reads what is shown, on which weekday its weeks begin, and which days are closed.
-fn read<'a>(asked: &Asked<'a, impl Allocator>) -> Result<(Time, Weekday, Closed<'a>), Fault<'a>> {
-    let time = value!(time_of(value!(asked.first("MONTH|YEAR"))));
-    let start = match asked.value(FIRST) {
-        Some(word) => value!(weekday_of(word)),
-        None => Weekday::Mon,
-    };
-    Ok((time, start, value!(closed_of(asked))))
+    Ok(ANSWERED)
 }
 
 // The month or the year that a word names.
 fn time_of<'a>(word: Word<'a>) -> Result<Time, Fault<'a>> {
     let error = match read_month(word.text.as_bytes()) {
-        Ok(first) => return Ok(Time::Month(first)),
+        Ok(first) => {
+            return Ok(Time {
+                first,
+                is_year: false,
+            });
+        }
         Err(error) => error,
     };
-    match year_of(word) {
-        Ok(year) => Ok(Time::Year(year)),
-        Err(_) => Err(Fault::Expected(
-            word,
-            reason_of(error),
-            "a month as 2024-02 or a year as 2024",
-        )),
+    let Ok(year) = year_of(word) else {
+        return Err(Fault::Unread(word, error, "a month as 2024-02 or a year as 2024"));
+    };
+    match NaiveDate::from_ymd_opt(year, 1, 1) {
+        Some(first) => Ok(Time {
+            first,
+            is_year: true,
+        }),
+        None => Err(Fault::Outside(year)),
     }
-}
-
-// The month that begins on a day.
-fn answer_month(
-    rt: &impl Print,
-    form: Form,
-    month: NaiveDate,
-    start: Weekday,
-    holidays: &mut Holidays<impl Allocator>,
-) -> io::Result<u8> {
-    let calendar = holidays.calendar(years_of(month, month))?;
-    match form {
-        Form::Text => print_month(rt, &MonthSheet { month, start }, &calendar)?,
-        Form::Json => print_days(rt, month, month.last_day_of_month().day(), &calendar)?,
-    }
-    Ok(ANSWERED)
-}
-
-// The year that begins on a day.
-fn answer_year(
-    rt: &impl Print,
-    form: Form,
-    first: NaiveDate,
-    start: Weekday,
-    holidays: &mut Holidays<impl Allocator>,
-) -> io::Result<u8> {
-    let calendar = holidays.calendar(years_of(first, first))?;
-    match form {
-        Form::Text => print_year(rt, first, start, &calendar)?,
-        Form::Json => print_days(rt, first, days_of_year(first), &calendar)?,
-    }
-    Ok(ANSWERED)
 }
 
 // A month alone.
-fn print_month(rt: &impl Print, sheet: &MonthSheet, calendar: &Calendar) -> io::Result<()> {
+fn print_month(rt: &impl Print, sheet: MonthSheet, calendar: &Calendar) -> io::Result<()> {
     let year = Year {
         year: sheet.month.year(),
     };
-    println!(rt; "    {} {year}", name_of(sheet))?;
+    println!(rt; "    {} {year}", name_of(&sheet))?;
     println!(rt; "{}", heading(sheet.start))?;
     for row in 0..6 {
         if sheet.has_days(row) {

@@ -1,64 +1,17 @@
-//! Which days are closed, by the options of a command.
+//! The weekend, the rules of a calendar, and the years in which its holidays are wanted.
 
-use crate::asked::Asked;
-use crate::fault::{Fault, expected};
-use crate::options::{CALENDAR, HOLIDAYS, WEEKEND};
+use crate::fault::Fault;
 use crate::texts::weekday_named;
 use chrono_business::{HolidayRule, england_and_wales, target, us_federal};
-use chrono_datetime::{Datelike, NaiveDate, Weekday, WeekdaySet};
+use chrono_datetime::{Datelike, NaiveDate, WeekdaySet};
 use command_words::Word;
-use std::alloc::Allocator;
+use std::alloc::{AllocError, Allocator};
 use std::io;
 
-/// A calendar of holidays by rules.
-#[derive(Clone, Copy)]
-pub(crate) enum HolidayCalendar {
-    /// `us-federal`.
-    UsFederal,
-    /// `target`.
-    Target,
-    /// `england`.
-    England,
-}
-
-/// Which days are closed.
-#[derive(Clone, Copy)]
-pub(crate) struct Closed<'a> {
-    /// The weekend.
-    pub weekend: WeekdaySet,
-    /// The holidays by rules.
-    pub calendar: Option<HolidayCalendar>,
-    /// The file of holidays.
-    pub file: Option<Word<'a>>,
-}
-
-// Which days are closed by the options.
-pub(crate) fn closed_of<'a>(asked: &Asked<'a, impl Allocator>) -> Result<Closed<'a>, Fault<'a>> {
-    let weekend = match asked.value(WEEKEND) {
-        Some(word) => value!(weekend_of(word)),
-        None => WeekdaySet::from_array([Weekday::Sat, Weekday::Sun]),
-    };
-    let calendar = match asked.value(CALENDAR) {
-        Some(word) => calendar_named(word.text),
-        None => None,
-    };
-    let file = asked.value(HOLIDAYS);
-    match file {
-        Some(word) if word.text.is_empty() => Err(expected(word, "the name of a file")),
-        _ => Ok(Closed {
-            weekend,
-            calendar,
-            file,
-        }),
-    }
-}
-
 // The weekend that a word names.
-fn weekend_of<'a>(word: Word<'a>) -> Result<WeekdaySet, Fault<'a>> {
-    match weekend_named(word.text) {
-        Some(days) => Ok(days),
-        None => Err(expected(word, "none, or at most two weekdays as fri,sat")),
-    }
+pub(crate) fn weekend_of<'a>(word: Word<'a>) -> Result<WeekdaySet, Fault<'a>> {
+    let what = "none, or at most two weekdays as fri,sat";
+    weekend_named(word.text).ok_or(Fault::Expected(word, what))
 }
 
 // The weekend that a text names: `none`, a weekday, or two with a comma between them.
@@ -75,16 +28,16 @@ fn weekend_named(text: &str) -> Option<WeekdaySet> {
     }
 }
 
-// The calendar that a text names.
-fn calendar_named(text: &str) -> Option<HolidayCalendar> {
-    if text == "us-federal" {
-        Some(HolidayCalendar::UsFederal)
-    } else if text == "target" {
-        Some(HolidayCalendar::Target)
-    } else if text == "england" {
-        Some(HolidayCalendar::England)
-    } else {
-        None
+// The rules of the calendar with that name; none where it is empty.
+pub(crate) fn rules_named<A: Allocator>(
+    alloc: A,
+    name: &str,
+) -> Result<Vec<HolidayRule, A>, AllocError> {
+    match name {
+        "us-federal" => Ok(Vec::from_array(alloc, us_federal())?),
+        "target" => Ok(Vec::from_array(alloc, target())?),
+        "england" => Ok(Vec::from_array(alloc, england_and_wales())?),
+        _ => Ok(Vec::new(alloc)),
     }
 }
 
@@ -103,9 +56,12 @@ pub(crate) fn years_of(from: NaiveDate, to: NaiveDate) -> Years {
     }
 }
 
-// So many days at least are open in each year, where no file closes any: 365, less two weekdays of 53 weeks, less the 26 rules of
-// the calendar that has most.
+// At least this many days are open in each year if no file closes any. They are 365, less two weekdays of 53 weeks, less the 26
+// rules of the calendar that has most.
 const OPEN_DAYS_OF_A_YEAR: u64 = 233;
+
+// No more years lie between two dates.
+const MOST_YEARS: i32 = 600_000;
 
 // The years up to which so many open days lead from a day, where a file lists so many days: each of these closes one more at most.
 pub(crate) fn years_of_open_days(date: NaiveDate, count: i64, listed: usize) -> Years {
@@ -125,9 +81,6 @@ pub(crate) fn years_of_open_days(date: NaiveDate, count: i64, listed: usize) -> 
     }
 }
 
-// No more years lie between two dates.
-const MOST_YEARS: i32 = 600_000;
-
 // No more years than so many are kept from line to line.
 const KEPT_YEARS: i32 = 400;
 
@@ -142,48 +95,29 @@ pub(crate) fn both_years(known: Years, years: Years) -> Years {
     }
 }
 
-// Puts the holidays of a calendar's rules in these years, in the years of days that are listed, and in a year before and behind
-// them into the list of these.
-pub(crate) fn put_ruled(
-    calendar: Option<HolidayCalendar>,
-    years: Years,
-    days: &mut Vec<NaiveDate, impl Allocator>,
-) -> io::Result<()> {
-    let years = with_years_of(years, days.as_slice());
-    match calendar {
-        Some(HolidayCalendar::UsFederal) => put_rules(&us_federal(), years, days),
-        Some(HolidayCalendar::Target) => put_rules(&target(), years, days),
-        Some(HolidayCalendar::England) => put_rules(&england_and_wales(), years, days),
-        None => Ok(()),
-    }
-}
-
 // The years of the calendar.
 const FIRST_YEAR: i32 = -262_143;
 
 const LAST_YEAR: i32 = 262_142;
 
-// The years, and those of days, and a year before and behind them, as far as the calendar has them.
-fn with_years_of(years: Years, days: &[NaiveDate]) -> Years {
-    let mut first = years.first;
-    let mut last = years.last;
-    for day in days {
-        first = first.min(day.year());
-        last = last.max(day.year());
-    }
-    Years {
-        first: first.saturating_sub(1).max(FIRST_YEAR),
-        last: last.saturating_add(1).min(LAST_YEAR),
-    }
-}
-
-// Puts the dates of rules in these years into the list.
-fn put_rules(
+// Puts the dates of rules in these years, in the years of days that are listed, and in a year before and behind them into the list
+// of these.
+pub(crate) fn put_ruled(
     rules: &[HolidayRule],
     years: Years,
     days: &mut Vec<NaiveDate, impl Allocator>,
 ) -> io::Result<()> {
-    for year in years.first..=years.last {
+    let Years {
+        mut first,
+        mut last,
+    } = years;
+    for day in days.as_slice() {
+        first = first.min(day.year());
+        last = last.max(day.year());
+    }
+    let first = first.saturating_sub(1).max(FIRST_YEAR);
+    let last = last.saturating_add(1).min(LAST_YEAR);
+    for year in first..=last {
         for rule in rules {
             if let Some(day) = rule.date_in(year) {
                 days.push(day)?;

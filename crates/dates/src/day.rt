@@ -1,20 +1,18 @@
 //! A day by all its names, and what the program says of itself.
 
-use crate::asked::{Asked, print_answer};
-use crate::fault::{ANSWERED, Fault, NONE, refuse};
-use crate::lines::{EachLine, answer_lines};
-use crate::options::{HELP, JSON};
-use crate::source::Place;
-use crate::table::{NAME, commands, program};
+use crate::asked::{Asked, Host, print_answer};
+use crate::fault::{ANSWERED, Fault};
+use crate::lines::{EachLine, Place, answer_lines};
+use crate::options::{DAY_OR_LINES, HELP, JSON};
+use crate::table::{commands, program};
 use crate::texts::read_day;
 use crate::values::{begins_as_day, day_of};
 use chrono_datetime::NaiveDate;
-use command_words::{
-    Command, Completion, ManPage, OPERAND, OPTION, Operand, Opt, ReferencePage, Shell, Word,
-};
-use dates_answer::{Answer, Form, Key, VersionLine};
+use chrono_reading::ReadCause;
+use command_words::{CommandRow, Completion, ManPage, OPTION, Opt, ReferencePage, Shell, Word};
+use dates_answer::{Answer, Form, Key};
 use std::alloc::Allocator;
-use std::io::{self, Eprint};
+use std::io;
 
 const VERSION: Opt = Opt {
     name: "--version",
@@ -47,14 +45,10 @@ const COMPLETION: Opt = Opt {
 pub(crate) const OPTIONS: &[Opt] = &[JSON, HELP, VERSION, MAN, REFERENCE, COMPLETION];
 
 /// What the program does without the name of a command.
-pub(crate) fn command() -> Command {
-    Command {
+pub(crate) fn command() -> CommandRow {
+    CommandRow {
         name: "",
-        operands: &[Operand {
-            name: "DAY",
-            required: false,
-            ..OPERAND
-        }],
+        operands: &[DAY_OR_LINES],
         options: OPTIONS,
         help: "print a day by all its names",
         more: "",
@@ -63,102 +57,75 @@ pub(crate) fn command() -> Command {
     }
 }
 
-// The day by all its names, or each line of the input where it is `-` or left out; the exit status.
-pub(crate) fn answer(
-    rt: &(impl Alloc + Print + Eprint + Input),
-    asked: &Asked<'_, impl Allocator>,
-) -> io::Result<u8> {
-    if asked.words.has(VERSION) {
-        return answer_version(rt, asked.form);
-    }
+// The day by all its names, or that of each line, or a page of the program; the exit status.
+pub(crate) fn answer<'a>(
+    rt: &impl Host,
+    asked: &mut Asked<'a, impl Allocator>,
+) -> Result<u8, Fault<'a>> {
+    let form = asked.form;
     if print_page(rt, asked)? {
         return Ok(ANSWERED);
     }
-    let form = asked.form;
-    let Some(word) = asked.operand(0) else {
-        return answer_lines(rt, &mut Names { form });
-    };
-    if word.text == "-" {
-        return answer_lines(rt, &mut Names { form });
-    }
-    match first_of(word) {
-        Ok(date) => {
-            print_answer(rt, form, Answer::Names(date))?;
-            Ok(ANSWERED)
-        }
-        Err(fault) => refuse(rt, &command(), form, Answer::Nothing(Key::Date), fault),
+    match asked.word_or_lines() {
+        Some(word) => Ok(print_answer(rt, form, Answer::Names(value!(first_of(word))))?),
+        None => Ok(answer_lines(rt, &mut NamedLines { form })?),
     }
 }
 
 // The day that a word names, which else may have been meant for a command.
 pub(crate) fn first_of<'a>(word: Word<'a>) -> Result<NaiveDate, Fault<'a>> {
     match day_of(word) {
-        Err(Fault::Expected(word, reason, _)) if !reason.is_of_a_day() || !begins_as_day(word) => {
+        Err(Fault::Expected(word, _)) => Err(Fault::Command(word)),
+        Err(Fault::Unread(word, error, _))
+            if error.cause == ReadCause::NotThisForm || !begins_as_day(word) => {
             Err(Fault::Command(word))
         }
         other => other,
     }
 }
 
-// Prints the version; the exit status.
-fn answer_version(rt: &impl Print, form: Form) -> io::Result<u8> {
-    let line = VersionLine {
-        form,
-        program: NAME,
-        version: "0.1.0",
-    };
-    println!(rt; "{line}")?;
-    Ok(ANSWERED)
-}
-
 // Prints the page that an option asks for; whether one does.
 fn print_page(rt: &(impl Alloc + Print), asked: &Asked<'_, impl Allocator>) -> io::Result<bool> {
+    if asked.words.options.is_empty() {
+        return Ok(false);
+    }
     let rows = commands(rt)?;
     let program = &program(rows.as_slice());
-    if asked.words.has(MAN) {
+    if asked.words.has(VERSION) {
+        print_answer(rt, asked.form, Answer::Version)?;
+    } else if asked.words.has(MAN) {
         print!(rt; "{}", ManPage { program })?;
-        return Ok(true);
-    }
-    if asked.words.has(REFERENCE) {
+    } else if asked.words.has(REFERENCE) {
         print!(rt; "{}", ReferencePage { program })?;
-        return Ok(true);
-    }
-    let Some(shell) = asked.value(COMPLETION) else {
-        return Ok(false);
-    };
-    let shell = if shell.text == "bash" {
-        Shell::Bash
-    } else if shell.text == "zsh" {
-        Shell::Zsh
+    } else if let Some(word) = asked.words.value(COMPLETION) {
+        let shell = shell_named(word.text);
+        print!(rt; "{}", Completion { program, shell })?;
     } else {
-        Shell::Fish
-    };
-    print!(rt; "{}", Completion { program, shell })?;
+        return Ok(false);
+    }
     Ok(true)
+}
+
+// The shell with that name.
+fn shell_named(name: &str) -> Shell {
+    match name {
+        "bash" => Shell::Bash,
+        "zsh" => Shell::Zsh,
+        _ => Shell::Fish,
+    }
 }
 
 // Each line by all names of its day.
 #[derive(Drop)]
-struct Names {
+struct NamedLines {
     form: Form,
 }
 
-impl EachLine for Names {
-    fn answer_line<R: Print + Eprint>(
-        &mut self,
-        rt: &R,
-        _place: Place,
-        line: &[u8],
-    ) -> io::Result<u8> {
+impl EachLine for NamedLines {
+    fn answer_line(&mut self, rt: &impl Host, _place: Place, line: &[u8]) -> io::Result<u8> {
         match read_day(line) {
-            Ok(date) => {
-                print_answer(rt, self.form, Answer::Names(date))?;
-                Ok(ANSWERED)
-            }
-            Err(_) => {
-                print_answer(rt, self.form, Answer::Nothing(Key::Date))?;
-                Ok(NONE)
-            }
+            Ok(date) => print_answer(rt, self.form, Answer::Names(date)),
+            Err(_) => print_answer(rt, self.form, Answer::Nothing(Key::Date)),
         }
     }
 }

@@ -1,27 +1,23 @@
 //! How far it is from one day to another.
 
-use crate::asked::{Asked, print_answer};
-use crate::closed::{Closed, closed_of, years_of};
-use crate::fault::{ANSWERED, Fault, NONE, WRONG, expected, refuse};
-use crate::holidays::{Holidays, read_holidays};
-use crate::lines::{EachLine, answer_lines};
-use crate::open::DAY_OR_LINES;
-use crate::options::{CALENDAR, DAY, HELP, HOLIDAYS, JSON, WEEKEND};
-use crate::source::Place;
-use crate::texts::{read_day, read_moment, unit_of};
-use crate::values::{Start, begins_as_day, day_of, moment_of, start_of};
-use chrono_datetime::{NaiveDate, NaiveDateTime};
-use command_words::{Command, OPERAND, Operand, Word};
+use crate::asked::{Asked, Host, print_answer};
+use crate::closed::years_of;
+use crate::fault::Fault;
+use crate::holidays::{Holidays, holidays_of};
+use crate::lines::{EachLine, Place, answer_lines};
+use crate::options::{DAY, DAY_OR_LINES, JSON, OPEN_DAYS};
+use crate::texts::unit_named;
+use crate::values::{DAYS, MOMENTS, Start, begins_as_day, read_start, start_as, start_of};
+use chrono_datetime::NaiveDate;
+use command_words::{Arguments, CommandRow, OPERAND, Operand, Word};
 use dates_answer::{Answer, Form, Key, Unit, distance, parts_between};
 use std::alloc::Allocator;
-use std::io::{self, Eprint};
-use std::rt::Files;
+use std::io;
 
-const UNITS: &[&str] = &["d", "w", "m", "y", "b", "ymd"];
+const UNITS: &[&str] = &["d", "w", "m", "mo", "y", "b", "ymd"];
 
-/// `diff`.
-pub(crate) fn command() -> Command {
-    Command {
+pub(crate) fn command() -> CommandRow {
+    CommandRow {
         name: "diff",
         operands: &[
             DAY,
@@ -34,9 +30,9 @@ pub(crate) fn command() -> Command {
                 ..OPERAND
             },
         ],
-        options: &[WEEKEND, CALENDAR, HOLIDAYS, JSON, HELP],
+        options: OPEN_DAYS,
         help: "print the days or whole units between two days",
-        more: "A UNIT is d, w, m, y, b or ymd: days, weeks, months, years, open days, or\n\
+        more: "A UNIT is d, w, m or mo, y, b or ymd: days, weeks, months, years, open days, or\n\
             years, months and days. It goes back where the second day is the earlier.\n\
             The unit ymd writes spans by which add leads from the first day to the second.\n\
             The unit b counts the first day, where it is open, and not the second; it alone\n\
@@ -61,75 +57,51 @@ enum Measure {
     Parts,
 }
 
-// A day or a date-time that is given, in front of a line or behind it.
+// From where to where; `None` is each line of the input.
 #[derive(Clone, Copy)]
-struct Side {
-    start: Start,
-    // Whether the line is the first.
-    line_first: bool,
+struct Ends {
+    from: Option<Start>,
+    to: Option<Start>,
 }
 
-// What is asked.
-#[derive(Clone, Copy)]
-enum Ends {
-    // Two days.
-    Days(NaiveDate, NaiveDate),
-    // Two date-times.
-    Moments(NaiveDateTime, NaiveDateTime),
-    // Each line and one of either.
-    Lines(Side),
-}
-
-// Of which days, in what, and by which holidays.
+// From where to where, in what, and by which holidays.
 #[derive(Drop)]
 struct Diff<A: Allocator> {
     form: Form,
+    none: Answer,
+    ends: Ends,
     measure: Measure,
-    side: Option<Side>,
     holidays: Holidays<A>,
 }
 
 // How far it is from one day to another, or to that of each line; the exit status.
-pub(crate) fn answer(
-    rt: &(impl Alloc + Print + Eprint + Input + Files),
-    asked: &Asked<'_, impl Allocator>,
-) -> io::Result<u8> {
-    let form = asked.form;
+pub(crate) fn answer<'a>(
+    rt: &impl Host,
+    asked: &mut Asked<'a, impl Allocator>,
+) -> Result<u8, Fault<'a>> {
     let (words, unit) = cut(asked.words.operands.as_slice());
-    let measure = match measure_of(unit) {
-        Ok(measure) => measure,
-        Err(fault) => return refuse(rt, &command(), form, NOTHING, fault),
-    };
-    let none = none_of(measure);
-    let ends = match read(words) {
-        Ok(ends) => ends,
-        Err(fault) => return refuse(rt, &command(), form, none, fault),
-    };
-    let closed = match read_closed(asked, measure, &ends, unit) {
-        Ok(closed) => closed,
-        Err(fault) => return refuse(rt, &command(), form, none, fault),
-    };
-    let Some(holidays) = read_holidays(rt, closed)? else {
-        return Ok(WRONG);
-    };
-    let mut diff = Diff {
-        form,
-        measure,
-        side: None,
-        holidays,
-    };
-    match ends {
-        Ends::Days(from, to) => diff.answer_days(rt, from, to),
-        Ends::Moments(from, to) => answer_moments(rt, form, from, to),
-        Ends::Lines(side) => {
-            diff.side = Some(side);
-            answer_lines(rt, &mut diff)
+    let measure = value!(measure_of(unit));
+    asked.none = none_of(measure);
+    let ends = value!(read(words));
+    if let Some(Start::DateTime(_)) = ends.from.or(ends.to) {
+        asked.none = Answer::Nothing(Key::Duration);
+        if let [word, ..] = unit {
+            return Err(Fault::Expected(*word, "no further argument"));
         }
     }
+    value!(check_options(&asked.words, measure));
+    let mut diff = Diff {
+        form: asked.form,
+        none: asked.none,
+        ends,
+        measure,
+        holidays: holidays_of(rt, asked)?,
+    };
+    match (ends.from, ends.to) {
+        (Some(from), Some(to)) => Ok(diff.answer_ends(rt, from, to)?),
+        _ => Ok(answer_lines(rt, &mut diff)?),
+    }
 }
-
-// That there are no days.
-const NOTHING: Answer = Answer::Nothing(Key::Days);
 
 // The words of the days, and those from `in` on.
 fn cut<'b, 'a>(words: &'b [Word<'a>]) -> (&'b [Word<'a>], &'b [Word<'a>]) {
@@ -148,21 +120,13 @@ fn measure_of<'a>(words: &[Word<'a>]) -> Result<Measure, Fault<'a>> {
     match words {
         [] => Ok(Measure::Whole(Unit::Days)),
         [_] => Err(Fault::Missing("UNIT")),
-        [_, unit] => measure_named(*unit),
-        [_, _, other, ..] => Err(expected(*other, "no further argument")),
-    }
-}
-
-// The measure that a word names.
-fn measure_named<'a>(word: Word<'a>) -> Result<Measure, Fault<'a>> {
-    match word.text.as_bytes() {
-        b"b" => Ok(Measure::OpenDays),
-        b"ymd" => Ok(Measure::Parts),
-        [byte] => match unit_of(*byte) {
+        [_, unit] if unit.text == "b" => Ok(Measure::OpenDays),
+        [_, unit] if unit.text == "ymd" => Ok(Measure::Parts),
+        [_, unit] => match unit_named(unit.text.as_bytes()) {
             Some(unit) => Ok(Measure::Whole(unit)),
-            None => Err(Fault::Choice(word, UNITS)),
+            None => Err(Fault::Choice(*unit, UNITS)),
         },
-        _ => Err(Fault::Choice(word, UNITS)),
+        [_, _, other, ..] => Err(Fault::Expected(*other, "no further argument")),
     }
 }
 
@@ -171,71 +135,63 @@ fn read<'a>(words: &[Word<'a>]) -> Result<Ends, Fault<'a>> {
     match words {
         [] => Err(Fault::Missing("DAY")),
         [only] if only.text == "-" => Err(Fault::Missing("DAY")),
-        [only] => read_side(*only, false),
-        [first, second] if first.text == "-" => read_side(*second, true),
-        [first, second] if second.text == "-" => read_side(*first, false),
-        [first, second] => read_ends(*first, *second),
+        [first] => ends_of(Some(*first), None),
+        [first, second] if first.text == "-" => ends_of(None, Some(*second)),
+        [first, second] if second.text == "-" => ends_of(Some(*first), None),
+        [first, second] => ends_of(Some(*first), Some(*second)),
         [first, other, ..] if !begins_as_day(*other) => {
             let _start = value!(start_of(*first));
-            Err(expected(*other, IN))
+            Err(Fault::Expected(*other, IN))
         }
         [first, _, other, ..] => match value!(start_of(*first)) {
-            Start::Day(_) => Err(expected(*other, IN)),
-            Start::DateTime(_) => Err(expected(*other, "no further argument")),
+            Start::Day(_) => Err(Fault::Expected(*other, IN)),
+            Start::DateTime(_) => Err(Fault::Expected(*other, "no further argument")),
         },
     }
 }
 
 const IN: &str = "in and a unit, as 'in w'";
 
-// The day or the date-time beside each line.
-fn read_side<'a>(word: Word<'a>, line_first: bool) -> Result<Ends, Fault<'a>> {
-    let start = value!(start_of(word));
-    Ok(Ends::Lines(Side { start, line_first }))
+// Two days or two date-times, or one beside each line.
+fn ends_of<'a>(first: Option<Word<'a>>, second: Option<Word<'a>>) -> Result<Ends, Fault<'a>> {
+    let from = match first {
+        Some(word) => Some(value!(start_of(word))),
+        None => None,
+    };
+    let to = match (second, from) {
+        (None, _) => None,
+        (Some(word), None) => Some(value!(start_of(word))),
+        (Some(word), Some(from)) => Some(value!(like(from, word))),
+    };
+    Ok(Ends { from, to })
 }
 
-// Two days, or two date-times.
-fn read_ends<'a>(first: Word<'a>, second: Word<'a>) -> Result<Ends, Fault<'a>> {
-    match value!(start_of(first)) {
-        Start::Day(from) => Ok(Ends::Days(from, value!(day_of(second)))),
-        Start::DateTime(from) => Ok(Ends::Moments(from, value!(moment_of(second)))),
+// The day or the date-time that a word names, of the kind of the first.
+fn like<'a>(first: Start, word: Word<'a>) -> Result<Start, Fault<'a>> {
+    let what = match first {
+        Start::Day(_) => DAYS,
+        Start::DateTime(_) => MOMENTS,
+    };
+    match (first, value!(start_as(word, what))) {
+        (Start::Day(_), Start::Day(date)) => Ok(Start::Day(date)),
+        (Start::DateTime(_), Start::DateTime(moment)) => Ok(Start::DateTime(moment)),
+        _ => Err(Fault::Expected(word, "two days or two date-times, not one of each")),
     }
 }
 
-// Which days are closed. Only open days take the options, and no date-time has a unit.
-fn read_closed<'a>(
-    asked: &Asked<'a, impl Allocator>,
+// Only open days take options.
+fn check_options<'a>(
+    words: &Arguments<'a, impl Allocator>,
     measure: Measure,
-    ends: &Ends,
-    unit: &[Word<'a>],
-) -> Result<Closed<'a>, Fault<'a>> {
-    if let ([word, ..], true) = (unit, are_moments(ends)) {
-        return Err(expected(*word, "no further argument"));
-    }
-    if let Measure::OpenDays = measure {
-        return closed_of(asked);
-    }
-    for given in asked.words.options.as_slice() {
-        let name = given.option.name;
-        if name != JSON.name {
-            return Err(expected(given.value, "no such option without 'in b'"));
+) -> Result<(), Fault<'a>> {
+    for given in words.options.as_slice() {
+        match measure {
+            Measure::OpenDays => {}
+            _ if given.option.name == JSON.name => {}
+            _ => return Err(Fault::Expected(given.value, "no such option without 'in b'")),
         }
     }
-    closed_of(asked)
-}
-
-// Whether the ends are date-times.
-fn are_moments(ends: &Ends) -> bool {
-    match ends {
-        Ends::Moments(_, _) => true,
-        Ends::Lines(
-            Side {
-                start: Start::DateTime(_),
-                ..
-            },
-        ) => true,
-        _ => false,
-    }
+    Ok(())
 }
 
 // That there is no answer in such a measure.
@@ -257,60 +213,44 @@ fn key_of(unit: Unit) -> Key {
     }
 }
 
-// How long it is from one date-time to another; the exit status.
-fn answer_moments(
-    rt: &impl Print,
-    form: Form,
-    from: NaiveDateTime,
-    to: NaiveDateTime,
-) -> io::Result<u8> {
-    print_answer(rt, form, Answer::Duration(to.signed_duration_since(from)))?;
-    Ok(ANSWERED)
-}
-
 impl<A: Allocator> Diff<A> {
-    // How far it is from one day to another; the exit status.
-    fn answer_days(&mut self, rt: &impl Print, from: NaiveDate, to: NaiveDate) -> io::Result<u8> {
-        let answer = match self.measure {
-            Measure::Whole(unit) => Answer::Number(key_of(unit), distance(from, to, unit)),
-            Measure::Parts => Answer::Parts(parts_between(from, to)),
-            Measure::OpenDays => {
-                let calendar = self.holidays.calendar(years_of(from, to))?;
-                Answer::Number(Key::OpenDays, calendar.open_days(from, to))
-            }
+    // How far it is from one day or date-time to another of its kind; the exit status.
+    fn answer_ends(&mut self, rt: &impl Print, from: Start, to: Start) -> io::Result<u8> {
+        let answer = match from {
+            Start::Day(from) => match to {
+                Start::Day(to) => self.days_between(from, to)?,
+                Start::DateTime(_) => self.none,
+            },
+            Start::DateTime(from) => match to {
+                Start::Day(_) => self.none,
+                Start::DateTime(to) => Answer::Duration(to.signed_duration_since(from)),
+            },
         };
-        print_answer(rt, self.form, answer)?;
-        Ok(ANSWERED)
+        print_answer(rt, self.form, answer)
     }
 
-    // Says that a line has no answer; the exit status.
-    fn answer_none(&self, rt: &impl Print, none: Answer) -> io::Result<u8> {
-        print_answer(rt, self.form, none)?;
-        Ok(NONE)
+    // How far it is from one day to another.
+    fn days_between(&mut self, from: NaiveDate, to: NaiveDate) -> io::Result<Answer> {
+        match self.measure {
+            Measure::Whole(unit) => Ok(Answer::Number(key_of(unit), distance(from, to, unit))),
+            Measure::Parts => Ok(Answer::Parts(parts_between(from, to))),
+            Measure::OpenDays => {
+                let calendar = self.holidays.calendar(years_of(from, to))?;
+                Ok(Answer::Number(Key::OpenDays, calendar.open_days(from, to)))
+            }
+        }
     }
 }
 
 impl<A: Allocator> EachLine for Diff<A> {
-    fn answer_line<R: Print + Eprint>(
-        &mut self,
-        rt: &R,
-        _place: Place,
-        line: &[u8],
-    ) -> io::Result<u8> {
-        let Some(Side { start, line_first }) = self.side else {
-            return Ok(WRONG);
+    fn answer_line(&mut self, rt: &impl Host, _place: Place, line: &[u8]) -> io::Result<u8> {
+        let Ok(start) = read_start(line) else {
+            return print_answer(rt, self.form, self.none);
         };
-        match start {
-            Start::Day(date) => match read_day(line) {
-                Ok(day) if line_first => self.answer_days(rt, day, date),
-                Ok(day) => self.answer_days(rt, date, day),
-                Err(_) => self.answer_none(rt, none_of(self.measure)),
-            },
-            Start::DateTime(moment) => match read_moment(line) {
-                Ok(other) if line_first => answer_moments(rt, self.form, other, moment),
-                Ok(other) => answer_moments(rt, self.form, moment, other),
-                Err(_) => self.answer_none(rt, Answer::Nothing(Key::Duration)),
-            },
+        match (self.ends.from, self.ends.to) {
+            (Some(from), _) => self.answer_ends(rt, from, start),
+            (None, Some(to)) => self.answer_ends(rt, start, to),
+            (None, None) => print_answer(rt, self.form, self.none),
         }
     }
 }

@@ -1,15 +1,13 @@
 //! When a schedule is due.
 
-use crate::asked::{Asked, print_answer};
-use crate::fault::{ANSWERED, Fault, NONE, refuse};
-use crate::options::{HELP, JSON};
+use crate::asked::{Asked, Host, print_answer};
+use crate::fault::{ANSWERED, Fault, NONE};
+use crate::options::{COUNT, HELP, JSON};
 use crate::values::{amount_of, moment_of};
-use chrono_cron::{Schedule, read_schedule};
-use chrono_datetime::NaiveDateTime;
-use command_words::{Command, OPERAND, OPTION, Operand, Opt};
-use dates_answer::{Answer, Form, Key};
+use chrono_cron::read_schedule;
+use command_words::{CommandRow, OPERAND, OPTION, Operand, Opt};
+use dates_answer::{Answer, Key};
 use std::alloc::Allocator;
-use std::io::{self, Eprint};
 
 const CRON: Operand = Operand {
     name: "CRON",
@@ -25,19 +23,14 @@ const AFTER: Opt = Opt {
 };
 
 const BEFORE: Opt = Opt {
-    name: "--from",
-    value: "TIME",
-    required: true,
     help: "before which date-time, as 2024-02-29T04:30",
-    ..OPTION
+    ..AFTER
 };
 
-const COUNT: Opt = Opt {
-    name: "--count",
-    value: "N",
+const HOW_MANY: Opt = Opt {
     default: "1",
     help: "how many are printed, a line each (default: 1)",
-    ..OPTION
+    ..COUNT
 };
 
 const MORE: &str = "A CRON is a nickname as @daily, or five fields in one word, blanks between\n\
@@ -50,12 +43,14 @@ const MORE: &str = "A CRON is a nickname as @daily, or five fields in one word, 
     With both days and weekdays, neither beginning with *, it is due on either, as\n\
     with cron.";
 
-/// `next`.
-pub(crate) fn next() -> Command {
-    Command {
+// The command that goes back.
+const PREV: &str = "prev";
+
+pub(crate) fn next() -> CommandRow {
+    CommandRow {
         name: "next",
         operands: &[CRON],
-        options: &[AFTER, COUNT, JSON, HELP],
+        options: &[AFTER, HOW_MANY, JSON, HELP],
         help: "print when a schedule is due next",
         more: MORE,
         example: "$ dates next '0 9 * * 5#3' --from 2024-03-01T00:00\n\
@@ -63,12 +58,11 @@ pub(crate) fn next() -> Command {
     }
 }
 
-/// `prev`.
-pub(crate) fn prev() -> Command {
-    Command {
-        name: "prev",
+pub(crate) fn prev() -> CommandRow {
+    CommandRow {
+        name: PREV,
         operands: &[CRON],
-        options: &[BEFORE, COUNT, JSON, HELP],
+        options: &[BEFORE, HOW_MANY, JSON, HELP],
         help: "print when a schedule was due before",
         more: MORE,
         example: "$ dates prev '0 0 L * *' --from 2024-03-15T00:00\n\
@@ -76,81 +70,27 @@ pub(crate) fn prev() -> Command {
     }
 }
 
-// What is asked: a schedule, from which moment on, how often, and whether one goes back.
-#[derive(Clone, Copy)]
-struct Due {
-    schedule: Schedule,
-    from: NaiveDateTime,
-    count: u64,
-    back: bool,
-}
-
-// The moments after one at which the schedule is due; the exit status.
-pub(crate) fn answer_next(
-    rt: &(impl Alloc + Print + Eprint),
-    asked: &Asked<'_, impl Allocator>,
-) -> io::Result<u8> {
-    answer(rt, &next(), asked, false)
-}
-
-// The moments before one at which it was due, the last first; the exit status.
-pub(crate) fn answer_prev(
-    rt: &(impl Alloc + Print + Eprint),
-    asked: &Asked<'_, impl Allocator>,
-) -> io::Result<u8> {
-    answer(rt, &prev(), asked, true)
-}
-
-// The moments at which the schedule is due, on or back; the exit status.
-fn answer(
-    rt: &(impl Alloc + Print + Eprint),
-    command: &Command,
-    asked: &Asked<'_, impl Allocator>,
-    back: bool,
-) -> io::Result<u8> {
-    match read(asked, back) {
-        Ok(due) => print_due(rt, asked.form, due),
-        Err(fault) => refuse(rt, command, asked.form, Answer::Nothing(Key::Moment), fault),
-    }
-}
-
-// Reads the words.
-fn read<'a>(asked: &Asked<'a, impl Allocator>, back: bool) -> Result<Due, Fault<'a>> {
-    let text = value!(asked.first("CRON"));
-    let schedule = match read_schedule(text.text.as_bytes()) {
-        Ok(schedule) => schedule,
-        Err(fault) => return Err(Fault::Schedule(text, fault)),
-    };
-    let Some(from) = asked.value(AFTER) else {
-        return Err(Fault::Missing("--from TIME"));
-    };
-    let from = value!(moment_of(from));
-    let count = match asked.value(COUNT) {
-        Some(word) => value!(amount_of(word)),
-        None => 1,
-    };
-    Ok(Due {
-        schedule,
-        from,
-        count,
-        back,
-    })
-}
-
-// The moments, a line each; `none` where there are fewer.
-fn print_due(rt: &impl Print, form: Form, due: Due) -> io::Result<u8> {
-    let mut last = due.from;
-    for _ in 0..due.count {
-        let found = if due.back {
-            due.schedule.prev_before(last)
+// The moments at which the schedule is due, on or back, a line each; `none` where there are fewer. The exit status.
+pub(crate) fn answer<'a>(
+    rt: &impl Host,
+    asked: &mut Asked<'a, impl Allocator>,
+) -> Result<u8, Fault<'a>> {
+    asked.none = Answer::Nothing(Key::Moment);
+    let word = asked.word(0);
+    let read = read_schedule(word.text.as_bytes());
+    let schedule = value!(read.map_err(|error| Fault::Schedule(word, error)));
+    let mut last = value!(moment_of(asked.option(AFTER)));
+    for _ in 0..value!(amount_of(asked.option(HOW_MANY))) {
+        let found = if asked.command == PREV {
+            schedule.prev_before(last)
         } else {
-            due.schedule.next_after(last)
+            schedule.next_after(last)
         };
         let Some(moment) = found else {
-            print_answer(rt, form, Answer::Nothing(Key::Moment))?;
+            print_answer(rt, asked.form, asked.none)?;
             return Ok(NONE);
         };
-        print_answer(rt, form, Answer::Moment(moment))?;
+        print_answer(rt, asked.form, Answer::Moment(moment))?;
         last = moment;
     }
     Ok(ANSWERED)

@@ -1,28 +1,18 @@
 //! Easter Sunday.
 
-use crate::asked::{Asked, print_answered};
-use crate::fault::{Fault, refuse};
-use crate::options::{HELP, JSON};
+use crate::asked::{Asked, Host, print_answer};
+use crate::fault::Fault;
+use crate::options::{PLAIN, YEAR};
 use crate::values::year_of;
-use chrono_business::easter;
-use command_words::{Command, OPERAND, Operand};
-use dates_answer::{Answer, Key};
+use command_words::CommandRow;
+use dates_answer::Answer;
 use std::alloc::Allocator;
-use std::fmt;
-use std::io::{self, Eprint};
 
-/// A year.
-pub(crate) const YEAR: Operand = Operand {
-    name: "YEAR",
-    ..OPERAND
-};
-
-/// `easter`.
-pub(crate) fn command() -> Command {
-    Command {
+pub(crate) fn command() -> CommandRow {
+    CommandRow {
         name: "easter",
         operands: &[YEAR],
-        options: &[JSON, HELP],
+        options: PLAIN,
         help: "print Easter Sunday of a year",
         more: "Easter is worked out by the Gregorian rule.",
         example: "$ dates easter 2025\n\
@@ -31,44 +21,13 @@ pub(crate) fn command() -> Command {
 }
 
 // Easter Sunday of the year; the exit status.
-pub(crate) fn answer(
-    rt: &(impl Alloc + Print + Eprint),
-    asked: &Asked<'_, impl Allocator>,
-) -> io::Result<u8> {
-    match read(asked) {
-        Ok(answer) => print_answered(rt, asked.form, answer),
-        Err(fault) => refuse(
-            rt,
-            &command(),
-            asked.form,
-            Answer::Nothing(Key::Date),
-            fault,
-        ),
-    }
-}
-
-// Easter Sunday of the year that the operand writes.
-fn read<'a>(asked: &Asked<'a, impl Allocator>) -> Result<Answer, Fault<'a>> {
-    let year = value!(year_of(value!(asked.first("YEAR"))));
-    match easter(year) {
-        Some(sunday) => Ok(Answer::Date(sunday)),
+pub(crate) fn answer<'a>(
+    rt: &impl Host,
+    asked: &mut Asked<'a, impl Allocator>,
+) -> Result<u8, Fault<'a>> {
+    let year = value!(year_of(asked.word(0)));
+    match chrono_business::easter(year) {
+        Some(sunday) => Ok(print_answer(rt, asked.form, Answer::Date(sunday))?),
         None => Err(Fault::Outside(year)),
-    }
-}
-
-/// A year as dates are written: four digits, or a sign and as many as it takes.
-#[derive(Clone, Copy)]
-pub struct Year {
-    pub year: i32,
-}
-
-impl fmt::Display for Year {
-    fn fmt<W: fmt::Write>(&self, f: &mut fmt::Formatter<W>) -> fmt::Result {
-        let year = self.year;
-        if 0 <= year && year <= 9_999 {
-            write!(f, "{year:04}")
-        } else {
-            write!(f, "{year:+05}")
-        }
     }
 }

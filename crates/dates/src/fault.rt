@@ -1,15 +1,16 @@
-//! Faults: which word is wrong, why a text is no day, and the exit statuses.
+//! Faults: why a command has no answer, and the exit statuses.
 
-use crate::asked::print_answer;
-use crate::easter::Year;
-use crate::quoted::{Shown, ShownBytes};
+use crate::asked::{Host, print_answer};
 use crate::reason::Reason;
-use crate::table::near_command;
+use crate::source::{Shown, Source};
+use crate::table::{NAME, near_command};
+use crate::values::Year;
 use chrono_cron::ScheduleError;
-use chrono_reading::ReadError;
+use chrono_reading::{ReadCause, ReadError};
 use chrono_rules::RuleError;
-use command_words::{Choices, Command, Usage, Why, Word, Wrong, nearest, nearest_option};
+use command_words::{Choices, CommandRow, Opt, Usage, Why, Word, Wrong, nearest};
 use dates_answer::{Answer, Form};
+use std::alloc::{AllocError, AllocFailed};
 use std::env::{Env, FillError};
 use std::io::{self, Eprint, ErrorKind};
 use std::{fmt, str};
@@ -23,137 +24,188 @@ pub(crate) const NONE: u8 = 1;
 /// The exit status after a wrong command, or after a read or a write that failed.
 pub(crate) const WRONG: u8 = 2;
 
-/// What is wrong with a word.
-#[derive(Clone, Copy)]
+/// Why a command has no answer.
+#[derive(Drop)]
 pub(crate) enum Fault<'a> {
-    /// It is written as a day is, and there is no such day.
+    /// The word is written as a day is, and there is no such day.
     NoDay(Word<'a>, ReadError),
-    /// That was expected in its place; the reason says more of it, unless it is the form.
-    Expected(Word<'a>, Reason, &'static str),
-    /// One of these was expected in its place.
-    Choice(Word<'a>, &'static [&'static str]),
-    /// It is neither a day nor a command.
-    Command(Word<'a>),
-    /// It writes no schedule.
-    Schedule(Word<'a>, ScheduleError),
-    /// It writes no recurrence rule.
-    Rule(Word<'a>, RuleError),
-    /// The operand is missing.
-    Missing(&'static str),
     /// The calendar has no such year.
     Outside(i32),
+    /// The word cannot be read; that was expected in its place.
+    Unread(Word<'a>, ReadError, &'static str),
+    /// That was expected in place of the word.
+    Expected(Word<'a>, &'static str),
+    /// One of these was expected in place of the word.
+    Choice(Word<'a>, &'static [&'static str]),
+    /// The word is neither a day nor a command.
+    Command(Word<'a>),
+    /// The word writes no schedule.
+    Schedule(Word<'a>, ScheduleError),
+    /// The word writes no recurrence rule.
+    Rule(Word<'a>, RuleError),
+    /// The word writes months by `m`, which beside a time of day was meant for minutes.
+    Months(Word<'a>),
+    /// No option has the word's name.
+    Option(Word<'a>),
+    /// The option's value is missing.
+    NoValue(Word<'a>),
+    /// The operand is missing.
+    Missing(&'static str),
+    /// The option has to be given.
+    MissingOption(Opt),
+    /// Lines cannot be read.
+    Input(Source<'a>, io::Error),
+    /// The line of holidays with that number is no day.
+    NoHoliday(Source<'a>, u64, Reason),
+    /// No answer can be written, or memory is short.
+    Failed(io::Error),
 }
 
-// The fault of a word in the place of which that was expected.
-pub(crate) fn expected<'a>(word: Word<'a>, what: &'static str) -> Fault<'a> {
-    Fault::Expected(word, Reason::Form, what)
+impl From<io::Error> for Fault<'_> {
+    fn from(error: io::Error) -> Self {
+        Fault::Failed(error)
+    }
 }
 
-// Says what is wrong with the words of a command; the exit status. That there is no such day is an answer too.
+impl From<AllocError> for Fault<'_> {
+    fn from(error: AllocError) -> Self {
+        Fault::Failed(io::Error::from(error))
+    }
+}
+
+impl<T: Drop> From<AllocFailed<T>> for Fault<'_> {
+    fn from(error: AllocFailed<T>) -> Self {
+        Fault::Failed(io::Error::from(error))
+    }
+}
+
+impl<'a> From<Wrong<'a>> for Fault<'a> {
+    fn from(wrong: Wrong<'a>) -> Self {
+        let word = wrong.word;
+        match wrong.why {
+            Why::Unknown => Fault::Option(word),
+            Why::Twice => Fault::Expected(word, "each option once"),
+            Why::NoValue => Fault::NoValue(word),
+            Why::Flag => Fault::Expected(word, "no value"),
+            Why::Choice(values) => Fault::Choice(word, values),
+        }
+    }
+}
+
+// Says why a command has no answer; the exit status. That there is no such day or year is an answer too.
 pub(crate) fn refuse(
-    rt: &(impl Alloc + Print + Eprint),
-    command: &Command,
+    rt: &impl Host,
+    command: &CommandRow,
     form: Form,
     none: Answer,
     fault: Fault<'_>,
 ) -> io::Result<u8> {
     match fault {
+        Fault::Failed(error) => Err(error),
         Fault::NoDay(word, error) => {
             print_answer(rt, form, none)?;
             let _ = eprintln!(rt; "{}: {error}", word.text);
-            return Ok(NONE);
+            Ok(NONE)
         }
         Fault::Outside(year) => {
             print_answer(rt, form, none)?;
             let year = Year { year };
             let _ = eprintln!(rt; "{year}: expected a year from -262143 to +262142");
-            return Ok(NONE);
+            Ok(NONE)
         }
-        Fault::Expected(word, reason, what) if reason.is_of_a_day() => say(rt, word, &reason, what),
-        Fault::Expected(word, _, what) => say_expected(rt, word, &what, None),
-        Fault::Choice(word, values) => {
-            let near = nearest(rt.alloc(), word.text, values)?;
-            say_expected(rt, word, &Choices { values }, near);
-        }
-        Fault::Command(word) => {
-            let near = near_command(rt, word.text)?;
-            say_expected(
-                rt,
-                word,
-                &"a day as 2024-02-29 or a command; dates --help lists them",
-                near,
-            );
-        }
-        Fault::Schedule(word, fault) => say(rt, word, &fault, "a schedule as '30 4 1,15 * 5'"),
-        Fault::Rule(word, fault) => say(rt, word, &fault, "a rule as FREQ=MONTHLY;BYDAY=-1FR"),
-        Fault::Missing(name) => {
-            let usage = usage_of(command);
-            let _ = eprintln!(rt; "dates: {name} is missing; usage: {usage}");
+        fault => {
+            say_fault(rt, command, fault)?;
+            Ok(WRONG)
         }
     }
-    Ok(WRONG)
 }
 
-// Says what is wrong with a word, and what was expected of it.
-fn say(rt: &impl Eprint, word: Word<'_>, fault: &impl fmt::Display, what: &'static str) {
-    let place = word.place;
-    let word = Shown { text: word.text };
-    let _ = eprintln!(rt; "dates: argument {place}, {word}: {fault}; expected {what}");
-}
-
-// Says what was expected of a word, and what is like it.
-fn say_expected(
-    rt: &impl Eprint,
-    word: Word<'_>,
-    what: &impl fmt::Display,
-    near: Option<&'static str>,
-) {
-    let place = word.place;
-    let word = Shown { text: word.text };
-    let _ = match near {
-        None => eprintln!(rt; "dates: argument {place}, {word}: expected {what}"),
-        Some(near) => {
-            eprintln!(rt; "dates: argument {place}, {word}: expected {what}; did you mean {near}?")
-        }
+// Says what there is to say of a word.
+macro_rules! say {
+    ($rt:expr, $word:expr, $($text:tt)*) => {
+        eprintln!($rt; "dates: {}: {}", Source::Word($word), format_args!($($text)*))
     };
 }
 
-// How a command is called.
-pub(crate) fn usage_of<'a>(command: &'a Command) -> Usage<'a> {
-    let program = "dates";
-    Usage { program, command }
+// Says what is wrong with a command.
+fn say_fault(rt: &impl Host, command: &CommandRow, fault: Fault<'_>) -> Result<(), AllocError> {
+    let program = NAME;
+    let usage = Usage { program, command };
+    let _ = match fault {
+        Fault::Unread(word, error, what) if error.cause == ReadCause::NotThisForm => {
+            say!(rt, word, "expected {what}")
+        }
+        Fault::Unread(word, error, what) => say!(rt, word, "{error}; expected {what}"),
+        Fault::Expected(word, what) => say!(rt, word, "expected {what}"),
+        Fault::Choice(word, values) => {
+            let near = Near(nearest(rt.alloc(), word.text, values)?);
+            say!(rt, word, "expected {}{near}", Choices { values })
+        }
+        Fault::Command(word) => {
+            let near = Near(near_command(rt, word.text)?);
+            say!(
+                rt,
+                word,
+                "expected a day as 2024-02-29 or a command; {LISTED}{near}"
+            )
+        }
+        Fault::Schedule(word, fault) => say!(rt, word, "{fault}; expected {SCHEDULE}"),
+        Fault::Rule(word, fault) => say!(rt, word, "{fault}; expected {RULE}"),
+        Fault::Months(word) => say!(rt, word, "months; minutes are {}in", word.text),
+        Fault::Option(word) => {
+            let near = Near(near_option(rt, word.text, command.options)?);
+            say!(rt, word, "no such option{near}")
+        }
+        Fault::NoValue(word) => say!(rt, word, "its value is missing"),
+        Fault::Missing(name) => eprintln!(rt; "dates: {name} is missing; usage: {usage}"),
+        Fault::MissingOption(Opt { name, value, .. }) => {
+            eprintln!(rt; "dates: {name} {value} is missing; usage: {usage}")
+        }
+        Fault::Input(source, error) => eprintln!(rt; "dates: {source}: {error}"),
+        Fault::NoHoliday(source, number, Reason::Form) => {
+            eprintln!(rt; "dates: {source}, line {number}: expected {HOLIDAY}")
+        }
+        Fault::NoHoliday(source, number, reason) => {
+            eprintln!(rt; "dates: {source}, line {number}: {reason}; expected {HOLIDAY}")
+        }
+        Fault::Failed(_) | Fault::NoDay(_, _) | Fault::Outside(_) => Ok(()),
+    };
+    Ok(())
 }
 
-// Says which word breaks the row of a command; the exit status.
-pub(crate) fn refuse_words(
-    rt: &(impl Alloc + Eprint),
-    command: &Command,
-    wrong: Wrong<'_>,
-) -> io::Result<u8> {
-    let Wrong { word, why } = wrong;
-    let place = word.place;
-    let shown = Shown { text: word.text };
-    let name = word.text.split_once('=').map_or(word.text, |parts| parts.0);
-    let _ = match why {
-        Why::Unknown => match nearest_option(rt.alloc(), name, command.options)? {
-            Some(near) => {
-                eprintln!(rt;
-                    "dates: argument {place}, {shown}: no such option; did you mean {near}?"
-                )
-            }
-            None => eprintln!(rt; "dates: argument {place}, {shown}: no such option"),
-        },
-        Why::Twice => eprintln!(rt; "dates: argument {place}, {shown}: expected each option once"),
-        Why::NoValue => eprintln!(rt; "dates: argument {place}, {shown}: its value is missing"),
-        Why::Flag => eprintln!(rt; "dates: argument {place}, {shown}: expected no value"),
-        Why::Choice(values) => {
-            let text = word.text.split_once('=').map_or(word.text, |parts| parts.1);
-            let near = nearest(rt.alloc(), text, values)?;
-            say_expected(rt, word, &Choices { values }, near);
-            Ok(())
+const LISTED: &str = "dates --help lists them";
+
+const SCHEDULE: &str = "a schedule as '30 4 1,15 * 5'";
+
+const RULE: &str = "a rule as FREQ=MONTHLY;BYDAY=-1FR";
+
+const HOLIDAY: &str = "a day as 2024-02-29";
+
+// The name of an option that is like a word, up to its `=`.
+fn near_option(
+    rt: &impl Alloc,
+    word: &str,
+    options: &[Opt],
+) -> Result<Option<&'static str>, AllocError> {
+    let name = word.split_once('=').map_or(word, |parts| parts.0);
+    let mut names: Vec<&'static str, _> = Vec::new(rt.alloc());
+    for option in options {
+        names.push(option.name)?;
+    }
+    nearest(rt.alloc(), name, names.as_slice())
+}
+
+/// The name that is most like a word, if there is one, as a question behind what is said of it.
+#[derive(Clone, Copy)]
+pub struct Near(pub Option<&'static str>);
+
+impl fmt::Display for Near {
+    fn fmt<W: fmt::Write>(&self, f: &mut fmt::Formatter<W>) -> fmt::Result {
+        match self.0 {
+            Some(name) => write!(f, "; did you mean {name}?"),
+            None => Ok(()),
         }
-    };
-    Ok(WRONG)
+    }
 }
 
 // Says that the arguments cannot be read: which of them is no UTF-8, where one is not; the exit status.
@@ -169,10 +221,12 @@ pub(crate) fn refuse_arguments(
     for place in 1..usize::MAX {
         match rt.arg(place, room.as_mut_slice()) {
             Ok(length) => {
-                let argument = &room[..length];
-                if str::from_utf8(argument).is_err() {
-                    let word = ShownBytes { bytes: argument };
-                    let _ = eprintln!(rt; "dates: argument {place}, {word}: expected UTF-8");
+                let bytes = &room[..length];
+                if str::from_utf8(bytes).is_err() {
+                    let _ = eprintln!(rt;
+                        "dates: argument {place}, {}: expected UTF-8",
+                        Shown { bytes }
+                    );
                     return Ok(WRONG);
                 }
             }

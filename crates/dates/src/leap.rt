@@ -1,22 +1,19 @@
 //! Leap years.
 
-use crate::asked::{Asked, print_answered};
-use crate::easter::YEAR;
-use crate::fault::{Fault, refuse};
-use crate::options::{HELP, JSON};
+use crate::asked::{Asked, Host, print_answer};
+use crate::fault::Fault;
+use crate::options::{PLAIN, YEAR};
 use crate::values::year_of;
 use chrono_datetime::NaiveDate;
-use command_words::Command;
+use command_words::CommandRow;
 use dates_answer::{Answer, Key};
 use std::alloc::Allocator;
-use std::io::{self, Eprint};
 
-/// `leap`.
-pub(crate) fn command() -> Command {
-    Command {
+pub(crate) fn command() -> CommandRow {
+    CommandRow {
         name: "leap",
         operands: &[YEAR],
-        options: &[JSON, HELP],
+        options: PLAIN,
         help: "print whether a year is a leap year",
         more: "It prints yes or no.",
         example: "$ dates leap 2100\n\
@@ -25,27 +22,18 @@ pub(crate) fn command() -> Command {
 }
 
 // `yes` where the year is a leap year, and else `no`; the exit status.
-pub(crate) fn answer(
-    rt: &(impl Alloc + Print + Eprint),
-    asked: &Asked<'_, impl Allocator>,
-) -> io::Result<u8> {
-    match read(asked) {
-        Ok(answer) => print_answered(rt, asked.form, answer),
-        Err(fault) => refuse(
-            rt,
-            &command(),
-            asked.form,
-            Answer::Nothing(Key::Leap),
-            fault,
-        ),
-    }
-}
-
-// Whether the year that the operand writes is a leap year.
-fn read<'a>(asked: &Asked<'a, impl Allocator>) -> Result<Answer, Fault<'a>> {
-    let year = value!(year_of(value!(asked.first("YEAR"))));
-    match NaiveDate::from_ymd_opt(year, 1, 1) {
-        Some(first) => Ok(Answer::Whether(Key::Leap, first.leap_year())),
-        None => Err(Fault::Outside(year)),
-    }
+pub(crate) fn answer<'a>(
+    rt: &impl Host,
+    asked: &mut Asked<'a, impl Allocator>,
+) -> Result<u8, Fault<'a>> {
+    asked.none = Answer::Nothing(Key::Leap);
+    let year = value!(year_of(asked.word(0)));
+    let Some(first) = NaiveDate::from_ymd_opt(year, 1, 1) else {
+        return Err(Fault::Outside(year));
+    };
+    Ok(print_answer(
+        rt,
+        asked.form,
+        Answer::Whether(Key::Leap, first.leap_year()),
+    )?)
 }

@@ -1,8 +1,12 @@
 //! Lines of input, of each of which only so many bytes are kept, and commands that answer each of them.
 
-use crate::fault::{ANSWERED, WRONG};
-use crate::source::{Place, Source, refuse_source};
+use crate::asked::{Host, print_answer};
+use crate::fault::{ANSWERED, NONE, WRONG};
+use crate::source::Source;
+use crate::values::Start;
+use dates_answer::{Answer, Form};
 use std::alloc::Allocator;
+use std::fmt;
 use std::io::{self, BufRead, BufReader, Eprint, Read};
 
 /// So many bytes of a line are kept; no text of as many names a day or a date-time.
@@ -43,40 +47,59 @@ impl<R: Read, A: Allocator + Clone> LineReader<R, A> {
     }
 }
 
-// Whether so many bytes of a line were kept that there may have been more.
-pub(crate) fn is_cut(line: &[u8]) -> bool {
-    line.len() >= MOST_BYTES
-}
-
 /// A command that answers each line of the input in the place of a day.
 pub(crate) trait EachLine {
     /// Answers a line; the exit status.
-    fn answer_line<R: Print + Eprint>(
-        &mut self,
-        rt: &R,
-        place: Place,
-        line: &[u8],
-    ) -> io::Result<u8>;
+    fn answer_line(&mut self, rt: &impl Host, place: Place, line: &[u8]) -> io::Result<u8>;
 }
 
 // Answers each line of the input; the exit status.
-pub(crate) fn answer_lines<C: EachLine>(
-    rt: &(impl Alloc + Print + Eprint + Input),
-    command: &mut C,
-) -> io::Result<u8> {
+pub(crate) fn answer_lines<C: EachLine>(rt: &impl Host, command: &mut C) -> io::Result<u8> {
     let mut status = ANSWERED;
     let mut lines = LineReader::new(rt.alloc(), rt.reader())?;
     for number in 1..u64::MAX {
         let line = match lines.next_line() {
             Ok(Some(line)) => line,
             Ok(None) => break,
-            Err(fault) => return refuse_source(rt, Source::Input, &fault),
+            Err(error) => {
+                let _ = eprintln!(rt; "dates: {}: {error}", Source::Input);
+                return Ok(WRONG);
+            }
         };
-        let of_line = command.answer_line(rt, Place::Line(number), line)?;
-        if of_line == WRONG {
-            return Ok(WRONG);
-        }
-        status = status.max(of_line);
+        status = status.max(command.answer_line(rt, Place::AnswerLine(number), line)?);
     }
     Ok(status)
+}
+
+/// Which line of the input is answered, as `line 3: `; nothing where the words ask for one answer alone.
+#[derive(Clone, Copy)]
+pub enum Place {
+    /// One answer.
+    Alone,
+    /// The line of this number, from 1 on.
+    AnswerLine(u64),
+}
+
+impl fmt::Display for Place {
+    fn fmt<W: fmt::Write>(&self, f: &mut fmt::Formatter<W>) -> fmt::Result {
+        match self {
+            Place::Alone => Ok(()),
+            Place::AnswerLine(number) => write!(f, "line {number}: "),
+        }
+    }
+}
+
+// Prints that there is no answer, since a move from there leads out of the calendar; the exit status.
+pub(crate) fn print_past(
+    rt: &(impl Print + Eprint),
+    form: Form,
+    none: Answer,
+    place: Place,
+    from: Start,
+    by: &str,
+) -> io::Result<u8> {
+    print_answer(rt, form, none)?;
+    let gap = if by.is_empty() { "" } else { " " };
+    let _ = eprintln!(rt; "{place}{from}{gap}{by}: past the calendar's end");
+    Ok(NONE)
 }

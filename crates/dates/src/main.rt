@@ -26,7 +26,6 @@ mod leap;
 mod lines;
 mod open;
 mod options;
-mod quoted;
 mod reason;
 mod roll;
 mod rule;
@@ -38,13 +37,13 @@ mod values;
 mod week;
 mod weekday;
 
+use asked::Host;
 use command_words::Word;
 use fault::{WRONG, refuse_arguments};
 use std::alloc::Allocator;
 use std::env::{self, Env};
-use std::io::{self, Eprint, ErrorKind};
+use std::io::{self, ErrorKind};
 use std::process::ExitCode;
-use std::rt::Files;
 use table::answer_words;
 
 fn main(rt: HostRuntime) -> ExitCode {
@@ -62,7 +61,7 @@ fn main(rt: HostRuntime) -> ExitCode {
 }
 
 // Answers what the arguments ask for; the exit status.
-fn run(rt: &(impl Env + Alloc + Print + Eprint + Input + Files)) -> io::Result<u8> {
+fn run(rt: &(impl Host + Env)) -> io::Result<u8> {
     let arguments = match env::args(rt) {
         Ok(arguments) => arguments,
         Err(fault) => return refuse_arguments(rt, fault),

@@ -11,6 +11,18 @@ pub(crate) const DAY: Operand = Operand {
     ..OPERAND
 };
 
+/// A day, or `-` for the lines of the input, which may be left out.
+pub(crate) const DAY_OR_LINES: Operand = Operand {
+    required: false,
+    ..DAY
+};
+
+/// A year.
+pub(crate) const YEAR: Operand = Operand {
+    name: "YEAR",
+    ..OPERAND
+};
+
 /// `--json`.
 pub(crate) const JSON: Opt = Opt {
     name: "--json",
@@ -24,6 +36,12 @@ pub(crate) const HELP: Opt = Opt {
     help: "print this help",
     ..OPTION
 };
+
+/// The options of a command that has no others.
+pub(crate) const PLAIN: &[Opt] = &[JSON, HELP];
+
+/// The options of a command that knows open days.
+pub(crate) const OPEN_DAYS: &[Opt] = &[WEEKEND, CALENDAR, HOLIDAYS, JSON, HELP];
 
 /// `--weekend`.
 pub(crate) const WEEKEND: Opt = Opt {
@@ -50,5 +68,12 @@ pub(crate) const HOLIDAYS: Opt = Opt {
     name: "--holidays",
     value: "FILE",
     help: "holidays of a file, of which each line is a day",
+    ..OPTION
+};
+
+/// `--count`.
+pub(crate) const COUNT: Opt = Opt {
+    name: "--count",
+    value: "N",
     ..OPTION
 };

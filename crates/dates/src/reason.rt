@@ -1,11 +1,11 @@
-//! Why a text names no day, as far as that can be told.
+//! Why a line names no day, as far as its first bytes tell.
 
-use crate::lines::{MOST_BYTES, is_cut};
+use crate::lines::MOST_BYTES;
 use crate::texts::{read_day, read_moment};
 use chrono_reading::{ReadCause, ReadError};
 use std::fmt;
 
-/// Why a text names no day.
+/// Why a line names no day.
 #[derive(Clone, Copy)]
 pub enum Reason {
     /// It is written as a day is, and there is no such day.
@@ -26,16 +26,6 @@ pub enum Reason {
     Form,
 }
 
-impl Reason {
-    // Whether the text is written as a day is, so that what is wrong is the day.
-    pub(crate) fn is_of_a_day(self) -> bool {
-        match self {
-            Reason::Day(_) => true,
-            _ => false,
-        }
-    }
-}
-
 impl fmt::Display for Reason {
     fn fmt<W: fmt::Write>(&self, f: &mut fmt::Formatter<W>) -> fmt::Result {
         match self {
@@ -51,40 +41,28 @@ impl fmt::Display for Reason {
     }
 }
 
-// The reason that a reader tells, unless it is the form alone.
-pub(crate) fn reason_of(error: ReadError) -> Reason {
-    match error.cause {
-        ReadCause::NotThisForm => Reason::Form,
-        _ => Reason::Day(error),
-    }
-}
-
-// Why a line names no day, as far as its first bytes tell.
+// Why a line names no day.
 pub(crate) fn reason_of_line(line: &[u8], error: ReadError) -> Reason {
-    if is_cut(line) {
-        return Reason::Length;
-    }
-    if line.is_empty() {
-        return Reason::Empty;
-    }
-    match reason_of(error) {
-        Reason::Form if read_moment(line).is_ok() => Reason::Moment,
-        Reason::Form => beside_day(line),
-        reason => reason,
+    if line.len() >= MOST_BYTES {
+        Reason::Length
+    } else if line.is_empty() {
+        Reason::Empty
+    } else if error.cause != ReadCause::NotThisForm {
+        Reason::Day(error)
+    } else if read_moment(line).is_ok() {
+        Reason::Moment
+    } else {
+        beside_day(line)
     }
 }
-
-// The bytes of a byte order mark in UTF-8.
-const MARK: &[u8] = b"\xef\xbb\xbf";
 
 // What a line has beside a day, where that is all that keeps it from being one.
 fn beside_day(text: &[u8]) -> Reason {
-    let unmarked = text.strip_prefix(MARK).unwrap_or(text);
+    let unmarked = text.strip_prefix(b"\xef\xbb\xbf").unwrap_or(text);
     let line = unmarked.strip_suffix(b"\r").unwrap_or(unmarked);
     if read_day(line.trim_ascii()).is_err() {
-        return Reason::Form;
-    }
-    if unmarked.len() < text.len() {
+        Reason::Form
+    } else if unmarked.len() < text.len() {
         Reason::Mark
     } else if line.len() < text.len() {
         Reason::CarriageReturn

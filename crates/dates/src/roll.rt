@@ -1,22 +1,19 @@
 //! Where closed days go.
 
-use crate::asked::{Asked, print_answer};
-use crate::closed::{closed_of, years_of};
-use crate::fault::{ANSWERED, Fault, NONE, WRONG, refuse};
-use crate::holidays::{Holidays, read_holidays};
-use crate::lines::{EachLine, answer_lines};
-use crate::open::DAY_OR_LINES;
-use crate::options::{CALENDAR, HELP, HOLIDAYS, JSON, WEEKEND};
-use crate::source::Place;
+use crate::asked::{Asked, Host, print_answer};
+use crate::closed::years_of;
+use crate::fault::Fault;
+use crate::holidays::{Holidays, holidays_of};
+use crate::lines::{EachLine, Place, answer_lines, print_past};
+use crate::options::{DAY_OR_LINES, OPEN_DAYS};
 use crate::texts::read_day;
-use crate::values::{begins_as_day, day_of};
+use crate::values::{Start, begins_as_day, day_of};
 use chrono_business::Roll;
 use chrono_datetime::NaiveDate;
-use command_words::{Command, OPERAND, Operand, Word};
+use command_words::{CommandRow, OPERAND, Operand, Word};
 use dates_answer::{Answer, Form, Key};
 use std::alloc::Allocator;
-use std::io::{self, Eprint};
-use std::rt::Files;
+use std::io;
 
 const CONVENTIONS: &[&str] = &[
     "following",
@@ -27,9 +24,8 @@ const CONVENTIONS: &[&str] = &[
     "unadjusted",
 ];
 
-/// `roll`.
-pub(crate) fn command() -> Command {
-    Command {
+pub(crate) fn command() -> CommandRow {
+    CommandRow {
         name: "roll",
         operands: &[
             DAY_OR_LINES,
@@ -39,7 +35,7 @@ pub(crate) fn command() -> Command {
                 ..OPERAND
             },
         ],
-        options: &[WEEKEND, CALENDAR, HOLIDAYS, JSON, HELP],
+        options: OPEN_DAYS,
         help: "print where a closed day goes",
         more: "A CONVENTION is following, preceding, modified-following, modified-preceding,\n\
             nearest or unadjusted. An open day stays.\n\
@@ -50,7 +46,7 @@ pub(crate) fn command() -> Command {
 }
 
 // That there is no answer.
-const NOTHING: Answer = Answer::Nothing(Key::Date);
+const NONE: Answer = Answer::Nothing(Key::Date);
 
 // Where closed days go by a convention and these holidays.
 #[derive(Drop)]
@@ -61,110 +57,69 @@ struct Rolls<A: Allocator> {
 }
 
 // Where the day, or that of each line, goes; the exit status.
-pub(crate) fn answer(
-    rt: &(impl Alloc + Print + Eprint + Input + Files),
-    asked: &Asked<'_, impl Allocator>,
-) -> io::Result<u8> {
+pub(crate) fn answer<'a>(
+    rt: &impl Host,
+    asked: &mut Asked<'a, impl Allocator>,
+) -> Result<u8, Fault<'a>> {
+    let (date, roll) = value!(read(asked.word(0), asked.words.operand(1)));
     let form = asked.form;
-    let (date, roll) = match read(asked.operand(0), asked.operand(1)) {
-        Ok(read) => read,
-        Err(fault) => return refuse(rt, &command(), form, NOTHING, fault),
-    };
-    let closed = match closed_of(asked) {
-        Ok(closed) => closed,
-        Err(fault) => return refuse(rt, &command(), form, NOTHING, fault),
-    };
-    let Some(holidays) = read_holidays(rt, closed)? else {
-        return Ok(WRONG);
-    };
+    let holidays = holidays_of(rt, asked)?;
     let mut rolls = Rolls {
         form,
         roll,
         holidays,
     };
     match date {
-        Some(date) => rolls.answer_day(rt, Place::Alone, date),
-        None => answer_lines(rt, &mut rolls),
+        Some(date) => Ok(rolls.answer_day(rt, Place::Alone, date)?),
+        None => Ok(answer_lines(rt, &mut rolls)?),
     }
 }
 
 // The day and the convention; no day for the lines of the input.
 fn read<'a>(
-    first: Option<Word<'a>>,
+    first: Word<'a>,
     second: Option<Word<'a>>,
 ) -> Result<(Option<NaiveDate>, Roll), Fault<'a>> {
-    match (first, second) {
-        (Some(first), Some(second)) if first.text == "-" => Ok((None, value!(roll_of(second)))),
-        (Some(first), Some(second)) => {
-            let date = value!(day_of(first));
-            Ok((Some(date), value!(roll_of(second))))
-        }
-        (Some(only), None) if begins_as_day(only) => {
-            let _date = value!(day_of(only));
+    match second {
+        Some(second) if first.text == "-" => Ok((None, value!(roll_of(second)))),
+        Some(second) => Ok((Some(value!(day_of(first))), value!(roll_of(second)))),
+        None if begins_as_day(first) => {
+            let _date = value!(day_of(first));
             Err(Fault::Missing("CONVENTION"))
         }
-        (Some(only), None) => Ok((None, value!(roll_of(only)))),
-        (None, _) => Err(Fault::Missing("CONVENTION")),
+        None => Ok((None, value!(roll_of(first)))),
     }
 }
 
 // The roll of the convention that a word names.
 fn roll_of<'a>(word: Word<'a>) -> Result<Roll, Fault<'a>> {
-    let text = word.text;
-    if text == "following" {
-        Ok(Roll::Following)
-    } else if text == "preceding" {
-        Ok(Roll::Preceding)
-    } else if text == "modified-following" {
-        Ok(Roll::ModifiedFollowing)
-    } else if text == "modified-preceding" {
-        Ok(Roll::ModifiedPreceding)
-    } else if text == "nearest" {
-        Ok(Roll::NearestQuantLib)
-    } else if text == "unadjusted" {
-        Ok(Roll::Unadjusted)
-    } else {
-        Err(Fault::Choice(word, CONVENTIONS))
+    match word.text {
+        "following" => Ok(Roll::Following),
+        "preceding" => Ok(Roll::Preceding),
+        "modified-following" => Ok(Roll::ModifiedFollowing),
+        "modified-preceding" => Ok(Roll::ModifiedPreceding),
+        "nearest" => Ok(Roll::NearestQuantLib),
+        "unadjusted" => Ok(Roll::Unadjusted),
+        _ => Err(Fault::Choice(word, CONVENTIONS)),
     }
 }
 
 impl<A: Allocator> Rolls<A> {
     // The day that a day rolls to, or `none` where the calendar ends before; the exit status.
-    fn answer_day(
-        &mut self,
-        rt: &(impl Print + Eprint),
-        place: Place,
-        date: NaiveDate,
-    ) -> io::Result<u8> {
-        let (form, roll) = (self.form, self.roll);
+    fn answer_day(&mut self, rt: &impl Host, place: Place, date: NaiveDate) -> io::Result<u8> {
         let calendar = self.holidays.calendar(years_of(date, date))?;
-        match calendar.roll(date, roll) {
-            Some(day) => {
-                print_answer(rt, form, Answer::Date(day))?;
-                Ok(ANSWERED)
-            }
-            None => {
-                print_answer(rt, form, NOTHING)?;
-                let _ = eprintln!(rt; "{place}{date}: past the calendar's end");
-                Ok(NONE)
-            }
+        match calendar.roll(date, self.roll) {
+            Some(day) => print_answer(rt, self.form, Answer::Date(day)),
+            None => print_past(rt, self.form, NONE, place, Start::Day(date), ""),
         }
     }
 }
 
 impl<A: Allocator> EachLine for Rolls<A> {
-    fn answer_line<R: Print + Eprint>(
-        &mut self,
-        rt: &R,
-        place: Place,
-        line: &[u8],
-    ) -> io::Result<u8> {
+    fn answer_line(&mut self, rt: &impl Host, place: Place, line: &[u8]) -> io::Result<u8> {
         match read_day(line) {
             Ok(date) => self.answer_day(rt, place, date),
-            Err(_) => {
-                print_answer(rt, self.form, NOTHING)?;
-                Ok(NONE)
-            }
+            Err(_) => print_answer(rt, self.form, NONE),
         }
     }
 }

@@ -1,15 +1,13 @@
 //! The instances of a recurrence rule.
 
-use crate::asked::{Asked, print_answer};
-use crate::fault::{ANSWERED, Fault, NONE, refuse};
-use crate::options::{HELP, JSON};
+use crate::asked::{Asked, Host, print_answer};
+use crate::fault::{Fault, NONE};
+use crate::options::{COUNT, HELP, JSON};
 use crate::values::{amount_of, day_of};
-use chrono_datetime::NaiveDate;
-use chrono_rules::{Rule, read_rule};
-use command_words::{Command, OPERAND, OPTION, Operand, Opt};
-use dates_answer::{Answer, Form, Key};
+use chrono_rules::read_rule;
+use command_words::{CommandRow, OPERAND, OPTION, Operand, Opt};
+use dates_answer::Answer;
 use std::alloc::Allocator;
-use std::io::{self, Eprint};
 
 const START: Opt = Opt {
     name: "--start",
@@ -26,22 +24,19 @@ const FROM: Opt = Opt {
     ..OPTION
 };
 
-const COUNT: Opt = Opt {
-    name: "--count",
-    value: "N",
+const HOW_MANY: Opt = Opt {
     help: "how many at most\n(default: all, to the end of the rule or the calendar)",
-    ..OPTION
+    ..COUNT
 };
 
-/// `rule`.
-pub(crate) fn command() -> Command {
-    Command {
+pub(crate) fn command() -> CommandRow {
+    CommandRow {
         name: "rule",
         operands: &[Operand {
             name: "RRULE",
             ..OPERAND
         }],
-        options: &[START, FROM, COUNT, JSON, HELP],
+        options: &[START, FROM, HOW_MANY, JSON, HELP],
         help: "print the instances of a recurrence rule",
         more: "An RRULE is written as RFC 5545 writes it, in parts with ; between them:\n\
             FREQ=WEEKLY;INTERVAL=2;BYDAY=TU;COUNT=5        every other Tuesday, five times\n\
@@ -54,74 +49,28 @@ pub(crate) fn command() -> Command {
     }
 }
 
-// What is asked: a rule, from which day on it recurs, from which on its instances are wanted, and how many at most.
-#[derive(Clone, Copy)]
-struct Wanted {
-    rule: Rule,
-    start: NaiveDate,
-    from: NaiveDate,
-    most: u64,
-}
-
-// The instances of the rule; the exit status.
-pub(crate) fn answer(
-    rt: &(impl Alloc + Print + Eprint),
-    asked: &Asked<'_, impl Allocator>,
-) -> io::Result<u8> {
-    match read(asked) {
-        Ok(wanted) => print_instances(rt, asked.form, wanted),
-        Err(fault) => refuse(
-            rt,
-            &command(),
-            asked.form,
-            Answer::Nothing(Key::Date),
-            fault,
-        ),
-    }
-}
-
-// Reads the words.
-fn read<'a>(asked: &Asked<'a, impl Allocator>) -> Result<Wanted, Fault<'a>> {
-    let text = value!(asked.first("RRULE"));
-    let rule = match read_rule(text.text.as_bytes()) {
-        Ok(rule) => rule,
-        Err(fault) => return Err(Fault::Rule(text, fault)),
-    };
-    let Some(start) = asked.value(START) else {
-        return Err(Fault::Missing("--start DAY"));
-    };
-    let start = value!(day_of(start));
-    let from = match asked.value(FROM) {
+// The instances of the rule, a line each; `none` where there is none. The exit status.
+pub(crate) fn answer<'a>(
+    rt: &impl Host,
+    asked: &mut Asked<'a, impl Allocator>,
+) -> Result<u8, Fault<'a>> {
+    let word = asked.word(0);
+    let rule = value!(read_rule(word.text.as_bytes()).map_err(|error| Fault::Rule(word, error)));
+    let start = value!(day_of(asked.option(START)));
+    let from = match asked.words.value(FROM) {
         Some(word) => value!(day_of(word)),
         None => start,
     };
-    let most = match asked.value(COUNT) {
+    let most = match asked.words.value(HOW_MANY) {
         Some(word) => value!(amount_of(word)),
         None => u64::MAX,
     };
-    Ok(Wanted {
-        rule,
-        start,
-        from,
-        most,
-    })
-}
-
-// The instances, a line each; `none` where there is none.
-fn print_instances(rt: &impl Print, form: Form, wanted: Wanted) -> io::Result<u8> {
-    let Wanted {
-        rule,
-        start,
-        from,
-        most,
-    } = wanted;
     let mut status = NONE;
     for day in rule.instances_from(start, from).take(most as usize) {
-        print_answer(rt, form, Answer::Date(day))?;
-        status = ANSWERED;
+        status = print_answer(rt, asked.form, Answer::Date(day))?;
     }
     if status == NONE {
-        print_answer(rt, form, Answer::Nothing(Key::Date))?;
+        print_answer(rt, asked.form, asked.none)?;
     }
     Ok(status)
 }

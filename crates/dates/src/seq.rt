@@ -1,19 +1,17 @@
 //! The days from one to another.
 
-use crate::asked::{Asked, print_answer};
-use crate::fault::{ANSWERED, Fault, NONE, expected, refuse};
-use crate::options::{DAY, HELP, JSON};
+use crate::asked::{Asked, Host, print_answer};
+use crate::fault::{Fault, NONE};
+use crate::options::{DAY, PLAIN};
 use crate::texts::read_span;
 use crate::values::day_of;
 use chrono_datetime::{Datelike, NaiveDate};
-use command_words::{Command, OPERAND, Operand, Word};
-use dates_answer::{Answer, Form, Key, Span, Unit, sequence_day};
+use command_words::{CommandRow, OPERAND, Operand, Word};
+use dates_answer::{Answer, Span, Unit, sequence_day};
 use std::alloc::Allocator;
-use std::io::{self, Eprint};
 
-/// `seq`.
-pub(crate) fn command() -> Command {
-    Command {
+pub(crate) fn command() -> CommandRow {
+    CommandRow {
         name: "seq",
         operands: &[
             DAY,
@@ -24,7 +22,7 @@ pub(crate) fn command() -> Command {
                 ..OPERAND
             },
         ],
-        options: &[JSON, HELP],
+        options: PLAIN,
         help: "print the days from one to another",
         more: "Each is the first day moved by no span, by one, by two and so on, as long as\n\
             that is not past the second day. With no SPAN it goes day by day, also back.\n\
@@ -37,55 +35,36 @@ pub(crate) fn command() -> Command {
     }
 }
 
-// What is asked: the first day, the last, and the span from one to the next.
-#[derive(Clone, Copy)]
-struct Sequence {
-    from: NaiveDate,
-    to: NaiveDate,
-    step: Span,
-}
-
-// The days of the sequence; the exit status.
-pub(crate) fn answer(
-    rt: &(impl Alloc + Print + Eprint),
-    asked: &Asked<'_, impl Allocator>,
-) -> io::Result<u8> {
-    let (Some(first), Some(second)) = (asked.operand(0), asked.operand(1)) else {
-        return Ok(NONE);
-    };
-    match read(first, second, asked.operand(2)) {
-        Ok(sequence) => print_days(rt, asked.form, sequence),
-        Err(fault) => refuse(
-            rt,
-            &command(),
-            asked.form,
-            Answer::Nothing(Key::Date),
-            fault,
-        ),
-    }
-}
-
-// Reads the words.
-fn read<'a>(
-    first: Word<'a>,
-    second: Word<'a>,
-    span: Option<Word<'a>>,
-) -> Result<Sequence, Fault<'a>> {
-    let from = value!(day_of(first));
-    let to = value!(day_of(second));
-    let step = match span {
+// The days of the sequence as long as they are not past its end; `none` where the first day is past it. The exit status.
+pub(crate) fn answer<'a>(
+    rt: &impl Host,
+    asked: &mut Asked<'a, impl Allocator>,
+) -> Result<u8, Fault<'a>> {
+    let from = value!(day_of(asked.word(0)));
+    let to = value!(day_of(asked.word(1)));
+    let step = match asked.words.operand(2) {
         Some(word) => value!(step_of(word)),
         None => day_by_day(from, to),
     };
-    Ok(Sequence { from, to, step })
+    let mut status = NONE;
+    for place in 0..u32::MAX {
+        let Some(date) = sequence_day(from, to, step, place) else {
+            break;
+        };
+        status = print_answer(rt, asked.form, Answer::Date(date))?;
+    }
+    if status == NONE {
+        print_answer(rt, asked.form, asked.none)?;
+    }
+    Ok(status)
 }
 
 // The span that a word writes, which is not 0.
 fn step_of<'a>(word: Word<'a>) -> Result<Span, Fault<'a>> {
     match read_span(word.text.as_bytes()) {
         Some(span) if span.count != 0 => Ok(span),
-        Some(_) => Err(expected(word, "a span that is not 0")),
-        None => Err(expected(word, "a span as 3d, -2w, 1m or 4y")),
+        Some(_) => Err(Fault::Expected(word, "a span that is not 0")),
+        None => Err(Fault::Expected(word, "a span as 3d, -2w, 1m or 4y")),
     }
 }
 
@@ -97,21 +76,4 @@ fn day_by_day(from: NaiveDate, to: NaiveDate) -> Span {
     } else {
         Span { count: 1, unit }
     }
-}
-
-// The days of the sequence as long as they are not past its end; `none` where the first day is past it.
-fn print_days(rt: &impl Print, form: Form, sequence: Sequence) -> io::Result<u8> {
-    let Sequence { from, to, step } = sequence;
-    let mut status = NONE;
-    for place in 0..u32::MAX {
-        let Some(date) = sequence_day(from, to, step, place) else {
-            break;
-        };
-        print_answer(rt, form, Answer::Date(date))?;
-        status = ANSWERED;
-    }
-    if status == NONE {
-        print_answer(rt, form, Answer::Nothing(Key::Date))?;
-    }
-    Ok(status)
 }

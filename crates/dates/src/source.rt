@@ -1,60 +1,53 @@
-//! Where lines come from, and what is said where they cannot be read.
+//! Where words and lines come from, as messages name it.
 
-use crate::fault::WRONG;
-use crate::quoted::Shown;
+use command_words::Word;
 use std::fmt;
-use std::io::{self, Eprint};
 
-/// Where lines come from, as `standard input` or `argument 2, FILE`.
+/// Standard input, or an argument as `argument 2, FILE`.
 #[derive(Clone, Copy)]
 pub enum Source<'a> {
     /// Standard input.
     Input,
-    /// The file that an argument names.
-    File {
-        /// Which argument it is, from 1 on.
-        place: usize,
-        /// The argument.
-        name: &'a str,
-    },
+    /// The argument, which may name a file.
+    Word(Word<'a>),
 }
 
 impl fmt::Display for Source<'_> {
     fn fmt<W: fmt::Write>(&self, f: &mut fmt::Formatter<W>) -> fmt::Result {
         match self {
             Source::Input => f.write_str("standard input"),
-            Source::File { place, name } => {
-                let name = Shown { text: name };
-                write!(f, "argument {place}, {name}")
+            Source::Word(word) => {
+                let bytes = word.text.as_bytes();
+                write!(f, "argument {}, {}", word.place, Shown { bytes })
             }
         }
     }
 }
 
-/// Which line of the input is answered, as `line 3: `; nothing where the words ask for one answer alone.
+/// A word on one line, of its bytes: control characters, of which some break a line and some steer a terminal, stand there as JSON
+/// writes them by their number, no byte as `''`, and what is no UTF-8 as U+FFFD.
 #[derive(Clone, Copy)]
-pub enum Place {
-    /// One answer.
-    Alone,
-    /// The line of this number, from 1 on.
-    Line(u64),
+pub struct Shown<'a> {
+    pub bytes: &'a [u8],
 }
 
-impl fmt::Display for Place {
+impl fmt::Display for Shown<'_> {
     fn fmt<W: fmt::Write>(&self, f: &mut fmt::Formatter<W>) -> fmt::Result {
-        match self {
-            Place::Alone => Ok(()),
-            Place::Line(number) => write!(f, "line {number}: "),
+        if self.bytes.is_empty() {
+            return f.write_str("''");
         }
+        for chunk in self.bytes.utf8_chunks() {
+            for character in chunk.valid().chars() {
+                if character.is_control() {
+                    write!(f, "\\u{:04x}", character as u32)?;
+                } else {
+                    f.write_char(character)?;
+                }
+            }
+            if !chunk.invalid().is_empty() {
+                f.write_char('\u{fffd}')?;
+            }
+        }
+        Ok(())
     }
-}
-
-// Says that lines cannot be read, and why; the exit status.
-pub(crate) fn refuse_source(
-    rt: &impl Eprint,
-    source: Source<'_>,
-    fault: &io::Error,
-) -> io::Result<u8> {
-    let _ = eprintln!(rt; "dates: {source}: {fault}");
-    Ok(WRONG)
 }

@@ -1,42 +1,69 @@
 //! The commands of `dates`: a row each. Help, the man page, completion and messages come from these rows.
 
-use crate::asked::Asked;
-use crate::fault::{ANSWERED, Fault, WRONG, refuse, refuse_words, usage_of};
+use crate::asked::{Asked, Host};
+use crate::day;
+use crate::fault::{ANSWERED, Fault, refuse};
 use crate::options::{HELP, JSON};
-use crate::quoted::Shown;
-use crate::{add, cal, check, day, diff, due, easter, leap, open, roll, rule, seq, week, weekday};
-use command_words::{Command, CommandHelp, Program, ProgramHelp, Word, Words, nearest, read_words};
+use command_words::{
+    Arguments, CommandHelp, CommandRow, Program, ProgramHelp, Word, nearest, read_words,
+};
 use dates_answer::{Answer, Form, Key};
 use std::alloc::{AllocError, Allocator};
-use std::io::{self, Eprint};
-use std::rt::Files;
+use std::io;
+
+// The rows: `$each` is done with the module of each command and its function there, in the order in which the help lists them.
+macro_rules! each_command {
+    ($each:ident, $($with:ident),*) => {
+        $each!(crate::day::command, crate::day::answer, $($with),*);
+        $each!(crate::add::command, crate::add::answer, $($with),*);
+        $each!(crate::diff::command, crate::diff::answer, $($with),*);
+        $each!(crate::seq::command, crate::seq::answer, $($with),*);
+        $each!(crate::week::command, crate::week::answer, $($with),*);
+        $each!(crate::weekday::command, crate::weekday::answer, $($with),*);
+        $each!(crate::easter::command, crate::easter::answer, $($with),*);
+        $each!(crate::leap::command, crate::leap::answer, $($with),*);
+        $each!(crate::open::command, crate::open::answer, $($with),*);
+        $each!(crate::roll::command, crate::roll::answer, $($with),*);
+        $each!(crate::check::command, crate::check::answer, $($with),*);
+        $each!(crate::due::next, crate::due::answer, $($with),*);
+        $each!(crate::due::prev, crate::due::answer, $($with),*);
+        $each!(crate::rule::command, crate::rule::answer, $($with),*);
+        $each!(crate::cal::command, crate::cal::answer, $($with),*);
+    };
+}
+
+macro_rules! put_row {
+    ($command:path, $answer:path, $rows:ident) => {
+        $rows.push($command())?;
+    };
+}
+
+macro_rules! answer_if_named {
+    ($command:path, $answer:path, $rt:ident, $asked:ident) => {
+        if $asked.command == $command().name {
+            return $answer($rt, $asked);
+        }
+    };
+}
 
 /// The name of the program.
 pub(crate) const NAME: &str = "dates";
 
-/// The rows of all commands. Each comes from a function, so that no proof reads all of them at once.
-pub(crate) fn commands<R: Alloc>(rt: &R) -> Result<Vec<Command, R::A>, AllocError> {
+// The rows of all commands. Each comes from a function, so that no proof reads all of them at once.
+pub(crate) fn commands<R: Alloc>(rt: &R) -> Result<Vec<CommandRow, R::A>, AllocError> {
     let mut rows = Vec::new(rt.alloc());
-    rows.push(day::command())?;
-    rows.push(add::command())?;
-    rows.push(diff::command())?;
-    rows.push(seq::command())?;
-    rows.push(week::command())?;
-    rows.push(weekday::command())?;
-    rows.push(easter::command())?;
-    rows.push(leap::command())?;
-    rows.push(open::command())?;
-    rows.push(roll::command())?;
-    rows.push(check::command())?;
-    rows.push(due::next())?;
-    rows.push(due::prev())?;
-    rows.push(rule::command())?;
-    rows.push(cal::command())?;
+    each_command!(put_row, rows);
     Ok(rows)
 }
 
+// Answers the command that is asked; the exit status.
+fn answer<'a>(rt: &impl Host, asked: &mut Asked<'a, impl Allocator>) -> Result<u8, Fault<'a>> {
+    each_command!(answer_if_named, rt, asked);
+    Ok(ANSWERED)
+}
+
 /// The program with its commands.
-pub(crate) fn program(commands: &[Command]) -> Program<'_> {
+pub(crate) fn program(commands: &[CommandRow]) -> Program<'_> {
     Program {
         name: NAME,
         help: "answer what one asks of dates",
@@ -62,50 +89,8 @@ const MORE: &str = "A DAY is a calendar date, an ordinal date or a week date, as
     printed, or where check finds a line; and 2 after a wrong command, or a read or\n\
     a write that failed.";
 
-// Answers the command of a row; the exit status.
-fn answer(
-    rt: &(impl Alloc + Print + Eprint + Input + Files),
-    name: &str,
-    asked: &Asked<'_, impl Allocator>,
-) -> io::Result<u8> {
-    if name == "add" {
-        add::answer(rt, asked)
-    } else if name == "diff" {
-        diff::answer(rt, asked)
-    } else if name == "seq" {
-        seq::answer(rt, asked)
-    } else if name == "week" {
-        week::answer(rt, asked)
-    } else if name == "weekday" {
-        weekday::answer(rt, asked)
-    } else if name == "easter" {
-        easter::answer(rt, asked)
-    } else if name == "leap" {
-        leap::answer(rt, asked)
-    } else if name == "open" {
-        open::answer(rt, asked)
-    } else if name == "roll" {
-        roll::answer(rt, asked)
-    } else if name == "check" {
-        check::answer(rt, asked)
-    } else if name == "next" {
-        due::answer_next(rt, asked)
-    } else if name == "prev" {
-        due::answer_prev(rt, asked)
-    } else if name == "rule" {
-        rule::answer(rt, asked)
-    } else if name == "cal" {
-        cal::answer(rt, asked)
-    } else {
-        day::answer(rt, asked)
-    }
-}
-
 // Answers what words ask for: the first that is not `--json` may name a command. The exit status.
-pub(crate) fn answer_words(
-    rt: &(impl Alloc + Print + Eprint + Input + Files),
-    words: &[Word<'_>],
-) -> io::Result<u8> {
+pub(crate) fn answer_words(rt: &impl Host, words: &[Word<'_>]) -> io::Result<u8> {
     let rows = commands(rt)?;
     let mut others: Vec<Word<'_>, _> = Vec::new(rt.alloc());
     let mut command = None;
@@ -123,7 +108,7 @@ pub(crate) fn answer_words(
 }
 
 // The command with that name, and a day where there is none.
-fn command_named(rows: &[Command], name: &str) -> Command {
+fn command_named(rows: &[CommandRow], name: &str) -> CommandRow {
     for command in rows {
         if command.name == name {
             return *command;
@@ -133,85 +118,72 @@ fn command_named(rows: &[Command], name: &str) -> Command {
 }
 
 // Reads the words by the row of a command and answers it; the exit status.
-fn answer_command(
-    rt: &(impl Alloc + Print + Eprint + Input + Files),
-    command: &Command,
-    words: &[Word<'_>],
-) -> io::Result<u8> {
-    let read = read_words(rt.alloc(), command.options, words)?;
-    let words = match read {
+fn answer_command(rt: &impl Host, command: &CommandRow, words: &[Word<'_>]) -> io::Result<u8> {
+    let none = Answer::Nothing(Key::Date);
+    let words = match read_words(rt.alloc(), command.options, words)? {
         Ok(words) => words,
-        Err(wrong) => match wrong_first(command, words) {
-            Some(fault) => return refuse(
-                rt,
-                command,
-                Form::Text,
-                Answer::Nothing(Key::Date),
-                fault,
-            ),
-            None => return refuse_words(rt, command, wrong),
-        },
+        Err(wrong) => {
+            return match wrong_first(command, words.first().copied()) {
+                Some(fault) => refuse(rt, command, Form::Text, none, fault),
+                None => refuse(rt, command, Form::Text, none, Fault::from(wrong)),
+            };
+        }
     };
     if words.has(HELP) {
         return print_help(rt, command);
-    }
-    if let Some(status) = refuse_missing(rt, command, &words) {
-        return Ok(status);
     }
     let form = if words.has(JSON) {
         Form::Json
     } else {
         Form::Text
     };
-    answer(rt, command.name, &Asked { form, words })
+    let mut asked = Asked {
+        command: command.name,
+        form,
+        none,
+        words,
+    };
+    if let Some(fault) = wrong_count(command, &asked.words) {
+        return refuse(rt, command, form, asked.none, fault);
+    }
+    match answer(rt, &mut asked) {
+        Ok(status) => Ok(status),
+        Err(fault) => refuse(rt, command, form, asked.none, fault),
+    }
 }
 
 // What is wrong with the first word, where it names no command and is neither an option nor a day.
-fn wrong_first<'a>(command: &Command, words: &[Word<'a>]) -> Option<Fault<'a>> {
-    let first = words.first()?;
+fn wrong_first<'a>(command: &CommandRow, first: Option<Word<'a>>) -> Option<Fault<'a>> {
+    let first = first?;
     if !command.name.is_empty() || first.text.starts_with("--") {
         return None;
     }
-    match day::first_of(*first) {
+    match day::first_of(first) {
         Ok(_) => None,
         Err(fault) => Some(fault),
     }
 }
 
-// Says what is missing, or which operand is one too many; the exit status.
-fn refuse_missing(
-    rt: &impl Eprint,
-    command: &Command,
-    words: &Words<'_, impl Allocator>,
-) -> Option<u8> {
-    let usage = usage_of(command);
+// What is missing, or which operand is one too many.
+fn wrong_count<'a>(
+    command: &CommandRow,
+    words: &Arguments<'a, impl Allocator>,
+) -> Option<Fault<'a>> {
     if let Some(operand) = words.missing_operand(command) {
-        let _ = eprintln!(rt; "dates: {} is missing; usage: {usage}", operand.name);
-        return Some(WRONG);
+        return Some(Fault::Missing(operand.name));
     }
     if let Some(option) = words.missing(command.options) {
-        let _ = eprintln!(rt;
-            "dates: {} {} is missing; usage: {usage}",
-            option.name, option.value
-        );
-        return Some(WRONG);
+        return Some(Fault::MissingOption(option));
     }
-    let word = words.extra_operand(command)?;
-    if command.name.is_empty()
-        && words
-            .operand(0)
-            .is_some_and(|first| day::first_of(first).is_err())
-    {
-        return None;
+    let extra = words.extra_operand(command)?;
+    match wrong_first(command, words.operand(0)) {
+        Some(fault) => Some(fault),
+        None => Some(Fault::Expected(extra, "no further argument")),
     }
-    let place = word.place;
-    let shown = Shown { text: word.text };
-    let _ = eprintln!(rt; "dates: argument {place}, {shown}: expected no further argument");
-    Some(WRONG)
 }
 
 // Prints how a command, or the program, is used; the exit status.
-fn print_help(rt: &(impl Alloc + Print), command: &Command) -> io::Result<u8> {
+fn print_help(rt: &(impl Alloc + Print), command: &CommandRow) -> io::Result<u8> {
     let rows = commands(rt)?;
     let program = &program(rows.as_slice());
     if command.name.is_empty() {
@@ -228,8 +200,7 @@ pub(crate) fn near_command(
     word: &str,
 ) -> Result<Option<&'static str>, AllocError> {
     let mut names: Vec<&'static str, _> = Vec::new(rt.alloc());
-    let rows = commands(rt)?;
-    for command in rows.as_slice() {
+    for command in commands(rt)?.as_slice() {
         names.push(command.name)?;
     }
     nearest(rt.alloc(), word, names.as_slice())

@@ -1,9 +1,10 @@
-//! Texts of days, moments, spans, weeks and months.
+//! Texts of days, date-times, spans, weeks and months.
 
+use crate::options::WEEKDAYS;
 use chrono_datetime::{NaiveDate, NaiveDateTime, TimeDelta, Weekday};
 use chrono_reading::{
-    ReadCause, ReadError, read_date, read_date_time, read_duration, read_ordinal_date,
-    read_week_date,
+    ReadCause, ReadError, read_date, read_duration, read_ordinal_date, read_time, read_week_date,
+    read_weekday,
 };
 use chrono_text::{Text, read_decimal};
 use dates_answer::{Span, Unit};
@@ -26,16 +27,50 @@ pub(crate) fn read_day(text: &[u8]) -> Result<NaiveDate, ReadError> {
     }
 }
 
-// What is wrong with a text that has no form.
-const NO_FORM: ReadError = ReadError {
-    cause: ReadCause::NotThisForm,
-    byte: 0,
-};
+// Whether a text has a `T` or a blank, behind which a time of day stands.
+pub(crate) fn is_timed(text: &[u8]) -> bool {
+    parted(text).is_some()
+}
+
+// What stands in front of the first `T` or blank, and behind it.
+fn parted(text: &[u8]) -> Option<(&[u8], &[u8])> {
+    let at = text.iter().position(|byte| *byte == b'T' || *byte == b' ')?;
+    match text.split_at(at) {
+        (day, [_, time @ ..]) => Some((day, time)),
+        _ => None,
+    }
+}
+
+// The date-time that a text names by its day and its time of day, whose second may be left out.
+pub(crate) fn read_moment(text: &[u8]) -> Result<NaiveDateTime, ReadError> {
+    let Some((day, time)) = parted(text) else {
+        let _date = read_day(text)?;
+        return Err(no_form(text.len()));
+    };
+    let date = read_day(day)?;
+    let read = match time {
+        [a, b, b':', c, d] => read_time(&[*a, *b, b':', *c, *d, b':', b'0', b'0']),
+        _ => read_time(time),
+    };
+    match read {
+        Ok(time) => Ok(NaiveDateTime::new(date, time)),
+        Err(ReadError { cause, byte }) => {
+            let byte = day.len().saturating_add(1).saturating_add(byte);
+            Err(ReadError { cause, byte })
+        }
+    }
+}
+
+// That a text has no form, as that byte shows.
+fn no_form(byte: usize) -> ReadError {
+    let cause = ReadCause::NotThisForm;
+    ReadError { cause, byte }
+}
 
 // No name of a day has more bytes.
 const LONGEST: usize = 22;
 
-// A text with this end, if it is no longer than a name of a day or of a date-time without a fraction.
+// A text with this end, if it is no longer than a name of a day.
 fn joined(front: &[u8], end: &[u8]) -> Option<Text<LONGEST>> {
     if front.len() > LONGEST || end.len() > LONGEST - front.len() {
         return None;
@@ -50,7 +85,7 @@ fn joined(front: &[u8], end: &[u8]) -> Option<Text<LONGEST>> {
 pub(crate) fn read_month(text: &[u8]) -> Result<NaiveDate, ReadError> {
     match joined(text, b"-01") {
         Some(name) => read_date(name.as_bytes()),
-        None => Err(NO_FORM),
+        None => Err(no_form(0)),
     }
 }
 
@@ -58,18 +93,7 @@ pub(crate) fn read_month(text: &[u8]) -> Result<NaiveDate, ReadError> {
 pub(crate) fn read_week(text: &[u8]) -> Result<NaiveDate, ReadError> {
     match joined(text, b"-1") {
         Some(name) => read_week_date(name.as_bytes()),
-        None => Err(NO_FORM),
-    }
-}
-
-// The date-time that a text names, whose second may be left out.
-pub(crate) fn read_moment(text: &[u8]) -> Result<NaiveDateTime, ReadError> {
-    match text {
-        [.., b'T' | b' ', _, _, b':', _, _] => match joined(text, b":00") {
-            Some(whole) => read_date_time(whole.as_bytes()),
-            None => Err(NO_FORM),
-        },
-        _ => read_date_time(text),
+        None => Err(no_form(0)),
     }
 }
 
@@ -78,6 +102,8 @@ pub(crate) fn read_moment(text: &[u8]) -> Result<NaiveDateTime, ReadError> {
 pub(crate) enum Move {
     /// Days, weeks, months or years.
     Calendar(Span),
+    /// Months that are written by `m`.
+    ShortMonths(Span),
     /// So many open days.
     OpenDays(i64),
     /// A duration; `None` where it is too long for one.
@@ -86,70 +112,55 @@ pub(crate) enum Move {
 
 // The move that a text writes, as `3d`, `-2w`, `5b`, `36h` or `PT1.5S`.
 pub(crate) fn read_move(text: &[u8]) -> Option<Move> {
-    let [.., last] = text else {
-        return None;
-    };
-    match *last {
-        b'b' => Some(Move::OpenDays(number_of(text, b"b")?)),
-        b'h' => Some(Move::Time(TimeDelta::try_hours(number_of(text, b"h")?))),
-        b'n' => Some(Move::Time(TimeDelta::try_minutes(number_of(text, b"min")?))),
-        b's' => Some(Move::Time(TimeDelta::try_seconds(number_of(text, b"s")?))),
-        b'D' | b'S' => Some(Move::Time(Some(read_duration(text).ok()?))),
+    if let Ok(duration) = read_duration(text) {
+        return Some(Move::Time(Some(duration)));
+    }
+    let (count, unit) = read_count(text)?;
+    match unit {
+        b"b" => Some(Move::OpenDays(count)),
+        b"h" => Some(Move::Time(TimeDelta::try_hours(count))),
+        b"min" => Some(Move::Time(TimeDelta::try_minutes(count))),
+        b"s" => Some(Move::Time(TimeDelta::try_seconds(count))),
+        b"m" => Some(Move::ShortMonths(read_span(text)?)),
         _ => Some(Move::Calendar(read_span(text)?)),
     }
 }
 
-// The number that a text writes in front of a unit.
-fn number_of(text: &[u8], unit: &[u8]) -> Option<i64> {
-    read_count(text.strip_suffix(unit)?)
-}
-
-// The span that a text writes: `-` where it goes back, a number below 10^18 without zeros in front, and the letter of its unit.
+// The span that a text writes: `-` where it goes back, a number below 10^18 without zeros in front, and its unit.
 pub(crate) fn read_span(text: &[u8]) -> Option<Span> {
-    let [number @ .., last] = text else {
-        return None;
-    };
-    let unit = unit_of(*last)?;
-    let count = read_count(number)?;
+    let (count, unit) = read_count(text)?;
+    let unit = unit_named(unit)?;
     Some(Span { count, unit })
 }
 
-// The unit with this letter.
-pub(crate) fn unit_of(byte: u8) -> Option<Unit> {
-    match byte {
-        b'd' => Some(Unit::Days),
-        b'w' => Some(Unit::Weeks),
-        b'm' => Some(Unit::Months),
-        b'y' => Some(Unit::Years),
+// The unit of that name.
+pub(crate) fn unit_named(name: &[u8]) -> Option<Unit> {
+    match name {
+        b"d" => Some(Unit::Days),
+        b"w" => Some(Unit::Weeks),
+        b"m" | b"mo" => Some(Unit::Months),
+        b"y" => Some(Unit::Years),
         _ => None,
     }
 }
 
-// The number that a text writes.
-fn read_count(text: &[u8]) -> Option<i64> {
-    if let [b'-', size @ ..] = text {
-        let size = i64::try_from(read_decimal(size)?).ok()?;
-        return size.checked_neg();
+// The number that a text begins with, and what stands behind it.
+fn read_count(text: &[u8]) -> Option<(i64, &[u8])> {
+    let at = text.iter().position(|byte| byte.is_ascii_lowercase())?;
+    let (number, unit) = text.split_at(at);
+    match number {
+        [b'-', size @ ..] => {
+            let size = i64::try_from(read_decimal(size)?).ok()?;
+            Some((size.checked_neg()?, unit))
+        }
+        _ => Some((i64::try_from(read_decimal(number)?).ok()?, unit)),
     }
-    i64::try_from(read_decimal(text)?).ok()
 }
 
-// The weekday that a text names by three letters.
+// The weekday that a text names by three small letters.
 pub(crate) fn weekday_named(text: &str) -> Option<Weekday> {
-    if text == "mon" {
-        Some(Weekday::Mon)
-    } else if text == "tue" {
-        Some(Weekday::Tue)
-    } else if text == "wed" {
-        Some(Weekday::Wed)
-    } else if text == "thu" {
-        Some(Weekday::Thu)
-    } else if text == "fri" {
-        Some(Weekday::Fri)
-    } else if text == "sat" {
-        Some(Weekday::Sat)
-    } else if text == "sun" {
-        Some(Weekday::Sun)
+    if WEEKDAYS.contains(&text) {
+        read_weekday(text.as_bytes()).ok()
     } else {
         None
     }

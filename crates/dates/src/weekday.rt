@@ -1,21 +1,19 @@
 //! The weekday of a day.
 
-use crate::asked::{Asked, print_answered};
-use crate::fault::{Fault, refuse};
-use crate::options::{DAY, HELP, JSON};
+use crate::asked::{Asked, Host, print_answer};
+use crate::fault::Fault;
+use crate::options::{DAY, PLAIN};
 use crate::values::day_of;
 use chrono_datetime::Datelike;
-use command_words::Command;
+use command_words::CommandRow;
 use dates_answer::{Answer, Key};
 use std::alloc::Allocator;
-use std::io::{self, Eprint};
 
-/// `weekday`.
-pub(crate) fn command() -> Command {
-    Command {
+pub(crate) fn command() -> CommandRow {
+    CommandRow {
         name: "weekday",
         operands: &[DAY],
-        options: &[JSON, HELP],
+        options: PLAIN,
         help: "print the weekday of a day",
         more: "",
         example: "$ dates weekday 2024-02-29\n\
@@ -24,24 +22,11 @@ pub(crate) fn command() -> Command {
 }
 
 // The weekday of the day; the exit status.
-pub(crate) fn answer(
-    rt: &(impl Alloc + Print + Eprint),
-    asked: &Asked<'_, impl Allocator>,
-) -> io::Result<u8> {
-    match read(asked) {
-        Ok(answer) => print_answered(rt, asked.form, answer),
-        Err(fault) => refuse(
-            rt,
-            &command(),
-            asked.form,
-            Answer::Nothing(Key::Weekday),
-            fault,
-        ),
-    }
-}
-
-// The weekday of the day that the operand names.
-fn read<'a>(asked: &Asked<'a, impl Allocator>) -> Result<Answer, Fault<'a>> {
-    let date = value!(day_of(value!(asked.first("DAY"))));
-    Ok(Answer::Weekday(date.weekday()))
+pub(crate) fn answer<'a>(
+    rt: &impl Host,
+    asked: &mut Asked<'a, impl Allocator>,
+) -> Result<u8, Fault<'a>> {
+    asked.none = Answer::Nothing(Key::Weekday);
+    let date = value!(day_of(asked.word(0)));
+    Ok(print_answer(rt, asked.form, Answer::Weekday(date.weekday()))?)
 }

@@ -1,4 +1,4 @@
--- Years, months and days between two days are the only ones, and those of days that are known.
+-- Years, months and days between two days are the only ones.
 use Rattle.std.proofs.Common.{◌≡◌, Option, Some, None, IfSome, IsSomeAnd, sym, ap, ◌∙◌, arith, ℤ, ◌-ℤ◌, ◌≤ℤ◌, ◌<ℤ◌}
 use Rattle.std.proofs.lemmas.Int.{by_lt_z}
 use Rattle.chrono_calendar.proofs.Signed.{signed}

@@ -1,12 +1,8 @@
 mod FarMoves
 mod MonthDistances
 mod Distances
-mod SpanWalks
 mod SequenceLemmas
 mod PartLemmas
 mod RowLemmas
 mod CellLemmas
-mod NameTexts
 mod KnownParts
-mod KnownDayParts
-mod PartTexts

@@ -1,5 +1,5 @@
 -- Months up to eleven, and how years, months and days add up.
-use Rattle.std.proofs.Common.{◌≡◌, Option, Some, None, IsSomeAnd, refl, sym, ap, ◌∙◌, arith, ℤ, pos, neg_ℤ, ◌-ℤ◌, ◌≤ℤ◌, ◌<ℤ◌, [], ◌∷◌, Ok}
+use Rattle.std.proofs.Common.{◌≡◌, Option, Some, None, IsSomeAnd, refl, sym, ap, ◌∙◌, arith, ℤ, pos, neg_ℤ, ◌-ℤ◌, ◌≤ℤ◌, ◌<ℤ◌, [], ◌∷◌}
 use Rattle.std.proofs.lemmas.Int.{by_lt_z}
 use Rattle.std.specs.Option.{unwrap_or}
 use Rattle.chrono_calendar.specs.Days.{IsDate, date_of_day}
@@ -99,7 +99,7 @@ unfolding unit_move
 last_days m to days date e = ap date_of_day (omega (arith, signed, e)) ∙ sym (date_of_day-SomeIff (Some to) to (date, refl))
 
 comes_to : (from y m to years months days : ℤ) → IsDate to → unit_move Years from years ≡ Some y → unit_move Months y months ≡ Some m → days ≡ to -ℤ m
-    → moved_from (record { count = years; unit = Years } ∷ record { count = months; unit = Months } ∷ record { count = days; unit = Days } ∷ []) 0 from ≡ Ok to
+    → moved_from (record { count = years; unit = Years } ∷ record { count = months; unit = Months } ∷ record { count = days; unit = Days } ∷ []) from ≡ Some to
 unfolding moved_from
 comes_to from y m to years months days date first second e =
     let last : unit_move Days m days ≡ Some to = last_days m to days date e in
@@ -108,7 +108,7 @@ comes_to from y m to years months days date first second e =
 -- years, months and days that are read one after another
 pub record AreRead (from to years months days y m : ℤ) : Type 0 where
   pub is : IsPartsBetween from to (record { years = years; months = months; days = days })
-  pub adds_up : moved_from (record { count = years; unit = Years } ∷ record { count = months; unit = Months } ∷ record { count = days; unit = Days } ∷ []) 0 from ≡ Ok to
+  pub adds_up : moved_from (record { count = years; unit = Years } ∷ record { count = months; unit = Months } ∷ record { count = days; unit = Days } ∷ []) from ≡ Some to
 
 pub are_read : (from to years months days y m : ℤ) (o p : Option ℤ) → IsDate to → IsUnitsBetween Years from to years → o ≡ unit_move Years from years → y ≡ unwrap_or o to → IsMonthsLeft y to months
     → p ≡ unit_move Months y months → m ≡ unwrap_or p to → days ≡ to -ℤ m → AreRead from to years months days y m

@@ -17,14 +17,6 @@ ordinal_name n = ordinal_text (year_of n) (ordinal_of n)
 abbrev pub week_name : ℤ → List ℕ
 week_name n = week_date_text (iso_year_of n) (iso_week_of n) (number_from_monday (weekday_of n))
 
--- the names of the day n by a year, each with a space behind it: the calendar, the ordinal and the week date
-unfoldable pub dates_text : ℤ → List ℕ
-dates_text n = date_text n ++ codes " " ++ ordinal_name n ++ codes " " ++ week_name n ++ codes " "
-
--- the weekday of the day n, its number, and the number of days since 1970-01-01
-unfoldable pub numbers_text : ℤ → List ℕ
-numbers_text n = weekday_text (weekday_of n) ++ codes " " ++ signed_decimal n ++ codes " " ++ signed_decimal (n -ℤ unix_epoch_day)
-
--- the line of the day n
-abbrev pub names_text : ℤ → List ℕ
-names_text n = dates_text n ++ numbers_text n
+-- the line of the day n: its calendar, ordinal and week date, its weekday, its number, and the number of days since 1970-01-01
+unfoldable pub names_text : ℤ → List ℕ
+names_text n = date_text n ++ (codes " " ++ (ordinal_name n ++ (codes " " ++ (week_name n ++ (codes " " ++ (weekday_text (weekday_of n) ++ (codes " " ++ (signed_decimal n ++ (codes " " ++ signed_decimal (n -ℤ unix_epoch_day))))))))))

@@ -1,5 +1,5 @@
 -- The lines of answers: as texts, and as objects of JSON (RFC 8259). Each is put together from the last piece on.
-use Rattle.std.specs.Prelude.{Bool, ℕ, List, [], ◌∷◌, ◌++◌, codes, ℤ, pos, ◌-ℤ◌, if◌then◌else◌}
+use Rattle.std.specs.Prelude.{Bool, ℕ, List, ◌++◌, codes, ℤ, pos, ◌-ℤ◌, ◌&&◌, if◌then◌else◌}
 use Rattle.std.specs.Fmt.{signed_decimal}
 use Rattle.std.specs.Ordering.{int_eq}
 use Rattle.std.specs.Str.{byte}
@@ -43,24 +43,19 @@ key_text keys.Open = codes "open"
 key_text keys.Leap = codes "leap"
 key_text keys.Weekday = codes "weekday"
 
--- a number and its unit, if it is not 0
-unfoldable pub part_texts : ℤ → ℕ → List (List ℕ)
-part_texts z unit = if int_eq z (pos 0) then [] else (signed_decimal z ++ unit ∷ []) ∷ []
+-- months and days, as `2m 3d`: one that is 0 is left out, and both are `0d`
+unfoldable pub months_days_text : ℤ → ℤ → List ℕ
+months_days_text months days =
+    if int_eq months (pos 0) then signed_decimal days ++ codes "d"
+    else if int_eq days (pos 0) then signed_decimal months ++ codes "m"
+    else signed_decimal months ++ (codes "m " ++ (signed_decimal days ++ codes "d"))
 
--- texts with a space between each two
-unfoldable pub spaced : List (List ℕ) → List ℕ
-spaced [] = []
-spaced (text ∷ []) = text
-spaced (text ∷ next ∷ texts) = text ++ codes " " ++ spaced (next ∷ texts)
-
--- texts with a space between each two, and no days where there is none
-abbrev pub spaced_or_no_days : List (List ℕ) → List ℕ
-spaced_or_no_days [] = codes "0d"
-spaced_or_no_days (text ∷ texts) = spaced (text ∷ texts)
-
--- years, months and days, those left out that are 0, as `1y 2m 3d`
+-- years, months and days, as `1y 2m 3d`: those that are 0 are left out, and all are `0d`
 unfoldable pub parts_text : Parts → List ℕ
-parts_text p = spaced_or_no_days (part_texts p.years (byte "y") ++ part_texts p.months (byte "m") ++ part_texts p.days (byte "d"))
+parts_text p =
+    if int_eq p.years (pos 0) then months_days_text p.months p.days
+    else if int_eq p.months (pos 0) && int_eq p.days (pos 0) then signed_decimal p.years ++ codes "y"
+    else signed_decimal p.years ++ (codes "y " ++ months_days_text p.months p.days)
 
 -- the line of an answer as a text
 unfoldable pub answer_text : Answer → List ℕ
@@ -76,6 +71,7 @@ answer_text (answers.Week first last) = date_text first ++ (codes " " ++ date_te
 answer_text (answers.Nothing key) = codes "none"
 answer_text answers.NoParts = codes "none"
 answer_text (answers.NoWeek first) = codes "none"
+answer_text answers.Version = codes "dates 0.1.0"
 
 -- the weekday of the day n, its number and the number of days since 1970-01-01, as they stand in an object
 unfoldable pub numbers_in_object : ℤ → List ℕ
@@ -103,6 +99,7 @@ answer_object (answers.Week first last) = codes "{\"first\":\"" ++ (date_text fi
 answer_object (answers.Nothing key) = codes "{\"" ++ (key_text key ++ codes "\":null}")
 answer_object answers.NoParts = codes "{\"years\":null,\"months\":null,\"days\":null}"
 answer_object (answers.NoWeek first) = codes "{\"first\":\"" ++ (date_text first ++ codes "\",\"last\":null}")
+answer_object answers.Version = codes "{\"version\":\"0.1.0\"}"
 
 -- the line of an answer in a form
 abbrev pub line_text : Form → Answer → List ℕ

@@ -19,7 +19,8 @@ pub record IsMonthsBack (from to z : ℤ) : Type 0 where
   pub reached : IsSomeAnd (unit_move Months from z) (λ m. to ≤ℤ m)
   pub most : (more : ℤ) → more <ℤ z → neg_ℤ (pos 11) ≤ℤ more → IfSome (unit_move Months from more) (λ m. m <ℤ to)
 
--- z months, eleven at most, lie between two days: the most by which the first, moved towards the second, is not past it; below 0 where the second is the earlier
+-- z months, eleven at most, lie between two days: the most by which the first, moved towards the second, is not past it.
+-- z is negative if the second is the earlier
 pub record IsMonthsLeft (from to z : ℤ) : Type 0 where
   pub forth : from ≤ℤ to → IsMonthsForth from to z
   pub back : to <ℤ from → IsMonthsBack from to z

@@ -35,8 +35,3 @@ quoted text = codes "\"" ++ (json_chars text ++ codes "\"")
 unfoldable pub wrong_line : Form → ℕ → List ℕ → List ℕ → List ℕ
 wrong_line forms.Text number text reason = decimal number ++ (codes ": " ++ reason)
 wrong_line forms.Json number text reason = codes "{\"line\":" ++ (decimal number ++ (codes ",\"text\":" ++ (quoted text ++ (codes ",\"reason\":" ++ (quoted reason ++ codes "}")))))
-
--- the name and the version of a program
-unfoldable pub version_line : Form → List ℕ → List ℕ → List ℕ
-version_line forms.Text program version = program ++ (codes " " ++ version)
-version_line forms.Json program version = codes "{\"version\":" ++ (quoted version ++ codes "}")

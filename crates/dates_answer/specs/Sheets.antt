@@ -12,8 +12,8 @@ use Rattle.chrono_business.specs.OpenDays.{Closed, is_open}
 use Rattle.dates_answer.specs.declared.row.Cell.{Cell}
 use Rattle.dates_answer.specs.declared.row.SheetRow.{SheetRow}
 
--- the day of a cell, whether it lies in the month or not: the first cell of the first row is the first day of the week, from the
--- weekday start on, in which the month of the day n begins, and day follows day along the rows of seven
+-- the day of a cell, whether it lies in the month or not. The week that begins on the weekday start, and in which the
+-- month of the day n begins, is the first row. Its first day is the first cell. Day follows day along the rows of seven
 abbrev pub day_of_cell : ℤ → Weekday → ℕ → ℕ → ℤ
 day_of_cell n start row column = week_first_of (month_first_of n) start +ℤ pos (7 * row + column)
 

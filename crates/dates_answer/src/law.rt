@@ -1,5 +1,5 @@
 //! Values of the definitions that are known, each the contract of a function with an empty body.
-ghost use Rattle.std.specs.Prelude.{◌≡◌, ◌∷◌, [], ℤ, pos, neg_ℤ, Some, None, Ok, Err, codes, true, false};
+ghost use Rattle.std.specs.Prelude.{◌≡◌, ◌∷◌, [], ℤ, pos, neg_ℤ, Some, None, codes, true, false};
 ghost use Rattle.chrono_datetime.specs.declared.Weekday.TheVariants.{Mon, Sun};
 ghost use Rattle.chrono_datetime.specs.WeekdaySet.{no_days};
 ghost use Rattle.chrono_business.specs.OpenDays.{closed};
@@ -19,16 +19,14 @@ ghost use Rattle.dates_answer.specs.Sheets.{cells_of_row, row_text, sheet_day};
 ///
 /// In year 1, a month after 31 January is 28 February, and two weeks after 1 January is the 15th. A day before 1 January is day 0.
 /// A year after 29 February of year 4 is 28 February. A week later and then a day earlier than 1 January is the 7th. A day earlier and
-/// then two days later than the last date is out of range, and the second span is reported.
+/// then two days later than the last date is out of range.
 pub fn known_moves()
     ensures month { unit_move Months (pos 31) (pos 1) ≡ Some (pos 59) }
     ensures weeks { unit_move Weeks (pos 1) (pos 2) ≡ Some (pos 15) }
     ensures day_back { unit_move Days (pos 1) (neg_ℤ (pos 1)) ≡ Some (pos 0) }
     ensures year { unit_move Years (pos 1155) (pos 1) ≡ Some (pos 1520) }
-    ensures both { moved_from (record { count = pos 1; unit = Weeks } ∷ record { count = neg_ℤ (pos 1); unit = Days } ∷ []) 0 (pos 1)
-        ≡ Ok (pos 7) }
-    ensures past { moved_from (record { count = neg_ℤ (pos 1); unit = Days } ∷ record { count = pos 2; unit = Days } ∷ []) 0 (pos 95_745_399)
-        ≡ Err (record { step = 1; date = pos 95_745_398 }) }
+    ensures both { moved_from (record { count = pos 1; unit = Weeks } ∷ record { count = neg_ℤ (pos 1); unit = Days } ∷ []) (pos 1) ≡ Some (pos 7) }
+    ensures past { moved_from (record { count = neg_ℤ (pos 1); unit = Days } ∷ record { count = pos 2; unit = Days } ∷ []) (pos 95_745_399) ≡ None }
 {}
 
 /// States known days of sequences.
@@ -40,16 +38,6 @@ pub fn known_sequences()
     ensures past_the_end { sequence_day (pos 31) (pos 89) (record { count = pos 1; unit = Months }) 2 ≡ None }
     ensures back { sequence_day (pos 10) (pos 4) (record { count = neg_ℤ (pos 3); unit = Days }) 2 ≡ Some (pos 4) }
     ensures back_past_the_end { sequence_day (pos 10) (pos 4) (record { count = neg_ℤ (pos 3); unit = Days }) 3 ≡ None }
-{}
-
-/// States known years, months and days between two days.
-///
-/// From 31 January of year 4 to 1 March there are one month and one day, and as many back. From 29 February of year 4 to 28 February
-/// of year 8 there are three years, eleven months and 31 days.
-pub fn known_parts()
-    ensures forth { IsPartsBetween (pos 1126) (pos 1156) (record { years = pos 0; months = pos 1; days = pos 1 }) }
-    ensures back { IsPartsBetween (pos 1156) (pos 1126) (record { years = pos 0; months = neg_ℤ (pos 1); days = neg_ℤ (pos 1) }) }
-    ensures eleven { IsPartsBetween (pos 1155) (pos 2615) (record { years = pos 3; months = pos 11; days = pos 31 }) }
 {}
 
 /// States that the years, months and days between two days are unique.
@@ -64,11 +52,12 @@ pub fn known_names()
 
 /// States known lines of answers.
 ///
-/// As text: a week, years and days without months, no days, and `yes`. As JSON: a date, a number, a day by its names, no answer, and a
+/// As text: a week, years and days without months, years and months without days, no days, and `yes`. As JSON: a date, a number, a day by its names, no answer, and a
 /// day of a sheet.
 pub fn known_lines()
     ensures week { line_text Text (Week (pos 1) (pos 7)) ≡ codes "0001-01-01 0001-01-07" }
     ensures parts { line_text Text (Parts (record { years = pos 1; months = pos 0; days = pos 3 })) ≡ codes "1y 3d" }
+    ensures months { line_text Text (Parts (record { years = pos 1; months = neg_ℤ (pos 2); days = pos 0 })) ≡ codes "1y -2m" }
     ensures no_days { line_text Text (Parts (record { years = pos 0; months = pos 0; days = pos 0 })) ≡ codes "0d" }
     ensures whether { line_text Text (Whether keys.Open true) ≡ codes "yes" }
     ensures date { line_text Json (Date (pos 1)) ≡ codes "{\"date\":\"0001-01-01\"}" }

@@ -17,13 +17,13 @@ mod span;
 
 pub use between::distance;
 pub use form::Form;
-pub use line::{Answer, DayObject, Key, Line};
-pub use moves::{Stop, moved, moved_by_all};
+pub use line::{Answer, AnswerLine, DayObject, Key};
+pub use moves::moved;
 pub use names::{DayNames, OrdinalName, WeekName};
 pub use parts::{Parts, parts_between};
 pub use quoted::Quoted;
 pub use row::{Cell, SheetRow};
-pub use said::{VersionLine, WrongLine};
+pub use said::WrongLine;
 pub use sequence::sequence_day;
 pub use sheet::MonthSheet;
 pub use span::{Span, Unit};

@@ -1,7 +1,7 @@
 //! Lines of answers, as texts or as objects of JSON (RFC 8259).
 ghost use Rattle.std.specs.Prelude.{◌≡◌, Some, codes, if◌then◌else◌};
 ghost use Rattle.std.specs.Fmt.{WritesOnOk};
-ghost use Rattle.dates_answer.specs.Lines.{answer_object, answer_text, day_object, key_text, line_text, names_object, numbers_in_object, parts_object, parts_text, weekday_name};
+ghost use Rattle.dates_answer.specs.Lines.{answer_object, answer_text, day_object, key_text, line_text, months_days_text, names_object, numbers_in_object, parts_object, parts_text, weekday_name};
 
 use crate::form::Form;
 use crate::names::{DayNames, OrdinalName, WeekName};
@@ -63,25 +63,27 @@ pub enum Answer {
     NoParts,
     /// The first day of a week whose last is no date.
     NoWeek(NaiveDate),
+    /// The name of the program and its version.
+    Version,
 }
 
 /// A line of an answer, without its end: as a text, such as `2024-02-29`, or as an object of JSON, such as `{"date":"2024-02-29"}`.
 #[derive(Clone, Copy)]
-pub struct Line {
+pub struct AnswerLine {
     /// The form that is wanted.
     pub form: Form,
     /// What the line says.
     pub answer: Answer,
 }
 
-impl fmt::Display for Line {
+impl fmt::Display for AnswerLine {
     ghost output = { λ line. Some (line_text line.form line.answer) };
 
     /// Writes the line.
     fn fmt<W: fmt::Write>(&self, f: &mut fmt::Formatter<W>) -> fmt::Result {
         match self.form {
-            Form::Text => write_text(self.answer, f),
-            Form::Json => write_object(self.answer, f),
+            Form::Text => write_text(&self.answer, f),
+            Form::Json => write_object(&self.answer, f),
         }
     }
 }
@@ -122,30 +124,57 @@ impl fmt::Display for Key {
 impl fmt::Display for Parts {
     ghost output = { λ parts. Some (parts_text parts) };
 
-    /// Writes years, months and days as `1y 2m 3d`: those that are 0 are left out, and none is `0d`.
+    /// Writes years, months and days as `1y 2m 3d`: those that are 0 are left out, and all are `0d`.
+    #[tactic(auto, unfolding(crate::specs::Lines::parts_text))]
     fn fmt<W: fmt::Write>(&self, f: &mut fmt::Formatter<W>) -> fmt::Result {
         let Parts {
             years,
             months,
             days,
         } = *self;
-        match (years, months, days) {
-            (0, 0, _) => write!(f, "{days}d"),
-            (0, _, 0) => write!(f, "{months}m"),
-            (_, 0, 0) => write!(f, "{years}y"),
-            (0, _, _) => write!(f, "{months}m {days}d"),
-            (_, 0, _) => write!(f, "{years}y {days}d"),
-            (_, _, 0) => write!(f, "{years}y {months}m"),
-            (_, _, _) => write!(f, "{years}y {months}m {days}d"),
+        let rest = MonthsAndDays { months, days };
+        if years == 0 {
+            return write!(f, "{rest}");
         }
+        if months == 0 && days == 0 {
+            return write!(f, "{years}y");
+        }
+        write!(f, "{years}y {rest}")
+    }
+}
+
+/// Months and days.
+#[derive(Clone, Copy)]
+pub struct MonthsAndDays {
+    /// The months.
+    pub months: i64,
+    /// The days.
+    pub days: i64,
+}
+
+impl fmt::Display for MonthsAndDays {
+    ghost output = { λ rest. Some (months_days_text rest.months rest.days) };
+
+    /// Writes months and days as `2m 3d`: one that is 0 is left out, and both are `0d`.
+    #[tactic(auto, unfolding(crate::specs::Lines::months_days_text))]
+    fn fmt<W: fmt::Write>(&self, f: &mut fmt::Formatter<W>) -> fmt::Result {
+        let MonthsAndDays { months, days } = *self;
+        if months == 0 {
+            return write!(f, "{days}d");
+        }
+        if days == 0 {
+            return write!(f, "{months}m");
+        }
+        write!(f, "{months}m {days}d")
     }
 }
 
 // An answer as a text.
-fn write_text<W: fmt::Write>(answer: Answer, f: &mut fmt::Formatter<W>) -> fmt::Result
-    ensures writes { WritesOnOk W.write_str_gives f.old result (answer_text answer) f.new }
+#[tactic(auto, unfolding(crate::specs::Lines::answer_text))]
+fn write_text<W: fmt::Write>(answer: &Answer, f: &mut fmt::Formatter<W>) -> fmt::Result
+    ensures writes { WritesOnOk W.write_str_gives f.old result (answer_text answer.now) f.new }
 {
-    match answer {
+    match *answer {
         Answer::Names(date) => write!(f, "{}", DayNames { date }),
         Answer::Date(date) => write!(f, "{date}"),
         Answer::Weekday(day) => f.write_str(weekday_name(day)),
@@ -158,6 +187,7 @@ fn write_text<W: fmt::Write>(answer: Answer, f: &mut fmt::Formatter<W>) -> fmt::
         Answer::Nothing(_) => f.write_str("none"),
         Answer::NoParts => f.write_str("none"),
         Answer::NoWeek(_) => f.write_str("none"),
+        Answer::Version => f.write_str("dates 0.1.0"),
     }
 }
 
@@ -169,10 +199,11 @@ fn yes_or_no(yes: bool) -> &'static str
 }
 
 // An answer as an object.
-fn write_object<W: fmt::Write>(answer: Answer, f: &mut fmt::Formatter<W>) -> fmt::Result
-    ensures writes { WritesOnOk W.write_str_gives f.old result (answer_object answer) f.new }
+#[tactic(auto, unfolding(crate::specs::Lines::answer_object))]
+fn write_object<W: fmt::Write>(answer: &Answer, f: &mut fmt::Formatter<W>) -> fmt::Result
+    ensures writes { WritesOnOk W.write_str_gives f.old result (answer_object answer.now) f.new }
 {
-    match answer {
+    match *answer {
         Answer::Names(date) => write_names(date, f),
         Answer::Date(date) => write!(f, "{{\"date\":\"{date}\"}}"),
         Answer::Weekday(day) => write!(f, "{{\"weekday\":\"{}\"}}", weekday_name(day)),
@@ -185,6 +216,7 @@ fn write_object<W: fmt::Write>(answer: Answer, f: &mut fmt::Formatter<W>) -> fmt
         Answer::Nothing(key) => write!(f, "{{\"{key}\":null}}"),
         Answer::NoParts => f.write_str("{\"years\":null,\"months\":null,\"days\":null}"),
         Answer::NoWeek(first) => write!(f, "{{\"first\":\"{first}\",\"last\":null}}"),
+        Answer::Version => f.write_str("{\"version\":\"0.1.0\"}"),
     }
 }
 
@@ -209,7 +241,7 @@ fn write_names<W: fmt::Write>(date: NaiveDate, f: &mut fmt::Formatter<W>) -> fmt
 {
     let ordinal = OrdinalName { date };
     let week = WeekName { date };
-    let numbers = Numbers { date };
+    let numbers = DayNumbers { date };
     write!(
         f,
         "{{\"date\":\"{date}\",\"ordinal\":\"{ordinal}\",\"week\":\"{week}\",{numbers}}}"
@@ -218,12 +250,12 @@ fn write_names<W: fmt::Write>(date: NaiveDate, f: &mut fmt::Formatter<W>) -> fmt
 
 /// The weekday and the numbers of a day, as they stand in an object.
 #[derive(Clone, Copy)]
-pub struct Numbers {
+pub struct DayNumbers {
     /// The day.
     pub date: NaiveDate,
 }
 
-impl fmt::Display for Numbers {
+impl fmt::Display for DayNumbers {
     ghost output = { λ numbers. Some (numbers_in_object numbers.date) };
 
     /// Writes the weekday, the day's number and the days since 1970-01-01, each under its key.

@@ -2,38 +2,10 @@
 ghost use Rattle.std.specs.Prelude.{◌≡◌, ◌*ℤ◌, pos};
 ghost use Rattle.chrono_datetime.specs.Days.{IsDate, date_of_day};
 ghost use Rattle.chrono_datetime.specs.MonthMoves.{month_move};
-ghost use Rattle.dates_answer.specs.Moves.{moved_from, span_move, unit_move};
+ghost use Rattle.dates_answer.specs.Moves.{span_move, unit_move};
 
 use crate::span::{Span, Unit};
 use chrono_datetime::{Datelike, NaiveDate};
-
-/// The first of several spans that leads out of the calendar.
-#[derive(Clone, Copy)]
-pub struct Stop {
-    /// The place of the span. The first one has 0.
-    pub step: usize,
-    /// The date that it leads out from.
-    pub date: NaiveDate,
-}
-
-/// Returns `date` moved by each of `spans` in turn. 29 February 2024 by a year back and then three days on leads to 3 March 2023.
-///
-/// Returns the first span that leads out of the calendar, if there is one, as a [`Stop`].
-pub fn moved_by_all(date: NaiveDate, spans: &[Span]) -> Result<NaiveDate, Stop>
-    ensures { result ≡ moved_from spans.now 0 date }
-{
-    let mut reached = date;
-    for step in 0..spans.len() {
-        let Some(next) = moved(reached, spans[step]) else {
-            return Err(Stop {
-                step,
-                date: reached,
-            });
-        };
-        reached = next;
-    }
-    Ok(reached)
-}
 
 /// Returns `date` moved by `span`. A month or a year leads to the same day of the month, or to the last day of a shorter month.
 ///

@@ -1,5 +1,5 @@
 //! Years, months and days between two days.
-ghost use Rattle.std.specs.Prelude.{◌≡◌, ◌∷◌, [], Ok};
+ghost use Rattle.std.specs.Prelude.{◌≡◌, ◌∷◌, [], Some};
 ghost use Rattle.dates_answer.specs.declared.span.Unit.TheVariants.{Days, Months, Years};
 ghost use Rattle.dates_answer.specs.Moves.{moved_from};
 ghost use Rattle.dates_answer.specs.Parts.{IsMonthsLeft, IsPartsBetween};
@@ -29,7 +29,7 @@ pub struct Parts {
 /// eleven months and 31 days. Four years would pass it, and three lead to 28 February 2027.
 pub fn parts_between(from: NaiveDate, to: NaiveDate) -> Parts
     ensures is { IsPartsBetween from to result }
-    ensures adds_up { moved_from (record { count = result.years; unit = Years } ∷ record { count = result.months; unit = Months } ∷ record { count = result.days; unit = Days } ∷ []) 0 from ≡ Ok to }
+    ensures adds_up { moved_from (record { count = result.years; unit = Years } ∷ record { count = result.months; unit = Months } ∷ record { count = result.days; unit = Days } ∷ []) from ≡ Some to }
 {
     let years = distance(from, to, Unit::Years);
     let with_years = moved_by(from, Unit::Years, years).unwrap_or(to);

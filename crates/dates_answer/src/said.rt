@@ -1,6 +1,6 @@
-//! Lines of `check`, and the version of a program.
+//! Lines of `check`.
 ghost use Rattle.std.specs.Prelude.{Some};
-ghost use Rattle.dates_answer.specs.Quoted.{version_line, wrong_line};
+ghost use Rattle.dates_answer.specs.Quoted.{wrong_line};
 
 use crate::form::Form;
 use crate::quoted::Quoted;
@@ -35,35 +35,6 @@ impl fmt::Display for WrongLine<'_, '_> {
                     "{{\"line\":{number},\"text\":{text},\"reason\":{reason}}}"
                 )
             }
-        }
-    }
-}
-
-/// The version of a program: as a text, such as `dates 0.1.0`, or as an object of JSON.
-#[derive(Clone, Copy)]
-pub struct VersionLine {
-    /// The form that is wanted.
-    pub form: Form,
-    /// The name of the program.
-    pub program: &'static str,
-    /// Its version.
-    pub version: &'static str,
-}
-
-impl fmt::Display for VersionLine {
-    ghost output = { λ l. Some (version_line l.form l.program.now l.version.now) };
-
-    /// Writes the name and the version, and in an object the version alone.
-    fn fmt<W: fmt::Write>(&self, f: &mut fmt::Formatter<W>) -> fmt::Result {
-        let VersionLine {
-            form,
-            program,
-            version,
-        } = *self;
-        let quoted = Quoted { text: version };
-        match form {
-            Form::Text => write!(f, "{program} {version}"),
-            Form::Json => write!(f, "{{\"version\":{quoted}}}"),
         }
     }
 }

@@ -30,8 +30,10 @@ impl<'a> Calendar<'a> {
             (is_workday (union self.now.weekend other.now.weekend) d ≡ true)) (length out.old)) }
     {
         let weekend = self.week.weekend().union(other.week.weekend());
-        let own = insert_all(weekend, self.holidays, out, 0)?;
-        let all = insert_all(weekend, other.holidays, out, own)?;
+        let days = self.holidays.as_slice();
+        let other_days = other.holidays.as_slice();
+        let own = insert_all(weekend, days, out, 0)?;
+        let all = insert_all(weekend, other_days, out, own)?;
         Some(Calendar::new(weekend, &out[..all]))
     }
 }

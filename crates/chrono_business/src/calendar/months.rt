@@ -6,7 +6,7 @@ ghost use Rattle.chrono_business.specs.OpenDays.{IsNthOpenBack, IsNthOpenFrom, i
 ghost use Rattle.chrono_business.specs.Rolls.{IsLastOpen, IsNextOpen, MonthBeginsClosed, MonthEndsClosed, MonthIsClosed};
 
 use crate::calendar::Calendar;
-use chrono_datetime::{Datelike, NaiveDate};
+use chrono_datetime::{Datelike, LAST_DAY, NaiveDate};
 
 impl<'a> Calendar<'a> {
     /// Returns the first open day of the month of `date`.
@@ -146,6 +146,3 @@ impl<'a> Calendar<'a> {
         Some(last)
     }
 }
-
-// The day number of the last date.
-const LAST_DAY: i32 = 95_745_399;

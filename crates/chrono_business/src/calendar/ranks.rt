@@ -11,11 +11,9 @@ ghost use Rattle.chrono_datetime.specs.Recurrence.{first_date, past_last_date};
 ghost use Rattle.chrono_business.specs.OpenDays.{is_holiday, is_open, open_days};
 
 use crate::calendar::Calendar;
-use chrono_datetime::{Datelike, NaiveDate};
+use chrono_datetime::{Datelike, FIRST_DAY, NaiveDate};
 
-// The day number of the first date, and how many dates come after it.
-const FIRST_DAY: i32 = -95_746_129;
-
+// How many dates come after the first.
 const DATES_AFTER_FIRST: u64 = 191_491_528;
 
 impl<'a> Calendar<'a> {
@@ -58,16 +56,7 @@ impl<'a> Calendar<'a> {
         ensures bound { result ≤ length self.now.holidays }
         ensures place { IsPartitionPoint (λ h. h <ℤ day) (λ h. day ≤ℤ h) self.now.holidays result }
     {
-        let holidays = self.holidays;
-        let mut place = 0;
-        let mut left = holidays.len();
-        while left > 0 {
-            let half = left - left / 2;
-            let holiday = holidays[place + half - 1].num_days_from_ce();
-            place += step_if_less(half, i64::from(holiday), i64::from(day));
-            left /= 2;
-        }
-        place
+        self.holidays.count_before(day)
     }
 
     // Whether the date is one of the holidays.
@@ -75,16 +64,7 @@ impl<'a> Calendar<'a> {
     pub(crate) fn is_holiday(&self, date: NaiveDate) -> bool
         ensures { result ≡ is_holiday self.now.holidays date }
     {
-        let number = date.num_days_from_ce();
-        let place = self.holidays_before(number);
-        let holidays = self.holidays;
-        if place >= holidays.len() {
-            return false;
-        }
-        if holidays[place].num_days_from_ce() > number {
-            return false;
-        }
-        true
+        self.holidays.contains(date)
     }
 
     // The open day of a rank; `None` exactly if no date has so many before it and is open.
@@ -117,7 +97,7 @@ impl<'a> Calendar<'a> {
             self.now.holidays result (length self.now.holidays) }
     {
         let mut place = 0;
-        let mut left = self.holidays.len();
+        let mut left = self.holidays.as_slice().len();
         while left > 0 {
             let half = left - left / 2;
             let is_behind = self.rank_of_holiday(place + half - 1) <= rank;
@@ -134,35 +114,8 @@ impl<'a> Calendar<'a> {
         ensures { (d : ℤ) →
             result ≡ open_days self.now first_date (slice_index_or self.now.holidays place d) }
     {
-        let holidays = self.holidays;
+        let holidays = self.holidays.as_slice();
         let days = (holidays[place].num_days_from_ce() - FIRST_DAY) as u32;
         self.week.workdays(days) - place as u32
     }
 }
-
-// Returns `step` if `first` is less than `second`, and else 0.
-// It has no branch, since a processor cannot guess which of them is less.
-#[inline]
-fn step_if_less(step: usize, first: i64, second: i64) -> usize
-    requires least { neg_ℤ (pos 10_000_000_000) ≤ℤ (second -ℤ first) }
-    requires most { (second -ℤ first) ≤ℤ pos 10_000_000_000 }
-    ensures less { first <ℤ second → result ≡ step }
-    ensures other { second ≤ℤ first → result ≡ 0 }
-    ensures few { result ≤ step }
-{
-    step * is_less(first, second)
-}
-
-// 1 if the first number is less than the second, and else 0.
-#[inline]
-fn is_less(first: i64, second: i64) -> usize
-    requires least { neg_ℤ (pos 10_000_000_000) ≤ℤ (second -ℤ first) }
-    requires most { (second -ℤ first) ≤ℤ pos 10_000_000_000 }
-    ensures less { first <ℤ second → result ≡ 1 }
-    ensures other { second ≤ℤ first → result ≡ 0 }
-{
-    ((second - first + (HALF - 1)) as u64 / HALF as u64) as usize
-}
-
-// A number that is larger than each difference, and half of what an `i64` holds.
-const HALF: i64 = 4_611_686_018_427_387_904;

@@ -6,7 +6,7 @@ ghost use Rattle.chrono_business.specs.declared.roll.Roll.TheVariants.{ModifiedF
 
 use crate::calendar::Calendar;
 use crate::roll::Roll;
-use chrono_datetime::{Datelike, NaiveDate, Weekday, WeekdaySet};
+use chrono_datetime::{Datelike, LAST_DAY, NaiveDate, Weekday, WeekdaySet};
 
 impl<'a> Calendar<'a> {
     /// Returns the date that `date` moves to by `roll`. An open date stays.
@@ -99,6 +99,3 @@ impl<'a> Calendar<'a> {
         }
     }
 }
-
-// The day number of the last date.
-const LAST_DAY: i32 = 95_745_399;

@@ -1,6 +1,6 @@
 //! Moves of a date by days, by months and by durations. Also the difference of dates, the weeks of a date, and iterators
 //! from it on.
-ghost use Rattle.std.specs.Prelude.{◌≡◌, ◌+◌, ◌≤◌, ℤ, pos, neg_ℤ, ◌+ℤ◌, ◌-ℤ◌, ◌*ℤ◌, ◌≤ℤ◌, ◌<ℤ◌, length, min, unsigned_abs, false, Some, IsSome, IfSome, IfNone, IsSomeAnd, IsTrue, ◌↔◌};
+ghost use Rattle.std.specs.Prelude.{◌≡◌, ◌+◌, ◌<◌, ◌≤◌, ℤ, pos, neg_ℤ, ◌+ℤ◌, ◌-ℤ◌, ◌*ℤ◌, ◌≤ℤ◌, ◌<ℤ◌, length, min, unsigned_abs, false, Some, IsSome, IfSome, IfNone, IsSomeAnd, IsTrue, ◌↔◌};
 ghost use Rattle.std.specs.Iterator.{YieldsFirst};
 ghost use Rattle.std.specs.Iterator.Adapters.{take_steps};
 ghost use Rattle.std.specs.Iterator.Runs.{YieldsInOrder};
@@ -63,6 +63,7 @@ impl NaiveDate {
     pub fn checked_add_days(self, days: Days) -> Option<NaiveDate>
         ensures date { result ≡ date_of_day (self +ℤ pos days) }
         ensures exists { IsSome result ↔ IsDate (self +ℤ pos days) }
+        ensures moved { IfSome result (λ e. e ≡ self +ℤ pos days) }
         // As many days less, the answer is the date again.
         ensures back { IfSome result (λ e. e -ℤ pos days ≡ self) }
     {
@@ -105,6 +106,7 @@ impl NaiveDate {
     pub fn checked_sub_days(self, days: Days) -> Option<NaiveDate>
         ensures date { result ≡ date_of_day (self -ℤ pos days) }
         ensures exists { IsSome result ↔ IsDate (self -ℤ pos days) }
+        ensures moved { IfSome result (λ e. e ≡ self -ℤ pos days) }
         // As many days more, the answer is the date again.
         ensures back { IfSome result (λ e. e +ℤ pos days ≡ self) }
     {
@@ -219,6 +221,7 @@ impl NaiveDate {
         ensures back { IfSome result (λ e. ComesBack self (neg_ℤ (pos months)) e) }
         // A second move ends in the month of one move by the sum, and not later.
         ensures sum { IfSome result (λ e. MonthMovesAddUp self (pos months) e) }
+        ensures later { 0 < months → IfSome result (λ e. self <ℤ e) }
     {
         self.moved_by_months(i64::from(months.as_u32()))
     }
@@ -244,6 +247,7 @@ impl NaiveDate {
         ensures back { IfSome result (λ e. ComesBack self (pos months) e) }
         // A second move ends in the month of one move by the sum, and not later.
         ensures sum { IfSome result (λ e. MonthMovesAddUp self (neg_ℤ (pos months)) e) }
+        ensures earlier { 0 < months → IfSome result (λ e. e <ℤ self) }
     {
         self.moved_by_months(-i64::from(months.as_u32()))
     }

@@ -6,37 +6,10 @@ ghost use Rattle.std.specs.Int.{IsInRange};
 ghost use Rattle.std.specs.Str.{byte};
 ghost use Rattle.std.specs.Str.Parse.{AllDigits, digits_value};
 
-use crate::line::Line;
 use crate::read::digit::digit;
-use crate::read::lanes::{FEW, LANES, digits_in_lanes, few_digits_value};
-use crate::read::way::Way;
 
 // A number of so many digits fits a `u64`.
 const ALWAYS_FIT: usize = 18;
-
-// All digits in front, read in the given way.
-//
-// How many there are is a guess that a processor often gets wrong. So eight digits or fewer are read in lanes, with no
-// branch on their count.
-#[inline]
-pub(crate) fn digits_in_front(text: &Line<'_>, way: Way) -> (u64, usize)
-    ensures within { result.1 ≤ length text.now }
-    ensures digits { AllDigits 10 (take result.1 text.now) }
-    ensures end { result.1 < length text.now → ¬ (IsInRange (byte "0") (byte "9") (slice_index text.now result.1)) }
-    ensures value { result.0 ≡ min (digits_value 10 (take result.1 text.now)) (2 ^ 64 - 1) }
-{
-    if let Way::DigitByDigit = way {
-        return leading_digits(text.as_slice());
-    }
-    let bytes = text.with_following();
-    if bytes.len() >= LANES {
-        let len = digits_in_lanes(bytes).min(text.len());
-        if len <= FEW {
-            return (u64::from(few_digits_value(bytes, len)), len);
-        }
-    }
-    leading_digits(text.as_slice())
-}
 
 // All digits in front, read one by one.
 #[inline]
@@ -81,32 +54,4 @@ fn further_digits(text: &[u8], value: u64, start: usize) -> (u64, usize)
         len += 1;
     }
     (total, len)
-}
-
-// One digit or two in front, if any stand there: their value, and their count. Of three or more it takes two.
-//
-// Whether there is a second one is a guess that a processor often gets wrong. So the test is joined by `&` and both
-// answers are plain values, which compile to no branch.
-#[inline]
-pub(crate) fn few_digits(text: &Line<'_>) -> (u32, usize)
-    ensures within { result.1 ≤ length text.now }
-    ensures digits { AllDigits 10 (take result.1 text.now) }
-    ensures value { result.0 ≡ digits_value 10 (take result.1 text.now) }
-    ensures small { result.0 < 100 }
-{
-    if text.is_empty() {
-        return (0, 0);
-    }
-    let tens = digit(text.byte(0));
-    if tens > 9 {
-        return (0, 0);
-    }
-    // The place of the second byte, or of the first again where there is no second.
-    let second = usize::from(text.len() > 1);
-    let ones = digit(text.byte(second));
-    if (second == 1) & (ones <= 9) {
-        (10 * u32::from(tens) + u32::from(ones), 2)
-    } else {
-        (u32::from(tens), 1)
-    }
 }

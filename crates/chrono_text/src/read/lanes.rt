@@ -1,14 +1,16 @@
 //! Several digits read at once.
-ghost use Rattle.std.specs.Prelude.{◌≡◌, ◌-◌, ◌*◌, ◌^◌, ◌<◌, ◌≤◌, ℕ, length, take, slice_index};
-ghost use Rattle.std.specs.Int.{IsInRange};
-ghost use Rattle.std.specs.Str.{byte};
+ghost use Rattle.std.specs.Prelude.{◌≡◌, ◌-◌, ◌*◌, ◌^◌, ◌<◌, ◌≤◌, ◌+◌, length, take, drop};
 ghost use Rattle.std.specs.Str.Parse.{AllDigits, digits_value};
+ghost use Rattle.chrono_text.specs.Marks.{marks_of};
 
 use crate::read::digit::digit;
 use std::simd::prelude::*;
 
-// How many bytes are looked at together.
+// How many bytes are read together.
 pub(crate) const LANES: usize = 16;
+
+// How many bytes of a line are marked at most.
+pub(crate) const MARKED: usize = 64;
 
 // As many digits are worth no more than fits a `u32`.
 pub(crate) const FEW: usize = 8;
@@ -18,26 +20,19 @@ const WEIGHTS: [u32; 16] = [
     10_000_000, 1_000_000, 100_000, 10_000, 1_000, 100, 10, 1, 0, 0, 0, 0, 0, 0, 0, 0,
 ];
 
-// How many of the first 16 bytes are digits, up to the first that is none.
+// A bit for each of the 16 bytes from `at` on, the lowest for the first: 1 where the byte is no digit.
 #[inline]
-pub(crate) fn digits_in_lanes(bytes: &[u8]) -> usize
-    requires { 16 ≤ length bytes.now }
-    ensures within { result ≤ 16 }
-    ensures digits { (k : ℕ) → k < result → IsInRange (byte "0") (byte "9") (slice_index bytes.now k) }
-    ensures end { result < 16 → ¬ (IsInRange (byte "0") (byte "9") (slice_index bytes.now result)) }
+pub(crate) fn marks_at(bytes: &[u8], at: usize) -> u64
+    requires { at + 16 ≤ length bytes.now }
+    ensures { result ≡ marks_of 16 (drop at bytes.now) }
 {
     // Counted from the byte behind `9`, and on from 0 after 255, the ten digits come last.
-    let others = (u8x16::from_slice(bytes) - u8x16::splat(b'9' + 1))
+    (u8x16::from_slice(&bytes[at..]) - u8x16::splat(b'9' + 1))
         .simd_lt(u8x16::splat(u8::MAX - 9))
-        .to_bitmask();
-    if others == 0 {
-        LANES
-    } else {
-        others.trailing_zeros() as usize
-    }
+        .to_bitmask()
 }
 
-// What the first `len` bytes are worth, which are digits, with no branch on how many they are: each byte has a weight,
+// Returns what the first `len` bytes, which are digits, are worth. No branch depends on `len`: each byte has a weight,
 // which is 0 behind the last of them.
 #[inline]
 pub(crate) fn few_digits_value(bytes: &[u8], len: usize) -> u32
@@ -66,4 +61,21 @@ fn share(byte: u8, len: usize, place: usize) -> u32
     ensures small { result < 256 * 10 ^ (7 - place) }
 {
     WEIGHTS[FEW - len + place] * u32::from(digit(byte))
+}
+
+// What the first `len` bytes are worth, which are digits.
+#[inline]
+pub(crate) fn digits_value(bytes: &[u8], len: usize) -> u64
+    requires room { 16 ≤ length bytes.now }
+    requires few { len ≤ 16 }
+    requires digits { AllDigits 10 (take len bytes.now) }
+    ensures value { result ≡ digits_value 10 (take len bytes.now) }
+    ensures small { result < 10 ^ 16 }
+{
+    if len <= FEW {
+        return u64::from(few_digits_value(bytes, len));
+    }
+    let front = u64::from(few_digits_value(bytes, len - FEW));
+    let back = u64::from(few_digits_value(&bytes[len - FEW..], FEW));
+    front * 100_000_000 + back
 }

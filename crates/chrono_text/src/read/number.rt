@@ -7,7 +7,9 @@ ghost use Rattle.std.specs.Str.Parse.{AllDigits, digits_value};
 ghost use Rattle.chrono_text.specs.Numbers.{StandsBefore, i64_of, signed, to_i64};
 
 use crate::line::Line;
-use crate::read::front::{digits_in_front, few_digits};
+use crate::read::digit::digit;
+use crate::read::front::leading_digits;
+use crate::read::lanes::{LANES, digits_value};
 use crate::read::way::Way;
 
 const MINUS: u8 = b'-';
@@ -36,10 +38,13 @@ pub fn read_number(text: &Line<'_>, stop: u8, way: Way) -> Option<(i64, usize)>
             return Some((i64::from(number), len));
         }
     }
-    long_number(text, stop, way)
+    if let Some(read) = near_number(text, stop) {
+        return Some(read);
+    }
+    any_number(text, stop)
 }
 
-// The same, if it has one digit or two and no sign.
+// The same, if it has one digit or two and no sign, and a mark ends it. It has no branch on which of them it is.
 #[inline]
 fn short_number(text: &Line<'_>, stop: u8) -> Option<(u32, usize)>
     ensures some { IfSome result (λ read. 0 < read.1) }
@@ -48,16 +53,34 @@ fn short_number(text: &Line<'_>, stop: u8) -> Option<(u32, usize)>
     ensures small { IfSome result (λ read. read.0 < 100) }
     ensures end { IfSome result (λ read. StandsBefore stop text.now read.1) }
 {
-    let (size, len) = few_digits(text);
-    if len == 0 || !stands_before(text, len, stop) {
+    let (len, _) = digits_before(text, stop)?;
+    if len < 1 || len > 2 {
         return None;
     }
-    Some((size, len))
+    // Of one digit the first is also the last.
+    let first = u32::from(digit(text.byte(0)));
+    let last = u32::from(digit(text.byte(len - 1)));
+    Some((first * 10 * (len as u32 - 1) + last, len))
+}
+
+// The same, if its digits are at most sixteen, and a mark ends them.
+#[inline(always)]
+fn near_number(text: &Line<'_>, stop: u8) -> Option<(i64, usize)>
+    ensures number { IfSome result (λ read. i64_of (take read.1 text.now) ≡ Some read.0) }
+    ensures end { IfSome result (λ read. StandsBefore stop text.now read.1) }
+{
+    let negative = has_minus(text);
+    let sign = usize::from(negative);
+    let (len, bytes) = digits_before(&text.skip(sign), stop)?;
+    if len < 1 || len > LANES {
+        return None;
+    }
+    let number = signed(negative, digits_value(bytes, len))?;
+    Some((number, sign + len))
 }
 
 // The same, of any length.
-#[inline(always)]
-fn long_number(text: &Line<'_>, stop: u8, way: Way) -> Option<(i64, usize)>
+fn any_number(text: &Line<'_>, stop: u8) -> Option<(i64, usize)>
     requires { ¬ (IsInRange (byte "0") (byte "9") stop) }
     ensures number { IfSome result (λ read. i64_of (take read.1 text.now) ≡ Some read.0) }
     ensures end { IfSome result (λ read. StandsBefore stop text.now read.1) }
@@ -68,12 +91,28 @@ fn long_number(text: &Line<'_>, stop: u8, way: Way) -> Option<(i64, usize)>
     let negative = has_minus(text);
     let sign = usize::from(negative);
     let digits = text.skip(sign);
-    let (size, len) = digits_in_front(&digits, way);
+    let (size, len) = leading_digits(digits.as_slice());
     if len == 0 || !stands_before(&digits, len, stop) {
         return None;
     }
     let number = signed(negative, size)?;
     Some((number, sign + len))
+}
+
+// How many digits stand in front, and the bytes from there on, if the line's marks tell, and `stop` or the end stands behind
+// the digits.
+#[inline(always)]
+fn digits_before<'a>(text: &Line<'a>, stop: u8) -> Option<(usize, &'a [u8])>
+    ensures room { IfSome result (λ front. 16 ≤ length front.1.now) }
+    ensures digits { IfSome result (λ front. AllDigits 10 (take front.0 text.now)) }
+    ensures same { IfSome result (λ front. take front.0 front.1.now ≡ take front.0 text.now) }
+    ensures end { IfSome result (λ front. StandsBefore stop text.now front.0) }
+{
+    let (len, bytes) = text.digits_in_front()?;
+    if len > text.len() || !stands_before(text, len, stop) {
+        return None;
+    }
+    Some((len, bytes))
 }
 
 // Whether a `-` stands in front.

@@ -5,8 +5,6 @@
 pub enum Way {
     /// For a number that probably has one or two digits. It has no branch on which of them it is.
     Short,
-    /// For a longer number. It loads sixteen bytes at once, and has no branch on the number of digits up to eight.
-    InLanes,
-    /// For a number after which nothing else is read. It reads digit by digit.
-    DigitByDigit,
+    /// For a longer number. It has no branch on the number of digits up to eight.
+    Long,
 }

@@ -4,7 +4,7 @@ use Rattle.std.specs.Option.{option_map}
 use Rattle.chrono_datetime.specs.Moment.{Moment}
 use Rattle.chrono_datetime.specs.MomentText.{moment_text}
 use Rattle.calendar_c.specs.Answers.{count_or_none}
-use Rattle.calendar_c.specs.DateTimes.{moment_named}
+use Rattle.calendar_c.specs.DateTimes.{moment_from_c}
 use Rattle.calendar_c.specs.Texts.{length_of, overwritten, text_within}
 use Rattle.calendar_c.proofs.LengthLemmas.{enough, no_moment, the_moment}
 use Rattle.calendar_c.proofs.texts.calendar_write_date_time.Goals as goal
@@ -25,7 +25,7 @@ returns-clause-bytes c =
     ∙ ap (λ (o : Option (List ℕ)). overwritten (text_within (length c.args.text.now) o) c.args.text.now) (put _ _ _ _ _ c.in-Some.ensures c.as_bytes.ensures.value c.put_into.ensures.text c.new-written.ensures)
 
 pub returns-in_default-clause-enough : goal.returns-in_default-clause-enough
-returns-in_default-clause-enough c = λ m is _. absurd (no_moment (moment_named c.args.moment) m c.in_default.ensures is)
+returns-in_default-clause-enough c = λ m is _. absurd (no_moment (moment_from_c c.args.moment) m c.in_default.ensures is)
 
 pub returns-clause-enough : goal.returns-clause-enough
 returns-clause-enough c =

@@ -1,14 +1,11 @@
-use Rattle.std.proofs.Common.{length, append_assoc, ap, refl, rules, arith}
-use Rattle.chrono_units.proofs.WalkLengths.{length-walk-le}
+use Rattle.std.proofs.Common.{append_assoc, refl, rules, arith}
 use Rattle.caltool_form.proofs.texts.push_set_and_walk.Goals as goal
 
 pub push_spaced_days-requires : goal.push_spaced_days-requires
-push_spaced_days-requires g c =
-    (search rules, omega (arith, c.put_into.ensures.fits, ap length c.iter.ensures, length-walk-le c.args.days c.args.start))
+push_spaced_days-requires g c = (search rules, omega (arith, c.push_set.ensures.fits))
 
 pub returns-clause-text : goal.returns-clause-text
-returns-clause-text g c = rw (c.push_spaced_days.ensures.text, c.put_into.ensures.text, c.iter.ensures) (simp append_assoc refl)
+returns-clause-text g c = rw (c.push_spaced_days.ensures.text, c.push_set.ensures.text) (simp append_assoc refl)
 
 pub returns-clause-fits : goal.returns-clause-fits
-returns-clause-fits g c =
-    omega (arith, c.put_into.ensures.fits, c.push_spaced_days.ensures.fits, ap length c.iter.ensures, length-walk-le c.args.days c.args.start)
+returns-clause-fits g c = omega (arith, c.push_set.ensures.fits, c.push_spaced_days.ensures.fits)

@@ -12,8 +12,9 @@ use Rattle.chrono_datetime.proofs.Signed.{signed}
 use Rattle.chrono_business.specs.declared.holiday_rule.HolidayDay.TheVariants.{Fixed}
 use Rattle.chrono_business.specs.declared.holiday_rule.HolidayRule.{HolidayRule}
 use Rattle.chrono_business.specs.declared.holiday_rule.Moved.TheVariants.{Stays}
-use Rattle.chrono_business.specs.HolidayRules.{date_named, date_of_rule, from_saturday, from_sunday, rule_of}
-use Rattle.chrono_business.specs.OpenDays.{AreRising, is_holiday, is_workday}
+use Rattle.chrono_business.specs.HolidayRules.{holiday_named, date_of_rule, from_saturday, from_sunday, rule_of}
+use Rattle.chrono_datetime.specs.RisingDates.{AreRising}
+use Rattle.chrono_business.specs.OpenDays.{is_holiday, is_workday}
 use Rattle.chrono_business.proofs.law.known_holiday_lists.Goals as goal
 
 abbrev weekend : DaySet
@@ -23,7 +24,7 @@ abbrev new_year : HolidayRule
 new_year = rule_of (Fixed January 1) Stays (pos 2_000) (pos 2_100)
 
 pub returns-clause-of_year : goal.returns-clause-of_year
-unfolding date_of_rule date_named from_saturday from_sunday date_of_ymd date_of_day days_before_year days_of_years days_of_months_in
+unfolding date_of_rule holiday_named from_saturday from_sunday date_of_ymd date_of_day days_before_year days_of_years days_of_months_in
 returns-clause-of_year c = record {
   place = 0;
   within = omega arith;
@@ -34,7 +35,7 @@ returns-clause-of_year c = record {
 }
 
 in_2025 : date_of_rule new_year (pos 2_025) ≡ Some (pos 739_252)
-unfolding date_of_rule date_named from_saturday from_sunday date_of_ymd date_of_day days_before_year days_of_years days_of_months_in
+unfolding date_of_rule holiday_named from_saturday from_sunday date_of_ymd date_of_day days_before_year days_of_years days_of_months_in
 in_2025 = refl
 
 abbrev number : Option ℤ → ℤ
@@ -98,3 +99,30 @@ returns-clause-other c = λ are. elim (are.only (pos 738_887) refl) [
   | inl h ↦ false≢true h
   | inr h ↦ omega (arith, signed, h.0)
 ]
+
+pub returns-clause-more : goal.returns-clause-more
+returns-clause-more c = λ are. elim (are.only (pos 738_887) refl) [
+  | inl h ↦ false≢true h
+  | inr h ↦ omega (arith, signed, h.0)
+]
+
+pub returns-clause-dropped : goal.returns-clause-dropped
+returns-clause-dropped c = λ are. false≢true (are.kept (pos 738_887) refl)
+
+no-day : (P : ℤ → Type 0) → All P []
+no-day P k d within = absurd (omega (arith, within))
+
+saturday : is_workday weekend (pos 738_884) ≡ false
+saturday = refl
+
+pub returns-clause-saturday : goal.returns-clause-saturday
+returns-clause-saturday c = record {
+  holidays = record {
+    dates = no-day IsDate;
+    rising = λ i j d low within. absurd (omega (arith, low, within));
+    workdays = no-day (λ h. is_workday weekend h ≡ true);
+  };
+  only = λ d h. absurd (false≢true h);
+  kept = λ d h. absurd (false≢true h);
+  each = λ d e work. absurd (false≢true (sym saturday ∙ (sym (ap (is_workday weekend) e) ∙ work)));
+}

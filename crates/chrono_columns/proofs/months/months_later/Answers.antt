@@ -7,7 +7,8 @@ use Rattle.chrono_calendar.specs.MonthMoves.{day_number_in_month, month_index_of
 use Rattle.chrono_calendar.proofs.Signed.{casts, signed}
 use Rattle.chrono_stored.proofs.MonthsFromMarch.{month_move-day}
 use Rattle.chrono_columns.proofs.Entries.{a_date, months-there, months-none}
-use Rattle.chrono_columns.proofs.MonthTests.{near_month, month_move-None}
+use Rattle.chrono_calendar.proofs.Moves.{month_move-None}
+use Rattle.chrono_columns.proofs.MonthTests.{near_month}
 use Rattle.chrono_columns.proofs.months.months_later.Goals as goal
 
 -- the month that is reached, as it is counted here

@@ -1,5 +1,5 @@
 use Rattle.std.proofs.Common.{◌-◌, arith}
-use Rattle.chrono_cron.proofs.WrittenLemmas.{ranges_list}
+use Rattle.chrono_cron.proofs.WrittenFields.{ranges_list}
 use Rattle.chrono_cron.proofs.law.ranges_list_the_members.Goals as goal
 
 pub returns : goal.returns

@@ -1,4 +1,4 @@
-use Rattle.chrono_cron.proofs.ReadBack.{hours_back, minutes_back, months_back}
+use Rattle.chrono_cron.proofs.FieldsReadBack.{hours_back, minutes_back, months_back}
 use Rattle.chrono_cron.proofs.law.written_fields_are_read.Goals as goal
 
 pub returns-clause-minutes : goal.returns-clause-minutes

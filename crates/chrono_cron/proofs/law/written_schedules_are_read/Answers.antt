@@ -1,4 +1,4 @@
-use Rattle.chrono_cron.proofs.ScheduleBack.{schedule_back}
+use Rattle.chrono_cron.proofs.SchedulesReadBack.{schedule_back}
 use Rattle.chrono_cron.proofs.law.written_schedules_are_read.Goals as goal
 
 pub returns : goal.returns

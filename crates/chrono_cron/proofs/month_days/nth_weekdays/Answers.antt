@@ -1,6 +1,6 @@
 use Rattle.std.proofs.Common.{◌+◌, ◌-◌, ◌*◌, ◌/◌, ◌%◌, ◌∙◌, arith}
-use Rattle.chrono_cron.specs.Due.{has}
-use Rattle.chrono_cron.proofs.MonthSets.{one_of_five}
+use Rattle.chrono_sets.specs.Numbers.{has}
+use Rattle.chrono_cron.proofs.NamedDaySets.{one_of_five}
 use Rattle.chrono_cron.proofs.month_days.nth_weekdays.Goals as goal
 
 pub returns : goal.returns

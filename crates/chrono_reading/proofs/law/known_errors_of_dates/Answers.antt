@@ -1,12 +1,12 @@
-use Rattle.std.proofs.Common.{◌≡◌, ◌<◌, ℕ, List, codes, inl, inr, pos, refl, sym, ap, subst, nat_lt, ◌≤◌, ◌∙◌, arith}
+use Rattle.std.proofs.Common.{◌≡◌, ℕ, codes, inl, inr, pos, refl, sym, ap, subst, nat_lt, ◌≤◌, ◌∙◌, arith}
 use Rattle.chrono_calendar.specs.Flags.{weeks_of_iso_year}
-use Rattle.chrono_reading.specs.Fitting.{IsOfForm, fitting, leading_digits, year_form}
+use Rattle.chrono_reading.specs.Fitting.{fitting, leading_digits, year_form}
 use Rattle.std.specs.Int.{IsInRange}
 use Rattle.std.specs.Prelude.{IsSome, None, ℤ, if◌then◌else◌}
 use Rattle.chrono_text.proofs.DigitLemmas.{by_size}
 use Rattle.chrono_reading.specs.declared.error.ReadCause.TheVariants.{DateOutOfRange, WeekAbove}
 use Rattle.chrono_reading.proofs.NearMisses.{no_date_parts}
-use Rattle.chrono_reading.specs.DateErrors.{error_at, HasDateParts, calendar_error, ordinal_error, week_error}
+use Rattle.chrono_reading.specs.DateErrors.{error_at, calendar_error, ordinal_error, week_error}
 use Rattle.chrono_reading.proofs.law.known_errors_of_dates.Goals as goal
 
 pub returns-clause-day : goal.returns-clause-day

@@ -1,4 +1,4 @@
-use Rattle.chrono_reading.specs.NameTexts.{weekday_name}
+use Rattle.chrono_datetime.specs.Names.{weekday_name}
 use Rattle.chrono_reading.proofs.NameLemmas.{IsNameText-same}
 use Rattle.chrono_reading.proofs.law.texts_of_a_weekday_differ_in_case_and_length.Goals as goal
 

@@ -1,6 +1,6 @@
 -- The options so far have another name.
 use Rattle.std.proofs.Common.{◌≡◌, map, length}
-use Rattle.command_words.specs.Words.{first_value, pair}
+use Rattle.command_words.specs.Arguments.{first_value, pair}
 use Rattle.command_words.proofs.given.first_value.Given as goal
 
 abbrev pub invariant-loop-rest : goal.invariant-loop-rest

@@ -1,6 +1,6 @@
 -- The options so far have another name.
 use Rattle.std.proofs.Common.{◌≡◌, length}
-use Rattle.command_words.specs.Words.{named}
+use Rattle.command_words.specs.Arguments.{named}
 use Rattle.command_words.proofs.words.option_named.Given as goal
 
 abbrev pub invariant-loop-rest : goal.invariant-loop-rest

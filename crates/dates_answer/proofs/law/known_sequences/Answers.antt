@@ -5,18 +5,6 @@ use Rattle.dates_answer.specs.Moves.{unit_move}
 use Rattle.dates_answer.specs.Sequences.{up_to}
 use Rattle.dates_answer.proofs.law.known_sequences.Goals as goal
 
-pub returns-clause-from_the_first : goal.returns-clause-from_the_first
-unfolding up_to unit_move month_move days_before_year days_of_years days_of_months_in ordinal_name_of days_after_zero days_before_zero month_of_ordinal day_of_ordinal
-returns-clause-from_the_first c = refl
-
-pub returns-clause-past_the_end : goal.returns-clause-past_the_end
-unfolding up_to unit_move month_move days_before_year days_of_years days_of_months_in ordinal_name_of days_after_zero days_before_zero month_of_ordinal day_of_ordinal
-returns-clause-past_the_end c = refl
-
-pub returns-clause-back : goal.returns-clause-back
-unfolding up_to unit_move date_of_day
-returns-clause-back c = refl
-
-pub returns-clause-back_past_the_end : goal.returns-clause-back_past_the_end
-unfolding up_to unit_move date_of_day
-returns-clause-back_past_the_end c = refl
+pub returns : goal.returns
+unfolding up_to unit_move date_of_day month_move days_before_year days_of_years days_of_months_in ordinal_name_of days_after_zero days_before_zero month_of_ordinal day_of_ordinal
+returns c = record { from_the_first = refl; past_the_end = refl; back = refl; back_past_the_end = refl }

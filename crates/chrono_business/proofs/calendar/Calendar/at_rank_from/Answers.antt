@@ -1,6 +1,6 @@
 use Rattle.std.proofs.Common.{arith, ◌+ℤ◌}
 use Rattle.std.proofs.lemmas.Option.{IfSome_then}
-use Rattle.chrono_datetime.proofs.Signed.{casts, signed}
+use Rattle.chrono_datetime.proofs.Signed.{casts}
 use Rattle.chrono_business.proofs.OpenMoves.{few_before, if-none_of_rank}
 use Rattle.chrono_business.proofs.calendar.Calendar.at_rank_from.Goals.{then-n-rank-via-then-n-rank, then-n-rank-via-else-n-rank+then-n-rank-2}
 use Rattle.chrono_business.proofs.calendar.Calendar.at_rank_from.Goals as goal

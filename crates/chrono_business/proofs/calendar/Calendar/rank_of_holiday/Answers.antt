@@ -19,8 +19,8 @@ counted c d =
     let are = subst IsCalendar c.self.view_is c.self.invariant in
     let at : day ≡ first_date +ℤ pos k = omega (arith, signed, (are.dates c.args.place d c.requires).0) in
     let weekend : c.self.inside.week ≡ now.weekend = ap (λ (v : Closed). v.weekend) c.self.view_is in
-    let holidays : c.self.inside.holidays.now ≡ now.holidays = ap (λ (v : Closed). v.holidays) c.self.view_is in
-    let read = rw holidays at c.index-holidays-place.is in
+    let holidays : c.self.inside.holidays ≡ now.holidays = ap (λ (v : Closed). v.holidays) c.self.view_is in
+    let read = rw holidays at (rw c.as_slice-holidays.ensures at c.index-holidays-place.is) in
     let same : c.num_days_from_ce.result ≡ day = c.num_days_from_ce.ensures.value ∙ (read ∙ get_or_default now.holidays c.args.place _ d c.requires) in
     let workdays : c.workdays.result ≡ count_where (is_workday now.weekend) k first_date =
     rw weekend at c.workdays.ensures.counted ∙ ap (λ n. count_where (is_workday now.weekend) n first_date) (omega (arith, casts, at, same)) in

@@ -2,9 +2,10 @@ use Rattle.std.proofs.Common.{◌≡◌, [], ◌∷◌, ◌++◌, refl, sym, ap,
 use Rattle.chrono_datetime.specs.Recurrence.{first_date, past_last_date}
 use Rattle.chrono_datetime.proofs.Signed.{casts, signed}
 use Rattle.chrono_business.specs.OpenDayLists.{open_days_list}
-use Rattle.chrono_business.proofs.OpenLists.{last-goes, list-last, none-by_ranks}
+use Rattle.chrono_business.proofs.OpenLists.{list-last, none-by_ranks}
 use Rattle.chrono_business.proofs.Ranks.{open-rises}
 use Rattle.chrono_business.proofs.open_days_iterator.OpenDaysIteratorDoubleEndedIterator.next_back.Goals as goal
+use Rattle.chrono_datetime.proofs.ListsLeft.{MakesProgress-last}
 
 pub returns-then-self-clause-steps : goal.returns-then-self-clause-steps
 returns-then-self-clause-steps c =
@@ -32,4 +33,4 @@ returns-clause-steps c =
     ∙ ap (λ (d : ℤ). open_days_list it.calendar.now it.start d ++ c.in_ok-day.day ∷ []) (sym at))
 
 pub returns-clause-goes : goal.returns-clause-goes
-returns-clause-goes c = last-goes _ _ _ (returns-clause-steps c)
+returns-clause-goes c = MakesProgress-last _ _ _ (returns-clause-steps c)

@@ -4,9 +4,11 @@ use Rattle.chrono_datetime.specs.Recurrence.{first_date, past_last_date}
 use Rattle.chrono_datetime.proofs.Signed.{casts, signed}
 use Rattle.chrono_business.specs.OpenDays.{open_days}
 use Rattle.chrono_business.specs.OpenDayLists.{open_days_list}
-use Rattle.chrono_business.proofs.OpenLists.{first-goes, list-first, none-by_ranks}
+use Rattle.chrono_business.proofs.OpenLists.{list-first, none-by_ranks}
 use Rattle.chrono_business.proofs.Ranks.{open-behind, open-rises}
 use Rattle.chrono_business.proofs.open_days_iterator.OpenDaysIteratorIterator.next.Goals as goal
+use Rattle.chrono_datetime.proofs.ListsLeft.{MakesProgress-first}
+use Rattle.chrono_datetime.proofs.NamedDates.{next_day-fits}
 
 pub returns-then-self-clause-steps : goal.returns-then-self-clause-steps
 returns-then-self-clause-steps c =
@@ -23,9 +25,6 @@ returns-in_err-day-clause-steps c =
     absurd (omega (arith, c.if-self.false, inv.4, c.in_err-day.ensures.none, open-rises it.calendar.now first_date it.end past_last_date inv.1 inv.2))
 
 -- the day behind the one that is given
-next_day : (r d : ℤ) → r ≡ d → IsDate r → to_z w32 (of_z w32 (to_z w32 (of_z w32 r) +ℤ pos 1)) ≡ d +ℤ pos 1
-next_day r d e h = omega (arith, casts, e, h.0, h.1)
-
 pub invariant_of-self : goal.invariant_of-self
 invariant_of-self c =
     let it = c.self.inside in
@@ -36,7 +35,7 @@ invariant_of-self c =
       omega (arith, casts, day.value, day.in_range),
       inv.1,
       inv.2,
-      rank ∙ ap (λ (d : ℤ). open_days it.calendar.now first_date d) (sym (next_day c.num_days_from_ce.result c.in_ok-day.day day.value day.in_range)),
+      rank ∙ ap (λ (d : ℤ). open_days it.calendar.now first_date d) (sym (next_day-fits c.num_days_from_ce.result c.in_ok-day.day day.value day.in_range)),
       inv.4,
     )
 
@@ -48,7 +47,7 @@ returns-clause-steps c =
     let found = c.in_ok-day.ensures in
     sym c.self.view_is
     ∙ (list-first it.calendar.now it.start it.end c.in_ok-day.day (c.in_ok-day.day +ℤ pos 1) inv.0 inv.1 (omega (arith, signed, day.value, day.in_range.0)) refl found.passes (omega (arith, found.count, inv.3)) (omega (arith, inv.3, inv.4, c.if-self.false))
-    ∙ ap (λ (d : ℤ). c.in_ok-day.day ∷ open_days_list it.calendar.now d it.end) (sym (next_day c.num_days_from_ce.result c.in_ok-day.day day.value day.in_range)))
+    ∙ ap (λ (d : ℤ). c.in_ok-day.day ∷ open_days_list it.calendar.now d it.end) (sym (next_day-fits c.num_days_from_ce.result c.in_ok-day.day day.value day.in_range)))
 
 pub returns-clause-goes : goal.returns-clause-goes
-returns-clause-goes c = first-goes _ _ _ (returns-clause-steps c)
+returns-clause-goes c = MakesProgress-first _ _ _ (returns-clause-steps c)

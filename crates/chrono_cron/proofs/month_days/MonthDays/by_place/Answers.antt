@@ -1,6 +1,7 @@
 use Rattle.std.proofs.Common.{◌≡◌, ◌+◌, ◌-◌, ◌%◌, ◌&&◌, ◌||◌, refl, ◌∙◌}
-use Rattle.chrono_cron.specs.Due.{has, is_last_workday, is_named_by_place, is_nearest_workday}
-use Rattle.chrono_cron.proofs.MonthSets.{asked_for, not_asked_for}
+use Rattle.chrono_sets.specs.Numbers.{has}
+use Rattle.chrono_cron.specs.Due.{is_last_workday, is_named_by_place, is_nearest_workday}
+use Rattle.chrono_cron.proofs.NamedDaySets.{asked_for, not_asked_for}
 use Rattle.chrono_cron.proofs.month_days.MonthDays.by_place.Goals as goal
 use Rattle.chrono_cron.proofs.month_days.MonthDays.by_place.Goals.{then-self, else-self}
 
@@ -14,4 +15,4 @@ returns c = λ k from to.
       | then-self t ↦ rw (t.workdays-is, t.union-workdays.ensures k, t.last_workday.ensures k from to, c.nearest_workdays-nearest.ensures k from to) (asked_for m.last_workday _ _ t.if-self.true)
       | else-self t ↦ rw (t.workdays-is, c.nearest_workdays-nearest.ensures k from to) (not_asked_for m.last_workday _ _ t.if-self.false)
     ] in
-    c.union.ensures k ∙ rw (c.mirrored.ensures k to, workdays) refl
+    c.union.ensures k ∙ rw (c.mirrored.ensures.members k to, workdays) refl

@@ -1,7 +1,8 @@
 use Rattle.std.proofs.Common.{◌≡◌, ℕ, false, sym, ◌∙◌, ap₂, ◌||◌}
 use Rattle.std.proofs.lemmas.Bool.{not-true}
-use Rattle.chrono_cron.specs.Due.{has}
-use Rattle.chrono_cron.proofs.MonthSets.{none_by_place, none_by_weekday, none_of_four}
+use Rattle.chrono_sets.specs.Numbers.{has}
+use Rattle.chrono_sets.proofs.Members.{has-none}
+use Rattle.chrono_cron.proofs.NamedDaySets.{none_by_place, none_by_weekday, none_of_four}
 use Rattle.chrono_cron.proofs.month_days.MonthDays.is_none.Goals as goal
 use Rattle.chrono_cron.proofs.month_days.MonthDays.is_none.Goals.{Then-is_empty}
 
@@ -9,7 +10,7 @@ use Rattle.chrono_cron.proofs.month_days.MonthDays.is_none.Goals.{Then-is_empty}
 members : (c : Then-is_empty) (k : ℕ) → (has c.args.self.now.from_end k ≡ false) × (has c.args.self.now.nearest_workdays k ≡ false) × (has c.args.self.now.last_weekdays k ≡ false) × (has c.args.self.now.nth_weekdays k ≡ false)
 members c k =
     none_of_four (has c.args.self.now.from_end k) (has c.args.self.now.nearest_workdays k) (has c.args.self.now.last_weekdays k) (has c.args.self.now.nth_weekdays k)
-    (ap₂ (λ a b. a || b) (sym (c.union.ensures k)) (sym (c.union-2.ensures k)) ∙ (sym (c.union-all.ensures k) ∙ c.is_empty.ensures c.if-is_empty.true k))
+    (ap₂ (λ a b. a || b) (sym (c.union.ensures k)) (sym (c.union-2.ensures k)) ∙ (sym (c.union-all.ensures k) ∙ has-none _ k (sym c.is_empty.ensures ∙ c.if-is_empty.true)))
 
 pub returns-then-is_empty-clause-place : goal.returns-then-is_empty-clause-place
 returns-then-is_empty-clause-place c = λ last p follow w.

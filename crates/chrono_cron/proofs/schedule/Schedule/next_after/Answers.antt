@@ -1,6 +1,6 @@
 use Rattle.std.proofs.Common.{inl, inr, refl, arith}
 use Rattle.chrono_datetime.proofs.Signed.{signed}
-use Rattle.chrono_cron.proofs.Order.{is_due-beginning, least_later, least_today, none_ever, none_later}
+use Rattle.chrono_cron.proofs.MomentOrder.{is_due-beginning, least_later, least_today, none_ever, none_later}
 use Rattle.chrono_cron.proofs.schedule.Schedule.next_after.Goals as goal
 
 pub returns-in-Some-clause-member : goal.returns-in-Some-clause-member

@@ -1,6 +1,6 @@
 use Rattle.std.proofs.Common.{inl, inr, refl, arith}
 use Rattle.chrono_datetime.proofs.Signed.{signed}
-use Rattle.chrono_cron.proofs.Order.{greatest_earlier, greatest_today, is_due-beginning, none_earlier, none_ever}
+use Rattle.chrono_cron.proofs.MomentOrder.{greatest_earlier, greatest_today, is_due-beginning, none_earlier, none_ever}
 use Rattle.chrono_cron.proofs.schedule.Schedule.prev_before.Goals as goal
 
 pub returns-in-Some-clause-member : goal.returns-in-Some-clause-member
@@ -20,7 +20,7 @@ returns-in-Some-clause-greatest c = λ q is after before.
 
 pub returns-in_default-last_minute-clause-none : goal.returns-in_default-last_minute-clause-none
 returns-in_default-last_minute-clause-none c =
-    (λ q is before. none_ever c.args.self.now.sets q (λ j low high. c.in_default-last_minute.ensures.none j high) is.time)
+    (λ q is before. none_ever c.args.self.now.sets q c.in_default-last_minute.ensures.none is.time)
 
 pub returns-in_default-moved_by_days-clause-none : goal.returns-in_default-moved_by_days-clause-none
 returns-in_default-moved_by_days-clause-none c =
@@ -58,5 +58,5 @@ returns-clause-greatest c = λ q is after before.
     (λ k begun. (c.begun_before.ensures.begun k).1 (rw (← c.time.ensures) at begun))
     (rw c.date-date.ensures at c.in_default.ensures.none)
     (λ d low high. c.in-Some-last_day.ensures.greatest d (omega (arith, signed, low)) (omega (arith, signed, back, c.date-date.ensures, high)))
-    (λ j low high. c.in-Some-last_minute.ensures.greatest j (omega (arith, low)) high) is.time
+    c.in-Some-last_minute.ensures.greatest is.time
     (rw (c.new-2.ensures, c.beginning-2.ensures) at after) before

@@ -1,7 +1,8 @@
 use Rattle.std.proofs.Common.{◌≡◌, pos, neg_ℤ, to_z, of_z, ◌-ℤ◌, w64, arith, ap, ◌∙◌}
 use Rattle.chrono_calendar.specs.MonthMoves.{month_move}
 use Rattle.chrono_calendar.proofs.MonthMoveLaws.{if_month, if_moved, month_move-exists}
-use Rattle.chrono_calendar.proofs.Signed.{casts}
+use Rattle.chrono_calendar.proofs.Signed.{casts, signed}
+use Rattle.chrono_naive.proofs.LaterMonths.{if_earlier}
 use Rattle.chrono_naive.proofs.naive_date.NaiveDate.checked_sub_months.Goals as goal
 
 moved : (c : goal.After-moved_by_months) → c.moved_by_months.result ≡ month_move c.args.self (neg_ℤ (pos c.args.months))
@@ -20,4 +21,5 @@ returns c =
       order = laws.0;
       back = laws.1;
       sum = laws.2;
+      earlier = λ some. if_earlier c.moved_by_months.result c.args.self (neg_ℤ (pos c.args.months)) (moved c) (omega (arith, signed, some));
     }

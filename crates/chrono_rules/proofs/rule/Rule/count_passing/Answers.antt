@@ -1,7 +1,7 @@
 use Rattle.std.proofs.Common.{sym, arith, pos, ◌+ℤ◌, to_z, of_z, w64}
 use Rattle.chrono_datetime.proofs.Signed.{signed}
 use Rattle.chrono_datetime.proofs.CountBetween.{count_between-empty}
-use Rattle.chrono_rules.specs.Instances.{date_passes}
+use Rattle.chrono_rules.specs.ByParts.{date_passes}
 use Rattle.chrono_rules.proofs.Counts.{counted-next}
 use Rattle.chrono_rules.proofs.rule.Rule.count_passing.Goals as goal
 

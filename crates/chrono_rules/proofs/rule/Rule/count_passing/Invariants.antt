@@ -1,7 +1,7 @@
 -- The dates that pass are counted up to the day that lies `later` days later.
 use Rattle.std.proofs.Common.{◌≡◌, ◌≤ℤ◌, ◌+ℤ◌, ◌-ℤ◌, pos, unsigned_abs}
 use Rattle.chrono_datetime.specs.Recurrence.{count_between}
-use Rattle.chrono_rules.specs.Instances.{date_passes}
+use Rattle.chrono_rules.specs.ByParts.{date_passes}
 use Rattle.chrono_rules.proofs.rule.Rule.count_passing.Given as goal
 
 abbrev pub invariant-loop-later : goal.invariant-loop-later

@@ -1,5 +1,6 @@
 use Rattle.std.proofs.Common.{arith, ◌-ℤ◌, unsigned_abs}
-use Rattle.chrono_rules.proofs.Skipped.{in_month, off_month_day}
+use Rattle.chrono_rules.proofs.Months.{in_month}
+use Rattle.chrono_rules.proofs.Skipped.{off_month_day}
 use Rattle.chrono_rules.proofs.rule.Rule.days_to_month_day.Goals as goal
 
 pub returns-clause-passed : goal.returns-clause-passed

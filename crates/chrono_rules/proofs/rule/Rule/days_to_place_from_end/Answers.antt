@@ -4,7 +4,9 @@ use Rattle.chrono_datetime.specs.Days.{IsDate}
 use Rattle.chrono_datetime.specs.Recurrence.{count_between}
 use Rattle.chrono_datetime.proofs.CountBetween.{count_between-empty}
 use Rattle.chrono_datetime.proofs.Signed.{casts, signed}
-use Rattle.chrono_rules.specs.Instances.{date_passes, has_place, period_end}
+use Rattle.chrono_rules.specs.ByParts.{date_passes}
+use Rattle.chrono_sets.specs.Numbers.{has}
+use Rattle.chrono_rules.specs.Periods.{period_end}
 use Rattle.chrono_rules.proofs.PlacesFromEnd.{before_places, chosen, counted-back, from_chosen, off_day_back, same_end}
 use Rattle.chrono_rules.proofs.rule.Rule.days_to_place_from_end.Goals as goal
 
@@ -39,7 +41,7 @@ loop-later-preserved c =
     let date : IsDate e = c.requires.dates e low (omega (arith, signed, less)) in
     let end-is : period_end r.frequency r.week_start e ≡ past = same_end r.frequency r.week_start c.args.day e low (omega (arith, signed, less, c.requires.end)) date ∙ omega (arith, signed, c.requires.end) in
     let count : place ≡ count_between p e past = counted-back p e (c.args.day +ℤ later) past c.loop-later.place place inv.count c.and_later-place.ensures.value less (omega (arith, signed, at)) in
-    let named = nat_lt c.loop-later.place place && has_place r.positions_from_end place in
+    let named = nat_lt c.loop-later.place place && has r.positions_from_end place in
     let is : x ≡ cond named next first = omega (arith, signed, c.earlier_named-first.ensures) in
     let bounds = chosen named x next first end is (omega (arith, signed, at, inv.order)) inv.high in
     record {

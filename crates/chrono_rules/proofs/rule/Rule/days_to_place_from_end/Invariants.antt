@@ -1,7 +1,8 @@
 -- The days looked at so far, from the period's end back, are no members but for the first that has a named place; those that pass are counted.
 use Rattle.std.proofs.Common.{◌≡◌, false, ℤ, pos, ◌+ℤ◌, ◌-ℤ◌, ◌≤ℤ◌, ◌<ℤ◌, unsigned_abs}
 use Rattle.chrono_datetime.specs.Recurrence.{count_between}
-use Rattle.chrono_rules.specs.Instances.{date_passes, is_member}
+use Rattle.chrono_rules.specs.ByParts.{date_passes}
+use Rattle.chrono_rules.specs.Instances.{is_member}
 use Rattle.chrono_rules.proofs.rule.Rule.days_to_place_from_end.Given as goal
 
 abbrev pub invariant-loop-later : goal.invariant-loop-later

@@ -4,7 +4,9 @@ use Rattle.chrono_datetime.specs.Days.{IsDate}
 use Rattle.chrono_datetime.specs.Recurrence.{count_between}
 use Rattle.chrono_datetime.proofs.CountBetween.{count_between-empty}
 use Rattle.chrono_datetime.proofs.Signed.{casts, signed}
-use Rattle.chrono_rules.specs.Instances.{date_passes, is_member, passes, period_end}
+use Rattle.chrono_rules.specs.ByParts.{date_passes, passes}
+use Rattle.chrono_rules.specs.Instances.{is_member}
+use Rattle.chrono_rules.specs.Periods.{period_end}
 use Rattle.chrono_rules.proofs.Counts.{counted-next}
 use Rattle.chrono_rules.proofs.PlacesFromEnd.{same_end, same_first}
 use Rattle.chrono_rules.proofs.PlacesInPeriods.{date_passes-is, off_day}

@@ -4,7 +4,7 @@ use Rattle.chrono_datetime.specs.Weekday.{days_from_monday}
 use Rattle.chrono_datetime.specs.Weeks.{weekday_of}
 use Rattle.chrono_datetime.proofs.IsoWeeks.{days_from_monday-of}
 use Rattle.chrono_datetime.proofs.Signed.{signed}
-use Rattle.chrono_rules.specs.Instances.{on_weekday}
+use Rattle.chrono_rules.specs.ByParts.{on_weekday}
 use Rattle.chrono_rules.proofs.Skipped.{named_later}
 use Rattle.chrono_rules.proofs.rule.Rule.days_to_weekday.Goals as goal
 
@@ -21,7 +21,7 @@ loop-first-preserved c = (
   λ j less le among.
       elim (cases_lt (j % 7) c.loop-first.first) [
         | inl lt ↦ c.loop-first.invariant.3 j (omega arith) le lt
-        | inr ge ↦ named_later c.args.self.now c.args.day (c.args.day +ℤ pos j) j _ _ _ c.requires (omega (arith, signed)) (omega (arith, le, c.days_behind-behind.ensures.value)) (omega (arith, c.loop-first.invariant.2)) (omega (arith, c.place_of-place.ensures.value)) (omega (arith, c.days_behind-behind.ensures.value)) (c.days_to_one_weekday-one.ensures.passed j (omega arith) le (omega arith))
+        | inr ge ↦ named_later c.args.self.now c.args.day (c.args.day +ℤ pos j) j _ _ _ c.requires (omega (arith, signed)) (omega (arith, le, c.days_behind-behind.ensures.value)) (omega (arith, c.loop-first.invariant.2)) (omega (arith, c.counted_place-place.ensures.value)) (omega (arith, c.days_behind-behind.ensures.value)) (c.days_to_one_weekday-one.ensures.passed j (omega arith) le (omega arith))
       ],
 )
 

@@ -3,7 +3,7 @@
 use Rattle.std.proofs.Common.{◌≡◌, ◌+◌, ◌-◌, ◌%◌, ◌≤◌, ◌<◌, false, ℕ, pos, ◌+ℤ◌}
 use Rattle.chrono_datetime.specs.Weekday.{days_from_monday}
 use Rattle.chrono_datetime.specs.Weeks.{weekday_of}
-use Rattle.chrono_rules.specs.Instances.{on_weekday}
+use Rattle.chrono_rules.specs.ByParts.{on_weekday}
 use Rattle.chrono_rules.proofs.rule.Rule.days_to_weekday.Given as goal
 
 abbrev pub invariant-loop-first : goal.invariant-loop-first

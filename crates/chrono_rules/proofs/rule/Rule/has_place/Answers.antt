@@ -1,6 +1,6 @@
 use Rattle.std.proofs.Common.{sym, ◌∙◌}
-use Rattle.chrono_rules.proofs.PlacesInPeriods.{none_named}
+use Rattle.chrono_sets.proofs.Members.{has-none}
 use Rattle.chrono_rules.proofs.rule.Rule.has_place.Goals as goal
 
 pub returns-then-is_empty : goal.returns-then-is_empty
-returns-then-is_empty c = sym (none_named c.args.self.now.positions _ (sym c.is_empty.ensures ∙ c.if-is_empty.true))
+returns-then-is_empty c = sym (has-none c.args.self.now.positions _ (sym c.is_empty.ensures ∙ c.if-is_empty.true))

@@ -1,5 +1,5 @@
 -- The members before `from` are counted, and before each day up to it they are fewer than `most`.
-use Rattle.std.proofs.Common.{◌≡◌, ◌≤◌, ◌<◌, ◌-◌, ℤ, ◌≤ℤ◌, ◌<ℤ◌}
+use Rattle.std.proofs.Common.{◌≡◌, ◌≤◌, ◌<◌, ℤ, ◌-ℤ◌, ◌≤ℤ◌, ◌<ℤ◌, unsigned_abs}
 use Rattle.chrono_datetime.specs.Recurrence.{count_between}
 use Rattle.chrono_rules.specs.Instances.{is_member}
 use Rattle.chrono_rules.proofs.rule.Rule.members_from.Given as goal
@@ -14,4 +14,4 @@ invariant-loop-count l = record {
 }
 
 abbrev pub decreases-loop-count : goal.decreases-loop-count
-decreases-loop-count l = l.fn.most - l.count
+decreases-loop-count l = unsigned_abs (l.fn.end -ℤ l.from)

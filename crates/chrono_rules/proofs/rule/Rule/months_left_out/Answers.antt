@@ -7,7 +7,7 @@ use Rattle.chrono_rules.proofs.rule.Rule.months_left_out.Goals as goal
 pub returns-then-not-lacks_months-clause-passed : goal.returns-then-not-lacks_months-clause-passed
 returns-then-not-lacks_months-clause-passed c = λ d j lt at.
     other_month c.args.self.now c.args.start d (sym c.lacks_months.ensures ∙ c.if-not-lacks_months.true)
-    (month_left_out c.args.self.now.months.digits (month_of d) c.args.month j c.requires (omega (arith, lt, c.gap_around.ensures.few)) at (c.gap_around.ensures.ahead j lt) (c.gap_around.ensures.around j lt))
+    (month_left_out c.args.self.now.months (month_of d) c.args.month j c.requires (omega (arith, lt, c.gap_around.ensures.few)) at (c.gap_around.ensures.ahead j lt) (c.gap_around.ensures.around j lt))
 
 pub returns-then-fills_month-clause-passed : goal.returns-then-fills_month-clause-passed
 returns-then-fills_month-clause-passed c = λ d j lt at.

@@ -1,4 +1,5 @@
-use Rattle.chrono_rules.proofs.Skipped.{length_here, month_on, year_fits}
+use Rattle.chrono_rules.proofs.Months.{length_here, month_on}
+use Rattle.chrono_rules.proofs.Skipped.{year_fits}
 use Rattle.std.proofs.Common.{arith}
 use Rattle.chrono_rules.proofs.rule.Rule.months_left_out_or_short.Goals as goal
 

@@ -2,7 +2,8 @@ use Rattle.std.proofs.Common.{arith, of_z, to_z, w32}
 use Rattle.std.specs.Int.{IsInRange}
 use Rattle.chrono_datetime.proofs.MonthOrder.{month_of-range}
 use Rattle.chrono_datetime.proofs.Signed.{casts, signed}
-use Rattle.chrono_rules.proofs.Skipped.{month_on, months_on, year_fits}
+use Rattle.chrono_rules.proofs.Months.{month_on}
+use Rattle.chrono_rules.proofs.Skipped.{months_on, year_fits}
 use Rattle.chrono_rules.proofs.rule.Rule.months_passed.Goals as goal
 
 pub loop-gap-init : goal.loop-gap-init

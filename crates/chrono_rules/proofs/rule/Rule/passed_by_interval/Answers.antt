@@ -1,6 +1,6 @@
 use Rattle.std.proofs.Common.{arith, ◌-ℤ◌, unsigned_abs}
 use Rattle.chrono_datetime.proofs.Signed.{casts, signed}
-use Rattle.chrono_rules.specs.Instances.{period_of}
+use Rattle.chrono_rules.specs.Periods.{period_of}
 use Rattle.chrono_rules.proofs.PeriodsLeftOut.{period-rises}
 use Rattle.chrono_rules.proofs.rule.Rule.passed_by_interval.Goals as goal
 

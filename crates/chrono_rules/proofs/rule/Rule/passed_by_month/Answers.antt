@@ -1,6 +1,6 @@
 use Rattle.std.proofs.Common.{arith}
 use Rattle.chrono_datetime.proofs.Signed.{casts}
-use Rattle.chrono_rules.proofs.Skipped.{month_later}
+use Rattle.chrono_rules.proofs.Months.{month_later}
 use Rattle.chrono_rules.proofs.rule.Rule.passed_by_month.Goals as goal
 
 pub returns-clause-passed : goal.returns-clause-passed

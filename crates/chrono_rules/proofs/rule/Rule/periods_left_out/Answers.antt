@@ -1,6 +1,6 @@
 use Rattle.std.proofs.Common.{◌≡◌, arith, ◌-ℤ◌, to_z, of_z, w64}
 use Rattle.chrono_datetime.proofs.Signed.{casts}
-use Rattle.chrono_rules.specs.Instances.{period_of}
+use Rattle.chrono_rules.specs.Periods.{period_of}
 use Rattle.chrono_rules.proofs.PeriodsLeftOut.{off_interval}
 use Rattle.chrono_rules.proofs.rule.Rule.periods_left_out.Goals as goal
 

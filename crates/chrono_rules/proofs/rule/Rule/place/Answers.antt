@@ -1,6 +1,6 @@
 use Rattle.std.proofs.Common.{◌≡◌, arith, ◌+ℤ◌, to_z, of_z, w64}
 use Rattle.chrono_datetime.proofs.Signed.{signed}
-use Rattle.chrono_rules.specs.Instances.{period_first}
+use Rattle.chrono_rules.specs.Periods.{period_first}
 use Rattle.chrono_rules.proofs.rule.Rule.place.Goals as goal
 
 pub returns-clause-value : goal.returns-clause-value

@@ -1,8 +1,7 @@
 use Rattle.std.proofs.Common.{◌++◌, false}
 use Rattle.std.specs.Prelude.{codes}
-use Rattle.chrono_rules.specs.Instances.{lacks_month_days, lacks_months, lacks_positions, lacks_weekdays, lacks_weeks, lacks_year_days}
-use Rattle.chrono_rules.specs.declared.listing.Listed.TheVariants.{Numbers, Places}
-use Rattle.chrono_rules.specs.declared.listing.Naming.TheVariants.{Number}
+use Rattle.chrono_rules.specs.RuleParts.{lacks_month_days, lacks_months, lacks_positions, lacks_weekdays, lacks_weeks, lacks_year_days}
+use Rattle.chrono_rules.specs.declared.text.list_writer.Naming.TheVariants.{Number}
 use Rattle.chrono_rules.specs.WrittenRules.{both_items, items, list_text, part_unless, weekday_items}
 use Rattle.chrono_rules.proofs.ListLemmas.{part_on, texts_on}
 use Rattle.chrono_rules.proofs.rule.Rule.put_lists.Goals as goal
@@ -11,12 +10,12 @@ pub returns-clause-text : goal.returns-clause-text
 returns-clause-text g c =
     let r = c.args.self.now in
     let end = c.put_positions.new.text in
-    let months = list_text (items (Numbers r.months) Number false 12 1) in
-    let month_days = list_text (both_items (Numbers r.month_days) (Numbers r.month_days_from_end) 31) in
+    let months = list_text (items r.months Number false 12 1) in
+    let month_days = list_text (both_items r.month_days r.month_days_from_end 31) in
     let weekdays = list_text (weekday_items r) in
-    let year_days = list_text (both_items (Places r.year_days) (Places r.year_days_from_end) 366) in
-    let weeks = list_text (both_items (Numbers r.weeks) (Numbers r.weeks_from_end) 53) in
-    let positions = list_text (both_items (Places r.positions) (Places r.positions_from_end) 366) in
+    let year_days = list_text (both_items r.year_days r.year_days_from_end 366) in
+    let weeks = list_text (both_items r.weeks r.weeks_from_end 53) in
+    let positions = list_text (both_items r.positions r.positions_from_end 366) in
     let p2 = part_unless (lacks_month_days r) (codes "BYMONTHDAY=") month_days in
     let p3 = part_unless (lacks_weekdays r) (codes "BYDAY=") weekdays in
     let p4 = part_unless (lacks_year_days r) (codes "BYYEARDAY=") year_days in

@@ -1,16 +1,16 @@
 use Rattle.std.proofs.Common.{◌++◌, false, true, sym, ◌∙◌}
 use Rattle.std.specs.Prelude.{codes}
-use Rattle.chrono_rules.specs.Instances.{lacks_weekdays}
-use Rattle.chrono_rules.specs.declared.listing.Listed.TheVariants.{Numbers}
-use Rattle.chrono_rules.specs.declared.listing.Naming.TheVariants.{Each}
-use Rattle.chrono_rules.specs.WrittenRules.{items, list_text, numbered_items, weekday_items}
+use Rattle.chrono_rules.specs.RuleParts.{lacks_weekdays}
+use Rattle.chrono_rules.specs.declared.text.list_writer.Naming.TheVariants.{Each}
+use Rattle.chrono_rules.specs.WrittenRules.{items, list_text, members, numbered_items, weekday_items}
 use Rattle.chrono_rules.proofs.ListLemmas.{part_put, put_next}
 use Rattle.chrono_rules.proofs.rule.Rule.put_weekdays.Goals as goal
 
 pub returns-clause-text : goal.returns-clause-text
+unfolding members
 returns-clause-text g c =
     let r = c.args.self.now in
-    let each = items (Numbers r.weekdays.every) Each false 7 0 in
+    let each = items r.weekdays.every Each false 7 0 in
     let front = numbered_items false r.weekdays.front 0 in
     let back = numbered_items true r.weekdays.back 0 in
     let named = c.push_text.new.self in

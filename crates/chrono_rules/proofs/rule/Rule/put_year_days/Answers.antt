@@ -1,12 +1,12 @@
 use Rattle.std.proofs.Common.{sym, ◌∙◌}
 use Rattle.std.specs.Prelude.{codes}
-use Rattle.chrono_rules.specs.Instances.{lacks_year_days}
-use Rattle.chrono_rules.specs.declared.listing.Listed.TheVariants.{Places}
-use Rattle.chrono_rules.specs.WrittenRules.{both_items, list_text}
+use Rattle.chrono_rules.specs.RuleParts.{lacks_year_days}
+use Rattle.chrono_rules.specs.WrittenRules.{both_items, list_text, members}
 use Rattle.chrono_rules.proofs.ListLemmas.{part_put}
 use Rattle.chrono_rules.proofs.rule.Rule.put_year_days.Goals as goal
 
 pub returns-clause-text : goal.returns-clause-text
+unfolding members
 returns-clause-text g c =
     let r = c.args.self.now in
-    part_put c.args.text.now c.push_text.new.self c.put_both.new.text (codes ";BYYEARDAY=") (list_text (both_items (Places r.year_days) (Places r.year_days_from_end) 366)) (lacks_year_days r) (sym c.lacks_year_days.ensures ∙ c.if-lacks_year_days.false) c.push_text.ensures c.put_both.ensures.text
+    part_put c.args.text.now c.push_text.new.self c.put_both.new.text (codes ";BYYEARDAY=") (list_text (both_items r.year_days r.year_days_from_end 366)) (lacks_year_days r) (sym c.lacks_year_days.ensures ∙ c.if-lacks_year_days.false) c.push_text.ensures c.put_both.ensures.text

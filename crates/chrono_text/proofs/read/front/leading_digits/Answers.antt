@@ -1,17 +1,9 @@
-use Rattle.std.proofs.Common.{◌≡◌, ◌+◌, ◌<◌, ◌≤◌, ◌^◌, ℕ, List, length, get_or, take, arith, length-take}
+use Rattle.std.proofs.Common.{◌≡◌, ◌+◌, ◌<◌, ◌≤◌, length, get_or, arith}
 use Rattle.std.specs.Char.{digit_value}
-use Rattle.std.specs.Str.Parse.{AllDigits, digits_value}
-use Rattle.std.proofs.Math.Nat.{pow-le-pow_right}
 use Rattle.std.proofs.lemmas.Str.{digit_value_digit}
-use Rattle.std.proofs.lemmas.Int.Digits.{digits_more, digits_value_more, digits_value-lt}
+use Rattle.std.proofs.lemmas.Int.Digits.{digits_more, digits_value_more}
+use Rattle.chrono_text.proofs.LaneLemmas.{below}
 use Rattle.chrono_text.proofs.read.front.leading_digits.Goals as goal
-
--- so many digits write a number below that power of ten
-below : (text : List ℕ) (len most : ℕ) → len ≤ most → AllDigits 10 (take len text) → digits_value 10 (take len text) < 10 ^ most
-below text len most few digits =
-    let short : length (take len text) ≤ most = omega (arith, length-take len text) in
-    let power : 10 ^ length (take len text) ≤ 10 ^ most = pow-le-pow_right (omega arith) short in
-    omega (arith, digits_value-lt 10 (take len text) digits)
 
 pub overflow_mul-value : goal.overflow_mul-value
 overflow_mul-value c = record { fits = omega (arith, below c.args.text.now c.loop-len.len 17 (omega arith) c.loop-len.invariant.1) }

@@ -1,7 +1,8 @@
 use Rattle.std.proofs.Common.{◌∙◌, sym, ap, [], ◌∷◌, ◌++◌}
 use Rattle.chrono_units.specs.WeekdaySet.{walk}
-use Rattle.chrono_units.proofs.SetWalks.{last_day-none, walk-last, last-goes}
+use Rattle.chrono_units.proofs.SetWalks.{last_day-none, walk-last}
 use Rattle.chrono_units.proofs.weekday_set_iter.WeekdaySetIterDoubleEndedIterator.next_back.Goals as goal
+use Rattle.chrono_units.proofs.ListsLeft.{MakesProgress-last}
 
 pub returns-clause-steps : goal.returns-clause-steps
 returns-clause-steps c =
@@ -10,7 +11,7 @@ returns-clause-steps c =
     ∙ ap (λ s. walk s c.self.inside.start ++ c.in_ok-day.day ∷ []) (sym c.remove.ensures.after)
 
 pub returns-clause-goes : goal.returns-clause-goes
-returns-clause-goes c = last-goes _ _ _ (returns-clause-steps c)
+returns-clause-goes c = MakesProgress-last _ _ _ (returns-clause-steps c)
 
 pub returns-in_err-day-clause-steps : goal.returns-in_err-day-clause-steps
 returns-in_err-day-clause-steps c =

@@ -1,0 +1,345 @@
+#!/usr/bin/env python3
+"""Holds timestamps, offsets, zoned date-times and their texts to Python's datetime and email.utils, on random lines.
+
+    checks/instants.py [--seed N] [--lines N]      (seed 1 and 20,000 lines, if left out)
+
+Within the years 1 to 9999 an answer is that of Python's datetime. Outside them, and at offsets that lead there, it is this
+file's own count of days. What is written as RFC 2822, email.utils has to read. Texts near to right ones are read by a second
+grammar. `rt try` runs a small program unproved, in a copy of the crates: it answers the lines, and what differs is printed. A
+second run of the same lines with one answer changed has to find that answer.
+"""
+import argparse
+import datetime
+import email.utils
+import random
+import re
+import subprocess
+import sys
+import tempfile
+
+from outside import below, copy_crates, listed_crates
+
+UTC = datetime.timezone.utc
+EPOCH = datetime.datetime(1970, 1, 1, tzinfo=UTC)
+DAY = 86_400
+FIRST, LAST = -8_334_601_228_800, 8_210_266_876_799
+NANOS = 10**9
+PROGRAM = r'''//! Answers questions on instants, a line each.
+#![tactic(auto)]
+
+use chrono_datetime::{NaiveDateTime, TimeDelta};
+use chrono_stamps::{SecondsFormat, parse_from_rfc3339, to_rfc2822, to_rfc3339_opts};
+use chrono_zoned::{FixedOffset, FromTimestamp, InZone, MappedLocalTime, Timestamp};
+use std::io::{self, BufRead, BufReader};
+
+fn main(rt: HostRuntime) -> io::Result<()> {
+    for line in BufReader::new(rt.alloc(), rt.reader())?.lines(rt.alloc()) {
+        let line = line?;
+        if let Some(text) = line.as_str().strip_prefix("read ") {
+            match parse_from_rfc3339(text.as_bytes()) {
+                Ok(it) => println!(rt; "= {it:?} {}", it.timestamp())?,
+                Err(it) => println!(rt; "= {it}")?,
+            }
+            continue;
+        }
+        let mut words = line.as_str().split_ascii_whitespace();
+        let Some(call) = words.next() else { return Ok(()); };
+        let secs: i64 = words.next().unwrap_or("").parse().unwrap_or(0);
+        let nanos: u32 = words.next().unwrap_or("").parse().unwrap_or(0);
+        let Some(offset) = FixedOffset::east_opt(words.next().unwrap_or("").parse().unwrap_or(0)) else { return Ok(()); };
+        let moved: i64 = words.next().unwrap_or("").parse().unwrap_or(0);
+        let at = NaiveDateTime::from_timestamp(secs, nanos);
+        match (call, at) {
+            ("stamp", Some(at)) => println!(rt; "= {at:?} {} {} {} {:?}", at.timestamp(), at.timestamp_millis(), at.timestamp_micros(), at.timestamp_nanos_opt())?,
+            ("millis", _) => println!(rt; "= {:?}", NaiveDateTime::from_timestamp_millis(secs))?,
+            ("micros", _) => println!(rt; "= {:?}", NaiveDateTime::from_timestamp_micros(secs))?,
+            ("nanos", _) => println!(rt; "= {:?}", NaiveDateTime::from_timestamp_nanos(secs))?,
+            ("zoned", Some(at)) => println!(rt; "= {:?}", offset.from_utc_datetime(&at))?,
+            ("rfc3339", Some(at)) => {
+                let form = match moved.rem_euclid(5) {
+                    0 => SecondsFormat::Secs,
+                    1 => SecondsFormat::Millis,
+                    2 => SecondsFormat::Micros,
+                    3 => SecondsFormat::Nanos,
+                    _ => SecondsFormat::AutoSi,
+                };
+                let text = offset.from_utc_datetime(&at).and_then(|it| to_rfc3339_opts(&it, form, moved.rem_euclid(2) == 0));
+                match text {
+                    Some(text) => println!(rt; "= {}", text.as_str())?,
+                    None => println!(rt; "= None")?,
+                }
+            }
+            ("rfc2822", Some(at)) => match offset.from_utc_datetime(&at).and_then(|it| to_rfc2822(&it)) {
+                Some(text) => println!(rt; "= {}", text.as_str())?,
+                None => println!(rt; "= None")?,
+            },
+            ("local", Some(at)) => match offset.from_local_datetime(&at) {
+                MappedLocalTime::Single(found) => println!(rt; "= {found:?} {}", found.timestamp())?,
+                _ => println!(rt; "= None")?,
+            },
+            ("moved", Some(at)) => println!(rt; "= {:?}", offset.from_utc_datetime(&at).and_then(|it| it.checked_add_signed(TimeDelta::seconds(moved))))?,
+            _ => println!(rt; "= None")?,
+        }
+    }
+    Ok(())
+}
+'''
+
+
+def civil(day):
+    """The year, the month and the day of a day counted from 1 January 1970: by steps of 400 years, and then by datetime."""
+    cycles, rest = divmod(day + 719_162, 146_097)
+    date = datetime.date.fromordinal(rest + 1 + 146_097)
+    return date.year + 400 * (cycles - 1), date.month, date.day
+
+
+def text(secs, nanos):
+    """A date-time's text, by datetime where it has the year."""
+    year, month, day = civil(secs // DAY)
+    if 1 <= year <= 9999:
+        at = EPOCH + datetime.timedelta(seconds=secs)
+        assert (at.year, at.month, at.day) == (year, month, day), secs
+    hour, minute, second = secs % DAY // 3_600, secs // 60 % 60, secs % 60 + (nanos >= NANOS)
+    name = f"{year:04}" if 0 <= year <= 9_999 else f"{year:+05}"
+    past = nanos % NANOS
+    places = next(it for it in (0, 3, 6, 9) if past % 10 ** (9 - it) == 0)
+    fraction = "." + f"{past:09}"[:places] if places else ""
+    return f"{name}-{month:02}-{day:02}T{hour:02}:{minute:02}:{second:02}{fraction}"
+
+
+def offset_text(offset):
+    """An offset's text, which is datetime's too."""
+    size = abs(offset)
+    told = f"{'-' if offset < 0 else '+'}{size // 3600:02}:{size // 60 % 60:02}" + (f":{size % 60:02}" if size % 60 else "")
+    zone = datetime.timezone(datetime.timedelta(seconds=offset))
+    assert datetime.datetime(2000, 1, 1, tzinfo=zone).isoformat()[19:] == told, offset
+    return told
+
+
+FORMS = ("seconds", "milliseconds", "microseconds", "nanoseconds", "auto")
+# The lengths of months in a common year.
+LENGTHS = (31, 28, 31, 30, 31, 30, 31, 31, 30, 31, 30, 31)
+WRITTEN = re.compile(r"(\d{4})-(\d\d)-(\d\d)[Tt ](\d\d):(\d\d):(\d\d)(?:\.(\d{1,9}))?(?:[Zz]|([+-])(\d\d):(\d\d))")
+
+
+def has_text(secs, nanos, offset):
+    """Whether RFC 3339 and RFC 2822 have a text: a year of four digits, and whole minutes."""
+    return 0 <= civil((secs + offset) // DAY)[0] <= 9_999 and offset % 60 == 0 and (nanos < NANOS or (secs + offset) % 60 == 59)
+
+
+def rfc3339(secs, nanos, offset, moved):
+    """The text with the digits of a form: of Python's isoformat, where it has the year, the second and the form."""
+    if not has_text(secs, nanos, offset):
+        return "None"
+    form = FORMS[moved % 5]
+    whole = text(secs + offset, nanos - nanos % NANOS)
+    past = nanos % NANOS
+    places = (0, 3, 6, 9, next(it for it in (0, 3, 6, 9) if past % 10 ** (9 - it) == 0))[moved % 5]
+    told = whole + ("." + f"{past:09}"[:places] if places else "")
+    if nanos < NANOS and form not in ("nanoseconds", "auto") and civil((secs + offset) // DAY)[0] > 0:
+        at = datetime.datetime(1970, 1, 1) + datetime.timedelta(seconds=secs + offset, microseconds=past // 1_000)
+        assert at.isoformat(timespec=form) == told, told
+    return told + ("Z" if moved % 2 == 0 and offset == 0 else offset_text(offset))
+
+
+def rfc2822(secs, nanos, offset):
+    """The text of RFC 2822, which email.utils has to read as the same instant and offset, where it has the year."""
+    if not has_text(secs, nanos, offset):
+        return "None"
+    year, month, day = civil((secs + offset) // DAY)
+    weekday = ("Thu", "Fri", "Sat", "Sun", "Mon", "Tue", "Wed")[(secs + offset) // DAY % 7]
+    name = ("Jan", "Feb", "Mar", "Apr", "May", "Jun", "Jul", "Aug", "Sep", "Oct", "Nov", "Dec")[month - 1]
+    clock = text(secs + offset, nanos - nanos % NANOS).partition("T")[2]
+    zone = offset_text(offset).replace(":", "")
+    told = f"{weekday}, {day} {name} {year:04} {clock} {zone}"
+    if nanos < NANOS and year >= 1_000:
+        assert email.utils.mktime_tz(email.utils.parsedate_tz(told)) == secs, told
+    return told
+
+
+def length_of(year, month):
+    return LENGTHS[month - 1] + (month == 2 and year % 4 == 0 and (year % 100 != 0 or year % 400 == 0))
+
+
+def misfit(told, forms):
+    """The first byte at which the text is as none of the forms, or its length."""
+
+    def agrees(form, at):
+        sign = form[at]
+        return told[at].isdigit() and told[at].isascii() if sign == "d" else told[at] in {"T": "Tt ", "s": "+-", "Z": "Zz"}.get(sign, sign)
+
+    best = 0
+    for form in forms:
+        at = 0
+        while at < min(len(form), len(told)) and agrees(form, at):
+            at += 1
+        best = max(best, at)
+    return best
+
+
+def read(told):
+    """What the text is read as by the second grammar, or what is wrong with it."""
+    wrong = lambda at, words="not of this form": f"byte {at}: {words}"  # noqa: E731
+    fits = WRITTEN.fullmatch(told)
+    forms = ["dddd-dd-ddTdd:dd:dd" + ("." + "d" * places if places else "") + end for places in range(10) for end in ("Z", "sdd:dd")]
+    at = misfit(told, forms)
+    # The date, the time and the offset are read one after another, so a wrong number counts before a wrong form behind its part.
+    if at >= 10:
+        year, month, day = int(told[:4]), int(told[5:7]), int(told[8:10])
+        if not 1 <= month <= 12:
+            return wrong(5, "the month is 0" if month == 0 else "the month is above 12")
+        if not 1 <= day <= length_of(year, month):
+            return wrong(8, "the day is 0" if day == 0 else f"the month has {length_of(year, month)} days")
+    clock = re.match(r"[0-9:.]*", told[11:])[0] if at >= 11 else ""
+    if re.fullmatch(r"\d\d:\d\d:\d\d(\.\d{1,9})?", clock, re.A):
+        for place, most, words in ((11, 23, "the hour is above 23"), (14, 59, "the minute is above 59"), (17, 60, "the second is above 60")):
+            if int(told[place : place + 2]) > most:
+                return wrong(place, words)
+    if not fits or not told.isascii():
+        return wrong(at)
+    sign, hours, minutes = fits[8], int(fits[9] or 0), int(fits[10] or 0)
+    if hours > 23:
+        return wrong(len(told) - 5, "the hour is above 23")
+    if minutes > 59:
+        return wrong(len(told) - 2, "the minute is above 59")
+    offset = (hours * 3_600 + minutes * 60) * (-1 if sign == "-" else 1)
+    hour, minute, second = (int(fits[it]) for it in (4, 5, 6))
+    leap = second == 60
+    day = (datetime.date(2000 + year % 400, month, day) - datetime.date(1970, 1, 1)).days + 146_097 * (year // 400 - 5)
+    secs = day * DAY + hour * 3_600 + minute * 60 + second - leap
+    nanos = int((fits[7] or "").ljust(9, "0")) + leap * NANOS
+    if year >= 1 and not leap:
+        at = datetime.datetime.fromisoformat(told[:19].replace("t", "T").replace(" ", "T"))
+        assert (at - datetime.datetime(1970, 1, 1)) == datetime.timedelta(seconds=secs), told
+    return f"{text(secs, nanos)}{offset_text(offset)} {secs - offset}"
+
+
+def near_text(draw):
+    """A text of RFC 3339, or one that is a change or two away from it."""
+    year, month, day = draw.choice((draw.randrange(10_000), 2024, 1900)), draw.randrange(0, 14), draw.choice((draw.randrange(0, 33), 28, 29))
+    hour, minute, second = draw.randrange(26), draw.choice((draw.randrange(62), 59)), draw.choice((draw.randrange(63), 59, 60))
+    fraction = draw.choice(("", "", f".{draw.randrange(10**9):09}"[: draw.randrange(1, 12)], ".5", "."))
+    zone = draw.choice(("Z", "z", "+00:00", "-00:00", f"{draw.choice('+-')}{draw.randrange(26):02}:{draw.randrange(62):02}"))
+    told = f"{year:04}-{month:02}-{day:02}{draw.choice('TTTt ')}{hour:02}:{minute:02}:{second:02}{fraction}{zone}"
+    for _ in range(draw.choice((0, 0, 0, 1, 1, 2))):
+        at = draw.randrange(len(told) + 1)
+        told = draw.choice((told[:at] + draw.choice("0129:+-TZ. x") + told[at:], told[:at] + told[at + 1 :], told[:at], told[:at] + draw.choice("059:.-+z ") + told[at + 1 :]))
+    return told.strip() or "2024"
+
+
+def is_date_time(secs, nanos):
+    return FIRST <= secs <= LAST and nanos < 2 * NANOS and (nanos < NANOS or secs % 60 == 59)
+
+
+def some(told):
+    return f"Some({told})" if told else "None"
+
+
+def answer(call, secs, nanos, offset, moved):
+    """What the program has to print."""
+    if call == "read":
+        return read(secs)
+    if call in ("millis", "micros", "nanos"):
+        unit = {"millis": 10**3, "micros": 10**6, "nanos": NANOS}[call]
+        second, rest = divmod(secs, unit)
+        told = text(second, rest * (NANOS // unit)) if FIRST <= second <= LAST else None
+        return told if call == "nanos" else some(told)
+    if not is_date_time(secs, nanos):
+        return "None"
+    if call == "stamp":
+        count = secs * NANOS + nanos
+        held = some(str(count) if -(2**63) <= count < 2**63 else None)
+        return f"{text(secs, nanos)} {secs} {secs * 1000 + nanos // 10**6} {secs * 10**6 + nanos // 1000} {held}"
+    if call == "local":
+        at = secs - offset
+        return f"{text(secs, nanos)}{offset_text(offset)} {at}" if FIRST <= at <= LAST else "None"
+    if not FIRST <= secs + offset <= LAST:
+        return "None"
+    if call == "rfc3339":
+        return rfc3339(secs, nanos, offset, moved)
+    if call == "rfc2822":
+        return rfc2822(secs, nanos, offset)
+    if call == "moved":
+        # A move out of a leap second counts that second, whichever way it goes.
+        if nanos >= NANOS and moved:
+            secs, nanos = secs + (moved < 0), nanos - NANOS
+        secs += moved
+        if not (FIRST <= secs <= LAST and FIRST <= secs + offset <= LAST):
+            return "None"
+    return some(text(secs + offset, nanos) + offset_text(offset))
+
+
+def question(draw):
+    """A random line: mostly years of today, some near the ends, some out of range."""
+    call = draw.choice(("stamp", "stamp", "millis", "micros", "nanos", "zoned", "zoned", "local", "local", "moved", "rfc3339", "rfc3339", "rfc2822", "rfc2822", "read", "read", "read"))
+    if call == "read":
+        return call, near_text(draw), "", "", ""
+    near = draw.random()
+    if call in ("rfc3339", "rfc2822"):
+        near = draw.choice((near, 0.0))
+    if near < 0.4:
+        secs = draw.randrange(-(2**33), 2**33)
+    elif near < 0.7:
+        secs = draw.randrange(FIRST, LAST + 1)
+    elif near < 0.9:
+        secs = draw.choice((FIRST, LAST, 0, -9_223_372_037, 9_223_372_036)) + draw.randrange(-100_000, 100_000)
+    else:
+        secs = draw.randrange(-(2**63), 2**63)
+    if call in ("millis", "micros", "nanos"):
+        unit = {"millis": 10**3, "micros": 10**6, "nanos": NANOS}[call]
+        secs = secs * draw.choice((1, unit)) + draw.randrange(unit)
+    nanos = draw.choice((0, 500_000_000, 1_000, draw.randrange(NANOS), draw.randrange(2 * NANOS), draw.randrange(2**32)))
+    if nanos >= NANOS and draw.random() < 0.7:
+        secs, nanos = secs - secs % 60 + 59, nanos % (2 * NANOS)
+    secs = max(-(2**63), min(2**63 - 1, secs))
+    offset = draw.choice((0, 3_600, 19_800, -18_000, -1, 60 * draw.randrange(-1_439, 1_440), draw.randrange(-DAY + 1, DAY)))
+    return call, secs, nanos, offset, draw.randrange(-10**7, 10**7)
+
+
+def answers_of(room, questions):
+    """What the program answers."""
+    crates = listed_crates()
+    used = below("chrono_stamps", crates)
+    copy_crates(room, used)
+    with open(f"{room}/crates.txt", "w", encoding="utf-8") as it:
+        it.writelines(f"{name}: {' '.join(crates[name])}\n" for name in used)
+        it.write("instants: chrono_datetime chrono_zoned chrono_stamps\n")
+    folder = f"{room}/crates/instants"
+    subprocess.run(["mkdir", "-p", f"{folder}/src"], check=True)
+    with open(f"{folder}/src/main.rt", "w", encoding="utf-8") as it:
+        it.write(PROGRAM)
+    lines = "".join(" ".join(map(str, it)).strip() + "\n" for it in questions)
+    said = subprocess.run(["rt", "try"], cwd=folder, input=lines, stdout=subprocess.PIPE, stderr=subprocess.STDOUT, text=True, errors="replace").stdout
+    if not re.search(r"^run=ended status=0 ", said, re.M):
+        sys.exit(f"the program fails:\n{said[-3000:]}")
+    return [line[2:] for line in said.splitlines() if line.startswith("= ")]
+
+
+def differing(questions, told, wanted):
+    return [f"{' '.join(map(str, it))}: {a}, not {b}" for it, a, b in zip(questions, told, wanted) if a != b]
+
+
+def main():
+    parser = argparse.ArgumentParser(description=__doc__.partition("\n")[0])
+    parser.add_argument("--seed", type=int, default=1)
+    parser.add_argument("--lines", type=int, default=20_000)
+    options = parser.parse_args()
+    draw = random.Random(options.seed)
+    questions = [question(draw) for _ in range(options.lines)]
+    wanted = [answer(*it) for it in questions]
+    with tempfile.TemporaryDirectory(prefix="instants-") as room:
+        told = answers_of(room, questions)
+    if len(told) != len(wanted):
+        sys.exit(f"{len(told)} answers for {len(wanted)} lines")
+    wrong = differing(questions, told, wanted)
+    for it in wrong[:20]:
+        print(f"FAILED: {it}")
+    changed = ["", *wanted[1:]]
+    if len(differing(questions, told, changed)) != len(wrong) + 1 and told[0] == wanted[0]:
+        sys.exit("a changed answer is not found")
+    print(f"{len(wanted) - len(wrong)} passed, {len(wrong)} failed")
+    sys.exit(bool(wrong))
+
+
+if __name__ == "__main__":
+    main()

@@ -1,5 +1,0 @@
-use Rattle.chrono_cron.proofs.ToldBack.{schedule_told}
-use Rattle.chrono_cron.proofs.law.read_schedules_are_told.Goals as goal
-
-pub returns : goal.returns
-returns c = schedule_told c.args.text.now c.args.schedule.now.sets

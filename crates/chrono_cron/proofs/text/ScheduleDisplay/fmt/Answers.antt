@@ -1,7 +1,0 @@
-use Rattle.std.proofs.Common.{rules}
-use Rattle.chrono_text.proofs.AsciiTexts.{IsAscii-put}
-use Rattle.chrono_cron.proofs.WrittenAscii.{schedule_ascii}
-use Rattle.chrono_cron.proofs.text.ScheduleDisplay.fmt.Goals as goal
-
-pub print-requires : goal.print-requires
-print-requires g c = (search rules, IsAscii-put _ _ _ c.put_into.ensures.text c.new-text.ensures (schedule_ascii c.args.self.now.sets))

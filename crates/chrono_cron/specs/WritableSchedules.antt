@@ -1,0 +1,31 @@
+-- The schedules that texts tell.
+use Rattle.std.specs.Prelude.{◌≡◌, ℕ, ◌<◌, ◌≤◌, ◌||◌, ◌⊎◌, true, false}
+use Rattle.chrono_sets.specs.Numbers.{Numbers as FiniteSet, has}
+use Rattle.chrono_cron.specs.declared.field_sets.FieldSets.{FieldSets}
+
+-- a member of a set
+abbrev pub Member : FiniteSet → Type 0
+Member set = (k : ℕ) × (has set k ≡ true)
+
+-- all members are numbers from `low` to before `end`
+abbrev pub LieBetween : FiniteSet → ℕ → ℕ → Type 0
+LieBetween set low end = (k : ℕ) → has set k ≡ true → (low ≤ k) × (k < end)
+
+-- each set has numbers of its field alone, each field lists or names something, and where both fields of days have to match, the 1st or
+-- Sunday is listed, by which one of them can begin with `*`
+pub record IsWritable (s : FieldSets) : Type 0 where
+  pub minutes : LieBetween s.minutes 0 60
+  pub hours : LieBetween s.hours 0 24
+  pub days : LieBetween s.days 1 32
+  pub months : LieBetween s.months 1 13
+  pub weekdays : LieBetween s.weekdays 0 7
+  pub from_end : LieBetween s.month_days.from_end 0 31
+  pub nearest_workdays : LieBetween s.month_days.nearest_workdays 1 32
+  pub last_weekdays : LieBetween s.month_days.last_weekdays 0 7
+  pub nth_weekdays : LieBetween s.month_days.nth_weekdays 0 35
+  pub a_minute : Member s.minutes
+  pub an_hour : Member s.hours
+  pub a_month : Member s.months
+  pub a_day : Member s.days ⊎ (Member s.month_days.from_end ⊎ ((s.month_days.last_workday ≡ true) ⊎ Member s.month_days.nearest_workdays))
+  pub a_weekday : Member s.weekdays ⊎ (Member s.month_days.last_weekdays ⊎ Member s.month_days.nth_weekdays)
+  pub starred : s.either ≡ false → (has s.days 1 || has s.weekdays 0) ≡ true

@@ -1,0 +1,4 @@
+-- Lemmas that other crates cite stand in this module.
+pub mod InstantLemmas
+-- The rest serve this crate's own proofs alone.
+mod OffsetTextLemmas

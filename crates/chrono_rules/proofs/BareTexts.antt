@@ -1,0 +1,92 @@
+-- A text that is written has neither `RRULE:` in front nor a semicolon at its end.
+use Rattle.std.proofs.Common.{◌≡◌, ℕ, suc, ◌-◌, ◌==◌, nat_lt, Bool, true, false, ◌&&◌, if◌then◌else◌, List, [], ◌∷◌, ◌++◌, length, slice_index, take, drop, codes, refl, ap, ◌∙◌, arith}
+use Rattle.std.specs.List.{join_with_byte, list_all}
+use Rattle.std.proofs.lemmas.Bool.{false≢true}
+use Rattle.chrono_rules.specs.RuleErrors.{frequency_text}
+use Rattle.chrono_rules.specs.RuleTexts.{IsRuleText, behind_property, ends_with_semicolon, is_named, is_part, parts, rule_body, without_semicolon}
+use Rattle.chrono_rules.specs.Split.{begun, pieces}
+use Rattle.chrono_rules.specs.WrittenRules.{later_parts, rule_text}
+use Rattle.chrono_rules.specs.declared.rule.Frequency.{Frequency}
+use Rattle.chrono_rules.specs.declared.rule.Frequency.TheVariants.{Daily, Monthly, Weekly, Yearly}
+use Rattle.chrono_rules.specs.declared.rule.Rule.{Rule}
+use Rattle.chrono_rules.proofs.Passed.{and-none}
+
+-- ---- in front
+
+no_property : (f : Frequency) (later : List (List ℕ)) → is_named (codes "RRULE:") (join_with_byte 59 ((codes "FREQ=" ++ frequency_text f) ∷ later)) ≡ false
+unfolding frequency_text
+no_property Daily [] = refl
+no_property Daily (p ∷ ps) = refl
+no_property Weekly [] = refl
+no_property Weekly (p ∷ ps) = refl
+no_property Monthly [] = refl
+no_property Monthly (p ∷ ps) = refl
+no_property Yearly [] = refl
+no_property Yearly (p ∷ ps) = refl
+
+written_front : (r : Rule) → is_named (codes "RRULE:") (rule_text r) ≡ false
+unfolding rule_text
+written_front r = no_property r.frequency (later_parts r)
+
+-- ---- at the end
+
+first-true : (a b : Bool) → (a && b) ≡ true → a ≡ true
+first-true true b is = refl
+first-true false b is = absurd (false≢true is)
+
+second-true : (a b : Bool) → (a && b) ≡ true → b ≡ true
+second-true true b is = is
+second-true false b is = absurd (false≢true is)
+
+both-true : (a b : Bool) → a ≡ true → b ≡ true → (a && b) ≡ true
+both-true a b on too = rw (on, too) refl
+
+abbrev is_some_piece : List ℕ → Bool
+is_some_piece [] = false
+is_some_piece (b ∷ bs) = true
+
+-- of the pieces behind the first none is empty
+abbrev are_some_behind : List (List ℕ) → Bool
+are_some_behind [] = true
+are_some_behind (p ∷ ps) = list_all is_some_piece ps
+
+part_some : (p : List ℕ) → is_part p ≡ true → is_some_piece p ≡ true
+part_some [] is = absurd (false≢true is)
+part_some (b ∷ bs) is = refl
+
+all_some : (ps : List (List ℕ)) → list_all is_part ps ≡ true → list_all is_some_piece ps ≡ true
+all_some [] is = refl
+all_some (p ∷ ps) is =
+    both-true (is_some_piece p) (list_all is_some_piece ps) (part_some p (first-true (is_part p) (list_all is_part ps) is)) (all_some ps (second-true (is_part p) (list_all is_part ps) is))
+
+some_behind : (ps : List (List ℕ)) → list_all is_some_piece ps ≡ true → are_some_behind ps ≡ true
+some_behind [] is = refl
+some_behind (p ∷ ps) is = second-true (is_some_piece p) (list_all is_some_piece ps) is
+
+behind_begun : (t : Bool) (b : ℕ) (ps : List (List ℕ)) → are_some_behind (begun t b ps) ≡ true → are_some_behind ps ≡ true
+behind_begun true b [] is = refl
+behind_begun true b (p ∷ ps) is = second-true (is_some_piece p) (list_all is_some_piece ps) is
+behind_begun false b [] is = refl
+behind_begun false b (p ∷ ps) is = is
+
+one_byte : (t : Bool) (b : ℕ) → (b == 59) ≡ t → are_some_behind (begun t b ([] ∷ [])) ≡ true → (b == 59) ≡ false
+one_byte true b same is = absurd (false≢true is)
+one_byte false b same is = same
+
+last_byte : (b : ℕ) (text : List ℕ) → are_some_behind (pieces 59 (b ∷ text)) ≡ true → (slice_index (b ∷ text) (length (b ∷ text) - 1) == 59) ≡ false
+last_byte b [] is = one_byte (b == 59) b refl is
+last_byte b (c ∷ cs) is =
+    let one : length (b ∷ c ∷ cs) - 1 ≡ suc (length (c ∷ cs) - 1) = omega arith in
+    ap (λ k. slice_index (b ∷ c ∷ cs) k == 59) one ∙ last_byte c cs (behind_begun (b == 59) b (pieces 59 (c ∷ cs)) is)
+
+unended : (text : List ℕ) → list_all is_part (parts text) ≡ true → ends_with_semicolon text ≡ false
+unended [] named = refl
+unended (b ∷ bs) named = and-none (nat_lt 0 (length (b ∷ bs))) _ (last_byte b bs (some_behind (pieces 59 (b ∷ bs)) (all_some (pieces 59 (b ∷ bs)) named)))
+
+pub bare_text : (r : Rule) → IsRuleText (rule_text r) r → rule_body (rule_text r) ≡ rule_text r
+unfolding rule_body
+bare_text r is =
+    let text = rule_text r in
+    let front : behind_property text ≡ text = ap (λ b. if b then drop 6 text else text) (written_front r) in
+    let end : without_semicolon text ≡ text = ap (λ b. if b then take (length text - 1) text else text) (unended text is.named) in
+    ap without_semicolon front ∙ end

@@ -1,0 +1,139 @@
+-- Rules that are read are rules that a text can write.
+use Rattle.std.proofs.Common.{◌≡◌, ℕ, suc, ◌+◌, ◌-◌, ◌*◌, ◌^◌, ◌<◌, ◌≤◌, ◌==◌, nat_le, Bool, true, false, ◌&&◌, if◌then◌else◌, List, [], ◌∷◌, length, drop, take, Some, None, ℤ, ◌≤ℤ◌, refl, ap, subst, arith}
+use Rattle.std.specs.Prelude.{pos}
+use Rattle.std.specs.Option.{option_and_then, option_map}
+use Rattle.std.proofs.Math.Nat.{pow-le-pow_right}
+use Rattle.std.proofs.lemmas.Bool.{and_parts, eqb-false, leb-true}
+use Rattle.std.proofs.lemmas.Option.{none-some, option_and_then_some, same_Some}
+use Rattle.chrono_datetime.specs.Days.{date_of_ymd, year_of}
+use Rattle.chrono_datetime.proofs.NamedDates.{date_of_ymd-name}
+use Rattle.chrono_datetime.proofs.Signed.{signed}
+use Rattle.chrono_sets.specs.Numbers.{Numbers, no_numbers}
+use Rattle.chrono_rules.specs.declared.rule.End.{End}
+use Rattle.chrono_rules.specs.declared.rule.End.TheVariants.{Count, Never, Until}
+use Rattle.chrono_rules.specs.declared.rule.Rule.{Rule}
+use Rattle.chrono_rules.specs.RuleParts.{no_weekdays}
+use Rattle.chrono_rules.specs.Digits.{count_of, digits_of, up_to, with_digits}
+use Rattle.chrono_rules.specs.NumberLists.{ends_of, month_list_of, no_ends, no_year_ends, weekdays_of, year_ends_of}
+use Rattle.chrono_rules.specs.RuleTexts.{IsRuleText, above_0, date_of, end_of, interval_of}
+use Rattle.chrono_rules.specs.WritableRules.{IsWritableRule, IsWritableEnd, is_from_one_to}
+use Rattle.chrono_rules.proofs.ListsWithin.{AreDays, AreEnds, AreYearEnds, ends_within, guarded, if_some, mapped, months_within, none_days, said_has, weekdays_within, year_ends_within}
+
+-- ---- INTERVAL, COUNT and UNTIL
+
+up_to-small : (x n : ℕ) → up_to 4_294_967_295 x ≡ Some n → n < 2 ^ 32
+up_to-small x n is =
+    let found = if_some (nat_le x 4_294_967_295) x n is in
+    let most = leb-true x 4_294_967_295 found.0 in
+    omega (arith, most, found.1)
+
+count_small : (text : List ℕ) (n : ℕ) → count_of text ≡ Some n → n < 2 ^ 32
+unfolding count_of
+count_small text n is =
+    guarded (nat_le 1 (length text)) (option_and_then (up_to 4_294_967_295) (with_digits 0 text)) n (n < 2 ^ 32)
+    (λ some whole. option_and_then_some (up_to 4_294_967_295) (with_digits 0 text) n whole (λ x made given. up_to-small x n given)) is
+
+above-bound : (b : Bool) (x n : ℕ) → (x == 0) ≡ b → x < 2 ^ 32 → (if b then None else Some x) ≡ Some n → (1 ≤ n) × (n < 2 ^ 32)
+above-bound true x n at small is = absurd (none-some n is)
+above-bound false x n at small is =
+    let some = eqb-false x 0 at in
+    let same = same_Some x n is in
+    (omega (arith, some, same), omega (arith, small, same))
+
+interval_writable : (text : List ℕ) (n : ℕ) → interval_of text ≡ Some n → (1 ≤ n) × (n < 2 ^ 32)
+unfolding interval_of
+interval_writable text n is = option_and_then_some above_0 (count_of text) n is (λ x made given. above-bound (x == 0) x n refl (count_small text x made) given)
+
+one_writable : (n : ℕ) → Some 1 ≡ Some n → (1 ≤ n) × (n < 2 ^ 32)
+one_writable n is = let same = same_Some 1 n is in (omega (arith, same), omega (arith, same))
+
+-- four digits write a number below 10,000
+digits_small : (k v y : ℕ) (ds : List ℕ) → v < 10 ^ k → with_digits v ds ≡ Some y → y < 10 ^ (k + length ds)
+digits_small k v y [] small is =
+    let same = same_Some v y is in
+    let none : k ≡ k + 0 = omega arith in
+    omega (arith, small, same, ap (λ n. 10 ^ n) none)
+digits_small k v y (b ∷ bs) small is =
+    guarded (nat_le 48 b && nat_le b 57) (with_digits (v * 10 + (b - 48)) bs) y (y < 10 ^ (k + length (b ∷ bs)))
+    (λ digit rest.
+    let high = leb-true b 57 (and_parts (nat_le 48 b) (nat_le b 57) digit).1 in
+    let more : v * 10 + (b - 48) < 10 ^ suc k = omega (arith, small, high) in
+    let turned : suc k + length bs ≡ k + length (b ∷ bs) = omega arith in
+    let end = digits_small (suc k) (v * 10 + (b - 48)) y bs more rest in
+    omega (arith, end, ap (λ n. 10 ^ n) turned)) is
+
+four_small : (text : List ℕ) (y : ℕ) → digits_of 4 text ≡ Some y → y ≤ 9_999
+unfolding digits_of
+four_small text y is =
+    guarded (nat_le 1 (length text) && nat_le (length text) 4) (with_digits 0 text) y (y ≤ 9_999)
+    (λ short given.
+    let most = leb-true (length text) 4 (and_parts (nat_le 1 (length text)) (nat_le (length text) 4) short).1 in
+    let less = digits_small 0 0 y text (omega arith) given in
+    let room : 10 ^ (0 + length text) ≤ 10 ^ 4 = pow-le-pow_right {n = 10} (omega arith) {i = 0 + length text} {j = 4} (omega (arith, most)) in
+    omega (arith, less, room)) is
+
+abbrev HasFourDigits : ℤ → Type 0
+HasFourDigits y = (pos 0 ≤ℤ y) × (y ≤ℤ pos 9_999)
+
+year_writable : (n : ℤ) (y m d : ℕ) → y ≤ 9_999 → date_of_ymd (pos y) m d ≡ Some n → HasFourDigits (year_of n)
+year_writable n y m d small is = subst HasFourDigits (date_of_ymd-name n (pos y) m d is).0 (omega (arith, signed), omega (arith, signed, small))
+
+date_writable : (text : List ℕ) (n : ℤ) → date_of text ≡ Some n → HasFourDigits (year_of n)
+unfolding date_of
+date_writable text n is =
+    let years = digits_of 4 (take 4 text) in
+    let months = digits_of 2 (take 2 (drop 4 text)) in
+    let days = digits_of 2 (drop 6 text) in
+    guarded (length text == 8) (option_and_then (λ y. option_and_then (λ m. option_and_then (date_of_ymd (pos y) m) days) months) years) n (HasFourDigits (year_of n))
+    (λ eight whole. option_and_then_some (λ y. option_and_then (λ m. option_and_then (date_of_ymd (pos y) m) days) months) years n whole
+    (λ y year behind. option_and_then_some (λ m. option_and_then (date_of_ymd (pos y) m) days) months n behind
+    (λ m month last. option_and_then_some (date_of_ymd (pos y) m) days n last
+    (λ d day name. year_writable n y m d (four_small (take 4 text) y year) name)))) is
+
+never_writable : (e : End) → Some Never ≡ Some e → IsWritableEnd e
+never_writable e is = subst IsWritableEnd (same_Some Never e is) tt
+
+count_writable : (text : List ℕ) (e : End) → option_map Count (count_of text) ≡ Some e → IsWritableEnd e
+count_writable text e is = let found = mapped Count (count_of text) e is in subst IsWritableEnd found.2 (count_small text found.0 found.1)
+
+until_writable : (text : List ℕ) (e : End) → option_map Until (date_of text) ≡ Some e → IsWritableEnd e
+until_writable text e is = let found = mapped Until (date_of text) e is in subst IsWritableEnd found.2 (date_writable text found.0 found.1)
+
+end_writable : (counts untils : List (List ℕ)) (e : End) → end_of counts untils ≡ Some e → IsWritableEnd e
+unfolding end_of
+end_writable counts [] e is = said_has (λ text. option_map Count (count_of text)) (Some Never) IsWritableEnd never_writable count_writable counts e is
+end_writable [] (u ∷ untils) e is = said_has (λ text. option_map Until (date_of text)) (Some Never) IsWritableEnd never_writable until_writable (u ∷ untils) e is
+end_writable (c ∷ counts) (u ∷ untils) e is = absurd (none-some e is)
+
+-- ---- the whole
+
+-- what holds of a value that says what the part's absence says
+absent_has : {A : Type 0} (P : A → Type 0) (x : A) → P x → (y : A) → Some x ≡ Some y → P y
+absent_has P x at y is = subst P (same_Some x y is) at
+
+pub rule_writable : (text : List ℕ) (r : Rule) → IsRuleText text r → IsWritableRule r
+rule_writable text r is =
+    let says = is.says in
+    let IsMonths = λ (s : Numbers). is_from_one_to 12 s ≡ true in
+    let month_days = said_has (ends_of 2 31) (Some no_ends) (AreEnds 31) (absent_has (AreEnds 31) no_ends (refl, refl)) (ends_within 31 (refl, refl)) _ _ says.month_days in
+    let weeks = said_has (ends_of 2 53) (Some no_ends) (AreEnds 53) (absent_has (AreEnds 53) no_ends (refl, refl)) (ends_within 53 (refl, refl)) _ _ says.weeks in
+    let days = said_has weekdays_of (Some no_weekdays) AreDays (absent_has AreDays no_weekdays none_days) weekdays_within _ _ says.weekdays in
+    let year_days = said_has year_ends_of (Some no_year_ends) AreYearEnds (absent_has AreYearEnds no_year_ends (refl, refl)) year_ends_within _ _ says.year_days in
+    let positions = said_has year_ends_of (Some no_year_ends) AreYearEnds (absent_has AreYearEnds no_year_ends (refl, refl)) year_ends_within _ _ says.positions in
+    record {
+      interval = said_has interval_of (Some 1) (λ n. (1 ≤ n) × (n < 2 ^ 32)) one_writable interval_writable _ _ says.interval;
+      end = end_writable _ _ r.end says.end;
+      months = said_has month_list_of (Some no_numbers) IsMonths (absent_has IsMonths no_numbers refl) months_within _ _ says.months;
+      month_days = month_days.0;
+      month_days_from_end = month_days.1;
+      weekdays = days.every;
+      numbered_weekdays = days.front;
+      numbered_weekdays_from_end = days.back;
+      year_days = year_days.0;
+      year_days_from_end = year_days.1;
+      weeks = weeks.0;
+      weeks_from_end = weeks.1;
+      positions = positions.0;
+      positions_from_end = positions.1;
+      fitting = is.fitting;
+    }

@@ -1,9 +1,0 @@
-use Rattle.std.proofs.Common.{sym, ap, ◌∙◌}
-use Rattle.std.specs.Prelude.{Err}
-use Rattle.std.proofs.lemmas.Option.{same_Some}
-use Rattle.chrono_rules.specs.RuleErrors.{unfit_error}
-use Rattle.chrono_rules.proofs.rule_text.read_rule.Goals as goal
-
-pub returns-then-not-fits-clause-unfit : goal.returns-then-not-fits-clause-unfit
-returns-then-not-fits-clause-unfit c = λ r named says unfit.
-    ap Err (c.unfit_error.ensures ∙ ap unfit_error (same_Some _ _ (sym c.in-Some.is ∙ c.read_parts.ensures.every r says)))

@@ -1,0 +1,10 @@
+-- Each byte so far is a digit.
+use Rattle.std.proofs.Common.{◌≡◌, length}
+use Rattle.std.specs.Str.{all_ascii_digits}
+use Rattle.chrono_rules.proofs.text.first_error.are_all_digits.Given as goal
+
+abbrev pub invariant-loop-rest : goal.invariant-loop-rest
+invariant-loop-rest l = all_ascii_digits l.initial.rest ≡ all_ascii_digits l.rest
+
+abbrev pub decreases-loop-rest : goal.decreases-loop-rest
+decreases-loop-rest l = length l.rest

@@ -1,6 +1,0 @@
-use Rattle.std.proofs.Common.{rules}
-use Rattle.chrono_text.proofs.AsciiTexts.{IsAscii-put}
-use Rattle.chrono_rules.proofs.written.RuleDisplay.fmt.Goals as goal
-
-pub print-requires : goal.print-requires
-print-requires g c = (search rules, IsAscii-put _ _ _ c.put_into.ensures.text c.new-text.ensures c.put_into.ensures.ascii)

@@ -1,6 +1,0 @@
-use Rattle.std.proofs.Common.{arith}
-use Rattle.std.proofs.lemmas.Fmt.{IsAscii-decimal}
-use Rattle.chrono_rules.proofs.written.put_count.Goals as goal
-
-pub returns-clause-ascii : goal.returns-clause-ascii
-returns-clause-ascii g c = IsAscii-decimal c.args.count (omega (arith, c.ranges.count))

@@ -1,5 +1,0 @@
-use Rattle.chrono_rules.proofs.RuleAscii.{two_ascii}
-use Rattle.chrono_rules.proofs.written.put_two.Goals as goal
-
-pub returns-clause-ascii : goal.returns-clause-ascii
-returns-clause-ascii g c = two_ascii c.args.number c.requires.small

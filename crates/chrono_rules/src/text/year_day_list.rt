@@ -1,0 +1,82 @@
+//! The days of the year and the positions that a rule lists, as texts.
+ghost use Rattle.std.specs.Prelude.{◌≡◌, ◌<◌};
+ghost use Rattle.chrono_rules.specs.NumberLists.{no_year_ends, with_signed_day, with_year_text, year_ends_of};
+
+use crate::text::number_list::{SignedNumber, read_signed};
+use crate::text::split_text::first_piece;
+use chrono_sets::PlaceSet;
+
+/// Numbers from 1 to 366 that count from the front, and others that count from the end.
+#[derive(Clone, Copy, PartialEq, Eq, Debug)]
+pub struct YearEnds {
+    /// The numbers without a sign, or with a `+`.
+    pub front: PlaceSet,
+    /// The numbers with a `-`.
+    pub back: PlaceSet,
+}
+
+impl YearEnds {
+    // No number.
+    pub(crate) fn none() -> YearEnds
+        ensures { result ≡ no_year_ends }
+    {
+        YearEnds {
+            front: PlaceSet::none(),
+            back: PlaceSet::none(),
+        }
+    }
+
+    // These numbers and that.
+    fn with(self, one: SignedNumber) -> YearEnds
+        requires { one.number < 384 }
+        ensures { result ≡ with_signed_day self one }
+    {
+        if one.from_end {
+            YearEnds {
+                front: self.front,
+                back: self.back.with(one.number),
+            }
+        } else {
+            YearEnds {
+                front: self.front.with(one.number),
+                back: self.back,
+            }
+        }
+    }
+}
+
+/// Returns the numbers of a BYYEARDAY or BYSETPOS list, such as `1,-1` (RFC 5545, 3.3.10).
+///
+/// `text` is numbers of one to three digits from 1 to 366, with commas between them. Each has a sign or none.
+/// `-` counts from the end. Returns `None` if `text` is no such list.
+///
+/// ```
+/// let days = read_year_days(b"1,-306")?;
+/// (days.front.contains(1), days.back.contains(306)) // (true, true)
+/// read_year_days(b"367") // None
+/// ```
+pub fn read_year_days(text: &[u8]) -> Option<YearEnds>
+    ensures { result ≡ year_ends_of text.now }
+{
+    let mut ends = YearEnds::none();
+    let mut rest = text;
+    loop {
+        let (first, behind) = first_piece(rest, b',');
+        ends = with_text(ends, first)?;
+        match behind {
+            [_, next @ ..] => rest = next,
+            [] => return Some(ends),
+        }
+    }
+}
+
+// The numbers and the one that the text writes.
+#[tactic(auto, unfolding(crate::specs::NumberLists::with_year_text))]
+fn with_text(ends: YearEnds, text: &[u8]) -> Option<YearEnds>
+    ensures { result ≡ with_year_text ends text.now }
+{
+    match read_signed(text, 3, 366) {
+        Some(number) => Some(ends.with(number)),
+        None => None,
+    }
+}

@@ -1,0 +1,8 @@
+-- All serve this crate's own proofs alone.
+mod Places
+mod CutLemmas
+mod YearLemmas
+mod OffsetLemmas
+mod StampLemmas
+mod WrittenLemmas
+mod MailLemmas

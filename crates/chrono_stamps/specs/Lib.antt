@@ -1,0 +1,3 @@
+pub mod Fractions
+pub mod Rfc3339
+pub mod WrittenStamps

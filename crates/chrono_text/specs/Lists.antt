@@ -1,0 +1,30 @@
+-- Texts that list items between separators.
+use Rattle.std.specs.Prelude.{◌≡◌, ℕ, ◌==◌, nat_lt, Bool, List, [], ◌∷◌, length, Option, Some, codes, refl}
+use Rattle.std.specs.List.{position_or_len, slice_split}
+use Rattle.std.specs.Option.{option_and_then}
+use Rattle.std.specs.Str.{byte}
+
+-- a byte `sign` stands in the text
+abbrev pub stands_in : ℕ → List ℕ → Bool
+stands_in sign text = nat_lt (position_or_len (λ x. x == sign) text) (length text)
+
+-- the pieces of a text between separators, one more than there are separators
+abbrev pub pieces : ℕ → List ℕ → List (List ℕ)
+pieces separator text = slice_split (λ x. x == separator) text
+
+-- the pieces behind a separator, if one stands in front
+abbrev pub pieces_behind : ℕ → List ℕ → List (List ℕ)
+pieces_behind separator [] = []
+pieces_behind separator (b ∷ bs) = pieces separator bs
+
+-- what a step makes of each piece in turn, from a value on; None if it makes nothing of one
+abbrev pub through : {S : Type 0} → (S → List ℕ → Option S) → S → List (List ℕ) → Option S
+through step s [] = Some s
+through step s (p ∷ ps) = option_and_then (λ t. through step t ps) (step s p)
+
+-- known values
+pieces-two : pieces (byte ",") (codes "MO,TU") ≡ codes "MO" ∷ codes "TU" ∷ []
+pieces-two = refl
+
+pieces-empty : pieces (byte ",") (codes "1,,") ≡ codes "1" ∷ [] ∷ [] ∷ []
+pieces-empty = refl

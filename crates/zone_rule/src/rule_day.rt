@@ -1,0 +1,96 @@
+//! `RuleDay`: a day of each year.
+ghost use Rattle.std.specs.Prelude.{◌≡◌};
+ghost use Rattle.zone_rule.specs.RuleDays.{date_of_last_weekday, date_of_rule_day, date_of_week, ordinal_of_julian};
+
+use chrono_datetime::{NaiveDate, Weekday};
+use chrono_units::year::is_leap_year;
+
+// The week that means the last one.
+const LAST_WEEK: u8 = 5;
+
+// The place of 1 March in a common year.
+const FIRST_OF_MARCH: u16 = 60;
+
+/// A day of each year, as a time zone rule names it.
+///
+/// ```
+/// RuleDay::Julian(60).date_in(2024) // Some(2024-03-01)
+/// RuleDay::FromZero(59).date_in(2024) // Some(2024-02-29)
+/// ```
+#[derive(Clone, Copy, Debug, PartialEq, Eq)]
+pub enum RuleDay {
+    /// `Mm.w.d`: the `week`-th such weekday of the month, or the last one if `week` is 5.
+    Week {
+        /// From 1 to 12.
+        month: u32,
+        /// From 1 to 5.
+        week: u8,
+        /// The weekday, which a rule writes as a number from 0 for Sunday.
+        weekday: Weekday,
+    },
+    /// `Jn`: the `n`-th day of the year, from 1 to 365, with 29 February left out.
+    Julian(u16),
+    /// `n`: the day `n` days after 1 January, from 0 to 365.
+    FromZero(u16),
+}
+
+impl RuleDay {
+    /// Returns the date of this day in a year.
+    ///
+    /// Returns `None` if the day does not exist, as the day 365 days after 1 January of a common year. Also returns `None`
+    /// if a number is out of range, or if the year is not from -262,143 to 262,142.
+    ///
+    /// ```
+    /// use chrono_datetime::Weekday;
+    /// let last = RuleDay::Week { month: 10, week: 5, weekday: Weekday::Sun };
+    /// last.date_in(2024) // Some(2024-10-27)
+    /// RuleDay::Julian(59).date_in(2024) // Some(2024-02-28)
+    /// RuleDay::Julian(366).date_in(2023) // None
+    /// RuleDay::FromZero(365).date_in(2023) // None
+    /// ```
+    pub fn date_in(self, year: i32) -> Option<NaiveDate>
+        ensures { result ≡ date_of_rule_day year self }
+    {
+        match self {
+            RuleDay::Week {
+                month,
+                week,
+                weekday,
+            } => week_or_last(year, month, week, weekday),
+            RuleDay::Julian(n) => NaiveDate::from_yo_opt(year, julian_ordinal(year, n)),
+            RuleDay::FromZero(n) => NaiveDate::from_yo_opt(year, u32::from(n) + 1),
+        }
+    }
+}
+
+// The `week`-th such weekday of the month, or the last one if `week` is 5.
+fn week_or_last(year: i32, month: u32, week: u8, weekday: Weekday) -> Option<NaiveDate>
+    ensures { result ≡ date_of_week year month week weekday }
+{
+    if week == LAST_WEEK {
+        last_in_month(year, month, weekday)
+    } else {
+        NaiveDate::from_weekday_of_month_opt(year, month, weekday, week)
+    }
+}
+
+// The last such weekday of the month: the fifth, or the fourth if there is no fifth.
+fn last_in_month(year: i32, month: u32, weekday: Weekday) -> Option<NaiveDate>
+    ensures { result ≡ date_of_last_weekday year month weekday }
+{
+    match NaiveDate::from_weekday_of_month_opt(year, month, weekday, 5) {
+        Some(fifth) => Some(fifth),
+        None => NaiveDate::from_weekday_of_month_opt(year, month, weekday, 4),
+    }
+}
+
+// The place in the year of its `n`-th day with 29 February left out.
+fn julian_ordinal(year: i32, n: u16) -> u32
+    ensures { result ≡ ordinal_of_julian year n }
+{
+    if is_leap_year(year) && FIRST_OF_MARCH <= n {
+        u32::from(n) + 1
+    } else {
+        u32::from(n)
+    }
+}

@@ -1,0 +1,150 @@
+//! The offset at an instant, and the offsets of a local time.
+ghost use Rattle.std.specs.Prelude.{◌≡◌, ◌≤◌, ◌<◌, ◌+◌, ◌+ℤ◌, length};
+ghost use Rattle.chrono_zoned.specs.Zones.{IsMapped};
+ghost use Rattle.zone_table.specs.Sequence.{Come, IsRising, local_start};
+ghost use Rattle.zone_table.specs.Table.{IsTable, offset_after, offset_at, second_of};
+
+use crate::row::{Row, offset_at, second_at};
+use chrono_zoned::{FixedOffset, MappedLocalTime};
+
+/// Returns the offset at the instant `second`: that of the last row that has begun by then, or `first` before all rows.
+///
+/// Requires rows in which each follows the one before it ([`first_unordered`](crate::first_unordered)).
+///
+/// ```
+/// let hour = FixedOffset::east_opt(3_600)?;
+/// let rows = [Row { second: 1_000, offset: hour }];
+/// let zero = FixedOffset::east_opt(0)?;
+/// offset_of_instant(zero, &rows, 999) // +00:00
+/// offset_of_instant(zero, &rows, 1_000) // +01:00
+/// ```
+#[inline]
+pub fn offset_of_instant(first: FixedOffset, rows: &[Row], second: i64) -> FixedOffset
+    requires { IsTable first rows.now }
+    ensures { result ≡ offset_at first rows.now second }
+{
+    offset_of_count(first, rows, rows_begun(rows, second))
+}
+
+/// Returns the offsets at all instants at which the clock shows the local second `local`, the earlier instant first.
+///
+/// There is none if the clock is set ahead past `local`. There are two if it is set back, and shows `local` twice.
+/// Requires rows in which each follows the one before it ([`first_unordered`](crate::first_unordered)).
+///
+/// ```
+/// let zero = FixedOffset::east_opt(0)?;
+/// let hour = FixedOffset::east_opt(3_600)?;
+/// let ahead = [Row { second: 1_000, offset: hour }];
+/// offsets_of_local(zero, &ahead, 999) // Single(+00:00)
+/// offsets_of_local(zero, &ahead, 1_000) // None
+/// offsets_of_local(zero, &ahead, 4_599) // None
+/// offsets_of_local(zero, &ahead, 4_600) // Single(+01:00)
+/// let back = [Row { second: 1_000, offset: zero }];
+/// offsets_of_local(hour, &back, 999) // Single(+01:00)
+/// offsets_of_local(hour, &back, 1_000) // Ambiguous(+01:00, +00:00)
+/// offsets_of_local(hour, &back, 4_600) // Single(+00:00)
+/// ```
+pub fn offsets_of_local(
+    first: FixedOffset,
+    rows: &[Row],
+    local: i64,
+) -> MappedLocalTime<FixedOffset>
+    requires { IsTable first rows.now }
+    ensures { IsMapped (offset_at first rows.now) local result }
+{
+    let count = starts_by(first, rows, local);
+    let after = offset_of_count(first, rows, count);
+    if count == 0 {
+        return MappedLocalTime::Single(after);
+    }
+    let before = offset_of_count(first, rows, count - 1);
+    let second = second_at(rows, count - 1);
+    if i128::from(local) < local_of(second, after) {
+        return MappedLocalTime::None;
+    }
+    if i128::from(local) < local_of(second, before) {
+        return MappedLocalTime::Ambiguous(before, after);
+    }
+    MappedLocalTime::Single(after)
+}
+
+// The offset once `count` rows have begun.
+#[inline]
+pub(crate) fn offset_of_count(first: FixedOffset, rows: &[Row], count: usize) -> FixedOffset
+    requires { count ≤ length rows.now }
+    ensures { result ≡ offset_after first rows.now count }
+{
+    if count == 0 {
+        first
+    } else {
+        offset_at(rows, count - 1)
+    }
+}
+
+// How many rows have begun by the second.
+#[inline]
+pub(crate) fn rows_begun(rows: &[Row], second: i64) -> usize
+    requires { IsRising (second_of rows.now) (length rows.now) }
+    ensures { Come (second_of rows.now) (length rows.now) second result }
+{
+    let mut low = 0;
+    let mut high = rows.len();
+    while low < high {
+        let middle = low + (high - low) / 2;
+        if second_at(rows, middle) <= second {
+            low = middle + 1;
+        } else {
+            high = middle;
+        }
+    }
+    low
+}
+
+// How many rows skip or repeat local seconds from `local` or an earlier one on.
+#[inline]
+fn starts_by(first: FixedOffset, rows: &[Row], local: i64) -> usize
+    requires { IsRising (local_start (second_of rows.now) (offset_after first rows.now)) (length rows.now) }
+    ensures { Come (local_start (second_of rows.now) (offset_after first rows.now)) (length rows.now) local result }
+{
+    let mut low = 0;
+    let mut high = rows.len();
+    while low < high {
+        let middle = low + (high - low) / 2;
+        if start_of(first, rows, middle) <= i128::from(local) {
+            low = middle + 1;
+        } else {
+            high = middle;
+        }
+    }
+    low
+}
+
+// The local second from which a row skips or repeats seconds.
+#[inline]
+pub(crate) fn start_of(first: FixedOffset, rows: &[Row], place: usize) -> i128
+    requires { place < length rows.now }
+    ensures { result ≡ local_start (second_of rows.now) (offset_after first rows.now) place }
+{
+    let before = offset_of_count(first, rows, place);
+    let after = offset_of_count(first, rows, place + 1);
+    shown(
+        second_at(rows, place),
+        before.local_minus_utc().min(after.local_minus_utc()),
+    )
+}
+
+// What the clock shows at a second, where it is ahead by an offset.
+#[inline]
+fn local_of(second: i64, offset: FixedOffset) -> i128
+    ensures { result ≡ second +ℤ offset }
+{
+    shown(second, offset.local_minus_utc())
+}
+
+// The same with the offset as a number of seconds.
+#[inline]
+pub(crate) fn shown(second: i64, offset: i32) -> i128
+    ensures { result ≡ second +ℤ offset }
+{
+    i128::from(second) + i128::from(offset)
+}

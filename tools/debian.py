@@ -1,0 +1,33 @@
+"""What Debian's packages give: its own Python, and programs over its Rust libraries."""
+import os
+import shutil
+import subprocess
+import sys
+
+TOP = os.path.dirname(os.path.dirname(os.path.abspath(__file__)))
+PYTHON = "/usr/bin/python3"
+REGISTRY = "/usr/share/cargo/registry"
+# The options by which cargo takes libraries from Debian's packages alone.
+FROM_DEBIAN = ["--config", 'source.crates-io.replace-with="debian"', "--config", f'source.debian.directory="{REGISTRY}"']
+
+
+def restart_without(module):
+    """Runs the same command again by Debian's Python, if the module is None, which says that this Python lacks it."""
+    if module is None and sys.executable != PYTHON and os.path.exists(PYTHON):
+        os.execv(PYTHON, [PYTHON, *sys.argv])
+
+
+def why_no_chrono():
+    """What is missing to build programs over chrono, if something is."""
+    if not shutil.which("cargo"):
+        return "there is no cargo"
+    listed = shutil.which("dpkg") and subprocess.run(["dpkg", "-L", "librust-chrono-dev"], capture_output=True, check=False)
+    return None if listed and listed.returncode == 0 else "there is no librust-chrono-dev"
+
+
+def build_over_chrono(folder, source):
+    """Builds the program of a folder of this tree over Debian's chrono, below another folder, and returns its path."""
+    target = os.path.join(folder, "target")
+    env = dict(os.environ, CARGO_TARGET_DIR=target)
+    subprocess.run(["cargo", "build", "--release", "--offline", "--quiet", *FROM_DEBIAN], cwd=os.path.join(TOP, source), env=env, check=True)
+    return os.path.join(target, "release", os.path.basename(source))
