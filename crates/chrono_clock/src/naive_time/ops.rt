@@ -1,6 +1,6 @@
 //! Operators of times of day: moves by durations, and differences.
-ghost use Rattle.std.specs.Prelude.{◌≡◌, neg_ℤ};
-ghost use Rattle.chrono_clock.specs.Time.{land, distance};
+ghost use Rattle.std.specs.Prelude.{◌≡◌, pos, neg_ℤ, ◌-ℤ◌};
+ghost use Rattle.chrono_clock.specs.Time.{land, distance, IsPlain, place};
 
 use crate::{NaiveTime, TimeDelta};
 use std::ops::{Add, AddAssign, Sub, SubAssign};
@@ -52,7 +52,9 @@ impl SubAssign<TimeDelta> for NaiveTime {
 impl Sub<NaiveTime> for NaiveTime {
     type Output = TimeDelta;
 
-    ghost sub_gives = { λ a b r. r ≡ distance a b };
+    // The second fact is of two times in no leap second.
+    ghost sub_gives = { λ a b r. (r ≡ distance a b)
+        × (IsPlain a → IsPlain b → r ≡ pos (place a) -ℤ pos (place b)) };
 
     /// Returns the duration of [`signed_duration_since`](NaiveTime::signed_duration_since).
     #[inline]
