@@ -6,7 +6,7 @@
   files      each file or folder that a code span, a link or a command names is there, and so is the heading that a link leads to
   names      a name alone in a code span, a clause's too, is declared by a source; of a path `A::b` a source has b in what it says of A;
              and each other name in a code span stands in some source, comments apart; clauses behind a function, as in
-             `f`: `a`, `b`, and in a row of CALLING.md, are clauses of a function of that name
+             `f`: `a`, `b`, or before it, as in `a` of `f`, and in a row of CALLING.md, are clauses of a function of that name
   counts     the numbers of COUNTS are those of the tree, and each of its patterns is found
   reference  the pages of docs/reference are those that tools/reference makes from the sources
   comments   links of doc comments lead somewhere, and public items and the words that public contracts cite have comments
@@ -292,8 +292,9 @@ def names(tree):
 
 
 FUNCTION = re.compile(r"\bfn (\w+)(.*?)(?=\n *\{\n|;\n|\bfn )", re.S)
-# Clauses behind a function, and a row of CALLING.md with functions and their clauses.
+# Clauses behind a function, a clause of a function, and a row of CALLING.md with functions and their clauses.
 CLAIMED = re.compile(r"(?<!, )`(?:\w+::)*(\w+)`: ((?:`\w+`(?:, )?)+)")
+CLAUSE_OF = re.compile(r"(`[a-z]\w*`) of\s+`(?:\w+::)*([a-z]\w*)`")
 CLAUSE_ROW = re.compile(r"^\| ([^|]*) \| ([^|]*) \|$", re.M)
 
 
@@ -307,6 +308,8 @@ def wrong_clauses(tree):
         elif path.endswith(".antt") and "/specs/" in path:
             words |= set(re.findall(r"^(?:\w+ )*pub (?:record )?(\w+)", text, re.M))
     claims = [(path, [it[1]], it[2]) for path, text in tree.documents.items() for it in CLAIMED.finditer(FENCE.sub("", text))]
+    each = set().union(*clauses.values())
+    claims += [(path, [it[2]], it[1]) for path, text in tree.documents.items() for it in CLAUSE_OF.finditer(FENCE.sub("", text)) if it[1].strip("`") in each]
     rows = tree.documents[CALLING].partition("\n## Clauses that most callers use\n")[2].partition("\n## ")[0]
     claims += [(CALLING, re.findall(r"(\w+)`", functions), said) for functions, said in CLAUSE_ROW.findall(rows)]
     for path, functions, said in claims:
@@ -534,6 +537,7 @@ PLANTED = [
     (names, PROMISES, "(`output`, `status`)", "(`output`, `arith`)"),
     (names, PROMISES, "`NaiveTime::landing`: `time`", "`NaiveTime::landing`: `taken`"),
     (names, CALLING, "`order`, `back`, `sum`", "`order`, `back`, `hash_input`"),
+    (names, TUTORIAL, "`month` of `moved_by_months`", "`taken` of `moved_by_months`"),
     (counts, PROMISES, "the prover refuse ", "the prover refuse 1"),
     (counts, PROMISES, " wrong bodies (`must-fail/`", " bodies (`must-fail/`"),
     (counts, TRUST, "Years.antt` | ", "Years.antt` | 1"),
