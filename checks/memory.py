@@ -89,7 +89,7 @@ def schedule_error(field, byte, fault):
 
 def rule_error(part, fault):
     part = f"Some(RulePart::{part})" if part else "None"
-    return f"RuleError {{ part: {part}, fault: RuleFault::{fault} }}"
+    return f"RuleError {{ part: {part}, byte: 0, fault: RuleFault::{fault} }}"
 
 
 # Each field and part with one fault, and each fault with one field or part and with none.

@@ -1,10 +1,10 @@
 -- A text that is written has neither `RRULE:` in front nor a semicolon at its end.
-use Rattle.std.proofs.Common.{◌≡◌, ℕ, suc, ◌-◌, ◌==◌, nat_lt, Bool, true, false, ◌&&◌, if◌then◌else◌, List, [], ◌∷◌, ◌++◌, length, slice_index, take, drop, codes, refl, ap, ◌∙◌, arith}
-use Rattle.std.specs.List.{join_with_byte, list_all}
+use Rattle.std.proofs.Common.{◌≡◌, ℕ, suc, ◌-◌, ◌==◌, nat_lt, Bool, true, false, ◌&&◌, cond, if◌then◌else◌, List, [], ◌∷◌, ◌++◌, length, slice_index, take, drop, codes, refl, ap, ◌∙◌, arith}
+use Rattle.std.specs.List.{join_with_byte, list_all, onto_first}
 use Rattle.std.proofs.lemmas.Bool.{false≢true}
 use Rattle.chrono_rules.specs.RuleErrors.{frequency_text}
 use Rattle.chrono_rules.specs.RuleTexts.{IsRuleText, behind_property, ends_with_semicolon, is_named, is_part, parts, rule_body, without_semicolon}
-use Rattle.chrono_rules.specs.Split.{begun, pieces}
+use Rattle.chrono_text.specs.Lists.{pieces}
 use Rattle.chrono_rules.specs.WrittenRules.{later_parts, rule_text}
 use Rattle.chrono_rules.specs.declared.rule.Frequency.{Frequency}
 use Rattle.chrono_rules.specs.declared.rule.Frequency.TheVariants.{Daily, Monthly, Weekly, Yearly}
@@ -63,6 +63,10 @@ some_behind : (ps : List (List ℕ)) → list_all is_some_piece ps ≡ true → 
 some_behind [] is = refl
 some_behind (p ∷ ps) is = second-true (is_some_piece p) (list_all is_some_piece ps) is
 
+-- a byte in front of pieces, or an empty piece where the byte is the separator
+abbrev begun : Bool → ℕ → List (List ℕ) → List (List ℕ)
+begun t b ps = cond t ([] ∷ ps) (onto_first b ps)
+
 behind_begun : (t : Bool) (b : ℕ) (ps : List (List ℕ)) → are_some_behind (begun t b ps) ≡ true → are_some_behind ps ≡ true
 behind_begun true b [] is = refl
 behind_begun true b (p ∷ ps) is = second-true (is_some_piece p) (list_all is_some_piece ps) is
@@ -87,6 +91,6 @@ pub bare_text : (r : Rule) → IsRuleText (rule_text r) r → rule_body (rule_te
 unfolding rule_body
 bare_text r is =
     let text = rule_text r in
-    let front : behind_property text ≡ text = ap (λ b. if b then drop 6 text else text) (written_front r) in
+    let front : behind_property text ≡ text = ap (λ b. drop (if b then 6 else 0) text) (written_front r) in
     let end : without_semicolon text ≡ text = ap (λ b. if b then take (length text - 1) text else text) (unended text is.named) in
     ap without_semicolon front ∙ end

@@ -11,6 +11,7 @@ use Rattle.chrono_rules.specs.InstanceLists.{may_follow, seen_before, seen_with}
 use Rattle.chrono_rules.specs.declared.rule.End.{End}
 use Rattle.chrono_rules.specs.declared.rule.End.TheVariants.{Count, Never, Until}
 use Rattle.chrono_rules.specs.declared.rule.Rule.{Rule}
+use Rattle.std.proofs.Math.Bool.{and-true}
 
 pub counted-next : (p : ℤ → Bool) (a b c : ℤ) (n m : ℕ) → n ≡ count_between p a b → m ≡ n + cond (p b) 1 0 → a ≤ℤ b → c ≡ b +ℤ pos 1 → m ≡ count_between p a c
 counted-next p a b c n m n-is m-is low e = omega (arith, n-is, m-is, count_between-next p a b c low e)
@@ -160,10 +161,6 @@ most_counted r s d c end =
       | inl lt ↦ omega (arith, lt, both.0 (omega (arith, lt)))
       | inr ge ↦ omega (arith, ge, both.1 ge)
     ]
-
-and-true : (b : Bool) → (b && true) ≡ b
-and-true true = refl
-and-true false = refl
 
 pub uncounted : (r : Rule) (s d : ℤ) → ((e : ℤ) → is_counted r.end r s e ≡ true) → count_between (is_instance r s) s d ≡ count_between (is_member r s) s d
 unfolding is_instance

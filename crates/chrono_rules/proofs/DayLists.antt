@@ -60,9 +60,3 @@ days-first p n e m low is next passes none =
 pub days-few : (p : ℤ → Bool) (n : ℤ) → length (filter p (days_from n)) ≤ dates_left n
 unfolding days_from row
 days-few p n = row-few p (dates_left n) n
-
--- a call that takes the first leaves fewer
-pub first-goes : (xs ys : List ℤ) (x : ℤ) → xs ≡ x ∷ ys → MakesProgress (λ _. ⊤) (item_count (λ left. left)) xs (Some x) ys
-first-goes xs ys x e =
-    let less : length ys < length xs = omega (arith, ap length e) in
-    record { on = λ _. (tt, tt, less); keeps = tt; rests = λ _. tt }

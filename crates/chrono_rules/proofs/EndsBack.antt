@@ -1,27 +1,26 @@
 -- INTERVAL, COUNT and UNTIL that are written are read back.
 use Rattle.std.proofs.Common.{◌≡◌, ℕ, ◌+◌, ◌-◌, ◌*◌, ◌/◌, ◌%◌, ◌^◌, ◌<◌, ◌≤◌, ◌==◌, nat_le, Bool, true, false, ◌||◌, if◌then◌else◌, List, [], ◌∷◌, ◌++◌, length, Some, None, ℤ, ◌≤ℤ◌, refl, sym, ap, ◌∙◌, arith}
 use Rattle.std.specs.Prelude.{int_le, negsuc, pos}
+use Rattle.std.specs.Char.{is_ascii_digit}
 use Rattle.std.specs.Fmt.{decimal}
 use Rattle.std.specs.Option.{option_and_then}
+use Rattle.std.specs.Str.{all_ascii_digits}
 use Rattle.std.proofs.lemmas.Bool.{and_from, le-leb, ne_eqb}
-use Rattle.std.proofs.lemmas.Fmt.{decimal_nonempty}
 use Rattle.chrono_text.specs.Text.{two_digits}
 use Rattle.chrono_datetime.specs.Days.{date_of_ymd, day_of, month_of, year_of}
 use Rattle.chrono_datetime.specs.Years.{is_leap_year}
 use Rattle.chrono_datetime.proofs.NamedDates.{IsDate-year, calendar_name-exists, date_of_ymd-again}
 use Rattle.chrono_datetime.proofs.Signed.{signed}
-use Rattle.chrono_rules.specs.Digits.{count_of, digits_of, up_to, with_digits}
+use Rattle.chrono_text.specs.Numbers.{count_of, digits_of, natural_of, up_to, value_of}
 use Rattle.chrono_rules.specs.RuleTexts.{above_0, date_of, interval_of}
 use Rattle.chrono_rules.specs.WrittenRules.{basic_date_text, four_digits}
 use Rattle.chrono_rules.proofs.ListsBack.{decimal_back}
 use Rattle.chrono_rules.proofs.WordBytes.{are_word_bytes, is_digit, is_word_byte}
 
 pub count_back : (n : ℕ) → n < 2 ^ 32 → count_of (decimal n) ≡ Some n
-unfolding count_of
+unfolding count_of natural_of
 count_back n fits =
-    let most : n ≤ 4_294_967_295 = omega (arith, fits) in
-    ap (λ t. if t then option_and_then (up_to 4_294_967_295) (with_digits 0 (decimal n)) else None) (le-leb 1 (length (decimal n)) (decimal_nonempty n (omega (arith, fits))))
-    ∙ ap (option_and_then (up_to 4_294_967_295)) (decimal_back n (omega (arith, fits))) ∙ ap (λ t. if t then Some n else None) (le-leb n 4_294_967_295 most)
+    ap (option_and_then (up_to 4_294_967_295)) (decimal_back n (omega (arith, fits))) ∙ ap (λ t. if t then Some n else None) (le-leb n 4_294_967_295 (omega (arith, fits)))
 
 pub interval_back : (n : ℕ) → 1 ≤ n → n < 2 ^ 32 → interval_of (decimal n) ≡ Some n
 unfolding interval_of
@@ -30,25 +29,25 @@ interval_back n some fits =
 
 -- ---- a date in eight digits
 
--- two digits behind a number
-two_on : (v n : ℕ) (rest : List ℕ) → n < 100 → with_digits v (two_digits n ++ rest) ≡ with_digits (v * 100 + n) rest
-two_on v n rest small =
+two_are : (n : ℕ) (rest : List ℕ) → n < 100 → all_ascii_digits rest ≡ true → all_ascii_digits (two_digits n ++ rest) ≡ true
+two_are n rest small are =
     let high = and_from (nat_le 48 (48 + n / 10)) (nat_le (48 + n / 10) 57) (le-leb 48 (48 + n / 10) (omega arith)) (le-leb (48 + n / 10) 57 (omega (arith, small))) in
     let low = and_from (nat_le 48 (48 + n % 10)) (nat_le (48 + n % 10) 57) (le-leb 48 (48 + n % 10) (omega arith)) (le-leb (48 + n % 10) 57 (omega arith)) in
-    let all : (v * 10 + ((48 + n / 10) - 48)) * 10 + ((48 + n % 10) - 48) ≡ v * 100 + n = omega arith in
-    ap (λ t. if t then with_digits (v * 10 + ((48 + n / 10) - 48)) ((48 + n % 10) ∷ rest) else None) high
-    ∙ ap (λ t. if t then with_digits ((v * 10 + ((48 + n / 10) - 48)) * 10 + ((48 + n % 10) - 48)) rest else None) low
-    ∙ ap (λ w. with_digits w rest) all
+    and_from (is_ascii_digit (48 + n / 10)) (all_ascii_digits ((48 + n % 10) ∷ rest)) high (and_from (is_ascii_digit (48 + n % 10)) (all_ascii_digits rest) low are)
 
 two_back : (n : ℕ) → n < 100 → digits_of 2 (two_digits n) ≡ Some n
-unfolding digits_of
-two_back n small = two_on 0 n [] small ∙ (let same : 0 * 100 + n ≡ n = omega arith in ap Some same)
+unfolding digits_of natural_of
+two_back n small =
+    let value : value_of (two_digits n) ≡ n = omega arith in
+    ap (λ t. if t then Some (value_of (two_digits n)) else None) (two_are n [] small refl) ∙ ap Some value
 
 four_back : (n : ℕ) → n ≤ 9_999 → digits_of 4 (two_digits (n / 100) ++ two_digits (n % 100)) ≡ Some n
-unfolding digits_of
+unfolding digits_of natural_of
 four_back n small =
-    let same : (0 * 100 + n / 100) * 100 + n % 100 ≡ n = omega arith in
-    two_on 0 (n / 100) (two_digits (n % 100)) (omega (arith, small)) ∙ two_on (0 * 100 + n / 100) (n % 100) [] (omega arith) ∙ ap Some same
+    let text = two_digits (n / 100) ++ two_digits (n % 100) in
+    let value : value_of text ≡ n = omega arith in
+    let are = two_are (n / 100) (two_digits (n % 100)) (omega (arith, small)) (two_are (n % 100) [] (omega arith) refl) in
+    ap (λ t. if t then Some (value_of text) else None) are ∙ ap Some value
 
 eight_back : (y m d : ℕ) → y ≤ 9_999 → m < 100 → d < 100 → date_of (((two_digits (y / 100) ++ two_digits (y % 100)) ++ two_digits m) ++ two_digits d) ≡ date_of_ymd (pos y) m d
 unfolding date_of

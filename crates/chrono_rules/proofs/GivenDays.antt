@@ -5,10 +5,7 @@ use Rattle.chrono_datetime.proofs.Signed.{signed}
 use Rattle.chrono_rules.specs.Instances.{is_instance}
 use Rattle.chrono_datetime.specs.RisingDates.{is_listed}
 use Rattle.chrono_rules.specs.RecurrenceSets.{RecurrenceSet, is_in_recurrence, is_instance_or_date}
-
-either-second : (a b : Bool) → b ≡ true → (a || b) ≡ true
-either-second true b is = refl
-either-second false b is = is
+use Rattle.std.proofs.Math.Bool.{and-false, or-true}
 
 pub given-instance : (s : RecurrenceSet) (e : ℤ) → is_instance s.rule s.start e ≡ true → is_instance_or_date s e ≡ true
 unfolding is_instance_or_date
@@ -16,15 +13,11 @@ given-instance s e is = rw is refl
 
 pub given-date : (s : RecurrenceSet) (e : ℤ) → is_listed s.dates e ≡ true → is_instance_or_date s e ≡ true
 unfolding is_instance_or_date
-given-date s e is = either-second (is_instance s.rule s.start e) (is_listed s.dates e) is
+given-date s e is = ap (λ b. is_instance s.rule s.start e || b) is ∙ or-true (is_instance s.rule s.start e)
 
 pub not_given : (s : RecurrenceSet) (d : ℤ) → is_instance s.rule s.start d ≡ false → is_listed s.dates d ≡ false → is_instance_or_date s d ≡ false
 unfolding is_instance_or_date
 not_given s d instance listed = rw (instance, listed) refl
-
-and-false : (b : Bool) → (b && false) ≡ false
-and-false true = refl
-and-false false = refl
 
 -- an exception is not in the recurrence, nor is a day that is not given
 pub excepted : (s : RecurrenceSet) (d : ℤ) → is_listed s.exceptions d ≡ true → is_in_recurrence s d ≡ false

@@ -6,7 +6,6 @@ mod DayLists
 mod ErrorLines
 mod EndsBack
 mod GivenDays
-mod JoinedTexts
 mod Kept
 mod ListLemmas
 mod ListedDays
@@ -18,7 +17,6 @@ mod PartValues
 mod Passed
 mod PeriodMembers
 mod PeriodsLeftOut
-mod PieceLemmas
 mod PlacesFromEnd
 mod PlacesInPeriods
 mod RecurrenceWalks

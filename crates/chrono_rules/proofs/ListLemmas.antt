@@ -7,6 +7,7 @@ use Rattle.chrono_rules.specs.declared.text.list_writer.ListedSet.TheVariants.{L
 use Rattle.chrono_rules.specs.declared.text.list_writer.Naming.{Naming}
 use Rattle.chrono_rules.specs.declared.text.list_writer.Naming.TheVariants.{Numbered}
 use Rattle.chrono_rules.specs.WrittenRules.{behind, item_at, items, limit, listed_on, numbered_items, part_unless, some_in, text_unless}
+use Rattle.std.proofs.Math.Bool.{or-false}
 
 -- behind a first text, each of the others has a separator
 pub join_behind : (sep : ℕ) (text : List ℕ) (texts : List (List ℕ)) → join_with_byte sep (text ∷ texts) ≡ text ++ behind sep texts
@@ -65,15 +66,11 @@ on_nil : (begun : Bool) → listed_on begun [] ≡ []
 on_nil true = refl
 on_nil false = refl
 
-or_none : (begun : Bool) → begun ≡ (begun || false)
-or_none true = refl
-or_none false = refl
-
 pub put_none : (old : List ℕ) (begun : Bool) (xs : List (List ℕ)) → xs ≡ [] → old ≡ old ++ listed_on begun xs
 put_none old begun xs none = sym (append-nil old) ∙ ap (λ text. old ++ text) (sym (on_nil begun) ∙ ap (listed_on begun) (sym none))
 
 pub begun_none : (begun : Bool) (xs : List (List ℕ)) → xs ≡ [] → begun ≡ (begun || some_in xs)
-begun_none begun xs none = or_none begun ∙ ap (λ is. begun || some_in is) (sym none)
+begun_none begun xs none = sym (or-false begun) ∙ ap (λ is. begun || some_in is) (sym none)
 
 -- a byte that may be put
 pub sign_short : (wanted : Bool) (byte : ℕ) → length (if wanted then byte ∷ [] else []) ≤ 1

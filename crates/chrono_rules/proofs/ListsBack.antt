@@ -6,39 +6,33 @@ use Rattle.std.specs.Option.{option_and_then, option_map}
 use Rattle.std.specs.Str.{all_ascii_digits}
 use Rattle.std.proofs.lemmas.Bool.{and_from, and_parts, cases_lt, false≢true, le-leb, le-ltb, leb-true, lt-ltb, ne_eqb}
 use Rattle.std.proofs.lemmas.Bool.Decides.{nat_tests}
-use Rattle.std.proofs.lemmas.Fmt.{decimal_nonempty, digits_decimal, digits_value-decimal, length-decimal-le}
+use Rattle.std.proofs.lemmas.Fmt.{decimal_is_IsNumeral, decimal_nonempty, digits_decimal, length-decimal-le}
 use Rattle.std.proofs.lemmas.Option.{same_Some}
 use Rattle.chrono_sets.specs.Numbers.{Numbers, has, is_empty, lies_within, no_numbers, with_number}
 use Rattle.chrono_sets.proofs.Members.{has-no_numbers, has-with_number, lies_within-has, same_set}
-use Rattle.chrono_rules.specs.Digits.{digits_of, with_digits}
+use Rattle.chrono_text.specs.Numbers.{digits_of, natural_of}
+use Rattle.chrono_text.proofs.DigitLemmas.{natural_some}
 use Rattle.chrono_rules.specs.NumberLists.{ends_of, from_one, listed_number, month_list_of, no_ends, no_year_ends, signed_number, signed_number_of, with_month_text, with_signed, with_signed_day, with_signed_text, with_year_text, year_ends_of}
-use Rattle.chrono_rules.specs.Split.{through}
+use Rattle.chrono_text.specs.Lists.{through}
 use Rattle.chrono_rules.specs.WritableRules.{is_from_one_to}
 use Rattle.chrono_rules.specs.WrittenRules.{both_items, item_text, items, list_text}
 use Rattle.chrono_rules.specs.declared.text.list_writer.Naming.{Naming}
 use Rattle.chrono_rules.specs.declared.text.list_writer.Naming.TheVariants.{Number}
 use Rattle.chrono_rules.specs.declared.text.number_list.BothEnds.{BothEnds}
 use Rattle.chrono_rules.specs.declared.text.year_day_list.YearEnds.{YearEnds}
-use Rattle.chrono_rules.proofs.JoinedTexts.{pieces_joined}
-use Rattle.chrono_rules.proofs.WordBytes.{both_words, items_words, own, read_on, words_lack}
+use Rattle.chrono_text.proofs.ListLemmas.{pieces_joined}
+use Rattle.chrono_rules.proofs.WordBytes.{both_words, items_words, own, words_lack}
 
 -- ---- numbers
 
-with_read : (v : ℕ) (ds : List ℕ) → all_ascii_digits ds ≡ true → with_digits v ds ≡ Some (read_on v ds)
-with_read v [] are = refl
-with_read v (c ∷ cs) are =
-    let parts = and_parts (is_ascii_digit c) (all_ascii_digits cs) are in
-    let turned : v * 10 + (c - 48) ≡ 10 * v + (c - 48) = omega arith in
-    ap (λ t. if t then with_digits (v * 10 + (c - 48)) cs else None) parts.0 ∙ ap (λ w. with_digits w cs) turned ∙ with_read (10 * v + (c - 48)) cs parts.1
-
-pub decimal_back : (n : ℕ) → n < 2 ^ 64 → with_digits 0 (decimal n) ≡ Some n
-decimal_back n fits = with_read 0 (decimal n) (digits_decimal own n fits) ∙ ap Some (digits_value-decimal own n fits)
+pub decimal_back : (n : ℕ) → n < 2 ^ 64 → natural_of (decimal n) ≡ Some n
+decimal_back n fits =
+    let numeral = decimal_is_IsNumeral n fits in
+    natural_some (decimal n) numeral.0.1 (decimal_nonempty n fits) ∙ ap Some numeral.1
 
 digits_back : (most n : ℕ) → n < 2 ^ 64 → length (decimal n) ≤ most → digits_of most (decimal n) ≡ Some n
 unfolding digits_of
-digits_back most n fits short =
-    let is = and_from (nat_le 1 (length (decimal n))) (nat_le (length (decimal n)) most) (le-leb 1 (length (decimal n)) (decimal_nonempty n fits)) (le-leb (length (decimal n)) most short) in
-    ap (λ t. if t then with_digits 0 (decimal n) else None) is ∙ decimal_back n fits
+digits_back most n fits short = ap (λ t. if t then natural_of (decimal n) else None) (le-leb (length (decimal n)) most short) ∙ decimal_back n fits
 
 number_back : (digits most n : ℕ) → n < 2 ^ 64 → 1 ≤ n → n ≤ most → length (decimal n) ≤ digits → listed_number digits most (decimal n) ≡ Some n
 unfolding listed_number

@@ -1,18 +1,19 @@
 -- Lists that are read have numbers of their parts alone.
 use Rattle.std.proofs.Common.{◌≡◌, ℕ, zero, suc, ◌+◌, ◌-◌, ◌<◌, ◌≤◌, ◌==◌, nat_le, Bool, true, false, ◌&&◌, ◌||◌, if◌then◌else◌, List, [], ◌∷◌, length, drop, get_or, set, take, Option, Some, None, refl, sym, ap, ◌∙◌, subst, arith}
-use Rattle.std.specs.Prelude.{codes}
 use Rattle.std.specs.List.{list_all}
 use Rattle.std.specs.Option.{option_map}
-use Rattle.std.specs.Str.{str_eq_ignore_ascii_case}
 use Rattle.std.proofs.lemmas.Bool.{and_from, and_parts, eqb-true, false≢true, leb-true}
 use Rattle.std.proofs.lemmas.Option.{none-some, option_and_then_some, same_Some}
+use Rattle.chrono_datetime.specs.Names.{weekday_of_letters}
+use Rattle.chrono_datetime.specs.Weekday.{days_from_monday}
+use Rattle.chrono_datetime.proofs.WeekdayCycle.{days_from_monday-lt}
 use Rattle.chrono_sets.specs.Numbers.{Numbers, has, lies_within, no_numbers, with_number}
 use Rattle.chrono_sets.proofs.Members.{has-with_number, lies_within-all, lies_within-has}
-use Rattle.chrono_rules.specs.Digits.{digits_of}
-use Rattle.chrono_rules.specs.NumberLists.{ends_of, from_one, listed_number, month_list_of, no_ends, no_year_ends, signed_number, signed_number_of, weekday_of_letters, weekdays_of, with_month_text, with_nth, with_nth_of, with_signed, with_signed_day, with_signed_text, with_weekday, with_weekday_text, with_year_text, year_ends_of}
+use Rattle.chrono_text.specs.Numbers.{digits_of}
+use Rattle.chrono_rules.specs.NumberLists.{ends_of, from_one, listed_number, month_list_of, no_ends, no_year_ends, signed_number, signed_number_of, listed_weekday, weekdays_of, with_month_text, with_nth, with_nth_of, with_signed, with_signed_day, with_signed_text, with_weekday, with_weekday_text, with_year_text, year_ends_of}
 use Rattle.chrono_rules.specs.RuleParts.{no_weekdays}
 use Rattle.chrono_rules.specs.RuleTexts.{said}
-use Rattle.chrono_rules.specs.Split.{pieces, through}
+use Rattle.chrono_text.specs.Lists.{pieces, through}
 use Rattle.chrono_rules.specs.WritableRules.{is_from_one_to}
 use Rattle.chrono_rules.specs.declared.text.number_list.BothEnds.{BothEnds}
 use Rattle.chrono_rules.specs.declared.text.number_list.SignedNumber.{SignedNumber}
@@ -164,25 +165,16 @@ weekday_kept s t (b ∷ bs) w less at is =
     let found = mapped (with_nth s w) (signed_number_of 2 53 (b ∷ bs)) t is in
     subst AreDays found.2 (nth_kept s w found.0.number found.0.from_end at (place_bounds 2 53 (b ∷ bs) found.0 found.1))
 
-letter_small : (b : Bool) (k w : ℕ) (others : Option ℕ) → k < 7 → (others ≡ Some w → w < 7) → (if b then Some k else others) ≡ Some w → w < 7
-letter_small true k w others small rest is = let same = same_Some k w is in omega (arith, small, same)
-letter_small false k w others small rest is = rest is
-
-letters_small : (text : List ℕ) (w : ℕ) → weekday_of_letters text ≡ Some w → w < 7
-unfolding weekday_of_letters
-letters_small text w =
-    letter_small (str_eq_ignore_ascii_case text (codes "MO")) 0 w _ (omega arith)
-    (letter_small (str_eq_ignore_ascii_case text (codes "TU")) 1 w _ (omega arith)
-    (letter_small (str_eq_ignore_ascii_case text (codes "WE")) 2 w _ (omega arith)
-    (letter_small (str_eq_ignore_ascii_case text (codes "TH")) 3 w _ (omega arith)
-    (letter_small (str_eq_ignore_ascii_case text (codes "FR")) 4 w _ (omega arith)
-    (letter_small (str_eq_ignore_ascii_case text (codes "SA")) 5 w _ (omega arith)
-    (letter_small (str_eq_ignore_ascii_case text (codes "SU")) 6 w None (omega arith) (λ is. absurd (none-some w is))))))))
+letters_small : (text : List ℕ) (w : ℕ) → listed_weekday text ≡ Some w → w < 7
+unfolding listed_weekday
+letters_small text w is =
+    let found = mapped days_from_monday (weekday_of_letters 2 text) w is in
+    omega (arith, days_from_monday-lt found.0, found.2)
 
 day_kept : (s t : WeekdayPlaces) (text : List ℕ) → AreDays s → with_weekday_text s text ≡ Some t → AreDays t
 unfolding with_weekday_text
 day_kept s t text at is =
-    option_and_then_some (with_weekday s (take (length text - 2) text)) (weekday_of_letters (drop (length text - 2) text)) t is
+    option_and_then_some (with_weekday s (take (length text - 2) text)) (listed_weekday (drop (length text - 2) text)) t is
     (λ w letters given. weekday_kept s t (take (length text - 2) text) w (letters_small (drop (length text - 2) text) w letters) at given)
 
 pub none_days : AreDays no_weekdays

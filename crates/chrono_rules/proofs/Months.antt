@@ -8,15 +8,9 @@ use Rattle.chrono_datetime.specs.Years.{month_length}
 use Rattle.chrono_datetime.proofs.MonthDays.{day_of-bounds, later_in_month, month-days}
 use Rattle.chrono_datetime.proofs.MonthOrder.{before_month, day_at-exists, days_in_order, earlier_month, month_of-range}
 use Rattle.chrono_datetime.proofs.Signed.{signed}
+use Rattle.chrono_datetime.proofs.Rising.{month_index_of-rises}
 
 -- ---- days and their months
-
--- the months of later days are not earlier
-pub later_index : (n d : ℤ) → n ≤ℤ d → month_index_of n ≤ℤ month_index_of d
-later_index n d low = elim (days_in_order n d (month_index_of n) (month_index_of d) (day_of n) (day_of d) (day_at-exists n) (day_at-exists d) low) [
-  | inl lt ↦ omega (arith, signed, lt)
-  | inr same ↦ omega (arith, signed, same.0)
-]
 
 -- days before the first of a month lie in earlier months
 pub before_month_first : (d e : ℤ) → d <ℤ e → day_of e ≡ 1 → month_index_of d <ℤ month_index_of e
@@ -34,7 +28,7 @@ before_month_first d e lt first = elim (days_in_order d e (month_index_of d) (mo
 -- a month so many months on
 pub month_later : (n d : ℤ) (k : ℕ) → n ≤ℤ d → month_index_of d <ℤ (month_index_of n +ℤ pos k) → let j = unsigned_abs (month_index_of d -ℤ month_index_of n) in (j < k) × (month_index_of d ≡ month_index_of n +ℤ pos j)
 month_later n d k low high =
-    let index = later_index n d low in
+    let index = month_index_of-rises n d low in
     (omega (arith, signed, index, high), omega (arith, signed, index))
 
 -- its year and month, and its place in the cycle of twelve
@@ -79,7 +73,3 @@ own_month n d k low high some =
 -- the first day of a month so many months later, found from the first of this one
 pub first_later : (n first e k : ℤ) → InSameMonth first n → day_of first ≡ 1 → month_index_of e ≡ month_index_of first +ℤ k → day_of e ≡ min (day_of first) (month_length_of e) → (month_index_of e ≡ month_index_of n +ℤ k) × (day_of e ≡ 1)
 first_later n first e k same one index day = (omega (arith, signed, same.0, same.1, index), omega (arith, one, day, day_of-bounds e))
-
-pub later_first : (n e k : ℤ) → month_index_of e ≡ month_index_of n +ℤ k → pos 0 <ℤ k → n <ℤ e
-later_first n e k index some =
-    earlier_month n e (month_index_of n) (month_index_of e) (day_of n) (day_of e) (day_at-exists n) (day_at-exists e) (omega (arith, signed, index, some))

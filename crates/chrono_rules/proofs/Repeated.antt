@@ -33,6 +33,8 @@ use Rattle.chrono_rules.proofs.Passed.{and-none}
 use Rattle.chrono_rules.proofs.PeriodsLeftOut.{many}
 use Rattle.chrono_rules.proofs.PlacesInPeriods.{date_passes-is, from_period, to_period}
 use Rattle.chrono_rules.proofs.YearsOfDates.{ordinal_of-bounds}
+use Rattle.chrono_datetime.proofs.MonthPlaces.{not_longer}
+use Rattle.chrono_datetime.proofs.Names.{year_length_bounds}
 
 -- ---- what the calendar says of a day, and of one that is whole cycles later
 
@@ -45,18 +47,6 @@ pub record IsAlike (n m : ℤ) (k : ℕ) : Type 0 where
   pub month_length : month_length_of m ≡ month_length_of n
   pub year_length : year_length (year_of m) ≡ year_length (year_of n)
 
--- the last day of a month repeats, and so does the month's length
-month_length-most : (n m : ℤ) → day_of m ≡ day_of n → ((k : ℕ) → day_of (m +ℤ pos k) ≡ day_of (n +ℤ pos k)) → month_length_of m ≤ month_length_of n
-month_length-most n m place again =
-    let bounds = day_of-bounds n in
-    let behind = month_length_of n - day_of n + 1 in
-    let next = month-next n (n +ℤ pos behind) (omega (arith, signed, bounds)) in
-    by_lt_z (pos (month_length_of n)) (pos (month_length_of m))
-    (λ longer.
-    let within = later_in_month m (m +ℤ pos behind) behind refl (omega (arith, signed, place, bounds, longer)) in
-    absurd (omega (arith, within.day, again behind, next.1, place, bounds)))
-    (λ le. omega (arith, signed, le))
-
 one_cycle : (n m : ℤ) → m ≡ n +ℤ pos 146_097 → IsAlike n m 1
 one_cycle n m e =
     let name = calendar_name-again n m e in
@@ -67,7 +57,7 @@ one_cycle n m e =
       month = name.0;
       day = name.1;
       ordinal = again.1;
-      month_length = omega (arith, month_length-most n m name.1 later, month_length-most m n (sym name.1) (λ k. sym (later k)));
+      month_length = omega (arith, not_longer n m name.1 later, not_longer m n (sym name.1) (λ k. sym (later k)));
       year_length = year_length-again (year_of n) (year_of m) again.0;
     }
 
@@ -207,23 +197,20 @@ end-again Yearly w n m k e =
 at_most_31 : (leap : Bool) (m : ℕ) → month_length_in leap m ≤ 31
 at_most_31 leap m = grind arith
 
-at_most_366 : (y : ℤ) → year_length y ≤ 366
-at_most_366 y = grind arith
-
 -- no period is longer than a year of 366 days
 first-near : (f : Frequency) (w : Weekday) (n : ℤ) → n ≤ℤ (period_first f w n +ℤ pos 366)
 unfolding period_first
 first-near Daily w n = omega (arith, signed)
 first-near Weekly w n = omega (arith, signed, (week_first_of-place n (week_first_of n w) w refl).2)
 first-near Monthly w n = omega (arith, signed, day_of-bounds n, at_most_31 (is_leap_year (year_of n)) (month_of n))
-first-near Yearly w n = omega (arith, signed, ordinal_of-bounds n, at_most_366 (year_of n))
+first-near Yearly w n = omega (arith, signed, ordinal_of-bounds n, (year_length_bounds (year_of n)).1)
 
 end-near : (f : Frequency) (w : Weekday) (n : ℤ) → period_end f w n ≤ℤ (n +ℤ pos 366)
 unfolding period_end
 end-near Daily w n = omega (arith, signed)
 end-near Weekly w n = omega (arith, signed, (week_first_of-place n (week_first_of n w) w refl).1)
 end-near Monthly w n = omega (arith, signed, day_of-bounds n, at_most_31 (is_leap_year (year_of n)) (month_of n))
-end-near Yearly w n = omega (arith, signed, ordinal_of-bounds n, at_most_366 (year_of n))
+end-near Yearly w n = omega (arith, signed, ordinal_of-bounds n, (year_length_bounds (year_of n)).1)
 
 -- a count of days that are so many days later
 pub count-shifted : (p q : ℤ → Bool) (a c b d : ℤ) (s k : ℕ) → c ≡ a +ℤ pos k → b ≡ a +ℤ pos s → d ≡ c +ℤ pos s → ((e f : ℤ) → a ≤ℤ e → e <ℤ c → f ≡ e +ℤ pos s → q f ≡ p e) → count_between q b d ≡ count_between p a c

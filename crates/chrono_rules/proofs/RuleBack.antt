@@ -5,6 +5,7 @@ use Rattle.std.specs.Fmt.{decimal}
 use Rattle.std.specs.List.{list_all, list_any}
 use Rattle.std.specs.Option.{option_map}
 use Rattle.std.proofs.lemmas.Bool.{and_parts, false≢true, leb-true, not-false, not-true, not_from_false, or_parts}
+use Rattle.chrono_datetime.specs.Names.{weekday_of_letters}
 use Rattle.chrono_datetime.specs.Weekday.{days_from_monday}
 use Rattle.chrono_datetime.specs.declared.Weekday.{Weekday}
 use Rattle.chrono_datetime.specs.declared.Weekday.TheVariants.{Fri, Mon, Sat, Sun, Thu, Tue, Wed}
@@ -17,11 +18,11 @@ use Rattle.chrono_rules.specs.declared.rule.Frequency.{Frequency}
 use Rattle.chrono_rules.specs.declared.rule.Frequency.TheVariants.{Daily, Monthly, Weekly, Yearly}
 use Rattle.chrono_rules.specs.declared.rule.Rule.{Rule}
 use Rattle.chrono_rules.specs.RuleParts.{lacks_month_days, lacks_months, lacks_positions, lacks_weekdays, lacks_weeks, lacks_year_days, no_weekdays}
-use Rattle.chrono_rules.specs.NumberLists.{ends_of, month_list_of, no_ends, no_year_ends, weekday_of_letters, weekdays_of, year_ends_of}
+use Rattle.chrono_rules.specs.NumberLists.{ends_of, month_list_of, no_ends, no_year_ends, listed_weekday, weekdays_of, year_ends_of}
 use Rattle.chrono_rules.specs.RuleErrors.{frequency_text}
 use Rattle.chrono_rules.specs.RuleTexts.{IsRuleText, Says, end_of, frequency_of, interval_of, is_part, parts, said, values, weekday_of_text}
 use Rattle.chrono_rules.specs.WritableRules.{IsWritableRule, IsWritableEnd}
-use Rattle.chrono_rules.specs.WrittenRules.{list_text, rule_text, weekday_items, weekday_letters}
+use Rattle.chrono_rules.specs.WrittenRules.{list_text, rule_text, weekday_items, letters_from_monday}
 use Rattle.chrono_rules.proofs.EndsBack.{count_back, day_back, interval_back}
 use Rattle.chrono_rules.proofs.ListsBack.{ends_back, months_back, year_ends_back}
 use Rattle.chrono_rules.proofs.PartValues.{are_parts, found, said_part, values_found}
@@ -44,8 +45,8 @@ end_back Never can = refl
 end_back (Count n) can = ap (option_map Count) (count_back n can)
 end_back (Until n) can = ap (option_map Until) (day_back n can.0 can.1)
 
-start_back : (d : Weekday) → weekday_of_text (weekday_letters (days_from_monday d)) ≡ Some d
-unfolding weekday_of_text weekday_of_letters weekday_letters
+start_back : (d : Weekday) → weekday_of_text (letters_from_monday (days_from_monday d)) ≡ Some d
+unfolding weekday_of_text listed_weekday weekday_of_letters letters_from_monday
 start_back Mon = refl
 start_back Tue = refl
 start_back Wed = refl

@@ -13,7 +13,8 @@ use Rattle.chrono_rules.specs.declared.rule.End.{End}
 use Rattle.chrono_rules.specs.declared.rule.End.TheVariants.{Count, Never, Until}
 use Rattle.chrono_rules.specs.declared.rule.Rule.{Rule}
 use Rattle.chrono_rules.specs.RuleParts.{no_weekdays}
-use Rattle.chrono_rules.specs.Digits.{count_of, digits_of, up_to, with_digits}
+use Rattle.chrono_text.specs.Numbers.{count_of, digits_of, natural_of, up_to}
+use Rattle.chrono_text.proofs.NaturalLemmas.{natural_small}
 use Rattle.chrono_rules.specs.NumberLists.{ends_of, month_list_of, no_ends, no_year_ends, weekdays_of, year_ends_of}
 use Rattle.chrono_rules.specs.RuleTexts.{IsRuleText, above_0, date_of, end_of, interval_of}
 use Rattle.chrono_rules.specs.WritableRules.{IsWritableRule, IsWritableEnd, is_from_one_to}
@@ -28,10 +29,8 @@ up_to-small x n is =
     omega (arith, most, found.1)
 
 count_small : (text : List ℕ) (n : ℕ) → count_of text ≡ Some n → n < 2 ^ 32
-unfolding count_of
-count_small text n is =
-    guarded (nat_le 1 (length text)) (option_and_then (up_to 4_294_967_295) (with_digits 0 text)) n (n < 2 ^ 32)
-    (λ some whole. option_and_then_some (up_to 4_294_967_295) (with_digits 0 text) n whole (λ x made given. up_to-small x n given)) is
+unfolding count_of natural_of
+count_small text n is = option_and_then_some (up_to 4_294_967_295) (natural_of text) n is (λ x made given. up_to-small x n given)
 
 above-bound : (b : Bool) (x n : ℕ) → (x == 0) ≡ b → x < 2 ^ 32 → (if b then None else Some x) ≡ Some n → (1 ≤ n) × (n < 2 ^ 32)
 above-bound true x n at small is = absurd (none-some n is)
@@ -48,29 +47,14 @@ one_writable : (n : ℕ) → Some 1 ≡ Some n → (1 ≤ n) × (n < 2 ^ 32)
 one_writable n is = let same = same_Some 1 n is in (omega (arith, same), omega (arith, same))
 
 -- four digits write a number below 10,000
-digits_small : (k v y : ℕ) (ds : List ℕ) → v < 10 ^ k → with_digits v ds ≡ Some y → y < 10 ^ (k + length ds)
-digits_small k v y [] small is =
-    let same = same_Some v y is in
-    let none : k ≡ k + 0 = omega arith in
-    omega (arith, small, same, ap (λ n. 10 ^ n) none)
-digits_small k v y (b ∷ bs) small is =
-    guarded (nat_le 48 b && nat_le b 57) (with_digits (v * 10 + (b - 48)) bs) y (y < 10 ^ (k + length (b ∷ bs)))
-    (λ digit rest.
-    let high = leb-true b 57 (and_parts (nat_le 48 b) (nat_le b 57) digit).1 in
-    let more : v * 10 + (b - 48) < 10 ^ suc k = omega (arith, small, high) in
-    let turned : suc k + length bs ≡ k + length (b ∷ bs) = omega arith in
-    let end = digits_small (suc k) (v * 10 + (b - 48)) y bs more rest in
-    omega (arith, end, ap (λ n. 10 ^ n) turned)) is
-
 four_small : (text : List ℕ) (y : ℕ) → digits_of 4 text ≡ Some y → y ≤ 9_999
 unfolding digits_of
 four_small text y is =
-    guarded (nat_le 1 (length text) && nat_le (length text) 4) (with_digits 0 text) y (y ≤ 9_999)
+    guarded (nat_le (length text) 4) (natural_of text) y (y ≤ 9_999)
     (λ short given.
-    let most = leb-true (length text) 4 (and_parts (nat_le 1 (length text)) (nat_le (length text) 4) short).1 in
-    let less = digits_small 0 0 y text (omega arith) given in
-    let room : 10 ^ (0 + length text) ≤ 10 ^ 4 = pow-le-pow_right {n = 10} (omega arith) {i = 0 + length text} {j = 4} (omega (arith, most)) in
-    omega (arith, less, room)) is
+    let most = leb-true (length text) 4 short in
+    let room : 10 ^ length text ≤ 10 ^ 4 = pow-le-pow_right {n = 10} (omega arith) {i = length text} {j = 4} most in
+    omega (arith, natural_small text y given, room)) is
 
 abbrev HasFourDigits : ℤ → Type 0
 HasFourDigits y = (pos 0 ≤ℤ y) × (y ≤ℤ pos 9_999)

@@ -21,10 +21,7 @@ use Rattle.chrono_rules.specs.declared.rule.Rule.{Rule}
 use Rattle.chrono_rules.proofs.Passed.{and-none, no_pass}
 use Rattle.chrono_rules.proofs.YearsOfDates.{in_year_date, ordinal_of-bounds, same_year}
 use Rattle.chrono_rules.proofs.Months.{in_month, same_length}
-
-numbers_none : (b : Bool) → (b && false) ≡ false
-numbers_none true = refl
-numbers_none false = refl
+use Rattle.std.proofs.Math.Bool.{and-false}
 
 -- ---- a part that a day does not pass
 
@@ -131,7 +128,7 @@ pub not_named : (r : Rule) (w p b front back : ℕ) → has r.weekdays.every w �
 not_named r w p b front back every at-front at-back front-is back-is =
     let f : lists_nth r.weekdays.front w (1 + (p - 1) / 7) ≡ false = ap (lists_nth r.weekdays.front w) front-is ∙ at-front in
     let e : lists_nth r.weekdays.back w (1 + b / 7) ≡ false = ap (lists_nth r.weekdays.back w) back-is ∙ at-back in
-    rw (every, f, e) (numbers_none (has_numbers r.frequency))
+    rw (every, f, e) (and-false (has_numbers r.frequency))
 
 -- a weekday of which none is listed
 pub never_named : (r : Rule) (w p b : ℕ) → has r.weekdays.every w ≡ false → is_empty (slice_index_or r.weekdays.front w no_numbers) ≡ true → is_empty (slice_index_or r.weekdays.back w no_numbers) ≡ true → names_weekday r w p b ≡ false

@@ -6,24 +6,25 @@ use Rattle.std.specs.Option.{option_and_then, option_map}
 use Rattle.std.proofs.Math.Seq.{drop-append_seam, get_or-append_seam, set-append_seam, take-append_seam}
 use Rattle.std.proofs.lemmas.Bool.{and_parts, false≢true}
 use Rattle.std.proofs.lemmas.Fmt.{decimal_nonempty, length-decimal-le}
+use Rattle.chrono_datetime.specs.Names.{weekday_of_letters}
 use Rattle.chrono_sets.specs.Numbers.{Numbers, are_empty, is_empty, lies_within, no_numbers, with_number}
-use Rattle.chrono_rules.specs.NumberLists.{signed_number, signed_number_of, weekday_of_letters, weekdays_of, with_nth, with_nth_of, with_weekday, with_weekday_text}
+use Rattle.chrono_rules.specs.NumberLists.{signed_number, signed_number_of, listed_weekday, weekdays_of, with_nth, with_nth_of, with_weekday, with_weekday_text}
 use Rattle.chrono_rules.specs.RuleParts.{no_weekdays}
-use Rattle.chrono_rules.specs.Split.{through}
+use Rattle.chrono_text.specs.Lists.{through}
 use Rattle.chrono_rules.specs.WritableRules.{is_from_one_to}
-use Rattle.chrono_rules.specs.WrittenRules.{item_text, items, list_text, numbered_items, weekday_letters}
+use Rattle.chrono_rules.specs.WrittenRules.{item_text, items, list_text, numbered_items, letters_from_monday}
 use Rattle.chrono_rules.specs.declared.text.list_writer.Naming.TheVariants.{Each, Numbered}
 use Rattle.chrono_rules.specs.declared.weekday_places.WeekdayPlaces.{WeekdayPlaces}
-use Rattle.chrono_rules.proofs.JoinedTexts.{all_of, pieces_joined}
+use Rattle.chrono_text.proofs.ListLemmas.{pieces_joined}
 use Rattle.chrono_rules.proofs.ListsBack.{from_one_back, place_back, set_back, some_of, through_append}
-use Rattle.chrono_rules.proofs.WordBytes.{are_word_bytes, items_words, numbered_words, words_lack}
+use Rattle.chrono_rules.proofs.WordBytes.{all_of, are_word_bytes, items_words, numbered_words, words_lack}
 
 abbrev days_with : Numbers → List Numbers → List Numbers → WeekdayPlaces
 days_with every front back = record { every = every; front = front; back = back }
 
 -- a weekday's two letters name it
-letters_back : (w : ℕ) → w < 7 → (length (weekday_letters w) ≡ 2) × (weekday_of_letters (weekday_letters w) ≡ Some w)
-unfolding weekday_letters weekday_of_letters
+letters_back : (w : ℕ) → w < 7 → (length (letters_from_monday w) ≡ 2) × (listed_weekday (letters_from_monday w) ≡ Some w)
+unfolding letters_from_monday listed_weekday weekday_of_letters
 letters_back zero less = (refl, refl)
 letters_back (suc zero) less = (refl, refl)
 letters_back (suc (suc zero)) less = (refl, refl)
@@ -34,14 +35,14 @@ letters_back (suc (suc (suc (suc (suc (suc zero)))))) less = (refl, refl)
 letters_back (suc (suc (suc (suc (suc (suc (suc w))))))) less = absurd (omega (arith, less))
 
 -- the last two letters, and what stands in front of them
-cut_back : (days : WeekdayPlaces) (front letters : List ℕ) (w : ℕ) → length letters ≡ 2 → weekday_of_letters letters ≡ Some w → with_weekday_text days (front ++ letters) ≡ with_weekday days front w
+cut_back : (days : WeekdayPlaces) (front letters : List ℕ) (w : ℕ) → length letters ≡ 2 → listed_weekday letters ≡ Some w → with_weekday_text days (front ++ letters) ≡ with_weekday days front w
 unfolding with_weekday_text
 cut_back days front letters w two is =
     let text = front ++ letters in
     let at : length text - 2 ≡ length front = omega (arith, length-append front letters, two) in
-    ap (λ k. option_and_then (with_weekday days (take k text)) (weekday_of_letters (drop k text))) at
-    ∙ ap (λ t. option_and_then (with_weekday days t) (weekday_of_letters (drop (length front) text))) (take-append_seam front letters)
-    ∙ ap (λ t. option_and_then (with_weekday days front) (weekday_of_letters t)) (drop-append_seam front letters)
+    ap (λ k. option_and_then (with_weekday days (take k text)) (listed_weekday (drop k text))) at
+    ∙ ap (λ t. option_and_then (with_weekday days t) (listed_weekday (drop (length front) text))) (take-append_seam front letters)
+    ∙ ap (λ t. option_and_then (with_weekday days front) (listed_weekday t)) (drop-append_seam front letters)
     ∙ ap (option_and_then (with_weekday days front)) is
 
 -- weekdays without a number
@@ -49,7 +50,7 @@ each_step : (u : Numbers) (w : ℕ) → w < 7 → with_weekday_text (days_with u
 unfolding item_text with_weekday
 each_step u w less =
     let letters = letters_back w less in
-    cut_back (days_with u no_weekdays.front no_weekdays.back) [] (weekday_letters w) w letters.0 letters.1
+    cut_back (days_with u no_weekdays.front no_weekdays.back) [] (letters_from_monday w) w letters.0 letters.1
 
 -- weekdays with a number
 with_number_text : (days : WeekdayPlaces) (text : List ℕ) (w : ℕ) → 0 < length text → with_weekday days text w ≡ option_map (with_nth days w) (signed_number_of 2 53 text)
@@ -63,7 +64,7 @@ nth_step days from_end w k less some within =
     let letters = letters_back w less in
     let text = sign_text from_end ++ decimal k in
     let has : 0 < length text = omega (arith, length-append (sign_text from_end) (decimal k), decimal_nonempty k (omega (arith, within))) in
-    cut_back days text (weekday_letters w) w letters.0 letters.1 ∙ with_number_text days text w has
+    cut_back days text (letters_from_monday w) w letters.0 letters.1 ∙ with_number_text days text w has
     ∙ ap (option_map (with_nth days w)) (place_back from_end 2 53 k (omega (arith, within)) some (omega (arith, within)) (length-decimal-le 2 k (omega arith) (omega (arith, within)) (omega (arith, within))))
 
 nth_here : (before after : List Numbers) (u : Numbers) (n : ℕ) → with_nth_of (before ++ u ∷ after) (length before) n ≡ before ++ with_number u n ∷ after

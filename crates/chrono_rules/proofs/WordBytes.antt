@@ -7,12 +7,21 @@ use Rattle.std.specs.List.{list_all}
 use Rattle.std.specs.Str.{all_ascii_digits}
 use Rattle.std.proofs.lemmas.Bool.{and_from, and_parts, eqb-true, false≢true, le-leb, or_left, or_right}
 use Rattle.std.proofs.lemmas.Fmt.{digits_decimal}
+use Rattle.std.proofs.lemmas.List.Folds.{list_all-append}
 use Rattle.std.proofs.lemmas.Str.Parse.{IsNumeralModel, numerals_by_fold}
+use Rattle.chrono_datetime.specs.Names.{weekday_letters}
+use Rattle.chrono_datetime.specs.Weekday.{weekday_from_monday}
+use Rattle.chrono_datetime.specs.declared.Weekday.{Weekday}
+use Rattle.chrono_datetime.specs.declared.Weekday.TheVariants.{Fri, Mon, Sat, Sun, Thu, Tue, Wed}
 use Rattle.chrono_sets.specs.Numbers.{Numbers, has}
 use Rattle.chrono_rules.specs.declared.text.list_writer.Naming.{Naming}
 use Rattle.chrono_rules.specs.declared.text.list_writer.Naming.TheVariants.{Each, Number, Numbered}
-use Rattle.chrono_rules.specs.WrittenRules.{both_items, item_at, item_text, items, list_text, numbered_items, weekday_letters}
-use Rattle.chrono_rules.proofs.JoinedTexts.{all_of, lacks}
+use Rattle.chrono_rules.specs.WrittenRules.{both_items, item_at, item_text, items, list_text, numbered_items, letters_from_monday}
+use Rattle.chrono_text.proofs.ListLemmas.{lacks}
+
+-- what all of two lists pass
+pub all_of : {X : Type 0} (p : X → Bool) (xs ys : List X) → list_all p xs ≡ true → list_all p ys ≡ true → list_all p (xs ++ ys) ≡ true
+all_of p xs ys first second = list_all-append p xs ys ∙ and_from (list_all p xs) (list_all p ys) first second
 
 -- a capital letter, a digit or `-`
 abbrev pub is_word_byte : ℕ → Bool
@@ -73,15 +82,18 @@ decimal_words n fits = digit_words (decimal n) (digits_decimal own n fits)
 
 -- ---- items
 
-either : (b : Bool) (xs ys : List ℕ) → are_word_bytes xs ≡ true → are_word_bytes ys ≡ true → are_word_bytes (if b then xs else ys) ≡ true
-either true xs ys first second = first
-either false xs ys first second = second
+letters_of : (d : Weekday) → are_word_bytes (weekday_letters d) ≡ true
+letters_of Mon = refl
+letters_of Tue = refl
+letters_of Wed = refl
+letters_of Thu = refl
+letters_of Fri = refl
+letters_of Sat = refl
+letters_of Sun = refl
 
-pub letters_words : (w : ℕ) → are_word_bytes (weekday_letters w) ≡ true
-unfolding weekday_letters
-letters_words w =
-    either (w == 0) (codes "MO") _ refl (either (w == 1) (codes "TU") _ refl (either (w == 2) (codes "WE") _ refl
-    (either (w == 3) (codes "TH") _ refl (either (w == 4) (codes "FR") _ refl (either (w == 5) (codes "SA") (codes "SU") refl refl)))))
+pub letters_words : (w : ℕ) → are_word_bytes (letters_from_monday w) ≡ true
+unfolding letters_from_monday
+letters_words w = letters_of (weekday_from_monday w)
 
 signed_words : (from_end : Bool) (n : ℕ) → n < 2 ^ 64 → are_word_bytes (sign_text from_end ++ decimal n) ≡ true
 signed_words true n fits = decimal_words n fits
@@ -91,7 +103,7 @@ item_words : (naming : Naming) (from_end : Bool) (n : ℕ) → n < 2 ^ 64 → ar
 unfolding item_text
 item_words Number from_end n fits = signed_words from_end n fits
 item_words Each from_end n fits = letters_words n
-item_words (Numbered w) from_end n fits = all_of is_word_byte (sign_text from_end ++ decimal n) (weekday_letters w) (signed_words from_end n fits) (letters_words w)
+item_words (Numbered w) from_end n fits = all_of is_word_byte (sign_text from_end ++ decimal n) (letters_from_monday w) (signed_words from_end n fits) (letters_words w)
 
 one_words : (b : Bool) (text : List ℕ) → are_word_bytes text ≡ true → list_all are_word_bytes (if b then text ∷ [] else []) ≡ true
 one_words true text are = and_from (are_word_bytes text) true are refl

@@ -16,11 +16,11 @@ use Rattle.chrono_rules.specs.RuleParts.{lacks_month_days, lacks_months, lacks_p
 use Rattle.chrono_rules.specs.RuleErrors.{frequency_text}
 use Rattle.chrono_rules.specs.RuleTexts.{parts}
 use Rattle.chrono_rules.specs.WritableRules.{IsWritableRule, IsWritableEnd}
-use Rattle.chrono_rules.specs.WrittenRules.{basic_date_text, both_items, end_parts, items, later_parts, list_parts, list_text, numbered_items, part_unless, rule_text, some_in, weekday_items, weekday_letters}
+use Rattle.chrono_rules.specs.WrittenRules.{basic_date_text, both_items, end_parts, items, later_parts, list_parts, list_text, numbered_items, part_unless, rule_text, some_in, weekday_items, letters_from_monday}
 use Rattle.chrono_rules.proofs.EndsBack.{day_words}
-use Rattle.chrono_rules.proofs.JoinedTexts.{all_of, lacks, pieces_joined}
+use Rattle.chrono_text.proofs.ListLemmas.{lacks, pieces_joined}
 use Rattle.chrono_rules.proofs.PartValues.{Part, part_texts, parts_lack}
-use Rattle.chrono_rules.proofs.WordBytes.{are_word_bytes, both_words, decimal_words, items_words, letters_words, list_lacks, numbered_words, word_lacks}
+use Rattle.chrono_rules.proofs.WordBytes.{all_of, are_word_bytes, both_words, decimal_words, items_words, letters_words, list_lacks, numbered_words, word_lacks}
 
 abbrev pub lacks_count : End → Bool
 lacks_count Never = true
@@ -61,7 +61,7 @@ abbrev pub positions_text : Rule → List ℕ
 positions_text r = list_text (both_items r.positions r.positions_from_end 366)
 
 abbrev pub start_text : Rule → List ℕ
-start_text r = weekday_letters (days_from_monday r.week_start)
+start_text r = letters_from_monday (days_from_monday r.week_start)
 
 abbrev pub all_parts : Rule → List Part
 all_parts r =

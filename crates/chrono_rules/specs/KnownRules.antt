@@ -87,3 +87,7 @@ at_midnight n = record { date = n; time = record { second = 0; fraction = 0 } }
 -- the day n at one o'clock and some nanoseconds
 abbrev pub at_one : ℤ → ℕ → Moment
 at_one n nanoseconds = record { date = n; time = record { second = 3600; fraction = nanoseconds } }
+
+-- every other day from four days before the calendar's last, with the next day beside them, and without the one behind that
+abbrev pub last_days : RecurrenceSet
+last_days = record { rule = every_days 2; start = pos 95_745_395; dates = pos 95_745_396 ∷ []; exceptions = pos 95_745_397 ∷ [] }

@@ -1,5 +1,4 @@
 pub mod ByParts
-pub mod Digits
 pub mod InstanceLists
 pub mod InstanceMoments
 pub mod Instances
@@ -11,6 +10,5 @@ pub mod RecurrenceSets
 pub mod RuleErrors
 pub mod RuleParts
 pub mod RuleTexts
-pub mod Split
 pub mod WritableRules
 pub mod WrittenRules

@@ -1,10 +1,12 @@
 -- The lists of a rule's BY parts, as texts (RFC 5545, section 3.3.10): `1,-1` and `MO,1FR`.
 use Rattle.std.specs.Prelude.{◌≡◌, ℕ, ◌-◌, ◌==◌, nat_le, ◌&&◌, Bool, true, false, List, [], ◌∷◌, length, take, drop, slice_index_or, slice_set, if◌then◌else◌, Option, Some, None, codes, refl}
 use Rattle.std.specs.Option.{option_and_then, option_map}
-use Rattle.std.specs.Str.{byte, str_eq_ignore_ascii_case}
+use Rattle.std.specs.Str.{byte}
+use Rattle.chrono_datetime.specs.Names.{weekday_of_letters}
+use Rattle.chrono_datetime.specs.Weekday.{days_from_monday}
 use Rattle.chrono_sets.specs.Numbers.{Numbers, no_numbers, numbers, with_number}
-use Rattle.chrono_rules.specs.Digits.{digits_of}
-use Rattle.chrono_rules.specs.Split.{pieces, through}
+use Rattle.chrono_text.specs.Numbers.{digits_of, natural_of}
+use Rattle.chrono_text.specs.Lists.{pieces, through}
 use Rattle.chrono_rules.specs.RuleParts.{no_weekdays}
 use Rattle.chrono_rules.specs.declared.text.number_list.BothEnds.{BothEnds}
 use Rattle.chrono_rules.specs.declared.text.number_list.SignedNumber.{SignedNumber}
@@ -84,16 +86,8 @@ year_ends_of text = through with_year_text no_year_ends (pieces (byte ",") text)
 -- ---- BYDAY
 
 -- the weekday that two letters name, of either case, from 0 for Monday
-unfoldable pub weekday_of_letters : List ℕ → Option ℕ
-weekday_of_letters text =
-    if str_eq_ignore_ascii_case text (codes "MO") then Some 0
-    else if str_eq_ignore_ascii_case text (codes "TU") then Some 1
-    else if str_eq_ignore_ascii_case text (codes "WE") then Some 2
-    else if str_eq_ignore_ascii_case text (codes "TH") then Some 3
-    else if str_eq_ignore_ascii_case text (codes "FR") then Some 4
-    else if str_eq_ignore_ascii_case text (codes "SA") then Some 5
-    else if str_eq_ignore_ascii_case text (codes "SU") then Some 6
-    else None
+unfoldable pub listed_weekday : List ℕ → Option ℕ
+listed_weekday text = option_map days_from_monday (weekday_of_letters 2 text)
 
 -- each day of a weekday, or the n-th of them
 abbrev pub with_each : WeekdayPlaces → ℕ → WeekdayPlaces
@@ -116,7 +110,7 @@ with_weekday days (b ∷ bs) w = option_map (with_nth days w) (signed_number_of 
 
 -- a list of weekdays between commas, each with a number in front or none
 unfoldable pub with_weekday_text : WeekdayPlaces → List ℕ → Option WeekdayPlaces
-with_weekday_text days text = option_and_then (with_weekday days (take (length text - 2) text)) (weekday_of_letters (drop (length text - 2) text))
+with_weekday_text days text = option_and_then (with_weekday days (take (length text - 2) text)) (listed_weekday (drop (length text - 2) text))
 
 -- the weekdays that a text lists between commas, each with a number in front or none
 unfoldable pub weekdays_of : List ℕ → Option WeekdayPlaces
@@ -124,76 +118,84 @@ weekdays_of text = through with_weekday_text no_weekdays (pieces (byte ",") text
 
 -- known values: days of the month, as BYMONTHDAY lists them
 ends_of-both : ends_of 2 31 (codes "1,-1,+31") ≡ Some (record { front = numbers (1 ∷ 31 ∷ []); back = numbers (1 ∷ []) })
-unfolding ends_of with_signed_text signed_number_of listed_number digits_of
+unfolding ends_of with_signed_text signed_number_of listed_number digits_of natural_of
 ends_of-both = refl
 
 ends_of-none : ends_of 2 31 (codes "1,0") ≡ None
-unfolding ends_of with_signed_text signed_number_of listed_number digits_of
+unfolding ends_of with_signed_text signed_number_of listed_number digits_of natural_of
 ends_of-none = refl
 
 ends_of-past : ends_of 2 31 (codes "32") ≡ None
-unfolding ends_of with_signed_text signed_number_of listed_number digits_of
+unfolding ends_of with_signed_text signed_number_of listed_number digits_of natural_of
 ends_of-past = refl
 
 ends_of-sign : ends_of 2 31 (codes "-") ≡ None
-unfolding ends_of with_signed_text signed_number_of listed_number digits_of
+unfolding ends_of with_signed_text signed_number_of listed_number digits_of natural_of
 ends_of-sign = refl
 
 ends_of-comma : ends_of 2 31 (codes "1,") ≡ None
-unfolding ends_of with_signed_text signed_number_of listed_number digits_of
+unfolding ends_of with_signed_text signed_number_of listed_number digits_of natural_of
 ends_of-comma = refl
 
 -- months have no sign, days of the year have three digits and one
 month_list_of-two : month_list_of (codes "6,07") ≡ Some (numbers (6 ∷ 7 ∷ []))
-unfolding month_list_of with_month_text listed_number digits_of
+unfolding month_list_of with_month_text listed_number digits_of natural_of
 month_list_of-two = refl
 
 month_list_of-signed : month_list_of (codes "-1") ≡ None
-unfolding month_list_of with_month_text listed_number digits_of
+unfolding month_list_of with_month_text listed_number digits_of natural_of
 month_list_of-signed = refl
 
 year_ends_of-both : year_ends_of (codes "1,200,-1") ≡ Some (record { front = numbers (1 ∷ 200 ∷ []); back = numbers (1 ∷ []) })
-unfolding year_ends_of with_year_text signed_number_of listed_number digits_of
+unfolding year_ends_of with_year_text signed_number_of listed_number digits_of natural_of
 year_ends_of-both = refl
 
 year_ends_of-past : year_ends_of (codes "367") ≡ None
-unfolding year_ends_of with_year_text signed_number_of listed_number digits_of
+unfolding year_ends_of with_year_text signed_number_of listed_number digits_of natural_of
 year_ends_of-past = refl
 
 -- weekdays, as BYDAY lists them: Tuesday and Sunday, the first and the last Sunday, the last Friday but one
 weekdays_of-each : weekdays_of (codes "TU,SU") ≡ Some (record { every = numbers (1 ∷ 6 ∷ []); front = no_weekdays.front; back = no_weekdays.back })
-unfolding weekdays_of with_weekday_text with_weekday weekday_of_letters
+unfolding weekdays_of with_weekday_text with_weekday listed_weekday weekday_of_letters
 weekdays_of-each = refl
 
+weekdays_of-all : weekdays_of (codes "SU,SA,FR,TH,WE,TU,MO") ≡ Some (record { every = numbers (0 ∷ 1 ∷ 2 ∷ 3 ∷ 4 ∷ 5 ∷ 6 ∷ []); front = no_weekdays.front; back = no_weekdays.back })
+unfolding weekdays_of with_weekday_text with_weekday listed_weekday weekday_of_letters
+weekdays_of-all = refl
+
+weekdays_of-saturday : weekdays_of (codes "SA") ≡ Some (record { every = numbers (5 ∷ []); front = no_weekdays.front; back = no_weekdays.back })
+unfolding weekdays_of with_weekday_text with_weekday listed_weekday weekday_of_letters
+weekdays_of-saturday = refl
+
 weekdays_of-numbered : weekdays_of (codes "1SU,-1SU") ≡ Some (record { every = no_numbers; front = with_nth_of no_weekdays.front 6 1; back = with_nth_of no_weekdays.back 6 1 })
-unfolding weekdays_of with_weekday_text with_weekday weekday_of_letters signed_number_of listed_number digits_of
+unfolding weekdays_of with_weekday_text with_weekday listed_weekday weekday_of_letters signed_number_of listed_number digits_of natural_of
 weekdays_of-numbered = refl
 
 weekdays_of-last_friday : weekdays_of (codes "-2FR") ≡ Some (record { every = no_numbers; front = no_weekdays.front; back = with_nth_of no_weekdays.back 4 2 })
-unfolding weekdays_of with_weekday_text with_weekday weekday_of_letters signed_number_of listed_number digits_of
+unfolding weekdays_of with_weekday_text with_weekday listed_weekday weekday_of_letters signed_number_of listed_number digits_of natural_of
 weekdays_of-last_friday = refl
 
 weekdays_of-past : weekdays_of (codes "54MO") ≡ None
-unfolding weekdays_of with_weekday_text with_weekday weekday_of_letters signed_number_of listed_number digits_of
+unfolding weekdays_of with_weekday_text with_weekday listed_weekday weekday_of_letters signed_number_of listed_number digits_of natural_of
 weekdays_of-past = refl
 
 weekdays_of-small_letters : weekdays_of (codes "tu,Su") ≡ weekdays_of (codes "TU,SU")
-unfolding weekdays_of with_weekday_text with_weekday weekday_of_letters
+unfolding weekdays_of with_weekday_text with_weekday listed_weekday weekday_of_letters
 weekdays_of-small_letters = refl
 
 weekdays_of-letter : weekdays_of (codes "M") ≡ None
-unfolding weekdays_of with_weekday_text with_weekday weekday_of_letters
+unfolding weekdays_of with_weekday_text with_weekday listed_weekday weekday_of_letters
 weekdays_of-letter = refl
 
 -- the 53rd Monday of a year, also from the end, and no 54th
 with_weekday_text-last : with_weekday_text no_weekdays (codes "53MO") ≡ Some (record { every = no_numbers; front = with_nth_of no_weekdays.front 0 53; back = no_weekdays.back })
-unfolding with_weekday_text with_weekday weekday_of_letters signed_number_of listed_number digits_of
+unfolding with_weekday_text with_weekday listed_weekday weekday_of_letters signed_number_of listed_number digits_of natural_of
 with_weekday_text-last = refl
 
 with_weekday_text-from_end : with_weekday_text no_weekdays (codes "-53su") ≡ Some (record { every = no_numbers; front = no_weekdays.front; back = with_nth_of no_weekdays.back 6 53 })
-unfolding with_weekday_text with_weekday weekday_of_letters signed_number_of listed_number digits_of
+unfolding with_weekday_text with_weekday listed_weekday weekday_of_letters signed_number_of listed_number digits_of natural_of
 with_weekday_text-from_end = refl
 
 with_weekday_text-past : with_weekday_text no_weekdays (codes "54MO") ≡ None
-unfolding with_weekday_text with_weekday weekday_of_letters signed_number_of listed_number digits_of
+unfolding with_weekday_text with_weekday listed_weekday weekday_of_letters signed_number_of listed_number digits_of natural_of
 with_weekday_text-past = refl

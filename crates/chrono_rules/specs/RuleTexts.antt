@@ -5,14 +5,14 @@ use Rattle.std.specs.List.{list_all}
 use Rattle.std.specs.Option.{option_and_then, option_map}
 use Rattle.std.specs.Str.{byte, str_eq_ignore_ascii_case}
 use Rattle.chrono_datetime.specs.Days.{date_of_ymd}
-use Rattle.chrono_datetime.specs.Weekday.{weekday_from_monday}
+use Rattle.chrono_datetime.specs.Names.{weekday_of_letters}
 use Rattle.chrono_datetime.specs.declared.Weekday.{Weekday}
 use Rattle.chrono_datetime.specs.declared.Weekday.TheVariants.{Mon}
 use Rattle.chrono_sets.specs.Numbers.{Numbers, are_empty, no_numbers, numbers}
-use Rattle.chrono_rules.specs.Digits.{count_of, digits_of}
-use Rattle.chrono_rules.specs.Split.{pieces}
+use Rattle.chrono_text.specs.Numbers.{count_of, digits_of, natural_of}
+use Rattle.chrono_text.specs.Lists.{pieces}
 use Rattle.chrono_rules.specs.ByParts.{has_numbers}
-use Rattle.chrono_rules.specs.NumberLists.{ends_of, month_list_of, no_ends, no_year_ends, weekday_of_letters, weekdays_of, with_nth_of, year_ends_of}
+use Rattle.chrono_rules.specs.NumberLists.{ends_of, month_list_of, no_ends, no_year_ends, weekdays_of, with_nth_of, year_ends_of}
 use Rattle.chrono_rules.specs.RuleParts.{lacks_month_days, lacks_months, lacks_positions, lacks_weekdays, lacks_weeks, lacks_year_days, no_weekdays, plain}
 use Rattle.chrono_rules.specs.declared.rule.End.{End}
 use Rattle.chrono_rules.specs.declared.rule.End.TheVariants.{Never, Count, Until}
@@ -28,9 +28,13 @@ parts text = pieces (byte ";") text
 abbrev pub is_named : List ℕ → List ℕ → Bool
 is_named name part = str_eq_ignore_ascii_case (take (length name) part) name
 
--- the name of the property in which a calendar has a rule (RFC 5545, 3.8.5.3)
+-- where the parts begin: behind the name of the property in which a calendar has a rule (RFC 5545, 3.8.5.3), if it stands in front
+abbrev pub body_start : List ℕ → ℕ
+body_start text = if is_named (codes "RRULE:") text then 6 else 0
+
+-- the text from there on
 abbrev pub behind_property : List ℕ → List ℕ
-behind_property text = if is_named (codes "RRULE:") text then drop 6 text else text
+behind_property text = drop (body_start text) text
 
 -- a `;` ends the text
 abbrev pub ends_with_semicolon : List ℕ → Bool
@@ -99,7 +103,7 @@ end_of (c ∷ counts) (u ∷ untils) = None
 
 -- the weekday that two letters name
 unfoldable pub weekday_of_text : List ℕ → Option Weekday
-weekday_of_text text = option_map weekday_from_monday (weekday_of_letters text)
+weekday_of_text text = weekday_of_letters 2 text
 
 -- 3.3.10: BYMONTHDAY "MUST NOT be specified when the FREQ rule part is set to WEEKLY"
 unfoldable pub has_month_days : Frequency → Bool
@@ -276,47 +280,56 @@ values-none = refl
 values-two : values_in (codes "COUNT=3;FREQ=DAILY;COUNT=4") (codes "COUNT=") ≡ codes "3" ∷ codes "4" ∷ []
 values-two = refl
 
+-- a word of FREQ in small letters, and none
+frequency_of-small : frequency_of (codes "yearly") ≡ Some Yearly
+unfolding frequency_of
+frequency_of-small = refl
+
+frequency_of-hours : frequency_of (codes "HOURLY") ≡ None
+unfolding frequency_of
+frequency_of-hours = refl
+
 -- numbers with zeros in front, and nothing
 interval_of-zeros : interval_of (codes "0010") ≡ Some 10
-unfolding interval_of count_of
+unfolding interval_of count_of natural_of
 interval_of-zeros = refl
 
 interval_of-zero : interval_of (codes "0") ≡ None
-unfolding interval_of count_of
+unfolding interval_of count_of natural_of
 interval_of-zero = refl
 
 -- the greatest numbers that fit 32 bits, and the one behind them
 interval_of-greatest : interval_of (codes "4294967295") ≡ Some 4_294_967_295
-unfolding interval_of count_of
+unfolding interval_of count_of natural_of
 interval_of-greatest = refl
 
 interval_of-past : interval_of (codes "4294967296") ≡ None
-unfolding interval_of count_of
+unfolding interval_of count_of natural_of
 interval_of-past = refl
 
 count_of-greatest : count_of (codes "4294967295") ≡ Some 4_294_967_295
-unfolding count_of
+unfolding count_of natural_of
 count_of-greatest = refl
 
 count_of-past : count_of (codes "4294967296") ≡ None
-unfolding count_of
+unfolding count_of natural_of
 count_of-past = refl
 
 count_of-nothing : count_of [] ≡ None
-unfolding count_of
+unfolding count_of natural_of
 count_of-nothing = refl
 
 -- a day of 1997, none of 1997, and a time of day
 date_of-christmas : date_of (codes "19971224") ≡ date_of_ymd (pos 1997) 12 24
-unfolding date_of digits_of
+unfolding date_of digits_of natural_of
 date_of-christmas = refl
 
 date_of-leap_day : date_of (codes "19970229") ≡ None
-unfolding date_of digits_of date_of_ymd
+unfolding date_of digits_of date_of_ymd natural_of
 date_of-leap_day = refl
 
 date_of-time : date_of (codes "19971224T000000Z") ≡ None
-unfolding date_of digits_of
+unfolding date_of digits_of natural_of
 date_of-time = refl
 
 -- a rule ends once
@@ -325,5 +338,5 @@ unfolding end_of
 end_of-both = refl
 
 end_of-count : end_of (codes "3" ∷ []) [] ≡ Some (Count 3)
-unfolding end_of count_of
+unfolding end_of count_of natural_of
 end_of-count = refl

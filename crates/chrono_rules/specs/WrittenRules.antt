@@ -5,11 +5,13 @@ use Rattle.std.specs.List.{join_with_byte}
 use Rattle.std.specs.Str.{byte}
 use Rattle.chrono_text.specs.Text.{two_digits}
 use Rattle.chrono_datetime.specs.Days.{day_of, month_of, year_of}
-use Rattle.chrono_datetime.specs.Weekday.{days_from_monday}
+use Rattle.chrono_datetime.specs.Names.{weekday_letters}
+use Rattle.chrono_datetime.specs.Weekday.{days_from_monday, weekday_from_monday}
+use Rattle.chrono_datetime.specs.declared.Weekday.TheVariants.{Sat}
 use Rattle.chrono_sets.specs.Numbers.{Numbers, has, numbers}
 use Rattle.chrono_rules.specs.declared.rule.End.{End}
 use Rattle.chrono_rules.specs.declared.rule.End.TheVariants.{Never, Count, Until}
-use Rattle.chrono_rules.specs.declared.rule.Frequency.TheVariants.{Daily}
+use Rattle.chrono_rules.specs.declared.rule.Frequency.TheVariants.{Daily, Yearly}
 use Rattle.chrono_rules.specs.declared.rule.Rule.{Rule}
 use Rattle.chrono_rules.specs.declared.text.list_writer.Naming.{Naming}
 use Rattle.chrono_rules.specs.declared.text.list_writer.Naming.TheVariants.{Number, Each, Numbered}
@@ -20,16 +22,14 @@ use Rattle.chrono_rules.specs.RuleErrors.{frequency_text}
 use Rattle.chrono_rules.specs.RuleParts.{lacks_month_days, lacks_months, lacks_positions, lacks_weekdays, lacks_weeks, lacks_year_days, no_weekdays, plain}
 
 -- a weekday in two letters, from 0 for Monday
-unfoldable pub weekday_letters : ℕ → List ℕ
-weekday_letters w =
-    if w == 0 then codes "MO" else if w == 1 then codes "TU" else if w == 2 then codes "WE" else if w == 3 then codes "TH"
-    else if w == 4 then codes "FR" else if w == 5 then codes "SA" else codes "SU"
+unfoldable pub letters_from_monday : ℕ → List ℕ
+letters_from_monday w = weekday_letters (weekday_from_monday w)
 
 -- an item of a list: a number, counted from the end with a `-`; a weekday; or a number of a weekday
 unfoldable pub item_text : Naming → Bool → ℕ → List ℕ
 item_text Number from_end n = sign_text from_end ++ decimal n
-item_text Each from_end n = weekday_letters n
-item_text (Numbered w) from_end n = (sign_text from_end ++ decimal n) ++ weekday_letters w
+item_text Each from_end n = letters_from_monday n
+item_text (Numbered w) from_end n = (sign_text from_end ++ decimal n) ++ letters_from_monday w
 
 -- the numbers that are listed
 unfoldable pub members : ListedSet → Numbers
@@ -120,7 +120,7 @@ later_parts r =
     part_unless (nat_le r.interval 1) (codes "INTERVAL=") (decimal r.interval)
     ++ (end_parts r.end
     ++ (list_parts r
-    ++ part_unless (days_from_monday r.week_start == 0) (codes "WKST=") (weekday_letters (days_from_monday r.week_start))))
+    ++ part_unless (days_from_monday r.week_start == 0) (codes "WKST=") (letters_from_monday (days_from_monday r.week_start))))
 
 -- the parts with a semicolon between each two, FREQ first
 unfoldable pub rule_text : Rule → List ℕ
@@ -131,6 +131,11 @@ rule_text-plain : rule_text (plain Daily) ≡ codes "FREQ=DAILY"
 unfolding rule_text frequency_text
 rule_text-plain = refl
 
+rule_text-each_part : rule_text (record (plain Yearly) { interval = 2; end = Count 3; months = numbers (1 ∷ []); month_days = numbers (31 ∷ []); month_days_from_end = numbers (1 ∷ []); weekdays = record { every = numbers (5 ∷ []); front = no_weekdays.front; back = no_weekdays.back }; year_days = numbers (366 ∷ []); year_days_from_end = numbers (1 ∷ []); weeks = numbers (53 ∷ []); weeks_from_end = numbers (1 ∷ []); positions = numbers (366 ∷ []); positions_from_end = numbers (1 ∷ []); week_start = Sat })
+    ≡ codes "FREQ=YEARLY;INTERVAL=2;COUNT=3;BYMONTH=1;BYMONTHDAY=31,-1;BYDAY=SA;BYYEARDAY=366,-1;BYWEEKNO=53,-1;BYSETPOS=366,-1;WKST=SA"
+unfolding rule_text frequency_text items has item_text numbered_items letters_from_monday digits
+rule_text-each_part = refl
+
 both_items-order : list_text (both_items (numbers (1 ∷ 31 ∷ [])) (numbers (1 ∷ [])) 31) ≡ codes "1,31,-1"
 unfolding items has item_text digits
 both_items-order = refl
@@ -140,7 +145,7 @@ unfolding items has item_text digits
 items-places = refl
 
 numbered_items-last : list_text (numbered_items true (with_nth_of (with_nth_of no_weekdays.back 4 2) 6 1) 0) ≡ codes "-2FR,-1SU"
-unfolding numbered_items items has item_text digits weekday_letters
+unfolding numbered_items items has item_text digits letters_from_monday
 numbered_items-last = refl
 
 four_digits-early : four_digits (pos 33) ≡ codes "0033"

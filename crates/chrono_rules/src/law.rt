@@ -6,12 +6,12 @@ ghost use Rattle.std.specs.Prelude.{◌≡◌, ◌&&◌, true, false, Some, [], 
 ghost use Rattle.chrono_datetime.specs.declared.Weekday.TheVariants.{Mon, Sun};
 ghost use Rattle.chrono_sets.specs.Numbers.{is_empty};
 ghost use Rattle.chrono_rules.specs.InstanceLists.{instances_from};
-ghost use Rattle.chrono_rules.specs.InstanceMoments.{is_instance_at};
+ghost use Rattle.chrono_rules.specs.InstanceMoments.{instance_moments, is_instance_at};
 ghost use Rattle.chrono_rules.specs.Instances.{is_instance};
-ghost use Rattle.chrono_rules.specs.KnownRules.{at_midnight, at_one, by_month_days, by_months, by_positions, by_week_days, by_week_years, by_weekdays, by_weeks, by_year_days, daily, daily_until, every_days, fortnightly, monday_or_first_friday, nth_weekday, nth_weekday_from_end, tenths};
+ghost use Rattle.chrono_rules.specs.KnownRules.{at_midnight, at_one, by_month_days, by_months, by_positions, by_week_days, by_week_years, by_weekdays, by_weeks, by_year_days, daily, daily_until, every_days, fortnightly, last_days, monday_or_first_friday, nth_weekday, nth_weekday_from_end, tenths};
 ghost use Rattle.chrono_rules.specs.KnownTexts.{both_sundays, days_of_the_year, election_day, every_other_day, every_other_week, first_and_last, first_friday, june_and_july, last_monday_but_one, last_workday_but_one, monday_of_week_20, third_to_last, until_christmas};
 ghost use Rattle.chrono_rules.specs.NumberLists.{ends_of, month_list_of, year_ends_of};
-ghost use Rattle.chrono_rules.specs.RecurrenceSets.{is_in_recurrence};
+ghost use Rattle.chrono_rules.specs.RecurrenceSets.{is_in_recurrence, recurrence_from};
 ghost use Rattle.chrono_rules.specs.RuleParts.{plain};
 ghost use Rattle.chrono_rules.specs.RuleTexts.{IsRuleText, rule_body};
 ghost use Rattle.chrono_rules.specs.WritableRules.{IsWritableRule, is_from_one_to};
@@ -214,10 +214,13 @@ pub fn known_ends()
 /// Lists of instances: every other day to the last date of the calendar.
 ///
 /// Of five days (COUNT), the list from the last day on has that day alone.
+/// The other lists are of the same days at one o'clock, and with a date and an exception.
 pub fn known_lists()
     ensures second { instances_from (every_days 2) (pos 95_745_395) (pos 95_745_396) ≡ pos 95_745_397 ∷ pos 95_745_399 ∷ [] }
     ensures before_start { instances_from (every_days 1) (pos 95_745_399) (pos 95_745_397) ≡ pos 95_745_399 ∷ [] }
     ensures counted { instances_from daily (pos 95_745_349) (pos 95_745_389) ≡ pos 95_745_389 ∷ [] }
+    ensures moments { instance_moments (every_days 2) (at_one (pos 95_745_395) 5) (pos 95_745_396) ≡ at_one (pos 95_745_397) 5 ∷ at_one (pos 95_745_399) 5 ∷ [] }
+    ensures recurrence { recurrence_from last_days (pos 95_745_396) ≡ pos 95_745_396 ∷ pos 95_745_399 ∷ [] }
 {}
 
 /// Every other day at one o'clock from 2 September 1997: an instance has the start's second and fraction (3.3.10).

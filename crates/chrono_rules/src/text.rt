@@ -8,6 +8,5 @@ pub(crate) mod part_readers;
 pub(crate) mod rule_error;
 pub(crate) mod rule_reader;
 pub(crate) mod rule_writer;
-pub(crate) mod split_text;
 pub(crate) mod weekday_list;
 pub(crate) mod year_day_list;

@@ -1,23 +1,26 @@
-//! Which part of a text cannot be read, and why.
-ghost use Rattle.std.specs.Prelude.{◌≡◌, Some, None, codes, length, if◌then◌else◌};
+//! Which part of a text cannot be read, where, and why.
+ghost use Rattle.std.specs.Prelude.{◌≡◌, ◌≤◌, Some, None, codes, length, if◌then◌else◌};
 ghost use Rattle.std.specs.Option.{is_some};
 ghost use Rattle.std.specs.Str.{all_ascii_digits, byte};
 ghost use Rattle.chrono_rules.specs.RuleParts.{no_weekdays};
-ghost use Rattle.chrono_rules.specs.Digits.{count_of};
-ghost use Rattle.chrono_rules.specs.Split.{pieces};
-ghost use Rattle.chrono_rules.specs.RuleErrors.{are_digits, blank_or, date_fault, digits_fault, has_blank, has_time, is_range, is_read, item_fault, list_fault, name_fault, number_fault, part_error, part_fault, reads_item, signed_fault, unnamed_fault, unread_error, until_fault, value_fault, values_fault, weekday_fault, word_fault};
+ghost use Rattle.chrono_text.specs.Numbers.{count_of};
+ghost use Rattle.chrono_text.specs.Lists.{pieces};
+ghost use Rattle.chrono_rules.specs.RuleErrors.{are_digits, blank_or, date_fault, digits_fault, first_place, has_blank, has_time, is_range, is_read, item_fault, list_fault, name_fault, number_fault, part_error, part_fault, placed_in, reads_item, rule_error_at, signed_fault, unfit_part, unnamed_error, unnamed_fault, unread_error, until_fault, value_fault, values_fault, weekday_fault, word_fault};
 ghost use Rattle.chrono_rules.specs.RuleTexts.{parts, said, values_in};
-ghost use Rattle.chrono_rules.specs.declared.text.rule_error.RulePart.TheVariants.{Until};
+ghost use Rattle.chrono_rules.specs.declared.text.rule_error.RulePart.TheVariants.{Count, Until};
 
-use crate::text::named_parts::{SEMICOLON, is_named, is_part, value_of};
+use crate::text::named_parts::{
+    SEMICOLON, first_placed, is_named, is_part, placed_piece, value_of,
+};
 use crate::text::number_list::{read_from_one, read_signed};
 use crate::text::part_readers::{
     end, frequency, interval, month_days, months, positions, week_start, weekdays, weeks, year_days,
 };
-use crate::text::rule_error::{RuleError, RuleFault, RulePart};
-use crate::text::split_text::{first_piece, read_count};
-use crate::text::weekday_list::{weekday_of_letters, with_text};
+use crate::text::rule_error::{RuleError, RuleFault, RulePart, key_of};
+use crate::text::weekday_list::with_text;
 use crate::weekday_places::WeekdayPlaces;
+use chrono_datetime::Weekday;
+use chrono_text::read_count;
 
 // The parts in their order, but the last.
 const PARTS_BUT_LAST: [RulePart; 10] = [
@@ -33,20 +36,60 @@ const PARTS_BUT_LAST: [RulePart; 10] = [
     RulePart::BySetPos,
 ];
 
-// Why the first part whose name no rule over days has has none.
-pub(crate) fn unnamed_fault(text: &[u8]) -> RuleFault
-    ensures { result ≡ unnamed_fault (parts text.now) }
+// The error of a text with a part whose name no rule over days has.
+pub(crate) fn unnamed_error(text: &[u8]) -> RuleError
+    ensures error { result ≡ unnamed_error text.now }
+    ensures byte { result.byte ≤ length text.now }
 {
+    error_at(None, unnamed_fault(text))
+}
+
+// Why the first such part has none, and where it begins.
+fn unnamed_fault(text: &[u8]) -> (usize, RuleFault)
+    ensures fault { result ≡ unnamed_fault 0 (parts text.now) }
+    ensures within { result.0 ≤ length text.now }
+{
+    let mut place = 0;
     let mut rest = text;
     loop {
-        let (part, behind) = first_piece(rest, SEMICOLON);
+        let (part, behind) = placed_piece(rest, SEMICOLON);
         if !is_part(part) {
-            return name_fault(part);
+            return (place, name_fault(part));
         }
         match behind {
-            [_, next @ ..] => rest = next,
-            [] => return RuleFault::Unknown,
+            [_, next @ ..] => {
+                place += part.len() + 1;
+                rest = next;
+            }
+            [] => return (0, RuleFault::Unknown),
         }
+    }
+}
+
+// The error of a part, a place, and what is wrong there.
+fn error_at(part: Option<RulePart>, fault: (usize, RuleFault)) -> RuleError
+    ensures { result ≡ rule_error_at part fault }
+{
+    let (byte, fault) = fault;
+    RuleError { part, byte, fault }
+}
+
+// The error of a part that does not go with the others, told where it begins.
+pub(crate) fn unfit_part(text: &[u8], part: RulePart, fault: RuleFault) -> RuleError
+    ensures error { result ≡ unfit_part text.now part fault }
+    ensures byte { result.byte ≤ length text.now }
+{
+    error_at(Some(part), (part_place(text, part), fault))
+}
+
+// Where the part begins; the text's length if it has no such part.
+fn part_place(text: &[u8], part: RulePart) -> usize
+    ensures place { result ≡ first_place (length text.now) (placed_in text.now part) }
+    ensures within { result ≤ length text.now }
+{
+    match first_placed(text, key_of(part).as_bytes(), 0) {
+        Some(found) => found.place,
+        None => text.len(),
     }
 }
 
@@ -74,7 +117,8 @@ fn name_fault(part: &[u8]) -> RuleFault
 
 // The first part that cannot be read; the last where all others can.
 pub(crate) fn unread_error(text: &[u8]) -> RuleError
-    ensures { result ≡ unread_error text.now }
+    ensures error { result ≡ unread_error text.now }
+    ensures byte { result.byte ≤ length text.now }
 {
     for part in PARTS_BUT_LAST {
         if !is_read(text, part) {
@@ -86,12 +130,10 @@ pub(crate) fn unread_error(text: &[u8]) -> RuleError
 
 // The part with what is wrong with it.
 fn part_error(text: &[u8], part: RulePart) -> RuleError
-    ensures { result ≡ part_error text.now part }
+    ensures error { result ≡ part_error text.now part }
+    ensures byte { result.byte ≤ length text.now }
 {
-    RuleError {
-        part: Some(part),
-        fault: part_fault(text, part),
-    }
+    error_at(Some(part), part_fault(text, part))
 }
 
 // Whether the part can be read.
@@ -125,57 +167,65 @@ fn is_count_read(text: &[u8]) -> bool
     }
 }
 
-// Why the part cannot be read.
-#[tactic(auto, unfolding(crate::specs::RuleErrors::part_fault, crate::specs::RuleErrors::part_name))]
-fn part_fault(text: &[u8], part: RulePart) -> RuleFault
-    ensures { result ≡ part_fault text.now part }
+// Why the part cannot be read, and where.
+#[tactic(auto, unfolding(crate::specs::RuleErrors::part_fault))]
+fn part_fault(text: &[u8], part: RulePart) -> (usize, RuleFault)
+    ensures fault { result ≡ part_fault text.now part }
+    ensures within { result.0 ≤ length text.now }
 {
     match part {
-        RulePart::Freq => fault_of(text, b"FREQ=", part),
-        RulePart::Interval => fault_of(text, b"INTERVAL=", part),
-        RulePart::Count => fault_of(text, b"COUNT=", part),
         RulePart::Until => until_fault(text),
-        RulePart::ByMonth => fault_of(text, b"BYMONTH=", part),
-        RulePart::ByMonthDay => fault_of(text, b"BYMONTHDAY=", part),
-        RulePart::ByDay => fault_of(text, b"BYDAY=", part),
-        RulePart::ByYearDay => fault_of(text, b"BYYEARDAY=", part),
-        RulePart::ByWeekNo => fault_of(text, b"BYWEEKNO=", part),
-        RulePart::BySetPos => fault_of(text, b"BYSETPOS=", part),
-        RulePart::Wkst => fault_of(text, b"WKST=", part),
+        RulePart::Freq
+        | RulePart::Interval
+        | RulePart::Count
+        | RulePart::ByMonth
+        | RulePart::ByMonthDay
+        | RulePart::ByDay
+        | RulePart::ByYearDay
+        | RulePart::ByWeekNo
+        | RulePart::BySetPos
+        | RulePart::Wkst => fault_of(text, part),
     }
 }
 
-// Why UNTIL cannot be read.
-fn until_fault(text: &[u8]) -> RuleFault
-    ensures { result ≡ until_fault (values_in text.now (codes "COUNT=")) (values_in text.now (codes "UNTIL=")) }
+// Why UNTIL cannot be read, and where.
+fn until_fault(text: &[u8]) -> (usize, RuleFault)
+    ensures fault { result ≡ until_fault (length text.now) (placed_in text.now Count) (placed_in text.now Until) }
+    ensures within { result.0 ≤ length text.now }
 {
-    match value_of(text, b"COUNT=") {
-        Some(None) => fault_of(text, b"UNTIL=", RulePart::Until),
-        Some(Some(_)) | None => RuleFault::BesideCount,
+    match first_placed(text, key_of(RulePart::Count).as_bytes(), 0) {
+        None => fault_of(text, RulePart::Until),
+        Some(_) => (part_place(text, RulePart::Until), RuleFault::BesideCount),
     }
 }
 
-// Why the part with this name cannot be read.
-fn fault_of(text: &[u8], name: &[u8], part: RulePart) -> RuleFault
-    ensures { result ≡ values_fault part (values_in text.now name.now) }
+// Why the part cannot be read, by its values, and where.
+fn fault_of(text: &[u8], part: RulePart) -> (usize, RuleFault)
+    ensures fault { result ≡ values_fault part (length text.now) (placed_in text.now part) }
+    ensures within { result.0 ≤ length text.now }
 {
-    match value_of(text, name) {
-        Some(Some(value)) => value_fault(part, value),
-        Some(None) => RuleFault::Missing,
-        None => RuleFault::Twice,
+    let name = key_of(part).as_bytes();
+    let Some(first) = first_placed(text, name, 0) else {
+        return (text.len(), RuleFault::Missing);
+    };
+    if let Some(second) = first.next(name) {
+        return (second.place, RuleFault::Twice);
     }
+    let (before, fault) = value_fault(part, first.value);
+    (first.place + name.len() + before, fault)
 }
 
-// Why the value is none of the part's.
+// Why the value is none of the part's, and behind how many of its bytes.
 #[tactic(auto, unfolding(crate::specs::RuleErrors::value_fault))]
-fn value_fault(part: RulePart, text: &[u8]) -> RuleFault
-    ensures { result ≡ value_fault part text.now }
+fn value_fault(part: RulePart, text: &[u8]) -> (usize, RuleFault)
+    ensures fault { result ≡ value_fault part text.now }
+    ensures within { result.0 ≤ length text.now }
 {
     match part {
-        RulePart::Freq => word_fault(RuleFault::NotAFrequency, text),
-        RulePart::Interval | RulePart::Count => number_fault(text),
-        RulePart::Until => date_fault(text),
-        RulePart::Wkst => word_fault(RuleFault::NotAWeekday, text),
+        RulePart::Freq => (0, word_fault(RuleFault::NotAFrequency, text)),
+        RulePart::Interval | RulePart::Count => (0, number_fault(text)),
+        RulePart::Until => (0, date_fault(text)),
+        RulePart::Wkst => (0, word_fault(RuleFault::NotAWeekday, text)),
         RulePart::ByMonth
         | RulePart::ByMonthDay
         | RulePart::ByDay
@@ -185,19 +235,24 @@ fn value_fault(part: RulePart, text: &[u8]) -> RuleFault
     }
 }
 
-// Why the list is none of the part's: by its first item that cannot be read.
-fn list_fault(part: RulePart, text: &[u8]) -> RuleFault
-    ensures { result ≡ list_fault part (pieces (byte ",") text.now) }
+// Why the list is none of the part's, and behind how many of its bytes: by its first item that cannot be read.
+fn list_fault(part: RulePart, text: &[u8]) -> (usize, RuleFault)
+    ensures fault { result ≡ list_fault part 0 (pieces (byte ",") text.now) }
+    ensures within { result.0 ≤ length text.now }
 {
+    let mut place = 0;
     let mut rest = text;
     loop {
-        let (item, behind) = first_piece(rest, b',');
+        let (item, behind) = placed_piece(rest, b',');
         if !reads_item(part, item) {
-            return item_fault(part, item);
+            return (place, item_fault(part, item));
         }
         match behind {
-            [_, next @ ..] => rest = next,
-            [] => return RuleFault::Empty,
+            [_, next @ ..] => {
+                place += item.len() + 1;
+                rest = next;
+            }
+            [] => return (0, RuleFault::Empty),
         }
     }
 }
@@ -318,7 +373,7 @@ fn signed_fault(text: &[u8]) -> RuleFault
 }
 
 // Why it is no weekday, with such a number in front or none.
-#[tactic(auto, unfolding(crate::specs::RuleErrors::weekday_fault))]
+#[tactic(auto, unfolding(crate::specs::NumberLists::listed_weekday, crate::specs::RuleErrors::weekday_fault))]
 fn weekday_fault(text: &[u8]) -> RuleFault
     ensures { result ≡ weekday_fault text.now }
 {
@@ -326,7 +381,7 @@ fn weekday_fault(text: &[u8]) -> RuleFault
         return RuleFault::Empty;
     }
     let (number, letters) = text.split_at(text.len().saturating_sub(2));
-    if weekday_of_letters(letters).is_some() {
+    if Weekday::from_letters(letters, 2).is_some() {
         signed_fault(number)
     } else {
         blank_or(RuleFault::NotAWeekday, text)

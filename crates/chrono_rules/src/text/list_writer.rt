@@ -2,10 +2,11 @@
 ghost use Rattle.std.specs.Prelude.{◌≡◌, ◌+◌, ◌-◌, ◌*◌, ◌<◌, ◌≤◌, ◌++◌, ◌||◌, false, length};
 ghost use Rattle.std.specs.Fmt.{decimal, sign_text};
 ghost use Rattle.chrono_sets.specs.Numbers.{has};
-ghost use Rattle.chrono_rules.specs.WrittenRules.{both_items, item_at, item_text, items, limit, listed_on, members, numbered_items, some_in, weekday_letters};
+ghost use Rattle.chrono_rules.specs.WrittenRules.{both_items, item_at, item_text, items, letters_from_monday, limit, listed_on, members, numbered_items, some_in};
 ghost use Rattle.chrono_rules.specs.declared.text.list_writer.Naming.TheVariants.{Numbered};
 
 use crate::weekday_places::numbers_of;
+use chrono_datetime::Weekday;
 use chrono_sets::{NumberSet, PlaceSet};
 use chrono_text::Text;
 
@@ -119,29 +120,23 @@ fn put_signed<const N: usize>(text: &mut Text<N>, from_end: bool, number: u32)
 }
 
 // Puts a weekday in two letters, from 0 for Monday.
-#[tactic(auto, unfolding(crate::specs::WrittenRules::weekday_letters))]
 pub(crate) fn put_weekday<const N: usize>(text: &mut Text<N>, weekday: u32)
     requires { length text.old + 2 ≤ N }
-    ensures text { text.new ≡ text.old ++ weekday_letters weekday }
+    ensures text { text.new ≡ text.old ++ letters_from_monday weekday }
     ensures fits { length text.new ≤ length text.old + 2 }
 {
-    text.push_text(weekday_letters(weekday).as_bytes());
+    text.push_text(letters_from_monday(weekday).as_bytes());
 }
 
 // A weekday's two letters, from 0 for Monday.
-#[tactic(auto, unfolding(crate::specs::WrittenRules::weekday_letters))]
-fn weekday_letters(weekday: u32) -> &'static str
-    ensures letters { result.now ≡ weekday_letters weekday }
+#[tactic(auto, unfolding(crate::specs::WrittenRules::letters_from_monday))]
+fn letters_from_monday(weekday: u32) -> &'static str
+    ensures letters { result.now ≡ letters_from_monday weekday }
     ensures two { length result.now ≤ 2 }
 {
-    match weekday {
-        0 => "MO",
-        1 => "TU",
-        2 => "WE",
-        3 => "TH",
-        4 => "FR",
-        5 => "SA",
-        _ => "SU",
+    match Weekday::from_u32(weekday) {
+        Some(day) => day.letters(),
+        None => Weekday::Sun.letters(),
     }
 }
 

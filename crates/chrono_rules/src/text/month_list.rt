@@ -3,8 +3,8 @@ ghost use Rattle.std.specs.Prelude.{◌≡◌};
 ghost use Rattle.chrono_rules.specs.NumberLists.{month_list_of, with_month_text};
 
 use crate::text::number_list::read_from_one;
-use crate::text::split_text::first_piece;
 use chrono_sets::NumberSet;
+use chrono_text::first_piece;
 
 /// Returns the months that a BYMONTH list names, such as `6,7` (RFC 5545, 3.3.10).
 ///

@@ -1,14 +1,41 @@
 //! The parts of a rule's text, and the values after their names.
-ghost use Rattle.std.specs.Prelude.{◌≡◌, ◌≤◌, ◌∷◌, [], true, false, IfSome, IfNone, IsTrue, IsFalse, length, drop};
+ghost use Rattle.std.specs.Prelude.{◌≡◌, ◌≤◌, ◌<◌, ◌+◌, ◌^◌, ◌∷◌, [], true, false, IfSome, IfNone, IsTrue, IsFalse, length, drop};
 ghost use Rattle.std.specs.List.{list_all};
 ghost use Rattle.std.specs.Str.{byte};
-ghost use Rattle.chrono_rules.specs.Split.{pieces_behind};
+ghost use Rattle.chrono_text.specs.Lists.{pieces, pieces_behind};
+ghost use Rattle.chrono_rules.specs.RuleErrors.{placed_values};
 ghost use Rattle.chrono_rules.specs.RuleTexts.{is_list_part, is_named, is_part, parts, values};
 
-use crate::text::split_text::first_piece;
-use chrono_text::same_but_for_case;
+use chrono_text::{byte_place, first_piece, same_but_for_case};
 
 pub(crate) const SEMICOLON: u8 = b';';
+
+// A part that has a name: where it begins and ends, its value, and what stands behind the part.
+#[derive(Clone, Copy)]
+pub(crate) struct PlacedValue<'a> {
+    pub(crate) place: usize,
+    pub(crate) end: usize,
+    pub(crate) value: &'a [u8],
+    pub(crate) behind: &'a [u8],
+}
+
+impl<'a> PlacedValue<'a> {
+    // The next part that has the name.
+    pub(crate) fn next(&self, name: &[u8]) -> Option<PlacedValue<'a>>
+        requires { self.now.end + length self.now.behind.now < 2 ^ 64 }
+        ensures some { IfSome result (λ found. placed_values name.now (self.now.end + 1) (pieces_behind (byte ";") self.now.behind.now)
+            ≡ (found.place, found.value.now) ∷ placed_values name.now (found.end + 1) (pieces_behind (byte ";") found.behind.now)) }
+        ensures several { IfSome result (λ _. 1 ≤ length (values name.now (pieces_behind (byte ";") self.now.behind.now))) }
+        ensures within { IfSome result (λ found. found.place ≤ self.now.end + length self.now.behind.now) }
+        ensures none { IfNone result (placed_values name.now (self.now.end + 1) (pieces_behind (byte ";") self.now.behind.now) ≡ []) }
+        ensures absent { IfNone result (values name.now (pieces_behind (byte ";") self.now.behind.now) ≡ []) }
+    {
+        match self.behind {
+            [_, next @ ..] => first_placed(next, name, self.end + 1),
+            [] => None,
+        }
+    }
+}
 
 // What stands behind the name in the one part that has it; `Some(None)` if no part has it, `None` if more than one has.
 pub(crate) fn value_of<'a>(text: &'a [u8], name: &[u8]) -> Option<Option<&'a [u8]>>
@@ -16,49 +43,63 @@ pub(crate) fn value_of<'a>(text: &'a [u8], name: &[u8]) -> Option<Option<&'a [u8
     ensures absent { IfSome result (λ found. IfNone found (values name.now (parts text.now) ≡ [])) }
     ensures repeated { IfNone result (2 ≤ length (values name.now (parts text.now))) }
 {
-    let Some((value, behind)) = first_value(text, name) else {
+    let Some(found) = first_placed(text, name, 0) else {
         return Some(None);
     };
-    if has_value(behind, name) {
+    if found.next(name).is_some() {
         return None;
     }
-    Some(Some(value))
+    Some(Some(found.value))
 }
 
-// Whether a part behind a separator has the name.
-fn has_value(behind: &[u8], name: &[u8]) -> bool
-    ensures some { IsTrue result → 1 ≤ length (values name.now (pieces_behind (byte ";") behind.now)) }
-    ensures none { IsFalse result → values name.now (pieces_behind (byte ";") behind.now) ≡ [] }
+// The first part that has the name, in a text that begins at the byte `at`.
+pub(crate) fn first_placed<'a>(text: &'a [u8], name: &[u8], at: usize) -> Option<PlacedValue<'a>>
+    requires { at + length text.now < 2 ^ 64 }
+    ensures some { IfSome result (λ found. placed_values name.now at (parts text.now)
+        ≡ (found.place, found.value.now) ∷ placed_values name.now (found.end + 1) (pieces_behind (byte ";") found.behind.now)) }
+    ensures value { IfSome result (λ found. values name.now (parts text.now)
+        ≡ found.value.now ∷ values name.now (pieces_behind (byte ";") found.behind.now)) }
+    ensures end { IfSome result (λ found. found.place + length name.now + length found.value.now ≡ found.end) }
+    ensures whole { IfSome result (λ found. found.end + length found.behind.now ≡ at + length text.now) }
+    ensures none { IfNone result (placed_values name.now at (parts text.now) ≡ []) }
+    ensures absent { IfNone result (values name.now (parts text.now) ≡ []) }
 {
-    match behind {
-        [_, next @ ..] => first_value(next, name).is_some(),
-        [] => false,
-    }
-}
-
-// What stands behind the name in the first part that has it, and the text behind that part.
-fn first_value<'a>(text: &'a [u8], name: &[u8]) -> Option<(&'a [u8], &'a [u8])>
-    ensures some { IfSome result (λ found. values name.now (parts text.now)
-        ≡ found.0.now ∷ values name.now (pieces_behind (byte ";") found.1.now)) }
-    ensures none { IfNone result (values name.now (parts text.now) ≡ []) }
-{
+    let mut place = at;
     let mut rest = text;
     loop {
-        let (part, behind) = first_piece(rest, SEMICOLON);
+        let (part, behind) = placed_piece(rest, SEMICOLON);
+        let end = place + part.len();
         if let Some(value) = behind_name(part, name) {
-            return Some((value, behind));
+            return Some(PlacedValue {
+                place,
+                end,
+                value,
+                behind,
+            });
         }
         match behind {
-            [_, next @ ..] => rest = next,
+            [_, next @ ..] => {
+                place = end + 1;
+                rest = next;
+            }
             [] => return None,
         }
     }
+}
+
+// The text up to the first separator, and the rest, in front of which it stands. Together they are as long as the text.
+pub(crate) fn placed_piece(text: &[u8], separator: u8) -> (&[u8], &[u8])
+    ensures pieces { pieces separator text.now ≡ result.0.now ∷ pieces_behind separator result.1.now }
+    ensures whole { length result.0.now + length result.1.now ≡ length text.now }
+{
+    text.split_at(byte_place(text, separator))
 }
 
 // What stands behind the name, if the part begins with it, in letters of either case.
 pub(crate) fn behind_name<'a>(part: &'a [u8], name: &[u8]) -> Option<&'a [u8]>
     ensures some { IfSome result (λ value. is_named name.now part.now ≡ true) }
     ensures value { IfSome result (λ value. value.now ≡ drop (length name.now) part.now) }
+    ensures whole { IfSome result (λ value. length name.now + length value.now ≡ length part.now) }
     ensures none { IfNone result (is_named name.now part.now ≡ false) }
 {
     let (front, value) = part.split_at(name.len().min(part.len()));

@@ -3,8 +3,8 @@ ghost use Rattle.std.specs.Prelude.{◌≡◌, ◌≤◌, ◌<◌, ℕ, IfSome};
 ghost use Rattle.std.specs.Option.{option_map};
 ghost use Rattle.chrono_rules.specs.NumberLists.{ends_of, listed_number, no_ends, signed_number, signed_number_of, with_signed, with_signed_text};
 
-use crate::text::split_text::{first_piece, read_digits};
 use chrono_sets::NumberSet;
+use chrono_text::{first_piece, read_digits};
 
 // A number, counted from the front or from the end.
 #[derive(Clone, Copy, PartialEq, Eq, Debug)]

@@ -10,13 +10,12 @@ use crate::rule::{End, Frequency};
 use crate::text::month_list::read_months;
 use crate::text::named_parts::value_of;
 use crate::text::number_list::{BothEnds, read_month_days, read_weeks};
-use crate::text::split_text::{read_count, read_digits};
-use crate::text::weekday_list::{read_weekdays, weekday_of_letters};
+use crate::text::weekday_list::read_weekdays;
 use crate::text::year_day_list::{YearEnds, read_year_days};
 use crate::weekday_places::WeekdayPlaces;
 use chrono_datetime::{NaiveDate, Weekday};
 use chrono_sets::NumberSet;
-use chrono_text::same_but_for_case;
+use chrono_text::{read_count, read_digits, same_but_for_case};
 
 // What FREQ says, which has to stand.
 pub(crate) fn frequency(text: &[u8]) -> Option<Frequency>
@@ -173,5 +172,5 @@ fn read_date(text: &[u8]) -> Option<NaiveDate>
 fn read_weekday(text: &[u8]) -> Option<Weekday>
     ensures { result ≡ weekday_of_text text.now }
 {
-    Weekday::from_u32(weekday_of_letters(text)?)
+    Weekday::from_letters(text, 2)
 }

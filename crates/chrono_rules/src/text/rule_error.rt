@@ -1,6 +1,6 @@
-//! `RuleError`: what is wrong with a string that is no rule, and in which part.
-ghost use Rattle.std.specs.Prelude.{◌≡◌, ◌+◌, ◌≤◌, ◌++◌, Some, length};
-ghost use Rattle.chrono_rules.specs.RuleErrors.{fault_frequency, fault_words, frequency_text, in_front, part_name, rule_error_text, rule_fault_text};
+//! `RuleError`: what is wrong with a string that is no rule, in which part, and where.
+ghost use Rattle.std.specs.Prelude.{◌≡◌, ◌+◌, ◌≤◌, ◌<◌, ◌^◌, ◌++◌, Some, length};
+ghost use Rattle.chrono_rules.specs.RuleErrors.{fault_frequency, fault_words, frequency_text, in_front, part_key, part_name, rule_error_text, rule_fault_text};
 
 use crate::rule::Frequency;
 use chrono_text::Text;
@@ -87,22 +87,39 @@ pub enum RuleFault {
     Alone,
 }
 
-/// What is wrong with a string that is no rule, and in which part. It prints as one line.
+/// What is wrong with a string that is no rule, in which part, and where. It prints as one line.
 ///
 /// ```
-/// let error = read_rule(b"FREQ=WEEKLY;BYMONTHDAY=1").err()?;
-/// (error.part, error.fault) // (Some(ByMonthDay), NotWith(Weekly))
-/// error.to_string(rt.alloc()).ok()? // "BYMONTHDAY: does not go with WEEKLY"
+/// let error = read_rule(b"FREQ=MONTHLY;BYMONTHDAY=1,32").err()?;
+/// (error.part, error.byte, error.fault) // (Some(ByMonthDay), 26, OutOfRange)
+/// error.to_string(rt.alloc()).ok()? // "BYMONTHDAY: number out of range"
 /// ```
 #[derive(Clone, Copy, PartialEq, Eq, Debug)]
 pub struct RuleError {
     /// The wrong part. `None` if a part has no name that rules over days have.
     pub part: Option<RulePart>,
+    /// The position of the error in the string, in bytes from 0.
+    ///
+    /// It is where the wrong value begins, and in a list where the wrong item begins. A part that stands twice counts where the second begins.
+    /// A part with an unknown name, or one that does not go with the others, counts where it begins. If FREQ is missing, it is the end.
+    pub byte: usize,
     /// What is wrong with the part.
     pub fault: RuleFault,
 }
 
 impl RuleError {
+    // The error of a text that has so many bytes in front.
+    pub(crate) fn behind(self, bytes: usize) -> RuleError
+        requires { bytes + self.byte < 2 ^ 64 }
+        ensures { result ≡ record { part = self.part; byte = bytes + self.byte; fault = self.fault } }
+    {
+        RuleError {
+            part: self.part,
+            byte: bytes + self.byte,
+            fault: self.fault,
+        }
+    }
+
     // Puts the line behind a text.
     #[tactic(auto, unfolding(crate::specs::RuleErrors::rule_error_text))]
     fn put_into<const N: usize>(&self, text: &mut Text<N>)
@@ -234,6 +251,26 @@ pub(crate) fn name_of(part: RulePart) -> &'static str
         RulePart::ByWeekNo => "BYWEEKNO",
         RulePart::BySetPos => "BYSETPOS",
         RulePart::Wkst => "WKST",
+    }
+}
+
+// What the part begins with: its name and `=`.
+#[tactic(auto, unfolding(crate::specs::RuleErrors::part_name))]
+pub(crate) fn key_of(part: RulePart) -> &'static str
+    ensures { result.now ≡ part_key part }
+{
+    match part {
+        RulePart::Freq => "FREQ=",
+        RulePart::Interval => "INTERVAL=",
+        RulePart::Count => "COUNT=",
+        RulePart::Until => "UNTIL=",
+        RulePart::ByMonth => "BYMONTH=",
+        RulePart::ByMonthDay => "BYMONTHDAY=",
+        RulePart::ByDay => "BYDAY=",
+        RulePart::ByYearDay => "BYYEARDAY=",
+        RulePart::ByWeekNo => "BYWEEKNO=",
+        RulePart::BySetPos => "BYSETPOS=",
+        RulePart::Wkst => "WKST=",
     }
 }
 

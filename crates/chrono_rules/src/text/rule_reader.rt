@@ -1,12 +1,12 @@
 //! The texts of rules.
-ghost use Rattle.std.specs.Prelude.{◌≡◌, ◌↔◌, true, false, Some, None, Ok, Err, IfSome, IfOk, IsErr};
-ghost use Rattle.chrono_rules.specs.RuleErrors.{IsChecked, are_named, unfit_error, unnamed_fault, unread_error};
-ghost use Rattle.chrono_rules.specs.RuleTexts.{IsRuleText, Says, behind_property, fits, has_month_days, has_year_parts, lacks_lists, lacks_numbers, may_have_numbers, parts, rule_body, without_semicolon};
+ghost use Rattle.std.specs.Prelude.{◌≡◌, ◌↔◌, ◌≤◌, ◌+◌, length, true, false, Some, None, Ok, Err, IfSome, IfOk, IfErr, IsErr};
+ghost use Rattle.chrono_rules.specs.RuleErrors.{IsChecked, are_named, in_text, unfit_error, unnamed_error, unread_error};
+ghost use Rattle.chrono_rules.specs.RuleTexts.{IsRuleText, Says, behind_property, body_start, fits, has_month_days, has_year_parts, lacks_lists, lacks_numbers, may_have_numbers, rule_body, without_semicolon};
 ghost use Rattle.chrono_rules.specs.declared.rule.Rule.{Rule};
 
 use crate::rule::{Frequency, Rule};
-use crate::text::first_error::{unnamed_fault, unread_error};
-use crate::text::named_parts::{SEMICOLON, are_parts, behind_name};
+use crate::text::first_error::{unfit_part, unnamed_error, unread_error};
+use crate::text::named_parts::{SEMICOLON, are_parts, behind_name, is_named};
 use crate::text::part_readers::{
     end, frequency, interval, month_days, months, positions, week_start, weekdays, weeks, year_days,
 };
@@ -14,14 +14,17 @@ use crate::text::rule_error::{RuleError, RuleFault, RulePart};
 use chrono_sets::are_empty;
 use std::str::FromStr;
 
+// The name of the property in which a calendar has a rule.
+const PROPERTY: &[u8] = b"RRULE:";
+
 /// Reads a recurrence rule of RFC 5545 (section 3.3.10), such as `FREQ=MONTHLY;BYDAY=-1FR`. Returns the [`Rule`].
 ///
-/// If `text` is no rule, returns the wrong part and what is wrong with it, as a [`RuleError`].
+/// If `text` is no rule, returns the wrong part, where it is wrong, and why, as a [`RuleError`].
 ///
 /// ```
 /// read_rule(b"FREQ=MONTHLY;BYDAY=-1FR").is_ok() // true
 /// let error = read_rule(b"FREQ=WEEKLY;BYMONTHDAY=1").err()?;
-/// (error.part, error.fault) // (Some(ByMonthDay), NotWith(Weekly))
+/// (error.part, error.byte, error.fault) // (Some(ByMonthDay), 12, NotWith(Weekly))
 /// ```
 ///
 /// A rule is parts `NAME=VALUE` with `;` between them, in any order, each at most once. FREQ is always there:
@@ -46,13 +49,17 @@ pub fn read_rule(text: &[u8]) -> Result<Rule, RuleError>
     ensures every { (r : Rule) → IsRuleText (rule_body text.now) r → result ≡ Ok r }
     ensures found { IsErr result ↔ ((r : Rule) → ¬ IsRuleText (rule_body text.now) r) }
     // Told first is a name that no rule over days has, whatever the parts say.
-    ensures unknown { are_named (rule_body text.now) ≡ false → result ≡ Err (record { part = None; fault = unnamed_fault (parts (rule_body text.now)) }) }
+    ensures unknown { are_named (rule_body text.now) ≡ false → result ≡ Err (in_text text.now (unnamed_error (rule_body text.now))) }
     // With known names alone, the first part that cannot be read, if the parts say no rule.
-    ensures unread { are_named (rule_body text.now) ≡ true → ((r : Rule) → ¬ Says (rule_body text.now) r) → result ≡ Err (unread_error (rule_body text.now)) }
+    ensures unread { are_named (rule_body text.now) ≡ true → ((r : Rule) → ¬ Says (rule_body text.now) r) → result ≡ Err (in_text text.now (unread_error (rule_body text.now))) }
     // If they say one, the first of its parts that does not go with the others.
-    ensures unfit { (r : Rule) → are_named (rule_body text.now) ≡ true → Says (rule_body text.now) r → fits r ≡ false → result ≡ Err (unfit_error r) }
+    ensures unfit { (r : Rule) → are_named (rule_body text.now) ≡ true → Says (rule_body text.now) r → fits r ≡ false → result ≡ Err (in_text text.now (unfit_error (rule_body text.now) r)) }
+    ensures byte { IfErr result (λ e. e.byte ≤ length text.now) }
 {
-    read_body(rule_body(text))
+    match read_body(rule_body(text)) {
+        Ok(rule) => Ok(rule),
+        Err(error) => Err(error.behind(body_start(text))),
+    }
 }
 
 impl FromStr for Rule {
@@ -69,24 +76,38 @@ impl FromStr for Rule {
 // The parts without what a calendar's line may have in front and at the end.
 #[tactic(auto, unfolding(crate::specs::RuleTexts::rule_body))]
 fn rule_body(text: &[u8]) -> &[u8]
-    ensures { result.now ≡ rule_body text.now }
+    ensures body { result.now ≡ rule_body text.now }
+    ensures within { body_start text.now + length result.now ≤ length text.now }
 {
     without_semicolon(behind_property(text))
 }
 
 // What stands behind `RRULE:`, or the text if it does not begin so.
 fn behind_property(text: &[u8]) -> &[u8]
-    ensures { result.now ≡ behind_property text.now }
+    ensures behind { result.now ≡ behind_property text.now }
+    ensures within { body_start text.now + length result.now ≡ length text.now }
 {
-    match behind_name(text, b"RRULE:") {
+    match behind_name(text, PROPERTY) {
         Some(behind) => behind,
         None => text,
     }
 }
 
+// Where the parts begin: behind `RRULE:`, if the text begins so.
+fn body_start(text: &[u8]) -> usize
+    ensures { result ≡ body_start text.now }
+{
+    if is_named(text, PROPERTY) {
+        PROPERTY.len()
+    } else {
+        0
+    }
+}
+
 // The text without the semicolon with which it ends, if it does.
 fn without_semicolon(text: &[u8]) -> &[u8]
-    ensures { result.now ≡ without_semicolon text.now }
+    ensures text { result.now ≡ without_semicolon text.now }
+    ensures within { length result.now ≤ length text.now }
 {
     let len = text.len();
     if len > 0 && text[len - 1] == SEMICOLON {
@@ -101,21 +122,19 @@ fn read_body(text: &[u8]) -> Result<Rule, RuleError>
     ensures read { IfOk result (λ r. IsRuleText text.now r) }
     ensures every { (r : Rule) → IsRuleText text.now r → result ≡ Ok r }
     ensures found { IsErr result ↔ ((r : Rule) → ¬ IsRuleText text.now r) }
-    ensures unknown { are_named text.now ≡ false → result ≡ Err (record { part = None; fault = unnamed_fault (parts text.now) }) }
+    ensures unknown { are_named text.now ≡ false → result ≡ Err (unnamed_error text.now) }
     ensures unread { are_named text.now ≡ true → ((r : Rule) → ¬ Says text.now r) → result ≡ Err (unread_error text.now) }
-    ensures unfit { (r : Rule) → are_named text.now ≡ true → Says text.now r → fits r ≡ false → result ≡ Err (unfit_error r) }
+    ensures unfit { (r : Rule) → are_named text.now ≡ true → Says text.now r → fits r ≡ false → result ≡ Err (unfit_error text.now r) }
+    ensures byte { IfErr result (λ e. e.byte ≤ length text.now) }
 {
     if !are_parts(text) {
-        return Err(RuleError {
-            part: None,
-            fault: unnamed_fault(text),
-        });
+        return Err(unnamed_error(text));
     }
     let Some(rule) = read_parts(text) else {
         return Err(unread_error(text));
     };
     if !rule.fits() {
-        return Err(rule.unfit_error());
+        return Err(rule.unfit_error(text));
     }
     Ok(rule)
 }
@@ -164,27 +183,30 @@ impl Rule {
                     && (self.lacks_positions() || !self.lacks_lists())))
     }
 
-    // Why the parts do not go together.
+    // Why the parts of the text, which say this rule, do not go together.
     #[tactic(auto, unfolding(crate::specs::RuleErrors::unfit_error))]
-    fn unfit_error(&self) -> RuleError
-        ensures { result ≡ unfit_error self.now }
+    fn unfit_error(&self, text: &[u8]) -> RuleError
+        ensures error { result ≡ unfit_error text.now self.now }
+        ensures byte { result.byte ≤ length text.now }
     {
+        let not_with = RuleFault::NotWith(self.frequency);
         if !has_month_days(self.frequency) && !self.lacks_month_days() {
-            return error(RulePart::ByMonthDay, RuleFault::NotWith(self.frequency));
+            return unfit_part(text, RulePart::ByMonthDay, not_with);
         }
         if !has_year_parts(self.frequency) && !self.lacks_year_days() {
-            return error(RulePart::ByYearDay, RuleFault::NotWith(self.frequency));
+            return unfit_part(text, RulePart::ByYearDay, not_with);
         }
         if !has_year_parts(self.frequency) && !self.lacks_weeks() {
-            return error(RulePart::ByWeekNo, RuleFault::NotWith(self.frequency));
+            return unfit_part(text, RulePart::ByWeekNo, not_with);
         }
         if !self.has_numbers() && !self.lacks_numbers() {
-            return error(RulePart::ByDay, RuleFault::NumbersNotWith(self.frequency));
+            let fault = RuleFault::NumbersNotWith(self.frequency);
+            return unfit_part(text, RulePart::ByDay, fault);
         }
         if !self.may_have_numbers() && !self.lacks_numbers() {
-            return error(RulePart::ByDay, RuleFault::NumbersBesideWeeks);
+            return unfit_part(text, RulePart::ByDay, RuleFault::NumbersBesideWeeks);
         }
-        error(RulePart::BySetPos, RuleFault::Alone)
+        unfit_part(text, RulePart::BySetPos, RuleFault::Alone)
     }
 
     // Whether weekdays may have numbers.
@@ -208,16 +230,6 @@ impl Rule {
         self.lacks_months()
             && (self.lacks_month_days()
                 && (self.lacks_weekdays() && (self.lacks_year_days() && self.lacks_weeks())))
-    }
-}
-
-// The part with what is wrong with it.
-fn error(part: RulePart, fault: RuleFault) -> RuleError
-    ensures { result ≡ record { part = Some part; fault = fault } }
-{
-    RuleError {
-        part: Some(part),
-        fault,
     }
 }
 

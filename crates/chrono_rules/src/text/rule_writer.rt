@@ -5,7 +5,7 @@ ghost use Rattle.std.specs.Str.{IsAscii, byte};
 ghost use Rattle.chrono_datetime.specs.Weekday.{days_from_monday};
 ghost use Rattle.chrono_text.specs.Text.{two_digits};
 ghost use Rattle.chrono_rules.specs.RuleParts.{lacks_month_days, lacks_months, lacks_positions, lacks_weekdays, lacks_weeks, lacks_year_days};
-ghost use Rattle.chrono_rules.specs.WrittenRules.{basic_date_text, behind, both_items, end_parts, four_digits, items, list_parts, list_text, rule_text, text_unless, weekday_items, weekday_letters};
+ghost use Rattle.chrono_rules.specs.WrittenRules.{basic_date_text, behind, both_items, end_parts, four_digits, items, list_parts, list_text, rule_text, text_unless, weekday_items, letters_from_monday};
 ghost use Rattle.chrono_rules.specs.declared.text.list_writer.Naming.TheVariants.{Number};
 
 use crate::rule::{End, Rule};
@@ -288,7 +288,7 @@ fn put_two<const N: usize>(text: &mut Text<N>, number: u32)
 // Puts WKST, if it is not Monday.
 fn put_week_start<const N: usize>(text: &mut Text<N>, week_start: Weekday)
     requires { length text.old + 8 ≤ N }
-    ensures text { text.new ≡ text.old ++ text_unless (days_from_monday week_start == 0) (codes ";WKST=" ++ weekday_letters (days_from_monday week_start)) }
+    ensures text { text.new ≡ text.old ++ text_unless (days_from_monday week_start == 0) (codes ";WKST=" ++ letters_from_monday (days_from_monday week_start)) }
     ensures fits { length text.new ≤ length text.old + 8 }
 {
     let weekday = week_start.num_days_from_monday();

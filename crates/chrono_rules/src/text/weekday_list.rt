@@ -1,11 +1,11 @@
 //! The weekdays that BYDAY lists, as texts.
-ghost use Rattle.std.specs.Prelude.{◌≡◌, ◌<◌, IfSome};
-ghost use Rattle.chrono_rules.specs.NumberLists.{weekday_of_letters, weekdays_of, with_each, with_nth, with_weekday, with_weekday_text};
+ghost use Rattle.std.specs.Prelude.{◌≡◌, ◌<◌};
+ghost use Rattle.chrono_rules.specs.NumberLists.{weekdays_of, with_each, with_nth, with_weekday, with_weekday_text};
 
 use crate::text::number_list::{SignedNumber, read_signed};
-use crate::text::split_text::first_piece;
 use crate::weekday_places::{WeekdayPlaces, numbers_of};
-use chrono_text::same_but_for_case;
+use chrono_datetime::Weekday;
+use chrono_text::first_piece;
 
 /// Returns the weekdays that a BYDAY list names, such as `TU,SU` or `1MO,-1FR` (RFC 5545, 3.3.10).
 ///
@@ -32,39 +32,14 @@ pub fn read_weekdays(text: &[u8]) -> Option<WeekdayPlaces>
 }
 
 // The days and those that the text names.
-#[tactic(auto, unfolding(crate::specs::NumberLists::with_weekday_text))]
+#[tactic(auto, unfolding(crate::specs::NumberLists::listed_weekday, crate::specs::NumberLists::with_weekday_text))]
 pub(crate) fn with_text(days: WeekdayPlaces, text: &[u8]) -> Option<WeekdayPlaces>
     ensures { result ≡ with_weekday_text days text.now }
 {
     let (number, letters) = text.split_at(text.len().saturating_sub(2));
-    match weekday_of_letters(letters) {
-        Some(weekday) => with_weekday(days, number, weekday as usize),
+    match Weekday::from_letters(letters, 2) {
+        Some(weekday) => with_weekday(days, number, weekday.num_days_from_monday() as usize),
         None => None,
-    }
-}
-
-// The weekday that two letters name, of either case, from 0 for Monday.
-#[tactic(auto, unfolding(crate::specs::NumberLists::weekday_of_letters))]
-pub(crate) fn weekday_of_letters(text: &[u8]) -> Option<u32>
-    ensures value { result ≡ weekday_of_letters text.now }
-    ensures small { IfSome result (λ w. w < 7) }
-{
-    if same_but_for_case(text, b"MO") {
-        Some(0)
-    } else if same_but_for_case(text, b"TU") {
-        Some(1)
-    } else if same_but_for_case(text, b"WE") {
-        Some(2)
-    } else if same_but_for_case(text, b"TH") {
-        Some(3)
-    } else if same_but_for_case(text, b"FR") {
-        Some(4)
-    } else if same_but_for_case(text, b"SA") {
-        Some(5)
-    } else if same_but_for_case(text, b"SU") {
-        Some(6)
-    } else {
-        None
     }
 }
 

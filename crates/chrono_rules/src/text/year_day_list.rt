@@ -3,8 +3,8 @@ ghost use Rattle.std.specs.Prelude.{◌≡◌, ◌<◌};
 ghost use Rattle.chrono_rules.specs.NumberLists.{no_year_ends, with_signed_day, with_year_text, year_ends_of};
 
 use crate::text::number_list::{SignedNumber, read_signed};
-use crate::text::split_text::first_piece;
 use chrono_sets::PlaceSet;
+use chrono_text::first_piece;
 
 /// Numbers from 1 to 366 that count from the front, and others that count from the end.
 #[derive(Clone, Copy, PartialEq, Eq, Debug)]

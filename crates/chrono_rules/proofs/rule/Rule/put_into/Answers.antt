@@ -3,7 +3,7 @@ use Rattle.std.specs.Prelude.{◌==◌, nat_le, codes}
 use Rattle.std.specs.Fmt.{decimal}
 use Rattle.chrono_datetime.specs.Weekday.{days_from_monday}
 use Rattle.chrono_rules.specs.RuleErrors.{frequency_text}
-use Rattle.chrono_rules.specs.WrittenRules.{behind, end_parts, later_parts, list_parts, part_unless, rule_text, weekday_letters}
+use Rattle.chrono_rules.specs.WrittenRules.{behind, end_parts, later_parts, list_parts, part_unless, rule_text, letters_from_monday}
 use Rattle.chrono_rules.proofs.ListLemmas.{join_behind, part_on, texts_on, two_put}
 use Rattle.chrono_rules.proofs.RuleAscii.{rule_ascii}
 use Rattle.chrono_rules.proofs.rule.Rule.put_into.Goals as goal
@@ -19,9 +19,9 @@ returns-clause-text g c =
     let begun : first ≡ old ++ name =
     two_put old (codes "FREQ=") c.as_bytes.result.now c.push_text.new.self first c.push_text.ensures c.push_text-2.ensures
     ∙ ap (λ word. old ++ (codes "FREQ=" ++ word)) (c.as_bytes.ensures.value ∙ c.frequency_name.ensures.name) in
-    let start = part_unless (days_from_monday r.week_start == 0) (codes "WKST=") (weekday_letters (days_from_monday r.week_start)) in
+    let start = part_unless (days_from_monday r.week_start == 0) (codes "WKST=") (letters_from_monday (days_from_monday r.week_start)) in
     let e1 = part_on first c.put_interval.new.text (nat_le r.interval 1) (codes "INTERVAL=") (decimal r.interval) c.put_interval.ensures.text in
-    let e4 = part_on c.put_lists.new.text end (days_from_monday r.week_start == 0) (codes "WKST=") (weekday_letters (days_from_monday r.week_start)) c.put_week_start.ensures.text in
+    let e4 = part_on c.put_lists.new.text end (days_from_monday r.week_start == 0) (codes "WKST=") (letters_from_monday (days_from_monday r.week_start)) c.put_week_start.ensures.text in
     let later : end ≡ first ++ behind 59 (later_parts r) =
     texts_on first c.put_interval.new.text end (part_unless (nat_le r.interval 1) (codes "INTERVAL=") (decimal r.interval)) (end_parts r.end ++ (list_parts r ++ start)) e1
     (texts_on c.put_interval.new.text c.put_end.new.text end (end_parts r.end) (list_parts r ++ start) c.put_end.ensures.text

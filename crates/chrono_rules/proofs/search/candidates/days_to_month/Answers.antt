@@ -1,6 +1,7 @@
 use Rattle.std.proofs.Common.{arith}
+use Rattle.chrono_datetime.proofs.MonthPlaces.{later_month}
 use Rattle.chrono_datetime.proofs.Signed.{casts}
-use Rattle.chrono_rules.proofs.Months.{before_month_first, first_later, later_first, own_month}
+use Rattle.chrono_rules.proofs.Months.{before_month_first, first_later, own_month}
 use Rattle.chrono_rules.proofs.search.candidates.days_to_month.Goals as goal
 
 pub returns-in-Some-clause-earlier : goal.returns-in-Some-clause-earlier
@@ -11,7 +12,7 @@ returns-in-Some-clause-earlier c = λ d low high.
 pub returns-in-Some-clause-low : goal.returns-in-Some-clause-low
 returns-in-Some-clause-low c =
     let found = first_later c.args.day c.first_day_of_month.result c.in-Some.first c.args.months c.first_day_of_month.ensures.month c.first_day_of_month.ensures.day (omega (arith, casts, c.in-Some.ensures.month)) c.in-Some.ensures.day in
-    omega (arith, casts, later_first c.args.day c.in-Some.first c.args.months found.0 (omega (arith, casts, c.requires.low)))
+    omega (arith, casts, later_month c.args.day c.in-Some.first (omega (arith, casts, found.0, c.requires.low)))
 
 pub returns-in-None-clause-earlier : goal.returns-in-None-clause-earlier
 returns-in-None-clause-earlier c = λ d low high.

@@ -24,14 +24,14 @@ loop-part-preserved c =
     c.loop-part.invariant ∙ past c.args.text.now parts_but_last c.loop-part.part-index _ c.loop-part-test.true (sym c.is_read.ensures ∙ c.if-not-is_read.false)
     ∙ ap (λ i. first_unread c.args.text.now (drop i parts_but_last) Wkst) (sym next)
 
-pub returns : goal.returns
+pub returns-clause-error : goal.returns-clause-error
 unfolding unread_error
-returns c =
+returns-clause-error c =
     let end : c.loop-part.part-index ≡ 10 = omega (arith, c.loop-part.auto.part-index-end, c.loop-part-test.false) in
-    c.part_error-2.ensures ∙ sym (c.loop-part.invariant ∙ ap (λ i. first_unread c.args.text.now (drop i parts_but_last) Wkst) end)
+    c.part_error-2.ensures.error ∙ sym (c.loop-part.invariant ∙ ap (λ i. first_unread c.args.text.now (drop i parts_but_last) Wkst) end)
 
-pub returns-then-not-is_read : goal.returns-then-not-is_read
+pub returns-then-not-is_read-clause-error : goal.returns-then-not-is_read-clause-error
 unfolding unread_error
-returns-then-not-is_read c =
-    c.part_error.ensures
+returns-then-not-is_read-clause-error c =
+    c.part_error.ensures.error
     ∙ sym (c.loop-part.invariant ∙ at c.args.text.now parts_but_last c.loop-part.part-index _ c.loop-part-test.true (sym c.is_read.ensures ∙ c.if-not-is_read.true))

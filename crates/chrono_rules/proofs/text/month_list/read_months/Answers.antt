@@ -1,7 +1,7 @@
 use Rattle.std.proofs.Common.{◌∙◌, ap, sym}
-use Rattle.chrono_rules.specs.Split.{pieces, through}
+use Rattle.chrono_text.specs.Lists.{pieces, through}
 use Rattle.chrono_rules.specs.NumberLists.{month_list_of, with_month_text}
-use Rattle.chrono_rules.proofs.PieceLemmas.{through_last, through_none}
+use Rattle.chrono_text.proofs.ListLemmas.{through_last, through_none}
 use Rattle.chrono_rules.proofs.text.month_list.read_months.Goals as goal
 
 pub returns-in_err-months : goal.returns-in_err-months

@@ -1,6 +1,6 @@
 -- The months so far, with those of the rest, are those of the text.
 use Rattle.std.proofs.Common.{◌≡◌, length}
-use Rattle.chrono_rules.specs.Split.{pieces, through}
+use Rattle.chrono_text.specs.Lists.{pieces, through}
 use Rattle.chrono_rules.specs.NumberLists.{with_month_text}
 use Rattle.chrono_rules.proofs.text.month_list.read_months.Given as goal
 

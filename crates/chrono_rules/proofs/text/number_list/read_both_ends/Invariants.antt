@@ -1,6 +1,6 @@
 -- The numbers so far, with those of the rest, are those of the text.
 use Rattle.std.proofs.Common.{◌≡◌, length}
-use Rattle.chrono_rules.specs.Split.{pieces, through}
+use Rattle.chrono_text.specs.Lists.{pieces, through}
 use Rattle.chrono_rules.specs.NumberLists.{with_signed_text}
 use Rattle.chrono_rules.proofs.text.number_list.read_both_ends.Given as goal
 

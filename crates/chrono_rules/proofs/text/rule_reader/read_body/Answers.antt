@@ -6,4 +6,4 @@ use Rattle.chrono_rules.proofs.text.rule_reader.read_body.Goals as goal
 
 pub returns-then-not-fits-clause-unfit : goal.returns-then-not-fits-clause-unfit
 returns-then-not-fits-clause-unfit c = λ r named says unfit.
-    ap Err (c.unfit_error.ensures ∙ ap unfit_error (same_Some _ _ (sym c.in-Some.is ∙ c.read_parts.ensures.every r says)))
+    ap Err (c.unfit_error.ensures.error ∙ ap (unfit_error c.args.text.now) (same_Some _ _ (sym c.in-Some.is ∙ c.read_parts.ensures.every r says)))

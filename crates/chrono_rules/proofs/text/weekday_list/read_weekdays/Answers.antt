@@ -1,7 +1,7 @@
 use Rattle.std.proofs.Common.{◌∙◌, ap, sym}
-use Rattle.chrono_rules.specs.Split.{pieces, through}
+use Rattle.chrono_text.specs.Lists.{pieces, through}
 use Rattle.chrono_rules.specs.NumberLists.{weekdays_of, with_weekday_text}
-use Rattle.chrono_rules.proofs.PieceLemmas.{through_last, through_none}
+use Rattle.chrono_text.proofs.ListLemmas.{through_last, through_none}
 use Rattle.chrono_rules.proofs.text.weekday_list.read_weekdays.Goals as goal
 
 pub returns-in_err-days : goal.returns-in_err-days

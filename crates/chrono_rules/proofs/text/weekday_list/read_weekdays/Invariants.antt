@@ -1,6 +1,6 @@
 -- The days so far, with those of the rest, are those of the text.
 use Rattle.std.proofs.Common.{◌≡◌, length}
-use Rattle.chrono_rules.specs.Split.{pieces, through}
+use Rattle.chrono_text.specs.Lists.{pieces, through}
 use Rattle.chrono_rules.specs.NumberLists.{with_weekday_text}
 use Rattle.chrono_rules.proofs.text.weekday_list.read_weekdays.Given as goal
 

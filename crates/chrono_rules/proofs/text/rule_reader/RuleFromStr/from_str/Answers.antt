@@ -11,5 +11,6 @@ returns c =
       unknown = c.read_rule.ensures.unknown;
       unread = c.read_rule.ensures.unread;
       unfit = c.read_rule.ensures.unfit;
+      byte = c.read_rule.ensures.byte;
     } in
     rw (sym c.as_bytes.ensures.value) checked

@@ -4,9 +4,10 @@ use Rattle.chrono_datetime.specs.Days.{IsDate}
 use Rattle.chrono_datetime.specs.Recurrence.{past_last_date}
 use Rattle.chrono_datetime.proofs.Signed.{casts, signed}
 use Rattle.chrono_rules.specs.RecurrenceSets.{recurrence_from}
-use Rattle.chrono_rules.proofs.DayLists.{first-goes}
+use Rattle.chrono_datetime.proofs.ListsLeft.{MakesProgress-first}
 use Rattle.chrono_rules.proofs.RecurrenceWalks.{recurrence-first, recurrence-none, recurrence-past}
 use Rattle.chrono_rules.proofs.search.recurrence.days.RecurrenceDaysIterator.next.Goals as goal
+use Rattle.chrono_datetime.proofs.NamedDates.{next_day-fits}
 
 -- there is a date with each number before that behind the last
 pub returns-in_err-from-clause-steps : goal.returns-in_err-from-clause-steps
@@ -29,16 +30,13 @@ returns-in_default-clause-steps c =
     )
 
 -- the day behind the one that is given
-next_day : (r d : ℤ) → r ≡ d → IsDate r → to_z w32 (of_z w32 (to_z w32 (of_z w32 r) +ℤ pos 1)) ≡ d +ℤ pos 1
-next_day r d e h = omega (arith, casts, e, h.0, h.1)
-
 pub invariant_of-self-2 : goal.invariant_of-self-2
 invariant_of-self-2 c =
     let day = c.num_days_from_ce.ensures in
     let found = c.in-Some.ensures in (
       omega (arith, casts, day.value, day.in_range),
       omega (arith, casts, day.value, day.in_range),
-      λ lt. rw (next_day c.num_days_from_ce.result c.in-Some.found.day day.value day.in_range) found.kept,
+      λ lt. rw (next_day-fits c.num_days_from_ce.result c.in-Some.found.day day.value day.in_range) found.kept,
       omega (arith, casts, day.value, day.in_range, found.few),
     )
 
@@ -54,7 +52,7 @@ returns-clause-steps c =
     let date : IsDate e = (omega (arith, signed, day.value, day.in_range), omega (arith, signed, day.value, day.in_range)) in
     sym c.self.view_is
     ∙ (recurrence-first it.recurrence.now it.from e (e +ℤ pos 1) low date refl found.member (rw from at found.least)
-    ∙ ap (λ (d : ℤ). e ∷ recurrence_from it.recurrence.now d) (sym (next_day c.num_days_from_ce.result e day.value day.in_range)))
+    ∙ ap (λ (d : ℤ). e ∷ recurrence_from it.recurrence.now d) (sym (next_day-fits c.num_days_from_ce.result e day.value day.in_range)))
 
 pub returns-clause-goes : goal.returns-clause-goes
-returns-clause-goes c = first-goes _ _ _ (returns-clause-steps c)
+returns-clause-goes c = MakesProgress-first _ _ _ (returns-clause-steps c)
