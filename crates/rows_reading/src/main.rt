@@ -16,7 +16,7 @@ use chrono_reading::{
 use std::io::{self, BufRead, BufReader};
 
 // The numbers of a value, 0 for those that it does not have.
-type Numbers = (i64, i64, i64);
+type RowNumbers = (i64, i64, i64);
 
 fn main(rt: HostRuntime) -> io::Result<()> {
     let (mut lines, mut others) = (0u64, 0u64);
@@ -50,7 +50,7 @@ fn is_read(line: &str) -> bool {
 }
 
 // The numbers that stand behind a text.
-fn numbers(answer: &str) -> Option<Numbers> {
+fn numbers(answer: &str) -> Option<RowNumbers> {
     let mut words = answer.split_ascii_whitespace();
     let first = words.next()?.parse().ok()?;
     let second = words.next().unwrap_or("0").parse().ok()?;
@@ -59,7 +59,7 @@ fn numbers(answer: &str) -> Option<Numbers> {
 }
 
 // What the call reads; `None` if there is no such call.
-fn numbers_of(call: &str, text: &[u8]) -> Option<Option<Numbers>> {
+fn numbers_of(call: &str, text: &[u8]) -> Option<Option<RowNumbers>> {
     let read = match call {
         "date" => of_date(read_date(text).ok()),
         "ordinal_date" => of_date(read_ordinal_date(text).ok()),
@@ -74,27 +74,27 @@ fn numbers_of(call: &str, text: &[u8]) -> Option<Option<Numbers>> {
     Some(read)
 }
 
-fn of_number(number: Option<u32>) -> Option<Numbers> {
+fn of_number(number: Option<u32>) -> Option<RowNumbers> {
     Some((i64::from(number?), 0, 0))
 }
 
-fn of_date(date: Option<NaiveDate>) -> Option<Numbers> {
+fn of_date(date: Option<NaiveDate>) -> Option<RowNumbers> {
     Some((i64::from(date?.num_days_from_ce()), 0, 0))
 }
 
-fn of_time(time: Option<NaiveTime>) -> Option<Numbers> {
+fn of_time(time: Option<NaiveTime>) -> Option<RowNumbers> {
     let time = time?;
     let second = i64::from(time.num_seconds_from_midnight());
     Some((second, i64::from(time.nanosecond()), 0))
 }
 
-fn of_date_time(date_time: Option<NaiveDateTime>) -> Option<Numbers> {
+fn of_date_time(date_time: Option<NaiveDateTime>) -> Option<RowNumbers> {
     let date_time = date_time?;
     let (second, fraction, _) = of_time(Some(date_time.time()))?;
     Some((i64::from(date_time.num_days_from_ce()), second, fraction))
 }
 
-fn of_duration(duration: Option<TimeDelta>) -> Option<Numbers> {
+fn of_duration(duration: Option<TimeDelta>) -> Option<RowNumbers> {
     let duration = duration?;
     Some((
         duration.num_seconds(),

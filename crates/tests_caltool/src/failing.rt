@@ -15,7 +15,7 @@ pub enum Failure {
 
 /// A call of one of the two.
 #[derive(Clone, Copy, Debug, PartialEq, Eq)]
-pub enum Call {
+pub enum FailingCall {
     Read,
     Write,
     Flush,
@@ -26,8 +26,8 @@ pub enum Call {
 pub struct Calls {
     made: Cell<u64>,
     flushes: Cell<u64>,
-    last: Cell<Option<Call>>,
-    failed: Cell<Option<Call>>,
+    last: Cell<Option<FailingCall>>,
+    failed: Cell<Option<FailingCall>>,
     fails_at: u64,
     failure: Failure,
 }
@@ -46,7 +46,7 @@ impl Calls {
     }
 
     /// The call that failed.
-    pub fn failed(&self) -> Option<Call> {
+    pub fn failed(&self) -> Option<FailingCall> {
         self.failed.get()
     }
 
@@ -56,7 +56,7 @@ impl Calls {
     }
 
     /// Whether the last call was this one.
-    pub fn is_last(&self, call: Call) -> bool {
+    pub fn is_last(&self, call: FailingCall) -> bool {
         self.last.get() == Some(call)
     }
 
@@ -66,7 +66,7 @@ impl Calls {
     }
 
     // Counts a call; whether it goes on to give or take bytes.
-    fn goes_on(&self, call: Call) -> io::Result<bool> {
+    fn goes_on(&self, call: FailingCall) -> io::Result<bool> {
         self.made.set(self.made.get().wrapping_add(1));
         self.last.set(Some(call));
         if self.made.get() != self.fails_at {
@@ -106,7 +106,7 @@ impl<'a> Given<'a> {
 
 impl Read for Given<'_> {
     fn read(&mut self, buf: &mut [u8]) -> io::Result<usize> {
-        if !self.calls.goes_on(Call::Read)? {
+        if !self.calls.goes_on(FailingCall::Read)? {
             return Ok(0);
         }
         let n = self.size.min(buf.len()).min(self.left.len());
@@ -144,7 +144,7 @@ impl<'a> Taken<'a> {
 
 impl Write for Taken<'_> {
     fn write(&mut self, buf: &[u8]) -> io::Result<usize> {
-        if !self.calls.goes_on(Call::Write)? {
+        if !self.calls.goes_on(FailingCall::Write)? {
             return Ok(0);
         }
         let from = self.held.min(self.room.len());
@@ -157,7 +157,7 @@ impl Write for Taken<'_> {
     fn flush(&mut self) -> io::Result<()> {
         let flushes = self.calls.flushes();
         self.calls.flushes.set(flushes.wrapping_add(1));
-        self.calls.goes_on(Call::Flush)?;
+        self.calls.goes_on(FailingCall::Flush)?;
         Ok(())
     }
 }

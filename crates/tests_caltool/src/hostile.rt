@@ -1,7 +1,7 @@
 //! Runs over streams of which a call fails, over lines of any kind in any pieces, and about the ends of a read.
 ghost use Rattle.std.specs.Prelude.{◌<◌};
 
-use crate::failing::{Call, Calls, Failure, Given, Taken};
+use crate::failing::{Calls, FailingCall, Failure, Given, Taken};
 use crate::runner::{Dates, OfForm, Runner};
 use crate::tests::input;
 use crate::{Pieces, Sink};
@@ -64,20 +64,20 @@ fn ends_well<A: Runner>(
     let read = &input[..input.len().saturating_sub(reader.left())];
     let held = writer.held();
     Ok(match (calls.failed(), failure) {
-        (Some(Call::Read), Failure::Error(_)) => {
+        (Some(FailingCall::Read), Failure::Error(_)) => {
             outcome == Err(RunFault::Read)
                 && calls.end_there()
                 && calls.flushes() == 0
                 && held == output::<A>(alloc, ended(read))?.as_slice()
         }
-        (Some(Call::Write), _) | (Some(Call::Flush), Failure::Error(_)) => {
+        (Some(FailingCall::Write), _) | (Some(FailingCall::Flush), Failure::Error(_)) => {
             outcome == Err(RunFault::Write)
                 && calls.end_there()
                 && output::<A>(alloc, read)?.as_slice().starts_with(held)
         }
         _ => {
             outcome == Ok(())
-                && calls.is_last(Call::Flush)
+                && calls.is_last(FailingCall::Flush)
                 && calls.flushes() == 1
                 && held == output::<A>(alloc, read)?.as_slice()
         }
@@ -263,7 +263,7 @@ fn a_failed_write_leaves_the_bytes_before_it(rt: HostRuntime) {
         let mut reader = Given::new(input, 100, &calls);
         let mut writer = Taken::new(&mut room, 1, &calls);
         let outcome = Dates::run(&mut reader, &mut writer);
-        if calls.failed() == Some(Call::Write) {
+        if calls.failed() == Some(FailingCall::Write) {
             assert_eq!(rt; outcome, Err(RunFault::Write));
             assert_eq!(rt; writer.held().len() as u64 + 2, call, "at {call}");
         }

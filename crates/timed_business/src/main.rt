@@ -12,7 +12,7 @@ use std::io::{self, BufRead, BufReader};
 
 // What is asked of each date.
 #[derive(Clone, Copy)]
-enum Call {
+enum OpenDayCall {
     Nothing,
     IsOpen,
     OpenDays,
@@ -26,10 +26,10 @@ fn main(rt: HostRuntime) -> io::Result<()> {
         return Ok(());
     };
     let call = match name.as_str() {
-        "is_open" => Call::IsOpen,
-        "open_days" => Call::OpenDays,
-        "add_open_days" => Call::AddOpenDays,
-        _ => Call::Nothing,
+        "is_open" => OpenDayCall::IsOpen,
+        "open_days" => OpenDayCall::OpenDays,
+        "add_open_days" => OpenDayCall::AddOpenDays,
+        _ => OpenDayCall::Nothing,
     };
     let mut holidays: Vec<NaiveDate, _> = Vec::new(rt.alloc());
     for line in BufReader::new(rt.alloc(), rt.reader())?.lines(rt.alloc()) {
@@ -55,7 +55,7 @@ fn date_of(number: i32) -> Option<NaiveDate> {
 }
 
 // The sum of what the call answers at so many dates of 2019 to 2031.
-fn sum_of(calendar: &Calendar<'_>, call: Call, count: u32) -> i64 {
+fn sum_of(calendar: &Calendar<'_>, call: OpenDayCall, count: u32) -> i64 {
     let mut drawn: u64 = 1;
     let mut sum: i64 = 0;
     for _ in 0..count {
@@ -72,15 +72,15 @@ fn sum_of(calendar: &Calendar<'_>, call: Call, count: u32) -> i64 {
 }
 
 // What the call answers, a date by its number.
-fn answer(calendar: &Calendar<'_>, call: Call, date: NaiveDate, second: i32) -> i64 {
+fn answer(calendar: &Calendar<'_>, call: OpenDayCall, date: NaiveDate, second: i32) -> i64 {
     match call {
-        Call::Nothing => i64::from(date.num_days_from_ce()),
-        Call::IsOpen => i64::from(calendar.is_open(date)),
-        Call::OpenDays => match date_of(second.wrapping_add(737_200)) {
+        OpenDayCall::Nothing => i64::from(date.num_days_from_ce()),
+        OpenDayCall::IsOpen => i64::from(calendar.is_open(date)),
+        OpenDayCall::OpenDays => match date_of(second.wrapping_add(737_200)) {
             Some(to) => calendar.open_days(date, to),
             None => 0,
         },
-        Call::AddOpenDays => match calendar.add_open_days(date, i64::from(second)) {
+        OpenDayCall::AddOpenDays => match calendar.add_open_days(date, i64::from(second)) {
             Some(moved) => i64::from(moved.num_days_from_ce()),
             None => 0,
         },

@@ -2,7 +2,7 @@
 
 /// A call of the calendar.
 #[derive(Clone, Copy)]
-pub enum Call {
+pub enum TimedCall {
     /// No call: the generator, a look-up and the sum alone.
     Nothing,
     /// A call of a date.
@@ -82,24 +82,24 @@ pub enum DateCall {
 }
 
 /// The call with a name: that of a date over a stored form has the form's name and a point before it.
-pub fn call_named(name: &str) -> Option<Call> {
+pub fn call_named(name: &str) -> Option<TimedCall> {
     Some(match name {
-        "none" => Call::Nothing,
-        "time_add" => Call::TimeAdd,
-        "moment_add" => Call::MomentAdd,
-        "far_moment_add" => Call::FarMomentAdd,
-        "far_add_months" => Call::FarAddMonths,
-        "moment_diff" => Call::MomentDiff,
-        "duration_add" => Call::DurationAdd,
-        "new_num_seconds" => Call::NewNumSeconds,
-        "print_date" => Call::PrintDate,
-        "print_moment" => Call::PrintMoment,
-        "print_duration" => Call::PrintDuration,
-        "read_date" => Call::ReadDate,
+        "none" => TimedCall::Nothing,
+        "time_add" => TimedCall::TimeAdd,
+        "moment_add" => TimedCall::MomentAdd,
+        "far_moment_add" => TimedCall::FarMomentAdd,
+        "far_add_months" => TimedCall::FarAddMonths,
+        "moment_diff" => TimedCall::MomentDiff,
+        "duration_add" => TimedCall::DurationAdd,
+        "new_num_seconds" => TimedCall::NewNumSeconds,
+        "print_date" => TimedCall::PrintDate,
+        "print_moment" => TimedCall::PrintMoment,
+        "print_duration" => TimedCall::PrintDuration,
+        "read_date" => TimedCall::ReadDate,
         _ => match name.split_once('.') {
-            Some(("counted", name)) => Call::OfDate(Kind::Counted, date_call_named(name)?),
-            Some(("packed", name)) => Call::OfDate(Kind::Packed, date_call_named(name)?),
-            _ => Call::OfDate(Kind::Naive, date_call_named(name)?),
+            Some(("counted", name)) => TimedCall::OfDate(Kind::Counted, date_call_named(name)?),
+            Some(("packed", name)) => TimedCall::OfDate(Kind::Packed, date_call_named(name)?),
+            _ => TimedCall::OfDate(Kind::Naive, date_call_named(name)?),
         },
     })
 }

@@ -14,7 +14,7 @@ mod sums;
 mod tables;
 mod written;
 
-use call::{Call, call_named};
+use call::{TimedCall, call_named};
 use std::env::{self, Env};
 use std::io;
 use std::process::ExitCode;

@@ -1,6 +1,6 @@
 //! The sums: which tables a call draws, and the sums of calls of times, date-times, durations and texts.
 
-use crate::call::{Call, DateCall, Kind};
+use crate::call::{DateCall, Kind, TimedCall};
 use crate::generator::Generator;
 use crate::numbers::{of_duration, of_moment, of_signed, of_time};
 use crate::tables::{
@@ -13,22 +13,22 @@ use chrono_datetime::{Datelike, TimeDelta};
 use chrono_reading::read_date;
 
 /// The sum of the call's answers to so many drawn arguments, modulo 2^64.
-pub fn sum_of_answers(call: Call, count: u64) -> u64 {
+pub fn sum_of_answers(call: TimedCall, count: u64) -> u64 {
     let generator = Generator::new();
     match call {
-        Call::Nothing => nothing(generator, count),
-        Call::OfDate(kind, call) => of_dates(kind, call, generator, count),
-        Call::TimeAdd => time_add(generator, count),
-        Call::MomentAdd => moment_add(generator, count),
-        Call::FarMomentAdd => far_moment_add(generator, count),
-        Call::FarAddMonths => far_add_months(generator, count),
-        Call::MomentDiff => moment_diff(generator, count),
-        Call::DurationAdd => duration_add(generator, count),
-        Call::NewNumSeconds => new_num_seconds(generator, count),
-        Call::PrintDate => print_dates(generator, count),
-        Call::PrintMoment => print_moments(generator, count),
-        Call::PrintDuration => print_durations(generator, count),
-        Call::ReadDate => read_dates(generator, count),
+        TimedCall::Nothing => nothing(generator, count),
+        TimedCall::OfDate(kind, call) => of_dates(kind, call, generator, count),
+        TimedCall::TimeAdd => time_add(generator, count),
+        TimedCall::MomentAdd => moment_add(generator, count),
+        TimedCall::FarMomentAdd => far_moment_add(generator, count),
+        TimedCall::FarAddMonths => far_add_months(generator, count),
+        TimedCall::MomentDiff => moment_diff(generator, count),
+        TimedCall::DurationAdd => duration_add(generator, count),
+        TimedCall::NewNumSeconds => new_num_seconds(generator, count),
+        TimedCall::PrintDate => print_dates(generator, count),
+        TimedCall::PrintMoment => print_moments(generator, count),
+        TimedCall::PrintDuration => print_durations(generator, count),
+        TimedCall::ReadDate => read_dates(generator, count),
     }
 }
 
