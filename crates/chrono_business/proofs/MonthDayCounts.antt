@@ -11,10 +11,7 @@ use Rattle.chrono_datetime.proofs.MonthDays.{month-days}
 use Rattle.chrono_business.specs.OpenDays.{Closed, IsNthOpenBack, IsNthOpenFrom, is_open, open_days}
 use Rattle.chrono_business.specs.Rolls.{IsLastOpen, IsNextOpen, MonthBeginsClosed, MonthEndsClosed, MonthIsClosed}
 use Rattle.chrono_business.proofs.Ranks.{open-behind, open-rises}
-use Rattle.chrono_business.proofs.RollLemmas.{last-last, next-first}
-
-in_own_month : (d : ℤ) → (month_first_of d ≤ℤ d) × (d ≤ℤ month_last_of d)
-in_own_month d = (month-days d d).0 (refl, refl)
+use Rattle.chrono_business.proofs.RollLemmas.{in_own_month, last-last, next-first}
 
 pub month-nth_from : (c : Closed) (d e : ℤ) (n : ℕ) → IsNthOpenFrom c (month_first_of d) n e → e ≤ℤ month_last_of d → InSameMonth e d
 month-nth_from c d e n nth high = (month-days d e).1 (nth.not_before, high)

@@ -40,7 +40,7 @@ if-none_last (Some e) c d closed = tt
 
 -- ---- within a month
 
-in_own_month : (d : ℤ) → (month_first_of d ≤ℤ d) × (d ≤ℤ month_last_of d)
+pub in_own_month : (d : ℤ) → (month_first_of d ≤ℤ d) × (d ≤ℤ month_last_of d)
 in_own_month d = (month-days d d).0 (refl, refl)
 
 pub next-in_month : (c : Closed) (d e : ℤ) → d ≤ℤ e → e ≤ℤ month_last_of d → InSameMonth e d

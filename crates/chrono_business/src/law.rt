@@ -25,7 +25,7 @@ ghost use Rattle.chrono_business.specs.declared.holiday_error.HolidayError.TheVa
 ghost use Rattle.chrono_business.specs.declared.holiday_error.HolidayError.{HolidayError};
 ghost use Rattle.chrono_business.specs.declared.roll.Roll.{Roll};
 ghost use Rattle.chrono_business.specs.declared.roll.Roll.TheVariants.{Following, ModifiedFollowing, ModifiedPreceding, NearestIsda, NearestQuantLib, Preceding, Unadjusted};
-ghost use Rattle.chrono_business.specs.OpenDays.{Closed, IsMovedByOpenDays, IsMovedFromNext, IsMovedFromPrevious, IsNthOpenBack, IsNthOpenFrom, closed, is_open, open_days, open_days_signed};
+ghost use Rattle.chrono_business.specs.OpenDays.{AreHolidays, Closed, IsMovedByOpenDays, IsMovedFromNext, IsMovedFromPrevious, IsNthOpenBack, IsNthOpenFrom, closed, is_open, open_days, open_days_signed};
 
 /// The `n`-th open day from an open day on has that day as its `n`-th one back, and the other way round.
 pub fn open_days_come_back()
@@ -97,7 +97,7 @@ pub fn moved_open_days_keep_order()
 /// From Saturday, 2 March 2024, day 738,947, the first open day is Monday, 4 March, and the first one back is Friday.
 /// By 0 it goes to Monday. From Friday, 1 March, by 1 and by 0 it goes to Monday and to Friday.
 /// From the next open day, the Saturday moves by 1 to Tuesday and by -1 to Friday.
-/// From the previous one it moves by 1 to Monday and by -1 to Thursday.
+/// From the previous one it moves by 1 to Monday and by -1 to Thursday. By 0 it stays in neither way.
 pub fn known_open_day_moves()
     ensures saturday { IsMovedByOpenDays (closed (set_of (Sat ∷ Sun ∷ [])) []) (pos 738_947) (pos 1) (pos 738_949) }
     ensures saturday_back { IsMovedByOpenDays (closed (set_of (Sat ∷ Sun ∷ [])) []) (pos 738_947) (neg_ℤ (pos 1))
@@ -118,6 +118,10 @@ pub fn known_open_day_moves()
         (pos 738_949) }
     ensures from_previous_back { IsMovedFromPrevious (closed (set_of (Sat ∷ Sun ∷ [])) []) (pos 738_947)
         (neg_ℤ (pos 1)) (pos 738_945) }
+    ensures from_next_not_saturday { IsMovedFromNext (closed (set_of (Sat ∷ Sun ∷ [])) []) (pos 738_947) (pos 0)
+        (pos 738_947) → ⊥ }
+    ensures from_previous_not_saturday { IsMovedFromPrevious (closed (set_of (Sat ∷ Sun ∷ [])) []) (pos 738_947)
+        (pos 0) (pos 738_947) → ⊥ }
 {}
 
 /// Known open days of two calendars.
@@ -142,6 +146,7 @@ pub fn known_open_days()
         (pos 738_893) (pos 738_886) ≡ neg_ℤ (pos 4) }
     ensures list { open_days_list (closed (set_of (Sat ∷ Sun ∷ [])) (pos 738_886 ∷ [])) (pos 738_886) (pos 738_890)
         ≡ pos 738_887 ∷ pos 738_888 ∷ pos 738_889 ∷ [] }
+    ensures no_list { open_days_list (closed (set_of (Sat ∷ Sun ∷ [])) []) (pos 738_890) (pos 738_886) ≡ [] }
     ensures second_from { IsNthOpenFrom (closed (set_of (Sat ∷ Sun ∷ [])) (pos 738_886 ∷ [])) (pos 738_886) 2
         (pos 738_889) }
     ensures second_back { IsNthOpenBack (closed (set_of (Sat ∷ Sun ∷ [])) (pos 738_886 ∷ [])) (pos 738_892) 2
@@ -182,6 +187,7 @@ pub fn known_day_counts()
 /// From Saturday, 30 March and up to Sunday, 2 June the month is closed. From Friday, 29 March and up to
 /// Monday, 3 June it is not. With a weekend of seven days a whole month is closed.
 /// If only Tuesday, 2 January is closed, it goes to Monday by `NearestIsda`, and to Wednesday by `NearestQuantLib`.
+/// Within March, Saturday the 2nd (day 738,947) does not go back, nor Saturday the 9th (day 738,954) on, by the two modified rolls.
 pub fn known_rolls()
     ensures unadjusted { RollsTo (closed (set_of (Sat ∷ Sun ∷ [])) []) Unadjusted (pos 738_975) (pos 738_975) }
     ensures following { RollsTo (closed (set_of (Sat ∷ Sun ∷ [])) []) Following (pos 738_975) (pos 738_977) }
@@ -224,6 +230,18 @@ pub fn known_rolls()
         (pos 738_975) }
     ensures isda_not_back_on_sunday { RollsTo (closed (set_of (Sat ∷ Sun ∷ [])) []) NearestIsda
         (pos 738_976) (pos 738_974) → ⊥ }
+    ensures isda_not_on_on_saturday { RollsTo (closed (set_of (Sat ∷ Sun ∷ [])) []) NearestIsda
+        (pos 738_975) (pos 738_977) → ⊥ }
+    ensures unadjusted_not_on { RollsTo (closed (set_of (Sat ∷ Sun ∷ [])) []) Unadjusted (pos 738_975)
+        (pos 738_977) → ⊥ }
+    ensures nearest_not_farther { RollsTo (closed (set_of (Sat ∷ Sun ∷ [])) []) NearestQuantLib
+        (pos 738_975) (pos 738_977) → ⊥ }
+    ensures nearest_not_earlier { RollsTo (closed (set_of (Sat ∷ Sun ∷ [])) (pos 738_886 ∷ [])) NearestQuantLib
+        (pos 738_885) (pos 738_883) → ⊥ }
+    ensures modified_following_not_back { RollsTo (closed (set_of (Sat ∷ Sun ∷ [])) []) ModifiedFollowing
+        (pos 738_947) (pos 738_946) → ⊥ }
+    ensures modified_preceding_not_on { RollsTo (closed (set_of (Sat ∷ Sun ∷ [])) []) ModifiedPreceding
+        (pos 738_954) (pos 738_956) → ⊥ }
 {}
 
 /// Every roll but `Unadjusted` leads to an open day, and an open date stays.
@@ -359,12 +377,17 @@ pub fn known_holidays()
 ///
 /// Saturday, 6 January 2024 (day 738,891) is wrong, and so is a second Monday, 1 January (day 738,886).
 /// A Saturday that is not later than the Monday before it is wrong as a day of the weekend.
+/// A Monday and the Tuesday after it are right. The day after the last date is wrong too.
 pub fn known_wrong_holidays()
     ensures saturday { IsWrong (set_of (Sat ∷ Sun ∷ [])) (pos 738_891 ∷ []) (OnWeekend 0) }
     ensures twice { IsWrong (set_of (Sat ∷ Sun ∷ [])) (pos 738_886 ∷ pos 738_886 ∷ []) (NotRising 1) }
     ensures both { IsWrong (set_of (Sat ∷ Sun ∷ [])) (pos 738_886 ∷ pos 738_884 ∷ []) (OnWeekend 1) }
     ensures not_both { IsWrong (set_of (Sat ∷ Sun ∷ [])) (pos 738_886 ∷ pos 738_884 ∷ []) (NotRising 1) → ⊥ }
     ensures tuesday { IsWrong (set_of (Sat ∷ Sun ∷ [])) (pos 738_886 ∷ pos 738_887 ∷ []) (NotRising 1) → ⊥ }
+    ensures right { AreHolidays (set_of (Sat ∷ Sun ∷ [])) (pos 738_886 ∷ pos 738_887 ∷ []) }
+    ensures not_twice { AreHolidays (set_of (Sat ∷ Sun ∷ [])) (pos 738_886 ∷ pos 738_886 ∷ []) → ⊥ }
+    ensures not_on_saturday { AreHolidays (set_of (Sat ∷ Sun ∷ [])) (pos 738_891 ∷ []) → ⊥ }
+    ensures not_past_the_last { AreHolidays (set_of (Sat ∷ Sun ∷ [])) (pos 95_745_400 ∷ []) → ⊥ }
 {}
 
 /// Known lists of holidays.

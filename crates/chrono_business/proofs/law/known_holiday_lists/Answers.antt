@@ -4,6 +4,7 @@ use Rattle.std.specs.Ordering.{int_eq}
 use Rattle.std.specs.List.{All}
 use Rattle.std.proofs.lemmas.Bool.Decides.{Decides-int_eq}
 use Rattle.std.proofs.lemmas.Bool.{false≢true}
+use Rattle.std.proofs.lemmas.List.Elements.{All-cons, All-nil}
 use Rattle.chrono_datetime.specs.declared.Weekday.TheVariants.{Sat, Sun}
 use Rattle.chrono_datetime.specs.declared.Month.TheVariants.{January}
 use Rattle.chrono_datetime.specs.WeekdaySet.{DaySet, set_of}
@@ -68,10 +69,6 @@ each d e = rw e refl
 pub returns-clause-not_too_many : goal.returns-clause-not_too_many
 returns-clause-not_too_many c = λ h. let more : 1 < 1 = h (pos 738_886 ∷ []) rising each in omega (arith, more)
 
-one-all : (P : ℤ → Type 0) (x : ℤ) → P x → All P (x ∷ [])
-one-all P x h zero d within = h
-one-all P x h (suc k) d within = absurd (omega (arith, within))
-
 or_false : (b : Bool) → (b || false) ≡ true → b ≡ true
 or_false true h = refl
 or_false false h = h
@@ -82,9 +79,9 @@ only d h = sym ((Decides-int_eq (pos 738_886) d).0 (or_false (int_eq (pos 738_88
 pub returns-clause-added : goal.returns-clause-added
 returns-clause-added c = record {
   holidays = record {
-    dates = one-all IsDate (pos 738_886) (omega (arith, signed), omega (arith, signed));
+    dates = All-cons IsDate (pos 738_886) [] (omega (arith, signed), omega (arith, signed)) (All-nil IsDate);
     rising = rising;
-    workdays = one-all (λ h. is_workday weekend h ≡ true) (pos 738_886) refl;
+    workdays = All-cons (λ h. is_workday weekend h ≡ true) (pos 738_886) [] refl (All-nil (λ h. is_workday weekend h ≡ true));
   };
   only = λ d h. inr (only d h, rw (only d h) refl);
   kept = λ d h. absurd (false≢true h);

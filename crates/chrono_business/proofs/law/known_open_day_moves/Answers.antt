@@ -1,4 +1,5 @@
-use Rattle.std.proofs.Common.{◌≡◌, [], ◌∷◌, true, refl, arith, ℤ, pos, neg_ℤ, ◌+ℤ◌, ◌≤ℤ◌, ◌<ℤ◌}
+use Rattle.std.proofs.Common.{◌≡◌, [], ◌∷◌, true, false, refl, sym, ◌∙◌, arith, ℤ, pos, neg_ℤ, ◌+ℤ◌, ◌≤ℤ◌, ◌<ℤ◌}
+use Rattle.std.proofs.lemmas.Bool.{false≢true}
 use Rattle.chrono_datetime.specs.declared.Weekday.TheVariants.{Sat, Sun}
 use Rattle.chrono_datetime.specs.WeekdaySet.{set_of}
 use Rattle.chrono_datetime.specs.Recurrence.{count_between, count_where}
@@ -69,3 +70,13 @@ returns-clause-from_previous c = record { passes = refl; count = refl }
 pub returns-clause-from_previous_back : goal.returns-clause-from_previous_back
 unfolding is_open count_between count_where
 returns-clause-from_previous_back c = record { passes = refl; count = refl }
+
+saturday_closed : is_open weekends (pos 738_947) ≡ false
+unfolding is_open
+saturday_closed = refl
+
+pub returns-clause-from_next_not_saturday : goal.returns-clause-from_next_not_saturday
+returns-clause-from_next_not_saturday c = λ moved. false≢true (sym saturday_closed ∙ moved.passes)
+
+pub returns-clause-from_previous_not_saturday : goal.returns-clause-from_previous_not_saturday
+returns-clause-from_previous_not_saturday c = λ moved. false≢true (sym saturday_closed ∙ moved.passes)

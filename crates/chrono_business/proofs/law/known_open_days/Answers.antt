@@ -41,3 +41,7 @@ returns-clause-second_from c = record { passes = refl; not_before = omega (arith
 pub returns-clause-second_back : goal.returns-clause-second_back
 unfolding is_open count_between count_where
 returns-clause-second_back c = record { passes = refl; not_after = omega (arith, signed); count = refl }
+
+pub returns-clause-no_list : goal.returns-clause-no_list
+unfolding is_open open_days_list in_steps
+returns-clause-no_list c = refl

@@ -1,4 +1,4 @@
-use Rattle.std.proofs.Common.{◌≡◌, ℕ, ◌-◌, [], ◌∷◌, inl, inr, refl, sym, ◌∙◌, arith, ℤ, pos, ◌+ℤ◌, ◌-ℤ◌, ◌≤ℤ◌, true, Some}
+use Rattle.std.proofs.Common.{◌≡◌, ℕ, ◌-◌, ◌≤◌, [], ◌∷◌, inl, inr, refl, sym, ◌∙◌, arith, ℤ, pos, ◌+ℤ◌, ◌-ℤ◌, ◌≤ℤ◌, true, Some}
 use Rattle.std.proofs.lemmas.Bool.{false≢true}
 use Rattle.chrono_datetime.specs.declared.Weekday.{Weekday}
 use Rattle.chrono_datetime.specs.declared.Weekday.TheVariants.{Mon, Tue, Wed, Thu, Fri, Sat, Sun}
@@ -231,3 +231,60 @@ always Sun = refl
 pub returns-clause-month_closed : goal.returns-clause-month_closed
 unfolding is_open
 returns-clause-month_closed c = λ f month. rw (always (weekday_of f)) refl
+
+-- the 2nd, 4th, 8th and 9th of March
+saturday_with_monday : InSameMonth (pos 738_949) (pos 738_947)
+unfolding date_of_ymd days_before_year days_of_years days_of_months_in
+saturday_with_monday =
+    let monday = date_of_ymd-name (pos 738_949) (pos 2024) 3 4 refl in
+    let saturday = date_of_ymd-name (pos 738_947) (pos 2024) 3 2 refl in
+    (sym monday.0 ∙ saturday.0, sym monday.1 ∙ saturday.1)
+
+saturday_with_friday : InSameMonth (pos 738_953) (pos 738_954)
+unfolding date_of_ymd days_before_year days_of_years days_of_months_in
+saturday_with_friday =
+    let friday = date_of_ymd-name (pos 738_953) (pos 2024) 3 8 refl in
+    let saturday = date_of_ymd-name (pos 738_954) (pos 2024) 3 9 refl in
+    (sym friday.0 ∙ saturday.0, sym friday.1 ∙ saturday.1)
+
+fourth_open : is_open weekends (pos 738_949) ≡ true
+unfolding is_open
+fourth_open = refl
+
+eighth_open : is_open weekends (pos 738_953) ≡ true
+unfolding is_open
+eighth_open = refl
+
+second_of_january_open : is_open new_year (pos 738_887) ≡ true
+unfolding is_open
+second_of_january_open = refl
+
+pub returns-clause-isda_not_on_on_saturday : goal.returns-clause-isda_not_on_on_saturday
+returns-clause-isda_not_on_on_saturday c = elim [
+  | inl h ↦ false≢true h.1
+  | inr h ↦ omega (arith, signed, h.0.not_after)
+]
+
+pub returns-clause-unadjusted_not_on : goal.returns-clause-unadjusted_not_on
+returns-clause-unadjusted_not_on c = λ h. omega (arith, signed, h)
+
+pub returns-clause-nearest_not_farther : goal.returns-clause-nearest_not_farther
+returns-clause-nearest_not_farther c = λ h.
+    let near : 2 ≤ 1 = h.nearest (pos 738_974) (omega (arith, signed), omega (arith, signed)) good_friday_open in omega (arith, near)
+
+pub returns-clause-nearest_not_earlier : goal.returns-clause-nearest_not_earlier
+returns-clause-nearest_not_earlier c = λ h.
+    let later : pos 738_887 ≤ℤ pos 738_883 = h.later (pos 738_887) (omega (arith, signed), omega (arith, signed)) second_of_january_open refl in
+    omega (arith, signed, later)
+
+pub returns-clause-modified_following_not_back : goal.returns-clause-modified_following_not_back
+returns-clause-modified_following_not_back c = elim [
+  | inl h ↦ omega (arith, signed, h.0.not_before)
+  | inr h ↦ open_and_closed weekends (pos 738_949) fourth_open (h.1 (pos 738_949) (omega (arith, signed)) saturday_with_monday)
+]
+
+pub returns-clause-modified_preceding_not_on : goal.returns-clause-modified_preceding_not_on
+returns-clause-modified_preceding_not_on c = elim [
+  | inl h ↦ omega (arith, signed, h.0.not_after)
+  | inr h ↦ open_and_closed weekends (pos 738_953) eighth_open (h.1 (pos 738_953) (omega (arith, signed)) saturday_with_friday)
+]
