@@ -30,6 +30,10 @@ names_pass test naming set zero n pass = refl
 names_pass test naming set (suc count) n pass =
     with_name test naming set count n (has set n) (pass n (omega arith) (omega arith)) (names_pass test naming set count (n + 1) (λ k from lt. pass k (omega (arith, from)) (omega (arith, lt))))
 
+-- a text has no number by a kind of name
+abbrev pub lacks : (List ℕ → Option ℕ) → List ℕ → Bool
+lacks number item = not (is_some (number item))
+
 abbrev has_number : (List ℕ → Option ℕ) → ℕ → List ℕ → Bool
 has_number number k item = is_number k (number item)
 

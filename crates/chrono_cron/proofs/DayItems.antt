@@ -15,7 +15,7 @@ use Rattle.chrono_cron.specs.declared.text.number_names.Names.TheVariants.{Numbe
 use Rattle.chrono_cron.specs.Due.{no_month_days}
 use Rattle.chrono_cron.specs.FieldTexts.{before_byte, behind_byte, item_lists, items_list, number_between, onto}
 use Rattle.chrono_cron.specs.ScheduleTexts.{AreNamedDays, AreNamedWith, an_item_is, from_end_of, is_last_workday_text, is_number, items_of, last_weekday_of, last_workday_of, nearest_workday_of, nth_weekday_of, other_items, weekday_items_list, spelled_weekday, weekdays_list}
-use Rattle.chrono_cron.proofs.FieldTexts.{nothing_behind, number_between-nothing, onto-more}
+use Rattle.chrono_cron.proofs.FieldTexts.{nothing_behind, number_between-nothing, onto-false, onto-more, put}
 use Rattle.chrono_units.proofs.SetMembers.{or-or_false}
 
 -- without a `#` an item is no d#k
@@ -111,17 +111,10 @@ named_last text rest m n one so_far next = record {
 }
 
 -- what the items list that pass by a test: one item more, and the last
-abbrev put : Option Bool → Bool → Option Bool
-put others here = onto here others
-
-onto_none : (o : Option Bool) → o ≡ onto false o
-onto_none None = refl
-onto_none (Some b) = refl
-
 passed : (names : Names) (low high k : ℕ) (item : List ℕ) (items : List (List ℕ)) (t : Bool)
     → items_list names low high (cond (not t) (item ∷ items) items) k
     ≡ option_and_then (put (items_list names low high items k)) (if t then Some false else item_lists names low high item k)
-passed names low high k item items true = onto_none (items_list names low high items k)
+passed names low high k item items true = onto-false (items_list names low high items k)
 passed names low high k item items false = refl
 
 pub others_first : (named : List ℕ → Bool) (names : Names) (low high : ℕ) (text item behind : List ℕ) (k : ℕ) → pieces 44 text ≡ item ∷ pieces 44 behind

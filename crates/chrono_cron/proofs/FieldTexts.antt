@@ -55,7 +55,7 @@ number_between-nothing Months low high = refl
 number_between-nothing Weekdays low high = refl
 
 -- both ends of a range
-abbrev last_of : Names → ℕ → List ℕ → ℕ → Option (ℕ × ℕ)
+abbrev pub last_of : Names → ℕ → List ℕ → ℕ → Option (ℕ × ℕ)
 last_of names high text first = option_map (λ last. (first, last)) (number_between names first high text)
 
 pub range_star : (names : Names) (low high : ℕ) (text : List ℕ) → is_star text ≡ true → range_of names low high text ≡ Some (low, high)
@@ -132,7 +132,7 @@ unfolding item_lists
 item_stepped names low high text k span some is = ap (item_tested names low high text k) some ∙ ap (option_and_then (by_text (behind_byte 47 text) k)) is
 
 -- the items of a field, from the first on
-abbrev put : Option Bool → Bool → Option Bool
+abbrev pub put : Option Bool → Bool → Option Bool
 put others here = onto here others
 
 field_first : (names : Names) (low high : ℕ) (text item behind : List ℕ) (k : ℕ) → pieces 44 text ≡ item ∷ pieces 44 behind

@@ -3,7 +3,7 @@ use Rattle.std.proofs.Common.{◌≡◌, ℕ, zero, suc, ◌+◌, ◌-◌, ◌%�
 use Rattle.std.specs.Prelude.{map, codes, nat_le}
 use Rattle.std.specs.List.{list_all, list_any, onto_first, position_or_len, slice_split}
 use Rattle.std.specs.Option.{option_and_then, option_map}
-use Rattle.std.proofs.lemmas.Bool.{agree_below, agree_below_at, and_parts, cases_lt, eqb-true, false_from_ne_true, false≢true, le-leb, le-ltb, lt-leb, or_parts}
+use Rattle.std.proofs.lemmas.Bool.{agree_below, agree_below_at, and_parts, cases_lt, eqb-true, false_from_ne_true, false≢true, le-leb, le-ltb, lt-leb, not-true, or_parts}
 use Rattle.std.proofs.lemmas.List.Folds.{list_any-append}
 use Rattle.std.proofs.lemmas.List.Splits.{slice_split-cons_no, slice_split-cons_yes}
 use Rattle.chrono_text.specs.Numbers.{digits_of, natural_of}
@@ -41,19 +41,15 @@ is_comma x = x == 44
 abbrev pub is_item : List ℕ → Bool
 is_item text = is_some_text text && (not (list_any (λ x. x == 44) text) && not (list_any is_blank text))
 
-not_true : (b : Bool) → not b ≡ true → b ≡ false
-not_true true e = sym e
-not_true false e = refl
-
 lacks_comma : (item : List ℕ) → is_item item ≡ true → list_any is_comma item ≡ false
 lacks_comma item is =
     let parts = and_parts (is_some_text item) (not (list_any is_comma item) && not (list_any is_blank item)) is in
-    not_true (list_any is_comma item) (and_parts (not (list_any is_comma item)) (not (list_any is_blank item)) parts.1).0
+    not-true (list_any is_comma item) (and_parts (not (list_any is_comma item)) (not (list_any is_blank item)) parts.1).0
 
 pub lacks_blank : (item : List ℕ) → is_item item ≡ true → list_any is_blank item ≡ false
 lacks_blank item is =
     let parts = and_parts (is_some_text item) (not (list_any is_comma item) && not (list_any is_blank item)) is in
-    not_true (list_any is_blank item) (and_parts (not (list_any is_comma item)) (not (list_any is_blank item)) parts.1).1
+    not-true (list_any is_blank item) (and_parts (not (list_any is_comma item)) (not (list_any is_blank item)) parts.1).1
 
 -- the items of a field that is written are those that were joined
 pub items_back : (item : List ℕ) (items : List (List ℕ)) → list_all is_item (item ∷ items) ≡ true → slice_split (λ x. x == 44) (field_text (item ∷ items)) ≡ item ∷ items

@@ -1,6 +1,6 @@
 -- The items of the two fields of days, as they are written, and what they list and name.
 use Rattle.std.proofs.Common.{◌≡◌, ℕ, Bool, true, false, not, ◌||◌, if◌then◌else◌, List, [], ◌∷◌, ◌++◌, Option, Some, refl, ap, ◌∙◌, arith, append_assoc}
-use Rattle.std.specs.Prelude.{codes, is_some}
+use Rattle.std.specs.Prelude.{codes}
 use Rattle.std.specs.List.{filter, list_all, list_any}
 use Rattle.chrono_text.specs.Numbers.{digits_of, natural_of}
 use Rattle.chrono_sets.specs.Numbers.{Numbers as FiniteSet, has}
@@ -12,7 +12,7 @@ use Rattle.chrono_cron.specs.ScheduleTexts.{from_end_of, is_last_workday_text, i
 use Rattle.chrono_cron.specs.WritableSchedules.{LieBetween}
 use Rattle.chrono_cron.specs.WrittenTexts.{are_all, day_field_items, is_starred_by_day, name_text, names_from, number_items, range_text}
 use Rattle.chrono_cron.proofs.FieldsReadBack.{StarReads, are_read, is_item, pass_all, star_has}
-use Rattle.chrono_cron.proofs.DayFieldsReadBack.{StepReads, all_append, any_append, filter_append, names_any, names_read, names_tested, none_of, numbers_list, numbers_listed, numbers_pass, pass_from, stepped_has}
+use Rattle.chrono_cron.proofs.DayFieldsReadBack.{StepReads, all_append, any_append, filter_append, lacks, names_any, names_read, names_tested, none_of, numbers_list, numbers_listed, numbers_pass, pass_from, stepped_has}
 use Rattle.std.proofs.Math.Bool.{or-false}
 
 -- ---- the field of days
@@ -33,10 +33,7 @@ days_step k = refl
 abbrev is_number_of_days : List ℕ → Bool
 is_number_of_days item = not (names_by Numbers item)
 
--- and none has a number by a kind of name
-abbrev lacks : (List ℕ → Option ℕ) → List ℕ → Bool
-lacks number item = not (is_some (number item))
-
+-- and each lacks a number by a kind of name
 numbers-items : pass_all (λ r. is_item (range_text r)) 1 32 ≡ true
 numbers-items = refl
 

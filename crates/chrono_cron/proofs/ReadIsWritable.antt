@@ -20,7 +20,7 @@ use Rattle.chrono_cron.specs.ScheduleTexts.{AreListed, AreNamed, AreNamedDays, I
 use Rattle.chrono_cron.specs.WritableSchedules.{IsWritable, LieBetween, Member}
 use Rattle.chrono_cron.proofs.DayFieldsReadBack.{number_is}
 use Rattle.chrono_cron.proofs.FieldFaults.{some_items}
-use Rattle.chrono_cron.proofs.FieldTexts.{number_between-nothing, number_none, span_range}
+use Rattle.chrono_cron.proofs.FieldTexts.{last_of, number_between-nothing, number_none, span_range}
 use Rattle.chrono_cron.proofs.ReadFields.{field_told, both_first, first_listed, item_first, item_of_items, items_bounds, number_bounds, one_of, spans}
 
 -- ---- the numbers of names
@@ -261,15 +261,12 @@ before_slash text = let more : 1 + place 47 text ≡ suc (place 47 text) = omega
 before_sharp : (text : List ℕ) → before_byte 35 (42 ∷ text) ≡ 42 ∷ take (place 35 text) text
 before_sharp text = let more : 1 + place 35 text ≡ suc (place 35 text) = omega arith in ap (λ n. take n (42 ∷ text)) more
 
-abbrev ends : Names → ℕ → List ℕ → ℕ → Option (ℕ × ℕ)
-ends names high last first = option_map (λ last. (first, last)) (number_between names first high last)
-
 range_star : (names : Names) (low high : ℕ) (text : List ℕ) (span : ℕ × ℕ) → range_of names low high (42 ∷ text) ≡ Some span → span.0 ≡ low
 unfolding range_of
 range_star names low high [] span e = sym (ap (λ (s : ℕ × ℕ). s.0) (same_Some (low, high) span e))
 range_star names low high (y ∷ text) span e =
     let none = ap (number_between names low high) (before_dash (y ∷ text)) ∙ number_star names low high (take (place 45 (y ∷ text)) (y ∷ text)) in
-    absurd (none-some span (sym (ap (option_and_then (ends names high (behind_byte 45 (42 ∷ y ∷ text)))) none) ∙ e))
+    absurd (none-some span (sym (ap (option_and_then (last_of names high (behind_byte 45 (42 ∷ y ∷ text)))) none) ∙ e))
 
 item_star : (names : Names) (low high k : ℕ) (text : List ℕ) (b : Bool) → low ≤ high → item_lists names low high (42 ∷ text) k ≡ Some b → item_lists names low high (42 ∷ text) low ≡ Some true
 item_star names low high k text b le e =

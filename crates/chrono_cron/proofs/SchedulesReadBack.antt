@@ -3,7 +3,7 @@ use Rattle.std.proofs.Common.{◌≡◌, ℕ, ◌+◌, ◌==◌, Bool, true, fal
 use Rattle.std.specs.Prelude.{codes, map, nat_lt, slice_index}
 use Rattle.std.specs.List.{filter, list_all, list_any, slice_split}
 use Rattle.std.specs.Option.{option_and_then, option_map}
-use Rattle.std.proofs.lemmas.Bool.{and_parts, false≢true}
+use Rattle.std.proofs.lemmas.Bool.{and_parts, false≢true, not-true}
 use Rattle.chrono_sets.specs.Numbers.{Numbers as FiniteSet, has}
 use Rattle.chrono_cron.specs.declared.text.number_names.Names.TheVariants.{Numbers, Weekdays}
 use Rattle.chrono_cron.specs.declared.field_sets.FieldSets.{FieldSets}
@@ -72,15 +72,11 @@ begins_starred set count low starred false others s a is =
     sym (ap (λ items. begins_with_star (field_text (items ++ others))) (numbers_stepped starred set count low s a))
     ∙ begins_first (codes "*/" ++ number_text count) (map range_text (ranges_from set count low) ++ others) is
 
-not_true : (b : Bool) → not b ≡ true → b ≡ false
-not_true true e = sym e
-not_true false e = refl
-
 begins_unstarred : (items : List (List ℕ)) → (items ≡ [] → ⊥) → list_all is_item items ≡ true → list_all no_star items ≡ true → begins_with_star (field_text items) ≡ false
 begins_unstarred [] some are lack = absurd (some refl)
 begins_unstarred (item ∷ items) some are lack =
     begins_first item items (and_parts (is_item item) (list_all is_item items) are).0
-    ∙ not_true (slice_index item 0 == 42) (and_parts (no_star item) (list_all no_star items) lack).0
+    ∙ not-true (slice_index item 0 == 42) (and_parts (no_star item) (list_all no_star items) lack).0
 
 ranges_lack_star : (set : FiniteSet) (count low : ℕ) (starred : Bool) → starred ≡ false → pass_all (λ r. no_star (range_text r)) low (low + count) ≡ true → list_all no_star (number_items starred set count low) ≡ true
 ranges_lack_star set count low starred is pass =

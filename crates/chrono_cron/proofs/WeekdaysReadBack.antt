@@ -1,6 +1,6 @@
 -- The items of the field of weekdays, as they are written, and what they list and name.
 use Rattle.std.proofs.Common.{◌≡◌, ℕ, ◌<◌, ◌==◌, Bool, true, false, not, ◌&&◌, ◌||◌, List, ◌++◌, Option, Some, inl, inr, refl, sym, ap, ap₂, ◌∙◌, arith, append_assoc, ne_eqb}
-use Rattle.std.specs.Prelude.{is_some, nat_lt}
+use Rattle.std.specs.Prelude.{nat_lt}
 use Rattle.std.specs.List.{filter, list_all, list_any}
 use Rattle.std.specs.Option.{option_and_then, option_map}
 use Rattle.std.proofs.lemmas.Bool.{cases_lt, false≢true, le-leb, le-ltb, lt-ltb}
@@ -15,7 +15,7 @@ use Rattle.chrono_cron.specs.ScheduleTexts.{is_number, last_weekday_of, names_by
 use Rattle.chrono_cron.specs.WritableSchedules.{LieBetween}
 use Rattle.chrono_cron.specs.WrittenTexts.{are_all, is_starred_by_weekday, name_text, names_from, number_items, range_text, weekday_field_items}
 use Rattle.chrono_cron.proofs.FieldsReadBack.{StarReads, all_has, are_read, by_ones, is_item, lacks_past, pass_all}
-use Rattle.chrono_cron.proofs.DayFieldsReadBack.{StepReads, all_append, any_append, filter_append, names_any, names_read, names_tested, none_of, numbers_list, numbers_listed, numbers_pass, pass_from, stepped_has}
+use Rattle.chrono_cron.proofs.DayFieldsReadBack.{StepReads, all_append, any_append, filter_append, lacks, names_any, names_read, names_tested, none_of, numbers_list, numbers_listed, numbers_pass, pass_from, stepped_has}
 use Rattle.std.proofs.Math.Bool.{or-false}
 use Rattle.chrono_units.proofs.SetMembers.{or-known}
 
@@ -33,9 +33,6 @@ weekdays_step k = refl
 
 abbrev is_number_of_weekdays : List ℕ → Bool
 is_number_of_weekdays item = not (names_by Weekdays item)
-
-abbrev lacks : (List ℕ → Option ℕ) → List ℕ → Bool
-lacks number item = not (is_some (number item))
 
 numbers-items : pass_all (λ r. is_item (range_text r)) 0 7 ≡ true
 numbers-items = refl

@@ -1,5 +1,5 @@
 -- The text of an error: the field, the byte, and what is wrong there, in one line.
-use Rattle.std.specs.Prelude.{◌≡◌, ℕ, List, [], ◌++◌, Option, Some, None, codes, refl}
+use Rattle.std.specs.Prelude.{◌≡◌, ℕ, List, [], ◌∷◌, ◌++◌, map, Option, Some, None, codes, refl}
 use Rattle.std.specs.Fmt.{decimal}
 use Rattle.chrono_cron.specs.declared.text.schedule_error.ScheduleError.{ScheduleError}
 use Rattle.chrono_cron.specs.declared.text.schedule_error.ScheduleFault.{ScheduleFault}
@@ -40,3 +40,21 @@ schedule_error_text e = field_in_front e.field ++ (codes "byte " ++ (decimal e.b
 schedule_error_text-sixty : schedule_error_text (record { field = Some Minute; byte = 2; fault = OutOfRange }) ≡ codes "minute, byte " ++ (decimal 2 ++ codes ": a number that is out of range")
 unfolding schedule_error_text field_in_front schedule_fault_text
 schedule_error_text-sixty = refl
+
+-- each field, and each fault
+field_in_front-each : map field_in_front (Some Minute ∷ Some Hour ∷ Some Day ∷ Some Month ∷ Some Weekday ∷ None ∷ [])
+    ≡ codes "minute, " ∷ codes "hour, " ∷ codes "day of the month, " ∷ codes "month, " ∷ codes "weekday, " ∷ [] ∷ []
+unfolding field_in_front
+field_in_front-each = refl
+
+schedule_fault_text-fields : map schedule_fault_text (Empty ∷ TooFewFields ∷ TooManyFields ∷ UnknownNickname ∷ Interval ∷ TimeZone ∷ [])
+    ≡ codes "nothing stands there" ∷ codes "fewer than five fields" ∷ codes "more than five fields" ∷ codes "an unknown nickname"
+    ∷ codes "an interval, which is no schedule" ∷ codes "a time zone, which no schedule has" ∷ []
+unfolding schedule_fault_text
+schedule_fault_text-fields = refl
+
+schedule_fault_text-items : map schedule_fault_text (UnknownName ∷ LongName ∷ NotANumber ∷ OutOfRange ∷ RangeTurnedRound ∷ StepOfZero ∷ StepOfNumber ∷ [])
+    ≡ codes "an unknown name" ∷ codes "a name of more than three letters" ∷ codes "no number of one digit or two" ∷ codes "a number that is out of range"
+    ∷ codes "a range whose end is below its beginning" ∷ codes "a step of 0" ∷ codes "a step behind a number alone" ∷ []
+unfolding schedule_fault_text
+schedule_fault_text-items = refl

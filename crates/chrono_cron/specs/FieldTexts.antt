@@ -111,6 +111,11 @@ field_lists-six : field_lists Numbers 0 59 (codes "5,07") 6 ≡ Some false
 unfolding field_lists item_lists step_of item_span range_of number_between spelled_number digits_of number_of_name natural_of
 field_lists-six = refl
 
+-- a range may end where it begins
+field_lists-one_number : field_lists Numbers 0 59 (codes "5-5") 5 ≡ Some true
+unfolding field_lists item_lists step_of item_span range_of number_between spelled_number digits_of number_of_name natural_of
+field_lists-one_number = refl
+
 -- steps past the range list its first number alone
 field_lists-wide_steps : field_lists Numbers 0 59 (codes "*/120") 0 ≡ Some true
 unfolding field_lists item_lists step_of range_of number_between spelled_number digits_of number_of_name natural_of

@@ -4,6 +4,7 @@ use Rattle.chrono_datetime.specs.Moment.{Moment, moment}
 use Rattle.chrono_datetime.specs.Time.{time_at}
 use Rattle.chrono_sets.specs.Numbers.{numbers}
 use Rattle.chrono_cron.specs.declared.field_sets.FieldSets.{FieldSets}
+use Rattle.chrono_cron.specs.declared.search.dues.Dues.{Dues}
 use Rattle.chrono_cron.specs.Due.{no_month_days}
 use Rattle.chrono_cron.specs.KnownMonthDays.{days_named}
 
@@ -54,3 +55,7 @@ each_minute = fields (in_a_row 60 0) (in_a_row 24 0) every_day every_month every
 -- the same but for the minutes, of which it has none
 abbrev pub no_minute : FieldSets
 no_minute = fields [] (in_a_row 24 0) every_day every_month every_weekday false
+
+-- an iterator that goes on after a moment
+abbrev pub dues_of : FieldSets → Moment → Dues
+dues_of sets m = record { schedule = record { sets = sets }; last = m }

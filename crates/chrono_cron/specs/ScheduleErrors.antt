@@ -1,5 +1,5 @@
 -- What is told of a text that is no schedule's: the field, the place, and what is wrong there.
-use Rattle.std.specs.Prelude.{◌≡◌, ◌↔◌, ◌≤◌, ◌+◌, ◌==◌, ℕ, nat_le, List, [], ◌∷◌, length, take, drop, Bool, false, ◌&&◌, ◌||◌, if◌then◌else◌, Option, Some, None, Result, Ok, IfOk, IfErr, IsErr, codes, is_some, refl}
+use Rattle.std.specs.Prelude.{◌≡◌, ◌↔◌, ◌≤◌, ◌+◌, ◌==◌, ℕ, nat_le, List, [], ◌∷◌, length, map, take, drop, Bool, false, ◌&&◌, ◌||◌, if◌then◌else◌, Option, Some, None, Result, Ok, IfOk, IfErr, IsErr, codes, is_some, refl}
 use Rattle.std.specs.Char.{is_ascii_alphabetic, is_ascii_digit}
 use Rattle.std.specs.List.{list_all}
 use Rattle.std.specs.Option.{option_and_then}
@@ -347,3 +347,43 @@ schedule_error-no_weekday = refl
 schedule_error-sign : schedule_error (codes "? * * * *") ≡ schedule_error_at (Some Minute) (0, NotANumber)
 unfolding schedule_error wrong_field text_words placed_words placed_items field_fault fault_in is_item field_item_fault span_fault field_number_fault day_name_fault weekday_name_fault days_list names_by names_by_place names_by_weekday from_end_of is_last_workday_text nearest_workday_of last_weekday_of nth_weekday_of weekdays_list field_lists item_lists step_of item_span range_of number_between spelled_number digits_of number_of_name month_of_letters weekday_of_letters natural_of
 schedule_error-sign = refl
+
+-- the first of the fields that cannot be read
+wrong_field-first : map wrong_field (codes "60 24 32 13 8" ∷ codes "0 24 32 13 8" ∷ codes "0 0 32 13 8" ∷ codes "0 0 1 13 8" ∷ codes "0 0 1 1 8" ∷ codes "0 0 1 1 0" ∷ [])
+    ≡ Some Minute ∷ Some Hour ∷ Some Day ∷ Some Month ∷ Some Weekday ∷ None ∷ []
+unfolding wrong_field text_words days_list names_by names_by_place names_by_weekday from_end_of is_last_workday_text nearest_workday_of last_weekday_of nth_weekday_of weekdays_list field_lists item_lists step_of item_span range_of number_between spelled_number digits_of number_of_name month_of_letters weekday_of_letters natural_of
+wrong_field-first = refl
+
+-- 0 is a minute, an hour and a weekday
+schedule_error-zeros : map schedule_error (codes "0,60 * * * *" ∷ codes "* 0,24 * * *" ∷ codes "* * * * 0,8" ∷ [])
+    ≡ schedule_error_at (Some Minute) (2, OutOfRange) ∷ schedule_error_at (Some Hour) (4, OutOfRange) ∷ schedule_error_at (Some Weekday) (10, OutOfRange) ∷ []
+unfolding schedule_error wrong_field text_words placed_words placed_items field_fault fault_in is_item field_item_fault span_fault field_number_fault day_name_fault weekday_name_fault days_list names_by names_by_place names_by_weekday from_end_of is_last_workday_text nearest_workday_of last_weekday_of nth_weekday_of weekdays_list field_lists item_lists step_of item_span range_of number_between spelled_number digits_of number_of_name month_of_letters weekday_of_letters natural_of
+schedule_error-zeros = refl
+
+-- no field reads the names of another, nor days that another names
+schedule_error-names_of_others : map schedule_error (codes "jan,60 * * * *" ∷ codes "* mon,24 * * *" ∷ codes "* * jan,32 * *" ∷ codes "* * * mon,13 *" ∷ codes "* * * * jan,8" ∷ [])
+    ≡ schedule_error_at (Some Minute) (0, UnknownName) ∷ schedule_error_at (Some Hour) (2, UnknownName) ∷ schedule_error_at (Some Day) (4, UnknownName) ∷ schedule_error_at (Some Month) (6, UnknownName) ∷ schedule_error_at (Some Weekday) (8, UnknownName) ∷ []
+unfolding schedule_error wrong_field text_words placed_words placed_items field_fault fault_in is_item field_item_fault span_fault field_number_fault day_name_fault weekday_name_fault days_list names_by names_by_place names_by_weekday from_end_of is_last_workday_text nearest_workday_of last_weekday_of nth_weekday_of weekdays_list field_lists item_lists step_of item_span range_of number_between spelled_number digits_of number_of_name month_of_letters weekday_of_letters natural_of
+schedule_error-names_of_others = refl
+
+schedule_error-days_of_others : map schedule_error (codes "L,60 * * * *" ∷ codes "* * 5L,32 * *" ∷ codes "* * * L,13 *" ∷ codes "* * * * LW,8" ∷ [])
+    ≡ schedule_error_at (Some Minute) (0, UnknownName) ∷ schedule_error_at (Some Day) (4, NotANumber) ∷ schedule_error_at (Some Month) (6, UnknownName) ∷ schedule_error_at (Some Weekday) (8, UnknownName) ∷ []
+unfolding schedule_error wrong_field text_words placed_words placed_items field_fault fault_in is_item field_item_fault span_fault field_number_fault day_name_fault weekday_name_fault days_list names_by names_by_place names_by_weekday from_end_of is_last_workday_text nearest_workday_of last_weekday_of nth_weekday_of weekdays_list field_lists item_lists step_of item_span range_of number_between spelled_number digits_of number_of_name month_of_letters weekday_of_letters natural_of
+schedule_error-days_of_others = refl
+
+-- what is wrong on either side of `-`, `/` and `#`
+schedule_error-ranges : map schedule_error (codes "5-60 * * * *" ∷ codes "5- * * * *" ∷ codes "60-61 * * * *" ∷ codes "1-2-3 * * * *" ∷ [])
+    ≡ schedule_error_at (Some Minute) (2, OutOfRange) ∷ schedule_error_at (Some Minute) (2, Empty) ∷ schedule_error_at (Some Minute) (0, OutOfRange) ∷ schedule_error_at (Some Minute) (2, NotANumber) ∷ []
+unfolding schedule_error wrong_field text_words placed_words placed_items field_fault fault_in is_item field_item_fault span_fault field_number_fault day_name_fault weekday_name_fault days_list names_by names_by_place names_by_weekday from_end_of is_last_workday_text nearest_workday_of last_weekday_of nth_weekday_of weekdays_list field_lists item_lists step_of item_span range_of number_between spelled_number digits_of number_of_name month_of_letters weekday_of_letters natural_of
+schedule_error-ranges = refl
+
+schedule_error-steps : map schedule_error (codes "*/x * * * *" ∷ codes "*/ * * * *" ∷ codes "60/5 * * * *" ∷ codes "* * * * 8#2" ∷ [])
+    ≡ schedule_error_at (Some Minute) (2, UnknownName) ∷ schedule_error_at (Some Minute) (2, Empty) ∷ schedule_error_at (Some Minute) (0, OutOfRange) ∷ schedule_error_at (Some Weekday) (8, OutOfRange) ∷ []
+unfolding schedule_error wrong_field text_words placed_words placed_items field_fault fault_in is_item field_item_fault span_fault field_number_fault day_name_fault weekday_name_fault days_list names_by names_by_place names_by_weekday from_end_of is_last_workday_text nearest_workday_of last_weekday_of nth_weekday_of weekdays_list field_lists item_lists step_of item_span range_of number_between spelled_number digits_of number_of_name month_of_letters weekday_of_letters natural_of
+schedule_error-steps = refl
+
+-- one word and none, and a nickname before a word
+schedule_error-words : map schedule_error (codes "5" ∷ codes "  " ∷ codes "@daily 5" ∷ [])
+    ≡ schedule_error_at None (1, TooFewFields) ∷ schedule_error_at None (2, Empty) ∷ schedule_error_at None (8, TooFewFields) ∷ []
+unfolding schedule_error wrong_field text_words placed_words front_or front_fault
+schedule_error-words = refl

@@ -304,3 +304,34 @@ weekdays_list-names_alone = refl
 weekdays_list-eight : weekdays_list (codes "8") 1 ≡ None
 unfolding weekdays_list names_by names_by_weekday last_weekday_of nth_weekday_of item_lists step_of item_span range_of number_between spelled_number digits_of number_of_name month_of_letters weekday_of_letters natural_of
 weekdays_list-eight = refl
+
+-- a line feed is no blank, and a nickname stands for fields where it is the one word
+text_words-line_feed : text_words (codes "5\n6") ≡ codes "5\n6" ∷ []
+unfolding text_words
+text_words-line_feed = refl
+
+fields_of-nickname_in_front : fields_of (codes "@daily *") ≡ codes "@daily" ∷ codes "*" ∷ []
+unfolding fields_of text_words
+fields_of-nickname_in_front = refl
+
+-- no month names a day, and an item is read as the number that it names alone
+names_by-month : names_by Months (codes "L") ≡ false
+unfolding names_by
+names_by-month = refl
+
+an_item_is-three : an_item_is from_end_of (codes "15,L-3") 3 ≡ true
+unfolding an_item_is from_end_of number_between spelled_number digits_of number_of_name natural_of
+an_item_is-three = refl
+
+an_item_is-fifteen : an_item_is from_end_of (codes "15,L-3") 15 ≡ false
+unfolding an_item_is from_end_of number_between spelled_number digits_of number_of_name natural_of
+an_item_is-fifteen = refl
+
+-- a field begins with `*` by its first byte, and not by an item behind it
+begins_with_star-steps : begins_with_star (codes "*/2") ≡ true
+unfolding begins_with_star
+begins_with_star-steps = refl
+
+begins_with_star-behind : begins_with_star (codes "1,*") ≡ false
+unfolding begins_with_star
+begins_with_star-behind = refl

@@ -2,9 +2,9 @@
 ghost use Rattle.std.specs.Prelude.{◌≡◌, ◌<◌, ◌≤◌, ◌-◌, ℕ, ◌+◌, ◌^◌, true, false, pos, neg_ℤ, [], ◌∷◌, codes};
 ghost use Rattle.chrono_sets.specs.Numbers.{has};
 ghost use Rattle.chrono_cron.specs.Due.{IsNeverDue, MeanTheSame, NotDueAfter, NotDueBefore, NotDueBetween, is_due};
-ghost use Rattle.chrono_cron.specs.DueMoments.{dues_after};
+ghost use Rattle.chrono_cron.specs.DueMoments.{dues_after, dues_left};
 ghost use Rattle.chrono_cron.specs.KnownMonthDays.{is_named_day, days_named};
-ghost use Rattle.chrono_cron.specs.KnownSchedules.{every_day, every_month, every_weekday, each_minute, fields, fields_with, in_a_row, known_moment, last_days_on, no_minute, odd_days};
+ghost use Rattle.chrono_cron.specs.KnownSchedules.{dues_of, every_day, every_month, every_weekday, each_minute, fields, fields_with, in_a_row, known_moment, last_days_on, no_minute, odd_days};
 ghost use Rattle.chrono_cron.specs.FieldTexts.{field_lists};
 ghost use Rattle.chrono_cron.specs.ScheduleTexts.{AreListed, IsScheduleText};
 ghost use Rattle.chrono_cron.specs.WritableSchedules.{IsWritable, LieBetween, Member};
@@ -25,6 +25,7 @@ use chrono_sets::NumberSet;
 /// - Neither 30 nor 31 March, a weekend, is `LW`. Nor is Monday, 29 April, nor Friday, 27 September.
 /// - Saturday, 15 June is not `15W`, and Monday the 17th is not. Friday the 14th is not `16W`.
 /// - June 2023 has no `31W`, and no month has `0W`. 24 May is not `5L`, and 14 June is `5#2`.
+/// - Monday, 30 September is `LW`, and Saturday, 31 August is not. Friday, 30 August is `31W`, and Monday, 2 September is `1W`.
 pub fn known_month_days()
     ensures last { is_named_day (days_named (0 ∷ []) [] false [] []) (pos 739_037) ≡ true }
     ensures before_last { is_named_day (days_named (0 ∷ []) [] false [] []) (pos 739_036) ≡ false }
@@ -55,6 +56,10 @@ pub fn known_month_days()
     ensures no_day_0 { is_named_day (days_named [] (0 ∷ []) false [] []) (pos 738_977) ≡ false }
     ensures friday_a_week_before { is_named_day (days_named [] [] false (5 ∷ []) []) (pos 739_030) ≡ false }
     ensures second_friday { is_named_day (days_named [] [] false [] (12 ∷ [])) (pos 739_051) ≡ true }
+    ensures monday_is_workday { is_named_day (days_named [] [] true [] []) (pos 739_159) ≡ true }
+    ensures last_saturday { is_named_day (days_named [] [] true [] []) (pos 739_129) ≡ false }
+    ensures friday_for_last_saturday { is_named_day (days_named [] (31 ∷ []) false [] []) (pos 739_128) ≡ true }
+    ensures monday_for_first_sunday { is_named_day (days_named [] (1 ∷ []) false [] []) (pos 739_131) ≡ true }
 {}
 
 /// Moments of 2024 at which known schedules are due or not.
@@ -65,6 +70,7 @@ pub fn known_month_days()
 /// It is not due on Wednesday between them. `0 0 */2 * 1` goes by both fields.
 /// So it is due on Monday, 11 March, but not on Monday the 4th and not on Sunday the 3rd.
 /// On that Sunday `0 0 * * 0` is due. If `L` and Friday have both to match, 31 May is due, and 29 February is not.
+/// By `5L` alone 31 May is due, and by `L` alone 29 February.
 pub fn known_schedules()
     ensures leap_day { is_due (fields (0 ∷ []) (0 ∷ []) (29 ∷ []) (2 ∷ []) every_weekday false) (known_moment (pos 738_945) 0 0 0 0) ≡ true }
     ensures day_before { is_due (fields (0 ∷ []) (0 ∷ []) (29 ∷ []) (2 ∷ []) every_weekday false) (known_moment (pos 738_944) 0 0 0 0) ≡ false }
@@ -83,6 +89,9 @@ pub fn known_schedules()
     ensures sunday { is_due (fields (0 ∷ []) (0 ∷ []) every_day every_month (0 ∷ []) false) (known_moment (pos 738_948) 0 0 0 0) ≡ true }
     ensures last_friday { is_due (last_days_on (0 ∷ []) (5 ∷ [])) (known_moment (pos 739_037) 0 0 0 0) ≡ true }
     ensures last_thursday { is_due (last_days_on (0 ∷ []) (5 ∷ [])) (known_moment (pos 738_945) 0 0 0 0) ≡ false }
+    ensures named_friday { is_due (fields_with [] [] false (5 ∷ []) []) (known_moment (pos 739_037) 0 0 0 0) ≡ true }
+    ensures not_named_thursday { is_due (fields_with [] [] false (5 ∷ []) []) (known_moment (pos 738_945) 0 0 0 0) ≡ false }
+    ensures named_last_day { is_due (fields_with (0 ∷ []) [] false [] []) (known_moment (pos 738_945) 0 0 0 0) ≡ true }
 {}
 
 /// The last two moments of `* * * * *` in the calendar.
@@ -92,17 +101,23 @@ pub fn known_last_dues()
     ensures two { dues_after each_minute (known_moment (pos 95_745_399) 23 57 30 0) ≡
         (known_moment (pos 95_745_399) 23 58 0 0 ∷ known_moment (pos 95_745_399) 23 59 0 0 ∷ []) }
     ensures none { dues_after each_minute (known_moment (pos 95_745_399) 23 59 0 0) ≡ [] }
+    ensures left { dues_left (dues_of each_minute (known_moment (pos 95_745_399) 23 57 30 0)) ≡
+        (known_moment (pos 95_745_399) 23 58 0 0 ∷ known_moment (pos 95_745_399) 23 59 0 0 ∷ []) }
 {}
 
 /// Known gaps: `* * * * *` has none of two days, none from the first date on and none up to the last, and is sometimes due.
 ///
-/// A schedule with no minute is due at other moments.
+/// A schedule with no minute is due at other moments. Gaps may end within a day: a minute after midnight `* * * * *` is due.
+/// It is due after 23:58:59 of the last date. It is due at the beginning of the first date.
 pub fn known_gaps()
     ensures between { NotDueBetween each_minute (known_moment (pos 1) 0 0 0 0) (known_moment (pos 3) 0 0 0 0) → ⊥ }
     ensures after { NotDueAfter each_minute (known_moment (neg_ℤ (pos 95_746_129)) 0 0 0 0) → ⊥ }
     ensures before { NotDueBefore each_minute (known_moment (pos 95_745_399) 23 59 59 1_999_999_999) → ⊥ }
     ensures never { IsNeverDue each_minute → ⊥ }
     ensures others { MeanTheSame each_minute no_minute → ⊥ }
+    ensures two_minutes { NotDueBetween each_minute (known_moment (pos 2) 0 0 0 0) (known_moment (pos 2) 0 1 0 1) → ⊥ }
+    ensures last_minute { NotDueAfter each_minute (known_moment (pos 95_745_399) 23 58 59 0) → ⊥ }
+    ensures first_minute { NotDueBefore each_minute (known_moment (neg_ℤ (pos 95_746_129)) 0 0 0 1) → ⊥ }
 {}
 
 /// Known texts of schedules.

@@ -19,6 +19,13 @@ returns-clause-two c =
     (due_at (known_moment (pos 95_745_399) 23 58 0 0) refl refl)
     (due_at (known_moment (pos 95_745_399) 23 59 0 0) refl refl)
 
+pub returns-clause-left : goal.returns-clause-left
+unfolding dues_after minutes_from is_minute has
+returns-clause-left c =
+    both_pass (is_due each_minute) (known_moment (pos 95_745_399) 23 58 0 0) (known_moment (pos 95_745_399) 23 59 0 0)
+    (due_at (known_moment (pos 95_745_399) 23 58 0 0) refl refl)
+    (due_at (known_moment (pos 95_745_399) 23 59 0 0) refl refl)
+
 pub returns-clause-none : goal.returns-clause-none
 unfolding dues_after minutes_from
 returns-clause-none c = refl

@@ -136,3 +136,19 @@ returns-clause-friday_a_week_before c = by_date (days_named [] [] false (5 ∷ [
 pub returns-clause-second_friday : goal.returns-clause-second_friday
 unfolding date_of_ymd days_before_year days_of_years days_of_months_in has is_named_by_place is_named_by_weekday is_last_workday is_nearest_workday is_friday_for is_monday_for
 returns-clause-second_friday c = by_date (days_named [] [] false [] (12 ∷ [])) (pos 739_051) (pos 2024) 6 14 refl ∙ refl
+
+pub returns-clause-monday_is_workday : goal.returns-clause-monday_is_workday
+unfolding date_of_ymd days_before_year days_of_years days_of_months_in has is_named_by_place is_named_by_weekday is_last_workday is_nearest_workday is_friday_for is_monday_for
+returns-clause-monday_is_workday c = by_date (days_named [] [] true [] []) (pos 739_159) (pos 2024) 9 30 refl ∙ refl
+
+pub returns-clause-last_saturday : goal.returns-clause-last_saturday
+unfolding date_of_ymd days_before_year days_of_years days_of_months_in has is_named_by_place is_named_by_weekday is_last_workday is_nearest_workday is_friday_for is_monday_for
+returns-clause-last_saturday c = by_date (days_named [] [] true [] []) (pos 739_129) (pos 2024) 8 31 refl ∙ refl
+
+pub returns-clause-friday_for_last_saturday : goal.returns-clause-friday_for_last_saturday
+unfolding date_of_ymd days_before_year days_of_years days_of_months_in has is_named_by_place is_named_by_weekday is_last_workday is_nearest_workday is_friday_for is_monday_for
+returns-clause-friday_for_last_saturday c = by_date (days_named [] (31 ∷ []) false [] []) (pos 739_128) (pos 2024) 8 30 refl ∙ refl
+
+pub returns-clause-monday_for_first_sunday : goal.returns-clause-monday_for_first_sunday
+unfolding date_of_ymd days_before_year days_of_years days_of_months_in has is_named_by_place is_named_by_weekday is_last_workday is_nearest_workday is_friday_for is_monday_for
+returns-clause-monday_for_first_sunday c = by_date (days_named [] (1 ∷ []) false [] []) (pos 739_131) (pos 2024) 9 2 refl ∙ refl

@@ -9,7 +9,7 @@ use Rattle.chrono_datetime.proofs.NamedDates.{date_of_ymd-name}
 use Rattle.chrono_sets.specs.Numbers.{has}
 use Rattle.chrono_cron.specs.declared.field_sets.FieldSets.{FieldSets}
 use Rattle.chrono_cron.specs.Due.{begins_minute, either_or_both, is_day, is_due, is_friday_for, is_last_workday, is_listed_day, is_minute, is_monday_for, is_named_by_place, is_named_by_weekday, is_nearest_workday}
-use Rattle.chrono_cron.specs.KnownSchedules.{every_day, every_month, every_weekday, fields, known_moment, last_days_on, odd_days}
+use Rattle.chrono_cron.specs.KnownSchedules.{every_day, every_month, every_weekday, fields, fields_with, known_moment, last_days_on, odd_days}
 use Rattle.chrono_cron.proofs.law.known_schedules.Goals as goal
 
 -- whether a day is one of a schedule's, by its place, how many days follow, its month and its weekday
@@ -98,3 +98,15 @@ returns-clause-last_friday c = due_by_date (last_days_on (0 ∷ []) (5 ∷ [])) 
 pub returns-clause-last_thursday : goal.returns-clause-last_thursday
 unfolding date_of_ymd days_before_year days_of_years days_of_months_in has is_minute is_named_by_place is_named_by_weekday is_last_workday is_nearest_workday is_friday_for is_monday_for
 returns-clause-last_thursday c = due_by_date (last_days_on (0 ∷ []) (5 ∷ [])) (known_moment (pos 738_945) 0 0 0 0) (pos 2024) 2 29 refl ∙ refl
+
+pub returns-clause-named_friday : goal.returns-clause-named_friday
+unfolding date_of_ymd days_before_year days_of_years days_of_months_in has is_minute is_named_by_place is_named_by_weekday is_last_workday is_nearest_workday is_friday_for is_monday_for
+returns-clause-named_friday c = due_by_date (fields_with [] [] false (5 ∷ []) []) (known_moment (pos 739_037) 0 0 0 0) (pos 2024) 5 31 refl ∙ refl
+
+pub returns-clause-not_named_thursday : goal.returns-clause-not_named_thursday
+unfolding date_of_ymd days_before_year days_of_years days_of_months_in has is_minute is_named_by_place is_named_by_weekday is_last_workday is_nearest_workday is_friday_for is_monday_for
+returns-clause-not_named_thursday c = due_by_date (fields_with [] [] false (5 ∷ []) []) (known_moment (pos 738_945) 0 0 0 0) (pos 2024) 2 29 refl ∙ refl
+
+pub returns-clause-named_last_day : goal.returns-clause-named_last_day
+unfolding date_of_ymd days_before_year days_of_years days_of_months_in has is_minute is_named_by_place is_named_by_weekday is_last_workday is_nearest_workday is_friday_for is_monday_for
+returns-clause-named_last_day c = due_by_date (fields_with (0 ∷ []) [] false [] []) (known_moment (pos 738_945) 0 0 0 0) (pos 2024) 2 29 refl ∙ refl
