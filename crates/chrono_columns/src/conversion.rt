@@ -1,7 +1,7 @@
 //! From the day number of a date to its year, month and day (ISO 8601), by closed formulas in lanes of 32 bits.
 //!
 //! Days are counted here from a cycle of 400 years so early that no number is negative.
-//! No number has more than 32 bits, but for one product with 2^39 / 1461.
+//! No number has more than 32 bits, but for the products with 2^39 / 1461 and with 2^32 / 7.
 //! There is no branch before a value is computed, so several dates are converted side by side.
 ghost use Rattle.std.specs.Prelude.{◌≡◌, ◌+◌, ◌*◌, ◌/◌, ◌%◌, ◌<◌, pos, neg_ℤ, ◌+ℤ◌, ◌≤ℤ◌};
 ghost use Rattle.chrono_units.specs.Weekday.{number_from_monday};
@@ -18,6 +18,9 @@ const QUARTERS_OF_YEAR: u32 = 1_461;
 
 // 2^39 / 1461, rounded up.
 const PART_OF_QUARTER: u64 = 376_287_347;
+
+// 2^32 / 7, rounded up.
+const PART_OF_WEEK: u64 = 613_566_757;
 
 // The days from 1 March to 31 December, by which a year from March is ahead.
 pub(crate) const DAYS_FROM_MARCH: u32 = 306;
@@ -77,6 +80,15 @@ fn years_in(quarters: u32) -> u32
     ensures { result ≡ quarters / 1461 }
 {
     ((PART_OF_QUARTER * quarters as u64) >> 39) as u32
+}
+
+// The whole weeks in so many days.
+#[inline]
+fn weeks_in(days: u32) -> u32
+    requires { days < 200_000_000 }
+    ensures { result ≡ days / 7 }
+{
+    ((PART_OF_WEEK * days as u64) >> 32) as u32
 }
 
 // The whole years in the days before a day, and its place in the year that follows, from 0.
@@ -141,7 +153,8 @@ pub(crate) fn weekday(date: i32) -> u32
     ensures day { result ≡ number_from_monday (weekday_of date) }
     ensures few { result < 256 }
 {
-    days_before(date) % 7 + 1
+    let days = days_before(date);
+    days - 7 * weeks_in(days) + 1
 }
 
 /// Returns the ISO year of a date and its week. They are those of the Thursday of the date's week.
@@ -152,6 +165,7 @@ pub(crate) fn iso_year_and_week(date: i32) -> (i32, u32)
     ensures week { result.1 ≡ iso_week_of date }
     ensures few { result.1 < 256 }
 {
-    let (years, place) = years_and_place(days_before(date) / 7 * 7 + 3);
-    (year_after(years), place / 7 + 1)
+    let weeks = weeks_in(days_before(date));
+    let (years, place) = years_and_place(7 * weeks + 3);
+    (year_after(years), weeks_in(place) + 1)
 }

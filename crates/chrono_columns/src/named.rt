@@ -51,12 +51,12 @@ fn number_of(year: i32, month: u32, day: u32) -> i32
     number_at(year, month, (979 * from_march - 2_919) / 32 + day)
 }
 
-// Whether a month of so many days has the day, by one comparison: below 0 lies the greatest number.
+// Whether a month of so many days has the day, by one comparison in a lane of 32 bits: below 0 lies the greatest number.
 #[inline]
 fn has_day(length: u8, day: u8) -> bool
     ensures { result ≡ (nat_le 1 day && nat_le day length) }
 {
-    day.wrapping_sub(1) < length
+    u32::from(day).wrapping_sub(1) < u32::from(length)
 }
 
 /// Returns the date of a year, a month and a day, or [`NONE`].
