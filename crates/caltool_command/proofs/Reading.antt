@@ -1,9 +1,10 @@
 -- Numbers at the front of the words.
-use Rattle.std.proofs.Common.{◌≡◌, ◌==◌, ◌<◌, ◌++◌, ℕ, true, List, [], ◌∷◌, length, get_or, take, drop, refl, ap, sym, ◌∙◌, arith, ℤ, Option, Some, None, append_assoc, append-nil}
+use Rattle.std.proofs.Common.{◌≡◌, ◌==◌, ◌<◌, ◌+◌, ◌-◌, ◌*◌, ◌++◌, ℕ, true, inl, pos, List, [], ◌∷◌, length, get_or, take, drop, refl, ap, sym, ◌∙◌, arith, ℤ, Option, Some, None, append_assoc, append-nil}
+use Rattle.std.specs.Int.{IsInRange}
 use Rattle.std.specs.Option.{option_map, option_and_then}
 use Rattle.std.proofs.lemmas.Bool.{eq-eqb}
 use Rattle.chrono_text.specs.Numbers.{StandsBefore, i64_of}
-use Rattle.chrono_text.proofs.NumberLemmas.{i64_of-read}
+use Rattle.chrono_text.proofs.NumberLemmas.{i64_of-read, i64_of-written}
 use Rattle.caltool_command.specs.Words.{words, IsWord}
 use Rattle.caltool_command.specs.Grammar.{numbers_of}
 use Rattle.caltool_command.specs.Private.{EndsWord, numbers_behind}
@@ -23,6 +24,17 @@ number_first text len n stands is = by_first text len (Some n) stands (word_of_n
 
 pub no_number_first : (text : List ℕ) → ((len : ℕ) → StandsBefore 32 text len → i64_of (take len text) ≡ None) → numbers_of (words text) ≡ None
 no_number_first text none = let word = first_word text in by_first text word.len None word.stands word.plain (none word.len word.stands)
+
+-- one digit in front
+digit_first : (text : List ℕ) (n : ℕ) → 0 < length text → IsInRange 48 57 (get_or text 0 0) → n ≡ get_or text 0 0 - 48 → i64_of (take 1 text) ≡ Some (pos n)
+digit_first [] n some range is = absurd (omega arith)
+digit_first (x ∷ xs) n some range is =
+    let value : n ≡ (x - 48) * 1 + 0 = omega (arith, is) in
+    i64_of-written (x ∷ []) (pos n) (inl (record { some = omega arith; digits = (range, tt) }, ap pos value)) (omega (arith, is, range.1))
+
+pub digit_read : (text : List ℕ) (n : ℕ) → StandsBefore 32 text 1 → IsInRange 48 57 (get_or text 0 0) → n ≡ get_or text 0 0 - 48
+    → numbers_of (words text) ≡ option_map (λ numbers. pos n ∷ numbers) (numbers_behind (drop 1 text))
+digit_read text n stands range is = number_first text 1 (pos n) stands (digit_first text n (omega (arith, stands.within)) range is)
 
 -- numbers read before others
 abbrev pub before : List ℤ → Option (List ℤ) → Option (List ℤ)

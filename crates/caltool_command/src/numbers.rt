@@ -1,10 +1,10 @@
 //! The numbers of a line.
-ghost use Rattle.std.specs.Prelude.{◌≡◌, ◌≤◌, ℤ, List, [], length, take, IfSome};
+ghost use Rattle.std.specs.Prelude.{◌≡◌, ◌≤◌, ◌+◌, ◌*◌, ◌++◌, ℤ, List, [], length, take, IfSome};
 ghost use Rattle.std.specs.Option.{option_map};
 ghost use Rattle.caltool_command.specs.Private.{EndsWord, numbers_behind};
 
 use crate::ways::Ways;
-use crate::words::next_number;
+use crate::words::{next_digit, next_number};
 use chrono_text::Line;
 use std::marker::Model;
 
@@ -64,8 +64,7 @@ fn read_items(items: &mut [i64; ROOM], text: Line<'_>, ways: Ways) -> Option<usi
     ensures read { numbers_behind text.entry ≡ option_map (λ len. take len items.new) result }
     ensures within { IfSome result (λ len. len ≤ 60) }
 {
-    let mut len = 0;
-    let mut rest = text;
+    let (mut len, mut rest) = read_digits(items, text, ways.are_all_short());
     let mut ways = ways;
     while !rest.is_empty() {
         let (number, after) = next_number(&rest.skip(1), ways.next())?;
@@ -74,4 +73,28 @@ fn read_items(items: &mut [i64; ROOM], text: Line<'_>, ways: Ways) -> Option<usi
         rest = after;
     }
     Some(len)
+}
+
+// Reads the numbers of one digit that come first behind the first space of a text, or none of them if they are not wanted.
+// Returns how many they are, and the text behind them.
+#[inline(always)]
+fn read_digits<'a>(items: &mut [i64; ROOM], text: Line<'a>, wanted: bool) -> (usize, Line<'a>)
+    requires space { EndsWord text }
+    requires short { length text ≤ 120 }
+    ensures read { numbers_behind text.entry
+        ≡ option_map (λ others. take result.0 items.new ++ others) (numbers_behind result.1) }
+    ensures space { EndsWord result.1 }
+    ensures room { 2 * result.0 + length result.1 ≤ 120 }
+{
+    let mut len = 0;
+    let mut rest = text;
+    while wanted && !rest.is_empty() {
+        let Some((number, behind)) = next_digit(&rest.skip(1)) else {
+            return (len, rest);
+        };
+        items[len] = number;
+        len += 1;
+        rest = behind;
+    }
+    (len, rest)
 }

@@ -24,6 +24,12 @@ impl Ways {
         Ways { digits }
     }
 
+    /// Returns whether each number is best read as a short one.
+    #[inline(always)]
+    pub(crate) fn are_all_short(&self) -> bool {
+        self.digits == u64::MAX
+    }
+
     /// Returns the way of the next number, and moves on to the number after it.
     #[inline(always)]
     pub(crate) fn next(&mut self) -> Way {

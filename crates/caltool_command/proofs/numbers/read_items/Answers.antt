@@ -1,10 +1,10 @@
-use Rattle.std.proofs.Common.{◌≡◌, ◌+◌, ◌<◌, ◌∷◌, ◌++◌, ℤ, [], length, take, drop, slice_set, sym, ap, ◌∙◌, arith, to_z-of_z, to_z, of_z, SFits, w64, rules, length-drop, length-set}
+use Rattle.std.proofs.Common.{◌≡◌, ◌<◌, ◌∷◌, ℤ, length, take, drop, sym, ap, ◌∙◌, arith, to_z-of_z, SFits, w64, rules, length-drop, length-set}
 use Rattle.std.specs.Option.{option_map}
 use Rattle.std.proofs.lemmas.List.{take_more_set}
 use Rattle.caltool_command.specs.Words.{words}
 use Rattle.caltool_command.specs.Grammar.{numbers_of}
 use Rattle.caltool_command.specs.Private.{numbers_behind}
-use Rattle.caltool_command.proofs.Reading.{before, before-ends, before-more}
+use Rattle.caltool_command.proofs.Reading.{before-ends, before-more}
 use Rattle.caltool_command.proofs.numbers.read_items.Goals as goal
 
 pub loop-rest-preserved : goal.loop-rest-preserved

@@ -1,4 +1,4 @@
-use Rattle.std.proofs.Common.{◌≡◌, ◌∷◌, take, drop, ap, sym, ◌∙◌}
+use Rattle.std.proofs.Common.{◌∷◌, take, drop, ap, sym, ◌∙◌}
 use Rattle.caltool_command.specs.Words.{words}
 use Rattle.caltool_command.proofs.Splits.{words_at, ends_at}
 use Rattle.caltool_command.proofs.words.split_name.Goals as goal
