@@ -1,7 +1,8 @@
 -- The days of a row that are members of a set, as texts, from the first day of the row on.
-use Rattle.std.proofs.Common.{◌≡◌, zero, suc, ◌+◌, ◌-◌, ◌*◌, ◌<◌, ◌≤◌, ℕ, Bool, true, false, cond, min, filter, codes, if◌then◌else◌, List, [], ◌∷◌, ◌++◌, length, take, refl, append_assoc, length-append, take_all, arith}
+use Rattle.std.proofs.Common.{◌≡◌, zero, suc, ◌+◌, ◌-◌, ◌*◌, ◌<◌, ◌≤◌, ℕ, Bool, true, false, cond, min, filter, codes, if◌then◌else◌, List, [], ◌∷◌, ◌++◌, length, get_or, take, refl, append_assoc, length-append, take_all, arith}
 use Rattle.std.proofs.lemmas.List.{take_at}
 use Rattle.chrono_units.specs.declared.weekday.Weekday.{Weekday}
+use Rattle.chrono_units.specs.declared.weekday.Weekday.TheVariants.{Mon, Tue, Wed, Thu, Fri, Sat, Sun}
 use Rattle.chrono_units.specs.Weekday.{next_weekday}
 use Rattle.chrono_units.specs.WeekdaySet.{DaySet, contains, days_in_row}
 use Rattle.chrono_units.specs.WeekdayText.{weekday_text, days_text}
@@ -65,3 +66,13 @@ shorter (d ∷ ds) h = omega (arith, h)
 pub put-le : (wanted : Bool) (old text : List ℕ) → length (old ++ (if wanted then text else [])) ≤ length old + length text
 put-le true old text = omega (arith, length-append {A = ℕ})
 put-le false old text = omega (arith, length-append {A = ℕ})
+
+-- the name of a day behind a space, before a comma and a space
+pub unspaced : (d : Weekday) → let name = codes " " ++ weekday_text d in get_or name 1 0 ∷ get_or name 2 0 ∷ get_or name 3 0 ∷ 44 ∷ 32 ∷ [] ≡ weekday_text d ++ codes ", "
+unspaced Mon = refl
+unspaced Tue = refl
+unspaced Wed = refl
+unspaced Thu = refl
+unspaced Fri = refl
+unspaced Sat = refl
+unspaced Sun = refl

@@ -4,3 +4,4 @@ mod Progress
 mod Cuts
 mod Tests
 mod Days
+mod Years

@@ -16,7 +16,7 @@ use chrono_clock::{NaiveTime, TimeDelta};
 use chrono_units::WeekdaySet;
 
 // The date of a year, a month and a day.
-#[inline]
+#[inline(always)]
 #[tactic(auto, unfolding(crate::specs::Named::date_named))]
 pub(crate) fn date_named<A: CommandAnswers>(date: CalendarDate) -> Option<A::Date>
     ensures { option_map A.number result ≡ the_date date }
