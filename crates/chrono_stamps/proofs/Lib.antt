@@ -6,3 +6,6 @@ mod OffsetLemmas
 mod StampLemmas
 mod WrittenLemmas
 mod MailLemmas
+mod MailWordLemmas
+mod MailStampLemmas
+mod MailTextLemmas

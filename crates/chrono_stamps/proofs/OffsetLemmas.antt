@@ -1,5 +1,5 @@
 -- The texts of offsets in six bytes.
-use Rattle.std.proofs.Common.{◌≡◌, ◌≢◌, ◌⊎◌, ℕ, ◌+◌, ◌/◌, ◌%◌, ◌≤◌, Bool, true, false, if◌then◌else◌, ℤ, pos, negsuc, unsigned_abs, List, [], ◌∷◌, ◌++◌, length, drop, codes, inl, inr, refl, sym, ap, ◌∙◌, arith}
+use Rattle.std.proofs.Common.{◌≡◌, ◌≢◌, ◌⊎◌, ℕ, ◌+◌, ◌/◌, ◌%◌, ◌≤◌, Bool, true, false, if◌then◌else◌, ℤ, pos, negsuc, unsigned_abs, List, [], ◌∷◌, ◌++◌, length, codes, inl, inr, refl, sym, ap, ◌∙◌, arith}
 use Rattle.std.specs.Prelude.{get_or}
 use Rattle.std.specs.Int.{is_negative}
 use Rattle.std.proofs.lemmas.Bool.{cases_eq}
@@ -18,7 +18,7 @@ signed_text : (x : ℤ) → (sign : ℕ) × (offset_text x ≡ sign ∷ offset_s
 signed_text x = by_sign (is_negative x) (offset_size_text (unsigned_abs x))
 
 -- the seconds stand in three bytes, or in none
-seconds_none : (k : ℕ) → k ≡ 0 → offset_seconds_text k ≡ []
+pub seconds_none : (k : ℕ) → k ≡ 0 → offset_seconds_text k ≡ []
 seconds_none k e = rw e refl
 
 seconds_three : (k : ℕ) → k ≢ 0 → length (offset_seconds_text k) ≡ 3

@@ -1,5 +1,5 @@
 -- The digits of nanoseconds, three by three.
-use Rattle.std.proofs.Common.{◌≡◌, ℕ, ◌+◌, ◌/◌, ◌%◌, ◌<◌, List, ◌∷◌, ◌++◌, refl, arith}
+use Rattle.std.proofs.Common.{◌≡◌, ℕ, ◌/◌, ◌%◌, ◌<◌, ◌++◌, arith}
 use Rattle.chrono_text.specs.Text.{all_digits}
 
 pub six_places : (n : ℕ) → n < 1_000_000_000 → all_digits 6 (n / 1_000) ≡ all_digits 3 (n / 1_000_000) ++ all_digits 3 (n / 1_000 % 1_000)

@@ -16,7 +16,7 @@ use Rattle.chrono_datetime.specs.TimeText.{time_text}
 use Rattle.chrono_instant.specs.Offsets.{IsOffset}
 use Rattle.chrono_instant.specs.OffsetText.{offset_text}
 use Rattle.chrono_reading.specs.DateTexts.{IsDateText}
-use Rattle.chrono_reading.specs.TimeTexts.{IsTimeText, time_shown}
+use Rattle.chrono_reading.specs.TimeTexts.{IsTimeText}
 use Rattle.chrono_stamps.specs.Fractions.{fraction_in, places_of}
 use Rattle.chrono_stamps.specs.Rfc3339.{IsOffsetText, IsRfc3339Text}
 use Rattle.chrono_stamps.specs.WrittenStamps.{HasStampText, moment_cut, nanos_past, offset_in, rfc3339_text, time_in, whole_second}
@@ -54,13 +54,13 @@ cut_fraction places n (inr (inr (inr e))) small = subst (IsCut n) (sym e) (inr (
 
 -- ---- times
 
-abbrev clock : ℕ → ℕ → ℕ → List ℕ
+abbrev pub clock : ℕ → ℕ → ℕ → List ℕ
 clock hour minute second = two_digits hour ++ 58 ∷ two_digits minute ++ 58 ∷ two_digits second
 
-plain_clock : (t : TimeOfDay) → t.fraction - nanos_past t ≡ 0 → time_text (whole_second t) ≡ clock (hour_of t) (minute_of t) (second_of t)
+pub plain_clock : (t : TimeOfDay) → t.fraction - nanos_past t ≡ 0 → time_text (whole_second t) ≡ clock (hour_of t) (minute_of t) (second_of t)
 plain_clock t e = ap (λ f. clock_text (hour_of t) (minute_of t) (second_of t) f) e
 
-leap_clock : (t : TimeOfDay) → t.fraction - nanos_past t ≡ 1_000_000_000 → time_text (whole_second t) ≡ clock (hour_of t) (minute_of t) (second_of t + 1)
+pub leap_clock : (t : TimeOfDay) → t.fraction - nanos_past t ≡ 1_000_000_000 → time_text (whole_second t) ≡ clock (hour_of t) (minute_of t) (second_of t + 1)
 leap_clock t e = ap (λ f. clock_text (hour_of t) (minute_of t) (second_of t) f) e
 
 shown : (b : Bool) (hour minute second nanos : ℕ) (t : TimeOfDay)
@@ -76,7 +76,7 @@ is_sixty n e = grind (arith, nat_tests)
 not_sixty : (n : ℕ) → n ≡ 60 → (n == 60) ≡ false → ⊥
 not_sixty n e f = grind (arith, nat_tests)
 
-time_written : (form : SecondsFormat) (t : TimeOfDay) → IsTime t → FractionFits (second_of t) t.fraction
+pub time_written : (form : SecondsFormat) (t : TimeOfDay) → IsTime t → FractionFits (second_of t) t.fraction
     → IsTimeText (time_in form t) (time_with_fraction t (t.fraction - nanos_past t % 10 ^ (9 - places_of form (nanos_past t))))
 time_written form t is fits =
     let n = nanos_past t in

@@ -1,8 +1,8 @@
 -- Dates whose text has ten bytes are of the years 0 to 9999, and so lie far from the ends of the calendar.
-use Rattle.std.proofs.Common.{◌≡◌, ◌==◌, Bool, true, false, if◌then◌else◌, ℕ, suc, ◌+◌, ◌<◌, ◌≤◌, ◌^◌, ℤ, pos, negsuc, neg_ℤ, ◌+ℤ◌, ◌-ℤ◌, ◌≤ℤ◌, ◌<ℤ◌, List, ◌∷◌, Some, length, unsigned_abs, refl, sym, ap, ◌∙◌, subst, arith}
+use Rattle.std.proofs.Common.{◌≡◌, ◌==◌, Bool, true, false, if◌then◌else◌, ℕ, suc, ◌+◌, ◌<◌, ◌≤◌, ℤ, pos, negsuc, neg_ℤ, ◌-ℤ◌, ◌≤ℤ◌, ◌<ℤ◌, List, Some, length, unsigned_abs, refl, sym, ap, subst, arith}
 use Rattle.std.proofs.lemmas.Int.{by_lt_z, ints}
 use Rattle.std.specs.Fmt.{decimal}
-use Rattle.chrono_text.specs.Text.{all_digits, year_digits, year_text}
+use Rattle.chrono_text.specs.Text.{year_digits, year_text}
 use Rattle.chrono_text.proofs.DigitLemmas.{by_size, decimal_below}
 use Rattle.chrono_text.proofs.TextLemmas.{length-calendar_text, year_text-more}
 use Rattle.chrono_calendar.specs.Days.{day_number_of_yo, year_of}

@@ -1,5 +1,5 @@
 -- How many digits of a second's fraction a text has.
-use Rattle.std.specs.Prelude.{◌≡◌, ◌⊎◌, ℕ, ◌-◌, ◌*◌, ◌/◌, ◌%◌, ◌^◌, ◌==◌, List, [], ◌++◌, codes, if◌then◌else◌, refl}
+use Rattle.std.specs.Prelude.{◌≡◌, ◌⊎◌, ℕ, ◌-◌, ◌/◌, ◌%◌, ◌^◌, ◌==◌, List, [], ◌++◌, codes, if◌then◌else◌, refl}
 use Rattle.chrono_text.specs.Text.{all_digits}
 use Rattle.chrono_stamps.specs.declared.seconds_format.SecondsFormat.{SecondsFormat}
 use Rattle.chrono_stamps.specs.declared.seconds_format.SecondsFormat.TheVariants.{Secs, Millis, Micros, Nanos, AutoSi}

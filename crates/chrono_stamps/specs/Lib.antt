@@ -1,3 +1,5 @@
 pub mod Fractions
 pub mod Rfc3339
 pub mod WrittenStamps
+pub mod MailWords
+pub mod Rfc2822

@@ -1,19 +1,11 @@
 -- The texts of RFC 3339, by the grammar of its section 5.6: of a local date-time m on a clock x seconds ahead of UTC.
-use Rattle.std.specs.Prelude.{◌≡◌, ◌==◌, ◌⊎◌, ◌<◌, ◌≤◌, ℕ, ◌-◌, ◌%◌, ◌/◌, ◌^◌, ◌*◌, Bool, ◌&&◌, List, ◌∷◌, ◌++◌, length, codes, if◌then◌else◌, ℤ, pos, ◌≤ℤ◌, unsigned_abs, refl}
-use Rattle.std.specs.Ordering.{int_eq}
+use Rattle.std.specs.Prelude.{◌≡◌, ◌⊎◌, ℕ, List, ◌∷◌, ◌++◌, length, codes, ℤ, pos}
 use Rattle.std.specs.Str.{byte}
-use Rattle.chrono_datetime.specs.DateText.{date_text}
-use Rattle.chrono_datetime.specs.Days.{year_of}
-use Rattle.chrono_datetime.specs.Duration.{nanos_per_second}
-use Rattle.chrono_datetime.specs.Moment.{Moment, moment}
-use Rattle.chrono_datetime.specs.Time.{FractionFits, TimeOfDay, second_of, time_with_fraction}
-use Rattle.chrono_datetime.specs.TimeText.{time_text}
+use Rattle.chrono_datetime.specs.Moment.{Moment}
 use Rattle.chrono_instant.specs.Offsets.{IsOffset}
 use Rattle.chrono_instant.specs.OffsetText.{offset_text}
 use Rattle.chrono_reading.specs.DateTexts.{IsDateText}
 use Rattle.chrono_reading.specs.TimeTexts.{IsTimeText}
-use Rattle.chrono_stamps.specs.Fractions.{fraction_in, places_of}
-use Rattle.chrono_stamps.specs.declared.seconds_format.SecondsFormat.{SecondsFormat}
 
 -- ---- the grammar
 

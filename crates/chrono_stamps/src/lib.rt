@@ -11,11 +11,15 @@
 #![tactic(auto)]
 
 pub mod law;
+mod mail_words;
+mod rfc2822_error;
+mod rfc2822_reader;
 mod rfc2822_writer;
 mod rfc3339_reader;
 mod rfc3339_writer;
 mod seconds_format;
 
+pub use rfc2822_reader::parse_from_rfc2822;
 pub use rfc2822_writer::to_rfc2822;
 pub use rfc3339_reader::parse_from_rfc3339;
 pub use rfc3339_writer::{to_rfc3339, to_rfc3339_opts};

@@ -24,7 +24,9 @@ const DATE_LEN: usize = 10;
 /// parse_from_rfc3339(b"2024-02-30T12:00:00Z").err() // Some(ReadError { cause: DayAbove(29), byte: 8 })
 /// ```
 ///
-/// A `T`, a `t` or a space stands before the time. `Z`, `z`, `+00:00` and `-00:00` are UTC. The fraction has one to nine digits.
+/// A `T`, a `t` or a space stands before the time. `Z`, `z`, `+00:00` and `-00:00` are UTC. The fraction has one to nine digits: a
+/// tenth is an error, which chrono would drop.
+///
 /// The second 60 is the leap second that follows 59. Any minute may have it.
 pub fn parse_from_rfc3339(text: &[u8]) -> Result<DateTime<FixedOffset>, ReadError>
     ensures read { IfOk result (λ it. IsRfc3339Text text.now (moment_ahead it.utc it.zone) it.zone) }
@@ -94,7 +96,7 @@ fn offset_at_end(text: &[u8]) -> Option<(FixedOffset, usize)>
 
 // The offset that six bytes write.
 #[inline]
-fn six_bytes(text: [u8; 6]) -> Option<FixedOffset>
+pub(crate) fn six_bytes(text: [u8; 6]) -> Option<FixedOffset>
     ensures read { IfSome result (λ x. IsSixBytes text x) }
     ensures every { (x : ℤ) → IsSixBytes text x → result ≡ Some x }
 {
@@ -213,7 +215,7 @@ fn is_digit_at(text: &[u8], at: usize) -> bool {
 }
 
 // The text is not as its grammar says from this byte on.
-fn not_of_form(byte: usize) -> ReadError {
+pub(crate) fn not_of_form(byte: usize) -> ReadError {
     ReadError {
         cause: ReadCause::NotThisForm,
         byte,
