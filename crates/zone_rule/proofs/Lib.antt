@@ -1,0 +1,5 @@
+-- Lemmas of this crate's own proofs.
+mod Carried
+mod DaysInYears
+mod LastChanges
+mod RuleCycles

@@ -1,8 +1,13 @@
 //! `RuleDay`: a day of each year.
-ghost use Rattle.std.specs.Prelude.{◌≡◌};
+ghost use Rattle.std.specs.Prelude.{◌≡◌, ◌↔◌, ◌<◌, IsTrue, unsigned_abs};
+ghost use Rattle.std.specs.Int.{IsInRange};
+ghost use Rattle.chrono_units.specs.Years.{IsYear};
+ghost use Rattle.chrono_datetime.specs.Days.{IsDate, day_number_of_yo};
+ghost use Rattle.zone_rule.specs.declared.rule_day.RuleDay.TheVariants.{Week};
 ghost use Rattle.zone_rule.specs.RuleDays.{date_of_last_weekday, date_of_rule_day, date_of_week, ordinal_of_julian};
+ghost use Rattle.zone_rule.specs.Changes.{IsRuleDay, day_in_year};
 
-use chrono_datetime::{NaiveDate, Weekday};
+use chrono_datetime::{Datelike, NaiveDate, Weekday};
 use chrono_units::year::is_leap_year;
 
 // The week that means the last one.
@@ -61,6 +66,65 @@ impl RuleDay {
             RuleDay::FromZero(n) => NaiveDate::from_yo_opt(year, u32::from(n) + 1),
         }
     }
+
+    /// Returns whether the numbers of this day are in range.
+    ///
+    /// ```
+    /// RuleDay::Julian(365).is_in_range() // true
+    /// RuleDay::Julian(0).is_in_range() // false
+    /// RuleDay::FromZero(0).is_in_range() // true
+    /// ```
+    pub fn is_in_range(self) -> bool
+        ensures { IsTrue result ↔ IsRuleDay self }
+    {
+        match self {
+            RuleDay::Week { month, week, .. } => {
+                1 <= month && month <= 12 && 1 <= week && week <= LAST_WEEK
+            }
+            RuleDay::Julian(n) => 1 <= n && n <= 365,
+            RuleDay::FromZero(n) => n <= 365,
+        }
+    }
+
+    // The number of this day in a year. Of a common year, day 365 from zero is the first day of the next year.
+    pub(crate) fn number_in(self, year: i32) -> i32
+        requires year { IsYear year }
+        requires day { IsRuleDay self }
+        ensures value { result ≡ day_in_year year self }
+        ensures in_range { unsigned_abs result < 96_000_000 }
+    {
+        match self {
+            RuleDay::Week {
+                month,
+                week,
+                weekday,
+            } => week_number(year, month, week, weekday),
+            RuleDay::Julian(n) => first_of(year) - 1 + julian_ordinal(year, n) as i32,
+            RuleDay::FromZero(n) => first_of(year) + i32::from(n),
+        }
+    }
+}
+
+// The number of 1 January.
+fn first_of(year: i32) -> i32
+    requires { IsYear year }
+    ensures value { result ≡ day_number_of_yo year 1 }
+    ensures in_range { IsDate result }
+{
+    NaiveDate::from_yo_opt(year, 1).unwrap().num_days_from_ce()
+}
+
+// The number of the `week`-th such weekday of the month, or of the last one if `week` is 5.
+fn week_number(year: i32, month: u32, week: u8, weekday: Weekday) -> i32
+    requires year { IsYear year }
+    requires month { IsInRange 1 12 month }
+    requires week { IsInRange 1 5 week }
+    ensures value { result ≡ day_in_year year (Week month week weekday) }
+    ensures in_range { IsDate result }
+{
+    week_or_last(year, month, week, weekday)
+        .unwrap()
+        .num_days_from_ce()
 }
 
 // The `week`-th such weekday of the month, or the last one if `week` is 5.

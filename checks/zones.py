@@ -1,0 +1,365 @@
+#!/usr/bin/env python3
+"""Holds zone_table and zone_rule to Python's zoneinfo, over all zones of the system's database.
+
+    checks/zones.py [--seed N] [--lines N]      (seed 1 and 20,000 lines, if left out)
+
+Each zone's file is read here: its rows become a table, and the text at its end becomes a rule. Up to the last row an answer is
+asked of the table, and from there on of the rule. An offset is that of zoneinfo at the instant. The offsets of a local time are
+those of the zone's offsets at whose instant zoneinfo gives them again. The next and the previous change are read off the rows,
+and zoneinfo has to change there. Rules are asked past the year 9999 and before it begins too, and so are rules made here at
+random. For these a second reading counts days and tries nine years. `rt try` runs a small program unproved, in a copy of the
+crates: it answers the lines, and what differs is printed. A second run of the same lines with one answer changed has to find it.
+"""
+import argparse
+import datetime
+import os
+import random
+import re
+import struct
+import subprocess
+import sys
+import tempfile
+import zoneinfo
+
+from outside import below, copy_crates, listed_crates
+
+UTC = datetime.timezone.utc
+DAY = 86_400
+# What zoneinfo has, two days from the ends of its years.
+FIRST, LAST = -62_135_596_800 + 2 * DAY, 253_402_300_799 - 2 * DAY
+PROGRAM = r'''//! Answers questions on zones, a line each.
+#![tactic(auto)]
+
+use chrono_datetime::Weekday;
+use std::io::{self, BufRead, BufReader};
+use zone_rule::{Change, Daylight, FixedOffset, MappedLocalTime, Rule, RuleDay};
+use zone_table::{Row, first_unordered, next_change, offset_of_instant, offsets_of_local, previous_change};
+
+fn main(rt: HostRuntime) -> io::Result<()> {
+    let utc = FixedOffset::east_opt(0).unwrap();
+    let (mut first, mut rule) = (utc, Rule { standard: utc, daylight: None });
+    let mut rows = Vec::new(rt.alloc());
+    for line in BufReader::new(rt.alloc(), rt.reader())?.lines(rt.alloc()) {
+        let line = line?;
+        let mut words = line.as_str().split_ascii_whitespace();
+        let call = words.next().unwrap_or("");
+        let number: i64 = words.next().unwrap_or("").parse().unwrap_or(0);
+        match call {
+            "table" => {
+                first = FixedOffset::east_opt(number as i32).unwrap_or(utc);
+                rows.clear();
+                while let Some(second) = words.next() {
+                    let offset = FixedOffset::east_opt(words.next().unwrap_or("").parse().unwrap_or(0)).unwrap_or(utc);
+                    rows.push(Row { second: second.parse().unwrap_or(0), offset })?;
+                }
+                println!(rt; "= {:?}", first_unordered(first, rows.as_slice()))?
+            }
+            "rule" => {
+                let numbers: [i32; 9] = [number_of(words.next()), number_of(words.next()), number_of(words.next()), number_of(words.next()),
+                    number_of(words.next()), number_of(words.next()), number_of(words.next()), number_of(words.next()), number_of(words.next())];
+                let standard = FixedOffset::east_opt(number as i32).unwrap_or(utc);
+                rule = Rule { standard, daylight: daylight_of(&numbers) };
+                println!(rt; "= {}", rule.daylight.is_some())?
+            }
+            "at" => {
+                let shown = seconds_of(offsets_of_local(first, rows.as_slice(), number));
+                println!(rt; "= {} {:?}", offset_of_instant(first, rows.as_slice(), number).local_minus_utc(), shown)?
+            }
+            "changes" => println!(rt; "= {:?} {:?}", next_change(first, rows.as_slice(), number), previous_change(first, rows.as_slice(), number))?,
+            _ => {
+                let shown = seconds_of(rule.offsets_of_local(number));
+                println!(rt; "= {} {:?}", rule.offset_of_instant(number).local_minus_utc(), shown)?
+            }
+        }
+    }
+    Ok(())
+}
+
+fn seconds_of(offsets: MappedLocalTime<FixedOffset>) -> (Option<i32>, Option<i32>) {
+    match offsets {
+        MappedLocalTime::None => (None, None),
+        MappedLocalTime::Single(it) => (Some(it.local_minus_utc()), None),
+        MappedLocalTime::Ambiguous(a, b) => (Some(a.local_minus_utc()), Some(b.local_minus_utc())),
+    }
+}
+
+fn number_of(word: Option<&str>) -> i32 {
+    word.unwrap_or("").parse().unwrap_or(0)
+}
+
+fn weekday_of(number: i32) -> Weekday {
+    match number {
+        0 => Weekday::Sun,
+        1 => Weekday::Mon,
+        2 => Weekday::Tue,
+        3 => Weekday::Wed,
+        4 => Weekday::Thu,
+        5 => Weekday::Fri,
+        _ => Weekday::Sat,
+    }
+}
+
+// A day by three numbers: month, 10 times the week and the weekday; or 0, 1 for days without 29 February, and the day.
+fn day_of(month: i32, week: i32, day: i32) -> RuleDay {
+    if month > 0 {
+        RuleDay::Week { month: month as u32, week: (week / 10) as u8, weekday: weekday_of(day) }
+    } else if week == 1 {
+        RuleDay::Julian(day as u16)
+    } else {
+        RuleDay::FromZero(day as u16)
+    }
+}
+
+fn daylight_of(n: &[i32; 9]) -> Option<Daylight> {
+    let begins = Change::new(day_of(n[1], n[2], n[3]), n[4])?;
+    let ends = Change::new(day_of(n[5], n[6], n[7]), n[8])?;
+    Some(Daylight { offset: FixedOffset::east_opt(n[0])?, begins, ends })
+}
+'''
+
+
+def year_day(year):
+    """The days from 1 January 1970 to 1 January of the year, in any year: by steps of 400 years, and then by datetime."""
+    cycles, rest = divmod(year - 2000, 400)
+    return (datetime.date(2000 + rest, 1, 1) - datetime.date(1970, 1, 1)).days + 146_097 * cycles
+
+
+def year_of(second):
+    cycles, rest = divmod(second // DAY - 10_957, 146_097)
+    return (datetime.date(2000, 1, 1) + datetime.timedelta(days=rest)).year + 400 * cycles
+
+
+class Rule:
+    """A rule: an offset, and an offset of daylight time with two changes, each a day as three numbers and a second."""
+
+    def __init__(self, standard, daylight=None, begins=None, ends=None):
+        self.standard, self.daylight, self.begins, self.ends = standard, daylight, begins, ends
+
+    @classmethod
+    def read(cls, text):
+        """A rule from the text at a file's end."""
+        name, size = r"(?:<[^>]+>|[A-Za-z]+)", r"([+-]?[\d:]+)"
+        found = re.fullmatch(rf"{name}{size}(?:{name}{size}?,([^,/]+)(?:/([^,]+))?,([^,/]+)(?:/([^,]+))?)?", text)
+        standard = -cls.seconds(found[1])
+        if not found[3]:
+            return cls(standard)
+        daylight = -cls.seconds(found[2]) if found[2] else standard + 3_600
+        return cls(standard, daylight, cls.change(found[3], found[4]), cls.change(found[5], found[6]))
+
+    @staticmethod
+    def seconds(text):
+        sign, parts = -1 if text[0] == "-" else 1, [int(it) for it in text.lstrip("+-").split(":")]
+        return sign * sum(it * 60 ** (2 - at) for at, it in enumerate(parts))
+
+    @classmethod
+    def change(cls, day, time):
+        second = cls.seconds(time) if time else 7_200
+        if day[0] == "M":
+            month, week, weekday = map(int, day[1:].split("."))
+            return month, 10 * week, weekday, second
+        return (0, 1, int(day[1:]), second) if day[0] == "J" else (0, 0, int(day), second)
+
+    @staticmethod
+    def shown(change, year):
+        """What the clock shows at the change, in seconds."""
+        month, week, day, second = change
+        if month:
+            first = year_day(year)
+            # The year 2000 + y % 400 has the same days.
+            like = 2000 + year % 400
+            days = [it for it in range(366) if (datetime.date(like, 1, 1) + datetime.timedelta(days=it)).timetuple()[:2] == (like, month)]
+            fitting = [first + it for it in days if (first + it + 4) % 7 == day]
+            return fitting[min(week // 10, len(fitting)) - 1] * DAY + second
+        leap = year_day(year + 1) - year_day(year) == 366
+        return (year_day(year) + (day - 1 + (leap and day >= 60) if week else day)) * DAY + second
+
+    def changes(self, year):
+        if self.daylight is None:
+            return []
+        return [(self.shown(self.ends, year) - self.daylight, 0, self.standard), (self.shown(self.begins, year) - self.standard, 1, self.daylight)]
+
+    def at(self, second):
+        year = year_of(second)
+        come = [it for near in range(year - 4, year + 5) for it in self.changes(near) if it[0] <= second]
+        return max(come)[2] if come else self.standard
+
+    def offsets(self):
+        return {self.standard} if self.daylight is None else {self.standard, self.daylight}
+
+    def line(self):
+        # A whole day is no offset, so no daylight time.
+        return f"rule {self.standard} " + (f"{DAY}" if self.daylight is None else f"{self.daylight} {' '.join(map(str, self.begins + self.ends))}")
+
+
+class Zone:
+    """A zone of the database: its rows, its rule, and zoneinfo's reading of it."""
+
+    def __init__(self, name, path):
+        with open(path, "rb") as it:
+            data = it.read()
+        assert data[:4] == b"TZif" and data[4:5] >= b"2", name
+        counts = lambda at: struct.unpack(">6l", data[at + 20 : at + 44])  # noqa: E731
+        isut, isstd, leap, times, types, chars = counts(0)
+        at = 44 + times * 5 + types * 6 + chars + leap * 8 + isstd + isut
+        isut, isstd, leap, times, types, chars = counts(at)
+        assert leap == 0, name
+        at += 44
+        seconds = struct.unpack(f">{times}q", data[at : at + 8 * times])
+        kinds = data[at + 8 * times : at + 9 * times]
+        at += 9 * times
+        offsets = [struct.unpack(">lbb", data[at + 6 * it : at + 6 * it + 6])[0] for it in range(types)]
+        at += 6 * types + chars + leap * 12 + isstd + isut
+        self.rule = Rule.read(data[at:].strip().decode()) if data[at:].strip() else None
+        # Rows below zoneinfo's years stand for the beginning of time.
+        self.first = offsets[0]
+        self.rows = [(second, offsets[kind]) for second, kind in zip(seconds, kinds)]
+        self.info = zoneinfo.ZoneInfo(name)
+
+    def at(self, second):
+        return int(datetime.datetime.fromtimestamp(second, UTC).astimezone(self.info).utcoffset().total_seconds())
+
+    def offsets(self):
+        return {self.first, *(offset for _, offset in self.rows)} | (self.rule.offsets() if self.rule else set())
+
+    def changes(self, second):
+        """The next and the previous change; zoneinfo changes there too."""
+        held, after, before = self.first, None, None
+        for at, offset in self.rows:
+            if offset != held:
+                if at <= second:
+                    before = at
+                elif after is None:
+                    after = at
+            held = offset
+        for at in (after, before):
+            assert at is None or at <= FIRST or self.at(at - 1) != self.at(at), (self.info.key, at)
+        return after, before
+
+
+def told(at, offsets, second):
+    """The offset at an instant, and those of the same second as a local time."""
+    found = sorted((it for it in offsets if at(second - it) == it), reverse=True)
+    some = [f"Some({it})" for it in found] + ["None"] * 2
+    assert len(found) <= 2, (second, found)
+    return f"{at(second)} ({some[0]}, {some[1]})"
+
+
+def option(number):
+    return "None" if number is None else f"Some({number})"
+
+
+def near(draw, seconds, offsets):
+    """A second at one of those, as an instant or as a local time, or near to it."""
+    return draw.choice(seconds) + draw.choice((0, *offsets)) + draw.choice((0, 0, -1, 1, draw.randrange(-7_200, 7_200), draw.randrange(-10**6, 10**6)))
+
+
+def of_zone(draw, zone, lines):
+    """Questions to a zone, each with its answer."""
+    offsets = sorted(zone.offsets())
+    last = zone.rows[-1][0] if zone.rows else FIRST
+    found = []
+    if zone.rows:
+        yield f"table {zone.first} " + " ".join(f"{a} {b}" for a, b in zone.rows), "None"
+        # Up to two days before the last row all instants lie before it.
+        seconds = [near(draw, [at for at, _ in zone.rows], offsets) for _ in range(lines)]
+        found = [it for it in seconds if FIRST < it < last - 2 * DAY]
+    for second in found:
+        yield f"at {second}", told(zone.at, offsets, second)
+        if draw.random() < 0.3:
+            after, before = zone.changes(second)
+            yield f"changes {second}", f"{option(after)} {option(before)}"
+    if zone.rule and (not zone.rows or zone.rule.at(last) == zone.rows[-1][1]):
+        yield from of_rule(draw, zone.rule, lines, zone.at, max(last, FIRST) + 2 * DAY)
+
+
+def of_rule(draw, rule, lines, at=None, since=0):
+    """Questions to a rule, each with its answer: from a second on by zoneinfo in its years, and else by the second reading."""
+    yield rule.line(), str(rule.daylight is not None).lower()
+    for _ in range(lines):
+        year = draw.choice((draw.randrange(2040, 2500), draw.randrange(2040, 9_990), draw.randrange(-262_143, 262_143), draw.randrange(-10**9, 10**9)))
+        changes = [it[0] for it in rule.changes(year)] + [year_day(year) * DAY]
+        second = near(draw, changes, rule.offsets())
+        if at and since < second < LAST:
+            assert at(second) == rule.at(second), (rule.line(), second)
+            yield f"ruled {second}", told(at, rule.offsets(), second)
+        else:
+            yield f"ruled {second}", told(rule.at, rule.offsets(), second)
+
+
+def made_rule(draw):
+    """A rule with hours on other days, in other years, and offsets of any size."""
+    month = lambda: (draw.randrange(1, 13), 10 * draw.randrange(1, 6), draw.randrange(7))  # noqa: E731
+    julian = lambda: (0, 1, draw.choice((1, 59, 60, 61, 365, draw.randrange(1, 366))))  # noqa: E731
+    counted = lambda: (0, 0, draw.choice((0, 58, 59, 60, 364, 365, draw.randrange(366))))  # noqa: E731
+    hours = lambda: draw.choice((0, 7_200, -3_600, 604_799, -604_799, draw.randrange(-604_799, 604_800)))  # noqa: E731
+    change = lambda: (*draw.choice((month, julian, counted))(), hours())  # noqa: E731
+    standard = draw.choice((0, -18_000, draw.randrange(-DAY + 1, DAY)))
+    daylight = draw.choice((standard + 3_600, standard - 3_600, standard, draw.randrange(-DAY + 1, DAY)))
+    return Rule(standard, max(1 - DAY, min(DAY - 1, daylight)), change(), change())
+
+
+def zones():
+    for name in sorted(zoneinfo.available_timezones()):
+        for folder in zoneinfo.TZPATH:
+            path = os.path.join(folder, name)
+            if os.path.isfile(path):
+                yield Zone(name, path)
+                break
+
+
+def answers_of(room, questions):
+    """What the program answers."""
+    crates = listed_crates()
+    used = list(dict.fromkeys([*below("zone_table", crates), *below("zone_rule", crates)]))
+    copy_crates(room, used)
+    with open(f"{room}/crates.txt", "w", encoding="utf-8") as it:
+        it.writelines(f"{name}: {' '.join(crates[name])}\n" for name in used)
+        it.write("zones: chrono_datetime zone_table zone_rule\n")
+    folder = f"{room}/crates/zones"
+    os.makedirs(f"{folder}/src")
+    with open(f"{folder}/src/main.rt", "w", encoding="utf-8") as it:
+        it.write(PROGRAM)
+    said = subprocess.run(["rt", "try"], cwd=folder, input="".join(f"{it}\n" for it in questions), stdout=subprocess.PIPE, stderr=subprocess.STDOUT, text=True, errors="replace").stdout
+    if not re.search(r"^run=ended status=0 ", said, re.M):
+        sys.exit(f"the program fails:\n{said[-3000:]}")
+    return [line[2:] for line in said.splitlines() if line.startswith("= ")]
+
+
+def differing(questions, answers, wanted):
+    return [f"{it}: {a}, not {b}" for it, a, b in zip(questions, answers, wanted) if a != b]
+
+
+def main():
+    parser = argparse.ArgumentParser(description=__doc__.partition("\n")[0])
+    parser.add_argument("--seed", type=int, default=1)
+    parser.add_argument("--lines", type=int, default=20_000)
+    options = parser.parse_args()
+    draw = random.Random(options.seed)
+    known = list(zones())
+    if not known:
+        print("not run: checks/zones.py, which needs a database of time zones")
+        return
+    rows = []
+    each = max(1, options.lines // (3 * len(known)))
+    for zone in known:
+        rows += of_zone(draw, zone, each)
+    while len(rows) < options.lines:
+        rows += of_rule(draw, made_rule(draw), 20)
+    questions, wanted = [it for it, _ in rows], [it for _, it in rows]
+    with tempfile.TemporaryDirectory(prefix="zones-") as room:
+        answers = answers_of(room, questions)
+    if len(answers) != len(wanted):
+        sys.exit(f"{len(answers)} answers for {len(wanted)} lines")
+    wrong = differing(questions, answers, wanted)
+    for it in wrong[:20]:
+        print(f"FAILED: {it[:300]}")
+    changed = ["", *wanted[1:]]
+    if len(differing(questions, answers, changed)) != len(wrong) + 1 and answers[0] == wanted[0]:
+        sys.exit("a changed answer is not found")
+    print(f"{len(known)} zones")
+    print(f"{len(wanted) - len(wrong)} passed, {len(wrong)} failed")
+    sys.exit(bool(wrong))
+
+
+if __name__ == "__main__":
+    main()

@@ -1,0 +1,21 @@
+-- Rules: from when to when daylight time holds in each year (POSIX.1-2017, Base Definitions, section 8.3, TZ).
+use Rattle.std.specs.Prelude.{Bool, if◌then◌else◌, ℤ, int_le, Option, Some, None}
+use Rattle.zone_rule.specs.Changes.{change_second, last_by, year_of_second}
+use Rattle.zone_rule.specs.declared.rule.Daylight.{Daylight}
+use Rattle.zone_rule.specs.declared.rule.Rule.{Rule}
+
+-- daylight time holds at the second u: it has ended no later than it has begun. The clock before each beginning is standard time,
+-- `offset` ahead of UTC
+unfoldable pub is_daylight : ℤ → Daylight → ℤ → Bool
+is_daylight offset d u =
+    int_le (last_by (change_second d.offset d.ends) (year_of_second u) u)
+    (last_by (change_second offset d.begins) (year_of_second u) u)
+
+-- how far the clock is ahead of UTC at the second u, with or without daylight time
+abbrev pub ahead_by : ℤ → Option Daylight → ℤ → ℤ
+ahead_by offset None u = offset
+ahead_by offset (Some d) u = if is_daylight offset d u then d.offset else offset
+
+-- how far the rule's clock is ahead of UTC at the second u
+abbrev pub rule_offset : Rule → ℤ → ℤ
+rule_offset r u = ahead_by r.standard r.daylight u

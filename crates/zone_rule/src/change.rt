@@ -1,0 +1,112 @@
+//! `Change`: when a clock is set in each year.
+ghost use Rattle.std.specs.Prelude.{◌≡◌, ◌<◌, pos, ◌+ℤ◌, ◌-ℤ◌, ◌*ℤ◌, unsigned_abs};
+ghost use Rattle.std.specs.Option.{SomeIff};
+ghost use Rattle.chrono_units.specs.Years.{IsYear};
+ghost use Rattle.chrono_clock.specs.Time.{seconds_per_day};
+ghost use Rattle.chrono_datetime.specs.Fields.{unix_epoch_day};
+ghost use Rattle.zone_rule.specs.Changes.{IsChange, change_second};
+
+use crate::rule_day::RuleDay;
+use chrono_zoned::FixedOffset;
+use std::marker::Model;
+
+// The seconds of 168 hours.
+const SECS_PER_WEEK: i32 = 604_800;
+
+const SECS_PER_DAY: i64 = 86_400;
+
+// The number of 1 January 1970.
+const UNIX_EPOCH_DAY: i64 = 719_163;
+
+/// When a clock is set in each year: a day, and a time on it.
+///
+/// The time is what the clock shows before it is set. It is counted in seconds from the day's midnight. It may lie on another
+/// day, up to 167 hours, 59 minutes and 59 seconds away.
+///
+/// ```
+/// use chrono_datetime::Weekday;
+/// // At 02:00 of the second Sunday of March.
+/// Change::new(RuleDay::Week { month: 3, week: 2, weekday: Weekday::Sun }, 7_200)?.second() // 7200
+/// ```
+#[derive(Clone, Copy, Debug, PartialEq, Eq)]
+pub struct Change {
+    day: RuleDay,
+    second: i32,
+}
+
+impl Model for Change {
+    ghost use Rattle.zone_rule.specs.Changes.{IsChange, YearlyChange};
+
+    ghost Value = { YearlyChange };
+
+    ghost view = { λ a. record { day = a.day; second = a.second } };
+
+    ghost invariant = { λ a. IsChange (record { day = a.day; second = a.second }) };
+
+    ghost inverse = { λ c. record { day = c.day; second = c.second } };
+}
+
+impl Change {
+    /// Returns the change on a day, `second` seconds from its midnight.
+    ///
+    /// Returns `None` if a number of the day is out of range, or if `second` is not from -604,799 to 604,799.
+    ///
+    /// ```
+    /// Change::new(RuleDay::Julian(366), 0) // None
+    /// Change::new(RuleDay::Julian(365), 604_800) // None
+    /// ```
+    pub fn new(day: RuleDay, second: i32) -> Option<Change>
+        ensures { SomeIff result (IsChange (record { day = day; second = second })) (record { day = day; second = second }) }
+    {
+        if second <= -SECS_PER_WEEK || SECS_PER_WEEK <= second || !day.is_in_range() {
+            return None;
+        }
+        Some(Change { day, second })
+    }
+
+    /// Returns the day.
+    ///
+    /// ```
+    /// Change::new(RuleDay::Julian(60), 0)?.day() // Julian(60)
+    /// ```
+    pub fn day(&self) -> RuleDay
+        ensures { result ≡ self.now.day }
+    {
+        self.day
+    }
+
+    /// Returns the seconds from the day's midnight to the change.
+    ///
+    /// ```
+    /// Change::new(RuleDay::Julian(60), -3_600)?.second() // -3600
+    /// ```
+    pub fn second(&self) -> i32
+        ensures value { result ≡ self.now.second }
+        ensures in_range { unsigned_abs result < 604_800 }
+    {
+        self.second
+    }
+
+    // The second of the change in a year, where the clock before it is so far ahead of UTC.
+    pub(crate) fn second_in(&self, year: i32, offset: FixedOffset) -> i64
+        requires { IsYear year }
+        ensures { result ≡ change_second offset self.now year }
+    {
+        second_of(
+            self.day.number_in(year),
+            self.second,
+            offset.local_minus_utc(),
+        )
+    }
+}
+
+// The second at which a clock, so far ahead of UTC, shows a second of a day.
+fn second_of(day: i32, second: i32, offset: i32) -> i64
+    requires day { unsigned_abs day < 96_000_000 }
+    requires second { unsigned_abs second < 604_800 }
+    requires offset { unsigned_abs offset < 86_400 }
+    ensures { result ≡ (day -ℤ unix_epoch_day) *ℤ pos seconds_per_day +ℤ second -ℤ offset }
+{
+    let days = i64::from(day) - UNIX_EPOCH_DAY;
+    days * SECS_PER_DAY + i64::from(second) - i64::from(offset)
+}

@@ -1,0 +1,188 @@
+//! `Rule`: standard time, and daylight time in a part of each year.
+ghost use Rattle.std.specs.Prelude.{◌≡◌, Bool, if◌then◌else◌, ℤ, pos, neg_ℤ, ◌-ℤ◌, ◌≤ℤ◌};
+ghost use Rattle.chrono_zoned.specs.Zones.{IsMapped};
+ghost use Rattle.zone_rule.specs.Changes.{IsYearOfCycle, change_second, last_by, year_of_second};
+ghost use Rattle.zone_rule.specs.Rules.{is_daylight, rule_offset};
+
+use crate::change::Change;
+use chrono_datetime::{Datelike, NaiveDate};
+use chrono_zoned::{FixedOffset, MappedLocalTime};
+
+// The seconds of 400 years, after which the calendar comes again.
+const SECS_PER_CYCLE: i64 = 12_622_780_800;
+
+const SECS_PER_DAY: i64 = 86_400;
+
+// The number of 1 January 1970.
+const UNIX_EPOCH_DAY: i64 = 719_163;
+
+/// A clock in each year: how far standard time is ahead of UTC, and daylight time if there is one.
+///
+/// ```
+/// Rule { standard: FixedOffset::east_opt(19_800)?, daylight: None }.offset_of_instant(0) // +05:30
+/// ```
+#[derive(Clone, Copy, Debug, PartialEq, Eq)]
+pub struct Rule {
+    /// How far standard time is ahead of UTC.
+    pub standard: FixedOffset,
+    /// Daylight time, if the clock is ever set.
+    pub daylight: Option<Daylight>,
+}
+
+/// Daylight time: how far it is ahead of UTC, and when it begins and ends in each year.
+///
+/// It may end in the year after, as south of the equator. It may be behind standard time, as in Dublin.
+///
+/// ```
+/// let begins = Change::new(RuleDay::Julian(60), 7_200)?;
+/// let ends = Change::new(RuleDay::Julian(300), 7_200)?;
+/// Daylight { offset: FixedOffset::east_opt(3_600)?, begins, ends }.offset // +01:00
+/// ```
+#[derive(Clone, Copy, Debug, PartialEq, Eq)]
+pub struct Daylight {
+    /// How far daylight time is ahead of UTC.
+    pub offset: FixedOffset,
+    /// When it begins: standard time shows this time.
+    pub begins: Change,
+    /// When it ends: daylight time shows this time.
+    pub ends: Change,
+}
+
+impl Rule {
+    /// Returns the offset at the instant `second`, in seconds from 1 January 1970 in UTC.
+    ///
+    /// It is that of daylight time if the last change up to then began daylight time. If one change comes at the same second
+    /// as another, daylight time has begun.
+    ///
+    /// ```
+    /// let begins = Change::new(RuleDay::Julian(60), 7_200)?;
+    /// let ends = Change::new(RuleDay::Julian(300), 7_200)?;
+    /// let daylight = Daylight { offset: FixedOffset::east_opt(3_600)?, begins, ends };
+    /// let rule = Rule { standard: FixedOffset::east_opt(0)?, daylight: Some(daylight) };
+    /// rule.offset_of_instant(1_709_258_399) // +00:00
+    /// rule.offset_of_instant(1_709_258_400) // +01:00
+    /// ```
+    pub fn offset_of_instant(&self, second: i64) -> FixedOffset
+        ensures { result ≡ rule_offset self.now second }
+    {
+        let Some(daylight) = self.daylight else {
+            return self.standard;
+        };
+        if daylight.holds_at(self.standard, second.rem_euclid(SECS_PER_CYCLE)) {
+            daylight.offset
+        } else {
+            self.standard
+        }
+    }
+
+    /// Returns the offsets at all instants at which the clock shows the local second `local`, the earlier instant first.
+    ///
+    /// There is none if the clock is set ahead past `local`. There are two if it is set back, and shows `local` twice.
+    ///
+    /// ```
+    /// let begins = Change::new(RuleDay::Julian(60), 7_200)?;
+    /// let ends = Change::new(RuleDay::Julian(300), 7_200)?;
+    /// let daylight = Daylight { offset: FixedOffset::east_opt(3_600)?, begins, ends };
+    /// let rule = Rule { standard: FixedOffset::east_opt(0)?, daylight: Some(daylight) };
+    /// rule.offsets_of_local(1_709_258_399) // Single(+00:00)
+    /// rule.offsets_of_local(1_709_258_400) // None
+    /// rule.offsets_of_local(1_709_262_000) // Single(+01:00)
+    /// ```
+    pub fn offsets_of_local(&self, local: i64) -> MappedLocalTime<FixedOffset>
+        ensures { IsMapped (rule_offset self.now) local result }
+    {
+        let Some(daylight) = self.daylight else {
+            return MappedLocalTime::Single(self.standard);
+        };
+        daylight.offsets_of_local(self.standard, local)
+    }
+}
+
+impl Daylight {
+    // The offsets at all instants at which the clock shows the local second, where standard time has the offset.
+    fn offsets_of_local(self, standard: FixedOffset, local: i64) -> MappedLocalTime<FixedOffset>
+        ensures { IsMapped (λ u. if is_daylight standard self u then self.offset else standard) local result }
+    {
+        let place = local.rem_euclid(SECS_PER_CYCLE);
+        let of_standard = place - i64::from(standard.local_minus_utc());
+        let of_daylight = place - i64::from(self.offset.local_minus_utc());
+        offsets_shown(
+            standard,
+            self.offset,
+            self.holds_at(standard, of_standard),
+            self.holds_at(standard, of_daylight),
+        )
+    }
+
+    // Whether daylight time holds at the second, in or beside the years 1970 to 2369.
+    fn holds_at(&self, standard: FixedOffset, second: i64) -> bool
+        requires first { neg_ℤ (pos 86_400) ≤ℤ second }
+        requires last { second ≤ℤ pos 12_622_867_200 }
+        ensures { result ≡ is_daylight standard self.now second }
+    {
+        let year = year_of_second(second);
+        last_by(&self.ends, self.offset, year, second)
+            <= last_by(&self.begins, standard, year, second)
+    }
+}
+
+// The offsets at all instants at which the clock shows a local time, where daylight time holds or does not at the instants to which
+// the two offsets lead.
+fn offsets_shown(
+    standard: FixedOffset,
+    daylight: FixedOffset,
+    holds_by_standard: bool,
+    holds_by_daylight: bool,
+) -> MappedLocalTime<FixedOffset>
+    ensures { (test : ℤ → Bool) (l : ℤ) → test (l -ℤ standard) ≡ holds_by_standard → test (l -ℤ daylight) ≡ holds_by_daylight
+        → IsMapped (λ u. if test u then daylight else standard) l result }
+{
+    if !holds_by_daylight {
+        return if holds_by_standard {
+            MappedLocalTime::None
+        } else {
+            MappedLocalTime::Single(standard)
+        };
+    }
+    if holds_by_standard {
+        return MappedLocalTime::Single(daylight);
+    }
+    if daylight.local_minus_utc() < standard.local_minus_utc() {
+        MappedLocalTime::Ambiguous(standard, daylight)
+    } else {
+        MappedLocalTime::Ambiguous(daylight, standard)
+    }
+}
+
+// The year of the second, in UTC.
+fn year_of_second(second: i64) -> i32
+    requires first { neg_ℤ (pos 86_400) ≤ℤ second }
+    requires last { second ≤ℤ pos 12_622_867_200 }
+    ensures value { result ≡ year_of_second second }
+    ensures in_range { IsYearOfCycle result }
+{
+    let day = second.div_euclid(SECS_PER_DAY) + UNIX_EPOCH_DAY;
+    NaiveDate::from_num_days_from_ce_opt(day as i32)
+        .unwrap()
+        .year()
+}
+
+// The last second up to `second` that the change has in the years up to the next one.
+fn last_by(change: &Change, offset: FixedOffset, year: i32, second: i64) -> i64
+    requires { IsYearOfCycle year }
+    ensures { result ≡ last_by (change_second offset change.now) year second }
+{
+    let next = change.second_in(year + 1, offset);
+    if next <= second {
+        return next;
+    }
+    let same = change.second_in(year, offset);
+    if same <= second {
+        return same;
+    }
+    let before = change.second_in(year - 1, offset);
+    if before <= second {
+        return before;
+    }
+    change.second_in(year - 2, offset)
+}

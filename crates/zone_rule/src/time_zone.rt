@@ -1,0 +1,19 @@
+//! A rule as a zone, for date-times in it.
+
+use crate::rule::Rule;
+use chrono_datetime::NaiveDateTime;
+use chrono_zoned::{FixedOffset, MappedLocalTime, TimeZone, Timestamp};
+
+impl TimeZone for Rule {
+    ghost use Rattle.zone_rule.specs.Rules.{rule_offset};
+
+    ghost ahead = { rule_offset };
+
+    fn offset_from_utc_datetime(&self, utc: &NaiveDateTime) -> FixedOffset {
+        self.offset_of_instant(utc.timestamp())
+    }
+
+    fn offset_from_local_datetime(&self, local: &NaiveDateTime) -> MappedLocalTime<FixedOffset> {
+        self.offsets_of_local(local.timestamp())
+    }
+}
