@@ -2,4 +2,5 @@
 mod Carried
 mod DaysInYears
 mod LastChanges
+mod LastOfAll
 mod RuleCycles

@@ -1,5 +1,5 @@
 -- Rules: from when to when daylight time holds in each year (POSIX.1-2017, Base Definitions, section 8.3, TZ).
-use Rattle.std.specs.Prelude.{Bool, if◌then◌else◌, ℤ, int_le, Option, Some, None}
+use Rattle.std.specs.Prelude.{Bool, false, if◌then◌else◌, ℤ, int_le, Option, Some, None}
 use Rattle.zone_rule.specs.Changes.{change_second, last_by, year_of_second}
 use Rattle.zone_rule.specs.declared.rule.Daylight.{Daylight}
 use Rattle.zone_rule.specs.declared.rule.Rule.{Rule}
@@ -10,6 +10,11 @@ unfoldable pub is_daylight : ℤ → Daylight → ℤ → Bool
 is_daylight offset d u =
     int_le (last_by (change_second d.offset d.ends) (year_of_second u) u)
     (last_by (change_second offset d.begins) (year_of_second u) u)
+
+-- the same with or without daylight time
+abbrev pub is_daylight_by : ℤ → Option Daylight → ℤ → Bool
+is_daylight_by offset None u = false
+is_daylight_by offset (Some d) u = is_daylight offset d u
 
 -- how far the clock is ahead of UTC at the second u, with or without daylight time
 abbrev pub ahead_by : ℤ → Option Daylight → ℤ → ℤ

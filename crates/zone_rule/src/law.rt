@@ -1,8 +1,9 @@
 //! Laws of rules, each as the contract of a function, and known values.
-ghost use Rattle.std.specs.Prelude.{◌≡◌, ℤ, pos, neg_ℤ, ◌+ℤ◌};
+ghost use Rattle.std.specs.Prelude.{◌≡◌, ℤ, pos, neg_ℤ, ◌+ℤ◌, ◌≤ℤ◌, ◌<ℤ◌};
 ghost use Rattle.chrono_units.specs.declared.weekday.Weekday.TheVariants.{Sun};
 ghost use Rattle.chrono_datetime.specs.Days.{day_number_of_ymd};
-ghost use Rattle.zone_rule.specs.Changes.{YearlyChange, change_second, day_in_year};
+ghost use Rattle.chrono_zoned.specs.Offsets.{IsOffset};
+ghost use Rattle.zone_rule.specs.Changes.{IsChange, YearlyChange, change_second, day_in_year, last_by, year_of_second};
 ghost use Rattle.zone_rule.specs.declared.rule_day.RuleDay.{RuleDay};
 ghost use Rattle.zone_rule.specs.declared.rule_day.RuleDay.TheVariants.{FromZero, Julian, Week};
 
@@ -43,4 +44,16 @@ pub fn known_changes()
         ≡ pos 1_728_144_000 }
     ensures sydney_ends { change_second (pos 39_600) (record { day = Week 4 1 Sun; second = pos 10_800 }) (pos 2024)
         ≡ pos 1_712_419_200 }
+{}
+
+/// The last change by a second, as the offset at the second follows from it, is the last of all years.
+///
+/// It is looked for in four years. A change lies less than nine days from its year, and in the next year it comes later.
+pub fn last_changes_are_last()
+    ensures come { (offset : ℤ) (c : YearlyChange) (u : ℤ) → IsChange c → IsOffset offset →
+        last_by (change_second offset c) (year_of_second u) u ≤ℤ u }
+    ensures last { (offset : ℤ) (c : YearlyChange) (u : ℤ) → IsChange c → IsOffset offset → (y : ℤ) →
+        change_second offset c y ≤ℤ u → change_second offset c y ≤ℤ last_by (change_second offset c) (year_of_second u) u }
+    ensures later { (offset : ℤ) (c : YearlyChange) (y : ℤ) → IsChange c →
+        change_second offset c y <ℤ change_second offset c (y +ℤ pos 1) }
 {}

@@ -1,8 +1,9 @@
 //! `Rule`: standard time, and daylight time in a part of each year.
-ghost use Rattle.std.specs.Prelude.{◌≡◌, Bool, if◌then◌else◌, ℤ, pos, neg_ℤ, ◌-ℤ◌, ◌≤ℤ◌};
+ghost use Rattle.std.specs.Prelude.{◌≡◌, ◌↔◌, Bool, if◌then◌else◌, ℤ, pos, neg_ℤ, ◌-ℤ◌, ◌≤ℤ◌, IfSome, IsSome};
+ghost use Rattle.chrono_units.specs.Years.{IsYear};
 ghost use Rattle.chrono_zoned.specs.Zones.{IsMapped};
 ghost use Rattle.zone_rule.specs.Changes.{IsYearOfCycle, change_second, last_by, year_of_second};
-ghost use Rattle.zone_rule.specs.Rules.{is_daylight, rule_offset};
+ghost use Rattle.zone_rule.specs.Rules.{is_daylight, is_daylight_by, rule_offset};
 
 use crate::change::Change;
 use chrono_datetime::{Datelike, NaiveDate};
@@ -73,6 +74,50 @@ impl Rule {
         } else {
             self.standard
         }
+    }
+
+    /// Returns whether daylight time holds at the instant `second`, in seconds from 1 January 1970 in UTC.
+    ///
+    /// ```
+    /// let begins = Change::new(RuleDay::Julian(60), 7_200)?;
+    /// let ends = Change::new(RuleDay::Julian(300), 7_200)?;
+    /// let daylight = Daylight { offset: FixedOffset::east_opt(3_600)?, begins, ends };
+    /// let rule = Rule { standard: FixedOffset::east_opt(0)?, daylight: Some(daylight) };
+    /// rule.is_daylight_at(1_729_990_799) // true
+    /// rule.is_daylight_at(1_729_990_800) // false
+    /// ```
+    pub fn is_daylight_at(&self, second: i64) -> bool
+        ensures { result ≡ is_daylight_by self.now.standard self.now.daylight second }
+    {
+        let Some(daylight) = self.daylight else {
+            return false;
+        };
+        daylight.holds_at(self.standard, second.rem_euclid(SECS_PER_CYCLE))
+    }
+
+    /// Returns the seconds at which daylight time begins and ends in a year, from 1 January 1970 in UTC.
+    ///
+    /// The end may come first. Each is counted to the year of its day, from which its hours may lead away. Returns `None` if the
+    /// rule has no daylight time, or if the year is not from -262,143 to 262,142.
+    ///
+    /// ```
+    /// let begins = Change::new(RuleDay::Julian(60), 7_200)?;
+    /// let ends = Change::new(RuleDay::Julian(300), 7_200)?;
+    /// let daylight = Daylight { offset: FixedOffset::east_opt(3_600)?, begins, ends };
+    /// let rule = Rule { standard: FixedOffset::east_opt(0)?, daylight: Some(daylight) };
+    /// rule.changes_in(2024) // Some((1709258400, 1729990800))
+    /// rule.changes_in(262_143) // None
+    /// ```
+    pub fn changes_in(&self, year: i32) -> Option<(i64, i64)>
+        ensures exists { IsSome result ↔ (IsSome self.now.daylight × IsYear year) }
+        ensures begins { IfSome result (λ r. IfSome self.now.daylight (λ d. r.0 ≡ change_second self.now.standard d.begins year)) }
+        ensures ends { IfSome result (λ r. IfSome self.now.daylight (λ d. r.1 ≡ change_second d.offset d.ends year)) }
+    {
+        let daylight = self.daylight?;
+        // The year is one of the library's.
+        NaiveDate::from_yo_opt(year, 1)?;
+        let begins = daylight.begins.second_in(year, self.standard);
+        Some((begins, daylight.ends.second_in(year, daylight.offset)))
     }
 
     /// Returns the offsets at all instants at which the clock shows the local second `local`, the earlier instant first.
