@@ -1,7 +1,10 @@
 #!/usr/bin/env python3
 """Measures single calls of the calendar beside the same calls of chrono, in one run: how many times as fast ours are.
 
-    benches/calls.py [COUNT]        (20 million if left out)
+    benches/calls.py [--chrono FOLDER] [--instructions] [COUNT]
+
+It makes COUNT calls of each: 20 million if left out, 100,000 with --instructions, which counts instructions by valgrind in place
+of the time. A busy machine does not change those. FOLDER is the package of another version of chrono than Debian's.
 
 It needs crates/timed_chrono/out/timed_chrono, which `rt run` leaves there, and librust-chrono-dev with cargo: benches/chrono_timed
 is its twin over that library.
@@ -13,7 +16,9 @@ timed. They take turns in 21 rounds over all calls, and the best run counts, by 
 draws, looks up and adds without a call. No call waits for the answer of the one before, so what a processor does of a call
 beside the next drawing is not seen.
 """
+import argparse
 import os
+import re
 import subprocess
 import sys
 import tempfile
@@ -81,6 +86,13 @@ def timed(program, call, count):
     return used.ru_utime + used.ru_stime, printed
 
 
+def instructions(program, call, count):
+    """The instructions of a run."""
+    words = ["valgrind", "--tool=callgrind", f"--callgrind-out-file={os.devnull}", program, call, str(count)]
+    ran = subprocess.run(words, stdout=subprocess.DEVNULL, stderr=subprocess.PIPE, check=True)
+    return int(re.search(rb"Collected *: *(\d+)", ran.stderr).group(1))
+
+
 def compare_sums(runs, count=COMPARED):
     """Ends the program unless all who make a call print the same sum."""
     sums = {}
@@ -98,6 +110,11 @@ def best_times(runs, count):
             taken, _ = timed(program, words, count)
             best[call, who] = min(taken, best.get((call, who), taken))
     return best
+
+
+def counts_of_instructions(runs, count):
+    """The instructions of each call by each who makes it, less those of a run that makes it once, in units of which 10^9 are one."""
+    return {(call, who): (instructions(program, words, count) - instructions(program, words, 1)) / 1e9 for call, who, program, words in runs}
 
 
 def all_runs(ours, chrono):
@@ -128,12 +145,18 @@ def row(best, call, count):
 
 
 def main():
-    count = int(sys.argv[1]) if len(sys.argv) > 1 else 20_000_000
+    parser = argparse.ArgumentParser(description="Measures single calls of the calendar beside the same calls of chrono.")
+    parser.add_argument("--chrono", metavar="FOLDER", help="the package of another version of chrono than Debian's")
+    parser.add_argument("--instructions", action="store_true", help="count instructions in place of the time")
+    parser.add_argument("count", nargs="?", type=int)
+    arguments = parser.parse_args()
+    count = arguments.count or (100_000 if arguments.instructions else 20_000_000)
     with tempfile.TemporaryDirectory() as folder:
-        runs = list(all_runs(CHRONO_SUMS, build_over_chrono(folder, "benches/chrono_timed")))
+        runs = list(all_runs(CHRONO_SUMS, build_over_chrono(folder, "benches/chrono_timed", arguments.chrono)))
         compare_sums(runs)
-        best = best_times(runs, count)
-    print(f"{count} calls of each, in nanoseconds a call, and how many times as fast as chrono's ours are (last: as the bare formula)\n")
+        best = counts_of_instructions(runs, count) if arguments.instructions else best_times(runs, count)
+    unit = "instructions" if arguments.instructions else "nanoseconds"
+    print(f"{count} calls of each, in {unit} a call, and how many times as fast as chrono's ours are (last: as the bare formula)\n")
     print("| Call | chrono | `NaiveDate` | `CountedForm` | `PackedForm` | formula | ours | counted | packed | by formula |")
     print("|---|---|---|---|---|---|---|---|---|---|")
     for call in [*OF_DATES, *OTHERS]:

@@ -25,9 +25,16 @@ def why_no_chrono():
     return None if listed and listed.returncode == 0 else "there is no librust-chrono-dev"
 
 
-def build_over_chrono(folder, source):
-    """Builds the program of a folder of this tree over Debian's chrono, below another folder, and returns its path."""
+def build_over_chrono(folder, source, chrono=None):
+    """Builds the program of a folder of this tree over Debian's chrono, below another folder, and returns its path.
+
+    If the folder of another version of chrono is given, a copy of the program is built over that.
+    """
+    made, name, other = os.path.join(TOP, source), os.path.basename(source), []
+    if chrono:
+        made = shutil.copytree(made, os.path.join(folder, name), ignore=shutil.ignore_patterns("Cargo.lock", "target"))
+        other = ["--config", f'patch.crates-io.chrono.path="{os.path.abspath(chrono)}"']
     target = os.path.join(folder, "target")
     env = dict(os.environ, CARGO_TARGET_DIR=target)
-    subprocess.run(["cargo", "build", "--release", "--offline", "--quiet", *FROM_DEBIAN], cwd=os.path.join(TOP, source), env=env, check=True)
-    return os.path.join(target, "release", os.path.basename(source))
+    subprocess.run(["cargo", "build", "--release", "--offline", "--quiet", *FROM_DEBIAN, *other], cwd=made, env=env, check=True)
+    return os.path.join(target, "release", name)
