@@ -4,7 +4,7 @@ ghost use Rattle.chrono_reading.specs.DurationErrors.{cause_of, duration_error, 
 ghost use Rattle.chrono_reading.specs.Fitting.{fitting};
 
 use crate::error::{ReadCause, ReadError, error_at};
-use crate::fitting::{begins, fitting, fitting_pieces, leading_digits};
+use crate::fitting::{begins, fitting_len, fitting_pieces, leading_digits};
 use crate::time::places_of_form;
 
 // Why a text is of no duration, and at which byte.
@@ -65,10 +65,10 @@ fn fitting_duration(text: &[u8]) -> usize
     ensures { result ≡ fitting (duration_form text.now) text.now }
 {
     if begins(b"P0", text) {
-        return fitting(b"P0D", text);
+        return fitting_len(b"P0D", text);
     }
     let front = seconds_front(text);
-    let fit = fitting(front, text);
+    let fit = fitting_len(front, text);
     if fit < front.len() {
         return fit;
     }

@@ -14,8 +14,14 @@ fn stands_for(sign: u8, byte: u8) -> bool
     }
 }
 
-// How many bytes of the text are as the form says, up to the first that is not.
-pub(crate) fn fitting(form: &[u8], text: &[u8]) -> usize
+/// Returns how many bytes of `text` are as `form` says, up to the first that is not.
+///
+/// In a form, `d` stands for any digit and `n` for a digit from 1 to 9. Every other byte stands for itself.
+///
+/// ```
+/// fitting_len(b"dd:dd", b"09:3x") // 4
+/// ```
+pub fn fitting_len(form: &[u8], text: &[u8]) -> usize
     ensures value { result ≡ fitting form.now text.now }
     ensures within_form { result ≤ length form.now }
     ensures within_text { result ≤ length text.now }
@@ -35,7 +41,7 @@ pub(crate) fn begins(form: &[u8], text: &[u8]) -> bool
     ensures value { result ≡ begins form.now text.now }
     ensures long { IsTrue result → length form.now ≤ length text.now }
 {
-    fitting(form, text) == form.len()
+    fitting_len(form, text) == form.len()
 }
 
 // How many digits the text begins with.
@@ -91,7 +97,7 @@ pub(crate) fn fitting_pieces(front: &[u8], digits: usize, end: &[u8], text: &[u8
     ensures value { result ≡ fitting (front.now ++ replicate digits (byte "d") ++ end.now) text.now }
     ensures within { result ≤ length text.now }
 {
-    let first = fitting(front, text);
+    let first = fitting_len(front, text);
     if first < front.len() {
         return first;
     }
@@ -99,7 +105,7 @@ pub(crate) fn fitting_pieces(front: &[u8], digits: usize, end: &[u8], text: &[u8
     if second < digits {
         return first + second;
     }
-    let third = fitting(end, &text[first + digits..]);
+    let third = fitting_len(end, &text[first + digits..]);
     first + digits + third
 }
 

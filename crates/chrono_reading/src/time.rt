@@ -10,7 +10,7 @@ ghost use Rattle.chrono_reading.specs.TimeErrors.{HasTimeParts, IsTimeError, clo
 ghost use Rattle.chrono_reading.specs.TimeTexts.{IsTimeText, time_shown};
 
 use crate::error::{ReadCause, ReadError, error_at};
-use crate::fitting::{fitting, fitting_pieces, leading_digits};
+use crate::fitting::{fitting_len, fitting_pieces, leading_digits};
 use chrono_datetime::NaiveTime;
 use chrono_text::{NANOS_PER_SEC, read_fraction, read_two};
 
@@ -34,6 +34,7 @@ pub fn read_time(text: &[u8]) -> Result<NaiveTime, ReadError>
     // Whatever time of day has this text is the answer: no text is refused, and none has two meanings.
     ensures every { (t : TimeOfDay) → IsTimeText text.now t → result ≡ Ok t }
     ensures error { IfErr result (λ e. IsTimeError text.now e) }
+    ensures within { IfErr result (λ e. e.byte ≤ length text.now) }
 {
     match time_of(text) {
         Some(time) => Ok(time),
@@ -142,7 +143,7 @@ fn fitting_time(text: &[u8]) -> usize
     ensures within { result ≤ length text.now }
 {
     if text.len() <= 8 {
-        return fitting(b"dd:dd:dd", text);
+        return fitting_len(b"dd:dd:dd", text);
     }
     let places = places_of_form(leading_digits(&text[9..]));
     fitting_pieces(b"dd:dd:dd.", places, b"", text)

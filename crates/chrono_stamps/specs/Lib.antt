@@ -3,3 +3,4 @@ pub mod Rfc3339
 pub mod WrittenStamps
 pub mod MailWords
 pub mod Rfc2822
+pub mod StampErrors

@@ -15,6 +15,7 @@ mod mail_words;
 mod rfc2822_error;
 mod rfc2822_reader;
 mod rfc2822_writer;
+mod rfc3339_error;
 mod rfc3339_reader;
 mod rfc3339_writer;
 mod seconds_format;

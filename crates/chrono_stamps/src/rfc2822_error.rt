@@ -4,7 +4,7 @@ use crate::mail_words::{
     MailWords, colon_word, comma_word, is_gap, skip_gap, spaced_word, split_word,
 };
 use crate::rfc2822_reader::{is_day_of_week, mail_year, mail_zone};
-use crate::rfc3339_reader::not_of_form;
+use crate::rfc3339_error::not_of_form;
 use chrono_datetime::{Datelike, Month, NaiveDate, Weekday};
 use chrono_reading::{ReadCause, ReadError};
 use chrono_text::{read_count, read_digits, read_two};

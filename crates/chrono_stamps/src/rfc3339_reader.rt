@@ -1,18 +1,16 @@
 //! Reads date-times with their offset (RFC 3339).
-ghost use Rattle.std.specs.Prelude.{◌≡◌, ◌-◌, ◌≤◌, ◌++◌, ◌↔◌, ℕ, ℤ, List, Some, Ok, IfSome, IfOk, IsOkAnd, IsSomeAnd, IsTrue, ◌-ℤ◌, pos, length, drop};
+ghost use Rattle.std.specs.Prelude.{◌≡◌, ◌-◌, ◌≤◌, ◌++◌, ◌↔◌, ℕ, ℤ, List, Some, Ok, IfSome, IfOk, IfErr, IsOkAnd, IsSomeAnd, IsTrue, ◌-ℤ◌, pos, length, drop};
 ghost use Rattle.chrono_datetime.specs.Moment.{Moment};
 ghost use Rattle.chrono_instant.specs.Instants.{IsEpochSecond, epoch_second};
 ghost use Rattle.chrono_instant.specs.Offsets.{moment_ahead};
+ghost use Rattle.chrono_stamps.specs.StampErrors.{IsRfc3339Error};
 ghost use Rattle.chrono_stamps.specs.Rfc3339.{IsOffsetText, IsRfc3339Text, IsSeparator, IsSixBytes};
 
+use crate::rfc3339_error::stamp_error;
 use chrono_datetime::NaiveDateTime;
 use chrono_instant::read_offset;
-use chrono_reading::{ReadCause, ReadError, read_date, read_time};
-use chrono_text::read_two;
+use chrono_reading::{ReadError, read_date, read_time};
 use chrono_zoned::{DateTime, FixedOffset, InZone};
-
-// How many bytes a date has whose year has four digits.
-const DATE_LEN: usize = 10;
 
 /// Reads a date, a time of day and an offset (RFC 3339, 5.6), such as `2024-02-29T15:00:00.25+05:30`. Returns the instant, in a
 /// zone of that offset.
@@ -33,6 +31,7 @@ pub fn parse_from_rfc3339(text: &[u8]) -> Result<DateTime<FixedOffset>, ReadErro
     // Whatever local time and offset have this text are the answer: no text is refused, and none has two meanings.
     ensures every { (m : Moment) (x : ℤ) → IsRfc3339Text text.now m x
         → IsOkAnd result (λ it. (moment_ahead it.utc it.zone ≡ m) × (it.zone ≡ x)) }
+    ensures error { IfErr result (λ e. IsRfc3339Error text.now e) }
 {
     match stamp_of(text) {
         Some(stamp) => Ok(stamp),
@@ -72,7 +71,7 @@ fn parts_of(text: &[u8]) -> Option<(NaiveDateTime, FixedOffset)>
 
 // Whether a byte may stand between date and time.
 #[inline]
-fn is_separator(byte: u8) -> bool
+pub(crate) fn is_separator(byte: u8) -> bool
     ensures { IsTrue result ↔ IsSeparator byte }
 {
     byte == b'T' || byte == b't' || byte == b' '
@@ -122,110 +121,4 @@ fn at_offset(local: NaiveDateTime, offset: FixedOffset) -> DateTime<FixedOffset>
     ensures zone { result.zone ≡ offset }
 {
     offset.from_local_datetime(&local).single().unwrap()
-}
-
-// Why a text is of no date-time.
-#[cold]
-fn stamp_error(text: &[u8]) -> ReadError {
-    if let Some(b'+' | b'-') = text.first() {
-        return not_of_form(0);
-    }
-    let front = &text[..text.len().min(DATE_LEN)];
-    if let Err(error) = read_date(front) {
-        return error;
-    }
-    match text.get(DATE_LEN) {
-        Some(separator) if is_separator(*separator) => {
-            later_by(clock_error(&text[DATE_LEN + 1..]), DATE_LEN + 1)
-        }
-        _ => not_of_form(DATE_LEN),
-    }
-}
-
-// Why no time of day and offset stand behind the date, at which byte from there.
-fn clock_error(text: &[u8]) -> ReadError {
-    let len = clock_len(text);
-    match read_time(&text[..len]) {
-        Err(error) => error,
-        Ok(_) => later_by(offset_error(&text[len..]), len),
-    }
-}
-
-// How many bytes at the front are digits, colons and points, as those of a time of day are.
-fn clock_len(text: &[u8]) -> usize
-    ensures { result ≤ length text.now }
-{
-    text.iter()
-        .position(|byte| !is_of_clock(*byte))
-        .unwrap_or(text.len())
-}
-
-// Whether a byte is a digit, a colon or a point.
-fn is_of_clock(byte: u8) -> bool {
-    byte.is_ascii_digit() || byte == b':' || byte == b'.'
-}
-
-// Why a text is of no offset.
-fn offset_error(text: &[u8]) -> ReadError {
-    match text {
-        [b'Z' | b'z', ..] => not_of_form(1),
-        [b'+' | b'-', minutes @ ..] => later_by(minutes_error(minutes), 1),
-        _ => not_of_form(0),
-    }
-}
-
-// Why a text is of no hours and minutes.
-fn minutes_error(text: &[u8]) -> ReadError {
-    let len = fitting_minutes(text);
-    match text {
-        [tens, ones, _, _, _] if len == 5 => match read_two(*tens, *ones) {
-            Some(hour) if hour > 23 => ReadError {
-                cause: ReadCause::HourAbove23,
-                byte: 0,
-            },
-            _ => ReadError {
-                cause: ReadCause::MinuteAbove59,
-                byte: 3,
-            },
-        },
-        _ => not_of_form(len),
-    }
-}
-
-// How many bytes are as those of two digits, a colon and two digits.
-fn fitting_minutes(text: &[u8]) -> usize {
-    if !is_digit_at(text, 0) {
-        0
-    } else if !is_digit_at(text, 1) {
-        1
-    } else if text.get(2) != Some(&b':') {
-        2
-    } else if !is_digit_at(text, 3) {
-        3
-    } else if !is_digit_at(text, 4) {
-        4
-    } else {
-        5
-    }
-}
-
-// Whether a digit stands at a place.
-fn is_digit_at(text: &[u8], at: usize) -> bool {
-    at < text.len() && text[at].is_ascii_digit()
-}
-
-// The text is not as its grammar says from this byte on.
-pub(crate) fn not_of_form(byte: usize) -> ReadError {
-    ReadError {
-        cause: ReadCause::NotThisForm,
-        byte,
-    }
-}
-
-// An error so many bytes later.
-fn later_by(error: ReadError, bytes: usize) -> ReadError {
-    ReadError {
-        cause: error.cause,
-        byte: error.byte.saturating_add(bytes),
-    }
 }

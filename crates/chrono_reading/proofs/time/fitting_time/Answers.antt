@@ -6,7 +6,7 @@ use Rattle.chrono_reading.proofs.PartsLemmas.{time_form-long, time_form-short}
 use Rattle.chrono_reading.proofs.time.fitting_time.Goals as goal
 
 pub returns-then-text-le8-clause-value : goal.returns-then-text-le8-clause-value
-returns-then-text-le8-clause-value c = let form = time_form-short c.args.text.now c.if-text-le8.true in cc (c.fitting.ensures.value, form)
+returns-then-text-le8-clause-value c = let form = time_form-short c.args.text.now c.if-text-le8.true in cc (c.fitting_len.ensures.value, form)
 
 pub returns-clause-value : goal.returns-clause-value
 returns-clause-value c =

@@ -1,6 +1,6 @@
 use Rattle.std.proofs.Common.{inl, inr, sym, ◌∙◌, arith}
 use Rattle.chrono_reading.proofs.FittingLemmas.{fitting-end, fitting-no, fitting-yes}
-use Rattle.chrono_reading.proofs.fitting.fitting.Goals as goal
+use Rattle.chrono_reading.proofs.fitting.fitting_len.Goals as goal
 
 pub returns-then-not-stands_for-clause-value : goal.returns-then-not-stands_for-clause-value
 returns-then-not-stands_for-clause-value c =

@@ -1,7 +1,7 @@
 -- So many bytes are as the form says.
 use Rattle.std.proofs.Common.{◌≡◌, ◌+◌, ◌-◌, ◌≤◌, drop, length}
 use Rattle.chrono_reading.specs.Fitting.{fitting}
-use Rattle.chrono_reading.proofs.fitting.fitting.Given as goal
+use Rattle.chrono_reading.proofs.fitting.fitting_len.Given as goal
 
 abbrev pub invariant-loop-len : goal.invariant-loop-len
 invariant-loop-len l = record {
