@@ -1,4 +1,5 @@
 -- Lemmas of this crate's own proofs.
+mod AllYear
 mod Carried
 mod DaysInYears
 mod LastChanges

@@ -35,7 +35,7 @@ day_in_year y (Week m n d) = day_number_of_ymd y m (nth_or_last (days_with_weekd
 day_in_year y (Julian n) = day_number_of_yo y (ordinal_of_julian y n)
 day_in_year y (FromZero n) = day_number_of_yo y (n + 1)
 
--- y is a year in which a cycle of 400 years may lie
+-- y is a year of the cycle from 1970 to 2369, or one near it
 abbrev pub IsYearOfCycle : ℤ → Type 0
 IsYearOfCycle y = (pos 1_900 ≤ℤ y) × (y ≤ℤ pos 2_500)
 
@@ -48,7 +48,7 @@ change_second offset c y =
 abbrev pub year_of_second : ℤ → ℤ
 year_of_second u = year_of (unix_epoch_day +ℤ int_div_euclid u (pos seconds_per_day))
 
--- the last second up to u that a change has in the years y - 2 to y + 1, or that of the year y - 2
+-- where y is the year of the second u, the last second up to u that a yearly change has: it is that of one of four years
 abbrev pub last_by : (ℤ → ℤ) → ℤ → ℤ → ℤ
 last_by second y u =
     if int_le (second (y +ℤ pos 1)) u then second (y +ℤ pos 1)

@@ -1,9 +1,10 @@
 //! Laws of rules, each as the contract of a function, and known values.
-ghost use Rattle.std.specs.Prelude.{◌≡◌, ℤ, pos, neg_ℤ, ◌+ℤ◌, ◌≤ℤ◌, ◌<ℤ◌};
+ghost use Rattle.std.specs.Prelude.{◌≡◌, true, ℤ, pos, neg_ℤ, ◌+ℤ◌, ◌≤ℤ◌, ◌<ℤ◌};
 ghost use Rattle.chrono_units.specs.declared.weekday.Weekday.TheVariants.{Sun};
 ghost use Rattle.chrono_datetime.specs.Days.{day_number_of_ymd};
 ghost use Rattle.chrono_zoned.specs.Offsets.{IsOffset};
 ghost use Rattle.zone_rule.specs.Changes.{IsChange, YearlyChange, change_second, day_in_year, last_by, year_of_second};
+ghost use Rattle.zone_rule.specs.Rules.{is_daylight};
 ghost use Rattle.zone_rule.specs.declared.rule_day.RuleDay.{RuleDay};
 ghost use Rattle.zone_rule.specs.declared.rule_day.RuleDay.TheVariants.{FromZero, Julian, Week};
 
@@ -12,6 +13,17 @@ pub fn changes_come_again()
     ensures day { (day : RuleDay) (y : ℤ) → day_in_year (y +ℤ pos 400) day ≡ day_in_year y day +ℤ pos 146_097 }
     ensures change { (offset : ℤ) (c : YearlyChange) (y : ℤ) →
         change_second offset c (y +ℤ pos 400) ≡ change_second offset c y +ℤ pos 12_622_780_800 }
+{}
+
+/// Daylight time that ends as it begins again holds always.
+///
+/// RFC 9636, section 3.3.1, has `XXX3EDT4,0/0,J365/23` for a clock that is four hours behind UTC all year.
+pub fn daylight_time_may_last_all_year()
+    ensures { (u : ℤ) → is_daylight (neg_ℤ (pos 10_800)) (record {
+      offset = neg_ℤ (pos 14_400);
+      begins = record { day = FromZero 0; second = pos 0 };
+      ends = record { day = Julian 365; second = pos 82_800 };
+    }) u ≡ true }
 {}
 
 /// Known days. In each year `J60` is 1 March.

@@ -1,4 +1,4 @@
-use Rattle.std.proofs.Common.{ap, sym, ◌∙◌, ◌≡◌, ℤ, pos, to_z, of_z, w64, Option}
+use Rattle.std.proofs.Common.{ap, sym, ◌∙◌, ◌≡◌, ℤ, pos, w64, Option}
 use Rattle.std.proofs.lemmas.Int.{to_z-of_z}
 use Rattle.std.specs.Int.{int_rem_euclid}
 use Rattle.zone_rule.specs.Rules.{is_daylight, is_daylight_by}
