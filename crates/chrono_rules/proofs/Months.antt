@@ -3,9 +3,9 @@ use Rattle.std.proofs.Common.{◌≡◌, ℕ, ◌+◌, ◌-◌, ◌%◌, ◌<◌
 use Rattle.std.proofs.lemmas.Int.{by_lt_z}
 use Rattle.std.specs.Int.{IsInRange}
 use Rattle.chrono_datetime.specs.Days.{day_of, month_of, year_of}
-use Rattle.chrono_datetime.specs.MonthMoves.{InSameMonth, month_index, month_index_of, month_last_of, month_length_of}
+use Rattle.chrono_datetime.specs.MonthMoves.{InSameMonth, month_index, month_index_of, month_length_of}
 use Rattle.chrono_datetime.specs.Years.{month_length}
-use Rattle.chrono_datetime.proofs.MonthDays.{day_of-bounds, later_in_month, month-days}
+use Rattle.chrono_datetime.proofs.MonthDays.{day_of-bounds, later_in_month}
 use Rattle.chrono_datetime.proofs.MonthOrder.{before_month, day_at-exists, days_in_order, earlier_month, month_of-range}
 use Rattle.chrono_datetime.proofs.Signed.{signed}
 use Rattle.chrono_datetime.proofs.Rising.{month_index_of-rises}
@@ -63,12 +63,6 @@ in_month n d k low high few =
     let last : day_of n + j ≤ month_length_of n = omega (arith, less, few, day_of-bounds n) in
     let place = later_in_month n d j at last in
     (less, place.day, same_length n d place.month.0 place.month.1, at, last)
-
--- in its own month no day is in a later one
-pub own_month : (n d k : ℤ) → n ≤ℤ d → d ≤ℤ month_last_of n → pos 0 <ℤ k → month_index_of d <ℤ (month_index_of n +ℤ k)
-own_month n d k low high some =
-    let same : InSameMonth d n = (month-days n d).1 (omega (arith, signed, low, day_of-bounds n), high) in
-    omega (arith, signed, same.0, same.1, some)
 
 -- the first day of a month so many months later, found from the first of this one
 pub first_later : (n first e k : ℤ) → InSameMonth first n → day_of first ≡ 1 → month_index_of e ≡ month_index_of first +ℤ k → day_of e ≡ min (day_of first) (month_length_of e) → (month_index_of e ≡ month_index_of n +ℤ k) × (day_of e ≡ 1)

@@ -400,7 +400,7 @@ impl Rule {
     }
 }
 
-// How many days from this one on lie before the month that is so many months later; those of its own month if the calendar has none.
+// How many days from this one on lie before the month that is so many months later; all that are left if the calendar has none.
 #[inline]
 pub(crate) fn days_to_month(day: NaiveDate, months: i64) -> i64
     requires low { pos 0 ≤ℤ months }
@@ -412,9 +412,10 @@ pub(crate) fn days_to_month(day: NaiveDate, months: i64) -> i64
     if months == 0 {
         return 0;
     }
+    let here = i64::from(day.num_days_from_ce());
     match day.first_day_of_month().moved_by_months(months) {
-        Some(first) => i64::from(first.num_days_from_ce()) - i64::from(day.num_days_from_ce()),
-        None => 1 + i64::from(u32::from(day.num_days_in_month()) - day.day()),
+        Some(first) => i64::from(first.num_days_from_ce()) - here,
+        None => i64::from(PAST_LAST_DAY) - here,
     }
 }
 

@@ -43,8 +43,8 @@ impl Rule {
         self.days_to_period(day, periods)
     }
 
-    // How many days from this one on lie before the period that is so many periods later; those of its own month if the calendar has
-    // none.
+    // How many days from this one on lie before the period that is so many periods later. By months and years they are all that are left if
+    // the calendar has none.
     #[tactic(auto, unfolding(crate::specs::Periods::period_of))]
     fn days_to_period(&self, day: NaiveDate, periods: i64) -> i64
         requires some { pos 0 <ℤ periods }

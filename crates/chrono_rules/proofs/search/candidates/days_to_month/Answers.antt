@@ -1,8 +1,23 @@
-use Rattle.std.proofs.Common.{arith}
+use Rattle.std.proofs.Common.{arith, ℤ, pos, ◌+ℤ◌, ◌≤ℤ◌, of_z, to_z, w64}
+use Rattle.std.proofs.lemmas.Bool.{false≢true}
+use Rattle.std.proofs.lemmas.Int.{by_lt_z}
+use Rattle.chrono_calendar.proofs.MonthMoveLaws.{year_of-range}
+use Rattle.chrono_datetime.specs.Days.{IsDate, year_of}
+use Rattle.chrono_datetime.specs.MonthMoves.{InSameMonth, month_index_of, year_of_month_index}
+use Rattle.chrono_datetime.specs.Years.{IsYear}
+use Rattle.chrono_datetime.proofs.MonthOrder.{month_of-range}
 use Rattle.chrono_datetime.proofs.MonthPlaces.{later_month}
-use Rattle.chrono_datetime.proofs.Signed.{casts}
-use Rattle.chrono_rules.proofs.Months.{before_month_first, first_later, own_month}
+use Rattle.chrono_datetime.proofs.Signed.{casts, signed}
+use Rattle.chrono_rules.proofs.Months.{before_month_first, first_later}
 use Rattle.chrono_rules.proofs.search.candidates.days_to_month.Goals as goal
+
+-- a month outside the calendar is later than that of any date
+none_later : (first day d months : ℤ) → (IsYear (year_of_month_index (month_index_of first +ℤ months)) → ⊥) → InSameMonth first day → IsYear (year_of day) → IsYear (year_of d)
+    → pos 0 ≤ℤ months → (month_index_of day +ℤ months) ≤ℤ month_index_of d → ⊥
+none_later first day d months none same low high some more =
+    let a = month_of-range day in
+    let b = month_of-range d in
+    none (omega (arith, signed, same.0, same.1, low.0, a, some), omega (arith, signed, same.0, same.1, high.1, b, more))
 
 pub returns-in-Some-clause-earlier : goal.returns-in-Some-clause-earlier
 returns-in-Some-clause-earlier c = λ d low high.
@@ -16,4 +31,13 @@ returns-in-Some-clause-low c =
 
 pub returns-in-None-clause-earlier : goal.returns-in-None-clause-earlier
 returns-in-None-clause-earlier c = λ d low high.
-    own_month c.args.day d c.args.months low (omega (arith, casts, high)) (omega (arith, casts, c.requires.low))
+    let day = c.args.day in
+    let here = c.num_days_from_ce.ensures in
+    let own : IsDate day = (omega (arith, casts, here.value, here.in_range), omega (arith, casts, here.value, here.in_range)) in
+    let date : IsDate d = (omega (arith, casts, low, own.0), omega (arith, casts, high, here.value)) in
+    let months = to_z w64 (of_z w64 c.args.months) in
+    by_lt_z (month_index_of d) (month_index_of day +ℤ c.args.months) (λ less. less)
+    (λ more.
+    absurd (none_later c.first_day_of_month.result day d months (λ year. false≢true (c.in-None.ensures.exists.1 year))
+    c.first_day_of_month.ensures.month (year_of-range day own) (year_of-range d date) (omega (arith, casts, c.requires.low, c.requires.high))
+    (omega (arith, casts, c.requires.low, c.requires.high, more))))
