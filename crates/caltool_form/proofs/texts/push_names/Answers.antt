@@ -11,10 +11,17 @@ push_week_and_ordinal-requires g c =
     let first = c.push_date.new.out in
     let second = c.push_day_and_weekday.new.out in
     let date = c.push_date.ensures in
-    let others = c.push_day_and_weekday.ensures in
-    (search rules, (omega (arith, date.fits, others.fits), (omega (arith, ap length c.as_bytes-start.ensures.value, ap length c.as_bytes.ensures.value, date.fits),
-      rw (c.as_bytes-start.ensures.value, c.as_bytes.ensures.value, c.as_bytes-2.ensures.value)
-      (year_again old first second _ _ _ _ (year_of n) (month_of n) (day_of n) date.text others.text date.fits))))
+    let others = c.push_day_and_weekday.ensures in (
+      search rules,
+      (
+        omega (arith, date.fits, others.fits),
+        (
+          omega (arith, ap length c.as_bytes-start.ensures.value, ap length c.as_bytes.ensures.value, date.fits),
+          rw (c.as_bytes-start.ensures.value, c.as_bytes.ensures.value, c.as_bytes-2.ensures.value)
+              (year_again old first second _ _ _ _ (year_of n) (month_of n) (day_of n) date.text others.text date.fits),
+        ),
+      ),
+    )
 
 pub returns-clause-text : goal.returns-clause-text
 unfolding names_of
