@@ -16,15 +16,15 @@ use Rattle.chrono_calendar.specs.YearsBetween.{years_between}
 use Rattle.caltool_form.specs.SpacedDays.{spaced_days_text}
 use Rattle.caltool_command.specs.Commands.{command_of}
 use Rattle.caltool_form.specs.Lines.{lines}
-use Rattle.caltool_form.specs.Named.{date_named, moment_named, duration_named, months_of, reach}
-use Rattle.caltool_form.specs.Texts.{date_text, moment_text, text_or_none}
+use Rattle.caltool_form.specs.Named.{date_named, moment_named, duration_named, months_of, reach_named}
+use Rattle.caltool_form.specs.Texts.{text_of_date, text_of_moment, text_or_none}
 use Rattle.caltool_command.specs.declared.command.Command.{Command}
 use Rattle.caltool_command.specs.declared.command.Command.TheVariants.{Ymd, Yo, Iwd, Day, Wom, Days, Months, Week, Move, Diff, Since, Set, On, Every}
 
 -- the line of a date: the date, its day number, its weekday, its ISO week and its ordinal
 unfoldable pub names_of : ℤ → List ℕ
 names_of n =
-    date_text n ++ codes " " ++ signed_decimal n ++ codes " " ++ weekday_text (weekday_of n) ++ codes " "
+    text_of_date n ++ codes " " ++ signed_decimal n ++ codes " " ++ weekday_text (weekday_of n) ++ codes " "
     ++ week_text (iso_year_of n) (iso_week_of n) ++ codes " " ++ decimal (ordinal_of n)
 
 -- the line of a date, or `none`
@@ -33,7 +33,7 @@ date_line date = text_or_none names_of date
 
 -- the first and the last day of a week, each a date or none
 unfoldable pub week_line : ℤ → List ℕ
-week_line first = text_or_none date_text (date_of_day first) ++ codes " " ++ text_or_none date_text (date_of_day (first +ℤ pos 6))
+week_line first = text_or_none text_of_date (date_of_day first) ++ codes " " ++ text_or_none text_of_date (date_of_day (first +ℤ pos 6))
 
 -- the text that answers a command
 unfoldable pub answer_to : Command → List ℕ
@@ -46,8 +46,8 @@ answer_to (Days date count) = date_line (option_and_then (λ n. date_of_day (n +
 answer_to (Months date span) = date_line (option_and_then (λ n. month_move n (months_of span)) (date_named date))
 answer_to (Week date start) = text_or_none (λ n. week_line (week_first_of n start)) (date_named date)
 answer_to (Move from seconds nanoseconds) =
-    text_or_none (moment_text (byte "T"))
-    (option_and_then (λ m. option_and_then (λ x. reach m x) (duration_named seconds nanoseconds)) (moment_named from))
+    text_or_none (text_of_moment (byte "T"))
+    (option_and_then (λ m. option_and_then (λ x. reach_named m x) (duration_named seconds nanoseconds)) (moment_named from))
 answer_to (Diff first second) =
     text_or_none duration_text (option_and_then (λ a. option_map (λ b. moment_distance a b) (moment_named second)) (moment_named first))
 answer_to (Since date base) =

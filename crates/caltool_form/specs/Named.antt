@@ -33,5 +33,5 @@ months_of (Later n) = pos n
 months_of (Earlier n) = neg_ℤ (pos n)
 
 -- the date-time x nanoseconds on, if its day is a date
-unfoldable pub reach : Moment → ℤ → Option Moment
-reach m x = reach_by date_of_day m x
+unfoldable pub reach_named : Moment → ℤ → Option Moment
+reach_named m x = reach_by date_of_day m x

@@ -11,9 +11,9 @@ text_or_none text None = codes "none"
 text_or_none text (Some a) = text a
 
 -- the date n (ISO 8601 calendar date)
-abbrev pub date_text : ℤ → List ℕ
-date_text n = calendar_text (year_of n) (month_of n) (day_of n)
+abbrev pub text_of_date : ℤ → List ℕ
+text_of_date n = calendar_text (year_of n) (month_of n) (day_of n)
 
 -- a date, a character, and a time of day (ISO 8601 date and time of day, where the character is a `T`)
-abbrev pub moment_text : ℕ → Moment → List ℕ
-moment_text separator m = date_text m.date ++ separator ∷ [] ++ time_text m.time
+abbrev pub text_of_moment : ℕ → Moment → List ℕ
+text_of_moment separator m = text_of_date m.date ++ separator ∷ [] ++ time_text m.time

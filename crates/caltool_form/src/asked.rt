@@ -6,7 +6,7 @@ ghost use Rattle.chrono_calendar.specs.Days.{date_of_day};
 ghost use Rattle.chrono_calendar.specs.MonthMoves.{month_move};
 ghost use Rattle.chrono_calendar.specs.Recurrence.{date_every, date_on};
 ghost use Rattle.chrono_calendar.specs.YearsBetween.{years_between};
-ghost use Rattle.caltool_form.specs.Named.{date_named as the_date, duration_named as the_duration, moment_named as the_moment, months_of, reach};
+ghost use Rattle.caltool_form.specs.Named.{date_named as the_date, duration_named as the_duration, moment_named as the_moment, months_of, reach_named};
 
 use crate::command_answers::CommandAnswers;
 use crate::named::{duration_named, time_named};
@@ -98,7 +98,7 @@ pub(crate) fn moved<A: CommandAnswers>(
     nanoseconds: u32,
 ) -> Option<(A::Date, NaiveTime)>
     ensures { option_map (λ m. moment (A.number m.0) m.1) result
-        ≡ option_and_then (λ m. option_and_then (λ x. reach m x) (the_duration seconds nanoseconds))
+        ≡ option_and_then (λ m. option_and_then (λ x. reach_named m x) (the_duration seconds nanoseconds))
         (the_moment from) }
 {
     let (date, time) = moment_named::<A>(from)?;

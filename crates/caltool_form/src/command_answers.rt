@@ -8,7 +8,7 @@ ghost use Rattle.chrono_calendar.specs.Days.{IsCalendarName, date_of_day, date_o
 ghost use Rattle.chrono_calendar.specs.MonthMoves.{month_move};
 ghost use Rattle.chrono_calendar.specs.Recurrence.{date_every, date_on};
 ghost use Rattle.chrono_calendar.specs.Weeks.{date_of_iso, date_of_nth_weekday, iso_week_of, iso_year_of, week_first_of, weekday_of};
-ghost use Rattle.caltool_form.specs.Named.{months_of, reach};
+ghost use Rattle.caltool_form.specs.Named.{months_of, reach_named};
 
 use caltool_command::MonthSpan;
 use chrono_clock::{NaiveTime, TimeDelta};
@@ -60,7 +60,7 @@ pub trait CommandAnswers {
         by: TimeDelta,
     ) -> Option<(Self::Date, NaiveTime)>
         ensures { option_map (λ m. moment (number m.0) m.1) result
-            ≡ reach (moment (number date) time) by };
+            ≡ reach_named (moment (number date) time) by };
 
     /// Returns the first and the last day of the date's week, if weeks begin on `start`. A day out of range is `None`.
     fn week(date: Self::Date, start: Weekday) -> (Option<Self::Date>, Option<Self::Date>)

@@ -13,7 +13,7 @@ ghost use Rattle.chrono_calendar.specs.Weeks.{iso_week_of, iso_year_of, week_fir
 ghost use Rattle.caltool_form.specs.SpacedDays.{spaced_days_text};
 ghost use Rattle.caltool_form.specs.Private.{listed_days_text};
 ghost use Rattle.caltool_form.specs.Answers.{date_line, names_of, week_line};
-ghost use Rattle.caltool_form.specs.Texts.{date_text, moment_text, text_or_none};
+ghost use Rattle.caltool_form.specs.Texts.{text_of_date, text_of_moment, text_or_none};
 
 use crate::command_answers::CommandAnswers;
 use chrono_clock::{NaiveTime, TimeDelta, Timelike};
@@ -81,7 +81,7 @@ fn push_week_days<A: CommandAnswers, const N: usize>(
 // A date, or `none`.
 fn push_date_or_none<A: CommandAnswers, const N: usize>(out: &mut Text<N>, date: Option<A::Date>)
     requires { length out.old + 15 ≤ N }
-    ensures text { out.new ≡ out.old ++ text_or_none date_text (option_map A.number date) }
+    ensures text { out.new ≡ out.old ++ text_or_none text_of_date (option_map A.number date) }
     ensures fits { length out.new ≤ length out.old + 13 }
 {
     match date {
@@ -97,7 +97,7 @@ pub(crate) fn push_moment<A: CommandAnswers, const N: usize>(
 )
     requires { length out.old + 63 ≤ N }
     ensures text { out.new ≡ out.old
-        ++ text_or_none (moment_text (byte "T")) (option_map (λ m. moment (A.number m.0) m.1) reached) }
+        ++ text_or_none (text_of_moment (byte "T")) (option_map (λ m. moment (A.number m.0) m.1) reached) }
     ensures fits { length out.new ≤ length out.old + 63 }
 {
     match reached {
@@ -215,7 +215,7 @@ fn spaced_name(day: Weekday) -> [u8; 4]
 // A date.
 fn push_date<A: CommandAnswers, const N: usize>(out: &mut Text<N>, date: A::Date)
     requires { length out.old + 15 ≤ N }
-    ensures text { out.new ≡ out.old ++ date_text (A.number date) }
+    ensures text { out.new ≡ out.old ++ text_of_date (A.number date) }
     ensures fits { length out.new ≤ length out.old + 13 }
 {
     let (year, month, day) = A::year_month_day(date);
@@ -360,7 +360,7 @@ fn push_date_and_time<A: CommandAnswers, const N: usize>(
     time: NaiveTime,
 )
     requires { length out.old + 63 ≤ N }
-    ensures text { out.new ≡ out.old ++ moment_text (byte "T") (moment (A.number date) time) }
+    ensures text { out.new ≡ out.old ++ text_of_moment (byte "T") (moment (A.number date) time) }
     ensures fits { length out.new ≤ length out.old + 63 }
 {
     push_date::<A, N>(out, date);

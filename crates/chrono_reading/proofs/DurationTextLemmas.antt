@@ -16,9 +16,9 @@ use Rattle.chrono_text.proofs.DigitLemmas.{by_size}
 use Rattle.chrono_text.proofs.FractionLemmas.{IsFractionText-below, IsFractionText-same}
 
 -- what stands behind the digits
-begins : (digits rest text : List ℕ) (n : ℕ) → digits ++ rest ≡ text → IsFractionText rest n → length digits < length text → get_or text (length digits) 0 ≡ 46
-begins digits rest text n e (inl is) more = absurd (omega (arith, ap length is.0, ap length e, length-append digits rest))
-begins digits rest text n e (inr is) more = ap (λ (t : List ℕ). get_or t (length digits) 0) (sym e) ∙ ap (λ (t : List ℕ). get_or (digits ++ t) (length digits) 0) (sym is.written) ∙ get_or_at digits 46 _ 0 (length digits) refl
+fits_front : (digits rest text : List ℕ) (n : ℕ) → digits ++ rest ≡ text → IsFractionText rest n → length digits < length text → get_or text (length digits) 0 ≡ 46
+fits_front digits rest text n e (inl is) more = absurd (omega (arith, ap length is.0, ap length e, length-append digits rest))
+fits_front digits rest text n e (inr is) more = ap (λ (t : List ℕ). get_or t (length digits) 0) (sym e) ∙ ap (λ (t : List ℕ). get_or (digits ++ t) (length digits) 0) (sym is.written) ∙ get_or_at digits 46 _ 0 (length digits) refl
 
 -- digits end where the first point stands, if what follows them is nothing or begins with a point
 pub point_between : (digits rest text : List ℕ) (n at : ℕ) → digits ++ rest ≡ text → AllDigits 10 digits → IsFractionText rest n
@@ -26,7 +26,7 @@ pub point_between : (digits rest text : List ℕ) (n at : ℕ) → digits ++ res
 point_between digits rest text n at e all fraction within first point =
     let size : length text ≡ length digits + length rest = ap length (sym e) ∙ length-append digits rest in
     by_size at (length digits)
-    (λ past. absurd (first (length digits) past (begins digits rest text n e fraction (omega arith))))
+    (λ past. absurd (first (length digits) past (fits_front digits rest text n e fraction (omega arith))))
     (λ not_past. by_size (length digits) at
     (λ inside.
     let digit = digit_at digits at all inside in

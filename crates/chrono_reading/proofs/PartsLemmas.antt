@@ -6,7 +6,7 @@ use Rattle.std.proofs.lemmas.List.{append-nil}
 use Rattle.chrono_text.specs.Fractions.{IsFractionText}
 use Rattle.chrono_text.specs.Text.{all_digits, two_digits}
 use Rattle.chrono_reading.specs.DurationErrors.{duration_form, seconds_form, seconds_front, whole_form, whole_front, whole_more}
-use Rattle.chrono_reading.specs.Fitting.{IsOfForm, begins, fitting, leading_digits}
+use Rattle.chrono_reading.specs.Fitting.{IsOfForm, fits_front, fitting, leading_digits}
 use Rattle.chrono_reading.specs.TimeErrors.{HasTimeParts, places_of_form, time_form}
 
 -- a text is a year and what stands behind it
@@ -27,11 +27,11 @@ week-joined year text w d k front end = let parts = joined year (45 ∷ 87 ∷ t
 -- a text is of a form, if it fits it and is as long
 pub of_form : (form text : List ℕ) (len size : ℕ) → len ≡ fitting (form ++ []) text → size ≡ length form → len ≡ length text → size ≡ len → IsOfForm form text
 of_form form text len size fits long ends same =
-    let whole : len ≡ fitting form text = fits ∙ ap (λ (f : List ℕ). fitting f text) (append-nil form) in record { begins = omega arith; ends = omega arith }
+    let whole : len ≡ fitting form text = fits ∙ ap (λ (f : List ℕ). fitting f text) (append-nil form) in record { fits_front = omega arith; ends = omega arith }
 
 pub from_form : (form text : List ℕ) (len size : ℕ) → len ≡ fitting (form ++ []) text → size ≡ length form → IsOfForm form text → (len ≡ length text) × (size ≡ len)
 from_form form text len size fits long is =
-    let whole : len ≡ fitting form text = fits ∙ ap (λ (f : List ℕ). fitting f text) (append-nil form) in (omega (arith, is.begins, is.ends), omega (arith, is.begins, is.ends))
+    let whole : len ≡ fitting form text = fits ∙ ap (λ (f : List ℕ). fitting f text) (append-nil form) in (omega (arith, is.fits_front, is.ends), omega (arith, is.fits_front, is.ends))
 
 -- the two forms of a time
 pub time_form-short : (text : List ℕ) → length text ≤ 8 → time_form text ≡ codes "dd:dd:dd"
@@ -50,11 +50,11 @@ pub whole_form-is : (text front : List ℕ) (more : ℕ) → front ≡ whole_fro
 unfolding whole_form
 whole_form-is text front more e f = append-nil _ ∙ rw (e, f) refl
 
-pub duration_form-zero : (text : List ℕ) → begins (codes "P0") text ≡ true → duration_form text ≡ codes "P0D"
+pub duration_form-zero : (text : List ℕ) → fits_front (codes "P0") text ≡ true → duration_form text ≡ codes "P0D"
 unfolding duration_form
 duration_form-zero text is = ap (λ t. if t then codes "P0D" else seconds_front text ++ seconds_form (drop (length (seconds_front text)) text)) is
 
-pub duration_form-other : (text : List ℕ) → begins (codes "P0") text ≡ false → duration_form text ≡ seconds_front text ++ seconds_form (drop (length (seconds_front text)) text)
+pub duration_form-other : (text : List ℕ) → fits_front (codes "P0") text ≡ false → duration_form text ≡ seconds_front text ++ seconds_form (drop (length (seconds_front text)) text)
 unfolding duration_form
 duration_form-other text is = ap (λ t. if t then codes "P0D" else seconds_front text ++ seconds_form (drop (length (seconds_front text)) text)) is
 

@@ -3,7 +3,7 @@ use Rattle.std.specs.Prelude.{◌≡◌, ◌==◌, ◌-◌, ℕ, Bool, not, ◌&
 use Rattle.std.specs.List.{prefix_len}
 use Rattle.std.specs.Str.{byte}
 use Rattle.chrono_reading.specs.DateErrors.{error_at}
-use Rattle.chrono_reading.specs.Fitting.{begins, fitting, form_error, leading_digits}
+use Rattle.chrono_reading.specs.Fitting.{fits_front, fitting, form_error, leading_digits}
 use Rattle.chrono_reading.specs.TimeErrors.{places_of_form}
 use Rattle.chrono_reading.specs.declared.error.ReadCause.{ReadCause}
 use Rattle.chrono_reading.specs.declared.error.ReadCause.TheVariants.{NotThisForm, ZeroInSeconds, DurationOutOfRange}
@@ -11,24 +11,24 @@ use Rattle.chrono_reading.specs.declared.error.ReadError.{ReadError}
 
 -- what stands in front of the seconds
 abbrev pub seconds_front : List ℕ → List ℕ
-seconds_front text = if begins (codes "-") text then codes "-PT" else codes "PT"
+seconds_front text = if fits_front (codes "-") text then codes "-PT" else codes "PT"
 
 -- the form of the whole seconds that a text begins with: 0 alone, or digits that do not begin with 0
 abbrev pub whole_front : List ℕ → List ℕ
-whole_front text = if begins (codes "0") text then codes "0" else codes "n"
+whole_front text = if fits_front (codes "0") text then codes "0" else codes "n"
 
 abbrev pub whole_more : List ℕ → ℕ
-whole_more text = if begins (codes "0") text then 0 else leading_digits text - 1
+whole_more text = if fits_front (codes "0") text then 0 else leading_digits text - 1
 
 unfoldable pub whole_form : List ℕ → List ℕ
 whole_form text = whole_front text ++ replicate (whole_more text) (byte "d")
 
 -- the form of what follows them: nothing or a point and one to nine digits, and `S`
 abbrev pub point_front : List ℕ → List ℕ
-point_front text = if begins (codes ".") text then codes "." else []
+point_front text = if fits_front (codes ".") text then codes "." else []
 
 abbrev pub point_more : List ℕ → ℕ
-point_more text = if begins (codes ".") text then places_of_form (leading_digits (drop 1 text)) else 0
+point_more text = if fits_front (codes ".") text then places_of_form (leading_digits (drop 1 text)) else 0
 
 unfoldable pub end_form : List ℕ → List ℕ
 end_form text = point_front text ++ replicate (point_more text) (byte "d") ++ codes "S"
@@ -40,7 +40,7 @@ seconds_form text = whole_form text ++ end_form (drop (length (whole_form text))
 -- the form of a duration: `P0D`, or `PT` and seconds, behind a `-` if the text has one
 unfoldable pub duration_form : List ℕ → List ℕ
 duration_form text =
-    if begins (codes "P0") text then codes "P0D"
+    if fits_front (codes "P0") text then codes "P0D"
     else seconds_front text ++ seconds_form (drop (length (seconds_front text)) text)
 
 -- the text ends with `S`, as each but `P0D` does

@@ -17,12 +17,12 @@ unfoldable pub fitting : List ℕ → List ℕ → ℕ
 fitting form text = common_prefix_len stands_for form text
 
 -- the text begins as the form says
-abbrev pub begins : List ℕ → List ℕ → Bool
-begins form text = fitting form text == length form
+abbrev pub fits_front : List ℕ → List ℕ → Bool
+fits_front form text = fitting form text == length form
 
 -- the whole text is as the form says
 pub record IsOfForm (form text : List ℕ) : Type 0 where
-  pub begins : fitting form text ≡ length form
+  pub fits_front : fitting form text ≡ length form
   pub ends : length text ≡ length form
 
 -- how many digits the text begins with
@@ -33,17 +33,17 @@ leading_digits text = prefix_len is_ascii_digit text
 -- begin with 0, and not all of four are 0. So these are its first bytes, and how many digits follow them, as long as digits follow.
 abbrev pub year_front : List ℕ → List ℕ
 year_front text =
-    if begins (codes "-000") text then codes "-000n"
-    else (if begins (codes "-0") text then codes "-0ddd"
-    else (if begins (codes "-") text then codes "-nddd"
-    else (if begins (codes "+") text then codes "+ndddd"
+    if fits_front (codes "-000") text then codes "-000n"
+    else (if fits_front (codes "-0") text then codes "-0ddd"
+    else (if fits_front (codes "-") text then codes "-nddd"
+    else (if fits_front (codes "+") text then codes "+ndddd"
     else codes "dddd")))
 
 abbrev pub year_more : List ℕ → ℕ
 year_more text =
-    if begins (codes "-0") text then 0
-    else (if begins (codes "-") text then leading_digits (drop 1 text) - 4
-    else (if begins (codes "+") text then leading_digits (drop 1 text) - 5
+    if fits_front (codes "-0") text then 0
+    else (if fits_front (codes "-") text then leading_digits (drop 1 text) - 4
+    else (if fits_front (codes "+") text then leading_digits (drop 1 text) - 5
     else 0))
 
 -- the form of the year that the text begins with

@@ -4,7 +4,7 @@ ghost use Rattle.chrono_reading.specs.DurationErrors.{cause_of, duration_error, 
 ghost use Rattle.chrono_reading.specs.Fitting.{fitting};
 
 use crate::error::{ReadCause, ReadError, error_at};
-use crate::fitting::{begins, fitting_len, fitting_pieces, leading_digits};
+use crate::fitting::{fits_front, fitting_len, fitting_pieces, leading_digits};
 use crate::time::places_of_form;
 
 // Why a text is of no duration, and at which byte.
@@ -64,7 +64,7 @@ fn is_nought(byte: u8) -> bool
 fn fitting_duration(text: &[u8]) -> usize
     ensures { result ≡ fitting (duration_form text.now) text.now }
 {
-    if begins(b"P0", text) {
+    if fits_front(b"P0", text) {
         return fitting_len(b"P0D", text);
     }
     let front = seconds_front(text);
@@ -79,7 +79,11 @@ fn fitting_duration(text: &[u8]) -> usize
 fn seconds_front(text: &[u8]) -> &'static [u8]
     ensures { result.now ≡ seconds_front text.now }
 {
-    if begins(b"-", text) { b"-PT" } else { b"PT" }
+    if fits_front(b"-", text) {
+        b"-PT"
+    } else {
+        b"PT"
+    }
 }
 
 // How many bytes of the text are as seconds and what follows them.
@@ -114,7 +118,7 @@ fn whole_len(text: &[u8]) -> usize
 fn whole_front(text: &[u8]) -> &'static [u8]
     ensures { result.now ≡ whole_front text.now }
 {
-    if begins(b"0", text) { b"0" } else { b"n" }
+    if fits_front(b"0", text) { b"0" } else { b"n" }
 }
 
 // How many digits follow it.
@@ -122,7 +126,7 @@ fn whole_more(text: &[u8]) -> usize
     ensures value { result ≡ whole_more text.now }
     ensures within { result ≤ length text.now }
 {
-    if begins(b"0", text) {
+    if fits_front(b"0", text) {
         0
     } else {
         leading_digits(text).saturating_sub(1)
@@ -142,14 +146,14 @@ fn fitting_end(text: &[u8]) -> usize
 fn point_front(text: &[u8]) -> &'static [u8]
     ensures { result.now ≡ point_front text.now }
 {
-    if begins(b".", text) { b"." } else { b"" }
+    if fits_front(b".", text) { b"." } else { b"" }
 }
 
 // How many digits stand behind it.
 fn point_more(text: &[u8]) -> usize
     ensures { result ≡ point_more text.now }
 {
-    if begins(b".", text) {
+    if fits_front(b".", text) {
         places_of_form(leading_digits(&text[1..]))
     } else {
         0

@@ -1,7 +1,7 @@
 //! How far a text goes on as a form does.
 ghost use Rattle.std.specs.Prelude.{◌≡◌, ◌≤◌, ◌↔◌, ◌++◌, IsTrue, length, replicate};
 ghost use Rattle.std.specs.Str.{byte};
-ghost use Rattle.chrono_reading.specs.Fitting.{IsOfForm, begins, fitting, leading_digits, stands_for, year_form, year_front, year_more};
+ghost use Rattle.chrono_reading.specs.Fitting.{IsOfForm, fits_front, fitting, leading_digits, stands_for, year_form, year_front, year_more};
 
 // Whether a byte is as a byte of a form says.
 fn stands_for(sign: u8, byte: u8) -> bool
@@ -37,8 +37,8 @@ pub fn fitting_len(form: &[u8], text: &[u8]) -> usize
 }
 
 // Whether the text begins as the form says.
-pub(crate) fn begins(form: &[u8], text: &[u8]) -> bool
-    ensures value { result ≡ begins form.now text.now }
+pub(crate) fn fits_front(form: &[u8], text: &[u8]) -> bool
+    ensures value { result ≡ fits_front form.now text.now }
     ensures long { IsTrue result → length form.now ≤ length text.now }
 {
     fitting_len(form, text) == form.len()
@@ -63,13 +63,13 @@ pub(crate) fn leading_digits(text: &[u8]) -> usize
 fn year_front(text: &[u8]) -> &'static [u8]
     ensures { result.now ≡ year_front text.now }
 {
-    if begins(b"-000", text) {
+    if fits_front(b"-000", text) {
         b"-000n"
-    } else if begins(b"-0", text) {
+    } else if fits_front(b"-0", text) {
         b"-0ddd"
-    } else if begins(b"-", text) {
+    } else if fits_front(b"-", text) {
         b"-nddd"
-    } else if begins(b"+", text) {
+    } else if fits_front(b"+", text) {
         b"+ndddd"
     } else {
         b"dddd"
@@ -81,11 +81,11 @@ fn year_more(text: &[u8]) -> usize
     ensures value { result ≡ year_more text.now }
     ensures within { result ≤ length text.now }
 {
-    if begins(b"-0", text) {
+    if fits_front(b"-0", text) {
         0
-    } else if begins(b"-", text) {
+    } else if fits_front(b"-", text) {
         leading_digits(&text[1..]).saturating_sub(4)
-    } else if begins(b"+", text) {
+    } else if fits_front(b"+", text) {
         leading_digits(&text[1..]).saturating_sub(5)
     } else {
         0

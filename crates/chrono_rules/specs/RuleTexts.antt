@@ -298,7 +298,7 @@ interval_of-zero : interval_of (codes "0") ≡ None
 unfolding interval_of count_of natural_of
 interval_of-zero = refl
 
--- the greatest numbers that fit 32 bits, and the one behind them
+-- the greatest number that fits 32 bits, and the one behind it
 interval_of-greatest : interval_of (codes "4294967295") ≡ Some 4_294_967_295
 unfolding interval_of count_of natural_of
 interval_of-greatest = refl
@@ -306,14 +306,6 @@ interval_of-greatest = refl
 interval_of-past : interval_of (codes "4294967296") ≡ None
 unfolding interval_of count_of natural_of
 interval_of-past = refl
-
-count_of-greatest : count_of (codes "4294967295") ≡ Some 4_294_967_295
-unfolding count_of natural_of
-count_of-greatest = refl
-
-count_of-past : count_of (codes "4294967296") ≡ None
-unfolding count_of natural_of
-count_of-past = refl
 
 count_of-nothing : count_of [] ≡ None
 unfolding count_of natural_of

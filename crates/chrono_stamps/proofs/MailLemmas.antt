@@ -20,7 +20,7 @@ use Rattle.chrono_datetime.specs.declared.Month.TheVariants.{January, February, 
 use Rattle.chrono_datetime.specs.declared.Weekday.{Weekday}
 use Rattle.chrono_datetime.specs.declared.Weekday.TheVariants.{Mon, Tue, Wed, Thu, Fri, Sat, Sun}
 use Rattle.chrono_instant.specs.Offsets.{IsOffset}
-use Rattle.chrono_stamps.specs.WrittenStamps.{day_digits, mail_date_text, month_letters, zone_text}
+use Rattle.chrono_stamps.specs.WrittenStamps.{mail_day_digits, mail_date_text, month_letters, zone_text}
 
 letters : (a b c : ℕ) → a < 128 → b < 128 → c < 128 → IsAscii (a ∷ b ∷ c ∷ [])
 letters a b c h k l = IsAscii-cons a (b ∷ c ∷ []) h (IsAscii-cons b (c ∷ []) k (IsAscii-cons c [] l IsAscii-nil))
@@ -58,7 +58,7 @@ one c h = IsAscii-cons c [] h IsAscii-nil
 is_few : (n : ℕ) → nat_lt n 10 ≡ true → n < 10
 is_few n e = grind (arith, nat_tests)
 
-day_ascii : (n : ℕ) → n < 100 → IsAscii (day_digits n)
+day_ascii : (n : ℕ) → n < 100 → IsAscii (mail_day_digits n)
 day_ascii n small = either (nat_lt n 10) ((48 + n) ∷ []) (two_digits n) (λ few. one (48 + n) (omega (arith, is_few n few))) (λ _. IsAscii-two_digits n small)
 
 four_places : (y : ℤ) → pos 0 ≤ℤ y → y ≤ℤ pos 9_999 → unsigned_abs y < 10_000
@@ -69,7 +69,7 @@ pub mail_date_ascii : (n : ℤ) → pos 0 ≤ℤ year_of n → year_of n ≤ℤ 
 mail_date_ascii n low high =
     let day : day_of n < 100 = omega (arith, (calendar_name-exists n).1.1, month_length_in-bounds (is_leap_year (year_of n)) (month_of n)) in
     let weekday = IsAscii-append (weekday_text (weekday_of n)) (44 ∷ 32 ∷ []) (weekday_ascii (weekday_of n)) (IsAscii-cons 44 (32 ∷ []) (omega arith) (one 32 (omega arith))) in
-    let with_day = IsAscii-append _ (day_digits (day_of n)) weekday (day_ascii (day_of n) day) in
+    let with_day = IsAscii-append _ (mail_day_digits (day_of n)) weekday (day_ascii (day_of n) day) in
     let spaced = IsAscii-append _ (32 ∷ []) with_day (one 32 (omega arith)) in
     let with_month = IsAscii-append _ (month_letters (month_of n)) spaced (month_ascii (month_from_number (month_of n))) in
     let before_year = IsAscii-append _ (32 ∷ []) with_month (one 32 (omega arith)) in

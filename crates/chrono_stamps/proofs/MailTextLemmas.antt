@@ -31,9 +31,9 @@ use Rattle.chrono_datetime.specs.declared.Weekday.TheVariants.{Mon, Tue, Wed, Th
 use Rattle.chrono_instant.specs.Offsets.{IsOffset}
 use Rattle.chrono_instant.specs.OffsetText.{offset_size_text, offset_text}
 use Rattle.chrono_reading.specs.TimeTexts.{IsTimeText}
-use Rattle.chrono_stamps.specs.MailWords.{AreMailWords, IsColonWord, IsCommaWord, IsSpacedWord, IsWord, behind_gap, gap_end, gap_step, is_of_word, is_white}
+use Rattle.chrono_stamps.specs.MailWords.{AreMailWords, IsColonWord, IsCommaWord, IsSpacedWord, IsMailWord, behind_gap, gap_end, gap_step, is_of_word, is_white}
 use Rattle.chrono_stamps.specs.Rfc2822.{IsMailDate, IsRfc2822Text, IsZoneDigits}
-use Rattle.chrono_stamps.specs.WrittenStamps.{HasStampText, day_digits, moment_cut, month_letters, rfc2822_text, whole_second, zone_text}
+use Rattle.chrono_stamps.specs.WrittenStamps.{HasStampText, mail_day_digits, moment_cut, month_letters, rfc2822_text, whole_second, zone_text}
 use Rattle.chrono_stamps.specs.declared.seconds_format.SecondsFormat.TheVariants.{Secs}
 use Rattle.chrono_stamps.proofs.MailWordLemmas.{gap_end-none, gap_end-nothing}
 use Rattle.chrono_stamps.proofs.OffsetLemmas.{seconds_none, six_bytes}
@@ -57,7 +57,7 @@ first_byte c w plain = (by_byte (is_of_word c) (prefix_len is_of_word w) (length
 joined : (n l m : ℕ) → n ≡ l → m ≡ 0 → cond (n == l) (l + m) n ≡ l
 joined n l m e f = ap (λ b. cond b (l + m) n) (eq-eqb n l e) ∙ omega (arith, f)
 
-pub word_in_front : (w r : List ℕ) → IsPlain w → prefix_len is_of_word r ≡ 0 → IsWord (w ++ r) w r
+pub word_in_front : (w r : List ℕ) → IsPlain w → prefix_len is_of_word r ≡ 0 → IsMailWord (w ++ r) w r
 word_in_front w r plain stop =
     let long : prefix_len is_of_word (w ++ r) ≡ length w =
     prefix_len-append is_of_word w r ∙ joined (prefix_len is_of_word w) (length w) (prefix_len is_of_word r) plain.whole stop in
@@ -92,7 +92,7 @@ space_gap w r plain = no_gap w r plain
 pub spaced : (w r : List ℕ) → IsPlain w → prefix_len is_of_word r ≡ 0 → IsSpacedWord (32 ∷ (w ++ r)) w r
 spaced w r plain stop = record {
   apart = omega (arith, ap (λ (l : List ℕ). length l) (space_gap w r plain));
-  word_is = subst (λ (l : List ℕ). IsWord l w r) (sym (space_gap w r plain)) (word_in_front w r plain stop);
+  word_is = subst (λ (l : List ℕ). IsMailWord l w r) (sym (space_gap w r plain)) (word_in_front w r plain stop);
 }
 
 colon_stays : (l : List ℕ) → behind_gap (58 ∷ l) ≡ 58 ∷ l
@@ -107,17 +107,17 @@ pub behind_colon : (w r : List ℕ) → IsPlain w → prefix_len is_of_word r �
 behind_colon w r plain stop = record {
   after = w ++ r;
   colon = colon_stays (w ++ r);
-  word_is = subst (λ (l : List ℕ). IsWord l w r) (sym (no_gap w r plain)) (word_in_front w r plain stop);
+  word_is = subst (λ (l : List ℕ). IsMailWord l w r) (sym (no_gap w r plain)) (word_in_front w r plain stop);
 }
 
 pub before_comma : (w r : List ℕ) → IsPlain w → IsCommaWord (w ++ 44 ∷ r) w r
 before_comma w r plain = record {
   after = 44 ∷ r;
-  word_is = subst (λ (l : List ℕ). IsWord l w (44 ∷ r)) (sym (no_gap w (44 ∷ r) plain)) (word_in_front w (44 ∷ r) plain refl);
+  word_is = subst (λ (l : List ℕ). IsMailWord l w (44 ∷ r)) (sym (no_gap w (44 ∷ r) plain)) (word_in_front w (44 ∷ r) plain refl);
   comma = comma_stays r;
 }
 
-front_word : (w r : List ℕ) → IsPlain w → prefix_len is_of_word r ≡ 0 → IsWord (behind_gap (32 ∷ (w ++ r))) w r
+front_word : (w r : List ℕ) → IsPlain w → prefix_len is_of_word r ≡ 0 → IsMailWord (behind_gap (32 ∷ (w ++ r))) w r
 front_word w r plain stop = (spaced w r plain stop).word_is
 
 -- words as they are written
@@ -172,7 +172,7 @@ day_plain : (b : Bool) (n : ℕ) → n < 100 → (b ≡ true → n < 10) → IsP
 day_plain true n small few = record { some = omega arith; whole = more (48 + n) [] (digit_byte (48 + n) (omega arith) (omega (arith, few refl))) refl }
 day_plain false n small few = plain_two n small
 
-pub plain_day : (n : ℕ) → n < 100 → IsPlain (day_digits n)
+pub plain_day : (n : ℕ) → n < 100 → IsPlain (mail_day_digits n)
 plain_day n small = day_plain (nat_lt n 10) n small (λ few. grind (arith, nat_tests))
 
 plain_weekday : (d : Weekday) → IsPlain (weekday_text d)
@@ -256,7 +256,7 @@ day_by false n small few =
     let b = 48 + n % 10 in
     some_if (all_ascii_digits (a ∷ b ∷ [])) _ n (all_two a b (omega arith) (omega arith) (omega arith) (omega arith)) (omega arith)
 
-pub day_read : (n : ℕ) → n < 100 → digits_of 2 (day_digits n) ≡ Some n
+pub day_read : (n : ℕ) → n < 100 → digits_of 2 (mail_day_digits n) ≡ Some n
 day_read n small = day_by (nat_lt n 10) n small (λ few. grind (arith, nat_tests))
 
 all_four : (a b c d : ℕ) → 48 ≤ a → a ≤ 57 → 48 ≤ b → b ≤ 57 → 48 ≤ c → c ≤ 57 → 48 ≤ d → d ≤ 57 → all_ascii_digits (a ∷ b ∷ c ∷ d ∷ []) ≡ true
@@ -315,7 +315,7 @@ four_places (pos n) low high = (omega (arith, ints, high), refl)
 four_places (negsuc n) low high = absurd (omega (arith, ints, low))
 
 date_read : (n : ℤ) → IsDate n → pos 0 ≤ℤ year_of n → year_of n ≤ℤ pos 9_999
-    → IsMailDate (day_digits (day_of n)) (month_letters (month_of n)) (all_digits 4 (unsigned_abs (year_of n))) n
+    → IsMailDate (mail_day_digits (day_of n)) (month_letters (month_of n)) (all_digits 4 (unsigned_abs (year_of n))) n
 date_read n is low high =
     let name = calendar_name-exists n in
     let year = four_places (year_of n) low high in
@@ -358,13 +358,13 @@ mail_written m x is small has =
     let shown = second_of_text t is.time has.leap in
     let hour : hour_of t < 100 = omega (arith, is.time.second) in
     let weekday_word = weekday_text (weekday_of n) in
-    let words = laid_out weekday_word (day_digits (day_of n)) (month_letters (month_of n)) (all_digits 4 (unsigned_abs (year_of n))) (two_digits (hour_of t)) (two_digits (minute_of t)) (two_digits shown.0) (zone_text x)
+    let words = laid_out weekday_word (mail_day_digits (day_of n)) (month_letters (month_of n)) (all_digits 4 (unsigned_abs (year_of n))) (two_digits (hour_of t)) (two_digits (minute_of t)) (two_digits shown.0) (zone_text x)
     (plain_weekday (weekday_of n)) (plain_day (day_of n) day) (plain_month (month_from_number (month_of n))) (plain_four (unsigned_abs (year_of n)) year.0) (plain_two (hour_of t) hour) (plain_two (minute_of t) (omega arith)) (plain_two shown.0 shown.1) (plain_zone x small) in
-    let grouped = regroup weekday_word (day_digits (day_of n)) (month_letters (month_of n)) (all_digits 4 (unsigned_abs (year_of n))) (time_text (whole_second t)) (zone_text x) in
-    let whole = grouped ∙ ap (λ (l : List ℕ). weekday_word ++ 44 ∷ (32 ∷ (day_digits (day_of n) ++ 32 ∷ (month_letters (month_of n) ++ 32 ∷ (all_digits 4 (unsigned_abs (year_of n)) ++ 32 ∷ (l ++ 32 ∷ (zone_text x ++ []))))))) shown.2 in
+    let grouped = regroup weekday_word (mail_day_digits (day_of n)) (month_letters (month_of n)) (all_digits 4 (unsigned_abs (year_of n))) (time_text (whole_second t)) (zone_text x) in
+    let whole = grouped ∙ ap (λ (l : List ℕ). weekday_word ++ 44 ∷ (32 ∷ (mail_day_digits (day_of n) ++ 32 ∷ (month_letters (month_of n) ++ 32 ∷ (all_digits 4 (unsigned_abs (year_of n)) ++ 32 ∷ (l ++ 32 ∷ (zone_text x ++ []))))))) shown.2 in
     record {
       weekday = weekday_word;
-      day = day_digits (day_of n);
+      day = mail_day_digits (day_of n);
       month = month_letters (month_of n);
       year = all_digits 4 (unsigned_abs (year_of n));
       hour = two_digits (hour_of t);
@@ -372,7 +372,7 @@ mail_written m x is small has =
       second = two_digits shown.0;
       zone = zone_text x;
       end = [];
-      words = subst (λ (l : List ℕ). AreMailWords l weekday_word (day_digits (day_of n)) (month_letters (month_of n)) (all_digits 4 (unsigned_abs (year_of n))) (two_digits (hour_of t)) (two_digits (minute_of t)) (two_digits shown.0) (zone_text x) []) (sym whole) words;
+      words = subst (λ (l : List ℕ). AreMailWords l weekday_word (mail_day_digits (day_of n)) (month_letters (month_of n)) (all_digits 4 (unsigned_abs (year_of n))) (two_digits (hour_of t)) (two_digits (minute_of t)) (two_digits shown.0) (zone_text x) []) (sym whole) words;
       ends = (ap (λ (p : ℕ × List ℕ). p.0) (gap_end-nothing 0 false), ap (λ (p : ℕ × List ℕ). p.1) (gap_end-nothing 0 false));
       weekday_is = inr (weekday_read (weekday_of n));
       date_is = date_read n is.date has.year.0 has.year.1;

@@ -1,7 +1,7 @@
 -- White space and comments, byte by byte, and the words of a text, one after another.
 use Rattle.std.proofs.Common.{◌≡◌, inl, inr, ◌==◌, Bool, true, false, if◌then◌else◌, cond, ℕ, ◌+◌, ◌-◌, ◌<◌, ◌≤◌, List, [], ◌∷◌, length, take, Option, None, Some, refl, sym, ap, subst, ◌∙◌, arith}
 use Rattle.std.specs.List.{prefix_len}
-use Rattle.chrono_stamps.specs.MailWords.{IsColonWord, IsCommaWord, IsOptional, IsSpacedWord, IsWord, behind_gap, gap_end, gap_step, is_of_word, is_white}
+use Rattle.chrono_stamps.specs.MailWords.{IsColonWord, IsCommaWord, IsOptional, IsSpacedWord, IsMailWord, behind_gap, gap_end, gap_step, is_of_word, is_white}
 
 -- ---- a byte
 
@@ -61,7 +61,7 @@ gap_step-room depth quoted c text behind next most is step room =
 -- ---- words
 
 -- no word stands where a byte is of none
-no_word : (c : ℕ) (behind text word rest : List ℕ) → text ≡ c ∷ behind → is_of_word c ≡ false → IsWord text word rest → ⊥
+no_word : (c : ℕ) (behind text word rest : List ℕ) → text ≡ c ∷ behind → is_of_word c ≡ false → IsMailWord text word rest → ⊥
 no_word c behind text word rest e other is =
     let none : prefix_len is_of_word text ≡ 0 = ap (λ (l : List ℕ). prefix_len is_of_word l) e ∙ ap (λ b. cond b (1 + prefix_len is_of_word behind) 0) other in
     let nothing : take (prefix_len is_of_word text) text ≡ [] = ap (λ k. take k text) none in
@@ -76,18 +76,18 @@ no_colon : (text zone end got behind : List ℕ) → IsSpacedWord text zone end 
 no_colon text zone end got behind is colon = no_word 58 colon.after (behind_gap text) zone end colon.colon refl is.word_is
 
 -- and behind the word that it stands behind no comma does
-no_comma : (text day after_day month after_month got behind : List ℕ) → IsWord (behind_gap text) day after_day → IsSpacedWord after_day month after_month → IsCommaWord text got behind → ⊥
+no_comma : (text day after_day month after_month got behind : List ℕ) → IsMailWord (behind_gap text) day after_day → IsSpacedWord after_day month after_month → IsCommaWord text got behind → ⊥
 no_comma text day after_day month after_month got behind day_is month_is comma =
     no_word 44 behind (behind_gap after_day) month after_month (ap (λ (l : List ℕ). behind_gap l) (sym day_is.behind ∙ comma.word_is.behind) ∙ comma.comma) refl month_is.word_is
 
 -- so a part that may be left out is found, or nothing is
 pub comma_found : (text weekday after_weekday day after_day month after_month got behind : List ℕ)
     → ((word rest : List ℕ) → IsCommaWord text word rest → (got ≡ word) × (behind ≡ rest)) → (0 < length got → IsCommaWord text got behind) → (got ≡ [] → behind ≡ text)
-    → IsOptional IsCommaWord text weekday after_weekday → IsWord (behind_gap after_weekday) day after_day → IsSpacedWord after_day month after_month
+    → IsOptional IsCommaWord text weekday after_weekday → IsMailWord (behind_gap after_weekday) day after_day → IsSpacedWord after_day month after_month
     → (got ≡ weekday) × (behind ≡ after_weekday)
 comma_found text weekday after_weekday day after_day month after_month got behind every read nothing (inl is) day_is month_is = every weekday after_weekday is
 comma_found text weekday after_weekday day after_day month after_month got behind every read nothing (inr none) day_is month_is =
-    let here : IsWord (behind_gap text) day after_day = subst (λ (l : List ℕ). IsWord (behind_gap l) day after_day) none.1 day_is in
+    let here : IsMailWord (behind_gap text) day after_day = subst (λ (l : List ℕ). IsMailWord (behind_gap l) day after_day) none.1 day_is in
     let empty = nothing_else got (λ some. no_comma text day after_day month after_month got behind here month_is (read some)) in
     (empty ∙ sym none.0, nothing empty ∙ sym none.1)
 

@@ -36,7 +36,7 @@ abbrev pub is_of_word : ℕ → Bool
 is_of_word c = is_ascii_alphanumeric c || ((c == byte "+") || (c == byte "-"))
 
 -- the text begins with a word, which is as long as can be, and goes on with the rest
-pub record IsWord (text word rest : List ℕ) : Type 0 where
+pub record IsMailWord (text word rest : List ℕ) : Type 0 where
   pub some : 0 < length word
   pub front : take (prefix_len is_of_word text) text ≡ word
   pub behind : drop (prefix_len is_of_word text) text ≡ rest
@@ -44,18 +44,18 @@ pub record IsWord (text word rest : List ℕ) : Type 0 where
 -- a word behind white space and comments, of which there is a byte at least
 pub record IsSpacedWord (text word rest : List ℕ) : Type 0 where
   pub apart : length (behind_gap text) < length text
-  pub word_is : IsWord (behind_gap text) word rest
+  pub word_is : IsMailWord (behind_gap text) word rest
 
 -- a word behind a colon. White space and comments may stand before and behind the colon
 pub record IsColonWord (text word rest : List ℕ) : Type 0 where
   pub after : List ℕ
   pub colon : behind_gap text ≡ byte ":" ∷ after
-  pub word_is : IsWord (behind_gap after) word rest
+  pub word_is : IsMailWord (behind_gap after) word rest
 
 -- a word and a comma. White space and comments may stand before and behind the word
 pub record IsCommaWord (text word rest : List ℕ) : Type 0 where
   pub after : List ℕ
-  pub word_is : IsWord (behind_gap text) word after
+  pub word_is : IsMailWord (behind_gap text) word after
   pub comma : behind_gap after ≡ byte "," ∷ rest
 
 -- a part of the text, or nothing
@@ -73,7 +73,7 @@ pub record AreMailWords (text weekday day month year hour minute second zone end
   pub after_minute : List ℕ
   pub after_second : List ℕ
   pub weekday_is : IsOptional IsCommaWord text weekday after_weekday
-  pub day_is : IsWord (behind_gap after_weekday) day after_day
+  pub day_is : IsMailWord (behind_gap after_weekday) day after_day
   pub month_is : IsSpacedWord after_day month after_month
   pub year_is : IsSpacedWord after_month year after_year
   pub hour_is : IsSpacedWord after_year hour after_hour

@@ -10,8 +10,8 @@ use Rattle.chrono_reading.specs.TimeTexts.{IsTimeText}
 -- ---- the grammar
 
 -- between date and time: date-time = full-date "T" full-time. The notes of 5.6 allow "t", and a space for readability.
-abbrev pub IsSeparator : ℕ → Type 0
-IsSeparator c = (c ≡ byte "T") ⊎ (c ≡ byte "t") ⊎ (c ≡ byte " ")
+abbrev pub IsStampSeparator : ℕ → Type 0
+IsStampSeparator c = (c ≡ byte "T") ⊎ (c ≡ byte "t") ⊎ (c ≡ byte " ")
 
 -- time-offset = "Z" / time-numoffset. The notes of 5.6 allow "z".
 abbrev pub IsZulu : List ℕ → Type 0
@@ -40,7 +40,7 @@ pub record IsRfc3339Text (text : List ℕ) (m : Moment) (x : ℤ) : Type 0 where
   pub offset : List ℕ
   pub date_written : IsDateText date m.date
   pub year_has_four_digits : length date ≡ 10
-  pub between : IsSeparator separator
+  pub between : IsStampSeparator separator
   pub time_written : IsTimeText time m.time
   pub offset_written : IsOffsetText offset x
   pub written : date ++ separator ∷ time ++ offset ≡ text

@@ -11,7 +11,7 @@ use Rattle.chrono_reading.specs.TimeErrors.{IsTimeError}
 use Rattle.chrono_reading.specs.TimeTexts.{IsTimeText}
 use Rattle.chrono_reading.specs.declared.error.ReadCause.TheVariants.{HourAbove23, MinuteAbove59, NotThisForm}
 use Rattle.chrono_reading.specs.declared.error.ReadError.{ReadError}
-use Rattle.chrono_stamps.specs.Rfc3339.{IsSeparator}
+use Rattle.chrono_stamps.specs.Rfc3339.{IsStampSeparator}
 
 -- the error so many bytes later
 abbrev pub later_by : ℕ → ReadError → ReadError
@@ -58,8 +58,8 @@ IsClockError text e =
 -- the error behind a date of ten bytes: no separator, or what is wrong behind it
 abbrev pub IsErrorBehindDate : List ℕ → ReadError → Type 0
 IsErrorBehindDate rest e =
-    (((c : ℕ) (clock : List ℕ) → rest ≡ c ∷ clock → ¬ IsSeparator c) × (e ≡ error_at NotThisForm 10))
-    ⊎ ((c : ℕ) × (clock : List ℕ) × (f : ReadError) × (rest ≡ c ∷ clock) × IsSeparator c × IsClockError clock f × (e ≡ later_by 11 f))
+    (((c : ℕ) (clock : List ℕ) → rest ≡ c ∷ clock → ¬ IsStampSeparator c) × (e ≡ error_at NotThisForm 10))
+    ⊎ ((c : ℕ) × (clock : List ℕ) × (f : ReadError) × (rest ≡ c ∷ clock) × IsStampSeparator c × IsClockError clock f × (e ≡ later_by 11 f))
 
 -- the text begins with a sign, as no year of four digits does
 abbrev pub is_signed : List ℕ → Bool

@@ -52,8 +52,8 @@ moment_cut form m =
 -- ---- RFC 2822, by the grammar of its section 3.3
 
 -- day = 1*2DIGIT
-abbrev pub day_digits : ℕ → List ℕ
-day_digits n = if nat_lt n 10 then (byte "0" + n) ∷ [] else two_digits n
+abbrev pub mail_day_digits : ℕ → List ℕ
+mail_day_digits n = if nat_lt n 10 then (byte "0" + n) ∷ [] else two_digits n
 
 -- month-name = "Jan" / "Feb" / .. / "Dec": the first three letters of the month's name
 abbrev pub month_letters : ℕ → List ℕ
@@ -62,7 +62,7 @@ month_letters n = take 3 (month_name (month_from_number n))
 -- day-of-week "," date, where date = day month year and year = 4*DIGIT
 abbrev pub mail_date_text : ℤ → List ℕ
 mail_date_text n =
-    weekday_text (weekday_of n) ++ codes ", " ++ day_digits (day_of n) ++ codes " " ++ month_letters (month_of n) ++ codes " " ++ all_digits 4 (unsigned_abs (year_of n))
+    weekday_text (weekday_of n) ++ codes ", " ++ mail_day_digits (day_of n) ++ codes " " ++ month_letters (month_of n) ++ codes " " ++ all_digits 4 (unsigned_abs (year_of n))
 
 -- zone = ("+" / "-") 4DIGIT: the hours and the minutes
 abbrev pub zone_text : ℤ → List ℕ
@@ -73,8 +73,8 @@ abbrev pub rfc2822_text : Moment → ℤ → List ℕ
 rfc2822_text m x = mail_date_text m.date ++ codes " " ++ time_text (whole_second m.time) ++ codes " " ++ zone_text x
 
 -- known values
-day_digits-one : day_digits 1 ≡ codes "1"
-day_digits-one = refl
+mail_day_digits-one : mail_day_digits 1 ≡ codes "1"
+mail_day_digits-one = refl
 
 month_letters-nine : month_letters 9 ≡ codes "Sep"
 month_letters-nine = refl

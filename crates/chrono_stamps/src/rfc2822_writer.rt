@@ -5,7 +5,7 @@ ghost use Rattle.std.specs.Str.{IsAscii};
 ghost use Rattle.chrono_datetime.specs.Days.{year_of};
 ghost use Rattle.chrono_datetime.specs.TimeText.{time_text};
 ghost use Rattle.chrono_zoned.specs.Zoned.{local_at, offset_at};
-ghost use Rattle.chrono_stamps.specs.WrittenStamps.{HasStampText, day_digits, mail_date_text, month_letters, rfc2822_text, whole_second, zone_text};
+ghost use Rattle.chrono_stamps.specs.WrittenStamps.{HasStampText, mail_day_digits, mail_date_text, month_letters, rfc2822_text, whole_second, zone_text};
 
 use crate::rfc3339_writer::has_stamp_text;
 use chrono_datetime::{Datelike, Month, NaiveDate, NaiveDateTime, NaiveTime, Timelike};
@@ -78,7 +78,7 @@ fn put_mail_date<const N: usize>(text: &mut Text<N>, date: NaiveDate)
 fn put_day_of_month<const N: usize>(text: &mut Text<N>, day: u32)
     requires small { day < 100 }
     requires room { length text.old + 2 ≤ N }
-    ensures text { text.new ≡ text.old ++ day_digits day }
+    ensures text { text.new ≡ text.old ++ mail_day_digits day }
     ensures fits { length text.new ≤ length text.old + 2 }
 {
     if day < 10 {

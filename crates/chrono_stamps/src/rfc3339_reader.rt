@@ -4,7 +4,7 @@ ghost use Rattle.chrono_datetime.specs.Moment.{Moment};
 ghost use Rattle.chrono_instant.specs.Instants.{IsEpochSecond, epoch_second};
 ghost use Rattle.chrono_instant.specs.Offsets.{moment_ahead};
 ghost use Rattle.chrono_stamps.specs.StampErrors.{IsRfc3339Error};
-ghost use Rattle.chrono_stamps.specs.Rfc3339.{IsOffsetText, IsRfc3339Text, IsSeparator, IsSixBytes};
+ghost use Rattle.chrono_stamps.specs.Rfc3339.{IsOffsetText, IsRfc3339Text, IsStampSeparator, IsSixBytes};
 
 use crate::rfc3339_error::stamp_error;
 use chrono_datetime::NaiveDateTime;
@@ -72,7 +72,7 @@ fn parts_of(text: &[u8]) -> Option<(NaiveDateTime, FixedOffset)>
 // Whether a byte may stand between date and time.
 #[inline]
 pub(crate) fn is_separator(byte: u8) -> bool
-    ensures { IsTrue result ↔ IsSeparator byte }
+    ensures { IsTrue result ↔ IsStampSeparator byte }
 {
     byte == b'T' || byte == b't' || byte == b' '
 }

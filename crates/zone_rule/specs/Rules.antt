@@ -2,7 +2,7 @@
 use Rattle.std.specs.Prelude.{Bool, false, if◌then◌else◌, ℤ, int_le, Option, Some, None}
 use Rattle.zone_rule.specs.Changes.{change_second, last_by, year_of_second}
 use Rattle.zone_rule.specs.declared.rule.Daylight.{Daylight}
-use Rattle.zone_rule.specs.declared.rule.Rule.{Rule}
+use Rattle.zone_rule.specs.declared.rule.ZoneRule.{ZoneRule}
 
 -- daylight time holds at the second u: it has ended no later than it has begun. The clock before each beginning is standard time,
 -- `offset` ahead of UTC
@@ -22,5 +22,5 @@ ahead_by offset None u = offset
 ahead_by offset (Some d) u = if is_daylight offset d u then d.offset else offset
 
 -- how far the rule's clock is ahead of UTC at the second u
-abbrev pub rule_offset : Rule → ℤ → ℤ
+abbrev pub rule_offset : ZoneRule → ℤ → ℤ
 rule_offset r u = ahead_by r.standard r.daylight u

@@ -10,7 +10,7 @@
 //!     begins: Change::new(ahead, 7_200)?,
 //!     ends: Change::new(back, 7_200)?,
 //! };
-//! let new_york = Rule { standard: FixedOffset::west_opt(18_000)?, daylight: Some(daylight) };
+//! let new_york = ZoneRule { standard: FixedOffset::west_opt(18_000)?, daylight: Some(daylight) };
 //! ahead.date_in(2024) // Some(2024-03-10)
 //! new_york.offset_of_instant(1_710_053_999) // -05:00
 //! new_york.offset_of_instant(1_710_054_000) // -04:00
@@ -31,5 +31,5 @@ mod time_zone;
 
 pub use change::Change;
 pub use chrono_zoned::{FixedOffset, MappedLocalTime};
-pub use rule::{Daylight, Rule};
+pub use rule::{Daylight, ZoneRule};
 pub use rule_day::RuleDay;

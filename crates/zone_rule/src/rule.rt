@@ -1,4 +1,4 @@
-//! `Rule`: standard time, and daylight time in a part of each year.
+//! `ZoneRule`: standard time, and daylight time in a part of each year.
 ghost use Rattle.std.specs.Prelude.{◌≡◌, ◌↔◌, Bool, if◌then◌else◌, ℤ, pos, neg_ℤ, ◌-ℤ◌, ◌≤ℤ◌, IfSome, IsSome};
 ghost use Rattle.chrono_units.specs.Years.{IsYear};
 ghost use Rattle.chrono_zoned.specs.Zones.{IsMapped};
@@ -20,10 +20,10 @@ const UNIX_EPOCH_DAY: i64 = 719_163;
 /// A clock in each year: how far standard time is ahead of UTC, and daylight time if there is one.
 ///
 /// ```
-/// Rule { standard: FixedOffset::east_opt(19_800)?, daylight: None }.offset_of_instant(0) // +05:30
+/// ZoneRule { standard: FixedOffset::east_opt(19_800)?, daylight: None }.offset_of_instant(0) // +05:30
 /// ```
 #[derive(Clone, Copy, Debug, PartialEq, Eq)]
-pub struct Rule {
+pub struct ZoneRule {
     /// How far standard time is ahead of UTC.
     pub standard: FixedOffset,
     /// Daylight time, if the clock is ever set.
@@ -49,7 +49,7 @@ pub struct Daylight {
     pub ends: Change,
 }
 
-impl Rule {
+impl ZoneRule {
     /// Returns the offset at the instant `second`, in seconds from 1 January 1970 in UTC.
     ///
     /// It is that of daylight time if the last change up to then began daylight time. If one change comes at the same second
@@ -59,7 +59,7 @@ impl Rule {
     /// let begins = Change::new(RuleDay::Julian(60), 7_200)?;
     /// let ends = Change::new(RuleDay::Julian(300), 7_200)?;
     /// let daylight = Daylight { offset: FixedOffset::east_opt(3_600)?, begins, ends };
-    /// let rule = Rule { standard: FixedOffset::east_opt(0)?, daylight: Some(daylight) };
+    /// let rule = ZoneRule { standard: FixedOffset::east_opt(0)?, daylight: Some(daylight) };
     /// rule.offset_of_instant(1_709_258_399) // +00:00
     /// rule.offset_of_instant(1_709_258_400) // +01:00
     /// ```
@@ -82,7 +82,7 @@ impl Rule {
     /// let begins = Change::new(RuleDay::Julian(60), 7_200)?;
     /// let ends = Change::new(RuleDay::Julian(300), 7_200)?;
     /// let daylight = Daylight { offset: FixedOffset::east_opt(3_600)?, begins, ends };
-    /// let rule = Rule { standard: FixedOffset::east_opt(0)?, daylight: Some(daylight) };
+    /// let rule = ZoneRule { standard: FixedOffset::east_opt(0)?, daylight: Some(daylight) };
     /// rule.is_daylight_at(1_729_990_799) // true
     /// rule.is_daylight_at(1_729_990_800) // false
     /// ```
@@ -104,7 +104,7 @@ impl Rule {
     /// let begins = Change::new(RuleDay::Julian(60), 7_200)?;
     /// let ends = Change::new(RuleDay::Julian(300), 7_200)?;
     /// let daylight = Daylight { offset: FixedOffset::east_opt(3_600)?, begins, ends };
-    /// let rule = Rule { standard: FixedOffset::east_opt(0)?, daylight: Some(daylight) };
+    /// let rule = ZoneRule { standard: FixedOffset::east_opt(0)?, daylight: Some(daylight) };
     /// rule.changes_in(2024) // Some((1709258400, 1729990800))
     /// rule.changes_in(262_143) // None
     /// ```
@@ -128,7 +128,7 @@ impl Rule {
     /// let begins = Change::new(RuleDay::Julian(60), 7_200)?;
     /// let ends = Change::new(RuleDay::Julian(300), 7_200)?;
     /// let daylight = Daylight { offset: FixedOffset::east_opt(3_600)?, begins, ends };
-    /// let rule = Rule { standard: FixedOffset::east_opt(0)?, daylight: Some(daylight) };
+    /// let rule = ZoneRule { standard: FixedOffset::east_opt(0)?, daylight: Some(daylight) };
     /// rule.offsets_of_local(1_709_258_399) // Single(+00:00)
     /// rule.offsets_of_local(1_709_258_400) // None
     /// rule.offsets_of_local(1_709_262_000) // Single(+01:00)

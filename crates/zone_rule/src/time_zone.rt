@@ -1,10 +1,10 @@
 //! A rule as a zone, for date-times in it.
 
-use crate::rule::Rule;
+use crate::rule::ZoneRule;
 use chrono_datetime::NaiveDateTime;
 use chrono_zoned::{FixedOffset, MappedLocalTime, TimeZone, Timestamp};
 
-impl TimeZone for Rule {
+impl TimeZone for ZoneRule {
     ghost use Rattle.zone_rule.specs.Rules.{rule_offset};
 
     ghost ahead = { rule_offset };

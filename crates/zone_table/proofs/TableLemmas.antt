@@ -5,7 +5,7 @@ use Rattle.chrono_zoned.specs.declared.mapped_local_time.MappedLocalTime.TheVari
 use Rattle.chrono_zoned.specs.Zones.{IsMapped}
 use Rattle.zone_table.specs.declared.row.Row.{Row}
 use Rattle.zone_table.specs.Sequence.{come_by}
-use Rattle.zone_table.specs.Table.{offset_after, offset_at, row_at, second_of}
+use Rattle.zone_table.specs.Table.{offset_after, table_offset, row_at, row_second}
 
 -- none have begun, or the last of them has its offset
 pub offset_after-none : (first : ℤ) (rows : List Row) → offset_after first rows 0 ≡ first
@@ -29,7 +29,7 @@ unfolding offset_after
 steady_offset first rows same zero le = refl
 steady_offset first rows same (suc k) le = same k (omega (arith, le))
 
-pub one_offset : (first : ℤ) (rows : List Row) → ((k : ℕ) → k < length rows → (row_at rows k).offset ≡ first) → (l : ℤ) → IsMapped (offset_at first rows) l (Single first)
+pub one_offset : (first : ℤ) (rows : List Row) → ((k : ℕ) → k < length rows → (row_at rows k).offset ≡ first) → (l : ℤ) → IsMapped (table_offset first rows) l (Single first)
 one_offset first rows same l u =
-    let here : offset_at first rows u ≡ first = steady_offset first rows same (come_by (second_of rows) (length rows) u) (come_by-bound (second_of rows) (length rows) u) in
+    let here : table_offset first rows u ≡ first = steady_offset first rows same (come_by (row_second rows) (length rows) u) (come_by-bound (row_second rows) (length rows) u) in
     ((λ shows. omega (arith, ints, shows, here)), (λ is. omega (arith, ints, is, here)))

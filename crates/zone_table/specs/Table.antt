@@ -12,8 +12,8 @@ abbrev pub row_at : List Row → ℕ → Row
 row_at rows k = get_or rows k no_row
 
 -- the second at which the offset of the row k begins
-abbrev pub second_of : List Row → ℕ → ℤ
-second_of rows k = (row_at rows k).second
+abbrev pub row_second : List Row → ℕ → ℤ
+row_second rows k = (row_at rows k).second
 
 -- the offset once k rows have begun
 unfoldable pub offset_after : ℤ → List Row → ℕ → ℤ
@@ -21,16 +21,16 @@ offset_after first rows zero = first
 offset_after first rows (suc k) = (row_at rows k).offset
 
 -- the offset at the second u
-abbrev pub offset_at : ℤ → List Row → ℤ → ℤ
-offset_at first rows u = offset_by (second_of rows) (offset_after first rows) (length rows) u
+abbrev pub table_offset : ℤ → List Row → ℤ → ℤ
+table_offset first rows u = offset_by (row_second rows) (offset_after first rows) (length rows) u
 
 -- the row behind k follows it, as `Follows` says
 abbrev pub RowFollows : ℤ → List Row → ℕ → Type 0
-RowFollows first rows k = Follows (second_of rows) (offset_after first rows) k
+RowFollows first rows k = Follows (row_second rows) (offset_after first rows) k
 
 -- each row follows the one before it
 abbrev pub IsTable : ℤ → List Row → Type 0
-IsTable first rows = AreOrdered (second_of rows) (offset_after first rows) (length rows)
+IsTable first rows = AreOrdered (row_second rows) (offset_after first rows) (length rows)
 
 -- the row k is the first that does not follow the one before it
 pub record IsFirstUnordered (first : ℤ) (rows : List Row) (k : ℕ) : Type 0 where
@@ -44,14 +44,14 @@ pub record IsFirstUnordered (first : ℤ) (rows : List Row) (k : ℕ) : Type 0 w
 london : List Row
 london = record { second = pos 1_711_846_800; offset = pos 3_600 } ∷ record { second = pos 1_729_990_800; offset = pos 0 } ∷ []
 
-offset_at-winter : offset_at (pos 0) london (pos 1_711_846_799) ≡ pos 0
+table_offset-winter : table_offset (pos 0) london (pos 1_711_846_799) ≡ pos 0
 unfolding london come_by offset_after
-offset_at-winter = refl
+table_offset-winter = refl
 
-offset_at-summer : offset_at (pos 0) london (pos 1_711_846_800) ≡ pos 3_600
+table_offset-summer : table_offset (pos 0) london (pos 1_711_846_800) ≡ pos 3_600
 unfolding london come_by offset_after
-offset_at-summer = refl
+table_offset-summer = refl
 
-offset_at-autumn : offset_at (pos 0) london (pos 1_729_990_800) ≡ pos 0
+table_offset-autumn : table_offset (pos 0) london (pos 1_729_990_800) ≡ pos 0
 unfolding london come_by offset_after
-offset_at-autumn = refl
+table_offset-autumn = refl

@@ -2,7 +2,7 @@
 ghost use Rattle.std.specs.Prelude.{◌≡◌, ◌+◌, ◌≤◌, ◌<◌, ◌↔◌, IfNone, IfSome, IsTrue, length};
 ghost use Rattle.zone_table.specs.Changes.{IsNextChange, IsPreviousChange, IsSteadyFrom, IsSteadyTo};
 ghost use Rattle.zone_table.specs.Sequence.{ChangesFirst, ChangesLast, IsSameFrom, IsSameTo};
-ghost use Rattle.zone_table.specs.Table.{IsTable, offset_after, offset_at};
+ghost use Rattle.zone_table.specs.Table.{IsTable, offset_after, table_offset};
 
 use crate::offsets::{offset_of_count, rows_begun};
 use crate::row::{Row, second_at};
@@ -22,8 +22,8 @@ use chrono_zoned::FixedOffset;
 /// ```
 pub fn next_change(first: FixedOffset, rows: &[Row], second: i64) -> Option<i64>
     requires { IsTable first rows.now }
-    ensures next { IfSome result (IsNextChange (offset_at first rows.now) second) }
-    ensures none { IfNone result (IsSteadyFrom (offset_at first rows.now) second) }
+    ensures next { IfSome result (IsNextChange (table_offset first rows.now) second) }
+    ensures none { IfNone result (IsSteadyFrom (table_offset first rows.now) second) }
 {
     match change_from(first, rows, rows_begun(rows, second)) {
         Some(place) => Some(second_at(rows, place)),
@@ -46,8 +46,8 @@ pub fn next_change(first: FixedOffset, rows: &[Row], second: i64) -> Option<i64>
 /// ```
 pub fn previous_change(first: FixedOffset, rows: &[Row], second: i64) -> Option<i64>
     requires { IsTable first rows.now }
-    ensures previous { IfSome result (IsPreviousChange (offset_at first rows.now) second) }
-    ensures none { IfNone result (IsSteadyTo (offset_at first rows.now) second) }
+    ensures previous { IfSome result (IsPreviousChange (table_offset first rows.now) second) }
+    ensures none { IfNone result (IsSteadyTo (table_offset first rows.now) second) }
 {
     match change_before(first, rows, rows_begun(rows, second)) {
         Some(place) => Some(second_at(rows, place)),

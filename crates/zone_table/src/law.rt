@@ -5,12 +5,12 @@
 ghost use Rattle.std.specs.Prelude.{◌≡◌, ℕ, ◌<◌, ℤ, List, length};
 ghost use Rattle.chrono_zoned.specs.Zones.{IsMapped};
 ghost use Rattle.zone_table.specs.declared.row.Row.{Row};
-ghost use Rattle.zone_table.specs.Table.{offset_at, row_at};
+ghost use Rattle.zone_table.specs.Table.{table_offset, row_at};
 
 use chrono_zoned::MappedLocalTime;
 
 /// In a table of one offset each local time stands for one instant.
 pub fn one_offset_maps_each_local_time_once()
     ensures { (first : ℤ) (rows : List Row) → ((k : ℕ) → k < length rows → (row_at rows k).offset ≡ first) →
-        (l : ℤ) → IsMapped (offset_at first rows) l (MappedLocalTime.Single first) }
+        (l : ℤ) → IsMapped (table_offset first rows) l (MappedLocalTime.Single first) }
 {}

@@ -2,9 +2,9 @@
 ghost use Rattle.std.specs.Prelude.{◌≡◌, ◌≤◌, ◌<◌, ◌+◌, ◌+ℤ◌, length};
 ghost use Rattle.chrono_zoned.specs.Zones.{IsMapped};
 ghost use Rattle.zone_table.specs.Sequence.{Come, IsRising, local_start};
-ghost use Rattle.zone_table.specs.Table.{IsTable, offset_after, offset_at, second_of};
+ghost use Rattle.zone_table.specs.Table.{IsTable, offset_after, table_offset, row_second};
 
-use crate::row::{Row, offset_at, second_at};
+use crate::row::{Row, second_at, table_offset};
 use chrono_zoned::{FixedOffset, MappedLocalTime};
 
 /// Returns the offset at the instant `second`: that of the last row that has begun by then, or `first` before all rows.
@@ -21,7 +21,7 @@ use chrono_zoned::{FixedOffset, MappedLocalTime};
 #[inline]
 pub fn offset_of_instant(first: FixedOffset, rows: &[Row], second: i64) -> FixedOffset
     requires { IsTable first rows.now }
-    ensures { result ≡ offset_at first rows.now second }
+    ensures { result ≡ table_offset first rows.now second }
 {
     offset_of_count(first, rows, rows_begun(rows, second))
 }
@@ -50,7 +50,7 @@ pub fn offsets_of_local(
     local: i64,
 ) -> MappedLocalTime<FixedOffset>
     requires { IsTable first rows.now }
-    ensures { IsMapped (offset_at first rows.now) local result }
+    ensures { IsMapped (table_offset first rows.now) local result }
 {
     let count = starts_by(first, rows, local);
     let after = offset_of_count(first, rows, count);
@@ -77,15 +77,15 @@ pub(crate) fn offset_of_count(first: FixedOffset, rows: &[Row], count: usize) ->
     if count == 0 {
         first
     } else {
-        offset_at(rows, count - 1)
+        table_offset(rows, count - 1)
     }
 }
 
 // How many rows have begun by the second.
 #[inline]
 pub(crate) fn rows_begun(rows: &[Row], second: i64) -> usize
-    requires { IsRising (second_of rows.now) (length rows.now) }
-    ensures { Come (second_of rows.now) (length rows.now) second result }
+    requires { IsRising (row_second rows.now) (length rows.now) }
+    ensures { Come (row_second rows.now) (length rows.now) second result }
 {
     let mut low = 0;
     let mut high = rows.len();
@@ -103,8 +103,8 @@ pub(crate) fn rows_begun(rows: &[Row], second: i64) -> usize
 // How many rows skip or repeat local seconds from `local` or an earlier one on.
 #[inline]
 fn starts_by(first: FixedOffset, rows: &[Row], local: i64) -> usize
-    requires { IsRising (local_start (second_of rows.now) (offset_after first rows.now)) (length rows.now) }
-    ensures { Come (local_start (second_of rows.now) (offset_after first rows.now)) (length rows.now) local result }
+    requires { IsRising (local_start (row_second rows.now) (offset_after first rows.now)) (length rows.now) }
+    ensures { Come (local_start (row_second rows.now) (offset_after first rows.now)) (length rows.now) local result }
 {
     let mut low = 0;
     let mut high = rows.len();
@@ -123,7 +123,7 @@ fn starts_by(first: FixedOffset, rows: &[Row], local: i64) -> usize
 #[inline]
 pub(crate) fn start_of(first: FixedOffset, rows: &[Row], place: usize) -> i128
     requires { place < length rows.now }
-    ensures { result ≡ local_start (second_of rows.now) (offset_after first rows.now) place }
+    ensures { result ≡ local_start (row_second rows.now) (offset_after first rows.now) place }
 {
     let before = offset_of_count(first, rows, place);
     let after = offset_of_count(first, rows, place + 1);

@@ -1,7 +1,7 @@
 //! Whether rows make a table.
 ghost use Rattle.std.specs.Prelude.{◌≡◌, ◌+◌, ◌<◌, ◌↔◌, IfNone, IfSome, IsTrue, length};
 ghost use Rattle.zone_table.specs.Sequence.{local_end};
-ghost use Rattle.zone_table.specs.Table.{IsFirstUnordered, IsTable, RowFollows, offset_after, second_of};
+ghost use Rattle.zone_table.specs.Table.{IsFirstUnordered, IsTable, RowFollows, offset_after, row_second};
 
 use crate::offsets::{offset_of_count, shown, start_of};
 use crate::row::{Row, second_at};
@@ -45,7 +45,7 @@ fn follows(first: FixedOffset, rows: &[Row], place: usize) -> bool
 // The local second from which a row skips or repeats seconds no more.
 fn end_of(first: FixedOffset, rows: &[Row], place: usize) -> i128
     requires { place < length rows.now }
-    ensures { result ≡ local_end (second_of rows.now) (offset_after first rows.now) place }
+    ensures { result ≡ local_end (row_second rows.now) (offset_after first rows.now) place }
 {
     let before = offset_of_count(first, rows, place);
     let after = offset_of_count(first, rows, place + 1);

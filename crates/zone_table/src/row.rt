@@ -1,6 +1,6 @@
 //! `Row`: one change of a clock.
 ghost use Rattle.std.specs.Prelude.{◌≡◌, ◌<◌, length};
-ghost use Rattle.zone_table.specs.Table.{row_at, second_of};
+ghost use Rattle.zone_table.specs.Table.{row_at, row_second};
 
 use chrono_zoned::FixedOffset;
 
@@ -21,14 +21,14 @@ pub struct Row {
 #[inline]
 pub(crate) fn second_at(rows: &[Row], place: usize) -> i64
     requires { place < length rows.now }
-    ensures { result ≡ second_of rows.now place }
+    ensures { result ≡ row_second rows.now place }
 {
     rows[place].second
 }
 
 // The offset that the row at a place sets.
 #[inline]
-pub(crate) fn offset_at(rows: &[Row], place: usize) -> FixedOffset
+pub(crate) fn table_offset(rows: &[Row], place: usize) -> FixedOffset
     requires { place < length rows.now }
     ensures { result ≡ (row_at rows.now place).offset }
 {

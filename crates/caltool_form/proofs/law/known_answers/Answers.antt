@@ -14,7 +14,7 @@ use Rattle.chrono_calendar.proofs.FirstOn.{date_of_day-on}
 use Rattle.caltool_command.specs.Types.{to_months, to_weekday}
 use Rattle.caltool_command.specs.Grammar.{arguments_of, numbers_of}
 use Rattle.caltool_command.specs.Commands.{calendar_date, clock_time, date_and_time, weekdays, weekday_set, command_from, name_of, command_named, command_of}
-use Rattle.caltool_form.specs.Named.{date_named, time_named, moment_named, duration_named, reach}
+use Rattle.caltool_form.specs.Named.{date_named, time_named, moment_named, duration_named, reach_named}
 use Rattle.caltool_form.specs.Answers.{names_of, date_line, week_line, answer_to, answer_of}
 use Rattle.caltool_form.proofs.law.known_answers.Goals as goal
 
@@ -51,7 +51,7 @@ unfolding answer_of command_of arguments_of numbers_of number_of natural_of to_i
 returns-clause-week c = refl
 
 pub returns-clause-moved : goal.returns-clause-moved
-unfolding answer_of command_of arguments_of numbers_of number_of natural_of to_i64 command_named name_of command_from to_i32 to_u32 calendar_date date_named date_of_ymd days_before_year days_of_years days_of_months_in clock_time date_and_time time_named moment_named duration_named reach land date_of_day answer_to names_of ordinal_name_of days_after_zero days_before_zero month_of_ordinal day_of_ordinal digits
+unfolding answer_of command_of arguments_of numbers_of number_of natural_of to_i64 command_named name_of command_from to_i32 to_u32 calendar_date date_named date_of_ymd days_before_year days_of_years days_of_months_in clock_time date_and_time time_named moment_named duration_named reach_named land date_of_day answer_to names_of ordinal_name_of days_after_zero days_before_zero month_of_ordinal day_of_ordinal digits
 returns-clause-moved c = refl
 
 pub returns-clause-diff : goal.returns-clause-diff

@@ -15,7 +15,7 @@ returns-clause-day c = inr (
   codes "2023",
   2,
   29,
-  record { year_is = record { begins = refl; ends = refl }; small = (omega arith, omega arith); written = refl },
+  record { year_is = record { fits_front = refl; ends = refl }; small = (omega arith, omega arith); written = refl },
   inr (pos 2023, (omega arith, omega arith), refl, refl),
 )
 
@@ -25,7 +25,7 @@ returns-clause-month c = inr (
   codes "2024",
   13,
   1,
-  record { year_is = record { begins = refl; ends = refl }; small = (omega arith, omega arith); written = refl },
+  record { year_is = record { fits_front = refl; ends = refl }; small = (omega arith, omega arith); written = refl },
   inr (pos 2024, (omega arith, omega arith), refl, refl),
 )
 
@@ -34,7 +34,7 @@ unfolding ordinal_error year_form leading_digits fitting
 returns-clause-ordinal c = inr (
   codes "2023",
   366,
-  record { year_is = record { begins = refl; ends = refl }; small = omega arith; written = refl },
+  record { year_is = record { fits_front = refl; ends = refl }; small = omega arith; written = refl },
   inr (pos 2023, (omega arith, omega arith), refl, refl),
 )
 
@@ -58,6 +58,6 @@ returns-clause-week_53 c =
       codes "2021",
       53,
       1,
-      record { year_is = record { begins = refl; ends = refl }; small = (omega arith, omega arith); written = refl },
+      record { year_is = record { fits_front = refl; ends = refl }; small = (omega arith, omega arith); written = refl },
       inr (pos 2021, (omega arith, omega arith), refl, ap (λ w. if nat_lt w 53 then error_at (WeekAbove w) 6 else error_at DateOutOfRange 0) (sym weeks)),
     )

@@ -1,6 +1,6 @@
 use Rattle.std.proofs.Common.{List, ap, arith, inl, inr, length, subst, sym, ℕ, ◌∙◌}
 use Rattle.std.specs.Prelude.{get_or}
-use Rattle.chrono_stamps.specs.Rfc3339.{IsSeparator}
+use Rattle.chrono_stamps.specs.Rfc3339.{IsStampSeparator}
 use Rattle.chrono_stamps.proofs.rfc3339_error.error_behind_date.Goals as goal
 
 pub returns-in_default : goal.returns-in_default
@@ -10,7 +10,7 @@ pub returns-then-not-is_separator : goal.returns-then-not-is_separator
 returns-then-not-is_separator c = inl (
   λ first clock e stands.
       let same = ap (λ (l : List ℕ). get_or l 0 0) (sym e ∙ c.in-Some.ensures.cases.0) in
-      let holds = c.is_separator.ensures.1 (subst (λ n. IsSeparator n) same stands) in
+      let holds = c.is_separator.ensures.1 (subst (λ n. IsStampSeparator n) same stands) in
       cc,
   c.not_of_form-then-not-is_separator.ensures,
 )

@@ -5,7 +5,7 @@ use Rattle.chrono_datetime.specs.Moment.{Moment}
 use Rattle.chrono_datetime.specs.Time.{TimeOfDay}
 use Rattle.chrono_reading.specs.DateTexts.{IsDateText}
 use Rattle.chrono_reading.specs.TimeTexts.{IsTimeText}
-use Rattle.chrono_stamps.specs.Rfc3339.{IsSeparator}
+use Rattle.chrono_stamps.specs.Rfc3339.{IsStampSeparator}
 use Rattle.chrono_stamps.proofs.CutLemmas.{end_is, joined, ten}
 use Rattle.chrono_stamps.proofs.OffsetLemmas.{offset_small}
 use Rattle.chrono_stamps.proofs.StampLemmas.{found, from_ok, same_end, stamp_cut}
@@ -15,7 +15,7 @@ use Rattle.chrono_stamps.proofs.rfc3339_reader.parts_of.Goals as goal
 pub returns-then-not-is_separator-clause-every : goal.returns-then-not-is_separator-clause-every
 returns-then-not-is_separator-clause-every c = λ m x is.
     let cut = stamp_cut _ _ _ _ _ m x is c.in_ok-front.ensures.cases.0 c.in_ok-front.ensures.cases.1 c.in_ok-separator.ensures.cases.0 in
-    let stands = c.is_separator.ensures.1 (subst (λ n. IsSeparator n) (sym cut.1) is.between) in
+    let stands = c.is_separator.ensures.1 (subst (λ n. IsStampSeparator n) (sym cut.1) is.between) in
     cc
 
 pub returns-in_err-offset-clause-every : goal.returns-in_err-offset-clause-every

@@ -9,4 +9,4 @@ returns-then-count-eq0 c =
     sym (offset_after-none c.args.first c.args.rows.now) ∙ ap (offset_after c.args.first c.args.rows.now) none
 
 pub returns-else-count-eq0 : goal.returns-else-count-eq0
-returns-else-count-eq0 c = c.offset_at.ensures ∙ sym (offset_after-some c.args.first c.args.rows.now c.args.count (omega (arith, c.if-count-eq0.false)))
+returns-else-count-eq0 c = c.table_offset.ensures ∙ sym (offset_after-some c.args.first c.args.rows.now c.args.count (omega (arith, c.if-count-eq0.false)))

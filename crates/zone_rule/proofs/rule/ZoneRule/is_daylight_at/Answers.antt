@@ -4,7 +4,7 @@ use Rattle.std.specs.Int.{int_rem_euclid}
 use Rattle.zone_rule.specs.Rules.{is_daylight, is_daylight_by}
 use Rattle.zone_rule.specs.declared.rule.Daylight.{Daylight}
 use Rattle.zone_rule.proofs.RuleCycles.{is_daylight-place}
-use Rattle.zone_rule.proofs.rule.Rule.is_daylight_at.Goals as goal
+use Rattle.zone_rule.proofs.rule.ZoneRule.is_daylight_at.Goals as goal
 
 pub returns : goal.returns
 returns c =

@@ -4,7 +4,7 @@ use Rattle.std.specs.Int.{int_rem_euclid}
 use Rattle.zone_rule.specs.Rules.{is_daylight}
 use Rattle.zone_rule.proofs.LastChanges.{ahead_by-daylight, ahead_by-standard}
 use Rattle.zone_rule.proofs.RuleCycles.{is_daylight-place}
-use Rattle.zone_rule.proofs.rule.Rule.offset_of_instant.Goals as goal
+use Rattle.zone_rule.proofs.rule.ZoneRule.offset_of_instant.Goals as goal
 
 pub returns-then-holds_at : goal.returns-then-holds_at
 returns-then-holds_at c =
