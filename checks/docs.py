@@ -56,7 +56,7 @@ ABSENT = {
     "of C": "int32_t memcpy",
     "of Rust's compiler and of the kit's options": "ConversionError serde target_feature wasm64",
     "read from the environment": "CALENDAR_FOLDER CMAKE_PREFIX_PATH PKG_CONFIG_PATH",
-    "of chrono, and left out here": """from_timestamp_opt timestamp_nanos parse_from_rfc2822 parse_from_str parse_and_remainder ParseMonthError ParseWeekdayError format_with_items
+    "of chrono, and left out here": """from_timestamp_opt timestamp_nanos parse_from_str parse_and_remainder ParseMonthError ParseWeekdayError format_with_items
         format_localized format_localized_with_items and_utc and_local_timezone Local
         BEFORE_MIN AFTER_MAX UNIX_EPOCH as_seconds_f64 as_seconds_f32 from_std to_std OutOfRangeError
         from_isoywd from_num_days_from_ce from_hms
