@@ -1,4 +1,4 @@
-//! CommandRow lines read by a table: the operands and the options of a list of words, or the word that breaks the table. Help, a man
+//! Command lines read by a table: the operands and the options of a list of words, or the word that breaks the table. Help, a man
 //! page and completion come from the same table.
 #![tactic(auto)]
 

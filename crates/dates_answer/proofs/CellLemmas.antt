@@ -1,16 +1,8 @@
 -- Which day stands in a cell.
-use Rattle.std.proofs.Common.{◌≡◌, ℕ, Bool, true, false, ◌&&◌, cond, Option, Some, None, is_some, sym, arith, ℤ, pos, ◌+ℤ◌, ◌≤ℤ◌, int_le}
-use Rattle.std.proofs.lemmas.Bool.{false≢true}
-use Rattle.std.proofs.lemmas.Int.{by_lt_z, ints}
-use Rattle.std.proofs.lemmas.Option.{cond_some}
-use Rattle.std.specs.Option.{SomeIff}
+use Rattle.dates_answer.proofs.Ground.{◌≡◌, ℕ, Bool, true, false, ◌&&◌, cond, Option, Some, None, is_some, sym, arith, ℤ, pos, ◌+ℤ◌, ◌≤ℤ◌, int_le, false≢true, by_lt_z, ints, cond_some, SomeIff, date_of_day, is_date, month_of, year_of, month_first_of, month_last_of, by_test, signed}
 use Rattle.chrono_units.specs.Years.{is_leap_year}
-use Rattle.chrono_calendar.specs.Days.{date_of_day, is_date, month_of, year_of}
-use Rattle.chrono_calendar.specs.MonthMoves.{month_first_of, month_last_of}
-use Rattle.chrono_calendar.proofs.Dates.{by_test}
 use Rattle.chrono_calendar.proofs.MonthDays.{day_of-bounds}
 use Rattle.chrono_calendar.proofs.Months.{month_length_in-bounds}
-use Rattle.chrono_calendar.proofs.Signed.{signed}
 use Rattle.chrono_datetime.specs.declared.Weekday.{Weekday}
 use Rattle.dates_answer.specs.Sheets.{IsEmptyRow, day_of_cell, sheet_day}
 

@@ -1,26 +1,11 @@
 -- Whole days, weeks and years between two days.
-use Rattle.std.proofs.Common.{◌≡◌, Bool, true, false, cond, Option, Some, None, IfSome, IsSomeAnd, refl, sym, ap, ◌∙◌, arith, ℤ, pos, negsuc, ◌+ℤ◌, ◌-ℤ◌, ◌*ℤ◌, ◌≤ℤ◌, ◌<ℤ◌, int_div}
-use Rattle.std.proofs.lemmas.Int.{by_lt_z}
-use Rattle.std.proofs.lemmas.Option.{same_Some}
-use Rattle.chrono_calendar.specs.Days.{IsDate, is_date, date_of_day}
-use Rattle.chrono_calendar.specs.MonthMoves.{month_move}
-use Rattle.chrono_calendar.proofs.Signed.{signed}
-use Rattle.chrono_calendar.proofs.Dates.{date_of_day-SomeIff}
-use Rattle.chrono_calendar.proofs.MonthMoveLaws.{month_move-parts}
-use Rattle.chrono_calendar.proofs.Rising.{month_index_of-rises}
-use Rattle.dates_answer.specs.declared.span.Unit.TheVariants.{Days, Weeks, Months, Years}
-use Rattle.dates_answer.specs.Moves.{unit_move}
-use Rattle.dates_answer.specs.Distances.{IsMostBack, IsMostForth, IsUnitsBetween}
-use Rattle.dates_answer.proofs.MonthDistances.{later_month, reaches, at_move}
+use Rattle.dates_answer.proofs.Ground.{◌≡◌, Option, Some, None, IfSome, IsSomeAnd, refl, sym, ap, ◌∙◌, arith, ℤ, pos, negsuc, ◌+ℤ◌, ◌-ℤ◌, ◌*ℤ◌, ◌≤ℤ◌, ◌<ℤ◌, int_div, by_lt_z, same_Some, IsDate, is_date, date_of_day, month_move, signed, date_of_day-SomeIff, IfSome-cond, month_move-parts, later_month, month_index_of-rises, Days, Weeks, Months, Years, unit_move, IsMostBack, IsMostForth, IsUnitsBetween}
+use Rattle.dates_answer.proofs.MonthDistances.{reaches, at_move}
 
 -- what is known of the date of a number
-if_tested : (b : Bool) (n : ℤ) (P : ℤ → Type 0) → P n → IfSome (cond b (Some n) None) P
-if_tested true n P p = p
-if_tested false n P p = tt
-
 if_date : (n : ℤ) (P : ℤ → Type 0) → P n → IfSome (date_of_day n) P
 unfolding date_of_day
-if_date n P p = if_tested (is_date n) n P p
+if_date n P p = IfSome-cond (is_date n) n P p
 
 at_date : (n : ℤ) (P : ℤ → Type 0) → IsDate n → P n → IsSomeAnd (date_of_day n) P
 at_date n P is p = rw (sym (date_of_day-SomeIff (Some n) n (is, refl))) p

@@ -1,15 +1,7 @@
 -- What moves a date too far leads out of the calendar.
-use Rattle.std.proofs.Common.{◌≡◌, ◌⊎◌, inl, inr, None, arith, ℤ, pos, neg_ℤ, ◌+ℤ◌, ◌*ℤ◌, ◌≤ℤ◌, ◌<ℤ◌}
-use Rattle.chrono_calendar.specs.Days.{IsDate, date_of_day}
-use Rattle.chrono_calendar.specs.MonthMoves.{month_index_of, month_move}
-use Rattle.chrono_calendar.proofs.Signed.{signed}
-use Rattle.chrono_calendar.proofs.Dates.{date_of_day-SomeIff}
+use Rattle.dates_answer.proofs.Ground.{◌≡◌, ◌⊎◌, inl, inr, None, arith, ℤ, pos, neg_ℤ, ◌+ℤ◌, ◌*ℤ◌, ◌≤ℤ◌, ◌<ℤ◌, IsDate, date_of_day, month_index_of, month_move, signed, date_of_day-SomeIff, year_of-range, Unit, Days, Weeks, Months, Years, unit_move}
 use Rattle.chrono_calendar.proofs.MonthOrder.{month_of-range}
-use Rattle.chrono_calendar.proofs.MonthMoveLaws.{year_of-range}
 use Rattle.chrono_calendar.proofs.Moves.{year_of_month_index-below, year_of_month_index-above, month_move-None}
-use Rattle.dates_answer.specs.declared.span.Unit.{Unit}
-use Rattle.dates_answer.specs.declared.span.Unit.TheVariants.{Days, Weeks, Months, Years}
-use Rattle.dates_answer.specs.Moves.{unit_move}
 
 -- more of a unit than there are days
 abbrev pub IsFar : ℤ → Type 0

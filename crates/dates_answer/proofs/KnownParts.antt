@@ -1,13 +1,6 @@
 -- Years, months and days between two days are the only ones.
-use Rattle.std.proofs.Common.{◌≡◌, Option, Some, None, IfSome, IsSomeAnd, sym, ap, ◌∙◌, arith, ℤ, ◌-ℤ◌, ◌≤ℤ◌, ◌<ℤ◌}
-use Rattle.std.proofs.lemmas.Int.{by_lt_z}
-use Rattle.chrono_calendar.proofs.Signed.{signed}
-use Rattle.dates_answer.specs.declared.span.Unit.{Unit}
-use Rattle.dates_answer.specs.declared.span.Unit.TheVariants.{Months, Years}
+use Rattle.dates_answer.proofs.Ground.{◌≡◌, Option, Some, None, IfSome, IsSomeAnd, sym, ap, ◌∙◌, arith, ℤ, ◌-ℤ◌, ◌≤ℤ◌, ◌<ℤ◌, by_lt_z, signed, Unit, Months, Years, unit_move, IsMostBack, IsMostForth, IsUnitsBetween, IsMonthsBack, IsMonthsForth, IsMonthsLeft, IsPartsBetween}
 use Rattle.dates_answer.specs.declared.parts.Parts.{Parts}
-use Rattle.dates_answer.specs.Moves.{unit_move}
-use Rattle.dates_answer.specs.Distances.{IsMostBack, IsMostForth, IsUnitsBetween}
-use Rattle.dates_answer.specs.Parts.{IsMonthsBack, IsMonthsForth, IsMonthsLeft, IsPartsBetween}
 use Rattle.dates_answer.proofs.PartLemmas.{by_order, months_come, years_come}
 
 -- no move is past a day and not past it

@@ -1,3 +1,4 @@
+mod Ground
 mod FarMoves
 mod MonthDistances
 mod Distances

@@ -1,25 +1,8 @@
 -- How many whole months lie between two days: those between their months, or one less.
-use Rattle.std.proofs.Common.{◌≡◌, Option, Some, None, IsSome, IfSome, IsSomeAnd, refl, sym, ap, ◌∙◌, arith, ℤ, pos, neg_ℤ, ◌+ℤ◌, ◌-ℤ◌, ◌≤ℤ◌, ◌<ℤ◌}
-use Rattle.std.proofs.lemmas.Bool.{false≢true}
-use Rattle.std.proofs.lemmas.Int.{by_lt_z}
-use Rattle.std.proofs.lemmas.Option.{same_Some}
-use Rattle.std.specs.Option.{unwrap_or}
+use Rattle.dates_answer.proofs.Ground.{◌≡◌, Option, Some, None, IsSome, IfSome, IsSomeAnd, refl, sym, ap, ◌∙◌, arith, ℤ, pos, neg_ℤ, ◌+ℤ◌, ◌-ℤ◌, ◌≤ℤ◌, ◌<ℤ◌, false≢true, by_lt_z, same_Some, unwrap_or, IsDate, month_index_of, year_of_month_index, month_move, signed, later_month, month_move-parts, month_move-exists, month_index_of-rises, Months, unit_move, IsMostBack, IsMostForth}
 use Rattle.chrono_units.specs.Years.{IsYear}
-use Rattle.chrono_calendar.specs.Days.{IsDate}
-use Rattle.chrono_calendar.specs.MonthMoves.{month_index_of, year_of_month_index, month_move}
-use Rattle.chrono_calendar.proofs.Signed.{signed}
-use Rattle.chrono_calendar.proofs.MonthOrder.{day_at-exists, earlier_month}
-use Rattle.chrono_calendar.proofs.MonthMoveLaws.{month_move-parts, month_move-exists}
 use Rattle.chrono_calendar.proofs.EveryMonths.{date_every-start}
-use Rattle.chrono_calendar.proofs.Rising.{month_index_of-rises}
-use Rattle.dates_answer.specs.declared.span.Unit.TheVariants.{Months}
-use Rattle.dates_answer.specs.Moves.{unit_move}
-use Rattle.dates_answer.specs.Distances.{IsMostBack, IsMostForth}
 use Rattle.dates_answer.proofs.FarMoves.{month_index_of-range}
-
--- a day of a later month is later
-pub later_month : (n m : ℤ) → month_index_of n <ℤ month_index_of m → n <ℤ m
-later_month n m lt = earlier_month n m _ _ _ _ (day_at-exists n) (day_at-exists m) lt
 
 -- a move that ends in a month after that of a day, ends after the day; and before it in a month before that
 after_month : (o : Option ℤ) (n k to : ℤ) → o ≡ month_move n k → month_index_of to <ℤ (month_index_of n +ℤ k) → IfSome o (λ m. to <ℤ m)

@@ -1,18 +1,5 @@
 -- Months up to eleven, and how years, months and days add up.
-use Rattle.std.proofs.Common.{◌≡◌, Option, Some, None, IsSomeAnd, refl, sym, ap, ◌∙◌, arith, ℤ, pos, neg_ℤ, ◌-ℤ◌, ◌≤ℤ◌, ◌<ℤ◌, [], ◌∷◌}
-use Rattle.std.proofs.lemmas.Int.{by_lt_z}
-use Rattle.std.specs.Option.{unwrap_or}
-use Rattle.chrono_calendar.specs.Days.{IsDate, date_of_day}
-use Rattle.chrono_calendar.specs.MonthMoves.{month_move}
-use Rattle.chrono_calendar.proofs.Signed.{signed}
-use Rattle.chrono_calendar.proofs.Dates.{date_of_day-SomeIff}
-use Rattle.chrono_calendar.proofs.MonthMoveLaws.{month_move-parts}
-use Rattle.chrono_calendar.proofs.Rising.{month_index_of-rises}
-use Rattle.dates_answer.specs.declared.span.Unit.{Unit}
-use Rattle.dates_answer.specs.declared.span.Unit.TheVariants.{Days, Months, Years}
-use Rattle.dates_answer.specs.Moves.{moved_from, unit_move}
-use Rattle.dates_answer.specs.Distances.{IsMostBack, IsMostForth, IsUnitsBetween}
-use Rattle.dates_answer.specs.Parts.{IsMonthsBack, IsMonthsForth, IsMonthsLeft, IsPartsBetween}
+use Rattle.dates_answer.proofs.Ground.{◌≡◌, Option, Some, None, IsSomeAnd, refl, sym, ap, ◌∙◌, arith, ℤ, pos, neg_ℤ, ◌-ℤ◌, ◌≤ℤ◌, ◌<ℤ◌, [], ◌∷◌, by_lt_z, unwrap_or, IsDate, date_of_day, month_move, signed, date_of_day-SomeIff, month_move-parts, month_index_of-rises, Unit, Days, Months, Years, moved_from, unit_move, IsMostBack, IsMostForth, IsUnitsBetween, IsMonthsBack, IsMonthsForth, IsMonthsLeft, IsPartsBetween}
 use Rattle.dates_answer.proofs.MonthDistances.{at_move, reaches}
 use Rattle.dates_answer.proofs.Distances.{found_at, no_later}
 

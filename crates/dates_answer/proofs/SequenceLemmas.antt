@@ -1,13 +1,6 @@
 -- Days of a sequence, and those that lie past its end.
-use Rattle.std.proofs.Common.{◌≡◌, inl, inr, Bool, true, false, cond, Option, Some, None, refl, arith, rules, ℤ, pos, neg_ℤ, ◌≤ℤ◌, ◌<ℤ◌, int_le, w64}
-use Rattle.std.proofs.lemmas.Int.{by_lt_z, ints}
-use Rattle.std.specs.Int.RustNames.{FitsSigned}
-use Rattle.std.specs.Option.{SomeIff}
-use Rattle.chrono_calendar.specs.Days.{IsDate}
-use Rattle.chrono_calendar.proofs.Dates.{by_test}
-use Rattle.dates_answer.specs.declared.span.Unit.{Unit}
-use Rattle.dates_answer.specs.Moves.{unit_move}
-use Rattle.dates_answer.specs.Sequences.{up_to}
+use Rattle.dates_answer.proofs.Ground.{◌≡◌, inl, inr, Bool, true, false, cond, Option, Some, None, refl, arith, rules, ℤ, pos, neg_ℤ, ◌≤ℤ◌, ◌<ℤ◌, int_le, w64, by_lt_z, ints, FitsSigned, SomeIff, IsDate, by_test, Unit, unit_move}
+use Rattle.dates_answer.specs.Sequences.{days_up_to}
 use Rattle.dates_answer.proofs.FarMoves.{IsFar, unit_move-far}
 
 -- a number that no machine word holds leads out of the calendar
@@ -27,10 +20,10 @@ by_way : (t : Bool) (o : Option ℤ) (count end n : ℤ) → int_le (pos 0) coun
 by_way true o count end n e on back = if_at_most o n end n (on (omega (arith, ints, e)))
 by_way false o count end n e on back = if_at_most o end n n (back (omega (arith, ints, e)))
 
-pub up_to_on : (o : Option ℤ) (count end n : ℤ) → pos 0 ≤ℤ count → SomeIff o (n ≤ℤ end) n → o ≡ up_to count end n
-unfolding up_to
+pub up_to_on : (o : Option ℤ) (count end n : ℤ) → pos 0 ≤ℤ count → SomeIff o (n ≤ℤ end) n → o ≡ days_up_to count end n
+unfolding days_up_to
 up_to_on o count end n on given = by_way (int_le (pos 0) count) o count end n refl (λ _. given) (λ back. absurd (omega (arith, ints, on, back)))
 
-pub up_to_back : (o : Option ℤ) (count end n : ℤ) → count <ℤ pos 0 → SomeIff o (end ≤ℤ n) n → o ≡ up_to count end n
-unfolding up_to
+pub up_to_back : (o : Option ℤ) (count end n : ℤ) → count <ℤ pos 0 → SomeIff o (end ≤ℤ n) n → o ≡ days_up_to count end n
+unfolding days_up_to
 up_to_back o count end n back given = by_way (int_le (pos 0) count) o count end n refl (λ on. absurd (omega (arith, ints, on, back))) (λ _. given)

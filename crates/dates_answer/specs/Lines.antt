@@ -3,8 +3,7 @@ use Rattle.std.specs.Prelude.{Bool, ℕ, List, ◌++◌, codes, ℤ, pos, ◌-�
 use Rattle.std.specs.Fmt.{signed_decimal}
 use Rattle.std.specs.Ordering.{int_eq}
 use Rattle.std.specs.Str.{byte}
-use Rattle.chrono_datetime.specs.declared.Weekday.{Weekday}
-use Rattle.chrono_datetime.specs.declared.Weekday.TheVariants.{Mon, Tue, Wed, Thu, Fri, Sat, Sun}
+use Rattle.chrono_units.specs.Names.{weekday_name}
 use Rattle.chrono_datetime.specs.DateText.{date_text}
 use Rattle.chrono_datetime.specs.Fields.{unix_epoch_day}
 use Rattle.chrono_datetime.specs.MomentText.{moment_text}
@@ -18,16 +17,6 @@ use Rattle.dates_answer.specs.declared.line.Answer.TheVariants as answers
 use Rattle.dates_answer.specs.declared.line.Key.{Key}
 use Rattle.dates_answer.specs.declared.line.Key.TheVariants as keys
 use Rattle.dates_answer.specs.declared.parts.Parts.{Parts}
-
--- the English name of a weekday
-unfoldable pub weekday_name : Weekday → List ℕ
-weekday_name Mon = codes "Monday"
-weekday_name Tue = codes "Tuesday"
-weekday_name Wed = codes "Wednesday"
-weekday_name Thu = codes "Thursday"
-weekday_name Fri = codes "Friday"
-weekday_name Sat = codes "Saturday"
-weekday_name Sun = codes "Sunday"
 
 -- the key of a value
 unfoldable pub key_text : Key → List ℕ

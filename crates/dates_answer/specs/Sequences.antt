@@ -5,8 +5,8 @@ use Rattle.dates_answer.specs.declared.span.Span.{Span}
 use Rattle.dates_answer.specs.Moves.{unit_move}
 
 -- the day n, if it does not lie past the day end for one who goes on, or back where the number is below 0
-unfoldable pub up_to : ℤ → ℤ → ℤ → Option ℤ
-up_to count end n = if (if int_le (pos 0) count then int_le n end else int_le end n) then Some n else None
+unfoldable pub days_up_to : ℤ → ℤ → ℤ → Option ℤ
+days_up_to count end n = if (if int_le (pos 0) count then int_le n end else int_le end n) then Some n else None
 
 -- the day first moved by k spans at once, as twice one month is two months, if that is a date
 abbrev pub moved_times : ℤ → Span → ℕ → Option ℤ
@@ -14,4 +14,4 @@ moved_times first step k = unit_move step.unit first (step.count *ℤ pos k)
 
 -- the day of a sequence at the place k, if that is a date and not past the end
 abbrev pub sequence_day : ℤ → ℤ → Span → ℕ → Option ℤ
-sequence_day first end step k = option_and_then (up_to step.count end) (moved_times first step k)
+sequence_day first end step k = option_and_then (days_up_to step.count end) (moved_times first step k)

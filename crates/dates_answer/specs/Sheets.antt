@@ -45,13 +45,13 @@ abbrev pub last_digit : ℕ → ℕ
 last_digit k = byte "0" + k % 10
 
 -- a day of the month in two bytes, with a space in front of one digit
-abbrev pub day_digits : ℕ → List ℕ
-day_digits d = (if nat_lt d 10 then byte " " else last_digit (d / 10)) ∷ last_digit d ∷ []
+abbrev pub day_columns : ℕ → List ℕ
+day_columns d = (if nat_lt d 10 then byte " " else last_digit (d / 10)) ∷ last_digit d ∷ []
 
 -- what stands in a cell: its day, or spaces
 abbrev pub day_text : Option ℕ → List ℕ
 day_text None = codes "  "
-day_text (Some d) = day_digits d
+day_text (Some d) = day_columns d
 
 -- three bytes of a cell: its day, and behind it `*` where it is closed
 abbrev pub cell_text : Cell → List ℕ

@@ -13,7 +13,7 @@ ghost use Rattle.dates_answer.specs.Lines.{day_object, line_text};
 ghost use Rattle.dates_answer.specs.Moves.{moved_from, unit_move};
 ghost use Rattle.dates_answer.specs.Parts.{IsPartsBetween};
 ghost use Rattle.dates_answer.specs.Sequences.{sequence_day};
-ghost use Rattle.dates_answer.specs.Sheets.{cells_of_row, row_text, sheet_day};
+ghost use Rattle.dates_answer.specs.Sheets.{cells_of_row, row_text, sheet_day, week_of_row};
 
 /// States known moves of days by spans.
 ///
@@ -70,13 +70,15 @@ pub fn known_lines()
 
 /// States known cells of January of year 1, which begins on a Monday.
 ///
-/// They are cells of its first and last rows. In the last row the 30th is a holiday. A further row shows how a row is written.
+/// They are cells of its first and last rows. In the last row the 30th is a holiday. With weeks from Sunday, the first row is ISO week 1.
+/// A further row shows how a row is written.
 pub fn known_sheets()
     ensures first { sheet_day (pos 15) Mon 0 0 ≡ Some (pos 1) }
     ensures before_first { sheet_day (pos 15) Sun 0 0 ≡ None }
     ensures second_column { sheet_day (pos 15) Sun 0 1 ≡ Some (pos 1) }
     ensures last { sheet_day (pos 15) Mon 4 2 ≡ Some (pos 31) }
     ensures behind_last { sheet_day (pos 15) Mon 4 3 ≡ None }
+    ensures week_from_sunday { week_of_row (pos 15) Sun 0 ≡ Some 1 }
     ensures cells { cells_of_row (closed no_days (pos 30 ∷ [])) (pos 15) Mon 4
         ≡ record { day = Some 29; closed = false } ∷ record { day = Some 30; closed = true } ∷ record { day = Some 31; closed = false } ∷ record { day = None; closed = false } ∷ record { day = None; closed = false } ∷ record { day = None; closed = false } ∷ record { day = None; closed = false } ∷ [] }
     ensures row { row_text (record { week = Some 9; cells = record { day = Some 29; closed = false } ∷ record { day = Some 1; closed = true } ∷ record { day = None; closed = false } ∷ [] })

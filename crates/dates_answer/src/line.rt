@@ -1,7 +1,7 @@
 //! Lines of answers, as texts or as objects of JSON (RFC 8259).
 ghost use Rattle.std.specs.Prelude.{◌≡◌, Some, codes, if◌then◌else◌};
 ghost use Rattle.std.specs.Fmt.{WritesOnOk};
-ghost use Rattle.dates_answer.specs.Lines.{answer_object, answer_text, day_object, key_text, line_text, months_days_text, names_object, numbers_in_object, parts_object, parts_text, weekday_name};
+ghost use Rattle.dates_answer.specs.Lines.{answer_object, answer_text, day_object, key_text, line_text, months_days_text, names_object, numbers_in_object, parts_object, parts_text};
 
 use crate::form::Form;
 use crate::names::{DayNames, OrdinalName, WeekName};
@@ -104,7 +104,7 @@ impl fmt::Display for DayObject {
     fn fmt<W: fmt::Write>(&self, f: &mut fmt::Formatter<W>) -> fmt::Result {
         let DayObject { date, is_open } = *self;
         let week = WeekName { date };
-        let weekday = weekday_name(date.weekday());
+        let weekday = date.weekday().name();
         write!(
             f,
             "{{\"date\":\"{date}\",\"week\":\"{week}\",\"weekday\":\"{weekday}\",\"open\":{is_open}}}"
@@ -177,7 +177,7 @@ fn write_text<W: fmt::Write>(answer: &Answer, f: &mut fmt::Formatter<W>) -> fmt:
     match *answer {
         Answer::Names(date) => write!(f, "{}", DayNames { date }),
         Answer::Date(date) => write!(f, "{date}"),
-        Answer::Weekday(day) => f.write_str(weekday_name(day)),
+        Answer::Weekday(day) => f.write_str(day.name()),
         Answer::Moment(moment) => write!(f, "{moment:?}"),
         Answer::Duration(duration) => write!(f, "{duration}"),
         Answer::Number(_, number) => write!(f, "{number}"),
@@ -206,7 +206,7 @@ fn write_object<W: fmt::Write>(answer: &Answer, f: &mut fmt::Formatter<W>) -> fm
     match *answer {
         Answer::Names(date) => write_names(date, f),
         Answer::Date(date) => write!(f, "{{\"date\":\"{date}\"}}"),
-        Answer::Weekday(day) => write!(f, "{{\"weekday\":\"{}\"}}", weekday_name(day)),
+        Answer::Weekday(day) => write!(f, "{{\"weekday\":\"{}\"}}", day.name()),
         Answer::Moment(moment) => write!(f, "{{\"moment\":\"{moment:?}\"}}"),
         Answer::Duration(duration) => write!(f, "{{\"duration\":\"{duration}\"}}"),
         Answer::Number(key, number) => write!(f, "{{\"{key}\":{number}}}"),
@@ -260,29 +260,13 @@ impl fmt::Display for DayNumbers {
 
     /// Writes the weekday, the day's number and the days since 1970-01-01, each under its key.
     fn fmt<W: fmt::Write>(&self, f: &mut fmt::Formatter<W>) -> fmt::Result {
-        let weekday = weekday_name(self.date.weekday());
+        let weekday = self.date.weekday().name();
         let number = self.date.num_days_from_ce();
         let unix = self.date.to_epoch_days();
         write!(
             f,
             "\"weekday\":\"{weekday}\",\"day_number\":{number},\"unix_day\":{unix}"
         )
-    }
-}
-
-// The English name of a weekday.
-#[tactic(auto, unfolding(crate::specs::Lines::weekday_name))]
-fn weekday_name(day: Weekday) -> &'static str
-    ensures { result.now ≡ weekday_name day }
-{
-    match day {
-        Weekday::Mon => "Monday",
-        Weekday::Tue => "Tuesday",
-        Weekday::Wed => "Wednesday",
-        Weekday::Thu => "Thursday",
-        Weekday::Fri => "Friday",
-        Weekday::Sat => "Saturday",
-        Weekday::Sun => "Sunday",
     }
 }
 

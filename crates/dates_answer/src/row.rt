@@ -1,7 +1,7 @@
 //! A row of a sheet, as it is printed.
 ghost use Rattle.std.specs.Prelude.{◌≡◌, ◌+◌, ◌*◌, ◌≤◌, ◌<◌, ◌++◌, Some, length};
 ghost use Rattle.std.specs.Str.{IsAscii};
-ghost use Rattle.dates_answer.specs.Sheets.{cell_text, cells_text, day_digits, label_text, last_digit, row_text};
+ghost use Rattle.dates_answer.specs.Sheets.{cell_text, cells_text, day_columns, label_text, last_digit, row_text};
 
 use chrono_text::Text;
 use std::fmt;
@@ -101,8 +101,8 @@ fn push_cell(text: &mut Text<WIDTH>, cell: Cell)
 // A day in two bytes, with a space in front of one digit.
 fn push_day(text: &mut Text<WIDTH>, day: u32)
     requires { length text.old + 2 ≤ 25 }
-    ensures text { text.new ≡ text.old ++ day_digits day }
-    ensures ascii { IsAscii (day_digits day) }
+    ensures text { text.new ≡ text.old ++ day_columns day }
+    ensures ascii { IsAscii (day_columns day) }
     ensures fits { length text.new ≡ length text.old + 2 }
 {
     text.push(if day < 10 { b' ' } else { last_digit(day / 10) });

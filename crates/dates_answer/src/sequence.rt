@@ -1,6 +1,6 @@
 //! Sequences of days, each so many spans from the first.
 ghost use Rattle.std.specs.Prelude.{◌≡◌, ◌≤ℤ◌, SomeIff};
-ghost use Rattle.dates_answer.specs.Sequences.{moved_times, sequence_day, up_to};
+ghost use Rattle.dates_answer.specs.Sequences.{moved_times, sequence_day, days_up_to};
 
 use crate::between::days_between;
 use crate::moves::moved_by;
@@ -17,7 +17,7 @@ pub fn sequence_day(first: NaiveDate, end: NaiveDate, step: Span, place: u32) ->
 {
     let count = step.count;
     let date = moved_times(first, step, place)?;
-    up_to(date, end, count)
+    days_up_to(date, end, count)
 }
 
 // The date moved by so many spans at once.
@@ -33,8 +33,8 @@ fn moved_times(first: NaiveDate, step: Span, place: u32) -> Option<NaiveDate>
 }
 
 // The date, if it does not lie past the end for one who goes on, or back where the number is below 0.
-fn up_to(date: NaiveDate, end: NaiveDate, count: i64) -> Option<NaiveDate>
-    ensures { result ≡ up_to count end date }
+fn days_up_to(date: NaiveDate, end: NaiveDate, count: i64) -> Option<NaiveDate>
+    ensures { result ≡ days_up_to count end date }
 {
     if count < 0 {
         in_order(date, end, date)

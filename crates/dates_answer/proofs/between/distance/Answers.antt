@@ -1,7 +1,4 @@
-use Rattle.std.proofs.Common.{ℤ, sym, subst, w64, rules, ◌∙◌}
-use Rattle.std.proofs.lemmas.Int.{to_z-of_z}
-use Rattle.dates_answer.specs.declared.span.Unit.TheVariants.{Days}
-use Rattle.dates_answer.specs.Distances.{IsUnitsBetween}
+use Rattle.dates_answer.proofs.Ground.{ℤ, sym, subst, w64, rules, ◌∙◌, to_z-of_z, Days, IsUnitsBetween}
 use Rattle.dates_answer.proofs.Distances.{days}
 use Rattle.dates_answer.proofs.between.distance.Goals as goal
 

@@ -1,7 +1,4 @@
-use Rattle.std.proofs.Common.{pos, ◌+ℤ◌, arith, w64, rules}
-use Rattle.std.proofs.lemmas.Int.{to_z-of_z}
-use Rattle.std.specs.Int.RustNames.{FitsSigned}
-use Rattle.chrono_calendar.proofs.Signed.{signed}
+use Rattle.dates_answer.proofs.Ground.{pos, ◌+ℤ◌, arith, w64, rules, to_z-of_z, FitsSigned, signed}
 use Rattle.dates_answer.proofs.MonthDistances.{back_by}
 use Rattle.dates_answer.proofs.between.months_back.Goals as goal
 

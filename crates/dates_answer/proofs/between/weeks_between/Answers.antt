@@ -1,8 +1,4 @@
-use Rattle.std.proofs.Common.{ℤ, pos, sym, subst, int_div, w64, rules}
-use Rattle.std.proofs.lemmas.Int.{quot_fits, quot_is}
-use Rattle.std.specs.Int.RustNames.{FitsSigned}
-use Rattle.dates_answer.specs.declared.span.Unit.TheVariants.{Weeks}
-use Rattle.dates_answer.specs.Distances.{IsUnitsBetween}
+use Rattle.dates_answer.proofs.Ground.{ℤ, pos, sym, subst, int_div, w64, rules, quot_fits, quot_is, FitsSigned, Weeks, IsUnitsBetween}
 use Rattle.dates_answer.proofs.Distances.{IsWholePart, sevenths, weeks}
 use Rattle.dates_answer.proofs.between.weeks_between.Goals as goal
 

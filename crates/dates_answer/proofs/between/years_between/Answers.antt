@@ -1,8 +1,4 @@
-use Rattle.std.proofs.Common.{ℤ, pos, sym, subst, int_div, w64, rules}
-use Rattle.std.proofs.lemmas.Int.{quot_fits, quot_is}
-use Rattle.std.specs.Int.RustNames.{FitsSigned}
-use Rattle.dates_answer.specs.declared.span.Unit.TheVariants.{Years}
-use Rattle.dates_answer.specs.Distances.{IsUnitsBetween}
+use Rattle.dates_answer.proofs.Ground.{ℤ, pos, sym, subst, int_div, w64, rules, quot_fits, quot_is, FitsSigned, Years, IsUnitsBetween}
 use Rattle.dates_answer.proofs.Distances.{twelfths, years}
 use Rattle.dates_answer.proofs.between.years_between.Goals as goal
 

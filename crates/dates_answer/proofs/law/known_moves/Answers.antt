@@ -1,7 +1,4 @@
-use Rattle.std.proofs.Common.{refl}
-use Rattle.chrono_calendar.specs.Days.{days_of_years, days_before_year, days_of_months_in, date_of_day, ordinal_name_of, days_after_zero, days_before_zero, month_of_ordinal, day_of_ordinal}
-use Rattle.chrono_calendar.specs.MonthMoves.{month_move}
-use Rattle.dates_answer.specs.Moves.{moved_from, unit_move}
+use Rattle.dates_answer.proofs.Ground.{refl, days_of_years, days_before_year, days_of_months_in, date_of_day, ordinal_name_of, days_after_zero, days_before_zero, month_of_ordinal, day_of_ordinal, month_move, moved_from, unit_move}
 use Rattle.dates_answer.proofs.law.known_moves.Goals as goal
 
 pub returns : goal.returns

@@ -1,5 +1,4 @@
-use Rattle.std.proofs.Common.{w64, rules}
-use Rattle.std.proofs.lemmas.Int.{to_z-of_z}
+use Rattle.dates_answer.proofs.Ground.{w64, rules, to_z-of_z}
 use Rattle.dates_answer.specs.Lines.{parts_object}
 use Rattle.dates_answer.proofs.line.write_parts.Goals as goal
 

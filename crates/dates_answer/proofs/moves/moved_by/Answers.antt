@@ -1,9 +1,4 @@
-use Rattle.std.proofs.Common.{pos, ◌*ℤ◌, inl, inr, arith, w64, rules}
-use Rattle.std.proofs.lemmas.Int.{to_z-of_z}
-use Rattle.std.specs.Int.RustNames.{FitsSigned}
-use Rattle.chrono_calendar.proofs.Signed.{signed}
-use Rattle.chrono_calendar.specs.Days.{IsDate}
-use Rattle.dates_answer.specs.Moves.{unit_move}
+use Rattle.dates_answer.proofs.Ground.{pos, ◌*ℤ◌, inl, inr, arith, w64, rules, to_z-of_z, FitsSigned, signed, IsDate, unit_move}
 use Rattle.dates_answer.proofs.FarMoves.{unit_move-far}
 use Rattle.dates_answer.proofs.moves.moved_by.Goals as goal
 

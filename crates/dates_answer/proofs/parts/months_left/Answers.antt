@@ -1,6 +1,4 @@
-use Rattle.std.proofs.Common.{arith, w64, rules}
-use Rattle.std.proofs.lemmas.Int.{to_z-of_z}
-use Rattle.chrono_calendar.proofs.Signed.{signed}
+use Rattle.dates_answer.proofs.Ground.{arith, w64, rules, to_z-of_z, signed}
 use Rattle.dates_answer.proofs.PartLemmas.{all_left, eleven_on, eleven_on_back}
 use Rattle.dates_answer.proofs.parts.months_left.Goals as goal
 

@@ -1,5 +1,4 @@
-use Rattle.std.proofs.Common.{w64, rules}
-use Rattle.std.proofs.lemmas.Int.{to_z-of_z}
+use Rattle.dates_answer.proofs.Ground.{w64, rules, to_z-of_z}
 use Rattle.dates_answer.proofs.PartLemmas.{are_read}
 use Rattle.dates_answer.proofs.parts.parts_between.Goals as goal
 

@@ -1,5 +1,5 @@
 -- What is written so far, and the characters that are left.
-use Rattle.std.proofs.Common.{◌≡◌, ℕ, List, ◌++◌, IsUtf8, chars}
+use Rattle.dates_answer.proofs.Ground.{◌≡◌, ℕ, List, ◌++◌, IsUtf8, chars}
 use Rattle.std.specs.Fmt.{HasWritten, IsPlainFormatter}
 use Rattle.std.specs.List.{flat_map}
 use Rattle.std.specs.Str.Iter.{chars_rest}

@@ -1,4 +1,4 @@
-use Rattle.std.proofs.Common.{◌≡◌, ◌+◌, ◌*◌, ◌++◌, length, take}
+use Rattle.dates_answer.proofs.Ground.{◌≡◌, ◌+◌, ◌*◌, ◌++◌, length, take}
 use Rattle.std.specs.Str.{IsAscii}
 use Rattle.dates_answer.specs.Sheets.{cells_text}
 use Rattle.dates_answer.proofs.row.push_cells.Given as goal

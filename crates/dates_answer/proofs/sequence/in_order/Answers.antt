@@ -1,5 +1,4 @@
-use Rattle.std.proofs.Common.{refl, arith}
-use Rattle.chrono_calendar.proofs.Signed.{signed}
+use Rattle.dates_answer.proofs.Ground.{refl, arith, signed}
 use Rattle.dates_answer.proofs.sequence.in_order.Goals as goal
 
 pub returns-then-days_between-lt0 : goal.returns-then-days_between-lt0

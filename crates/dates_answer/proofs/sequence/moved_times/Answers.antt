@@ -1,5 +1,4 @@
-use Rattle.std.proofs.Common.{pos, ◌*ℤ◌, w64, rules}
-use Rattle.std.proofs.lemmas.Int.{to_z-of_z}
+use Rattle.dates_answer.proofs.Ground.{pos, ◌*ℤ◌, w64, rules, to_z-of_z}
 use Rattle.dates_answer.proofs.SequenceLemmas.{none_so_far}
 use Rattle.dates_answer.proofs.sequence.moved_times.Goals as goal
 

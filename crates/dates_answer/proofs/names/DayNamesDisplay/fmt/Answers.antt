@@ -1,5 +1,4 @@
-use Rattle.std.proofs.Common.{w32, rules}
-use Rattle.std.proofs.lemmas.Int.{to_z-of_z}
+use Rattle.dates_answer.proofs.Ground.{w32, rules, to_z-of_z}
 use Rattle.dates_answer.specs.DayNames.{names_text}
 use Rattle.dates_answer.proofs.names.DayNamesDisplay.fmt.Goals as goal
 

@@ -1,11 +1,9 @@
-use Rattle.std.proofs.Common.{◌≡◌, ◌∙◌, ap, arith, w64, rules}
-use Rattle.std.proofs.lemmas.Int.{to_z-of_z}
+use Rattle.dates_answer.proofs.Ground.{◌≡◌, ◌∙◌, ap, arith, w64, rules, to_z-of_z, signed}
 use Rattle.chrono_datetime.specs.declared.Weekday.{Weekday}
 use Rattle.chrono_datetime.specs.Days.{date_of_day}
 use Rattle.chrono_datetime.specs.MonthMoves.{month_first_of}
 use Rattle.chrono_datetime.specs.Weekday.{days_since}
 use Rattle.chrono_datetime.specs.Weeks.{weekday_of}
-use Rattle.chrono_calendar.proofs.Signed.{signed}
 use Rattle.dates_answer.proofs.sheet.MonthSheet.date.Goals as goal
 
 pub returns : goal.returns

@@ -1,5 +1,4 @@
-use Rattle.std.proofs.Common.{Some, None, arith}
-use Rattle.chrono_calendar.proofs.Signed.{signed}
+use Rattle.dates_answer.proofs.Ground.{Some, None, arith, signed}
 use Rattle.chrono_calendar.proofs.NamedDates.{none-date_of_day}
 use Rattle.dates_answer.proofs.CellLemmas.{date_of_day-is, sheet_day-SomeIff}
 use Rattle.dates_answer.proofs.sheet.MonthSheet.day.Goals as goal

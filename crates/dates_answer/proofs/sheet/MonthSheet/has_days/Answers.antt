@@ -1,5 +1,4 @@
-use Rattle.std.proofs.Common.{is_some, sym, ap, ◌∙◌, arith}
-use Rattle.std.proofs.lemmas.Bool.{false≢true}
+use Rattle.dates_answer.proofs.Ground.{is_some, sym, ap, ◌∙◌, arith, false≢true}
 use Rattle.dates_answer.proofs.CellLemmas.{ends_empty}
 use Rattle.dates_answer.proofs.sheet.MonthSheet.has_days.Goals as goal
 

@@ -1,4 +1,4 @@
-use Rattle.std.proofs.Common.{refl}
+use Rattle.dates_answer.proofs.Ground.{refl}
 use Rattle.dates_answer.proofs.sheet.MonthSheet.row.Goals as goal
 
 pub returns : goal.returns

@@ -1,5 +1,4 @@
-use Rattle.std.proofs.Common.{refl, sym, ◌∙◌}
-use Rattle.std.proofs.lemmas.Bool.{false≢true}
+use Rattle.dates_answer.proofs.Ground.{refl, sym, ◌∙◌, false≢true}
 use Rattle.dates_answer.proofs.sheet.MonthSheet.shown_week.Goals as goal
 
 pub returns-then-has_days : goal.returns-then-has_days

@@ -1,7 +1,6 @@
-use Rattle.std.proofs.Common.{arith}
-use Rattle.chrono_calendar.proofs.Signed.{signed}
+use Rattle.dates_answer.proofs.Ground.{arith, signed}
 use Rattle.dates_answer.proofs.SequenceLemmas.{up_to_back, up_to_on}
-use Rattle.dates_answer.proofs.sequence.up_to.Goals as goal
+use Rattle.dates_answer.proofs.sequence.days_up_to.Goals as goal
 
 pub returns-then-count-lt0 : goal.returns-then-count-lt0
 returns-then-count-lt0 c = up_to_back _ c.args.count c.args.end c.args.date (omega (arith, signed, c.if-count-lt0.true)) c.in_order.ensures
