@@ -47,7 +47,7 @@ COMMENTS = {".rt": r"//[^\n]*", ".rs": r"//[^\n]*", ".antt": r"--[^\n]*", ".c": 
 # Names that no source declares, by the reason.
 ABSENT = {
     "of Rust and its std": """From Display DoubleEndedIterator String Drop Eq FromIterator FromPrimitive FromStr Hash
-        IntoIterator Ok Result Some Sum TryFrom collect fmt::Write format if match mod requires self str u8 unsafe unwrap""",
+        IntoIterator Ok Option Result Some Sum TryFrom collect fmt::Write format if match mod requires self str u8 unsafe unwrap""",
     "of the kit: its words, its tactics and its std": """IfSome_then SomeIff agree_below agree_below_at num_traits omega refl subst
         unfoldable view_is ensures """,
     "of Python": "OverflowError True TypeError ValueError datetime operator strftime timedelta __slots__ __getstate__",
@@ -63,7 +63,7 @@ ABSENT = {
         from_num_seconds_from_midnight and_hms NaiveDate::succ NaiveDate::pred""",
     "files and modules of chrono": "naive internals isoweek",
     "words of CMake, of the shell and of a line": "find_package cc move pkg-config",
-    "words of the program dates": "MONTH UNIT CONVENTION mo us-federal modified-following modified-preceding",
+    "words of the program dates": "MONTH mo us-federal modified-following modified-preceding",
     "digits of a number": "_294_967_297",
     "texts and digits of a text": "P0D PT59M59 PT90S PT007S PT1H30M PT5400S PT0S",
     "made by tools/dist": "SHA256SUMS",

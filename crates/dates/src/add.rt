@@ -1,30 +1,24 @@
 //! Days and date-times, moved by spans, open days and times.
 
-use crate::asked::{Asked, Host, print_answer};
 use crate::closed::years_of_open_days;
-use crate::fault::{Fault, NONE};
 use crate::holidays::{Holidays, holidays_of};
-use crate::lines::{EachLine, Place, answer_lines, print_past};
-use crate::options::{DAY_OR_LINES, OPEN_DAYS};
-use crate::texts::{Move, is_timed, read_move};
-use crate::values::{Start, read_start, start_of};
+use crate::prelude::*;
+use crate::texts::{Move, Start, read_move, read_start};
+use crate::values::start_of;
 use chrono_datetime::{NaiveDate, NaiveDateTime};
-use command_words::{CommandRow, OPERAND, Operand, Word};
-use dates_answer::{Answer, Form, Key, moved};
-use std::alloc::Allocator;
+use dates_answer::moved;
 use std::io;
+
+const SPAN: Operand = Operand {
+    name: "SPAN",
+    many: true,
+    ..OPERAND
+};
 
 pub(crate) fn command() -> CommandRow {
     CommandRow {
         name: "add",
-        operands: &[
-            DAY_OR_LINES,
-            Operand {
-                name: "SPAN",
-                many: true,
-                ..OPERAND
-            },
-        ],
+        operands: &[DAY_OR_LINES, SPAN],
         options: OPEN_DAYS,
         help: "move a day or a date-time by each span in turn",
         more: "A SPAN is a whole number of days, weeks, months or years, as 3d, -2w, 1mo and\n\
@@ -41,141 +35,196 @@ pub(crate) fn command() -> CommandRow {
     }
 }
 
-// A move that leads out of the calendar, by its number, and from where.
+// Moves, one after another, and the words that write them.
+#[derive(Drop)]
+struct MoveList<'a, A: Allocator> {
+    moves: Vec<Move, A>,
+    words: Vec<Word<'a>, A>,
+    // The first word that writes months by `m`.
+    short: Option<Word<'a>>,
+    // Whether a step is a time.
+    timed: bool,
+}
+
+impl<'a, A: Allocator> MoveList<'a, A> {
+    // Puts a step behind the others.
+    fn push(&mut self, by: Move, word: Word<'a>) -> io::Result<()> {
+        match by {
+            Move::ShortMonths(_) if self.short.is_none() => self.short = Some(word),
+            Move::Time(_) => self.timed = true,
+            _ => {}
+        }
+        self.moves.push(by)?;
+        self.words.push(word)?;
+        Ok(())
+    }
+}
+
+// A step that leads out of the calendar, by its place, and from where.
 #[derive(Clone, Copy)]
 struct Stop {
-    step: usize,
+    place: usize,
     from: Start,
 }
 
-// Moves, one after another, and the holidays among them.
+// Steps, and the holidays among them.
 #[derive(Drop)]
 struct Add<'a, A: Allocator> {
-    form: Form,
-    moves: Vec<Move, A>,
-    // The words that write them.
-    words: Vec<Word<'a>, A>,
-    // Whether one of them is a time.
-    timed: bool,
+    form: OutputForm,
+    steps: MoveList<'a, A>,
     holidays: Holidays<A>,
 }
 
 // The day or the date-time, or that of each line, moved; the exit status.
-pub(crate) fn answer<'a, R: Host>(
-    rt: &R,
-    asked: &mut Asked<'a, impl Allocator>,
-) -> Result<u8, Fault<'a>> {
-    let form = asked.form;
-    let (start, words) = value!(start_in(asked.words.operands.as_slice()));
-    let mut moves: Vec<Move, R::A> = Vec::new(rt.alloc());
-    if let Some(fault) = put_moves(words, &start, &mut moves)? {
-        return Err(fault);
-    }
-    let timed = has_time(moves.as_slice());
-    if let (Some(word), true) = (
-        short_months(words, moves.as_slice()),
-        timed || is_moment(&start),
-    ) {
-        return Err(Fault::Months(word));
-    }
-    let words: Vec<Word<'_>, R::A> = words.iter().copied().collect(rt.alloc())?;
-    let holidays = holidays_of(rt, asked)?;
-    let mut add = Add {
-        form,
-        moves,
-        words,
-        timed,
-        holidays,
+pub(crate) fn answer<'a, R: Host>(rt: &R, asked: &mut Asked<'a, impl Allocator>) -> Answered<'a> {
+    let mut steps: MoveList<'a, R::A> = MoveList {
+        moves: Vec::new(rt.alloc()),
+        words: Vec::new(rt.alloc()),
+        short: None,
+        timed: false,
     };
-    match start {
+    let start = value!(read(asked.words.operands.as_slice(), &mut steps));
+    let mut add = Add {
+        form: asked.form,
+        steps,
+        holidays: value!(holidays_of(rt, asked)),
+    };
+    match &start {
         Some(start) => Ok(add.answer_start(rt, Place::Alone, start)?),
-        None => Ok(answer_lines(rt, &mut add)?),
+        None => Ok(take_input(rt, &mut add)?),
     }
 }
 
-// What is moved, `None` for the lines of the input, and the words of the moves.
-fn start_in<'b, 'a>(words: &'b [Word<'a>]) -> Result<(Option<Start>, &'b [Word<'a>]), Fault<'a>> {
+// Reads what is moved, `None` for the lines of the input, and puts at least one step into the list.
+fn read<'a>(
+    words: &[Word<'a>],
+    steps: &mut MoveList<'a, impl Allocator>,
+) -> Result<Option<Start>, Fault<'a>> {
     let [first, rest @ ..] = words else {
         return Err(Fault::Missing("SPAN"));
     };
-    if first.text == "-" {
-        return Ok((None, rest));
-    }
-    if read_move(first.text.as_bytes()).is_some() {
-        return Ok((None, words));
-    }
-    let start = value!(start_of(*first));
-    Ok((Some(start), rest))
+    let start = value!(read_first(*first, steps));
+    value!(put_steps(rest, &start, steps));
+    value!(check_steps(&start, steps));
+    Ok(start)
 }
 
-// Reads at least one move, of which no time moves a day; the fault where a word is none.
-fn put_moves<'a>(
+// Reads what is moved, which is each line of the input where the word is `-` or writes a step.
+fn read_first<'a>(
+    word: Word<'a>,
+    steps: &mut MoveList<'a, impl Allocator>,
+) -> Result<Option<Start>, Fault<'a>> {
+    if word.text == "-" {
+        return Ok(None);
+    }
+    match read_move(word.text.as_bytes()) {
+        Some(by) => {
+            steps.push(by, word)?;
+            Ok(None)
+        }
+        None => Ok(Some(value!(start_of(word)))),
+    }
+}
+
+// Puts the steps that words write into the list, of which no time moves a day.
+fn put_steps<'a>(
     words: &[Word<'a>],
     start: &Option<Start>,
-    moves: &mut Vec<Move, impl Allocator>,
-) -> io::Result<Option<Fault<'a>>> {
-    if words.is_empty() {
-        return Ok(Some(Fault::Missing("SPAN")));
-    }
+    steps: &mut MoveList<'a, impl Allocator>,
+) -> Result<(), Fault<'a>> {
     for word in words {
         let word = *word;
-        match read_move(word.text.as_bytes()) {
-            None => return Ok(Some(Fault::Expected(word, MOVES))),
-            Some(Move::Time(_)) if is_day(start) => {
-                return Ok(Some(Fault::Expected(word, DAY_MOVES)));
+        match (read_move(word.text.as_bytes()), start) {
+            (None, _) => return Err(Fault::expected(word, MOVES)),
+            (Some(Move::Time(_)), Some(Start::Day(_))) => {
+                return Err(Fault::expected(word, DAY_MOVES));
             }
-            Some(by) => moves.push(by)?,
+            (Some(by), _) => steps.push(by, word)?,
         }
     }
-    Ok(None)
+    Ok(())
 }
 
 const MOVES: &str = "a span as 3d, -2w, 1mo, 4y, 5b, 36h, 90min, 15s or PT1.5S";
 
 const DAY_MOVES: &str = "a span of days, or a date-time before it as 2024-02-29T00:00";
 
-// Whether it is a day.
-fn is_day(start: &Option<Start>) -> bool {
-    match start {
-        Some(Start::Day(_)) => true,
-        _ => false,
+// There is a step, and none by `m` beside a time of day.
+fn check_steps<'a>(
+    start: &Option<Start>,
+    steps: &MoveList<'a, impl Allocator>,
+) -> Result<(), Fault<'a>> {
+    if steps.moves.is_empty() {
+        return Err(Fault::Missing("SPAN"));
+    }
+    match (steps.short, start) {
+        (Some(word), Some(Start::DateTime(_))) => Err(minutes(word)),
+        (Some(word), _) if steps.timed => Err(minutes(word)),
+        _ => Ok(()),
     }
 }
 
-// Whether it is a date-time.
-fn is_moment(start: &Option<Start>) -> bool {
-    match start {
-        Some(Start::DateTime(_)) => true,
-        _ => false,
-    }
+// That a word writes months, and was meant for minutes.
+fn minutes<'a>(word: Word<'a>) -> Fault<'a> {
+    Fault::Word(word, Cause::Months(word.text))
 }
 
-// Whether a move is a time.
-fn has_time(moves: &[Move]) -> bool {
-    for by in moves {
-        if let Move::Time(_) = by {
-            return true;
+impl<'a, A: Allocator> Add<'a, A> {
+    // What is moved, by each step in turn, or `none` where one leads out of the calendar; the exit status.
+    fn answer_start(&mut self, rt: &impl Host, place: Place, start: &Start) -> io::Result<u8> {
+        match moved_in_turn(start, self.steps.moves.as_slice(), &mut self.holidays)? {
+            Ok(reached) => print_reply(rt, self.form, reply_of(&reached)),
+            Err(Stop { place: step, from }) => {
+                let text = text_at(self.steps.words.as_slice(), step);
+                print_past(rt, self.form, none_of(&from), place, &from, text)
+            }
         }
     }
-    false
+
+    // What a date-time of a line comes to, which no `m` moves; the exit status.
+    fn answer_moment(&mut self, rt: &impl Host, place: Place, start: &Start) -> io::Result<u8> {
+        let Some(Word { text, .. }) = self.steps.short else {
+            return self.answer_start(rt, place, start);
+        };
+        print_reply(rt, self.form, Reply::Nothing(Key::Moment))?;
+        let _ = eprintln!(rt; "{place}{start} {text}: months; minutes are {text}in");
+        Ok(NONE)
+    }
 }
 
-// The first of the words of moves that writes months by `m`.
-fn short_months<'a>(words: &[Word<'a>], moves: &[Move]) -> Option<Word<'a>> {
+impl<'a, A: Allocator> EachLine for Add<'a, A> {
+    fn take_line(&mut self, rt: &impl Host, number: u64, line: &[u8]) -> Result<u8, LineFault> {
+        let place = Place::Line(number);
+        match &read_start(line) {
+            Ok(start @ Start::DateTime(_)) => Ok(self.answer_moment(rt, place, start)?),
+            Ok(start) if !self.steps.timed => Ok(self.answer_start(rt, place, start)?),
+            _ if self.steps.timed || line.contains(&b'T') => {
+                Ok(print_reply(rt, self.form, Reply::Nothing(Key::Moment))?)
+            }
+            _ => Ok(print_reply(rt, self.form, Reply::Nothing(Key::Date))?),
+        }
+    }
+}
+
+// What is moved, by each step in turn; or the step that leads out of the calendar.
+fn moved_in_turn(
+    start: &Start,
+    moves: &[Move],
+    holidays: &mut Holidays<impl Allocator>,
+) -> io::Result<Result<Start, Stop>> {
+    let mut last = *start;
     let mut place: usize = 0;
     for by in moves {
-        if let Move::ShortMonths(_) = by {
-            return match words.get(place) {
-                Some(word) => Some(*word),
-                None => None,
-            };
+        match moved_by(&last, by, holidays)? {
+            Some(reached) => last = reached,
+            None => return Ok(Err(Stop { place, from: last })),
         }
         place = place.saturating_add(1);
     }
-    None
+    Ok(Ok(last))
 }
 
-// The text of the word at a place, or none.
+// The text of the step at a place, or none.
 fn text_at<'a>(words: &[Word<'a>], place: usize) -> &'a str {
     match words.get(place) {
         Some(word) => word.text,
@@ -183,70 +232,19 @@ fn text_at<'a>(words: &[Word<'a>], place: usize) -> &'a str {
     }
 }
 
-impl<'a, A: Allocator> Add<'a, A> {
-    // What is moved, by each move in turn, or `none` where one leads out of the calendar; the exit status.
-    fn answer_start(&mut self, rt: &impl Host, place: Place, start: Start) -> io::Result<u8> {
-        let form = self.form;
-        match self.moved(start)? {
-            Ok(reached) => print_answer(rt, form, answer_of(&reached)),
-            Err(stop) => {
-                let text = text_at(self.words.as_slice(), stop.step);
-                print_past(rt, form, none_of(&stop.from), place, stop.from, text)
-            }
-        }
-    }
-
-    // What is moved, by each move in turn; the move that leads out of the calendar.
-    fn moved(&mut self, start: Start) -> io::Result<Result<Start, Stop>> {
-        let mut last = start;
-        for step in 0..self.moves.len() {
-            let by = self.moves.as_slice()[step];
-            match moved_by(&last, &by, &mut self.holidays)? {
-                Some(reached) => last = reached,
-                None => return Ok(Err(Stop { step, from: last })),
-            }
-        }
-        Ok(Ok(last))
-    }
-
-    // What a date-time of a line comes to, which no `m` moves; the exit status.
-    fn answer_moment(&mut self, rt: &impl Host, place: Place, start: Start) -> io::Result<u8> {
-        let Some(word) = short_months(self.words.as_slice(), self.moves.as_slice()) else {
-            return self.answer_start(rt, place, start);
-        };
-        let text = word.text;
-        print_answer(rt, self.form, Answer::Nothing(Key::Moment))?;
-        let _ = eprintln!(rt; "{place}{start} {text}: months; minutes are {text}in");
-        Ok(NONE)
-    }
-}
-
-impl<'a, A: Allocator> EachLine for Add<'a, A> {
-    fn answer_line(&mut self, rt: &impl Host, place: Place, line: &[u8]) -> io::Result<u8> {
-        match read_start(line) {
-            Ok(start) if is_timed(line) => self.answer_moment(rt, place, start),
-            Ok(start) if !self.timed => self.answer_start(rt, place, start),
-            _ if self.timed || line.contains(&b'T') => {
-                print_answer(rt, self.form, Answer::Nothing(Key::Moment))
-            }
-            _ => print_answer(rt, self.form, Answer::Nothing(Key::Date)),
-        }
-    }
-}
-
 // The day or the date-time.
-fn answer_of(reached: &Start) -> Answer {
+fn reply_of(reached: &Start) -> Reply {
     match reached {
-        Start::Day(date) => Answer::Date(*date),
-        Start::DateTime(moment) => Answer::Moment(*moment),
+        Start::Day(date) => Reply::Date(*date),
+        Start::DateTime(moment) => Reply::Moment(*moment),
     }
 }
 
 // That there is no day, or no date-time, as is the start.
-fn none_of(start: &Start) -> Answer {
+fn none_of(start: &Start) -> Reply {
     match start {
-        Start::Day(_) => Answer::Nothing(Key::Date),
-        Start::DateTime(_) => Answer::Nothing(Key::Moment),
+        Start::Day(_) => Reply::Nothing(Key::Date),
+        Start::DateTime(_) => Reply::Nothing(Key::Moment),
     }
 }
 

@@ -1,8 +1,8 @@
 //! What a command is asked, and its answer printed.
 
-use crate::fault::{ANSWERED, NONE};
+use crate::fault::{ANSWERED, Fault, NONE};
 use command_words::{Arguments, Opt, Word};
-use dates_answer::{Answer, AnswerLine, Form};
+use dates_answer::{OutputForm, Reply, ReplyLine};
 use std::alloc::Allocator;
 use std::io::{self, Eprint};
 use std::rt::Files;
@@ -12,15 +12,18 @@ pub(crate) trait Host: Alloc + Print + Eprint + Input + Files {}
 
 impl<R: Alloc + Print + Eprint + Input + Files> Host for R {}
 
+/// The exit status of a command, or why it has no answer.
+pub(crate) type Answered<'a> = Result<u8, Fault<'a>>;
+
 /// What a command is asked.
 #[derive(Drop)]
 pub(crate) struct Asked<'a, A: Allocator> {
     /// The name of the command.
     pub command: &'static str,
     /// In which form the answer is written.
-    pub form: Form,
+    pub form: OutputForm,
     /// What is printed where there is no answer, by the key of the command.
-    pub none: Answer,
+    pub none: Reply,
     /// The operands and the options.
     pub words: Arguments<'a, A>,
 }
@@ -43,21 +46,26 @@ impl<'a, A: Allocator> Asked<'a, A> {
             _ => None,
         }
     }
+
+    // Prints the line of a reply; the exit status.
+    pub(crate) fn print(&self, rt: &impl Print, reply: Reply) -> Answered<'a> {
+        Ok(print_reply(rt, self.form, reply)?)
+    }
 }
 
 const NO_WORD: Word<'static> = Word { place: 0, text: "" };
 
-// Prints the line of an answer; the exit status.
-pub(crate) fn print_answer(rt: &impl Print, form: Form, answer: Answer) -> io::Result<u8> {
-    let status = status_of(&answer);
-    println!(rt; "{}", AnswerLine { form, answer })?;
+// Prints the line of a reply; the exit status.
+pub(crate) fn print_reply(rt: &impl Print, form: OutputForm, reply: Reply) -> io::Result<u8> {
+    let status = status_of(&reply);
+    println!(rt; "{}", ReplyLine { form, reply })?;
     Ok(status)
 }
 
-// The exit status of an answer.
-fn status_of(answer: &Answer) -> u8 {
-    match answer {
-        Answer::Nothing(_) | Answer::NoParts | Answer::NoWeek(_) => NONE,
+// The exit status of a reply.
+fn status_of(reply: &Reply) -> u8 {
+    match reply {
+        Reply::Nothing(_) | Reply::NoParts | Reply::NoWeek(_) => NONE,
         _ => ANSWERED,
     }
 }

@@ -1,18 +1,20 @@
 //! A month or a year as a sheet.
 
-use crate::asked::{Asked, Host};
 use crate::closed::years_of;
-use crate::fault::{ANSWERED, Fault};
 use crate::holidays::holidays_of;
-use crate::options::{CALENDAR, HELP, HOLIDAYS, JSON, WEEKDAYS, WEEKEND};
+use crate::prelude::*;
 use crate::texts::read_month;
-use crate::values::{Year, weekday_of, year_of};
+use crate::values::{Year, weekday_of};
 use chrono_business::Calendar;
 use chrono_datetime::{Datelike, Month, NaiveDate, Weekday};
-use command_words::{CommandRow, OPERAND, OPTION, Operand, Opt, Word};
-use dates_answer::{DayObject, Form, MonthSheet};
-use std::alloc::Allocator;
+use chrono_text::read_year;
+use dates_answer::{DayObject, MonthSheet};
 use std::io;
+
+const TIME: Operand = Operand {
+    name: "MONTH|YEAR",
+    ..OPERAND
+};
 
 const FIRST: Opt = Opt {
     name: "--first",
@@ -26,10 +28,7 @@ const FIRST: Opt = Opt {
 pub(crate) fn command() -> CommandRow {
     CommandRow {
         name: "cal",
-        operands: &[Operand {
-            name: "MONTH|YEAR",
-            ..OPERAND
-        }],
+        operands: &[TIME],
         options: &[FIRST, WEEKEND, CALENDAR, HOLIDAYS, JSON, HELP],
         help: "print a month or a year as a sheet",
         more: "A MONTH is written as 2024-02, a YEAR as 2024.\n\
@@ -52,52 +51,60 @@ struct Time {
 }
 
 // The month or the year as sheets with closed days marked; `none` where the calendar has no such year. The exit status.
-pub(crate) fn answer<'a>(
-    rt: &impl Host,
-    asked: &mut Asked<'a, impl Allocator>,
-) -> Result<u8, Fault<'a>> {
-    let Time { first, is_year } = value!(time_of(asked.word(0)));
+pub(crate) fn answer<'a>(rt: &impl Host, asked: &mut Asked<'a, impl Allocator>) -> Answered<'a> {
+    let time = value!(time_of(asked.word(0)));
     let start = value!(weekday_of(asked.option(FIRST)));
-    let mut holidays = holidays_of(rt, asked)?;
-    let calendar = holidays.calendar(years_of(first, first))?;
-    match asked.form {
-        Form::Text if is_year => print_year(rt, first, start, &calendar)?,
-        Form::Text => print_month(rt, month_of(first, 0, start), &calendar)?,
-        Form::Json if is_year => print_days(rt, first, days_of_year(first), &calendar)?,
-        Form::Json => print_days(rt, first, first.last_day_of_month().day(), &calendar)?,
-    }
+    let mut holidays = value!(holidays_of(rt, asked));
+    let calendar = holidays.calendar(years_of(time.first, time.first))?;
+    print_time(rt, asked.form, time, start, &calendar)?;
     Ok(ANSWERED)
 }
 
 // The month or the year that a word names.
 fn time_of<'a>(word: Word<'a>) -> Result<Time, Fault<'a>> {
-    let error = match read_month(word.text.as_bytes()) {
+    let what = "a month as 2024-02 or a year as 2024";
+    let text = word.text.as_bytes();
+    match read_month(text) {
         Ok(first) => {
-            return Ok(Time {
-                first,
-                is_year: false,
-            });
+            let is_year = false;
+            Ok(Time { first, is_year })
         }
-        Err(error) => error,
-    };
-    let Ok(year) = year_of(word) else {
-        return Err(Fault::Unread(word, error, "a month as 2024-02 or a year as 2024"));
-    };
+        Err(error) => match read_year(text) {
+            Some(year) => year_from(year),
+            None => Err(Fault::Word(word, Cause::Unread(error, what))),
+        },
+    }
+}
+
+// The year.
+fn year_from<'a>(year: i32) -> Result<Time, Fault<'a>> {
+    let is_year = true;
     match NaiveDate::from_ymd_opt(year, 1, 1) {
-        Some(first) => Ok(Time {
-            first,
-            is_year: true,
-        }),
+        Some(first) => Ok(Time { first, is_year }),
         None => Err(Fault::Outside(year)),
     }
 }
 
+// A month or a year in a form.
+fn print_time(
+    rt: &impl Print,
+    form: OutputForm,
+    time: Time,
+    start: Weekday,
+    calendar: &Calendar,
+) -> io::Result<()> {
+    let Time { first, is_year } = time;
+    match form {
+        OutputForm::Text if is_year => print_year(rt, first, start, calendar),
+        OutputForm::Text => print_month(rt, &month_of(first, 0, start), calendar),
+        OutputForm::Json => print_days(rt, first, days_of(time), calendar),
+    }
+}
+
 // A month alone.
-fn print_month(rt: &impl Print, sheet: MonthSheet, calendar: &Calendar) -> io::Result<()> {
-    let year = Year {
-        year: sheet.month.year(),
-    };
-    println!(rt; "    {} {year}", name_of(&sheet))?;
+fn print_month(rt: &impl Print, sheet: &MonthSheet, calendar: &Calendar) -> io::Result<()> {
+    let year = sheet.month.year();
+    println!(rt; "    {} {}", name_of(sheet), Year { year })?;
     println!(rt; "{}", heading(sheet.start))?;
     for row in 0..6 {
         if sheet.has_days(row) {
@@ -177,9 +184,13 @@ fn print_days(
     Ok(())
 }
 
-// How many days the year of a day has.
-fn days_of_year(date: NaiveDate) -> u32 {
-    if date.leap_year() { 366 } else { 365 }
+// How many days a month or a year has.
+fn days_of(time: Time) -> u32 {
+    match time.is_year {
+        true if time.first.leap_year() => 366,
+        true => 365,
+        false => time.first.last_day_of_month().day(),
+    }
 }
 
 // The name of a sheet's month.

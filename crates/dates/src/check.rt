@@ -1,27 +1,22 @@
 //! The lines of a file, or of standard input, that are no days.
 
-use crate::asked::{Asked, Host};
-use crate::fault::{ANSWERED, Fault, NONE};
 use crate::holidays::open_file;
-use crate::lines::LineReader;
-use crate::options::PLAIN;
-use crate::reason::reason_of_line;
+use crate::lines::{Reason, day_of_line, fault_in, take_lines};
+use crate::prelude::*;
 use crate::source::Source;
-use crate::texts::read_day;
-use chrono_reading::ReadError;
-use command_words::{CommandRow, OPERAND, Operand};
-use dates_answer::{Form, WrongLine};
-use std::alloc::Allocator;
-use std::io::{self, Read};
+use dates_answer::WrongLine;
+use std::io;
+
+const FILE: Operand = Operand {
+    name: "FILE",
+    required: false,
+    ..OPERAND
+};
 
 pub(crate) fn command() -> CommandRow {
     CommandRow {
         name: "check",
-        operands: &[Operand {
-            name: "FILE",
-            required: false,
-            ..OPERAND
-        }],
+        operands: &[FILE],
         options: PLAIN,
         help: "print the lines that are no days, and why",
         more: "It reads standard input where FILE is - or left out. It prints nothing where all\n\
@@ -32,56 +27,55 @@ pub(crate) fn command() -> CommandRow {
     }
 }
 
+// Lines of which those that are no days are printed.
+#[derive(Drop)]
+struct CheckedLines {
+    form: OutputForm,
+}
+
 // Each line of the file, or of the input, that is no day; the exit status.
-pub(crate) fn answer<'a>(
-    rt: &impl Host,
-    asked: &mut Asked<'a, impl Allocator>,
-) -> Result<u8, Fault<'a>> {
-    let form = asked.form;
+pub(crate) fn answer<'a>(rt: &impl Host, asked: &mut Asked<'a, impl Allocator>) -> Answered<'a> {
+    let mut lines = CheckedLines { form: asked.form };
     match asked.word_or_lines() {
-        Some(word) => check_lines(rt, form, open_file(rt, word)?, Source::Word(word)),
-        None => check_lines(rt, form, rt.reader(), Source::Input),
+        Some(word) => {
+            let file = value!(open_file(rt, word));
+            match take_lines(rt, file, &mut lines) {
+                Ok(status) => Ok(status),
+                Err(fault) => Err(fault_in(Source::Word(word), fault)),
+            }
+        }
+        None => Ok(take_input(rt, &mut lines)?),
     }
 }
 
-// Each line from this source that is no day, by its number and why; the exit status.
-fn check_lines<'a>(
-    rt: &impl Host,
-    form: Form,
-    reader: impl Read + Drop,
-    source: Source<'a>,
-) -> Result<u8, Fault<'a>> {
-    let mut status = ANSWERED;
-    let mut lines = LineReader::new(rt.alloc(), reader)?;
-    for number in 1..u64::MAX {
-        let line = match lines.next_line() {
-            Ok(Some(line)) => line,
-            Ok(None) => break,
-            Err(error) => return Err(Fault::Input(source, error)),
-        };
-        if let Err(error) = read_day(line) {
-            print_wrong(rt, form, number, line, error)?;
-            status = NONE;
+impl EachLine for CheckedLines {
+    fn take_line(&mut self, rt: &impl Host, number: u64, line: &[u8]) -> Result<u8, LineFault> {
+        match day_of_line(line) {
+            Ok(_) => Ok(ANSWERED),
+            Err(reason) => Ok(print_wrong(rt, self.form, number, line, reason)?),
         }
     }
-    Ok(status)
 }
 
-// The line's number, and why it is no day.
+// The line's number, and why it is no day; the exit status.
 fn print_wrong(
     rt: &(impl Alloc + Print),
-    form: Form,
+    form: OutputForm,
     number: u64,
     line: &[u8],
-    error: ReadError,
-) -> io::Result<()> {
+    reason: Reason,
+) -> io::Result<u8> {
     let text = String::from_utf8_lossy(rt.alloc(), line)?;
-    let reason = format!(in rt.alloc(); "{}", reason_of_line(line, error))?;
-    let line = WrongLine {
-        form,
-        number,
-        text: text.as_str(),
-        reason: reason.as_str(),
-    };
-    println!(rt; "{line}")
+    let reason = format!(in rt.alloc(); "{reason}")?;
+    let (text, reason) = (text.as_str(), reason.as_str());
+    println!(rt;
+        "{}",
+        WrongLine {
+            form,
+            number,
+            text,
+            reason
+        }
+    )?;
+    Ok(NONE)
 }

@@ -1,17 +1,18 @@
 //! The weekend, the rules of a calendar, and the years in which its holidays are wanted.
 
-use crate::fault::Fault;
+use crate::prelude::*;
 use crate::texts::weekday_named;
 use chrono_business::{HolidayRule, england_and_wales, target, us_federal};
 use chrono_datetime::{Datelike, NaiveDate, WeekdaySet};
-use command_words::Word;
-use std::alloc::{AllocError, Allocator};
+use std::alloc::AllocError;
 use std::io;
 
 // The weekend that a word names.
 pub(crate) fn weekend_of<'a>(word: Word<'a>) -> Result<WeekdaySet, Fault<'a>> {
-    let what = "none, or at most two weekdays as fri,sat";
-    weekend_named(word.text).ok_or(Fault::Expected(word, what))
+    match weekend_named(word.text) {
+        Some(weekend) => Ok(weekend),
+        None => Err(Fault::expected(word, "none, or at most two weekdays as fri,sat")),
+    }
 }
 
 // The weekend that a text names: `none`, a weekday, or two with a comma between them.

@@ -1,17 +1,12 @@
 //! A day by all its names, and what the program says of itself.
 
-use crate::asked::{Asked, Host, print_answer};
-use crate::fault::{ANSWERED, Fault};
-use crate::lines::{EachLine, Place, answer_lines};
-use crate::options::{DAY_OR_LINES, HELP, JSON};
+use crate::prelude::*;
 use crate::table::{commands, program};
 use crate::texts::read_day;
-use crate::values::{begins_as_day, day_of};
+use crate::values::{DAYS, begins_as_day, day_of};
 use chrono_datetime::NaiveDate;
 use chrono_reading::ReadCause;
-use command_words::{CommandRow, Completion, ManPage, OPTION, Opt, ReferencePage, Shell, Word};
-use dates_answer::{Answer, Form, Key};
-use std::alloc::Allocator;
+use command_words::{Arguments, Completion, ManPage, ReferencePage, Shell};
 use std::io;
 
 const VERSION: Opt = Opt {
@@ -58,52 +53,66 @@ pub(crate) fn command() -> CommandRow {
 }
 
 // The day by all its names, or that of each line, or a page of the program; the exit status.
-pub(crate) fn answer<'a>(
-    rt: &impl Host,
-    asked: &mut Asked<'a, impl Allocator>,
-) -> Result<u8, Fault<'a>> {
-    let form = asked.form;
-    if print_page(rt, asked)? {
-        return Ok(ANSWERED);
+pub(crate) fn answer<'a>(rt: &impl Host, asked: &mut Asked<'a, impl Allocator>) -> Answered<'a> {
+    if let Some(page) = page_of(&asked.words) {
+        return Ok(print_page(rt, asked.form, page)?);
     }
+    let form = asked.form;
     match asked.word_or_lines() {
-        Some(word) => Ok(print_answer(rt, form, Answer::Names(value!(first_of(word))))?),
-        None => Ok(answer_lines(rt, &mut NamedLines { form })?),
+        Some(word) => asked.print(rt, Reply::Names(value!(first_of(word)))),
+        None => Ok(take_input(rt, &mut NamedLines { form })?),
     }
 }
 
 // The day that a word names, which else may have been meant for a command.
 pub(crate) fn first_of<'a>(word: Word<'a>) -> Result<NaiveDate, Fault<'a>> {
     match day_of(word) {
-        Err(Fault::Expected(word, _)) => Err(Fault::Command(word)),
-        Err(Fault::Unread(word, error, _))
-            if error.cause == ReadCause::NotThisForm || !begins_as_day(word) => {
-            Err(Fault::Command(word))
+        Err(Fault::Word(word, Cause::Unread(error, _)))
+            if error.cause != ReadCause::NotThisForm && begins_as_day(word) => {
+            Err(Fault::Word(word, Cause::Unread(error, DAYS)))
         }
+        Err(Fault::Word(word, _)) => Err(Fault::Word(word, Cause::NoCommand)),
         other => other,
     }
 }
 
-// Prints the page that an option asks for; whether one does.
-fn print_page(rt: &(impl Alloc + Print), asked: &Asked<'_, impl Allocator>) -> io::Result<bool> {
-    if asked.words.options.is_empty() {
-        return Ok(false);
+// A page of the program.
+#[derive(Clone, Copy)]
+enum DayPage {
+    Version,
+    Man,
+    Reference,
+    Completion(Shell),
+}
+
+// The page that an option asks for.
+fn page_of(words: &Arguments<'_, impl Allocator>) -> Option<DayPage> {
+    if words.has(VERSION) {
+        return Some(DayPage::Version);
     }
-    let rows = commands(rt)?;
-    let program = &program(rows.as_slice());
-    if asked.words.has(VERSION) {
-        print_answer(rt, asked.form, Answer::Version)?;
-    } else if asked.words.has(MAN) {
-        print!(rt; "{}", ManPage { program })?;
-    } else if asked.words.has(REFERENCE) {
-        print!(rt; "{}", ReferencePage { program })?;
-    } else if let Some(word) = asked.words.value(COMPLETION) {
-        let shell = shell_named(word.text);
-        print!(rt; "{}", Completion { program, shell })?;
-    } else {
-        return Ok(false);
+    if words.has(MAN) {
+        return Some(DayPage::Man);
     }
-    Ok(true)
+    if words.has(REFERENCE) {
+        return Some(DayPage::Reference);
+    }
+    match words.value(COMPLETION) {
+        Some(word) => Some(DayPage::Completion(shell_named(word.text))),
+        None => None,
+    }
+}
+
+// Prints a page; the exit status.
+fn print_page(rt: &impl Print, form: OutputForm, page: DayPage) -> io::Result<u8> {
+    let rows = commands();
+    let program = &program(&rows);
+    match page {
+        DayPage::Version => return print_reply(rt, form, Reply::Version),
+        DayPage::Man => print!(rt; "{}", ManPage { program })?,
+        DayPage::Reference => print!(rt; "{}", ReferencePage { program })?,
+        DayPage::Completion(shell) => print!(rt; "{}", Completion { program, shell })?,
+    }
+    Ok(ANSWERED)
 }
 
 // The shell with that name.
@@ -118,14 +127,14 @@ fn shell_named(name: &str) -> Shell {
 // Each line by all names of its day.
 #[derive(Drop)]
 struct NamedLines {
-    form: Form,
+    form: OutputForm,
 }
 
 impl EachLine for NamedLines {
-    fn answer_line(&mut self, rt: &impl Host, _place: Place, line: &[u8]) -> io::Result<u8> {
+    fn take_line(&mut self, rt: &impl Host, _number: u64, line: &[u8]) -> Result<u8, LineFault> {
         match read_day(line) {
-            Ok(date) => print_answer(rt, self.form, Answer::Names(date)),
-            Err(_) => print_answer(rt, self.form, Answer::Nothing(Key::Date)),
+            Ok(date) => Ok(print_reply(rt, self.form, Reply::Names(date))?),
+            Err(_) => Ok(print_reply(rt, self.form, Reply::Nothing(Key::Date))?),
         }
     }
 }

@@ -1,35 +1,29 @@
 //! How far it is from one day to another.
 
-use crate::asked::{Asked, Host, print_answer};
 use crate::closed::years_of;
-use crate::fault::Fault;
 use crate::holidays::{Holidays, holidays_of};
-use crate::lines::{EachLine, Place, answer_lines};
-use crate::options::{DAY, DAY_OR_LINES, JSON, OPEN_DAYS};
-use crate::texts::unit_named;
-use crate::values::{DAYS, MOMENTS, Start, begins_as_day, read_start, start_as, start_of};
+use crate::prelude::*;
+use crate::texts::{Start, read_start, unit_named};
+use crate::values::{DAYS, MOMENTS, begins_as_day, start_as, start_of};
 use chrono_datetime::NaiveDate;
-use command_words::{Arguments, CommandRow, OPERAND, Operand, Word};
-use dates_answer::{Answer, Form, Key, Unit, distance, parts_between};
-use std::alloc::Allocator;
+use command_words::Arguments;
+use dates_answer::{Unit, distance, parts_between};
 use std::io;
 
 const UNITS: &[&str] = &["d", "w", "m", "mo", "y", "b", "ymd"];
 
+const UNIT: Operand = Operand {
+    name: "UNIT",
+    keyword: "in",
+    values: UNITS,
+    required: false,
+    ..OPERAND
+};
+
 pub(crate) fn command() -> CommandRow {
     CommandRow {
         name: "diff",
-        operands: &[
-            DAY,
-            DAY_OR_LINES,
-            Operand {
-                name: "UNIT",
-                keyword: "in",
-                values: UNITS,
-                required: false,
-                ..OPERAND
-            },
-        ],
+        operands: &[DAY, DAY_OR_LINES, UNIT],
         options: OPEN_DAYS,
         help: "print the days or whole units between two days",
         more: "A UNIT is d, w, m or mo, y, b or ymd: days, weeks, months, years, open days, or\n\
@@ -67,27 +61,22 @@ struct Ends {
 // From where to where, in what, and by which holidays.
 #[derive(Drop)]
 struct Diff<A: Allocator> {
-    form: Form,
-    none: Answer,
+    form: OutputForm,
+    none: Reply,
     ends: Ends,
     measure: Measure,
     holidays: Holidays<A>,
 }
 
 // How far it is from one day to another, or to that of each line; the exit status.
-pub(crate) fn answer<'a>(
-    rt: &impl Host,
-    asked: &mut Asked<'a, impl Allocator>,
-) -> Result<u8, Fault<'a>> {
+pub(crate) fn answer<'a>(rt: &impl Host, asked: &mut Asked<'a, impl Allocator>) -> Answered<'a> {
     let (words, unit) = cut(asked.words.operands.as_slice());
     let measure = value!(measure_of(unit));
     asked.none = none_of(measure);
     let ends = value!(read(words));
-    if let Some(Start::DateTime(_)) = ends.from.or(ends.to) {
-        asked.none = Answer::Nothing(Key::Duration);
-        if let [word, ..] = unit {
-            return Err(Fault::Expected(*word, "no further argument"));
-        }
+    if ends.is_moment() {
+        asked.none = Reply::Nothing(Key::Duration);
+        value!(check_no_unit(unit));
     }
     value!(check_options(&asked.words, measure));
     let mut diff = Diff {
@@ -95,11 +84,29 @@ pub(crate) fn answer<'a>(
         none: asked.none,
         ends,
         measure,
-        holidays: holidays_of(rt, asked)?,
+        holidays: value!(holidays_of(rt, asked)),
     };
     match (ends.from, ends.to) {
         (Some(from), Some(to)) => Ok(diff.answer_ends(rt, from, to)?),
-        _ => Ok(answer_lines(rt, &mut diff)?),
+        _ => Ok(take_input(rt, &mut diff)?),
+    }
+}
+
+impl Ends {
+    // Whether one of them is a date-time.
+    fn is_moment(&self) -> bool {
+        match self.from.or(self.to) {
+            Some(Start::DateTime(_)) => true,
+            _ => false,
+        }
+    }
+}
+
+// Two date-times take no unit.
+fn check_no_unit<'a>(unit: &[Word<'a>]) -> Result<(), Fault<'a>> {
+    match unit {
+        [word, ..] => Err(Fault::expected(*word, "no further argument")),
+        [] => Ok(()),
     }
 }
 
@@ -124,9 +131,9 @@ fn measure_of<'a>(words: &[Word<'a>]) -> Result<Measure, Fault<'a>> {
         [_, unit] if unit.text == "ymd" => Ok(Measure::Parts),
         [_, unit] => match unit_named(unit.text.as_bytes()) {
             Some(unit) => Ok(Measure::Whole(unit)),
-            None => Err(Fault::Choice(*unit, UNITS)),
+            None => Err(Fault::Word(*unit, Cause::Choice(UNITS))),
         },
-        [_, _, other, ..] => Err(Fault::Expected(*other, "no further argument")),
+        [_, _, other, ..] => Err(Fault::expected(*other, "no further argument")),
     }
 }
 
@@ -141,11 +148,11 @@ fn read<'a>(words: &[Word<'a>]) -> Result<Ends, Fault<'a>> {
         [first, second] => ends_of(Some(*first), Some(*second)),
         [first, other, ..] if !begins_as_day(*other) => {
             let _start = value!(start_of(*first));
-            Err(Fault::Expected(*other, IN))
+            Err(Fault::expected(*other, IN))
         }
         [first, _, other, ..] => match value!(start_of(*first)) {
-            Start::Day(_) => Err(Fault::Expected(*other, IN)),
-            Start::DateTime(_) => Err(Fault::Expected(*other, "no further argument")),
+            Start::Day(_) => Err(Fault::expected(*other, IN)),
+            Start::DateTime(_) => Err(Fault::expected(*other, "no further argument")),
         },
     }
 }
@@ -175,7 +182,7 @@ fn like<'a>(first: Start, word: Word<'a>) -> Result<Start, Fault<'a>> {
     match (first, value!(start_as(word, what))) {
         (Start::Day(_), Start::Day(date)) => Ok(Start::Day(date)),
         (Start::DateTime(_), Start::DateTime(moment)) => Ok(Start::DateTime(moment)),
-        _ => Err(Fault::Expected(word, "two days or two date-times, not one of each")),
+        _ => Err(Fault::expected(word, "two days or two date-times, not one of each")),
     }
 }
 
@@ -188,18 +195,18 @@ fn check_options<'a>(
         match measure {
             Measure::OpenDays => {}
             _ if given.option.name == JSON.name => {}
-            _ => return Err(Fault::Expected(given.value, "no such option without 'in b'")),
+            _ => return Err(Fault::expected(given.value, "no such option without 'in b'")),
         }
     }
     Ok(())
 }
 
 // That there is no answer in such a measure.
-fn none_of(measure: Measure) -> Answer {
+fn none_of(measure: Measure) -> Reply {
     match measure {
-        Measure::Whole(unit) => Answer::Nothing(key_of(unit)),
-        Measure::OpenDays => Answer::Nothing(Key::OpenDays),
-        Measure::Parts => Answer::NoParts,
+        Measure::Whole(unit) => Reply::Nothing(key_of(unit)),
+        Measure::OpenDays => Reply::Nothing(Key::OpenDays),
+        Measure::Parts => Reply::NoParts,
     }
 }
 
@@ -223,34 +230,31 @@ impl<A: Allocator> Diff<A> {
             },
             Start::DateTime(from) => match to {
                 Start::Day(_) => self.none,
-                Start::DateTime(to) => Answer::Duration(to.signed_duration_since(from)),
+                Start::DateTime(to) => Reply::Duration(to.signed_duration_since(from)),
             },
         };
-        print_answer(rt, self.form, answer)
+        print_reply(rt, self.form, answer)
     }
 
     // How far it is from one day to another.
-    fn days_between(&mut self, from: NaiveDate, to: NaiveDate) -> io::Result<Answer> {
+    fn days_between(&mut self, from: NaiveDate, to: NaiveDate) -> io::Result<Reply> {
         match self.measure {
-            Measure::Whole(unit) => Ok(Answer::Number(key_of(unit), distance(from, to, unit))),
-            Measure::Parts => Ok(Answer::Parts(parts_between(from, to))),
+            Measure::Whole(unit) => Ok(Reply::Number(key_of(unit), distance(from, to, unit))),
+            Measure::Parts => Ok(Reply::Parts(parts_between(from, to))),
             Measure::OpenDays => {
                 let calendar = self.holidays.calendar(years_of(from, to))?;
-                Ok(Answer::Number(Key::OpenDays, calendar.open_days(from, to)))
+                Ok(Reply::Number(Key::OpenDays, calendar.open_days(from, to)))
             }
         }
     }
 }
 
 impl<A: Allocator> EachLine for Diff<A> {
-    fn answer_line(&mut self, rt: &impl Host, _place: Place, line: &[u8]) -> io::Result<u8> {
-        let Ok(start) = read_start(line) else {
-            return print_answer(rt, self.form, self.none);
-        };
-        match (self.ends.from, self.ends.to) {
-            (Some(from), _) => self.answer_ends(rt, from, start),
-            (None, Some(to)) => self.answer_ends(rt, start, to),
-            (None, None) => print_answer(rt, self.form, self.none),
+    fn take_line(&mut self, rt: &impl Host, _number: u64, line: &[u8]) -> Result<u8, LineFault> {
+        match (self.ends.from, self.ends.to, read_start(line)) {
+            (Some(from), _, Ok(to)) => Ok(self.answer_ends(rt, from, to)?),
+            (None, Some(to), Ok(from)) => Ok(self.answer_ends(rt, from, to)?),
+            _ => Ok(print_reply(rt, self.form, self.none)?),
         }
     }
 }

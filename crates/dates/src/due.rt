@@ -1,13 +1,10 @@
 //! When a schedule is due.
 
-use crate::asked::{Asked, Host, print_answer};
-use crate::fault::{ANSWERED, Fault, NONE};
-use crate::options::{COUNT, HELP, JSON};
+use crate::prelude::*;
 use crate::values::{amount_of, moment_of};
-use chrono_cron::read_schedule;
-use command_words::{CommandRow, OPERAND, OPTION, Operand, Opt};
-use dates_answer::{Answer, Key};
-use std::alloc::Allocator;
+use chrono_cron::{Schedule, read_schedule};
+use chrono_datetime::NaiveDateTime;
+use std::io;
 
 const CRON: Operand = Operand {
     name: "CRON",
@@ -43,6 +40,9 @@ const MORE: &str = "A CRON is a nickname as @daily, or five fields in one word, 
     With both days and weekdays, neither beginning with *, it is due on either, as\n\
     with cron.";
 
+// That there is no answer.
+const NO_MOMENT: Reply = Reply::Nothing(Key::Moment);
+
 // The command that goes back.
 const PREV: &str = "prev";
 
@@ -71,26 +71,43 @@ pub(crate) fn prev() -> CommandRow {
 }
 
 // The moments at which the schedule is due, on or back, a line each; `none` where there are fewer. The exit status.
-pub(crate) fn answer<'a>(
-    rt: &impl Host,
-    asked: &mut Asked<'a, impl Allocator>,
-) -> Result<u8, Fault<'a>> {
-    asked.none = Answer::Nothing(Key::Moment);
-    let word = asked.word(0);
-    let read = read_schedule(word.text.as_bytes());
-    let schedule = value!(read.map_err(|error| Fault::Schedule(word, error)));
-    let mut last = value!(moment_of(asked.option(AFTER)));
-    for _ in 0..value!(amount_of(asked.option(HOW_MANY))) {
-        let found = if asked.command == PREV {
+pub(crate) fn answer<'a>(rt: &impl Host, asked: &mut Asked<'a, impl Allocator>) -> Answered<'a> {
+    asked.none = NO_MOMENT;
+    let schedule = value!(schedule_of(asked.word(0)));
+    let from = value!(moment_of(asked.option(AFTER)));
+    let count = value!(amount_of(asked.option(HOW_MANY)));
+    let goes_back = asked.command == PREV;
+    Ok(print_moments(rt, asked.form, &schedule, from, goes_back, count)?)
+}
+
+// The schedule that a word writes.
+fn schedule_of<'a>(word: Word<'a>) -> Result<Schedule, Fault<'a>> {
+    match read_schedule(word.text.as_bytes()) {
+        Ok(schedule) => Ok(schedule),
+        Err(error) => Err(Fault::Word(word, Cause::Schedule(error))),
+    }
+}
+
+// So many moments at which a schedule is due behind one, or before it where it goes back; the exit status.
+fn print_moments(
+    rt: &impl Print,
+    form: OutputForm,
+    schedule: &Schedule,
+    from: NaiveDateTime,
+    goes_back: bool,
+    count: u64,
+) -> io::Result<u8> {
+    let mut last = from;
+    for _ in 0..count {
+        let found = if goes_back {
             schedule.prev_before(last)
         } else {
             schedule.next_after(last)
         };
         let Some(moment) = found else {
-            print_answer(rt, asked.form, asked.none)?;
-            return Ok(NONE);
+            return print_reply(rt, form, NO_MOMENT);
         };
-        print_answer(rt, asked.form, Answer::Moment(moment))?;
+        print_reply(rt, form, Reply::Moment(moment))?;
         last = moment;
     }
     Ok(ANSWERED)

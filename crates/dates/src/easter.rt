@@ -1,12 +1,7 @@
 //! Easter Sunday.
 
-use crate::asked::{Asked, Host, print_answer};
-use crate::fault::Fault;
-use crate::options::{PLAIN, YEAR};
+use crate::prelude::*;
 use crate::values::year_of;
-use command_words::CommandRow;
-use dates_answer::Answer;
-use std::alloc::Allocator;
 
 pub(crate) fn command() -> CommandRow {
     CommandRow {
@@ -21,13 +16,10 @@ pub(crate) fn command() -> CommandRow {
 }
 
 // Easter Sunday of the year; the exit status.
-pub(crate) fn answer<'a>(
-    rt: &impl Host,
-    asked: &mut Asked<'a, impl Allocator>,
-) -> Result<u8, Fault<'a>> {
+pub(crate) fn answer<'a>(rt: &impl Host, asked: &mut Asked<'a, impl Allocator>) -> Answered<'a> {
     let year = value!(year_of(asked.word(0)));
     match chrono_business::easter(year) {
-        Some(sunday) => Ok(print_answer(rt, asked.form, Answer::Date(sunday))?),
+        Some(sunday) => asked.print(rt, Reply::Date(sunday)),
         None => Err(Fault::Outside(year)),
     }
 }

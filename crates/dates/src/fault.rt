@@ -1,15 +1,15 @@
 //! Faults: why a command has no answer, and the exit statuses.
 
-use crate::asked::{Host, print_answer};
-use crate::reason::Reason;
+use crate::asked::{Host, print_reply};
+use crate::lines::{LineFault, Reason, fault_in};
 use crate::source::{Shown, Source};
-use crate::table::{NAME, near_command};
+use crate::table::{NAME, commands};
 use crate::values::Year;
 use chrono_cron::ScheduleError;
 use chrono_reading::{ReadCause, ReadError};
 use chrono_rules::RuleError;
-use command_words::{Choices, CommandRow, Opt, Usage, Why, Word, Wrong, nearest};
-use dates_answer::{Answer, Form};
+use command_words::{Choices, CommandRow, Usage, Why, Word, Wrong, nearest};
+use dates_answer::{OutputForm, Reply};
 use std::alloc::{AllocError, AllocFailed};
 use std::env::{Env, FillError};
 use std::io::{self, Eprint, ErrorKind};
@@ -31,28 +31,12 @@ pub(crate) enum Fault<'a> {
     NoDay(Word<'a>, ReadError),
     /// The calendar has no such year.
     Outside(i32),
-    /// The word cannot be read; that was expected in its place.
-    Unread(Word<'a>, ReadError, &'static str),
-    /// That was expected in place of the word.
-    Expected(Word<'a>, &'static str),
-    /// One of these was expected in place of the word.
-    Choice(Word<'a>, &'static [&'static str]),
-    /// The word is neither a day nor a command.
-    Command(Word<'a>),
-    /// The word writes no schedule.
-    Schedule(Word<'a>, ScheduleError),
-    /// The word writes no recurrence rule.
-    Rule(Word<'a>, RuleError),
-    /// The word writes months by `m`, which beside a time of day was meant for minutes.
-    Months(Word<'a>),
-    /// No option has the word's name.
-    Option(Word<'a>),
-    /// The option's value is missing.
-    NoValue(Word<'a>),
+    /// The word is wrong.
+    Word(Word<'a>, Cause<'a>),
     /// The operand is missing.
     Missing(&'static str),
-    /// The option has to be given.
-    MissingOption(Opt),
+    /// The option has to be given, with its value.
+    MissingOption(&'static str, &'static str),
     /// Lines cannot be read.
     Input(Source<'a>, io::Error),
     /// The line of holidays with that number is no day.
@@ -61,9 +45,74 @@ pub(crate) enum Fault<'a> {
     Failed(io::Error),
 }
 
+impl<'a> Fault<'a> {
+    // That something else was expected in place of a word.
+    pub(crate) fn expected(word: Word<'a>, what: &'static str) -> Self {
+        Fault::Word(word, Cause::Expected(what))
+    }
+}
+
+/// What is wrong with a word.
+#[derive(Clone, Copy)]
+pub enum Cause<'a> {
+    /// It cannot be read; that was expected in its place.
+    Unread(ReadError, &'static str),
+    /// That was expected in its place.
+    Expected(&'static str),
+    /// One of these was expected in its place.
+    Choice(&'static [&'static str]),
+    /// It is neither a day nor a command.
+    NoCommand,
+    /// It writes no schedule.
+    Schedule(ScheduleError),
+    /// It writes no recurrence rule.
+    Rule(RuleError),
+    /// It, so written, is months by `m`, which beside a time of day was meant for minutes.
+    Months(&'a str),
+    /// No option has its name.
+    NoOption,
+    /// The value of the option is missing.
+    NoValue,
+}
+
+impl fmt::Display for Cause<'_> {
+    fn fmt<W: fmt::Write>(&self, f: &mut fmt::Formatter<W>) -> fmt::Result {
+        match *self {
+            Cause::Unread(
+                ReadError {
+                    cause: ReadCause::NotThisForm,
+                    ..
+                },
+                what,
+            ) => { write!(f, "expected {what}") }
+            Cause::Unread(error, what) => write!(f, "{error}; expected {what}"),
+            Cause::Expected(what) => write!(f, "expected {what}"),
+            Cause::Choice(values) => write!(f, "expected {}", Choices { values }),
+            Cause::NoCommand => f.write_str(COMMAND),
+            Cause::Schedule(fault) => write!(f, "{fault}; expected {SCHEDULE}"),
+            Cause::Rule(fault) => write!(f, "{fault}; expected {RULE}"),
+            Cause::Months(text) => write!(f, "months; minutes are {text}in"),
+            Cause::NoOption => f.write_str("no such option"),
+            Cause::NoValue => f.write_str("its value is missing"),
+        }
+    }
+}
+
+const COMMAND: &str = "expected a day as 2024-02-29 or a command; dates --help lists them";
+
+const SCHEDULE: &str = "a schedule as '30 4 1,15 * 5'";
+
+const RULE: &str = "a rule as FREQ=MONTHLY;BYDAY=-1FR";
+
 impl From<io::Error> for Fault<'_> {
     fn from(error: io::Error) -> Self {
         Fault::Failed(error)
+    }
+}
+
+impl From<LineFault> for Fault<'_> {
+    fn from(fault: LineFault) -> Self {
+        fault_in(Source::Input, fault)
     }
 }
 
@@ -81,14 +130,14 @@ impl<T: Drop> From<AllocFailed<T>> for Fault<'_> {
 
 impl<'a> From<Wrong<'a>> for Fault<'a> {
     fn from(wrong: Wrong<'a>) -> Self {
-        let word = wrong.word;
-        match wrong.why {
-            Why::Unknown => Fault::Option(word),
-            Why::Twice => Fault::Expected(word, "each option once"),
-            Why::NoValue => Fault::NoValue(word),
-            Why::Flag => Fault::Expected(word, "no value"),
-            Why::Choice(values) => Fault::Choice(word, values),
-        }
+        let cause = match wrong.why {
+            Why::Unknown => Cause::NoOption,
+            Why::Twice => Cause::Expected("each option once"),
+            Why::NoValue => Cause::NoValue,
+            Why::Flag => Cause::Expected("no value"),
+            Why::Choice(values) => Cause::Choice(values),
+        };
+        Fault::Word(wrong.word, cause)
     }
 }
 
@@ -96,69 +145,42 @@ impl<'a> From<Wrong<'a>> for Fault<'a> {
 pub(crate) fn refuse(
     rt: &impl Host,
     command: &CommandRow,
-    form: Form,
-    none: Answer,
+    form: OutputForm,
+    none: Reply,
     fault: Fault<'_>,
 ) -> io::Result<u8> {
     match fault {
         Fault::Failed(error) => Err(error),
         Fault::NoDay(word, error) => {
-            print_answer(rt, form, none)?;
+            print_reply(rt, form, none)?;
             let _ = eprintln!(rt; "{}: {error}", word.text);
             Ok(NONE)
         }
         Fault::Outside(year) => {
-            print_answer(rt, form, none)?;
+            print_reply(rt, form, none)?;
             let year = Year { year };
             let _ = eprintln!(rt; "{year}: expected a year from -262143 to +262142");
             Ok(NONE)
         }
+        Fault::Word(word, cause) => {
+            let near = Near(near_name(rt, command, word.text, cause)?);
+            let _ = eprintln!(rt; "dates: {}: {cause}{near}", Source::Word(word));
+            Ok(WRONG)
+        }
         fault => {
-            say_fault(rt, command, fault)?;
+            say_fault(rt, command, &fault);
             Ok(WRONG)
         }
     }
 }
 
-// Says what there is to say of a word.
-macro_rules! say {
-    ($rt:expr, $word:expr, $($text:tt)*) => {
-        eprintln!($rt; "dates: {}: {}", Source::Word($word), format_args!($($text)*))
-    };
-}
-
-// Says what is wrong with a command.
-fn say_fault(rt: &impl Host, command: &CommandRow, fault: Fault<'_>) -> Result<(), AllocError> {
+// Says what is missing, or what is wrong with lines.
+fn say_fault(rt: &impl Eprint, command: &CommandRow, fault: &Fault<'_>) {
     let program = NAME;
     let usage = Usage { program, command };
     let _ = match fault {
-        Fault::Unread(word, error, what) if error.cause == ReadCause::NotThisForm => {
-            say!(rt, word, "expected {what}")
-        }
-        Fault::Unread(word, error, what) => say!(rt, word, "{error}; expected {what}"),
-        Fault::Expected(word, what) => say!(rt, word, "expected {what}"),
-        Fault::Choice(word, values) => {
-            let near = Near(nearest(rt.alloc(), word.text, values)?);
-            say!(rt, word, "expected {}{near}", Choices { values })
-        }
-        Fault::Command(word) => {
-            let near = Near(near_command(rt, word.text)?);
-            say!(
-                rt,
-                word,
-                "expected a day as 2024-02-29 or a command; {LISTED}{near}"
-            )
-        }
-        Fault::Schedule(word, fault) => say!(rt, word, "{fault}; expected {SCHEDULE}"),
-        Fault::Rule(word, fault) => say!(rt, word, "{fault}; expected {RULE}"),
-        Fault::Months(word) => say!(rt, word, "months; minutes are {}in", word.text),
-        Fault::Option(word) => {
-            let near = Near(near_option(rt, word.text, command.options)?);
-            say!(rt, word, "no such option{near}")
-        }
-        Fault::NoValue(word) => say!(rt, word, "its value is missing"),
         Fault::Missing(name) => eprintln!(rt; "dates: {name} is missing; usage: {usage}"),
-        Fault::MissingOption(Opt { name, value, .. }) => {
+        Fault::MissingOption(name, value) => {
             eprintln!(rt; "dates: {name} {value} is missing; usage: {usage}")
         }
         Fault::Input(source, error) => eprintln!(rt; "dates: {source}: {error}"),
@@ -168,31 +190,50 @@ fn say_fault(rt: &impl Host, command: &CommandRow, fault: Fault<'_>) -> Result<(
         Fault::NoHoliday(source, number, reason) => {
             eprintln!(rt; "dates: {source}, line {number}: {reason}; expected {HOLIDAY}")
         }
-        Fault::Failed(_) | Fault::NoDay(_, _) | Fault::Outside(_) => Ok(()),
+        _ => Ok(()),
     };
-    Ok(())
 }
 
-const LISTED: &str = "dates --help lists them";
-
-const SCHEDULE: &str = "a schedule as '30 4 1,15 * 5'";
-
-const RULE: &str = "a rule as FREQ=MONTHLY;BYDAY=-1FR";
-
 const HOLIDAY: &str = "a day as 2024-02-29";
+
+// The name that is most like a wrong one, if one is like it.
+fn near_name(
+    rt: &impl Alloc,
+    command: &CommandRow,
+    text: &str,
+    cause: Cause<'_>,
+) -> Result<Option<&'static str>, AllocError> {
+    match cause {
+        Cause::Choice(values) => nearest(rt.alloc(), text, values),
+        Cause::NoCommand => near_command(rt, text),
+        Cause::NoOption => near_option(rt, text, command),
+        _ => Ok(None),
+    }
+}
+
+// The name of a command that is like a word.
+fn near_command(rt: &impl Alloc, text: &str) -> Result<Option<&'static str>, AllocError> {
+    let mut names: Vec<&'static str, _> = Vec::new(rt.alloc());
+    for command in &commands() {
+        names.push(command.name)?;
+    }
+    nearest(rt.alloc(), text, names.as_slice())
+}
 
 // The name of an option that is like a word, up to its `=`.
 fn near_option(
     rt: &impl Alloc,
-    word: &str,
-    options: &[Opt],
+    text: &str,
+    command: &CommandRow,
 ) -> Result<Option<&'static str>, AllocError> {
-    let name = word.split_once('=').map_or(word, |parts| parts.0);
     let mut names: Vec<&'static str, _> = Vec::new(rt.alloc());
-    for option in options {
+    for option in command.options {
         names.push(option.name)?;
     }
-    nearest(rt.alloc(), name, names.as_slice())
+    match text.split_once('=') {
+        Some((name, _)) => nearest(rt.alloc(), name, names.as_slice()),
+        None => nearest(rt.alloc(), text, names.as_slice()),
+    }
 }
 
 /// The name that is most like a word, if there is one, as a question behind what is said of it.

@@ -1,17 +1,11 @@
 //! The holidays of a command: read once, and put together once for the lines that touch the same years.
 
-use crate::asked::{Asked, Host};
 use crate::closed::{Years, both_years, put_ruled, rules_named, weekend_of};
-use crate::fault::Fault;
-use crate::lines::LineReader;
-use crate::options::{CALENDAR, HOLIDAYS, WEEKEND};
-use crate::reason::reason_of_line;
+use crate::lines::{day_of_line, fault_in, take_lines};
+use crate::prelude::*;
 use crate::source::Source;
-use crate::texts::read_day;
 use chrono_business::{Calendar, HolidayRule, without_weekends};
 use chrono_datetime::{NaiveDate, WeekdaySet};
-use command_words::Word;
-use std::alloc::Allocator;
 use std::fs;
 use std::io::{self, ErrorKind};
 
@@ -71,47 +65,59 @@ pub(crate) fn holidays_of<'a, R: Host>(
     rt: &R,
     asked: &Asked<'a, impl Allocator>,
 ) -> Result<Holidays<R::A>, Fault<'a>> {
-    let mut holidays = Holidays {
-        weekend: value!(weekend_of(asked.option(WEEKEND))),
-        rules: rules_named(rt.alloc(), asked.option(CALENDAR).text)?,
-        listed: Vec::new(rt.alloc()),
+    let weekend = value!(weekend_of(asked.option(WEEKEND)));
+    let listed = value!(listed_in(rt, asked.words.value(HOLIDAYS)));
+    let rules = rules_named(rt.alloc(), asked.option(CALENDAR).text)?;
+    Ok(Holidays {
+        weekend,
+        rules,
+        listed,
         days: Vec::new(rt.alloc()),
         years: None,
-    };
-    if let Some(file) = asked.words.value(HOLIDAYS) {
-        put_file(rt, file, &mut holidays.listed)?;
-    }
-    Ok(holidays)
+    })
 }
 
-// Puts the day of each line of the file that a word names into the list.
-fn put_file<'a>(
-    rt: &impl Host,
-    word: Word<'a>,
-    days: &mut Vec<NaiveDate, impl Allocator>,
-) -> Result<(), Fault<'a>> {
-    let source = Source::Word(word);
-    let mut lines = LineReader::new(rt.alloc(), open_file(rt, word)?)?;
-    for number in 1..u64::MAX {
-        let line = match lines.next_line() {
-            Ok(Some(line)) => line,
-            Ok(None) => break,
-            Err(error) => return Err(Fault::Input(source, error)),
-        };
-        match read_day(line) {
-            Ok(day) => days.push(day)?,
-            Err(error) => {
-                return Err(Fault::NoHoliday(source, number, reason_of_line(line, error)));
-            }
+// The days that the file of a word lists.
+fn listed_in<'a, R: Host>(
+    rt: &R,
+    file: Option<Word<'a>>,
+) -> Result<Vec<NaiveDate, R::A>, Fault<'a>> {
+    let days = Vec::new(rt.alloc());
+    let Some(word) = file else {
+        return Ok(days);
+    };
+    let mut list = HolidayLines { days };
+    match take_lines(rt, value!(open_file(rt, word)), &mut list) {
+        Ok(_) => Ok(list.days),
+        Err(fault) => Err(fault_in(Source::Word(word), fault)),
+    }
+}
+
+// The days of lines.
+#[derive(Drop)]
+struct HolidayLines<A: Allocator> {
+    days: Vec<NaiveDate, A>,
+}
+
+impl<A: Allocator> EachLine for HolidayLines<A> {
+    fn take_line(&mut self, _rt: &impl Host, number: u64, line: &[u8]) -> Result<u8, LineFault> {
+        match day_of_line(line) {
+            Ok(day) => match self.days.push(day) {
+                Ok(()) => Ok(ANSWERED),
+                Err(error) => Err(LineFault::Failed(io::Error::from(error))),
+            },
+            Err(reason) => Err(LineFault::NoDay(number, reason)),
         }
     }
-    Ok(())
 }
 
 // The file that a word names.
 pub(crate) fn open_file<'a, R: Host>(rt: &R, word: Word<'a>) -> Result<R::File, Fault<'a>> {
     if word.text.is_empty() {
-        return Err(Fault::Expected(word, "the name of a file"));
+        return Err(Fault::expected(word, "the name of a file"));
     }
-    fs::open(rt, word.text).map_err(|error| Fault::Input(Source::Word(word), error))
+    match fs::open(rt, word.text) {
+        Ok(file) => Ok(file),
+        Err(error) => Err(Fault::Input(Source::Word(word), error)),
+    }
 }

@@ -1,13 +1,8 @@
 //! Leap years.
 
-use crate::asked::{Asked, Host, print_answer};
-use crate::fault::Fault;
-use crate::options::{PLAIN, YEAR};
+use crate::prelude::*;
 use crate::values::year_of;
 use chrono_datetime::NaiveDate;
-use command_words::CommandRow;
-use dates_answer::{Answer, Key};
-use std::alloc::Allocator;
 
 pub(crate) fn command() -> CommandRow {
     CommandRow {
@@ -22,18 +17,11 @@ pub(crate) fn command() -> CommandRow {
 }
 
 // `yes` where the year is a leap year, and else `no`; the exit status.
-pub(crate) fn answer<'a>(
-    rt: &impl Host,
-    asked: &mut Asked<'a, impl Allocator>,
-) -> Result<u8, Fault<'a>> {
-    asked.none = Answer::Nothing(Key::Leap);
+pub(crate) fn answer<'a>(rt: &impl Host, asked: &mut Asked<'a, impl Allocator>) -> Answered<'a> {
+    asked.none = Reply::Nothing(Key::Leap);
     let year = value!(year_of(asked.word(0)));
-    let Some(first) = NaiveDate::from_ymd_opt(year, 1, 1) else {
-        return Err(Fault::Outside(year));
-    };
-    Ok(print_answer(
-        rt,
-        asked.form,
-        Answer::Whether(Key::Leap, first.leap_year()),
-    )?)
+    match NaiveDate::from_ymd_opt(year, 1, 1) {
+        Some(first) => asked.print(rt, Reply::Whether(Key::Leap, first.leap_year())),
+        None => Err(Fault::Outside(year)),
+    }
 }

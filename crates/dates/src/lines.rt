@@ -1,27 +1,29 @@
-//! Lines of input, of each of which only so many bytes are kept, and commands that answer each of them.
+//! Lines of input, of each of which only so many bytes are kept, and commands that take each of them.
 
-use crate::asked::{Host, print_answer};
-use crate::fault::{ANSWERED, NONE, WRONG};
+use crate::asked::{Host, print_reply};
+use crate::fault::{ANSWERED, Fault, NONE};
 use crate::source::Source;
-use crate::values::Start;
-use dates_answer::{Answer, Form};
+use crate::texts::{Start, StartError, read_day, read_start};
+use chrono_datetime::NaiveDate;
+use chrono_reading::ReadError;
+use dates_answer::{OutputForm, Reply};
 use std::alloc::Allocator;
 use std::fmt;
 use std::io::{self, BufRead, BufReader, Eprint, Read};
 
 /// So many bytes of a line are kept; no text of as many names a day or a date-time.
-pub(crate) const MOST_BYTES: usize = 65_536;
+const MOST_BYTES: usize = 65_536;
 
 /// The lines of a reader, one after another.
 #[derive(Drop)]
-pub(crate) struct LineReader<R: Read, A: Allocator> {
+struct LineReader<R: Read, A: Allocator> {
     reader: BufReader<R, A>,
     line: Vec<u8, A>,
 }
 
 impl<R: Read, A: Allocator + Clone> LineReader<R, A> {
     // The lines of the reader.
-    pub(crate) fn new(alloc: A, reader: R) -> io::Result<LineReader<R, A>>
+    fn new(alloc: A, reader: R) -> io::Result<LineReader<R, A>>
     where
         R: Drop,
     {
@@ -31,7 +33,7 @@ impl<R: Read, A: Allocator + Clone> LineReader<R, A> {
     }
 
     // The next line without the `\n` at its end, where there is one: its first `MOST_BYTES` at most, the others are passed over.
-    pub(crate) fn next_line(&mut self) -> io::Result<Option<&[u8]>> {
+    fn next_line(&mut self) -> io::Result<Option<&[u8]>> {
         self.line.clear();
         let mut front = self.reader.by_ref().take(MOST_BYTES as u64);
         let count = front.read_until(b'\n', &mut self.line)?;
@@ -47,28 +49,59 @@ impl<R: Read, A: Allocator + Clone> LineReader<R, A> {
     }
 }
 
-/// A command that answers each line of the input in the place of a day.
-pub(crate) trait EachLine {
-    /// Answers a line; the exit status.
-    fn answer_line(&mut self, rt: &impl Host, place: Place, line: &[u8]) -> io::Result<u8>;
+/// Why lines are not taken to the last.
+#[derive(Drop)]
+pub(crate) enum LineFault {
+    /// They cannot be read.
+    Unread(io::Error),
+    /// That of this number is no day.
+    NoDay(u64, Reason),
+    /// No answer can be written, or memory is short.
+    Failed(io::Error),
 }
 
-// Answers each line of the input; the exit status.
-pub(crate) fn answer_lines<C: EachLine>(rt: &impl Host, command: &mut C) -> io::Result<u8> {
+impl From<io::Error> for LineFault {
+    fn from(error: io::Error) -> Self {
+        LineFault::Failed(error)
+    }
+}
+
+/// A command that takes each line of a text.
+pub(crate) trait EachLine {
+    /// Takes the line of this number, from 1 on; the exit status.
+    fn take_line(&mut self, rt: &impl Host, number: u64, line: &[u8]) -> Result<u8, LineFault>;
+}
+
+// Takes each line; the greatest exit status.
+pub(crate) fn take_lines<C: EachLine>(
+    rt: &impl Host,
+    reader: impl Read + Drop,
+    command: &mut C,
+) -> Result<u8, LineFault> {
     let mut status = ANSWERED;
-    let mut lines = LineReader::new(rt.alloc(), rt.reader())?;
+    let mut lines = LineReader::new(rt.alloc(), reader)?;
     for number in 1..u64::MAX {
-        let line = match lines.next_line() {
-            Ok(Some(line)) => line,
+        match lines.next_line() {
+            Ok(Some(line)) => status = status.max(command.take_line(rt, number, line)?),
             Ok(None) => break,
-            Err(error) => {
-                let _ = eprintln!(rt; "dates: {}: {error}", Source::Input);
-                return Ok(WRONG);
-            }
-        };
-        status = status.max(command.answer_line(rt, Place::AnswerLine(number), line)?);
+            Err(error) => return Err(LineFault::Unread(error)),
+        }
     }
     Ok(status)
+}
+
+// Takes each line of the input; the greatest exit status.
+pub(crate) fn take_input<C: EachLine>(rt: &impl Host, command: &mut C) -> Result<u8, LineFault> {
+    take_lines(rt, rt.reader(), command)
+}
+
+// Why a command has no answer, where lines of a source are not taken to the last.
+pub(crate) fn fault_in<'a>(source: Source<'a>, fault: LineFault) -> Fault<'a> {
+    match fault {
+        LineFault::Unread(error) => Fault::Input(source, error),
+        LineFault::NoDay(number, reason) => Fault::NoHoliday(source, number, reason),
+        LineFault::Failed(error) => Fault::Failed(error),
+    }
 }
 
 /// Which line of the input is answered, as `line 3: `; nothing where the words ask for one answer alone.
@@ -77,14 +110,14 @@ pub enum Place {
     /// One answer.
     Alone,
     /// The line of this number, from 1 on.
-    AnswerLine(u64),
+    Line(u64),
 }
 
 impl fmt::Display for Place {
     fn fmt<W: fmt::Write>(&self, f: &mut fmt::Formatter<W>) -> fmt::Result {
         match self {
             Place::Alone => Ok(()),
-            Place::AnswerLine(number) => write!(f, "line {number}: "),
+            Place::Line(number) => write!(f, "line {number}: "),
         }
     }
 }
@@ -92,14 +125,77 @@ impl fmt::Display for Place {
 // Prints that there is no answer, since a move from there leads out of the calendar; the exit status.
 pub(crate) fn print_past(
     rt: &(impl Print + Eprint),
-    form: Form,
-    none: Answer,
+    form: OutputForm,
+    none: Reply,
     place: Place,
-    from: Start,
+    from: &Start,
     by: &str,
 ) -> io::Result<u8> {
-    print_answer(rt, form, none)?;
+    print_reply(rt, form, none)?;
     let gap = if by.is_empty() { "" } else { " " };
     let _ = eprintln!(rt; "{place}{from}{gap}{by}: past the calendar's end");
     Ok(NONE)
+}
+
+/// Why a line names no day; `Form` is that it is not written as one, and `Mark` a byte order mark.
+#[derive(Clone, Copy)]
+pub enum Reason {
+    Day(ReadError),
+    Moment,
+    Spaces,
+    Mark,
+    CarriageReturn,
+    Empty,
+    Length,
+    Form,
+}
+
+impl fmt::Display for Reason {
+    fn fmt<W: fmt::Write>(&self, f: &mut fmt::Formatter<W>) -> fmt::Result {
+        match self {
+            Reason::Day(error) => write!(f, "{error}"),
+            Reason::Moment => f.write_str("a date-time, and no day"),
+            Reason::Spaces => f.write_str("begins or ends with white space"),
+            Reason::Mark => f.write_str("begins with a byte order mark"),
+            Reason::CarriageReturn => f.write_str("ends in a carriage return"),
+            Reason::Empty => f.write_str("nothing stands there"),
+            Reason::Length => write!(f, "has {MOST_BYTES} bytes or more"),
+            Reason::Form => f.write_str("not written as 2024-02-29, 2024-060 or 2024-W09-4"),
+        }
+    }
+}
+
+// The day that a line names, or why it names none.
+pub(crate) fn day_of_line(line: &[u8]) -> Result<NaiveDate, Reason> {
+    if line.len() >= MOST_BYTES {
+        return Err(Reason::Length);
+    }
+    match read_start(line) {
+        Ok(start) => match start {
+            Start::Day(date) => Ok(date),
+            Start::DateTime(_) => Err(Reason::Moment),
+        },
+        Err(error) => match error {
+            StartError::NoDay(error) => Err(Reason::Day(error)),
+            StartError::Unread(_) => Err(beside_day(line)),
+        },
+    }
+}
+
+// What a line has beside a day, where that is all that keeps it from being one.
+fn beside_day(text: &[u8]) -> Reason {
+    if text.is_empty() {
+        return Reason::Empty;
+    }
+    let unmarked = text.strip_prefix(b"\xef\xbb\xbf").unwrap_or(text);
+    let line = unmarked.strip_suffix(b"\r").unwrap_or(unmarked);
+    if read_day(line.trim_ascii()).is_err() {
+        Reason::Form
+    } else if unmarked.len() < text.len() {
+        Reason::Mark
+    } else if line.len() < text.len() {
+        Reason::CarriageReturn
+    } else {
+        Reason::Spaces
+    }
 }

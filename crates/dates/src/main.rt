@@ -26,7 +26,7 @@ mod leap;
 mod lines;
 mod open;
 mod options;
-mod reason;
+mod prelude;
 mod roll;
 mod rule;
 mod seq;
@@ -38,13 +38,11 @@ mod week;
 mod weekday;
 
 use asked::Host;
-use command_words::Word;
 use fault::{WRONG, refuse_arguments};
-use std::alloc::Allocator;
 use std::env::{self, Env};
 use std::io::{self, ErrorKind};
 use std::process::ExitCode;
-use table::answer_words;
+use table::answer_arguments;
 
 fn main(rt: HostRuntime) -> ExitCode {
     match run(&rt) {
@@ -67,21 +65,5 @@ fn run(rt: &(impl Host + Env)) -> io::Result<u8> {
         Err(fault) => return refuse_arguments(rt, fault),
     };
     let texts: Vec<_, _> = arguments.skip(1).collect(rt.alloc())?;
-    let words = words_of(rt, texts.as_slice())?;
-    answer_words(rt, words.as_slice())
-}
-
-// The arguments by their places.
-fn words_of<'a, R: Alloc>(
-    rt: &R,
-    texts: &'a [String<impl Allocator>],
-) -> io::Result<Vec<Word<'a>, R::A>> {
-    let mut words = Vec::new(rt.alloc());
-    let mut place: usize = 0;
-    for text in texts {
-        place = place.saturating_add(1);
-        let text = text.as_str();
-        words.push(Word { place, text })?;
-    }
-    Ok(words)
+    answer_arguments(rt, texts.as_slice())
 }

@@ -1,17 +1,11 @@
 //! Whether a day is open.
 
-use crate::asked::{Asked, Host, print_answer};
 use crate::closed::years_of;
-use crate::fault::Fault;
 use crate::holidays::{Holidays, holidays_of};
-use crate::lines::{EachLine, Place, answer_lines};
-use crate::options::{DAY_OR_LINES, OPEN_DAYS};
+use crate::prelude::*;
 use crate::texts::read_day;
 use crate::values::day_of;
 use chrono_datetime::NaiveDate;
-use command_words::CommandRow;
-use dates_answer::{Answer, Form, Key};
-use std::alloc::Allocator;
 use std::io;
 
 pub(crate) fn command() -> CommandRow {
@@ -28,31 +22,28 @@ pub(crate) fn command() -> CommandRow {
 }
 
 // That there is no answer.
-const NONE: Answer = Answer::Nothing(Key::Open);
+const NONE: Reply = Reply::Nothing(Key::Open);
 
 // Whether days are open, by these holidays.
 #[derive(Drop)]
 struct Open<A: Allocator> {
-    form: Form,
+    form: OutputForm,
     holidays: Holidays<A>,
 }
 
 // Whether the day, or that of each line, is open; the exit status.
-pub(crate) fn answer<'a>(
-    rt: &impl Host,
-    asked: &mut Asked<'a, impl Allocator>,
-) -> Result<u8, Fault<'a>> {
+pub(crate) fn answer<'a>(rt: &impl Host, asked: &mut Asked<'a, impl Allocator>) -> Answered<'a> {
     asked.none = NONE;
     let date = match asked.word_or_lines() {
         Some(word) => Some(value!(day_of(word))),
         None => None,
     };
     let form = asked.form;
-    let holidays = holidays_of(rt, asked)?;
+    let holidays = value!(holidays_of(rt, asked));
     let mut open = Open { form, holidays };
     match date {
         Some(date) => Ok(open.answer_day(rt, date)?),
-        None => Ok(answer_lines(rt, &mut open)?),
+        None => Ok(take_input(rt, &mut open)?),
     }
 }
 
@@ -60,19 +51,16 @@ impl<A: Allocator> Open<A> {
     // `yes` where the day is open, and else `no`; the exit status.
     fn answer_day(&mut self, rt: &impl Print, date: NaiveDate) -> io::Result<u8> {
         let calendar = self.holidays.calendar(years_of(date, date))?;
-        print_answer(
-            rt,
-            self.form,
-            Answer::Whether(Key::Open, calendar.is_open(date)),
-        )
+        let open = Reply::Whether(Key::Open, calendar.is_open(date));
+        print_reply(rt, self.form, open)
     }
 }
 
 impl<A: Allocator> EachLine for Open<A> {
-    fn answer_line(&mut self, rt: &impl Host, _place: Place, line: &[u8]) -> io::Result<u8> {
+    fn take_line(&mut self, rt: &impl Host, _number: u64, line: &[u8]) -> Result<u8, LineFault> {
         match read_day(line) {
-            Ok(date) => self.answer_day(rt, date),
-            Err(_) => print_answer(rt, self.form, NONE),
+            Ok(date) => Ok(self.answer_day(rt, date)?),
+            Err(_) => Ok(print_reply(rt, self.form, NONE)?),
         }
     }
 }

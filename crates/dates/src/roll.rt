@@ -1,18 +1,12 @@
 //! Where closed days go.
 
-use crate::asked::{Asked, Host, print_answer};
 use crate::closed::years_of;
-use crate::fault::Fault;
 use crate::holidays::{Holidays, holidays_of};
-use crate::lines::{EachLine, Place, answer_lines, print_past};
-use crate::options::{DAY_OR_LINES, OPEN_DAYS};
-use crate::texts::read_day;
-use crate::values::{Start, begins_as_day, day_of};
+use crate::prelude::*;
+use crate::texts::{Start, read_day};
+use crate::values::{begins_as_day, day_of};
 use chrono_business::Roll;
 use chrono_datetime::NaiveDate;
-use command_words::{CommandRow, OPERAND, Operand, Word};
-use dates_answer::{Answer, Form, Key};
-use std::alloc::Allocator;
 use std::io;
 
 const CONVENTIONS: &[&str] = &[
@@ -24,17 +18,16 @@ const CONVENTIONS: &[&str] = &[
     "unadjusted",
 ];
 
+const CONVENTION: Operand = Operand {
+    name: "CONVENTION",
+    values: CONVENTIONS,
+    ..OPERAND
+};
+
 pub(crate) fn command() -> CommandRow {
     CommandRow {
         name: "roll",
-        operands: &[
-            DAY_OR_LINES,
-            Operand {
-                name: "CONVENTION",
-                values: CONVENTIONS,
-                ..OPERAND
-            },
-        ],
+        operands: &[DAY_OR_LINES, CONVENTION],
         options: OPEN_DAYS,
         help: "print where a closed day goes",
         more: "A CONVENTION is following, preceding, modified-following, modified-preceding,\n\
@@ -46,24 +39,21 @@ pub(crate) fn command() -> CommandRow {
 }
 
 // That there is no answer.
-const NONE: Answer = Answer::Nothing(Key::Date);
+const NONE: Reply = Reply::Nothing(Key::Date);
 
 // Where closed days go by a convention and these holidays.
 #[derive(Drop)]
 struct Rolls<A: Allocator> {
-    form: Form,
+    form: OutputForm,
     roll: Roll,
     holidays: Holidays<A>,
 }
 
 // Where the day, or that of each line, goes; the exit status.
-pub(crate) fn answer<'a>(
-    rt: &impl Host,
-    asked: &mut Asked<'a, impl Allocator>,
-) -> Result<u8, Fault<'a>> {
+pub(crate) fn answer<'a>(rt: &impl Host, asked: &mut Asked<'a, impl Allocator>) -> Answered<'a> {
     let (date, roll) = value!(read(asked.word(0), asked.words.operand(1)));
     let form = asked.form;
-    let holidays = holidays_of(rt, asked)?;
+    let holidays = value!(holidays_of(rt, asked));
     let mut rolls = Rolls {
         form,
         roll,
@@ -71,7 +61,7 @@ pub(crate) fn answer<'a>(
     };
     match date {
         Some(date) => Ok(rolls.answer_day(rt, Place::Alone, date)?),
-        None => Ok(answer_lines(rt, &mut rolls)?),
+        None => Ok(take_input(rt, &mut rolls)?),
     }
 }
 
@@ -83,10 +73,10 @@ fn read<'a>(
     match second {
         Some(second) if first.text == "-" => Ok((None, value!(roll_of(second)))),
         Some(second) => Ok((Some(value!(day_of(first))), value!(roll_of(second)))),
-        None if begins_as_day(first) => {
-            let _date = value!(day_of(first));
-            Err(Fault::Missing("CONVENTION"))
-        }
+        None if begins_as_day(first) => match day_of(first) {
+            Ok(_) => Err(Fault::Missing("CONVENTION")),
+            Err(fault) => Err(fault),
+        },
         None => Ok((None, value!(roll_of(first)))),
     }
 }
@@ -100,7 +90,7 @@ fn roll_of<'a>(word: Word<'a>) -> Result<Roll, Fault<'a>> {
         "modified-preceding" => Ok(Roll::ModifiedPreceding),
         "nearest" => Ok(Roll::NearestQuantLib),
         "unadjusted" => Ok(Roll::Unadjusted),
-        _ => Err(Fault::Choice(word, CONVENTIONS)),
+        _ => Err(Fault::Word(word, Cause::Choice(CONVENTIONS))),
     }
 }
 
@@ -109,17 +99,17 @@ impl<A: Allocator> Rolls<A> {
     fn answer_day(&mut self, rt: &impl Host, place: Place, date: NaiveDate) -> io::Result<u8> {
         let calendar = self.holidays.calendar(years_of(date, date))?;
         match calendar.roll(date, self.roll) {
-            Some(day) => print_answer(rt, self.form, Answer::Date(day)),
-            None => print_past(rt, self.form, NONE, place, Start::Day(date), ""),
+            Some(day) => print_reply(rt, self.form, Reply::Date(day)),
+            None => print_past(rt, self.form, NONE, place, &Start::Day(date), ""),
         }
     }
 }
 
 impl<A: Allocator> EachLine for Rolls<A> {
-    fn answer_line(&mut self, rt: &impl Host, place: Place, line: &[u8]) -> io::Result<u8> {
+    fn take_line(&mut self, rt: &impl Host, number: u64, line: &[u8]) -> Result<u8, LineFault> {
         match read_day(line) {
-            Ok(date) => self.answer_day(rt, place, date),
-            Err(_) => print_answer(rt, self.form, NONE),
+            Ok(date) => Ok(self.answer_day(rt, Place::Line(number), date)?),
+            Err(_) => Ok(print_reply(rt, self.form, NONE)?),
         }
     }
 }

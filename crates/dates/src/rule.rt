@@ -1,13 +1,13 @@
 //! The instances of a recurrence rule.
 
-use crate::asked::{Asked, Host, print_answer};
-use crate::fault::{Fault, NONE};
-use crate::options::{COUNT, HELP, JSON};
+use crate::prelude::*;
 use crate::values::{amount_of, day_of};
-use chrono_rules::read_rule;
-use command_words::{CommandRow, OPERAND, OPTION, Operand, Opt};
-use dates_answer::Answer;
-use std::alloc::Allocator;
+use chrono_rules::{Instances, Rule, read_rule};
+
+const RRULE: Operand = Operand {
+    name: "RRULE",
+    ..OPERAND
+};
 
 const START: Opt = Opt {
     name: "--start",
@@ -32,10 +32,7 @@ const HOW_MANY: Opt = Opt {
 pub(crate) fn command() -> CommandRow {
     CommandRow {
         name: "rule",
-        operands: &[Operand {
-            name: "RRULE",
-            ..OPERAND
-        }],
+        operands: &[RRULE],
         options: &[START, FROM, HOW_MANY, JSON, HELP],
         help: "print the instances of a recurrence rule",
         more: "An RRULE is written as RFC 5545 writes it, in parts with ; between them:\n\
@@ -50,12 +47,8 @@ pub(crate) fn command() -> CommandRow {
 }
 
 // The instances of the rule, a line each; `none` where there is none. The exit status.
-pub(crate) fn answer<'a>(
-    rt: &impl Host,
-    asked: &mut Asked<'a, impl Allocator>,
-) -> Result<u8, Fault<'a>> {
-    let word = asked.word(0);
-    let rule = value!(read_rule(word.text.as_bytes()).map_err(|error| Fault::Rule(word, error)));
+pub(crate) fn answer<'a>(rt: &impl Host, asked: &mut Asked<'a, impl Allocator>) -> Answered<'a> {
+    let rule = value!(rule_of(asked.word(0)));
     let start = value!(day_of(asked.option(START)));
     let from = match asked.words.value(FROM) {
         Some(word) => value!(day_of(word)),
@@ -65,12 +58,30 @@ pub(crate) fn answer<'a>(
         Some(word) => value!(amount_of(word)),
         None => u64::MAX,
     };
+    print_instances(rt, asked, rule.instances_from(start, from), most)
+}
+
+// The rule that a word writes.
+fn rule_of<'a>(word: Word<'a>) -> Result<Rule, Fault<'a>> {
+    match read_rule(word.text.as_bytes()) {
+        Ok(rule) => Ok(rule),
+        Err(error) => Err(Fault::Word(word, Cause::Rule(error))),
+    }
+}
+
+// So many instances at most, or `none` where there is none; the exit status.
+fn print_instances<'a>(
+    rt: &impl Print,
+    asked: &Asked<'a, impl Allocator>,
+    instances: Instances,
+    most: u64,
+) -> Answered<'a> {
     let mut status = NONE;
-    for day in rule.instances_from(start, from).take(most as usize) {
-        status = print_answer(rt, asked.form, Answer::Date(day))?;
+    for day in instances.take(most as usize) {
+        status = value!(asked.print(rt, Reply::Date(day)));
     }
     if status == NONE {
-        print_answer(rt, asked.form, asked.none)?;
+        return asked.print(rt, asked.none);
     }
     Ok(status)
 }

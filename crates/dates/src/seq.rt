@@ -1,27 +1,21 @@
 //! The days from one to another.
 
-use crate::asked::{Asked, Host, print_answer};
-use crate::fault::{Fault, NONE};
-use crate::options::{DAY, PLAIN};
+use crate::prelude::*;
 use crate::texts::read_span;
 use crate::values::day_of;
 use chrono_datetime::{Datelike, NaiveDate};
-use command_words::{CommandRow, OPERAND, Operand, Word};
-use dates_answer::{Answer, Span, Unit, sequence_day};
-use std::alloc::Allocator;
+use dates_answer::{Span, Unit, sequence_day};
+
+const SPAN: Operand = Operand {
+    name: "SPAN",
+    required: false,
+    ..OPERAND
+};
 
 pub(crate) fn command() -> CommandRow {
     CommandRow {
         name: "seq",
-        operands: &[
-            DAY,
-            DAY,
-            Operand {
-                name: "SPAN",
-                required: false,
-                ..OPERAND
-            },
-        ],
+        operands: &[DAY, DAY, SPAN],
         options: PLAIN,
         help: "print the days from one to another",
         more: "Each is the first day moved by no span, by one, by two and so on, as long as\n\
@@ -36,25 +30,33 @@ pub(crate) fn command() -> CommandRow {
 }
 
 // The days of the sequence as long as they are not past its end; `none` where the first day is past it. The exit status.
-pub(crate) fn answer<'a>(
-    rt: &impl Host,
-    asked: &mut Asked<'a, impl Allocator>,
-) -> Result<u8, Fault<'a>> {
+pub(crate) fn answer<'a>(rt: &impl Host, asked: &mut Asked<'a, impl Allocator>) -> Answered<'a> {
     let from = value!(day_of(asked.word(0)));
     let to = value!(day_of(asked.word(1)));
     let step = match asked.words.operand(2) {
         Some(word) => value!(step_of(word)),
         None => day_by_day(from, to),
     };
+    print_sequence(rt, asked, from, to, step)
+}
+
+// The days of a sequence, or `none` where there is none; the exit status.
+fn print_sequence<'a>(
+    rt: &impl Print,
+    asked: &Asked<'a, impl Allocator>,
+    from: NaiveDate,
+    to: NaiveDate,
+    step: Span,
+) -> Answered<'a> {
     let mut status = NONE;
     for place in 0..u32::MAX {
-        let Some(date) = sequence_day(from, to, step, place) else {
-            break;
-        };
-        status = print_answer(rt, asked.form, Answer::Date(date))?;
+        match sequence_day(from, to, step, place) {
+            Some(date) => status = value!(asked.print(rt, Reply::Date(date))),
+            None => break,
+        }
     }
     if status == NONE {
-        print_answer(rt, asked.form, asked.none)?;
+        return asked.print(rt, asked.none);
     }
     Ok(status)
 }
@@ -63,8 +65,8 @@ pub(crate) fn answer<'a>(
 fn step_of<'a>(word: Word<'a>) -> Result<Span, Fault<'a>> {
     match read_span(word.text.as_bytes()) {
         Some(span) if span.count != 0 => Ok(span),
-        Some(_) => Err(Fault::Expected(word, "a span that is not 0")),
-        None => Err(Fault::Expected(word, "a span as 3d, -2w, 1m or 4y")),
+        Some(_) => Err(Fault::expected(word, "a span that is not 0")),
+        None => Err(Fault::expected(word, "a span as 3d, -2w, 1m or 4y")),
     }
 }
 

@@ -1,66 +1,75 @@
 //! The commands of `dates`: a row each. Help, the man page, completion and messages come from these rows.
 
-use crate::asked::{Asked, Host};
+use crate::asked::{Answered, Asked, Host};
 use crate::day;
 use crate::fault::{ANSWERED, Fault, refuse};
 use crate::options::{HELP, JSON};
-use command_words::{
-    Arguments, CommandHelp, CommandRow, Program, ProgramHelp, Word, nearest, read_words,
-};
-use dates_answer::{Answer, Form, Key};
-use std::alloc::{AllocError, Allocator};
+use command_words::{Arguments, CommandHelp, CommandRow, Program, ProgramHelp, Word, read_words};
+use dates_answer::{Key, OutputForm, Reply};
+use std::alloc::Allocator;
 use std::io;
 
-// The rows: `$each` is done with the module of each command and its function there, in the order in which the help lists them.
+// The rows: the module of each command and its function there, in the order in which the help lists them.
 macro_rules! each_command {
-    ($each:ident, $($with:ident),*) => {
-        $each!(crate::day::command, crate::day::answer, $($with),*);
-        $each!(crate::add::command, crate::add::answer, $($with),*);
-        $each!(crate::diff::command, crate::diff::answer, $($with),*);
-        $each!(crate::seq::command, crate::seq::answer, $($with),*);
-        $each!(crate::week::command, crate::week::answer, $($with),*);
-        $each!(crate::weekday::command, crate::weekday::answer, $($with),*);
-        $each!(crate::easter::command, crate::easter::answer, $($with),*);
-        $each!(crate::leap::command, crate::leap::answer, $($with),*);
-        $each!(crate::open::command, crate::open::answer, $($with),*);
-        $each!(crate::roll::command, crate::roll::answer, $($with),*);
-        $each!(crate::check::command, crate::check::answer, $($with),*);
-        $each!(crate::due::next, crate::due::answer, $($with),*);
-        $each!(crate::due::prev, crate::due::answer, $($with),*);
-        $each!(crate::rule::command, crate::rule::answer, $($with),*);
-        $each!(crate::cal::command, crate::cal::answer, $($with),*);
-    };
-}
-
-macro_rules! put_row {
-    ($command:path, $answer:path, $rows:ident) => {
-        $rows.push($command())?;
-    };
-}
-
-macro_rules! answer_if_named {
-    ($command:path, $answer:path, $rt:ident, $asked:ident) => {
-        if $asked.command == $command().name {
-            return $answer($rt, $asked);
+    ($rows:ident $(, $with:ident)*) => {
+        $rows! {
+            $($with,)*
+            day::command,
+            add::command,
+            diff::command,
+            seq::command,
+            week::command,
+            weekday::command,
+            easter::command,
+            leap::command,
+            open::command,
+            roll::command,
+            check::command,
+            due::next,
+            due::prev,
+            rule::command,
+            cal::command,
         }
     };
 }
 
-/// The name of the program.
-pub(crate) const NAME: &str = "dates";
+macro_rules! count_rows {
+    ($($module:ident::$command:ident,)*) => {
+        [$(stringify!($command)),*].len()
+    };
+}
+
+macro_rules! list_rows {
+    ($($module:ident::$command:ident,)*) => {
+        [$(crate::$module::$command()),*]
+    };
+}
+
+macro_rules! answer_named {
+    ($rt:ident, $asked:ident, $($module:ident::$command:ident,)*) => {
+        $(
+            if $asked.command == crate::$module::$command().name {
+                return crate::$module::answer($rt, $asked);
+            }
+        )*
+    };
+}
+
+const COUNT: usize = each_command!(count_rows);
 
 // The rows of all commands. Each comes from a function, so that no proof reads all of them at once.
-pub(crate) fn commands<R: Alloc>(rt: &R) -> Result<Vec<CommandRow, R::A>, AllocError> {
-    let mut rows = Vec::new(rt.alloc());
-    each_command!(put_row, rows);
-    Ok(rows)
+pub(crate) fn commands() -> [CommandRow; COUNT] {
+    each_command!(list_rows)
 }
 
 // Answers the command that is asked; the exit status.
-fn answer<'a>(rt: &impl Host, asked: &mut Asked<'a, impl Allocator>) -> Result<u8, Fault<'a>> {
-    each_command!(answer_if_named, rt, asked);
+fn answer<'a>(rt: &impl Host, asked: &mut Asked<'a, impl Allocator>) -> Answered<'a> {
+    each_command!(answer_named, rt, asked);
     Ok(ANSWERED)
 }
+
+/// The name of the program.
+pub(crate) const NAME: &str = "dates";
 
 /// The program with its commands.
 pub(crate) fn program(commands: &[CommandRow]) -> Program<'_> {
@@ -89,29 +98,34 @@ const MORE: &str = "A DAY is a calendar date, an ordinal date or a week date, as
     printed, or where check finds a line; and 2 after a wrong command, or a read or\n\
     a write that failed.";
 
-// Answers what words ask for: the first that is not `--json` may name a command. The exit status.
-pub(crate) fn answer_words(rt: &impl Host, words: &[Word<'_>]) -> io::Result<u8> {
-    let rows = commands(rt)?;
-    let mut others: Vec<Word<'_>, _> = Vec::new(rt.alloc());
+// Answers what the arguments ask for: the first that is not `--json` may name a command. The exit status.
+pub(crate) fn answer_arguments(
+    rt: &impl Host,
+    arguments: &[String<impl Allocator>],
+) -> io::Result<u8> {
+    let mut words: Vec<Word<'_>, _> = Vec::new(rt.alloc());
     let mut command = None;
-    for word in words {
-        if command.is_none() && word.text != JSON.name {
-            let named = command_named(rows.as_slice(), word.text);
+    let mut place: usize = 0;
+    for argument in arguments {
+        place = place.saturating_add(1);
+        let text = argument.as_str();
+        if command.is_none() && text != JSON.name {
+            let named = command_named(text);
             command = Some(named);
             if !named.name.is_empty() {
                 continue;
             }
         }
-        others.push(*word)?;
+        words.push(Word { place, text })?;
     }
-    answer_command(rt, &command.unwrap_or(day::command()), others.as_slice())
+    answer_command(rt, &command.unwrap_or(day::command()), words.as_slice())
 }
 
 // The command with that name, and a day where there is none.
-fn command_named(rows: &[CommandRow], name: &str) -> CommandRow {
-    for command in rows {
+fn command_named(name: &str) -> CommandRow {
+    for command in commands() {
         if command.name == name {
-            return *command;
+            return command;
         }
     }
     day::command()
@@ -119,36 +133,43 @@ fn command_named(rows: &[CommandRow], name: &str) -> CommandRow {
 
 // Reads the words by the row of a command and answers it; the exit status.
 fn answer_command(rt: &impl Host, command: &CommandRow, words: &[Word<'_>]) -> io::Result<u8> {
-    let none = Answer::Nothing(Key::Date);
-    let words = match read_words(rt.alloc(), command.options, words)? {
-        Ok(words) => words,
-        Err(wrong) => {
-            return match wrong_first(command, words.first().copied()) {
-                Some(fault) => refuse(rt, command, Form::Text, none, fault),
-                None => refuse(rt, command, Form::Text, none, Fault::from(wrong)),
-            };
-        }
-    };
-    if words.has(HELP) {
-        return print_help(rt, command);
-    }
-    let form = if words.has(JSON) {
-        Form::Json
-    } else {
-        Form::Text
-    };
     let mut asked = Asked {
         command: command.name,
-        form,
-        none,
-        words,
+        form: OutputForm::Text,
+        none: Reply::Nothing(Key::Date),
+        words: match read_words(rt.alloc(), command.options, words)? {
+            Ok(words) => words,
+            Err(wrong) => {
+                let none = Reply::Nothing(Key::Date);
+                let fault = match wrong_first(command, words.first().copied()) {
+                    Some(fault) => fault,
+                    None => Fault::from(wrong),
+                };
+                return refuse(rt, command, OutputForm::Text, none, fault);
+            }
+        },
     };
-    if let Some(fault) = wrong_count(command, &asked.words) {
-        return refuse(rt, command, form, asked.none, fault);
+    if asked.words.has(HELP) {
+        return print_help(rt, command);
     }
-    match answer(rt, &mut asked) {
+    if asked.words.has(JSON) {
+        asked.form = OutputForm::Json;
+    }
+    match answer_counted(rt, command, &mut asked) {
         Ok(status) => Ok(status),
-        Err(fault) => refuse(rt, command, form, asked.none, fault),
+        Err(fault) => refuse(rt, command, asked.form, asked.none, fault),
+    }
+}
+
+// Answers a command that has the operands and the options that its row wants; the exit status.
+fn answer_counted<'a>(
+    rt: &impl Host,
+    command: &CommandRow,
+    asked: &mut Asked<'a, impl Allocator>,
+) -> Answered<'a> {
+    match wrong_count(command, &asked.words) {
+        Some(fault) => Err(fault),
+        None => answer(rt, asked),
     }
 }
 
@@ -173,35 +194,23 @@ fn wrong_count<'a>(
         return Some(Fault::Missing(operand.name));
     }
     if let Some(option) = words.missing(command.options) {
-        return Some(Fault::MissingOption(option));
+        return Some(Fault::MissingOption(option.name, option.value));
     }
     let extra = words.extra_operand(command)?;
     match wrong_first(command, words.operand(0)) {
         Some(fault) => Some(fault),
-        None => Some(Fault::Expected(extra, "no further argument")),
+        None => Some(Fault::expected(extra, "no further argument")),
     }
 }
 
 // Prints how a command, or the program, is used; the exit status.
-fn print_help(rt: &(impl Alloc + Print), command: &CommandRow) -> io::Result<u8> {
-    let rows = commands(rt)?;
-    let program = &program(rows.as_slice());
+fn print_help(rt: &impl Print, command: &CommandRow) -> io::Result<u8> {
+    let rows = commands();
+    let program = &program(&rows);
     if command.name.is_empty() {
         print!(rt; "{}", ProgramHelp { program })?;
     } else {
         print!(rt; "{}", CommandHelp { program, command })?;
     }
     Ok(ANSWERED)
-}
-
-// The name of a command that is like a word.
-pub(crate) fn near_command(
-    rt: &impl Alloc,
-    word: &str,
-) -> Result<Option<&'static str>, AllocError> {
-    let mut names: Vec<&'static str, _> = Vec::new(rt.alloc());
-    for command in commands(rt)?.as_slice() {
-        names.push(command.name)?;
-    }
-    nearest(rt.alloc(), word, names.as_slice())
 }

@@ -8,6 +8,7 @@ use chrono_reading::{
 };
 use chrono_text::{Text, read_decimal};
 use dates_answer::{Span, Unit};
+use std::fmt;
 
 // The day that a text names by its calendar date, its ordinal date or its week date; else what is wrong by the form that it has.
 pub(crate) fn read_day(text: &[u8]) -> Result<NaiveDate, ReadError> {
@@ -27,12 +28,49 @@ pub(crate) fn read_day(text: &[u8]) -> Result<NaiveDate, ReadError> {
     }
 }
 
-// Whether a text has a `T` or a blank, behind which a time of day stands.
-pub(crate) fn is_timed(text: &[u8]) -> bool {
-    parted(text).is_some()
+/// A day or a date-time.
+#[derive(Clone, Copy)]
+pub enum Start {
+    /// A day.
+    Day(NaiveDate),
+    /// A date-time.
+    DateTime(NaiveDateTime),
 }
 
-// What stands in front of the first `T` or blank, and behind it.
+impl fmt::Display for Start {
+    fn fmt<W: fmt::Write>(&self, f: &mut fmt::Formatter<W>) -> fmt::Result {
+        match self {
+            Start::Day(date) => write!(f, "{date}"),
+            Start::DateTime(moment) => write!(f, "{moment:?}"),
+        }
+    }
+}
+
+/// Why a text names neither a day nor a date-time.
+#[derive(Clone, Copy)]
+pub enum StartError {
+    /// It is written as a day is, and there is no such day.
+    NoDay(ReadError),
+    /// It cannot be read.
+    Unread(ReadError),
+}
+
+// The day or the date-time that a text names: a date-time where a time of day stands behind the day.
+pub(crate) fn read_start(text: &[u8]) -> Result<Start, StartError> {
+    if let Some((day, time)) = parted(text) {
+        return match moment_at(day, time) {
+            Ok(moment) => Ok(Start::DateTime(moment)),
+            Err(error) => Err(StartError::Unread(error)),
+        };
+    }
+    match read_day(text) {
+        Ok(date) => Ok(Start::Day(date)),
+        Err(error) if error.cause == ReadCause::NotThisForm => Err(StartError::Unread(error)),
+        Err(error) => Err(StartError::NoDay(error)),
+    }
+}
+
+// What stands in front of the first `T` or blank, behind which a time of day stands, and behind it.
 fn parted(text: &[u8]) -> Option<(&[u8], &[u8])> {
     let at = text.iter().position(|byte| *byte == b'T' || *byte == b' ')?;
     match text.split_at(at) {
@@ -41,12 +79,19 @@ fn parted(text: &[u8]) -> Option<(&[u8], &[u8])> {
     }
 }
 
-// The date-time that a text names by its day and its time of day, whose second may be left out.
+// The date-time that a text names by its day and its time of day.
 pub(crate) fn read_moment(text: &[u8]) -> Result<NaiveDateTime, ReadError> {
-    let Some((day, time)) = parted(text) else {
-        let _date = read_day(text)?;
-        return Err(no_form(text.len()));
-    };
+    match parted(text) {
+        Some((day, time)) => moment_at(day, time),
+        None => match read_day(text) {
+            Ok(_) => Err(no_form(text.len())),
+            Err(error) => Err(error),
+        },
+    }
+}
+
+// The date-time that texts name, one its day and one its time of day, whose second may be left out.
+fn moment_at(day: &[u8], time: &[u8]) -> Result<NaiveDateTime, ReadError> {
     let date = read_day(day)?;
     let read = match time {
         [a, b, b':', c, d] => read_time(&[*a, *b, b':', *c, *d, b':', b'0', b'0']),
@@ -115,14 +160,18 @@ pub(crate) fn read_move(text: &[u8]) -> Option<Move> {
     if let Ok(duration) = read_duration(text) {
         return Some(Move::Time(Some(duration)));
     }
-    let (count, unit) = read_count(text)?;
-    match unit {
+    let (count, name) = read_count(text)?;
+    let unit = Unit::Months;
+    match name {
         b"b" => Some(Move::OpenDays(count)),
         b"h" => Some(Move::Time(TimeDelta::try_hours(count))),
         b"min" => Some(Move::Time(TimeDelta::try_minutes(count))),
         b"s" => Some(Move::Time(TimeDelta::try_seconds(count))),
-        b"m" => Some(Move::ShortMonths(read_span(text)?)),
-        _ => Some(Move::Calendar(read_span(text)?)),
+        b"m" => Some(Move::ShortMonths(Span { count, unit })),
+        _ => {
+            let unit = unit_named(name)?;
+            Some(Move::Calendar(Span { count, unit }))
+        }
     }
 }
 

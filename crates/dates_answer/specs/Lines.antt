@@ -9,11 +9,11 @@ use Rattle.chrono_datetime.specs.Fields.{unix_epoch_day}
 use Rattle.chrono_datetime.specs.MomentText.{moment_text}
 use Rattle.chrono_datetime.specs.Text.{duration_text}
 use Rattle.chrono_datetime.specs.Weeks.{weekday_of}
-use Rattle.dates_answer.specs.declared.form.Form.{Form}
-use Rattle.dates_answer.specs.declared.form.Form.TheVariants as forms
+use Rattle.dates_answer.specs.declared.form.OutputForm.{OutputForm}
+use Rattle.dates_answer.specs.declared.form.OutputForm.TheVariants as forms
 use Rattle.dates_answer.specs.DayNames.{names_text, ordinal_name, week_name}
-use Rattle.dates_answer.specs.declared.line.Answer.{Answer}
-use Rattle.dates_answer.specs.declared.line.Answer.TheVariants as answers
+use Rattle.dates_answer.specs.declared.line.Reply.{Reply}
+use Rattle.dates_answer.specs.declared.line.Reply.TheVariants as replies
 use Rattle.dates_answer.specs.declared.line.Key.{Key}
 use Rattle.dates_answer.specs.declared.line.Key.TheVariants as keys
 use Rattle.dates_answer.specs.declared.parts.Parts.{Parts}
@@ -47,20 +47,20 @@ parts_text p =
     else signed_decimal p.years ++ (codes "y " ++ months_days_text p.months p.days)
 
 -- the line of an answer as a text
-unfoldable pub answer_text : Answer → List ℕ
-answer_text (answers.Names n) = names_text n
-answer_text (answers.Date n) = date_text n
-answer_text (answers.Weekday day) = weekday_name day
-answer_text (answers.Moment m) = moment_text (byte "T") m
-answer_text (answers.Duration x) = duration_text x
-answer_text (answers.Number key z) = signed_decimal z
-answer_text (answers.Whether key holds) = if holds then codes "yes" else codes "no"
-answer_text (answers.Parts p) = parts_text p
-answer_text (answers.Week first last) = date_text first ++ (codes " " ++ date_text last)
-answer_text (answers.Nothing key) = codes "none"
-answer_text answers.NoParts = codes "none"
-answer_text (answers.NoWeek first) = codes "none"
-answer_text answers.Version = codes "dates 0.1.0"
+unfoldable pub reply_text : Reply → List ℕ
+reply_text (replies.Names n) = names_text n
+reply_text (replies.Date n) = date_text n
+reply_text (replies.Weekday day) = weekday_name day
+reply_text (replies.Moment m) = moment_text (byte "T") m
+reply_text (replies.Duration x) = duration_text x
+reply_text (replies.Number key z) = signed_decimal z
+reply_text (replies.Whether key holds) = if holds then codes "yes" else codes "no"
+reply_text (replies.Parts p) = parts_text p
+reply_text (replies.Week first last) = date_text first ++ (codes " " ++ date_text last)
+reply_text (replies.Nothing key) = codes "none"
+reply_text replies.NoParts = codes "none"
+reply_text (replies.NoWeek first) = codes "none"
+reply_text replies.Version = codes "dates 0.1.0"
 
 -- the weekday of the day n, its number and the number of days since 1970-01-01, as they stand in an object
 unfoldable pub numbers_in_object : ℤ → List ℕ
@@ -75,25 +75,25 @@ unfoldable pub parts_object : Parts → List ℕ
 parts_object p = codes "{\"years\":" ++ (signed_decimal p.years ++ (codes ",\"months\":" ++ (signed_decimal p.months ++ (codes ",\"days\":" ++ (signed_decimal p.days ++ codes "}")))))
 
 -- the line of an answer as an object
-unfoldable pub answer_object : Answer → List ℕ
-answer_object (answers.Names n) = names_object n
-answer_object (answers.Date n) = codes "{\"date\":\"" ++ (date_text n ++ codes "\"}")
-answer_object (answers.Weekday day) = codes "{\"weekday\":\"" ++ (weekday_name day ++ codes "\"}")
-answer_object (answers.Moment m) = codes "{\"moment\":\"" ++ (moment_text (byte "T") m ++ codes "\"}")
-answer_object (answers.Duration x) = codes "{\"duration\":\"" ++ (duration_text x ++ codes "\"}")
-answer_object (answers.Number key z) = codes "{\"" ++ (key_text key ++ (codes "\":" ++ (signed_decimal z ++ codes "}")))
-answer_object (answers.Whether key holds) = codes "{\"" ++ (key_text key ++ (codes "\":" ++ ((if holds then codes "true" else codes "false") ++ codes "}")))
-answer_object (answers.Parts p) = parts_object p
-answer_object (answers.Week first last) = codes "{\"first\":\"" ++ (date_text first ++ (codes "\",\"last\":\"" ++ (date_text last ++ codes "\"}")))
-answer_object (answers.Nothing key) = codes "{\"" ++ (key_text key ++ codes "\":null}")
-answer_object answers.NoParts = codes "{\"years\":null,\"months\":null,\"days\":null}"
-answer_object (answers.NoWeek first) = codes "{\"first\":\"" ++ (date_text first ++ codes "\",\"last\":null}")
-answer_object answers.Version = codes "{\"version\":\"0.1.0\"}"
+unfoldable pub reply_object : Reply → List ℕ
+reply_object (replies.Names n) = names_object n
+reply_object (replies.Date n) = codes "{\"date\":\"" ++ (date_text n ++ codes "\"}")
+reply_object (replies.Weekday day) = codes "{\"weekday\":\"" ++ (weekday_name day ++ codes "\"}")
+reply_object (replies.Moment m) = codes "{\"moment\":\"" ++ (moment_text (byte "T") m ++ codes "\"}")
+reply_object (replies.Duration x) = codes "{\"duration\":\"" ++ (duration_text x ++ codes "\"}")
+reply_object (replies.Number key z) = codes "{\"" ++ (key_text key ++ (codes "\":" ++ (signed_decimal z ++ codes "}")))
+reply_object (replies.Whether key holds) = codes "{\"" ++ (key_text key ++ (codes "\":" ++ ((if holds then codes "true" else codes "false") ++ codes "}")))
+reply_object (replies.Parts p) = parts_object p
+reply_object (replies.Week first last) = codes "{\"first\":\"" ++ (date_text first ++ (codes "\",\"last\":\"" ++ (date_text last ++ codes "\"}")))
+reply_object (replies.Nothing key) = codes "{\"" ++ (key_text key ++ codes "\":null}")
+reply_object replies.NoParts = codes "{\"years\":null,\"months\":null,\"days\":null}"
+reply_object (replies.NoWeek first) = codes "{\"first\":\"" ++ (date_text first ++ codes "\",\"last\":null}")
+reply_object replies.Version = codes "{\"version\":\"0.1.0\"}"
 
 -- the line of an answer in a form
-abbrev pub line_text : Form → Answer → List ℕ
-line_text forms.Text answer = answer_text answer
-line_text forms.Json answer = answer_object answer
+abbrev pub line_text : OutputForm → Reply → List ℕ
+line_text forms.Text reply = reply_text reply
+line_text forms.Json reply = reply_object reply
 
 -- a day of a sheet as an object: its calendar and week date, its weekday, and whether it is open
 unfoldable pub day_object : ℤ → Bool → List ℕ

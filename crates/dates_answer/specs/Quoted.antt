@@ -4,8 +4,8 @@ use Rattle.std.specs.Char.{encode_utf8, is_control}
 use Rattle.std.specs.Fmt.{decimal}
 use Rattle.std.specs.List.{flat_map}
 use Rattle.std.specs.Str.{chars}
-use Rattle.dates_answer.specs.declared.form.Form.{Form}
-use Rattle.dates_answer.specs.declared.form.Form.TheVariants as forms
+use Rattle.dates_answer.specs.declared.form.OutputForm.{OutputForm}
+use Rattle.dates_answer.specs.declared.form.OutputForm.TheVariants as forms
 
 -- a digit of base 16
 abbrev pub hex_digit : ℕ → ℕ
@@ -32,6 +32,6 @@ unfoldable pub quoted : List ℕ → List ℕ
 quoted text = codes "\"" ++ (json_chars text ++ codes "\"")
 
 -- a line that is no day, by its number, its text and why it is none
-unfoldable pub wrong_line : Form → ℕ → List ℕ → List ℕ → List ℕ
+unfoldable pub wrong_line : OutputForm → ℕ → List ℕ → List ℕ → List ℕ
 wrong_line forms.Text number text reason = decimal number ++ (codes ": " ++ reason)
 wrong_line forms.Json number text reason = codes "{\"line\":" ++ (decimal number ++ (codes ",\"text\":" ++ (quoted text ++ (codes ",\"reason\":" ++ (quoted reason ++ codes "}")))))

@@ -2,7 +2,7 @@
 
 /// The form of answers.
 #[derive(Clone, Copy, Debug, PartialEq, Eq)]
-pub enum Form {
+pub enum OutputForm {
     /// A text.
     Text,
     /// An object of JSON (RFC 8259) a line.

@@ -16,8 +16,8 @@ mod sheet;
 mod span;
 
 pub use between::distance;
-pub use form::Form;
-pub use line::{Answer, AnswerLine, DayObject, Key};
+pub use form::OutputForm;
+pub use line::{DayObject, Key, Reply, ReplyLine};
 pub use moves::moved;
 pub use names::{DayNames, OrdinalName, WeekName};
 pub use parts::{Parts, parts_between};

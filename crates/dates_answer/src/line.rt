@@ -1,9 +1,9 @@
 //! Lines of answers, as texts or as objects of JSON (RFC 8259).
 ghost use Rattle.std.specs.Prelude.{◌≡◌, Some, codes, if◌then◌else◌};
 ghost use Rattle.std.specs.Fmt.{WritesOnOk};
-ghost use Rattle.dates_answer.specs.Lines.{answer_object, answer_text, day_object, key_text, line_text, months_days_text, names_object, numbers_in_object, parts_object, parts_text};
+ghost use Rattle.dates_answer.specs.Lines.{reply_object, reply_text, day_object, key_text, line_text, months_days_text, names_object, numbers_in_object, parts_object, parts_text};
 
-use crate::form::Form;
+use crate::form::OutputForm;
 use crate::names::{DayNames, OrdinalName, WeekName};
 use crate::parts::Parts;
 use chrono_datetime::{Datelike, NaiveDate, NaiveDateTime, TimeDelta, Weekday};
@@ -38,7 +38,7 @@ pub enum Key {
 
 /// What a line says.
 #[derive(Clone, Copy)]
-pub enum Answer {
+pub enum Reply {
     /// A day by all its names.
     Names(NaiveDate),
     /// A day.
@@ -69,21 +69,21 @@ pub enum Answer {
 
 /// A line of an answer, without its end: as a text, such as `2024-02-29`, or as an object of JSON, such as `{"date":"2024-02-29"}`.
 #[derive(Clone, Copy)]
-pub struct AnswerLine {
+pub struct ReplyLine {
     /// The form that is wanted.
-    pub form: Form,
+    pub form: OutputForm,
     /// What the line says.
-    pub answer: Answer,
+    pub reply: Reply,
 }
 
-impl fmt::Display for AnswerLine {
-    ghost output = { λ line. Some (line_text line.form line.answer) };
+impl fmt::Display for ReplyLine {
+    ghost output = { λ line. Some (line_text line.form line.reply) };
 
     /// Writes the line.
     fn fmt<W: fmt::Write>(&self, f: &mut fmt::Formatter<W>) -> fmt::Result {
         match self.form {
-            Form::Text => write_text(&self.answer, f),
-            Form::Json => write_object(&self.answer, f),
+            OutputForm::Text => write_text(&self.reply, f),
+            OutputForm::Json => write_object(&self.reply, f),
         }
     }
 }
@@ -170,24 +170,24 @@ impl fmt::Display for MonthsAndDays {
 }
 
 // An answer as a text.
-#[tactic(auto, unfolding(crate::specs::Lines::answer_text))]
-fn write_text<W: fmt::Write>(answer: &Answer, f: &mut fmt::Formatter<W>) -> fmt::Result
-    ensures writes { WritesOnOk W.write_str_gives f.old result (answer_text answer.now) f.new }
+#[tactic(auto, unfolding(crate::specs::Lines::reply_text))]
+fn write_text<W: fmt::Write>(reply: &Reply, f: &mut fmt::Formatter<W>) -> fmt::Result
+    ensures writes { WritesOnOk W.write_str_gives f.old result (reply_text reply.now) f.new }
 {
-    match *answer {
-        Answer::Names(date) => write!(f, "{}", DayNames { date }),
-        Answer::Date(date) => write!(f, "{date}"),
-        Answer::Weekday(day) => f.write_str(day.name()),
-        Answer::Moment(moment) => write!(f, "{moment:?}"),
-        Answer::Duration(duration) => write!(f, "{duration}"),
-        Answer::Number(_, number) => write!(f, "{number}"),
-        Answer::Whether(_, yes) => f.write_str(yes_or_no(yes)),
-        Answer::Parts(parts) => write!(f, "{parts}"),
-        Answer::Week(first, last) => write!(f, "{first} {last}"),
-        Answer::Nothing(_) => f.write_str("none"),
-        Answer::NoParts => f.write_str("none"),
-        Answer::NoWeek(_) => f.write_str("none"),
-        Answer::Version => f.write_str("dates 0.1.0"),
+    match *reply {
+        Reply::Names(date) => write!(f, "{}", DayNames { date }),
+        Reply::Date(date) => write!(f, "{date}"),
+        Reply::Weekday(day) => f.write_str(day.name()),
+        Reply::Moment(moment) => write!(f, "{moment:?}"),
+        Reply::Duration(duration) => write!(f, "{duration}"),
+        Reply::Number(_, number) => write!(f, "{number}"),
+        Reply::Whether(_, yes) => f.write_str(yes_or_no(yes)),
+        Reply::Parts(parts) => write!(f, "{parts}"),
+        Reply::Week(first, last) => write!(f, "{first} {last}"),
+        Reply::Nothing(_) => f.write_str("none"),
+        Reply::NoParts => f.write_str("none"),
+        Reply::NoWeek(_) => f.write_str("none"),
+        Reply::Version => f.write_str("dates 0.1.0"),
     }
 }
 
@@ -199,24 +199,24 @@ fn yes_or_no(yes: bool) -> &'static str
 }
 
 // An answer as an object.
-#[tactic(auto, unfolding(crate::specs::Lines::answer_object))]
-fn write_object<W: fmt::Write>(answer: &Answer, f: &mut fmt::Formatter<W>) -> fmt::Result
-    ensures writes { WritesOnOk W.write_str_gives f.old result (answer_object answer.now) f.new }
+#[tactic(auto, unfolding(crate::specs::Lines::reply_object))]
+fn write_object<W: fmt::Write>(reply: &Reply, f: &mut fmt::Formatter<W>) -> fmt::Result
+    ensures writes { WritesOnOk W.write_str_gives f.old result (reply_object reply.now) f.new }
 {
-    match *answer {
-        Answer::Names(date) => write_names(date, f),
-        Answer::Date(date) => write!(f, "{{\"date\":\"{date}\"}}"),
-        Answer::Weekday(day) => write!(f, "{{\"weekday\":\"{}\"}}", day.name()),
-        Answer::Moment(moment) => write!(f, "{{\"moment\":\"{moment:?}\"}}"),
-        Answer::Duration(duration) => write!(f, "{{\"duration\":\"{duration}\"}}"),
-        Answer::Number(key, number) => write!(f, "{{\"{key}\":{number}}}"),
-        Answer::Whether(key, yes) => write!(f, "{{\"{key}\":{yes}}}"),
-        Answer::Parts(parts) => write_parts(parts, f),
-        Answer::Week(first, last) => { write!(f, "{{\"first\":\"{first}\",\"last\":\"{last}\"}}") }
-        Answer::Nothing(key) => write!(f, "{{\"{key}\":null}}"),
-        Answer::NoParts => f.write_str("{\"years\":null,\"months\":null,\"days\":null}"),
-        Answer::NoWeek(first) => write!(f, "{{\"first\":\"{first}\",\"last\":null}}"),
-        Answer::Version => f.write_str("{\"version\":\"0.1.0\"}"),
+    match *reply {
+        Reply::Names(date) => write_names(date, f),
+        Reply::Date(date) => write!(f, "{{\"date\":\"{date}\"}}"),
+        Reply::Weekday(day) => write!(f, "{{\"weekday\":\"{}\"}}", day.name()),
+        Reply::Moment(moment) => write!(f, "{{\"moment\":\"{moment:?}\"}}"),
+        Reply::Duration(duration) => write!(f, "{{\"duration\":\"{duration}\"}}"),
+        Reply::Number(key, number) => write!(f, "{{\"{key}\":{number}}}"),
+        Reply::Whether(key, yes) => write!(f, "{{\"{key}\":{yes}}}"),
+        Reply::Parts(parts) => write_parts(parts, f),
+        Reply::Week(first, last) => { write!(f, "{{\"first\":\"{first}\",\"last\":\"{last}\"}}") }
+        Reply::Nothing(key) => write!(f, "{{\"{key}\":null}}"),
+        Reply::NoParts => f.write_str("{\"years\":null,\"months\":null,\"days\":null}"),
+        Reply::NoWeek(first) => write!(f, "{{\"first\":\"{first}\",\"last\":null}}"),
+        Reply::Version => f.write_str("{\"version\":\"0.1.0\"}"),
     }
 }
 

@@ -2,7 +2,7 @@
 ghost use Rattle.std.specs.Prelude.{Some};
 ghost use Rattle.dates_answer.specs.Quoted.{wrong_line};
 
-use crate::form::Form;
+use crate::form::OutputForm;
 use crate::quoted::Quoted;
 use std::fmt;
 
@@ -10,7 +10,7 @@ use std::fmt;
 #[derive(Clone, Copy)]
 pub struct WrongLine<'a, 'b> {
     /// The form that is wanted.
-    pub form: Form,
+    pub form: OutputForm,
     /// The number of the line, from 1 on.
     pub number: u64,
     /// Its text.
@@ -28,8 +28,8 @@ impl fmt::Display for WrongLine<'_, '_> {
         let text = Quoted { text: self.text };
         let reason = Quoted { text: self.reason };
         match self.form {
-            Form::Text => write!(f, "{number}: {}", self.reason),
-            Form::Json => {
+            OutputForm::Text => write!(f, "{number}: {}", self.reason),
+            OutputForm::Json => {
                 write!(
                     f,
                     "{{\"line\":{number},\"text\":{text},\"reason\":{reason}}}"
