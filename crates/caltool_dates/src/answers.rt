@@ -43,7 +43,7 @@ impl CommandAnswers for DateAnswers {
         })
     }
 
-    #[tactic(auto, unfolding(caltool_form::specs::Named::reach, chrono_datetime::specs::Moment::reach))]
+    #[tactic(auto, unfolding(caltool_form::specs::Named::reach_named, chrono_datetime::specs::Moment::reach))]
     fn move_moment(
         date: NaiveDate,
         time: NaiveTime,

@@ -1,4 +1,4 @@
-//! The texts of instants: RFC 3339, RFC 2822, and ISO 8601 with an offset, written and read.
+//! The texts of instants by RFC 3339 and RFC 2822, written and read.
 //!
 //! ```
 //! let stamp = parse_from_rfc3339(b"2024-02-29T15:00:00.250+05:30").ok()?;
