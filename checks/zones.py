@@ -32,12 +32,12 @@ PROGRAM = r'''//! Answers questions on zones, a line each.
 
 use chrono_datetime::Weekday;
 use std::io::{self, BufRead, BufReader};
-use zone_rule::{Change, Daylight, FixedOffset, MappedLocalTime, Rule, RuleDay};
+use zone_rule::{Change, Daylight, FixedOffset, MappedLocalTime, RuleDay, ZoneRule};
 use zone_table::{Row, first_unordered, next_change, offset_of_instant, offsets_of_local, previous_change};
 
 fn main(rt: HostRuntime) -> io::Result<()> {
     let utc = FixedOffset::east_opt(0).unwrap();
-    let (mut first, mut rule) = (utc, Rule { standard: utc, daylight: None });
+    let (mut first, mut rule) = (utc, ZoneRule { standard: utc, daylight: None });
     let mut rows = Vec::new(rt.alloc());
     for line in BufReader::new(rt.alloc(), rt.reader())?.lines(rt.alloc()) {
         let line = line?;
@@ -58,7 +58,7 @@ fn main(rt: HostRuntime) -> io::Result<()> {
                 let numbers: [i32; 9] = [number_of(words.next()), number_of(words.next()), number_of(words.next()), number_of(words.next()),
                     number_of(words.next()), number_of(words.next()), number_of(words.next()), number_of(words.next()), number_of(words.next())];
                 let standard = FixedOffset::east_opt(number as i32).unwrap_or(utc);
-                rule = Rule { standard, daylight: daylight_of(&numbers) };
+                rule = ZoneRule { standard, daylight: daylight_of(&numbers) };
                 println!(rt; "= {}", rule.daylight.is_some())?
             }
             "at" => {
