@@ -18,7 +18,7 @@ import subprocess
 import sys
 import tempfile
 
-from outside import below, copy_crates, listed_crates
+from outside import put_program
 
 UTC = datetime.timezone.utc
 EPOCH = datetime.datetime(1970, 1, 1, tzinfo=UTC)
@@ -476,16 +476,7 @@ def question(draw):
 
 def answers_of(room, questions):
     """What the program answers."""
-    crates = listed_crates()
-    used = below("chrono_stamps", crates)
-    copy_crates(room, used)
-    with open(f"{room}/crates.txt", "w", encoding="utf-8") as it:
-        it.writelines(f"{name}: {' '.join(crates[name])}\n" for name in used)
-        it.write("instants: chrono_datetime chrono_zoned chrono_stamps\n")
-    folder = f"{room}/crates/instants"
-    subprocess.run(["mkdir", "-p", f"{folder}/src"], check=True)
-    with open(f"{folder}/src/main.rt", "w", encoding="utf-8") as it:
-        it.write(PROGRAM)
+    folder = put_program(room, "instants", ["chrono_datetime", "chrono_zoned", "chrono_stamps"], PROGRAM)
     # The program is built once. It runs for each part of the lines, for `rt try` hands on no more than a mebibyte of one run.
     os.mkdir(f"{room}/parts")
     for start in range(0, len(questions), PART):

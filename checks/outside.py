@@ -64,6 +64,21 @@ def copy_crates(room, names):
                 shutil.copytree(f"{TOP}/crates/{name}/{part}", f"{room}/crates/{name}/{part}")
 
 
+def put_program(room, name, uses, source):
+    """Puts a program and all libraries below it into a repository; the program's folder."""
+    crates = listed_crates()
+    used = all_below(uses, crates)
+    copy_crates(room, used)
+    with open(f"{room}/crates.txt", "w", encoding="utf-8") as it:
+        it.writelines(f"{library}: {' '.join(crates[library])}\n" for library in used)
+        it.write(f"{name}: {' '.join(uses)}\n")
+    folder = f"{room}/crates/{name}"
+    os.makedirs(f"{folder}/src")
+    with open(f"{folder}/src/main.rt", "w", encoding="utf-8") as it:
+        it.write(source)
+    return folder
+
+
 def make_repository(room):
     """Writes the repository; the names of its libraries and of its callers."""
     crates, files = listed_crates(), quoted_files()

@@ -21,7 +21,7 @@ import sys
 import tempfile
 import zoneinfo
 
-from outside import below, copy_crates, listed_crates
+from outside import put_program
 
 UTC = datetime.timezone.utc
 DAY = 86_400
@@ -309,16 +309,7 @@ def zones():
 
 def answers_of(room, questions):
     """What the program answers."""
-    crates = listed_crates()
-    used = list(dict.fromkeys([*below("zone_table", crates), *below("zone_rule", crates)]))
-    copy_crates(room, used)
-    with open(f"{room}/crates.txt", "w", encoding="utf-8") as it:
-        it.writelines(f"{name}: {' '.join(crates[name])}\n" for name in used)
-        it.write("zones: chrono_datetime zone_table zone_rule\n")
-    folder = f"{room}/crates/zones"
-    os.makedirs(f"{folder}/src")
-    with open(f"{folder}/src/main.rt", "w", encoding="utf-8") as it:
-        it.write(PROGRAM)
+    folder = put_program(room, "zones", ["chrono_datetime", "zone_table", "zone_rule"], PROGRAM)
     said = subprocess.run(["rt", "try"], cwd=folder, input="".join(f"{it}\n" for it in questions), stdout=subprocess.PIPE, stderr=subprocess.STDOUT, text=True, errors="replace").stdout
     if not re.search(r"^run=ended status=0 ", said, re.M):
         sys.exit(f"the program fails:\n{said[-3000:]}")
