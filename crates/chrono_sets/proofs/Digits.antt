@@ -156,7 +156,7 @@ has-lowered s t by k made =
     ap is_one (ap (λ n. bit_at n k) made ∙ bit_at-shifted s.code by k ∙ ap (bit_at s.code) place)
 
 -- the lowest 64 digits of a number
-bit_at-wrapped : (n k : ℕ) → k < 64 → bit_at (n % 2 ^ 64) k ≡ bit_at n k
+pub bit_at-wrapped : (n k : ℕ) → k < 64 → bit_at (n % 2 ^ 64) k ≡ bit_at n k
 bit_at-wrapped n k lt =
     let whole : n / 2 ^ 64 * 2 ^ 64 + n % 2 ^ 64 ≡ n = omega arith in
     sym (bit_at_cat_low (n / 2 ^ 64) 64 (n % 2 ^ 64) k lt) ∙ ap (λ x. bit_at x k) whole

@@ -6,7 +6,7 @@ use Rattle.std.proofs.lemmas.Nat.Bits.{bit_at-trailing_zeros, bit_at-zero, bit_a
 use Rattle.std.specs.Int.{bit_at, leading_zeros, trailing_zeros, w64}
 use lib.Count.{count_leading_zeros, count_trailing_zeros}
 use Rattle.chrono_sets.specs.Numbers.{Numbers, has}
-use Rattle.chrono_sets.proofs.Digits.{bit_at-shifted, has_not, has_one, top_digit}
+use Rattle.chrono_sets.proofs.Digits.{bit_at-shifted, bit_at-wrapped, has_not, has_one, top_digit}
 
 -- ---- upwards
 
@@ -40,11 +40,6 @@ member-up s k fits lt = has_one s (k + trailing_zeros w64 (s.code / 2 ^ k)) (one
 -- ---- downwards
 
 -- digits moved up, of which those past the word are lost
-bit_at-wrapped : (x i : ℕ) → i < 64 → bit_at (x % 2 ^ 64) i ≡ bit_at x i
-bit_at-wrapped x i high =
-    let whole : (x / 2 ^ 64) * 2 ^ 64 + x % 2 ^ 64 ≡ x = omega arith in
-    sym (bit_at_cat_low (x / 2 ^ 64) 64 (x % 2 ^ 64) i high) ∙ ap (λ y. bit_at y i) whole
-
 bit_at-moved : (n k i : ℕ) → k ≤ i → i < 64 → bit_at (n * 2 ^ k % 2 ^ 64) i ≡ bit_at n (i - k)
 bit_at-moved n k i low high =
     let filled : n * 2 ^ k ≡ n * 2 ^ k + 0 = omega arith in

@@ -9,6 +9,7 @@ use Rattle.std.proofs.lemmas.Nat.{leading_top, pow_pos}
 use Rattle.std.proofs.lemmas.Nat.Bits.{bit_at-lt, bit_at-zero, bit_at_above, bit_at_cat_low, bit_at_or, bit_at-pow_same, bit_at-pow_other, same_from_bits}
 use Rattle.chrono_sets.specs.Numbers.{Numbers, are_below, has, no_numbers, is_empty, lies_within, with_all, with_number, numbers}
 use Rattle.std.proofs.Math.Bool.{or-false, or-true}
+use Rattle.chrono_sets.proofs.Digits.{has_one, top_digit}
 
 -- two sets with the same members are one
 same_digit : (a b : ℕ) → a < 2 → b < 2 → (a == 1) ≡ (b == 1) → a ≡ b
@@ -78,21 +79,6 @@ is_empty-some s k is = elim (cases_eq s.code 0) [
 ]
 
 -- the greatest member
-one_digit : (s : Numbers) (k : ℕ) → bit_at s.code k ≡ 1 → has s k ≡ true
-unfolding has
-one_digit s k one = ap (λ b. b == 1) one
-
-pow-double : (j : ℕ) → 2 ^ suc j ≡ 2 * 2 ^ j
-pow-double j = omega (arith, pow-suc 2 j)
-
-quotient_one : (n d : ℕ) → d ≤ n → n < 2 * d → n / d ≡ 1
-quotient_one n d low high = grind arith
-
-top_one : (n j : ℕ) → 2 ^ j ≤ n → n < 2 ^ suc j → bit_at n j ≡ 1
-top_one n j low high =
-    let quotient : n / 2 ^ j ≡ 1 = quotient_one n (2 ^ j) low (rw (pow-double j) at high) in
-    ap (λ q. q % 2) quotient
-
 lt_pow : (n : ℕ) → n < 2 ^ n
 lt_pow zero = omega arith
 lt_pow (suc n) = omega (arith, lt_pow n, pow-suc 2 n)
@@ -100,7 +86,7 @@ lt_pow (suc n) = omega (arith, lt_pow n, pow-suc 2 n)
 pub top_member : (s : Numbers) → 0 < s.code → (k : ℕ) × (has s k ≡ true) × (s.code < 2 ^ suc k)
 top_member s some =
     let top = leading_top s.code s.code some (lt_pow s.code) in
-    (top.0, one_digit s top.0 (top_one s.code top.0 top.2 top.3), top.3)
+    (top.0, has_one s top.0 (top_digit s.code top.0 top.2 top.3), top.3)
 
 pub some_member : (s : Numbers) → is_empty s ≡ false → (k : ℕ) × (has s k ≡ true)
 some_member s some =
