@@ -19,6 +19,13 @@ use Rattle.std.specs.List.{AllByRecursion}
 pub IsAscii-put : (old new text : List ℕ) → new ≡ old ++ text → old ≡ [] → IsAscii text → IsAscii new
 IsAscii-put old new text put none h = subst IsAscii (sym (put ∙ ap (λ front. front ++ text) none)) h
 
+-- a text of one character, and of three
+pub IsAscii-one : (a : ℕ) → a < 128 → IsAscii (a ∷ [])
+IsAscii-one a h = IsAscii-cons a [] h IsAscii-nil
+
+pub IsAscii-three : (a b c : ℕ) → a < 128 → b < 128 → c < 128 → IsAscii (a ∷ b ∷ c ∷ [])
+IsAscii-three a b c h k l = IsAscii-cons a (b ∷ c ∷ []) h (IsAscii-cons b (c ∷ []) k (IsAscii-one c l))
+
 -- one of two texts
 pub IsAscii-if : (b : Bool) (xs ys : List ℕ) → (b ≡ true → IsAscii xs) → (b ≡ false → IsAscii ys) → IsAscii (if b then xs else ys)
 IsAscii-if true xs ys f g = f refl
@@ -38,7 +45,7 @@ AreAscii-append (text ∷ texts) others (first, rest) k = (first, AreAscii-appen
 
 -- a text and one character behind it
 behind_with : (xs : List ℕ) (x : ℕ) → x < 128 → IsAscii xs → IsAscii (xs ++ x ∷ [])
-behind_with xs x small h = IsAscii-append xs (x ∷ []) h (IsAscii-cons x [] small IsAscii-nil)
+behind_with xs x small h = IsAscii-append xs (x ∷ []) h (IsAscii-one x small)
 
 -- ---- digits
 

@@ -1,8 +1,10 @@
 -- Lemmas on the texts of numbers: how long they are, and that different numbers have different texts.
-use Rattle.std.proofs.Common.{◌≡◌, ℕ, suc, ◌+◌, ◌/◌, ◌%◌, ◌^◌, ◌<◌, ◌≤◌, ℤ, pos, negsuc, List, [], ◌∷◌, ◌++◌, length, length-append, take, drop, unsigned_abs, arith, refl, sym, ap, ◌∙◌}
+use Rattle.std.proofs.Common.{◌≡◌, ℕ, suc, ◌+◌, ◌/◌, ◌%◌, ◌^◌, ◌<◌, ◌≤◌, ℤ, pos, negsuc, false, List, [], ◌∷◌, ◌++◌, length, length-append, take, drop, unsigned_abs, arith, refl, sym, ap, ◌∙◌}
 use Rattle.std.specs.Prelude.{get_or}
+use Rattle.std.specs.Int.{is_negative}
 use Rattle.std.specs.Str.Parse.{digits_value}
 use Rattle.std.proofs.Math.Seq.{take-append_seam, drop-append_seam}
+use Rattle.std.proofs.lemmas.Bool.Decides.{nat_tests}
 use Rattle.std.proofs.lemmas.Fmt.{decimal_is_IsNumeral, length-decimal-le}
 use Rattle.std.specs.Fmt.{decimal}
 use Rattle.chrono_text.specs.Text.{two_digits, all_digits, year_digits, year_text, calendar_text}
@@ -18,6 +20,17 @@ same_parts xs ys s t l e =
       sym (drop-append_seam xs s) ∙ ap (λ (c : List ℕ). drop (length xs) c) e ∙ ap (λ n. drop n (ys ++ t)) cut ∙ drop-append_seam ys t,
     )
 
+-- ---- signs
+
+-- a number from 0 up has none
+pub is_negative-pos : (n : ℕ) → is_negative (pos n) ≡ false
+is_negative-pos n = grind (arith, nat_tests)
+
+-- the number of size 0
+pub unsigned_abs-zero : (x : ℤ) → unsigned_abs x ≡ 0 → x ≡ pos 0
+unsigned_abs-zero (pos n) e = ap pos e
+unsigned_abs-zero (negsuc n) e = absurd (omega arith)
+
 -- ---- digits
 
 -- numbers below 100 with the same two digits are the same
@@ -31,6 +44,14 @@ year_digits-value : (n : ℕ) → n < 2 ^ 64 → digits_value 10 (year_digits n)
 year_digits-value n h = by_size 10_000 n
     (λ low. grind (arith, all_digits-value 4 n low))
     (λ high. grind (arith, (decimal_is_IsNumeral n h).1))
+
+-- there are four or more
+pub year_digits-least : (n : ℕ) → n < 1_000_000 → 4 ≤ length (year_digits n)
+year_digits-least n h = by_size 10_000 n
+    (λ low. grind arith)
+    (λ high. by_size 4 (length (decimal n))
+    (λ few. absurd (omega (arith, high, decimal_below n 3 (omega (arith, h)) (omega (arith, few)))))
+    (λ many. grind (arith, many)))
 
 -- so different sizes have different digits
 year_digits_injective : (n m : ℕ) → n < 2 ^ 64 → m < 2 ^ 64 → year_digits n ≡ year_digits m → n ≡ m

@@ -1,7 +1,8 @@
 -- Whole numbers in text.
 use Rattle.std.specs.Prelude.{◌≡◌, ◌<◌, ◌≤◌, ◌==◌, nat_le, ℕ, ◌+◌, ◌-◌, ◌*◌, ◌^◌, Bool, ◌&&◌, ◌⊎◌, List, [], ◌∷◌, ◌++◌, length, slice_index, ℤ, pos, negsuc, neg_ℤ, unsigned_abs, Option, Some, None, true, false, if◌then◌else◌, int_le, codes, refl}
 use Rattle.std.specs.Option.{option_map, option_and_then}
-use Rattle.std.specs.List.{AllByRecursion}
+use Rattle.std.specs.Char.{is_ascii_digit}
+use Rattle.std.specs.List.{AllByRecursion, list_all}
 use Rattle.std.specs.Int.{IsInRange}
 use Rattle.std.specs.Str.{all_ascii_digits, byte}
 
@@ -9,6 +10,10 @@ use Rattle.std.specs.Str.{all_ascii_digits, byte}
 abbrev pub value_of : List ℕ → ℕ
 value_of [] = 0
 value_of (digit ∷ digits) = (digit - byte "0") * 10 ^ length digits + value_of digits
+
+-- one digit or more
+abbrev pub are_digits : List ℕ → Bool
+are_digits text = nat_le 1 (length text) && list_all is_ascii_digit text
 
 -- the value of one digit or more
 unfoldable pub natural_of : List ℕ → Option ℕ
@@ -76,7 +81,20 @@ pub record StandsBefore (stop : ℕ) (text : List ℕ) (len : ℕ) : Type 0 wher
   pub within : len ≤ length text
   pub stops : len < length text → slice_index text len ≡ stop
 
--- known values: zeros in front, too many digits, none, and what is no digit
+-- known values: the first digit and the last, none, and what is no digit
+are_digits-ends : are_digits (codes "09") ≡ true
+are_digits-ends = refl
+
+are_digits-nothing : are_digits [] ≡ false
+are_digits-nothing = refl
+
+are_digits-slash : are_digits (codes "1/") ≡ false
+are_digits-slash = refl
+
+are_digits-colon : are_digits (codes "1:") ≡ false
+are_digits-colon = refl
+
+-- zeros in front, too many digits, none, and what is no digit
 digits_of-zeros : digits_of 3 (codes "031") ≡ Some 31
 unfolding digits_of natural_of
 digits_of-zeros = refl

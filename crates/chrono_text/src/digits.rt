@@ -17,9 +17,13 @@ const TWO_DIGITS: [u8; 200] = *b"00010203040506070809\
     80818283848586878889\
     90919293949596979899";
 
-// The two digits of a number below 100, as ASCII codes.
+/// Returns the two digits of a number below 100, as ASCII codes. Requires `n < 100`.
+///
+/// ```
+/// codes_of_two(7) // (48, 55)
+/// ```
 #[inline]
-pub(crate) fn codes_of_two(n: u32) -> (u8, u8)
+pub fn codes_of_two(n: u32) -> (u8, u8)
     requires { n < 100 }
     ensures tens { result.0 ≡ byte "0" + n / 10 }
     ensures ones { result.1 ≡ byte "0" + n % 10 }

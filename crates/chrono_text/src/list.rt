@@ -1,5 +1,5 @@
 //! Texts that list items between separators.
-ghost use Rattle.std.specs.Prelude.{◌≡◌, ◌≤◌, ◌<◌, ◌==◌, ◌∷◌, [], ℕ, List, Option, length, true, false, IfSome, IfNone};
+ghost use Rattle.std.specs.Prelude.{◌≡◌, ◌≤◌, ◌<◌, ◌+◌, ◌==◌, ◌∷◌, [], ℕ, List, Option, length, true, false, IfSome, IfNone};
 ghost use Rattle.std.specs.List.{after_first, before_first, position_or_len};
 ghost use Rattle.std.specs.Str.{str_eq_ignore_ascii_case};
 ghost use Rattle.chrono_text.specs.Lists.{pieces, pieces_behind, stands_in, through};
@@ -51,7 +51,7 @@ pub fn split_at_byte(text: &[u8], byte: u8) -> Option<(&[u8], &[u8])>
 
 /// Returns the text up to the first byte `separator`, and the rest, in front of which that byte stands.
 ///
-/// The rest is empty if there is no such byte.
+/// The rest is empty if there is no such byte. Both together are as long as `text`.
 ///
 /// ```
 /// first_piece(b"6,7", b',') // ([54], [44, 55])
@@ -59,6 +59,7 @@ pub fn split_at_byte(text: &[u8], byte: u8) -> Option<(&[u8], &[u8])>
 #[inline]
 pub fn first_piece(text: &[u8], separator: u8) -> (&[u8], &[u8])
     ensures pieces { pieces separator text.now ≡ result.0.now ∷ pieces_behind separator result.1.now }
+    ensures whole { length result.0.now + length result.1.now ≡ length text.now }
     ensures within { length result.1.now ≤ length text.now }
     ensures front { result.0.now ≡ before_first (λ x. x == separator) text.now }
 {

@@ -6,7 +6,7 @@ ghost use Rattle.std.specs.Int.{IsInRange};
 ghost use Rattle.std.specs.Str.{byte};
 ghost use Rattle.std.specs.Str.Parse.{AllDigits, digits_value};
 
-use crate::read::digit::digit;
+use crate::read::single_digit::digit;
 
 // A number of so many digits fits a `u64`.
 const ALWAYS_FIT: usize = 18;

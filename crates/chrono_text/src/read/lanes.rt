@@ -3,7 +3,7 @@ ghost use Rattle.std.specs.Prelude.{◌≡◌, ◌-◌, ◌*◌, ◌^◌, ◌<�
 ghost use Rattle.std.specs.Str.Parse.{AllDigits, digits_value};
 ghost use Rattle.chrono_text.specs.Marks.{marks_of};
 
-use crate::read::digit::digit;
+use crate::read::single_digit::digit;
 use std::simd::prelude::*;
 
 // How many bytes are read together.

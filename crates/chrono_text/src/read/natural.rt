@@ -1,7 +1,9 @@
 //! Numbers without a sign, of a whole text.
 ghost use Rattle.std.specs.Prelude.{◌≡◌, ◌≤◌, ◌<◌, ◌-◌, ◌^◌, min, IfSome};
+ghost use Rattle.std.specs.Char.{is_ascii_digit};
+ghost use Rattle.std.specs.List.{list_all};
 ghost use Rattle.std.specs.Option.{option_map};
-ghost use Rattle.chrono_text.specs.Numbers.{count_of, digits_of, natural_of};
+ghost use Rattle.chrono_text.specs.Numbers.{are_digits, count_of, digits_of, natural_of};
 
 use crate::read::front::leading_digits;
 
@@ -47,6 +49,26 @@ pub fn read_count(text: &[u8]) -> Option<u32>
         return None;
     }
     Some(value as u32)
+}
+
+/// Returns whether `text` is one digit or more, each from `0` to `9`.
+///
+/// ```
+/// are_digits(b"07") // true
+/// are_digits(b"-7") // false
+/// are_digits(b"") // false
+/// ```
+pub fn are_digits(text: &[u8]) -> bool
+    ensures { result ≡ are_digits text.now }
+{
+    !text.is_empty() && are_all_digits(text)
+}
+
+// Whether each byte is a digit.
+fn are_all_digits(text: &[u8]) -> bool
+    ensures { result ≡ list_all is_ascii_digit text.now }
+{
+    text.iter().all(|byte| byte.is_ascii_digit())
 }
 
 // The number that all of the text writes. The greatest `u64` stands for all that are larger.

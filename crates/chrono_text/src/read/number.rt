@@ -7,9 +7,9 @@ ghost use Rattle.std.specs.Str.Parse.{AllDigits, digits_value};
 ghost use Rattle.chrono_text.specs.Numbers.{StandsBefore, i64_of, signed, to_i64};
 
 use crate::line::Line;
-use crate::read::digit::digit;
 use crate::read::front::leading_digits;
 use crate::read::lanes::{LANES, digits_value};
+use crate::read::single_digit::digit;
 use crate::read::way::Way;
 
 const MINUS: u8 = b'-';

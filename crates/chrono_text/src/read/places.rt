@@ -4,8 +4,8 @@ ghost use Rattle.std.specs.Option.{SomeIff};
 ghost use Rattle.std.specs.Str.Parse.{AllDigits, digits_value};
 ghost use Rattle.chrono_text.specs.Text.{two_digits, all_digits};
 
-use crate::read::digit::digit;
 use crate::read::front::leading_digits;
+use crate::read::single_digit::digit;
 
 /// Returns the number below 100 that two digits write.
 ///
