@@ -4,11 +4,12 @@ pub mod WeekdayCycle
 pub mod WalkLengths
 pub mod ListsLeft
 pub mod DayNames
+pub mod SetTexts
 -- The rest serve this crate's own proofs alone.
 mod EachSet
 mod KnownValues
+mod NamesInFront
 mod SetAhead
 mod SetDigitLemmas
 mod SetPlaces
 mod SetWalks
-mod SetTexts

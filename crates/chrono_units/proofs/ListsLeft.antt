@@ -1,5 +1,5 @@
 -- A call that takes an item from a list leaves fewer.
-use Rattle.std.proofs.Common.{◌≡◌, ℕ, suc, ◌<◌, ap, List, [], ◌∷◌, ◌++◌, length, arith, Some}
+use Rattle.std.proofs.Common.{◌≡◌, suc, ◌<◌, ap, List, [], ◌∷◌, ◌++◌, length, arith, Some}
 use Rattle.std.specs.Bool.{⊤}
 use Rattle.std.specs.Iterator.{MakesProgress, item_count}
 use Rattle.std.proofs.lemmas.List.{length-append}

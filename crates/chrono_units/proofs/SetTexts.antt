@@ -1,25 +1,23 @@
 -- Every byte of the texts of weekdays and of their sets is ASCII.
-use Rattle.std.proofs.Common.{ℕ, Bool, true, false, ◌<◌, List, [], ◌∷◌, ◌++◌, arith}
+use Rattle.std.proofs.Common.{ℕ, Bool, true, false, List, [], ◌∷◌, ◌++◌, arith}
 use Rattle.std.specs.Prelude.{codes}
 use Rattle.std.specs.Str.{IsAscii}
 use Rattle.std.proofs.lemmas.Str.{IsAscii-append}
 use Rattle.std.proofs.lemmas.Str.Ascii.{IsAscii-nil, IsAscii-cons}
+use Rattle.chrono_text.proofs.AsciiTexts.{IsAscii-three}
 use Rattle.chrono_units.specs.declared.weekday.Weekday.{Weekday}
 use Rattle.chrono_units.specs.declared.weekday.Weekday.TheVariants.{Mon, Tue, Wed, Thu, Fri, Sat, Sun}
 use Rattle.chrono_units.specs.WeekdaySet.{DaySet, walk}
 use Rattle.chrono_units.specs.WeekdayText.{weekday_text, further_days_text, days_text, set_text, digit_text, set_digits_text}
 
-three : (a b c : ℕ) → a < 128 → b < 128 → c < 128 → IsAscii (a ∷ b ∷ c ∷ [])
-three a b c h k l = IsAscii-cons a (b ∷ c ∷ []) h (IsAscii-cons b (c ∷ []) k (IsAscii-cons c [] l IsAscii-nil))
-
-IsAscii-weekday_text : (d : Weekday) → IsAscii (weekday_text d)
-IsAscii-weekday_text Mon = three 77 111 110 (omega arith) (omega arith) (omega arith)
-IsAscii-weekday_text Tue = three 84 117 101 (omega arith) (omega arith) (omega arith)
-IsAscii-weekday_text Wed = three 87 101 100 (omega arith) (omega arith) (omega arith)
-IsAscii-weekday_text Thu = three 84 104 117 (omega arith) (omega arith) (omega arith)
-IsAscii-weekday_text Fri = three 70 114 105 (omega arith) (omega arith) (omega arith)
-IsAscii-weekday_text Sat = three 83 97 116 (omega arith) (omega arith) (omega arith)
-IsAscii-weekday_text Sun = three 83 117 110 (omega arith) (omega arith) (omega arith)
+pub IsAscii-weekday_text : (d : Weekday) → IsAscii (weekday_text d)
+IsAscii-weekday_text Mon = IsAscii-three 77 111 110 (omega arith) (omega arith) (omega arith)
+IsAscii-weekday_text Tue = IsAscii-three 84 117 101 (omega arith) (omega arith) (omega arith)
+IsAscii-weekday_text Wed = IsAscii-three 87 101 100 (omega arith) (omega arith) (omega arith)
+IsAscii-weekday_text Thu = IsAscii-three 84 104 117 (omega arith) (omega arith) (omega arith)
+IsAscii-weekday_text Fri = IsAscii-three 70 114 105 (omega arith) (omega arith) (omega arith)
+IsAscii-weekday_text Sat = IsAscii-three 83 97 116 (omega arith) (omega arith) (omega arith)
+IsAscii-weekday_text Sun = IsAscii-three 83 117 110 (omega arith) (omega arith) (omega arith)
 
 comma : IsAscii (codes ", ")
 comma = IsAscii-cons 44 (32 ∷ []) (omega arith) (IsAscii-cons 32 [] (omega arith) IsAscii-nil)
@@ -50,8 +48,8 @@ name : IsAscii (codes "WeekdaySet(")
 name =
     IsAscii-append (codes "WeekdaySe") (codes "t(")
     (IsAscii-append (codes "Weekda") (codes "ySe")
-    (IsAscii-append (codes "Wee") (codes "kda") (three 87 101 101 (omega arith) (omega arith) (omega arith)) (three 107 100 97 (omega arith) (omega arith) (omega arith)))
-    (three 121 83 101 (omega arith) (omega arith) (omega arith)))
+    (IsAscii-append (codes "Wee") (codes "kda") (IsAscii-three 87 101 101 (omega arith) (omega arith) (omega arith)) (IsAscii-three 107 100 97 (omega arith) (omega arith) (omega arith)))
+    (IsAscii-three 121 83 101 (omega arith) (omega arith) (omega arith)))
     (IsAscii-cons 116 (40 ∷ []) (omega arith) (IsAscii-cons 40 [] (omega arith) IsAscii-nil))
 
 pub IsAscii-set_digits_text : (s : DaySet) → IsAscii (set_digits_text s)

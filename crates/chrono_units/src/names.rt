@@ -203,35 +203,12 @@ fn is_name(text: &[u8], name: &[u8]) -> bool
 fn weekday_in_front(letters: [u8; 3]) -> Option<Weekday>
     ensures { (d : Weekday) → letters ≡ take 3 (map to_ascii_lowercase (weekday_name d)) → result ≡ Some d }
 {
-    match &letters {
-        b"mon" => Some(Weekday::Mon),
-        b"tue" => Some(Weekday::Tue),
-        b"wed" => Some(Weekday::Wed),
-        b"thu" => Some(Weekday::Thu),
-        b"fri" => Some(Weekday::Fri),
-        b"sat" => Some(Weekday::Sat),
-        b"sun" => Some(Weekday::Sun),
-        _ => None,
-    }
+    Weekday::from_letters(&letters, 3)
 }
 
 // The month whose name begins with these small letters, if one does.
 fn month_in_front(letters: [u8; 3]) -> Option<Month>
     ensures { (m : Month) → letters ≡ take 3 (map to_ascii_lowercase (month_name m)) → result ≡ Some m }
 {
-    match &letters {
-        b"jan" => Some(Month::January),
-        b"feb" => Some(Month::February),
-        b"mar" => Some(Month::March),
-        b"apr" => Some(Month::April),
-        b"may" => Some(Month::May),
-        b"jun" => Some(Month::June),
-        b"jul" => Some(Month::July),
-        b"aug" => Some(Month::August),
-        b"sep" => Some(Month::September),
-        b"oct" => Some(Month::October),
-        b"nov" => Some(Month::November),
-        b"dec" => Some(Month::December),
-        _ => None,
-    }
+    Month::from_letters(&letters)
 }
