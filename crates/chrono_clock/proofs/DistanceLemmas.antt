@@ -1,9 +1,10 @@
 -- Lemmas on distances of times: the move back, and the order.
 use Rattle.std.proofs.Common.{◌≡◌, ℕ, ◌+◌, ◌*◌, ◌/◌, ◌%◌, ◌<◌, ◌≤◌, ◌⊎◌, ⊎_elim, true, false, ℤ, pos, neg_ℤ, ◌+ℤ◌, ◌-ℤ◌, ◌*ℤ◌, ◌<ℤ◌, ◌≤ℤ◌, arith, refl, sym, ap, subst, ◌∙◌, unsigned_abs, nat_lt}
+use Rattle.chrono_text.proofs.DigitLemmas.{by_size}
 use Rattle.chrono_clock.specs.Duration.{nanos_per_day, units_of}
 use Rattle.chrono_clock.specs.Time.{TimeOfDay, Landing, IsTime, IsLeap, IsPlain, IsEarlier, landing_of, later, place, place_beside, plain_landing, leap_landing, land, distance}
 use Rattle.chrono_clock.specs.Signed.{signed}
-use Rattle.chrono_clock.proofs.TimeLemmas.{by_order, by_leap, by_parts, is_leap-plain, is_leap-leap, land-plain, land-leap, leap_landing-before, leap_landing-inside, leap_landing-past}
+use Rattle.chrono_clock.proofs.TimeLemmas.{by_leap, by_parts, is_leap-plain, is_leap-leap, land-plain, land-leap, leap_landing-before, leap_landing-inside, leap_landing-past}
 use Rattle.chrono_clock.proofs.LandingLemmas.{IsPlain-plain_landing, place-plain_landing, plain_landing-shift}
 
 -- ---- places beside another time
@@ -47,16 +48,16 @@ land-distance_plain a b i j h =
     (λ f.
     let p : pos (place b) +ℤ distance a b ≡ pos (place a) = point_reached b (place_beside a b) (place_beside b a) (place a) (omega (arith, back, beside-plain a b f)) in
     land-plain b (distance a b) f ∙ ap plain_landing p ∙ home)
-    (λ f. by_order a.second b.second
-    (λ g.
-    let p : pos (place b) +ℤ distance a b ≡ pos (place a) = point_reached b (place_beside a b) (place_beside b a) (place a) (omega (arith, back, beside-not_before a b g)) in
-    let low : pos (place a) <ℤ pos ((b.second + 1) * 1_000_000_000) = omega (arith, signed) in
-    land-leap b (distance a b) f ∙ ap (leap_landing b.second) p ∙ leap_landing-before b.second (pos (place a)) low ∙ home)
+    (λ f. by_size a.second b.second
     (λ g.
     let p : pos (place b) +ℤ distance a b ≡ pos (place a + 1_000_000_000) = point_reached b (place_beside a b) (place_beside b a) (place a + 1_000_000_000) (omega (arith, back, beside-leap_before a b f g)) in
     let high : pos ((b.second + 2) * 1_000_000_000) ≤ℤ pos (place a + 1_000_000_000) = omega (arith, signed) in
     let q : pos (place a + 1_000_000_000) -ℤ pos 1_000_000_000 ≡ pos (place a) = omega (arith, signed) in
-    land-leap b (distance a b) f ∙ ap (leap_landing b.second) p ∙ leap_landing-past b.second (pos (place a + 1_000_000_000)) high ∙ ap plain_landing q ∙ home))
+    land-leap b (distance a b) f ∙ ap (leap_landing b.second) p ∙ leap_landing-past b.second (pos (place a + 1_000_000_000)) high ∙ ap plain_landing q ∙ home)
+    (λ g.
+    let p : pos (place b) +ℤ distance a b ≡ pos (place a) = point_reached b (place_beside a b) (place_beside b a) (place a) (omega (arith, back, beside-not_before a b g)) in
+    let low : pos (place a) <ℤ pos ((b.second + 1) * 1_000_000_000) = omega (arith, signed) in
+    land-leap b (distance a b) f ∙ ap (leap_landing b.second) p ∙ leap_landing-before b.second (pos (place a)) low ∙ home))
 
 -- back to a leap time from another of the same second
 land-distance_leap : (a b : TimeOfDay) → IsTime a → IsTime b → IsLeap a → IsLeap b → a.second ≡ b.second → land b (distance a b) ≡ landing_of a

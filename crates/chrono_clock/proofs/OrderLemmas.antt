@@ -1,9 +1,10 @@
 -- Lemmas on the order of a start and its landing: a move forward ends later, and a move back earlier.
 use Rattle.std.proofs.Common.{◌≡◌, ℕ, ◌+◌, ◌*◌, ◌<◌, ◌⊎◌, ⊎_elim, inl, inr, ℤ, pos, ◌+ℤ◌, ◌-ℤ◌, ◌*ℤ◌, ◌<ℤ◌, ◌≤ℤ◌, arith, refl, subst, sym}
 use Rattle.std.proofs.lemmas.Int.{by_lt_z}
+use Rattle.chrono_text.proofs.DigitLemmas.{by_size}
 use Rattle.chrono_clock.specs.Time.{TimeOfDay, Landing, IsTime, IsEarlierLanding, landing_of, place, plain_landing, land}
 use Rattle.chrono_clock.specs.Signed.{signed}
-use Rattle.chrono_clock.proofs.TimeLemmas.{by_order, by_leap, by_parts, land-plain, land-leap, leap_landing-before, leap_landing-inside, leap_landing-past}
+use Rattle.chrono_clock.proofs.TimeLemmas.{by_leap, by_parts, land-plain, land-leap, leap_landing-before, leap_landing-inside, leap_landing-past}
 use Rattle.chrono_clock.proofs.LandingLemmas.{place-plain_landing}
 
 -- a plain landing lies in its day, and in no leap second
@@ -19,9 +20,8 @@ plain-forward t q h i k =
     ⊎_elim inl
     (λ e. inr (
       e,
-      by_order (plain_landing q).time.second t.second
-          (λ a. by_order t.second (plain_landing q).time.second (λ b. inr (omega arith, omega (arith, signed))) (λ b. absurd (omega (arith, signed))))
-          (λ a. inl a),
+      by_size (plain_landing q).time.second t.second inl
+          (λ a. by_size t.second (plain_landing q).time.second (λ b. absurd (omega (arith, signed))) (λ b. inr (omega arith, omega (arith, signed)))),
     ))
     (at_day (place (plain_landing q).time) (plain_landing q).day w (omega arith))
 
@@ -34,9 +34,7 @@ plain-next_second t q h =
     ⊎_elim inl
     (λ e. inr (
       e,
-      by_order (plain_landing q).time.second t.second
-          (λ a. absurd (omega (arith, signed)))
-          (λ a. inl a),
+      by_size (plain_landing q).time.second t.second inl (λ a. absurd (omega (arith, signed))),
     ))
     (at_day (place (plain_landing q).time) (plain_landing q).day w (omega arith))
 
@@ -49,9 +47,8 @@ plain-backward t q h k i =
     ⊎_elim inl
     (λ e. inr (
       e,
-      by_order t.second (plain_landing q).time.second
-          (λ a. by_order (plain_landing q).time.second t.second (λ b. inr (omega arith, omega (arith, signed))) (λ b. absurd (omega (arith, signed))))
-          (λ a. inl a),
+      by_size t.second (plain_landing q).time.second inl
+          (λ a. by_size (plain_landing q).time.second t.second (λ b. absurd (omega (arith, signed))) (λ b. inr (omega arith, omega (arith, signed)))),
     ))
     (at_day (place (plain_landing q).time) (plain_landing q).day w)
 

@@ -4,8 +4,8 @@ use Rattle.std.specs.Iterator.Runs.{SomeRun, WholeRun, EachRunFrom, IsCopiedRun}
 use Rattle.std.proofs.lemmas.List.{take-append-le}
 use Rattle.std.proofs.Math.Seq.{take-length}
 use Rattle.std.proofs.lemmas.List.Sums.{fold-append}
+use Rattle.chrono_text.proofs.DigitLemmas.{by_size}
 use Rattle.chrono_clock.specs.Duration.{IsDuration, total, StaysInRange}
-use Rattle.chrono_clock.proofs.TimeLemmas.{by_order}
 
 pub total-append_one : (xs : List ℤ) (x : ℤ) → total (xs ++ x ∷ []) ≡ total xs +ℤ x
 total-append_one xs x = fold-append (λ sum y. sum +ℤ y) (pos 0) xs (x ∷ [])
@@ -13,13 +13,13 @@ total-append_one xs x = fold-append (λ sum y. sum +ℤ y) (pos 0) xs (x ∷ [])
 pub StaysInRange-append_one : (xs : List ℤ) (x : ℤ) → StaysInRange xs → IsDuration (total xs +ℤ x) → StaysInRange (xs ++ x ∷ [])
 StaysInRange-append_one xs x stays in_range k h =
     let P : List ℤ → Type 0 = λ ys. IsDuration (total ys) in
-    by_order k (length xs)
-    (λ a. subst P (sym (take-append-le k xs (x ∷ []) a)) (stays k a))
+    by_size k (length xs)
     (λ a.
     let whole : k ≡ length (xs ++ x ∷ []) = omega (arith, length-append xs (x ∷ [])) in
     let all : take k (xs ++ x ∷ []) ≡ xs ++ x ∷ [] = ap (λ n. take n (xs ++ x ∷ [])) whole ∙ take-length (xs ++ x ∷ []) in
     let D : ℤ → Type 0 = IsDuration in
     subst P (sym all) (subst D (sym (total-append_one xs x)) in_range))
+    (λ a. subst P (sym (take-append-le k xs (x ∷ []) a)) (stays k a))
 
 pub StaysInRange-none : StaysInRange []
 StaysInRange-none zero h = lit≤ tt

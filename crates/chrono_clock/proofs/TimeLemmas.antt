@@ -1,20 +1,16 @@
 -- Lemmas on times of day: leap and plain ones, and the three parts of a leap second's line.
-use Rattle.std.proofs.Common.{◌≡◌, ℕ, ◌+◌, ◌*◌, ◌<◌, ◌≤◌, zero, suc, true, false, ℤ, pos, ◌+ℤ◌, ◌-ℤ◌, ◌<ℤ◌, ◌≤ℤ◌, arith, refl, unsigned_abs}
-use Rattle.std.specs.Int.RustNames.{int_lt}
+use Rattle.std.proofs.Common.{◌≡◌, ℕ, ◌+◌, ◌*◌, true, false, ℤ, pos, ◌+ℤ◌, ◌-ℤ◌, ◌<ℤ◌, ◌≤ℤ◌, arith, refl, unsigned_abs}
+use Rattle.std.specs.Int.RustNames.{int_le, int_lt}
 use Rattle.std.proofs.lemmas.Int.{ints, by_lt_z}
+use Rattle.chrono_text.proofs.DigitLemmas.{by_size}
 use Rattle.chrono_clock.specs.Time.{TimeOfDay, IsLeap, IsPlain, is_leap, place, plain_landing, leap_landing, land}
 use Rattle.chrono_clock.specs.Signed.{signed}
 
 -- ---- cases
 
-pub by_order : {P : Type 0} (m n : ℕ) → (m ≤ n → P) → (n < m → P) → P
-by_order zero n f g = f (omega arith)
-by_order (suc m) zero f g = g (omega arith)
-by_order (suc m) (suc n) f g = by_order m n (λ h. f (omega arith)) (λ h. g (omega arith))
-
 -- a time is leap or plain
 pub by_leap : {P : Type 0} (t : TimeOfDay) → (IsPlain t → P) → (IsLeap t → P) → P
-by_leap t plain leap = by_order 1_000_000_000 t.fraction leap plain
+by_leap t plain leap = by_size 1_000_000_000 t.fraction plain leap
 
 -- a point lies before, inside or past the second after s
 pub by_parts : {P : Type 0} (p : ℤ) (s : ℕ) → (p <ℤ pos ((s + 1) * 1_000_000_000) → P) → (pos ((s + 1) * 1_000_000_000) ≤ℤ p → p <ℤ pos ((s + 2) * 1_000_000_000) → P) → (pos ((s + 2) * 1_000_000_000) ≤ℤ p → P) → P
@@ -44,11 +40,18 @@ pub land-leap : (t : TimeOfDay) (x : ℤ) → IsLeap t → land t x ≡ leap_lan
 unfolding land
 land-leap t x h = let e = is_leap-leap t h in rw e refl
 
+-- the tests of two numbers in order
 pub int_lt-below : (a b : ℤ) → a <ℤ b → int_lt a b ≡ true
 int_lt-below a b h = grind (arith, ints)
 
 pub int_lt-above : (a b : ℤ) → b ≤ℤ a → int_lt a b ≡ false
 int_lt-above a b h = grind (arith, ints)
+
+pub int_le-below : (a b : ℤ) → a ≤ℤ b → int_le a b ≡ true
+int_le-below a b h = grind (arith, ints)
+
+pub int_le-above : (a b : ℤ) → b <ℤ a → int_le a b ≡ false
+int_le-above a b h = grind (arith, ints)
 
 pub leap_landing-before : (s : ℕ) (p : ℤ) → p <ℤ pos ((s + 1) * 1_000_000_000) → leap_landing s p ≡ plain_landing p
 leap_landing-before s p h = rw (int_lt-below p (pos ((s + 1) * 1_000_000_000)) h) refl
