@@ -13,8 +13,8 @@ use Rattle.chrono_calendar.proofs.Signed.{signed}
 use Rattle.chrono_calendar.proofs.Tests.{passes_below, passes_below-at}
 use Rattle.chrono_calendar.proofs.Names.{day_number-lt_year, ordinal_name_of-number}
 use Rattle.chrono_calendar.proofs.NamedDates.{calendar_name-exists, number-calendar_name}
-use Rattle.chrono_calendar.proofs.Order.{month_ends}
-use Rattle.chrono_calendar.proofs.Months.{IsMonthAndDay, month_length_in-bounds, month_of_ordinal-exists}
+use Rattle.chrono_calendar.proofs.Order.{month_ends, named_in_year}
+use Rattle.chrono_calendar.proofs.Months.{IsMonthAndDay, month_length_in-bounds}
 use Rattle.chrono_calendar.proofs.MonthOrder.{before_month, day_at-exists, month_index-parts, month_of-range}
 use Rattle.chrono_calendar.proofs.MonthMoveLaws.{month_move-parts}
 use Rattle.chrono_calendar.proofs.WholeYears.{place, years_counted, years_between-None, years_between-Some}
@@ -111,22 +111,19 @@ ordinal-after leap p q m d o h g first last le =
       ]
     ]
 
-named_in : (n : ℤ) → IsMonthAndDay (is_leap_year (year_of n)) (month_of n) (day_of n) (ordinal_of n)
-named_in n = month_of_ordinal-exists (is_leap_year (year_of n)) (ordinal_of n) (ordinal_name_of-number n).exists
-
 day_of-small : (n : ℤ) → (1 ≤ day_of n) × (day_of n < 32)
 day_of-small n = omega (arith, (calendar_name-exists n).1, month_length_in-bounds (is_leap_year (year_of n)) (month_of n))
 
 before_birthday : (n base : ℤ) (k : ℕ) → year_of n ≡ year_of base +ℤ pos k → place n < place base → n <ℤ birthday base k
 before_birthday n base k e lt =
     let day = day_of-small base in
-    let less = ordinal-before (is_leap_year (year_of n)) (month_of n) (day_of n) (month_of base) (day_of base) (ordinal_of n) (named_in n) (month_of-range base) day.0 day.1 lt in
+    let less = ordinal-before (is_leap_year (year_of n)) (month_of n) (day_of n) (month_of base) (day_of base) (ordinal_of n) (named_in_year n) (month_of-range base) day.0 day.1 lt in
     rw (← e) (omega (arith, signed, less, (ordinal_name_of-number n).number))
 
 from_birthday : (n base : ℤ) (k : ℕ) → year_of n ≡ year_of base +ℤ pos k → place base ≤ place n → birthday base k ≤ℤ n
 from_birthday n base k e le =
     let day = day_of-small base in
-    let more = ordinal-after (is_leap_year (year_of n)) (month_of n) (day_of n) (month_of base) (day_of base) (ordinal_of n) (named_in n) (month_of-range base) day.0 (day_of-longest base) le in
+    let more = ordinal-after (is_leap_year (year_of n)) (month_of n) (day_of n) (month_of base) (day_of base) (ordinal_of n) (named_in_year n) (month_of-range base) day.0 (day_of-longest base) le in
     rw (← e) (omega (arith, signed, more, (ordinal_name_of-number n).number))
 
 -- ---- how many have come

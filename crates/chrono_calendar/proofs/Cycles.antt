@@ -47,15 +47,12 @@ flags_of_year-in_range y = (omega (arith, flags_of_year-parts y, leap_day-bound 
 
 -- ---- the names of the day 400 years on
 
-pub ordinal_name-again : (n m : ℤ) → m ≡ n +ℤ pos 146_097 → (year_of m ≡ year_of n +ℤ pos 400) × (ordinal_of m ≡ ordinal_of n)
-ordinal_name-again n m e =
-    let named = ordinal_name_of-number n in
-    let y = year_of n in
-    let later : ℤ = y +ℤ pos 400 in
-    let cycle : later ≡ pos 1 *ℤ pos 400 +ℤ y = omega (arith, signed) in
-    let number : day_number_of_yo later (ordinal_of n) ≡ m = omega (arith, signed, named.number, days_before_year-shift (pos 1) later y cycle) in
-    let exists : IsOrdinalName later (ordinal_of n) = (named.exists.0, omega (arith, named.exists.1, year_length-shift (pos 1) later y cycle)) in
-    (year_of-number m later (ordinal_of n) number exists, ordinal_of-number m later (ordinal_of n) number exists)
+-- 400 years on, a year begins so many days later, and is as long
+pub days_before_year-again : (y z : ℤ) → z ≡ y +ℤ pos 400 → days_before_year z ≡ days_before_year y +ℤ pos 146_097
+days_before_year-again y z e = omega (arith, signed, days_before_year-closed y, days_before_year-closed z)
+
+pub year_length-again : (y z : ℤ) → z ≡ y +ℤ pos 400 → year_length z ≡ year_length y
+year_length-again y z e = year_length-shift (pos 1) z y (omega (arith, signed, e))
 
 -- years with so many days are leap, or not, alike
 abbrev length_in : Bool → ℕ
@@ -67,11 +64,22 @@ same_kind true false e = absurd (omega (arith, e))
 same_kind false true e = absurd (omega (arith, e))
 same_kind false false e = refl
 
+pub is_leap_year-again : (y z : ℤ) → z ≡ y +ℤ pos 400 → is_leap_year z ≡ is_leap_year y
+is_leap_year-again y z e = same_kind (is_leap_year z) (is_leap_year y) (year_length-again y z e)
+
+pub ordinal_name-again : (n m : ℤ) → m ≡ n +ℤ pos 146_097 → (year_of m ≡ year_of n +ℤ pos 400) × (ordinal_of m ≡ ordinal_of n)
+ordinal_name-again n m e =
+    let named = ordinal_name_of-number n in
+    let y = year_of n in
+    let later : ℤ = y +ℤ pos 400 in
+    let number : day_number_of_yo later (ordinal_of n) ≡ m = omega (arith, signed, named.number, days_before_year-again y later refl) in
+    let exists : IsOrdinalName later (ordinal_of n) = (named.exists.0, omega (arith, named.exists.1, year_length-again y later refl)) in
+    (year_of-number m later (ordinal_of n) number exists, ordinal_of-number m later (ordinal_of n) number exists)
+
 pub calendar_name-again : (n m : ℤ) → m ≡ n +ℤ pos 146_097 → (month_of m ≡ month_of n) × (day_of m ≡ day_of n)
 calendar_name-again n m e =
     let again = ordinal_name-again n m e in
-    let lengths = year_length-shift (pos 1) (year_of m) (year_of n) (omega (arith, signed, again.0)) in
-    let kind = same_kind (is_leap_year (year_of m)) (is_leap_year (year_of n)) lengths in (
+    let kind = is_leap_year-again (year_of n) (year_of m) again.0 in (
       ap (λ l. month_of_ordinal l (ordinal_of m)) kind ∙ ap (month_of_ordinal (is_leap_year (year_of n))) again.1,
       ap (λ l. day_of_ordinal l (ordinal_of m)) kind ∙ ap (day_of_ordinal (is_leap_year (year_of n))) again.1,
     )

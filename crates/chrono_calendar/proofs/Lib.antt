@@ -20,6 +20,7 @@ pub mod MonthOrder
 pub mod MonthMoveLaws
 pub mod MonthDays
 pub mod Moves
+pub mod LastWeekdays
 pub mod FirstOn
 pub mod FirstWhere
 pub mod CountWhere

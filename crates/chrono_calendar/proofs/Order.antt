@@ -81,7 +81,7 @@ ordinal_cmp-numbers n m =
     (λ e. ranked_by _ _ _ _ _ _ (nat_cmp (ordinal_of n) (ordinal_of m)) (ranked (ordinal_of n) (ordinal_of m) (nat_cmp (ordinal_of n) (ordinal_of m)) refl) (same_year n m e).0 (same_year n m e).1 (same_year m n (sym e)).0))
 
 -- the month and the day of the month of a day, in its year
-named_in_year : (n : ℤ) → IsMonthAndDay (is_leap_year (year_of n)) (month_of n) (day_of n) (ordinal_of n)
+pub named_in_year : (n : ℤ) → IsMonthAndDay (is_leap_year (year_of n)) (month_of n) (day_of n) (ordinal_of n)
 named_in_year n = month_of_ordinal-exists (is_leap_year (year_of n)) (ordinal_of n) (ordinal_name_of-number n).exists
 
 -- two days of one year, each with its month and its day there

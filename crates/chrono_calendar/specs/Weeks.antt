@@ -2,7 +2,7 @@
 use Rattle.std.specs.Prelude.{ℕ, ◌+◌, ◌-◌, ◌*◌, ◌/◌, Bool, ◌&&◌, ◌==◌, nat_le, if◌then◌else◌, slice_get, ℤ, pos, neg_ℤ, ◌+ℤ◌, ◌-ℤ◌, ◌≤ℤ◌, unsigned_abs, List, Option, Some, None}
 use Rattle.std.specs.Int.{int_rem_euclid}
 use Rattle.std.specs.List.{filter, range_with_len}
-use Rattle.std.specs.Option.{option_map}
+use Rattle.std.specs.Option.{option_map, option_or}
 use Rattle.std.specs.Ordering.{int_eq}
 use Rattle.chrono_units.specs.Years.{month_length, is_year}
 use Rattle.chrono_units.specs.declared.weekday.Weekday.{Weekday}
@@ -74,3 +74,7 @@ date_of_nth_weekday y m weekday n =
     if is_year y && (nat_le 1 m && nat_le m 12) && nat_le 1 n
     then option_map (λ d. day_number_of_ymd y m d) (slice_get (days_with_weekday y m weekday) (n - 1))
     else None
+
+-- the last day of the month m of the year y that has the weekday, if the library has that month: the fifth, or the fourth if there is no fifth
+abbrev pub date_of_last_weekday : ℤ → ℕ → Weekday → Option ℤ
+date_of_last_weekday y m weekday = option_or (date_of_nth_weekday y m weekday 5) (date_of_nth_weekday y m weekday 4)

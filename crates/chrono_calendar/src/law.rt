@@ -15,7 +15,7 @@ ghost use Rattle.chrono_calendar.specs.MonthMoves.{InSameMonth, MonthMovesAddUp,
 ghost use Rattle.chrono_calendar.specs.NameLaws.{DatesAreDaysOfYears, DatesHaveOneCalendarName, DatesHaveOneIsoName, DatesHaveOneNumber, DatesHaveOneOrdinalName, WeeksHaveOneFirstDay, iso_cmp};
 ghost use Rattle.chrono_calendar.specs.Order.{calendar_cmp, ordinal_cmp};
 ghost use Rattle.chrono_calendar.specs.Recurrence.{IsFirstWhere, IsLeapDay, IsWeekly, NoneWhere, count_between, count_where, date_every, date_on, dates_before, dates_left, first_date, first_where, is_on, past_last_date};
-ghost use Rattle.chrono_calendar.specs.Weeks.{date_of_iso, date_of_nth_weekday, iso_week_of, iso_year_of, week_first_of, weekday_of};
+ghost use Rattle.chrono_calendar.specs.Weeks.{date_of_iso, date_of_last_weekday, date_of_nth_weekday, iso_week_of, iso_year_of, week_first_of, weekday_of};
 ghost use Rattle.chrono_calendar.specs.YearsBetween.{birthday, years_between};
 
 use crate::ends::{FIRST_DAY, LAST_DAY};
@@ -303,7 +303,8 @@ pub fn known_weeks()
 /// One month takes 31 January to 28 February in the year 1, and to 29 February in the year 4. One month back takes 31
 /// March to 28 February, and 31 January to 31 December. Twelve months take a leap day to 28 February. From 1 January of
 /// the year 1 the last month is 3,145,703 months later. From 29 February of the year 4 to 28 February of the year 5 is
-/// no whole year, and to the day after passes one. January of the year 1 has four Fridays, the third on the 19th.
+/// no whole year, and to the day after passes one. January of the year 1 has four Fridays, the third on the 19th and
+/// the last on the 26th. Its last Monday is the fifth, on the 29th.
 pub fn known_moves()
     ensures to_february { month_move (pos 31) (pos 1) ≡ Some (pos 59) }
     ensures to_leap_day { month_move (pos 1126) (pos 1) ≡ Some (pos 1155) }
@@ -317,6 +318,8 @@ pub fn known_moves()
     ensures before { years_between (pos 1154) (pos 1155) ≡ None }
     ensures third_friday { date_of_nth_weekday (pos 1) 1 Fri 3 ≡ Some (pos 19) }
     ensures no_fifth_friday { date_of_nth_weekday (pos 1) 1 Fri 5 ≡ None }
+    ensures last_friday { date_of_last_weekday (pos 1) 1 Fri ≡ Some (pos 26) }
+    ensures last_monday { date_of_last_weekday (pos 1) 1 Mon ≡ Some (pos 29) }
 {}
 
 /// Known dates at intervals, each by its day number.

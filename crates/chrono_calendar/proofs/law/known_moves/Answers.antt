@@ -52,3 +52,11 @@ returns-clause-third_friday c = refl
 pub returns-clause-no_fifth_friday : goal.returns-clause-no_fifth_friday
 unfolding date_of_nth_weekday days_with_weekday days_before_year days_of_years days_of_months_in
 returns-clause-no_fifth_friday c = refl
+
+pub returns-clause-last_friday : goal.returns-clause-last_friday
+unfolding date_of_nth_weekday days_with_weekday days_before_year days_of_years days_of_months_in
+returns-clause-last_friday c = refl
+
+pub returns-clause-last_monday : goal.returns-clause-last_monday
+unfolding date_of_nth_weekday days_with_weekday days_before_year days_of_years days_of_months_in
+returns-clause-last_monday c = refl
