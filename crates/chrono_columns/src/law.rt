@@ -7,7 +7,8 @@ ghost use Rattle.chrono_columns.specs.Columns.{IsTextEntry, date_entry, day_entr
 use chrono_datetime::law;
 
 /// A missing date has no fields and no text. No date is a day or a month later than it, and its distance is missing.
-#[tactic(auto, unfolding(chrono_calendar::specs::Days::date_of_day, crate::specs::Columns::year_entry, crate::specs::Columns::ordinal_entry, crate::specs::Columns::month_entry, crate::specs::Columns::day_entry, crate::specs::Columns::weekday_entry, crate::specs::Columns::iso_year_entry, crate::specs::Columns::iso_week_entry, crate::specs::Columns::later_entry, crate::specs::Columns::months_later_entry, crate::specs::Columns::distance_entry, crate::specs::Columns::unix_days_entry, crate::specs::Columns::text_entry))]
+/// No weekday comes after it.
+#[tactic(auto, unfolding(chrono_calendar::specs::Days::date_of_day, crate::specs::Columns::year_entry, crate::specs::Columns::ordinal_entry, crate::specs::Columns::month_entry, crate::specs::Columns::day_entry, crate::specs::Columns::weekday_entry, crate::specs::Columns::iso_year_entry, crate::specs::Columns::iso_week_entry, crate::specs::Columns::later_entry, crate::specs::Columns::months_later_entry, crate::specs::Columns::distance_entry, crate::specs::Columns::first_on_entry, crate::specs::Columns::unix_days_entry, crate::specs::Columns::text_entry))]
 pub fn none_comes_of_none()
     ensures year { year_entry (neg_ℤ (pos 2_147_483_648)) ≡ neg_ℤ (pos 2_147_483_648) }
     ensures ordinal { ordinal_entry (neg_ℤ (pos 2_147_483_648)) ≡ 0 }
@@ -21,12 +22,14 @@ pub fn none_comes_of_none()
     ensures distance { distance_entry (neg_ℤ (pos 2_147_483_648)) (pos 1) ≡ neg_ℤ (pos 2_147_483_648) }
     ensures unix_days { unix_days_entry (neg_ℤ (pos 2_147_483_648)) ≡ neg_ℤ (pos 9_223_372_036_854_775_808) }
     ensures text { text_entry (neg_ℤ (pos 2_147_483_648)) ≡ replicate 10 0 }
+    ensures first_on { first_on_entry (single Tue) (neg_ℤ (pos 2_147_483_648)) ≡ neg_ℤ (pos 2_147_483_648) }
     ensures distance_to_none { distance_entry (pos 1) (neg_ℤ (pos 2_147_483_648)) ≡ neg_ℤ (pos 2_147_483_648) }
 {}
 
 /// Known dates: 1 January of year 1 is a Monday, 1970 begins at 0 days, and 2023 has no 29 February as 2024 has.
 ///
 /// No date is a day after the last one, nor a day before the first one, nor so many days after 1970.
+/// Nor is one a day before what is no date.
 #[tactic(auto, unfolding(chrono_calendar::specs::Days::date_of_day, chrono_calendar::specs::Days::date_of_ymd, crate::specs::Columns::weekday_entry, crate::specs::Columns::date_entry, crate::specs::Columns::later_entry, crate::specs::Columns::distance_entry, crate::specs::Columns::unix_date_entry, crate::specs::Columns::unix_days_entry))]
 pub fn known_entries()
     ensures weekday { weekday_entry (pos 1) ≡ 1 }
@@ -41,6 +44,7 @@ pub fn known_entries()
     ensures sunday { weekday_entry (pos 7) ≡ 7 }
     ensures past_the_last { later_entry (pos 1) (pos 95_745_399) ≡ neg_ℤ (pos 2_147_483_648) }
     ensures before_the_first { later_entry (neg_ℤ (pos 1)) (neg_ℤ (pos 95_746_129)) ≡ neg_ℤ (pos 2_147_483_648) }
+    ensures before_no_date { later_entry (neg_ℤ (pos 1)) (pos 95_745_400) ≡ neg_ℤ (pos 2_147_483_648) }
     ensures unix_past_the_last { unix_date_entry (pos 95_026_237) ≡ neg_ℤ (pos 2_147_483_648) }
 {}
 
@@ -48,13 +52,14 @@ pub fn known_entries()
 ///
 /// A month takes 31 January of the year 4 to 29 February. A month back takes 31 March of the year 1 to 28 February.
 /// From 1 January of the year 1, 3,145,704 months lead past the last date.
-/// The last date is a Monday, and the first one from six days before it on. No Tuesday comes after it.
+/// The last date is a Monday, and the first one from six days before it on, and from itself on. No Tuesday comes after it.
 #[tactic(auto, unfolding(chrono_calendar::specs::Days::date_of_day, crate::specs::Columns::months_later_entry, crate::specs::Columns::first_on_entry))]
 pub fn known_moves()
     ensures month { months_later_entry (pos 1) (pos 1_126) ≡ pos 1_155 }
     ensures month_back { months_later_entry (neg_ℤ (pos 1)) (pos 90) ≡ pos 59 }
     ensures no_month { months_later_entry (pos 3_145_704) (pos 1) ≡ neg_ℤ (pos 2_147_483_648) }
     ensures monday { first_on_entry (single Mon) (pos 95_745_393) ≡ pos 95_745_399 }
+    ensures monday_itself { first_on_entry (single Mon) (pos 95_745_399) ≡ pos 95_745_399 }
     ensures no_tuesday { first_on_entry (single Tue) (pos 95_745_399) ≡ neg_ℤ (pos 2_147_483_648) }
 {
     law::known_moves();
@@ -84,6 +89,7 @@ pub fn known_texts()
     ensures last { text_entry (pos 3_652_059) ≡ codes "9999-12-31" }
     ensures after_last { text_entry (pos 3_652_060) ≡ replicate 10 0 }
     ensures name { name_text_entry (pos 2_024) 2 29 ≡ codes "2024-02-29" }
+    ensures late_name { name_text_entry (pos 10_000) 1 1 ≡ replicate 10 0 }
 {}
 
 /// Known entries of texts: 29 February 2024 is a date, and 29 February 1900 is none.
