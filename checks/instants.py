@@ -25,6 +25,7 @@ EPOCH = datetime.datetime(1970, 1, 1, tzinfo=UTC)
 DAY = 86_400
 FIRST, LAST = -8_334_601_228_800, 8_210_266_876_799
 NANOS = 10**9
+OUT_OF_RANGE = "the date is not from -262143-01-01 to 262142-12-31"
 # How many lines one run of the program answers.
 PART = 10_000
 PROGRAM = r'''//! Answers questions on instants, a line each.
@@ -305,55 +306,60 @@ def read_mail(told):
     return f"{text(secs, leap * NANOS)}{offset_text(offset)} {secs - offset}" if FIRST <= secs - offset <= LAST else None
 
 
+def in_common(word, names):
+    """How many bytes a word begins with as one of the names does, in letters of any case."""
+    return max(len(os.path.commonprefix((word.upper(), name.upper()))) for name in names)
+
+
 def mail_fault(told):
-    """Why a text is none of RFC 2822, and where the first word begins that is wrong."""
+    """Why a text is none of RFC 2822: the first byte at which no text goes on so, or the first number that is out of range."""
     pieces = [*mail_pieces(told), ("end", "", len(told))]
     at = 0
     fault = lambda place, words="not of this form": f"byte {place}: {words}"  # noqa: E731
 
-    def after_gap():
-        """Passes over a gap, and says whether there was one. An open comment is one to the end."""
+    def ahead():
+        """The piece behind a gap, which may be there. An open comment is one to the end."""
         nonlocal at
-        was = pieces[at][0] in ("g", "open")
-        at += was
-        return was
+        at += pieces[at][0] == "g"
+        return pieces[at] if pieces[at][0] != "open" else ("open", "", len(told))
 
-    def word(sign=None, spaced=False):
-        """The next word and its place, behind a gap that has to be there or may be, or behind a sign. The empty word if there is none."""
+    def word():
+        """The word behind a gap and its place, or the empty word and where one had to be."""
         nonlocal at
-        start = at
-        apart = after_gap()
-        place = pieces[at][2]
-        if sign and pieces[at][0] == sign:
-            at += 1
-            after_gap()
-            place = pieces[at][2]
-        elif sign:
-            at = start
-            return "", place
-        if pieces[at][0] == "w" and (apart or not spaced):
-            at += 1
-            return pieces[at - 1][1], place
-        at = start
-        return "", place
+        kind, piece, place = ahead()
+        at += kind == "w"
+        return (piece if kind == "w" else ""), place
 
-    weekday, weekday_at = word()
-    after_gap()
-    if weekday and pieces[at][0] == ",":
-        at += 1
+    def passed(sign):
+        """Passes over a sign behind a gap, if it is there."""
+        nonlocal at
+        there = ahead()[0] == sign
+        at += there
+        return there
+
+    def number_fault(most, name):
+        digits, place = word()
+        fits = len(re.match(r"\d{0,2}", digits)[0])
+        if fits != 2 or len(digits) != 2:
+            return fault(place + fits)
+        return fault(place, f"the {name} is above {most}") if int(digits) > most else None
+
+    weekday, (kind, piece, weekday_at) = "", ahead()
+    if kind == "w" and piece[0].isalpha():
+        weekday, _ = word()
         if weekday.title() not in WEEKDAYS:
-            return fault(weekday_at, "an unknown name")
-    else:
-        weekday, at = "", 0
+            return fault(weekday_at + in_common(weekday, WEEKDAYS), "an unknown name")
+        if not passed(","):
+            return fault(ahead()[2])
     day, day_at = word()
     if not re.fullmatch(r"\d{1,2}", day):
-        return fault(day_at)
-    month, place = word(spaced=True)
+        return fault(day_at + len(re.match(r"\d{0,2}", day)[0]))
+    month, place = word()
     if month.title() not in MONTHS:
-        return fault(place, "an unknown name" if month else "not of this form")
-    year, place = word(spaced=True)
+        return fault(place + in_common(month, MONTHS), "an unknown name")
+    year, place = word()
     if not re.fullmatch(r"\d\d+", year):
-        return fault(place)
+        return fault(place + len(re.match(r"\d*", year)[0]))
     meant = int(year) + {2: 2000 if int(year) < 50 else 1900, 3: 1900}.get(len(year), 0)
     if meant > 262_142:
         return fault(place, "the year is not from -262143 to 262142")
@@ -362,20 +368,22 @@ def mail_fault(told):
         return fault(day_at, "the day is 0" if int(day) == 0 else f"the month has {length_of(meant, month)} days")
     if weekday and datetime.date(2000 + meant % 400, month, int(day)).weekday() != WEEKDAYS.index(weekday.title()):
         return fault(weekday_at)
-    for name, sign, most in (("hour", None, 23), ("minute", ":", 59), ("second", ":", 60)):
-        digits, place = word(sign, spaced=True) if sign is None else word(sign)
-        if name == "second" and not digits:
-            continue
-        if not re.fullmatch(r"\d\d", digits):
-            return fault(place)
-        if int(digits) > most:
-            return fault(place, f"the {name} is above {most}")
-    zone, place = word(spaced=True)
-    if zone.upper() not in ZONES and not re.fullmatch(r"[A-IK-Za-ik-z]|[+-]([01]\d|2[0-3])[0-5]\d", zone):
-        return fault(place)
-    if after_gap() and pieces[at - 1][0] == "open" or pieces[at][0] != "end":
-        return fault(pieces[at][2])
-    return fault(0, "the date is not from -262143-01-01 to 262142-12-31")
+    wrong = number_fault(23, "hour") or (number_fault(59, "minute") if passed(":") else fault(ahead()[2]))
+    if wrong := wrong or (number_fault(60, "second") if passed(":") else None):
+        return wrong
+    zone, place = word()
+    if zone[:1] in ("+", "-"):
+        fits = len(re.match(r"\d{0,4}", zone[1:])[0])
+        if fits != 4 or len(zone) != 5:
+            return fault(place + 1 + fits)
+        if int(zone[1:3]) > 23:
+            return fault(place + 1, "the hour is above 23")
+        if int(zone[3:]) > 59:
+            return fault(place + 3, "the minute is above 59")
+    elif zone.upper() not in ZONES and not re.fullmatch("[A-IK-Za-ik-z]", zone):
+        return fault(place + in_common(zone, (*ZONES, *"ABCDEFGHIKLMNOPQRSTUVWXYZ")), "an unknown name")
+    kind, _, place = ahead()
+    return fault(0, OUT_OF_RANGE) if kind == "end" else fault(place)
 
 
 def near_mail(draw):

@@ -9,3 +9,4 @@ mod MailLemmas
 mod MailWordLemmas
 mod MailStampLemmas
 mod MailTextLemmas
+mod NameLemmas

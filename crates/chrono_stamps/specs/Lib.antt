@@ -4,3 +4,4 @@ pub mod WrittenStamps
 pub mod MailWords
 pub mod Rfc2822
 pub mod StampErrors
+pub mod MailErrors

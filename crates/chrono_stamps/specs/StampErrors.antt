@@ -17,11 +17,11 @@ use Rattle.chrono_stamps.specs.Rfc3339.{IsStampSeparator}
 abbrev pub later_by : ℕ → ReadError → ReadError
 later_by bytes e = error_at e.cause (e.byte + bytes)
 
--- the hour that the first two digits write
-abbrev pub hour_written : List ℕ → ℕ
-hour_written [] = 0
-hour_written (tens ∷ []) = 0
-hour_written (tens ∷ ones ∷ more) = 10 * (tens - byte "0") + (ones - byte "0")
+-- the number that the first two digits write
+abbrev pub two_written : List ℕ → ℕ
+two_written [] = 0
+two_written (tens ∷ []) = 0
+two_written (tens ∷ ones ∷ more) = 10 * (tens - byte "0") + (ones - byte "0")
 
 -- what is wrong behind the sign of an offset: the form, or else the hour if it is above 23, or else the minute
 unfoldable pub minutes_error : List ℕ → ReadError
@@ -29,7 +29,7 @@ minutes_error text =
     let fit = fitting (codes "dd:dd") text in
     if length text == 5
     then (if fit == 5
-    then (if nat_lt 23 (hour_written text) then error_at HourAbove23 0 else error_at MinuteAbove59 3)
+    then (if nat_lt 23 (two_written text) then error_at HourAbove23 0 else error_at MinuteAbove59 3)
     else error_at NotThisForm fit)
     else error_at NotThisForm fit
 

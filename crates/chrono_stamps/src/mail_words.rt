@@ -52,7 +52,7 @@ pub(crate) fn mail_words(text: &[u8]) -> MailWords<'_>
 }
 
 // The word in front of a comma, and what stands behind the comma. Where there is none, nothing and the text.
-pub(crate) fn comma_word(text: &[u8]) -> (&[u8], &[u8])
+fn comma_word(text: &[u8]) -> (&[u8], &[u8])
     ensures read { 0 < length result.0.now → IsCommaWord text.now result.0.now result.1.now }
     ensures every { (word rest : List ℕ) → IsCommaWord text.now word rest
         → (result.0.now ≡ word) × (result.1.now ≡ rest) }
@@ -66,7 +66,7 @@ pub(crate) fn comma_word(text: &[u8]) -> (&[u8], &[u8])
 }
 
 // The word behind a colon, and what stands behind it. Where there is none, nothing and the text.
-pub(crate) fn colon_word(text: &[u8]) -> (&[u8], &[u8])
+fn colon_word(text: &[u8]) -> (&[u8], &[u8])
     ensures read { 0 < length result.0.now → IsColonWord text.now result.0.now result.1.now }
     ensures every { (word rest : List ℕ) → IsColonWord text.now word rest
         → (result.0.now ≡ word) × (result.1.now ≡ rest) }
@@ -83,7 +83,7 @@ pub(crate) fn colon_word(text: &[u8]) -> (&[u8], &[u8])
 }
 
 // The word behind white space and comments, and what stands behind it. Where there is none, nothing and what stands there.
-pub(crate) fn spaced_word(text: &[u8]) -> (&[u8], &[u8])
+fn spaced_word(text: &[u8]) -> (&[u8], &[u8])
     ensures read { 0 < length result.0.now → IsSpacedWord text.now result.0.now result.1.now }
     ensures every { (word rest : List ℕ) → IsSpacedWord text.now word rest
         → (result.0.now ≡ word) × (result.1.now ≡ rest) }
@@ -142,7 +142,7 @@ pub(crate) fn is_gap(text: &[u8]) -> bool
 }
 
 // How many comments are open behind white space and comments, and what stands there.
-fn gap_end(text: &[u8]) -> (usize, &[u8])
+pub(crate) fn gap_end(text: &[u8]) -> (usize, &[u8])
     ensures depth { result.0 ≡ (gap_end 0 false text.now).0 }
     ensures rest { result.1.now ≡ (gap_end 0 false text.now).1 }
 {

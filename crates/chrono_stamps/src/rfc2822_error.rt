@@ -1,120 +1,463 @@
 //! Why a text is none of RFC 2822, and at which byte.
+ghost use Rattle.std.specs.Prelude.{◌≡◌, ◌≤◌, length, take, Some, None, IfSome, IfNone};
+ghost use Rattle.chrono_datetime.specs.Names.{month_of_letters, weekday_of_letters};
+ghost use Rattle.chrono_reading.specs.DateErrors.{error_at};
+ghost use Rattle.chrono_reading.specs.Fitting.{leading_digits};
+ghost use Rattle.chrono_reading.specs.NameErrors.{month_error, weekday_error};
+ghost use Rattle.chrono_reading.specs.declared.error.ReadCause.TheVariants.{UnknownName};
+ghost use Rattle.chrono_stamps.specs.MailErrors.{begins_with_letter, behind_sign, day_error, error_from_day, error_from_end, error_from_hour, error_from_minute, error_from_month, error_from_second, error_from_year, error_from_zone, error_in, fitting_one, fitting_two, fitting_zone, front_word, is_zone_name, month_word_error, names_day, next_part, number_fault, place, rfc2822_error, weekday_word_error, year_word_error, zone_digits_fault, zone_fault};
 
-use crate::mail_words::{
-    MailWords, colon_word, comma_word, is_gap, skip_gap, spaced_word, split_word,
-};
-use crate::rfc2822_reader::{is_day_of_week, mail_year, mail_zone};
-use crate::rfc3339_error::not_of_form;
+use crate::mail_words::{gap_end, skip_gap, split_word};
+use crate::rfc2822_reader::{hours_behind, mail_year};
+use crate::rfc3339_error::{not_of_form, two_written};
 use chrono_datetime::{Datelike, Month, NaiveDate, Weekday};
-use chrono_reading::{ReadCause, ReadError};
-use chrono_text::{read_count, read_digits, read_two};
+use chrono_reading::{ReadCause, ReadError, fitting_len, read_month, read_weekday};
+use chrono_text::read_digits;
 
-// Why a text is none of RFC 2822: what is wrong with the first of its words that is wrong, and where that word begins.
+// Why a text is none of RFC 2822: what is wrong first, from left to right.
 #[cold]
-pub(crate) fn mail_error(text: &[u8]) -> ReadError {
-    match date_error(text).and_then(|rest| clock_error(text, rest)) {
-        Err(error) => error,
-        // The words are right, but UTC has no date then.
-        Ok(_) => error_at(ReadCause::DateOutOfRange, 0),
+#[tactic(auto, unfolding(crate::specs::MailErrors::rfc2822_error))]
+pub(crate) fn mail_error(text: &[u8]) -> ReadError
+    ensures { result ≡ rfc2822_error text.now }
+{
+    let part = skip_gap(text);
+    if !begins_with_letter(part) {
+        return error_from_day(text, None, part);
+    }
+    let word = front_word(part);
+    let Some(weekday) = Weekday::from_letters(word, 3) else {
+        return error_in(text, part, weekday_word_error(word));
+    };
+    let comma = next_part(part);
+    match behind_sign(b',', comma) {
+        Some(day) => error_from_day(text, Some(weekday), day),
+        None => not_of_form(place(text, comma, 0)),
     }
 }
 
-// What stands behind the date at the front of the text, or what is wrong with the date.
-fn date_error(text: &[u8]) -> Result<&[u8], ReadError> {
-    let (weekday, after_weekday) = comma_word(text);
-    let at_weekday = place(text, text);
-    if !weekday.is_empty() && Weekday::from_letters(weekday, 3).is_none() {
-        return Err(error_at(ReadCause::UnknownName, at_weekday));
+// The error if it is in the day of the month or behind it.
+#[tactic(auto, unfolding(crate::specs::MailErrors::error_from_day))]
+fn error_from_day(text: &[u8], weekday: Option<Weekday>, part: &[u8]) -> ReadError
+    ensures { result ≡ error_from_day text.now weekday part.now }
+{
+    let word = front_word(part);
+    match read_digits(word, 2) {
+        Some(day) => error_from_month(text, weekday, part, day, next_part(part)),
+        None => not_of_form(place(text, part, fitting_len(b"dd", word))),
     }
-    let (word, after_day) = split_word(skip_gap(after_weekday));
-    let at_day = place(text, after_weekday);
-    let day = read_digits(word, 2).ok_or(not_of_form(at_day))?;
-    let (word, after_month) = spaced_word(after_day);
-    let month = Month::from_letters(word).ok_or(month_error(word, place(text, after_day)))?;
-    let (word, after_year) = spaced_word(after_month);
-    let year = mail_year(word).ok_or(year_error(word, place(text, after_month)))?;
-    match NaiveDate::from_ymd_opt(year as i32, month.number_from_month(), day) {
-        Some(date) if is_day_of_week(weekday, date) => Ok(after_year),
-        Some(_) => Err(not_of_form(at_weekday)),
-        None => Err(day_error(year as i32, month, day, at_day)),
+}
+
+// The error if it is in the month or behind it.
+#[tactic(auto, unfolding(crate::specs::MailErrors::error_from_month))]
+fn error_from_month(
+    text: &[u8],
+    weekday: Option<Weekday>,
+    day_part: &[u8],
+    day: u32,
+    part: &[u8],
+) -> ReadError
+    ensures { result ≡ error_from_month text.now weekday day_part.now day part.now }
+{
+    let word = front_word(part);
+    match Month::from_letters(word) {
+        Some(month) => error_from_year(text, weekday, day_part, day, month, next_part(part)),
+        None => error_in(text, part, month_word_error(word)),
+    }
+}
+
+// The error if it is in the year or behind it. The date has to be one, and of that weekday.
+#[tactic(auto, unfolding(crate::specs::MailErrors::error_from_year))]
+fn error_from_year(
+    text: &[u8],
+    weekday: Option<Weekday>,
+    day_part: &[u8],
+    day: u32,
+    month: Month,
+    part: &[u8],
+) -> ReadError
+    ensures { result ≡ error_from_year text.now weekday day_part.now day month part.now }
+{
+    let word = front_word(part);
+    let Some(year) = mail_year(word) else {
+        return error_in(text, part, year_word_error(word));
+    };
+    let Some(date) = NaiveDate::from_ymd_opt(year as i32, month.number_from_month(), day) else {
+        return error_in(text, day_part, day_error(year, month, day));
+    };
+    if !names_day(weekday, date) {
+        return not_of_form(place(text, skip_gap(text), 0));
+    }
+    error_from_hour(text, next_part(part))
+}
+
+// The error if it is in the hour or behind it.
+#[tactic(auto, unfolding(crate::specs::MailErrors::error_from_hour))]
+fn error_from_hour(text: &[u8], part: &[u8]) -> ReadError
+    ensures { result ≡ error_from_hour text.now part.now }
+{
+    if let Some(fault) = number_fault(ReadCause::HourAbove23, 23, front_word(part)) {
+        return error_in(text, part, fault);
+    }
+    let colon = next_part(part);
+    match behind_sign(b':', colon) {
+        Some(minute) => error_from_minute(text, minute),
+        None => not_of_form(place(text, colon, 0)),
+    }
+}
+
+// The error if it is in the minute or behind it.
+#[tactic(auto, unfolding(crate::specs::MailErrors::error_from_minute))]
+fn error_from_minute(text: &[u8], part: &[u8]) -> ReadError
+    ensures { result ≡ error_from_minute text.now part.now }
+{
+    if let Some(fault) = number_fault(ReadCause::MinuteAbove59, 59, front_word(part)) {
+        return error_in(text, part, fault);
+    }
+    let next = next_part(part);
+    match behind_sign(b':', next) {
+        Some(second) => error_from_second(text, second),
+        None => error_from_zone(text, next),
+    }
+}
+
+// The error if it is in the second or behind it.
+#[tactic(auto, unfolding(crate::specs::MailErrors::error_from_second))]
+fn error_from_second(text: &[u8], part: &[u8]) -> ReadError
+    ensures { result ≡ error_from_second text.now part.now }
+{
+    match number_fault(ReadCause::SecondAbove60, 60, front_word(part)) {
+        Some(fault) => error_in(text, part, fault),
+        None => error_from_zone(text, next_part(part)),
+    }
+}
+
+// The error if it is in the zone or behind it.
+#[tactic(auto, unfolding(crate::specs::MailErrors::error_from_zone))]
+fn error_from_zone(text: &[u8], part: &[u8]) -> ReadError
+    ensures { result ≡ error_from_zone text.now part.now }
+{
+    let (word, rest) = split_word(part);
+    match zone_fault(word) {
+        Some(fault) => error_in(text, part, fault),
+        None => error_from_end(text, rest),
+    }
+}
+
+// The error behind the zone. If nothing stands there, UTC has no date then.
+#[tactic(auto, unfolding(crate::specs::MailErrors::error_from_end))]
+fn error_from_end(text: &[u8], rest: &[u8]) -> ReadError
+    ensures { result ≡ error_from_end text.now rest.now }
+{
+    let (depth, left) = gap_end(rest);
+    if depth != 0 {
+        return not_of_form(place(text, left, 0));
+    }
+    if left.len() != 0 {
+        return not_of_form(place(text, left, 0));
+    }
+    ReadError {
+        cause: ReadCause::DateOutOfRange,
+        byte: 0,
+    }
+}
+
+// The byte of a text that stands so many bytes behind the beginning of a part, which is the text's end.
+fn place(text: &[u8], part: &[u8], bytes: usize) -> usize
+    ensures { result ≡ place text.now part.now bytes }
+{
+    text.len().saturating_sub(part.len().saturating_sub(bytes))
+}
+
+// The error of a text, by that of the word in front of a part.
+pub(crate) fn error_in(text: &[u8], part: &[u8], error: ReadError) -> ReadError
+    ensures { result ≡ error_in text.now part.now error }
+{
+    ReadError {
+        cause: error.cause,
+        byte: place(text, part, error.byte),
+    }
+}
+
+// The word in front of a part.
+fn front_word(part: &[u8]) -> &[u8]
+    ensures { result.now ≡ front_word part.now }
+{
+    split_word(part).0
+}
+
+// What stands behind the word in front of a part, and behind white space and comments.
+#[tactic(auto, unfolding(crate::specs::MailErrors::next_part))]
+fn next_part(part: &[u8]) -> &[u8]
+    ensures { result.now ≡ next_part part.now }
+{
+    skip_gap(split_word(part).1)
+}
+
+// What stands behind a sign, and behind white space and comments, if that sign stands in front.
+#[tactic(auto, unfolding(crate::specs::MailErrors::behind_sign))]
+fn behind_sign(sign: u8, part: &[u8]) -> Option<&[u8]>
+    ensures some { IfSome result (λ rest. behind_sign sign part.now ≡ Some rest.now) }
+    ensures none { IfNone result (behind_sign sign part.now ≡ None) }
+{
+    let [first, rest @ ..] = part else {
+        return None;
+    };
+    if *first != sign {
+        return None;
+    }
+    Some(skip_gap(rest))
+}
+
+// Whether a letter stands in front.
+fn begins_with_letter(part: &[u8]) -> bool
+    ensures { result ≡ begins_with_letter part.now }
+{
+    match part {
+        [first, ..] => first.is_ascii_alphabetic(),
+        [] => false,
+    }
+}
+
+// Why a word names no weekday.
+#[tactic(auto, unfolding(crate::specs::MailErrors::weekday_word_error))]
+fn weekday_word_error(word: &[u8]) -> ReadError
+    ensures { result ≡ weekday_word_error word.now }
+{
+    let front = three_letters(word);
+    let Some(_name) = Weekday::from_letters(front, 3) else {
+        return no_weekday_error(front);
+    };
+    unknown_name(3)
+}
+
+// The same of three bytes at most that name none.
+fn no_weekday_error(front: &[u8]) -> ReadError
+    requires short { length front.now ≤ 3 }
+    requires none { weekday_of_letters 3 front.now ≡ None }
+    ensures { result ≡ weekday_error front.now }
+{
+    match read_weekday(front) {
+        Ok(_) => unknown_name(3),
+        Err(error) => error,
     }
 }
 
 // Why a word names no month.
-fn month_error(word: &[u8], at: usize) -> ReadError {
-    if word.is_empty() {
-        return not_of_form(at);
+#[tactic(auto, unfolding(crate::specs::MailErrors::month_word_error))]
+fn month_word_error(word: &[u8]) -> ReadError
+    ensures { result ≡ month_word_error word.now }
+{
+    let front = three_letters(word);
+    let Some(_name) = Month::from_letters(front) else {
+        return no_month_error(front);
+    };
+    unknown_name(3)
+}
+
+// The same of three bytes at most that name none.
+fn no_month_error(front: &[u8]) -> ReadError
+    requires short { length front.now ≤ 3 }
+    requires none { month_of_letters front.now ≡ None }
+    ensures { result ≡ month_error front.now }
+{
+    match read_month(front) {
+        Ok(_) => unknown_name(3),
+        Err(error) => error,
     }
-    error_at(ReadCause::UnknownName, at)
+}
+
+// The first three bytes of a word.
+fn three_letters(word: &[u8]) -> &[u8]
+    ensures front { result.now ≡ take 3 word.now }
+    ensures short { length result.now ≤ 3 }
+{
+    &word[..word.len().min(3)]
+}
+
+// No name has this byte of a word there.
+fn unknown_name(byte: usize) -> ReadError
+    ensures { result ≡ error_at UnknownName byte }
+{
+    ReadError {
+        cause: ReadCause::UnknownName,
+        byte,
+    }
 }
 
 // Why a word is no year.
-fn year_error(word: &[u8], at: usize) -> ReadError {
-    if word.len() < 2 || !word.iter().all(u8::is_ascii_digit) {
-        return not_of_form(at);
+#[tactic(auto, unfolding(crate::specs::MailErrors::year_word_error))]
+fn year_word_error(word: &[u8]) -> ReadError
+    ensures { result ≡ year_word_error word.now }
+{
+    let digits = leading_digits(word);
+    if word.len() < 2 {
+        return not_of_form(digits);
     }
-    error_at(ReadCause::YearOutOfRange, at)
+    if digits != word.len() {
+        return not_of_form(digits);
+    }
+    ReadError {
+        cause: ReadCause::YearOutOfRange,
+        byte: 0,
+    }
+}
+
+// How many digits a word begins with.
+fn leading_digits(word: &[u8]) -> usize
+    ensures { result ≡ leading_digits word.now }
+{
+    let mut len = 0;
+    while len < word.len() {
+        if !word[len].is_ascii_digit() {
+            return len;
+        }
+        len += 1;
+    }
+    len
 }
 
 // Why a month has no such day.
-fn day_error(year: i32, month: Month, day: u32, at: usize) -> ReadError {
+#[tactic(auto, unfolding(crate::specs::MailErrors::day_error))]
+fn day_error(year: u32, month: Month, day: u32) -> ReadError
+    requires { year ≤ 262_142 }
+    ensures { result ≡ day_error year month day }
+{
     if day == 0 {
-        return error_at(ReadCause::DayZero, at);
+        return ReadError {
+            cause: ReadCause::DayZero,
+            byte: 0,
+        };
     }
-    let days = month.num_days(year).unwrap_or(0);
-    error_at(ReadCause::DayAbove(u32::from(days)), at)
+    let days = month.num_days(year as i32).unwrap();
+    ReadError {
+        cause: ReadCause::DayAbove(u32::from(days)),
+        byte: 0,
+    }
 }
 
-// What is wrong with the time of day, the offset or the end, that stand behind the date.
-fn clock_error(text: &[u8], after_date: &[u8]) -> Result<(), ReadError> {
-    let (hour, after_hour) = spaced_word(after_date);
-    number_error(hour, 23, ReadCause::HourAbove23, place(text, after_date))?;
-    let (minute, after_minute) = colon_word(after_hour);
-    number_error(
-        minute,
-        59,
-        ReadCause::MinuteAbove59,
-        place_behind(text, after_hour, b':'),
-    )?;
-    let (second, after_second) = colon_word(after_minute);
-    if !second.is_empty() {
-        let at = place_behind(text, after_minute, b':');
-        number_error(second, 60, ReadCause::SecondAbove60, at)?;
+// Whether no weekday is given, or that of the date.
+#[tactic(auto, unfolding(crate::specs::MailErrors::names_day))]
+fn names_day(weekday: Option<Weekday>, date: NaiveDate) -> bool
+    ensures { result ≡ names_day weekday date }
+{
+    match weekday {
+        Some(given) => given.number_from_monday() == date.weekday().number_from_monday(),
+        None => true,
     }
-    let (zone, end) = spaced_word(after_second);
-    mail_zone(zone).ok_or(not_of_form(place(text, after_second)))?;
-    if is_gap(end) {
-        return Ok(());
-    }
-    Err(not_of_form(place(text, end)))
 }
 
-// What is wrong with a word that is no number of two digits up to the last.
-fn number_error(word: &[u8], last: u32, above: ReadCause, at: usize) -> Result<(), ReadError> {
-    let [tens, ones] = word else {
-        return Err(not_of_form(at));
+// What is wrong with a word of two digits, of which the number may be so great.
+#[tactic(auto, unfolding(crate::specs::MailErrors::number_fault))]
+fn number_fault(above: ReadCause, most: u32, word: &[u8]) -> Option<ReadError>
+    ensures { result ≡ number_fault above most word.now }
+{
+    let fit = fitting_len(b"dd", word);
+    if word.len() != 2 {
+        return Some(not_of_form(fit));
+    }
+    if fit != 2 {
+        return Some(not_of_form(fit));
+    }
+    if two_written(word) > most {
+        return Some(ReadError {
+            cause: above,
+            byte: 0,
+        });
+    }
+    None
+}
+
+// What is wrong with the word of a zone.
+#[tactic(auto, unfolding(crate::specs::MailErrors::zone_fault))]
+fn zone_fault(word: &[u8]) -> Option<ReadError>
+    ensures { result ≡ zone_fault word.now }
+{
+    let [first, rest @ ..] = word else {
+        return Some(unknown_name(0));
     };
-    match read_two(*tens, *ones) {
-        Some(number) if number > last => Err(error_at(above, at)),
-        Some(_) => Ok(()),
-        None => Err(not_of_form(at)),
+    if *first == b'+' {
+        return zone_digits_fault(rest);
+    }
+    if *first == b'-' {
+        return zone_digits_fault(rest);
+    }
+    if is_zone_name(word) {
+        return None;
+    }
+    Some(unknown_name(fitting_zone(word)))
+}
+
+// What is wrong with the digits behind the sign of a zone.
+#[tactic(auto, unfolding(crate::specs::MailErrors::zone_digits_fault))]
+fn zone_digits_fault(digits: &[u8]) -> Option<ReadError>
+    ensures { result ≡ zone_digits_fault digits.now }
+{
+    let fit = fitting_len(b"dddd", digits);
+    if digits.len() != 4 {
+        return Some(not_of_form(fit + 1));
+    }
+    if fit != 4 {
+        return Some(not_of_form(fit + 1));
+    }
+    if two_written(digits) > 23 {
+        return Some(ReadError {
+            cause: ReadCause::HourAbove23,
+            byte: 1,
+        });
+    }
+    if two_written(&digits[2..]) > 59 {
+        return Some(ReadError {
+            cause: ReadCause::MinuteAbove59,
+            byte: 3,
+        });
+    }
+    None
+}
+
+// Whether a word is the name of a zone.
+fn is_zone_name(word: &[u8]) -> bool
+    ensures { result ≡ is_zone_name word.now }
+{
+    hours_behind(word).is_some()
+}
+
+// How many bytes of a word are as a zone's name begins.
+#[tactic(auto, unfolding(crate::specs::MailErrors::fitting_zone))]
+fn fitting_zone(word: &[u8]) -> usize
+    ensures { result ≡ fitting_zone word.now }
+{
+    match word {
+        [] => 0,
+        [one] => fitting_one(*one),
+        [one, two] => fitting_two(*one, *two),
+        [one, two, three, ..] => {
+            if is_zone_name(&[*one, *two, *three]) {
+                3
+            } else {
+                fitting_two(*one, *two)
+            }
+        }
     }
 }
 
-// Behind how many bytes of the text a part of it, its end, goes on behind white space and comments.
-fn place(text: &[u8], end: &[u8]) -> usize {
-    text.len().saturating_sub(skip_gap(end).len())
-}
-
-// The same behind a byte, if that stands there.
-fn place_behind(text: &[u8], end: &[u8], byte: u8) -> usize {
-    match skip_gap(end) {
-        [first, rest @ ..] if *first == byte => place(text, rest),
-        _ => place(text, end),
+// The same of its first two bytes. A name of three letters ends in `T`.
+#[tactic(auto, unfolding(crate::specs::MailErrors::fitting_two))]
+fn fitting_two(one: u8, two: u8) -> usize
+    ensures { result ≡ fitting_two one two }
+{
+    if is_zone_name(&[one, two]) {
+        2
+    } else if is_zone_name(&[one, two, b'T']) {
+        2
+    } else {
+        fitting_one(one)
     }
 }
 
-// An error at a byte.
-fn error_at(cause: ReadCause, byte: usize) -> ReadError {
-    ReadError { cause, byte }
+// The same of its first byte.
+#[tactic(auto, unfolding(crate::specs::MailErrors::fitting_one))]
+fn fitting_one(one: u8) -> usize
+    ensures { result ≡ fitting_one one }
+{
+    if is_zone_name(&[one]) { 1 } else { 0 }
 }

@@ -1,9 +1,10 @@
 //! Reads date-times with their offset (RFC 2822).
-ghost use Rattle.std.specs.Prelude.{◌≡◌, ◌↔◌, ◌≤◌, ◌⊎◌, ◌∷◌, [], ℕ, ℤ, Some, IfSome, IfNone, IfOk, IsOkAnd, IsSomeAnd, IsTrue, ◌-ℤ◌, pos, length};
+ghost use Rattle.std.specs.Prelude.{◌≡◌, ◌↔◌, ◌≤◌, ◌⊎◌, ◌∷◌, [], ℕ, ℤ, Some, IfSome, IfNone, IfOk, IfErr, IsOkAnd, IsSomeAnd, IsTrue, ◌-ℤ◌, pos, length};
 ghost use Rattle.chrono_datetime.specs.Moment.{Moment};
 ghost use Rattle.chrono_datetime.specs.Time.{TimeOfDay};
 ghost use Rattle.chrono_instant.specs.Instants.{IsEpochSecond, epoch_second};
 ghost use Rattle.chrono_instant.specs.Offsets.{moment_ahead};
+ghost use Rattle.chrono_stamps.specs.MailErrors.{rfc2822_error, year_of_word};
 ghost use Rattle.chrono_stamps.specs.Rfc2822.{IsDayOfWeek, IsMailDate, IsMailTime, IsMailYear, IsMailZone, IsRfc2822Text, hours_behind, is_military, second_shown, year_meant};
 
 use crate::mail_words::{is_gap, mail_words};
@@ -20,8 +21,8 @@ const LAST_YEAR: u32 = 262_142;
 /// Reads a date, a time of day and an offset (RFC 2822, 3.3 and 4.3), such as `Thu, 29 Feb 2024 15:00:00 +0530`. Returns the
 /// instant, in a zone of that offset.
 ///
-/// If `text` is none, returns what is wrong and at which byte, as a [`ReadError`]: with the first of its words that is wrong, and
-/// where that word begins. This is tested, and no clause states it.
+/// If `text` is none, returns what is wrong and at which byte, as a [`ReadError`]: what is wrong first, from left to right. A day
+/// that its month has not stands behind a right year, and a weekday that is not the date's behind a right date.
 ///
 /// ```
 /// parse_from_rfc2822(b"Fri, 21 Nov 1997 09:55:06 -0600").ok()?.to_utc() // 1997-11-21T15:55:06+00:00
@@ -41,6 +42,7 @@ pub fn parse_from_rfc2822(text: &[u8]) -> Result<DateTime<FixedOffset>, ReadErro
     // Whatever local time and offset have this text are the answer: no text is refused, and none has two meanings.
     ensures every { (m : Moment) (x : ℤ) → IsRfc2822Text text.now m x
         → IsOkAnd result (λ it. (moment_ahead it.utc it.zone ≡ m) × (it.zone ≡ x)) }
+    ensures error { IfErr result (λ e. e ≡ rfc2822_error text.now) }
 {
     match stamp_of(text) {
         Some(stamp) => Ok(stamp),
@@ -80,7 +82,7 @@ pub(crate) fn stamp_at(local: NaiveDateTime, offset: FixedOffset) -> Option<Date
 }
 
 // Whether a word is left out, or names the weekday of the date.
-pub(crate) fn is_day_of_week(word: &[u8], date: NaiveDate) -> bool
+fn is_day_of_week(word: &[u8], date: NaiveDate) -> bool
     ensures { IsTrue result ↔ IsDayOfWeek word.now date }
 {
     if word.is_empty() {
@@ -101,10 +103,12 @@ fn mail_date(day: &[u8], month: &[u8], year: &[u8]) -> Option<NaiveDate>
 }
 
 // The year that a word means.
+#[tactic(auto, unfolding(crate::specs::MailErrors::year_of_word))]
 pub(crate) fn mail_year(word: &[u8]) -> Option<u32>
     ensures small { IfSome result (λ year. year ≤ 262_142) }
     ensures read { IfSome result (λ year. IsMailYear word.now year) }
     ensures every { (year : ℕ) → IsMailYear word.now year → result ≡ Some year }
+    ensures value { result ≡ year_of_word word.now }
 {
     if word.len() < 2 {
         return None;
@@ -177,7 +181,7 @@ fn second_digits(second: &[u8]) -> Option<(u8, u8)>
 }
 
 // The offset that a word writes.
-pub(crate) fn mail_zone(word: &[u8]) -> Option<FixedOffset>
+fn mail_zone(word: &[u8]) -> Option<FixedOffset>
     ensures read { IfSome result (λ x. IsMailZone word.now x) }
     ensures every { (x : ℤ) → IsMailZone word.now x → result ≡ Some x }
 {
@@ -200,7 +204,7 @@ pub(crate) fn mail_zone(word: &[u8]) -> Option<FixedOffset>
 
 // The hours behind UTC of a zone's name.
 #[tactic(auto, unfolding(crate::specs::Rfc2822::hours_behind))]
-fn hours_behind(name: &[u8]) -> Option<u32>
+pub(crate) fn hours_behind(name: &[u8]) -> Option<u32>
     ensures value { result ≡ hours_behind name.now }
     ensures few { IfSome result (λ hours. hours ≤ 8) }
 {

@@ -3,7 +3,7 @@ ghost use Rattle.std.specs.Prelude.{◌≡◌, ◌≤◌, ◌<◌, ◌+◌, ◌^
 ghost use Rattle.std.specs.List.{prefix_len};
 ghost use Rattle.chrono_reading.specs.DateErrors.{error_at};
 ghost use Rattle.chrono_reading.specs.declared.error.ReadCause.TheVariants.{NotThisForm};
-ghost use Rattle.chrono_stamps.specs.StampErrors.{IsClockError, IsErrorBehindDate, IsRfc3339Error, hour_written, is_of_clock, is_signed, later_by, minutes_error, offset_error};
+ghost use Rattle.chrono_stamps.specs.StampErrors.{IsClockError, IsErrorBehindDate, IsRfc3339Error, two_written, is_of_clock, is_signed, later_by, minutes_error, offset_error};
 
 use crate::rfc3339_reader::is_separator;
 use chrono_reading::{ReadCause, ReadError, fitting_len, read_date, read_time};
@@ -128,7 +128,7 @@ fn minutes_error(text: &[u8]) -> ReadError
     if fit != 5 {
         return not_of_form(fit);
     }
-    if hour_written(text) > 23 {
+    if two_written(text) > 23 {
         return ReadError {
             cause: ReadCause::HourAbove23,
             byte: 0,
@@ -140,9 +140,9 @@ fn minutes_error(text: &[u8]) -> ReadError
     }
 }
 
-// The hour that the first two digits write.
-fn hour_written(text: &[u8]) -> u32
-    ensures { result ≡ hour_written text.now }
+// The number that the first two digits write.
+pub(crate) fn two_written(text: &[u8]) -> u32
+    ensures { result ≡ two_written text.now }
 {
     match text {
         [tens, ones, ..] => {
@@ -163,7 +163,7 @@ pub(crate) fn not_of_form(byte: usize) -> ReadError
 }
 
 // An error so many bytes later.
-fn later_by(error: ReadError, bytes: usize) -> ReadError
+pub(crate) fn later_by(error: ReadError, bytes: usize) -> ReadError
     requires { error.byte + bytes < 2 ^ 64 }
     ensures { result ≡ later_by bytes error }
 {

@@ -1,0 +1,5 @@
+use Rattle.chrono_stamps.proofs.NameLemmas.{no_weekday}
+use Rattle.chrono_stamps.proofs.rfc2822_error.no_weekday_error.Goals as goal
+
+pub returns-in-Ok : goal.returns-in-Ok
+returns-in-Ok c = absurd (no_weekday c.args.front.now c.in-Ok.field-0 c.requires.short c.in-Ok.ensures.read c.requires.none)
