@@ -1,5 +1,4 @@
 -- All serve this crate's own proofs alone.
-mod Places
 mod CutLemmas
 mod YearLemmas
 mod OffsetLemmas

@@ -1,5 +1,5 @@
 -- Every byte of the texts of RFC 2822 is ASCII.
-use Rattle.std.proofs.Common.{◌≡◌, ℕ, ◌+◌, ◌/◌, ◌%◌, ◌<◌, Bool, true, false, if◌then◌else◌, nat_lt, ℤ, pos, negsuc, ◌≤ℤ◌, unsigned_abs, List, [], ◌∷◌, take, refl, arith}
+use Rattle.std.proofs.Common.{◌≡◌, ℕ, ◌+◌, ◌/◌, ◌%◌, ◌<◌, true, nat_lt, ℤ, pos, negsuc, ◌≤ℤ◌, unsigned_abs, [], ◌∷◌, take, arith}
 use Rattle.std.proofs.lemmas.Bool.Decides.{nat_tests}
 use Rattle.std.proofs.lemmas.Int.{ints}
 use Rattle.std.proofs.lemmas.Str.{IsAscii-append}
@@ -8,7 +8,7 @@ use Rattle.std.specs.Int.{is_negative}
 use Rattle.std.specs.Str.{IsAscii}
 use Rattle.chrono_calendar.proofs.Months.{month_length_in-bounds}
 use Rattle.chrono_calendar.proofs.NamedDates.{calendar_name-exists}
-use Rattle.chrono_text.proofs.AsciiTexts.{IsAscii-all_digits, IsAscii-two_digits}
+use Rattle.chrono_text.proofs.AsciiTexts.{IsAscii-all_digits, IsAscii-if, IsAscii-two_digits}
 use Rattle.chrono_text.specs.Text.{all_digits, two_digits}
 use Rattle.chrono_datetime.specs.Days.{day_of, month_of, year_of}
 use Rattle.chrono_datetime.specs.Month.{month_from_number, month_name}
@@ -48,10 +48,6 @@ month_ascii October = letters 79 99 116 (omega arith) (omega arith) (omega arith
 month_ascii November = letters 78 111 118 (omega arith) (omega arith) (omega arith)
 month_ascii December = letters 68 101 99 (omega arith) (omega arith) (omega arith)
 
-either : (b : Bool) (xs ys : List ℕ) → (b ≡ true → IsAscii xs) → (b ≡ false → IsAscii ys) → IsAscii (if b then xs else ys)
-either true xs ys f g = f refl
-either false xs ys f g = g refl
-
 one : (c : ℕ) → c < 128 → IsAscii (c ∷ [])
 one c h = IsAscii-cons c [] h IsAscii-nil
 
@@ -59,7 +55,7 @@ is_few : (n : ℕ) → nat_lt n 10 ≡ true → n < 10
 is_few n e = grind (arith, nat_tests)
 
 day_ascii : (n : ℕ) → n < 100 → IsAscii (mail_day_digits n)
-day_ascii n small = either (nat_lt n 10) ((48 + n) ∷ []) (two_digits n) (λ few. one (48 + n) (omega (arith, is_few n few))) (λ _. IsAscii-two_digits n small)
+day_ascii n small = IsAscii-if (nat_lt n 10) ((48 + n) ∷ []) (two_digits n) (λ few. one (48 + n) (omega (arith, is_few n few))) (λ _. IsAscii-two_digits n small)
 
 four_places : (y : ℤ) → pos 0 ≤ℤ y → y ≤ℤ pos 9_999 → unsigned_abs y < 10_000
 four_places (pos n) low high = omega (arith, ints, high)
@@ -77,6 +73,6 @@ mail_date_ascii n low high =
 
 pub zone_ascii : (x : ℤ) → IsOffset x → IsAscii (zone_text x)
 zone_ascii x small =
-    let sign = either (is_negative x) (45 ∷ []) (43 ∷ []) (λ _. one 45 (omega arith)) (λ _. one 43 (omega arith)) in
+    let sign = IsAscii-if (is_negative x) (45 ∷ []) (43 ∷ []) (λ _. one 45 (omega arith)) (λ _. one 43 (omega arith)) in
     let hours = IsAscii-append _ (two_digits (unsigned_abs x / 3_600)) sign (IsAscii-two_digits (unsigned_abs x / 3_600) (omega (arith, small))) in
     IsAscii-append _ (two_digits (unsigned_abs x / 60 % 60)) hours (IsAscii-two_digits (unsigned_abs x / 60 % 60) (omega arith))

@@ -10,9 +10,8 @@ use Rattle.chrono_calendar.proofs.GivenNames.{given_ymd}
 use Rattle.chrono_calendar.proofs.Names.{year_of-number}
 use Rattle.chrono_calendar.proofs.Rising.{year_of-rises}
 use Rattle.chrono_calendar.proofs.Signed.{signed}
-use Rattle.chrono_calendar.proofs.Years.{days_before_year-closed}
+use Rattle.chrono_calendar.proofs.Years.{IsYear-small, days_before_year-closed}
 use Rattle.chrono_datetime.specs.Moment.{Moment}
-use Rattle.chrono_datetime.specs.Years.{IsYear}
 use Rattle.chrono_instant.specs.Instants.{IsEpochSecond, epoch_second}
 use Rattle.chrono_instant.specs.Offsets.{IsOffset}
 use Rattle.chrono_datetime.specs.Time.{TimeOfDay, time_at}
@@ -68,16 +67,12 @@ near_days n low high = (
       absurd (omega (arith, ints, high, after, year_of-rises (pos 3_652_060) n ge))),
 )
 
-year_size : (y : ℤ) → IsYear y → unsigned_abs y < 1_000_000
-year_size (pos n) h = omega (arith, ints, h.1)
-year_size (negsuc n) h = omega (arith, ints, h.0)
-
 -- a date whose text has ten bytes is of these years
 pub text_years : (text : List ℕ) (n : ℤ) → IsDateText text n → length text ≡ 10 → (pos 0 ≤ℤ year_of n) × (year_of n ≤ℤ pos 9_999)
 text_years text n is ten =
     let given = given_ymd (Some n) is.year is.month is.day (sym is.names) in
     let four : length (year_text is.year) ≡ 4 = omega (arith, length-calendar_text is.year is.month is.day, ap (λ (l : List ℕ). length l) is.written, ten) in
-    let range = four_digits is.year (year_size is.year (given.0.0 refl).0) four in
+    let range = four_digits is.year (IsYear-small is.year (given.0.0 refl).0) four in
     let same : year_of n ≡ is.year = given.1 in
     (subst (λ (y : ℤ). pos 0 ≤ℤ y) (sym same) range.0, subst (λ (y : ℤ). y ≤ℤ pos 9_999) (sym same) range.1)
 

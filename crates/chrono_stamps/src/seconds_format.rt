@@ -60,7 +60,7 @@ fn fewest_places(nanos: u32) -> u32
 
 // Puts a point and the first digits of a fraction, or nothing for no digit.
 #[inline]
-#[tactic(auto, using(crate::proofs::Places::fractions))]
+#[tactic(auto, using(chrono_text::proofs::Decimals::six_places))]
 pub(crate) fn put_fraction<const N: usize>(text: &mut Text<N>, nanos: u32, places: u32)
     requires nanos { nanos < nanos_per_second }
     requires places { IsPlaces places }
