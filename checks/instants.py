@@ -32,7 +32,7 @@ PROGRAM = r'''//! Answers questions on instants, a line each.
 #![tactic(auto)]
 
 use chrono_datetime::{NaiveDateTime, TimeDelta};
-use chrono_stamps::{SecondsFormat, parse_from_rfc2822, parse_from_rfc3339, to_rfc2822, to_rfc3339_opts};
+use chrono_stamps::{SecondsFormat, parse_from_iso8601, parse_from_rfc2822, parse_from_rfc3339, to_iso8601, to_rfc2822, to_rfc3339_opts};
 use chrono_zoned::{FixedOffset, FromTimestamp, InZone, MappedLocalTime, Timestamp};
 use std::io::{self, BufRead, BufReader};
 
@@ -48,6 +48,13 @@ fn main(rt: HostRuntime) -> io::Result<()> {
         }
         if let Some(text) = line.as_str().strip_prefix("mail ") {
             match parse_from_rfc2822(text.as_bytes()) {
+                Ok(it) => println!(rt; "= {it:?} {}", it.timestamp())?,
+                Err(it) => println!(rt; "= {it}")?,
+            }
+            continue;
+        }
+        if let Some(text) = line.as_str().strip_prefix("iso ") {
+            match parse_from_iso8601(text.as_bytes()) {
                 Ok(it) => println!(rt; "= {it:?} {}", it.timestamp())?,
                 Err(it) => println!(rt; "= {it}")?,
             }
@@ -81,6 +88,10 @@ fn main(rt: HostRuntime) -> io::Result<()> {
                 }
             }
             ("rfc2822", Some(at)) => match offset.from_utc_datetime(&at).and_then(|it| to_rfc2822(&it)) {
+                Some(text) => println!(rt; "= {}", text.as_str())?,
+                None => println!(rt; "= None")?,
+            },
+            ("iso8601", Some(at)) => match offset.from_utc_datetime(&at).and_then(|it| to_iso8601(&it)) {
                 Some(text) => println!(rt; "= {}", text.as_str())?,
                 None => println!(rt; "= None")?,
             },
@@ -411,6 +422,132 @@ def near_mail(draw):
     return told.strip() or "21 Nov"
 
 
+def fitting(form, told):
+    """How many bytes of the text are as a form says: `d` is any digit, and `n` one that is not 0."""
+    at = 0
+    while at < min(len(form), len(told)) and told[at] in {"d": "0123456789", "n": "123456789"}.get(form[at], form[at]):
+        at += 1
+    return at
+
+
+def year_form(told):
+    """The form of the year that a text begins with."""
+    digits = len(re.match(r"[0-9]*", told[1:])[0])
+    for front, form in (("-000", "-000n"), ("-0", "-0ddd"), ("-", "-nddd" + "d" * (digits - 4)), ("+", "+ndddd" + "d" * (digits - 5))):
+        if told.startswith(front):
+            return form
+    return "dddd"
+
+
+def iso_day(told):
+    """The day since 1970 that a date of ISO 8601 names, or where it is wrong and why."""
+    year = year_form(told)
+    forms = {it: year + it for it in ("-dd-dd", "-ddd", "-Wdd-d")}
+    end = next((it for it, form in forms.items() if fitting(form, told) == len(form) == len(told)), None)
+    if not end:
+        return max(fitting(it, told) for it in forms.values()), "not of this form"
+    year, at = int(told[: len(year)]), len(year)
+    if not -262_143 <= year <= 262_142 + (end == "-Wdd-d"):
+        return 0, "the year is not from -262143 to 262142"
+    like, days = 2000 + year % 400, 146_097 * ((year - year % 400) // 400 - 5)
+    numbers = [int(it) for it in re.findall("[0-9]+", told[at:])]
+    if end == "-Wdd-d":
+        weeks = datetime.date(like, 12, 28).isocalendar()[1]
+        if not 1 <= numbers[0] <= weeks:
+            return at + 2, f"the year has {weeks} weeks" if numbers[0] else "the week is 0"
+        if not 1 <= numbers[1] <= 7:
+            return at + 5, "the weekday is not from 1 to 7"
+        date = datetime.date.fromisocalendar(like, *numbers)
+    elif end == "-ddd":
+        length = 365 + (length_of(year, 2) == 29)
+        if not 1 <= numbers[0] <= length:
+            return at + 1, f"the year has {length} days" if numbers[0] else "the day of the year is 0"
+        date = datetime.date(like, 1, 1) + datetime.timedelta(days=numbers[0] - 1)
+    else:
+        if not 1 <= numbers[0] <= 12:
+            return at + 1, "the month is above 12" if numbers[0] else "the month is 0"
+        if not 1 <= numbers[1] <= length_of(year, numbers[0]):
+            return at + 4, f"the month has {length_of(year, numbers[0])} days" if numbers[1] else "the day is 0"
+        date = datetime.date(like, *numbers)
+    day = (date - datetime.date(1970, 1, 1)).days + days
+    return day if FIRST <= day * DAY <= LAST else (0, OUT_OF_RANGE)
+
+
+def iso_size(told):
+    """The seconds that stand behind the sign of an offset, or where they are wrong and why."""
+    fits = fitting("dd:dd:dd", told)
+    if fits != len(told) or fits not in (2, 5, 8):
+        return fits, "not of this form"
+    hours, minutes, seconds = (*map(int, told.split(":")), 0, 0)[:3]
+    if hours > 23:
+        return 0, "the hour is above 23"
+    if minutes > 59:
+        return 3, "the minute is above 59"
+    return hours * 3_600 + minutes * 60 + seconds if fits < 8 or 1 <= seconds <= 59 else (6, "not of this form")
+
+
+def iso_offset(told):
+    """The offset that a text of ISO 8601 ends with, or where it is wrong and why."""
+    if told[:1] not in ("Z", "+", "-"):
+        return 0, "not of this form"
+    if told[0] == "Z":
+        return 0 if len(told) == 1 else (1, "not of this form")
+    size = iso_size(told[1:])
+    if isinstance(size, tuple):
+        return size[0] + 1, size[1]
+    return size if told[0] == "+" else -size
+
+
+def iso_clock(told):
+    """The second of the day and its nanoseconds that a time of ISO 8601 shows, or where it is wrong and why."""
+    told = told + ":00" if len(told) == 5 else told[:8] + told[8:9].replace(",", ".") + told[9:19]
+    fits = re.fullmatch(r"(\d\d):(\d\d):(\d\d)(?:\.(\d{1,9}))?", told, re.A)
+    if not fits:
+        return max(fitting("dd:dd:dd" + ("." + "d" * it if it else ""), told) for it in range(10)), "not of this form"
+    hour, minute, second = map(int, fits.groups()[:3])
+    for place, number, most, name in ((0, hour, 23, "hour"), (3, minute, 59, "minute"), (6, second, 60, "second")):
+        if number > most:
+            return place, f"the {name} is above {most}"
+    leap = second == 60
+    return hour * 3_600 + minute * 60 + second - leap, int((fits[4] or "").ljust(9, "0")) + leap * NANOS, True
+
+
+def read_iso(told):
+    """What a text is read as by a second grammar of ISO 8601, or what is wrong with it."""
+    front, separator, behind = told.partition("T")
+    fault = lambda wrong, place: f"byte {wrong[0] + place}: {wrong[1]}"  # noqa: E731
+    day = iso_day(front)
+    if isinstance(day, tuple):
+        return fault(day, 0)
+    if not separator:
+        return fault((len(told), "not of this form"), 0)
+    length = len(re.match("[^Z+-]*", behind)[0])
+    clock = iso_clock(behind[:length])
+    if len(clock) == 2:
+        return fault(clock, len(front) + 1)
+    offset = iso_offset(behind[length:])
+    if isinstance(offset, tuple):
+        return fault(offset, len(front) + 1 + length)
+    secs = day * DAY + clock[0]
+    if not FIRST <= secs - offset <= LAST:
+        return fault((0, OUT_OF_RANGE), 0)
+    return f"{text(secs, clock[1])}{offset_text(offset)} {secs - offset}"
+
+
+def near_iso(draw):
+    """A text of ISO 8601, or one that is a change or two away from it."""
+    year = draw.choice((f"{draw.randrange(10_000):04}", "2024", "2020", "1900", f"{draw.choice((draw.randrange(-300_000, 0), -262_143)):05}", f"+{draw.choice((draw.randrange(10_000, 300_000), 262_142, 262_143))}"))
+    date = draw.choice((f"-{draw.randrange(1, 13):02}-{draw.randrange(1, 29):02}", f"-{draw.randrange(0, 14):02}-{draw.randrange(0, 33):02}", f"-{draw.randrange(0, 368):03}", f"-{draw.randrange(360, 367):03}", f"-W{draw.randrange(0, 55):02}-{draw.randrange(0, 9)}"))
+    clock = f"{draw.choice((draw.randrange(24), draw.randrange(26))):02}:{draw.choice((draw.randrange(60), draw.randrange(62))):02}"
+    clock += draw.choice(("", f":{draw.choice((draw.randrange(60), draw.randrange(63), 60)):02}" + draw.choice(("", "", f"{draw.choice('.,')}{draw.randrange(10**9):09}"[: draw.randrange(1, 12)], ",5", "."))))
+    offset = draw.choice(("Z", "Z", "-00", "-00:00", f"{draw.choice('+-')}{draw.randrange(25):02}", f"{draw.choice('+-')}{draw.randrange(24):02}:{draw.randrange(61):02}", f"{draw.choice('+-')}{draw.randrange(24):02}:{draw.randrange(60):02}:{draw.randrange(61):02}"))
+    told = f"{year}{date}T{clock}{offset}"
+    for _ in range(draw.choice((0, 0, 0, 1, 1, 2))):
+        at = draw.randrange(len(told) + 1)
+        told = draw.choice((told[:at] + draw.choice("0129:+-TWZ.,x") + told[at:], told[:at] + told[at + 1 :], told[:at], told[:at] + draw.choice("059:.,-+zT") + told[at + 1 :]))
+    return told.strip() or "2024"
+
+
 def is_date_time(secs, nanos):
     return FIRST <= secs <= LAST and nanos < 2 * NANOS and (nanos < NANOS or secs % 60 == 59)
 
@@ -425,6 +562,8 @@ def answer(call, secs, nanos, offset, moved):
         return read(secs)
     if call == "mail":
         return read_mail(secs) or mail_fault(secs)
+    if call == "iso":
+        return read_iso(secs)
     if call in ("millis", "micros", "nanos"):
         unit = {"millis": 10**3, "micros": 10**6, "nanos": NANOS}[call]
         second, rest = divmod(secs, unit)
@@ -445,6 +584,8 @@ def answer(call, secs, nanos, offset, moved):
         return rfc3339(secs, nanos, offset, moved)
     if call == "rfc2822":
         return rfc2822(secs, nanos, offset)
+    if call == "iso8601":
+        return text(secs + offset, nanos) + offset_text(offset) if nanos < NANOS or (secs + offset) % 60 == 59 else "None"
     if call == "moved":
         # A move out of a leap second counts that second, whichever way it goes.
         if nanos >= NANOS and moved:
@@ -457,9 +598,9 @@ def answer(call, secs, nanos, offset, moved):
 
 def question(draw):
     """A random line: mostly years of today, some near the ends, some out of range."""
-    call = draw.choice(("stamp", "stamp", "millis", "micros", "nanos", "zoned", "zoned", "local", "local", "moved", "rfc3339", "rfc3339", "rfc2822", "rfc2822", "read", "read", "read", "mail", "mail", "mail"))
-    if call in ("read", "mail"):
-        return call, near_text(draw) if call == "read" else near_mail(draw), "", "", ""
+    call = draw.choice(("stamp", "stamp", "millis", "micros", "nanos", "zoned", "zoned", "local", "local", "moved", "rfc3339", "rfc3339", "rfc2822", "rfc2822", "read", "read", "read", "mail", "mail", "mail", "iso", "iso", "iso", "iso8601"))
+    if call in ("read", "mail", "iso"):
+        return call, {"read": near_text, "mail": near_mail, "iso": near_iso}[call](draw), "", "", ""
     near = draw.random()
     if call in ("rfc3339", "rfc2822"):
         near = draw.choice((near, 0.0))

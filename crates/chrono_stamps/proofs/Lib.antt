@@ -9,3 +9,7 @@ mod MailWordLemmas
 mod MailStampLemmas
 mod MailTextLemmas
 mod NameLemmas
+mod DateFormLemmas
+mod IsoOffsetLemmas
+mod IsoTextLemmas
+mod IsoPartLemmas

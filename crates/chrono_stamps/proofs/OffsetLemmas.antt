@@ -14,7 +14,7 @@ by_sign : (b : Bool) (size : List ℕ) → (sign : ℕ) × ((if b then codes "-"
 by_sign true size = (45, refl)
 by_sign false size = (43, refl)
 
-signed_text : (x : ℤ) → (sign : ℕ) × (offset_text x ≡ sign ∷ offset_size_text (unsigned_abs x))
+pub signed_text : (x : ℤ) → (sign : ℕ) × (offset_text x ≡ sign ∷ offset_size_text (unsigned_abs x))
 signed_text x = by_sign (is_negative x) (offset_size_text (unsigned_abs x))
 
 -- the seconds stand in three bytes, or in none

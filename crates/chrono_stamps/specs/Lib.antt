@@ -5,3 +5,5 @@ pub mod MailWords
 pub mod Rfc2822
 pub mod StampErrors
 pub mod MailErrors
+pub mod Iso8601
+pub mod IsoErrors

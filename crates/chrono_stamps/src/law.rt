@@ -1,15 +1,18 @@
 //! Laws of the texts of instants, each as the contract of a function.
-ghost use Rattle.std.specs.Prelude.{◌∷◌, ◌++◌, Bool, ℕ, ℤ, List, codes, neg_ℤ, pos};
+ghost use Rattle.std.specs.Prelude.{◌∷◌, ◌++◌, Bool, ℕ, ℤ, ◌-ℤ◌, List, codes, neg_ℤ, pos};
 ghost use Rattle.chrono_datetime.specs.Moment.{IsMoment, Moment, moment};
-ghost use Rattle.chrono_datetime.specs.Time.{time_at};
+ghost use Rattle.chrono_datetime.specs.Time.{FractionFits, second_of, time_at};
+ghost use Rattle.chrono_instant.specs.Instants.{IsEpochSecond, epoch_second};
 ghost use Rattle.chrono_instant.specs.Offsets.{IsOffset};
+ghost use Rattle.chrono_stamps.specs.Iso8601.{IsIso8601Text};
 ghost use Rattle.chrono_stamps.specs.Rfc2822.{IsRfc2822Text};
 ghost use Rattle.chrono_stamps.specs.Rfc3339.{IsRfc3339Text};
 ghost use Rattle.chrono_stamps.specs.WrittenStamps.{HasStampText, moment_cut, rfc2822_text, rfc3339_text};
 ghost use Rattle.chrono_stamps.specs.declared.seconds_format.SecondsFormat.{SecondsFormat};
 ghost use Rattle.chrono_stamps.specs.declared.seconds_format.SecondsFormat.TheVariants.{Secs};
+ghost use Rattle.chrono_zoned.specs.ZonedText.{zoned_debug_text};
 
-use chrono_reading::law::printed_dates_are_read;
+use chrono_reading::law::{printed_dates_are_read, printed_times_are_read};
 
 /// The text that is written of a local date-time and an offset is read as them. What the form cuts off the fraction is lost.
 pub fn written_stamps_are_read()
@@ -29,6 +32,15 @@ pub fn written_mails_are_read()
     ensures { (m : Moment) (x : ℤ) → IsMoment m → IsOffset x → HasStampText m x
         → IsRfc2822Text (rfc2822_text m x) (moment_cut Secs m) x }
 {}
+
+/// The text of ISO 8601 that is written of a local date-time and an offset, at which UTC has a date, is read as them.
+pub fn written_iso_texts_are_read()
+    ensures { (m : Moment) (x : ℤ) → IsMoment m → IsOffset x → FractionFits (second_of m.time) m.time.fraction
+        → IsEpochSecond (epoch_second m -ℤ x) → IsIso8601Text (zoned_debug_text m x) m x }
+{
+    printed_dates_are_read();
+    printed_times_are_read();
+}
 
 /// The examples of RFC 3339 (5.8):
 ///

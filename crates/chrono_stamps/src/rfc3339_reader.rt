@@ -107,7 +107,7 @@ pub(crate) fn six_bytes(text: [u8; 6]) -> Option<FixedOffset>
 
 // The offset of UTC.
 #[inline]
-fn utc() -> FixedOffset
+pub(crate) fn utc() -> FixedOffset
     ensures { result ≡ pos 0 }
 {
     FixedOffset::east_opt(0).unwrap()
