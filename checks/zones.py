@@ -1,13 +1,13 @@
 #!/usr/bin/env python3
-"""Holds zone_table and zone_rule to Python's zoneinfo, over all zones of the system's database.
+"""Holds zone_table, zone_rule and zone_text to Python's zoneinfo, over all zones of the system's database.
 
     checks/zones.py [--seed N] [--lines N]      (seed 1 and 20,000 lines, if left out)
 
-Each zone's file is read here: its rows become a table, and the text at its end becomes a rule. Up to the last row an answer is
-asked of the table, and from there on of the rule. An offset is that of zoneinfo at the instant. The offsets of a local time are
+Each zone's file is read here: its rows become a table. The text at its end is read by zone_text, which makes the rule. Up to the
+last row an answer is asked of the table, and from there on of the rule. An offset is that of zoneinfo at the instant. The offsets of a local time are
 those of the zone's offsets at whose instant zoneinfo gives them again. The next and the previous change are read off the rows,
-and zoneinfo has to change there. Rules are asked past the year 9999 and before it begins too, and so are rules made here at
-random. For these a second reading counts days and tries nine years. `rt try` runs a small program unproved, in a copy of the
+and zoneinfo has to change there. Rules are asked past the year 9999 and before it begins too, and so are texts made here at
+random. For these a second reading counts days and tries nine years. It also says which texts with one byte changed are of a rule. `rt try` runs a small program unproved, in a copy of the
 crates: it answers the lines, and what differs is printed. A second run of the same lines with one answer changed has to find it.
 """
 import argparse
@@ -30,10 +30,10 @@ FIRST, LAST = -62_135_596_800 + 2 * DAY, 253_402_300_799 - 2 * DAY
 PROGRAM = r'''//! Answers questions on zones, a line each.
 #![tactic(auto)]
 
-use chrono_datetime::Weekday;
 use std::io::{self, BufRead, BufReader};
-use zone_rule::{Change, Daylight, FixedOffset, MappedLocalTime, RuleDay, ZoneRule};
+use zone_rule::{FixedOffset, MappedLocalTime, ZoneRule};
 use zone_table::{Row, first_unordered, next_change, offset_of_instant, offsets_of_local, previous_change};
+use zone_text::{ZoneText, read};
 
 fn main(rt: HostRuntime) -> io::Result<()> {
     let utc = FixedOffset::east_opt(0).unwrap();
@@ -54,13 +54,13 @@ fn main(rt: HostRuntime) -> io::Result<()> {
                 }
                 println!(rt; "= {:?}", first_unordered(first, rows.as_slice()))?
             }
-            "rule" => {
-                let numbers: [i32; 9] = [number_of(words.next()), number_of(words.next()), number_of(words.next()), number_of(words.next()),
-                    number_of(words.next()), number_of(words.next()), number_of(words.next()), number_of(words.next()), number_of(words.next())];
-                let standard = FixedOffset::east_opt(number as i32).unwrap_or(utc);
-                rule = ZoneRule { standard, daylight: daylight_of(&numbers) };
-                println!(rt; "= {}", rule.daylight.is_some())?
-            }
+            "text" => match read(line.as_str()[5..].as_bytes()) {
+                Ok(zone) => {
+                    rule = zone.rule;
+                    println!(rt; "= {} {} {:?}", name_of(zone.standard_name), name_of(zone.daylight_name), zone.rule)?
+                }
+                Err(error) => println!(rt; "= none {}", error.byte <= line.as_str().len() - 5)?,
+            },
             "at" => {
                 let shown = seconds_of(offsets_of_local(first, rows.as_slice(), number));
                 println!(rt; "= {} {:?}", offset_of_instant(first, rows.as_slice(), number).local_minus_utc(), shown)?
@@ -83,37 +83,8 @@ fn seconds_of(offsets: MappedLocalTime<FixedOffset>) -> (Option<i32>, Option<i32
     }
 }
 
-fn number_of(word: Option<&str>) -> i32 {
-    word.unwrap_or("").parse().unwrap_or(0)
-}
-
-fn weekday_of(number: i32) -> Weekday {
-    match number {
-        0 => Weekday::Sun,
-        1 => Weekday::Mon,
-        2 => Weekday::Tue,
-        3 => Weekday::Wed,
-        4 => Weekday::Thu,
-        5 => Weekday::Fri,
-        _ => Weekday::Sat,
-    }
-}
-
-// A day by three numbers: month, 10 times the week and the weekday; or 0, 1 for days without 29 February, and the day.
-fn day_of(month: i32, week: i32, day: i32) -> RuleDay {
-    if month > 0 {
-        RuleDay::Week { month: month as u32, week: (week / 10) as u8, weekday: weekday_of(day) }
-    } else if week == 1 {
-        RuleDay::Julian(day as u16)
-    } else {
-        RuleDay::FromZero(day as u16)
-    }
-}
-
-fn daylight_of(n: &[i32; 9]) -> Option<Daylight> {
-    let begins = Change::new(day_of(n[1], n[2], n[3]), n[4])?;
-    let ends = Change::new(day_of(n[5], n[6], n[7]), n[8])?;
-    Some(Daylight { offset: FixedOffset::east_opt(n[0])?, begins, ends })
+fn name_of(bytes: &[u8]) -> &str {
+    str::from_utf8(bytes).unwrap_or("?")
 }
 '''
 
@@ -130,21 +101,35 @@ def year_of(second):
 
 
 class Rule:
-    """A rule: an offset, and an offset of daylight time with two changes, each a day as three numbers and a second."""
+    """A rule: two names, an offset, and an offset of daylight time with two changes, each a day as three numbers and a second."""
 
-    def __init__(self, standard, daylight=None, begins=None, ends=None):
-        self.standard, self.daylight, self.begins, self.ends = standard, daylight, begins, ends
+    NAME, SIZE, CHANGE = r"(?:<([A-Za-z0-9+-]{3,})>|([A-Za-z]{3,}))", r"([+-]?\d+(?::\d+){0,2})", r"(M(?!0+\.)\d+\.\d+\.\d+|J?\d+)(?:/([+-]?\d+(?::\d+){0,2}))?"
+    TEXT = re.compile(rf"{NAME}{SIZE}(?:{NAME}{SIZE}?,{CHANGE},{CHANGE})?", re.A)
+
+    def __init__(self, names, standard, daylight=None, begins=None, ends=None):
+        self.names, self.standard, self.daylight, self.begins, self.ends = names, standard, daylight, begins, ends
 
     @classmethod
     def read(cls, text):
-        """A rule from the text at a file's end."""
-        name, size = r"(?:<[^>]+>|[A-Za-z]+)", r"([+-]?[\d:]+)"
-        found = re.fullmatch(rf"{name}{size}(?:{name}{size}?,([^,/]+)(?:/([^,]+))?,([^,/]+)(?:/([^,]+))?)?", text)
-        standard = -cls.seconds(found[1])
-        if not found[3]:
-            return cls(standard)
-        daylight = -cls.seconds(found[2]) if found[2] else standard + 3_600
-        return cls(standard, daylight, cls.change(found[3], found[4]), cls.change(found[5], found[6]))
+        """The rule that a text is of, or None."""
+        found = cls.TEXT.fullmatch(text)
+        if not found:
+            return None
+        name, other, offset, name2, other2, offset2, day, time, day2, time2 = found.groups()
+        standard = -cls.seconds(offset)
+        if not day:
+            rule = cls((name or other, ""), standard)
+        else:
+            daylight = -cls.seconds(offset2) if offset2 else standard + 3_600
+            rule = cls((name or other, name2 or other2), standard, daylight, cls.change(day, time), cls.change(day2, time2))
+        numbers = [int(it) for part in (offset, offset2, time, time2) if part for it in part.split(":")[1:]]
+        return rule if max(numbers, default=0) < 60 and rule.in_range() else None
+
+    def in_range(self):
+        changes = [it for it in (self.begins, self.ends) if it]
+        days = {1: (1, 365), 0: (0, 365)}
+        fit = all((1 <= month <= 12 and 1 <= week // 10 <= 5 and day <= 6) if month else days[week][0] <= day <= days[week][1] for month, week, day, _ in changes)
+        return fit and all(abs(it[3]) < 7 * DAY for it in changes) and all(abs(it) < DAY for it in self.offsets())
 
     @staticmethod
     def seconds(text):
@@ -158,6 +143,42 @@ class Rule:
             month, week, weekday = map(int, day[1:].split("."))
             return month, 10 * week, weekday, second
         return (0, 1, int(day[1:]), second) if day[0] == "J" else (0, 0, int(day), second)
+
+    @staticmethod
+    def clock(seconds):
+        """Hours, and minutes and seconds where they are not 0, with a `-` if it is negative."""
+        size = abs(seconds)
+        parts = [size // 3_600, size // 60 % 60, size % 60]
+        while len(parts) > 1 and not parts[-1]:
+            parts.pop()
+        return "-" * (seconds < 0) + ":".join(f"{it:02}" if at else str(it) for at, it in enumerate(parts))
+
+    @classmethod
+    def date(cls, change):
+        month, week, day, second = change
+        return (f"M{month}.{week // 10}.{day}" if month else "J" * week + str(day)) + (f"/{cls.clock(second)}" if second != 7_200 else "")
+
+    def text(self):
+        names = [it if it.isalpha() else f"<{it}>" for it in self.names]
+        text = names[0] + self.clock(-self.standard)
+        if self.daylight is None:
+            return text
+        return text + names[1] + ("" if self.daylight == self.standard + 3_600 else self.clock(-self.daylight)) + f",{self.date(self.begins)},{self.date(self.ends)}"
+
+    def told(self):
+        """The names and the rule, as the program tells them."""
+        offset = lambda it: f"{'-' if it < 0 else '+'}{abs(it) // 3_600:02}:{abs(it) // 60 % 60:02}" + (f":{abs(it) % 60:02}" if it % 60 else "")  # noqa: E731
+        days = ("Sun", "Mon", "Tue", "Wed", "Thu", "Fri", "Sat")
+
+        def change(it):
+            month, week, day, second = it
+            told = f"Week {{ month: {month}, week: {week // 10}, weekday: {days[day]} }}" if month else f"{'Julian' if week else 'FromZero'}({day})"
+            return f"Change {{ day: {told}, second: {second} }}"
+
+        daylight = "None"
+        if self.daylight is not None:
+            daylight = f"Some(Daylight {{ offset: {offset(self.daylight)}, begins: {change(self.begins)}, ends: {change(self.ends)} }})"
+        return f"{self.names[0]} {self.names[1]} ZoneRule {{ standard: {offset(self.standard)}, daylight: {daylight} }}"
 
     @staticmethod
     def shown(change, year):
@@ -186,10 +207,6 @@ class Rule:
     def offsets(self):
         return {self.standard} if self.daylight is None else {self.standard, self.daylight}
 
-    def line(self):
-        # A whole day is no offset, so no daylight time.
-        return f"rule {self.standard} " + (f"{DAY}" if self.daylight is None else f"{self.daylight} {' '.join(map(str, self.begins + self.ends))}")
-
 
 class Zone:
     """A zone of the database: its rows, its rule, and zoneinfo's reading of it."""
@@ -209,7 +226,9 @@ class Zone:
         at += 9 * times
         offsets = [struct.unpack(">lbb", data[at + 6 * it : at + 6 * it + 6])[0] for it in range(types)]
         at += 6 * types + chars + leap * 12 + isstd + isut
-        self.rule = Rule.read(data[at:].strip().decode()) if data[at:].strip() else None
+        self.footer = data[at:].strip().decode()
+        self.rule = Rule.read(self.footer) if self.footer else None
+        assert self.rule or not self.footer, name
         # Rows below zoneinfo's years stand for the beginning of time.
         self.first = offsets[0]
         self.rows = [(second, offsets[kind]) for second, kind in zip(seconds, kinds)]
@@ -269,18 +288,19 @@ def of_zone(draw, zone, lines):
             after, before = zone.changes(second)
             yield f"changes {second}", f"{option(after)} {option(before)}"
     if zone.rule and (not zone.rows or zone.rule.at(last) == zone.rows[-1][1]):
-        yield from of_rule(draw, zone.rule, lines, zone.at, max(last, FIRST) + 2 * DAY)
+        yield from of_rule(draw, zone.rule, lines, zone.footer, zone.at, max(last, FIRST) + 2 * DAY)
 
 
-def of_rule(draw, rule, lines, at=None, since=0):
+def of_rule(draw, rule, lines, text=None, at=None, since=0):
     """Questions to a rule, each with its answer: from a second on by zoneinfo in its years, and else by the second reading."""
-    yield rule.line(), str(rule.daylight is not None).lower()
+    text = text or rule.text()
+    yield f"text {text}", rule.told()
     for _ in range(lines):
         year = draw.choice((draw.randrange(2040, 2500), draw.randrange(2040, 9_990), draw.randrange(-262_143, 262_143), draw.randrange(-10**9, 10**9)))
         changes = [it[0] for it in rule.changes(year)] + [year_day(year) * DAY]
         second = near(draw, changes, rule.offsets())
         if at and since < second < LAST:
-            assert at(second) == rule.at(second), (rule.line(), second)
+            assert at(second) == rule.at(second), (text, second)
             yield f"ruled {second}", told(at, rule.offsets(), second)
         else:
             yield f"ruled {second}", told(rule.at, rule.offsets(), second)
@@ -295,7 +315,18 @@ def made_rule(draw):
     change = lambda: (*draw.choice((month, julian, counted))(), hours())  # noqa: E731
     standard = draw.choice((0, -18_000, draw.randrange(-DAY + 1, DAY)))
     daylight = draw.choice((standard + 3_600, standard - 3_600, standard, draw.randrange(-DAY + 1, DAY)))
-    return Rule(standard, max(1 - DAY, min(DAY - 1, daylight)), change(), change())
+    name = lambda: "".join(draw.choices(draw.choice(("ABCxyz", "AZaz019+-")), k=draw.randrange(3, 9)))  # noqa: E731
+    if draw.random() < 0.1:
+        return Rule((name(), ""), standard)
+    return Rule((name(), name()), standard, max(1 - DAY, min(DAY - 1, daylight)), change(), change())
+
+
+def changed_text(draw, text):
+    """A text with a byte changed, left out or put in, and what it is a rule of."""
+    at, byte = draw.randrange(len(text)), draw.choice("0123456789:+-/.,<>MJABz")
+    text = text[:at] + draw.choice((byte, byte + text[at], "")) + text[at + 1 :]
+    rule = Rule.read(text)
+    return f"text {text}", rule.told() if rule else "none true"
 
 
 def zones():
@@ -309,7 +340,7 @@ def zones():
 
 def answers_of(room, questions):
     """What the program answers."""
-    folder = put_program(room, "zones", ["chrono_datetime", "zone_table", "zone_rule"], PROGRAM)
+    folder = put_program(room, "zones", ["chrono_datetime", "zone_table", "zone_rule", "zone_text"], PROGRAM)
     said = subprocess.run(["rt", "try"], cwd=folder, input="".join(f"{it}\n" for it in questions), stdout=subprocess.PIPE, stderr=subprocess.STDOUT, text=True, errors="replace").stdout
     if not re.search(r"^run=ended status=0 ", said, re.M):
         sys.exit(f"the program fails:\n{said[-3000:]}")
@@ -335,7 +366,9 @@ def main():
     for zone in known:
         rows += of_zone(draw, zone, each)
     while len(rows) < options.lines:
-        rows += of_rule(draw, made_rule(draw), 20)
+        rule = made_rule(draw)
+        rows += of_rule(draw, rule, 20)
+        rows += [changed_text(draw, rule.text()) for _ in range(10)]
     questions, wanted = [it for it, _ in rows], [it for _, it in rows]
     with tempfile.TemporaryDirectory(prefix="zones-") as room:
         answers = answers_of(room, questions)

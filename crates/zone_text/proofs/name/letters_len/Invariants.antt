@@ -1,0 +1,13 @@
+-- The bytes so far pass the test.
+use Rattle.std.proofs.Common.{◌≡◌, ◌-◌, ◌<◌, ◌≤◌, ℕ, true, get_or, length}
+use Rattle.std.specs.Char.{is_ascii_alphabetic}
+use Rattle.zone_text.proofs.name.letters_len.Given as goal
+
+abbrev pub invariant-loop-len : goal.invariant-loop-len
+invariant-loop-len l = record {
+  within : l.len ≤ length l.text;
+  passed : (k : ℕ) → k < l.len → is_ascii_alphabetic (get_or l.text k 0) ≡ true;
+}
+
+abbrev pub decreases-loop-len : goal.decreases-loop-len
+decreases-loop-len l = length l.text - l.len

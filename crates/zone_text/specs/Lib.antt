@@ -1,0 +1,4 @@
+pub mod HourTexts
+pub mod ChangeTexts
+pub mod NameTexts
+pub mod ZoneTexts
