@@ -1,6 +1,5 @@
 -- Daylight time that ends at the second at which it begins again.
-use Rattle.std.proofs.Common.{◌≡◌, ◌+◌, ℤ, pos, neg_ℤ, ◌+ℤ◌, ◌-ℤ◌, ◌≤ℤ◌, Bool, true, false, ◌&&◌, cond, nat_le, int_le, refl, sym, subst, arith}
-use Rattle.std.proofs.lemmas.Bool.{cond_both}
+use Rattle.std.proofs.Common.{◌≡◌, ◌+◌, ℤ, pos, neg_ℤ, ◌+ℤ◌, ◌≤ℤ◌, Bool, true, false, ◌&&◌, cond, nat_le, int_le, refl, sym, subst, arith}
 use Rattle.std.proofs.lemmas.Int.{ints}
 use Rattle.chrono_units.specs.Years.{is_leap_year, year_length}
 use Rattle.chrono_calendar.proofs.Signed.{signed}
@@ -10,6 +9,7 @@ use Rattle.zone_rule.specs.RuleDays.{ordinal_of_julian}
 use Rattle.zone_rule.specs.Rules.{is_daylight}
 use Rattle.zone_rule.specs.declared.rule_day.RuleDay.TheVariants.{Julian, FromZero}
 use Rattle.zone_rule.proofs.DaysInYears.{day_in_year-from_zero, day_in_year-julian}
+use Rattle.zone_rule.proofs.LastChanges.{last_by-some}
 use Rattle.zone_rule.proofs.LastOfAll.{last_change}
 
 abbrev pub new_year : YearlyChange
@@ -26,15 +26,6 @@ joined : (y : ℤ) → change_second (neg_ℤ (pos 14_400)) last_hour y ≡ chan
 joined y =
     let length : ordinal_of_julian y 365 ≡ year_length y = last_ordinal (is_leap_year y) in
     omega (arith, signed, length, days_before_year-next y (y +ℤ pos 1) refl, day_in_year-julian y 365, day_in_year-from_zero (y +ℤ pos 1) 0)
-
--- the last change is that of some year
-last_by-some : (f : ℤ → ℤ) (y u : ℤ) → (P : ℤ → Type 0) → ((w : ℤ) → P (f w)) → P (last_by f y u)
-last_by-some f y u P each =
-    cond_both (int_le (f (y +ℤ pos 1)) u) (f (y +ℤ pos 1)) (cond (int_le (f y) u) (f y) (cond (int_le (f (y -ℤ pos 1)) u) (f (y -ℤ pos 1)) (f (y -ℤ pos 2)))) P
-    (λ _. each (y +ℤ pos 1))
-    (λ _. cond_both (int_le (f y) u) (f y) (cond (int_le (f (y -ℤ pos 1)) u) (f (y -ℤ pos 1)) (f (y -ℤ pos 2))) P
-    (λ _. each y)
-    (λ _. cond_both (int_le (f (y -ℤ pos 1)) u) (f (y -ℤ pos 1)) (f (y -ℤ pos 2)) P (λ _. each (y -ℤ pos 1)) (λ _. each (y -ℤ pos 2))))
 
 new_year-is : IsChange new_year
 new_year-is = record { day = omega arith; second = omega arith }

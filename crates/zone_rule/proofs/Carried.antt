@@ -1,10 +1,16 @@
 -- Sums of seconds that fit their type.
-use Rattle.std.proofs.Common.{◌≡◌, ◌<◌, ℤ, pos, negsuc, ◌+ℤ◌, ◌-ℤ◌, ◌*ℤ◌, unsigned_abs, to_z, of_z, w64, SFits, sym, ap, subst, ◌∙◌, arith}
+use Rattle.std.proofs.Common.{◌≡◌, ◌<◌, ℤ, pos, negsuc, ◌+ℤ◌, ◌-ℤ◌, ◌*ℤ◌, ◌≤ℤ◌, unsigned_abs, to_z, of_z, w64, SFits, sym, ap, subst, ◌∙◌, arith}
 use Rattle.std.proofs.lemmas.Int.{ints, to_z-of_z}
 
 fits : (y : ℤ) → unsigned_abs y < 4_611_686_018_427_387_904 → SFits w64 y
 fits (pos n) h = record { sfits = omega (arith, h) }
 fits (negsuc n) h = record { sfits = omega (arith, h) }
+
+-- a number from 0 up to one that fits does so too
+pub fits_up_to : (y m : ℤ) → pos 0 ≤ℤ y → y ≤ℤ m → SFits w64 m → SFits w64 y
+fits_up_to (pos n) (pos k) least most h = let bound = h.sfits in record { sfits = omega (arith, ints, most, bound) }
+fits_up_to (pos n) (negsuc k) least most h = absurd (omega (arith, ints, most))
+fits_up_to (negsuc n) m least most h = absurd (omega (arith, ints, least))
 
 -- a number that is one of these comes back as it
 pub carried : (x y : ℤ) → x ≡ y → unsigned_abs y < 4_611_686_018_427_387_904 → to_z w64 (of_z w64 x) ≡ y

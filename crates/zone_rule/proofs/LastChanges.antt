@@ -1,5 +1,6 @@
 -- Which of the seconds of a change is the last one by u.
 use Rattle.std.proofs.Common.{◌≡◌, ℤ, pos, ◌+ℤ◌, ◌-ℤ◌, ◌≤ℤ◌, ◌<ℤ◌, Bool, true, false, cond, int_le, sym, ap, ◌∙◌, arith}
+use Rattle.std.proofs.lemmas.Bool.{cond_both}
 use Rattle.std.proofs.lemmas.Int.{ints}
 use Rattle.std.specs.Prelude.{Option, Some}
 use Rattle.chrono_calendar.specs.Days.{year_of}
@@ -46,6 +47,15 @@ last_by-first second y u a b c d at_a a_later at_b b_later at_c c_later at_d =
     let middle : int_le (second y) u ≡ false = is_later (second y) u (omega (arith, signed, at_b, b_later)) in
     let last : int_le (second (y -ℤ pos 1)) u ≡ false = is_later (second (y -ℤ pos 1)) u (omega (arith, signed, at_c, c_later)) in
     rw (first, middle, last) at_d
+
+-- the last change is that of some year
+pub last_by-some : (f : ℤ → ℤ) (y u : ℤ) → (P : ℤ → Type 0) → ((w : ℤ) → P (f w)) → P (last_by f y u)
+last_by-some f y u P each =
+    cond_both (int_le (f (y +ℤ pos 1)) u) (f (y +ℤ pos 1)) (cond (int_le (f y) u) (f y) (cond (int_le (f (y -ℤ pos 1)) u) (f (y -ℤ pos 1)) (f (y -ℤ pos 2)))) P
+    (λ _. each (y +ℤ pos 1))
+    (λ _. cond_both (int_le (f y) u) (f y) (cond (int_le (f (y -ℤ pos 1)) u) (f (y -ℤ pos 1)) (f (y -ℤ pos 2))) P
+    (λ _. each y)
+    (λ _. cond_both (int_le (f (y -ℤ pos 1)) u) (f (y -ℤ pos 1)) (f (y -ℤ pos 2)) P (λ _. each (y -ℤ pos 1)) (λ _. each (y -ℤ pos 2))))
 
 -- a day of the years 1969 to 2370 has a year there
 pub year_of-cycle : (n : ℤ) → pos 719_162 ≤ℤ n → n ≤ℤ pos 865_262 → IsYearOfCycle (year_of n)

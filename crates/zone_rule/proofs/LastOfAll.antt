@@ -117,7 +117,7 @@ rises_by f later z (suc n) =
     let same : f (z +ℤ pos n +ℤ pos 1) ≡ f (z +ℤ pos (suc n)) = ap f (omega (arith, signed)) in
     omega (arith, signed, front, step, same)
 
-rises : (f : ℤ → ℤ) → ((y : ℤ) → f y <ℤ f (y +ℤ pos 1)) → (z w d : ℤ) → d ≡ w -ℤ z → z ≤ℤ w → f z ≤ℤ f w
+pub rises : (f : ℤ → ℤ) → ((y : ℤ) → f y <ℤ f (y +ℤ pos 1)) → (z w d : ℤ) → d ≡ w -ℤ z → z ≤ℤ w → f z ≤ℤ f w
 rises f later z w (pos n) e le =
     let same : f (z +ℤ pos n) ≡ f w = ap f (omega (arith, signed, e)) in
     let front = rises_by f later z n in
@@ -171,14 +171,21 @@ low_days a b n p len more s o u x next again l m near is_s is_o from is = omega 
 high_days : (n b : ℤ) (p len : ℕ) (s o u x : ℤ) → b ≡ n +ℤ pos len → 365 ≤ len → unsigned_abs s < 604_800 → unsigned_abs o < 86_400 → u <ℤ ((n +ℤ pos 1 -ℤ pos 719_163) *ℤ pos 86_400) → x ≡ ((b +ℤ pos p -ℤ pos 719_163) *ℤ pos 86_400 +ℤ s -ℤ o) → u <ℤ x
 high_days n b p len s o u x next l is_s is_o to is = omega (arith, signed, next, l, is_s, is_o, to, is)
 
+-- the change of the year before the last one has come, and that of the year after the next one has not
+pub change-come : (offset : ℤ) (c : YearlyChange) (u : ℤ) → IsChange c → unsigned_abs offset < 86_400 → change_second offset c (year_of_second u -ℤ pos 2) ≤ℤ u
+change-come offset c u is near =
+    let y : ℤ = year_of_second u in
+    low_days (days_before_year (y -ℤ pos 2)) (days_before_year (y -ℤ pos 1)) (days_before_year y) (place (y -ℤ pos 2) c.day) (year_length (y -ℤ pos 2)) (year_length (y -ℤ pos 1)) c.second offset u (change_second offset c (y -ℤ pos 2))
+    (days_before_year-next (y -ℤ pos 2) (y -ℤ pos 1) (omega (arith, signed))) (days_before_year-next (y -ℤ pos 1) y (omega (arith, signed)))
+    (year_length_bounds (y -ℤ pos 2)).0 (year_length_bounds (y -ℤ pos 1)).0 (place-bounds (y -ℤ pos 2) c.day is.day).2 is.second near (second_in_year u).0 (change_second-place offset c (y -ℤ pos 2))
+
+pub change-later : (offset : ℤ) (c : YearlyChange) (u : ℤ) → IsChange c → unsigned_abs offset < 86_400 → u <ℤ change_second offset c (year_of_second u +ℤ pos 1 +ℤ pos 1)
+change-later offset c u is near =
+    let y : ℤ = year_of_second u in
+    high_days (days_before_year (y +ℤ pos 1)) (days_before_year (y +ℤ pos 1 +ℤ pos 1)) (place (y +ℤ pos 1 +ℤ pos 1) c.day) (year_length (y +ℤ pos 1)) c.second offset u (change_second offset c (y +ℤ pos 1 +ℤ pos 1))
+    (days_before_year-next (y +ℤ pos 1) (y +ℤ pos 1 +ℤ pos 1) refl) (year_length_bounds (y +ℤ pos 1)).0 is.second near (second_in_year u).1 (change_second-place offset c (y +ℤ pos 1 +ℤ pos 1))
+
 pub last_change : (offset : ℤ) (c : YearlyChange) (u : ℤ) → IsChange c → unsigned_abs offset < 86_400 → (last_by (change_second offset c) (year_of_second u) u ≤ℤ u) × ((z : ℤ) → change_second offset c z ≤ℤ u → change_second offset c z ≤ℤ last_by (change_second offset c) (year_of_second u) u)
 unfolding IsLast
 last_change offset c u is near =
-    let y : ℤ = year_of_second u in
-    let within = second_in_year u in
-    last_by-last (change_second offset c) (λ z. change_second-later offset c z is.day) y u
-    (low_days (days_before_year (y -ℤ pos 2)) (days_before_year (y -ℤ pos 1)) (days_before_year y) (place (y -ℤ pos 2) c.day) (year_length (y -ℤ pos 2)) (year_length (y -ℤ pos 1)) c.second offset u (change_second offset c (y -ℤ pos 2))
-    (days_before_year-next (y -ℤ pos 2) (y -ℤ pos 1) (omega (arith, signed))) (days_before_year-next (y -ℤ pos 1) y (omega (arith, signed)))
-    (year_length_bounds (y -ℤ pos 2)).0 (year_length_bounds (y -ℤ pos 1)).0 (place-bounds (y -ℤ pos 2) c.day is.day).2 is.second near within.0 (change_second-place offset c (y -ℤ pos 2)))
-    (high_days (days_before_year (y +ℤ pos 1)) (days_before_year (y +ℤ pos 1 +ℤ pos 1)) (place (y +ℤ pos 1 +ℤ pos 1) c.day) (year_length (y +ℤ pos 1)) c.second offset u (change_second offset c (y +ℤ pos 1 +ℤ pos 1))
-    (days_before_year-next (y +ℤ pos 1) (y +ℤ pos 1 +ℤ pos 1) refl) (year_length_bounds (y +ℤ pos 1)).0 is.second near within.1 (change_second-place offset c (y +ℤ pos 1 +ℤ pos 1)))
+    last_by-last (change_second offset c) (λ z. change_second-later offset c z is.day) (year_of_second u) u (change-come offset c u is near) (change-later offset c u is near)

@@ -4,4 +4,5 @@ mod Carried
 mod DaysInYears
 mod LastChanges
 mod LastOfAll
+mod NextChanges
 mod RuleCycles

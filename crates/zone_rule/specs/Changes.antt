@@ -1,5 +1,5 @@
 -- When a clock is set in each year (POSIX.1-2017, Base Definitions, section 8.3, TZ).
-use Rattle.std.specs.Prelude.{◌≤◌, ◌<◌, ℕ, ◌+◌, ◌-◌, if◌then◌else◌, ℤ, pos, ◌+ℤ◌, ◌-ℤ◌, ◌*ℤ◌, ◌≤ℤ◌, int_le, unsigned_abs, List, get_or}
+use Rattle.std.specs.Prelude.{◌≡◌, ◌≤◌, ◌<◌, ℕ, ◌+◌, ◌-◌, if◌then◌else◌, ℤ, pos, ◌+ℤ◌, ◌-ℤ◌, ◌*ℤ◌, ◌≤ℤ◌, ◌<ℤ◌, int_le, unsigned_abs, List, get_or}
 use Rattle.std.specs.Int.{IsInRange, int_div_euclid}
 use Rattle.chrono_clock.specs.Time.{seconds_per_day}
 use Rattle.chrono_datetime.specs.Days.{day_number_of_ymd, day_number_of_yo, year_of}
@@ -55,3 +55,9 @@ last_by second y u =
     else if int_le (second y) u then second y
     else if int_le (second (y -ℤ pos 1)) u then second (y -ℤ pos 1)
     else second (y -ℤ pos 2)
+
+-- t is the first second after s that a yearly change has
+pub record IsNextOf (second : ℤ → ℤ) (s t : ℤ) : Type 0 where
+  pub later : s <ℤ t
+  pub comes : (y : ℤ) × (second y ≡ t)
+  pub first : (y : ℤ) → s <ℤ second y → t ≤ℤ second y

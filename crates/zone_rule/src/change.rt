@@ -4,6 +4,7 @@ ghost use Rattle.std.specs.Option.{SomeIff};
 ghost use Rattle.chrono_units.specs.Years.{IsYear};
 ghost use Rattle.chrono_clock.specs.Time.{seconds_per_day};
 ghost use Rattle.chrono_datetime.specs.Fields.{unix_epoch_day};
+ghost use Rattle.chrono_zoned.specs.Offsets.{IsOffset};
 ghost use Rattle.zone_rule.specs.Changes.{IsChange, change_second};
 
 use crate::rule_day::RuleDay;
@@ -90,7 +91,9 @@ impl Change {
     // The second of the change in a year, where the clock before it is so far ahead of UTC.
     pub(crate) fn second_in(&self, year: i32, offset: FixedOffset) -> i64
         requires { IsYear year }
-        ensures { result ≡ change_second offset self.now year }
+        ensures value { result ≡ change_second offset self.now year }
+        ensures change { IsChange self.now }
+        ensures offset { IsOffset offset }
     {
         second_of(
             self.day.number_in(year),

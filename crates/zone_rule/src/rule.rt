@@ -1,9 +1,10 @@
 //! `ZoneRule`: standard time, and daylight time in a part of each year.
-ghost use Rattle.std.specs.Prelude.{◌≡◌, ◌↔◌, Bool, if◌then◌else◌, ℤ, pos, neg_ℤ, ◌-ℤ◌, ◌≤ℤ◌, IfSome, IsSome};
+ghost use Rattle.std.specs.Prelude.{◌≡◌, ◌↔◌, Bool, if◌then◌else◌, ℤ, pos, neg_ℤ, ◌+ℤ◌, ◌-ℤ◌, ◌<ℤ◌, ◌≤ℤ◌, IfNone, IfSome, IsSome, Some};
 ghost use Rattle.chrono_units.specs.Years.{IsYear};
+ghost use Rattle.chrono_zoned.specs.Offsets.{IsOffset};
 ghost use Rattle.chrono_zoned.specs.Zones.{IsMapped};
-ghost use Rattle.zone_rule.specs.Changes.{IsYearOfCycle, change_second, last_by, year_of_second};
-ghost use Rattle.zone_rule.specs.Rules.{is_daylight, is_daylight_by, rule_offset};
+ghost use Rattle.zone_rule.specs.Changes.{IsChange, IsNextOf, IsYearOfCycle, change_second, last_by, year_of_second};
+ghost use Rattle.zone_rule.specs.Rules.{IsNextSetting, IsSetAt, IsSteadyUntil, is_daylight, is_daylight_by, rule_offset};
 
 use crate::change::Change;
 use chrono_datetime::{Datelike, NaiveDate};
@@ -120,6 +121,46 @@ impl ZoneRule {
         Some((begins, daylight.ends.second_in(year, daylight.offset)))
     }
 
+    /// Returns the next second after `second` at which the rule sets the clock, from 1 January 1970 in UTC.
+    ///
+    /// Daylight time begins or ends there, even if the offset stays the same. Returns `None` if the rule has no daylight time, or
+    /// if that second is past `i64::MAX`.
+    ///
+    /// ```
+    /// let begins = Change::new(RuleDay::Julian(60), 7_200)?;
+    /// let ends = Change::new(RuleDay::Julian(300), 7_200)?;
+    /// let daylight = Daylight { offset: FixedOffset::east_opt(3_600)?, begins, ends };
+    /// let rule = ZoneRule { standard: FixedOffset::east_opt(0)?, daylight: Some(daylight) };
+    /// rule.next_change(1_709_258_399) // Some(1709258400)
+    /// rule.next_change(1_709_258_400) // Some(1729990800)
+    /// rule.next_change(i64::MAX) // None
+    /// ```
+    pub fn next_change(&self, second: i64) -> Option<i64>
+        ensures next { IfSome result (IsNextSetting self.now second) }
+        ensures none { IfNone result ((t : ℤ) → IsSetAt self.now t → second <ℤ t → pos 9_223_372_036_854_775_807 <ℤ t) }
+    {
+        second.checked_add(self.seconds_to_change(second)?)
+    }
+
+    /// Returns how many seconds after `second` the rule sets the clock next. Returns `None` if it has no daylight time.
+    ///
+    /// ```
+    /// let begins = Change::new(RuleDay::Julian(60), 7_200)?;
+    /// let ends = Change::new(RuleDay::Julian(300), 7_200)?;
+    /// let daylight = Daylight { offset: FixedOffset::east_opt(3_600)?, begins, ends };
+    /// let rule = ZoneRule { standard: FixedOffset::east_opt(0)?, daylight: Some(daylight) };
+    /// rule.seconds_to_change(1_709_258_399) // Some(1)
+    /// ```
+    pub fn seconds_to_change(&self, second: i64) -> Option<i64>
+        ensures exists { IsSome result ↔ IsSome self.now.daylight }
+        ensures next { IfSome result (λ wait. IsNextSetting self.now second (second +ℤ wait)) }
+        ensures steady { IfSome result (λ wait. IsSteadyUntil self.now second (second +ℤ wait)) }
+        ensures offsets { IfSome result (λ _. (u : ℤ) → IsOffset (rule_offset self.now u)) }
+    {
+        let daylight = self.daylight?;
+        Some(daylight.seconds_to_change(self.standard, second))
+    }
+
     /// Returns the offsets at all instants at which the clock shows the local second `local`, the earlier instant first.
     ///
     /// There is none if the clock is set ahead past `local`. There are two if it is set back, and shows `local` twice.
@@ -157,6 +198,19 @@ impl Daylight {
             self.holds_at(standard, of_standard),
             self.holds_at(standard, of_daylight),
         )
+    }
+
+    // How many seconds after the second daylight time begins or ends next, where standard time has the offset.
+    fn seconds_to_change(&self, standard: FixedOffset, second: i64) -> i64
+        ensures next { IsNextSetting (record { standard = standard; daylight = Some self.now }) second (second +ℤ result) }
+        ensures steady { IsSteadyUntil (record { standard = standard; daylight = Some self.now }) second (second +ℤ result) }
+        ensures offsets { IsOffset standard × IsOffset self.now.offset }
+    {
+        let place = second.rem_euclid(SECS_PER_CYCLE);
+        let year = year_of_second(place);
+        let begins = next_of(&self.begins, standard, year, place);
+        let ends = next_of(&self.ends, self.offset, year, place);
+        begins.min(ends) - place
     }
 
     // Whether daylight time holds at the second, in or beside the years 1970 to 2369.
@@ -230,4 +284,21 @@ fn last_by(change: &Change, offset: FixedOffset, year: i32, second: i64) -> i64
         return before;
     }
     change.second_in(year - 2, offset)
+}
+
+// The first second after `second`, which lies in the year, that the change has in any year.
+fn next_of(change: &Change, offset: FixedOffset, year: i32, second: i64) -> i64
+    requires own { year ≡ year_of_second second }
+    requires cycle { IsYearOfCycle year }
+    ensures next { IsNextOf (change_second offset change.now) second result }
+    ensures change { IsChange change.now }
+    ensures offset { IsOffset offset }
+{
+    let mut at = year - 1;
+    let mut next = change.second_in(at, offset);
+    while next <= second {
+        at += 1;
+        next = change.second_in(at, offset);
+    }
+    next
 }

@@ -8,8 +8,8 @@ fits32 : (y : ℤ) → unsigned_abs y < 604_800 → SFits w32 y
 fits32 (pos n) h = record { sfits = omega (arith, h) }
 fits32 (negsuc n) h = record { sfits = omega (arith, h) }
 
-pub returns : goal.returns
-returns c =
+pub returns-clause-value : goal.returns-clause-value
+returns-clause-value c =
     let year : to_z w32 (of_z w32 c.args.year) ≡ c.args.year = to_z-of_z w32 c.args.year c.ranges.year in
     let day : c.self.inside.day ≡ c.args.self.now.day = ap (λ (x : YearlyChange). x.day) c.self.view_is in
     let second : c.self.inside.second ≡ c.args.self.now.second = ap (λ (x : YearlyChange). x.second) c.self.view_is in

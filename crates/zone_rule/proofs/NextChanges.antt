@@ -1,0 +1,129 @@
+-- The next second at which a rule sets the clock.
+use Rattle.std.proofs.Common.{◌≡◌, ℕ, zero, suc, ℤ, pos, negsuc, ◌+ℤ◌, ◌-ℤ◌, ◌*ℤ◌, ◌≤ℤ◌, ◌<ℤ◌, true, false, inl, inr, refl, sym, ap, subst, ◌∙◌, arith}
+use Rattle.std.specs.Int.{int_min}
+use Rattle.std.specs.Prelude.{Some, int_lt}
+use Rattle.std.proofs.lemmas.Bool.{cond_both}
+use Rattle.std.proofs.lemmas.Int.{by_lt_z, ints}
+use Rattle.chrono_calendar.proofs.Signed.{signed}
+use Rattle.chrono_zoned.specs.Offsets.{IsOffset}
+use Rattle.zone_rule.specs.Changes.{IsChange, IsNextOf, YearlyChange, change_second, last_by, year_of_second}
+use Rattle.zone_rule.specs.Rules.{IsNextSetting, IsSetBy, IsSteadyUntil, ahead_by, is_daylight}
+use Rattle.zone_rule.specs.declared.rule.Daylight.{Daylight}
+use Rattle.zone_rule.proofs.LastChanges.{last_by-some}
+use Rattle.zone_rule.proofs.LastOfAll.{change_second-later, last_change, rises}
+use Rattle.zone_rule.proofs.RuleCycles.{change_second-again}
+
+-- no change after u comes before that of the year after w, if that of w has come
+ahead : (f : ℤ → ℤ) → ((y : ℤ) → f y <ℤ f (y +ℤ pos 1)) → (w u : ℤ) → f w ≤ℤ u → (z : ℤ) → u <ℤ f z → f (w +ℤ pos 1) ≤ℤ f z
+ahead f later w u come z next = by_lt_z w z
+    (λ (lt : w <ℤ z). rises f later (w +ℤ pos 1) z (z -ℤ (w +ℤ pos 1)) refl (omega (arith, signed, lt)))
+    (λ (le : z ≤ℤ w). let rise = rises f later z w (w -ℤ z) refl le in absurd (omega (arith, signed, rise, next, come)))
+
+pub next_in : (offset : ℤ) (c : YearlyChange) (u y t : ℤ) → IsChange c → t ≡ change_second offset c y → u <ℤ t → change_second offset c (y -ℤ pos 1) ≤ℤ u → IsNextOf (change_second offset c) u t
+next_in offset c u y t is at later come =
+    let same : change_second offset c (y -ℤ pos 1 +ℤ pos 1) ≡ t = ap (change_second offset c) (omega (arith, signed)) ∙ sym at in
+    record {
+      later = later;
+      comes = (y, sym at);
+      first = λ z next. subst (λ (x : ℤ). x ≤ℤ change_second offset c z) same (ahead (change_second offset c) (λ w. change_second-later offset c w is.day) (y -ℤ pos 1) u come z next);
+    }
+
+-- ---- the same after whole cycles of 400 years
+
+cycles_later : (offset : ℤ) (c : YearlyChange) (n : ℕ) (y z : ℤ) → z ≡ y +ℤ pos n *ℤ pos 400 → change_second offset c z ≡ change_second offset c y +ℤ pos n *ℤ pos 12_622_780_800
+cycles_later offset c zero y z e =
+    let same : change_second offset c z ≡ change_second offset c y = ap (change_second offset c) (omega (arith, signed, e)) in
+    omega (arith, signed, same)
+cycles_later offset c (suc n) y z e =
+    let front = cycles_later offset c n y (y +ℤ pos n *ℤ pos 400) refl in
+    let step = change_second-again offset c (y +ℤ pos n *ℤ pos 400) in
+    let same : change_second offset c (y +ℤ pos n *ℤ pos 400 +ℤ pos 400) ≡ change_second offset c z = ap (change_second offset c) (omega (arith, signed, e)) in
+    omega (arith, signed, front, step, same)
+
+cycles_away : (offset : ℤ) (c : YearlyChange) (q y z : ℤ) → z ≡ y +ℤ q *ℤ pos 400 → change_second offset c z ≡ change_second offset c y +ℤ q *ℤ pos 12_622_780_800
+cycles_away offset c (pos n) y z e = cycles_later offset c n y z e
+cycles_away offset c (negsuc n) y z e =
+    let back = cycles_later offset c (suc n) z y (omega (arith, signed, e)) in
+    omega (arith, signed, back)
+
+next_away : (offset : ℤ) (c : YearlyChange) (q s place t : ℤ) → s ≡ place +ℤ q *ℤ pos 12_622_780_800 → IsNextOf (change_second offset c) place t → IsNextOf (change_second offset c) s (t +ℤ q *ℤ pos 12_622_780_800)
+next_away offset c q s place t e at =
+    let later = at.later in
+    record {
+      later = omega (arith, signed, e, later);
+      comes = (at.comes.0 +ℤ q *ℤ pos 400, cycles_away offset c q at.comes.0 (at.comes.0 +ℤ q *ℤ pos 400) refl ∙ ap (λ (x : ℤ). x +ℤ q *ℤ pos 12_622_780_800) at.comes.1);
+      first = λ z next.
+          let back = cycles_away offset c q (z -ℤ q *ℤ pos 400) z (omega (arith, signed)) in
+          let first = at.first (z -ℤ q *ℤ pos 400) (omega (arith, signed, e, back, next)) in
+          omega (arith, signed, back, first);
+    }
+
+-- ---- the sooner of two changes
+
+earlier : (offset : ℤ) (d : Daylight) (s b e t : ℤ) → IsNextOf (change_second offset d.begins) s b → IsNextOf (change_second d.offset d.ends) s e → t ≤ℤ b → t ≤ℤ e → (v : ℤ) → s <ℤ v → IsSetBy offset (Some d) v → t ≤ℤ v
+earlier offset d s b e t begins ends by_b by_e v later (y, inl is) =
+    let first = begins.first y (subst (λ (x : ℤ). s <ℤ x) (sym is) later) in
+    omega (arith, signed, by_b, first, is)
+earlier offset d s b e t begins ends by_b by_e v later (y, inr is) =
+    let first = ends.first y (subst (λ (x : ℤ). s <ℤ x) (sym is) later) in
+    omega (arith, signed, by_e, first, is)
+
+min_second : (b e : ℤ) → e <ℤ b → int_min b e ≡ e
+min_second b e lt = let test : int_lt e b ≡ true = grind (arith, ints) in rw test refl
+
+min_first : (b e : ℤ) → b ≤ℤ e → int_min b e ≡ b
+min_first b e le = let test : int_lt e b ≡ false = grind (arith, ints) in rw test refl
+
+sooner : (offset : ℤ) (d : Daylight) (s b e : ℤ) → IsNextOf (change_second offset d.begins) s b → IsNextOf (change_second d.offset d.ends) s e → IsNextSetting (record { standard = offset; daylight = Some d }) s (int_min b e)
+sooner offset d s b e begins ends = by_lt_z e b
+    (λ (lt : e <ℤ b). rw (min_second b e lt) (record {
+      later = ends.later;
+      sets = (ends.comes.0, inr ends.comes.1);
+      first = earlier offset d s b e e begins ends (omega (arith, signed, lt)) (omega (arith, signed));
+    }))
+    (λ (le : b ≤ℤ e). rw (min_first b e le) (record {
+      later = begins.later;
+      sets = (begins.comes.0, inl begins.comes.1);
+      first = earlier offset d s b e b begins ends (omega (arith, signed)) le;
+    }))
+
+min_away : (b e k : ℤ) → int_min (b +ℤ k) (e +ℤ k) ≡ int_min b e +ℤ k
+min_away b e k = by_lt_z e b
+    (λ (lt : e <ℤ b). min_second (b +ℤ k) (e +ℤ k) (omega (arith, signed, lt)) ∙ ap (λ (x : ℤ). x +ℤ k) (sym (min_second b e lt)))
+    (λ (le : b ≤ℤ e). min_first (b +ℤ k) (e +ℤ k) (omega (arith, signed, le)) ∙ ap (λ (x : ℤ). x +ℤ k) (sym (min_first b e le)))
+
+-- the next changes after a place in the cycle say when the clock is set after a second q cycles later
+pub next_setting : (offset : ℤ) (d : Daylight) (q s place b e m t : ℤ) → s ≡ place +ℤ q *ℤ pos 12_622_780_800 → IsNextOf (change_second offset d.begins) place b → IsNextOf (change_second d.offset d.ends) place e → m ≡ int_min b e → t ≡ m +ℤ q *ℤ pos 12_622_780_800 → IsNextSetting (record { standard = offset; daylight = Some d }) s t
+next_setting offset d q s place b e m t away begins ends least is =
+    let k : ℤ = q *ℤ pos 12_622_780_800 in
+    let same : int_min (b +ℤ k) (e +ℤ k) ≡ t = min_away b e k ∙ ap (λ (x : ℤ). x +ℤ k) (sym least) ∙ sym is in
+    subst (λ (x : ℤ). IsNextSetting (record { standard = offset; daylight = Some d }) s x) same
+    (sooner offset d s (b +ℤ k) (e +ℤ k) (next_away offset d.begins q s place b away begins) (next_away d.offset d.ends q s place e away ends))
+
+-- ---- until then the clock stays as it is
+
+last_same : (offset : ℤ) (c : YearlyChange) (s t u : ℤ) → IsChange c → IsOffset offset → ((y : ℤ) → s <ℤ change_second offset c y → t ≤ℤ change_second offset c y) → s ≤ℤ u → u <ℤ t → last_by (change_second offset c) (year_of_second u) u ≡ last_by (change_second offset c) (year_of_second s) s
+last_same offset c s t u is near none from to =
+    let f : ℤ → ℤ = change_second offset c in
+    let now : ℤ = last_by f (year_of_second u) u in
+    let then : ℤ = last_by f (year_of_second s) s in
+    let at_u = last_change offset c u is near in
+    let at_s = last_change offset c s is near in
+    let front : now ≤ℤ then = last_by-some f (year_of_second u) u (λ (x : ℤ). x ≤ℤ u → x ≤ℤ then)
+    (λ w by. by_lt_z s (f w)
+    (λ (lt : s <ℤ f w). let past = none w lt in absurd (omega (arith, signed, past, by, to)))
+    (λ (le : f w ≤ℤ s). at_s.1 w le))
+    at_u.0 in
+    let back : then ≤ℤ now = last_by-some f (year_of_second s) s (λ (x : ℤ). x ≤ℤ u → x ≤ℤ now) at_u.1 (omega (arith, signed, from, at_s.0)) in
+    omega (arith, signed, front, back)
+
+pub is_steady : (offset : ℤ) (d : Daylight) (s t : ℤ) → IsChange d.begins → IsChange d.ends → IsOffset offset → IsOffset d.offset → IsNextSetting (record { standard = offset; daylight = Some d }) s t → IsSteadyUntil (record { standard = offset; daylight = Some d }) s t
+unfolding is_daylight
+is_steady offset d s t begins ends near far next u from to =
+    let begun = last_same offset d.begins s t u begins near (λ y later. next.first (change_second offset d.begins y) later (y, inl refl)) from to in
+    let ended = last_same d.offset d.ends s t u ends far (λ y later. next.first (change_second d.offset d.ends y) later (y, inr refl)) from to in
+    rw (begun, ended) refl
+
+-- each offset of a rule is one of its two
+pub offsets_near : (offset : ℤ) (d : Daylight) → IsOffset offset → IsOffset d.offset → (u : ℤ) → IsOffset (ahead_by offset (Some d) u)
+offsets_near offset d near far u = cond_both (is_daylight offset d u) d.offset offset (λ (x : ℤ). IsOffset x) (λ _. far) (λ _. near)
