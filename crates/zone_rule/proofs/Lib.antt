@@ -1,8 +1,9 @@
--- Lemmas of this crate's own proofs.
+-- Lemmas that other crates cite stand in these modules.
+pub mod NextChanges
+-- The rest serve this crate's own proofs alone.
 mod AllYear
 mod Carried
 mod DaysInYears
 mod LastChanges
 mod LastOfAll
-mod NextChanges
 mod RuleCycles

@@ -155,7 +155,6 @@ impl ZoneRule {
         ensures exists { IsSome result ↔ IsSome self.now.daylight }
         ensures next { IfSome result (λ wait. IsNextSetting self.now second (second +ℤ wait)) }
         ensures steady { IfSome result (λ wait. IsSteadyUntil self.now second (second +ℤ wait)) }
-        ensures offsets { IfSome result (λ _. (u : ℤ) → IsOffset (rule_offset self.now u)) }
     {
         let daylight = self.daylight?;
         Some(daylight.seconds_to_change(self.standard, second))
@@ -204,7 +203,6 @@ impl Daylight {
     fn seconds_to_change(&self, standard: FixedOffset, second: i64) -> i64
         ensures next { IsNextSetting (record { standard = standard; daylight = Some self.now }) second (second +ℤ result) }
         ensures steady { IsSteadyUntil (record { standard = standard; daylight = Some self.now }) second (second +ℤ result) }
-        ensures offsets { IsOffset standard × IsOffset self.now.offset }
     {
         let place = second.rem_euclid(SECS_PER_CYCLE);
         let year = year_of_second(place);

@@ -2,5 +2,4 @@
 pub mod LocalTimes
 pub mod NextAndPrevious
 pub mod SequenceLemmas
--- The rest serve this crate's own proofs alone.
-mod TableLemmas
+pub mod TableLemmas

@@ -1,0 +1,3 @@
+-- Lemmas of this crate's own proofs.
+mod Joins
+mod ZoneLemmas

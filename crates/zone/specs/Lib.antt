@@ -1,0 +1,3 @@
+pub use Rattle.chrono_zoned.specs.Zones
+pub mod Parts
+pub mod Private
