@@ -1,5 +1,5 @@
 -- Which operands and options a list of words has.
-use Rattle.std.specs.Prelude.{◌≡◌, ℕ, Bool, true, false, not, ◌&&◌, ◌||◌, if◌then◌else◌, nat_eq, nat_lt, List, [], ◌∷◌, ◌++◌, length, map, codes, Option, Some, None, is_some, Result, Ok, Err, MatchResult}
+use Rattle.std.specs.Prelude.{◌≡◌, ℕ, Bool, not, ◌&&◌, ◌||◌, if◌then◌else◌, nat_eq, nat_lt, List, [], ◌∷◌, ◌++◌, length, map, codes, Option, Some, None, is_some, Result, Ok, Err, MatchResult}
 use Rattle.std.specs.List.{list_any, starts_with, position_or_len, before_first, after_first}
 use Rattle.std.specs.Str.{bytes_eq}
 use Rattle.std.specs.Option.{option_or}
@@ -71,7 +71,7 @@ abbrev pub is_flag : Opt → Bool
 is_flag o = nat_eq (length o.value.now) 0
 
 abbrev pub may_be : Opt → List ℕ → Bool
-may_be o text = o.any || list_any (λ t. bytes_eq text t.now) o.values.now
+may_be o text = o.any || list_any (λ t. bytes_eq t.now text) o.values.now
 
 -- what words have with one more, and how the next is read; or the word that breaks the table, and why
 abbrev pub Step : Type 0

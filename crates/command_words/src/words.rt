@@ -1,7 +1,5 @@
 //! Reading the words of a command line: operands, and options with their values in any order.
 ghost use Rattle.std.specs.Prelude.{◌≡◌, ◌||◌, [], map, Ok, Err, IfOk, MatchResult};
-ghost use Rattle.std.specs.List.{list_any};
-ghost use Rattle.std.specs.Str.{bytes_eq};
 ghost use Rattle.std.specs.Option.{option_map};
 ghost use Rattle.command_words.specs.Arguments.{IsStep, attached, free, got, is_flag, is_given, is_option, may_be, mode_of, name_in, named, pair, read, seen, step, step_of_option, value_in, valued};
 
@@ -198,21 +196,7 @@ fn is_flag(option: Opt) -> bool
 fn may_be(option: Opt, text: &str) -> bool
     ensures { result ≡ may_be option text.now }
 {
-    option.any || is_one_of(text, option.values)
-}
-
-// Whether the text is one of these.
-fn is_one_of(text: &str, texts: &[&str]) -> bool
-    ensures { result ≡ list_any (λ t. bytes_eq text.now t.now) texts.now }
-{
-    let mut rest = texts;
-    while let [first, others @ ..] = rest {
-        if text == *first {
-            return true;
-        }
-        rest = others;
-    }
-    false
+    option.any || option.values.contains(&text)
 }
 
 // Whether an option with that name is given.

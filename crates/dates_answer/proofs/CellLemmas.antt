@@ -1,14 +1,10 @@
 -- Which day stands in a cell.
-use Rattle.dates_answer.proofs.Ground.{◌≡◌, ℕ, Bool, true, false, ◌&&◌, cond, Option, Some, None, is_some, sym, arith, ℤ, pos, ◌+ℤ◌, ◌≤ℤ◌, int_le, false≢true, by_lt_z, ints, cond_some, SomeIff, date_of_day, is_date, month_of, year_of, month_first_of, month_last_of, by_test, signed}
+use Rattle.dates_answer.proofs.Ground.{◌≡◌, ℕ, Bool, true, false, ◌&&◌, cond, Option, Some, None, is_some, sym, arith, ℤ, pos, ◌+ℤ◌, ◌≤ℤ◌, int_le, false≢true, by_lt_z, ints, SomeIff, month_of, year_of, month_first_of, month_last_of, by_test, signed}
 use Rattle.chrono_units.specs.Years.{is_leap_year}
 use Rattle.chrono_calendar.proofs.MonthDays.{day_of-bounds}
 use Rattle.chrono_calendar.proofs.Months.{month_length_in-bounds}
 use Rattle.chrono_datetime.specs.declared.Weekday.{Weekday}
 use Rattle.dates_answer.specs.Sheets.{IsEmptyRow, day_of_cell, sheet_day}
-
-pub date_of_day-is : (m d : ℤ) → Some m ≡ date_of_day d → m ≡ d
-unfolding date_of_day
-date_of_day-is m d e = sym (cond_some (is_date d) d m (sym e)).1
 
 between : (o : Option ℤ) (a b d : ℤ) → SomeIff o ((a ≤ℤ d) × (d ≤ℤ b)) d → o ≡ cond (int_le a d && int_le d b) (Some d) None
 between o a b d given = by_test (int_le a d && int_le d b) o d ((a ≤ℤ d) × (d ≤ℤ b)) (λ e. (grind (arith, ints), grind (arith, ints))) (λ h. grind (arith, ints, h.0, h.1)) given

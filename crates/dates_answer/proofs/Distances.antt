@@ -1,109 +1,154 @@
--- Whole days, weeks and years between two days.
-use Rattle.dates_answer.proofs.Ground.{◌≡◌, Option, Some, None, IfSome, IsSomeAnd, refl, sym, ap, ◌∙◌, arith, ℤ, pos, negsuc, ◌+ℤ◌, ◌-ℤ◌, ◌*ℤ◌, ◌≤ℤ◌, ◌<ℤ◌, int_div, by_lt_z, same_Some, IsDate, is_date, date_of_day, month_move, signed, date_of_day-SomeIff, IfSome-cond, month_move-parts, later_month, month_index_of-rises, Days, Weeks, Months, Years, unit_move, IsMostBack, IsMostForth, IsUnitsBetween}
-use Rattle.dates_answer.proofs.MonthDistances.{reaches, at_move}
-
--- what is known of the date of a number
-if_date : (n : ℤ) (P : ℤ → Type 0) → P n → IfSome (date_of_day n) P
-unfolding date_of_day
-if_date n P p = IfSome-cond (is_date n) n P p
-
-at_date : (n : ℤ) (P : ℤ → Type 0) → IsDate n → P n → IsSomeAnd (date_of_day n) P
-at_date n P is p = rw (sym (date_of_day-SomeIff (Some n) n (is, refl))) p
-
-pub days : (from to : ℤ) → IsDate from → IsDate to → IsUnitsBetween Days from to (to -ℤ from)
-unfolding unit_move
-days from to date also = record {
-  forth = λ le. record {
-    forth = omega (arith, signed, le);
-    reached = at_date (from +ℤ (to -ℤ from)) (λ m. m ≤ℤ to) (omega (arith, signed, also.0), omega (arith, signed, also.1)) (omega (arith, signed));
-    most = λ more lt. if_date (from +ℤ more) (λ m. to <ℤ m) (omega (arith, signed, lt));
-  };
-  back = λ lt. record {
-    back = omega (arith, signed, lt);
-    reached = at_date (from +ℤ (to -ℤ from)) (λ m. to ≤ℤ m) (omega (arith, signed, also.0), omega (arith, signed, also.1)) (omega (arith, signed));
-    most = λ more less. if_date (from +ℤ more) (λ m. m <ℤ to) (omega (arith, signed, less));
-  };
-}
-
--- z, multiplied by k, is the whole part of d, rounded towards 0
-pub record IsWholePart (k d z : ℤ) : Type 0 where
-  pub forth : pos 0 ≤ℤ d → ((k *ℤ z) ≤ℤ d) × (d <ℤ (k *ℤ z +ℤ k))
-  pub back : d ≤ℤ pos 0 → (d ≤ℤ (k *ℤ z)) × ((k *ℤ z -ℤ k) <ℤ d)
-
-pub weeks : (from to z : ℤ) → IsDate from → IsDate to → IsWholePart (pos 7) (to -ℤ from) z → IsUnitsBetween Weeks from to z
-unfolding unit_move
-weeks from to z date also whole = record {
-  forth = λ le.
-      let part = whole.forth (omega (arith, signed, le)) in
-      record {
-        forth = omega (arith, signed, le, part.1);
-        reached = at_date (from +ℤ pos 7 *ℤ z) (λ m. m ≤ℤ to) (omega (arith, signed, le, date.0, part.1), omega (arith, signed, also.1, part.0)) (omega (arith, signed, part.0));
-        most = λ more lt. if_date (from +ℤ pos 7 *ℤ more) (λ m. to <ℤ m) (omega (arith, signed, lt, part.1));
-      };
-  back = λ lt.
-      let part = whole.back (omega (arith, signed, lt)) in
-      record {
-        back = omega (arith, signed, lt, part.1);
-        reached = at_date (from +ℤ pos 7 *ℤ z) (λ m. to ≤ℤ m) (omega (arith, signed, also.0, part.0), omega (arith, signed, lt, date.1, part.1)) (omega (arith, signed, part.0));
-        most = λ more less. if_date (from +ℤ pos 7 *ℤ more) (λ m. m <ℤ to) (omega (arith, signed, less, part.1));
-      };
-}
-
--- of two moves that come to dates that of fewer months comes to no later one
-pub no_later : (n k l a b : ℤ) → k ≤ℤ l → month_move n k ≡ Some a → month_move n l ≡ Some b → a ≤ℤ b
-no_later n k l a b le first second =
-    by_lt_z k l (λ lt. omega (arith, signed, later_month a b (omega (arith, signed, lt, (month_move-parts n k a first).0, (month_move-parts n l b second).0))))
-    (λ ge.
-    let same : k ≡ l = omega (arith, signed, le, ge) in
-    let equal : Some a ≡ Some b = sym first ∙ ap (month_move n) same ∙ second in
-    omega (arith, signed, same_Some a b equal))
-
-pub record FoundAt (n k : ℤ) (P : ℤ → Type 0) : Type 0 where
-  pub day : ℤ
-  pub is : month_move n k ≡ Some day
-  pub known : P day
-
-pub found_at : (o : Option ℤ) (n k : ℤ) (P : ℤ → Type 0) → o ≡ month_move n k → IsSomeAnd o P → FoundAt n k P
-found_at (Some m) n k P e p = record { day = m; is = sym e; known = p }
-found_at None n k P e p = elim p [ ]
-
-years_forth : (from to months z : ℤ) → IsDate from → IsDate to → from ≤ℤ to → IsWholePart (pos 12) months z → IsMostForth Months from to months → IsMostForth Years from to z
-unfolding unit_move
-years_forth from to months z date also le whole most =
-    let part = whole.forth most.forth in
-    let found = found_at (month_move from months) from months (λ m. m ≤ℤ to) refl most.reached in
-    let rises = month_index_of-rises found.day to found.known in
-    let years = reaches from (pos 12 *ℤ z) from to date also (omega (arith, signed, most.forth, part.1)) (omega (arith, signed, part.0, rises, (month_move-parts from months found.day found.is).0)) in
-    record {
-      forth = omega (arith, signed, most.forth, part.1);
-      reached = at_move from (pos 12 *ℤ z) years.day (λ m. m ≤ℤ to) years.is (omega (arith, signed, found.known, no_later from (pos 12 *ℤ z) months years.day found.day part.0 years.is found.is));
-      most = λ more lt. most.most (pos 12 *ℤ more) (omega (arith, signed, lt, part.1));
-    }
-
-years_back : (from to months z : ℤ) → IsDate from → IsDate to → to <ℤ from → IsWholePart (pos 12) months z → IsMostBack Months from to months → IsMostBack Years from to z
-unfolding unit_move
-years_back from to months z date also lt whole most =
-    let part = whole.back most.back in
-    let found = found_at (month_move from months) from months (λ m. to ≤ℤ m) refl most.reached in
-    let rises = month_index_of-rises to found.day found.known in
-    let years = reaches from (pos 12 *ℤ z) to from also date (omega (arith, signed, part.0, rises, (month_move-parts from months found.day found.is).0)) (omega (arith, signed, most.back, part.1)) in
-    record {
-      back = omega (arith, signed, most.back, part.1);
-      reached = at_move from (pos 12 *ℤ z) years.day (λ m. to ≤ℤ m) years.is (omega (arith, signed, found.known, no_later from months (pos 12 *ℤ z) found.day years.day part.0 found.is years.is));
-      most = λ more less. most.most (pos 12 *ℤ more) (omega (arith, signed, less, part.1));
-    }
-
-pub years : (from to months z : ℤ) → IsDate from → IsDate to → IsWholePart (pos 12) months z → IsUnitsBetween Months from to months → IsUnitsBetween Years from to z
-years from to months z date also whole most = record {
-  forth = λ le. years_forth from to months z date also le whole (most.forth le);
-  back = λ lt. years_back from to months z date also lt whole (most.back lt);
-}
+-- Whole units between two days: those that the second lies on from the first, or one less where a move by them is past it.
+use Rattle.dates_answer.proofs.Ground.{◌≡◌, ◌⊎◌, inl, inr, Option, Some, None, IfSome, IsSomeAnd, refl, sym, ap, ◌∙◌, arith, ℤ, pos, neg_ℤ, negsuc, ◌+ℤ◌, ◌-ℤ◌, ◌*ℤ◌, ◌≤ℤ◌, ◌<ℤ◌, int_div, false≢true, by_lt_z, cond_some, same_Some, unwrap_or, IsDate, is_date, date_of_day, month_move, month_index_of, year_of_month_index, signed, date_of_day-SomeIff, month_move-parts, month_move-exists, month_index_of-rises, year_of-rises, year_of-range, Unit, Days, Weeks, Months, Years, unit_move, units_apart, IsMostBack, IsMostForth, IsUnitsBetween}
+use Rattle.chrono_units.specs.Years.{IsYear}
+use Rattle.chrono_calendar.proofs.EveryMonths.{date_every-start}
+use Rattle.chrono_calendar.proofs.MonthOrder.{month_of-range}
 
 -- division rounds towards 0
-pub sevenths : (d : ℤ) → IsWholePart (pos 7) d (int_div d (pos 7))
-sevenths (pos n) = record { forth = λ ge. (omega (arith, signed, ge), omega (arith, signed, ge)); back = λ le. (omega (arith, signed, le), omega (arith, signed, le)) }
-sevenths (negsuc n) = record { forth = λ ge. (omega (arith, signed, ge), omega (arith, signed, ge)); back = λ le. (omega (arith, signed, le), omega (arith, signed, le)) }
+sevenths : (d : ℤ) → ((pos 0 ≤ℤ d) × ((pos 7 *ℤ int_div d (pos 7)) ≤ℤ d) × (d <ℤ (pos 7 *ℤ int_div d (pos 7) +ℤ pos 7))) ⊎ ((d <ℤ pos 0) × (d ≤ℤ (pos 7 *ℤ int_div d (pos 7))) × ((pos 7 *ℤ int_div d (pos 7) -ℤ pos 7) <ℤ d))
+sevenths (pos n) = inl (omega (arith, signed), omega (arith, signed), omega (arith, signed))
+sevenths (negsuc n) = inr (omega (arith, signed), omega (arith, signed), omega (arith, signed))
 
-pub twelfths : (d : ℤ) → IsWholePart (pos 12) d (int_div d (pos 12))
-twelfths (pos n) = record { forth = λ ge. (omega (arith, signed, ge), omega (arith, signed, ge)); back = λ le. (omega (arith, signed, le), omega (arith, signed, le)) }
-twelfths (negsuc n) = record { forth = λ ge. (omega (arith, signed, ge), omega (arith, signed, ge)); back = λ le. (omega (arith, signed, le), omega (arith, signed, le)) }
+-- the number of a date, and the date of a number
+pub date_of_day-is : (m d : ℤ) → Some m ≡ date_of_day d → m ≡ d
+unfolding date_of_day
+date_of_day-is m d e = sym (cond_some (is_date d) d m (sym e)).1
+
+pub date_at : (n : ℤ) → IsDate n → date_of_day n ≡ Some n
+date_at n date = sym (date_of_day-SomeIff (Some n) n (date, refl))
+
+-- a move by no unit stays
+stays : (unit : Unit) (n z : ℤ) → IsDate n → z ≡ pos 0 → unit_move unit n z ≡ Some n
+unfolding unit_move
+stays Days n z date e = ap date_of_day (omega (arith, signed, e)) ∙ date_at n date
+stays Weeks n z date e = ap date_of_day (omega (arith, signed, e)) ∙ date_at n date
+stays Months n z date e = ap (month_move n) e ∙ date_every-start n (pos 0) 0 date refl
+stays Years n z date e = ap (month_move n) (omega (arith, signed, e)) ∙ date_every-start n (pos 0) 0 date refl
+
+-- a move by z comes to a day that lies z units on
+pub lies_on : (unit : Unit) (n z m : ℤ) → unit_move unit n z ≡ Some m → units_apart unit n m ≡ z
+unfolding unit_move units_apart
+lies_on Days n z m e = omega (arith, signed, date_of_day-is m (n +ℤ z) (sym e))
+lies_on Weeks n z m e = omega (arith, signed, date_of_day-is m (n +ℤ pos 7 *ℤ z) (sym e), sevenths (m -ℤ n))
+lies_on Months n z m e = omega (arith, signed, (month_move-parts n z m e).0)
+lies_on Years n z m e = omega (arith, signed, (month_move-parts n (pos 12 *ℤ z) m e).0, month_of-range n, month_of-range m)
+
+-- a later day lies no fewer units on
+pub rises : (unit : Unit) (n a b : ℤ) → a ≤ℤ b → units_apart unit n a ≤ℤ units_apart unit n b
+unfolding units_apart
+rises Days n a b le = omega (arith, signed, le)
+rises Weeks n a b le = omega (arith, signed, le, sevenths (a -ℤ n), sevenths (b -ℤ n))
+rises Months n a b le = omega (arith, signed, month_index_of-rises a b le)
+rises Years n a b le = omega (arith, signed, year_of-rises a b le)
+
+-- a move that comes to a day
+pub record Comes (unit : Unit) (n z : ℤ) : Type 0 where
+  pub day : ℤ
+  pub is : unit_move unit n z ≡ Some day
+
+month_comes : (o : Option ℤ) (n k : ℤ) → o ≡ month_move n k → IsYear (year_of_month_index (month_index_of n +ℤ k)) → (m : ℤ) × (month_move n k ≡ Some m)
+month_comes (Some m) n k e year = (m, sym e)
+month_comes None n k e year = absurd (false≢true ((month_move-exists None n k e).1 year))
+
+-- a move comes to a date if it lies between those by as many units as two dates lie on
+pub comes : (unit : Unit) (n z low high : ℤ) → IsDate n → IsDate low → IsDate high → units_apart unit n low ≤ℤ z → z ≤ℤ units_apart unit n high → Comes unit n z
+unfolding unit_move units_apart
+comes Days n z low high date is also above below = record { day = n +ℤ z; is = date_at (n +ℤ z) (omega (arith, signed, is.0, above), omega (arith, signed, also.1, below)) }
+comes Weeks n z low high date is also above below = record {
+  day = n +ℤ pos 7 *ℤ z;
+  is = date_at (n +ℤ pos 7 *ℤ z)
+      (omega (arith, signed, date.0, is.0, above, sevenths (low -ℤ n)), omega (arith, signed, date.1, also.1, below, sevenths (high -ℤ n)));
+}
+comes Months n z low high date is also above below =
+    let found = month_comes (month_move n z) n z refl
+    (omega (arith, signed, above, (year_of-range low is).0, month_of-range low), omega (arith, signed, below, (year_of-range high also).1, month_of-range high)) in
+    record { day = found.0; is = found.1 }
+comes Years n z low high date is also above below =
+    let found = month_comes (month_move n (pos 12 *ℤ z)) n (pos 12 *ℤ z) refl
+    (omega (arith, signed, above, (year_of-range low is).0, month_of-range n), omega (arith, signed, below, (year_of-range high also).1, month_of-range n)) in
+    record { day = found.0; is = found.1 }
+
+-- a move by more units than a day lies on comes past it, as one by fewer comes before it
+pub after : (unit : Unit) (n z m to : ℤ) → unit_move unit n z ≡ Some m → units_apart unit n to <ℤ z → to <ℤ m
+after unit n z m to e lt = by_lt_z to m (λ later. later) (λ le. absurd (omega (arith, signed, lt, rises unit n m to le, lies_on unit n z m e)))
+
+pub before : (unit : Unit) (n z m to : ℤ) → unit_move unit n z ≡ Some m → z <ℤ units_apart unit n to → m <ℤ to
+before unit n z m to e lt = by_lt_z m to (λ earlier. earlier) (λ le. absurd (omega (arith, signed, lt, rises unit n to m le, lies_on unit n z m e)))
+
+-- what is known of where a move comes to
+pub at_unit : (unit : Unit) (n z m : ℤ) (P : ℤ → Type 0) → unit_move unit n z ≡ Some m → P m → IsSomeAnd (unit_move unit n z) P
+at_unit unit n z m P e p = rw e p
+
+if_any : (o : Option ℤ) (P : ℤ → Type 0) → ((m : ℤ) → o ≡ Some m → P m) → IfSome o P
+if_any (Some m) P known = known m refl
+if_any None P known = tt
+
+-- no unit lies between a day and itself
+pub none_apart : (unit : Unit) (n : ℤ) → IsDate n → units_apart unit n n ≡ pos 0
+none_apart unit n date = lies_on unit n (pos 0) n (stays unit n (pos 0) date refl)
+
+-- the most units forth, and back, by where the first day comes to, moved by those that the second lies on
+most_forth : (unit : Unit) (from to z m : ℤ) → IsDate from → IsDate to → from ≤ℤ to → z ≡ units_apart unit from to → unit_move unit from z ≡ Some m
+    → (m ≤ℤ to → IsMostForth unit from to z) × (to <ℤ m → IsMostForth unit from to (z -ℤ pos 1))
+most_forth unit from to z m date also le e is =
+    let none = none_apart unit from date in
+    let forth : pos 0 ≤ℤ z = omega (arith, signed, none, e, rises unit from from to le) in (
+      (λ not_past. record {
+        forth = forth;
+        reached = at_unit unit from z m (λ k. k ≤ℤ to) is not_past;
+        most = λ more lt. if_any (unit_move unit from more) (λ k. to <ℤ k) (λ k there. after unit from more k to there (omega (arith, signed, e, lt)));
+      }),
+      (λ past.
+          let some : pos 1 ≤ℤ z = by_lt_z (pos 0) z (λ lt. omega (arith, signed, lt)) (λ ge. absurd (omega (arith, signed, le, past, same_Some m from (sym is ∙ stays unit from z date (omega (arith, signed, ge, forth)))))) in
+          let short = comes unit from (z -ℤ pos 1) from to date date also (omega (arith, signed, none, some)) (omega (arith, signed, e)) in
+          record {
+            forth = omega (arith, signed, some);
+            reached = at_unit unit from (z -ℤ pos 1) short.day (λ k. k ≤ℤ to) short.is (omega (arith, signed, before unit from (z -ℤ pos 1) short.day to short.is (omega (arith, signed, e))));
+            most = λ more lt. if_any (unit_move unit from more) (λ k. to <ℤ k) (λ k there. by_lt_z z more (λ further. after unit from more k to there (omega (arith, signed, e, further)))
+                (λ at. let same : more ≡ z = omega (arith, signed, at, lt) in omega (arith, signed, past, same_Some k m (sym there ∙ ap (unit_move unit from) same ∙ is))));
+          }),
+    )
+
+most_back : (unit : Unit) (from to z m : ℤ) → IsDate from → IsDate to → to <ℤ from → z ≡ units_apart unit from to → unit_move unit from z ≡ Some m
+    → (to ≤ℤ m → IsMostBack unit from to z) × (m <ℤ to → IsMostBack unit from to (z +ℤ pos 1))
+most_back unit from to z m date also lt e is =
+    let none = none_apart unit from date in
+    let back : z ≤ℤ pos 0 = omega (arith, signed, none, e, rises unit from to from (omega (arith, signed, lt))) in (
+      (λ not_past. record {
+        back = back;
+        reached = at_unit unit from z m (λ k. to ≤ℤ k) is not_past;
+        most = λ more less. if_any (unit_move unit from more) (λ k. k <ℤ to) (λ k there. before unit from more k to there (omega (arith, signed, e, less)));
+      }),
+      (λ past.
+          let some : z ≤ℤ neg_ℤ (pos 1) = by_lt_z z (pos 0) (λ less. omega (arith, signed, less)) (λ ge. absurd (omega (arith, signed, lt, past, same_Some m from (sym is ∙ stays unit from z date (omega (arith, signed, ge, back)))))) in
+          let short = comes unit from (z +ℤ pos 1) to from date also date (omega (arith, signed, e)) (omega (arith, signed, none, some)) in
+          record {
+            back = omega (arith, signed, some);
+            reached = at_unit unit from (z +ℤ pos 1) short.day (λ k. to ≤ℤ k) short.is (omega (arith, signed, after unit from (z +ℤ pos 1) short.day to short.is (omega (arith, signed, e))));
+            most = λ more less. if_any (unit_move unit from more) (λ k. k <ℤ to) (λ k there. by_lt_z more z (λ further. before unit from more k to there (omega (arith, signed, e, further)))
+                (λ at. let same : more ≡ z = omega (arith, signed, at, less) in omega (arith, signed, past, same_Some k m (sym there ∙ ap (unit_move unit from) same ∙ is))));
+          }),
+    )
+
+-- what is read of a move that comes to a day is that day
+pub reads : (unit : Unit) (n z to k : ℤ) (o : Option ℤ) → Comes unit n z → o ≡ unit_move unit n z → k ≡ unwrap_or o to → unit_move unit n z ≡ Some k
+reads unit n z to k o found e out = found.is ∙ ap Some (sym (out ∙ ap (λ p. unwrap_or p to) (e ∙ found.is)))
+
+-- the same of the day that the code finds
+pub forth_by : (unit : Unit) (from to z m : ℤ) (o : Option ℤ) → IsDate from → IsDate to → from ≤ℤ to → z ≡ units_apart unit from to → o ≡ unit_move unit from z → m ≡ unwrap_or o to
+    → (m ≤ℤ to → IsUnitsBetween unit from to z) × (to <ℤ m → IsUnitsBetween unit from to (z -ℤ pos 1))
+forth_by unit from to z m o date also le e moved out =
+    let found = comes unit from z from to date date also (omega (arith, signed, none_apart unit from date, e, rises unit from from to le)) (omega (arith, signed, e)) in
+    let most = most_forth unit from to z m date also le e (reads unit from z to m o found moved out) in (
+      (λ not_past. record { forth = λ _. most.0 not_past; back = λ lt. absurd (omega (arith, signed, le, lt)) }),
+      (λ past. record { forth = λ _. most.1 past; back = λ lt. absurd (omega (arith, signed, le, lt)) }),
+    )
+
+pub back_by : (unit : Unit) (from to z m : ℤ) (o : Option ℤ) → IsDate from → IsDate to → to <ℤ from → z ≡ units_apart unit from to → o ≡ unit_move unit from z → m ≡ unwrap_or o to
+    → (to ≤ℤ m → IsUnitsBetween unit from to z) × (m <ℤ to → IsUnitsBetween unit from to (z +ℤ pos 1))
+back_by unit from to z m o date also lt e moved out =
+    let found = comes unit from z to from date also date (omega (arith, signed, e)) (omega (arith, signed, none_apart unit from date, e, rises unit from to from (omega (arith, signed, lt)))) in
+    let most = most_back unit from to z m date also lt e (reads unit from z to m o found moved out) in (
+      (λ not_past. record { forth = λ le. absurd (omega (arith, signed, le, lt)); back = λ _. most.0 not_past }),
+      (λ past. record { forth = λ le. absurd (omega (arith, signed, le, lt)); back = λ _. most.1 past }),
+    )

@@ -12,10 +12,11 @@ pub use Rattle.chrono_calendar.specs.MonthMoves.{month_index_of, year_of_month_i
 pub use Rattle.chrono_calendar.proofs.Signed.{signed}
 pub use Rattle.chrono_calendar.proofs.Dates.{by_test, date_of_day-SomeIff}
 pub use Rattle.chrono_calendar.proofs.MonthMoveLaws.{year_of-range, month_move-parts, month_move-exists, IfSome-cond}
-pub use Rattle.chrono_calendar.proofs.Rising.{month_index_of-rises}
+pub use Rattle.chrono_calendar.proofs.Rising.{month_index_of-rises, year_of-rises}
 pub use Rattle.chrono_datetime.proofs.MonthPlaces.{later_month}
 unfoldable pub use Rattle.dates_answer.specs.Moves.{unit_move, moved_from}
 pub use Rattle.dates_answer.specs.Distances.{IsMostBack, IsMostForth, IsUnitsBetween}
+unfoldable pub use Rattle.dates_answer.specs.Distances.{units_apart}
 pub use Rattle.dates_answer.specs.Parts.{IsMonthsBack, IsMonthsForth, IsMonthsLeft, IsPartsBetween}
 pub use Rattle.dates_answer.specs.declared.span.Unit.{Unit}
 pub use Rattle.dates_answer.specs.declared.span.Unit.TheVariants.{Days, Weeks, Months, Years}

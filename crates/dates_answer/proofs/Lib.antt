@@ -1,6 +1,5 @@
 mod Ground
 mod FarMoves
-mod MonthDistances
 mod Distances
 mod SequenceLemmas
 mod PartLemmas

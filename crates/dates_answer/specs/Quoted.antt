@@ -1,5 +1,5 @@
 -- Texts as strings of JSON (RFC 8259, section 7).
-use Rattle.std.specs.Prelude.{ℕ, ◌+◌, ◌/◌, ◌%◌, ◌++◌, nat_eq, nat_lt, if◌then◌else◌, List, [], ◌∷◌, codes}
+use Rattle.std.specs.Prelude.{ℕ, ◌+◌, ◌/◌, ◌%◌, ◌++◌, nat_eq, nat_lt, if◌then◌else◌, List, codes}
 use Rattle.std.specs.Char.{encode_utf8, is_control}
 use Rattle.std.specs.Fmt.{decimal}
 use Rattle.std.specs.List.{flat_map}

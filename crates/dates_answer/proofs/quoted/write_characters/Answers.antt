@@ -1,4 +1,4 @@
-use Rattle.dates_answer.proofs.Ground.{◌≡◌, ◌++◌, [], append_assoc, append-nil, refl, sym, ap, ◌∙◌, rules, chars}
+use Rattle.dates_answer.proofs.Ground.{◌≡◌, ◌++◌, [], append_assoc, append-nil, refl, sym, ap, ◌∙◌, rules}
 use Rattle.std.proofs.Output.{has_written_append, has_written_of_eq}
 use Rattle.std.proofs.lemmas.Str.{IsUtf8-past_char, chars_past_char}
 use Rattle.std.proofs.StrCases.{chars_of_empty}

@@ -1,6 +1,7 @@
 use Rattle.dates_answer.proofs.Ground.{Some, None, arith, signed}
 use Rattle.chrono_calendar.proofs.NamedDates.{none-date_of_day}
-use Rattle.dates_answer.proofs.CellLemmas.{date_of_day-is, sheet_day-SomeIff}
+use Rattle.dates_answer.proofs.CellLemmas.{sheet_day-SomeIff}
+use Rattle.dates_answer.proofs.Distances.{date_of_day-is}
 use Rattle.dates_answer.proofs.sheet.MonthSheet.day.Goals as goal
 
 pub returns-in_default : goal.returns-in_default
