@@ -5,7 +5,7 @@ use crate::holidays::{Holidays, holidays_of};
 use crate::prelude::*;
 use crate::texts::{Move, Start, read_move, read_start};
 use crate::values::start_of;
-use chrono_datetime::{NaiveDate, NaiveDateTime};
+use chrono_datetime::TimeDelta;
 use dates_answer::moved;
 use std::io;
 
@@ -35,51 +35,48 @@ pub(crate) fn command() -> CommandRow {
     }
 }
 
-// Moves, one after another, and the words that write them.
+// A move, and the word that writes it.
+#[derive(Clone, Copy)]
+struct Step<'a> {
+    by: Move,
+    word: Word<'a>,
+}
+
+// Steps, one after another.
 #[derive(Drop)]
-struct MoveList<'a, A: Allocator> {
-    moves: Vec<Move, A>,
-    words: Vec<Word<'a>, A>,
+struct Steps<'a, A: Allocator> {
+    list: Vec<Step<'a>, A>,
     // The first word that writes months by `m`.
     short: Option<Word<'a>>,
     // Whether a step is a time.
     timed: bool,
 }
 
-impl<'a, A: Allocator> MoveList<'a, A> {
+impl<'a, A: Allocator> Steps<'a, A> {
     // Puts a step behind the others.
-    fn push(&mut self, by: Move, word: Word<'a>) -> io::Result<()> {
+    fn push(&mut self, by: Move, word: Word<'a>) -> Result<(), Fault<'a>> {
         match by {
             Move::ShortMonths(_) if self.short.is_none() => self.short = Some(word),
             Move::Time(_) => self.timed = true,
             _ => {}
         }
-        self.moves.push(by)?;
-        self.words.push(word)?;
+        self.list.push(Step { by, word })?;
         Ok(())
     }
-}
-
-// A step that leads out of the calendar, by its place, and from where.
-#[derive(Clone, Copy)]
-struct Stop {
-    place: usize,
-    from: Start,
 }
 
 // Steps, and the holidays among them.
 #[derive(Drop)]
 struct Add<'a, A: Allocator> {
     form: OutputForm,
-    steps: MoveList<'a, A>,
+    steps: Steps<'a, A>,
     holidays: Holidays<A>,
 }
 
 // The day or the date-time, or that of each line, moved; the exit status.
 pub(crate) fn answer<'a, R: Host>(rt: &R, asked: &mut Asked<'a, impl Allocator>) -> Answered<'a> {
-    let mut steps: MoveList<'a, R::A> = MoveList {
-        moves: Vec::new(rt.alloc()),
-        words: Vec::new(rt.alloc()),
+    let mut steps: Steps<'a, R::A> = Steps {
+        list: Vec::new(rt.alloc()),
         short: None,
         timed: false,
     };
@@ -89,100 +86,84 @@ pub(crate) fn answer<'a, R: Host>(rt: &R, asked: &mut Asked<'a, impl Allocator>)
         steps,
         holidays: value!(holidays_of(rt, asked)),
     };
-    match &start {
+    match start {
         Some(start) => Ok(add.answer_start(rt, Place::Alone, start)?),
-        None => Ok(take_input(rt, &mut add)?),
+        None => take_input(rt, &mut add),
     }
 }
 
-// Reads what is moved, `None` for the lines of the input, and puts at least one step into the list.
+// Reads what is moved, and puts at least one step into the list. Each line of the input is moved, as `None`, where the first word is
+// `-` or writes a step.
 fn read<'a>(
     words: &[Word<'a>],
-    steps: &mut MoveList<'a, impl Allocator>,
+    steps: &mut Steps<'a, impl Allocator>,
 ) -> Result<Option<Start>, Fault<'a>> {
     let [first, rest @ ..] = words else {
         return Err(Fault::Missing("SPAN"));
     };
-    let start = value!(read_first(*first, steps));
-    value!(put_steps(rest, &start, steps));
-    value!(check_steps(&start, steps));
+    let start = match read_move(first.text.as_bytes()) {
+        _ if first.text == "-" => None,
+        None => Some(value!(start_of(*first))),
+        Some(by) => {
+            value!(steps.push(by, *first));
+            None
+        }
+    };
+    for word in rest {
+        value!(put_step(*word, start, steps));
+    }
+    value!(check_steps(start, steps));
     Ok(start)
 }
 
-// Reads what is moved, which is each line of the input where the word is `-` or writes a step.
-fn read_first<'a>(
+// Puts the step that a word writes into the list; no time moves a day.
+fn put_step<'a>(
     word: Word<'a>,
-    steps: &mut MoveList<'a, impl Allocator>,
-) -> Result<Option<Start>, Fault<'a>> {
-    if word.text == "-" {
-        return Ok(None);
-    }
-    match read_move(word.text.as_bytes()) {
-        Some(by) => {
-            steps.push(by, word)?;
-            Ok(None)
-        }
-        None => Ok(Some(value!(start_of(word)))),
-    }
-}
-
-// Puts the steps that words write into the list, of which no time moves a day.
-fn put_steps<'a>(
-    words: &[Word<'a>],
-    start: &Option<Start>,
-    steps: &mut MoveList<'a, impl Allocator>,
+    start: Option<Start>,
+    steps: &mut Steps<'a, impl Allocator>,
 ) -> Result<(), Fault<'a>> {
-    for word in words {
-        let word = *word;
-        match (read_move(word.text.as_bytes()), start) {
-            (None, _) => return Err(Fault::expected(word, MOVES)),
-            (Some(Move::Time(_)), Some(Start::Day(_))) => {
-                return Err(Fault::expected(word, DAY_MOVES));
-            }
-            (Some(by), _) => steps.push(by, word)?,
-        }
+    match (read_move(word.text.as_bytes()), start) {
+        (None, _) => Err(Fault::expected(word, MOVES)),
+        (Some(Move::Time(_)), Some(Start::Day(_))) => Err(Fault::expected(word, DAY_MOVES)),
+        (Some(by), _) => steps.push(by, word),
     }
-    Ok(())
 }
 
 const MOVES: &str = "a span as 3d, -2w, 1mo, 4y, 5b, 36h, 90min, 15s or PT1.5S";
 
 const DAY_MOVES: &str = "a span of days, or a date-time before it as 2024-02-29T00:00";
 
-// There is a step, and none by `m` beside a time of day.
+// There is a step, and none by `m`, which was meant for minutes, beside a time of day.
 fn check_steps<'a>(
-    start: &Option<Start>,
-    steps: &MoveList<'a, impl Allocator>,
+    start: Option<Start>,
+    steps: &Steps<'a, impl Allocator>,
 ) -> Result<(), Fault<'a>> {
-    if steps.moves.is_empty() {
-        return Err(Fault::Missing("SPAN"));
-    }
     match (steps.short, start) {
-        (Some(word), Some(Start::DateTime(_))) => Err(minutes(word)),
-        (Some(word), _) if steps.timed => Err(minutes(word)),
+        _ if steps.list.is_empty() => Err(Fault::Missing("SPAN")),
+        (Some(word), Some(Start::DateTime(_))) => Err(Fault::Word(word, Cause::Months(word.text))),
+        (Some(word), _) if steps.timed => Err(Fault::Word(word, Cause::Months(word.text))),
         _ => Ok(()),
     }
 }
 
-// That a word writes months, and was meant for minutes.
-fn minutes<'a>(word: Word<'a>) -> Fault<'a> {
-    Fault::Word(word, Cause::Months(word.text))
-}
-
 impl<'a, A: Allocator> Add<'a, A> {
     // What is moved, by each step in turn, or `none` where one leads out of the calendar; the exit status.
-    fn answer_start(&mut self, rt: &impl Host, place: Place, start: &Start) -> io::Result<u8> {
-        match moved_in_turn(start, self.steps.moves.as_slice(), &mut self.holidays)? {
-            Ok(reached) => print_reply(rt, self.form, reply_of(&reached)),
-            Err(Stop { place: step, from }) => {
-                let text = text_at(self.steps.words.as_slice(), step);
-                print_past(rt, self.form, none_of(&from), place, &from, text)
+    fn answer_start(&mut self, rt: &impl Host, place: Place, start: Start) -> io::Result<u8> {
+        let mut last = start;
+        for step in self.steps.list.as_slice() {
+            match moved_by(last, step.by, &mut self.holidays)? {
+                Some(reached) => last = reached,
+                None => {
+                    let text = step.word.text;
+                    return print_past(rt, self.form, none_of(last), place, &last, text);
+                }
             }
         }
+        print_reply(rt, self.form, reply_of(last))
     }
 
     // What a date-time of a line comes to, which no `m` moves; the exit status.
-    fn answer_moment(&mut self, rt: &impl Host, place: Place, start: &Start) -> io::Result<u8> {
+    fn answer_moment(&mut self, rt: &impl Host, place: Place, start: Start) -> io::Result<u8> {
         let Some(Word { text, .. }) = self.steps.short else {
             return self.answer_start(rt, place, start);
         };
@@ -192,10 +173,10 @@ impl<'a, A: Allocator> Add<'a, A> {
     }
 }
 
-impl<'a, A: Allocator> EachLine for Add<'a, A> {
-    fn take_line(&mut self, rt: &impl Host, number: u64, line: &[u8]) -> Result<u8, LineFault> {
+impl<'a, A: Allocator> EachLine<'a> for Add<'a, A> {
+    fn take_line(&mut self, rt: &impl Host, number: u64, line: &[u8]) -> Answered<'a> {
         let place = Place::Line(number);
-        match &read_start(line) {
+        match read_start(line) {
             Ok(start @ Start::DateTime(_)) => Ok(self.answer_moment(rt, place, start)?),
             Ok(start) if !self.steps.timed => Ok(self.answer_start(rt, place, start)?),
             _ if self.steps.timed || line.contains(&b'T') => {
@@ -206,42 +187,16 @@ impl<'a, A: Allocator> EachLine for Add<'a, A> {
     }
 }
 
-// What is moved, by each step in turn; or the step that leads out of the calendar.
-fn moved_in_turn(
-    start: &Start,
-    moves: &[Move],
-    holidays: &mut Holidays<impl Allocator>,
-) -> io::Result<Result<Start, Stop>> {
-    let mut last = *start;
-    let mut place: usize = 0;
-    for by in moves {
-        match moved_by(&last, by, holidays)? {
-            Some(reached) => last = reached,
-            None => return Ok(Err(Stop { place, from: last })),
-        }
-        place = place.saturating_add(1);
-    }
-    Ok(Ok(last))
-}
-
-// The text of the step at a place, or none.
-fn text_at<'a>(words: &[Word<'a>], place: usize) -> &'a str {
-    match words.get(place) {
-        Some(word) => word.text,
-        None => "",
-    }
-}
-
 // The day or the date-time.
-fn reply_of(reached: &Start) -> Reply {
+fn reply_of(reached: Start) -> Reply {
     match reached {
-        Start::Day(date) => Reply::Date(*date),
-        Start::DateTime(moment) => Reply::Moment(*moment),
+        Start::Day(date) => Reply::Date(date),
+        Start::DateTime(moment) => Reply::Moment(moment),
     }
 }
 
 // That there is no day, or no date-time, as is the start.
-fn none_of(start: &Start) -> Reply {
+fn none_of(start: Start) -> Reply {
     match start {
         Start::Day(_) => Reply::Nothing(Key::Date),
         Start::DateTime(_) => Reply::Nothing(Key::Moment),
@@ -250,49 +205,29 @@ fn none_of(start: &Start) -> Reply {
 
 // What lies a move away; a move of days keeps the time of day.
 fn moved_by(
-    start: &Start,
-    by: &Move,
+    start: Start,
+    by: Move,
     holidays: &mut Holidays<impl Allocator>,
 ) -> io::Result<Option<Start>> {
-    match start {
-        Start::Day(date) => match day_moved(*date, by, holidays)? {
-            Some(reached) => Ok(Some(Start::Day(reached))),
-            None => Ok(None),
-        },
-        Start::DateTime(moment) => match moment_moved(moment, by, holidays)? {
-            Some(reached) => Ok(Some(Start::DateTime(reached))),
-            None => Ok(None),
-        },
-    }
-}
-
-// The date-time that lies a move away.
-fn moment_moved(
-    moment: &NaiveDateTime,
-    by: &Move,
-    holidays: &mut Holidays<impl Allocator>,
-) -> io::Result<Option<NaiveDateTime>> {
-    if let Move::Time(Some(duration)) = by {
-        return Ok((*moment).checked_add_signed(*duration));
-    }
-    match day_moved(moment.date(), by, holidays)? {
-        Some(date) => Ok(Some(NaiveDateTime::new(date, moment.time()))),
+    let date = start.date();
+    let reached = match by {
+        Move::Calendar(span) | Move::ShortMonths(span) => moved(date, span),
+        Move::OpenDays(count) => {
+            let years = years_of_open_days(date, count, holidays.listed());
+            holidays.calendar(years)?.add_open_days(date, count)
+        }
+        Move::Time(time) => return Ok(timed(start, time)),
+    };
+    match reached {
+        Some(date) => Ok(Some(start.on(date))),
         None => Ok(None),
     }
 }
 
-// The day that lies a move of days away.
-fn day_moved(
-    date: NaiveDate,
-    by: &Move,
-    holidays: &mut Holidays<impl Allocator>,
-) -> io::Result<Option<NaiveDate>> {
-    match by {
-        Move::Calendar(span) | Move::ShortMonths(span) => Ok(moved(date, *span)),
-        Move::OpenDays(count) => {
-            let years = years_of_open_days(date, *count, holidays.listed());
-            Ok(holidays.calendar(years)?.add_open_days(date, *count))
-        }
-        Move::Time(_) => Ok(None),
+// The date-time that lies a time away; nothing from a day.
+fn timed(start: Start, by: Option<TimeDelta>) -> Option<Start> {
+    match start {
+        Start::Day(_) => None,
+        Start::DateTime(moment) => Some(Start::DateTime(moment.checked_add_signed(by?)?)),
     }
 }

@@ -1,7 +1,7 @@
 //! The lines of a file, or of standard input, that are no days.
 
 use crate::holidays::open_file;
-use crate::lines::{Reason, day_of_line, fault_in, take_lines};
+use crate::lines::{Reason, day_of_line, take_lines};
 use crate::prelude::*;
 use crate::source::Source;
 use dates_answer::WrongLine;
@@ -39,17 +39,14 @@ pub(crate) fn answer<'a>(rt: &impl Host, asked: &mut Asked<'a, impl Allocator>) 
     match asked.word_or_lines() {
         Some(word) => {
             let file = value!(open_file(rt, word));
-            match take_lines(rt, file, &mut lines) {
-                Ok(status) => Ok(status),
-                Err(fault) => Err(fault_in(Source::Word(word), fault)),
-            }
+            take_lines(rt, Source::Word(word), file, &mut lines)
         }
-        None => Ok(take_input(rt, &mut lines)?),
+        None => take_input(rt, &mut lines),
     }
 }
 
-impl EachLine for CheckedLines {
-    fn take_line(&mut self, rt: &impl Host, number: u64, line: &[u8]) -> Result<u8, LineFault> {
+impl<'a> EachLine<'a> for CheckedLines {
+    fn take_line(&mut self, rt: &impl Host, number: u64, line: &[u8]) -> Answered<'a> {
         match day_of_line(line) {
             Ok(_) => Ok(ANSWERED),
             Err(reason) => Ok(print_wrong(rt, self.form, number, line, reason)?),

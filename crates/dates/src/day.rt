@@ -60,7 +60,7 @@ pub(crate) fn answer<'a>(rt: &impl Host, asked: &mut Asked<'a, impl Allocator>) 
     let form = asked.form;
     match asked.word_or_lines() {
         Some(word) => asked.print(rt, Reply::Names(value!(first_of(word)))),
-        None => Ok(take_input(rt, &mut NamedLines { form })?),
+        None => take_input(rt, &mut NamedLines { form }),
     }
 }
 
@@ -130,8 +130,8 @@ struct NamedLines {
     form: OutputForm,
 }
 
-impl EachLine for NamedLines {
-    fn take_line(&mut self, rt: &impl Host, _number: u64, line: &[u8]) -> Result<u8, LineFault> {
+impl<'a> EachLine<'a> for NamedLines {
+    fn take_line(&mut self, rt: &impl Host, _number: u64, line: &[u8]) -> Answered<'a> {
         match read_day(line) {
             Ok(date) => Ok(print_reply(rt, self.form, Reply::Names(date))?),
             Err(_) => Ok(print_reply(rt, self.form, Reply::Nothing(Key::Date))?),

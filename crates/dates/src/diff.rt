@@ -88,7 +88,7 @@ pub(crate) fn answer<'a>(rt: &impl Host, asked: &mut Asked<'a, impl Allocator>) 
     };
     match (ends.from, ends.to) {
         (Some(from), Some(to)) => Ok(diff.answer_ends(rt, from, to)?),
-        _ => Ok(take_input(rt, &mut diff)?),
+        _ => take_input(rt, &mut diff),
     }
 }
 
@@ -249,8 +249,8 @@ impl<A: Allocator> Diff<A> {
     }
 }
 
-impl<A: Allocator> EachLine for Diff<A> {
-    fn take_line(&mut self, rt: &impl Host, _number: u64, line: &[u8]) -> Result<u8, LineFault> {
+impl<'a, A: Allocator> EachLine<'a> for Diff<A> {
+    fn take_line(&mut self, rt: &impl Host, _number: u64, line: &[u8]) -> Answered<'a> {
         match (self.ends.from, self.ends.to, read_start(line)) {
             (Some(from), _, Ok(to)) => Ok(self.answer_ends(rt, from, to)?),
             (None, Some(to), Ok(from)) => Ok(self.answer_ends(rt, from, to)?),

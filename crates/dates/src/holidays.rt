@@ -1,7 +1,7 @@
 //! The holidays of a command: read once, and put together once for the lines that touch the same years.
 
 use crate::closed::{Years, both_years, put_ruled, rules_named, weekend_of};
-use crate::lines::{day_of_line, fault_in, take_lines};
+use crate::lines::{day_of_line, take_lines};
 use crate::prelude::*;
 use crate::source::Source;
 use chrono_business::{Calendar, HolidayRule, without_weekends};
@@ -86,27 +86,28 @@ fn listed_in<'a, R: Host>(
     let Some(word) = file else {
         return Ok(days);
     };
-    let mut list = HolidayLines { days };
-    match take_lines(rt, value!(open_file(rt, word)), &mut list) {
-        Ok(_) => Ok(list.days),
-        Err(fault) => Err(fault_in(Source::Word(word), fault)),
-    }
+    let source = Source::Word(word);
+    let mut list = HolidayLines { source, days };
+    let file = value!(open_file(rt, word));
+    let _status = value!(take_lines(rt, source, file, &mut list));
+    Ok(list.days)
 }
 
-// The days of lines.
+// The days of the lines of a source.
 #[derive(Drop)]
-struct HolidayLines<A: Allocator> {
+struct HolidayLines<'a, A: Allocator> {
+    source: Source<'a>,
     days: Vec<NaiveDate, A>,
 }
 
-impl<A: Allocator> EachLine for HolidayLines<A> {
-    fn take_line(&mut self, _rt: &impl Host, number: u64, line: &[u8]) -> Result<u8, LineFault> {
+impl<'a, A: Allocator> EachLine<'a> for HolidayLines<'a, A> {
+    fn take_line(&mut self, _rt: &impl Host, number: u64, line: &[u8]) -> Answered<'a> {
         match day_of_line(line) {
-            Ok(day) => match self.days.push(day) {
-                Ok(()) => Ok(ANSWERED),
-                Err(error) => Err(LineFault::Failed(io::Error::from(error))),
-            },
-            Err(reason) => Err(LineFault::NoDay(number, reason)),
+            Ok(day) => {
+                self.days.push(day)?;
+                Ok(ANSWERED)
+            }
+            Err(reason) => Err(Fault::NoHoliday(self.source, number, reason)),
         }
     }
 }

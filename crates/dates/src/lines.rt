@@ -1,6 +1,6 @@
 //! Lines of input, of each of which only so many bytes are kept, and commands that take each of them.
 
-use crate::asked::{Host, print_reply};
+use crate::asked::{Answered, Host, print_reply};
 use crate::fault::{ANSWERED, Fault, NONE};
 use crate::source::Source;
 use crate::texts::{Start, StartError, read_day, read_start};
@@ -14,94 +14,52 @@ use std::io::{self, BufRead, BufReader, Eprint, Read};
 /// So many bytes of a line are kept; no text of as many names a day or a date-time.
 const MOST_BYTES: usize = 65_536;
 
-/// The lines of a reader, one after another.
-#[derive(Drop)]
-struct LineReader<R: Read, A: Allocator> {
-    reader: BufReader<R, A>,
-    line: Vec<u8, A>,
-}
-
-impl<R: Read, A: Allocator + Clone> LineReader<R, A> {
-    // The lines of the reader.
-    fn new(alloc: A, reader: R) -> io::Result<LineReader<R, A>>
-    where
-        R: Drop,
-    {
-        let line = Vec::new(alloc.clone()?);
-        let reader = BufReader::new(alloc, reader)?;
-        Ok(LineReader { reader, line })
+// Reads the next line without the `\n` at its end, its first `MOST_BYTES` at most, the others are passed over; whether there is one.
+fn read_line(
+    reader: &mut (impl BufRead + Drop),
+    line: &mut Vec<u8, impl Allocator>,
+) -> io::Result<bool> {
+    line.clear();
+    let count = reader.by_ref().take(MOST_BYTES as u64).read_until(b'\n', line)?;
+    if line.as_slice().last() == Some(&b'\n') {
+        line.pop();
+    } else if count == MOST_BYTES {
+        reader.skip_until(b'\n')?;
     }
-
-    // The next line without the `\n` at its end, where there is one: its first `MOST_BYTES` at most, the others are passed over.
-    fn next_line(&mut self) -> io::Result<Option<&[u8]>> {
-        self.line.clear();
-        let mut front = self.reader.by_ref().take(MOST_BYTES as u64);
-        let count = front.read_until(b'\n', &mut self.line)?;
-        if count == 0 {
-            return Ok(None);
-        }
-        if self.line.as_slice().last() == Some(&b'\n') {
-            self.line.pop();
-        } else if count == MOST_BYTES {
-            self.reader.skip_until(b'\n')?;
-        }
-        Ok(Some(self.line.as_slice()))
-    }
-}
-
-/// Why lines are not taken to the last.
-#[derive(Drop)]
-pub(crate) enum LineFault {
-    /// They cannot be read.
-    Unread(io::Error),
-    /// That of this number is no day.
-    NoDay(u64, Reason),
-    /// No answer can be written, or memory is short.
-    Failed(io::Error),
-}
-
-impl From<io::Error> for LineFault {
-    fn from(error: io::Error) -> Self {
-        LineFault::Failed(error)
-    }
+    Ok(count > 0)
 }
 
 /// A command that takes each line of a text.
-pub(crate) trait EachLine {
+pub(crate) trait EachLine<'a> {
     /// Takes the line of this number, from 1 on; the exit status.
-    fn take_line(&mut self, rt: &impl Host, number: u64, line: &[u8]) -> Result<u8, LineFault>;
+    fn take_line(&mut self, rt: &impl Host, number: u64, line: &[u8]) -> Answered<'a>;
 }
 
-// Takes each line; the greatest exit status.
-pub(crate) fn take_lines<C: EachLine>(
+// Takes each line of what a source has; the greatest exit status.
+pub(crate) fn take_lines<'a, C: EachLine<'a>>(
     rt: &impl Host,
+    source: Source<'a>,
     reader: impl Read + Drop,
     command: &mut C,
-) -> Result<u8, LineFault> {
+) -> Answered<'a> {
     let mut status = ANSWERED;
-    let mut lines = LineReader::new(rt.alloc(), reader)?;
+    let mut line = Vec::new(rt.alloc());
+    let mut reader = BufReader::new(rt.alloc(), reader)?;
     for number in 1..u64::MAX {
-        match lines.next_line() {
-            Ok(Some(line)) => status = status.max(command.take_line(rt, number, line)?),
-            Ok(None) => break,
-            Err(error) => return Err(LineFault::Unread(error)),
+        match read_line(&mut reader, &mut line) {
+            Ok(true) => {
+                status = status.max(value!(command.take_line(rt, number, line.as_slice())));
+            }
+            Ok(false) => break,
+            Err(error) => return Err(Fault::Input(source, error)),
         }
     }
     Ok(status)
 }
 
 // Takes each line of the input; the greatest exit status.
-pub(crate) fn take_input<C: EachLine>(rt: &impl Host, command: &mut C) -> Result<u8, LineFault> {
-    take_lines(rt, rt.reader(), command)
-}
-
-// Why a command has no answer, where lines of a source are not taken to the last.
-pub(crate) fn fault_in<'a>(source: Source<'a>, fault: LineFault) -> Fault<'a> {
-    match fault {
-        LineFault::Unread(error) => Fault::Input(source, error),
-        LineFault::NoDay(number, reason) => Fault::NoHoliday(source, number, reason),
-        LineFault::Failed(error) => Fault::Failed(error),
-    }
+pub(crate) fn take_input<'a, C: EachLine<'a>>(rt: &impl Host, command: &mut C) -> Answered<'a> {
+    take_lines(rt, Source::Input, rt.reader(), command)
 }
 
 /// Which line of the input is answered, as `line 3: `; nothing where the words ask for one answer alone.

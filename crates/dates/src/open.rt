@@ -43,7 +43,7 @@ pub(crate) fn answer<'a>(rt: &impl Host, asked: &mut Asked<'a, impl Allocator>) 
     let mut open = Open { form, holidays };
     match date {
         Some(date) => Ok(open.answer_day(rt, date)?),
-        None => Ok(take_input(rt, &mut open)?),
+        None => take_input(rt, &mut open),
     }
 }
 
@@ -56,8 +56,8 @@ impl<A: Allocator> Open<A> {
     }
 }
 
-impl<A: Allocator> EachLine for Open<A> {
-    fn take_line(&mut self, rt: &impl Host, _number: u64, line: &[u8]) -> Result<u8, LineFault> {
+impl<'a, A: Allocator> EachLine<'a> for Open<A> {
+    fn take_line(&mut self, rt: &impl Host, _number: u64, line: &[u8]) -> Answered<'a> {
         match read_day(line) {
             Ok(date) => Ok(self.answer_day(rt, date)?),
             Err(_) => Ok(print_reply(rt, self.form, NONE)?),

@@ -61,7 +61,7 @@ pub(crate) fn answer<'a>(rt: &impl Host, asked: &mut Asked<'a, impl Allocator>) 
     };
     match date {
         Some(date) => Ok(rolls.answer_day(rt, Place::Alone, date)?),
-        None => Ok(take_input(rt, &mut rolls)?),
+        None => take_input(rt, &mut rolls),
     }
 }
 
@@ -105,8 +105,8 @@ impl<A: Allocator> Rolls<A> {
     }
 }
 
-impl<A: Allocator> EachLine for Rolls<A> {
-    fn take_line(&mut self, rt: &impl Host, number: u64, line: &[u8]) -> Result<u8, LineFault> {
+impl<'a, A: Allocator> EachLine<'a> for Rolls<A> {
+    fn take_line(&mut self, rt: &impl Host, number: u64, line: &[u8]) -> Answered<'a> {
         match read_day(line) {
             Ok(date) => Ok(self.answer_day(rt, Place::Line(number), date)?),
             Err(_) => Ok(print_reply(rt, self.form, NONE)?),

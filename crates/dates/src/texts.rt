@@ -37,6 +37,24 @@ pub enum Start {
     DateTime(NaiveDateTime),
 }
 
+impl Start {
+    // The day.
+    pub(crate) fn date(self) -> NaiveDate {
+        match self {
+            Start::Day(date) => date,
+            Start::DateTime(moment) => moment.date(),
+        }
+    }
+
+    // Another day, at the same time of day where there is one.
+    pub(crate) fn on(self, date: NaiveDate) -> Start {
+        match self {
+            Start::Day(_) => Start::Day(date),
+            Start::DateTime(moment) => Start::DateTime(NaiveDateTime::new(date, moment.time())),
+        }
+    }
+}
+
 impl fmt::Display for Start {
     fn fmt<W: fmt::Write>(&self, f: &mut fmt::Formatter<W>) -> fmt::Result {
         match self {
