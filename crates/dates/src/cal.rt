@@ -4,7 +4,7 @@ use crate::closed::years_of;
 use crate::holidays::holidays_of;
 use crate::prelude::*;
 use crate::texts::read_month;
-use crate::values::{Year, weekday_of};
+use crate::values::{Year, start_of_year, weekday_of};
 use chrono_business::Calendar;
 use chrono_datetime::{Datelike, Month, NaiveDate, Weekday};
 use chrono_text::read_year;
@@ -70,18 +70,12 @@ fn time_of<'a>(word: Word<'a>) -> Result<Time, Fault<'a>> {
             Ok(Time { first, is_year })
         }
         Err(error) => match read_year(text) {
-            Some(year) => year_from(year),
+            Some(year) => {
+                let (first, is_year) = (value!(start_of_year(year)), true);
+                Ok(Time { first, is_year })
+            }
             None => Err(Fault::Word(word, Cause::Unread(error, what))),
         },
-    }
-}
-
-// The year.
-fn year_from<'a>(year: i32) -> Result<Time, Fault<'a>> {
-    let is_year = true;
-    match NaiveDate::from_ymd_opt(year, 1, 1) {
-        Some(first) => Ok(Time { first, is_year }),
-        None => Err(Fault::Outside(year)),
     }
 }
 

@@ -9,10 +9,8 @@ use std::io;
 
 // The weekend that a word names.
 pub(crate) fn weekend_of<'a>(word: Word<'a>) -> Result<WeekdaySet, Fault<'a>> {
-    match weekend_named(word.text) {
-        Some(weekend) => Ok(weekend),
-        None => Err(Fault::expected(word, "none, or at most two weekdays as fri,sat")),
-    }
+    let what = "none, or at most two weekdays as fri,sat";
+    weekend_named(word.text).ok_or(Fault::expected(word, what))
 }
 
 // The weekend that a text names: `none`, a weekday, or two with a comma between them.
@@ -67,18 +65,11 @@ const MOST_YEARS: i32 = 600_000;
 // The years up to which so many open days lead from a day, where a file lists so many days: each of these closes one more at most.
 pub(crate) fn years_of_open_days(date: NaiveDate, count: i64, listed: usize) -> Years {
     let days = count.unsigned_abs().saturating_add(listed as u64);
-    let years = i32::try_from(days / OPEN_DAYS_OF_A_YEAR).unwrap_or(MOST_YEARS);
-    let year = date.year();
-    if count < 0 {
-        Years {
-            first: year.saturating_sub(years).saturating_sub(1),
-            last: year,
-        }
-    } else {
-        Years {
-            first: year,
-            last: year.saturating_add(years).saturating_add(1),
-        }
+    let years = i32::try_from(days / OPEN_DAYS_OF_A_YEAR + 1).unwrap_or(MOST_YEARS);
+    let (back, on) = if count < 0 { (years, 0) } else { (0, years) };
+    Years {
+        first: date.year().saturating_sub(back),
+        last: date.year().saturating_add(on),
     }
 }
 

@@ -52,11 +52,7 @@ enum Measure {
 }
 
 // From where to where; `None` is each line of the input.
-#[derive(Clone, Copy)]
-struct Ends {
-    from: Option<Start>,
-    to: Option<Start>,
-}
+type Ends = (Option<Start>, Option<Start>);
 
 // From where to where, in what, and by which holidays.
 #[derive(Drop)]
@@ -73,42 +69,28 @@ pub(crate) fn answer<'a>(rt: &impl Host, asked: &mut Asked<'a, impl Allocator>) 
     let (words, unit) = cut(asked.words.operands.as_slice());
     let measure = value!(measure_of(unit));
     asked.none = none_of(measure);
-    let ends = value!(read(words));
-    if ends.is_moment() {
+    let (from, to) = value!(read(words));
+    if let Some(Start::DateTime(_)) = from.or(to) {
         asked.none = Reply::Nothing(Key::Duration);
-        value!(check_no_unit(unit));
+        if let [word, ..] = unit {
+            return Err(Fault::expected(*word, NO_MORE));
+        }
     }
     value!(check_options(&asked.words, measure));
     let mut diff = Diff {
         form: asked.form,
         none: asked.none,
-        ends,
+        ends: (from, to),
         measure,
         holidays: value!(holidays_of(rt, asked)),
     };
-    match (ends.from, ends.to) {
+    match (from, to) {
         (Some(from), Some(to)) => Ok(diff.answer_ends(rt, from, to)?),
         _ => take_input(rt, &mut diff),
     }
 }
 
-impl Ends {
-    // Whether one of them is a date-time.
-    fn is_moment(&self) -> bool {
-        match self.from.or(self.to) {
-            Some(Start::DateTime(_)) => true,
-            _ => false,
-        }
-    }
-}
-
-// Two date-times take no unit.
-fn check_no_unit<'a>(unit: &[Word<'a>]) -> Result<(), Fault<'a>> {
-    match unit {
-        [word, ..] => Err(Fault::expected(*word, "no further argument")),
-        [] => Ok(()),
-    }
-}
+const NO_MORE: &str = "no further argument";
 
 // The words of the days, and those from `in` on.
 fn cut<'b, 'a>(words: &'b [Word<'a>]) -> (&'b [Word<'a>], &'b [Word<'a>]) {
@@ -133,7 +115,7 @@ fn measure_of<'a>(words: &[Word<'a>]) -> Result<Measure, Fault<'a>> {
             Some(unit) => Ok(Measure::Whole(unit)),
             None => Err(Fault::Word(*unit, Cause::Choice(UNITS))),
         },
-        [_, _, other, ..] => Err(Fault::expected(*other, "no further argument")),
+        [_, _, other, ..] => Err(Fault::expected(*other, NO_MORE)),
     }
 }
 
@@ -152,7 +134,7 @@ fn read<'a>(words: &[Word<'a>]) -> Result<Ends, Fault<'a>> {
         }
         [first, _, other, ..] => match value!(start_of(*first)) {
             Start::Day(_) => Err(Fault::expected(*other, IN)),
-            Start::DateTime(_) => Err(Fault::expected(*other, "no further argument")),
+            Start::DateTime(_) => Err(Fault::expected(*other, NO_MORE)),
         },
     }
 }
@@ -170,7 +152,7 @@ fn ends_of<'a>(first: Option<Word<'a>>, second: Option<Word<'a>>) -> Result<Ends
         (Some(word), None) => Some(value!(start_of(word))),
         (Some(word), Some(from)) => Some(value!(like(from, word))),
     };
-    Ok(Ends { from, to })
+    Ok((from, to))
 }
 
 // The day or the date-time that a word names, of the kind of the first.
@@ -251,9 +233,9 @@ impl<A: Allocator> Diff<A> {
 
 impl<'a, A: Allocator> EachLine<'a> for Diff<A> {
     fn take_line(&mut self, rt: &impl Host, _number: u64, line: &[u8]) -> Answered<'a> {
-        match (self.ends.from, self.ends.to, read_start(line)) {
-            (Some(from), _, Ok(to)) => Ok(self.answer_ends(rt, from, to)?),
-            (None, Some(to), Ok(from)) => Ok(self.answer_ends(rt, from, to)?),
+        match (self.ends, read_start(line)) {
+            ((Some(from), _), Ok(to)) => Ok(self.answer_ends(rt, from, to)?),
+            ((None, Some(to)), Ok(from)) => Ok(self.answer_ends(rt, from, to)?),
             _ => Ok(print_reply(rt, self.form, self.none)?),
         }
     }

@@ -18,8 +18,6 @@ pub(crate) fn command() -> CommandRow {
 // Easter Sunday of the year; the exit status.
 pub(crate) fn answer<'a>(rt: &impl Host, asked: &mut Asked<'a, impl Allocator>) -> Answered<'a> {
     let year = value!(year_of(asked.word(0)));
-    match chrono_business::easter(year) {
-        Some(sunday) => asked.print(rt, Reply::Date(sunday)),
-        None => Err(Fault::Outside(year)),
-    }
+    let sunday = value!(chrono_business::easter(year).ok_or(Fault::Outside(year)));
+    asked.print(rt, Reply::Date(sunday))
 }

@@ -224,10 +224,8 @@ fn near_option(
     for option in command.options {
         names.push(option.name)?;
     }
-    match text.split_once('=') {
-        Some((name, _)) => nearest(rt.alloc(), name, names.as_slice()),
-        None => nearest(rt.alloc(), text, names.as_slice()),
-    }
+    let (name, _) = text.split_once('=').unwrap_or((text, ""));
+    nearest(rt.alloc(), name, names.as_slice())
 }
 
 /// The name that is most like a word, if there is one, as a question behind what is said of it.

@@ -1,8 +1,7 @@
 //! Leap years.
 
 use crate::prelude::*;
-use crate::values::year_of;
-use chrono_datetime::NaiveDate;
+use crate::values::{start_of_year, year_of};
 
 pub(crate) fn command() -> CommandRow {
     CommandRow {
@@ -20,8 +19,6 @@ pub(crate) fn command() -> CommandRow {
 pub(crate) fn answer<'a>(rt: &impl Host, asked: &mut Asked<'a, impl Allocator>) -> Answered<'a> {
     asked.none = Reply::Nothing(Key::Leap);
     let year = value!(year_of(asked.word(0)));
-    match NaiveDate::from_ymd_opt(year, 1, 1) {
-        Some(first) => asked.print(rt, Reply::Whether(Key::Leap, first.leap_year())),
-        None => Err(Fault::Outside(year)),
-    }
+    let first = value!(start_of_year(year));
+    asked.print(rt, Reply::Whether(Key::Leap, first.leap_year()))
 }

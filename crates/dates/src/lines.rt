@@ -20,7 +20,10 @@ fn read_line(
     line: &mut Vec<u8, impl Allocator>,
 ) -> io::Result<bool> {
     line.clear();
-    let count = reader.by_ref().take(MOST_BYTES as u64).read_until(b'\n', line)?;
+    let count = reader
+        .by_ref()
+        .take(MOST_BYTES as u64)
+        .read_until(b'\n', line)?;
     if line.as_slice().last() == Some(&b'\n') {
         line.pop();
     } else if count == MOST_BYTES {

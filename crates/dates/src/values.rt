@@ -64,10 +64,12 @@ pub(crate) fn week_of<'a>(word: Word<'a>) -> Result<NaiveDate, Fault<'a>> {
 
 // The year that a word writes.
 pub(crate) fn year_of<'a>(word: Word<'a>) -> Result<i32, Fault<'a>> {
-    match read_year(word.text.as_bytes()) {
-        Some(year) => Ok(year),
-        None => Err(Fault::expected(word, "a year as 2024")),
-    }
+    read_year(word.text.as_bytes()).ok_or(Fault::expected(word, "a year as 2024"))
+}
+
+// The first day of a year.
+pub(crate) fn start_of_year<'a>(year: i32) -> Result<NaiveDate, Fault<'a>> {
+    NaiveDate::from_ymd_opt(year, 1, 1).ok_or(Fault::Outside(year))
 }
 
 // The number from 1 on that a word writes.
@@ -80,10 +82,7 @@ pub(crate) fn amount_of<'a>(word: Word<'a>) -> Result<u64, Fault<'a>> {
 
 // The weekday that a word names.
 pub(crate) fn weekday_of<'a>(word: Word<'a>) -> Result<Weekday, Fault<'a>> {
-    match weekday_named(word.text) {
-        Some(weekday) => Ok(weekday),
-        None => Err(Fault::expected(word, "a weekday as mon")),
-    }
+    weekday_named(word.text).ok_or(Fault::expected(word, "a weekday as mon"))
 }
 
 // Whether a word begins with a digit or a sign, and so was meant for a day.
