@@ -27,7 +27,7 @@ from results import Results, read
 TOP = os.path.dirname(os.path.dirname(os.path.abspath(__file__)))
 LIBRARIES = (
     "chrono_sets", "chrono_units", "chrono_clock", "chrono_calendar", "chrono_internals", "chrono_stored", "chrono_naive", "chrono_datetime",
-    "chrono_instant", "chrono_zoned", "zone_table", "zone_rule", "zone_text", "chrono_reading", "chrono_stamps", "chrono_cron", "chrono_business",
+    "chrono_instant", "chrono_zoned", "zone_table", "zone_rule", "zone_text", "zone", "chrono_reading", "chrono_stamps", "chrono_cron", "chrono_business",
     "chrono_rules", "chrono_columns",
 )
 # Libraries whose functions need no example; what examples they have are run.
@@ -184,26 +184,30 @@ class Library:
 
 
 class Chapter:
-    """A chapter of the page of the layers, whose examples use the layer that it names first, and chrono_datetime."""
+    """A chapter of the page of the layers, whose examples use the crates that its first paragraph names, and chrono_datetime."""
 
-    def __init__(self, crate, line, text):
-        self.crate, self.key, self.functions, self.examples = crate, f"{crate}_page", [], []
-        self.names = Library(crate, sources_of(crate)).names
-        others = Library("chrono_datetime", sources_of("chrono_datetime")).names
-        use = (line, f"use chrono_datetime::{{{', '.join(it for it in others if it not in self.names)}}};")
+    def __init__(self, crates, line, text):
+        self.crate, self.key, self.functions, self.examples = crates[0], f"{crates[0]}_page", [], []
+        self.names = Library(self.crate, sources_of(self.crate)).names
+        known, uses = set(self.names), []
+        for other in (*crates[1:], "chrono_datetime"):
+            names = [it for it in Library(other, sources_of(other)).names if it not in known]
+            known.update(names)
+            uses.append((line, f"use {other}::{{{', '.join(names)}}};"))
         for it in PAGE_BLOCK.finditer(text):
             first = line + text[: it.start(1)].count("\n")
             lines = [(first + at, row) for at, row in enumerate(it[1].splitlines()) if row.strip()]
-            self.examples.append(Example(self.key, PAGE, lines[0][0], [use, *lines]))
+            self.examples.append(Example(self.key, PAGE, lines[0][0], [*uses, *lines]))
 
 
 def chapters():
     """The chapters of the page of the layers."""
-    text, line = read(f"{TOP}/{PAGE}"), 1
+    text, line, crates = read(f"{TOP}/{PAGE}"), 1, listed_crates()
     for part in re.split(r"^(?=## )", text, flags=re.M):
-        named = re.search(r"`(chrono_\w+)`", part.partition("\n")[2])
+        paragraph = part.partition("\n")[2].strip().partition("\n\n")[0]
+        named = [it for it in dict.fromkeys(re.findall(r"`(\w+)`", paragraph)) if it in crates]
         if part.startswith("## ") and named and PAGE_BLOCK.search(part):
-            yield Chapter(named[1], line, part)
+            yield Chapter(named, line, part)
         line += part.count("\n")
 
 
@@ -262,7 +266,7 @@ def crates_for(libraries):
     """The crates that the examples of some libraries use, lowest first."""
     crates = listed_crates()
     lines = (text for library in libraries for example in library.examples for _, text in example.lines)
-    named = {it for text in lines for it in re.findall(r"\b(chrono_\w+)::", text)} & set(crates)
+    named = {it for text in lines for it in re.findall(r"\b((?:chrono|zone)\w*)::", text)} & set(crates)
     used = {it for name in named | {library.crate for library in libraries} for it in below(name, crates)}
     return [it for it in crates if it in used]
 
