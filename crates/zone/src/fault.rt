@@ -5,7 +5,7 @@ use std::fmt;
 /// Why rows and a rule make up no zone.
 ///
 /// ```
-/// ZoneFault::Unordered(7).to_string() // "row 7 does not follow the one before it"
+/// ZoneFault::Unordered(7) // Unordered(7)
 /// ```
 #[derive(Clone, Copy, Debug, PartialEq, Eq)]
 pub enum ZoneFault {

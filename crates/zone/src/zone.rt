@@ -24,7 +24,8 @@ const SECS_APART: i64 = 172_800;
 /// ```
 /// let zero = FixedOffset::east_opt(0)?;
 /// let hour = FixedOffset::east_opt(3_600)?;
-/// let zone = Zone::new(zero, &[Row { second: 1_000, offset: hour }], None).ok()?;
+/// let rows = [Row { second: 1_000, offset: hour }];
+/// let zone = Zone::new(zero, &rows, None).ok()?;
 /// zone.offset_of_instant(1_000) // +01:00
 /// ```
 #[derive(Drop)]
@@ -59,8 +60,9 @@ impl<'a> Zone<'a> {
     /// let zero = FixedOffset::east_opt(0)?;
     /// let hour = FixedOffset::east_opt(3_600)?;
     /// let rule = ZoneRule { standard: zero, daylight: None };
-    /// Zone::new(zero, &[Row { second: 1_000, offset: hour }], Some(rule)).err() // Some(NotJoined)
-    /// Zone::new(zero, &[Row { second: 1_000, offset: hour }; 2], None).err() // Some(Unordered(1))
+    /// let rows = [Row { second: 1_000, offset: hour }; 2];
+    /// Zone::new(zero, &rows[..1], Some(rule)).err() // Some(NotJoined)
+    /// Zone::new(zero, &rows, None).err() // Some(Unordered(1))
     /// Zone::new(zero, &[], Some(rule)).is_ok() // true
     /// ```
     pub fn new(
@@ -86,7 +88,8 @@ impl<'a> Zone<'a> {
     /// ```
     /// let zero = FixedOffset::east_opt(0)?;
     /// let hour = FixedOffset::east_opt(3_600)?;
-    /// let zone = Zone::new(zero, &[Row { second: 1_000, offset: hour }], None).ok()?;
+    /// let rows = [Row { second: 1_000, offset: hour }];
+    /// let zone = Zone::new(zero, &rows, None).ok()?;
     /// zone.offset_of_instant(999) // +00:00
     /// ```
     pub fn offset_of_instant(&self, second: i64) -> FixedOffset
@@ -107,7 +110,8 @@ impl<'a> Zone<'a> {
     /// ```
     /// let zero = FixedOffset::east_opt(0)?;
     /// let hour = FixedOffset::east_opt(3_600)?;
-    /// let zone = Zone::new(zero, &[Row { second: 1_000, offset: hour }], None).ok()?;
+    /// let rows = [Row { second: 1_000, offset: hour }];
+    /// let zone = Zone::new(zero, &rows, None).ok()?;
     /// zone.offsets_of_local(999) // Single(+00:00)
     /// zone.offsets_of_local(1_000) // None
     /// zone.offsets_of_local(4_600) // Single(+01:00)
