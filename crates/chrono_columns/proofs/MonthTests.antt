@@ -1,10 +1,7 @@
 -- Months counted from March of the year -262,400, and the moves that the library has no date for.
-use Rattle.std.proofs.Common.{◌≡◌, ℤ, pos, neg_ℤ, ◌+ℤ◌, ◌-ℤ◌, ◌≤ℤ◌, ◌<ℤ◌, Some, None, arith}
-use Rattle.chrono_units.specs.Years.{IsYear, is_year}
-use Rattle.chrono_calendar.specs.Days.{day_of}
-use Rattle.chrono_calendar.specs.MonthMoves.{day_number_in_month, month_index_of, month_move, year_of_month_index}
-use Rattle.chrono_calendar.proofs.Dates.{is_year-fact}
-use Rattle.chrono_calendar.proofs.NamedDates.{None-cond}
+use Rattle.std.proofs.Common.{ℤ, pos, neg_ℤ, ◌+ℤ◌, ◌-ℤ◌, ◌≤ℤ◌, ◌<ℤ◌, arith}
+use Rattle.chrono_units.specs.Years.{IsYear}
+use Rattle.chrono_calendar.specs.MonthMoves.{year_of_month_index}
 use Rattle.chrono_calendar.proofs.Signed.{signed}
 
 -- a month of the library is less than 7,000,000 months from any other

@@ -1,31 +1,19 @@
 -- Texts of ten bytes, and the pairs of digits of which they are made.
-use Rattle.std.proofs.Common.{◌≡◌, ◌≢◌, ◌∙◌, ℕ, suc, ◌+◌, ◌*◌, ◌/◌, ◌%◌, ◌^◌, ◌<◌, ◌≤◌, ℤ, pos, negsuc, unsigned_abs, List, [], ◌∷◌, ◌++◌, length, drop, get_or, Option, Some, None, inl, inr, ap, sym, refl, arith}
+use Rattle.std.proofs.Common.{◌≡◌, ◌≢◌, ◌∙◌, ℕ, suc, ◌+◌, ◌*◌, ◌/◌, ◌%◌, ◌^◌, ◌<◌, ℤ, pos, negsuc, unsigned_abs, List, [], ◌∷◌, ◌++◌, length, drop, get_or, Option, Some, None, ap, sym, refl, arith}
 use Rattle.std.proofs.Math.Seq.{drop-cons}
-use Rattle.std.proofs.lemmas.Bool.{cases_lt}
 use Rattle.std.proofs.lemmas.List.{drop_all}
-use Rattle.std.proofs.lemmas.Int.{ints}
-use Rattle.std.specs.Fmt.{decimal}
 use Rattle.chrono_calendar.specs.Days.{date_of_ymd}
 use Rattle.chrono_calendar.proofs.GivenNames.{given_ymd}
 use Rattle.chrono_calendar.proofs.Months.{month_length_in-bounds}
-use Rattle.chrono_units.specs.Years.{IsYear, is_leap_year}
-use Rattle.chrono_text.specs.Text.{calendar_text, two_digits, year_digits, year_text}
-use Rattle.chrono_text.proofs.DigitLemmas.{by_size, decimal_below}
-use Rattle.chrono_text.proofs.TextLemmas.{calendar_text_injective, length-calendar_text, year_text-four, year_text-more}
+use Rattle.chrono_units.specs.Years.{is_leap_year}
+use Rattle.chrono_text.specs.Text.{calendar_text, two_digits, year_text}
+use Rattle.chrono_text.proofs.DigitLemmas.{by_size}
+use Rattle.chrono_text.proofs.TextLemmas.{calendar_text_injective, length-calendar_text, year_digits-least, year_text-four, year_text-more}
 use Rattle.chrono_reading.specs.DateTexts.{IsDateText}
 use Rattle.chrono_columns.specs.Columns.{IsTextEntry, date_entry, number_entry}
 use Rattle.chrono_calendar.proofs.Years.{IsYear-small}
 
 -- ---- which names have ten bytes
-
--- a year's size has four digits or more
-least_digits : (n : ℕ) → n < 1_000_000 → 4 ≤ length (year_digits n)
-least_digits n h = by_size 10_000 n
-    (λ low. grind arith)
-    (λ high. elim (cases_lt (length (decimal n)) 4) [
-      | inl less ↦ absurd (omega (arith, high, decimal_below n 3 (omega (arith, h)) (omega (arith, less))))
-      | inr more ↦ grind (arith, more)
-    ])
 
 -- a year of four bytes has no sign
 record FourDigits (y : ℤ) : Type 0 where
@@ -34,10 +22,10 @@ record FourDigits (y : ℤ) : Type 0 where
   below : size < 10_000
 
 four_digit_year : (y : ℤ) → unsigned_abs y < 1_000_000 → length (year_text y) ≡ 4 → FourDigits y
-four_digit_year (negsuc n) h e = absurd (omega (arith, e, least_digits (suc n) h))
+four_digit_year (negsuc n) h e = absurd (omega (arith, e, year_digits-least (suc n) h))
 four_digit_year (pos n) h e = by_size 10_000 n
     (λ low. record { size = n; is = refl; below = low })
-    (λ high. absurd (omega (arith, ap (λ (c : List ℕ). length c) (year_text-more n high), e, least_digits n h)))
+    (λ high. absurd (omega (arith, ap (λ (c : List ℕ). length c) (year_text-more n high), e, year_digits-least n h)))
 
 -- the parts of the name of a date are small
 record SmallName (y : ℤ) (m d : ℕ) : Type 0 where

@@ -16,7 +16,6 @@
 //! An invalid number is first replaced by the nearest date. At the end the result is kept or replaced by [`NONE`] or 0.
 #![tactic(auto)]
 
-mod codes;
 mod conversion;
 mod counts;
 mod fields;

@@ -1,19 +1,11 @@
 //! The dates of single texts of ten bytes.
-ghost use Rattle.std.specs.Prelude.{◌≡◌, ◌-◌, ◌<◌, ◌≤◌, ◌∷◌, [], ℕ, true};
+ghost use Rattle.std.specs.Prelude.{◌≡◌, ◌<◌, ◌∷◌, [], ℕ, true};
 ghost use Rattle.chrono_text.specs.Text.{two_digits};
 ghost use Rattle.chrono_columns.specs.Columns.{IsTextEntry};
 
 use crate::named::date_of_name;
 use crate::none::NONE;
-
-// What a byte is worth as a digit; more than 9 if it is none.
-#[inline]
-fn digit(byte: u8) -> u8
-    ensures value { 48 ≤ byte → result ≡ byte - 48 }
-    ensures other { byte < 48 → 9 < result }
-{
-    byte.wrapping_sub(b'0')
-}
+use chrono_text::digit;
 
 // The number that two bytes write, and whether both are digits.
 #[inline]

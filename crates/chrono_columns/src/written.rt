@@ -3,7 +3,7 @@ ghost use Rattle.std.specs.Prelude.{◌≡◌, ◌<◌, pos, ◌≤ℤ◌};
 ghost use Rattle.chrono_text.specs.Text.{calendar_text};
 ghost use Rattle.chrono_columns.specs.Columns.{has_four_digits, name_text_entry};
 
-use crate::codes::codes_of_two;
+use chrono_text::codes_of_two;
 
 // The year nearest to another, of those from 0 to 9999.
 #[inline]
