@@ -1,5 +1,5 @@
 -- How the text of a date falls into its parts, and the ranges of those that name a date.
-use Rattle.std.proofs.Common.{[], ◌+◌, ◌≡◌, ℕ, ◌-◌, ◌<◌, ◌≤◌, true, List, ◌∷◌, ◌++◌, length, length-append, take, drop, append_assoc, ℤ, unsigned_abs, Option, Some, None, IfSome, arith, rules, refl, sym, ap, ◌∙◌}
+use Rattle.std.proofs.Common.{[], ◌+◌, ◌≡◌, ℕ, ◌-◌, ◌<◌, ◌≤◌, true, List, ◌∷◌, ◌++◌, codes, length, length-append, take, drop, append_assoc, ℤ, unsigned_abs, Option, Some, None, IfSome, arith, rules, refl, sym, ap, ◌∙◌}
 use Rattle.std.proofs.lemmas.Bool.{and_parts}
 use Rattle.std.proofs.lemmas.Bool.Decides.{nat_tests}
 use Rattle.std.proofs.lemmas.Int.{ints}
@@ -26,8 +26,11 @@ front_of front end text e =
       sym (drop_at front end _ size) ∙ ap (drop (length text - length end)) e,
     )
 
+pub date_parts : (year : List ℕ) (m d : ℕ) → year ++ codes "-" ++ two_digits m ++ codes "-" ++ two_digits d ≡ year ++ (45 ∷ two_digits m ++ 45 ∷ two_digits d)
+date_parts year m d = simp append_assoc
+
 pub calendar_text-parts : (y : ℤ) (m d : ℕ) → calendar_text y m d ≡ year_text y ++ (45 ∷ two_digits m ++ 45 ∷ two_digits d)
-calendar_text-parts y m d = simp append_assoc
+calendar_text-parts y m d = date_parts (year_text y) m d
 
 -- the year stands before the last six bytes
 pub calendar_text-split : (text : List ℕ) (y : ℤ) (m d : ℕ) → calendar_text y m d ≡ text
@@ -86,7 +89,7 @@ date_text-same text other n m same inside law is also =
 year_length-small : (y : ℤ) → year_length y ≤ 366
 year_length-small y = grind (arith, nat_tests)
 
-joined : (front end text : List ℕ) (k : ℕ) → front ≡ take k text → end ≡ drop k text → front ++ end ≡ text
+pub joined : (front end text : List ℕ) (k : ℕ) → front ≡ take k text → end ≡ drop k text → front ++ end ≡ text
 joined front end text k e f = rw (e, f) (take-append-drop k text)
 
 ordinal-small : (y : ℤ) (o : ℕ) → is_ordinal_name y o ≡ true → o < 1_000

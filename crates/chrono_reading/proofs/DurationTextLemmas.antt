@@ -2,7 +2,6 @@
 use Rattle.std.proofs.Common.{◌⊎◌, Bool, true, false, subst, Option, Some, None, ℤ, pos, negsuc, neg_ℤ, unsigned_abs, ◌≡◌, ◌≢◌, ℕ, ◌+◌, ◌*◌, ◌^◌, ◌<◌, ◌≤◌, List, ◌∷◌, ◌++◌, length, length-append, get_or, take, drop, codes, inl, inr, refl, sym, ap, ◌∙◌, arith}
 use Rattle.std.specs.Fmt.{decimal, sign_text}
 use Rattle.std.specs.Int.{is_negative}
-use Rattle.std.proofs.lemmas.Bool.Decides.{nat_tests}
 use Rattle.std.specs.Str.Parse.{AllDigits}
 use Rattle.std.proofs.lemmas.Fmt.{decimal_is_IsNumeral}
 use Rattle.std.proofs.lemmas.List.{get_or_append_left, get_or_at, take_at, drop_at}
@@ -14,6 +13,7 @@ use Rattle.chrono_reading.specs.DurationTexts.{IsDurationText, IsSecondsText, Sa
 use Rattle.chrono_text.specs.Fractions.{IsFractionText}
 use Rattle.chrono_text.proofs.DigitLemmas.{by_size}
 use Rattle.chrono_text.proofs.FractionLemmas.{IsFractionText-below, IsFractionText-same}
+use Rattle.chrono_text.proofs.TextLemmas.{is_negative-pos}
 
 -- what stands behind the digits
 fits_front : (digits rest text : List ℕ) (n : ℕ) → digits ++ rest ≡ text → IsFractionText rest n → length digits < length text → get_or text (length digits) 0 ≡ 46
@@ -74,14 +74,11 @@ pub record IsSizeOf (text : List ℕ) (x : ℤ) : Type 0 where
 pub first_p : (text : List ℕ) (size : ℕ) → IsSecondsText text size → get_or text 0 0 ≡ 80
 first_p text size is = ap (λ (t : List ℕ). get_or t 0 0) (sym is.written)
 
-not_negative : (n : ℕ) → is_negative (pos n) ≡ false
-not_negative n = grind (arith, nat_tests)
-
 -- behind a `-` stands the size of a negative duration
 pub minus_size : (text behind : List ℕ) (x : ℤ) → 45 ∷ behind ≡ text → IsDurationText text x → (x ≡ neg_ℤ (pos (unsigned_abs x))) × IsSizeOf behind x
 minus_size text behind x e (inl zero_is) = absurd (omega (arith, ap (λ (t : List ℕ). get_or t 0 0) (e ∙ zero_is.0)))
 minus_size text behind (pos n) e (inr is) =
-    let plain : is.size ≡ text = ap (λ b. sign_text b ++ is.size) (sym (not_negative n)) ∙ is.written in
+    let plain : is.size ≡ text = ap (λ b. sign_text b ++ is.size) (sym (is_negative-pos n)) ∙ is.written in
     absurd (omega (arith, first_p is.size n is.size_written, ap (λ (t : List ℕ). get_or t 0 0) (plain ∙ sym e)))
 minus_size text behind (negsuc n) e (inr is) =
     let same : is.size ≡ behind = ap (drop 1) (is.written ∙ sym e) in
@@ -91,7 +88,7 @@ minus_size text behind (negsuc n) e (inr is) =
 pub plain_size : (text : List ℕ) (x : ℤ) → ((behind : List ℕ) → 45 ∷ behind ≢ text) → (text ≢ codes "P0D") → IsDurationText text x → (x ≡ pos (unsigned_abs x)) × IsSizeOf text x
 plain_size text x no_minus not_zero (inl zero_is) = absurd (not_zero zero_is.0)
 plain_size text (pos n) no_minus not_zero (inr is) =
-    let plain : is.size ≡ text = ap (λ b. sign_text b ++ is.size) (sym (not_negative n)) ∙ is.written in
+    let plain : is.size ≡ text = ap (λ b. sign_text b ++ is.size) (sym (is_negative-pos n)) ∙ is.written in
     (refl, record { some = is.is_some; within = is.is_duration; written = subst (λ (t : List ℕ). IsSecondsText t n) plain is.size_written })
 plain_size text (negsuc n) no_minus not_zero (inr is) = absurd (no_minus is.size is.written)
 

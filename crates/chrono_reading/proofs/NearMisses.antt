@@ -1,5 +1,5 @@
 -- Texts that are near to one of a value, and are of none.
-use Rattle.std.proofs.Common.{append_assoc, ◌⊎◌, ◌≡◌, ◌≢◌, Bool, true, false, ℕ, suc, ◌^◌, ◌<◌, ◌≤◌, List, ◌∷◌, ◌++◌, codes, length, length-append, get_or, take, drop, ℤ, pos, negsuc, unsigned_abs, Some, None, inl, inr, refl, sym, ap, ◌∙◌, subst, length-take, arith}
+use Rattle.std.proofs.Common.{◌⊎◌, ◌≡◌, ◌≢◌, Bool, true, false, ℕ, suc, ◌^◌, ◌<◌, ◌≤◌, List, ◌∷◌, ◌++◌, codes, length, length-append, get_or, take, drop, ℤ, pos, negsuc, unsigned_abs, Some, None, inl, inr, refl, sym, ap, ◌∙◌, subst, length-take, arith}
 use Rattle.std.specs.Char.{to_ascii_lowercase}
 use Rattle.std.specs.Fmt.{decimal, sign_text}
 use Rattle.std.proofs.lemmas.Fmt.{decimal_is_IsNumeral, first_decimal}
@@ -20,7 +20,7 @@ use Rattle.chrono_datetime.specs.Names.{IsNameText, weekday_name}
 use Rattle.chrono_text.specs.Fractions.{IsFractionText}
 use Rattle.chrono_reading.specs.TimeTexts.{IsTimeText}
 use Rattle.chrono_reading.specs.DateErrors.{HasDateParts}
-use Rattle.chrono_reading.proofs.DateLemmas.{front_of, calendar_text-split, date_of_ymd-small}
+use Rattle.chrono_reading.proofs.DateLemmas.{front_of, calendar_text-split, date_of_ymd-small, date_parts}
 use Rattle.chrono_text.proofs.DigitLemmas.{by_size}
 use Rattle.chrono_reading.proofs.DurationTextLemmas.{first_p, seconds_small}
 use Rattle.chrono_text.proofs.FractionLemmas.{length-all_digits}
@@ -88,9 +88,6 @@ minus_year (pos n) text below e = by_size 10_000 n
 pub one_digit_month : (n : ℤ) → ¬ IsDateText (codes "2024-2-29") n
 one_digit_month n is =
     let parts = calendar_text-split (codes "2024-2-29") is.year is.month is.day is.written in omega (arith, ap (byte 0) parts.1)
-
-date_parts : (year : List ℕ) (m d : ℕ) → year ++ codes "-" ++ two_digits m ++ codes "-" ++ two_digits d ≡ year ++ (45 ∷ two_digits m ++ 45 ∷ two_digits d)
-date_parts year m d = simp append_assoc
 
 pub no_date_parts : (year : List ℕ) (m d : ℕ) → ¬ HasDateParts (codes "2024-2-29") year m d
 no_date_parts year m d is =

@@ -10,6 +10,7 @@ use Rattle.chrono_reading.specs.DateErrors.{IsDateError, IsErrorByYear, IsOrdina
 use Rattle.chrono_reading.specs.TimeErrors.{IsTimeError}
 use Rattle.chrono_reading.specs.declared.error.ReadError.{ReadError}
 use Rattle.chrono_calendar.proofs.Years.{IsYear-small}
+use Rattle.chrono_reading.proofs.DateLemmas.{date_parts}
 
 -- the byte of a text at a place
 abbrev byte : ℕ → List ℕ → ℕ
@@ -34,15 +35,12 @@ iso_year_small : (y : ℤ) → IsIsoYear y → unsigned_abs y < 1_000_000
 iso_year_small y is = omega (arith, ints)
 
 -- the parts of a text are its only ones, so it has one error
-date_tail : (year : List ℕ) (m d : ℕ) → year ++ codes "-" ++ two_digits m ++ codes "-" ++ two_digits d ≡ year ++ (45 ∷ two_digits m ++ 45 ∷ two_digits d)
-date_tail year m d = simp append_assoc
-
 pub date_one : (text : List ℕ) (a b : ReadError) → IsDateError text a → IsDateError text b → a ≡ b
 date_one text a b (inl p) (inl q) = p.1 ∙ sym q.1
 date_one text a b (inl p) (inr q) = absurd (p.0 q.0 q.1 q.2 q.3)
 date_one text a b (inr p) (inl q) = absurd (q.0 p.0 p.1 p.2 p.3)
 date_one text a b (inr p) (inr q) =
-    let parts = same_parts p.0 q.0 (45 ∷ two_digits p.1 ++ 45 ∷ two_digits p.2) (45 ∷ two_digits q.1 ++ 45 ∷ two_digits q.2) refl (sym (date_tail p.0 p.1 p.2) ∙ (p.3.written ∙ (sym q.3.written ∙ date_tail q.0 q.1 q.2))) in
+    let parts = same_parts p.0 q.0 (45 ∷ two_digits p.1 ++ 45 ∷ two_digits p.2) (45 ∷ two_digits q.1 ++ 45 ∷ two_digits q.2) refl (sym (date_parts p.0 p.1 p.2) ∙ (p.3.written ∙ (sym q.3.written ∙ date_parts q.0 q.1 q.2))) in
     let month : p.1 ≡ q.1 = omega (arith, ap (byte 1) parts.1, ap (byte 2) parts.1) in
     let day : p.2 ≡ q.2 = omega (arith, ap (byte 4) parts.1, ap (byte 5) parts.1) in
     by_year IsYear p.0 q.0 (λ y. calendar_error y p.1 p.2 (length p.0)) (λ y. calendar_error y q.1 q.2 (length q.0)) a b IsYear-small parts.0

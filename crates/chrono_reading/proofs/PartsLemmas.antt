@@ -1,5 +1,5 @@
 -- How texts fall into the parts that their errors go by.
-use Rattle.std.proofs.Common.{[], ◌≡◌, ◌+◌, ◌<◌, ◌≤◌, ℕ, true, false, List, ◌∷◌, ◌++◌, length, take, drop, take-append-drop, replicate, codes, append_assoc, refl, sym, ap, ◌∙◌, arith}
+use Rattle.std.proofs.Common.{[], ◌≡◌, ◌+◌, ◌<◌, ◌≤◌, ℕ, true, false, List, ◌∷◌, ◌++◌, length, take, drop, replicate, codes, append_assoc, refl, sym, ap, ◌∙◌, arith}
 use Rattle.std.specs.Prelude.{if◌then◌else◌}
 use Rattle.std.proofs.lemmas.Bool.Decides.{nat_tests}
 use Rattle.std.proofs.lemmas.List.{append-nil}
@@ -8,11 +8,9 @@ use Rattle.chrono_text.specs.Text.{all_digits, two_digits}
 use Rattle.chrono_reading.specs.DurationErrors.{duration_form, seconds_form, seconds_front, whole_form, whole_front, whole_more}
 use Rattle.chrono_reading.specs.Fitting.{IsOfForm, fits_front, fitting, leading_digits}
 use Rattle.chrono_reading.specs.TimeErrors.{HasTimeParts, places_of_form, time_form}
+use Rattle.chrono_reading.proofs.DateLemmas.{joined}
 
 -- a text is a year and what stands behind it
-joined : (front end text : List ℕ) (k : ℕ) → front ≡ take k text → end ≡ drop k text → front ++ end ≡ text
-joined front end text k e f = rw (e, f) (take-append-drop k text)
-
 pub date-joined : (year text : List ℕ) (m d k : ℕ) → year ≡ take k text → 45 ∷ two_digits m ++ 45 ∷ two_digits d ≡ drop k text
     → year ++ codes "-" ++ two_digits m ++ codes "-" ++ two_digits d ≡ text
 date-joined year text m d k front end = let parts = joined year (45 ∷ two_digits m ++ 45 ∷ two_digits d) text k front end in simp append_assoc parts

@@ -15,7 +15,9 @@ use Rattle.chrono_reading.specs.DurationTexts.{IsDurationText}
 use Rattle.chrono_datetime.specs.Time.{FractionFits, IsTime, TimeOfDay, hour_of, minute_of, second_of, time_at}
 use Rattle.chrono_text.specs.Fractions.{IsFractionText, IsPointText}
 use Rattle.chrono_reading.specs.TimeTexts.{IsTimeText, time_shown}
+use Rattle.chrono_text.proofs.Decimals.{fraction_digits-zero}
 use Rattle.chrono_text.proofs.DigitLemmas.{by_size, digits_more, pow_pos}
+use Rattle.chrono_text.proofs.TextLemmas.{unsigned_abs-zero}
 
 -- a number is one value, or another
 by_zero : (n : ℕ) → {P : Type 0} → (n ≡ 0 → P) → (n ≢ 0 → P) → P
@@ -54,10 +56,6 @@ record IsShort (p n : ℕ) : Type 0 where
 more_digits : (p n : ℕ) → n ≢ 0 → fraction_digits (suc p) n ≡ (48 + n / 10 ^ p) ∷ fraction_digits p (n % 10 ^ p)
 more_digits p n some = grind arith
 
-no_digits : (p : ℕ) → fraction_digits p 0 ≡ []
-no_digits zero = refl
-no_digits (suc p) = refl
-
 one_digit : (d : ℕ) → all_digits 1 d ≡ (48 + d) ∷ []
 one_digit d = let whole : d / 10 ^ 0 ≡ d = omega arith in ap (λ q. (48 + q) ∷ []) whole
 
@@ -89,7 +87,7 @@ short_of (suc p) n some below =
       few = omega arith;
       below = omega arith;
       worth = worth_one p digit (n % 10 ^ p) n none whole;
-      written = more_digits p n some ∙ ap (λ r. (48 + digit) ∷ fraction_digits p r) none ∙ ap (λ (t : List ℕ). (48 + digit) ∷ t) (no_digits p) ∙ sym (one_digit digit);
+      written = more_digits p n some ∙ ap (λ r. (48 + digit) ∷ fraction_digits p r) none ∙ ap (λ (t : List ℕ). (48 + digit) ∷ t) (fraction_digits-zero p) ∙ sym (one_digit digit);
     })
     (λ more.
     let rest = short_of p (n % 10 ^ p) more (mod_below n (10 ^ p) (pow_pos p)) in record {
@@ -125,10 +123,6 @@ IsFractionText-fraction n below = by_zero n
     subst (λ (t : List ℕ). IsFractionText t n) (ap (λ (t : List ℕ). 46 ∷ t) (sym short.written) ∙ is)
     (inr (point_of short.places short.count n short.some short.few short.below short.worth)))
 
-zero_of : (x : ℤ) → unsigned_abs x ≡ 0 → x ≡ pos 0
-zero_of (pos n) e = ap pos e
-zero_of (negsuc n) e = absurd (omega arith)
-
 int_zero : (x : ℤ) → int_eq x (pos 0) ≡ true → unsigned_abs x ≡ 0
 int_zero (pos n) e = grind (arith, ints, nat_tests)
 int_zero (negsuc n) e = cc
@@ -145,7 +139,7 @@ behind_sign false size = refl
 -- the signed seconds of a duration
 pub IsDurationText-printed : (x : ℤ) → IsDuration x → IsDurationText (duration_text x) x
 IsDurationText-printed x within = by_zero (unsigned_abs x)
-    (λ none. subst (λ (y : ℤ). IsDurationText (duration_text y) y) (sym (zero_of x none)) (inl (refl, refl)))
+    (λ none. subst (λ (y : ℤ). IsDurationText (duration_text y) y) (sym (unsigned_abs-zero x none)) (inl (refl, refl)))
     (λ some. inr (record {
       size = codes "PT" ++ decimal (unsigned_abs x / nanos_per_second) ++ fraction_text (unsigned_abs x % nanos_per_second) ++ codes "S";
       is_some = omega arith;

@@ -14,7 +14,7 @@ use crate::error::{ReadCause, ReadError, error_at};
 use crate::fitting::{fitting_year, is_of_year_form};
 use chrono_calendar::YearFlags;
 use chrono_datetime::{NaiveDate, Weekday};
-use chrono_text::{read_two, read_year};
+use chrono_text::{digit, read_two, read_year};
 
 // No ISO year has more weeks.
 const MOST_WEEKS: u32 = 53;
@@ -142,12 +142,13 @@ fn week_and_digit(text: [u8; 6]) -> Option<(u32, u32)>
         → byte "-" ∷ byte "W" ∷ two_digits week ++ byte "-" ∷ (byte "0" + weekday) ∷ [] ≡ text
         → result ≡ Some (week, weekday) }
 {
-    if let [b'-', b'W', tens, ones, b'-', digit] = text {
+    if let [b'-', b'W', tens, ones, b'-', last] = text {
         let week = read_two(tens, ones)?;
-        if !digit.is_ascii_digit() {
+        let weekday = digit(last);
+        if weekday > 9 {
             return None;
         }
-        Some((week, u32::from(digit - b'0')))
+        Some((week, u32::from(weekday)))
     } else {
         None
     }
