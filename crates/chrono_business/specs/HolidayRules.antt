@@ -1,22 +1,16 @@
 -- Holidays by rules: which day a rule names in a year, where it goes from a weekend, and the holidays of a year.
-use Rattle.std.specs.Prelude.{ℕ, Bool, ◌&&◌, ◌==◌, int_le, if◌then◌else◌, ℤ, pos, neg_ℤ, ◌+ℤ◌, Option, None}
+use Rattle.std.specs.Prelude.{Bool, ◌&&◌, ◌==◌, int_le, if◌then◌else◌, ℤ, pos, neg_ℤ, ◌+ℤ◌, Option, None}
 use Rattle.std.specs.Option.{option_and_then}
-use Rattle.chrono_datetime.specs.declared.Weekday.{Weekday}
 use Rattle.chrono_datetime.specs.Month.{number_from_month}
 use Rattle.chrono_datetime.specs.Weekday.{days_from_monday}
 use Rattle.chrono_datetime.specs.Days.{date_of_day, date_of_ymd}
-use Rattle.chrono_datetime.specs.MonthMoves.{month_last_of}
-use Rattle.chrono_datetime.specs.Weeks.{date_of_nth_weekday, week_first_of, weekday_of}
+use Rattle.chrono_datetime.specs.Weeks.{date_of_last_weekday, date_of_nth_weekday, weekday_of}
 use Rattle.chrono_business.specs.Easter.{date_of_easter}
 use Rattle.chrono_business.specs.declared.holiday_rule.HolidayDay.{HolidayDay}
 use Rattle.chrono_business.specs.declared.holiday_rule.HolidayDay.TheVariants.{Fixed, NthWeekday, LastWeekday, EasterPlus}
 use Rattle.chrono_business.specs.declared.holiday_rule.Moved.{Moved}
 use Rattle.chrono_business.specs.declared.holiday_rule.Moved.TheVariants.{Stays, SundayToMonday, ToMonday, ToNearer, TwoDaysOn}
 use Rattle.chrono_business.specs.declared.holiday_rule.HolidayRule.{HolidayRule}
-
--- the last day of the month m of the year y that has the weekday, if the library has that month
-abbrev pub date_of_last_weekday : ℤ → ℕ → Weekday → Option ℤ
-date_of_last_weekday y m weekday = option_and_then (λ first. date_of_day (week_first_of (month_last_of first) weekday)) (date_of_ymd y m 1)
 
 -- the date so many days after Easter, or before it
 abbrev pub date_of_easter_plus : ℤ → ℤ → Option ℤ

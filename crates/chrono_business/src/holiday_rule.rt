@@ -6,7 +6,8 @@ ghost use Rattle.std.specs.Prelude.{◌≡◌, ◌==◌, if◌then◌else◌, po
 ghost use Rattle.std.specs.Option.{option_and_then};
 ghost use Rattle.chrono_datetime.specs.Weekday.{days_from_monday};
 ghost use Rattle.chrono_datetime.specs.Days.{IsDate, date_of_day};
-ghost use Rattle.chrono_business.specs.HolidayRules.{holiday_named, date_of_easter_plus, date_of_last_weekday, date_of_rule, from_saturday, from_sunday, moved_by};
+ghost use Rattle.chrono_datetime.specs.Weeks.{date_of_last_weekday};
+ghost use Rattle.chrono_business.specs.HolidayRules.{holiday_named, date_of_easter_plus, date_of_rule, from_saturday, from_sunday, moved_by};
 
 use crate::computus::easter;
 use chrono_datetime::{Datelike, Month, NaiveDate, Weekday};

@@ -3,8 +3,7 @@ use Rattle.std.proofs.Common.{◌≡◌, ◌⊎◌, inl, inr, ⊎_elim, ◌↔�
 use Rattle.std.proofs.lemmas.Bool.{cases_order}
 use Rattle.std.proofs.lemmas.Int.{by_lt_z, ints}
 use Rattle.std.specs.Option.{option_map}
-use Rattle.chrono_clock.specs.Time.{TimeOfDay, IsTime, IsPlain, IsEarlier, landing_of, land, later, place, distance}
-use Rattle.chrono_clock.proofs.TimeLemmas.{is_leap-plain}
+use Rattle.chrono_clock.specs.Time.{TimeOfDay, IsTime, IsPlain, IsEarlier, landing_of, land, later, distance}
 use Rattle.chrono_clock.proofs.DistanceLemmas.{land-distance, land-distance_days, distance-later, distance-earlier, distance-same, distance-plain}
 use Rattle.chrono_clock.proofs.MomentLemmas.{moment_distance-turned}
 use Rattle.chrono_naive.specs.Days.{IsDate, date_of_day}

@@ -15,6 +15,7 @@ pub use Rattle.chrono_naive.proofs.FirstWhere
 pub use Rattle.chrono_naive.proofs.CountWhere
 pub use Rattle.chrono_naive.proofs.CountBetween
 pub use Rattle.chrono_naive.proofs.Birthdays
+pub use Rattle.chrono_naive.proofs.LastWeekdays
 pub use Rattle.chrono_naive.proofs.RisingLists
 pub mod MonthPlaces
 -- The rest serve this crate's own proofs alone.

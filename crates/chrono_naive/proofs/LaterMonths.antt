@@ -1,5 +1,5 @@
 -- A date some months on is a later date.
-use Rattle.std.proofs.Common.{◌≡◌, Option, Some, None, IfSome, arith, ℤ, pos, ◌+ℤ◌, ◌≤ℤ◌, ◌<ℤ◌}
+use Rattle.std.proofs.Common.{◌≡◌, Option, Some, None, IfSome, arith, ℤ, pos, ◌+ℤ◌, ◌<ℤ◌}
 use Rattle.std.proofs.lemmas.Int.{by_lt_z}
 use Rattle.chrono_calendar.specs.MonthMoves.{month_index_of, month_move}
 use Rattle.chrono_calendar.proofs.MonthMoveLaws.{if_month}

@@ -13,6 +13,7 @@ pub use Rattle.chrono_calendar.proofs.FirstWhere
 pub use Rattle.chrono_calendar.proofs.CountWhere
 pub use Rattle.chrono_calendar.proofs.CountBetween
 pub use Rattle.chrono_calendar.proofs.Birthdays
+pub use Rattle.chrono_calendar.proofs.LastWeekdays
 pub mod DateTextLemmas
 pub mod RisingLists
 -- The rest serve this crate's own proofs alone.

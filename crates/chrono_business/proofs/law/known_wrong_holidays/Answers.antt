@@ -1,4 +1,4 @@
-use Rattle.std.proofs.Common.{◌≡◌, true, zero, suc, [], ◌∷◌, refl, arith, ℤ, pos, ◌≤ℤ◌, ◌<ℤ◌}
+use Rattle.std.proofs.Common.{◌≡◌, true, zero, suc, [], ◌∷◌, refl, arith, pos, ◌≤ℤ◌, ◌<ℤ◌}
 use Rattle.std.proofs.lemmas.Bool.{false≢true}
 use Rattle.std.proofs.lemmas.List.Elements.{All-cons, All-nil}
 use Rattle.chrono_datetime.specs.declared.Weekday.TheVariants.{Sat, Sun}

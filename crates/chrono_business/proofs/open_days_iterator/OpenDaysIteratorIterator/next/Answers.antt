@@ -1,5 +1,4 @@
-use Rattle.std.proofs.Common.{◌≡◌, ◌+◌, ◌∷◌, refl, sym, ap, ◌∙◌, arith, ℤ, pos, ◌+ℤ◌, to_z, of_z, w32}
-use Rattle.chrono_datetime.specs.Days.{IsDate}
+use Rattle.std.proofs.Common.{◌≡◌, ◌+◌, ◌∷◌, refl, sym, ap, ◌∙◌, arith, ℤ, pos, ◌+ℤ◌}
 use Rattle.chrono_datetime.specs.Recurrence.{first_date, past_last_date}
 use Rattle.chrono_datetime.proofs.Signed.{casts, signed}
 use Rattle.chrono_business.specs.OpenDays.{open_days}
