@@ -158,6 +158,19 @@ field_lists-zeroth : field_lists Numbers 1 31 (codes "0") 1 ≡ None
 unfolding field_lists item_lists step_of item_span range_of number_between spelled_number digits_of number_of_name natural_of
 field_lists-zeroth = refl
 
+-- no star: with a number behind it, and another sign; and `*` lists no number past the last
+field_lists-star_and_number : field_lists Numbers 0 59 (codes "*5") 5 ≡ None
+unfolding field_lists item_lists step_of item_span range_of number_between spelled_number digits_of number_of_name natural_of
+field_lists-star_and_number = refl
+
+field_lists-other_sign : field_lists Numbers 0 59 (codes "!") 5 ≡ None
+unfolding field_lists item_lists step_of item_span range_of number_between spelled_number digits_of number_of_name natural_of
+field_lists-other_sign = refl
+
+field_lists-past_last : field_lists Numbers 1 31 (codes "*") 32 ≡ Some false
+unfolding field_lists item_lists step_of item_span range_of number_between spelled_number digits_of number_of_name natural_of
+field_lists-past_last = refl
+
 -- names count from 1 for January, and from 0 for Sunday
 number_of_name-june : number_of_name Months (codes "JUN") ≡ Some 6
 unfolding number_of_name month_of_letters weekday_of_letters

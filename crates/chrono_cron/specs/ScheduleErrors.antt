@@ -354,11 +354,28 @@ wrong_field-first : map wrong_field (codes "60 24 32 13 8" ∷ codes "0 24 32 13
 unfolding wrong_field text_words days_list names_by names_by_place names_by_weekday from_end_of is_last_workday_text nearest_workday_of last_weekday_of nth_weekday_of weekdays_list field_lists item_lists step_of item_span range_of number_between spelled_number digits_of number_of_name month_of_letters weekday_of_letters natural_of
 wrong_field-first = refl
 
+-- months begin with 1 and have names, which minutes and hours do not; and days that are named can be read
+wrong_field-others : map wrong_field (codes "0 0 1 0 0" ∷ codes "jan 0 1 1 0" ∷ codes "0 mon 1 1 0" ∷ codes "0 0 L jan 5L" ∷ [])
+    ≡ Some Month ∷ Some Minute ∷ Some Hour ∷ None ∷ []
+unfolding wrong_field text_words days_list names_by names_by_place names_by_weekday from_end_of is_last_workday_text nearest_workday_of last_weekday_of nth_weekday_of weekdays_list field_lists item_lists step_of item_span range_of number_between spelled_number digits_of number_of_name month_of_letters weekday_of_letters natural_of
+wrong_field-others = refl
+
 -- 0 is a minute, an hour and a weekday
 schedule_error-zeros : map schedule_error (codes "0,60 * * * *" ∷ codes "* 0,24 * * *" ∷ codes "* * * * 0,8" ∷ [])
     ≡ schedule_error_at (Some Minute) (2, OutOfRange) ∷ schedule_error_at (Some Hour) (4, OutOfRange) ∷ schedule_error_at (Some Weekday) (10, OutOfRange) ∷ []
 unfolding schedule_error wrong_field text_words placed_words placed_items field_fault fault_in is_item field_item_fault span_fault field_number_fault day_name_fault weekday_name_fault days_list names_by names_by_place names_by_weekday from_end_of is_last_workday_text nearest_workday_of last_weekday_of nth_weekday_of weekdays_list field_lists item_lists step_of item_span range_of number_between spelled_number digits_of number_of_name month_of_letters weekday_of_letters natural_of
 schedule_error-zeros = refl
+
+-- the first item is wrong if its number is past the last, and the second if the first has the least number or names a day
+schedule_error-first_items : map schedule_error (codes "60,x * * * *" ∷ codes "* 24,x * * *" ∷ codes "* * 32,x * *" ∷ codes "* * * 13,x *" ∷ codes "* * * * 8,x" ∷ [])
+    ≡ schedule_error_at (Some Minute) (0, OutOfRange) ∷ schedule_error_at (Some Hour) (2, OutOfRange) ∷ schedule_error_at (Some Day) (4, OutOfRange) ∷ schedule_error_at (Some Month) (6, OutOfRange) ∷ schedule_error_at (Some Weekday) (8, OutOfRange) ∷ []
+unfolding schedule_error wrong_field text_words placed_words placed_items field_fault fault_in is_item field_item_fault span_fault field_number_fault day_name_fault weekday_name_fault days_list names_by names_by_place names_by_weekday from_end_of is_last_workday_text nearest_workday_of last_weekday_of nth_weekday_of weekdays_list field_lists item_lists step_of item_span range_of number_between spelled_number digits_of number_of_name month_of_letters weekday_of_letters natural_of
+schedule_error-first_items = refl
+
+schedule_error-second_items : map schedule_error (codes "* * 1,x * *" ∷ codes "* * * 1,x *" ∷ codes "* * * * 5L,x" ∷ [])
+    ≡ schedule_error_at (Some Day) (6, UnknownName) ∷ schedule_error_at (Some Month) (8, UnknownName) ∷ schedule_error_at (Some Weekday) (11, UnknownName) ∷ []
+unfolding schedule_error wrong_field text_words placed_words placed_items field_fault fault_in is_item field_item_fault span_fault field_number_fault day_name_fault weekday_name_fault days_list names_by names_by_place names_by_weekday from_end_of is_last_workday_text nearest_workday_of last_weekday_of nth_weekday_of weekdays_list field_lists item_lists step_of item_span range_of number_between spelled_number digits_of number_of_name month_of_letters weekday_of_letters natural_of
+schedule_error-second_items = refl
 
 -- no field reads the names of another, nor days that another names
 schedule_error-names_of_others : map schedule_error (codes "jan,60 * * * *" ∷ codes "* mon,24 * * *" ∷ codes "* * jan,32 * *" ∷ codes "* * * mon,13 *" ∷ codes "* * * * jan,8" ∷ [])
@@ -381,6 +398,12 @@ schedule_error-steps : map schedule_error (codes "*/x * * * *" ∷ codes "*/ * *
     ≡ schedule_error_at (Some Minute) (2, UnknownName) ∷ schedule_error_at (Some Minute) (2, Empty) ∷ schedule_error_at (Some Minute) (0, OutOfRange) ∷ schedule_error_at (Some Weekday) (8, OutOfRange) ∷ []
 unfolding schedule_error wrong_field text_words placed_words placed_items field_fault fault_in is_item field_item_fault span_fault field_number_fault day_name_fault weekday_name_fault days_list names_by names_by_place names_by_weekday from_end_of is_last_workday_text nearest_workday_of last_weekday_of nth_weekday_of weekdays_list field_lists item_lists step_of item_span range_of number_between spelled_number digits_of number_of_name month_of_letters weekday_of_letters natural_of
 schedule_error-steps = refl
+
+-- a step of three zeros, a name in full before `#`, and `L-` in a field without days; an error has its field and its place
+schedule_error-more_names : map schedule_error (codes "*/000 * * * *" ∷ codes "* * * * monday#2" ∷ codes "L-1 * * * *" ∷ [])
+    ≡ record { field = Some Minute; byte = 2; fault = StepOfZero } ∷ record { field = Some Weekday; byte = 8; fault = LongName } ∷ record { field = Some Minute; byte = 0; fault = UnknownName } ∷ []
+unfolding schedule_error wrong_field text_words placed_words placed_items field_fault fault_in is_item field_item_fault span_fault field_number_fault day_name_fault weekday_name_fault days_list names_by names_by_place names_by_weekday from_end_of is_last_workday_text nearest_workday_of last_weekday_of nth_weekday_of weekdays_list field_lists item_lists step_of item_span range_of number_between spelled_number digits_of number_of_name month_of_letters weekday_of_letters natural_of
+schedule_error-more_names = refl
 
 -- one word and none, and a nickname before a word
 schedule_error-words : map schedule_error (codes "5" ∷ codes "  " ∷ codes "@daily 5" ∷ [])

@@ -272,6 +272,14 @@ is_last_workday_text-small : is_last_workday_text (codes "lw") ≡ true
 unfolding is_last_workday_text
 is_last_workday_text-small = refl
 
+last_workday_of-small : last_workday_of (codes "lw") ≡ Some 0
+unfolding is_last_workday_text
+last_workday_of-small = refl
+
+last_workday_of-last : last_workday_of (codes "L") ≡ None
+unfolding is_last_workday_text
+last_workday_of-last = refl
+
 nearest_workday_of-last : nearest_workday_of (codes "31w") ≡ Some 31
 unfolding nearest_workday_of number_between spelled_number digits_of number_of_name month_of_letters weekday_of_letters natural_of
 nearest_workday_of-last = refl
@@ -296,6 +304,10 @@ days_list-names_alone = refl
 days_list-zeroth : days_list (codes "0") 1 ≡ None
 unfolding days_list names_by names_by_place from_end_of is_last_workday_text nearest_workday_of item_lists step_of item_span range_of number_between spelled_number digits_of number_of_name month_of_letters weekday_of_letters natural_of
 days_list-zeroth = refl
+
+days_list-last : days_list (codes "31") 31 ≡ Some true
+unfolding days_list names_by names_by_place from_end_of is_last_workday_text nearest_workday_of item_lists step_of item_span range_of number_between spelled_number digits_of number_of_name month_of_letters weekday_of_letters natural_of
+days_list-last = refl
 
 weekdays_list-names_alone : weekdays_list (codes "5L,5#2") 5 ≡ Some false
 unfolding weekdays_list names_by names_by_weekday last_weekday_of nth_weekday_of item_lists step_of item_span range_of number_between spelled_number digits_of number_of_name month_of_letters weekday_of_letters natural_of
@@ -326,6 +338,14 @@ an_item_is-three = refl
 an_item_is-fifteen : an_item_is from_end_of (codes "15,L-3") 15 ≡ false
 unfolding an_item_is from_end_of number_between spelled_number digits_of number_of_name natural_of
 an_item_is-fifteen = refl
+
+an_item_is-two : an_item_is from_end_of (codes "15,L-3") 2 ≡ false
+unfolding an_item_is from_end_of number_between spelled_number digits_of number_of_name natural_of
+an_item_is-two = refl
+
+an_item_is-none : an_item_is from_end_of (codes "15") 0 ≡ false
+unfolding an_item_is from_end_of number_between spelled_number digits_of number_of_name natural_of
+an_item_is-none = refl
 
 -- a field begins with `*` by its first byte, and not by an item behind it
 begins_with_star-steps : begins_with_star (codes "*/2") ≡ true

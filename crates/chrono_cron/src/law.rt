@@ -1,15 +1,20 @@
 //! Known days, moments and texts, and laws of schedules. Each is a clause of a function that does nothing.
-ghost use Rattle.std.specs.Prelude.{◌≡◌, ◌<◌, ◌≤◌, ◌-◌, ℕ, ◌+◌, ◌^◌, true, false, pos, neg_ℤ, [], ◌∷◌, codes};
+ghost use Rattle.std.specs.Prelude.{◌≡◌, ◌<◌, ◌≤◌, ◌-◌, ℕ, ◌+◌, ◌^◌, true, false, None, Some, Result, Err, pos, neg_ℤ, [], ◌∷◌, codes};
 ghost use Rattle.chrono_sets.specs.Numbers.{has};
 ghost use Rattle.chrono_cron.specs.Due.{IsNeverDue, MeanTheSame, NotDueAfter, NotDueBefore, NotDueBetween, is_due};
 ghost use Rattle.chrono_cron.specs.DueMoments.{dues_after, dues_left};
 ghost use Rattle.chrono_cron.specs.KnownMonthDays.{is_named_day, days_named};
 ghost use Rattle.chrono_cron.specs.KnownSchedules.{dues_of, every_day, every_month, every_weekday, each_minute, fields, fields_with, in_a_row, known_moment, last_days_on, no_minute, odd_days};
 ghost use Rattle.chrono_cron.specs.FieldTexts.{field_lists};
+ghost use Rattle.chrono_cron.specs.ScheduleErrors.{IsScheduleRead};
 ghost use Rattle.chrono_cron.specs.ScheduleTexts.{AreListed, IsScheduleText};
 ghost use Rattle.chrono_cron.specs.WritableSchedules.{IsWritable, LieBetween, Member};
 ghost use Rattle.chrono_cron.specs.WrittenTexts.{one_lists, plain_text, ranges_from, schedule_text};
+ghost use Rattle.chrono_cron.specs.declared.schedule.Schedule.{Schedule};
 ghost use Rattle.chrono_cron.specs.declared.text.number_names.Names.TheVariants.{Months, Numbers};
+ghost use Rattle.chrono_cron.specs.declared.text.schedule_error.ScheduleError.{ScheduleError};
+ghost use Rattle.chrono_cron.specs.declared.text.schedule_error.ScheduleFault.TheVariants.{OutOfRange, TooFewFields};
+ghost use Rattle.chrono_cron.specs.declared.text.schedule_error.ScheduleField.TheVariants.{Minute};
 
 use crate::schedule::Schedule;
 use chrono_sets::NumberSet;
@@ -124,15 +129,26 @@ pub fn known_gaps()
 ///
 /// Each minute is all stars, and all days are ranges if either field of days is enough.
 /// Numbers are written in ranges that are as long as possible.
-/// If both fields have to match, one begins with `*`: by the 1st or by Sunday. Named days follow the numbers.
+/// If both fields have to match, one begins with `*`: by the 1st, or else by Sunday. Without either, no text says it, and none begins with `*`.
+/// Named days follow the numbers.
 pub fn known_texts()
     ensures stars { schedule_text each_minute ≡ codes "* * * * *" }
     ensures ranges { schedule_text (fields (0 ∷ 30 ∷ []) (in_a_row 9 9) every_day (2 ∷ 3 ∷ 5 ∷ 6 ∷ 7 ∷ 8 ∷ 9 ∷ 12 ∷ []) (in_a_row 5 1) false) ≡ codes "0,30 9-17 * 2-3,5-9,12 1-5" }
     ensures either { schedule_text (fields (0 ∷ []) (0 ∷ []) (1 ∷ 15 ∷ []) every_month every_weekday true) ≡ codes "0 0 1,15 * 0-6" }
     ensures both_by_first { schedule_text (fields (0 ∷ []) (0 ∷ []) (1 ∷ 15 ∷ []) every_month (5 ∷ []) false) ≡ codes "0 0 */31,1,15 * 5" }
     ensures both_by_sunday { schedule_text (fields (0 ∷ []) (0 ∷ []) (13 ∷ []) every_month (0 ∷ 5 ∷ []) false) ≡ codes "0 0 13 * */7,0,5" }
+    ensures both_by_either { schedule_text (fields (0 ∷ []) (0 ∷ []) (1 ∷ 15 ∷ []) every_month (0 ∷ 5 ∷ []) false) ≡ codes "0 0 */31,1,15 * 0,5" }
+    ensures both_by_neither { schedule_text (fields (0 ∷ []) (0 ∷ []) (15 ∷ []) every_month (5 ∷ []) false) ≡ codes "0 0 15 * 5" }
     ensures names { schedule_text (fields_with (0 ∷ 3 ∷ []) (15 ∷ []) true (5 ∷ []) (12 ∷ [])) ≡ codes "0 0 L,L-3,LW,15W * 5L,5#2" }
     ensures starred_weekdays { schedule_text (fields (0 ∷ []) (0 ∷ []) (1 ∷ 15 ∷ []) every_month every_weekday false) ≡ codes "0 0 1,15 * *" }
+{}
+
+/// What a reading answers to known texts: an error with the field, the place, and what is wrong there.
+pub fn known_answers()
+    ensures minute { (result : Result Schedule ScheduleError) → IsScheduleRead (codes "5,60 * * * *") result
+        → result ≡ Err (record { field = Some Minute; byte = 2; fault = OutOfRange }) }
+    ensures four_fields { (result : Result Schedule ScheduleError) → IsScheduleRead (codes "* * * *") result
+        → result ≡ Err (record { field = None; byte = 7; fault = TooFewFields }) }
 {}
 
 /// The ranges that are written for the numbers of a field list its members, and no other of these numbers.

@@ -30,3 +30,11 @@ returns-clause-names c = refl
 pub returns-clause-starred_weekdays : goal.returns-clause-starred_weekdays
 unfolding has schedule_text plain_text day_field_items weekday_field_items is_starred_by_day is_starred_by_weekday number_items are_all names_from ranges_from
 returns-clause-starred_weekdays c = refl
+
+pub returns-clause-both_by_either : goal.returns-clause-both_by_either
+unfolding has schedule_text plain_text day_field_items weekday_field_items is_starred_by_day is_starred_by_weekday number_items are_all names_from ranges_from
+returns-clause-both_by_either c = refl
+
+pub returns-clause-both_by_neither : goal.returns-clause-both_by_neither
+unfolding has schedule_text plain_text day_field_items weekday_field_items is_starred_by_day is_starred_by_weekday number_items are_all names_from ranges_from
+returns-clause-both_by_neither c = refl
