@@ -154,6 +154,35 @@ year_ends_of-past : year_ends_of (codes "367") ≡ None
 unfolding year_ends_of with_year_text signed_number_of listed_number digits_of natural_of
 year_ends_of-past = refl
 
+-- the last number of each list from either end, the month behind December, and numbers of more digits than the list's
+month_list_of-last : month_list_of (codes "1,12") ≡ Some (numbers (1 ∷ 12 ∷ []))
+unfolding month_list_of with_month_text listed_number digits_of natural_of
+month_list_of-last = refl
+
+month_list_of-past : month_list_of (codes "13") ≡ None
+unfolding month_list_of with_month_text listed_number digits_of natural_of
+month_list_of-past = refl
+
+month_list_of-long : month_list_of (codes "007") ≡ None
+unfolding month_list_of with_month_text listed_number digits_of natural_of
+month_list_of-long = refl
+
+ends_of-weeks : ends_of 2 53 (codes "53,-53") ≡ Some (record { front = numbers (53 ∷ []); back = numbers (53 ∷ []) })
+unfolding ends_of with_signed_text signed_number_of listed_number digits_of natural_of
+ends_of-weeks = refl
+
+ends_of-long : ends_of 2 31 (codes "031") ≡ None
+unfolding ends_of with_signed_text signed_number_of listed_number digits_of natural_of
+ends_of-long = refl
+
+year_ends_of-last : year_ends_of (codes "366,-366") ≡ Some (record { front = numbers (366 ∷ []); back = numbers (366 ∷ []) })
+unfolding year_ends_of with_year_text signed_number_of listed_number digits_of natural_of
+year_ends_of-last = refl
+
+year_ends_of-long : year_ends_of (codes "0366") ≡ None
+unfolding year_ends_of with_year_text signed_number_of listed_number digits_of natural_of
+year_ends_of-long = refl
+
 -- weekdays, as BYDAY lists them: Tuesday and Sunday, the first and the last Sunday, the last Friday but one
 weekdays_of-each : weekdays_of (codes "TU,SU") ≡ Some (record { every = numbers (1 ∷ 6 ∷ []); front = no_weekdays.front; back = no_weekdays.back })
 unfolding weekdays_of with_weekday_text with_weekday listed_weekday weekday_of_letters
@@ -178,6 +207,16 @@ weekdays_of-last_friday = refl
 weekdays_of-past : weekdays_of (codes "54MO") ≡ None
 unfolding weekdays_of with_weekday_text with_weekday listed_weekday weekday_of_letters signed_number_of listed_number digits_of natural_of
 weekdays_of-past = refl
+
+weekdays_of-long : weekdays_of (codes "053MO") ≡ None
+unfolding weekdays_of with_weekday_text with_weekday listed_weekday weekday_of_letters signed_number_of listed_number digits_of natural_of
+weekdays_of-long = refl
+
+-- items of all kinds, each with those in front of it
+weekdays_of-mixed : weekdays_of (codes "1MO,-1MO,TU,3MO,2FR,-2MO,WE")
+    ≡ Some (record { every = numbers (1 ∷ 2 ∷ []); front = numbers (1 ∷ 3 ∷ []) ∷ no_numbers ∷ no_numbers ∷ no_numbers ∷ numbers (2 ∷ []) ∷ no_numbers ∷ no_numbers ∷ []; back = numbers (1 ∷ 2 ∷ []) ∷ no_numbers ∷ no_numbers ∷ no_numbers ∷ no_numbers ∷ no_numbers ∷ no_numbers ∷ [] })
+unfolding weekdays_of with_weekday_text with_weekday listed_weekday weekday_of_letters signed_number_of listed_number digits_of natural_of
+weekdays_of-mixed = refl
 
 weekdays_of-small_letters : weekdays_of (codes "tu,Su") ≡ weekdays_of (codes "TU,SU")
 unfolding weekdays_of with_weekday_text with_weekday listed_weekday weekday_of_letters

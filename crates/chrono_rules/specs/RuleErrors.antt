@@ -331,6 +331,18 @@ unnamed_fault-nothing : unnamed_fault 0 (parts []) ≡ (0, Empty)
 unfolding name_fault
 unnamed_fault-nothing = refl
 
+-- an `X` without a dash is no part of a user, and the error of a text by the first part without a name
+unnamed_fault-letter : unnamed_fault 0 (parts (codes "XNOTE=1")) ≡ (0, Unknown)
+unfolding name_fault
+unnamed_fault-letter = refl
+
+unnamed_error-hours : unnamed_error (codes "FREQ=DAILY;BYHOUR=9") ≡ record { part = None; byte = 11; fault = OfHours }
+unfolding name_fault
+unnamed_error-hours = refl
+
+are_named-one : are_named (codes "FREQ=DAILY;BYHOUR=9") ≡ false
+are_named-one = refl
+
 -- ranges where a list is due, a date-time, and blanks behind a value
 value_fault-weekday_range : value_fault ByDay (codes "MO-FR") ≡ (0, Range)
 unfolding value_fault reads_item item_fault weekday_fault with_weekday_text with_weekday listed_weekday weekday_of_letters signed_fault signed_number_of listed_number digits_of digits_fault natural_of
@@ -545,6 +557,31 @@ value_fault-blank_in_weekday : value_fault ByDay (codes "M O") ≡ (0, Blank)
 unfolding value_fault reads_item item_fault weekday_fault with_weekday_text with_weekday listed_weekday weekday_of_letters
 value_fault-blank_in_weekday = refl
 
+-- a range with blanks, nothing between signed numbers and between weekdays, a number from the end above the last, a `T` alone, and a sign
+value_fault-blank_range : value_fault ByMonthDay (codes "1 - 5") ≡ (0, Blank)
+unfolding value_fault reads_item item_fault signed_fault signed_number_of listed_number digits_of digits_fault natural_of
+value_fault-blank_range = refl
+
+list_fault-comma_signed : value_fault ByMonthDay (codes "1,,x") ≡ (2, Empty)
+unfolding value_fault reads_item item_fault signed_fault signed_number_of listed_number digits_of digits_fault natural_of
+list_fault-comma_signed = refl
+
+list_fault-comma_weekday : value_fault ByDay (codes "MO,,TU") ≡ (3, Empty)
+unfolding value_fault reads_item item_fault weekday_fault with_weekday_text with_weekday listed_weekday weekday_of_letters signed_fault signed_number_of listed_number digits_of digits_fault natural_of
+list_fault-comma_weekday = refl
+
+list_fault-numbered_from_end : value_fault ByDay (codes "-54MO") ≡ (0, OutOfRange)
+unfolding value_fault reads_item item_fault weekday_fault with_weekday_text with_weekday listed_weekday weekday_of_letters signed_fault signed_number_of listed_number digits_of digits_fault natural_of
+list_fault-numbered_from_end = refl
+
+value_fault-time_alone : value_fault Until (codes "19971224T") ≡ (0, WithTime)
+unfolding value_fault
+value_fault-time_alone = refl
+
+value_fault-signed_count : value_fault Count (codes "-1") ≡ (0, NotANumber)
+unfolding value_fault number_fault digits_fault
+value_fault-signed_count = refl
+
 -- of two parts that cannot be read the first in the order of parts, whichever stands first
 unread_parts : List (List ℕ) → List (Option RulePart)
 unread_parts texts = map (λ text. (unread_error text).part) texts
@@ -553,6 +590,12 @@ unread_parts-order : unread_parts (codes "INTERVAL=x;FREQ=x" ∷ codes "COUNT=x;
     ≡ Some Freq ∷ Some Interval ∷ Some Count ∷ Some Until ∷ Some ByMonth ∷ Some ByMonthDay ∷ Some ByDay ∷ Some ByYearDay ∷ Some ByWeekNo ∷ Some BySetPos ∷ []
 unfolding unread_parts unread_error is_read frequency_of interval_of count_of end_of date_of month_list_of with_month_text ends_of with_signed_text signed_number_of weekdays_of with_weekday_text with_weekday listed_weekday weekday_of_letters year_ends_of with_year_text listed_number digits_of natural_of
 unread_parts-order = refl
+
+-- days of the month end with 31 and weeks with 53, and the last part is wrong if each other can be read
+unread_parts-last : unread_parts (codes "FREQ=YEARLY;BYMONTHDAY=32;WKST=X" ∷ codes "FREQ=YEARLY;BYWEEKNO=54;WKST=X" ∷ codes "FREQ=YEARLY;BYMONTHDAY=31;BYWEEKNO=53;WKST=X" ∷ codes "FREQ=DAILY;WKST=X" ∷ codes "FREQ=DAILY;COUNT=3;UNTIL=19971224" ∷ [])
+    ≡ Some ByMonthDay ∷ Some ByWeekNo ∷ Some Wkst ∷ Some Wkst ∷ Some Until ∷ []
+unfolding unread_parts unread_error is_read frequency_of interval_of count_of end_of date_of month_list_of with_month_text ends_of with_signed_text signed_number_of weekdays_of with_weekday_text with_weekday listed_weekday weekday_of_letters year_ends_of with_year_text listed_number digits_of natural_of
+unread_parts-last = refl
 
 -- of several parts that do not go with FREQ the first in that order
 unfit_error-month_day_first : unfit_error (codes "FREQ=WEEKLY;BYWEEKNO=1;BYYEARDAY=1;BYMONTHDAY=1") (record (plain Weekly) { month_days = numbers (1 ∷ []); year_days = numbers (1 ∷ []); weeks = numbers (1 ∷ []) }) ≡ rule_error_at (Some ByMonthDay) (35, NotWith Weekly)

@@ -324,6 +324,10 @@ date_of-time : date_of (codes "19971224T000000Z") ≡ None
 unfolding date_of digits_of natural_of
 date_of-time = refl
 
+date_of-seven_digits : date_of (codes "1997122") ≡ None
+unfolding date_of digits_of natural_of
+date_of-seven_digits = refl
+
 -- a rule ends once
 end_of-both : end_of (codes "3" ∷ []) (codes "19971224" ∷ []) ≡ None
 unfolding end_of
@@ -332,3 +336,7 @@ end_of-both = refl
 end_of-count : end_of (codes "3" ∷ []) [] ≡ Some (Count 3)
 unfolding end_of count_of natural_of
 end_of-count = refl
+
+end_of-two_dates : end_of [] (codes "19971224" ∷ codes "19971225" ∷ []) ≡ None
+unfolding end_of
+end_of-two_dates = refl

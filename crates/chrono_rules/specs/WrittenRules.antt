@@ -148,6 +148,19 @@ numbered_items-last : list_text (numbered_items true (with_nth_of (with_nth_of n
 unfolding numbered_items items has item_text digits letters_from_monday
 numbered_items-last = refl
 
+-- numbers that a list cannot have are left out, and weekdays without a number stand in front of those with one
+both_items-limits : list_text (both_items (numbers (0 ∷ 12 ∷ 13 ∷ [])) (numbers (0 ∷ 12 ∷ 13 ∷ [])) 12) ≡ codes "12,-12"
+unfolding items has item_text digits
+both_items-limits = refl
+
+numbered_items-limits : list_text (numbered_items false (numbers (0 ∷ 53 ∷ 54 ∷ []) ∷ []) 0) ≡ codes "53MO"
+unfolding numbered_items items has item_text digits letters_from_monday
+numbered_items-limits = refl
+
+weekday_items-order : list_text (weekday_items (record (plain Yearly) { weekdays = record { every = numbers (6 ∷ 7 ∷ []); front = with_nth_of no_weekdays.front 4 1; back = with_nth_of no_weekdays.back 4 1 } })) ≡ codes "SU,1FR,-1FR"
+unfolding numbered_items items has item_text digits letters_from_monday
+weekday_items-order = refl
+
 four_digits-early : four_digits (pos 33) ≡ codes "0033"
 four_digits-early = refl
 

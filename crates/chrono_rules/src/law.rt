@@ -2,9 +2,9 @@
 //!
 //! Where a law says so, its dates are 2,000 years earlier than those that it names.
 //! These are five whole cycles of 400 years, after which the calendar repeats. So less has to be counted.
-ghost use Rattle.std.specs.Prelude.{◌≡◌, ◌&&◌, true, false, Some, [], ◌∷◌, neg_ℤ, pos, codes};
+ghost use Rattle.std.specs.Prelude.{◌≡◌, ◌&&◌, true, false, None, Some, Result, Ok, Err, [], ◌∷◌, neg_ℤ, pos, codes};
 ghost use Rattle.chrono_datetime.specs.declared.Weekday.TheVariants.{Mon, Sun};
-ghost use Rattle.chrono_sets.specs.Numbers.{is_empty};
+ghost use Rattle.chrono_sets.specs.Numbers.{is_empty, numbers};
 ghost use Rattle.chrono_rules.specs.InstanceLists.{instances_from};
 ghost use Rattle.chrono_rules.specs.InstanceMoments.{instance_moments, is_instance_at};
 ghost use Rattle.chrono_rules.specs.Instances.{is_instance};
@@ -12,12 +12,17 @@ ghost use Rattle.chrono_rules.specs.KnownRules.{at_midnight, at_one, by_month_da
 ghost use Rattle.chrono_rules.specs.KnownTexts.{both_sundays, days_of_the_year, election_day, every_other_day, every_other_week, first_and_last, first_friday, june_and_july, last_monday_but_one, last_workday_but_one, monday_of_week_20, third_to_last, until_christmas};
 ghost use Rattle.chrono_rules.specs.NumberLists.{ends_of, month_list_of, year_ends_of};
 ghost use Rattle.chrono_rules.specs.RecurrenceSets.{is_in_recurrence, recurrence_from};
+ghost use Rattle.chrono_rules.specs.RuleErrors.{IsChecked};
 ghost use Rattle.chrono_rules.specs.RuleParts.{plain};
 ghost use Rattle.chrono_rules.specs.RuleTexts.{IsRuleText, rule_body};
 ghost use Rattle.chrono_rules.specs.WritableRules.{IsWritableRule, is_from_one_to};
 ghost use Rattle.chrono_rules.specs.WrittenRules.{both_items, items, list_text, rule_text};
 ghost use Rattle.chrono_rules.specs.declared.rule.Frequency.TheVariants.{Daily, Monthly, Weekly, Yearly};
+ghost use Rattle.chrono_rules.specs.declared.rule.Rule.{Rule};
 ghost use Rattle.chrono_rules.specs.declared.text.list_writer.Naming.TheVariants.{Number};
+ghost use Rattle.chrono_rules.specs.declared.text.rule_error.RuleError.{RuleError};
+ghost use Rattle.chrono_rules.specs.declared.text.rule_error.RuleFault.TheVariants.{Alone, Extension, NotAWeekday};
+ghost use Rattle.chrono_rules.specs.declared.text.rule_error.RulePart.TheVariants.{BySetPos, Wkst};
 
 mod instances;
 
@@ -140,6 +145,7 @@ pub fn known_month_days()
     ensures each_month_third { is_instance (plain Monthly) (neg_ℤ (pos 1216)) (neg_ℤ (pos 1185)) ≡ false }
     ensures each_week_tuesday { is_instance (plain Weekly) (neg_ℤ (pos 1216)) (neg_ℤ (pos 1209)) ≡ true }
     ensures each_week_wednesday { is_instance (plain Weekly) (neg_ℤ (pos 1216)) (neg_ℤ (pos 1208)) ≡ false }
+    ensures each_week_next_month { is_instance (plain Weekly) (neg_ℤ (pos 1216)) (neg_ℤ (pos 1181)) ≡ true }
     ensures each_year_next_month { is_instance (by_month_days Yearly [] [] []) (neg_ℤ (pos 1216)) (neg_ℤ (pos 1186)) ≡ false }
     ensures each_year_next_year { is_instance (by_month_days Yearly [] [] []) (neg_ℤ (pos 1216)) (neg_ℤ (pos 851)) ≡ true }
     ensures fifteenth_october { is_instance (by_month_days Monthly [] (15 ∷ []) []) (neg_ℤ (pos 1216)) (neg_ℤ (pos 1173)) ≡ true }
@@ -173,7 +179,9 @@ pub fn known_gaps()
 /// - The month's last workday but one (3.8.5.3).
 /// - The first and the last of Monday and Sunday, with weeks that begin on either (WKST).
 /// - The first of a single day, which is its last. There is no second.
+/// - The first and the last day of each day, though those before it and behind it pass too.
 /// - The second Monday of a year and the last.
+/// - The calendar's own last day, a Monday. The Sunday of its week is no date, so it is the last of both.
 pub fn known_positions()
     ensures third_start { is_instance (by_positions Monthly Mon (1 ∷ 2 ∷ 3 ∷ []) (3 ∷ []) []) (neg_ℤ (pos 1214)) (neg_ℤ (pos 1214)) ≡ true }
     ensures third_october { is_instance (by_positions Monthly Mon (1 ∷ 2 ∷ 3 ∷ []) (3 ∷ []) []) (neg_ℤ (pos 1214)) (neg_ℤ (pos 1181)) ≡ true }
@@ -196,6 +204,9 @@ pub fn known_positions()
     ensures day_first { is_instance (by_positions Daily Mon (0 ∷ []) (1 ∷ []) []) (neg_ℤ (pos 1216)) (neg_ℤ (pos 1210)) ≡ true }
     ensures day_second { is_instance (by_positions Daily Mon (0 ∷ []) (2 ∷ []) []) (neg_ℤ (pos 1216)) (neg_ℤ (pos 1210)) ≡ false }
     ensures day_last { is_instance (by_positions Daily Mon (0 ∷ []) [] (1 ∷ [])) (neg_ℤ (pos 1216)) (neg_ℤ (pos 1210)) ≡ true }
+    ensures day_behind_another { is_instance (by_positions Daily Mon (0 ∷ 6 ∷ []) (1 ∷ []) []) (neg_ℤ (pos 1216)) (neg_ℤ (pos 1210)) ≡ true }
+    ensures day_before_another { is_instance (by_positions Daily Mon (0 ∷ 6 ∷ []) [] (1 ∷ [])) (neg_ℤ (pos 1216)) (neg_ℤ (pos 1211)) ≡ true }
+    ensures calendar_last { is_instance (by_positions Weekly Mon (0 ∷ 6 ∷ []) [] (1 ∷ [])) (pos 95_745_392) (pos 95_745_399) ≡ true }
 {}
 
 /// Ends of rules, 2,000 years earlier.
@@ -252,6 +263,8 @@ pub fn known_recurrence()
 /// - The third day of the month from the end, and its first and its last.
 /// - June and July, days of the year, and Monday of week 20.
 /// - The last workday but one of the month, and the Tuesday after the first Monday of November.
+///
+/// The last days of the month end with the 31st, and weeks with the 53rd (3.3.10).
 pub fn known_rule_texts()
     ensures every_other_day { IsRuleText (codes "FREQ=DAILY;INTERVAL=2") every_other_day }
     ensures until_christmas { IsRuleText (codes "FREQ=DAILY;UNTIL=19971224") until_christmas }
@@ -266,6 +279,30 @@ pub fn known_rule_texts()
     ensures monday_of_week_20 { IsRuleText (codes "FREQ=YEARLY;BYWEEKNO=20;BYDAY=MO") monday_of_week_20 }
     ensures last_workday_but_one { IsRuleText (codes "FREQ=MONTHLY;BYDAY=MO,TU,WE,TH,FR;BYSETPOS=-2") last_workday_but_one }
     ensures election_day { IsRuleText (codes "FREQ=YEARLY;INTERVAL=4;BYMONTH=11;BYDAY=TU;BYMONTHDAY=2,3,4,5,6,7,8") election_day }
+    ensures last_numbers { IsRuleText (codes "FREQ=YEARLY;BYMONTHDAY=31;BYWEEKNO=-53") (record (plain Yearly) { month_days = numbers (31 ∷ []); weeks_from_end = numbers (53 ∷ []) }) }
+{}
+
+/// Texts that no rule has.
+///
+/// One lacks FREQ, and one has a part of a user. In one the parts do not go together, and one has a 32nd day.
+pub fn known_texts_of_no_rule()
+    ensures no_frequency { (r : Rule) → IsRuleText (codes "INTERVAL=2") r → ⊥ }
+    ensures extension { (r : Rule) → IsRuleText (codes "FREQ=DAILY;X-A=1") r → ⊥ }
+    ensures unfit { (r : Rule) → IsRuleText (codes "FREQ=WEEKLY;BYMONTHDAY=1") r → ⊥ }
+    ensures day_32 { (r : Rule) → IsRuleText (codes "FREQ=MONTHLY;BYMONTHDAY=32") r → ⊥ }
+{}
+
+/// What a reading answers to known texts with `RRULE:` in front: a rule, or an error by its place in the whole text.
+///
+/// The errors are a part of a user, a value that cannot be read, and a part that needs another.
+pub fn known_answers()
+    ensures rule { (result : Result Rule RuleError) → IsChecked (codes "RRULE:FREQ=DAILY;INTERVAL=2;") result → result ≡ Ok every_other_day }
+    ensures unknown { (result : Result Rule RuleError) → IsChecked (codes "RRULE:X-A=1") result
+        → result ≡ Err (record { part = None; byte = 6; fault = Extension }) }
+    ensures unread { (result : Result Rule RuleError) → IsChecked (codes "RRULE:FREQ=DAILY;WKST=X") result
+        → result ≡ Err (record { part = Some Wkst; byte = 22; fault = NotAWeekday }) }
+    ensures unfit { (result : Result Rule RuleError) → IsChecked (codes "RRULE:FREQ=YEARLY;BYSETPOS=1") result
+        → result ≡ Err (record { part = Some BySetPos; byte = 18; fault = Alone }) }
 {}
 
 /// What is written for some of these rules: the parts in one order, and the numbers too.

@@ -110,3 +110,11 @@ returns-clause-election_day c = record {
   says = record { frequency = refl; interval = refl; end = refl; months = refl; month_days = refl; weekdays = refl; year_days = refl; weeks = refl; positions = refl; week_start = refl };
   fitting = refl;
 }
+
+pub returns-clause-last_numbers : goal.returns-clause-last_numbers
+unfolding frequency_of interval_of count_of end_of date_of date_of_ymd digits_of month_list_of with_month_text listed_number ends_of with_signed_text signed_number_of weekdays_of with_weekday_text listed_weekday weekday_of_letters with_weekday with_year_text year_ends_of weekday_of_text has_month_days has_year_parts has_numbers natural_of
+returns-clause-last_numbers c = record {
+  named = refl;
+  says = record { frequency = refl; interval = refl; end = refl; months = refl; month_days = refl; weekdays = refl; year_days = refl; weeks = refl; positions = refl; week_start = refl };
+  fitting = refl;
+}
