@@ -534,14 +534,33 @@ def read_iso(told):
     return f"{text(secs, clock[1])}{offset_text(offset)} {secs - offset}"
 
 
-def near_iso(draw):
-    """A text of ISO 8601, or one that is a change or two away from it."""
-    year = draw.choice((f"{draw.randrange(10_000):04}", "2024", "2020", "1900", f"{draw.choice((draw.randrange(-300_000, 0), -262_143)):05}", f"+{draw.choice((draw.randrange(10_000, 300_000), 262_142, 262_143))}"))
+def without_separators(told):
+    """The text of the basic form for one of the extended form: with no `-` in its date, and no `:`."""
+    date, separator, behind = told.partition("T")
+    return date.replace("-", "") + separator + behind.replace(":", "")
+
+
+def read_basic(told):
+    """What the text of the basic form is read as, by that of the extended form: an error stands as many bytes earlier as are left out."""
+    answer = read_iso(told)
+    wrong = re.match("byte ([0-9]+)(.*)", answer)
+    return f"byte {len(without_separators(told[: int(wrong[1])]))}{wrong[2]}" if wrong else answer
+
+
+def iso_text(draw, years):
+    """A text of ISO 8601 in a year of these, of which a number may be out of range."""
+    year = draw.choice(years)
     date = draw.choice((f"-{draw.randrange(1, 13):02}-{draw.randrange(1, 29):02}", f"-{draw.randrange(0, 14):02}-{draw.randrange(0, 33):02}", f"-{draw.randrange(0, 368):03}", f"-{draw.randrange(360, 367):03}", f"-W{draw.randrange(0, 55):02}-{draw.randrange(0, 9)}"))
     clock = f"{draw.choice((draw.randrange(24), draw.randrange(26))):02}:{draw.choice((draw.randrange(60), draw.randrange(62))):02}"
     clock += draw.choice(("", f":{draw.choice((draw.randrange(60), draw.randrange(63), 60)):02}" + draw.choice(("", "", f"{draw.choice('.,')}{draw.randrange(10**9):09}"[: draw.randrange(1, 12)], ",5", "."))))
     offset = draw.choice(("Z", "Z", "-00", "-00:00", f"{draw.choice('+-')}{draw.randrange(25):02}", f"{draw.choice('+-')}{draw.randrange(24):02}:{draw.randrange(61):02}", f"{draw.choice('+-')}{draw.randrange(24):02}:{draw.randrange(60):02}:{draw.randrange(61):02}"))
-    told = f"{year}{date}T{clock}{offset}"
+    return f"{year}{date}T{clock}{offset}"
+
+
+def near_iso(draw):
+    """A text of ISO 8601, or one that is a change or two away from it."""
+    year = draw.choice((f"{draw.randrange(10_000):04}", "2024", "2020", "1900", f"{draw.choice((draw.randrange(-300_000, 0), -262_143)):05}", f"+{draw.choice((draw.randrange(10_000, 300_000), 262_142, 262_143))}"))
+    told = iso_text(draw, (year,))
     for _ in range(draw.choice((0, 0, 0, 1, 1, 2))):
         at = draw.randrange(len(told) + 1)
         told = draw.choice((told[:at] + draw.choice("0129:+-TWZ.,x") + told[at:], told[:at] + told[at + 1 :], told[:at], told[:at] + draw.choice("059:.,-+zT") + told[at + 1 :]))
@@ -562,8 +581,8 @@ def answer(call, secs, nanos, offset, moved):
         return read(secs)
     if call == "mail":
         return read_mail(secs) or mail_fault(secs)
-    if call == "iso":
-        return read_iso(secs)
+    if call in ("iso", "basic"):
+        return read_iso(secs) if call == "iso" else read_basic(secs)
     if call in ("millis", "micros", "nanos"):
         unit = {"millis": 10**3, "micros": 10**6, "nanos": NANOS}[call]
         second, rest = divmod(secs, unit)
@@ -598,7 +617,9 @@ def answer(call, secs, nanos, offset, moved):
 
 def question(draw):
     """A random line: mostly years of today, some near the ends, some out of range."""
-    call = draw.choice(("stamp", "stamp", "millis", "micros", "nanos", "zoned", "zoned", "local", "local", "moved", "rfc3339", "rfc3339", "rfc2822", "rfc2822", "read", "read", "read", "mail", "mail", "mail", "iso", "iso", "iso", "iso8601"))
+    call = draw.choice(("stamp", "stamp", "millis", "micros", "nanos", "zoned", "zoned", "local", "local", "moved", "rfc3339", "rfc3339", "rfc2822", "rfc2822", "read", "read", "read", "mail", "mail", "mail", "iso", "iso", "iso", "basic", "basic", "iso8601"))
+    if call == "basic":
+        return call, iso_text(draw, (f"{draw.randrange(10_000):04}", "2024", "2020", "1900")), "", "", ""
     if call in ("read", "mail", "iso"):
         return call, {"read": near_text, "mail": near_mail, "iso": near_iso}[call](draw), "", "", ""
     near = draw.random()
@@ -623,6 +644,12 @@ def question(draw):
     return call, secs, nanos, offset, draw.randrange(-10**7, 10**7)
 
 
+def line_of(question):
+    """The line of the program's input that asks a question."""
+    call, told = question[:2]
+    return f"iso {without_separators(told)}" if call == "basic" else " ".join(map(str, question)).strip()
+
+
 def answers_of(room, questions):
     """What the program answers."""
     folder = put_program(room, "instants", ["chrono_datetime", "chrono_zoned", "chrono_stamps"], PROGRAM)
@@ -630,7 +657,7 @@ def answers_of(room, questions):
     os.mkdir(f"{room}/parts")
     for start in range(0, len(questions), PART):
         with open(f"{room}/parts/{start:08}", "w", encoding="utf-8") as it:
-            it.writelines(" ".join(map(str, line)).strip() + "\n" for line in questions[start : start + PART])
+            it.writelines(line_of(question) + "\n" for question in questions[start : start + PART])
     said = subprocess.run(["rt", "try", "--cases", f"{room}/parts"], cwd=folder, stdout=subprocess.PIPE, stderr=subprocess.STDOUT, text=True, errors="replace").stdout
     told = [line[2:] for line in said.split("\n") if line.startswith("= ")]
     if len(told) != len(questions):
@@ -639,7 +666,7 @@ def answers_of(room, questions):
 
 
 def differing(questions, told, wanted):
-    return [f"{' '.join(map(str, it))}: {a}, not {b}" for it, a, b in zip(questions, told, wanted) if a != b]
+    return [f"{line_of(it)}: {a}, not {b}" for it, a, b in zip(questions, told, wanted) if a != b]
 
 
 def main():

@@ -1,5 +1,5 @@
 -- What is written of ISO 8601 is a text by its grammar: where its date and its time end.
-use Rattle.std.proofs.Common.{◌≡◌, ◌==◌, inl, inr, Bool, true, false, not, cond, if◌then◌else◌, nat_le, ℕ, suc, ◌+◌, ◌-◌, ◌/◌, ◌%◌, ◌<◌, ◌≤◌, ℤ, pos, negsuc, ◌-ℤ◌, unsigned_abs, List, [], ◌∷◌, ◌++◌, codes, length, take, drop, refl, sym, ap, subst, ◌∙◌, append_assoc, length-append, ne_eqb, arith}
+use Rattle.std.proofs.Common.{◌≡◌, ◌==◌, inl, inr, Bool, true, false, not, cond, ◌||◌, if◌then◌else◌, nat_le, ℕ, suc, ◌+◌, ◌-◌, ◌/◌, ◌%◌, ◌<◌, ◌≤◌, ℤ, pos, negsuc, ◌-ℤ◌, unsigned_abs, List, [], ◌∷◌, ◌++◌, codes, length, take, drop, refl, sym, ap, subst, ◌∙◌, append_assoc, length-append, ne_eqb, arith}
 use Rattle.std.proofs.lemmas.Bool.{lt-ltb}
 use Rattle.std.proofs.lemmas.Bool.Decides.{nat_tests}
 use Rattle.std.proofs.Math.Seq.{drop-append_seam, take-append_seam}
@@ -28,8 +28,13 @@ use Rattle.chrono_text.proofs.DigitLemmas.{by_size, to_digits}
 use Rattle.chrono_text.specs.Lists.{stands_in}
 use Rattle.chrono_text.specs.Text.{all_digits, calendar_text, subsecond_text, two_digits, year_digits, year_text}
 use Rattle.chrono_zoned.specs.ZonedText.{zoned_debug_text}
+use Rattle.chrono_stamps.proofs.IsoFormLemmas.{form_as_it_is}
+use Rattle.chrono_stamps.specs.IsoForms.{IsIso8601Text, is_basic}
+use Rattle.chrono_reading.specs.Fitting.{fitting}
+use Rattle.std.specs.Char.{is_ascii_digit}
+use Rattle.chrono_text.proofs.TextLemmas.{year_text-four, year_text-more}
 use Rattle.chrono_stamps.proofs.IsoOffsetLemmas.{shown_alone, signed_long}
-use Rattle.chrono_stamps.specs.Iso8601.{IsIso8601Text, IsIsoOffset, behind_date, clock_shown, date_part, is_of_time, offset_part, pointed, time_part}
+use Rattle.chrono_stamps.specs.Iso8601.{IsExtendedText, IsIsoOffset, behind_date, clock_shown, date_part, is_of_time, offset_part, pointed, time_part}
 
 -- ---- where bytes of a kind end
 
@@ -198,9 +203,55 @@ parts_of date time offset date_end time_end =
       separated = lt-ltb _ _ less;
     }
 
-pub iso_written : (m : Moment) (x : ℤ) → IsMoment m → IsOffset x → m.time.fraction < 2_000_000_000 → IsEpochSecond (epoch_second m -ℤ x)
-    → IsDateText (date_text m.date) m.date → IsTimeText (time_text m.time) m.time → IsIso8601Text (zoned_debug_text m x) m x
-iso_written m x is small fraction there date time =
+-- ---- the form
+
+four_fit : (p q r t : Bool) → ((if p then 1 + (if q then 1 + (if r then 1 + (if t then 1 + 0 else 0) else 0) else 0) else 0) == 5) ≡ false
+four_fit false q r t = refl
+four_fit true false r t = refl
+four_fit true true false t = refl
+four_fit true true true false = refl
+four_fit true true true true = refl
+
+digits_not_basic : (a b c d : ℕ) (rest : List ℕ) → is_basic (a ∷ b ∷ c ∷ d ∷ 45 ∷ rest) ≡ false
+unfolding is_basic fitting
+digits_not_basic a b c d rest = ap (λ t. t || t) (four_fit (is_ascii_digit a) (is_ascii_digit b) (is_ascii_digit c) (is_ascii_digit d))
+
+plus_not_basic : (rest : List ℕ) → is_basic (43 ∷ rest) ≡ false
+unfolding is_basic fitting
+plus_not_basic rest = refl
+
+minus_not_basic : (rest : List ℕ) → is_basic (45 ∷ rest) ≡ false
+unfolding is_basic fitting
+minus_not_basic rest = refl
+
+year_not_basic : (y : ℤ) (rest : List ℕ) → is_basic (year_text y ++ 45 ∷ rest) ≡ false
+year_not_basic (negsuc n) rest = minus_not_basic (year_digits (suc n) ++ 45 ∷ rest)
+year_not_basic (pos n) rest = by_size 10_000 n
+    (λ small. ap (λ (l : List ℕ). is_basic (l ++ 45 ∷ rest)) (year_text-four n small) ∙ digits_not_basic _ _ _ _ rest)
+    (λ large. ap (λ (l : List ℕ). is_basic (l ++ 45 ∷ rest)) (year_text-more n large) ∙ plus_not_basic (year_digits n ++ 45 ∷ rest))
+
+-- the year stands in front, and a hyphen behind it
+year_in_front : (year month day time offset : List ℕ) → (rest : List ℕ) × (year ++ codes "-" ++ month ++ codes "-" ++ day ++ 84 ∷ [] ++ time ++ offset ≡ year ++ 45 ∷ rest)
+year_in_front year month day time offset =
+    let one = append_assoc year (45 ∷ []) month in
+    let two = ap (λ (l : List ℕ). l ++ codes "-") one ∙ append_assoc year (45 ∷ month) (codes "-") in
+    let three = ap (λ (l : List ℕ). l ++ day) two ∙ append_assoc year (45 ∷ month ++ codes "-") day in
+    let four = ap (λ (l : List ℕ). l ++ 84 ∷ []) three ∙ append_assoc year (45 ∷ month ++ codes "-" ++ day) (84 ∷ []) in
+    let five = ap (λ (l : List ℕ). l ++ time) four ∙ append_assoc year (45 ∷ month ++ codes "-" ++ day ++ 84 ∷ []) time in
+    let six = ap (λ (l : List ℕ). l ++ offset) five ∙ append_assoc year (45 ∷ month ++ codes "-" ++ day ++ 84 ∷ [] ++ time) offset in
+    (month ++ codes "-" ++ day ++ 84 ∷ [] ++ time ++ offset, six)
+
+calendar_not_basic : (y : ℤ) (m d : ℕ) (time offset : List ℕ) → is_basic (calendar_text y m d ++ 84 ∷ [] ++ time ++ offset) ≡ false
+calendar_not_basic y m d time offset =
+    let front = year_in_front (year_text y) (two_digits m) (two_digits d) time offset in
+    ap is_basic front.1 ∙ year_not_basic y front.0
+
+written_not_basic : (m : Moment) (x : ℤ) → is_basic (zoned_debug_text m x) ≡ false
+written_not_basic m x = calendar_not_basic (year_of m.date) (month_of m.date) (day_of m.date) (time_text m.time) (offset_text x)
+
+extended_written : (m : Moment) (x : ℤ) → IsMoment m → IsOffset x → m.time.fraction < 2_000_000_000 → IsEpochSecond (epoch_second m -ℤ x)
+    → IsDateText (date_text m.date) m.date → IsTimeText (time_text m.time) m.time → IsExtendedText (zoned_debug_text m x) m x
+extended_written m x is small fraction there date time =
     let parts = parts_of (date_text m.date) (time_text m.time) (offset_text x) (date_ends m.date (time_text m.time ++ offset_text x) is.date) (time_ends m.time x is.time fraction) in
     record {
       separated = parts.separated;
@@ -209,3 +260,8 @@ iso_written m x is small fraction there date time =
       offset_is = subst (λ (l : List ℕ). IsIsoOffset l x) (sym parts.offset_is) (offset_written x small);
       instant = there;
     }
+
+pub iso_written : (m : Moment) (x : ℤ) → IsMoment m → IsOffset x → m.time.fraction < 2_000_000_000 → IsEpochSecond (epoch_second m -ℤ x)
+    → IsDateText (date_text m.date) m.date → IsTimeText (time_text m.time) m.time → IsIso8601Text (zoned_debug_text m x) m x
+iso_written m x is small fraction there date time =
+    subst (λ (l : List ℕ). IsExtendedText l m x) (sym (form_as_it_is (zoned_debug_text m x) (written_not_basic m x))) (extended_written m x is small fraction there date time)

@@ -13,3 +13,4 @@ mod DateFormLemmas
 mod IsoOffsetLemmas
 mod IsoTextLemmas
 mod IsoPartLemmas
+mod IsoFormLemmas

@@ -62,7 +62,7 @@ abbrev pub IsIsoOffset : List ℕ → ℤ → Type 0
 IsIsoOffset text x = ((text ≡ codes "Z") × (x ≡ pos 0)) ⊎ IsSignedOffset (offset_shown text) x
 
 -- a text of the date-time and the offset, at which UTC has a date
-pub record IsIso8601Text (text : List ℕ) (m : Moment) (x : ℤ) : Type 0 where
+pub record IsExtendedText (text : List ℕ) (m : Moment) (x : ℤ) : Type 0 where
   pub separated : stands_in (byte "T") text ≡ true
   pub date_is : IsIsoDate (date_part text) m.date
   pub time_is : IsIsoTime (time_part (behind_date text)) m.time

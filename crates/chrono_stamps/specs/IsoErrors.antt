@@ -77,8 +77,8 @@ IsErrorBehindT text n behind e =
     ⊎ ((x : ℤ) × IsIsoOffset (offset_part behind) x × ¬ IsEpochSecond (epoch_second (moment n t) -ℤ x) × (e ≡ error_at DateOutOfRange 0))))
 
 -- the error of a text
-abbrev pub IsIso8601Error : List ℕ → ReadError → Type 0
-IsIso8601Error text e =
+abbrev pub IsExtendedError : List ℕ → ReadError → Type 0
+IsExtendedError text e =
     ((stands_in (byte "T") text ≡ false) × IsErrorWithoutTime text e)
     ⊎ ((stands_in (byte "T") text ≡ true)
     × (IsIsoDateError (date_part text) e ⊎ ((n : ℤ) × IsIsoDate (date_part text) n × IsErrorBehindT text n (behind_date text) e)))

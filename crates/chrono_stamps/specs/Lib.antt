@@ -7,3 +7,4 @@ pub mod StampErrors
 pub mod MailErrors
 pub mod Iso8601
 pub mod IsoErrors
+pub mod IsoForms

@@ -5,6 +5,7 @@ ghost use Rattle.chrono_reading.specs.declared.error.ReadCause.TheVariants.{Date
 ghost use Rattle.chrono_stamps.specs.IsoErrors.{IsErrorWithoutTime, further, is_of_form, iso_offset_error, size_error};
 
 use crate::iso8601_reader::iso_date;
+use crate::pieces::behind_bytes;
 use crate::rfc3339_error::{later_by, not_of_form, two_written};
 use chrono_reading::{ReadCause, ReadError, fitting_len};
 
@@ -94,18 +95,11 @@ fn size_error(text: &[u8]) -> ReadError
             byte: 0,
         };
     }
-    if two_written(behind_three(text)) > 59 {
+    if two_written(behind_bytes(text, 3)) > 59 {
         return ReadError {
             cause: ReadCause::MinuteAbove59,
             byte: 3,
         };
     }
     not_of_form(6)
-}
-
-// What stands behind three bytes.
-fn behind_three(text: &[u8]) -> &[u8]
-    ensures { result.now ≡ drop 3 text.now }
-{
-    &text[text.len().min(3)..]
 }

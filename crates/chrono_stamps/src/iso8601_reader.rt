@@ -5,10 +5,12 @@ ghost use Rattle.std.specs.List.{prefix_len};
 ghost use Rattle.chrono_datetime.specs.Moment.{Moment};
 ghost use Rattle.chrono_datetime.specs.Time.{TimeOfDay};
 ghost use Rattle.chrono_instant.specs.Offsets.{moment_ahead};
-ghost use Rattle.chrono_stamps.specs.Iso8601.{IsIso8601Text, IsIsoDate, IsIsoOffset, IsIsoTime, IsSignedOffset, clock_shown, is_of_time};
-ghost use Rattle.chrono_stamps.specs.IsoErrors.{IsIso8601Error, IsIsoDateError, IsIsoTimeError};
+ghost use Rattle.chrono_stamps.specs.Iso8601.{IsExtendedText, IsIsoDate, IsIsoOffset, IsIsoTime, IsSignedOffset, clock_shown, is_of_time};
+ghost use Rattle.chrono_stamps.specs.IsoErrors.{IsExtendedError, IsIsoDateError, IsIsoTimeError};
+ghost use Rattle.chrono_stamps.specs.IsoForms.{IsIso8601Error, IsIso8601Text};
 
 use crate::iso8601_error::{error_without_time, further, iso_offset_error, out_of_range};
+use crate::iso8601_forms::{basic_byte, is_basic, with_separators};
 use crate::rfc2822_error::error_in;
 use crate::rfc2822_reader::stamp_at;
 use crate::rfc3339_reader::utc;
@@ -21,14 +23,14 @@ use chrono_zoned::{DateTime, FixedOffset};
 // No time has so many bytes.
 const CLOCK_LEN: usize = 19;
 
-/// Reads a date, a time of day and an offset (ISO 8601, extended form), such as `2024-02-29T15:00+05:30`. Returns the instant, in a
-/// zone of that offset.
+/// Reads a date, a time of day and an offset (ISO 8601), such as `2024-02-29T15:00+05:30`. Returns the instant, in a zone of that
+/// offset.
 ///
 /// If `text` is none, returns what is wrong and at which byte, as a [`ReadError`].
 ///
 /// ```
 /// parse_from_iso8601(b"2024-060T15:00:00,25+05:30").ok()?.to_utc() // 2024-02-29T09:30:00.250+00:00
-/// parse_from_iso8601(b"2024-W09-4T09:30Z").ok() // Some(2024-02-29T09:30:00+00:00)
+/// parse_from_iso8601(b"2024W094T0930Z").ok() // Some(2024-02-29T09:30:00+00:00)
 /// parse_from_iso8601(b"2024-02-30T12:00Z").err() // Some(ReadError { cause: DayAbove(29), byte: 8 })
 /// ```
 ///
@@ -36,12 +38,33 @@ const CLOCK_LEN: usize = 19;
 /// - A `T` stands before the time. The second may be left out. A comma may stand in place of the point.
 /// - The fraction has one to nine digits. The second 60 is the leap second that follows 59. Any minute may have it.
 /// - The offset is `Z`, `+hh`, `+hh:mm` or `+hh:mm:ss`, also with `-`. Its seconds are not 0. `-00` and `-00:00` are UTC.
+/// - The basic form is the same with no `-` in the date and no `:`. Its year has four digits and no sign.
 pub fn parse_from_iso8601(text: &[u8]) -> Result<DateTime<FixedOffset>, ReadError>
     ensures read { IfOk result (λ it. IsIso8601Text text.now (moment_ahead it.utc it.zone) it.zone) }
     // Whatever local time and offset have this text are the answer: no text is refused, and none has two meanings.
     ensures every { (m : Moment) (x : ℤ) → IsIso8601Text text.now m x
         → IsOkAnd result (λ it. (moment_ahead it.utc it.zone ≡ m) × (it.zone ≡ x)) }
     ensures error { IfErr result (λ e. IsIso8601Error text.now e) }
+{
+    if !is_basic(text) {
+        return extended_stamp(text);
+    }
+    let extended = with_separators(text);
+    match extended_stamp(extended.as_bytes()) {
+        Ok(stamp) => Ok(stamp),
+        Err(error) => Err(ReadError {
+            cause: error.cause,
+            byte: basic_byte(text, error.byte),
+        }),
+    }
+}
+
+// The instant and the offset that a text of the extended form writes.
+fn extended_stamp(text: &[u8]) -> Result<DateTime<FixedOffset>, ReadError>
+    ensures read { IfOk result (λ it. IsExtendedText text.now (moment_ahead it.utc it.zone) it.zone) }
+    ensures every { (m : Moment) (x : ℤ) → IsExtendedText text.now m x
+        → IsOkAnd result (λ it. (moment_ahead it.utc it.zone ≡ m) × (it.zone ≡ x)) }
+    ensures error { IfErr result (λ e. IsExtendedError text.now e) }
 {
     let Some((front, behind)) = split_at_byte(text, b'T') else {
         return Err(error_without_time(text));
@@ -86,7 +109,7 @@ pub(crate) fn iso_date(text: &[u8]) -> Result<NaiveDate, ReadError>
 }
 
 // How many bytes in front are none that begins an offset.
-fn time_len(text: &[u8]) -> usize
+pub(crate) fn time_len(text: &[u8]) -> usize
     ensures value { result ≡ prefix_len is_of_time text.now }
     ensures within { result ≤ length text.now }
 {

@@ -4,7 +4,7 @@ ghost use Rattle.chrono_datetime.specs.Moment.{IsMoment, Moment, moment};
 ghost use Rattle.chrono_datetime.specs.Time.{FractionFits, second_of, time_at};
 ghost use Rattle.chrono_instant.specs.Instants.{IsEpochSecond, epoch_second};
 ghost use Rattle.chrono_instant.specs.Offsets.{IsOffset};
-ghost use Rattle.chrono_stamps.specs.Iso8601.{IsIso8601Text};
+ghost use Rattle.chrono_stamps.specs.IsoForms.{IsIso8601Text};
 ghost use Rattle.chrono_stamps.specs.Rfc2822.{IsRfc2822Text};
 ghost use Rattle.chrono_stamps.specs.Rfc3339.{IsRfc3339Text};
 ghost use Rattle.chrono_stamps.specs.WrittenStamps.{HasStampText, moment_cut, rfc2822_text, rfc3339_text};

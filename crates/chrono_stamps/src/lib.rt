@@ -11,10 +11,12 @@
 #![tactic(auto)]
 
 mod iso8601_error;
+mod iso8601_forms;
 mod iso8601_reader;
 mod iso8601_writer;
 pub mod law;
 mod mail_words;
+mod pieces;
 mod rfc2822_error;
 mod rfc2822_reader;
 mod rfc2822_writer;

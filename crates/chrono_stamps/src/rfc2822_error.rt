@@ -8,6 +8,7 @@ ghost use Rattle.chrono_reading.specs.declared.error.ReadCause.TheVariants.{Unkn
 ghost use Rattle.chrono_stamps.specs.MailErrors.{begins_with_letter, behind_sign, day_error, error_from_day, error_from_end, error_from_hour, error_from_minute, error_from_month, error_from_second, error_from_year, error_from_zone, error_in, fitting_one, fitting_two, fitting_zone, front_word, is_zone_name, month_word_error, names_day, next_part, number_fault, place, rfc2822_error, weekday_word_error, year_word_error, zone_digits_fault, zone_fault};
 
 use crate::mail_words::{gap_end, skip_gap, split_word};
+use crate::pieces::first_bytes;
 use crate::rfc2822_reader::{hours_behind, mail_year};
 use crate::rfc3339_error::{not_of_form, two_written};
 use chrono_datetime::{Datelike, Month, NaiveDate, Weekday};
@@ -162,7 +163,7 @@ fn error_from_end(text: &[u8], rest: &[u8]) -> ReadError
 }
 
 // The byte of a text that stands so many bytes behind the beginning of a part, which is the text's end.
-fn place(text: &[u8], part: &[u8], bytes: usize) -> usize
+pub(crate) fn place(text: &[u8], part: &[u8], bytes: usize) -> usize
     ensures { result ≡ place text.now part.now bytes }
 {
     text.len().saturating_sub(part.len().saturating_sub(bytes))
@@ -223,7 +224,7 @@ fn begins_with_letter(part: &[u8]) -> bool
 fn weekday_word_error(word: &[u8]) -> ReadError
     ensures { result ≡ weekday_word_error word.now }
 {
-    let front = three_letters(word);
+    let front = first_bytes(word, 3);
     let Some(_name) = Weekday::from_letters(front, 3) else {
         return no_weekday_error(front);
     };
@@ -247,7 +248,7 @@ fn no_weekday_error(front: &[u8]) -> ReadError
 fn month_word_error(word: &[u8]) -> ReadError
     ensures { result ≡ month_word_error word.now }
 {
-    let front = three_letters(word);
+    let front = first_bytes(word, 3);
     let Some(_name) = Month::from_letters(front) else {
         return no_month_error(front);
     };
@@ -264,14 +265,6 @@ fn no_month_error(front: &[u8]) -> ReadError
         Ok(_) => unknown_name(3),
         Err(error) => error,
     }
-}
-
-// The first three bytes of a word.
-fn three_letters(word: &[u8]) -> &[u8]
-    ensures front { result.now ≡ take 3 word.now }
-    ensures short { length result.now ≤ 3 }
-{
-    &word[..word.len().min(3)]
 }
 
 // No name has this byte of a word there.
