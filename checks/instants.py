@@ -547,6 +547,34 @@ def read_basic(told):
     return f"byte {len(without_separators(told[: int(wrong[1])]))}{wrong[2]}" if wrong else answer
 
 
+def put_in(told, sign, places):
+    """The bytes of a text with their places, and a sign in front of those at these places."""
+    marked, places = [], [min(it, len(told)) for it in places]
+    for start, end in zip((0, *places), (*places, len(told))):
+        marked += [(sign, start)] * bool(marked or start) + [(byte, start + at) for at, byte in enumerate(told[start:end])]
+    return marked
+
+
+def read_any(told):
+    """What a text of either form is read as. One of the basic form is read with the signs that it leaves out, whose places are dropped."""
+    if not re.match("[0-9]{4}[0-9W]", told):
+        return read_iso(told)
+    date, separator, behind = told.partition("T")
+    length = len(re.match("[^Z+-]*", behind)[0])
+    clock, offset = behind[:length], behind[length:]
+    marked = put_in(date, "-", (4,) if len(date) == 7 else (4, 7 if date[4:5] == "W" else 6))
+    if separator:
+        parts = ((clock, (2,) if len(clock) <= 4 else (2, 4)), (offset, (3, 5)[: (len(offset) > 3) + (len(offset) > 5)]))
+        start = len(date)
+        marked.append(("T", start))
+        for part, places in parts:
+            marked += [(byte, start + 1 + place) for byte, place in put_in(part, ":", places)]
+            start += len(part)
+    answer = read_iso("".join(byte for byte, _ in marked))
+    wrong = re.match("byte ([0-9]+)(.*)", answer)
+    return f"byte {[*(place for _, place in marked), len(told)][int(wrong[1])]}{wrong[2]}" if wrong else answer
+
+
 def iso_text(draw, years):
     """A text of ISO 8601 in a year of these, of which a number may be out of range."""
     year = draw.choice(years)
@@ -582,7 +610,7 @@ def answer(call, secs, nanos, offset, moved):
     if call == "mail":
         return read_mail(secs) or mail_fault(secs)
     if call in ("iso", "basic"):
-        return read_iso(secs) if call == "iso" else read_basic(secs)
+        return read_any(secs) if call == "iso" else read_basic(secs)
     if call in ("millis", "micros", "nanos"):
         unit = {"millis": 10**3, "micros": 10**6, "nanos": NANOS}[call]
         second, rest = divmod(secs, unit)

@@ -12,7 +12,7 @@ ghost use Rattle.chrono_stamps.specs.declared.seconds_format.SecondsFormat.{Seco
 ghost use Rattle.chrono_stamps.specs.declared.seconds_format.SecondsFormat.TheVariants.{Secs};
 ghost use Rattle.chrono_zoned.specs.ZonedText.{zoned_debug_text};
 
-use chrono_reading::law::{printed_dates_are_read, printed_times_are_read};
+use chrono_reading::law::{known_texts_of_dates, printed_dates_are_read, printed_times_are_read};
 
 /// The text that is written of a local date-time and an offset is read as them. What the form cuts off the fraction is lost.
 pub fn written_stamps_are_read()
@@ -77,3 +77,23 @@ pub fn known_rfc2822_texts()
     ensures comment { IsRfc2822Text (codes "Fri, 21 Nov 1997 09(comment):   55  :  06 -0600")
         (moment (pos 729_349) (time_at 9 55 6 0)) (neg_ℤ (pos 21_600)) }
 {}
+
+/// Texts of ISO 8601, each with its value:
+///
+/// - a calendar date with a time and an offset, in both forms and with the hour of the offset alone;
+/// - an ordinal date with no second, in the basic form;
+/// - a week date with a comma.
+pub fn known_iso8601_texts()
+    ensures extended { IsIso8601Text (codes "1985-04-12T10:15:30+04:00")
+        (moment (pos 724_743) (time_at 10 15 30 0)) (pos 14_400) }
+    ensures basic { IsIso8601Text (codes "19850412T101530+0400")
+        (moment (pos 724_743) (time_at 10 15 30 0)) (pos 14_400) }
+    ensures hour { IsIso8601Text (codes "1985-04-12T10:15:30+04")
+        (moment (pos 724_743) (time_at 10 15 30 0)) (pos 14_400) }
+    ensures ordinal { IsIso8601Text (codes "1985102T1015Z")
+        (moment (pos 724_743) (time_at 10 15 0 0)) (pos 0) }
+    ensures week { IsIso8601Text (codes "2020-W53-7T23:59:60,25Z")
+        (moment (pos 737_793) (time_at 23 59 59 1_250_000_000)) (pos 0) }
+{
+    known_texts_of_dates();
+}

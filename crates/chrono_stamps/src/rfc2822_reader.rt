@@ -21,8 +21,8 @@ const LAST_YEAR: u32 = 262_142;
 /// Reads a date, a time of day and an offset (RFC 2822, 3.3 and 4.3), such as `Thu, 29 Feb 2024 15:00:00 +0530`. Returns the
 /// instant, in a zone of that offset.
 ///
-/// If `text` is none, returns what is wrong and at which byte, as a [`ReadError`]: what is wrong first, from left to right. A day
-/// that its month has not stands behind a right year, and a weekday that is not the date's behind a right date.
+/// If `text` is none, returns what is wrong and at which byte, as a [`ReadError`]: what is wrong first, from left to right. The
+/// length of the month and the weekday are checked once the year is read.
 ///
 /// ```
 /// parse_from_rfc2822(b"Fri, 21 Nov 1997 09:55:06 -0600").ok()?.to_utc() // 1997-11-21T15:55:06+00:00
