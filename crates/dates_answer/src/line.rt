@@ -1,5 +1,5 @@
 //! Lines of answers, as texts or as objects of JSON (RFC 8259).
-ghost use Rattle.std.specs.Prelude.{◌≡◌, Some, codes, if◌then◌else◌};
+ghost use Rattle.std.specs.Prelude.{◌≡◌, Some};
 ghost use Rattle.std.specs.Fmt.{WritesOnOk};
 ghost use Rattle.dates_answer.specs.Lines.{reply_object, reply_text, day_object, key_text, line_text, months_days_text, names_object, numbers_in_object, parts_object, parts_text};
 
@@ -181,7 +181,8 @@ fn write_text<W: fmt::Write>(reply: &Reply, f: &mut fmt::Formatter<W>) -> fmt::R
         Reply::Moment(moment) => write!(f, "{moment:?}"),
         Reply::Duration(duration) => write!(f, "{duration}"),
         Reply::Number(_, number) => write!(f, "{number}"),
-        Reply::Whether(_, yes) => f.write_str(yes_or_no(yes)),
+        Reply::Whether(_, true) => f.write_str("yes"),
+        Reply::Whether(_, false) => f.write_str("no"),
         Reply::Parts(parts) => write!(f, "{parts}"),
         Reply::Week(first, last) => write!(f, "{first} {last}"),
         Reply::Nothing(_) => f.write_str("none"),
@@ -189,13 +190,6 @@ fn write_text<W: fmt::Write>(reply: &Reply, f: &mut fmt::Formatter<W>) -> fmt::R
         Reply::NoWeek(_) => f.write_str("none"),
         Reply::Version => f.write_str("dates 0.1.0"),
     }
-}
-
-// Whether it is, in a word.
-fn yes_or_no(yes: bool) -> &'static str
-    ensures { result.now ≡ (if yes then codes "yes" else codes "no") }
-{
-    if yes { "yes" } else { "no" }
 }
 
 // An answer as an object.
