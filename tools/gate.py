@@ -46,7 +46,8 @@ PARTS = ["proof", "tests", "edits", "programs"]
 HEAD = ["The processor seconds of the gate by crate, written by tools/gate.py; `number` counts the planted bugs of must-fail/."]
 
 # The kit's `rt check` on one processor, which finds nothing that checks in other work trees of this machine kept.
-ANEW = """import importlib.util, sys
+ANEW = """import importlib.util, os, sys
+sys.path.insert(0, os.path.dirname({tool!r}))
 spec = importlib.util.spec_from_file_location("gate", {tool!r})
 gate = importlib.util.module_from_spec(spec)
 spec.loader.exec_module(gate)
