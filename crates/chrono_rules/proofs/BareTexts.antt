@@ -1,7 +1,8 @@
 -- A text that is written has neither `RRULE:` in front nor a semicolon at its end.
-use Rattle.std.proofs.Common.{◌≡◌, ℕ, suc, ◌-◌, ◌==◌, nat_lt, Bool, true, false, ◌&&◌, cond, if◌then◌else◌, List, [], ◌∷◌, ◌++◌, length, slice_index, take, drop, codes, refl, ap, ◌∙◌, arith}
+use Rattle.std.proofs.Common.{◌≡◌, ℕ, suc, ◌-◌, ◌==◌, nat_lt, Bool, true, false, cond, if◌then◌else◌, List, [], ◌∷◌, ◌++◌, length, slice_index, take, drop, codes, refl, ap, ◌∙◌, arith}
 use Rattle.std.specs.List.{join_with_byte, list_all, onto_first}
-use Rattle.std.proofs.lemmas.Bool.{false≢true}
+use Rattle.std.proofs.lemmas.Bool.{and_parts, and_right, false≢true}
+use Rattle.std.specs.Cmp.Derive.{both_true}
 use Rattle.chrono_rules.specs.RuleErrors.{frequency_text}
 use Rattle.chrono_rules.specs.RuleTexts.{IsRuleText, behind_property, ends_with_semicolon, is_named, is_part, parts, rule_body, without_semicolon}
 use Rattle.chrono_text.specs.Lists.{pieces}
@@ -9,7 +10,6 @@ use Rattle.chrono_rules.specs.WrittenRules.{later_parts, rule_text}
 use Rattle.chrono_rules.specs.declared.rule.Frequency.{Frequency}
 use Rattle.chrono_rules.specs.declared.rule.Frequency.TheVariants.{Daily, Monthly, Weekly, Yearly}
 use Rattle.chrono_rules.specs.declared.rule.Rule.{Rule}
-use Rattle.chrono_rules.proofs.Passed.{and-none}
 
 -- ---- in front
 
@@ -30,17 +30,6 @@ written_front r = no_property r.frequency (later_parts r)
 
 -- ---- at the end
 
-first-true : (a b : Bool) → (a && b) ≡ true → a ≡ true
-first-true true b is = refl
-first-true false b is = absurd (false≢true is)
-
-second-true : (a b : Bool) → (a && b) ≡ true → b ≡ true
-second-true true b is = is
-second-true false b is = absurd (false≢true is)
-
-both-true : (a b : Bool) → a ≡ true → b ≡ true → (a && b) ≡ true
-both-true a b on too = rw (on, too) refl
-
 abbrev is_some_piece : List ℕ → Bool
 is_some_piece [] = false
 is_some_piece (b ∷ bs) = true
@@ -57,11 +46,11 @@ part_some (b ∷ bs) is = refl
 all_some : (ps : List (List ℕ)) → list_all is_part ps ≡ true → list_all is_some_piece ps ≡ true
 all_some [] is = refl
 all_some (p ∷ ps) is =
-    both-true (is_some_piece p) (list_all is_some_piece ps) (part_some p (first-true (is_part p) (list_all is_part ps) is)) (all_some ps (second-true (is_part p) (list_all is_part ps) is))
+    both_true (part_some p (and_parts (is_part p) (list_all is_part ps) is).0) (all_some ps (and_parts (is_part p) (list_all is_part ps) is).1)
 
 some_behind : (ps : List (List ℕ)) → list_all is_some_piece ps ≡ true → are_some_behind ps ≡ true
 some_behind [] is = refl
-some_behind (p ∷ ps) is = second-true (is_some_piece p) (list_all is_some_piece ps) is
+some_behind (p ∷ ps) is = (and_parts (is_some_piece p) (list_all is_some_piece ps) is).1
 
 -- a byte in front of pieces, or an empty piece where the byte is the separator
 abbrev begun : Bool → ℕ → List (List ℕ) → List (List ℕ)
@@ -69,7 +58,7 @@ begun t b ps = cond t ([] ∷ ps) (onto_first b ps)
 
 behind_begun : (t : Bool) (b : ℕ) (ps : List (List ℕ)) → are_some_behind (begun t b ps) ≡ true → are_some_behind ps ≡ true
 behind_begun true b [] is = refl
-behind_begun true b (p ∷ ps) is = second-true (is_some_piece p) (list_all is_some_piece ps) is
+behind_begun true b (p ∷ ps) is = (and_parts (is_some_piece p) (list_all is_some_piece ps) is).1
 behind_begun false b [] is = refl
 behind_begun false b (p ∷ ps) is = is
 
@@ -85,7 +74,7 @@ last_byte b (c ∷ cs) is =
 
 unended : (text : List ℕ) → list_all is_part (parts text) ≡ true → ends_with_semicolon text ≡ false
 unended [] named = refl
-unended (b ∷ bs) named = and-none (nat_lt 0 (length (b ∷ bs))) _ (last_byte b bs (some_behind (pieces 59 (b ∷ bs)) (all_some (pieces 59 (b ∷ bs)) named)))
+unended (b ∷ bs) named = and_right (nat_lt 0 (length (b ∷ bs))) _ (last_byte b bs (some_behind (pieces 59 (b ∷ bs)) (all_some (pieces 59 (b ∷ bs)) named)))
 
 pub bare_text : (r : Rule) → IsRuleText (rule_text r) r → rule_body (rule_text r) ≡ rule_text r
 unfolding rule_body

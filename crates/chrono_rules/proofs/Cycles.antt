@@ -3,10 +3,7 @@ use Rattle.std.proofs.Common.{◌≡◌, sym, arith, ℤ, pos, ◌+ℤ◌, ◌-�
 use Rattle.chrono_datetime.specs.Days.{ordinal_of, year_of}
 use Rattle.chrono_datetime.specs.Years.{year_length}
 use Rattle.chrono_datetime.proofs.Signed.{signed}
-use Rattle.chrono_datetime.proofs.Cycles.{ordinal_name-again}
-
-pub year_length-again : (y z : ℤ) → z ≡ y +ℤ pos 400 → year_length z ≡ year_length y
-year_length-again y z e = grind (arith, signed, e)
+use Rattle.chrono_datetime.proofs.Cycles.{ordinal_name-again, year_length-again}
 
 pub record StandAlike (n m : ℤ) : Type 0 where
   pub ordinal : ordinal_of m ≡ ordinal_of n

@@ -1,5 +1,5 @@
 -- Days that are instances of a rule or dates beside them, and no exceptions.
-use Rattle.std.proofs.Common.{◌≡◌, Bool, true, false, ◌||◌, ◌&&◌, not, refl, ap, ◌∙◌, arith, ℤ, ◌<ℤ◌}
+use Rattle.std.proofs.Common.{◌≡◌, true, false, ◌||◌, ◌&&◌, not, refl, ap, ◌∙◌, arith, ℤ, ◌<ℤ◌}
 use Rattle.std.proofs.lemmas.Int.{by_lt_z}
 use Rattle.chrono_datetime.proofs.Signed.{signed}
 use Rattle.chrono_rules.specs.Instances.{is_instance}

@@ -3,7 +3,7 @@ use Rattle.std.proofs.Common.{◌≡◌, ℕ, zero, suc, ◌+◌, ◌-◌, ◌<�
 use Rattle.std.specs.List.{list_all}
 use Rattle.std.specs.Option.{option_map}
 use Rattle.std.proofs.lemmas.Bool.{and_from, and_parts, eqb-true, false≢true, leb-true}
-use Rattle.std.proofs.lemmas.Option.{none-some, option_and_then_some, same_Some}
+use Rattle.std.proofs.lemmas.Option.{cond_some, none-some, option_and_then_some, same_Some}
 use Rattle.chrono_datetime.specs.Names.{weekday_of_letters}
 use Rattle.chrono_datetime.specs.Weekday.{days_from_monday}
 use Rattle.chrono_datetime.proofs.WeekdayCycle.{days_from_monday-lt}
@@ -25,10 +25,6 @@ use Rattle.chrono_rules.specs.declared.weekday_places.WeekdayPlaces.{WeekdayPlac
 pub mapped : {A B : Type 0} (f : A → B) (o : Option A) (y : B) → option_map f o ≡ Some y → (x : A) × (o ≡ Some x) × (f x ≡ y)
 mapped f None y is = absurd (none-some y is)
 mapped f (Some x) y is = (x, refl, same_Some (f x) y is)
-
-pub if_some : (b : Bool) (x y : ℕ) → (if b then Some x else None) ≡ Some y → (b ≡ true) × (x ≡ y)
-if_some true x y is = (refl, same_Some x y is)
-if_some false x y is = absurd (none-some y is)
 
 pub guarded : {A : Type 0} (b : Bool) (o : Option A) (x : A) (P : Type 0) → (b ≡ true → o ≡ Some x → P) → (if b then o else None) ≡ Some x → P
 guarded true o x P then_it is = then_it refl is
@@ -52,7 +48,7 @@ said_has read without P absent there (text ∷ next ∷ more) x is = absurd (non
 
 from_one-bounds : (most x n : ℕ) → from_one most x ≡ Some n → (1 ≤ n) × (n ≤ most)
 from_one-bounds most x n is =
-    let found = if_some (nat_le 1 x && nat_le x most) x n is in
+    let found = cond_some (nat_le 1 x && nat_le x most) x n is in
     let parts = and_parts (nat_le 1 x) (nat_le x most) found.0 in
     let low = leb-true 1 x parts.0 in
     let high = leb-true x most parts.1 in

@@ -1,5 +1,6 @@
 -- Instances at a time of day, by those of days.
 use Rattle.std.proofs.Common.{◌≡◌, ◌==◌, ℕ, Bool, true, false, ◌&&◌, inl, inr, refl, sym, ap, ◌∙◌, arith, ℤ, ◌<ℤ◌}
+use Rattle.std.proofs.lemmas.Bool.{and_parts}
 use Rattle.std.proofs.lemmas.Bool.Decides.{nat_tests}
 use Rattle.chrono_datetime.specs.Moment.{IsBefore, Moment, moment}
 use Rattle.chrono_datetime.specs.Time.{IsEarlier, TimeOfDay}
@@ -13,17 +14,8 @@ and-by true true h = h refl
 and-by true false h = refl
 and-by false b h = refl
 
-and-first : (a b : Bool) → (a && b) ≡ true → a ≡ true
-and-first true b h = refl
-and-first false b h = h
-
-pub and-second : (a b : Bool) → (a && b) ≡ true → b ≡ true
-and-second true b h = h
-and-second false true h = refl
-and-second false false h = h
-
 same-numbers : (x y u v : ℕ) → ((x == y) && (u == v)) ≡ true → (x ≡ y) × (u ≡ v)
-same-numbers x y u v h = (grind (arith, nat_tests, and-first (x == y) (u == v) h), grind (arith, nat_tests, and-second (x == y) (u == v) h))
+same-numbers x y u v h = let both = and_parts (x == y) (u == v) h in (grind (arith, nat_tests, both.0), grind (arith, nat_tests, both.1))
 
 same_time-self : (t : TimeOfDay) → same_time t t ≡ true
 same_time-self t = grind (arith, nat_tests)

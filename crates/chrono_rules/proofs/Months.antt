@@ -1,29 +1,15 @@
 -- Days and their months.
-use Rattle.std.proofs.Common.{◌≡◌, ℕ, ◌+◌, ◌-◌, ◌%◌, ◌<◌, ◌≤◌, min, sym, inl, inr, ap, ◌∙◌, arith, ℤ, pos, ◌+ℤ◌, ◌-ℤ◌, ◌≤ℤ◌, ◌<ℤ◌, unsigned_abs}
-use Rattle.std.proofs.lemmas.Int.{by_lt_z}
+use Rattle.std.proofs.Common.{◌≡◌, ℕ, ◌+◌, ◌-◌, ◌%◌, ◌<◌, ◌≤◌, min, sym, ap, ◌∙◌, arith, ℤ, pos, ◌+ℤ◌, ◌-ℤ◌, ◌≤ℤ◌, ◌<ℤ◌, unsigned_abs}
 use Rattle.std.specs.Int.{IsInRange}
 use Rattle.chrono_datetime.specs.Days.{day_of, month_of, year_of}
 use Rattle.chrono_datetime.specs.MonthMoves.{InSameMonth, month_index, month_index_of, month_length_of}
 use Rattle.chrono_datetime.specs.Years.{month_length}
 use Rattle.chrono_datetime.proofs.MonthDays.{day_of-bounds, later_in_month}
-use Rattle.chrono_datetime.proofs.MonthOrder.{before_month, day_at-exists, days_in_order, earlier_month, month_of-range}
+use Rattle.chrono_datetime.proofs.MonthOrder.{month_of-range}
 use Rattle.chrono_datetime.proofs.Signed.{signed}
 use Rattle.chrono_datetime.proofs.Rising.{month_index_of-rises}
 
 -- ---- days and their months
-
--- days before the first of a month lie in earlier months
-pub before_month_first : (d e : ℤ) → d <ℤ e → day_of e ≡ 1 → month_index_of d <ℤ month_index_of e
-before_month_first d e lt first = elim (days_in_order d e (month_index_of d) (month_index_of e) (day_of d) (day_of e) (day_at-exists d) (day_at-exists e) (omega (arith, signed, lt))) [
-  | inl less ↦ less
-  | inr same ↦
-      by_lt_z (month_index_of d) (month_index_of e) (λ less. less)
-      (λ ge.
-      let a = day_at-exists d in
-      let b = day_at-exists e in
-      let starts = ap before_month same.0 in
-      absurd (omega (arith, signed, lt, a.number, b.number, a.first, first, starts)))
-]
 
 -- a month so many months on
 pub month_later : (n d : ℤ) (k : ℕ) → n ≤ℤ d → month_index_of d <ℤ (month_index_of n +ℤ pos k) → let j = unsigned_abs (month_index_of d -ℤ month_index_of n) in (j < k) × (month_index_of d ≡ month_index_of n +ℤ pos j)

@@ -1,6 +1,7 @@
 -- What a search for a member passes over.
-use Rattle.std.proofs.Common.{◌≡◌, Bool, true, false, ◌&&◌, refl, ap, ◌∙◌, arith, ℤ, ◌≤ℤ◌, ◌<ℤ◌, int_le}
+use Rattle.std.proofs.Common.{◌≡◌, false, refl, ap, ◌∙◌, arith, ℤ, ◌≤ℤ◌, ◌<ℤ◌, int_le}
 use Rattle.std.proofs.lemmas.Int.{by_lt_z}
+use Rattle.std.proofs.lemmas.Bool.{and_right}
 use Rattle.chrono_datetime.proofs.Signed.{signed}
 use Rattle.chrono_rules.specs.Instances.{in_interval, is_member, not_after}
 use Rattle.chrono_rules.specs.ByParts.{passes}
@@ -8,15 +9,11 @@ use Rattle.chrono_rules.specs.declared.rule.End.{End}
 use Rattle.chrono_rules.specs.declared.rule.End.TheVariants.{Until}
 use Rattle.chrono_rules.specs.declared.rule.Rule.{Rule}
 
-pub and-none : (a b : Bool) → b ≡ false → (a && b) ≡ false
-and-none true b none = none
-and-none false b none = refl
-
 -- a day that does not pass is no member
 pub no_pass : (r : Rule) (start d : ℤ) → passes r start d ≡ false → is_member r start d ≡ false
 unfolding is_member
 no_pass r start d out =
-    and-none (int_le start d) _ (and-none (not_after r.end d) _ (and-none (in_interval r start d) _ (rw out refl)))
+    and_right (int_le start d) _ (and_right (not_after r.end d) _ (and_right (in_interval r start d) _ (rw out refl)))
 
 -- behind UNTIL nothing is left
 until-behind : (f : End) (u d : ℤ) → f ≡ Until u → u <ℤ d → not_after f d ≡ false
@@ -28,7 +25,7 @@ until-behind f u d is behind =
 pub behind_until : (r : Rule) (start u d : ℤ) → r.end ≡ Until u → u <ℤ d → is_member r start d ≡ false
 unfolding is_member
 behind_until r start u d is behind =
-    and-none (int_le start d) _ (rw (until-behind r.end u d is behind) refl)
+    and_right (int_le start d) _ (rw (until-behind r.end u d is behind) refl)
 
 -- the days so far, the one that is looked at, and those behind it
 pub passed_on : (r : Rule) (start from day d : ℤ) → ((d : ℤ) → from ≤ℤ d → d <ℤ day → is_member r start d ≡ false) → is_member r start day ≡ false → (day <ℤ d → is_member r start d ≡ false) → from ≤ℤ d → is_member r start d ≡ false

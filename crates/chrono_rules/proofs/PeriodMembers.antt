@@ -1,5 +1,5 @@
 -- The members of a period, by the places of its days.
-use Rattle.std.proofs.Common.{◌≡◌, ℕ, ◌+◌, ◌-◌, Bool, true, false, ◌&&◌, ◌||◌, cond, refl, sym, ap, ◌∙◌, arith, ℤ, pos, ◌+ℤ◌, ◌≤ℤ◌, ◌<ℤ◌, int_le}
+use Rattle.std.proofs.Common.{◌≡◌, ℕ, ◌+◌, ◌-◌, Bool, true, false, ◌&&◌, ◌||◌, refl, sym, ap, ◌∙◌, arith, ℤ, pos, ◌+ℤ◌, ◌≤ℤ◌, int_le}
 use Rattle.chrono_datetime.specs.Recurrence.{count_between}
 use Rattle.chrono_datetime.proofs.CountBetween.{count_between-sum}
 use Rattle.chrono_datetime.proofs.Signed.{signed}
@@ -10,7 +10,6 @@ use Rattle.chrono_rules.specs.Instances.{in_interval, in_positions, is_member, n
 use Rattle.chrono_rules.specs.Periods.{period_end, period_first}
 use Rattle.chrono_rules.specs.RuleParts.{lacks_positions}
 use Rattle.chrono_rules.specs.declared.rule.Rule.{Rule}
-use Rattle.chrono_rules.proofs.PlacesInPeriods.{from_period}
 
 has-at : (s : Numbers) (b : Bool) (k place : ℕ) → is_empty s ≡ b → (b ≡ false → k ≡ place) → has s place ≡ has s k
 has-at s true k place is same = has-none s place is ∙ sym (has-none s k is)

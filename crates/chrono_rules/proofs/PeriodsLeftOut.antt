@@ -3,6 +3,7 @@ use Rattle.std.proofs.Common.{◌≡◌, ◌==◌, ℕ, zero, suc, ◌+◌, ◌-
 use Rattle.std.specs.Int.{int_div_euclid, int_rem_euclid}
 use Rattle.std.proofs.lemmas.Int.{int_rem_euclid_is}
 use Rattle.std.proofs.lemmas.Nat.{div-add-mod', mod-mul-add}
+use Rattle.std.proofs.lemmas.Bool.{and_right, ne_eqb}
 use Rattle.chrono_datetime.specs.Days.{month_of, year_of}
 use Rattle.chrono_datetime.specs.MonthMoves.{month_index_of}
 use Rattle.chrono_datetime.specs.Weekday.{days_since}
@@ -18,8 +19,6 @@ use Rattle.chrono_rules.specs.Periods.{period_of}
 use Rattle.chrono_rules.specs.declared.rule.Frequency.{Frequency}
 use Rattle.chrono_rules.specs.declared.rule.Frequency.TheVariants.{Daily, Monthly, Weekly, Yearly}
 use Rattle.chrono_rules.specs.declared.rule.Rule.{Rule}
-use Rattle.chrono_rules.proofs.Passed.{and-none}
-use Rattle.chrono_rules.proofs.Skipped.{test_not}
 
 pub many : (k n : ℕ) → 0 < n → k ≤ k * n
 many zero n some = omega arith
@@ -51,8 +50,8 @@ off_interval r start n d step j behind step-is behind-is some less at =
     let apart : b ≡ a +ℤ pos j = omega (arith, signed, at) in
     let there : unsigned_abs (int_rem_euclid b (pos k)) ≡ unsigned_abs (int_rem_euclid a (pos k)) + j =
     ap (λ (z : ℤ). unsigned_abs (int_rem_euclid z (pos k))) apart ∙ rem-ahead a k j (omega (arith, signed, step-is, less)) (omega (arith, signed, step-is, less, here)) in
-    let off : (unsigned_abs (int_rem_euclid b (pos k)) == 0) ≡ false = test_not (unsigned_abs (int_rem_euclid b (pos k))) 0 (λ e. omega (arith, e, there, here, some)) in
-    and-none (int_le start d) _ (and-none (not_after r.end d) _ (rw off refl))
+    let off : (unsigned_abs (int_rem_euclid b (pos k)) == 0) ≡ false = ne_eqb (unsigned_abs (int_rem_euclid b (pos k))) 0 (λ e. omega (arith, e, there, here, some)) in
+    and_right (int_le start d) _ (and_right (not_after r.end d) _ (rw off refl))
 
 -- later days are in no earlier period
 pub period-rises : (f : Frequency) (w : Weekday) (n d : ℤ) → n ≤ℤ d → period_of f w n ≤ℤ period_of f w d

@@ -2,6 +2,7 @@
 use Rattle.std.proofs.Common.{◌≡◌, ℕ, ◌+◌, ◌-◌, ◌<◌, ◌≤◌, nat_lt, Bool, true, false, cond, ◌&&◌, refl, sym, ap, ◌∙◌, arith, ℤ, pos, ◌+ℤ◌, ◌≤ℤ◌, ◌<ℤ◌, int_le}
 use Rattle.std.proofs.lemmas.Int.{by_lt_z}
 use Rattle.std.proofs.lemmas.Bool.Decides.{nat_tests}
+use Rattle.std.proofs.lemmas.Bool.{and_right}
 use Rattle.chrono_datetime.specs.Days.{IsDate, day_of, days_before_year}
 use Rattle.chrono_datetime.specs.MonthMoves.{month_length_of}
 use Rattle.chrono_datetime.specs.Recurrence.{count_between}
@@ -22,7 +23,7 @@ use Rattle.chrono_rules.specs.Periods.{period_end, period_first}
 use Rattle.chrono_rules.specs.declared.rule.Frequency.{Frequency}
 use Rattle.chrono_rules.specs.declared.rule.Frequency.TheVariants.{Daily, Monthly, Weekly, Yearly}
 use Rattle.chrono_rules.specs.declared.rule.Rule.{Rule}
-use Rattle.chrono_rules.proofs.Passed.{and-none, no_pass}
+use Rattle.chrono_rules.proofs.Passed.{no_pass}
 use Rattle.chrono_rules.proofs.YearsOfDates.{same_year}
 use Rattle.chrono_rules.proofs.PlacesInPeriods.{date_passes-is, from_period, front_place, same_month_end, same_month_first}
 
@@ -78,7 +79,7 @@ unfolding in_positions is_member
 off_place r start d end named front end-is none =
     let back : has r.positions_from_end (count_between (date_passes r start) d (period_end r.frequency r.week_start d)) ≡ false = rw end-is none in
     let off : in_positions r start d ≡ false = rw (named, front, back) refl in
-    and-none (int_le start d) _ (and-none (not_after r.end d) _ (and-none (in_interval r start d) _ (and-none (passes r start d) _ off)))
+    and_right (int_le start d) _ (and_right (not_after r.end d) _ (and_right (in_interval r start d) _ (and_right (passes r start d) _ off)))
 
 -- one day more in front
 pub counted-back : (p : ℤ → Bool) (e a c : ℤ) (n m : ℕ) → n ≡ count_between p a c → m ≡ n + cond (p e) 1 0 → e <ℤ c → a ≡ e +ℤ pos 1 → m ≡ count_between p e c

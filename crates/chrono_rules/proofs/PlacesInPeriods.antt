@@ -1,6 +1,6 @@
 -- The places of a period's passing days, of which BYSETPOS names some.
 use Rattle.std.proofs.Common.{◌≡◌, ℕ, ◌+◌, ◌-◌, ◌<◌, ◌≤◌, Bool, true, false, cond, ◌||◌, refl, sym, ap, ◌∙◌, arith, ℤ, pos, ◌+ℤ◌, ◌-ℤ◌, ◌≤ℤ◌, ◌<ℤ◌, int_le, unsigned_abs}
-use Rattle.std.proofs.lemmas.Bool.{false≢true}
+use Rattle.std.proofs.lemmas.Bool.{and_right, or_parts}
 use Rattle.chrono_datetime.specs.Days.{IsDate, day_of, days_before_year, is_date, month_of, ordinal_of, year_of}
 use Rattle.chrono_datetime.specs.MonthMoves.{month_first_of, month_last_of, month_length_of}
 use Rattle.chrono_datetime.specs.Recurrence.{count_between}
@@ -23,7 +23,8 @@ use Rattle.chrono_rules.specs.declared.rule.Frequency.{Frequency}
 use Rattle.chrono_rules.specs.declared.rule.Frequency.TheVariants.{Daily, Monthly, Weekly, Yearly}
 use Rattle.chrono_rules.specs.declared.rule.Rule.{Rule}
 use Rattle.chrono_rules.proofs.Counts.{counted-next}
-use Rattle.chrono_rules.proofs.Passed.{and-none, no_pass}
+use Rattle.chrono_rules.proofs.Months.{same_length}
+use Rattle.chrono_rules.proofs.Passed.{no_pass}
 use Rattle.chrono_rules.proofs.YearsOfDates.{ordinal_of-bounds}
 
 -- ---- days of one period
@@ -47,9 +48,6 @@ in_rest n d r e low high =
     let there = later_in_month n d k at (omega (arith, signed, e, low, high, day_of-bounds n)) in
     record { year = there.month.0; month = there.month.1; number = at; day = there.day }
 
-same_month_length : (n d : ℤ) → year_of d ≡ year_of n → month_of d ≡ month_of n → month_length_of d ≡ month_length_of n
-same_month_length n d year month = cc
-
 pub same_month_first : (n d r : ℤ) → r ≡ pos (month_length_of n - day_of n) +ℤ pos 1 → n ≤ℤ d → d <ℤ (n +ℤ r) → month_first_of d ≡ month_first_of n
 same_month_first n d r e low high =
     let it = in_rest n d r e low high in
@@ -58,7 +56,7 @@ same_month_first n d r e low high =
 pub same_month_end : (n d r : ℤ) → r ≡ pos (month_length_of n - day_of n) +ℤ pos 1 → n ≤ℤ d → d <ℤ (n +ℤ r) → month_last_of d +ℤ pos 1 ≡ month_last_of n +ℤ pos 1
 same_month_end n d r e low high =
     let it = in_rest n d r e low high in
-    omega (arith, signed, it.number, it.day, day_of-bounds n, day_of-bounds d, same_month_length n d it.year it.month)
+    omega (arith, signed, it.number, it.day, day_of-bounds n, day_of-bounds d, same_length n d it.year it.month)
 
 pub same_year_first : (n d r : ℤ) → r ≡ pos (month_length_of n - day_of n) +ℤ pos 1 → n ≤ℤ d → d <ℤ (n +ℤ r) → (d +ℤ pos 1) -ℤ pos (ordinal_of d) ≡ (n +ℤ pos 1) -ℤ pos (ordinal_of n)
 same_year_first n d r e low high =
@@ -92,10 +90,6 @@ not_at : (s : Numbers) (b : Bool) (k place : ℕ) → is_empty s ≡ b → (b �
 not_at s true k place is same none = has-none s place is
 not_at s false k place is same none = ap (has s) (sym (same refl)) ∙ none
 
-neither : (a b : Bool) → (a || b) ≡ false → (a ≡ false) × (b ≡ false)
-neither true b h = absurd (false≢true (sym h))
-neither false b h = (refl, h)
-
 -- ---- a day whose places are none that BYSETPOS names
 
 pub front_place : (p : ℤ → Bool) (first day e : ℤ) (before passed : ℕ) → first ≤ℤ day → day ≤ℤ e → before ≡ count_between p first day → passed ≡ count_between p day e → p e ≡ true → before + passed + 1 ≡ count_between p first (e +ℤ pos 1)
@@ -115,13 +109,13 @@ off_position r start day e before left passed named le first end before-is left-
     let p = date_passes r start in
     let low : period_first r.frequency r.week_start day ≤ℤ day = from_period r.frequency r.week_start day in
     let high : e ≤ℤ period_end r.frequency r.week_start day = rw end at (before_or_at e _ (to_period r.frequency r.week_start e)) in
-    let places = neither _ _ none in
+    let places = or_parts _ _ none in
     let a : has r.positions (count_between p (period_first r.frequency r.week_start e) (e +ℤ pos 1)) ≡ false =
     rw first (not_at r.positions (is_empty r.positions) (before + passed + 1) _ refl (λ some. front_place p _ day e before passed low le (before-is some) passed-is is) places.0) in
     let b : has r.positions_from_end (count_between p e (period_end r.frequency r.week_start e)) ≡ false =
     rw end (not_at r.positions_from_end (is_empty r.positions_from_end) (left - passed) _ refl (λ some. back_place p day e _ left passed le high (left-is some) passed-is) places.1) in
     let off : in_positions r start e ≡ false = rw (named, a, b) refl in
-    and-none (int_le start e) _ (and-none (not_after r.end e) _ (and-none (in_interval r start e) _ (and-none (passes r start e) _ off)))
+    and_right (int_le start e) _ (and_right (not_after r.end e) _ (and_right (in_interval r start e) _ (and_right (passes r start e) _ off)))
 
 -- of a date the test for dates says what the rule says
 pub date_passes-is : (r : Rule) (start e : ℤ) → IsDate e → date_passes r start e ≡ passes r start e

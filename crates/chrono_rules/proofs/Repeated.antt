@@ -4,6 +4,7 @@ use Rattle.std.specs.Int.{int_rem_euclid}
 use Rattle.std.proofs.lemmas.Int.{by_lt_z, int_rem_euclid_is}
 use Rattle.std.proofs.lemmas.Bool.Decides.{nat_tests}
 use Rattle.std.proofs.Math.Nat.{add-mul-mod_self_right}
+use Rattle.std.proofs.lemmas.Bool.{and_right}
 use Rattle.chrono_datetime.specs.Days.{IsDate, day_of, month_of, ordinal_of, year_of}
 use Rattle.chrono_datetime.specs.MonthMoves.{month_length_of}
 use Rattle.chrono_datetime.specs.Recurrence.{count_between, first_date, past_last_date}
@@ -13,8 +14,8 @@ use Rattle.chrono_datetime.specs.Weeks.{week_first_of, weekday_of}
 use Rattle.chrono_datetime.specs.declared.Weekday.{Weekday}
 use Rattle.chrono_datetime.proofs.CountBetween.{count_between-empty, count_between-first, count_between-sum}
 use Rattle.chrono_datetime.proofs.CountWhere.{one_if}
-use Rattle.chrono_datetime.proofs.Cycles.{calendar_name-again, ordinal_name-again}
-use Rattle.chrono_datetime.proofs.MonthDays.{day_of-bounds, later_in_month, month-next}
+use Rattle.chrono_datetime.proofs.Cycles.{calendar_name-again, ordinal_name-again, year_length-again}
+use Rattle.chrono_datetime.proofs.MonthDays.{day_of-bounds}
 use Rattle.chrono_datetime.proofs.Signed.{signed}
 use Rattle.chrono_datetime.proofs.WeekDays.{week_first_of-place, weekday_of-weeks}
 use Rattle.chrono_rules.specs.ByParts.{counts_in_month, date_passes, fills_day, fills_month, fills_weekday, in_week, names_weekday, on_month_day, on_weekday, on_year_day, passes}
@@ -28,8 +29,6 @@ use Rattle.chrono_rules.specs.declared.rule.End.TheVariants.{Count, Never, Until
 use Rattle.chrono_rules.specs.declared.rule.Frequency.{Frequency}
 use Rattle.chrono_rules.specs.declared.rule.Frequency.TheVariants.{Daily, Monthly, Weekly, Yearly}
 use Rattle.chrono_rules.specs.declared.rule.Rule.{Rule}
-use Rattle.chrono_rules.proofs.Cycles.{year_length-again}
-use Rattle.chrono_rules.proofs.Passed.{and-none}
 use Rattle.chrono_rules.proofs.PeriodsLeftOut.{many}
 use Rattle.chrono_rules.proofs.PlacesInPeriods.{date_passes-is, from_period, to_period}
 use Rattle.chrono_rules.proofs.YearsOfDates.{ordinal_of-bounds}
@@ -274,7 +273,7 @@ member-again r start n m e from low high until =
 -- a day that UNTIL does not let be is no member
 pub until_none : (r : Rule) (start d : ℤ) → not_after r.end d ≡ false → is_member r start d ≡ false
 unfolding is_member
-until_none r start d past = and-none (int_le start d) _ (rw past refl)
+until_none r start d past = and_right (int_le start d) _ (rw past refl)
 
 -- where a day is none, so is the one that lies a cycle later
 none-again : (r : Rule) (start n m : ℤ) (b : Bool) → not_after r.end m ≡ b → m ≡ n +ℤ pos (cycle_of r) → start ≤ℤ n → (first_date +ℤ pos 366) ≤ℤ n → (m +ℤ pos 366) ≤ℤ past_last_date → is_member r start n ≡ false → is_member r start m ≡ false

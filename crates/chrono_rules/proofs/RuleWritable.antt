@@ -1,10 +1,10 @@
 -- Rules that are read are rules that a text can write.
-use Rattle.std.proofs.Common.{◌≡◌, ℕ, suc, ◌+◌, ◌-◌, ◌*◌, ◌^◌, ◌<◌, ◌≤◌, ◌==◌, nat_le, Bool, true, false, ◌&&◌, if◌then◌else◌, List, [], ◌∷◌, length, drop, take, Some, None, ℤ, ◌≤ℤ◌, refl, ap, subst, arith}
+use Rattle.std.proofs.Common.{◌≡◌, ℕ, ◌^◌, ◌<◌, ◌≤◌, ◌==◌, nat_le, Bool, true, false, if◌then◌else◌, List, [], ◌∷◌, length, drop, take, Some, None, ℤ, ◌≤ℤ◌, refl, subst, arith}
 use Rattle.std.specs.Prelude.{pos}
 use Rattle.std.specs.Option.{option_and_then, option_map}
 use Rattle.std.proofs.Math.Nat.{pow-le-pow_right}
-use Rattle.std.proofs.lemmas.Bool.{and_parts, eqb-false, leb-true}
-use Rattle.std.proofs.lemmas.Option.{none-some, option_and_then_some, same_Some}
+use Rattle.std.proofs.lemmas.Bool.{eqb-false, leb-true}
+use Rattle.std.proofs.lemmas.Option.{cond_some, none-some, option_and_then_some, same_Some}
 use Rattle.chrono_datetime.specs.Days.{date_of_ymd, year_of}
 use Rattle.chrono_datetime.proofs.NamedDates.{date_of_ymd-name}
 use Rattle.chrono_datetime.proofs.Signed.{signed}
@@ -18,13 +18,13 @@ use Rattle.chrono_text.proofs.NaturalLemmas.{natural_small}
 use Rattle.chrono_rules.specs.NumberLists.{ends_of, month_list_of, no_ends, no_year_ends, weekdays_of, year_ends_of}
 use Rattle.chrono_rules.specs.RuleTexts.{IsRuleText, above_0, date_of, end_of, interval_of}
 use Rattle.chrono_rules.specs.WritableRules.{IsWritableRule, IsWritableEnd, is_from_one_to}
-use Rattle.chrono_rules.proofs.ListsWithin.{AreDays, AreEnds, AreYearEnds, ends_within, guarded, if_some, mapped, months_within, none_days, said_has, weekdays_within, year_ends_within}
+use Rattle.chrono_rules.proofs.ListsWithin.{AreDays, AreEnds, AreYearEnds, ends_within, guarded, mapped, months_within, none_days, said_has, weekdays_within, year_ends_within}
 
 -- ---- INTERVAL, COUNT and UNTIL
 
 up_to-small : (x n : ℕ) → up_to 4_294_967_295 x ≡ Some n → n < 2 ^ 32
 up_to-small x n is =
-    let found = if_some (nat_le x 4_294_967_295) x n is in
+    let found = cond_some (nat_le x 4_294_967_295) x n is in
     let most = leb-true x 4_294_967_295 found.0 in
     omega (arith, most, found.1)
 

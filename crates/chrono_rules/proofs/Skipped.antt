@@ -1,7 +1,7 @@
 -- What the parts of a rule pass over.
 use Rattle.std.proofs.Common.{◌≡◌, ◌==◌, ℕ, ◌+◌, ◌-◌, ◌%◌, ◌/◌, ◌<◌, ◌≤◌, Bool, slice_index_or, true, false, cond, sym, neg_ℤ, to_z, of_z, w32, ◌&&◌, ◌||◌, not, inl, inr, refl, ap, ◌∙◌, arith, ℤ, pos, ◌+ℤ◌, ◌-ℤ◌, ◌≤ℤ◌, ◌<ℤ◌}
 use Rattle.std.proofs.lemmas.Int.{to_z-of_z}
-use Rattle.std.proofs.lemmas.Bool.{cases_lt, ne_eqb}
+use Rattle.std.proofs.lemmas.Bool.{and_right, cases_lt, ne_eqb}
 use Rattle.std.specs.Int.{IsInRange}
 use Rattle.chrono_datetime.specs.Days.{IsDate, day_of, days_before_year, month_of, ordinal_of, year_of}
 use Rattle.chrono_datetime.specs.MonthMoves.{month_index, month_index_of, month_length_of}
@@ -18,7 +18,7 @@ use Rattle.chrono_sets.proofs.Members.{has-none}
 use Rattle.chrono_rules.specs.Instances.{is_member}
 use Rattle.chrono_rules.specs.RuleParts.{lacks_month_days, lacks_months, lacks_weekdays, lacks_weeks, lacks_year_days, lists_nth}
 use Rattle.chrono_rules.specs.declared.rule.Rule.{Rule}
-use Rattle.chrono_rules.proofs.Passed.{and-none, no_pass}
+use Rattle.chrono_rules.proofs.Passed.{no_pass}
 use Rattle.chrono_rules.proofs.YearsOfDates.{in_year_date, ordinal_of-bounds, same_year}
 use Rattle.chrono_rules.proofs.Months.{in_month, same_length}
 use Rattle.std.proofs.Math.Bool.{and-false}
@@ -27,38 +27,38 @@ use Rattle.std.proofs.Math.Bool.{and-false}
 
 pub other_month : (r : Rule) (start d : ℤ) → lacks_months r ≡ false → has r.months (month_of d) ≡ false → is_member r start d ≡ false
 unfolding passes
-other_month r start d named none = no_pass r start d (and-none (filled r start d) _ (rw (named, none) refl))
+other_month r start d named none = no_pass r start d (and_right (filled r start d) _ (rw (named, none) refl))
 
 pub not_start_month : (r : Rule) (start d : ℤ) → fills_month r.frequency r ≡ true → (month_of d == month_of start) ≡ false → is_member r start d ≡ false
 unfolding passes
 not_start_month r start d fills other =
     let month : (not (fills_month r.frequency r) || (month_of d == month_of start)) ≡ false = rw (fills, other) refl in
-    let rest = and-none (not (fills_day r.frequency r) || (day_of d == day_of start)) (not (fills_month r.frequency r) || (month_of d == month_of start)) month in
-    let out : filled r start d ≡ false = and-none (not (fills_weekday r.frequency r) || (days_from_monday (weekday_of d) == days_from_monday (weekday_of start))) _ rest in
+    let rest = and_right (not (fills_day r.frequency r) || (day_of d == day_of start)) (not (fills_month r.frequency r) || (month_of d == month_of start)) month in
+    let out : filled r start d ≡ false = and_right (not (fills_weekday r.frequency r) || (days_from_monday (weekday_of d) == days_from_monday (weekday_of start))) _ rest in
     no_pass r start d (rw out refl)
 
 pub not_month_day : (r : Rule) (start d : ℤ) → lacks_month_days r ≡ false → on_month_day r d ≡ false → is_member r start d ≡ false
 unfolding passes
 not_month_day r start d named none =
-    no_pass r start d (and-none (filled r start d) _ (and-none (lacks_months r || has r.months (month_of d)) _ (rw (named, none) refl)))
+    no_pass r start d (and_right (filled r start d) _ (and_right (lacks_months r || has r.months (month_of d)) _ (rw (named, none) refl)))
 
 pub not_start_day : (r : Rule) (start d : ℤ) → fills_day r.frequency r ≡ true → (day_of d == day_of start) ≡ false → is_member r start d ≡ false
 unfolding passes
 not_start_day r start d fills other =
     let day : (not (fills_day r.frequency r) || (day_of d == day_of start)) ≡ false = rw (fills, other) refl in
     let rest : ((not (fills_day r.frequency r) || (day_of d == day_of start)) && (not (fills_month r.frequency r) || (month_of d == month_of start))) ≡ false = rw day refl in
-    let out : filled r start d ≡ false = and-none (not (fills_weekday r.frequency r) || (days_from_monday (weekday_of d) == days_from_monday (weekday_of start))) _ rest in
+    let out : filled r start d ≡ false = and_right (not (fills_weekday r.frequency r) || (days_from_monday (weekday_of d) == days_from_monday (weekday_of start))) _ rest in
     no_pass r start d (rw out refl)
 
 pub not_weekday : (r : Rule) (start d : ℤ) → lacks_weekdays r ≡ false → on_weekday r d ≡ false → is_member r start d ≡ false
 unfolding passes
 not_weekday r start d named none =
-    no_pass r start d (and-none (filled r start d) _ (and-none (lacks_months r || has r.months (month_of d)) _ (and-none (lacks_month_days r || on_month_day r d) _ (rw (named, none) refl))))
+    no_pass r start d (and_right (filled r start d) _ (and_right (lacks_months r || has r.months (month_of d)) _ (and_right (lacks_month_days r || on_month_day r d) _ (rw (named, none) refl))))
 
 pub not_year_day : (r : Rule) (start d : ℤ) → lacks_year_days r ≡ false → on_year_day r d ≡ false → is_member r start d ≡ false
 unfolding passes
 not_year_day r start d named none =
-    no_pass r start d (and-none (filled r start d) _ (and-none (lacks_months r || has r.months (month_of d)) _ (and-none (lacks_month_days r || on_month_day r d) _ (and-none (lacks_weekdays r || on_weekday r d) _ (rw (named, none) refl)))))
+    no_pass r start d (and_right (filled r start d) _ (and_right (lacks_months r || has r.months (month_of d)) _ (and_right (lacks_month_days r || on_month_day r d) _ (and_right (lacks_weekdays r || on_weekday r d) _ (rw (named, none) refl)))))
 
 -- a day of a week that BYWEEKNO does not name
 pub week-same : (r : Rule) (n d : ℤ) → week_first_of d r.week_start ≡ week_first_of n r.week_start → in_week r d ≡ in_week r n
@@ -69,7 +69,7 @@ week-same r n d same =
 pub not_week : (r : Rule) (start d : ℤ) → lacks_weeks r ≡ false → in_week r d ≡ false → is_member r start d ≡ false
 unfolding passes
 not_week r start d named none =
-    no_pass r start d (and-none (filled r start d) _ (and-none (lacks_months r || has r.months (month_of d)) _ (and-none (lacks_month_days r || on_month_day r d) _ (and-none (lacks_weekdays r || on_weekday r d) _ (and-none (lacks_year_days r || on_year_day r d) _ (rw (named, none) refl))))))
+    no_pass r start d (and_right (filled r start d) _ (and_right (lacks_months r || has r.months (month_of d)) _ (and_right (lacks_month_days r || on_month_day r d) _ (and_right (lacks_weekdays r || on_weekday r d) _ (and_right (lacks_year_days r || on_year_day r d) _ (rw (named, none) refl))))))
 
 pub not_start_weekday : (r : Rule) (start d : ℤ) → fills_weekday r.frequency r ≡ true → (days_from_monday (weekday_of d) == days_from_monday (weekday_of start)) ≡ false → is_member r start d ≡ false
 unfolding passes
@@ -154,20 +154,17 @@ off_short_month r d front back =
 
 -- ---- tests that differ
 
-pub test_not : (a b : ℕ) → (a ≡ b → ⊥) → (a == b) ≡ false
-test_not a b differ = ne_eqb a b differ
-
 pub other_place : (n d : ℤ) (k place : ℕ) → n ≤ℤ d → d <ℤ (n +ℤ pos k) → k ≤ month_length_of n - day_of n + 1 → (day_of n ≤ place → day_of n + k ≤ place) → (day_of d == place) ≡ false
 other_place n d k place low high few ahead =
     let at = in_month n d k low high few in
-    test_not (day_of d) place (λ e. let over = ahead (omega (arith, e, at.1)) in omega (arith, e, at.0, at.1, over))
+    ne_eqb (day_of d) place (λ e. let over = ahead (omega (arith, e, at.1)) in omega (arith, e, at.0, at.1, over))
 
 pub other_weekday : (n d start : ℤ) (k : ℕ) → n ≤ℤ d → d <ℤ (n +ℤ pos k) → k ≡ days_since (weekday_of start) (weekday_of n) → (days_from_monday (weekday_of d) == days_from_monday (weekday_of start)) ≡ false
 other_weekday n d start k low high is =
-    test_not _ _ (λ e. omega (arith, signed, low, high, is, e, days_from_monday-of n, days_from_monday-of d, days_from_monday-of start))
+    ne_eqb _ _ (λ e. omega (arith, signed, low, high, is, e, days_from_monday-of n, days_from_monday-of d, days_from_monday-of start))
 
 pub other_month_on : (m month sm j : ℕ) → IsInRange 1 12 month → IsInRange 1 12 sm → j < (sm + 12 - month) % 12 → m ≡ 1 + (month - 1 + j) % 12 → (m == sm) ≡ false
-other_month_on m month sm j here there lt at = test_not m sm (λ e. omega (arith, e, here, there, lt, at))
+other_month_on m month sm j here there lt at = ne_eqb m sm (λ e. omega (arith, e, here, there, lt, at))
 
 pub month_left_out : (set : Numbers) (m month j : ℕ) → IsInRange 1 12 month → j < 12 → m ≡ 1 + (month - 1 + j) % 12 → (month + j < 13 → has set (month + j) ≡ false) → (13 ≤ month + j → has set (1 + (month + j - 13)) ≡ false) → has set m ≡ false
 month_left_out set m month j here lt at ahead around = elim (cases_lt (month + j) 13) [

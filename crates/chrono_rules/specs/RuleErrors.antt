@@ -1,12 +1,12 @@
 -- What is told of a text that no rule has, and why a rule's parts do not go together.
-use Rattle.std.specs.Prelude.{◌≡◌, ◌↔◌, ◌==◌, ◌≤◌, ℕ, ◌+◌, ◌-◌, nat_le, nat_lt, Bool, true, false, not, ◌&&◌, ◌||◌, List, [], ◌∷◌, ◌++◌, length, take, drop, slice_index, if◌then◌else◌, Option, Some, None, Result, Ok, Err, IfOk, IfErr, IsErr, codes, refl, map}
+use Rattle.std.specs.Prelude.{◌≡◌, ◌↔◌, ◌==◌, ◌≤◌, ℕ, ◌+◌, ◌-◌, nat_lt, Bool, true, false, not, ◌&&◌, ◌||◌, List, [], ◌∷◌, ◌++◌, length, take, drop, slice_index, if◌then◌else◌, Option, Some, None, Result, Ok, Err, IfOk, IfErr, IsErr, codes, refl, map}
 use Rattle.std.specs.List.{list_all, list_any}
 use Rattle.std.specs.Option.{is_some}
-use Rattle.std.specs.Str.{all_ascii_digits, byte}
+use Rattle.std.specs.Str.{byte}
 use Rattle.chrono_datetime.specs.Names.{weekday_of_letters}
 use Rattle.chrono_datetime.specs.declared.Weekday.TheVariants.{Mon}
 use Rattle.chrono_sets.specs.Numbers.{no_numbers, numbers}
-use Rattle.chrono_text.specs.Numbers.{count_of, digits_of, natural_of}
+use Rattle.chrono_text.specs.Numbers.{are_digits, count_of, digits_of, natural_of}
 use Rattle.chrono_text.specs.Lists.{pieces}
 use Rattle.chrono_rules.specs.ByParts.{has_numbers}
 use Rattle.chrono_rules.specs.NumberLists.{ends_of, listed_number, listed_weekday, month_list_of, no_ends, no_year_ends, signed_number_of, weekdays_of, with_month_text, with_nth_of, with_signed_text, with_weekday, with_weekday_text, with_year_text, year_ends_of}
@@ -52,10 +52,6 @@ is_read text ByYearDay = is_some (said year_ends_of (Some no_year_ends) (values_
 is_read text ByWeekNo = is_some (said (ends_of 2 53) (Some no_ends) (values_in text (codes "BYWEEKNO=")))
 is_read text BySetPos = is_some (said year_ends_of (Some no_year_ends) (values_in text (codes "BYSETPOS=")))
 is_read text Wkst = is_some (said weekday_of_text (Some Mon) (values_in text (codes "WKST=")))
-
--- one digit or more
-abbrev pub are_digits : List ℕ → Bool
-are_digits text = nat_le 1 (length text) && all_ascii_digits text
 
 -- a space or a tab stands in the text
 abbrev pub has_blank : List ℕ → Bool

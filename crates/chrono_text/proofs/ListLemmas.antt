@@ -1,15 +1,14 @@
 -- Texts in pieces between separators.
-use Rattle.std.proofs.Common.{◌≡◌, ◌==◌, ℕ, suc, ◌+◌, ◌-◌, ◌<◌, ◌≤◌, Bool, true, false, cond, not, List, [], ◌∷◌, ◌++◌, length, take, drop, Some, None, Option, refl, sym, ap, ◌∙◌, arith, length-drop}
+use Rattle.std.proofs.Common.{◌≡◌, ◌==◌, ℕ, suc, ◌+◌, ◌-◌, ◌<◌, Bool, true, false, cond, not, List, [], ◌∷◌, ◌++◌, length, take, drop, refl, sym, ap, ◌∙◌, arith, length-drop}
 use Rattle.std.specs.List.{before_first, join_with_byte, list_all, onto_first, position_or_len}
-use Rattle.std.specs.Option.{option_and_then}
 use Rattle.std.proofs.Math.ListN.{drop_of_length-le}
 use Rattle.std.proofs.lemmas.Bool.{and_parts, eq-eqb, not-true}
 use Rattle.std.proofs.lemmas.List.{take_all}
 use Rattle.std.proofs.lemmas.List.Splits.{slice_split_first, slice_split-cons_no, slice_split-cons_yes}
-use Rattle.chrono_text.specs.Lists.{pieces, pieces_behind, through}
+use Rattle.chrono_text.specs.Lists.{pieces, pieces_behind}
 
 -- what stands behind a place, as a slice has it
-pub back_is : (text : List ℕ) (n : ℕ) → take (length text - n) (drop n text) ≡ drop n text
+back_is : (text : List ℕ) (n : ℕ) → take (length text - n) (drop n text) ≡ drop n text
 back_is text n = take_all (length text - n) (drop n text) (omega (arith, length-drop n text))
 
 -- the bytes before the first separator are the first piece
@@ -40,33 +39,6 @@ two_pieces separator text n at inside =
     slice_split_first (λ x. x == separator) text 0 (omega (arith, at, inside))
     ∙ ap (λ k. take k text ∷ pieces separator (drop (k + 1) text)) at
     ∙ ap (λ t. take n text ∷ pieces separator t) (sym (back_is text (n + 1)))
-
--- behind a separator the next piece begins
-behind_one : (separator : ℕ) (text : List ℕ) → 1 ≤ length text → pieces_behind separator text ≡ pieces separator (drop 1 text)
-behind_one separator [] some = absurd (omega arith)
-behind_one separator (b ∷ bs) some = refl
-
-behind_none : (separator : ℕ) (text : List ℕ) → length text < 1 → pieces_behind separator text ≡ []
-behind_none separator [] none = refl
-behind_none separator (b ∷ bs) none = absurd (omega arith)
-
--- a step through the first piece: with others behind it, as the last, and if it makes nothing of it
-pub through_on : {S : Type 0} (step : S → List ℕ → Option S) (s t : S) (r : Option S) (separator : ℕ) (text first behind : List ℕ) → pieces separator text ≡ first ∷ pieces_behind separator behind
-    → r ≡ step s first → r ≡ Some t → 1 ≤ length behind → through step s (pieces separator text) ≡ through step t (pieces separator (take (length behind - 1) (drop 1 behind)))
-through_on step s t r separator text first behind is made some more =
-    ap (through step s) is ∙ ap (option_and_then (λ u. through step u (pieces_behind separator behind))) (sym made ∙ some)
-    ∙ ap (through step t) (behind_one separator behind more ∙ ap (pieces separator) (sym (back_is behind 1)))
-
-pub through_last : {S : Type 0} (step : S → List ℕ → Option S) (s t : S) (r : Option S) (separator : ℕ) (text first behind : List ℕ) → pieces separator text ≡ first ∷ pieces_behind separator behind
-    → r ≡ step s first → r ≡ Some t → length behind < 1 → through step s (pieces separator text) ≡ Some t
-through_last step s t r separator text first behind is made some none =
-    ap (through step s) is ∙ ap (option_and_then (λ u. through step u (pieces_behind separator behind))) (sym made ∙ some)
-    ∙ ap (through step t) (behind_none separator behind none)
-
-pub through_none : {S : Type 0} (step : S → List ℕ → Option S) (s : S) (r : Option S) (separator : ℕ) (text first behind : List ℕ) → pieces separator text ≡ first ∷ pieces_behind separator behind
-    → r ≡ step s first → r ≡ None → through step s (pieces separator text) ≡ None
-through_none step s r separator text first behind is made none =
-    ap (through step s) is ∙ ap (option_and_then (λ u. through step u (pieces_behind separator behind))) (sym made ∙ none)
 
 -- ---- texts that are joined by a separator are cut there
 

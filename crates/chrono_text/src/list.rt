@@ -60,7 +60,6 @@ pub fn split_at_byte(text: &[u8], byte: u8) -> Option<(&[u8], &[u8])>
 pub fn first_piece(text: &[u8], separator: u8) -> (&[u8], &[u8])
     ensures pieces { pieces separator text.now ≡ result.0.now ∷ pieces_behind separator result.1.now }
     ensures whole { length result.0.now + length result.1.now ≡ length text.now }
-    ensures within { length result.1.now ≤ length text.now }
     ensures front { result.0.now ≡ before_first (λ x. x == separator) text.now }
 {
     text.split_at(byte_place(text, separator))

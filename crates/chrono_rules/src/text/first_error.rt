@@ -1,17 +1,15 @@
 //! Which part of a text cannot be read, where, and why.
 ghost use Rattle.std.specs.Prelude.{◌≡◌, ◌≤◌, Some, None, codes, length, if◌then◌else◌};
 ghost use Rattle.std.specs.Option.{is_some};
-ghost use Rattle.std.specs.Str.{all_ascii_digits, byte};
+ghost use Rattle.std.specs.Str.{byte};
 ghost use Rattle.chrono_rules.specs.RuleParts.{no_weekdays};
 ghost use Rattle.chrono_text.specs.Numbers.{count_of};
 ghost use Rattle.chrono_text.specs.Lists.{pieces};
-ghost use Rattle.chrono_rules.specs.RuleErrors.{are_digits, blank_or, date_fault, digits_fault, first_place, has_blank, has_time, is_range, is_read, item_fault, list_fault, name_fault, number_fault, part_error, part_fault, placed_in, reads_item, rule_error_at, signed_fault, unfit_part, unnamed_error, unnamed_fault, unread_error, until_fault, value_fault, values_fault, weekday_fault, word_fault};
+ghost use Rattle.chrono_rules.specs.RuleErrors.{blank_or, date_fault, digits_fault, first_place, has_blank, has_time, is_range, is_read, item_fault, list_fault, name_fault, number_fault, part_error, part_fault, placed_in, reads_item, rule_error_at, signed_fault, unfit_part, unnamed_error, unnamed_fault, unread_error, until_fault, value_fault, values_fault, weekday_fault, word_fault};
 ghost use Rattle.chrono_rules.specs.RuleTexts.{parts, said, values_in};
 ghost use Rattle.chrono_rules.specs.declared.text.rule_error.RulePart.TheVariants.{Count, Until};
 
-use crate::text::named_parts::{
-    SEMICOLON, first_placed, is_named, is_part, placed_piece, value_of,
-};
+use crate::text::named_parts::{SEMICOLON, first_placed, is_named, is_part, value_of};
 use crate::text::number_list::{read_from_one, read_signed};
 use crate::text::part_readers::{
     end, frequency, interval, month_days, months, positions, week_start, weekdays, weeks, year_days,
@@ -20,7 +18,7 @@ use crate::text::rule_error::{RuleError, RuleFault, RulePart, key_of};
 use crate::text::weekday_list::with_text;
 use crate::weekday_places::WeekdayPlaces;
 use chrono_datetime::Weekday;
-use chrono_text::read_count;
+use chrono_text::{are_digits, first_piece, read_count};
 
 // The parts in their order, but the last.
 const PARTS_BUT_LAST: [RulePart; 10] = [
@@ -52,7 +50,7 @@ fn unnamed_fault(text: &[u8]) -> (usize, RuleFault)
     let mut place = 0;
     let mut rest = text;
     loop {
-        let (part, behind) = placed_piece(rest, SEMICOLON);
+        let (part, behind) = first_piece(rest, SEMICOLON);
         if !is_part(part) {
             return (place, name_fault(part));
         }
@@ -243,7 +241,7 @@ fn list_fault(part: RulePart, text: &[u8]) -> (usize, RuleFault)
     let mut place = 0;
     let mut rest = text;
     loop {
-        let (item, behind) = placed_piece(rest, b',');
+        let (item, behind) = first_piece(rest, b',');
         if !reads_item(part, item) {
             return (place, item_fault(part, item));
         }
@@ -402,25 +400,4 @@ fn digits_fault(text: &[u8]) -> RuleFault
     } else {
         RuleFault::NotANumber
     }
-}
-
-// Whether it is one digit or more.
-fn are_digits(text: &[u8]) -> bool
-    ensures { result ≡ are_digits text.now }
-{
-    !text.is_empty() && are_all_digits(text)
-}
-
-// Whether each byte is a digit.
-fn are_all_digits(text: &[u8]) -> bool
-    ensures { result ≡ all_ascii_digits text.now }
-{
-    let mut rest = text;
-    while let [first, others @ ..] = rest {
-        if !first.is_ascii_digit() {
-            return false;
-        }
-        rest = others;
-    }
-    true
 }

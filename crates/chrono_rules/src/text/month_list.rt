@@ -4,7 +4,7 @@ ghost use Rattle.chrono_rules.specs.NumberLists.{month_list_of, with_month_text}
 
 use crate::text::number_list::read_from_one;
 use chrono_sets::NumberSet;
-use chrono_text::first_piece;
+use chrono_text::{ItemReader, read_list};
 
 /// Returns the months that a BYMONTH list names, such as `6,7` (RFC 5545, 3.3.10).
 ///
@@ -16,28 +16,24 @@ use chrono_text::first_piece;
 /// (months.contains(6), months.contains(8)) // (true, false)
 /// read_months(b"13") // None
 /// ```
+#[tactic(auto, unfolding(crate::specs::NumberLists::month_list_of))]
 pub fn read_months(text: &[u8]) -> Option<NumberSet>
     ensures { result ≡ month_list_of text.now }
 {
-    let mut months = NumberSet::none();
-    let mut rest = text;
-    loop {
-        let (first, behind) = first_piece(rest, b',');
-        months = with_text(months, first)?;
-        match behind {
-            [_, next @ ..] => rest = next,
-            [] => return Some(months),
-        }
-    }
+    read_list(&MonthReader, NumberSet::none(), text, b',')
 }
 
-// The months and the one that the text writes.
-#[tactic(auto, unfolding(crate::specs::NumberLists::with_month_text))]
-fn with_text(months: NumberSet, text: &[u8]) -> Option<NumberSet>
-    ensures { result ≡ with_month_text months text.now }
-{
-    match read_from_one(text, 2, 12) {
-        Some(month) => Some(months.with(month)),
-        None => None,
+// Reads the months of a list.
+struct MonthReader;
+
+impl ItemReader<NumberSet> for MonthReader {
+    ghost step = { λ _. with_month_text };
+
+    #[tactic(auto, unfolding(crate::specs::NumberLists::with_month_text))]
+    fn with_item(&self, list: NumberSet, item: &[u8]) -> Option<NumberSet> {
+        match read_from_one(item, 2, 12) {
+            Some(month) => Some(list.with(month)),
+            None => None,
+        }
     }
 }

@@ -6,7 +6,7 @@ ghost use Rattle.chrono_text.specs.Lists.{pieces, pieces_behind};
 ghost use Rattle.chrono_rules.specs.RuleErrors.{placed_values};
 ghost use Rattle.chrono_rules.specs.RuleTexts.{is_list_part, is_named, is_part, parts, values};
 
-use chrono_text::{byte_place, first_piece, same_but_for_case};
+use chrono_text::{first_piece, same_but_for_case};
 
 pub(crate) const SEMICOLON: u8 = b';';
 
@@ -67,7 +67,7 @@ pub(crate) fn first_placed<'a>(text: &'a [u8], name: &[u8], at: usize) -> Option
     let mut place = at;
     let mut rest = text;
     loop {
-        let (part, behind) = placed_piece(rest, SEMICOLON);
+        let (part, behind) = first_piece(rest, SEMICOLON);
         let end = place + part.len();
         if let Some(value) = behind_name(part, name) {
             return Some(PlacedValue {
@@ -85,14 +85,6 @@ pub(crate) fn first_placed<'a>(text: &'a [u8], name: &[u8], at: usize) -> Option
             [] => return None,
         }
     }
-}
-
-// The text up to the first separator, and the rest, in front of which it stands. Together they are as long as the text.
-pub(crate) fn placed_piece(text: &[u8], separator: u8) -> (&[u8], &[u8])
-    ensures pieces { pieces separator text.now ≡ result.0.now ∷ pieces_behind separator result.1.now }
-    ensures whole { length result.0.now + length result.1.now ≡ length text.now }
-{
-    text.split_at(byte_place(text, separator))
 }
 
 // What stands behind the name, if the part begins with it, in letters of either case.

@@ -4,7 +4,7 @@ ghost use Rattle.std.specs.Option.{option_map};
 ghost use Rattle.chrono_rules.specs.NumberLists.{ends_of, listed_number, no_ends, signed_number, signed_number_of, with_signed, with_signed_text};
 
 use chrono_sets::NumberSet;
-use chrono_text::{first_piece, read_digits};
+use chrono_text::{ItemReader, read_digits, read_list};
 
 // A number, counted from the front or from the end.
 #[derive(Clone, Copy, PartialEq, Eq, Debug)]
@@ -110,10 +110,22 @@ fn signed(number: Option<u32>, from_end: bool) -> Option<SignedNumber>
 /// (days.front.contains(1), days.back.contains(2)) // (true, true)
 /// read_month_days(b"32") // None
 /// ```
+#[tactic(auto, unfolding(crate::specs::NumberLists::ends_of))]
 pub fn read_month_days(text: &[u8]) -> Option<BothEnds>
     ensures { result ≡ ends_of 2 31 text.now }
 {
-    read_both_ends(text, 2, 31)
+    read_list(&MonthDayReader, BothEnds::none(), text, b',')
+}
+
+// Reads the days of the month of a list.
+struct MonthDayReader;
+
+impl ItemReader<BothEnds> for MonthDayReader {
+    ghost step = { λ _. with_signed_text 2 31 };
+
+    fn with_item(&self, list: BothEnds, item: &[u8]) -> Option<BothEnds> {
+        with_text(list, item, 2, 31)
+    }
 }
 
 /// Returns the weeks of the year that a BYWEEKNO list names, such as `20,-1` (RFC 5545, 3.3.10).
@@ -126,32 +138,25 @@ pub fn read_month_days(text: &[u8]) -> Option<BothEnds>
 /// (weeks.front.contains(20), weeks.back.contains(1)) // (true, true)
 /// read_weeks(b"54") // None
 /// ```
+#[tactic(auto, unfolding(crate::specs::NumberLists::ends_of))]
 pub fn read_weeks(text: &[u8]) -> Option<BothEnds>
     ensures { result ≡ ends_of 2 53 text.now }
 {
-    read_both_ends(text, 2, 53)
+    read_list(&WeekReader, BothEnds::none(), text, b',')
 }
 
-// The numbers from 1 to `most` that the text lists between commas, each with a sign or none.
-// Each has at most `digits` digits.
-fn read_both_ends(text: &[u8], digits: usize, most: u32) -> Option<BothEnds>
-    requires few { digits ≤ 9 }
-    requires small { most < 64 }
-    ensures { result ≡ ends_of digits most text.now }
-{
-    let mut ends = BothEnds::none();
-    let mut rest = text;
-    loop {
-        let (first, behind) = first_piece(rest, b',');
-        ends = with_text(ends, first, digits, most)?;
-        match behind {
-            [_, next @ ..] => rest = next,
-            [] => return Some(ends),
-        }
+// Reads the weeks of the year of a list.
+struct WeekReader;
+
+impl ItemReader<BothEnds> for WeekReader {
+    ghost step = { λ _. with_signed_text 2 53 };
+
+    fn with_item(&self, list: BothEnds, item: &[u8]) -> Option<BothEnds> {
+        with_text(list, item, 2, 53)
     }
 }
 
-// The numbers and the one that the text writes.
+// The numbers and the one from 1 to `most` that the text writes in at most `digits` digits, with a sign or none.
 #[tactic(auto, unfolding(crate::specs::NumberLists::with_signed_text))]
 fn with_text(ends: BothEnds, text: &[u8], digits: usize, most: u32) -> Option<BothEnds>
     requires few { digits ≤ 9 }

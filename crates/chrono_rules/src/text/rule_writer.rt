@@ -281,8 +281,7 @@ fn put_two<const N: usize>(text: &mut Text<N>, number: u32)
     ensures ascii { IsAscii (two_digits number) }
     ensures fits { length text.new ≤ length text.old + 2 }
 {
-    text.push(b'0' + (number / 10) as u8);
-    text.push(b'0' + (number % 10) as u8);
+    text.push_two(number);
 }
 
 // Puts WKST, if it is not Monday.

@@ -4,7 +4,7 @@ ghost use Rattle.chrono_rules.specs.NumberLists.{no_year_ends, with_signed_day, 
 
 use crate::text::number_list::{SignedNumber, read_signed};
 use chrono_sets::PlaceSet;
-use chrono_text::first_piece;
+use chrono_text::{ItemReader, read_list};
 
 /// Numbers from 1 to 366 that count from the front, and others that count from the end.
 #[derive(Clone, Copy, PartialEq, Eq, Debug)]
@@ -55,28 +55,24 @@ impl YearEnds {
 /// (days.front.contains(1), days.back.contains(306)) // (true, true)
 /// read_year_days(b"367") // None
 /// ```
+#[tactic(auto, unfolding(crate::specs::NumberLists::year_ends_of))]
 pub fn read_year_days(text: &[u8]) -> Option<YearEnds>
     ensures { result ≡ year_ends_of text.now }
 {
-    let mut ends = YearEnds::none();
-    let mut rest = text;
-    loop {
-        let (first, behind) = first_piece(rest, b',');
-        ends = with_text(ends, first)?;
-        match behind {
-            [_, next @ ..] => rest = next,
-            [] => return Some(ends),
-        }
-    }
+    read_list(&YearDayReader, YearEnds::none(), text, b',')
 }
 
-// The numbers and the one that the text writes.
-#[tactic(auto, unfolding(crate::specs::NumberLists::with_year_text))]
-fn with_text(ends: YearEnds, text: &[u8]) -> Option<YearEnds>
-    ensures { result ≡ with_year_text ends text.now }
-{
-    match read_signed(text, 3, 366) {
-        Some(number) => Some(ends.with(number)),
-        None => None,
+// Reads the days of the year of a list, or its positions.
+struct YearDayReader;
+
+impl ItemReader<YearEnds> for YearDayReader {
+    ghost step = { λ _. with_year_text };
+
+    #[tactic(auto, unfolding(crate::specs::NumberLists::with_year_text))]
+    fn with_item(&self, list: YearEnds, item: &[u8]) -> Option<YearEnds> {
+        match read_signed(item, 3, 366) {
+            Some(number) => Some(list.with(number)),
+            None => None,
+        }
     }
 }

@@ -1,10 +1,11 @@
 use Rattle.std.proofs.Common.{sym, ◌∙◌}
-use Rattle.chrono_rules.proofs.Moments.{and-second, instance_at, least_later, none_later, none_on_day}
+use Rattle.std.proofs.lemmas.Bool.{and_parts}
+use Rattle.chrono_rules.proofs.Moments.{instance_at, least_later, none_later, none_on_day}
 use Rattle.chrono_rules.proofs.rule.Rule.next_date_time.Goals as goal
 
 pub returns-then-follows_on_day-clause-member : goal.returns-then-follows_on_day-clause-member
 returns-then-follows_on_day-clause-member c =
-    rw (c.new.ensures, c.time.ensures, c.date-date.ensures) (instance_at c.args.self.now c.args.start c.args.moment.date (and-second _ _ (sym c.follows_on_day.ensures ∙ c.if-follows_on_day.true)))
+    rw (c.new.ensures, c.time.ensures, c.date-date.ensures) (instance_at c.args.self.now c.args.start c.args.moment.date (and_parts _ _ (sym c.follows_on_day.ensures ∙ c.if-follows_on_day.true)).1)
 
 pub returns-then-follows_on_day-clause-least : goal.returns-then-follows_on_day-clause-least
 returns-then-follows_on_day-clause-least c = λ q is after before.

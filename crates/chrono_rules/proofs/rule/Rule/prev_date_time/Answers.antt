@@ -1,10 +1,11 @@
 use Rattle.std.proofs.Common.{sym, ◌∙◌}
-use Rattle.chrono_rules.proofs.Moments.{and-second, greatest_earlier, instance_at, none_before_on_day, none_earlier}
+use Rattle.std.proofs.lemmas.Bool.{and_parts}
+use Rattle.chrono_rules.proofs.Moments.{greatest_earlier, instance_at, none_before_on_day, none_earlier}
 use Rattle.chrono_rules.proofs.rule.Rule.prev_date_time.Goals as goal
 
 pub returns-then-precedes_on_day-clause-member : goal.returns-then-precedes_on_day-clause-member
 returns-then-precedes_on_day-clause-member c =
-    rw (c.new.ensures, c.time.ensures, c.date-date.ensures) (instance_at c.args.self.now c.args.start c.args.moment.date (and-second _ _ (sym c.precedes_on_day.ensures ∙ c.if-precedes_on_day.true)))
+    rw (c.new.ensures, c.time.ensures, c.date-date.ensures) (instance_at c.args.self.now c.args.start c.args.moment.date (and_parts _ _ (sym c.precedes_on_day.ensures ∙ c.if-precedes_on_day.true)).1)
 
 pub returns-then-precedes_on_day-clause-greatest : goal.returns-then-precedes_on_day-clause-greatest
 returns-then-precedes_on_day-clause-greatest c = λ q is after before.

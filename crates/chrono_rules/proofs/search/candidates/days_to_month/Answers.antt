@@ -6,9 +6,9 @@ use Rattle.chrono_datetime.specs.Days.{IsDate, year_of}
 use Rattle.chrono_datetime.specs.MonthMoves.{InSameMonth, month_index_of, year_of_month_index}
 use Rattle.chrono_datetime.specs.Years.{IsYear}
 use Rattle.chrono_datetime.proofs.MonthOrder.{month_of-range}
-use Rattle.chrono_datetime.proofs.MonthPlaces.{later_month}
+use Rattle.chrono_datetime.proofs.MonthPlaces.{later_month, month_before_first}
 use Rattle.chrono_datetime.proofs.Signed.{casts, signed}
-use Rattle.chrono_rules.proofs.Months.{before_month_first, first_later}
+use Rattle.chrono_rules.proofs.Months.{first_later}
 use Rattle.chrono_rules.proofs.search.candidates.days_to_month.Goals as goal
 
 -- a month outside the calendar is later than that of any date
@@ -22,7 +22,7 @@ none_later first day d months none same low high some more =
 pub returns-in-Some-clause-earlier : goal.returns-in-Some-clause-earlier
 returns-in-Some-clause-earlier c = λ d low high.
     let found = first_later c.args.day c.first_day_of_month.result c.in-Some.first c.args.months c.first_day_of_month.ensures.month c.first_day_of_month.ensures.day (omega (arith, casts, c.in-Some.ensures.month)) c.in-Some.ensures.day in
-    omega (arith, casts, found.0, before_month_first d c.in-Some.first (omega (arith, casts, high)) found.1)
+    omega (arith, casts, found.0, month_before_first d c.in-Some.first found.1 (omega (arith, casts, high)))
 
 pub returns-in-Some-clause-low : goal.returns-in-Some-clause-low
 returns-in-Some-clause-low c =
