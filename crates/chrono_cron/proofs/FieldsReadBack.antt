@@ -226,7 +226,8 @@ star_has set low count high k lie all ends =
 
 -- ---- a field that is written lists its set
 
-abbrev given : Option Bool → Bool
+-- an answer; false if there is none
+abbrev pub given : Option Bool → Bool
 given None = false
 given (Some b) = b
 

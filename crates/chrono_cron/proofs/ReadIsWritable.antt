@@ -19,6 +19,7 @@ use Rattle.chrono_cron.specs.FieldTexts.{before_byte, behind_byte, item_lists, i
 use Rattle.chrono_cron.specs.ScheduleTexts.{AreListed, AreNamed, AreNamedDays, IsScheduleText, an_item_is, before_letter, begins_with_star, days_list, from_end_of, is_last_workday_text, is_number, items_of, last_weekday_of, last_workday_of, names_by, names_by_place, names_by_weekday, nearest_workday_of, nth_weekday_of, spelled_weekday, weekdays_list}
 use Rattle.chrono_cron.specs.WritableSchedules.{IsWritable, LieBetween, Member}
 use Rattle.chrono_cron.proofs.DayFieldsReadBack.{number_is}
+use Rattle.chrono_cron.proofs.FieldsReadBack.{given}
 use Rattle.chrono_cron.proofs.FieldFaults.{some_items}
 use Rattle.chrono_cron.proofs.FieldTexts.{last_of, number_between-nothing, number_none, span_range}
 use Rattle.chrono_cron.proofs.ReadFields.{field_told, both_first, first_listed, item_first, item_of_items, items_bounds, number_bounds, one_of, spans}
@@ -182,15 +183,11 @@ listed_seven text set all is =
     let seven = same_Some found.1 true (sym found.3 ∙ is) in
     sym found.4 ∙ (ap (λ s. found.0 || s) seven ∙ or-true found.0)
 
-abbrev answered : Option Bool → Bool
-answered None = false
-answered (Some b) = b
-
-some_answered : (o : Option Bool) (b : Bool) → o ≡ Some b → o ≡ Some (answered o)
+some_answered : (o : Option Bool) (b : Bool) → o ≡ Some b → o ≡ Some (given o)
 some_answered None b e = absurd (none-some b e)
 some_answered (Some c) b e = refl
 
-in_week_read : (text : List ℕ) (set : FiniteSet) (k : ℕ) → AreListed set (weekdays_list text) → in_week text k ≡ Some (answered (in_week text k))
+in_week_read : (text : List ℕ) (set : FiniteSet) (k : ℕ) → AreListed set (weekdays_list text) → in_week text k ≡ Some (given (in_week text k))
 unfolding weekdays_list
 in_week_read text set k all =
     let found = week_read (in_week text k) (in_week text 7) k (has set k) (all k) in
@@ -199,7 +196,7 @@ in_week_read text set k all =
 weekday_listed : (text item : List ℕ) (items : List (List ℕ)) (set : FiniteSet) → items_of text ≡ item ∷ items → names_by Weekdays item ≡ false → AreListed set (weekdays_list text) → Member set
 weekday_listed text item items set at e all =
     let others = other_first Weekdays text item items at e in
-    let first = first_listed Weekdays 0 7 item (others_of Weekdays items) (λ k. answered (in_week text k)) (omega arith)
+    let first = first_listed Weekdays 0 7 item (others_of Weekdays items) (λ k. given (in_week text k)) (omega arith)
     (λ k. sym (ap (λ them. items_list Weekdays 0 7 them k) others) ∙ in_week_read text set k all) in
     let n = first.0 in
     let is = in_week_read text set n all ∙ ap Some first.2 in
@@ -326,8 +323,8 @@ weekday_star text set e all =
     let item = found.0 in
     let others = other_first Weekdays text (42 ∷ item) found.1 found.2 (names_by_weekday-star item) in
     let whole = sym (ap (λ them. items_list Weekdays 0 7 them 0) others) ∙ in_week_read text set 0 all in
-    let read = both_first Weekdays 0 7 0 (42 ∷ item) (others_of Weekdays found.1) (answered (in_week text 0)) whole in
-    let first = item_of_items Weekdays 0 7 0 (42 ∷ item) (others_of Weekdays found.1) (answered (in_week text 0)) whole (item_star Weekdays 0 7 0 item read.0 (omega arith) read.1) in
+    let read = both_first Weekdays 0 7 0 (42 ∷ item) (others_of Weekdays found.1) (given (in_week text 0)) whole in
+    let first = item_of_items Weekdays 0 7 0 (42 ∷ item) (others_of Weekdays found.1) (given (in_week text 0)) whole (item_star Weekdays 0 7 0 item read.0 (omega arith) read.1) in
     listed_weekday text set 0 all (omega arith) (in_week_read text set 0 all ∙ ap Some first)
 
 one_starred : (d w : Bool) (P : Type 0) → (not d && not w) ≡ false → (d ≡ true → P) → (w ≡ true → P) → P

@@ -1,5 +1,5 @@
 -- A schedule that is written is read back.
-use Rattle.std.proofs.Common.{◌≡◌, ℕ, ◌+◌, ◌==◌, Bool, true, false, not, ◌&&◌, ◌||◌, if◌then◌else◌, List, [], ◌∷◌, ◌++◌, Option, Some, None, inl, inr, refl, sym, ap, ap₂, ◌∙◌, arith, append_assoc}
+use Rattle.std.proofs.Common.{◌≡◌, ℕ, ◌+◌, ◌==◌, Bool, true, false, not, ◌&&◌, ◌||◌, if◌then◌else◌, List, [], ◌∷◌, ◌++◌, Option, Some, inl, inr, refl, sym, ap, ap₂, ◌∙◌, arith, append_assoc}
 use Rattle.std.specs.Prelude.{codes, map, nat_lt, slice_index}
 use Rattle.std.specs.List.{filter, list_all, list_any, slice_split}
 use Rattle.std.specs.Option.{option_and_then, option_map}
@@ -12,7 +12,7 @@ use Rattle.chrono_cron.specs.FieldTexts.{items_list}
 use Rattle.chrono_cron.specs.ScheduleTexts.{AreListed, AreNamedDays, IsScheduleText, an_item_is, begins_with_star, days_list, fields_of, from_end_of, is_blank, is_number, is_some_text, last_weekday_of, last_workday_of, names_by, nearest_workday_of, nth_weekday_of, spelled_out, weekdays_list, text_words}
 use Rattle.chrono_cron.specs.WritableSchedules.{IsWritable}
 use Rattle.chrono_cron.specs.WrittenTexts.{are_all, day_field_items, field_text, is_starred_by_day, is_starred_by_weekday, name_text, number_items, number_text, plain_text, range_text, ranges_from, schedule_text, weekday_field_items}
-use Rattle.chrono_cron.proofs.FieldsReadBack.{IsWord, all_has, field_is_word, field_items, hours_back, hours_word, is_item, lists_some, minutes_back, minutes_word, months_back, months_word, pass_all, ranges_pass, split_at, split_none}
+use Rattle.chrono_cron.proofs.FieldsReadBack.{IsWord, all_has, field_is_word, field_items, given, hours_back, hours_word, is_item, lists_some, minutes_back, minutes_word, months_back, months_word, pass_all, ranges_pass, split_at, split_none}
 use Rattle.chrono_cron.proofs.DayFieldsReadBack.{all_append, filter_all, names_tested, pass_from}
 use Rattle.chrono_cron.proofs.NamedDaysReadBack.{day_items_are, day_names, day_numbers, days_are_items, days_listed, ends, ends_named, last_named, last_workdays, nearest_named, other_days, workdays}
 use Rattle.chrono_cron.proofs.WeekdaysReadBack.{lasts, lasts_named, nths, nths_named, other_weekdays, weekday_items_are, weekday_numbers, weekdays_are_items, weekdays_listed}
@@ -148,10 +148,6 @@ some_days s told = elim told.a_day [
 abbrev week_given : ℕ → Option Bool → Option Bool → Option Bool
 week_given k seven here = option_and_then (λ h. option_map (λ t. nat_lt k 7 && (h || (k == 0 && t))) seven) here
 
-abbrev truth : Option Bool → Bool
-truth None = false
-truth (Some b) = b
-
 never : (a b : Bool) → (a && (false || (b && false))) ≡ false
 never true true = refl
 never true false = refl
@@ -162,8 +158,8 @@ some_weekdays s told = elim told.a_weekday [
   | inl (k, is) ↦
       filter_some (λ item. not (names_by Weekdays item)) (weekday_field_items s) (number_items (is_starred_by_weekday s) s.weekdays 7 0) (other_weekdays s)
       (λ none.
-      false≢true (sym (never (nat_lt k 7) (k == 0)) ∙ sym (ap (λ items. truth (week_given k (items_list Weekdays 0 7 items 7) (items_list Weekdays 0 7 items k))) none)
-      ∙ ap truth (weekdays_listed s (sunday_first s) told.weekdays k) ∙ is))
+      false≢true (sym (never (nat_lt k 7) (k == 0)) ∙ sym (ap (λ items. given (week_given k (items_list Weekdays 0 7 items 7) (items_list Weekdays 0 7 items k))) none)
+      ∙ ap given (weekdays_listed s (sunday_first s) told.weekdays k) ∙ is))
   | inr (inl (k, is)) ↦ any_some (λ item. is_number k (last_weekday_of item)) (weekday_field_items s) (lasts_named s told.last_weekdays k ∙ is)
   | inr (inr (k, is)) ↦ any_some (λ item. is_number k (nth_weekday_of item)) (weekday_field_items s) (nths_named s told.nth_weekdays k ∙ is)
 ]

@@ -1,5 +1,5 @@
 -- Every byte of a schedule's text is ASCII.
-use Rattle.std.proofs.Common.{◌≡◌, ℕ, zero, suc, ◌+◌, ◌/◌, ◌%◌, ◌<◌, ◌≤◌, ◌==◌, nat_lt, Bool, true, false, List, [], ◌∷◌, ◌++◌, if◌then◌else◌, refl, arith}
+use Rattle.std.proofs.Common.{ℕ, zero, suc, ◌+◌, ◌/◌, ◌%◌, ◌<◌, ◌≤◌, ◌==◌, nat_lt, Bool, List, [], ◌∷◌, ◌++◌, if◌then◌else◌, arith}
 use Rattle.std.specs.Prelude.{map, codes}
 use Rattle.std.specs.List.{join_with_byte}
 use Rattle.std.specs.Str.{IsAscii}
@@ -12,22 +12,19 @@ use Rattle.chrono_cron.specs.declared.text.schedule_writer.DayName.{DayName}
 use Rattle.chrono_cron.specs.declared.text.schedule_writer.DayName.TheVariants.{FromEnd, NearestWorkday, LastWeekday, NthWeekday}
 use Rattle.chrono_cron.specs.WrittenTexts.{are_all, day_field_items, field_text, is_starred_by_day, is_starred_by_weekday, name_text, names_from, number_items, number_text, plain_text, range_text, ranges_from, schedule_text, weekday_field_items}
 use Rattle.chrono_cron.proofs.WrittenFields.{AreRanges, ranges_are}
-use Rattle.chrono_text.proofs.AsciiTexts.{IsAscii-if, AreAscii, AreAscii-if, AreAscii-append}
-
-letter : (x : ℕ) → x < 128 → IsAscii (x ∷ [])
-letter x small = IsAscii-cons x [] small IsAscii-nil
+use Rattle.chrono_text.proofs.AsciiTexts.{IsAscii-if, IsAscii-one, AreAscii, AreAscii-if, AreAscii-append}
 
 number_ascii : (n : ℕ) → n < 100 → IsAscii (number_text n)
 number_ascii n small =
     IsAscii-if (nat_lt n 10) ((48 + n) ∷ []) ((48 + n / 10) ∷ (48 + n % 10) ∷ [])
-    (λ few. letter (48 + n) (omega (arith, ltb-true n 10 few)))
-    (λ _. IsAscii-cons (48 + n / 10) ((48 + n % 10) ∷ []) (omega (arith, small)) (letter (48 + n % 10) (omega arith)))
+    (λ few. IsAscii-one (48 + n) (omega (arith, ltb-true n 10 few)))
+    (λ _. IsAscii-cons (48 + n / 10) ((48 + n % 10) ∷ []) (omega (arith, small)) (IsAscii-one (48 + n % 10) (omega arith)))
 
 range_ascii : (range : ℕ × ℕ) → range.0 < 100 → range.1 < 100 → IsAscii (range_text range)
 range_ascii range first last =
     let begun = number_ascii range.0 first in
     IsAscii-if (range.0 == range.1) (number_text range.0) (number_text range.0 ++ codes "-" ++ number_text range.1) (λ _. begun)
-    (λ _. IsAscii-append (number_text range.0 ++ codes "-") (number_text range.1) (IsAscii-append (number_text range.0) (codes "-") begun (letter 45 (omega arith))) (number_ascii range.1 last))
+    (λ _. IsAscii-append (number_text range.0 ++ codes "-") (number_text range.1) (IsAscii-append (number_text range.0) (codes "-") begun (IsAscii-one 45 (omega arith))) (number_ascii range.1 last))
 
 ranges_ascii : (low : ℕ) (ranges : List (ℕ × ℕ)) → AreRanges low 60 ranges → AreAscii (map range_text ranges)
 ranges_ascii low [] are = tt
@@ -35,13 +32,13 @@ ranges_ascii low (range ∷ ranges) (from, order, to, others) = (range_ascii ran
 
 name_ascii : (naming : DayName) (n : ℕ) → n < 60 → IsAscii (name_text naming n)
 name_ascii FromEnd n small =
-    IsAscii-if (n == 0) (codes "L") (codes "L-" ++ number_text n) (λ _. letter 76 (omega arith))
-    (λ _. IsAscii-append (codes "L-") (number_text n) (IsAscii-cons 76 (45 ∷ []) (omega arith) (letter 45 (omega arith))) (number_ascii n (omega (arith, small))))
-name_ascii NearestWorkday n small = IsAscii-append (number_text n) (codes "W") (number_ascii n (omega (arith, small))) (letter 87 (omega arith))
-name_ascii LastWeekday n small = IsAscii-append (number_text n) (codes "L") (number_ascii n (omega (arith, small))) (letter 76 (omega arith))
+    IsAscii-if (n == 0) (codes "L") (codes "L-" ++ number_text n) (λ _. IsAscii-one 76 (omega arith))
+    (λ _. IsAscii-append (codes "L-") (number_text n) (IsAscii-cons 76 (45 ∷ []) (omega arith) (IsAscii-one 45 (omega arith))) (number_ascii n (omega (arith, small))))
+name_ascii NearestWorkday n small = IsAscii-append (number_text n) (codes "W") (number_ascii n (omega (arith, small))) (IsAscii-one 87 (omega arith))
+name_ascii LastWeekday n small = IsAscii-append (number_text n) (codes "L") (number_ascii n (omega (arith, small))) (IsAscii-one 76 (omega arith))
 name_ascii NthWeekday n small =
     IsAscii-append (number_text (n % 7) ++ codes "#") (number_text (n / 7 + 1))
-    (IsAscii-append (number_text (n % 7)) (codes "#") (number_ascii (n % 7) (omega arith)) (letter 35 (omega arith))) (number_ascii (n / 7 + 1) (omega (arith, small)))
+    (IsAscii-append (number_text (n % 7)) (codes "#") (number_ascii (n % 7) (omega arith)) (IsAscii-one 35 (omega arith))) (number_ascii (n / 7 + 1) (omega (arith, small)))
 
 names_ascii : (naming : DayName) (set : FiniteSet) (count n : ℕ) → n + count ≤ 60 → AreAscii (names_from naming set count n)
 unfolding names_from
@@ -54,10 +51,10 @@ numbers_ascii : (starred : Bool) (set : FiniteSet) (count low : ℕ) → low + c
 unfolding number_items
 numbers_ascii starred set count low le =
     let ranges = ranges_ascii low (ranges_from set count low) (ranges_are set count low 60 le) in
-    let step = IsAscii-append (codes "*/") (number_text count) (IsAscii-cons 42 (47 ∷ []) (omega arith) (letter 47 (omega arith))) (number_ascii count (omega (arith, le))) in
+    let step = IsAscii-append (codes "*/") (number_text count) (IsAscii-cons 42 (47 ∷ []) (omega arith) (IsAscii-one 47 (omega arith))) (number_ascii count (omega (arith, le))) in
     let stepped = (codes "*/" ++ number_text count) ∷ map range_text (ranges_from set count low) in
     AreAscii-if starred (if are_all set count low then codes "*" ∷ [] else stepped) (map range_text (ranges_from set count low))
-    (AreAscii-if (are_all set count low) (codes "*" ∷ []) stepped (letter 42 (omega arith), tt) (step, ranges)) ranges
+    (AreAscii-if (are_all set count low) (codes "*" ∷ []) stepped (IsAscii-one 42 (omega arith), tt) (step, ranges)) ranges
 
 field_ascii : (items : List (List ℕ)) → AreAscii items → IsAscii (field_text items)
 field_ascii [] h = IsAscii-nil
@@ -75,7 +72,7 @@ days_ascii s =
     let ends = names_from FromEnd s.month_days.from_end 31 0 in
     let last = if s.month_days.last_workday then codes "LW" ∷ [] else [] in
     let nearest = names_from NearestWorkday s.month_days.nearest_workdays 31 1 in
-    let named = AreAscii-if s.month_days.last_workday (codes "LW" ∷ []) [] (IsAscii-cons 76 (87 ∷ []) (omega arith) (letter 87 (omega arith)), tt) tt in
+    let named = AreAscii-if s.month_days.last_workday (codes "LW" ∷ []) [] (IsAscii-cons 76 (87 ∷ []) (omega arith) (IsAscii-one 87 (omega arith)), tt) tt in
     field_ascii (numbers ++ ends ++ last ++ nearest)
     (AreAscii-append (numbers ++ ends ++ last) nearest
     (AreAscii-append (numbers ++ ends) last (AreAscii-append numbers ends (numbers_ascii (is_starred_by_day s) s.days 31 1 (omega arith)) (names_ascii FromEnd s.month_days.from_end 31 0 (omega arith))) named)
@@ -93,7 +90,7 @@ weekdays_ascii s =
     (names_ascii NthWeekday s.month_days.nth_weekdays 35 0 (omega arith)))
 
 spaced : (front field : List ℕ) → IsAscii front → IsAscii field → IsAscii (front ++ codes " " ++ field)
-spaced front field h k = IsAscii-append (front ++ codes " ") field (IsAscii-append front (codes " ") h (letter 32 (omega arith))) k
+spaced front field h k = IsAscii-append (front ++ codes " ") field (IsAscii-append front (codes " ") h (IsAscii-one 32 (omega arith))) k
 
 pub schedule_ascii : (s : FieldSets) → IsAscii (schedule_text s)
 unfolding schedule_text

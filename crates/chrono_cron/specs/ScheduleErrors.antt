@@ -1,7 +1,6 @@
 -- What is told of a text that is no schedule's: the field, the place, and what is wrong there.
-use Rattle.std.specs.Prelude.{◌≡◌, ◌↔◌, ◌≤◌, ◌+◌, ◌==◌, ℕ, nat_le, List, [], ◌∷◌, length, map, take, drop, Bool, false, ◌&&◌, ◌||◌, if◌then◌else◌, Option, Some, None, Result, Ok, IfOk, IfErr, IsErr, codes, is_some, refl}
-use Rattle.std.specs.Char.{is_ascii_alphabetic, is_ascii_digit}
-use Rattle.std.specs.List.{list_all}
+use Rattle.std.specs.Prelude.{◌≡◌, ◌↔◌, ◌≤◌, ◌+◌, ◌==◌, ℕ, List, [], ◌∷◌, length, map, take, drop, Bool, false, ◌&&◌, ◌||◌, if◌then◌else◌, Option, Some, None, Result, Ok, IfOk, IfErr, IsErr, codes, is_some, refl}
+use Rattle.std.specs.Char.{is_ascii_alphabetic}
 use Rattle.std.specs.Option.{option_and_then}
 use Rattle.std.specs.Str.{byte, str_eq_ignore_ascii_case}
 use Rattle.chrono_text.specs.Lists.{stands_in}
@@ -9,7 +8,7 @@ use Rattle.chrono_datetime.specs.Names.{month_of_letters, weekday_of_letters}
 use Rattle.chrono_cron.specs.FieldTexts.{before_byte, behind_byte, field_lists, item_lists, number_between, number_of_name, range_of, item_span, spelled_number, step_of}
 use Rattle.chrono_cron.specs.PlacedWords.{first_word, placed_items, placed_words}
 use Rattle.chrono_cron.specs.ScheduleTexts.{IsScheduleText, before_letter, days_list, from_end_of, is_last_workday_text, last_weekday_of, names_by, names_by_place, names_by_weekday, nearest_workday_of, nth_weekday_of, spelled_weekday, weekdays_list, text_words}
-use Rattle.chrono_text.specs.Numbers.{digits_of, natural_of}
+use Rattle.chrono_text.specs.Numbers.{are_digits, digits_of, natural_of}
 use Rattle.chrono_cron.specs.declared.text.schedule_error.ScheduleError.{ScheduleError}
 use Rattle.chrono_cron.specs.declared.text.schedule_error.ScheduleFault.{ScheduleFault}
 use Rattle.chrono_cron.specs.declared.text.schedule_error.ScheduleFault.TheVariants.{Empty, TooFewFields, TooManyFields, UnknownNickname, Interval, TimeZone, UnknownName, LongName, NotANumber, OutOfRange, RangeTurnedRound, StepOfZero, StepOfNumber}
@@ -83,13 +82,9 @@ field_number_fault names text =
 abbrev pub last_fault : Names → ℕ → ℕ → List ℕ → ScheduleFault
 last_fault names low high text = if is_some (number_between names low high text) then RangeTurnedRound else field_number_fault names text
 
--- whether a text is one digit or more
-abbrev pub is_all_digits : List ℕ → Bool
-is_all_digits text = nat_le 1 (length text) && list_all is_ascii_digit text
-
 -- what is wrong with a text that is no step: it is 0, or too long, or no number
 abbrev pub step_fault : List ℕ → ScheduleFault
-step_fault text = if is_some (digits_of 3 text) then StepOfZero else if is_all_digits text then OutOfRange else unspelled_fault text
+step_fault text = if is_some (digits_of 3 text) then StepOfZero else if are_digits text then OutOfRange else unspelled_fault text
 
 -- what is wrong with a number or a range, and behind how many of its bytes
 unfoldable pub span_fault : Names → ℕ → ℕ → List ℕ → ℕ × ScheduleFault

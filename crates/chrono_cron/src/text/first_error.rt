@@ -1,9 +1,7 @@
 //! What is wrong with a field that cannot be read, and where in the text.
 ghost use Rattle.std.specs.Prelude.{◌≡◌, ◌+◌, ◌<◌, ◌≤◌, ◌^◌, length, take, drop, Some, IfSome, is_some};
-ghost use Rattle.std.specs.Char.{is_ascii_digit};
-ghost use Rattle.std.specs.List.{list_all};
 ghost use Rattle.chrono_cron.specs.FieldTexts.{item_lists, number_of_name};
-ghost use Rattle.chrono_cron.specs.ScheduleErrors.{is_all_digits, day_name_fault, schedule_error_at, fault_in, field_fault, greatest_of_field, is_item, field_item_fault, last_fault, least_of_field, letter_fault, named_fault, names_days, names_of_field, field_number_fault, span_fault, step_fault, unspelled_fault, weekday_name_fault};
+ghost use Rattle.chrono_cron.specs.ScheduleErrors.{day_name_fault, schedule_error_at, fault_in, field_fault, greatest_of_field, is_item, field_item_fault, last_fault, least_of_field, letter_fault, named_fault, names_days, names_of_field, field_number_fault, span_fault, step_fault, unspelled_fault, weekday_name_fault};
 
 use crate::text::day_items::{
     SHARP, before_letter, names_by_place, names_by_weekday, spelled_weekday,
@@ -14,7 +12,7 @@ use crate::text::field::{
 use crate::text::number_names::Names;
 use crate::text::schedule_error::{ScheduleError, ScheduleFault, ScheduleField};
 use crate::text::split_text::{PlacedWord, begins_with};
-use chrono_text::{byte_place, read_digits};
+use chrono_text::{are_digits, byte_place, read_digits};
 
 impl ScheduleField {
     // The names that it has for its numbers, and the least and the greatest of these.
@@ -235,25 +233,11 @@ fn step_fault(text: &[u8]) -> ScheduleFault
 {
     if read_digits(text, STEP_DIGITS).is_some() {
         ScheduleFault::StepOfZero
-    } else if is_all_digits(text) {
+    } else if are_digits(text) {
         ScheduleFault::OutOfRange
     } else {
         unspelled_fault(text)
     }
-}
-
-// Whether a text is one digit or more.
-fn is_all_digits(text: &[u8]) -> bool
-    ensures { result ≡ is_all_digits text.now }
-{
-    !text.is_empty() && are_all_digits(text)
-}
-
-// Whether a text has digits alone.
-fn are_all_digits(text: &[u8]) -> bool
-    ensures { result ≡ list_all is_ascii_digit text.now }
-{
-    text.iter().all(|byte| byte.is_ascii_digit())
 }
 
 // What is wrong with a text that is none of a field's numbers.

@@ -1,5 +1,5 @@
-use Rattle.std.proofs.Common.{◌≡◌, ◌/◌, true, false, Bool, ◌&&◌, refl, sym, ◌∙◌, inl, inr, arith, pos, neg_ℤ}
-use Rattle.std.proofs.lemmas.Bool.{false≢true}
+use Rattle.std.proofs.Common.{◌≡◌, ◌/◌, true, false, ◌&&◌, refl, sym, ◌∙◌, inl, inr, arith, pos, neg_ℤ}
+use Rattle.std.proofs.lemmas.Bool.{and_right, false≢true}
 use Rattle.chrono_datetime.specs.Moment.{IsMoment, Moment}
 use Rattle.chrono_datetime.proofs.Signed.{signed}
 use Rattle.chrono_sets.specs.Numbers.{has}
@@ -34,13 +34,9 @@ returns-clause-before c = λ h. false≢true (sym (h begun exists (inl (omega (a
 pub returns-clause-never : goal.returns-clause-never
 returns-clause-never c = λ h. false≢true (sym (h begun exists) ∙ due)
 
-none : (a b : Bool) → (a && (false && b)) ≡ false
-none true b = refl
-none false b = refl
-
 not_due : is_minute no_minute (begun.time.second / 60) ≡ false → is_due no_minute begun ≡ false
 unfolding is_due
-not_due e = rw e (none (is_day no_minute begun.date) (begins_minute begun))
+not_due e = rw e (and_right (is_day no_minute begun.date) (false && begins_minute begun) refl)
 
 no_minute_due : is_due no_minute begun ≡ false
 unfolding is_minute has

@@ -1,20 +1,16 @@
-use Rattle.std.proofs.Common.{◌≡◌, ◌-◌, ◌%◌, ◌==◌, ◌<◌, ◌&&◌, ℕ, Bool, true, false, refl, ap, sym, ◌∙◌, arith, inl, inr}
+use Rattle.std.proofs.Common.{◌≡◌, ◌-◌, ◌%◌, ◌==◌, ◌<◌, ◌&&◌, ℕ, false, refl, ap, sym, ◌∙◌, arith, inl, inr}
 use Rattle.std.specs.Prelude.{nat_le}
-use Rattle.std.proofs.lemmas.Bool.{cases_lt, le-leb, lt-leb}
+use Rattle.std.proofs.lemmas.Bool.{and_right, cases_lt, lt-leb}
 use Rattle.chrono_sets.specs.Numbers.{has}
 use Rattle.chrono_sets.specs.Steps.{is_by_steps}
 use Rattle.chrono_sets.proofs.Members.{has-no_numbers}
 use Rattle.chrono_cron.proofs.text.field.numbers_between.Goals as goal
 
-and_false : (a b : Bool) → (a && (false && b)) ≡ false
-and_false true b = refl
-and_false false b = refl
-
 -- no number is from the first to a last one below it
 none : (first last k : ℕ) → last < first → is_by_steps first last 1 k ≡ false
 none first last k less = elim (cases_lt k first) [
   | inl before ↦ ap (λ a. a && (nat_le k last && ((k - first) % 1 == 0))) (lt-leb first k before)
-  | inr from ↦ ap (λ b. nat_le first k && (b && ((k - first) % 1 == 0))) (lt-leb k last (omega (arith, less, from))) ∙ and_false (nat_le first k) ((k - first) % 1 == 0)
+  | inr from ↦ ap (λ b. nat_le first k && (b && ((k - first) % 1 == 0))) (lt-leb k last (omega (arith, less, from))) ∙ and_right (nat_le first k) (false && ((k - first) % 1 == 0)) refl
 ]
 
 pub returns-then-last-first : goal.returns-then-last-first
