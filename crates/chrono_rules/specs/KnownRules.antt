@@ -68,6 +68,10 @@ by_week_years years weeks places = record (plain Yearly) { interval = years; wee
 abbrev pub by_week_days : List ℕ → List ℕ → List ℕ → Rule
 by_week_days weeks month_days year_days = record (plain Yearly) { month_days = numbers month_days; year_days = numbers year_days; weeks = numbers weeks }
 
+-- a yearly rule with the greatest number of each part
+abbrev pub greatest_numbers : Rule
+greatest_numbers = record (plain Yearly) { interval = 4_294_967_295; end = Count 4_294_967_295; months = numbers (12 ∷ []); month_days = numbers (31 ∷ []); month_days_from_end = numbers (31 ∷ []); weekdays = each_weekday (6 ∷ []); year_days = numbers (366 ∷ []); year_days_from_end = numbers (366 ∷ []); weeks = numbers (53 ∷ []); weeks_from_end = numbers (53 ∷ []); positions = numbers (366 ∷ []); positions_from_end = numbers (366 ∷ []) }
+
 -- FREQ=DAILY with INTERVAL
 abbrev pub every_days : ℕ → Rule
 every_days days = record (plain Daily) { interval = days }

@@ -8,7 +8,7 @@ ghost use Rattle.chrono_sets.specs.Numbers.{is_empty, numbers};
 ghost use Rattle.chrono_rules.specs.InstanceLists.{instances_from};
 ghost use Rattle.chrono_rules.specs.InstanceMoments.{instance_moments, is_instance_at};
 ghost use Rattle.chrono_rules.specs.Instances.{is_instance};
-ghost use Rattle.chrono_rules.specs.KnownRules.{at_midnight, at_one, by_month_days, by_months, by_positions, by_week_days, by_week_years, by_weekdays, by_weeks, by_year_days, daily, daily_until, every_days, fortnightly, last_days, monday_or_first_friday, nth_weekday, nth_weekday_from_end, tenths};
+ghost use Rattle.chrono_rules.specs.KnownRules.{at_midnight, at_one, by_month_days, by_months, by_positions, by_week_days, by_week_years, by_weekdays, by_weeks, by_year_days, daily, daily_until, every_days, fortnightly, each_weekday, greatest_numbers, last_days, monday_or_first_friday, nth_weekday, nth_weekday_from_end, tenths};
 ghost use Rattle.chrono_rules.specs.KnownTexts.{both_sundays, days_of_the_year, election_day, every_other_day, every_other_week, first_and_last, first_friday, june_and_july, last_monday_but_one, last_workday_but_one, monday_of_week_20, third_to_last, until_christmas};
 ghost use Rattle.chrono_rules.specs.NumberLists.{ends_of, month_list_of, year_ends_of};
 ghost use Rattle.chrono_rules.specs.RecurrenceSets.{is_in_recurrence, recurrence_from};
@@ -307,12 +307,27 @@ pub fn known_answers()
 
 /// What is written for some of these rules: the parts in one order, and the numbers too.
 pub fn known_written_rules()
+    ensures until_christmas { rule_text until_christmas ≡ codes "FREQ=DAILY;UNTIL=19971224" }
     ensures every_other_week { rule_text every_other_week ≡ codes "FREQ=WEEKLY;INTERVAL=2;COUNT=8;BYDAY=TU,TH;WKST=SU" }
     ensures both_sundays { rule_text both_sundays ≡ codes "FREQ=MONTHLY;INTERVAL=2;COUNT=10;BYDAY=1SU,-1SU" }
     ensures days_of_the_year { rule_text days_of_the_year ≡ codes "FREQ=YEARLY;INTERVAL=3;COUNT=10;BYYEARDAY=1,100,200" }
     ensures monday_of_week_20 { rule_text monday_of_week_20 ≡ codes "FREQ=YEARLY;BYDAY=MO;BYWEEKNO=20" }
     ensures last_workday_but_one { rule_text last_workday_but_one ≡ codes "FREQ=MONTHLY;BYDAY=MO,TU,WE,TH,FR;BYSETPOS=-2" }
     ensures election_day { rule_text election_day ≡ codes "FREQ=YEARLY;INTERVAL=4;BYMONTH=11;BYMONTHDAY=2,3,4,5,6,7,8;BYDAY=TU" }
+{}
+
+/// Rules that a text can write, and rules that none can.
+///
+/// The greatest number of each part can be written, and the 53rd Monday of the year.
+/// None can write an interval of 0, the months 0 and 13, an eighth weekday, or an end on the first day of the year 10000.
+pub fn known_writable_rules()
+    ensures greatest { IsWritableRule greatest_numbers }
+    ensures monday_53 { IsWritableRule (by_weekdays Yearly [] (nth_weekday 0 53)) }
+    ensures interval_0 { IsWritableRule (every_days 0) → ⊥ }
+    ensures month_0 { IsWritableRule (by_month_days Yearly (0 ∷ []) [] []) → ⊥ }
+    ensures month_13 { IsWritableRule (by_month_days Yearly (13 ∷ []) [] []) → ⊥ }
+    ensures eighth_weekday { IsWritableRule (by_weekdays Weekly [] (each_weekday (7 ∷ []))) → ⊥ }
+    ensures year_10000 { IsWritableRule (daily_until (pos 3_652_060)) → ⊥ }
 {}
 
 /// The text of a list of months, days of the month or weeks is read back as its numbers.
