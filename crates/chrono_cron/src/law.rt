@@ -151,6 +151,12 @@ pub fn known_answers()
         → result ≡ Err (record { field = None; byte = 7; fault = TooFewFields }) }
 {}
 
+/// Schedules that no text can write: one has a day 0. In the other both fields have to match, without the 1st and without Sunday.
+pub fn known_unwritable_schedules()
+    ensures day_0 { IsWritable (fields (0 ∷ []) (0 ∷ []) (0 ∷ 1 ∷ []) every_month (5 ∷ []) true) → ⊥ }
+    ensures unstarred { IsWritable (fields (0 ∷ []) (0 ∷ []) (15 ∷ []) every_month (5 ∷ []) false) → ⊥ }
+{}
+
 /// The ranges that are written for the numbers of a field list its members, and no other of these numbers.
 pub fn ranges_list_the_members(set: NumberSet, low: u32, end: u32)
     ensures { (k : ℕ) → low ≤ k → k < end → one_lists (ranges_from set (end - low) low) k ≡ has set k }
