@@ -1,17 +1,19 @@
 #!/usr/bin/env python3
-"""Holds zone_table, zone_rule and zone_text to Python's zoneinfo, over all zones of the system's database.
+"""Holds zone_table, zone_rule, zone_text and zone_file to Python's zoneinfo, over all zones of the system's database.
 
     checks/zones.py [--seed N] [--lines N]      (seed 1 and 20,000 lines, if left out)
 
-Each zone's file is read here: its rows become a table. The text at its end is read by zone_text, which makes the rule. Up to the
+Each zone's file is read by zone_file, which makes a table, and here once more. The text at its end is read by zone_text, which
+makes the rule. Up to the
 last row an answer is asked of the table, and from there on of the rule. An offset is that of zoneinfo at the instant. The offsets of a local time are
 those of the zone's offsets at whose instant zoneinfo gives them again. The next and the previous change are read off the rows,
 and zoneinfo has to change there. Rules are asked past the year 9999 and before it begins too, and so are texts made here at
-random. For these a second reading counts days and tries nine years. It also says which texts with one byte changed are of a rule. `rt try` runs a small program unproved, in a copy of the
+random. For these a second reading counts days and tries nine years. It also says which texts and files with one byte changed are right. `rt try` runs a small program unproved, in a copy of the
 crates: it answers the lines, and what differs is printed. A second run of the same lines with one answer changed has to find it.
 """
 import argparse
 import datetime
+import itertools
 import os
 import random
 import re
@@ -38,22 +40,42 @@ use zone_text::{ZoneText, read};
 fn main(rt: HostRuntime) -> io::Result<()> {
     let utc = FixedOffset::east_opt(0).unwrap();
     let (mut first, mut rule) = (utc, ZoneRule { standard: utc, daylight: None });
-    let mut rows = Vec::new(rt.alloc());
+    let (mut rows, mut bytes) = (Vec::new(rt.alloc()), Vec::new(rt.alloc()));
     for line in BufReader::new(rt.alloc(), rt.reader())?.lines(rt.alloc()) {
         let line = line?;
         let mut words = line.as_str().split_ascii_whitespace();
         let call = words.next().unwrap_or("");
         let number: i64 = words.next().unwrap_or("").parse().unwrap_or(0);
         match call {
-            "table" => {
-                first = FixedOffset::east_opt(number as i32).unwrap_or(utc);
-                rows.clear();
-                while let Some(second) = words.next() {
-                    let offset = FixedOffset::east_opt(words.next().unwrap_or("").parse().unwrap_or(0)).unwrap_or(utc);
-                    rows.push(Row { second: second.parse().unwrap_or(0), offset })?;
+            "file" => {
+                bytes.clear();
+                for pair in line.as_str()[5..].as_bytes().chunks_exact(2) {
+                    bytes.push(digit_of(pair[0]) * 16 + digit_of(pair[1]))?;
                 }
-                println!(rt; "= {:?}", first_unordered(first, rows.as_slice()))?
+                match zone_file::read(bytes.as_slice()) {
+                    Ok(file) => {
+                        rows.clear();
+                        for _ in 0..file.places.len() {
+                            rows.push(Row { second: 0, offset: utc })?;
+                        }
+                        let filled = file.read_rows(rows.as_mut_slice());
+                        if filled.is_err() {
+                            rows.clear();
+                        }
+                        first = file.kind(0).map(|kind| kind.offset).unwrap_or(utc);
+                        print!(rt; "= {} {} {:?} {}", file.version, mark_of(file.footer), filled, rows_mark(rows.as_slice()))?;
+                        for place in 0..(file.kinds.len() / 6).min(256) {
+                            match file.kind(place as u8) {
+                                Some(kind) => print!(rt; " {}/{}/{}", kind.offset.local_minus_utc(), kind.is_dst, mark_of(kind.name))?,
+                                None => print!(rt; " none")?,
+                            }
+                        }
+                        println!(rt; "")?
+                    }
+                    Err(error) => println!(rt; "= none {}", error.byte <= bytes.len())?,
+                }
             }
+            "ordered" => println!(rt; "= {:?}", first_unordered(first, rows.as_slice()))?,
             "text" => match read(line.as_str()[5..].as_bytes()) {
                 Ok(zone) => {
                     rule = zone.rule;
@@ -81,6 +103,27 @@ fn seconds_of(offsets: MappedLocalTime<FixedOffset>) -> (Option<i32>, Option<i32
         MappedLocalTime::Single(it) => (Some(it.local_minus_utc()), None),
         MappedLocalTime::Ambiguous(a, b) => (Some(a.local_minus_utc()), Some(b.local_minus_utc())),
     }
+}
+
+fn digit_of(byte: u8) -> u8 {
+    if byte < 97 { byte - 48 } else { byte - 87 }
+}
+
+// A number that tells bytes apart.
+fn mark_of(bytes: &[u8]) -> u64 {
+    let mut mark = bytes.len() as u64;
+    for byte in bytes {
+        mark = mark.wrapping_mul(31).wrapping_add(u64::from(*byte));
+    }
+    mark
+}
+
+fn rows_mark(rows: &[Row]) -> i64 {
+    let mut mark = 0i64;
+    for row in rows {
+        mark = mark.wrapping_mul(31).wrapping_add(row.second).wrapping_mul(31).wrapping_add(i64::from(row.offset.local_minus_utc()));
+    }
+    mark
 }
 
 fn name_of(bytes: &[u8]) -> &str {
@@ -208,25 +251,72 @@ class Rule:
         return {self.standard} if self.daylight is None else {self.standard, self.daylight}
 
 
+def file_parts(data):
+    """The version of a TZif file, its times, the places of their kinds, its kinds, its names and its footer, or None."""
+
+    def block(at, size):
+        if data[at : at + 4] != b"TZif" or len(data) < at + 44:
+            return None
+        isut, isstd, leap, times, kinds, chars = struct.unpack(">6L", data[at + 20 : at + 44])
+        ends = list(itertools.accumulate((times * size, times, kinds * 6, chars, leap * (size + 4) + isstd + isut), initial=at + 44))
+        if ends[-1] > len(data):
+            return None
+        found, places, types, names, _ = (data[a:b] for a, b in itertools.pairwise(ends))
+        fit = kinds and chars and isut in (0, kinds) and isstd in (0, kinds) and not leap
+        return fit, struct.unpack(f">{times}{'l' if size == 4 else 'q'}", found), places, list(struct.iter_unpack(">lBB", types)), names, ends[-1]
+
+    first = block(0, 4)
+    if not first:
+        return None
+    if not data[4]:
+        return (0, *first[1:5], b"") if first[0] and first[5] == len(data) else None
+    second = block(first[5], 8) if data[4:5] in b"234" else None
+    tail = data[second[5] :] if second else b""
+    return (data[4], *second[1:5], tail[1:-1]) if second and second[0] and len(tail) > 1 and tail[:1] == tail[-1:] == b"\n" else None
+
+
+def mark(numbers, start=0):
+    for it in numbers:
+        start = (start * 31 + it) % 2**64
+    return start
+
+
+def told_file(data):
+    """What the program tells of a file."""
+    parts = file_parts(data)
+    if not parts:
+        return "none true"
+    version, seconds, places, kinds, names, footer = parts
+    told = lambda it: str(mark(it, len(it)))  # noqa: E731
+    bad = [at for at, it in enumerate(places) if it >= len(kinds) or abs(kinds[it][0]) >= DAY]
+    rows = [] if bad else [it for second, place in zip(seconds, places) for it in (second, kinds[place][0])]
+    number = mark(rows)
+    words = [str(version), told(footer), f"Err(NoRow({bad[0]}))" if bad else f"Ok({len(places)})", str(number - (number >> 63 << 64))]
+    for offset, dst, at in kinds[:256]:
+        end = names.find(b"\0", at)
+        words.append(f"{offset}/{'true' if dst else 'false'}/{told(names[at:end])}" if abs(offset) < DAY and dst < 2 and end >= 0 else "none")
+    return " ".join(words)
+
+
+def changed_file(draw, data):
+    """A file with a byte changed, left out or put in, or cut off, and what the program tells of it."""
+    at = draw.choice((draw.randrange(len(data)), draw.randrange(44), len(data) - 1 - draw.randrange(20)))
+    data = data[:at] + draw.choice((bytes((draw.randrange(256),)), bytes((data[at] ^ 1 << draw.randrange(8),)), b"", data[at : at + 1] * 2)) + data[at + 1 :]
+    data = data[: draw.randrange(len(data))] if draw.random() < 0.1 else data
+    return f"file {data.hex()}", told_file(data)
+
+
 class Zone:
     """A zone of the database: its rows, its rule, and zoneinfo's reading of it."""
 
     def __init__(self, name, path):
         with open(path, "rb") as it:
-            data = it.read()
-        assert data[:4] == b"TZif" and data[4:5] >= b"2", name
-        counts = lambda at: struct.unpack(">6l", data[at + 20 : at + 44])  # noqa: E731
-        isut, isstd, leap, times, types, chars = counts(0)
-        at = 44 + times * 5 + types * 6 + chars + leap * 8 + isstd + isut
-        isut, isstd, leap, times, types, chars = counts(at)
-        assert leap == 0, name
-        at += 44
-        seconds = struct.unpack(f">{times}q", data[at : at + 8 * times])
-        kinds = data[at + 8 * times : at + 9 * times]
-        at += 9 * times
-        offsets = [struct.unpack(">lbb", data[at + 6 * it : at + 6 * it + 6])[0] for it in range(types)]
-        at += 6 * types + chars + leap * 12 + isstd + isut
-        self.footer = data[at:].strip().decode()
+            self.data = it.read()
+        parts = file_parts(self.data)
+        assert parts, name
+        _, seconds, kinds, offsets, _, footer = parts
+        offsets = [it[0] for it in offsets]
+        self.footer = footer.decode()
         self.rule = Rule.read(self.footer) if self.footer else None
         assert self.rule or not self.footer, name
         # Rows below zoneinfo's years stand for the beginning of time.
@@ -277,8 +367,11 @@ def of_zone(draw, zone, lines):
     offsets = sorted(zone.offsets())
     last = zone.rows[-1][0] if zone.rows else FIRST
     found = []
+    for _ in range(2):
+        yield changed_file(draw, zone.data)
+    yield f"file {zone.data.hex()}", told_file(zone.data)
+    yield "ordered", "None"
     if zone.rows:
-        yield f"table {zone.first} " + " ".join(f"{a} {b}" for a, b in zone.rows), "None"
         # Up to two days before the last row all instants lie before it.
         seconds = [near(draw, [at for at, _ in zone.rows], offsets) for _ in range(lines)]
         found = [it for it in seconds if FIRST < it < last - 2 * DAY]
@@ -340,7 +433,7 @@ def zones():
 
 def answers_of(room, questions):
     """What the program answers."""
-    folder = put_program(room, "zones", ["chrono_datetime", "zone_table", "zone_rule", "zone_text"], PROGRAM)
+    folder = put_program(room, "zones", ["chrono_datetime", "zone_table", "zone_rule", "zone_text", "zone_file"], PROGRAM)
     said = subprocess.run(["rt", "try"], cwd=folder, input="".join(f"{it}\n" for it in questions), stdout=subprocess.PIPE, stderr=subprocess.STDOUT, text=True, errors="replace").stdout
     if not re.search(r"^run=ended status=0 ", said, re.M):
         sys.exit(f"the program fails:\n{said[-3000:]}")

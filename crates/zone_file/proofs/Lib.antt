@@ -1,0 +1,3 @@
+-- All serve this crate's own proofs alone.
+mod NothingLeft
+mod RowLemmas

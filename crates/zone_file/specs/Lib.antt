@@ -1,0 +1,4 @@
+pub mod Blocks
+pub mod ZoneFiles
+pub mod Kinds
+pub mod Tables
