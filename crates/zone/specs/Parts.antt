@@ -27,6 +27,7 @@ abbrev pub offset_with : ℤ → List Row → Option ZoneRule → ℤ → ℤ
 offset_with first rows None u = table_offset first rows u
 offset_with first rows (Some r) u = if is_behind rows u then rule_offset r u else table_offset first rows u
 
+-- the same of a zone in its parts
 abbrev pub zone_offset : ZoneParts → ℤ → ℤ
 zone_offset z u = offset_with z.first z.rows z.rule u
 
