@@ -1,11 +1,10 @@
 #!/usr/bin/env python3
-"""Holds zone_table, zone_rule, zone_text and zone_file to Python's zoneinfo, over all zones of the system's database.
+"""Holds zone_table, zone_rule, zone_text, zone_file and zone to Python's zoneinfo, over all zones of the system's database.
 
     checks/zones.py [--seed N] [--lines N]      (seed 1 and 20,000 lines, if left out)
 
 Each zone's file is read by zone_file, which makes a table, and here once more. The text at its end is read by zone_text, which
-makes the rule. Up to the
-last row an answer is asked of the table, and from there on of the rule. An offset is that of zoneinfo at the instant. The offsets of a local time are
+makes the rule. Up to the last row an answer is asked of the table, from there on of the rule, and everywhere of the whole zone. An offset is that of zoneinfo at the instant. The offsets of a local time are
 those of the zone's offsets at whose instant zoneinfo gives them again. The next and the previous change are read off the rows,
 and zoneinfo has to change there. Rules are asked past the year 9999 and before it begins too, and so are texts made here at
 random. For these a second reading counts days and tries nine years. It also says which texts and files with one byte changed are right. `rt try` runs a small program unproved, in a copy of the
@@ -33,13 +32,14 @@ PROGRAM = r'''//! Answers questions on zones, a line each.
 #![tactic(auto)]
 
 use std::io::{self, BufRead, BufReader};
+use zone::Zone;
 use zone_rule::{FixedOffset, MappedLocalTime, ZoneRule};
 use zone_table::{Row, first_unordered, next_change, offset_of_instant, offsets_of_local, previous_change};
 use zone_text::{ZoneText, read};
 
 fn main(rt: HostRuntime) -> io::Result<()> {
     let utc = FixedOffset::east_opt(0).unwrap();
-    let (mut first, mut rule) = (utc, ZoneRule { standard: utc, daylight: None });
+    let (mut first, mut rule, mut has_rule) = (utc, ZoneRule { standard: utc, daylight: None }, false);
     let (mut rows, mut bytes) = (Vec::new(rt.alloc()), Vec::new(rt.alloc()));
     for line in BufReader::new(rt.alloc(), rt.reader())?.lines(rt.alloc()) {
         let line = line?;
@@ -48,6 +48,7 @@ fn main(rt: HostRuntime) -> io::Result<()> {
         let number: i64 = words.next().unwrap_or("").parse().unwrap_or(0);
         match call {
             "file" => {
+                has_rule = false;
                 bytes.clear();
                 for pair in line.as_str()[5..].as_bytes().chunks_exact(2) {
                     bytes.push(digit_of(pair[0]) * 16 + digit_of(pair[1]))?;
@@ -79,6 +80,7 @@ fn main(rt: HostRuntime) -> io::Result<()> {
             "text" => match read(line.as_str()[5..].as_bytes()) {
                 Ok(zone) => {
                     rule = zone.rule;
+                    has_rule = true;
                     println!(rt; "= {} {} {:?}", name_of(zone.standard_name), name_of(zone.daylight_name), zone.rule)?
                 }
                 Err(error) => println!(rt; "= none {}", error.byte <= line.as_str().len() - 5)?,
@@ -87,6 +89,13 @@ fn main(rt: HostRuntime) -> io::Result<()> {
                 let shown = seconds_of(offsets_of_local(first, rows.as_slice(), number));
                 println!(rt; "= {} {:?}", offset_of_instant(first, rows.as_slice(), number).local_minus_utc(), shown)?
             }
+            "whole" => match Zone::new(first, rows.as_slice(), if has_rule { Some(rule) } else { None }) {
+                Ok(zone) => {
+                    let shown = seconds_of(zone.offsets_of_local(number));
+                    println!(rt; "= {} {:?}", zone.offset_of_instant(number).local_minus_utc(), shown)?
+                }
+                Err(fault) => println!(rt; "= {fault:?}")?,
+            },
             "changes" => println!(rt; "= {:?} {:?}", next_change(first, rows.as_slice(), number), previous_change(first, rows.as_slice(), number))?,
             _ => {
                 let shown = seconds_of(rule.offsets_of_local(number));
@@ -382,6 +391,24 @@ def of_zone(draw, zone, lines):
             yield f"changes {second}", f"{option(after)} {option(before)}"
     if zone.rule and (not zone.rows or zone.rule.at(last) == zone.rows[-1][1]):
         yield from of_rule(draw, zone.rule, lines, zone.footer, zone.at, max(last, FIRST) + 2 * DAY)
+    elif zone.rule:
+        yield f"text {zone.footer}", zone.rule.told()
+    yield from of_whole(draw, zone, lines, offsets)
+
+
+def of_whole(draw, zone, lines, offsets):
+    """Questions to the rows and the rule in one, each with its answer: at the rows, at the last one, and behind it."""
+    changes = [at for year in (2037, 2038, draw.randrange(2040, 9_990)) for at, _, _ in zone.rule.changes(year)] if zone.rule else []
+    if zone.rule and zone.rows:
+        last, offset = zone.rows[-1]
+        soon = (it for year in range(year_of(last) - 1, year_of(last) + 2) for it, _, _ in zone.rule.changes(year))
+        if zone.rule.at(last) != offset or any(last < it <= last + 2 * DAY for it in soon):
+            yield "whole 0", "NotJoined"
+            return
+    seconds = [at for at, _ in zone.rows] + [at for at, _ in zone.rows[-1:]] * 9 + changes * 9 + [0]
+    for second in [near(draw, seconds, offsets) for _ in range(lines)]:
+        if FIRST < second < LAST:
+            yield f"whole {second}", told(zone.at, offsets, second)
 
 
 def of_rule(draw, rule, lines, text=None, at=None, since=0):
@@ -433,7 +460,7 @@ def zones():
 
 def answers_of(room, questions):
     """What the program answers."""
-    folder = put_program(room, "zones", ["chrono_datetime", "zone_table", "zone_rule", "zone_text", "zone_file"], PROGRAM)
+    folder = put_program(room, "zones", ["chrono_datetime", "zone_table", "zone_rule", "zone_text", "zone_file", "zone"], PROGRAM)
     said = subprocess.run(["rt", "try"], cwd=folder, input="".join(f"{it}\n" for it in questions), stdout=subprocess.PIPE, stderr=subprocess.STDOUT, text=True, errors="replace").stdout
     if not re.search(r"^run=ended status=0 ", said, re.M):
         sys.exit(f"the program fails:\n{said[-3000:]}")
