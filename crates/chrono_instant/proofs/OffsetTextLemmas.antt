@@ -1,18 +1,14 @@
 -- The texts of offsets that are not negative.
-use Rattle.std.proofs.Common.{◌≡◌, ℕ, ◌<◌, ℤ, pos, List, ◌∷◌, false, Option, Some, None, IfSome, to_z, w32, arith, refl, sym, ap, subst, ◌∙◌}
-use Rattle.std.proofs.lemmas.Bool.Decides.{nat_tests}
-use Rattle.std.proofs.lemmas.Int.{ints, to_z_pos}
-use Rattle.std.specs.Int.{is_negative}
+use Rattle.std.proofs.Common.{◌≡◌, ℕ, ◌<◌, ℤ, pos, List, ◌∷◌, Option, Some, None, IfSome, to_z, w32, arith, refl, sym, ap, subst, ◌∙◌}
+use Rattle.std.proofs.lemmas.Int.{to_z_pos}
 use Rattle.std.specs.Option.{SomeIff}
+use Rattle.chrono_text.proofs.TextLemmas.{is_negative-pos}
 use Rattle.chrono_datetime.specs.Time.{seconds_per_day}
 use Rattle.chrono_instant.specs.Offsets.{IsOffset}
 use Rattle.chrono_instant.specs.OffsetText.{offset_size_text, offset_text}
 
-not_negative : (n : ℕ) → is_negative (pos n) ≡ false
-not_negative n = first_of (grind (arith, nat_tests), grind (arith, ints))
-
 offset_text-pos : (n : ℕ) → offset_text (pos n) ≡ 43 ∷ offset_size_text n
-offset_text-pos n = rw (not_negative n) refl
+offset_text-pos n = rw (is_negative-pos n) refl
 
 -- behind a `+` stands the text of the offset's seconds
 pub offset_text-plus : (r : Option ℤ) (n sign : ℕ) (size text : List ℕ) → SomeIff r (IsOffset (to_z w32 n)) (to_z w32 n) → n < seconds_per_day → offset_size_text n ≡ size → sign ≡ 43 → text ≡ sign ∷ size → IfSome r (λ x. offset_text x ≡ text)

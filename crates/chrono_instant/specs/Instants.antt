@@ -1,5 +1,5 @@
 -- Instants: date-times in UTC as times from 1 January 1970, 00:00:00, with days of 86,400 seconds each.
-use Rattle.std.specs.Prelude.{◌≡◌, ℕ, ◌+◌, ◌*◌, ℤ, pos, neg_ℤ, ◌+ℤ◌, ◌-ℤ◌, ◌*ℤ◌, ◌≤ℤ◌, unsigned_abs, refl}
+use Rattle.std.specs.Prelude.{◌≡◌, ℕ, ℤ, pos, neg_ℤ, ◌+ℤ◌, ◌-ℤ◌, ◌*ℤ◌, ◌≤ℤ◌, unsigned_abs, refl}
 use Rattle.std.specs.Int.{int_rem_euclid}
 use Rattle.chrono_clock.specs.Duration.{nanos_per_second}
 use Rattle.chrono_clock.specs.Time.{IsPlain, seconds_per_day, time_at}
