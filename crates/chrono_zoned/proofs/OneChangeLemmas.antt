@@ -1,7 +1,8 @@
 -- What a local time stands for in a zone whose offset changes once.
-use Rattle.std.proofs.Common.{◌≡◌, ⊎_elim, inl, inr, true, false, if◌then◌else◌, ℤ, pos, ◌-ℤ◌, ◌<ℤ◌, ◌≤ℤ◌, arith, refl}
+use Rattle.std.proofs.Common.{◌≡◌, ⊎_elim, inl, inr, if◌then◌else◌, ℤ, pos, ◌-ℤ◌, ◌<ℤ◌, ◌≤ℤ◌, arith, refl}
 use Rattle.std.proofs.lemmas.Int.{by_lt_z, ints}
 use Rattle.std.specs.Int.RustNames.{int_lt}
+use Rattle.chrono_clock.proofs.TimeLemmas.{int_lt-above, int_lt-below}
 use Rattle.chrono_zoned.specs.declared.mapped_local_time.MappedLocalTime.TheVariants.{None as NoInstant, Single, Ambiguous}
 use Rattle.chrono_zoned.specs.KnownZones.{set_ahead, set_back}
 use Rattle.chrono_zoned.specs.Zones.{IsMapped}
@@ -11,14 +12,8 @@ pub record ChangesOnce (ahead : ℤ → ℤ) (from a b : ℤ) : Type 0 where
   pub early : (u : ℤ) → u <ℤ from → ahead u ≡ a
   pub late : (u : ℤ) → from ≤ℤ u → ahead u ≡ b
 
-is_early : (u from : ℤ) → u <ℤ from → int_lt u from ≡ true
-is_early u from h = grind (arith, ints)
-
-is_late : (u from : ℤ) → from ≤ℤ u → int_lt u from ≡ false
-is_late u from h = grind (arith, ints)
-
 pub ChangesOnce-test : (from a b : ℤ) → ChangesOnce (λ u. if int_lt u from then a else b) from a b
-ChangesOnce-test from a b = record { early = λ u h. rw (is_early u from h) refl; late = λ u h. rw (is_late u from h) refl }
+ChangesOnce-test from a b = record { early = λ u h. rw (int_lt-below u from h) refl; late = λ u h. rw (int_lt-above u from h) refl }
 
 pub ChangesOnce-set_ahead : ChangesOnce set_ahead (pos 1_000) (pos 0) (pos 3_600)
 ChangesOnce-set_ahead = ChangesOnce-test (pos 1_000) (pos 0) (pos 3_600)
