@@ -1,7 +1,8 @@
 -- The count of the changes that have come by a second.
-use Rattle.std.proofs.Common.{◌≡◌, ℕ, zero, suc, ◌+◌, ◌≤◌, ◌<◌, ℤ, ◌≤ℤ◌, ◌<ℤ◌, true, false, int_le, refl, sym, ap, subst, ◌∙◌, arith, inl, inr}
+use Rattle.std.proofs.Common.{◌≡◌, ℕ, zero, suc, ◌+◌, ◌≤◌, ◌<◌, ℤ, ◌≤ℤ◌, ◌<ℤ◌, refl, sym, ap, subst, ◌∙◌, arith, inl, inr}
 use Rattle.std.proofs.lemmas.Bool.Decides.{leb_tells}
 use Rattle.std.proofs.lemmas.Int.{by_lt_z, ints}
+use Rattle.chrono_zoned.proofs.TimeLemmas.{int_le-above, int_le-below}
 use Rattle.zone_table.specs.Sequence.{Come, IsRising, come_by}
 
 -- where each value is at most the next one, it is at most any later one
@@ -16,20 +17,14 @@ IsRising-le key n up i (suc j) le lt = elim (leb_tells i j) [
   | inr above ↦ let same : i ≡ suc j = omega (arith, le, above.1) in rw same (omega (arith, ints))
 ]
 
-is_come : (x u : ℤ) → x ≤ℤ u → int_le x u ≡ true
-is_come x u h = grind (arith, ints)
-
-is_later : (x u : ℤ) → u <ℤ x → int_le x u ≡ false
-is_later x u h = grind (arith, ints)
-
 -- one change more, which has come or has not
 come_by-come : (second : ℕ → ℤ) (n : ℕ) (u : ℤ) → second n ≤ℤ u → come_by second (suc n) u ≡ come_by second n u + 1
 unfolding come_by
-come_by-come second n u h = rw (is_come (second n) u h) refl
+come_by-come second n u h = rw (int_le-below (second n) u h) refl
 
 come_by-later : (second : ℕ → ℤ) (n : ℕ) (u : ℤ) → u <ℤ second n → come_by second (suc n) u ≡ come_by second n u
 unfolding come_by
-come_by-later second n u h = rw (is_later (second n) u h) (omega arith)
+come_by-later second n u h = rw (int_le-above (second n) u h) (omega arith)
 
 come_by-zero : (second : ℕ → ℤ) (u : ℤ) → come_by second zero u ≡ 0
 unfolding come_by
