@@ -1,7 +1,7 @@
 -- Daylight time that ends at the second at which it begins again.
 use Rattle.std.proofs.Common.{◌≡◌, ◌+◌, ℤ, pos, neg_ℤ, ◌+ℤ◌, ◌≤ℤ◌, Bool, true, false, ◌&&◌, cond, nat_le, int_le, refl, sym, subst, arith}
-use Rattle.std.proofs.lemmas.Int.{ints}
 use Rattle.chrono_units.specs.Years.{is_leap_year, year_length}
+use Rattle.chrono_clock.proofs.TimeLemmas.{int_le-below}
 use Rattle.chrono_calendar.proofs.Signed.{signed}
 use Rattle.chrono_calendar.proofs.Years.{days_before_year-next}
 use Rattle.zone_rule.specs.Changes.{IsChange, YearlyChange, change_second, last_by, year_of_second}
@@ -33,9 +33,6 @@ new_year-is = record { day = omega arith; second = omega arith }
 last_hour-is : IsChange last_hour
 last_hour-is = record { day = (omega arith, omega arith); second = omega arith }
 
-is_by : (x z : ℤ) → x ≤ℤ z → int_le x z ≡ true
-is_by x z h = grind (arith, ints)
-
 pub all_year : (u : ℤ) → is_daylight (neg_ℤ (pos 10_800)) (record { offset = neg_ℤ (pos 14_400); begins = new_year; ends = last_hour }) u ≡ true
 unfolding is_daylight
 all_year u =
@@ -44,7 +41,7 @@ all_year u =
     let last : ℤ = last_by begins (year_of_second u) u in
     let come = (last_change (neg_ℤ (pos 14_400)) last_hour u last_hour-is (omega arith)).0 in
     let of_all = (last_change (neg_ℤ (pos 10_800)) new_year u new_year-is (omega arith)).1 in
-    is_by (last_by ends (year_of_second u) u) last
+    int_le-below (last_by ends (year_of_second u) u) last
     (last_by-some ends (year_of_second u) u (λ (x : ℤ). x ≤ℤ u → x ≤ℤ last)
     (λ w by.
     let same : ends w ≡ begins (w +ℤ pos 1) = joined w in

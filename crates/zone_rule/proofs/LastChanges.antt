@@ -3,6 +3,7 @@ use Rattle.std.proofs.Common.{◌≡◌, ℤ, pos, ◌+ℤ◌, ◌-ℤ◌, ◌�
 use Rattle.std.proofs.lemmas.Bool.{cond_both}
 use Rattle.std.proofs.lemmas.Int.{ints}
 use Rattle.std.specs.Prelude.{Option, Some}
+use Rattle.chrono_clock.proofs.TimeLemmas.{int_le-above, int_le-below}
 use Rattle.chrono_calendar.specs.Days.{year_of}
 use Rattle.chrono_calendar.proofs.Names.{ordinal_name_of-number, year_length_bounds}
 use Rattle.chrono_calendar.proofs.Signed.{signed}
@@ -10,12 +11,6 @@ use Rattle.chrono_calendar.proofs.Years.{days_before_year-closed}
 use Rattle.zone_rule.specs.Changes.{IsYearOfCycle, change_second, last_by, year_of_second}
 use Rattle.zone_rule.specs.Rules.{ahead_by, is_daylight}
 use Rattle.zone_rule.specs.declared.rule.Daylight.{Daylight}
-
-is_by : (x u : ℤ) → x ≤ℤ u → int_le x u ≡ true
-is_by x u h = grind (arith, ints)
-
-is_later : (x u : ℤ) → u <ℤ x → int_le x u ≡ false
-is_later x u h = grind (arith, ints)
 
 pub is_by-fact : (x u : ℤ) → int_le x u ≡ true → x ≤ℤ u
 is_by-fact x u h = grind (arith, ints)
@@ -25,27 +20,27 @@ is_later-fact x u h = grind (arith, ints)
 
 pub last_by-next : (second : ℤ → ℤ) (y u a : ℤ) → a ≡ second (y +ℤ pos 1) → a ≤ℤ u → a ≡ last_by second y u
 last_by-next second y u a at_a by =
-    let test : int_le (second (y +ℤ pos 1)) u ≡ true = is_by (second (y +ℤ pos 1)) u (omega (arith, signed, at_a, by)) in
+    let test : int_le (second (y +ℤ pos 1)) u ≡ true = int_le-below (second (y +ℤ pos 1)) u (omega (arith, signed, at_a, by)) in
     rw test at_a
 
 pub last_by-same : (second : ℤ → ℤ) (y u a b : ℤ) → a ≡ second (y +ℤ pos 1) → u <ℤ a → b ≡ second y → b ≤ℤ u → b ≡ last_by second y u
 last_by-same second y u a b at_a later at_b by =
-    let first : int_le (second (y +ℤ pos 1)) u ≡ false = is_later (second (y +ℤ pos 1)) u (omega (arith, signed, at_a, later)) in
-    let test : int_le (second y) u ≡ true = is_by (second y) u (omega (arith, signed, at_b, by)) in
+    let first : int_le (second (y +ℤ pos 1)) u ≡ false = int_le-above (second (y +ℤ pos 1)) u (omega (arith, signed, at_a, later)) in
+    let test : int_le (second y) u ≡ true = int_le-below (second y) u (omega (arith, signed, at_b, by)) in
     rw (first, test) at_b
 
 pub last_by-before : (second : ℤ → ℤ) (y u a b c : ℤ) → a ≡ second (y +ℤ pos 1) → u <ℤ a → b ≡ second y → u <ℤ b → c ≡ second (y -ℤ pos 1) → c ≤ℤ u → c ≡ last_by second y u
 last_by-before second y u a b c at_a a_later at_b b_later at_c by =
-    let first : int_le (second (y +ℤ pos 1)) u ≡ false = is_later (second (y +ℤ pos 1)) u (omega (arith, signed, at_a, a_later)) in
-    let middle : int_le (second y) u ≡ false = is_later (second y) u (omega (arith, signed, at_b, b_later)) in
-    let test : int_le (second (y -ℤ pos 1)) u ≡ true = is_by (second (y -ℤ pos 1)) u (omega (arith, signed, at_c, by)) in
+    let first : int_le (second (y +ℤ pos 1)) u ≡ false = int_le-above (second (y +ℤ pos 1)) u (omega (arith, signed, at_a, a_later)) in
+    let middle : int_le (second y) u ≡ false = int_le-above (second y) u (omega (arith, signed, at_b, b_later)) in
+    let test : int_le (second (y -ℤ pos 1)) u ≡ true = int_le-below (second (y -ℤ pos 1)) u (omega (arith, signed, at_c, by)) in
     rw (first, middle, test) at_c
 
 pub last_by-first : (second : ℤ → ℤ) (y u a b c d : ℤ) → a ≡ second (y +ℤ pos 1) → u <ℤ a → b ≡ second y → u <ℤ b → c ≡ second (y -ℤ pos 1) → u <ℤ c → d ≡ second (y -ℤ pos 2) → d ≡ last_by second y u
 last_by-first second y u a b c d at_a a_later at_b b_later at_c c_later at_d =
-    let first : int_le (second (y +ℤ pos 1)) u ≡ false = is_later (second (y +ℤ pos 1)) u (omega (arith, signed, at_a, a_later)) in
-    let middle : int_le (second y) u ≡ false = is_later (second y) u (omega (arith, signed, at_b, b_later)) in
-    let last : int_le (second (y -ℤ pos 1)) u ≡ false = is_later (second (y -ℤ pos 1)) u (omega (arith, signed, at_c, c_later)) in
+    let first : int_le (second (y +ℤ pos 1)) u ≡ false = int_le-above (second (y +ℤ pos 1)) u (omega (arith, signed, at_a, a_later)) in
+    let middle : int_le (second y) u ≡ false = int_le-above (second y) u (omega (arith, signed, at_b, b_later)) in
+    let last : int_le (second (y -ℤ pos 1)) u ≡ false = int_le-above (second (y -ℤ pos 1)) u (omega (arith, signed, at_c, c_later)) in
     rw (first, middle, last) at_d
 
 -- the last change is that of some year

@@ -5,14 +5,13 @@ use Rattle.std.specs.Int.{int_div_euclid, int_rem_euclid}
 use Rattle.std.proofs.lemmas.Int.{by_lt_z}
 use Rattle.std.specs.List.{filter, range_with_len}
 use Rattle.std.specs.Prelude.{◌==◌}
-use Rattle.chrono_units.specs.Years.{is_leap_year, month_length, month_length_in, year_length}
+use Rattle.chrono_units.specs.Years.{is_leap_year, month_length, month_length_in}
 use Rattle.chrono_units.specs.declared.weekday.Weekday.{Weekday}
 use Rattle.chrono_units.specs.Weekday.{days_from_sunday}
-use Rattle.chrono_calendar.specs.Days.{days_before_year, days_of_months_in, day_number_of_ymd}
+use Rattle.chrono_calendar.specs.Days.{days_of_months_in, day_number_of_ymd}
 use Rattle.chrono_calendar.specs.Weeks.{days_from_sunday_of, days_with_weekday}
-use Rattle.chrono_calendar.proofs.Cycles.{ordinal_name-again}
+use Rattle.chrono_calendar.proofs.Cycles.{days_before_year-again, is_leap_year-again, ordinal_name-again}
 use Rattle.chrono_calendar.proofs.Signed.{signed}
-use Rattle.chrono_calendar.proofs.Years.{days_before_year-closed, days_before_year-next}
 use Rattle.zone_rule.specs.Changes.{YearlyChange, change_second, day_in_year, last_by, nth_or_last, year_of_second}
 use Rattle.zone_rule.specs.RuleDays.{ordinal_of_julian}
 use Rattle.zone_rule.specs.Rules.{is_daylight}
@@ -20,31 +19,11 @@ use Rattle.zone_rule.specs.declared.rule.Daylight.{Daylight}
 use Rattle.zone_rule.specs.declared.rule_day.RuleDay.{RuleDay}
 use Rattle.zone_rule.specs.declared.rule_day.RuleDay.TheVariants.{Week, Julian, FromZero}
 
-days_before_year-again : (y z : ℤ) → z ≡ y +ℤ pos 400 → days_before_year z ≡ days_before_year y +ℤ pos 146_097
-days_before_year-again y z e = omega (arith, signed, days_before_year-closed y, days_before_year-closed z)
-
-year_length-again : (y : ℤ) → year_length (y +ℤ pos 400) ≡ year_length y
-year_length-again y =
-    omega (arith, signed, days_before_year-again y (y +ℤ pos 400) refl, days_before_year-again (y +ℤ pos 1) (y +ℤ pos 400 +ℤ pos 1) (omega (arith, signed)), days_before_year-next y (y +ℤ pos 1) refl, days_before_year-next (y +ℤ pos 400) (y +ℤ pos 400 +ℤ pos 1) refl)
-
--- years with so many days are leap, or not, alike
-abbrev length_in : Bool → ℕ
-length_in leap = cond leap 366 365
-
-same_kind : (a b : Bool) → length_in a ≡ length_in b → a ≡ b
-same_kind true true e = refl
-same_kind true false e = absurd (omega (arith, e))
-same_kind false true e = absurd (omega (arith, e))
-same_kind false false e = refl
-
-is_leap_year-again : (y : ℤ) → is_leap_year (y +ℤ pos 400) ≡ is_leap_year y
-is_leap_year-again y = same_kind (is_leap_year (y +ℤ pos 400)) (is_leap_year y) (year_length-again y)
-
 -- the same days of a month have the same weekdays
 day_number-again : (y : ℤ) (m d : ℕ) → day_number_of_ymd (y +ℤ pos 400) m d ≡ day_number_of_ymd y m d +ℤ pos 146_097
 day_number-again y m d =
     let before = days_before_year-again y (y +ℤ pos 400) refl in
-    let months : days_of_months_in (is_leap_year (y +ℤ pos 400)) (m - 1) ≡ days_of_months_in (is_leap_year y) (m - 1) = ap (λ (leap : Bool). days_of_months_in leap (m - 1)) (is_leap_year-again y) in
+    let months : days_of_months_in (is_leap_year (y +ℤ pos 400)) (m - 1) ≡ days_of_months_in (is_leap_year y) (m - 1) = ap (λ (leap : Bool). days_of_months_in leap (m - 1)) (is_leap_year-again y (y +ℤ pos 400) refl) in
     omega (arith, signed, before, months)
 
 weekday-again : (n m : ℤ) → m ≡ n +ℤ pos 146_097 → days_from_sunday_of m ≡ days_from_sunday_of n
@@ -56,7 +35,7 @@ days_with_weekday-again y m w =
     let tests : (λ (d : ℕ). days_from_sunday_of (day_number_of_ymd (y +ℤ pos 400) m d) == days_from_sunday w) ≡ (λ (d : ℕ). days_from_sunday_of (day_number_of_ymd y m d) == days_from_sunday w)
     = fun_ext (λ (d : ℕ). ap (λ (k : ℕ). k == days_from_sunday w) (weekday-again (day_number_of_ymd y m d) (day_number_of_ymd (y +ℤ pos 400) m d) (day_number-again y m d))) in
     ap (λ (test : ℕ → Bool). filter test (range_with_len 1 (month_length (y +ℤ pos 400) m))) tests
-    ∙ ap (λ (leap : Bool). filter (λ (d : ℕ). days_from_sunday_of (day_number_of_ymd y m d) == days_from_sunday w) (range_with_len 1 (month_length_in leap m))) (is_leap_year-again y)
+    ∙ ap (λ (leap : Bool). filter (λ (d : ℕ). days_from_sunday_of (day_number_of_ymd y m d) == days_from_sunday w) (range_with_len 1 (month_length_in leap m))) (is_leap_year-again y (y +ℤ pos 400) refl)
 
 pub day_in_year-again : (y : ℤ) (day : RuleDay) → day_in_year (y +ℤ pos 400) day ≡ day_in_year y day +ℤ pos 146_097
 unfolding day_in_year
@@ -65,7 +44,7 @@ day_in_year-again y (Week m n d) =
     ∙ day_number-again y m (nth_or_last (days_with_weekday y m d) n)
 day_in_year-again y (Julian n) =
     let before = days_before_year-again y (y +ℤ pos 400) refl in
-    let place : ordinal_of_julian (y +ℤ pos 400) n ≡ ordinal_of_julian y n = rw (is_leap_year-again y) refl in
+    let place : ordinal_of_julian (y +ℤ pos 400) n ≡ ordinal_of_julian y n = rw (is_leap_year-again y (y +ℤ pos 400) refl) refl in
     omega (arith, signed, before, place)
 day_in_year-again y (FromZero n) =
     let before = days_before_year-again y (y +ℤ pos 400) refl in

@@ -1,20 +1,15 @@
 -- The days of a year that a time zone rule names (POSIX.1-2017, Base Definitions, section 8.3, TZ).
 use Rattle.std.specs.Prelude.{ℕ, ◌+◌, ◌&&◌, ◌==◌, nat_le, if◌then◌else◌, ℤ, Option}
-use Rattle.std.specs.Option.{option_or}
 use Rattle.chrono_units.specs.Years.{is_leap_year}
 use Rattle.chrono_units.specs.declared.weekday.Weekday.{Weekday}
 use Rattle.chrono_datetime.specs.Days.{date_of_yo}
-use Rattle.chrono_datetime.specs.Weeks.{date_of_nth_weekday}
+use Rattle.chrono_datetime.specs.Weeks.{date_of_last_weekday, date_of_nth_weekday}
 use Rattle.zone_rule.specs.declared.rule_day.RuleDay.{RuleDay}
 use Rattle.zone_rule.specs.declared.rule_day.RuleDay.TheVariants.{Week, Julian, FromZero}
 
--- the last day of the month with the weekday: the fifth, or the fourth if there is no fifth
-abbrev pub date_of_last_such_day : ℤ → ℕ → Weekday → Option ℤ
-date_of_last_such_day y m d = option_or (date_of_nth_weekday y m d 5) (date_of_nth_weekday y m d 4)
-
 -- "the d'th day of week n of month m of the year (1 <= n <= 5), where week 5 means the last d day in month m"
 abbrev pub date_of_week : ℤ → ℕ → ℕ → Weekday → Option ℤ
-date_of_week y m n d = if n == 5 then date_of_last_such_day y m d else date_of_nth_weekday y m d n
+date_of_week y m n d = if n == 5 then date_of_last_weekday y m d else date_of_nth_weekday y m d n
 
 -- "leap days shall not be counted. That is, in all years, including leap years, February 28 is day 59 and March 1 is day 60"
 abbrev pub ordinal_of_julian : ℤ → ℕ → ℕ

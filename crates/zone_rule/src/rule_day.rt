@@ -3,8 +3,9 @@ ghost use Rattle.std.specs.Prelude.{◌≡◌, ◌↔◌, ◌<◌, IsTrue, unsig
 ghost use Rattle.std.specs.Int.{IsInRange};
 ghost use Rattle.chrono_units.specs.Years.{IsYear};
 ghost use Rattle.chrono_datetime.specs.Days.{IsDate, day_number_of_yo};
+ghost use Rattle.chrono_datetime.specs.Weeks.{date_of_last_weekday};
 ghost use Rattle.zone_rule.specs.declared.rule_day.RuleDay.TheVariants.{Week};
-ghost use Rattle.zone_rule.specs.RuleDays.{date_of_last_such_day, date_of_rule_day, date_of_week, ordinal_of_julian};
+ghost use Rattle.zone_rule.specs.RuleDays.{date_of_rule_day, date_of_week, ordinal_of_julian};
 ghost use Rattle.zone_rule.specs.Changes.{IsRuleDay, day_in_year};
 
 use chrono_datetime::{Datelike, NaiveDate, Weekday};
@@ -140,7 +141,7 @@ fn week_or_last(year: i32, month: u32, week: u8, weekday: Weekday) -> Option<Nai
 
 // The last such weekday of the month: the fifth, or the fourth if there is no fifth.
 fn last_in_month(year: i32, month: u32, weekday: Weekday) -> Option<NaiveDate>
-    ensures { result ≡ date_of_last_such_day year month weekday }
+    ensures { result ≡ date_of_last_weekday year month weekday }
 {
     match NaiveDate::from_weekday_of_month_opt(year, month, weekday, 5) {
         Some(fifth) => Some(fifth),
