@@ -1,5 +1,5 @@
 -- Why a text is none of RFC 2822, and at which byte: what is wrong first, from left to right.
-use Rattle.std.specs.Prelude.{◌==◌, ◌+◌, ◌-◌, ℕ, ℤ, pos, Bool, true, false, ◌&&◌, List, [], ◌∷◌, length, take, drop, codes, if◌then◌else◌, nat_le, nat_lt, Option, Some, None}
+use Rattle.std.specs.Prelude.{◌≡◌, ◌==◌, ◌+◌, ◌-◌, ℕ, ℤ, pos, Bool, true, false, ◌&&◌, List, [], ◌∷◌, length, take, drop, codes, if◌then◌else◌, nat_le, nat_lt, Option, Some, None, refl}
 use Rattle.std.specs.Char.{is_ascii_alphabetic}
 use Rattle.std.specs.List.{prefix_len}
 use Rattle.std.specs.Option.{option_and_then}
@@ -14,11 +14,11 @@ use Rattle.chrono_datetime.specs.declared.Month.{Month}
 use Rattle.chrono_datetime.specs.declared.Weekday.{Weekday}
 use Rattle.chrono_reading.specs.DateErrors.{error_at}
 use Rattle.chrono_reading.specs.Fitting.{fitting, leading_digits}
-use Rattle.chrono_reading.specs.NameErrors.{month_error, weekday_error}
+use Rattle.chrono_reading.specs.NameErrors.{in_common, month_error, more_of, weekday_error}
 use Rattle.chrono_reading.specs.declared.error.ReadCause.{ReadCause}
 use Rattle.chrono_reading.specs.declared.error.ReadCause.TheVariants.{DateOutOfRange, DayAbove, DayZero, HourAbove23, MinuteAbove59, NotThisForm, SecondAbove60, UnknownName, YearOutOfRange}
 use Rattle.chrono_reading.specs.declared.error.ReadError.{ReadError}
-use Rattle.chrono_text.specs.Numbers.{count_of, digits_of, up_to}
+use Rattle.chrono_text.specs.Numbers.{count_of, digits_of, natural_of, up_to}
 use Rattle.chrono_stamps.specs.MailWords.{behind_gap, gap_end, is_of_word}
 use Rattle.chrono_stamps.specs.Rfc2822.{hours_behind, year_meant}
 use Rattle.chrono_stamps.specs.StampErrors.{two_written}
@@ -196,3 +196,60 @@ rfc2822_error text =
       | Some d ↦ elim (behind_sign (byte ",") (next_part part)) [ None ↦ error_at NotThisForm (place text (next_part part) 0) | Some day ↦ error_from_day text (Some d) day ]
     ]
     else error_from_day text None part
+
+-- known values: a name with a letter too many, and one that no name has
+month_word_error-four : month_word_error (codes "Nove") ≡ error_at UnknownName 3
+unfolding month_word_error month_of_letters
+month_word_error-four = refl
+
+weekday_word_error-letter : weekday_word_error (codes "tux") ≡ error_at UnknownName 2
+unfolding weekday_word_error weekday_of_letters weekday_error in_common more_of
+weekday_word_error-letter = refl
+
+-- a year of one digit, and one past the calendar
+year_word_error-one : year_word_error (codes "7") ≡ error_at NotThisForm 1
+unfolding year_word_error leading_digits
+year_word_error-one = refl
+
+year_of_word-above : year_of_word (codes "262143") ≡ None
+unfolding year_of_word count_of natural_of
+year_of_word-above = refl
+
+-- minute 60, and a minute of one digit
+number_fault-sixty : number_fault MinuteAbove59 59 (codes "60") ≡ Some (error_at MinuteAbove59 0)
+unfolding number_fault fitting
+number_fault-sixty = refl
+
+number_fault-one : number_fault MinuteAbove59 59 (codes "6") ≡ Some (error_at NotThisForm 1)
+unfolding number_fault fitting
+number_fault-one = refl
+
+-- zones: hour 24, minute 60, a name with a wrong last letter, the letter that is none, and names that are
+zone_fault-hour : zone_fault (codes "+2400") ≡ Some (error_at HourAbove23 1)
+unfolding zone_fault zone_digits_fault fitting
+zone_fault-hour = refl
+
+zone_fault-minute : zone_fault (codes "-2360") ≡ Some (error_at MinuteAbove59 3)
+unfolding zone_fault zone_digits_fault fitting
+zone_fault-minute = refl
+
+zone_fault-letter : zone_fault (codes "GMX") ≡ Some (error_at UnknownName 2)
+unfolding zone_fault fitting_zone fitting_two fitting_one hours_behind
+zone_fault-letter = refl
+
+zone_fault-j : zone_fault (codes "J") ≡ Some (error_at UnknownName 0)
+unfolding zone_fault fitting_zone fitting_one hours_behind
+zone_fault-j = refl
+
+zone_fault-pdt : zone_fault (codes "pdt") ≡ None
+unfolding zone_fault hours_behind
+zone_fault-pdt = refl
+
+-- texts that end early, one in a comment, and one with no comma behind its weekday
+rfc2822_error-short : rfc2822_error (codes "21 Nov (1997") ≡ error_at NotThisForm 12
+unfolding rfc2822_error error_from_day error_from_month error_from_year next_part gap_end digits_of natural_of month_of_letters year_of_word count_of year_word_error leading_digits
+rfc2822_error-short = refl
+
+rfc2822_error-comma : rfc2822_error (codes "Fri 21 Nov") ≡ error_at NotThisForm 4
+unfolding rfc2822_error weekday_of_letters next_part behind_sign gap_end
+rfc2822_error-comma = refl
