@@ -129,34 +129,38 @@ fn write_words<W: fmt::Write>(f: &mut fmt::Formatter<W>, command: &CommandRow) -
 fn write_fish<W: fmt::Write>(f: &mut fmt::Formatter<W>, program: &Program<'_>) -> fmt::Result {
     let name = program.name;
     for command in program.commands {
-        let CommandRow {
-            name: word,
-            help,
-            ..
-        } = *command;
-        if word.is_empty() {
-            continue;
-        }
-        writeln!(
-            f,
-            "complete -c {name} -n __fish_use_subcommand -a {word} -d '{help}'"
-        )?;
-        for option in command.options {
-            let long = option.name.trim_start_matches('-');
-            write!(
+        let (word, help) = (command.name, command.help);
+        if !word.is_empty() {
+            writeln!(
                 f,
-                "complete -c {name} -n '__fish_seen_subcommand_from {word}' -l {long}"
+                "complete -c {name} -n __fish_use_subcommand -a {word} -d '{help}'"
             )?;
-            f.write_str(if option.value.is_empty() {
-                ""
-            } else {
-                " -r -a '"
-            })?;
-            for value in option.values {
-                write!(f, "{value} ")?;
+            for option in command.options {
+                write_fish_option(f, name, word, option)?;
             }
-            f.write_str(if option.value.is_empty() { "\n" } else { "'\n" })?;
         }
     }
     Ok(())
+}
+
+// The line of an option of a command.
+fn write_fish_option<W: fmt::Write>(
+    f: &mut fmt::Formatter<W>,
+    name: &str,
+    word: &str,
+    option: &Opt,
+) -> fmt::Result {
+    let long = option.name.trim_start_matches('-');
+    write!(
+        f,
+        "complete -c {name} -n '__fish_seen_subcommand_from {word}' -l {long}"
+    )?;
+    if option.value.is_empty() {
+        return f.write_str("\n");
+    }
+    f.write_str(" -r -a '")?;
+    for value in option.values {
+        write!(f, "{value} ")?;
+    }
+    f.write_str("'\n")
 }

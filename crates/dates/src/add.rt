@@ -54,7 +54,7 @@ struct Steps<'a, A: Allocator> {
 
 impl<'a, A: Allocator> Steps<'a, A> {
     // Puts a step behind the others.
-    fn push(&mut self, by: Move, word: Word<'a>) -> Result<(), Fault<'a>> {
+    fn push(&mut self, by: Move, word: Word<'a>) -> io::Result<()> {
         match by {
             Move::ShortMonths(_) if self.short.is_none() => self.short = Some(word),
             Move::Time(_) => self.timed = true,
@@ -105,7 +105,7 @@ fn read<'a>(
         _ if first.text == "-" => None,
         None => Some(value!(start_of(*first))),
         Some(by) => {
-            value!(steps.push(by, *first));
+            steps.push(by, *first)?;
             None
         }
     };
@@ -125,7 +125,7 @@ fn put_step<'a>(
     match (read_move(word.text.as_bytes()), start) {
         (None, _) => Err(Fault::expected(word, MOVES)),
         (Some(Move::Time(_)), Some(Start::Day(_))) => Err(Fault::expected(word, DAY_MOVES)),
-        (Some(by), _) => steps.push(by, word),
+        (Some(by), _) => Ok(steps.push(by, word)?),
     }
 }
 
@@ -173,16 +173,16 @@ impl<'a, A: Allocator> Add<'a, A> {
     }
 }
 
-impl<'a, A: Allocator> EachLine<'a> for Add<'a, A> {
-    fn take_line(&mut self, rt: &impl Host, number: u64, line: &[u8]) -> Answered<'a> {
+impl<'a, A: Allocator> EachLine for Add<'a, A> {
+    fn take_line(&mut self, rt: &impl Host, number: u64, line: &[u8]) -> io::Result<u8> {
         let place = Place::Line(number);
         match read_start(line) {
-            Ok(start @ Start::DateTime(_)) => Ok(self.answer_moment(rt, place, start)?),
-            Ok(start) if !self.steps.timed => Ok(self.answer_start(rt, place, start)?),
+            Ok(start @ Start::DateTime(_)) => self.answer_moment(rt, place, start),
+            Ok(start) if !self.steps.timed => self.answer_start(rt, place, start),
             _ if self.steps.timed || line.contains(&b'T') => {
-                Ok(print_reply(rt, self.form, Reply::Nothing(Key::Moment))?)
+                print_reply(rt, self.form, Reply::Nothing(Key::Moment))
             }
-            _ => Ok(print_reply(rt, self.form, Reply::Nothing(Key::Date))?),
+            _ => print_reply(rt, self.form, Reply::Nothing(Key::Date)),
         }
     }
 }

@@ -45,11 +45,11 @@ pub(crate) fn answer<'a>(rt: &impl Host, asked: &mut Asked<'a, impl Allocator>) 
     }
 }
 
-impl<'a> EachLine<'a> for CheckedLines {
-    fn take_line(&mut self, rt: &impl Host, number: u64, line: &[u8]) -> Answered<'a> {
+impl EachLine for CheckedLines {
+    fn take_line(&mut self, rt: &impl Host, number: u64, line: &[u8]) -> io::Result<u8> {
         match day_of_line(line) {
             Ok(_) => Ok(ANSWERED),
-            Err(reason) => Ok(print_wrong(rt, self.form, number, line, reason)?),
+            Err(reason) => print_wrong(rt, self.form, number, line, reason),
         }
     }
 }

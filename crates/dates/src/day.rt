@@ -130,11 +130,11 @@ struct NamedLines {
     form: OutputForm,
 }
 
-impl<'a> EachLine<'a> for NamedLines {
-    fn take_line(&mut self, rt: &impl Host, _number: u64, line: &[u8]) -> Answered<'a> {
+impl EachLine for NamedLines {
+    fn take_line(&mut self, rt: &impl Host, _number: u64, line: &[u8]) -> io::Result<u8> {
         match read_day(line) {
-            Ok(date) => Ok(print_reply(rt, self.form, Reply::Names(date))?),
-            Err(_) => Ok(print_reply(rt, self.form, Reply::Nothing(Key::Date))?),
+            Ok(date) => print_reply(rt, self.form, Reply::Names(date)),
+            Err(_) => print_reply(rt, self.form, Reply::Nothing(Key::Date)),
         }
     }
 }

@@ -231,12 +231,12 @@ impl<A: Allocator> Diff<A> {
     }
 }
 
-impl<'a, A: Allocator> EachLine<'a> for Diff<A> {
-    fn take_line(&mut self, rt: &impl Host, _number: u64, line: &[u8]) -> Answered<'a> {
+impl<A: Allocator> EachLine for Diff<A> {
+    fn take_line(&mut self, rt: &impl Host, _number: u64, line: &[u8]) -> io::Result<u8> {
         match (self.ends, read_start(line)) {
-            ((Some(from), _), Ok(to)) => Ok(self.answer_ends(rt, from, to)?),
-            ((None, Some(to)), Ok(from)) => Ok(self.answer_ends(rt, from, to)?),
-            _ => Ok(print_reply(rt, self.form, self.none)?),
+            ((Some(from), _), Ok(to)) => self.answer_ends(rt, from, to),
+            ((None, Some(to)), Ok(from)) => self.answer_ends(rt, from, to),
+            _ => print_reply(rt, self.form, self.none),
         }
     }
 }

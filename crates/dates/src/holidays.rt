@@ -1,13 +1,13 @@
 //! The holidays of a command: read once, and put together once for the lines that touch the same years.
 
 use crate::closed::{Years, both_years, put_ruled, rules_named, weekend_of};
-use crate::lines::{day_of_line, take_lines};
+use crate::lines::{day_of_line, read_line};
 use crate::prelude::*;
 use crate::source::Source;
 use chrono_business::{Calendar, HolidayRule, without_weekends};
 use chrono_datetime::{NaiveDate, WeekdaySet};
 use std::fs;
-use std::io::{self, ErrorKind};
+use std::io::{self, BufReader, ErrorKind};
 
 /// The holidays by the options of a command.
 #[derive(Drop)]
@@ -82,34 +82,24 @@ fn listed_in<'a, R: Host>(
     rt: &R,
     file: Option<Word<'a>>,
 ) -> Result<Vec<NaiveDate, R::A>, Fault<'a>> {
-    let days = Vec::new(rt.alloc());
+    let mut days = Vec::new(rt.alloc());
     let Some(word) = file else {
         return Ok(days);
     };
     let source = Source::Word(word);
-    let mut list = HolidayLines { source, days };
-    let file = value!(open_file(rt, word));
-    let _status = value!(take_lines(rt, source, file, &mut list));
-    Ok(list.days)
-}
-
-// The days of the lines of a source.
-#[derive(Drop)]
-struct HolidayLines<'a, A: Allocator> {
-    source: Source<'a>,
-    days: Vec<NaiveDate, A>,
-}
-
-impl<'a, A: Allocator> EachLine<'a> for HolidayLines<'a, A> {
-    fn take_line(&mut self, _rt: &impl Host, number: u64, line: &[u8]) -> Answered<'a> {
-        match day_of_line(line) {
-            Ok(day) => {
-                self.days.push(day)?;
-                Ok(ANSWERED)
-            }
-            Err(reason) => Err(Fault::NoHoliday(self.source, number, reason)),
+    let mut line = Vec::new(rt.alloc());
+    let mut reader = BufReader::new(rt.alloc(), value!(open_file(rt, word)))?;
+    for number in 1..u64::MAX {
+        match read_line(&mut reader, &mut line) {
+            Ok(true) => match day_of_line(line.as_slice()) {
+                Ok(day) => days.push(day)?,
+                Err(reason) => return Err(Fault::NoHoliday(source, number, reason)),
+            },
+            Ok(false) => break,
+            Err(error) => return Err(Fault::Input(source, error)),
         }
     }
+    Ok(days)
 }
 
 // The file that a word names.

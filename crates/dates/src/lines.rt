@@ -15,7 +15,7 @@ use std::io::{self, BufRead, BufReader, Eprint, Read};
 const MOST_BYTES: usize = 65_536;
 
 // Reads the next line without the `\n` at its end, its first `MOST_BYTES` at most, the others are passed over; whether there is one.
-fn read_line(
+pub(crate) fn read_line(
     reader: &mut (impl BufRead + Drop),
     line: &mut Vec<u8, impl Allocator>,
 ) -> io::Result<bool> {
@@ -33,13 +33,13 @@ fn read_line(
 }
 
 /// A command that takes each line of a text.
-pub(crate) trait EachLine<'a> {
+pub(crate) trait EachLine {
     /// Takes the line of this number, from 1 on; the exit status.
-    fn take_line(&mut self, rt: &impl Host, number: u64, line: &[u8]) -> Answered<'a>;
+    fn take_line(&mut self, rt: &impl Host, number: u64, line: &[u8]) -> io::Result<u8>;
 }
 
 // Takes each line of what a source has; the greatest exit status.
-pub(crate) fn take_lines<'a, C: EachLine<'a>>(
+pub(crate) fn take_lines<'a, C: EachLine>(
     rt: &impl Host,
     source: Source<'a>,
     reader: impl Read + Drop,
@@ -50,9 +50,7 @@ pub(crate) fn take_lines<'a, C: EachLine<'a>>(
     let mut reader = BufReader::new(rt.alloc(), reader)?;
     for number in 1..u64::MAX {
         match read_line(&mut reader, &mut line) {
-            Ok(true) => {
-                status = status.max(value!(command.take_line(rt, number, line.as_slice())));
-            }
+            Ok(true) => status = status.max(command.take_line(rt, number, line.as_slice())?),
             Ok(false) => break,
             Err(error) => return Err(Fault::Input(source, error)),
         }
@@ -61,7 +59,7 @@ pub(crate) fn take_lines<'a, C: EachLine<'a>>(
 }
 
 // Takes each line of the input; the greatest exit status.
-pub(crate) fn take_input<'a, C: EachLine<'a>>(rt: &impl Host, command: &mut C) -> Answered<'a> {
+pub(crate) fn take_input<'a, C: EachLine>(rt: &impl Host, command: &mut C) -> Answered<'a> {
     take_lines(rt, Source::Input, rt.reader(), command)
 }
 

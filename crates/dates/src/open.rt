@@ -56,11 +56,11 @@ impl<A: Allocator> Open<A> {
     }
 }
 
-impl<'a, A: Allocator> EachLine<'a> for Open<A> {
-    fn take_line(&mut self, rt: &impl Host, _number: u64, line: &[u8]) -> Answered<'a> {
+impl<A: Allocator> EachLine for Open<A> {
+    fn take_line(&mut self, rt: &impl Host, _number: u64, line: &[u8]) -> io::Result<u8> {
         match read_day(line) {
-            Ok(date) => Ok(self.answer_day(rt, date)?),
-            Err(_) => Ok(print_reply(rt, self.form, NONE)?),
+            Ok(date) => self.answer_day(rt, date),
+            Err(_) => print_reply(rt, self.form, NONE),
         }
     }
 }

@@ -105,11 +105,11 @@ impl<A: Allocator> Rolls<A> {
     }
 }
 
-impl<'a, A: Allocator> EachLine<'a> for Rolls<A> {
-    fn take_line(&mut self, rt: &impl Host, number: u64, line: &[u8]) -> Answered<'a> {
+impl<A: Allocator> EachLine for Rolls<A> {
+    fn take_line(&mut self, rt: &impl Host, number: u64, line: &[u8]) -> io::Result<u8> {
         match read_day(line) {
-            Ok(date) => Ok(self.answer_day(rt, Place::Line(number), date)?),
-            Err(_) => Ok(print_reply(rt, self.form, NONE)?),
+            Ok(date) => self.answer_day(rt, Place::Line(number), date),
+            Err(_) => print_reply(rt, self.form, NONE),
         }
     }
 }

@@ -87,68 +87,63 @@ if_any None P known = tt
 pub none_apart : (unit : Unit) (n : ℤ) → IsDate n → units_apart unit n n ≡ pos 0
 none_apart unit n date = lies_on unit n (pos 0) n (stays unit n (pos 0) date refl)
 
--- the most units forth, and back, by where the first day comes to, moved by those that the second lies on
-most_forth : (unit : Unit) (from to z m : ℤ) → IsDate from → IsDate to → from ≤ℤ to → z ≡ units_apart unit from to → unit_move unit from z ≡ Some m
-    → (m ≤ℤ to → IsMostForth unit from to z) × (to <ℤ m → IsMostForth unit from to (z -ℤ pos 1))
-most_forth unit from to z m date also le e is =
+-- what is read of a move that comes to a day is that day
+pub reads : (unit : Unit) (n z to k : ℤ) (o : Option ℤ) → Comes unit n z → o ≡ unit_move unit n z → k ≡ unwrap_or o to → unit_move unit n z ≡ Some k
+reads unit n z to k o found e out = found.is ∙ ap Some (sym (out ∙ ap (λ p. unwrap_or p to) (e ∙ found.is)))
+
+-- the units forth, and back, by where the first day comes to, moved by those that the second lies on
+pub forth_by : (unit : Unit) (from to z m : ℤ) (o : Option ℤ) → IsDate from → IsDate to → from ≤ℤ to → z ≡ units_apart unit from to → o ≡ unit_move unit from z → m ≡ unwrap_or o to
+    → (m ≤ℤ to → IsUnitsBetween unit from to z) × (to <ℤ m → IsUnitsBetween unit from to (z -ℤ pos 1))
+forth_by unit from to z m o date also le e moved out =
     let none = none_apart unit from date in
-    let forth : pos 0 ≤ℤ z = omega (arith, signed, none, e, rises unit from from to le) in (
+    let forth : pos 0 ≤ℤ z = omega (arith, signed, none, e, rises unit from from to le) in
+    let is = reads unit from z to m o (comes unit from z from to date date also (omega (arith, signed, none, forth)) (omega (arith, signed, e))) moved out in (
       (λ not_past. record {
-        forth = forth;
-        reached = at_unit unit from z m (λ k. k ≤ℤ to) is not_past;
-        most = λ more lt. if_any (unit_move unit from more) (λ k. to <ℤ k) (λ k there. after unit from more k to there (omega (arith, signed, e, lt)));
+        forth = λ _. record {
+          forth = forth;
+          reached = at_unit unit from z m (λ k. k ≤ℤ to) is not_past;
+          most = λ more lt. if_any (unit_move unit from more) (λ k. to <ℤ k) (λ k there. after unit from more k to there (omega (arith, signed, e, lt)));
+        };
+        back = λ lt. absurd (omega (arith, signed, le, lt));
       }),
       (λ past.
           let some : pos 1 ≤ℤ z = by_lt_z (pos 0) z (λ lt. omega (arith, signed, lt)) (λ ge. absurd (omega (arith, signed, le, past, same_Some m from (sym is ∙ stays unit from z date (omega (arith, signed, ge, forth)))))) in
           let short = comes unit from (z -ℤ pos 1) from to date date also (omega (arith, signed, none, some)) (omega (arith, signed, e)) in
           record {
-            forth = omega (arith, signed, some);
-            reached = at_unit unit from (z -ℤ pos 1) short.day (λ k. k ≤ℤ to) short.is (omega (arith, signed, before unit from (z -ℤ pos 1) short.day to short.is (omega (arith, signed, e))));
-            most = λ more lt. if_any (unit_move unit from more) (λ k. to <ℤ k) (λ k there. by_lt_z z more (λ further. after unit from more k to there (omega (arith, signed, e, further)))
-                (λ at. let same : more ≡ z = omega (arith, signed, at, lt) in omega (arith, signed, past, same_Some k m (sym there ∙ ap (unit_move unit from) same ∙ is))));
+            forth = λ _. record {
+              forth = omega (arith, signed, some);
+              reached = at_unit unit from (z -ℤ pos 1) short.day (λ k. k ≤ℤ to) short.is (omega (arith, signed, before unit from (z -ℤ pos 1) short.day to short.is (omega (arith, signed, e))));
+              most = λ more lt. if_any (unit_move unit from more) (λ k. to <ℤ k) (λ k there. by_lt_z z more (λ further. after unit from more k to there (omega (arith, signed, e, further)))
+                  (λ at. let same : more ≡ z = omega (arith, signed, at, lt) in omega (arith, signed, past, same_Some k m (sym there ∙ ap (unit_move unit from) same ∙ is))));
+            };
+            back = λ lt. absurd (omega (arith, signed, le, lt));
           }),
-    )
-
-most_back : (unit : Unit) (from to z m : ℤ) → IsDate from → IsDate to → to <ℤ from → z ≡ units_apart unit from to → unit_move unit from z ≡ Some m
-    → (to ≤ℤ m → IsMostBack unit from to z) × (m <ℤ to → IsMostBack unit from to (z +ℤ pos 1))
-most_back unit from to z m date also lt e is =
-    let none = none_apart unit from date in
-    let back : z ≤ℤ pos 0 = omega (arith, signed, none, e, rises unit from to from (omega (arith, signed, lt))) in (
-      (λ not_past. record {
-        back = back;
-        reached = at_unit unit from z m (λ k. to ≤ℤ k) is not_past;
-        most = λ more less. if_any (unit_move unit from more) (λ k. k <ℤ to) (λ k there. before unit from more k to there (omega (arith, signed, e, less)));
-      }),
-      (λ past.
-          let some : z ≤ℤ neg_ℤ (pos 1) = by_lt_z z (pos 0) (λ less. omega (arith, signed, less)) (λ ge. absurd (omega (arith, signed, lt, past, same_Some m from (sym is ∙ stays unit from z date (omega (arith, signed, ge, back)))))) in
-          let short = comes unit from (z +ℤ pos 1) to from date also date (omega (arith, signed, e)) (omega (arith, signed, none, some)) in
-          record {
-            back = omega (arith, signed, some);
-            reached = at_unit unit from (z +ℤ pos 1) short.day (λ k. to ≤ℤ k) short.is (omega (arith, signed, after unit from (z +ℤ pos 1) short.day to short.is (omega (arith, signed, e))));
-            most = λ more less. if_any (unit_move unit from more) (λ k. k <ℤ to) (λ k there. by_lt_z more z (λ further. before unit from more k to there (omega (arith, signed, e, further)))
-                (λ at. let same : more ≡ z = omega (arith, signed, at, less) in omega (arith, signed, past, same_Some k m (sym there ∙ ap (unit_move unit from) same ∙ is))));
-          }),
-    )
-
--- what is read of a move that comes to a day is that day
-pub reads : (unit : Unit) (n z to k : ℤ) (o : Option ℤ) → Comes unit n z → o ≡ unit_move unit n z → k ≡ unwrap_or o to → unit_move unit n z ≡ Some k
-reads unit n z to k o found e out = found.is ∙ ap Some (sym (out ∙ ap (λ p. unwrap_or p to) (e ∙ found.is)))
-
--- the same of the day that the code finds
-pub forth_by : (unit : Unit) (from to z m : ℤ) (o : Option ℤ) → IsDate from → IsDate to → from ≤ℤ to → z ≡ units_apart unit from to → o ≡ unit_move unit from z → m ≡ unwrap_or o to
-    → (m ≤ℤ to → IsUnitsBetween unit from to z) × (to <ℤ m → IsUnitsBetween unit from to (z -ℤ pos 1))
-forth_by unit from to z m o date also le e moved out =
-    let found = comes unit from z from to date date also (omega (arith, signed, none_apart unit from date, e, rises unit from from to le)) (omega (arith, signed, e)) in
-    let most = most_forth unit from to z m date also le e (reads unit from z to m o found moved out) in (
-      (λ not_past. record { forth = λ _. most.0 not_past; back = λ lt. absurd (omega (arith, signed, le, lt)) }),
-      (λ past. record { forth = λ _. most.1 past; back = λ lt. absurd (omega (arith, signed, le, lt)) }),
     )
 
 pub back_by : (unit : Unit) (from to z m : ℤ) (o : Option ℤ) → IsDate from → IsDate to → to <ℤ from → z ≡ units_apart unit from to → o ≡ unit_move unit from z → m ≡ unwrap_or o to
     → (to ≤ℤ m → IsUnitsBetween unit from to z) × (m <ℤ to → IsUnitsBetween unit from to (z +ℤ pos 1))
 back_by unit from to z m o date also lt e moved out =
-    let found = comes unit from z to from date also date (omega (arith, signed, e)) (omega (arith, signed, none_apart unit from date, e, rises unit from to from (omega (arith, signed, lt)))) in
-    let most = most_back unit from to z m date also lt e (reads unit from z to m o found moved out) in (
-      (λ not_past. record { forth = λ le. absurd (omega (arith, signed, le, lt)); back = λ _. most.0 not_past }),
-      (λ past. record { forth = λ le. absurd (omega (arith, signed, le, lt)); back = λ _. most.1 past }),
+    let none = none_apart unit from date in
+    let back : z ≤ℤ pos 0 = omega (arith, signed, none, e, rises unit from to from (omega (arith, signed, lt))) in
+    let is = reads unit from z to m o (comes unit from z to from date also date (omega (arith, signed, e)) (omega (arith, signed, none, back))) moved out in (
+      (λ not_past. record {
+        forth = λ le. absurd (omega (arith, signed, le, lt));
+        back = λ _. record {
+          back = back;
+          reached = at_unit unit from z m (λ k. to ≤ℤ k) is not_past;
+          most = λ more less. if_any (unit_move unit from more) (λ k. k <ℤ to) (λ k there. before unit from more k to there (omega (arith, signed, e, less)));
+        };
+      }),
+      (λ past.
+          let some : z ≤ℤ neg_ℤ (pos 1) = by_lt_z z (pos 0) (λ less. omega (arith, signed, less)) (λ ge. absurd (omega (arith, signed, lt, past, same_Some m from (sym is ∙ stays unit from z date (omega (arith, signed, ge, back)))))) in
+          let short = comes unit from (z +ℤ pos 1) to from date also date (omega (arith, signed, e)) (omega (arith, signed, none, some)) in
+          record {
+            forth = λ le. absurd (omega (arith, signed, le, lt));
+            back = λ _. record {
+              back = omega (arith, signed, some);
+              reached = at_unit unit from (z +ℤ pos 1) short.day (λ k. to ≤ℤ k) short.is (omega (arith, signed, after unit from (z +ℤ pos 1) short.day to short.is (omega (arith, signed, e))));
+              most = λ more less. if_any (unit_move unit from more) (λ k. k <ℤ to) (λ k there. by_lt_z more z (λ further. before unit from more k to there (omega (arith, signed, e, further)))
+                  (λ at. let same : more ≡ z = omega (arith, signed, at, less) in omega (arith, signed, past, same_Some k m (sym there ∙ ap (unit_move unit from) same ∙ is))));
+            };
+          }),
     )

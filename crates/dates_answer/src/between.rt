@@ -20,8 +20,10 @@ pub fn distance(from: NaiveDate, to: NaiveDate, unit: Unit) -> i64
     let left = days_between(reached, to);
     if days_between(from, to) < 0 {
         if left > 0 { units + 1 } else { units }
+    } else if left < 0 {
+        units - 1
     } else {
-        if left < 0 { units - 1 } else { units }
+        units
     }
 }
 
