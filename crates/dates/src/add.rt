@@ -35,11 +35,11 @@ pub(crate) fn command() -> CommandRow {
     }
 }
 
-// A move, and the word that writes it.
+// A move, and the text that writes it.
 #[derive(Clone, Copy)]
 struct Step<'a> {
     by: Move,
-    word: Word<'a>,
+    text: &'a str,
 }
 
 // Steps, one after another.
@@ -60,7 +60,8 @@ impl<'a, A: Allocator> Steps<'a, A> {
             Move::Time(_) => self.timed = true,
             _ => {}
         }
-        self.list.push(Step { by, word })?;
+        let text = word.text;
+        self.list.push(Step { by, text })?;
         Ok(())
     }
 }
@@ -154,8 +155,7 @@ impl<'a, A: Allocator> Add<'a, A> {
             match moved_by(last, step.by, &mut self.holidays)? {
                 Some(reached) => last = reached,
                 None => {
-                    let text = step.word.text;
-                    return print_past(rt, self.form, none_of(last), place, &last, text);
+                    return print_past(rt, self.form, none_of(last), place, &last, step.text);
                 }
             }
         }
