@@ -555,7 +555,7 @@ PLANTED = [
     (comments, "crates/chrono_naive/src/naive_date.rt", "impl NaiveDate {\n", "impl NaiveDate {\n    /// See [`NaiveDate::day_after`].\n"),
     (comments, "crates/chrono_naive/src/naive_date.rt", "impl NaiveDate {\n", "impl NaiveDate {\n    pub const FIRST: i32 = 1;\n"),
     (crates, ARCHITECTURE, "rows_cron", "rows_of_cron"),
-    (pasted, README, "| rt run)", "| rt runs)"),
+    (pasted, README, "| tools/prove caltool", "| tools/proved caltool"),
     (pasted, README, "`2025-02-28`", "`2025-02-27`"),
     (pasted, README, "# 2024-02-29 738945 Thu 2024-W09 60 ", "# 2024-02-29 738946 Thu 2024-W09 60 "),
     (pasted, CALTOOL, "| `2025-01-01 739252 ", "| `2025-01-01 739253 "),
