@@ -1,5 +1,5 @@
 -- The kinds of local time of a TZif file, its times and its names (RFC 9636, section 3.2).
-use Rattle.std.specs.Prelude.{◌≡◌, ◌==◌, ◌+◌, ◌*◌, ◌<◌, ◌≤◌, ℕ, ℤ, Bool, true, List, length, take, drop, slice_index, if◌then◌else◌}
+use Rattle.std.specs.Prelude.{◌≡◌, ◌==◌, ◌+◌, ◌*◌, ◌<◌, ◌≤◌, ℕ, ℤ, pos, neg_ℤ, Bool, true, List, [], ◌∷◌, length, take, drop, slice_index, if◌then◌else◌, refl}
 use Rattle.std.specs.Int.{cast_signed, from_be_bytes, w32, w64}
 use Rattle.std.specs.List.{before_first}
 use Rattle.chrono_text.specs.Lists.{stands_in}
@@ -44,3 +44,13 @@ pub record IsFileRow (version : ℕ) (times places kinds : List ℕ) (k : ℕ) (
   pub timed : k * time_length version + time_length version ≤ length times
   pub second : time_in version times k ≡ row.second
   pub offset : IsKindOffset kinds (slice_index places k) row.offset
+
+-- known values: five hours behind UTC, the last minute of 1969, and the least time of 32 bits
+offset-new_york : cast_signed w32 (count_in 0 (255 ∷ 255 ∷ 185 ∷ 176 ∷ [])) ≡ neg_ℤ (pos 18_000)
+offset-new_york = refl
+
+time_in-second : time_in 50 (0 ∷ 0 ∷ 0 ∷ 0 ∷ 0 ∷ 0 ∷ 0 ∷ 0 ∷ 255 ∷ 255 ∷ 255 ∷ 255 ∷ 255 ∷ 255 ∷ 255 ∷ 196 ∷ []) 1 ≡ neg_ℤ (pos 60)
+time_in-second = refl
+
+time_in-least : time_in 0 (128 ∷ 0 ∷ 0 ∷ 0 ∷ []) 0 ≡ neg_ℤ (pos 2_147_483_648)
+time_in-least = refl
