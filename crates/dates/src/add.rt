@@ -35,17 +35,11 @@ pub(crate) fn command() -> CommandRow {
     }
 }
 
-// A move, and the text that writes it.
-#[derive(Clone, Copy)]
-struct Step<'a> {
-    by: Move,
-    text: &'a str,
-}
-
-// Steps, one after another.
+// Steps, one after another: moves, and the words that write them.
 #[derive(Drop)]
 struct Steps<'a, A: Allocator> {
-    list: Vec<Step<'a>, A>,
+    moves: Vec<Move, A>,
+    words: Vec<Word<'a>, A>,
     // The first word that writes months by `m`.
     short: Option<Word<'a>>,
     // Whether a step is a time.
@@ -60,8 +54,8 @@ impl<'a, A: Allocator> Steps<'a, A> {
             Move::Time(_) => self.timed = true,
             _ => {}
         }
-        let text = word.text;
-        self.list.push(Step { by, text })?;
+        self.moves.push(by)?;
+        self.words.push(word)?;
         Ok(())
     }
 }
@@ -77,7 +71,8 @@ struct Add<'a, A: Allocator> {
 // The day or the date-time, or that of each line, moved; the exit status.
 pub(crate) fn answer<'a, R: Host>(rt: &R, asked: &mut Asked<'a, impl Allocator>) -> Answered<'a> {
     let mut steps: Steps<'a, R::A> = Steps {
-        list: Vec::new(rt.alloc()),
+        moves: Vec::new(rt.alloc()),
+        words: Vec::new(rt.alloc()),
         short: None,
         timed: false,
     };
@@ -89,7 +84,7 @@ pub(crate) fn answer<'a, R: Host>(rt: &R, asked: &mut Asked<'a, impl Allocator>)
     };
     match start {
         Some(start) => Ok(add.answer_start(rt, Place::Alone, start)?),
-        None => take_input(rt, &mut add),
+        None => Ok(take_input(rt, &mut add)?),
     }
 }
 
@@ -140,7 +135,7 @@ fn check_steps<'a>(
     steps: &Steps<'a, impl Allocator>,
 ) -> Result<(), Fault<'a>> {
     match (steps.short, start) {
-        _ if steps.list.is_empty() => Err(Fault::Missing("SPAN")),
+        _ if steps.moves.is_empty() => Err(Fault::Missing("SPAN")),
         (Some(word), Some(Start::DateTime(_))) => Err(Fault::Word(word, Cause::Months(word.text))),
         (Some(word), _) if steps.timed => Err(Fault::Word(word, Cause::Months(word.text))),
         _ => Ok(()),
@@ -151,13 +146,16 @@ impl<'a, A: Allocator> Add<'a, A> {
     // What is moved, by each step in turn, or `none` where one leads out of the calendar; the exit status.
     fn answer_start(&mut self, rt: &impl Host, place: Place, start: Start) -> io::Result<u8> {
         let mut last = start;
-        for step in self.steps.list.as_slice() {
-            match moved_by(last, step.by, &mut self.holidays)? {
+        let mut step: usize = 0;
+        for by in self.steps.moves.as_slice() {
+            match moved_by(last, *by, &mut self.holidays)? {
                 Some(reached) => last = reached,
                 None => {
-                    return print_past(rt, self.form, none_of(last), place, &last, step.text);
+                    let text = text_at(self.steps.words.as_slice(), step);
+                    return print_past(rt, self.form, none_of(last), place, &last, text);
                 }
             }
+            step = step.saturating_add(1);
         }
         print_reply(rt, self.form, reply_of(last))
     }
@@ -184,6 +182,14 @@ impl<'a, A: Allocator> EachLine for Add<'a, A> {
             }
             _ => print_reply(rt, self.form, Reply::Nothing(Key::Date)),
         }
+    }
+}
+
+// The text of the step at a place, or none.
+fn text_at<'a>(words: &[Word<'a>], place: usize) -> &'a str {
+    match words.get(place) {
+        Some(word) => word.text,
+        None => "",
     }
 }
 

@@ -1,7 +1,7 @@
 //! The lines of a file, or of standard input, that are no days.
 
 use crate::holidays::open_file;
-use crate::lines::{Reason, day_of_line, take_lines};
+use crate::lines::{Reason, day_of_line, fault_in, take_lines};
 use crate::prelude::*;
 use crate::source::Source;
 use dates_answer::WrongLine;
@@ -39,9 +39,12 @@ pub(crate) fn answer<'a>(rt: &impl Host, asked: &mut Asked<'a, impl Allocator>) 
     match asked.word_or_lines() {
         Some(word) => {
             let file = value!(open_file(rt, word));
-            take_lines(rt, Source::Word(word), file, &mut lines)
+            match take_lines(rt, file, &mut lines) {
+                Ok(status) => Ok(status),
+                Err(fault) => Err(fault_in(Source::Word(word), fault)),
+            }
         }
-        None => take_input(rt, &mut lines),
+        None => Ok(take_input(rt, &mut lines)?),
     }
 }
 

@@ -60,7 +60,7 @@ pub(crate) fn answer<'a>(rt: &impl Host, asked: &mut Asked<'a, impl Allocator>) 
     let form = asked.form;
     match asked.word_or_lines() {
         Some(word) => asked.print(rt, Reply::Names(value!(first_of(word)))),
-        None => take_input(rt, &mut NamedLines { form }),
+        None => Ok(take_input(rt, &mut NamedLines { form })?),
     }
 }
 

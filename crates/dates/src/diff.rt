@@ -86,7 +86,7 @@ pub(crate) fn answer<'a>(rt: &impl Host, asked: &mut Asked<'a, impl Allocator>) 
     };
     match (from, to) {
         (Some(from), Some(to)) => Ok(diff.answer_ends(rt, from, to)?),
-        _ => take_input(rt, &mut diff),
+        _ => Ok(take_input(rt, &mut diff)?),
     }
 }
 

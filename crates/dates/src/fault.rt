@@ -1,7 +1,7 @@
 //! Faults: why a command has no answer, and the exit statuses.
 
 use crate::asked::{Host, print_reply};
-use crate::lines::Reason;
+use crate::lines::{LineFault, Reason, fault_in};
 use crate::source::{Shown, Source};
 use crate::table::{NAME, commands};
 use crate::values::Year;
@@ -107,6 +107,12 @@ const RULE: &str = "a rule as FREQ=MONTHLY;BYDAY=-1FR";
 impl From<io::Error> for Fault<'_> {
     fn from(error: io::Error) -> Self {
         Fault::Failed(error)
+    }
+}
+
+impl From<LineFault> for Fault<'_> {
+    fn from(fault: LineFault) -> Self {
+        fault_in(Source::Input, fault)
     }
 }
 

@@ -1,6 +1,6 @@
 //! Lines of input, of each of which only so many bytes are kept, and commands that take each of them.
 
-use crate::asked::{Answered, Host, print_reply};
+use crate::asked::{Host, print_reply};
 use crate::fault::{ANSWERED, Fault, NONE};
 use crate::source::Source;
 use crate::texts::{Start, StartError, read_day, read_start};
@@ -32,19 +32,33 @@ pub(crate) fn read_line(
     Ok(count > 0)
 }
 
+/// Why lines are not taken to the last.
+#[derive(Drop)]
+pub(crate) enum LineFault {
+    /// They cannot be read.
+    Unread(io::Error),
+    /// No answer can be written, or memory is short.
+    Failed(io::Error),
+}
+
+impl From<io::Error> for LineFault {
+    fn from(error: io::Error) -> Self {
+        LineFault::Failed(error)
+    }
+}
+
 /// A command that takes each line of a text.
 pub(crate) trait EachLine {
     /// Takes the line of this number, from 1 on; the exit status.
     fn take_line(&mut self, rt: &impl Host, number: u64, line: &[u8]) -> io::Result<u8>;
 }
 
-// Takes each line of what a source has; the greatest exit status.
-pub(crate) fn take_lines<'a, C: EachLine>(
+// Takes each line; the greatest exit status.
+pub(crate) fn take_lines<C: EachLine>(
     rt: &impl Host,
-    source: Source<'a>,
     reader: impl Read + Drop,
     command: &mut C,
-) -> Answered<'a> {
+) -> Result<u8, LineFault> {
     let mut status = ANSWERED;
     let mut line = Vec::new(rt.alloc());
     let mut reader = BufReader::new(rt.alloc(), reader)?;
@@ -52,15 +66,23 @@ pub(crate) fn take_lines<'a, C: EachLine>(
         match read_line(&mut reader, &mut line) {
             Ok(true) => status = status.max(command.take_line(rt, number, line.as_slice())?),
             Ok(false) => break,
-            Err(error) => return Err(Fault::Input(source, error)),
+            Err(error) => return Err(LineFault::Unread(error)),
         }
     }
     Ok(status)
 }
 
 // Takes each line of the input; the greatest exit status.
-pub(crate) fn take_input<'a, C: EachLine>(rt: &impl Host, command: &mut C) -> Answered<'a> {
-    take_lines(rt, Source::Input, rt.reader(), command)
+pub(crate) fn take_input<C: EachLine>(rt: &impl Host, command: &mut C) -> Result<u8, LineFault> {
+    take_lines(rt, rt.reader(), command)
+}
+
+// Why a command has no answer, where lines of a source are not taken to the last.
+pub(crate) fn fault_in<'a>(source: Source<'a>, fault: LineFault) -> Fault<'a> {
+    match fault {
+        LineFault::Unread(error) => Fault::Input(source, error),
+        LineFault::Failed(error) => Fault::Failed(error),
+    }
 }
 
 /// Which line of the input is answered, as `line 3: `; nothing where the words ask for one answer alone.

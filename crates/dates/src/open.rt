@@ -43,7 +43,7 @@ pub(crate) fn answer<'a>(rt: &impl Host, asked: &mut Asked<'a, impl Allocator>) 
     let mut open = Open { form, holidays };
     match date {
         Some(date) => Ok(open.answer_day(rt, date)?),
-        None => take_input(rt, &mut open),
+        None => Ok(take_input(rt, &mut open)?),
     }
 }
 

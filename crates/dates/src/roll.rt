@@ -61,7 +61,7 @@ pub(crate) fn answer<'a>(rt: &impl Host, asked: &mut Asked<'a, impl Allocator>) 
     };
     match date {
         Some(date) => Ok(rolls.answer_day(rt, Place::Alone, date)?),
-        None => take_input(rt, &mut rolls),
+        None => Ok(take_input(rt, &mut rolls)?),
     }
 }
 
