@@ -76,6 +76,20 @@ fn main(rt: HostRuntime) -> io::Result<()> {
                     Err(error) => println!(rt; "= none {}", error.byte <= bytes.len())?,
                 }
             }
+            "whytext" => match read(line.as_str()[8..].as_bytes()) {
+                Ok(_) => println!(rt; "= none")?,
+                Err(error) => println!(rt; "= {:?} {}", error.fault, error.byte)?,
+            },
+            "whyfile" => {
+                bytes.clear();
+                for pair in line.as_str()[8..].as_bytes().chunks_exact(2) {
+                    bytes.push(digit_of(pair[0]) * 16 + digit_of(pair[1]))?;
+                }
+                match zone_file::read(bytes.as_slice()) {
+                    Ok(_) => println!(rt; "= none")?,
+                    Err(error) => println!(rt; "= {:?} {}", error.fault, error.byte)?,
+                }
+            }
             "ordered" => println!(rt; "= {:?}", first_unordered(first, rows.as_slice()))?,
             "text" => match read(line.as_str()[5..].as_bytes()) {
                 Ok(zone) => {
@@ -449,6 +463,21 @@ def changed_text(draw, text):
     return f"text {text}", rule.told() if rule else "none true"
 
 
+def faults():
+    """Texts and files with each fault, and what the program has to say."""
+    text = {"": "NoName 0", "EST": "NoOffset 3", "XXX24": "OffsetOfDay 3", "EST5EDT": "NoDays 7", "EST5EDT,M3.2.0,M13.1.0": "NoChange 15", "EST5ED,M3.2.0,M11.1.0": "NoName 4"}
+    yield from ((f"whytext {it}", why) for it, why in text.items())
+    header = lambda version, leap=0, kinds=1, chars=4, isut=0: b"TZif" + version + bytes(15) + struct.pack(">6L", isut, 0, leap, 0, kinds, chars)  # noqa: E731
+    data = bytes(6) + b"UTC\0"
+    utc = header(b"2") + data
+    whole = utc + utc + b"\nUTC0\n"
+    files = [(b"?" * 60, "NoHeader 0"), (b"GIF89a", "CutOff 0"), (header(b"5") + data, "UnknownVersion 0"), (header(b"\0", kinds=0), "WrongCounts 0")]
+    files += [(header(b"\0", isut=3) + data + bytes(3), "WrongCounts 0"), (header(b"\0", leap=1) + data + bytes(8), "LeapSeconds 0")]
+    files += [(utc + utc, f"WrongFooter {2 * len(utc)}"), (whole[:-1], f"WrongFooter {2 * len(utc)}"), (whole, "none"), (utc[:-1], f"CutOff {44}")]
+    files += [(utc + b"?" * 60, f"NoHeader {len(utc)}")]
+    yield from ((f"whyfile {it.hex()}", why) for it, why in files)
+
+
 def zones():
     for name in sorted(zoneinfo.available_timezones()):
         for folder in zoneinfo.TZPATH:
@@ -485,6 +514,7 @@ def main():
     each = max(1, options.lines // (3 * len(known)))
     for zone in known:
         rows += of_zone(draw, zone, each)
+    rows += faults()
     while len(rows) < options.lines:
         rule = made_rule(draw)
         rows += of_rule(draw, rule, 20)

@@ -39,6 +39,7 @@ const CLOCK_LEN: usize = 19;
 /// - The fraction has one to nine digits. The second 60 is the leap second that follows 59. Any minute may have it.
 /// - The offset is `Z`, `+hh`, `+hh:mm` or `+hh:mm:ss`, also with `-`. Its seconds are not 0. `-00` and `-00:00` are UTC.
 /// - The basic form is the same with no `-` in the date and no `:`. Its year has four digits and no sign.
+/// - Seconds of an offset and `-00:00` go beyond ISO 8601. Hours alone (`T15`), `24:00` and parts of minutes are not read.
 pub fn parse_from_iso8601(text: &[u8]) -> Result<DateTime<FixedOffset>, ReadError>
     ensures read { IfOk result (λ it. IsIso8601Text text.now (moment_ahead it.utc it.zone) it.zone) }
     // Whatever local time and offset have this text are the answer: no text is refused, and none has two meanings.

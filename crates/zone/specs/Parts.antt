@@ -32,7 +32,7 @@ abbrev pub zone_offset : ZoneParts → ℤ → ℤ
 zone_offset z u = offset_with z.first z.rows z.rule u
 
 -- the rule goes on from a row: "evaluating the TZ string at the time of the last transition should yield the same time type as was
--- specified in the last transition". It sets the clock at no second in the two days behind the row
+-- specified in the last transition". A type is an offset here. It sets the clock at no second in the two days behind the row
 pub record GoesOn (row : Row) (r : ZoneRule) : Type 0 where
   pub agrees : rule_offset r row.second ≡ row.offset
   pub apart : (v : ℤ) → row.second <ℤ v → IsSetAt r v → (row.second +ℤ pos 172_800) <ℤ v

@@ -53,8 +53,8 @@ impl<'a> Zone<'a> {
     ///
     /// # Errors
     ///
-    /// Returns [`ZoneFault::Unordered`] if a row does not follow the one before it, and else [`ZoneFault::NotJoined`] if the rule
-    /// does not go on from the last row.
+    /// Returns [`ZoneFault::Unordered`] if a row does not follow the one before it. Otherwise returns [`ZoneFault::NotJoined`] if the
+    /// rule shows another offset than the last row, or sets the clock within two days behind it.
     ///
     /// ```
     /// let zero = FixedOffset::east_opt(0)?;

@@ -8,7 +8,7 @@ pub enum ZoneFileFault {
     NoHeader,
     /// The version is not from 1 to 4.
     UnknownVersion,
-    /// The file ends before the data that the header counts.
+    /// The file ends within the header, or before the data that it counts.
     CutOff,
     /// The header counts no kind or no name, or indicators for some kinds alone.
     WrongCounts,
@@ -22,6 +22,7 @@ pub enum ZoneFileFault {
 ///
 /// ```
 /// read(b"GIF89a").err() // Some(ZoneFileError { fault: CutOff, byte: 0 })
+/// read(&[b'?'; 60]).err() // Some(ZoneFileError { fault: NoHeader, byte: 0 })
 /// ```
 #[derive(Clone, Copy, Debug, PartialEq, Eq)]
 pub struct ZoneFileError {

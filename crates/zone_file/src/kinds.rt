@@ -23,7 +23,8 @@ pub struct LocalTimeKind<'a> {
 impl<'a> ZoneFile<'a> {
     /// Returns the kind at a place, counted from 0. The kind 0 holds before the first time.
     ///
-    /// Returns `None` if the file has no such kind, if its offset is a day or more, or if its name has no end.
+    /// Returns `None` if the file has no such kind, if its offset is a day or more, if its byte of daylight time is neither 0 nor 1,
+    /// or if its name has no end.
     ///
     /// ```
     /// let file = ZoneFile { version: 0, times: &[], places: &[], kinds: &[0, 0, 14, 16, 1, 0], names: b"BST\0", footer: &[] };

@@ -20,8 +20,7 @@ pub enum ZoneRowsError {
 impl<'a> ZoneFile<'a> {
     /// Writes the rows of the file's table into `rows`, and returns how many there are.
     ///
-    /// Rows that follow them stay as they are. On an error, some rows may be written. Whether the rows rise, `first_unordered`
-    /// of `zone_table` says.
+    /// On an error, some rows may be written. Whether the rows rise, `first_unordered` of `zone_table` says.
     ///
     /// ```
     /// use zone_table::FixedOffset;
@@ -55,7 +54,7 @@ impl<'a> ZoneFile<'a> {
 
     /// Returns the row at a place of the file's table, counted from 0.
     ///
-    /// Returns `None` if the file has no such row, or if its offset is a day or more.
+    /// Returns `None` if the file has no such row, or if its kind is missing or has an offset of a day or more.
     ///
     /// ```
     /// let kinds = &[0, 0, 0, 0, 0, 0, 0, 0, 14, 16, 1, 0];

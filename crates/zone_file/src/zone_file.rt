@@ -33,7 +33,7 @@ pub struct ZoneFile<'a> {
 /// the text of the footer are not looked into.
 ///
 /// If `bytes` are no such file, returns what is wrong first, and where. A file with leap seconds is an error, since its seconds are
-/// not those of POSIX. Which fault that is is tested, and no clause states it.
+/// not those of POSIX. The contract does not say which fault is named.
 ///
 /// ```
 /// let mut bytes = [0; 54];

@@ -6,7 +6,7 @@ ghost use Rattle.zone_text.specs.ZoneTexts.{IsZoneText};
 
 /// Known texts:
 ///
-/// - Honolulu and Jerusalem (RFC 9636, appendix B.2 and B.3), the second with a time of 26 hours;
+/// - Honolulu and Jerusalem (RFC 9636, appendix B), the second with a time of 26 hours;
 /// - daylight time all year (RFC 9636, section 3.3.1);
 /// - Nuuk (RFC 9636, section 3.3.1), with names in angle brackets and times before midnight;
 /// - Dublin, whose daylight time is behind its standard time.

@@ -28,7 +28,7 @@ pub struct ZoneText<'a> {
 /// Reads the rule that `text` writes, such as `EST5EDT,M3.2.0,M11.1.0` or `<+0330>-3:30`, and its names, which are slices of
 /// `text`.
 ///
-/// If `text` writes none, returns what is wrong first, and at which byte. Which fault that is is tested, and no clause states it.
+/// If `text` writes none, returns what is wrong first, and at which byte. The contract does not say which fault is named.
 ///
 /// ```
 /// let dublin = read(b"IST-1GMT0,M10.5.0,M3.5.0/1").ok()?;
@@ -41,7 +41,7 @@ pub struct ZoneText<'a> {
 /// - The offset is how far the clock is behind UTC, so `EST5` is west of Greenwich. Daylight time with none is an hour ahead of
 ///   standard time.
 /// - A time with none is 02:00. Its hours are from -167 to 167.
-/// - Numbers may have any number of digits.
+/// - Numbers and names may be of any length. A text that begins with `:` is none.
 pub fn read(text: &[u8]) -> Result<ZoneText<'_>, ZoneTextError>
     ensures read { IfOk result (λ it. IsZoneText text.now it.standard_name.now it.daylight_name.now it.rule) }
     // Whatever names and rule have this text are the answer: no text is refused, and none has two meanings.
