@@ -5,7 +5,7 @@
 
 It takes the libcalendar_c.a that `rt lib` leaves in crates/calendar_c/out, if that is newer than all sources. Else it runs `rt lib`
 there, if the libraries below are built, and after `rt ci`, which builds none for other commands, in a repository of its own over
-what is proved of them, as checks/outside.py does.
+what is proved of them, as checks/outside.py does. Then no library is proved again.
 
 Compared are names, results and parameters, each way: those of calendar.h with the exports of crates/calendar_c, with the symbols
 of the library and with the declarations of the Rust crate; the fields of both structs; the processors that texts and header name,
@@ -16,6 +16,8 @@ has to be called in C's tests, and to have a test of its name in the other two, 
 alone has. The
 examples of the READMEs are run too, and the uses that README.md shows have to stand in them.
 """
+import contextlib
+import io
 import os
 import re
 import shutil
@@ -28,7 +30,7 @@ sys.path.insert(0, f"{TOP}/tools")
 import from_c  # noqa: E402
 import from_python  # noqa: E402
 import from_rust  # noqa: E402
-from library import HIGHER, build_higher, find_library  # noqa: E402
+from library import HIGHER, build_higher, find_library, is_left_by_gate, libraries_below, listed_crates  # noqa: E402
 from results import LANGUAGES, Results, example, read, run  # noqa: E402
 
 CRATE = f"{TOP}/crates/calendar_c"
@@ -297,11 +299,22 @@ def compare_sources(results):
     return header
 
 
+def take_library(results, room):
+    """The library. What the gate left proved of the libraries below it is not proved again."""
+    is_left, said = is_left_by_gate(libraries_below(listed_crates())), io.StringIO()
+    with contextlib.redirect_stdout(said):
+        library = find_library(room)
+    print(said.getvalue(), end="")
+    again = [it for it in re.findall(r"^(\w+): proving", said.getvalue(), re.M) if it != "calendar_c"]
+    results.count(not (is_left and again), f"proved again, though the gate left them proved: {' '.join(again)}")
+    return library
+
+
 def main():
     results = Results()
     header = compare_sources(results)
     with tempfile.TemporaryDirectory(prefix="languages-") as room:
-        library = find_library(room)
+        library = take_library(results, room)
         results.count(library, "there is no libcalendar_c.a, and `rt lib` does not build it")
         if library:
             compare_symbols(results, header, library)

@@ -29,6 +29,7 @@ import datetime
 import itertools
 import os
 import random
+import resource
 import sys
 
 from row_programs import TOP, failed_rows, program_of
@@ -42,6 +43,8 @@ DAILY, WEEKLY, MONTHLY, YEARLY = range(4)
 FREQUENCIES = ("DAILY", "WEEKLY", "MONTHLY", "YEARLY")
 WEEKDAYS = ("MO", "TU", "WE", "TH", "FR", "SA", "SU")
 FIRST = 30
+# The most processor seconds of all questions over the whole calendar: each takes less than a tenth of one.
+MOST_SECONDS = 2
 
 try:
     from dateutil import rrule
@@ -232,6 +235,18 @@ def examples():
     return len(rows) - len(otherwise), len(otherwise) if rows else 1
 
 
+def searches():
+    """How many questions from an end of the calendar are answered as the rows say, and all of them in little time."""
+    with open(EXAMPLES, encoding="ascii") as it:
+        rows = [line.strip() for line in it if line.startswith(("after ", "before ")) and " -95746129 " in line]
+    before = resource.getrusage(resource.RUSAGE_CHILDREN)
+    passed, failed = asked("over the whole calendar", rows)
+    after = resource.getrusage(resource.RUSAGE_CHILDREN)
+    seconds = after.ru_utime + after.ru_stime - before.ru_utime - before.ru_stime
+    print(f"these take {seconds:.2f} processor seconds, of at most {MOST_SECONDS}")
+    return passed, failed + (not rows or seconds > MOST_SECONDS)
+
+
 # ---- rules
 
 
@@ -383,7 +398,7 @@ def main():
         end = start.replace(year=start.year + 400, day=1)
         rule.until = None if rule.count else end - datetime.timedelta(1)
         rows.append(rule.row(start, walked(rule, start, end), True))
-    results = [examples(), asked("400 years, day by day", rows)]
+    results = [examples(), searches(), asked("400 years, day by day", rows)]
     near = []
     for _ in range(options.rules // 10):
         rule, start = at_random(chance, alone=True)

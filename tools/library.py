@@ -48,6 +48,12 @@ def is_left_by_gate(libraries):
     return all(os.path.isdir(it) and not os.path.exists(f"{it}/stamp") for it in (f"{TOP}/crates/{name}/out/rlib" for name in libraries))
 
 
+def libraries_below(crates):
+    """The libraries that the static library is made of, lowest first."""
+    *libraries, _ = below(next(it for it in crates if it.split()[0] == "calendar_c"), crates)
+    return libraries
+
+
 def find_library(room):
     """The static library: the one here, if it is newer than what it is made from, or else one that is built now.
 
@@ -55,7 +61,7 @@ def find_library(room):
     copy, in the folder `room`. None without `rt`, or if a library does not build.
     """
     crates = listed_crates()
-    *libraries, _ = below(next(it for it in crates if it.split()[0] == "calendar_c"), crates)
+    libraries = libraries_below(crates)
     if is_newer(f"{TOP}/{HERE}", libraries):
         return f"{TOP}/{HERE}"
     if not shutil.which("rt"):
