@@ -471,7 +471,7 @@ def faults():
     data = bytes(6) + b"UTC\0"
     utc = header(b"2") + data
     whole = utc + utc + b"\nUTC0\n"
-    files = [(b"?" * 60, "NoHeader 0"), (b"GIF89a", "CutOff 0"), (header(b"5") + data, "UnknownVersion 0"), (header(b"\0", kinds=0), "WrongCounts 0")]
+    files = [(b"?" * 60, "NoHeader 0"), (b"GIF89a", "CutOff 0"), (header(b"5") + data, "UnknownVersion 0"), (header(b"\0", kinds=0) + data[6:], "WrongCounts 0")]
     files += [(header(b"\0", isut=3) + data + bytes(3), "WrongCounts 0"), (header(b"\0", leap=1) + data + bytes(8), "LeapSeconds 0")]
     files += [(utc + utc, f"WrongFooter {2 * len(utc)}"), (whole[:-1], f"WrongFooter {2 * len(utc)}"), (whole, "none"), (utc[:-1], f"CutOff {44}")]
     files += [(utc + b"?" * 60, f"NoHeader {len(utc)}")]
