@@ -131,6 +131,8 @@ def printed():
     """What each command of RUN prints."""
     with tempfile.TemporaryDirectory(prefix="pasted-") as room:
         make_room(room, ["caltool", "dates"])
+        for it in ("checks", "tools"):
+            os.symlink(f"{TOP}/{it}", f"{room}/{it}")
         with Shell(room) as shell:
             return {command: shell.paste(command) for command in RUN}
 
