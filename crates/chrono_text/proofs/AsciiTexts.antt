@@ -5,6 +5,7 @@ use Rattle.std.specs.Str.{IsAscii}
 use Rattle.std.specs.Fmt.{decimal, sign_text}
 use Rattle.std.specs.Int.{is_negative}
 use Rattle.std.specs.Ordering.{int_eq}
+use Rattle.std.proofs.lemmas.Bool.{ltb-true}
 use Rattle.std.proofs.Math.Nat.{mod-lt, one-le-pow, pow-succ'}
 use Rattle.std.proofs.lemmas.Fmt.{IsAscii-decimal}
 use Rattle.std.proofs.lemmas.Nat.{div_below}
@@ -12,7 +13,7 @@ use Rattle.std.proofs.lemmas.Str.{IsAscii-append}
 use Rattle.std.proofs.lemmas.Str.Ascii.{IsAscii-nil, IsAscii-cons}
 use Rattle.chrono_text.proofs.DigitLemmas.{by_size}
 use Rattle.chrono_text.proofs.TextLemmas.{year_text-four, year_text-more}
-use Rattle.chrono_text.specs.Text.{nanos_per_second, two_digits, all_digits, fraction_digits, fraction_text, subsecond_text, year_digits, year_text, calendar_text, ordinal_text, week_text, week_date_text, clock_text, seconds_text, duration_text}
+use Rattle.chrono_text.specs.Text.{nanos_per_second, number_text, two_digits, all_digits, fraction_digits, fraction_text, subsecond_text, year_digits, year_text, calendar_text, ordinal_text, week_text, week_date_text, clock_text, seconds_text, duration_text}
 use Rattle.std.specs.List.{AllByRecursion}
 
 -- a text put behind nothing
@@ -67,6 +68,10 @@ IsAscii-fraction_digits (suc places) n h =
 
 pub IsAscii-two_digits : (n : ℕ) → n < 100 → IsAscii (two_digits n)
 IsAscii-two_digits n h = IsAscii-cons (48 + n / 10) ((48 + n % 10) ∷ []) (omega arith) (IsAscii-cons (48 + n % 10) [] (omega arith) IsAscii-nil)
+
+pub IsAscii-number_text : (n : ℕ) → n < 100 → IsAscii (number_text n)
+IsAscii-number_text n h =
+    IsAscii-if (nat_lt n 10) ((48 + n) ∷ []) (two_digits n) (λ few. IsAscii-one (48 + n) (omega (arith, ltb-true n 10 few))) (λ _. IsAscii-two_digits n h)
 
 -- ---- dates
 

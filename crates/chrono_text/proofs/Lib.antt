@@ -8,5 +8,6 @@ pub mod NumberLemmas
 pub mod ListLemmas
 pub mod NaturalLemmas
 pub mod Decimals
+pub mod AnswerLemmas
 -- The rest serve this crate's own proofs alone.
 mod LaneLemmas

@@ -1,12 +1,15 @@
 -- Numbers without a sign, of a whole text.
-use Rattle.std.proofs.Common.{◌≡◌, ℕ, ◌-◌, ◌^◌, ◌<◌, ◌≤◌, min, nat_le, if◌then◌else◌, List, [], ◌∷◌, length, take, get_or, Some, None, Option, refl, sym, ap, ◌∙◌, arith}
+use Rattle.std.proofs.Common.{◌≡◌, ℕ, ◌+◌, ◌-◌, ◌/◌, ◌%◌, ◌^◌, ◌<◌, ◌≤◌, min, nat_le, nat_lt, Bool, true, false, if◌then◌else◌, List, [], ◌∷◌, length, take, get_or, Some, None, Option, refl, sym, ap, ◌∙◌, arith}
 use Rattle.std.specs.Int.{IsInRange}
 use Rattle.std.specs.List.{AllByRecursion}
 use Rattle.std.specs.Option.{option_and_then, option_map}
+use Rattle.std.specs.Str.{all_ascii_digits}
 use Rattle.std.proofs.Math.Nat.{mul-le-mul_right, pow-succ', pow-le-pow_right}
-use Rattle.std.proofs.lemmas.Bool.{le-leb, lt-leb}
+use Rattle.std.proofs.lemmas.Bool.{le-leb, lt-leb, ltb-true}
+use Rattle.std.proofs.lemmas.Bool.Decides.{nat_tests}
 use Rattle.std.proofs.lemmas.List.{take_all}
-use Rattle.chrono_text.specs.Numbers.{natural_of, up_to, value_of}
+use Rattle.chrono_text.specs.Numbers.{digits_of, natural_of, up_to, value_of}
+use Rattle.chrono_text.specs.Text.{number_text, two_digits}
 use Rattle.chrono_text.proofs.NumberLemmas.{mapped, natural_past, natural_read}
 
 -- no digit, and a byte that is none
@@ -68,3 +71,32 @@ too_large o v is large =
 pub uncounted : (o : Option ℕ) → option_map (min 18_446_744_073_709_551_615) o ≡ None → option_and_then (up_to 4_294_967_295) o ≡ None
 uncounted None h = refl
 uncounted (Some n) h = let wrong : ⊥ = cc in absurd wrong
+
+-- ---- a number of one digit or two is read from them
+
+some_if : (b : Bool) (v n : ℕ) → b ≡ true → v ≡ n → (if b then Some v else None) ≡ Some n
+some_if b v n e f = rw e (ap Some f)
+
+all_two : (a b : ℕ) → 48 ≤ a → a ≤ 57 → 48 ≤ b → b ≤ 57 → all_ascii_digits (a ∷ b ∷ []) ≡ true
+all_two a b h i j k = grind (arith, nat_tests)
+
+all_one : (a : ℕ) → 48 ≤ a → a ≤ 57 → all_ascii_digits (a ∷ []) ≡ true
+all_one a h i = grind (arith, nat_tests)
+
+pub two_digits-read : (n : ℕ) → n < 100 → digits_of 2 (two_digits n) ≡ Some n
+unfolding digits_of natural_of
+two_digits-read n small =
+    let a = 48 + n / 10 in
+    let b = 48 + n % 10 in
+    some_if (all_ascii_digits (a ∷ b ∷ [])) _ n (all_two a b (omega arith) (omega arith) (omega arith) (omega arith)) (omega arith)
+
+one_digit-read : (n : ℕ) → n < 10 → digits_of 2 ((48 + n) ∷ []) ≡ Some n
+unfolding digits_of natural_of
+one_digit-read n few = some_if (all_ascii_digits ((48 + n) ∷ [])) _ n (all_one (48 + n) (omega arith) (omega (arith, few))) (omega arith)
+
+by_few : (b : Bool) (n : ℕ) → n < 100 → (b ≡ true → n < 10) → digits_of 2 (if b then (48 + n) ∷ [] else two_digits n) ≡ Some n
+by_few true n small few = one_digit-read n (few refl)
+by_few false n small few = two_digits-read n small
+
+pub number_text-read : (n : ℕ) → n < 100 → digits_of 2 (number_text n) ≡ Some n
+number_text-read n small = by_few (nat_lt n 10) n small (λ few. ltb-true n 10 few)

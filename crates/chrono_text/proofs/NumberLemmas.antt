@@ -1,5 +1,5 @@
 -- The whole numbers that texts write, and where they stand in a text.
-use Rattle.std.proofs.Common.{◌≡◌, ◌≢◌, ◌==◌, ◌<◌, ◌≤◌, ◌+◌, ◌-◌, ◌^◌, min, ℕ, zero, suc, Bool, true, false, cond, inl, inr, List, [], ◌∷◌, ◌++◌, length, get_or, take, drop, refl, ap, sym, ◌∙◌, subst, arith, ℤ, pos, negsuc, neg_ℤ, int_le, FitsSigned, Option, Some, None, take-append-drop, drop-cons, length-take}
+use Rattle.std.proofs.Common.{◌≡◌, ◌≢◌, ◌==◌, ◌<◌, ◌≤◌, ◌+◌, ◌-◌, ◌^◌, min, ℕ, zero, suc, Bool, true, false, inl, inr, List, [], ◌∷◌, ◌++◌, length, get_or, take, drop, refl, ap, sym, ◌∙◌, subst, arith, ℤ, pos, negsuc, neg_ℤ, int_le, FitsSigned, Option, Some, None, take-append-drop, drop-cons, length-take}
 use mir.Val.{bool_byte}
 use Rattle.std.specs.Bool.{MatchBool}
 use Rattle.std.specs.Int.{IsInRange, w64}
@@ -10,6 +10,7 @@ use Rattle.std.specs.Str.Parse.{AllDigits, digits_value}
 use Rattle.std.proofs.lemmas.Bool.{cases_eq, cases_lt, eq-eqb, ne_eqb}
 use Rattle.std.proofs.lemmas.Int.{ints}
 use Rattle.std.proofs.lemmas.List.{get_or-take}
+use Rattle.std.proofs.lemmas.Option.{cond_some}
 use Rattle.std.proofs.lemmas.Str.Parse.{digit_at, digit_from_value, tells_all_ascii_digits}
 use Rattle.chrono_text.specs.Numbers.{AreDigits, StandsBefore, WritesNumber, i64_of, natural_of, number_of, signed, to_i64, value_of}
 use Rattle.chrono_text.proofs.DigitLemmas.{natural_none, natural_some}
@@ -25,16 +26,12 @@ test_from_digits : (xs : List ℕ) → AllByRecursion (IsInRange 48 57) xs → a
 test_from_digits [] h = refl
 test_from_digits (x ∷ xs) h = tells_all_ascii_digits.more x xs h.0 (test_from_digits xs h.1)
 
-kept_natural : (b : Bool) (m n : ℕ) → cond b (Some m) None ≡ Some n → (b ≡ true) × (n ≡ m)
-kept_natural true m n h = (refl, cc)
-kept_natural false m n h = let wrong : ⊥ = cc in absurd wrong
-
 pub natural_read : (text : List ℕ) (n : ℕ) → natural_of text ≡ Some n → AreDigits text × (n ≡ value_of text)
 unfolding natural_of
 natural_read [] n h = let wrong : ⊥ = cc in absurd wrong
 natural_read (x ∷ xs) n h =
-    let k = kept_natural (all_ascii_digits (x ∷ xs)) (value_of (x ∷ xs)) n h in
-    (record { some = omega arith; digits = digits_from_test (x ∷ xs) k.0 }, k.1)
+    let k = cond_some (all_ascii_digits (x ∷ xs)) (value_of (x ∷ xs)) n h in
+    (record { some = omega arith; digits = digits_from_test (x ∷ xs) k.0 }, sym k.1)
 
 natural_written : (text : List ℕ) → AreDigits text → natural_of text ≡ Some (value_of text)
 unfolding natural_of

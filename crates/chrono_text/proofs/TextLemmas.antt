@@ -1,5 +1,5 @@
 -- Lemmas on the texts of numbers: how long they are, and that different numbers have different texts.
-use Rattle.std.proofs.Common.{◌≡◌, ℕ, suc, ◌+◌, ◌/◌, ◌%◌, ◌^◌, ◌<◌, ◌≤◌, ℤ, pos, negsuc, false, List, [], ◌∷◌, ◌++◌, length, length-append, take, drop, unsigned_abs, arith, refl, sym, ap, ◌∙◌}
+use Rattle.std.proofs.Common.{◌≡◌, ℕ, suc, ◌+◌, ◌-◌, ◌/◌, ◌%◌, ◌^◌, ◌<◌, ◌≤◌, ℤ, pos, negsuc, false, List, [], ◌∷◌, ◌++◌, length, length-append, take, drop, unsigned_abs, arith, refl, sym, ap, ◌∙◌}
 use Rattle.std.specs.Prelude.{get_or}
 use Rattle.std.specs.Int.{is_negative}
 use Rattle.std.specs.Str.Parse.{digits_value}
@@ -19,6 +19,19 @@ same_parts xs ys s t l e =
       sym (take-append_seam xs s) ∙ ap (λ (c : List ℕ). take (length xs) c) e ∙ ap (λ n. take n (ys ++ t)) cut ∙ take-append_seam ys t,
       sym (drop-append_seam xs s) ∙ ap (λ (c : List ℕ). drop (length xs) c) e ∙ ap (λ n. drop n (ys ++ t)) cut ∙ drop-append_seam ys t,
     )
+
+-- the parts of a text of which the front is so long
+pub front_is : (text front end : List ℕ) (n : ℕ) → length front ≡ n → front ++ end ≡ text → (take n text ≡ front) × (drop n text ≡ end)
+front_is text front end n long e = (
+  ap (λ (l : List ℕ). take n l) (sym e) ∙ ap (λ k. take k (front ++ end)) (sym long) ∙ take-append_seam front end,
+  ap (λ (l : List ℕ). drop n l) (sym e) ∙ ap (λ k. drop k (front ++ end)) (sym long) ∙ drop-append_seam front end,
+)
+
+-- and of which the end is so long
+pub end_is : (text front end : List ℕ) (n : ℕ) → length end ≡ n → front ++ end ≡ text → (take (length text - n) text ≡ front) × (drop (length text - n) text ≡ end)
+end_is text front end n long e =
+    let size : length front ≡ length text - n = omega (arith, length-append front end, ap (λ (l : List ℕ). length l) e) in
+    front_is text front end (length text - n) size e
 
 -- ---- signs
 

@@ -1,5 +1,5 @@
 -- Texts that list items between separators.
-use Rattle.std.specs.Prelude.{◌≡◌, ℕ, ◌==◌, nat_lt, Bool, List, [], ◌∷◌, length, Option, Some, codes, refl}
+use Rattle.std.specs.Prelude.{◌≡◌, ℕ, ◌-◌, ◌==◌, nat_lt, Bool, List, [], ◌∷◌, length, Option, Some, codes, refl}
 use Rattle.std.specs.List.{position_or_len, slice_split}
 use Rattle.std.specs.Option.{option_and_then}
 use Rattle.std.specs.Str.{byte}
@@ -7,6 +7,10 @@ use Rattle.std.specs.Str.{byte}
 -- a byte `sign` stands in the text
 abbrev pub stands_in : ℕ → List ℕ → Bool
 stands_in sign text = nat_lt (position_or_len (λ x. x == sign) text) (length text)
+
+-- where in a text the byte stands that is so many bytes behind the beginning of a part, which ends the text
+abbrev pub part_place : List ℕ → List ℕ → ℕ → ℕ
+part_place text part bytes = length text - (length part - bytes)
 
 -- the pieces of a text between separators, one more than there are separators
 abbrev pub pieces : ℕ → List ℕ → List (List ℕ)
@@ -23,6 +27,12 @@ through step s [] = Some s
 through step s (p ∷ ps) = option_and_then (λ t. through step t ps) (step s p)
 
 -- known values
+part_place-first : part_place (codes "ab;cd") (codes "cd") 0 ≡ 3
+part_place-first = refl
+
+part_place-second : part_place (codes "ab;cd") (codes "cd") 1 ≡ 4
+part_place-second = refl
+
 pieces-two : pieces (byte ",") (codes "MO,TU") ≡ codes "MO" ∷ codes "TU" ∷ []
 pieces-two = refl
 

@@ -35,6 +35,10 @@ duration_text x =
 abbrev pub two_digits : ℕ → List ℕ
 two_digits n = (byte "0" + n / 10) ∷ (byte "0" + n % 10) ∷ []
 
+-- n in one digit, or in two
+abbrev pub number_text : ℕ → List ℕ
+number_text n = if nat_lt n 10 then (byte "0" + n) ∷ [] else two_digits n
+
 -- all the digits of a number of so many places
 abbrev pub all_digits : ℕ → ℕ → List ℕ
 all_digits zero n = []
@@ -92,6 +96,13 @@ duration_text-42_nanoseconds = refl
 
 duration_text-zero : duration_text (pos 0) ≡ codes "P0D"
 duration_text-zero = refl
+
+-- the last number of one digit, and the first of two
+number_text-nine : number_text 9 ≡ codes "9"
+number_text-nine = refl
+
+number_text-ten : number_text 10 ≡ codes "10"
+number_text-ten = refl
 
 -- years at the ends of four digits, and the first of the library's
 year_text-zero : year_text (pos 0) ≡ codes "0000"

@@ -1,7 +1,7 @@
 //! Numbers as texts with a fixed number of digits.
 ghost use Rattle.std.specs.Prelude.{◌≡◌, ◌+◌, ◌/◌, ◌%◌, ◌<◌, ◌≤◌, ◌++◌, length};
 ghost use Rattle.std.specs.Str.{byte};
-ghost use Rattle.chrono_text.specs.Text.{two_digits, all_digits};
+ghost use Rattle.chrono_text.specs.Text.{two_digits, all_digits, number_text};
 
 use crate::text::Text;
 
@@ -49,6 +49,28 @@ impl<const N: usize> Text<N> {
         let (tens, ones) = codes_of_two(n);
         self.push(tens);
         self.push(ones);
+    }
+
+    /// Appends the number `n` in one digit or two. Requires `n < 100`, and room for two bytes.
+    ///
+    /// ```
+    /// let mut text = Text::<8>::new();
+    /// text.push_number(7);
+    /// text.push_number(10);
+    /// text.as_str() // "710"
+    /// ```
+    #[inline]
+    pub fn push_number(&mut self, n: u32)
+        requires small { n < 100 }
+        requires room { length self.old + 2 ≤ N }
+        ensures text { self.new ≡ self.old ++ number_text n }
+        ensures fits { length self.new ≤ length self.old + 2 }
+    {
+        if n < 10 {
+            self.push(b'0' + n as u8);
+        } else {
+            self.push_two(n);
+        }
     }
 
     /// Appends `n` in three digits.

@@ -19,7 +19,9 @@ mod time_text;
 
 pub use digits::codes_of_two;
 pub use line::Line;
-pub use list::{ItemReader, byte_place, first_piece, read_list, same_but_for_case, split_at_byte};
+pub use list::{
+    ItemReader, byte_place, first_piece, part_place, read_list, same_but_for_case, split_at_byte,
+};
 pub use read::{
     Way, are_digits, digit, read_count, read_decimal, read_digits, read_four, read_fraction,
     read_number, read_three, read_two, read_year,

@@ -1,8 +1,8 @@
-//! Texts that list items between separators.
+//! Texts that list items between separators, and places in texts.
 ghost use Rattle.std.specs.Prelude.{◌≡◌, ◌≤◌, ◌<◌, ◌+◌, ◌==◌, ◌∷◌, [], ℕ, List, Option, length, true, false, IfSome, IfNone};
 ghost use Rattle.std.specs.List.{after_first, before_first, position_or_len};
 ghost use Rattle.std.specs.Str.{str_eq_ignore_ascii_case};
-ghost use Rattle.chrono_text.specs.Lists.{pieces, pieces_behind, stands_in, through};
+ghost use Rattle.chrono_text.specs.Lists.{part_place, pieces, pieces_behind, stands_in, through};
 
 /// Returns where the first byte `byte` of `text` stands, or the length of `text` if there is none.
 ///
@@ -23,6 +23,22 @@ pub fn byte_place(text: &[u8], byte: u8) -> usize
         place += 1;
     }
     place
+}
+
+/// Returns where in `text` the byte stands that is `bytes` bytes behind the beginning of `part`.
+///
+/// `part` ends `text`. The place is counted in bytes from 0.
+///
+/// ```
+/// part_place(b"ab;cd", b"cd", 0) // 3
+/// part_place(b"ab;cd", b"cd", 1) // 4
+/// ```
+#[inline]
+pub fn part_place(text: &[u8], part: &[u8], bytes: usize) -> usize
+    ensures place { result ≡ part_place text.now part.now bytes }
+    ensures within { result ≤ length text.now }
+{
+    text.len().saturating_sub(part.len().saturating_sub(bytes))
 }
 
 /// Returns what stands before the first byte `byte` of `text`, and what stands behind it.

@@ -1,0 +1,15 @@
+-- Answers that exist exactly under a fact, and answers that are the same.
+use Rattle.std.proofs.Common.{◌≡◌, Bool, true, false, cond, Option, Some, None, Result, Ok, refl, ap}
+use Rattle.std.proofs.lemmas.Bool.{false≢true}
+use Rattle.std.specs.Option.{SomeIff}
+
+-- an answer that exists exactly under a fact is the one that a test for the fact gives
+pub by_test : {A : Type 0} (t : Bool) (o : Option A) (v : A) (P : Type 0) → (t ≡ true → P) → (P → t ≡ true) → SomeIff o P v → o ≡ cond t (Some v) None
+by_test true (Some x) v P f g given = ap Some given.1
+by_test true None v P f g given = absurd (given (f refl))
+by_test false (Some x) v P f g given = absurd (false≢true (g given.0))
+by_test false None v P f g given = refl
+
+-- the values of answers that are the same
+pub same_Ok : {T E : Type 0} (a b : T) → ◌≡◌ {A = Result T E} (Ok a) (Ok b) → a ≡ b
+same_Ok a b e = cc
