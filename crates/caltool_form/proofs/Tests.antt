@@ -3,7 +3,7 @@ use Rattle.std.proofs.Common.{◌≡◌, ℕ, Bool, true, ◌&&◌, ◌||◌, na
 use Rattle.std.proofs.lemmas.Bool.Decides.{nat_tests}
 use Rattle.std.specs.Option.{SomeIff}
 use Rattle.chrono_clock.specs.Time.{TimeOfDay, IsClock, FractionFits, time_at}
-use Rattle.chrono_clock.proofs.NamedDurations.{by_test}
+use Rattle.chrono_text.proofs.AnswerLemmas.{by_test}
 use Rattle.caltool_command.specs.declared.arguments.ClockTime.{ClockTime}
 use Rattle.caltool_form.specs.Named.{time_named}
 

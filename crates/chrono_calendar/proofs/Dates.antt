@@ -1,19 +1,13 @@
 -- Which names and numbers are dates, from tests to facts.
-use Rattle.std.proofs.Common.{◌≡◌, ℕ, Bool, true, false, ◌&&◌, cond, Option, Some, None, refl, ap, arith, ℤ}
-use Rattle.std.proofs.lemmas.Bool.{and_parts, false≢true}
+use Rattle.std.proofs.Common.{◌≡◌, ℕ, true, ◌&&◌, Option, arith, ℤ}
+use Rattle.std.proofs.lemmas.Bool.{and_parts}
 use Rattle.std.proofs.lemmas.Bool.Decides.{nat_tests}
 use Rattle.std.proofs.lemmas.Int.{ints}
 use Rattle.std.specs.Cmp.Derive.{both_true}
 use Rattle.std.specs.Option.{SomeIff}
+pub use Rattle.chrono_text.proofs.AnswerLemmas.{by_test}
 use Rattle.chrono_units.specs.Years.{IsYear, is_year}
 use Rattle.chrono_calendar.specs.Days.{IsDate, is_date, IsOrdinalName, is_ordinal_name, IsCalendarName, is_calendar_name, day_number_of_yo, day_number_of_ymd, date_of_day, date_of_yo, date_of_ymd}
-
--- an answer that exists exactly under a fact is the one that a test for the fact gives
-pub by_test : (t : Bool) (o : Option ℤ) (v : ℤ) (P : Type 0) → (t ≡ true → P) → (P → t ≡ true) → SomeIff o P v → o ≡ cond t (Some v) None
-by_test true (Some x) v P f g given = ap Some given.1
-by_test true None v P f g given = absurd (given (f refl))
-by_test false (Some x) v P f g given = absurd (false≢true (g given.0))
-by_test false None v P f g given = refl
 
 pub is_year-fact : (y : ℤ) → is_year y ≡ true → IsYear y
 is_year-fact y e = (grind (arith, ints), grind (arith, ints))
