@@ -2,9 +2,8 @@
 use Rattle.std.proofs.Common.{◌≡◌, ℕ, zero, suc, ◌+◌, ◌*◌, ◌/◌, ◌<◌, ◌≤◌, List, [], ◌∷◌, length, slice_get, refl, sym, ap, ◌∙◌, arith, Option, Some, None, ℤ, pos, ◌+ℤ◌, ◌≤ℤ◌, FitsSigned, w32, to_z, of_z}
 use Rattle.std.proofs.lemmas.Int.{by_lt_z, to_z-of_z}
 use Rattle.std.proofs.lemmas.Option.{slice_get_past}
-use Rattle.std.specs.Bool.{⊤}
 use Rattle.std.specs.Option.{SomeIff, OnSome, IfNone}
-use Rattle.std.specs.Iterator.{MakesProgress, YieldsFirst, item_count}
+use Rattle.std.specs.Iterator.{YieldsFirst}
 use Rattle.chrono_calendar.specs.Days.{IsDate, date_of_day}
 use Rattle.chrono_calendar.specs.Recurrence.{past_last_date, dates_left}
 use Rattle.chrono_calendar.proofs.Signed.{signed, casts}
@@ -118,13 +117,6 @@ weeks_from-yields n next None h past moved stays =
     (none, rw stays none)
 weeks_from-yields n next (Some x) h found moved stays =
     rw found.1 (in_steps-some 7 (days_left n / 7) (days_left next / 7) n next (omega (arith, signed, found.0.1, moved)) moved)
-
--- a step takes one from what is left
-pub YieldsFirst-goes : (rest : ℤ → List ℤ) (s : ℤ) (o : Option ℤ) (t : ℤ) → YieldsFirst rest s o t → MakesProgress (λ _. ⊤) (item_count rest) s o t
-YieldsFirst-goes rest s None t h = record { on = λ _. tt; keeps = tt; rests = λ _. tt }
-YieldsFirst-goes rest s (Some x) t h =
-    let fewer : length (rest t) < length (rest s) = omega (arith, ap length h) in
-    record { on = λ _. (tt, tt, fewer); keeps = tt; rests = λ _. tt }
 
 first_of : List ℤ → ℤ
 first_of [] = pos 0
