@@ -37,7 +37,7 @@ month_index-whole : (i : ℤ) → month_index (year_of_month_index i) (month_of_
 month_index-whole i = omega (arith, signed)
 
 -- the days of the months before one and its own are those of the months up to it
-days_of_months_in-own : (leap : Bool) (n : ℕ) → days_of_months_in leap n + month_length_in leap (suc n) ≡ days_of_months_in leap (suc n)
+pub days_of_months_in-own : (leap : Bool) (n : ℕ) → days_of_months_in leap n + month_length_in leap (suc n) ≡ days_of_months_in leap (suc n)
 unfolding days_of_months_in
 days_of_months_in-own leap n = refl
 

@@ -1,10 +1,11 @@
 -- The linear formulas of months tell what counting does.
-use Rattle.std.proofs.Common.{◌≡◌, ℕ, suc, ◌+◌, ◌-◌, ◌*◌, ◌/◌, ◌%◌, ◌≤◌, Bool, true, false, ◌&&◌, cond, nat_eq, nat_lt, refl, arith}
+use Rattle.std.proofs.Common.{◌≡◌, ℕ, suc, ◌+◌, ◌-◌, ◌*◌, ◌/◌, ◌%◌, ◌≤◌, Bool, true, false, ◌&&◌, cond, nat_eq, nat_lt, refl, sym, arith}
 use Rattle.std.proofs.lemmas.Bool.{and_parts}
 use Rattle.std.proofs.lemmas.Bool.Decides.{nat_tests}
 use Rattle.std.specs.Int.{IsInRange}
 use Rattle.chrono_units.specs.Years.{month_length_in}
 use Rattle.chrono_calendar.specs.Days.{days_of_months_in, month_of_ordinal, day_of_ordinal}
+use Rattle.chrono_calendar.proofs.MonthOrder.{days_of_months_in-own}
 use Rattle.chrono_calendar.proofs.Tests.{passes_below, passes_below-at}
 
 -- the day from 0, where February has 30 days
@@ -47,13 +48,9 @@ days_of_months_in-told leap m h =
     grind (arith, nat_tests)
 
 -- a month ends where the next one begins
-begins_after : (leap : Bool) (n : ℕ) → days_of_months_in leap (suc n) ≡ days_of_months_in leap n + month_length_in leap (suc n)
-unfolding days_of_months_in
-begins_after leap n = refl
-
 pub days_of_months_in-next : (leap : Bool) (m : ℕ) → 1 ≤ m → days_of_months_in leap (m + 1 - 1) ≡ days_of_months_in leap (m - 1) + month_length_in leap m
 days_of_months_in-next leap m h =
     let back : suc (m - 1) ≡ m = omega arith in
     let ahead : m + 1 - 1 ≡ m = omega arith in
-    let next = rw back at (begins_after leap (m - 1)) in
+    let next = rw back at (sym (days_of_months_in-own leap (m - 1))) in
     rw ahead next
