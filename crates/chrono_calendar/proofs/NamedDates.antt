@@ -48,11 +48,14 @@ pub none-date_of_day : (n : ℤ) → None ≡ date_of_day n → IsDate n → ⊥
 none-date_of_day n h date = let found = date_of_day-Some n date in cc
 
 -- a number that gives a date is that date's
-pub date_of_day-number : (n m : ℤ) → date_of_day m ≡ Some n → IsDate n × (m ≡ n)
+pub some-date_of_day : (n e : ℤ) → Some e ≡ date_of_day n → IsDate n × (e ≡ n)
 unfolding date_of_day
-date_of_day-number n m e =
-    let found = cond_some (is_date m) m n e in
-    (rw found.1 at (is_date-fact m found.0), found.1)
+some-date_of_day n e h =
+    let found = cond_some (is_date n) n e (sym h) in
+    (is_date-fact n found.0, sym found.1)
+
+pub date_of_day-number : (n m : ℤ) → date_of_day m ≡ Some n → IsDate n × (m ≡ n)
+date_of_day-number n m e = let found = some-date_of_day m n (sym e) in (rw (sym found.1) at found.0, sym found.1)
 
 -- no value where a test cannot hold
 pub None-cond : (b : Bool) (x : Option ℤ) → (b ≡ true → ⊥) → None ≡ cond b x None

@@ -1,23 +1,14 @@
 -- Which days are dates, and what is known of a date that is some days from another.
-use Rattle.std.proofs.Common.{◌≡◌, ◌↔◌, ℕ, zero, suc, min, Bool, true, false, cond, Option, Some, None, IsSome, IfSome, refl, ◌∙◌, arith, ℤ, pos, negsuc, neg_ℤ, ◌+ℤ◌, ◌-ℤ◌}
+use Rattle.std.proofs.Common.{◌≡◌, ◌↔◌, ℕ, zero, suc, min, Option, Some, None, IsSome, IfSome, refl, ◌∙◌, arith, ℤ, pos, negsuc, neg_ℤ, ◌+ℤ◌, ◌-ℤ◌}
 use Rattle.std.specs.Option.{SomeIff}
 use Rattle.std.proofs.Math.IntN.{neg_ℤ-neg_ℤ}
 use Rattle.chrono_clock.specs.Duration.{nanos_per_day, whole_units}
-use Rattle.chrono_calendar.specs.Days.{IsDate, is_date, date_of_day}
-use Rattle.chrono_calendar.proofs.Dates.{is_date-fact, date_of_day-SomeIff}
-pub use Rattle.chrono_calendar.proofs.NamedDates.{none-date_of_day}
+use Rattle.chrono_calendar.specs.Days.{IsDate, date_of_day}
+use Rattle.chrono_calendar.proofs.Dates.{date_of_day-SomeIff}
+pub use Rattle.chrono_calendar.proofs.NamedDates.{none-date_of_day, some-date_of_day}
 use Rattle.chrono_calendar.proofs.Signed.{signed}
 
-if_tested : (b : Bool) (n e : ℤ) → Some e ≡ cond b (Some n) None → (b ≡ true) × (e ≡ n)
-if_tested true n e h = (cc, cc)
-if_tested false n e h = (cc, cc)
-
--- the date with a day number has that number, which is a date's
-pub some-date_of_day : (n e : ℤ) → Some e ≡ date_of_day n → IsDate n × (e ≡ n)
-unfolding date_of_day
-some-date_of_day n e h = let found = if_tested (is_date n) n e h in (is_date-fact n found.0, found.1)
-
--- so there is an answer exactly if the number is a date's
+-- there is an answer exactly if the number is a date's
 pub IsSome-date_of_day : (o : Option ℤ) (n : ℤ) → o ≡ date_of_day n → IsSome o ↔ IsDate n
 IsSome-date_of_day None n h = ((λ e. cc), (λ date. absurd (none-date_of_day n h date)))
 IsSome-date_of_day (Some e) n h = ((λ _. (some-date_of_day n e h).0), (λ _. refl))
