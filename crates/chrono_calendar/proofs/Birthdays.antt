@@ -12,7 +12,7 @@ use Rattle.chrono_calendar.specs.YearsBetween.{birthday, years_between}
 use Rattle.chrono_calendar.proofs.Signed.{signed}
 use Rattle.chrono_calendar.proofs.Tests.{passes_below, passes_below-at}
 use Rattle.chrono_calendar.proofs.Names.{day_number-lt_year, ordinal_name_of-number}
-use Rattle.chrono_calendar.proofs.NamedDates.{calendar_name-exists, number-calendar_name}
+use Rattle.chrono_calendar.proofs.NamedDates.{calendar_name-exists, day_of-small, number-calendar_name}
 use Rattle.chrono_calendar.proofs.Order.{month_ends, named_in_year}
 use Rattle.chrono_calendar.proofs.Months.{IsMonthAndDay, month_length_in-bounds}
 use Rattle.chrono_calendar.proofs.MonthOrder.{before_month, day_at-exists, month_index-parts, month_of-range}
@@ -110,9 +110,6 @@ ordinal-after leap p q m d o h g first last le =
         | inr more ↦ absurd (omega (arith, more, le, h.day, month_length_in-bounds leap p, first))
       ]
     ]
-
-day_of-small : (n : ℤ) → (1 ≤ day_of n) × (day_of n < 32)
-day_of-small n = omega (arith, (calendar_name-exists n).1, month_length_in-bounds (is_leap_year (year_of n)) (month_of n))
 
 before_birthday : (n base : ℤ) (k : ℕ) → year_of n ≡ year_of base +ℤ pos k → place n < place base → n <ℤ birthday base k
 before_birthday n base k e lt =

@@ -1,12 +1,12 @@
 -- Which numbers and names are dates: from one to the other.
-use Rattle.std.proofs.Common.{Option, ◌≡◌, ℕ, Bool, true, false, ◌&&◌, cond, Some, None, refl, sym, ap, ◌∙◌, ℤ, arith, pos, ◌+ℤ◌, to_z, of_z, w32}
+use Rattle.std.proofs.Common.{Option, ◌≡◌, ◌<◌, ◌≤◌, ℕ, Bool, true, false, ◌&&◌, cond, Some, None, refl, sym, ap, ◌∙◌, ℤ, arith, pos, ◌+ℤ◌, to_z, of_z, w32}
 use Rattle.std.proofs.lemmas.Bool.{and_parts}
 use Rattle.std.proofs.lemmas.Option.{cond_some}
 use Rattle.std.specs.Cmp.Derive.{both_true}
 use Rattle.chrono_units.specs.Years.{IsYear, is_year, is_leap_year}
 use Rattle.chrono_calendar.specs.Days.{IsDate, is_date, IsOrdinalName, is_ordinal_name, IsCalendarName, is_calendar_name, day_number_of_yo, day_number_of_ymd, ordinal_of_ymd, date_of_day, date_of_yo, date_of_ymd, year_of, ordinal_of, month_of, day_of}
 use Rattle.chrono_calendar.proofs.Names.{ordinal_name_of-number, year_of-number, ordinal_of-number, day_number_in_range, year_in_range}
-use Rattle.chrono_calendar.proofs.Months.{ordinal_within, month_of_ordinal-exists, month_of_ordinal-unique}
+use Rattle.chrono_calendar.proofs.Months.{month_length_in-bounds, ordinal_within, month_of_ordinal-exists, month_of_ordinal-unique}
 use Rattle.chrono_calendar.proofs.Dates.{is_year-fact, is_year-test, is_date-fact, is_date-test, is_ordinal_name-fact, is_ordinal_name-test, is_calendar_name-fact, is_calendar_name-test}
 use Rattle.chrono_calendar.proofs.Signed.{casts}
 
@@ -74,6 +74,10 @@ pub calendar_name-exists : (n : ℤ) → IsCalendarName (year_of n) (month_of n)
 calendar_name-exists n =
     let named = month_of_ordinal-exists (is_leap_year (year_of n)) (ordinal_of n) (ordinal_name_of-number n).exists in
     (named.month, named.day)
+
+-- no month has more than 31 days
+pub day_of-small : (n : ℤ) → (1 ≤ day_of n) × (day_of n < 32)
+day_of-small n = omega (arith, (calendar_name-exists n).1, month_length_in-bounds (is_leap_year (year_of n)) (month_of n))
 
 pub number-calendar_name : (n : ℤ) → day_number_of_ymd (year_of n) (month_of n) (day_of n) ≡ n
 number-calendar_name n =
