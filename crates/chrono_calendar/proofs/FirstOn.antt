@@ -7,7 +7,7 @@ use Rattle.chrono_units.specs.declared.weekday.Weekday.TheVariants.{Mon, Tue, We
 use Rattle.chrono_units.specs.WeekdaySet.{DaySet, IsSubset, contains, no_days, weekday_after}
 use Rattle.chrono_calendar.specs.Days.{IsDate, date_of_day}
 use Rattle.chrono_calendar.specs.Weeks.{weekday_of}
-use Rattle.chrono_calendar.specs.Recurrence.{IsFirstWhere, NoneWhere, past_last_date, is_on, date_on}
+use Rattle.chrono_calendar.specs.Recurrence.{IsFirstWhere, NoneFrom, past_last_date, is_on, date_on}
 use Rattle.chrono_calendar.proofs.Signed.{signed}
 use Rattle.chrono_calendar.proofs.NamedDates.{date_of_day-Some, date_of_day-None}
 use Rattle.chrono_calendar.proofs.WeekDays.{weekday_of-after, weekday_of-week}
@@ -22,11 +22,11 @@ date_on-found : (n : ℤ) (set : DaySet) (e : ℤ) → IsDate n → IsFirstWhere
 unfolding date_on
 date_on-found n set e h first date = first_where-found (is_on set) n e h first date
 
-date_on-None : (n : ℤ) (set : DaySet) → IsDate n → NoneWhere (is_on set) n → None ≡ date_on n set
+date_on-None : (n : ℤ) (set : DaySet) → IsDate n → NoneFrom (is_on set) n → None ≡ date_on n set
 unfolding date_on
 date_on-None n set h none = sym (first_where-None (is_on set) n h none)
 
-date_on-nowhere : (n : ℤ) (set : DaySet) → IsDate n → date_on n set ≡ None → NoneWhere (is_on set) n
+date_on-nowhere : (n : ℤ) (set : DaySet) → IsDate n → date_on n set ≡ None → NoneFrom (is_on set) n
 unfolding date_on
 date_on-nowhere n set h none = first_where-nowhere (is_on set) n h none
 

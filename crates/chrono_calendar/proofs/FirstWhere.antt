@@ -3,7 +3,7 @@ use Rattle.std.proofs.Common.{◌≡◌, ℕ, zero, suc, Bool, true, false, cond
 use Rattle.std.proofs.lemmas.Bool.{false≢true}
 use Rattle.std.proofs.lemmas.Int.{by_lt_z}
 use Rattle.chrono_calendar.specs.Days.{IsDate}
-use Rattle.chrono_calendar.specs.Recurrence.{IsFirstWhere, NoneWhere, first_of_days, first_where, past_last_date, dates_left}
+use Rattle.chrono_calendar.specs.Recurrence.{IsFirstWhere, NoneFrom, first_of_days, first_where, past_last_date, dates_left}
 use Rattle.chrono_calendar.proofs.Signed.{signed}
 
 -- a walk over some days finds the first of them that passes
@@ -90,12 +90,12 @@ unfolding first_where
 first_where-found p n e h first date =
     first_of_days-found p (dates_left n) n e first (omega (arith, signed, date.1, end_of_dates n h))
 
-pub first_where-None : (p : ℤ → Bool) (n : ℤ) → IsDate n → NoneWhere p n → first_where p n ≡ None
+pub first_where-None : (p : ℤ → Bool) (n : ℤ) → IsDate n → NoneFrom p n → first_where p n ≡ None
 unfolding first_where
 first_where-None p n h none =
     first_of_days-None p (dates_left n) n (λ d low high. none d low (omega (arith, signed, h.0, low), omega (arith, signed, high, end_of_dates n h)))
 
-pub first_where-nowhere : (p : ℤ → Bool) (n : ℤ) → IsDate n → first_where p n ≡ None → NoneWhere p n
+pub first_where-nowhere : (p : ℤ → Bool) (n : ℤ) → IsDate n → first_where p n ≡ None → NoneFrom p n
 unfolding first_where
 first_where-nowhere p n h none =
     λ d low date. first_of_days-nowhere p (dates_left n) n none d low (omega (arith, signed, date.1, end_of_dates n h))

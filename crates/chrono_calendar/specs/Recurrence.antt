@@ -51,8 +51,8 @@ pub record IsFirstWhere (p : ℤ → Bool) (n e : ℤ) : Type 0 where
   pub least : (d : ℤ) → n ≤ℤ d → d <ℤ e → p d ≡ false
 
 -- of the dates from n on none passes the test
-abbrev pub NoneWhere : (ℤ → Bool) → ℤ → Type 0
-NoneWhere p n = (d : ℤ) → n ≤ℤ d → IsDate d → p d ≡ false
+abbrev pub NoneFrom : (ℤ → Bool) → ℤ → Type 0
+NoneFrom p n = (d : ℤ) → n ≤ℤ d → IsDate d → p d ≡ false
 
 -- the test says of each day what it says of the day a week later
 abbrev pub IsWeekly : (ℤ → Bool) → Type 0

@@ -14,7 +14,7 @@ ghost use Rattle.chrono_calendar.specs.Days.{IsCalendarName, IsDate, IsOrdinalNa
 ghost use Rattle.chrono_calendar.specs.MonthMoves.{InSameMonth, MonthMovesAddUp, ComesBack, KeepsOrder, LaterMultiplesAreLater, month_first_of, month_index_of, month_last_of, month_length_of, month_move};
 ghost use Rattle.chrono_calendar.specs.NameLaws.{DatesAreDaysOfYears, DatesHaveOneCalendarName, DatesHaveOneIsoName, DatesHaveOneNumber, DatesHaveOneOrdinalName, WeeksHaveOneFirstDay, iso_cmp};
 ghost use Rattle.chrono_calendar.specs.Order.{calendar_cmp, ordinal_cmp};
-ghost use Rattle.chrono_calendar.specs.Recurrence.{IsFirstWhere, IsLeapDay, IsWeekly, NoneWhere, count_between, count_where, date_every, date_on, dates_before, dates_left, first_date, first_where, is_on, past_last_date};
+ghost use Rattle.chrono_calendar.specs.Recurrence.{IsFirstWhere, IsLeapDay, IsWeekly, NoneFrom, count_between, count_where, date_every, date_on, dates_before, dates_left, first_date, first_where, is_on, past_last_date};
 ghost use Rattle.chrono_calendar.specs.Weeks.{date_of_iso, date_of_last_weekday, date_of_nth_weekday, iso_week_of, iso_year_of, week_first_of, weekday_of};
 ghost use Rattle.chrono_calendar.specs.YearsBetween.{birthday, years_between};
 
@@ -218,7 +218,7 @@ pub fn first_where_is_least()
     ensures found { (p : ℤ → Bool) (n e : ℤ) → IsDate n →
         (first_where p n ≡ Some e) ↔ (IsFirstWhere p n e × IsDate e) }
     ensures none { (p : ℤ → Bool) (n : ℤ) → IsDate n →
-        (first_where p n ≡ None) ↔ NoneWhere p n }
+        (first_where p n ≡ None) ↔ NoneFrom p n }
     ensures past_last { (p : ℤ → Bool) → first_where p past_last_date ≡ None }
     ensures weekdays { (n : ℤ) (set : DaySet) → date_on n set ≡ first_where (is_on set) n }
 {}

@@ -1,6 +1,7 @@
 -- What a search passes over: days, or numbers, of which none passes a test.
 use Rattle.std.specs.Prelude.{◌≡◌, ℕ, ◌≤◌, ◌<◌, Bool, false, ℤ, ◌≤ℤ◌, ◌<ℤ◌}
 use Rattle.chrono_naive.specs.Days.{IsDate}
+pub use Rattle.chrono_naive.specs.Recurrence.{NoneFrom}
 
 -- no day from one on and before another passes the test
 abbrev pub PassedOver : (ℤ → Bool) → ℤ → ℤ → Type 0
@@ -13,10 +14,6 @@ PassedBetween test first end = (d : ℤ) → first <ℤ d → d <ℤ end → tes
 -- no day after one and up to another does
 abbrev pub PassedUpTo : (ℤ → Bool) → ℤ → ℤ → Type 0
 PassedUpTo test first last = (d : ℤ) → first <ℤ d → d ≤ℤ last → test d ≡ false
-
--- no date of the calendar from a day on does
-abbrev pub NoneFrom : (ℤ → Bool) → ℤ → Type 0
-NoneFrom test from = (d : ℤ) → from ≤ℤ d → IsDate d → test d ≡ false
 
 -- no date of the calendar after a day does
 abbrev pub NoneAfter : (ℤ → Bool) → ℤ → Type 0
