@@ -1,6 +1,7 @@
--- Lemmas that crates above cite: of signed numbers for `omega`, of names, weekdays, weeks and months, and of days that pass a test.
+-- Lemmas that crates above cite: of signed numbers for `omega`, of names, weekdays, weeks and months, of texts, and of days that pass a test.
 pub use Rattle.chrono_units.proofs.WeekdayCycle
 pub use Rattle.chrono_units.proofs.ListsLeft
+pub use Rattle.chrono_units.proofs.SetTexts
 pub use Rattle.chrono_naive.proofs.Signed
 pub use Rattle.chrono_naive.proofs.Names
 pub use Rattle.chrono_naive.proofs.NamedDates
@@ -16,6 +17,7 @@ pub use Rattle.chrono_naive.proofs.CountWhere
 pub use Rattle.chrono_naive.proofs.CountBetween
 pub use Rattle.chrono_naive.proofs.Birthdays
 pub use Rattle.chrono_naive.proofs.LastWeekdays
+pub use Rattle.chrono_naive.proofs.DateTextLemmas
 pub use Rattle.chrono_naive.proofs.RisingLists
 pub mod MonthPlaces
 -- The rest serve this crate's own proofs alone.
