@@ -1,12 +1,13 @@
 -- How the text of a date falls into its parts, and the ranges of those that name a date.
-use Rattle.std.proofs.Common.{[], ◌+◌, ◌≡◌, ℕ, ◌-◌, ◌<◌, ◌≤◌, true, List, ◌∷◌, ◌++◌, codes, length, length-append, take, drop, append_assoc, ℤ, unsigned_abs, Option, Some, None, IfSome, arith, rules, refl, sym, ap, ◌∙◌}
+use Rattle.std.proofs.Common.{[], ◌+◌, ◌≡◌, ℕ, ◌-◌, ◌<◌, ◌≤◌, true, List, ◌∷◌, ◌++◌, codes, length, take, drop, append_assoc, ℤ, unsigned_abs, Option, Some, None, IfSome, arith, rules, refl, sym, ◌∙◌}
 use Rattle.std.proofs.lemmas.Bool.{and_parts}
 use Rattle.std.proofs.lemmas.Bool.Decides.{nat_tests}
-use Rattle.std.proofs.lemmas.Int.{ints}
-use Rattle.std.proofs.lemmas.List.{take_at, drop_at, take-append-drop}
+use Rattle.std.proofs.lemmas.List.{take-append-drop}
 use Rattle.std.proofs.lemmas.Option.{cond_some, some_pair_parts}
 use Rattle.std.proofs.Common.{SFits, w32}
 use Rattle.std.specs.Int.{IsInRange}
+use Rattle.chrono_calendar.proofs.Dates.{is_year-fact}
+use Rattle.chrono_calendar.proofs.Years.{IsYear-small}
 use Rattle.chrono_datetime.specs.Years.{is_year, month_length, year_length}
 use Rattle.chrono_datetime.specs.Days.{IsDate, year_of, month_of, day_of, ordinal_of, date_of_ymd, date_of_yo, is_calendar_name, is_ordinal_name}
 use Rattle.chrono_datetime.specs.declared.Weekday.{Weekday}
@@ -15,16 +16,9 @@ use Rattle.chrono_datetime.specs.Weekday.{number_from_monday}
 use Rattle.chrono_datetime.specs.Weeks.{date_of_iso, iso_week_of, iso_year_of, weekday_of}
 use Rattle.chrono_datetime.specs.DateText.{date_text}
 use Rattle.chrono_datetime.specs.NameLaws.{DatesHaveOneCalendarName, DatesHaveOneIsoName, DatesHaveOneOrdinalName}
+use Rattle.chrono_text.proofs.TextLemmas.{end_is}
 use Rattle.chrono_text.specs.Text.{all_digits, two_digits, year_text, calendar_text, ordinal_text, week_date_text}
 use Rattle.chrono_reading.specs.DateTexts.{IsDateText, IsOrdinalDateText, IsWeekDateText}
-
--- a text ends in so many bytes
-pub front_of : (front end text : List ℕ) → front ++ end ≡ text → (front ≡ take (length text - length end) text) × (end ≡ drop (length text - length end) text)
-front_of front end text e =
-    let size : length front ≡ length text - length end = omega (arith, length-append front end, ap length e) in (
-      sym (take_at front end _ size) ∙ ap (take (length text - length end)) e,
-      sym (drop_at front end _ size) ∙ ap (drop (length text - length end)) e,
-    )
 
 pub date_parts : (year : List ℕ) (m d : ℕ) → year ++ codes "-" ++ two_digits m ++ codes "-" ++ two_digits d ≡ year ++ (45 ∷ two_digits m ++ 45 ∷ two_digits d)
 date_parts year m d = simp append_assoc
@@ -35,7 +29,8 @@ calendar_text-parts y m d = date_parts (year_text y) m d
 -- the year stands before the last six bytes
 pub calendar_text-split : (text : List ℕ) (y : ℤ) (m d : ℕ) → calendar_text y m d ≡ text
     → (year_text y ≡ take (length text - 6) text) × (45 ∷ two_digits m ++ 45 ∷ two_digits d ≡ drop (length text - 6) text)
-calendar_text-split text y m d e = front_of (year_text y) (45 ∷ two_digits m ++ 45 ∷ two_digits d) text (sym (calendar_text-parts y m d) ∙ e)
+calendar_text-split text y m d e =
+    let cut = end_is text (year_text y) (45 ∷ two_digits m ++ 45 ∷ two_digits d) 6 refl (sym (calendar_text-parts y m d) ∙ e) in (sym cut.0, sym cut.1)
 
 pub calendar_text-joined : (text : List ℕ) (y : ℤ) (m d k : ℕ) → year_text y ≡ take k text → 45 ∷ two_digits m ++ 45 ∷ two_digits d ≡ drop k text → calendar_text y m d ≡ text
 calendar_text-joined text y m d k front end = calendar_text-parts y m d ∙ rw (front, end) (take-append-drop k text)
@@ -44,15 +39,12 @@ calendar_text-joined text y m d k front end = calendar_text-parts y m d ∙ rw (
 month_length-small : (y : ℤ) (m : ℕ) → month_length y m ≤ 31
 month_length-small y m = grind (arith, nat_tests)
 
-year-small : (y : ℤ) → is_year y ≡ true → unsigned_abs y < 1_000_000
-year-small y e = grind (arith, ints)
-
 pub date_of_ymd-small : (y : ℤ) (m d : ℕ) (n : ℤ) → date_of_ymd y m d ≡ Some n → (unsigned_abs y < 1_000_000) × (m < 100) × (d < 100)
 unfolding date_of_ymd
 date_of_ymd-small y m d n e =
     let named = and_parts (is_year y) (is_calendar_name y m d) (cond_some _ _ _ e).0 in
     let last = month_length-small y m in
-    (year-small y named.0, grind (arith, nat_tests), grind (arith, nat_tests))
+    (IsYear-small y (is_year-fact y named.0), grind (arith, nat_tests), grind (arith, nat_tests))
 
 -- a date found by its name has the text of that name
 pub IsDateText-found : (r : Option ℤ) (text : List ℕ) (y : ℤ) (m d : ℕ) → r ≡ date_of_ymd y m d → calendar_text y m d ≡ text → IfSome r (λ n. IsDateText text n)
@@ -95,12 +87,16 @@ joined front end text k e f = rw (e, f) (take-append-drop k text)
 ordinal-small : (y : ℤ) (o : ℕ) → is_ordinal_name y o ≡ true → o < 1_000
 ordinal-small y o e = let last = year_length-small y in grind (arith, nat_tests)
 
+pub ordinal_parts : (year : List ℕ) (o : ℕ) → year ++ codes "-" ++ all_digits 3 o ≡ year ++ 45 ∷ all_digits 3 o
+ordinal_parts year o = simp append_assoc
+
 ordinal_text-parts : (y : ℤ) (o : ℕ) → ordinal_text y o ≡ year_text y ++ 45 ∷ all_digits 3 o
-ordinal_text-parts y o = simp append_assoc
+ordinal_text-parts y o = ordinal_parts (year_text y) o
 
 pub ordinal_text-split : (text : List ℕ) (y : ℤ) (o : ℕ) → ordinal_text y o ≡ text
     → (year_text y ≡ take (length text - 4) text) × (45 ∷ all_digits 3 o ≡ drop (length text - 4) text)
-ordinal_text-split text y o e = front_of (year_text y) (45 ∷ all_digits 3 o) text (sym (ordinal_text-parts y o) ∙ e)
+ordinal_text-split text y o e =
+    let cut = end_is text (year_text y) (45 ∷ all_digits 3 o) 4 refl (sym (ordinal_text-parts y o) ∙ e) in (sym cut.0, sym cut.1)
 
 pub ordinal_text-joined : (text : List ℕ) (y : ℤ) (o k : ℕ) → year_text y ≡ take k text → 45 ∷ all_digits 3 o ≡ drop k text → ordinal_text y o ≡ text
 ordinal_text-joined text y o k front end = ordinal_text-parts y o ∙ joined (year_text y) (45 ∷ all_digits 3 o) text k front end
@@ -109,7 +105,7 @@ pub date_of_yo-small : (y : ℤ) (o : ℕ) (n : ℤ) → date_of_yo y o ≡ Some
 unfolding date_of_yo
 date_of_yo-small y o n e =
     let named = and_parts (is_year y) (is_ordinal_name y o) (cond_some _ _ _ e).0 in
-    (year-small y named.0, ordinal-small y o named.1)
+    (IsYear-small y (is_year-fact y named.0), ordinal-small y o named.1)
 
 pub IsOrdinalDateText-found : (r : Option ℤ) (text : List ℕ) (y : ℤ) (o : ℕ) → r ≡ date_of_yo y o → ordinal_text y o ≡ text
     → IfSome r (λ n. IsOrdinalDateText text n)
@@ -135,12 +131,16 @@ ordinal_text-only text n m same inside law is =
 abbrev pub week_tail : ℕ → Weekday → List ℕ
 week_tail w d = 45 ∷ 87 ∷ two_digits w ++ 45 ∷ (48 + number_from_monday d) ∷ []
 
+pub week_parts : (year : List ℕ) (w d : ℕ) → year ++ codes "-W" ++ two_digits w ++ codes "-" ++ (48 + d) ∷ [] ≡ year ++ (45 ∷ 87 ∷ two_digits w ++ 45 ∷ (48 + d) ∷ [])
+week_parts year w d = simp append_assoc
+
 week_date_text-parts : (y : ℤ) (w : ℕ) (d : Weekday) → week_date_text y w (number_from_monday d) ≡ year_text y ++ week_tail w d
-week_date_text-parts y w d = simp append_assoc
+week_date_text-parts y w d = week_parts (year_text y) w (number_from_monday d)
 
 pub week_date_text-split : (text : List ℕ) (y : ℤ) (w : ℕ) (d : Weekday) → week_date_text y w (number_from_monday d) ≡ text
     → (year_text y ≡ take (length text - 6) text) × (week_tail w d ≡ drop (length text - 6) text)
-week_date_text-split text y w d e = front_of (year_text y) (week_tail w d) text (sym (week_date_text-parts y w d) ∙ e)
+week_date_text-split text y w d e =
+    let cut = end_is text (year_text y) (week_tail w d) 6 refl (sym (week_date_text-parts y w d) ∙ e) in (sym cut.0, sym cut.1)
 
 pub week_date_text-joined : (text : List ℕ) (y : ℤ) (w : ℕ) (d : Weekday) (k : ℕ) → year_text y ≡ take k text → week_tail w d ≡ drop k text
     → week_date_text y w (number_from_monday d) ≡ text

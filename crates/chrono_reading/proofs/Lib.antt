@@ -1,12 +1,12 @@
--- All serve this crate's own proofs alone.
+-- Lemmas that other crates cite stand in these modules.
+pub mod TimeTextLemmas
+-- The rest serve this crate's own proofs alone.
 mod DateLemmas
-mod TimeTextLemmas
 mod DateTimeLemmas
 mod DurationTextLemmas
 mod PrintedLemmas
 mod NameLemmas
 mod NearMisses
 mod FittingLemmas
-mod ResultLemmas
 mod PartsLemmas
 mod OneErrorLemmas

@@ -1,5 +1,5 @@
 -- Texts that are near to one of a value, and are of none.
-use Rattle.std.proofs.Common.{◌⊎◌, ◌≡◌, ◌≢◌, Bool, true, false, ℕ, suc, ◌^◌, ◌<◌, ◌≤◌, List, ◌∷◌, ◌++◌, codes, length, length-append, get_or, take, drop, ℤ, pos, negsuc, unsigned_abs, Some, None, inl, inr, refl, sym, ap, ◌∙◌, subst, length-take, arith}
+use Rattle.std.proofs.Common.{◌⊎◌, ◌≡◌, ◌≢◌, Bool, true, false, ℕ, suc, ◌^◌, ◌<◌, ◌≤◌, List, ◌∷◌, ◌++◌, codes, length, length-append, take, drop, ℤ, pos, negsuc, unsigned_abs, Some, None, inl, inr, refl, sym, ap, ◌∙◌, subst, length-take, arith}
 use Rattle.std.specs.Char.{to_ascii_lowercase}
 use Rattle.std.specs.Fmt.{decimal, sign_text}
 use Rattle.std.proofs.lemmas.Fmt.{decimal_is_IsNumeral, first_decimal}
@@ -20,15 +20,12 @@ use Rattle.chrono_datetime.specs.Names.{IsNameText, weekday_name}
 use Rattle.chrono_text.specs.Fractions.{IsFractionText}
 use Rattle.chrono_reading.specs.TimeTexts.{IsTimeText}
 use Rattle.chrono_reading.specs.DateErrors.{HasDateParts}
-use Rattle.chrono_reading.proofs.DateLemmas.{front_of, calendar_text-split, date_of_ymd-small, date_parts}
+use Rattle.chrono_reading.proofs.DateLemmas.{calendar_text-split, date_of_ymd-small, date_parts}
 use Rattle.chrono_text.proofs.DigitLemmas.{by_size}
 use Rattle.chrono_reading.proofs.DurationTextLemmas.{first_p, seconds_small}
+use Rattle.chrono_reading.proofs.OneErrorLemmas.{byte}
 use Rattle.chrono_text.proofs.FractionLemmas.{length-all_digits}
-use Rattle.chrono_text.proofs.TextLemmas.{four_digit_size}
-
--- the byte of a text at a place
-abbrev byte : ℕ → List ℕ → ℕ
-byte k text = get_or text k 0
+use Rattle.chrono_text.proofs.TextLemmas.{end_is, four_digit_size}
 
 -- ---- names
 
@@ -91,7 +88,7 @@ one_digit_month n is =
 
 pub no_date_parts : (year : List ℕ) (m d : ℕ) → ¬ HasDateParts (codes "2024-2-29") year m d
 no_date_parts year m d is =
-    let parts = front_of year (45 ∷ two_digits m ++ 45 ∷ two_digits d) (codes "2024-2-29") (sym (date_parts year m d) ∙ is.written) in omega (arith, ap (byte 0) parts.1)
+    let parts = end_is (codes "2024-2-29") year (45 ∷ two_digits m ++ 45 ∷ two_digits d) 6 refl (sym (date_parts year m d) ∙ is.written) in omega (arith, ap (byte 0) parts.1)
 
 no_such_day : (y : ℤ) (m d k : ℕ) (n : ℤ) → y ≡ pos k → k ≡ 1900 → m ≡ 2 → d ≡ 29 → date_of_ymd y m d ≡ Some n → ⊥
 unfolding date_of_ymd

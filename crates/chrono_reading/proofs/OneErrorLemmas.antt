@@ -1,6 +1,5 @@
 -- A text has one error of a kind at most.
-use Rattle.std.proofs.Common.{inl, inr, ◌≡◌, ◌+◌, ◌<◌, ℕ, ℤ, unsigned_abs, List, [], ◌∷◌, ◌++◌, codes, length, get_or, drop, append_assoc, refl, sym, ap, ◌∙◌, arith}
-use Rattle.std.proofs.lemmas.Int.{ints}
+use Rattle.std.proofs.Common.{inl, inr, ◌≡◌, ◌+◌, ◌<◌, ℕ, ℤ, unsigned_abs, List, [], ◌∷◌, ◌++◌, codes, length, get_or, drop, refl, sym, ap, ◌∙◌, arith}
 use Rattle.chrono_datetime.specs.Fields.{IsIsoYear}
 use Rattle.chrono_datetime.specs.Years.{IsYear}
 use Rattle.chrono_text.specs.Text.{all_digits, calendar_text, two_digits, year_text}
@@ -10,10 +9,11 @@ use Rattle.chrono_reading.specs.DateErrors.{IsDateError, IsErrorByYear, IsOrdina
 use Rattle.chrono_reading.specs.TimeErrors.{IsTimeError}
 use Rattle.chrono_reading.specs.declared.error.ReadError.{ReadError}
 use Rattle.chrono_calendar.proofs.Years.{IsYear-small}
-use Rattle.chrono_reading.proofs.DateLemmas.{date_parts}
+use Rattle.chrono_datetime.proofs.DateTextLemmas.{IsIsoYear-small}
+use Rattle.chrono_reading.proofs.DateLemmas.{date_parts, ordinal_parts, week_parts}
 
 -- the byte of a text at a place
-abbrev byte : ℕ → List ℕ → ℕ
+abbrev pub byte : ℕ → List ℕ → ℕ
 byte k text = get_or text k 0
 
 -- a text is that of one year
@@ -31,9 +31,6 @@ by_year IsOne text other f g a b small same fg (inr p) (inl q) = absurd (q.0 p.0
 by_year IsOne text other f g a b small same fg (inr p) (inr q) =
     p.3 ∙ (ap f (year_one p.0 q.0 (small p.0 p.1) (small q.0 q.1) (p.2 ∙ (same ∙ sym q.2))) ∙ (fg q.0 ∙ sym q.3))
 
-iso_year_small : (y : ℤ) → IsIsoYear y → unsigned_abs y < 1_000_000
-iso_year_small y is = omega (arith, ints)
-
 -- the parts of a text are its only ones, so it has one error
 pub date_one : (text : List ℕ) (a b : ReadError) → IsDateError text a → IsDateError text b → a ≡ b
 date_one text a b (inl p) (inl q) = p.1 ∙ sym q.1
@@ -46,31 +43,25 @@ date_one text a b (inr p) (inr q) =
     by_year IsYear p.0 q.0 (λ y. calendar_error y p.1 p.2 (length p.0)) (λ y. calendar_error y q.1 q.2 (length q.0)) a b IsYear-small parts.0
     (λ y. rw (parts.0, month, day) refl) p.4 q.4
 
-ordinal_tail : (year : List ℕ) (o : ℕ) → year ++ codes "-" ++ all_digits 3 o ≡ year ++ 45 ∷ all_digits 3 o
-ordinal_tail year o = simp append_assoc
-
 pub ordinal_one : (text : List ℕ) (a b : ReadError) → IsOrdinalDateError text a → IsOrdinalDateError text b → a ≡ b
 ordinal_one text a b (inl p) (inl q) = p.1 ∙ sym q.1
 ordinal_one text a b (inl p) (inr q) = absurd (p.0 q.0 q.1 q.2)
 ordinal_one text a b (inr p) (inl q) = absurd (q.0 p.0 p.1 p.2)
 ordinal_one text a b (inr p) (inr q) =
-    let parts = same_parts p.0 q.0 (45 ∷ all_digits 3 p.1) (45 ∷ all_digits 3 q.1) refl (sym (ordinal_tail p.0 p.1) ∙ (p.2.written ∙ (sym q.2.written ∙ ordinal_tail q.0 q.1))) in
+    let parts = same_parts p.0 q.0 (45 ∷ all_digits 3 p.1) (45 ∷ all_digits 3 q.1) refl (sym (ordinal_parts p.0 p.1) ∙ (p.2.written ∙ (sym q.2.written ∙ ordinal_parts q.0 q.1))) in
     let ordinal : p.1 ≡ q.1 = all_digits-one 3 p.1 q.1 p.2.small q.2.small (ap (drop 1) parts.1) in
     by_year IsYear p.0 q.0 (λ y. ordinal_error y p.1 (length p.0)) (λ y. ordinal_error y q.1 (length q.0)) a b IsYear-small parts.0
     (λ y. rw (parts.0, ordinal) refl) p.3 q.3
-
-week_tail : (year : List ℕ) (w d : ℕ) → year ++ codes "-W" ++ two_digits w ++ codes "-" ++ (48 + d) ∷ [] ≡ year ++ (45 ∷ 87 ∷ two_digits w ++ 45 ∷ (48 + d) ∷ [])
-week_tail year w d = simp append_assoc
 
 pub week_one : (text : List ℕ) (a b : ReadError) → IsWeekDateError text a → IsWeekDateError text b → a ≡ b
 week_one text a b (inl p) (inl q) = p.1 ∙ sym q.1
 week_one text a b (inl p) (inr q) = absurd (p.0 q.0 q.1 q.2 q.3)
 week_one text a b (inr p) (inl q) = absurd (q.0 p.0 p.1 p.2 p.3)
 week_one text a b (inr p) (inr q) =
-    let parts = same_parts p.0 q.0 (45 ∷ 87 ∷ two_digits p.1 ++ 45 ∷ (48 + p.2) ∷ []) (45 ∷ 87 ∷ two_digits q.1 ++ 45 ∷ (48 + q.2) ∷ []) refl (sym (week_tail p.0 p.1 p.2) ∙ (p.3.written ∙ (sym q.3.written ∙ week_tail q.0 q.1 q.2))) in
+    let parts = same_parts p.0 q.0 (45 ∷ 87 ∷ two_digits p.1 ++ 45 ∷ (48 + p.2) ∷ []) (45 ∷ 87 ∷ two_digits q.1 ++ 45 ∷ (48 + q.2) ∷ []) refl (sym (week_parts p.0 p.1 p.2) ∙ (p.3.written ∙ (sym q.3.written ∙ week_parts q.0 q.1 q.2))) in
     let week : p.1 ≡ q.1 = omega (arith, ap (byte 2) parts.1, ap (byte 3) parts.1) in
     let weekday : p.2 ≡ q.2 = omega (arith, ap (byte 5) parts.1) in
-    by_year IsIsoYear p.0 q.0 (λ y. week_error y p.1 p.2 (length p.0)) (λ y. week_error y q.1 q.2 (length q.0)) a b iso_year_small parts.0
+    by_year IsIsoYear p.0 q.0 (λ y. week_error y p.1 p.2 (length p.0)) (λ y. week_error y q.1 q.2 (length q.0)) a b IsIsoYear-small parts.0
     (λ y. rw (parts.0, week, weekday) refl) p.4 q.4
 
 pub time_one : (text : List ℕ) (a b : ReadError) → IsTimeError text a → IsTimeError text b → a ≡ b

@@ -12,11 +12,11 @@ use Rattle.chrono_text.proofs.FractionLemmas.{IsFractionText-below, IsFractionTe
 use Rattle.chrono_reading.proofs.PrintedLemmas.{shown_leap, shown_plain}
 
 -- the numbers of a clock, which take the first eight bytes
-abbrev pub clock_shown : ℕ → ℕ → ℕ → List ℕ
-clock_shown hour minute second = two_digits hour ++ 58 ∷ two_digits minute ++ 58 ∷ two_digits second
+abbrev pub clock_digits : ℕ → ℕ → ℕ → List ℕ
+clock_digits hour minute second = two_digits hour ++ 58 ∷ two_digits minute ++ 58 ∷ two_digits second
 
 -- the fraction is what follows them
-pub IsTimeText-clock : (text : List ℕ) (t : TimeOfDay) (is : IsTimeText text t) → clock_shown is.hour is.minute is.second ≡ take 8 text
+pub IsTimeText-clock : (text : List ℕ) (t : TimeOfDay) (is : IsTimeText text t) → clock_digits is.hour is.minute is.second ≡ take 8 text
 IsTimeText-clock text t is = ap (take 8) is.written
 
 pub IsTimeText-fraction : (text rest : List ℕ) (t : TimeOfDay) (is : IsTimeText text t) → rest ≡ drop 8 text → IsFractionText rest is.nanos
@@ -75,7 +75,7 @@ same_shown text other t is also =
     let b = two.leap (omega (arith, also.second_in_minute)) in
     record { hour = omega (arith, is.minute_in_hour, also.minute_in_hour); minute = omega (arith, is.minute_in_hour, also.minute_in_hour); second = omega (arith, is.second_in_minute, also.second_in_minute); nanos = omega arith }))
 
-clock_same : (h k m l s j : ℕ) → h ≡ k → m ≡ l → s ≡ j → clock_shown h m s ≡ clock_shown k l j
+clock_same : (h k m l s j : ℕ) → h ≡ k → m ≡ l → s ≡ j → clock_digits h m s ≡ clock_digits k l j
 clock_same h k m l s j hour minute second = rw (hour, minute, second) refl
 
 -- two texts of one time show the same, up to the zeros at the end of the fraction

@@ -44,8 +44,12 @@ pub(crate) fn fits_front(form: &[u8], text: &[u8]) -> bool
     fitting_len(form, text) == form.len()
 }
 
-// How many digits the text begins with.
-pub(crate) fn leading_digits(text: &[u8]) -> usize
+/// Returns how many digits `text` begins with.
+///
+/// ```
+/// leading_digits(b"2024-02-29") // 4
+/// ```
+pub fn leading_digits(text: &[u8]) -> usize
     ensures value { result ≡ leading_digits text.now }
     ensures within { result ≤ length text.now }
 {

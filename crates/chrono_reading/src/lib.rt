@@ -27,7 +27,7 @@ pub use date::read_date;
 pub use date_time::read_date_time;
 pub use duration::read_duration;
 pub use error::{ReadCause, ReadError};
-pub use fitting::fitting_len;
+pub use fitting::{fitting_len, leading_digits};
 pub use name::{read_month, read_weekday};
 pub use ordinal_date::read_ordinal_date;
 pub use time::read_time;

@@ -1,4 +1,4 @@
-use Rattle.chrono_reading.proofs.ResultLemmas.{same_Ok}
+use Rattle.chrono_text.proofs.AnswerLemmas.{same_Ok}
 use Rattle.chrono_reading.proofs.DateLemmas.{week_date_text-only}
 use Rattle.chrono_reading.proofs.law.dates_have_one_week_text.Goals as goal
 

@@ -1,5 +1,5 @@
 use Rattle.std.proofs.Common.{sym, ◌∙◌}
-use Rattle.chrono_reading.proofs.ResultLemmas.{same_Ok}
+use Rattle.chrono_text.proofs.AnswerLemmas.{same_Ok}
 use Rattle.chrono_reading.proofs.law.texts_have_one_time.Goals as goal
 
 pub returns : goal.returns

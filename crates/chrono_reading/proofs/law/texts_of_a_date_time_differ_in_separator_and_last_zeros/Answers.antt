@@ -1,5 +1,5 @@
 use Rattle.std.proofs.Common.{ap, ◌∙◌}
-use Rattle.chrono_reading.proofs.ResultLemmas.{same_Ok}
+use Rattle.chrono_text.proofs.AnswerLemmas.{same_Ok}
 use Rattle.chrono_datetime.specs.Moment.{Moment}
 use Rattle.chrono_reading.proofs.DateTimeLemmas.{IsDateTimeText-same}
 use Rattle.chrono_reading.proofs.law.texts_of_a_date_time_differ_in_separator_and_last_zeros.Goals as goal
