@@ -1,22 +1,8 @@
 -- How a text falls into a date of ten bytes, a separator, a time and an offset.
-use Rattle.std.proofs.Common.{◌≡◌, ℕ, ◌+◌, ◌-◌, List, [], ◌∷◌, ◌++◌, length, take, drop, refl, sym, ap, ◌∙◌, append_assoc, length-append, length-take-le, arith}
+use Rattle.std.proofs.Common.{◌≡◌, ℕ, ◌+◌, List, [], ◌∷◌, ◌++◌, length, take, drop, refl, sym, ap, ◌∙◌, append_assoc, length-take-le, arith}
 use Rattle.std.specs.Prelude.{get_or}
-use Rattle.std.proofs.Math.Seq.{drop-append_seam, take-append_seam}
 use Rattle.std.proofs.lemmas.List.{take-append-drop}
 use Rattle.chrono_text.proofs.TextLemmas.{same_parts}
-
--- what stands in a text of which the date is so long
-pub front_is : (text date rest : List ℕ) (n : ℕ) → length date ≡ n → date ++ rest ≡ text → (take n text ≡ date) × (drop n text ≡ rest)
-front_is text date rest n long e = (
-  ap (λ (l : List ℕ). take n l) (sym e) ∙ ap (λ k. take k (date ++ rest)) (sym long) ∙ take-append_seam date rest,
-  ap (λ (l : List ℕ). drop n l) (sym e) ∙ ap (λ k. drop k (date ++ rest)) (sym long) ∙ drop-append_seam date rest,
-)
-
--- and of which the end is so long
-pub end_is : (text front end : List ℕ) (n : ℕ) → length end ≡ n → front ++ end ≡ text → (take (length text - n) text ≡ front) × (drop (length text - n) text ≡ end)
-end_is text front end n long e =
-    let size : length front ≡ length text - n = omega (arith, length-append front end, ap (λ (l : List ℕ). length l) e) in
-    front_is text front end (length text - n) size e
 
 -- the last byte of a text is one
 pub last_is : (front start rest : List ℕ) (b last : ℕ) → front ++ (start ++ b ∷ []) ≡ rest ++ last ∷ [] → b ≡ last

@@ -10,15 +10,14 @@ use Rattle.std.specs.Int.{is_negative}
 use Rattle.std.specs.List.{AllByRecursion, position_or_len, prefix_len}
 use Rattle.std.specs.Str.Parse.{AllDigits}
 use Rattle.chrono_calendar.proofs.MonthMoveLaws.{year_of-range}
-use Rattle.chrono_calendar.proofs.Months.{month_length_in-bounds}
+use Rattle.chrono_calendar.proofs.MonthOrder.{month_of-range}
 use Rattle.chrono_calendar.proofs.Years.{IsYear-small}
-use Rattle.chrono_calendar.proofs.NamedDates.{calendar_name-exists}
+use Rattle.chrono_calendar.proofs.NamedDates.{day_of-small}
 use Rattle.chrono_datetime.specs.DateText.{date_text}
 use Rattle.chrono_datetime.specs.Days.{IsDate, day_of, month_of, year_of}
 use Rattle.chrono_datetime.specs.Moment.{IsMoment, Moment}
 use Rattle.chrono_datetime.specs.Time.{IsTime, TimeOfDay, hour_of, minute_of, second_of}
 use Rattle.chrono_datetime.specs.TimeText.{time_text}
-use Rattle.chrono_datetime.specs.Years.{is_leap_year}
 use Rattle.chrono_instant.specs.Instants.{IsEpochSecond, epoch_second}
 use Rattle.chrono_instant.specs.Offsets.{IsOffset}
 use Rattle.chrono_instant.specs.OffsetText.{offset_size_text, offset_text}
@@ -101,9 +100,7 @@ within-calendar y m d year month day =
 
 within-date_text : (n : ℤ) → IsDate n → IsWithin 43 (date_text n)
 within-date_text n is =
-    let name = calendar_name-exists n in
-    let small : day_of n < 100 = omega (arith, name.1.1, month_length_in-bounds (is_leap_year (year_of n)) (month_of n)) in
-    within-calendar (year_of n) (month_of n) (day_of n) (IsYear-small (year_of n) (year_of-range n is)) (omega (arith, name.0.1)) small
+    within-calendar (year_of n) (month_of n) (day_of n) (IsYear-small (year_of n) (year_of-range n is)) (omega (arith, month_of-range n)) (omega (arith, day_of-small n))
 
 no_t : (c : ℕ) → 43 ≤ c → c ≤ 58 → not (c == 84) ≡ true
 no_t c low high = ap not (ne_eqb c 84 (λ e. omega (arith, e, high)))

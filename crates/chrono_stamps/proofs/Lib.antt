@@ -12,5 +12,4 @@ mod NameLemmas
 mod DateFormLemmas
 mod IsoOffsetLemmas
 mod IsoTextLemmas
-mod IsoPartLemmas
 mod IsoFormLemmas

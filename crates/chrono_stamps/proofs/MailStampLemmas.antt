@@ -9,6 +9,7 @@ use Rattle.chrono_instant.specs.Instants.{IsEpochSecond, epoch_second}
 use Rattle.chrono_instant.specs.Offsets.{moment_ahead}
 use Rattle.chrono_text.specs.Numbers.{digits_of, natural_of}
 use Rattle.chrono_zoned.specs.Zoned.{Zoned}
+use Rattle.chrono_stamps.proofs.StampLemmas.{IsFound}
 use Rattle.chrono_stamps.specs.Rfc2822.{IsDayOfWeek, IsMailDate, IsMailTime, IsMailZone, IsRfc2822Text, hours_behind}
 
 -- ---- lists of a few bytes
@@ -71,9 +72,6 @@ pub same_weekday : (a weekday : List ℕ) (d n : ℤ) → a ≡ weekday → d �
 same_weekday a weekday d n w e is = subst (λ (l : List ℕ). IsDayOfWeek l d) (sym w) (subst (λ (k : ℤ). IsDayOfWeek weekday k) (sym e) is)
 
 -- ---- the instant
-
-abbrev IsFound : Moment → ℤ → Zoned ℤ → Type 0
-IsFound m x d = (moment_ahead d.utc d.zone ≡ m) × (d.zone ≡ x)
 
 -- what is found of a text
 pub stamp_found : (text : List ℕ) (m : Moment) (x : ℤ) (r : Option (Zoned ℤ)) → (IsEpochSecond (epoch_second m -ℤ x) → IsRfc2822Text text m x)

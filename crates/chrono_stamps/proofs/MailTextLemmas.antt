@@ -1,5 +1,5 @@
 -- What is written of RFC 2822 is a text by its grammar.
-use Rattle.std.proofs.Common.{◌≡◌, ◌==◌, ◌||◌, inl, inr, Bool, true, false, if◌then◌else◌, cond, nat_lt, nat_le, ℕ, suc, ◌+◌, ◌/◌, ◌%◌, ◌<◌, ◌≤◌, ℤ, pos, negsuc, ◌≤ℤ◌, unsigned_abs, List, [], ◌∷◌, ◌++◌, codes, length, take, drop, Option, None, Some, refl, sym, ap, subst, ◌∙◌, append_assoc, eq-eqb, ne_eqb, arith}
+use Rattle.std.proofs.Common.{◌≡◌, ◌==◌, ◌||◌, inl, inr, Bool, true, false, if◌then◌else◌, cond, nat_lt, nat_le, ℕ, suc, ◌+◌, ◌/◌, ◌%◌, ◌<◌, ◌≤◌, ℤ, pos, ◌≤ℤ◌, unsigned_abs, List, [], ◌∷◌, ◌++◌, codes, length, take, drop, Option, None, Some, refl, sym, ap, subst, ◌∙◌, append_assoc, eq-eqb, ne_eqb, arith}
 use Rattle.std.proofs.Math.Seq.{drop-append_seam, take-append_seam}
 use Rattle.std.proofs.lemmas.Bool.{cases_eq}
 use Rattle.std.proofs.lemmas.Bool.Decides.{nat_tests}
@@ -11,10 +11,10 @@ use Rattle.std.specs.List.{prefix_len}
 use Rattle.std.specs.Option.{option_and_then}
 use Rattle.std.specs.Str.{all_ascii_digits}
 use Rattle.chrono_text.proofs.DigitLemmas.{by_size}
-use Rattle.chrono_text.specs.Numbers.{count_of, digits_of, natural_of, up_to}
-use Rattle.chrono_text.specs.Text.{all_digits, two_digits}
-use Rattle.chrono_calendar.proofs.Months.{month_length_in-bounds}
-use Rattle.chrono_calendar.proofs.NamedDates.{calendar_name-exists, date_of_ymd-again}
+use Rattle.chrono_text.proofs.NaturalLemmas.{number_text-read}
+use Rattle.chrono_text.specs.Numbers.{count_of, natural_of, up_to}
+use Rattle.chrono_text.specs.Text.{all_digits, number_text, two_digits}
+use Rattle.chrono_calendar.proofs.NamedDates.{calendar_name-exists, date_of_ymd-again, day_of-small}
 use Rattle.chrono_datetime.specs.Days.{IsDate, day_of, month_of, year_of}
 use Rattle.chrono_datetime.specs.Moment.{IsMoment, Moment}
 use Rattle.chrono_datetime.specs.Month.{month_from_number, month_name, number_from_month}
@@ -23,22 +23,22 @@ use Rattle.chrono_datetime.specs.Time.{FractionFits, IsTime, TimeOfDay, hour_of,
 use Rattle.chrono_datetime.specs.TimeText.{time_text}
 use Rattle.chrono_datetime.specs.Weeks.{weekday_of}
 use Rattle.chrono_datetime.specs.WeekdayText.{weekday_text}
-use Rattle.chrono_datetime.specs.Years.{is_leap_year}
 use Rattle.chrono_datetime.specs.declared.Month.{Month}
 use Rattle.chrono_datetime.specs.declared.Month.TheVariants.{January, February, March, April, May, June, July, August, September, October, November, December}
 use Rattle.chrono_datetime.specs.declared.Weekday.{Weekday}
 use Rattle.chrono_datetime.specs.declared.Weekday.TheVariants.{Mon, Tue, Wed, Thu, Fri, Sat, Sun}
 use Rattle.chrono_instant.specs.Offsets.{IsOffset}
 use Rattle.chrono_instant.specs.OffsetText.{offset_size_text, offset_text}
+use Rattle.chrono_reading.proofs.TimeTextLemmas.{clock_digits}
 use Rattle.chrono_reading.specs.TimeTexts.{IsTimeText}
 use Rattle.chrono_stamps.specs.MailWords.{AreMailWords, IsColonWord, IsCommaWord, IsSpacedWord, IsMailWord, behind_gap, gap_end, gap_step, is_of_word, is_white}
 use Rattle.chrono_stamps.specs.Rfc2822.{IsMailDate, IsRfc2822Text, IsZoneDigits}
-use Rattle.chrono_stamps.specs.WrittenStamps.{HasStampText, mail_day_digits, moment_cut, month_letters, rfc2822_text, whole_second, zone_text}
+use Rattle.chrono_stamps.specs.WrittenStamps.{HasStampText, moment_cut, month_letters, rfc2822_text, whole_second, zone_text}
 use Rattle.chrono_stamps.specs.declared.seconds_format.SecondsFormat.TheVariants.{Secs}
 use Rattle.chrono_stamps.proofs.MailWordLemmas.{gap_end-none, gap_end-nothing}
 use Rattle.chrono_stamps.proofs.OffsetLemmas.{seconds_none, six_bytes}
-use Rattle.chrono_stamps.proofs.YearLemmas.{near_days, second_near}
-use Rattle.chrono_stamps.proofs.WrittenLemmas.{clock, leap_clock, plain_clock, time_written}
+use Rattle.chrono_stamps.proofs.YearLemmas.{four_places, near_days, second_near}
+use Rattle.chrono_stamps.proofs.WrittenLemmas.{leap_clock, plain_clock, time_written}
 
 -- ---- words
 
@@ -172,7 +172,7 @@ day_plain : (b : Bool) (n : ℕ) → n < 100 → (b ≡ true → n < 10) → IsP
 day_plain true n small few = record { some = omega arith; whole = more (48 + n) [] (digit_byte (48 + n) (omega arith) (omega (arith, few refl))) refl }
 day_plain false n small few = plain_two n small
 
-pub plain_day : (n : ℕ) → n < 100 → IsPlain (mail_day_digits n)
+pub plain_day : (n : ℕ) → n < 100 → IsPlain (number_text n)
 plain_day n small = day_plain (nat_lt n 10) n small (λ few. grind (arith, nat_tests))
 
 plain_weekday : (d : Weekday) → IsPlain (weekday_text d)
@@ -242,23 +242,6 @@ month_read December = refl
 some_if : (b : Bool) (v n : ℕ) → b ≡ true → v ≡ n → (if b then Some v else None) ≡ Some n
 some_if b v n e f = rw e (ap Some f)
 
-all_two : (a b : ℕ) → 48 ≤ a → a ≤ 57 → 48 ≤ b → b ≤ 57 → all_ascii_digits (a ∷ b ∷ []) ≡ true
-all_two a b h i j k = grind (arith, nat_tests)
-
-all_one : (a : ℕ) → 48 ≤ a → a ≤ 57 → all_ascii_digits (a ∷ []) ≡ true
-all_one a h i = grind (arith, nat_tests)
-
-day_by : (b : Bool) (n : ℕ) → n < 100 → (b ≡ true → n < 10) → digits_of 2 (if b then (48 + n) ∷ [] else two_digits n) ≡ Some n
-unfolding digits_of natural_of
-day_by true n small few = some_if (all_ascii_digits ((48 + n) ∷ [])) _ n (all_one (48 + n) (omega arith) (omega (arith, few refl))) (omega arith)
-day_by false n small few =
-    let a = 48 + n / 10 in
-    let b = 48 + n % 10 in
-    some_if (all_ascii_digits (a ∷ b ∷ [])) _ n (all_two a b (omega arith) (omega arith) (omega arith) (omega arith)) (omega arith)
-
-pub day_read : (n : ℕ) → n < 100 → digits_of 2 (mail_day_digits n) ≡ Some n
-day_read n small = day_by (nat_lt n 10) n small (λ few. grind (arith, nat_tests))
-
 all_four : (a b c d : ℕ) → 48 ≤ a → a ≤ 57 → 48 ≤ b → b ≤ 57 → 48 ≤ c → c ≤ 57 → 48 ≤ d → d ≤ 57 → all_ascii_digits (a ∷ b ∷ c ∷ d ∷ []) ≡ true
 all_four a b c d h i j k l m n o = grind (arith, nat_tests)
 
@@ -310,21 +293,17 @@ zone_read x small whole =
 
 -- ---- the whole text
 
-four_places : (y : ℤ) → pos 0 ≤ℤ y → y ≤ℤ pos 9_999 → (unsigned_abs y < 10_000) × (pos (unsigned_abs y) ≡ y)
-four_places (pos n) low high = (omega (arith, ints, high), refl)
-four_places (negsuc n) low high = absurd (omega (arith, ints, low))
-
 date_read : (n : ℤ) → IsDate n → pos 0 ≤ℤ year_of n → year_of n ≤ℤ pos 9_999
-    → IsMailDate (mail_day_digits (day_of n)) (month_letters (month_of n)) (all_digits 4 (unsigned_abs (year_of n))) n
+    → IsMailDate (number_text (day_of n)) (month_letters (month_of n)) (all_digits 4 (unsigned_abs (year_of n))) n
 date_read n is low high =
     let name = calendar_name-exists n in
     let year = four_places (year_of n) low high in
-    let day : day_of n < 100 = omega (arith, name.1.1, month_length_in-bounds (is_leap_year (year_of n)) (month_of n)) in
+    let day : day_of n < 100 = omega (arith, day_of-small n) in
     record {
       day_number = day_of n;
       month_number = month_from_number (month_of n);
       year_number = unsigned_abs (year_of n);
-      day_is = day_read (day_of n) day;
+      day_is = number_text-read (day_of n) day;
       month_is = month_read (month_from_number (month_of n));
       year_is = record {
         number = unsigned_abs (year_of n);
@@ -337,7 +316,7 @@ date_read n is low high =
     }
 
 -- the second that a time of day shows, and how it is written
-pub second_of_text : (t : TimeOfDay) → IsTime t → FractionFits (second_of t) t.fraction → (s : ℕ) × (s < 100) × (time_text (whole_second t) ≡ clock (hour_of t) (minute_of t) s)
+pub second_of_text : (t : TimeOfDay) → IsTime t → FractionFits (second_of t) t.fraction → (s : ℕ) × (s < 100) × (time_text (whole_second t) ≡ clock_digits (hour_of t) (minute_of t) s)
 second_of_text t is fits = by_size 1_000_000_000 t.fraction
     (λ plain. (second_of t, omega arith, plain_clock t (omega arith)))
     (λ leap. (second_of t + 1, omega arith, leap_clock t (omega (arith, fits.0))))
@@ -352,19 +331,18 @@ pub mail_written : (m : Moment) (x : ℤ) → IsMoment m → IsOffset x → HasS
 mail_written m x is small has =
     let n = m.date in
     let t = m.time in
-    let name = calendar_name-exists n in
-    let day : day_of n < 100 = omega (arith, name.1.1, month_length_in-bounds (is_leap_year (year_of n)) (month_of n)) in
+    let day : day_of n < 100 = omega (arith, day_of-small n) in
     let year = four_places (year_of n) has.year.0 has.year.1 in
     let shown = second_of_text t is.time has.leap in
     let hour : hour_of t < 100 = omega (arith, is.time.second) in
     let weekday_word = weekday_text (weekday_of n) in
-    let words = laid_out weekday_word (mail_day_digits (day_of n)) (month_letters (month_of n)) (all_digits 4 (unsigned_abs (year_of n))) (two_digits (hour_of t)) (two_digits (minute_of t)) (two_digits shown.0) (zone_text x)
+    let words = laid_out weekday_word (number_text (day_of n)) (month_letters (month_of n)) (all_digits 4 (unsigned_abs (year_of n))) (two_digits (hour_of t)) (two_digits (minute_of t)) (two_digits shown.0) (zone_text x)
     (plain_weekday (weekday_of n)) (plain_day (day_of n) day) (plain_month (month_from_number (month_of n))) (plain_four (unsigned_abs (year_of n)) year.0) (plain_two (hour_of t) hour) (plain_two (minute_of t) (omega arith)) (plain_two shown.0 shown.1) (plain_zone x small) in
-    let grouped = regroup weekday_word (mail_day_digits (day_of n)) (month_letters (month_of n)) (all_digits 4 (unsigned_abs (year_of n))) (time_text (whole_second t)) (zone_text x) in
-    let whole = grouped ∙ ap (λ (l : List ℕ). weekday_word ++ 44 ∷ (32 ∷ (mail_day_digits (day_of n) ++ 32 ∷ (month_letters (month_of n) ++ 32 ∷ (all_digits 4 (unsigned_abs (year_of n)) ++ 32 ∷ (l ++ 32 ∷ (zone_text x ++ []))))))) shown.2 in
+    let grouped = regroup weekday_word (number_text (day_of n)) (month_letters (month_of n)) (all_digits 4 (unsigned_abs (year_of n))) (time_text (whole_second t)) (zone_text x) in
+    let whole = grouped ∙ ap (λ (l : List ℕ). weekday_word ++ 44 ∷ (32 ∷ (number_text (day_of n) ++ 32 ∷ (month_letters (month_of n) ++ 32 ∷ (all_digits 4 (unsigned_abs (year_of n)) ++ 32 ∷ (l ++ 32 ∷ (zone_text x ++ []))))))) shown.2 in
     record {
       weekday = weekday_word;
-      day = mail_day_digits (day_of n);
+      day = number_text (day_of n);
       month = month_letters (month_of n);
       year = all_digits 4 (unsigned_abs (year_of n));
       hour = two_digits (hour_of t);
@@ -372,7 +350,7 @@ mail_written m x is small has =
       second = two_digits shown.0;
       zone = zone_text x;
       end = [];
-      words = subst (λ (l : List ℕ). AreMailWords l weekday_word (mail_day_digits (day_of n)) (month_letters (month_of n)) (all_digits 4 (unsigned_abs (year_of n))) (two_digits (hour_of t)) (two_digits (minute_of t)) (two_digits shown.0) (zone_text x) []) (sym whole) words;
+      words = subst (λ (l : List ℕ). AreMailWords l weekday_word (number_text (day_of n)) (month_letters (month_of n)) (all_digits 4 (unsigned_abs (year_of n))) (two_digits (hour_of t)) (two_digits (minute_of t)) (two_digits shown.0) (zone_text x) []) (sym whole) words;
       ends = (ap (λ (p : ℕ × List ℕ). p.0) (gap_end-nothing 0 false), ap (λ (p : ℕ × List ℕ). p.1) (gap_end-nothing 0 false));
       weekday_is = inr (weekday_read (weekday_of n));
       date_is = date_read n is.date has.year.0 has.year.1;

@@ -1,8 +1,9 @@
 -- The texts of offsets in six bytes.
-use Rattle.std.proofs.Common.{◌≡◌, ◌≢◌, ◌⊎◌, ℕ, ◌+◌, ◌/◌, ◌%◌, ◌≤◌, Bool, true, false, if◌then◌else◌, ℤ, pos, negsuc, unsigned_abs, List, [], ◌∷◌, ◌++◌, length, codes, inl, inr, refl, sym, ap, ◌∙◌, arith}
+use Rattle.std.proofs.Common.{◌≡◌, ◌≢◌, ◌⊎◌, ℕ, ◌+◌, ◌/◌, ◌%◌, ◌≤◌, Bool, true, false, if◌then◌else◌, ℤ, pos, unsigned_abs, List, [], ◌∷◌, ◌++◌, length, codes, inl, inr, refl, sym, ap, ◌∙◌, arith}
 use Rattle.std.specs.Prelude.{get_or}
 use Rattle.std.specs.Int.{is_negative}
 use Rattle.std.proofs.lemmas.Bool.{cases_eq}
+use Rattle.chrono_text.proofs.TextLemmas.{unsigned_abs-zero}
 use Rattle.chrono_text.specs.Text.{two_digits}
 use Rattle.chrono_instant.specs.Offsets.{IsOffset}
 use Rattle.chrono_instant.specs.OffsetText.{offset_seconds_text, offset_size_text, offset_text}
@@ -55,10 +56,6 @@ ends_in_digit text x is =
     (start, 48 + n / 60 % 60 % 10, ap (λ (l : List ℕ). sign ∷ l) (sym whole) ∙ sym signed ∙ is.written, omega arith)
 
 -- no offset but that of UTC is written with zeros alone
-nothing_left : (x : ℤ) → unsigned_abs x ≡ 0 → x ≡ pos 0
-nothing_left (pos n) e = ap pos e
-nothing_left (negsuc n) e = absurd (omega (arith, e))
-
 pub zeros_are_utc : (x : ℤ) → offset_text x ≡ codes "-00:00" → x ≡ pos 0
 zeros_are_utc x e =
     let n = unsigned_abs x in
@@ -69,7 +66,7 @@ zeros_are_utc x e =
     let minute_tens : 48 + n / 60 % 60 / 10 ≡ 48 = ap (λ (l : List ℕ). get_or l 4 0) same in
     let minute_ones : 48 + n / 60 % 60 % 10 ≡ 48 = ap (λ (l : List ℕ). get_or l 5 0) same in
     let six : length (offset_text x) ≡ 6 = ap (λ (l : List ℕ). length l) e in
-    nothing_left x (omega (arith, whole_minutes x six))
+    unsigned_abs-zero x (omega (arith, whole_minutes x six))
 
 -- ---- the end of a text
 

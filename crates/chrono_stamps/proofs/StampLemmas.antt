@@ -13,7 +13,7 @@ use Rattle.chrono_zoned.specs.declared.mapped_local_time.MappedLocalTime.TheVari
 use Rattle.chrono_zoned.specs.Zones.{single_of}
 use Rattle.chrono_zoned.specs.Zoned.{AreLocal, Zoned}
 use Rattle.chrono_stamps.specs.Rfc3339.{IsRfc3339Text}
-use Rattle.chrono_stamps.proofs.CutLemmas.{front_is}
+use Rattle.chrono_text.proofs.TextLemmas.{front_is}
 
 -- what is known of the instant that is found
 abbrev pub IsFound : Moment → ℤ → Zoned ℤ → Type 0

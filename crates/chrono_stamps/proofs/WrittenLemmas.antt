@@ -7,7 +7,7 @@ use Rattle.std.specs.Ordering.{int_eq}
 use Rattle.chrono_text.proofs.DigitLemmas.{by_size}
 use Rattle.chrono_text.proofs.FractionLemmas.{IsFractionText-below}
 use Rattle.chrono_text.specs.Fractions.{IsFractionText}
-use Rattle.chrono_text.specs.Text.{clock_text, two_digits}
+use Rattle.chrono_text.specs.Text.{clock_text}
 use Rattle.chrono_naive.proofs.DateTextLemmas.{length-date_text-four}
 use Rattle.chrono_datetime.specs.DateText.{date_text}
 use Rattle.chrono_datetime.specs.Moment.{IsMoment, Moment}
@@ -15,6 +15,7 @@ use Rattle.chrono_datetime.specs.Time.{FractionFits, IsTime, TimeOfDay, hour_of,
 use Rattle.chrono_datetime.specs.TimeText.{time_text}
 use Rattle.chrono_instant.specs.Offsets.{IsOffset}
 use Rattle.chrono_instant.specs.OffsetText.{offset_text}
+use Rattle.chrono_reading.proofs.TimeTextLemmas.{clock_digits}
 use Rattle.chrono_reading.specs.DateTexts.{IsDateText}
 use Rattle.chrono_reading.specs.TimeTexts.{IsTimeText}
 use Rattle.chrono_stamps.specs.Fractions.{fraction_in, places_of}
@@ -54,13 +55,10 @@ cut_fraction places n (inr (inr (inr e))) small = subst (IsCut n) (sym e) (inr (
 
 -- ---- times
 
-abbrev pub clock : ℕ → ℕ → ℕ → List ℕ
-clock hour minute second = two_digits hour ++ 58 ∷ two_digits minute ++ 58 ∷ two_digits second
-
-pub plain_clock : (t : TimeOfDay) → t.fraction - nanos_past t ≡ 0 → time_text (whole_second t) ≡ clock (hour_of t) (minute_of t) (second_of t)
+pub plain_clock : (t : TimeOfDay) → t.fraction - nanos_past t ≡ 0 → time_text (whole_second t) ≡ clock_digits (hour_of t) (minute_of t) (second_of t)
 plain_clock t e = ap (λ f. clock_text (hour_of t) (minute_of t) (second_of t) f) e
 
-pub leap_clock : (t : TimeOfDay) → t.fraction - nanos_past t ≡ 1_000_000_000 → time_text (whole_second t) ≡ clock (hour_of t) (minute_of t) (second_of t + 1)
+pub leap_clock : (t : TimeOfDay) → t.fraction - nanos_past t ≡ 1_000_000_000 → time_text (whole_second t) ≡ clock_digits (hour_of t) (minute_of t) (second_of t + 1)
 leap_clock t e = ap (λ f. clock_text (hour_of t) (minute_of t) (second_of t) f) e
 
 shown : (b : Bool) (hour minute second nanos : ℕ) (t : TimeOfDay)

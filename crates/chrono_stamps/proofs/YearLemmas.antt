@@ -1,10 +1,9 @@
 -- Dates whose text has ten bytes are of the years 0 to 9999, and so lie far from the ends of the calendar.
 use Rattle.std.proofs.Common.{◌≡◌, ◌==◌, Bool, true, false, if◌then◌else◌, ℕ, suc, ◌+◌, ◌<◌, ◌≤◌, ℤ, pos, negsuc, neg_ℤ, ◌-ℤ◌, ◌≤ℤ◌, ◌<ℤ◌, List, Some, length, unsigned_abs, refl, sym, ap, subst, arith}
 use Rattle.std.proofs.lemmas.Int.{by_lt_z, ints}
-use Rattle.std.specs.Fmt.{decimal}
-use Rattle.chrono_text.specs.Text.{year_digits, year_text}
-use Rattle.chrono_text.proofs.DigitLemmas.{by_size, decimal_below}
-use Rattle.chrono_text.proofs.TextLemmas.{length-calendar_text, year_text-more}
+use Rattle.chrono_text.specs.Text.{year_text}
+use Rattle.chrono_text.proofs.DigitLemmas.{by_size}
+use Rattle.chrono_text.proofs.TextLemmas.{length-calendar_text, year_digits-least, year_text-more}
 use Rattle.chrono_calendar.specs.Days.{day_number_of_yo, year_of}
 use Rattle.chrono_calendar.proofs.GivenNames.{given_ymd}
 use Rattle.chrono_calendar.proofs.Names.{year_of-number}
@@ -19,29 +18,17 @@ use Rattle.chrono_reading.specs.DateTexts.{IsDateText}
 use Rattle.chrono_reading.specs.TimeTexts.{IsTimeText}
 use Rattle.std.proofs.lemmas.Bool.Decides.{nat_tests}
 
--- the size of a year has four digits at least
-four_at_least : (n : ℕ) → n < 1_000_000 → 4 ≤ length (year_digits n)
-four_at_least n small = by_size 10_000 n
-    (λ low. grind arith)
-    (λ high.
-    let is : year_digits n ≡ decimal n = grind arith in
-    by_size 5 (length (decimal n))
-    (λ few. absurd (omega (arith, decimal_below n 4 (omega arith) (omega arith))))
-    (λ many. omega (arith, ap length is)))
-
--- and five from 10,000 on
-five_at_least : (n : ℕ) → 10_000 ≤ n → n < 1_000_000 → 5 ≤ length (year_digits n)
-five_at_least n high small =
-    let is : year_digits n ≡ decimal n = grind arith in
-    by_size 5 (length (decimal n))
-    (λ few. absurd (omega (arith, decimal_below n 4 (omega arith) (omega arith))))
-    (λ many. omega (arith, ap length is))
-
+-- the size of a year has four digits at least, and from 10,000 on a sign stands in front of it
 pub four_digits : (y : ℤ) → unsigned_abs y < 1_000_000 → length (year_text y) ≡ 4 → (pos 0 ≤ℤ y) × (y ≤ℤ pos 9_999)
-four_digits (negsuc n) small four = absurd (omega (arith, four, four_at_least (suc n) small))
+four_digits (negsuc n) small four = absurd (omega (arith, four, year_digits-least (suc n) small))
 four_digits (pos n) small four = by_size 10_000 n
     (λ low. (omega (arith, ints), omega (arith, ints, low)))
-    (λ high. absurd (omega (arith, ap length (year_text-more n high), four, five_at_least n high small)))
+    (λ high. absurd (omega (arith, ap length (year_text-more n high), four, year_digits-least n small)))
+
+-- the size of a year from 0 to 9999
+pub four_places : (y : ℤ) → pos 0 ≤ℤ y → y ≤ℤ pos 9_999 → (unsigned_abs y < 10_000) × (pos (unsigned_abs y) ≡ y)
+four_places (pos n) low high = (omega (arith, ints, high), refl)
+four_places (negsuc n) low high = absurd (omega (arith, ints, low))
 
 -- the first days of the years 0 and 10,000
 year_nought : day_number_of_yo (pos 0) 1 ≡ neg_ℤ (pos 365)

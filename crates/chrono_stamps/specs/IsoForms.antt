@@ -8,7 +8,7 @@ use Rattle.chrono_reading.specs.declared.error.ReadError.{ReadError}
 use Rattle.chrono_text.specs.Lists.{stands_in}
 use Rattle.chrono_stamps.specs.Iso8601.{IsExtendedText, behind_date, date_part, offset_part, time_part}
 use Rattle.chrono_stamps.specs.IsoErrors.{IsExtendedError}
-use Rattle.chrono_stamps.specs.MailErrors.{place}
+use Rattle.chrono_text.specs.Lists.{part_place}
 
 -- the text is of the basic form: behind four digits stands one more, or the letter of a week
 unfoldable pub is_basic : List ℕ → Bool
@@ -86,8 +86,8 @@ basic_byte text bytes =
     let in_time = bytes - length (hyphened (date_part text)) - 1 in
     if stands_in (byte "T") text
     then (if nat_le bytes (length (hyphened (date_part text))) then date_byte (date_part text) bytes
-    else (if nat_le in_time (length (coloned time)) then place text (behind_date text) (time_byte time in_time)
-    else place text offset (offset_byte offset (in_time - length (coloned time)))))
+    else (if nat_le in_time (length (coloned time)) then part_place text (behind_date text) (time_byte time in_time)
+    else part_place text offset (offset_byte offset (in_time - length (coloned time)))))
     else date_byte text bytes
 
 -- the error of a text, by that of the extended form

@@ -18,6 +18,7 @@ use Rattle.chrono_reading.specs.NameErrors.{in_common, month_error, more_of, wee
 use Rattle.chrono_reading.specs.declared.error.ReadCause.{ReadCause}
 use Rattle.chrono_reading.specs.declared.error.ReadCause.TheVariants.{DateOutOfRange, DayAbove, DayZero, HourAbove23, MinuteAbove59, NotThisForm, SecondAbove60, UnknownName, YearOutOfRange}
 use Rattle.chrono_reading.specs.declared.error.ReadError.{ReadError}
+use Rattle.chrono_text.specs.Lists.{part_place}
 use Rattle.chrono_text.specs.Numbers.{count_of, digits_of, natural_of, up_to}
 use Rattle.chrono_stamps.specs.MailWords.{behind_gap, gap_end, is_of_word}
 use Rattle.chrono_stamps.specs.Rfc2822.{hours_behind, year_meant}
@@ -25,13 +26,9 @@ use Rattle.chrono_stamps.specs.StampErrors.{two_written}
 
 -- ---- parts of a text
 
--- the byte of a text that stands so many bytes behind the beginning of a part, which is the text's end
-abbrev pub place : List ℕ → List ℕ → ℕ → ℕ
-place text part bytes = length text - (length part - bytes)
-
 -- the error of a text, by that of the word in front of a part
 abbrev pub error_in : List ℕ → List ℕ → ReadError → ReadError
-error_in text part e = error_at e.cause (place text part e.byte)
+error_in text part e = error_at e.cause (part_place text part e.byte)
 
 -- the word in front of a part, which is as long as can be, and what stands behind it
 abbrev pub front_word : List ℕ → List ℕ
@@ -135,8 +132,8 @@ unfoldable pub error_from_end : List ℕ → List ℕ → ReadError
 error_from_end text rest =
     let left = gap_end 0 false rest in
     if left.0 == 0
-    then (if length left.1 == 0 then error_at DateOutOfRange 0 else error_at NotThisForm (place text left.1 0))
-    else error_at NotThisForm (place text left.1 0)
+    then (if length left.1 == 0 then error_at DateOutOfRange 0 else error_at NotThisForm (part_place text left.1 0))
+    else error_at NotThisForm (part_place text left.1 0)
 
 unfoldable pub error_from_zone : List ℕ → List ℕ → ReadError
 error_from_zone text part = elim (zone_fault (front_word part)) [
@@ -159,7 +156,7 @@ error_from_minute text part = elim (number_fault MinuteAbove59 59 (front_word pa
 
 unfoldable pub error_from_hour : List ℕ → List ℕ → ReadError
 error_from_hour text part = elim (number_fault HourAbove23 23 (front_word part)) [
-  | None ↦ elim (behind_sign (byte ":") (next_part part)) [ None ↦ error_at NotThisForm (place text (next_part part) 0) | Some minute ↦ error_from_minute text minute ]
+  | None ↦ elim (behind_sign (byte ":") (next_part part)) [ None ↦ error_at NotThisForm (part_place text (next_part part) 0) | Some minute ↦ error_from_minute text minute ]
   | Some e ↦ error_in text part e
 ]
 
@@ -169,7 +166,7 @@ error_from_year text weekday day_part day month part = elim (year_of_word (front
   | None ↦ error_in text part (year_word_error (front_word part))
   | Some year ↦ elim (date_of_ymd (pos year) (number_from_month month) day) [
     | None ↦ error_in text day_part (day_error year month day)
-    | Some n ↦ if names_day weekday n then error_from_hour text (next_part part) else error_at NotThisForm (place text (behind_gap text) 0)
+    | Some n ↦ if names_day weekday n then error_from_hour text (next_part part) else error_at NotThisForm (part_place text (behind_gap text) 0)
   ]
 ]
 
@@ -182,7 +179,7 @@ error_from_month text weekday day_part day part = elim (month_of_letters (front_
 -- the day of the month has one digit or two
 unfoldable pub error_from_day : List ℕ → Option Weekday → List ℕ → ReadError
 error_from_day text weekday part = elim (digits_of 2 (front_word part)) [
-  | None ↦ error_at NotThisForm (place text part (fitting (codes "dd") (front_word part)))
+  | None ↦ error_at NotThisForm (part_place text part (fitting (codes "dd") (front_word part)))
   | Some day ↦ error_from_month text weekday part day (next_part part)
 ]
 
@@ -193,7 +190,7 @@ rfc2822_error text =
     if begins_with_letter part
     then elim (weekday_of_letters 3 (front_word part)) [
       | None ↦ error_in text part (weekday_word_error (front_word part))
-      | Some d ↦ elim (behind_sign (byte ",") (next_part part)) [ None ↦ error_at NotThisForm (place text (next_part part) 0) | Some day ↦ error_from_day text (Some d) day ]
+      | Some d ↦ elim (behind_sign (byte ",") (next_part part)) [ None ↦ error_at NotThisForm (part_place text (next_part part) 0) | Some day ↦ error_from_day text (Some d) day ]
     ]
     else error_from_day text None part
 

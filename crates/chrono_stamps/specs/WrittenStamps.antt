@@ -1,5 +1,5 @@
 -- The texts that are written of a local date-time m, on a clock x seconds ahead of UTC: by RFC 3339 and by RFC 2822.
-use Rattle.std.specs.Prelude.{◌≡◌, ℕ, ◌+◌, ◌-◌, ◌%◌, ◌/◌, ◌^◌, Bool, ◌&&◌, nat_lt, List, [], ◌∷◌, ◌++◌, codes, take, if◌then◌else◌, ℤ, pos, neg_ℤ, ◌≤ℤ◌, unsigned_abs, refl}
+use Rattle.std.specs.Prelude.{◌≡◌, ℕ, ◌-◌, ◌%◌, ◌/◌, ◌^◌, Bool, ◌&&◌, List, ◌++◌, codes, take, if◌then◌else◌, ℤ, pos, neg_ℤ, ◌≤ℤ◌, unsigned_abs, refl}
 use Rattle.std.specs.Int.{is_negative}
 use Rattle.std.specs.Ordering.{int_eq}
 use Rattle.chrono_datetime.specs.DateText.{date_text}
@@ -9,8 +9,7 @@ use Rattle.chrono_datetime.specs.Moment.{Moment, moment}
 use Rattle.chrono_datetime.specs.Month.{month_from_number, month_name}
 use Rattle.chrono_datetime.specs.Weeks.{weekday_of}
 use Rattle.chrono_datetime.specs.WeekdayText.{weekday_text}
-use Rattle.chrono_text.specs.Text.{all_digits, two_digits}
-use Rattle.std.specs.Str.{byte}
+use Rattle.chrono_text.specs.Text.{all_digits, number_text, two_digits}
 use Rattle.chrono_datetime.specs.Time.{FractionFits, TimeOfDay, second_of, time_with_fraction}
 use Rattle.chrono_datetime.specs.TimeText.{time_text}
 use Rattle.chrono_instant.specs.OffsetText.{offset_text}
@@ -51,18 +50,14 @@ moment_cut form m =
 
 -- ---- RFC 2822, by the grammar of its section 3.3
 
--- day = 1*2DIGIT
-abbrev pub mail_day_digits : ℕ → List ℕ
-mail_day_digits n = if nat_lt n 10 then (byte "0" + n) ∷ [] else two_digits n
-
 -- month-name = "Jan" / "Feb" / .. / "Dec": the first three letters of the month's name
 abbrev pub month_letters : ℕ → List ℕ
 month_letters n = take 3 (month_name (month_from_number n))
 
--- day-of-week "," date, where date = day month year and year = 4*DIGIT
+-- day-of-week "," date, where date = day month year, day = 1*2DIGIT and year = 4*DIGIT
 abbrev pub mail_date_text : ℤ → List ℕ
 mail_date_text n =
-    weekday_text (weekday_of n) ++ codes ", " ++ mail_day_digits (day_of n) ++ codes " " ++ month_letters (month_of n) ++ codes " " ++ all_digits 4 (unsigned_abs (year_of n))
+    weekday_text (weekday_of n) ++ codes ", " ++ number_text (day_of n) ++ codes " " ++ month_letters (month_of n) ++ codes " " ++ all_digits 4 (unsigned_abs (year_of n))
 
 -- zone = ("+" / "-") 4DIGIT: the hours and the minutes
 abbrev pub zone_text : ℤ → List ℕ
@@ -73,9 +68,6 @@ abbrev pub rfc2822_text : Moment → ℤ → List ℕ
 rfc2822_text m x = mail_date_text m.date ++ codes " " ++ time_text (whole_second m.time) ++ codes " " ++ zone_text x
 
 -- known values
-mail_day_digits-one : mail_day_digits 1 ≡ codes "1"
-mail_day_digits-one = refl
-
 month_letters-nine : month_letters 9 ≡ codes "Sep"
 month_letters-nine = refl
 

@@ -4,9 +4,8 @@ ghost use Rattle.chrono_stamps.specs.IsoForms.{basic_byte, coloned, coloned_offs
 
 use crate::iso8601_reader::time_len;
 use crate::pieces::{behind_bytes, first_bytes};
-use crate::rfc2822_error::place;
 use chrono_reading::fitting_len;
-use chrono_text::{Text, split_at_byte};
+use chrono_text::{Text, part_place, split_at_byte};
 
 // Whether a text is of the basic form: behind four digits stands one more, or the letter of a week.
 #[tactic(auto, unfolding(crate::specs::IsoForms::is_basic))]
@@ -115,9 +114,9 @@ pub(crate) fn basic_byte(text: &[u8], bytes: usize) -> usize
     let (time, offset) = behind.split_at(time_len(behind));
     let time_len = coloned(time).as_bytes().len();
     if in_time <= time_len {
-        return place(text, behind, time_byte(time, in_time));
+        return part_place(text, behind, time_byte(time, in_time));
     }
-    place(text, offset, offset_byte(offset, in_time - time_len))
+    part_place(text, offset, offset_byte(offset, in_time - time_len))
 }
 
 // Where a byte of a date stands if the hyphens are left out.

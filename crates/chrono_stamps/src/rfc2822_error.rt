@@ -2,18 +2,17 @@
 ghost use Rattle.std.specs.Prelude.{◌≡◌, ◌≤◌, length, take, Some, None, IfSome, IfNone};
 ghost use Rattle.chrono_datetime.specs.Names.{month_of_letters, weekday_of_letters};
 ghost use Rattle.chrono_reading.specs.DateErrors.{error_at};
-ghost use Rattle.chrono_reading.specs.Fitting.{leading_digits};
 ghost use Rattle.chrono_reading.specs.NameErrors.{month_error, weekday_error};
 ghost use Rattle.chrono_reading.specs.declared.error.ReadCause.TheVariants.{UnknownName};
-ghost use Rattle.chrono_stamps.specs.MailErrors.{begins_with_letter, behind_sign, day_error, error_from_day, error_from_end, error_from_hour, error_from_minute, error_from_month, error_from_second, error_from_year, error_from_zone, error_in, fitting_one, fitting_two, fitting_zone, front_word, is_zone_name, month_word_error, names_day, next_part, number_fault, place, rfc2822_error, weekday_word_error, year_word_error, zone_digits_fault, zone_fault};
+ghost use Rattle.chrono_stamps.specs.MailErrors.{begins_with_letter, behind_sign, day_error, error_from_day, error_from_end, error_from_hour, error_from_minute, error_from_month, error_from_second, error_from_year, error_from_zone, error_in, fitting_one, fitting_two, fitting_zone, front_word, is_zone_name, month_word_error, names_day, next_part, number_fault, rfc2822_error, weekday_word_error, year_word_error, zone_digits_fault, zone_fault};
 
 use crate::mail_words::{gap_end, skip_gap, split_word};
 use crate::pieces::first_bytes;
 use crate::rfc2822_reader::{hours_behind, mail_year};
 use crate::rfc3339_error::{not_of_form, two_written};
 use chrono_datetime::{Datelike, Month, NaiveDate, Weekday};
-use chrono_reading::{ReadCause, ReadError, fitting_len, read_month, read_weekday};
-use chrono_text::read_digits;
+use chrono_reading::{ReadCause, ReadError, fitting_len, leading_digits, read_month, read_weekday};
+use chrono_text::{part_place, read_digits};
 
 // Why a text is none of RFC 2822: what is wrong first, from left to right.
 #[cold]
@@ -32,7 +31,7 @@ pub(crate) fn mail_error(text: &[u8]) -> ReadError
     let comma = next_part(part);
     match behind_sign(b',', comma) {
         Some(day) => error_from_day(text, Some(weekday), day),
-        None => not_of_form(place(text, comma, 0)),
+        None => not_of_form(part_place(text, comma, 0)),
     }
 }
 
@@ -44,7 +43,7 @@ fn error_from_day(text: &[u8], weekday: Option<Weekday>, part: &[u8]) -> ReadErr
     let word = front_word(part);
     match read_digits(word, 2) {
         Some(day) => error_from_month(text, weekday, part, day, next_part(part)),
-        None => not_of_form(place(text, part, fitting_len(b"dd", word))),
+        None => not_of_form(part_place(text, part, fitting_len(b"dd", word))),
     }
 }
 
@@ -86,7 +85,7 @@ fn error_from_year(
         return error_in(text, day_part, day_error(year, month, day));
     };
     if !names_day(weekday, date) {
-        return not_of_form(place(text, skip_gap(text), 0));
+        return not_of_form(part_place(text, skip_gap(text), 0));
     }
     error_from_hour(text, next_part(part))
 }
@@ -102,7 +101,7 @@ fn error_from_hour(text: &[u8], part: &[u8]) -> ReadError
     let colon = next_part(part);
     match behind_sign(b':', colon) {
         Some(minute) => error_from_minute(text, minute),
-        None => not_of_form(place(text, colon, 0)),
+        None => not_of_form(part_place(text, colon, 0)),
     }
 }
 
@@ -151,22 +150,15 @@ fn error_from_end(text: &[u8], rest: &[u8]) -> ReadError
 {
     let (depth, left) = gap_end(rest);
     if depth != 0 {
-        return not_of_form(place(text, left, 0));
+        return not_of_form(part_place(text, left, 0));
     }
     if left.len() != 0 {
-        return not_of_form(place(text, left, 0));
+        return not_of_form(part_place(text, left, 0));
     }
     ReadError {
         cause: ReadCause::DateOutOfRange,
         byte: 0,
     }
-}
-
-// The byte of a text that stands so many bytes behind the beginning of a part, which is the text's end.
-pub(crate) fn place(text: &[u8], part: &[u8], bytes: usize) -> usize
-    ensures { result ≡ place text.now part.now bytes }
-{
-    text.len().saturating_sub(part.len().saturating_sub(bytes))
 }
 
 // The error of a text, by that of the word in front of a part.
@@ -175,7 +167,7 @@ pub(crate) fn error_in(text: &[u8], part: &[u8], error: ReadError) -> ReadError
 {
     ReadError {
         cause: error.cause,
-        byte: place(text, part, error.byte),
+        byte: part_place(text, part, error.byte),
     }
 }
 
@@ -293,20 +285,6 @@ fn year_word_error(word: &[u8]) -> ReadError
         cause: ReadCause::YearOutOfRange,
         byte: 0,
     }
-}
-
-// How many digits a word begins with.
-fn leading_digits(word: &[u8]) -> usize
-    ensures { result ≡ leading_digits word.now }
-{
-    let mut len = 0;
-    while len < word.len() {
-        if !word[len].is_ascii_digit() {
-            return len;
-        }
-        len += 1;
-    }
-    len
 }
 
 // Why a month has no such day.

@@ -5,7 +5,7 @@ ghost use Rattle.std.specs.Str.{IsAscii};
 ghost use Rattle.chrono_datetime.specs.Days.{year_of};
 ghost use Rattle.chrono_datetime.specs.TimeText.{time_text};
 ghost use Rattle.chrono_zoned.specs.Zoned.{local_at, offset_at};
-ghost use Rattle.chrono_stamps.specs.WrittenStamps.{HasStampText, mail_day_digits, mail_date_text, month_letters, rfc2822_text, whole_second, zone_text};
+ghost use Rattle.chrono_stamps.specs.WrittenStamps.{HasStampText, mail_date_text, month_letters, rfc2822_text, whole_second, zone_text};
 
 use crate::rfc3339_writer::has_stamp_text;
 use chrono_datetime::{Datelike, Month, NaiveDate, NaiveDateTime, NaiveTime, Timelike};
@@ -66,26 +66,11 @@ fn put_mail_date<const N: usize>(text: &mut Text<N>, date: NaiveDate)
     let (year, month, day) = date.year_month_day();
     date.weekday().put_into(text);
     text.push_text(b", ");
-    put_day_of_month(text, day);
+    text.push_number(day);
     text.push(b' ');
     put_month(text, month);
     text.push(b' ');
     text.push_four(year.unsigned_abs());
-}
-
-// Puts a day of the month in one digit or two.
-#[inline]
-fn put_day_of_month<const N: usize>(text: &mut Text<N>, day: u32)
-    requires small { day < 100 }
-    requires room { length text.old + 2 ≤ N }
-    ensures text { text.new ≡ text.old ++ mail_day_digits day }
-    ensures fits { length text.new ≤ length text.old + 2 }
-{
-    if day < 10 {
-        text.push(b'0' + day as u8);
-        return;
-    }
-    text.push_two(day);
 }
 
 // Puts the first three letters of a month's name.

@@ -6,7 +6,7 @@ use Rattle.chrono_instant.specs.Offsets.{moment_ahead}
 use Rattle.chrono_stamps.specs.Iso8601.{IsExtendedText, IsIsoDate, IsIsoOffset, IsIsoTime, behind_date, offset_part, time_part}
 use Rattle.chrono_stamps.specs.IsoErrors.{IsIsoTimeError, iso_offset_error}
 use Rattle.chrono_stamps.specs.MailErrors.{error_in}
-use Rattle.chrono_stamps.proofs.IsoPartLemmas.{ok_same}
+use Rattle.chrono_text.proofs.AnswerLemmas.{same_Ok}
 use Rattle.chrono_stamps.proofs.iso8601_reader.extended_stamp.Goals as goal
 
 pub returns-in-Err-clause-every : goal.returns-in-Err-clause-every
@@ -64,8 +64,8 @@ pub returns-in-Some-stamp_at-clause-every : goal.returns-in-Some-stamp_at-clause
 returns-in-Some-stamp_at-clause-every c = λ m x is.
     let clock : c.split_at.result.0.now ≡ time_part (behind_date c.args.text.now) = c.split_at.ensures.front ∙ ap (λ k. take k c.in-Some.behind.now) c.time_len.ensures.value ∙ ap (λ (l : List ℕ). time_part l) c.in-Some.ensures.back in
     let end : c.split_at.result.1.now ≡ offset_part (behind_date c.args.text.now) = c.split_at.ensures.back ∙ ap (λ k. drop k c.in-Some.behind.now) c.time_len.ensures.value ∙ ap (λ (l : List ℕ). offset_part l) c.in-Some.ensures.back in
-    let date = ok_same _ _ _ c.in-Ok.is (c.iso_date.ensures.every m.date (subst (λ (l : List ℕ). IsIsoDate l m.date) (sym c.in-Some.ensures.front) is.date_is)) in
-    let time = ok_same _ _ _ c.in-Ok-iso_time.is (c.iso_time.ensures.every m.time (subst (λ (l : List ℕ). IsIsoTime l m.time) (sym clock) is.time_is)) in
+    let date = same_Ok _ _ (sym c.in-Ok.is ∙ c.iso_date.ensures.every m.date (subst (λ (l : List ℕ). IsIsoDate l m.date) (sym c.in-Some.ensures.front) is.date_is)) in
+    let time = same_Ok _ _ (sym c.in-Ok-iso_time.is ∙ c.iso_time.ensures.every m.time (subst (λ (l : List ℕ). IsIsoTime l m.time) (sym clock) is.time_is)) in
     let offset = same_Some _ _ (sym c.in-Some-iso_offset.is ∙ c.iso_offset.ensures.every x (subst (λ (l : List ℕ). IsIsoOffset l x) (sym end) is.offset_is)) in
     let local : c.new.result ≡ m = c.new.ensures ∙ ap (λ n. moment n c.in-Ok-iso_time.time) date ∙ ap (λ u. moment m.date u) time in
     (c.in-Some-stamp_at.ensures.local ∙ local, c.in-Some-stamp_at.ensures.zone ∙ offset)
@@ -74,8 +74,8 @@ pub returns-in-None-clause-every : goal.returns-in-None-clause-every
 returns-in-None-clause-every c = λ m x is.
     let clock : c.split_at.result.0.now ≡ time_part (behind_date c.args.text.now) = c.split_at.ensures.front ∙ ap (λ k. take k c.in-Some.behind.now) c.time_len.ensures.value ∙ ap (λ (l : List ℕ). time_part l) c.in-Some.ensures.back in
     let end : c.split_at.result.1.now ≡ offset_part (behind_date c.args.text.now) = c.split_at.ensures.back ∙ ap (λ k. drop k c.in-Some.behind.now) c.time_len.ensures.value ∙ ap (λ (l : List ℕ). offset_part l) c.in-Some.ensures.back in
-    let date = ok_same _ _ _ c.in-Ok.is (c.iso_date.ensures.every m.date (subst (λ (l : List ℕ). IsIsoDate l m.date) (sym c.in-Some.ensures.front) is.date_is)) in
-    let time = ok_same _ _ _ c.in-Ok-iso_time.is (c.iso_time.ensures.every m.time (subst (λ (l : List ℕ). IsIsoTime l m.time) (sym clock) is.time_is)) in
+    let date = same_Ok _ _ (sym c.in-Ok.is ∙ c.iso_date.ensures.every m.date (subst (λ (l : List ℕ). IsIsoDate l m.date) (sym c.in-Some.ensures.front) is.date_is)) in
+    let time = same_Ok _ _ (sym c.in-Ok-iso_time.is ∙ c.iso_time.ensures.every m.time (subst (λ (l : List ℕ). IsIsoTime l m.time) (sym clock) is.time_is)) in
     let offset = same_Some _ _ (sym c.in-Some-iso_offset.is ∙ c.iso_offset.ensures.every x (subst (λ (l : List ℕ). IsIsoOffset l x) (sym end) is.offset_is)) in
     let local : c.new.result ≡ m = c.new.ensures ∙ ap (λ n. moment n c.in-Ok-iso_time.time) date ∙ ap (λ u. moment m.date u) time in
     c.in-None.ensures.every (subst (λ (n : Moment). IsEpochSecond (epoch_second n -ℤ c.in-Some-iso_offset.offset)) (sym local) (subst (λ (y : ℤ). IsEpochSecond (epoch_second m -ℤ y)) (sym offset) is.instant))

@@ -1,6 +1,6 @@
 use Rattle.std.proofs.Common.{◌≡◌, ◌∙◌, List, ℕ, Some, length, inl, inr, sym, subst}
 use Rattle.chrono_stamps.specs.Rfc3339.{IsSixBytes}
-use Rattle.chrono_stamps.proofs.CutLemmas.{end_is}
+use Rattle.chrono_text.proofs.TextLemmas.{end_is}
 use Rattle.chrono_stamps.proofs.OffsetLemmas.{six_long, zulu_last}
 use Rattle.chrono_stamps.proofs.rfc3339_reader.offset_at_end.Goals as goal
 

@@ -6,7 +6,8 @@ use Rattle.chrono_datetime.specs.Time.{TimeOfDay}
 use Rattle.chrono_reading.specs.DateTexts.{IsDateText}
 use Rattle.chrono_reading.specs.TimeTexts.{IsTimeText}
 use Rattle.chrono_stamps.specs.Rfc3339.{IsStampSeparator}
-use Rattle.chrono_stamps.proofs.CutLemmas.{end_is, joined, ten}
+use Rattle.chrono_text.proofs.TextLemmas.{end_is}
+use Rattle.chrono_stamps.proofs.CutLemmas.{joined, ten}
 use Rattle.chrono_stamps.proofs.OffsetLemmas.{offset_small}
 use Rattle.chrono_stamps.proofs.StampLemmas.{found, from_ok, same_end, stamp_cut}
 use Rattle.chrono_stamps.proofs.YearLemmas.{second_near, second_small, text_near}
