@@ -19,7 +19,7 @@ year_length-shift c y base e =
     omega (arith, signed, days_before_year-shift c y base e, days_before_year-shift c (y +ℤ pos 1) (base +ℤ pos 1) (omega (arith, signed)), days_before_year-next y (y +ℤ pos 1) refl, days_before_year-next base (base +ℤ pos 1) refl)
 
 -- 146,097 days are whole weeks
-weekday-shift : (c a b : ℤ) → a ≡ b +ℤ c *ℤ pos 146_097 → days_from_sunday_of a ≡ days_from_sunday_of b
+pub weekday-shift : (c a b : ℤ) → a ≡ b +ℤ c *ℤ pos 146_097 → days_from_sunday_of a ≡ days_from_sunday_of b
 weekday-shift c a b e = omega (arith, signed)
 
 -- the two parts of a year's flags

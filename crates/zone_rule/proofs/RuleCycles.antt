@@ -10,7 +10,7 @@ use Rattle.chrono_units.specs.declared.weekday.Weekday.{Weekday}
 use Rattle.chrono_units.specs.Weekday.{days_from_sunday}
 use Rattle.chrono_calendar.specs.Days.{days_of_months_in, day_number_of_ymd}
 use Rattle.chrono_calendar.specs.Weeks.{days_from_sunday_of, days_with_weekday}
-use Rattle.chrono_calendar.proofs.Cycles.{days_before_year-again, is_leap_year-again, ordinal_name-again}
+use Rattle.chrono_calendar.proofs.Cycles.{days_before_year-again, is_leap_year-again, ordinal_name-again, weekday-shift}
 use Rattle.chrono_calendar.proofs.Signed.{signed}
 use Rattle.zone_rule.specs.Changes.{YearlyChange, change_second, day_in_year, last_by, nth_or_last, year_of_second}
 use Rattle.zone_rule.specs.RuleDays.{ordinal_of_julian}
@@ -26,14 +26,14 @@ day_number-again y m d =
     let months : days_of_months_in (is_leap_year (y +ℤ pos 400)) (m - 1) ≡ days_of_months_in (is_leap_year y) (m - 1) = ap (λ (leap : Bool). days_of_months_in leap (m - 1)) (is_leap_year-again y (y +ℤ pos 400) refl) in
     omega (arith, signed, before, months)
 
-weekday-again : (n m : ℤ) → m ≡ n +ℤ pos 146_097 → days_from_sunday_of m ≡ days_from_sunday_of n
-weekday-again n m e = omega (arith, signed)
+one_cycle : (n : ℤ) → n +ℤ pos 146_097 ≡ n +ℤ pos 1 *ℤ pos 146_097
+one_cycle n = omega (arith, signed)
 
 days_with_weekday-again : (y : ℤ) (m : ℕ) (w : Weekday) → days_with_weekday (y +ℤ pos 400) m w ≡ days_with_weekday y m w
 unfolding days_with_weekday
 days_with_weekday-again y m w =
     let tests : (λ (d : ℕ). days_from_sunday_of (day_number_of_ymd (y +ℤ pos 400) m d) == days_from_sunday w) ≡ (λ (d : ℕ). days_from_sunday_of (day_number_of_ymd y m d) == days_from_sunday w)
-    = fun_ext (λ (d : ℕ). ap (λ (k : ℕ). k == days_from_sunday w) (weekday-again (day_number_of_ymd y m d) (day_number_of_ymd (y +ℤ pos 400) m d) (day_number-again y m d))) in
+    = fun_ext (λ (d : ℕ). ap (λ (k : ℕ). k == days_from_sunday w) (weekday-shift (pos 1) (day_number_of_ymd (y +ℤ pos 400) m d) (day_number_of_ymd y m d) (day_number-again y m d ∙ one_cycle (day_number_of_ymd y m d)))) in
     ap (λ (test : ℕ → Bool). filter test (range_with_len 1 (month_length (y +ℤ pos 400) m))) tests
     ∙ ap (λ (leap : Bool). filter (λ (d : ℕ). days_from_sunday_of (day_number_of_ymd y m d) == days_from_sunday w) (range_with_len 1 (month_length_in leap m))) (is_leap_year-again y (y +ℤ pos 400) refl)
 

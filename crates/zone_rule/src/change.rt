@@ -14,10 +14,10 @@ use std::marker::Model;
 // The seconds of 168 hours.
 const SECS_PER_WEEK: i32 = 604_800;
 
-const SECS_PER_DAY: i64 = 86_400;
+pub(crate) const SECS_PER_DAY: i64 = 86_400;
 
 // The number of 1 January 1970.
-const UNIX_EPOCH_DAY: i64 = 719_163;
+pub(crate) const UNIX_EPOCH_DAY: i64 = 719_163;
 
 /// When a clock is set in each year: a day, and a time on it.
 ///

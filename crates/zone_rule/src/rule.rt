@@ -6,17 +6,12 @@ ghost use Rattle.chrono_zoned.specs.Zones.{IsMapped};
 ghost use Rattle.zone_rule.specs.Changes.{IsChange, IsNextOf, IsYearOfCycle, change_second, last_by, year_of_second};
 ghost use Rattle.zone_rule.specs.Rules.{IsNextSetting, IsSetAt, IsSteadyUntil, is_daylight, is_daylight_by, rule_offset};
 
-use crate::change::Change;
+use crate::change::{Change, SECS_PER_DAY, UNIX_EPOCH_DAY};
 use chrono_datetime::{Datelike, NaiveDate};
 use chrono_zoned::{FixedOffset, MappedLocalTime};
 
 // The seconds of 400 years, after which the calendar comes again.
 const SECS_PER_CYCLE: i64 = 12_622_780_800;
-
-const SECS_PER_DAY: i64 = 86_400;
-
-// The number of 1 January 1970.
-const UNIX_EPOCH_DAY: i64 = 719_163;
 
 /// A clock in each year: how far standard time is ahead of UTC, and daylight time if there is one.
 ///
