@@ -1,5 +1,5 @@
 //! The days and times at which a clock is set.
-ghost use Rattle.std.specs.Prelude.{◌≡◌, Some, IfSome};
+ghost use Rattle.std.specs.Prelude.{◌≡◌, ◌<◌, Some, IfSome};
 ghost use Rattle.chrono_units.specs.Weekday.{weekday_from_sunday};
 ghost use Rattle.zone_rule.specs.Changes.{YearlyChange};
 ghost use Rattle.zone_text.specs.ChangeTexts.{IsChangeText, monthly_day_of, weekly_day_of, written_day};
@@ -67,23 +67,10 @@ fn weekly_day_of(month: u32, text: &[u8]) -> Option<RuleDay>
     })
 }
 
-// The weekday so many days after Sunday, for 0 to 6.
+// The weekday so many days after Sunday: the one before that of so many days after Monday.
 fn weekday_from_sunday(days: u32) -> Weekday
+    requires { days < 7 }
     ensures { result ≡ weekday_from_sunday days }
 {
-    if days == 0 {
-        Weekday::Sun
-    } else if days == 1 {
-        Weekday::Mon
-    } else if days == 2 {
-        Weekday::Tue
-    } else if days == 3 {
-        Weekday::Wed
-    } else if days == 4 {
-        Weekday::Thu
-    } else if days == 5 {
-        Weekday::Fri
-    } else {
-        Weekday::Sat
-    }
+    Weekday::from_u32(days).unwrap().pred()
 }
