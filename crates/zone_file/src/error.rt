@@ -1,5 +1,7 @@
 //! `ZoneFileError`: why bytes are no TZif file, and where.
-ghost use Rattle.std.specs.Prelude.{◌≡◌, ◌≤◌, length};
+ghost use Rattle.std.specs.Prelude.{◌≤◌, length};
+
+use chrono_text::part_place;
 
 /// What is wrong with bytes that are no TZif file.
 #[derive(Clone, Copy, Debug, PartialEq, Eq)]
@@ -38,6 +40,6 @@ pub(crate) fn error_at(fault: ZoneFileFault, whole: &[u8], part: &[u8]) -> ZoneF
 {
     ZoneFileError {
         fault,
-        byte: whole.len().saturating_sub(part.len()),
+        byte: part_place(whole, part, 0),
     }
 }

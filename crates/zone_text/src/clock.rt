@@ -6,10 +6,10 @@ ghost use Rattle.zone_text.specs.ChangeTexts.{AreChangesText};
 ghost use Rattle.zone_text.specs.ZoneTexts.{IsAhead, IsDaylightTimes, daylight_ahead, written_ahead};
 
 use crate::change::read_change;
-use crate::error::{ZoneTextError, ZoneTextFault, error_at, place};
+use crate::error::{ZoneTextError, ZoneTextFault, error_at};
 use crate::hours::signed_seconds;
 use crate::name::split_offset;
-use chrono_text::split_at_byte;
+use chrono_text::{part_place, split_at_byte};
 use zone_rule::{Change, Daylight, FixedOffset};
 
 const SECS_PER_HOUR: i32 = 3_600;
@@ -25,9 +25,9 @@ pub(crate) fn read_daylight(
     ensures error { IfErr result (λ e. e.byte ≤ length whole.now) }
 {
     let (offset, rest) = split_offset(text);
-    let offset = offset_of(daylight_ahead(standard, offset), place(whole, text))?;
+    let offset = offset_of(daylight_ahead(standard, offset), part_place(whole, text, 0))?;
     let [b',', changes @ ..] = rest else {
-        return Err(error_at(ZoneTextFault::NoDays, place(whole, rest)));
+        return Err(error_at(ZoneTextFault::NoDays, part_place(whole, rest, 0)));
     };
     let (begins, ends) = read_changes(whole, changes)?;
     Ok(Daylight {
@@ -47,10 +47,10 @@ fn read_changes(whole: &[u8], text: &[u8]) -> Result<(Change, Change), ZoneTextE
         return Err(error_at(ZoneTextFault::NoChange, whole.len()));
     };
     let Some(begins) = read_change(begins) else {
-        return Err(error_at(ZoneTextFault::NoChange, place(whole, text)));
+        return Err(error_at(ZoneTextFault::NoChange, part_place(whole, text, 0)));
     };
     let Some(ends) = read_change(ends) else {
-        return Err(error_at(ZoneTextFault::NoChange, place(whole, ends)));
+        return Err(error_at(ZoneTextFault::NoChange, part_place(whole, ends, 0)));
     };
     Ok((begins, ends))
 }

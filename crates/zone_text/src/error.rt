@@ -1,5 +1,5 @@
 //! `ZoneTextError`: why a text writes no rule, and at which byte.
-ghost use Rattle.std.specs.Prelude.{◌≡◌, ◌≤◌, length};
+ghost use Rattle.std.specs.Prelude.{◌≡◌};
 ghost use Rattle.zone_text.specs.declared.error.ZoneTextFault.{ZoneTextFault};
 
 /// What is wrong with a text that writes no rule.
@@ -36,11 +36,4 @@ pub(crate) fn error_at(fault: ZoneTextFault, byte: usize) -> ZoneTextError
     ensures { result.byte ≡ byte }
 {
     ZoneTextError { fault, byte }
-}
-
-// Where the part of a text begins that ends with it.
-pub(crate) fn place(text: &[u8], part: &[u8]) -> usize
-    ensures { result ≤ length text.now }
-{
-    text.len().saturating_sub(part.len())
 }

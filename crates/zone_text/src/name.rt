@@ -4,7 +4,8 @@ ghost use Rattle.std.specs.Char.{is_ascii_alphabetic};
 ghost use Rattle.std.specs.List.{prefix_len};
 ghost use Rattle.zone_text.specs.NameTexts.{IsZoneName, behind_front, front_of, is_of_offset, is_of_quoted_name};
 
-use crate::error::{ZoneTextError, ZoneTextFault, error_at, place};
+use crate::error::{ZoneTextError, ZoneTextFault, error_at};
+use chrono_text::part_place;
 
 // How many bytes a name has at least.
 const SHORTEST_NAME: usize = 3;
@@ -21,7 +22,7 @@ pub(crate) fn read_name<'a>(
 {
     let (name, rest) = split_name(text);
     if name.len() < SHORTEST_NAME {
-        return Err(error_at(ZoneTextFault::NoName, place(whole, text)));
+        return Err(error_at(ZoneTextFault::NoName, part_place(whole, text, 0)));
     }
     Ok((name, rest))
 }

@@ -4,8 +4,9 @@ ghost use Rattle.zone_rule.specs.declared.rule.ZoneRule.{ZoneRule};
 ghost use Rattle.zone_text.specs.ZoneTexts.{IsZoneText};
 
 use crate::clock::{offset_of, read_daylight, written_ahead};
-use crate::error::{ZoneTextError, place};
+use crate::error::ZoneTextError;
 use crate::name::{read_name, split_offset};
+use chrono_text::part_place;
 use zone_rule::ZoneRule;
 
 /// A rule, and the names of its standard time and its daylight time.
@@ -51,7 +52,7 @@ pub fn read(text: &[u8]) -> Result<ZoneText<'_>, ZoneTextError>
 {
     let (standard_name, behind) = read_name(text, text)?;
     let (offset, rest) = split_offset(behind);
-    let standard = offset_of(written_ahead(offset), place(text, behind))?;
+    let standard = offset_of(written_ahead(offset), part_place(text, behind, 0))?;
     if rest.is_empty() {
         let rule = ZoneRule {
             standard,
