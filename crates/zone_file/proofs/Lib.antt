@@ -1,3 +1,2 @@
 -- All serve this crate's own proofs alone.
-mod NothingLeft
 mod RowLemmas
