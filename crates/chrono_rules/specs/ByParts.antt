@@ -15,6 +15,8 @@
 --                                                                to months beside BYMONTH, else to the year
 --     BYSETPOS     limit    limit    limit                       limit
 --
+-- Where a `-` stands, a text must not have the part: `fits` of `RuleTexts` says so. In a `Rule` it limits all the same.
+--
 -- One test of a day says the same. A part that expands takes the days of the period that it names. A part that limits
 -- keeps the days that it names. So the days of a period that are left are those that every part names, in any order.
 -- A numbered weekday alone depends on the table: its number counts in the month or in the year (`counts_in_month`).
@@ -33,7 +35,8 @@ use Rattle.chrono_rules.specs.declared.rule.Rule.{Rule}
 
 -- ---- what the start says where the rule does not
 
--- 3.3.10: what is "not contained in the rule" is "derived from the Start Time (DTSTART)". A rule by weeks that names no weekday takes the start's
+-- 3.3.10: what is "not contained in the rule" is "derived from the Start Time (DTSTART)". A rule by weeks that names no weekday takes the start's.
+-- So does a rule by years with BYWEEKNO that names no day: that weekday stands for BYDAY in the line "else expand to weeks beside BYWEEKNO"
 unfoldable pub fills_weekday : Frequency → Rule → Bool
 fills_weekday Daily r = false
 fills_weekday Weekly r = lacks_weekdays r

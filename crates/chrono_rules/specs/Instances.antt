@@ -4,6 +4,9 @@
 -- Read this page from its end up: `is_instance` comes last, and each word stands above those that use it.
 -- Then read `ByParts` (which days pass the BY parts), `Periods` (days, weeks, months, years) and `RuleParts`.
 --
+-- A rule is a value of the record `Rule` of src/rule.rt, with a field for each part. `count_between p a b` counts the days
+-- from a to before b that pass the test p. `chrono_calendar/specs/Recurrence.antt` defines it.
+--
 -- RFC 5545 applies the parts in an order: FREQ and INTERVAL, then BYMONTH, BYWEEKNO, BYYEARDAY, BYMONTHDAY, BYDAY and
 -- BYSETPOS; "then COUNT and UNTIL are evaluated". So an instance lies in a period that counts, passes the BY parts, has a
 -- place that BYSETPOS names among the days of its period that pass, and lies neither past UNTIL nor past COUNT.
@@ -51,6 +54,7 @@ is_counted (Until u) r start n = true
 is_counted (Count c) r start n = nat_lt (count_between (is_member r start) start n) c
 
 -- the day is an instance of the rule that begins on the start. So a start that passes no test is no instance, and COUNT does not count it: the
--- instances of such a start are "undefined" (3.8.5.3)
+-- instances of such a start are "undefined" (3.8.5.3). Every rule has instances by this, also one with a part that its FREQ must not have: which
+-- parts go together is told by `fits` of `RuleTexts`
 unfoldable pub is_instance : Rule → ℤ → ℤ → Bool
 is_instance r start n = is_member r start n && is_counted r.end r start n
