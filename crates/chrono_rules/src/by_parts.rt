@@ -1,9 +1,10 @@
 //! The BY parts of a rule, as tests of a date.
-ghost use Rattle.std.specs.Prelude.{◌≡◌, ◌<◌};
+ghost use Rattle.std.specs.Prelude.{◌≡◌, ◌<◌, ◌&&◌, ◌||◌};
 ghost use Rattle.std.specs.Int.{IsInRange};
-ghost use Rattle.chrono_datetime.specs.Days.{year_of};
+ghost use Rattle.chrono_datetime.specs.Days.{month_of, year_of};
 ghost use Rattle.chrono_datetime.specs.Years.{year_length};
-ghost use Rattle.chrono_rules.specs.ByParts.{counted_place, counts_in_month, days_behind, filled, fills_day, fills_month, fills_weekday, has_numbers, in_week, on_weekday, on_year_day, passes};
+ghost use Rattle.chrono_sets.specs.Numbers.{has};
+ghost use Rattle.chrono_rules.specs.ByParts.{counted_place, counts_in_month, days_behind, filled, fills_day, fills_month, fills_weekday, has_numbers, in_week, on_month_day, on_weekday, on_year_day, passes};
 ghost use Rattle.chrono_rules.specs.RuleParts.{lacks_month_days, lacks_months, lacks_positions, lacks_weekdays, lacks_weeks, lacks_year_days};
 
 use crate::rule::{Frequency, Rule};
@@ -215,6 +216,22 @@ impl Rule {
         self.weeks.contains(1 + (place - 1) / 7) || self.weeks_from_end.contains(1 + behind / 7)
     }
 
+    // Whether each of the parts that the rule has names the date.
+    #[inline]
+    fn is_named(&self, date: NaiveDate) -> bool
+        ensures { result ≡ ((lacks_months self.now || has self.now.months (month_of date))
+            && ((lacks_month_days self.now || on_month_day self.now date)
+            && ((lacks_weekdays self.now || on_weekday self.now date)
+            && ((lacks_year_days self.now || on_year_day self.now date)
+            && (lacks_weeks self.now || in_week self.now date))))) }
+    {
+        (self.lacks_months() || self.months.contains(date.month()))
+            && ((self.lacks_month_days() || self.on_month_day(date))
+                && ((self.lacks_weekdays() || self.on_weekday(date))
+                    && ((self.lacks_year_days() || self.on_year_day(date))
+                        && (self.lacks_weeks() || self.in_week(date)))))
+    }
+
     /// Returns whether `date` passes every BY part of the rule, BYSETPOS aside.
     ///
     /// Where the rule has no BY part, `date` needs what `start` has.
@@ -230,12 +247,8 @@ impl Rule {
     pub fn passes(&self, start: NaiveDate, date: NaiveDate) -> bool
         ensures { result ≡ passes self.now start date }
     {
-        self.filled(start, date)
-            && ((self.lacks_months() || self.months.contains(date.month()))
-                && ((self.lacks_month_days() || self.on_month_day(date))
-                    && ((self.lacks_weekdays() || self.on_weekday(date))
-                        && ((self.lacks_year_days() || self.on_year_day(date))
-                            && (self.lacks_weeks() || self.in_week(date))))))
+        // Most days fail here, and `filled` costs more.
+        self.is_named(date) && self.filled(start, date)
     }
 
     /// Returns whether BYYEARDAY names `date`, from either end of the year.
