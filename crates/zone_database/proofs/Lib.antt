@@ -1,0 +1,2 @@
+-- Lemmas of this crate's own proofs.
+mod NameLemmas

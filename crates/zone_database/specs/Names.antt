@@ -1,7 +1,7 @@
 -- The names of time zones, as the file `theory.html` of the Time Zone Database says: "Use only valid POSIX file name components (i.e., the
 -- parts of names other than "/"). Do not use the file name components "." and "..". Within a file name component, use only ASCII letters,
 -- ".", "-" and "_"."
-use Rattle.std.specs.Prelude.{◌≡◌, ◌==◌, ℕ, nat_lt, nat_le, Bool, true, false, ◌&&◌, ◌||◌, List, [], ◌∷◌, length, codes, refl}
+use Rattle.std.specs.Prelude.{◌≡◌, ◌==◌, ℕ, nat_lt, nat_le, Bool, true, false, ◌&&◌, ◌||◌, List, [], ◌∷◌, length, replicate, codes, refl}
 use Rattle.std.specs.Char.{is_ascii_alphanumeric}
 use Rattle.std.specs.List.{list_all}
 use Rattle.std.specs.Str.{byte}
@@ -23,7 +23,7 @@ are_name_parts name = list_all is_name_part (pieces (byte "/") name)
 abbrev pub is_zone_name : List ℕ → Bool
 is_zone_name name = nat_le (length name) 255 && are_name_parts name
 
--- known values: three names, and what is none
+-- known values: three names, and what is none; the last two of 255 and 256 bytes
 is_zone_name-argentina : is_zone_name (codes "America/Argentina/Buenos_Aires") ≡ true
 is_zone_name-argentina = refl
 
@@ -50,3 +50,9 @@ is_zone_name-open = refl
 
 is_zone_name-nul : is_zone_name (85 ∷ 84 ∷ 67 ∷ 0 ∷ []) ≡ false
 is_zone_name-nul = refl
+
+is_zone_name-longest : is_zone_name (replicate 255 65) ≡ true
+is_zone_name-longest = refl
+
+is_zone_name-longer : is_zone_name (replicate 256 65) ≡ false
+is_zone_name-longer = refl

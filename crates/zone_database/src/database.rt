@@ -58,11 +58,7 @@ impl<A: Allocator> Database<A> {
     /// let database = Database::new(String::from_str(rt.alloc(), "/no/folder").ok()?);
     /// database.zone(rt, "Europe/Berlin").err() // Some(NoSuchZone)
     /// ```
-    pub fn zone<R: Files + Alloc>(
-        &self,
-        rt: &R,
-        name: &str,
-    ) -> Result<OwnedZone<R::A>, ZoneError> {
+    pub fn zone<R: Files + Alloc>(&self, rt: &R, name: &str) -> Result<OwnedZone<R::A>, ZoneError> {
         if !is_zone_name(name) {
             return Err(ZoneError::NoName);
         }

@@ -13,6 +13,7 @@
 
 mod database;
 mod error;
+pub mod law;
 mod local;
 mod name;
 mod owned_zone;

@@ -67,10 +67,7 @@ fn named<R: Alloc>(
 }
 
 // The zone of the text of `TZ`.
-fn zone_of_text<R: Files + Env + Alloc>(
-    rt: &R,
-    text: &str,
-) -> Result<LocalZone<R::A>, ZoneError> {
+fn zone_of_text<R: Files + Env + Alloc>(rt: &R, text: &str) -> Result<LocalZone<R::A>, ZoneError> {
     let text = text.strip_prefix(':').unwrap_or(text);
     if text.is_empty() {
         return utc(rt);

@@ -110,6 +110,39 @@ impl<A: Allocator> OwnedZone<A> {
         Zone::new(self.first, self.rows.as_slice(), self.rule).unwrap()
     }
 
+    /// Returns the offset before all rows.
+    ///
+    /// ```
+    /// OwnedZone::utc(rt.alloc()).ok()?.first() // +00:00
+    /// ```
+    pub fn first(&self) -> FixedOffset
+        ensures { result ≡ self.now.first }
+    {
+        self.first
+    }
+
+    /// Returns the rows: the seconds at which the clock is set, each with the offset from then on.
+    ///
+    /// ```
+    /// OwnedZone::utc(rt.alloc()).ok()?.rows().len() // 0
+    /// ```
+    pub fn rows(&self) -> &[Row]
+        ensures { result.now ≡ self.now.rows }
+    {
+        self.rows.as_slice()
+    }
+
+    /// Returns the rule that goes on behind the rows, if there is one.
+    ///
+    /// ```
+    /// OwnedZone::utc(rt.alloc()).ok()?.rule()?.standard // +00:00
+    /// ```
+    pub fn rule(&self) -> Option<ZoneRule>
+        ensures { result ≡ self.now.rule }
+    {
+        self.rule
+    }
+
     /// Returns the kind of local time that holds at the instant `second`, in seconds from 1 January 1970 in UTC: its offset, whether
     /// it is daylight time, and its name.
     ///
