@@ -5,7 +5,7 @@ ghost use Rattle.chrono_units.specs.Years.{IsYear};
 ghost use Rattle.chrono_clock.specs.Time.{seconds_per_day};
 ghost use Rattle.chrono_datetime.specs.Fields.{unix_epoch_day};
 ghost use Rattle.chrono_zoned.specs.Offsets.{IsOffset};
-ghost use Rattle.zone_rule.specs.Changes.{IsChange, change_second};
+ghost use Rattle.zone_rule.specs.Changes.{IsChange, IsRuleDay, change_second};
 
 use crate::rule_day::RuleDay;
 use chrono_zoned::FixedOffset;
@@ -71,7 +71,8 @@ impl Change {
     /// Change::new(RuleDay::Julian(60), 0)?.day() // Julian(60)
     /// ```
     pub fn day(&self) -> RuleDay
-        ensures { result ≡ self.now.day }
+        ensures value { result ≡ self.now.day }
+        ensures in_range { IsRuleDay result }
     {
         self.day
     }
