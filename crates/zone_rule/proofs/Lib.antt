@@ -7,3 +7,4 @@ mod DaysInYears
 mod LastOfAll
 mod NextChanges
 mod RuleCycles
+mod RuleDates

@@ -1,9 +1,10 @@
 //! Laws of rules, each as the contract of a function, and known values.
-ghost use Rattle.std.specs.Prelude.{◌≡◌, true, ℤ, pos, neg_ℤ, ◌+ℤ◌, ◌≤ℤ◌, ◌<ℤ◌};
+ghost use Rattle.std.specs.Prelude.{◌≡◌, true, ℤ, pos, neg_ℤ, ◌+ℤ◌, ◌≤ℤ◌, ◌<ℤ◌, Some};
 ghost use Rattle.chrono_units.specs.declared.weekday.Weekday.TheVariants.{Sun};
 ghost use Rattle.chrono_datetime.specs.Days.{day_number_of_ymd};
 ghost use Rattle.chrono_zoned.specs.Offsets.{IsOffset};
 ghost use Rattle.zone_rule.specs.Changes.{IsChange, YearlyChange, change_second, day_in_year, last_by, year_of_second};
+ghost use Rattle.zone_rule.specs.RuleDays.{date_of_rule_day};
 ghost use Rattle.zone_rule.specs.Rules.{is_daylight};
 ghost use Rattle.zone_rule.specs.declared.rule_day.RuleDay.{RuleDay};
 ghost use Rattle.zone_rule.specs.declared.rule_day.RuleDay.TheVariants.{FromZero, Julian, Week};
@@ -13,6 +14,11 @@ pub fn changes_come_again()
     ensures day { (day : RuleDay) (y : ℤ) → day_in_year (y +ℤ pos 400) day ≡ day_in_year y day +ℤ pos 146_097 }
     ensures change { (offset : ℤ) (c : YearlyChange) (y : ℤ) →
         change_second offset c (y +ℤ pos 400) ≡ change_second offset c y +ℤ pos 12_622_780_800 }
+{}
+
+/// A change comes on the date that its day has in the year, if it has one.
+pub fn changes_come_on_their_dates()
+    ensures { (y : ℤ) (day : RuleDay) (n : ℤ) → date_of_rule_day y day ≡ Some n → day_in_year y day ≡ n }
 {}
 
 /// Daylight time that ends as it begins again holds always.
