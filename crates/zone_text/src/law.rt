@@ -1,8 +1,23 @@
 //! Laws of the texts of rules, each as the contract of a function.
-ghost use Rattle.std.specs.Prelude.{codes, neg_ℤ, pos, [], None, Some};
+ghost use Rattle.std.specs.Prelude.{◌≡◌, ℕ, List, codes, neg_ℤ, pos, [], None, Some};
 ghost use Rattle.chrono_units.specs.declared.weekday.Weekday.TheVariants.{Sun, Thu};
 ghost use Rattle.zone_rule.specs.declared.rule_day.RuleDay.TheVariants.{FromZero, Julian, Week};
+ghost use Rattle.zone_rule.specs.declared.rule.ZoneRule.{ZoneRule};
+ghost use Rattle.zone_text.specs.WrittenTexts.{AreNames, IsRule, zone_text};
 ghost use Rattle.zone_text.specs.ZoneTexts.{IsZoneText};
+
+/// The text that is written for a rule and its names is read as them.
+pub fn written_rules_are_read()
+    ensures { (standard daylight : List ℕ) (rule : ZoneRule) → AreNames standard daylight rule.daylight → IsRule rule
+        → IsZoneText (zone_text standard daylight rule) standard daylight rule }
+{}
+
+/// A rule and names that have any text are written too, if the names are not too long.
+pub fn no_text_is_left_out()
+    ensures names { (text standard daylight : List ℕ) (rule : ZoneRule) → IsZoneText text standard daylight rule
+        → AreNames standard daylight rule.daylight }
+    ensures rule { (text standard daylight : List ℕ) (rule : ZoneRule) → IsZoneText text standard daylight rule → IsRule rule }
+{}
 
 /// Known texts:
 ///

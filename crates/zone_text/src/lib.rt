@@ -18,6 +18,7 @@ mod hours;
 pub mod law;
 mod name;
 mod number;
+mod writer;
 mod zone;
 
 pub use error::{ZoneTextError, ZoneTextFault};

@@ -1,8 +1,9 @@
 //! The parts that a text begins with: names and offsets.
-ghost use Rattle.std.specs.Prelude.{◌≡◌, ◌≤◌, ℕ, List, IfErr, IfOk, IsOkAnd, length};
+ghost use Rattle.std.specs.Prelude.{◌≡◌, ◌↔◌, ◌≤◌, ℕ, List, IfErr, IfOk, IsOkAnd, IsTrue, length};
 ghost use Rattle.std.specs.Char.{is_ascii_alphabetic};
-ghost use Rattle.std.specs.List.{prefix_len};
+ghost use Rattle.std.specs.List.{list_all, prefix_len};
 ghost use Rattle.zone_text.specs.NameTexts.{IsZoneName, behind_front, front_of, is_of_offset, is_of_quoted_name};
+ghost use Rattle.zone_text.specs.WrittenTexts.{IsName};
 
 use crate::error::{ZoneTextError, ZoneTextFault, error_at};
 use chrono_text::part_place;
@@ -48,6 +49,20 @@ pub(crate) fn split_offset(text: &[u8]) -> (&[u8], &[u8])
     ensures behind { result.1.now ≡ behind_front is_of_offset text.now }
 {
     text.split_at(offset_len(text))
+}
+
+// Whether a text is a name.
+pub(crate) fn is_name(text: &[u8]) -> bool
+    ensures { IsTrue result ↔ IsName text.now }
+{
+    SHORTEST_NAME <= text.len() && quoted_len(text) == text.len()
+}
+
+// Whether a text has letters alone.
+pub(crate) fn are_letters(text: &[u8]) -> bool
+    ensures { result ≡ list_all is_ascii_alphabetic text.now }
+{
+    letters_len(text) == text.len()
 }
 
 // How many letters stand in front.

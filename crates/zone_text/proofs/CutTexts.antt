@@ -1,0 +1,95 @@
+-- Where texts are cut that are put together.
+use Rattle.std.proofs.Common.{◌≡◌, ◌==◌, ℕ, suc, ◌+◌, Bool, true, false, cond, not, ◌&&◌, List, [], ◌∷◌, ◌++◌, length, take, drop, refl, sym, ap, ◌∙◌, append_assoc, append-nil, length-append, arith}
+use Rattle.std.specs.List.{after_first, before_first, list_all, position_or_len, prefix_len}
+use Rattle.std.proofs.Math.Seq.{drop-append_seam, take-append_seam}
+use Rattle.std.proofs.lemmas.Bool.{and_from, and_parts, eq-eqb, le-ltb, lt-ltb, ne_eqb, not_from_false}
+use Rattle.std.proofs.lemmas.Bool.Decides.{nat_tests}
+use Rattle.chrono_text.specs.Lists.{stands_in}
+use Rattle.chrono_text.proofs.ListLemmas.{lacks}
+use Rattle.zone_text.specs.NameTexts.{behind_front, front_of}
+
+-- what passes one test passes another
+pub weaker : (p q : ℕ → Bool) → ((b : ℕ) → p b ≡ true → q b ≡ true) → (text : List ℕ) → list_all p text ≡ true → list_all q text ≡ true
+weaker p q f [] all = refl
+weaker p q f (b ∷ bs) all =
+    let parts = and_parts (p b) (list_all p bs) all in
+    and_from (q b) (list_all q bs) (f b parts.0) (weaker p q f bs parts.1)
+
+pub all_append : (p : ℕ → Bool) (front rest : List ℕ) → list_all p front ≡ true → list_all p rest ≡ true → list_all p (front ++ rest) ≡ true
+all_append p [] rest h k = k
+all_append p (b ∷ bs) rest h k =
+    let parts = and_parts (p b) (list_all p bs) h in
+    and_from (p b) (list_all p (bs ++ rest)) parts.0 (all_append p bs rest parts.1 k)
+
+-- a byte that fails is none of them
+pub is_other : (p : ℕ → Bool) (other b : ℕ) → p other ≡ false → p b ≡ true → (b == other) ≡ false
+is_other p other b fails passes = ne_eqb b other (λ same. let wrong : true ≡ false = sym passes ∙ ap p same ∙ fails in absurd cc)
+
+pub others_lack : (p : ℕ → Bool) (other : ℕ) (text : List ℕ) → p other ≡ false → list_all p text ≡ true → lacks other text ≡ true
+others_lack p other text fails all =
+    weaker p (λ b. not (b == other)) (λ b passes. not_from_false (b == other) (is_other p other b fails passes)) text all
+
+-- ---- the bytes in front that pass a test
+
+-- nothing, or a byte that fails
+abbrev pub Stops : (ℕ → Bool) → List ℕ → Type 0
+Stops p [] = Unit {0}
+Stops p (b ∷ bs) = p b ≡ false
+
+pub prefix_is : (p : ℕ → Bool) (front rest : List ℕ) → list_all p front ≡ true → Stops p rest → prefix_len p (front ++ rest) ≡ length front
+prefix_is p [] [] all stops = refl
+prefix_is p [] (b ∷ bs) all stops = rw stops refl
+prefix_is p (b ∷ bs) rest all stops =
+    let parts = and_parts (p b) (list_all p bs) all in
+    rw parts.0 (omega (arith, prefix_is p bs rest parts.1 stops))
+
+pub front_is : (p : ℕ → Bool) (front rest : List ℕ) → list_all p front ≡ true → Stops p rest → front_of p (front ++ rest) ≡ front
+front_is p front rest all stops = ap (λ n. take n (front ++ rest)) (prefix_is p front rest all stops) ∙ take-append_seam front rest
+
+pub behind_is : (p : ℕ → Bool) (front rest : List ℕ) → list_all p front ≡ true → Stops p rest → behind_front p (front ++ rest) ≡ rest
+behind_is p front rest all stops = ap (λ n. drop n (front ++ rest)) (prefix_is p front rest all stops) ∙ drop-append_seam front rest
+
+-- they pass it
+passes_on : (p : ℕ → Bool) (b : ℕ) (bs : List ℕ) (t : Bool) → p b ≡ t → list_all p (take (prefix_len p bs) bs) ≡ true → list_all p (take (cond t (1 + prefix_len p bs) 0) (b ∷ bs)) ≡ true
+passes_on p b bs true is rest = let one : 1 + prefix_len p bs ≡ suc (prefix_len p bs) = omega arith in rw one (and_from (p b) (list_all p (take (prefix_len p bs) bs)) is rest)
+passes_on p b bs false is rest = refl
+
+pub front_passes : (p : ℕ → Bool) (text : List ℕ) → list_all p (front_of p text) ≡ true
+front_passes p [] = refl
+front_passes p (b ∷ bs) = passes_on p b bs (p b) refl (front_passes p bs)
+
+-- as many as there are, if all do
+one_more : (t : Bool) (n m : ℕ) (all : Bool) → (n == m) ≡ all → (cond t (1 + n) 0 == suc m) ≡ (t && all)
+one_more true n m all is = let same : (1 + n == suc m) ≡ (n == m) = grind (arith, nat_tests) in same ∙ is
+one_more false n m all is = ne_eqb 0 (suc m) (λ e. omega (arith, e))
+
+pub all_or_fewer : (p : ℕ → Bool) (text : List ℕ) → (prefix_len p text == length text) ≡ list_all p text
+all_or_fewer p [] = refl
+all_or_fewer p (b ∷ bs) = one_more (p b) (prefix_len p bs) (length bs) (list_all p bs) (all_or_fewer p bs)
+
+-- ---- what stands before a separator, and what stands behind it
+
+position_is : (sep : ℕ) (front rest : List ℕ) → lacks sep front ≡ true → position_or_len (λ x. x == sep) (front ++ sep ∷ rest) ≡ length front
+position_is sep front rest none = prefix_is (λ x. not (x == sep)) front (sep ∷ rest) none (ap not (eq-eqb sep sep refl))
+
+pub sep_stands : (sep : ℕ) (front rest : List ℕ) → lacks sep front ≡ true → stands_in sep (front ++ sep ∷ rest) ≡ true
+sep_stands sep front rest none =
+    lt-ltb (position_or_len (λ x. x == sep) (front ++ sep ∷ rest)) (length (front ++ sep ∷ rest))
+    (omega (arith, position_is sep front rest none, length-append front (sep ∷ rest)))
+
+pub sep_lacks : (sep : ℕ) (text : List ℕ) → lacks sep text ≡ true → stands_in sep text ≡ false
+sep_lacks sep text none =
+    let same : position_or_len (λ x. x == sep) text ≡ length text =
+    ap (λ l. position_or_len (λ x. x == sep) l) (sym (append-nil text)) ∙ prefix_is (λ x. not (x == sep)) text [] none tt in
+    le-ltb (position_or_len (λ x. x == sep) text) (length text) (omega (arith, same))
+
+pub before_sep : (sep : ℕ) (front rest : List ℕ) → lacks sep front ≡ true → before_first (λ x. x == sep) (front ++ sep ∷ rest) ≡ front
+before_sep sep front rest none = ap (λ n. take n (front ++ sep ∷ rest)) (position_is sep front rest none) ∙ take-append_seam front (sep ∷ rest)
+
+pub after_sep : (sep : ℕ) (front rest : List ℕ) → lacks sep front ≡ true → after_first (λ x. x == sep) (front ++ sep ∷ rest) ≡ rest
+after_sep sep front rest none =
+    let one : position_or_len (λ x. x == sep) (front ++ sep ∷ rest) + 1 ≡ length (front ++ sep ∷ []) =
+    omega (arith, position_is sep front rest none, length-append front (sep ∷ [])) in
+    ap (λ n. drop n (front ++ sep ∷ rest)) one
+    ∙ ap (λ l. drop (length (front ++ sep ∷ [])) l) (sym (append_assoc front (sep ∷ []) rest))
+    ∙ drop-append_seam (front ++ sep ∷ []) rest
