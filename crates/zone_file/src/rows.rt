@@ -33,6 +33,7 @@ impl<'a> ZoneFile<'a> {
     /// ```
     pub fn read_rows(&self, rows: &mut [Row]) -> Result<usize, ZoneRowsError>
         ensures count { IfOk result (λ n. n ≡ length self.now.places.now) }
+        ensures within { IfOk result (λ n. n ≤ length rows.old) }
         ensures rows { IfOk result (λ n. AreFileRows self.now.version self.now.times.now self.now.places.now self.now.kinds.now n rows.new) }
         ensures room { length rows.new ≡ length rows.old }
         ensures error { IfErr result (λ e. IsRowsError self.now.version self.now.times.now self.now.places.now self.now.kinds.now (length rows.old) e) }
