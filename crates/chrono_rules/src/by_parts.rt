@@ -1,5 +1,5 @@
 //! The BY parts of a rule, as tests of a date.
-ghost use Rattle.std.specs.Prelude.{◌≡◌, ◌<◌, ◌&&◌, ◌||◌};
+ghost use Rattle.std.specs.Prelude.{◌≡◌, ◌<◌, ◌+◌, ◌-◌, ◌/◌, ◌&&◌, ◌||◌};
 ghost use Rattle.std.specs.Int.{IsInRange};
 ghost use Rattle.chrono_datetime.specs.Days.{month_of, year_of};
 ghost use Rattle.chrono_datetime.specs.Years.{year_length};
@@ -11,6 +11,7 @@ use crate::rule::{Frequency, Rule};
 use crate::search::periods::like_fourth_of_week;
 use crate::weekday_places::numbers_of;
 use chrono_datetime::{Datelike, NaiveDate};
+use chrono_sets::NumberSet;
 
 impl Rule {
     // Which parts the rule does not have.
@@ -170,6 +171,28 @@ impl Rule {
         }
     }
 
+    // Whether the numbers have that of the date, which is counted only if there are any.
+    #[inline]
+    fn has_place_of(&self, date: NaiveDate, numbers: NumberSet) -> bool
+        ensures { result ≡ has numbers (1 + (counted_place self.now date - 1) / 7) }
+    {
+        if numbers.is_empty() {
+            return false;
+        }
+        numbers.contains(1 + (self.counted_place(date) - 1) / 7)
+    }
+
+    // The same for its number from the end.
+    #[inline]
+    fn has_end_place_of(&self, date: NaiveDate, numbers: NumberSet) -> bool
+        ensures { result ≡ has numbers (1 + days_behind self.now date / 7) }
+    {
+        if numbers.is_empty() {
+            return false;
+        }
+        numbers.contains(1 + self.days_behind(date) / 7)
+    }
+
     /// Returns whether BYDAY names `date`.
     ///
     /// An item without a number names every day with its weekday.
@@ -188,13 +211,11 @@ impl Rule {
         ensures { result ≡ on_weekday self.now date }
     {
         let weekday = date.weekday().num_days_from_monday();
+        let day = weekday as usize;
         self.weekdays.every.contains(weekday)
             || (self.has_numbers()
-                && (numbers_of(&self.weekdays.front, weekday as usize).contains(
-                    1 + (self.counted_place(date) - 1) / 7,
-                ) || numbers_of(&self.weekdays.back, weekday as usize).contains(
-                    1 + self.days_behind(date) / 7,
-                )))
+                && (self.has_place_of(date, numbers_of(&self.weekdays.front, day))
+                    || self.has_end_place_of(date, numbers_of(&self.weekdays.back, day))))
     }
 
     /// Returns whether BYWEEKNO names the week of `date`, from either end of the week's year.
