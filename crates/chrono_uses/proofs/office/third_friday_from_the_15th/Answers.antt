@@ -1,20 +1,11 @@
-use Rattle.std.proofs.Common.{◌≡◌, ℕ, ◌≤◌, true, refl, sym, ap, subst, ◌∙◌, arith, pos, ◌+ℤ◌, ◌-ℤ◌, unsigned_abs}
-use Rattle.chrono_datetime.specs.declared.Weekday.{Weekday}
-use Rattle.chrono_datetime.specs.declared.Weekday.TheVariants.{Mon, Tue, Wed, Thu, Fri, Sat, Sun}
+use Rattle.std.proofs.Common.{◌≡◌, ℕ, ◌≤◌, refl, sym, ap, subst, ◌∙◌, arith, pos, ◌+ℤ◌, ◌-ℤ◌, unsigned_abs}
+use Rattle.chrono_datetime.specs.declared.Weekday.TheVariants.{Fri}
 use Rattle.chrono_datetime.specs.Days.{month_of, year_of}
-use Rattle.chrono_datetime.specs.MonthMoves.{month_length_of}
-use Rattle.chrono_datetime.specs.WeekdaySet.{contains, single}
 use Rattle.chrono_datetime.specs.Weeks.{date_of_nth_weekday, weekday_of}
 use Rattle.chrono_datetime.specs.Years.{IsYear}
 use Rattle.chrono_datetime.proofs.Signed.{casts, signed}
+use Rattle.chrono_uses.proofs.ExpiryLemmas.{friday, long}
 use Rattle.chrono_uses.proofs.office.third_friday_from_the_15th.Goals as goal
-
--- a day of the set of Fridays is a Friday
-friday : (d : Weekday) → contains (single Fri) d ≡ true → d ≡ Fri
-friday = elim [ Mon ↦ λ e. cc | Tue ↦ λ e. cc | Wed ↦ λ e. cc | Thu ↦ λ e. cc | Fri ↦ λ e. refl | Sat ↦ λ e. cc | Sun ↦ λ e. cc ]
-
-long : (n : _) → 28 ≤ month_length_of n
-long n = grind arith
 
 -- it lies at most six days after the 15th, and so in that month
 pub returns : goal.returns

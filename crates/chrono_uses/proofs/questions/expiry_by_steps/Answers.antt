@@ -1,18 +1,8 @@
-use Rattle.std.proofs.Common.{◌≡◌, ℕ, ◌*◌, ◌≤◌, true, refl, ◌∙◌, arith, ℤ, pos, ◌+ℤ◌, ◌-ℤ◌, unsigned_abs}
+use Rattle.std.proofs.Common.{◌≡◌, ℕ, ◌*◌, ◌∙◌, arith, pos, ◌+ℤ◌, ◌-ℤ◌, unsigned_abs}
 use Rattle.std.proofs.lemmas.Option.{IfSome_then}
-use Rattle.chrono_datetime.specs.declared.Weekday.{Weekday}
-use Rattle.chrono_datetime.specs.declared.Weekday.TheVariants.{Mon, Tue, Wed, Thu, Fri, Sat, Sun}
-use Rattle.chrono_datetime.specs.MonthMoves.{month_length_of}
-use Rattle.chrono_datetime.specs.WeekdaySet.{contains, single}
 use Rattle.chrono_datetime.proofs.Signed.{signed}
+use Rattle.chrono_uses.proofs.ExpiryLemmas.{friday, long}
 use Rattle.chrono_uses.proofs.questions.expiry_by_steps.Goals as goal
-
--- a day of the set of Fridays is a Friday
-friday : (d : Weekday) → contains (single Fri) d ≡ true → d ≡ Fri
-friday = elim [ Mon ↦ λ e. cc | Tue ↦ λ e. cc | Wed ↦ λ e. cc | Thu ↦ λ e. cc | Fri ↦ λ e. refl | Sat ↦ λ e. cc | Sun ↦ λ e. cc ]
-
-long : (n : ℤ) → 28 ≤ month_length_of n
-long n = grind arith
 
 pub returns-clause-weekday : goal.returns-clause-weekday
 returns-clause-weekday c =
