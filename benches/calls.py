@@ -63,6 +63,8 @@ OTHERS = [
     "print_duration",
     "read_date",
 ]
+# Calls that are made beside Debian's chrono alone.
+OF_INSTANTS = ["timestamp", "to_offset", "write_rfc3339", "read_rfc3339"]
 NOTES = """
 `from_days` is read as year, month and day, `ymd_to_days` as a day number; `from_ymd`, `succ` and the moves as year and ordinal.
 `add_few_days` is by 1 to 30 days, `add_days` by up to 100,000, `add_months` by up to 1,200 months on or back. All these dates are of the
@@ -72,7 +74,9 @@ with nanoseconds. Beside `new_num_seconds` stand later versions' `TimeDelta::new
 The three that print write dates and date-times of all years, and these durations, into an array of bytes; chrono 0.4.23 prints
 durations otherwise, so the text of later versions stands beside ours, written by hand in pieces as those write it.
 `read_date` reads a text such as `2024-02-29` as a day number; beside it stand the digits read by hand in Rust, unchecked, and
-chrono's `from_ymd_opt`."""
+chrono's `from_ymd_opt`.
+The calls of instants are beside Debian's chrono alone. `to_offset` takes a date-time of UTC to an offset, and reads what its clock
+shows. The texts of RFC 3339 have milliseconds; chrono writes into a `String`."""
 
 
 def timed(program, call, count):
@@ -117,9 +121,9 @@ def counts_of_instructions(runs, count):
     return {(call, who): (instructions(program, words, count) - instructions(program, words, 1)) / 1e9 for call, who, program, words in runs}
 
 
-def all_runs(ours, chrono):
+def all_runs(ours, chrono, others):
     """Each call, by whom it is made, in which program, and its name there."""
-    for call in ["none", *OF_DATES, *OTHERS]:
+    for call in ["none", *OF_DATES, *others]:
         yield call, "ours", ours, call
         yield call, "chrono", chrono, call
         if call in OF_DATES:
@@ -152,14 +156,15 @@ def main():
     arguments = parser.parse_args()
     count = arguments.count or (100_000 if arguments.instructions else 20_000_000)
     with tempfile.TemporaryDirectory() as folder:
-        runs = list(all_runs(CHRONO_SUMS, build_over_chrono(folder, "benches/chrono_timed", arguments.chrono)))
+        others = OTHERS if arguments.chrono else OTHERS + OF_INSTANTS
+        runs = list(all_runs(CHRONO_SUMS, build_over_chrono(folder, "benches/chrono_timed", arguments.chrono), others))
         compare_sums(runs)
         best = counts_of_instructions(runs, count) if arguments.instructions else best_times(runs, count)
     unit = "instructions" if arguments.instructions else "nanoseconds"
     print(f"{count} calls of each, in {unit} a call, and how many times as fast as chrono's ours are (last: as the bare formula)\n")
     print("| Call | chrono | `NaiveDate` | `CountedForm` | `PackedForm` | formula | ours | counted | packed | by formula |")
     print("|---|---|---|---|---|---|---|---|---|---|")
-    for call in [*OF_DATES, *OTHERS]:
+    for call in [*OF_DATES, *others]:
         print(row(best, call, count))
     print(NOTES)
 

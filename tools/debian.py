@@ -28,12 +28,12 @@ def why_no_chrono():
 def build_over_chrono(folder, source, chrono=None):
     """Builds the program of a folder of this tree over Debian's chrono, below another folder, and returns its path.
 
-    If the folder of another version of chrono is given, a copy of the program is built over that.
+    If the folder of another version of chrono is given, a copy of the program is built over that, without its default features.
     """
     made, name, other = os.path.join(TOP, source), os.path.basename(source), []
     if chrono:
         made = shutil.copytree(made, os.path.join(folder, name), ignore=shutil.ignore_patterns("Cargo.lock", "target"))
-        other = ["--config", f'patch.crates-io.chrono.path="{os.path.abspath(chrono)}"']
+        other = ["--no-default-features", "--config", f'patch.crates-io.chrono.path="{os.path.abspath(chrono)}"']
     target = os.path.join(folder, "target")
     env = dict(os.environ, CARGO_TARGET_DIR=target)
     subprocess.run(["cargo", "build", "--release", "--offline", "--quiet", *FROM_DEBIAN, *other], cwd=made, env=env, check=True)

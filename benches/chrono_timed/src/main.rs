@@ -5,6 +5,8 @@
 
 mod arguments;
 mod formulas;
+#[cfg(feature = "instants")]
+mod instants;
 mod written;
 
 use arguments::{day, far_day, table, Generator, SIZE};
@@ -335,6 +337,10 @@ fn sum_of_answers(name: &str, count: u64) -> Option<u64> {
         "print_moment" => print(count, far_moment),
         "print_duration" => print(count, |generator| LaterDuration::new(duration(generator))),
         "read_date" => read_dates(generator, count),
+        #[cfg(feature = "instants")]
+        "timestamp" | "to_offset" | "write_rfc3339" | "read_rfc3339" => {
+            instants::sum_of_answers(name, generator, count)?
+        }
         _ => match name.split_once('.') {
             Some(("formula", name)) => sum_of_formulas(name, count)?,
             _ => sum_of_dates(name, count)?,

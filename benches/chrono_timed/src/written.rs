@@ -43,7 +43,7 @@ impl Write for Written {
 
 /// Four words spread over the bytes, which meet all of up to 32, and how many there are.
 #[inline]
-fn of_bytes(bytes: &[u8]) -> u64 {
+pub fn of_bytes(bytes: &[u8]) -> u64 {
     if bytes.len() < 8 {
         return bytes.len() as u64;
     }

@@ -29,6 +29,21 @@ pub enum TimedCall {
     PrintDuration,
     /// `chrono_reading::read_date`, and the day number of the answer.
     ReadDate,
+    /// A call of an instant.
+    OfInstant(InstantCall),
+}
+
+/// A call of an instant.
+#[derive(Clone, Copy)]
+pub enum InstantCall {
+    /// `timestamp`.
+    Timestamp,
+    /// `from_utc_datetime` of an offset, and what its clock shows.
+    ToOffset,
+    /// `to_rfc3339_opts` with milliseconds.
+    WriteRfc3339,
+    /// `parse_from_rfc3339` of such a text, and the `timestamp` of the answer.
+    ReadRfc3339,
 }
 
 /// What a date is taken for.
@@ -96,6 +111,10 @@ pub fn call_named(name: &str) -> Option<TimedCall> {
         "print_moment" => TimedCall::PrintMoment,
         "print_duration" => TimedCall::PrintDuration,
         "read_date" => TimedCall::ReadDate,
+        "timestamp" => TimedCall::OfInstant(InstantCall::Timestamp),
+        "to_offset" => TimedCall::OfInstant(InstantCall::ToOffset),
+        "write_rfc3339" => TimedCall::OfInstant(InstantCall::WriteRfc3339),
+        "read_rfc3339" => TimedCall::OfInstant(InstantCall::ReadRfc3339),
         _ => match name.split_once('.') {
             Some(("counted", name)) => TimedCall::OfDate(Kind::Counted, date_call_named(name)?),
             Some(("packed", name)) => TimedCall::OfDate(Kind::Packed, date_call_named(name)?),

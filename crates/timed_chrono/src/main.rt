@@ -7,6 +7,7 @@
 mod call;
 mod form_sums;
 mod generator;
+mod instant_sums;
 mod naive_sums;
 mod numbers;
 mod sum_of;

@@ -8,7 +8,7 @@ use crate::tables::{
     seconds_and_nanos, table, text, time,
 };
 use crate::written::Written;
-use crate::{form_sums, naive_sums, sum_of};
+use crate::{form_sums, instant_sums, naive_sums, sum_of};
 use chrono_datetime::{Datelike, TimeDelta};
 use chrono_reading::read_date;
 
@@ -29,6 +29,7 @@ pub fn sum_of_answers(call: TimedCall, count: u64) -> u64 {
         TimedCall::PrintMoment => print_moments(generator, count),
         TimedCall::PrintDuration => print_durations(generator, count),
         TimedCall::ReadDate => read_dates(generator, count),
+        TimedCall::OfInstant(call) => instant_sums::sum_of_answers(call, generator, count),
     }
 }
 

@@ -8,8 +8,10 @@ use crate::generator::Generator;
 use chrono_calendar::forms;
 use chrono_clock::SECS_PER_DAY;
 use chrono_datetime::{Datelike, NaiveDate, NaiveDateTime, NaiveTime, TimeDelta};
+use chrono_stamps::{SecondsFormat, to_rfc3339_opts};
 use chrono_stored::{CountedForm, PackedForm};
 use chrono_text::{NANOS_PER_SEC, Text};
+use chrono_zoned::{DateTime, FixedOffset, InZone};
 
 /// How many arguments a table has.
 pub const SIZE: usize = 1024;
@@ -29,6 +31,9 @@ const FAR_DAYS: u64 = 191_400_000;
 const TEXT: usize = 10;
 
 const LONGEST_TEXT: usize = 13;
+
+// How many bytes the text of an instant has, to the millisecond.
+const INSTANT_TEXT: usize = 29;
 
 /// The place in a table that the ten highest binary digits of a drawn number name.
 #[inline]
@@ -121,6 +126,30 @@ pub fn far_date(generator: &mut Generator) -> NaiveDate {
 pub fn far_moment(generator: &mut Generator) -> NaiveDateTime {
     let date = far_date(generator);
     NaiveDateTime::new(date, time(generator))
+}
+
+/// An offset of whole minutes, less than a day either way.
+pub fn offset(generator: &mut Generator) -> FixedOffset {
+    let minutes = generator.below(2_879) as i32 - 1_439;
+    FixedOffset::east_opt(60 * minutes).unwrap()
+}
+
+/// The instant of such a date-time in UTC, with such an offset.
+pub fn instant(generator: &mut Generator) -> Option<DateTime<FixedOffset>> {
+    let moment = moment(generator);
+    offset(generator).from_utc_datetime(&moment)
+}
+
+/// Its text (RFC 3339), to the millisecond.
+pub fn instant_text(generator: &mut Generator) -> [u8; INSTANT_TEXT] {
+    let none = [0; INSTANT_TEXT];
+    let Some(stamp) = instant(generator) else {
+        return none;
+    };
+    match to_rfc3339_opts(&stamp, SecondsFormat::Millis, false) {
+        Some(text) => *text.as_bytes().first_chunk().unwrap_or(&none),
+        None => none,
+    }
 }
 
 /// At most 1,200 months, a hundred years.

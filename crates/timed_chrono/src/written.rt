@@ -45,7 +45,7 @@ impl Write for Written {
 
 // Four words spread over the bytes, which meet all of up to 32, and how many there are.
 #[inline]
-fn of_bytes(bytes: &[u8]) -> u64 {
+pub fn of_bytes(bytes: &[u8]) -> u64 {
     if bytes.len() < WORD {
         return bytes.len() as u64;
     }
