@@ -6,7 +6,7 @@
 Each command is run as it stands and with `--json` behind it. As it stands its output, its status and what it writes to standard error have to be
 those that are worked out here: days by datetime, months and years by dateutil's relativedelta, open days and rolls by numpy's busday calls over the
 holidays that checks/business.py reads, Easter by dateutil, rules by dateutil's rrule, schedules by trying the days and minutes as checks/cron.py
-reads them, days past the years of datetime by checks/counted.py, sheets cell by cell. Where a command is asked of lines, each of them is answered as by
+reads them, days past the years of datetime by checks/counted.py, clocks of zones by zoneinfo, sheets cell by cell. Where a command is asked of lines, each of them is answered as by
 the command alone, whichever years the lines before it lie in. With `--json` each line has to be the object that says the same,
 and status and standard error are the same. A fifth of the commands is spoiled: a word is turned to one that cannot stand there, what has to follow is cut off, a word too many
 is put behind, or a day is one that its month has not. What is said of them has to name that word, its place and what was expected.
@@ -26,6 +26,7 @@ import re
 import subprocess
 import sys
 import tempfile
+import zoneinfo
 from concurrent.futures import ThreadPoolExecutor
 
 import business
@@ -123,6 +124,32 @@ def moment_word(chance, moment):
     if text.endswith(":00") and chance.random() < 0.7:
         text = text[:-3]
     return text.replace("T", " ") if chance.random() < 0.2 else text
+
+
+EPOCH = DateTime(1970, 1, 1, tzinfo=datetime.timezone.utc)
+
+
+def any_instant(chance):
+    minutes = chance.choice((0, 60, -300, 330, chance.randint(-1439, 1439)))
+    return any_moment(chance).replace(tzinfo=datetime.timezone(Span(minutes=minutes)))
+
+
+def offset_text(instant):
+    minutes = instant.utcoffset() // Span(minutes=1)
+    return f"{'-' if minutes < 0 else '+'}{abs(minutes) // 60:02}:{abs(minutes) % 60:02}"
+
+
+def instant_text(instant, unix):
+    """A date-time with its offset, or the seconds since 1970."""
+    return str((instant - EPOCH) // Span(seconds=1)) if unix else moment_text(instant) + offset_text(instant)
+
+
+def instant_word(chance, instant, unix):
+    if unix and not instant.microsecond and chance.random() < 0.7:
+        return instant_text(instant, True)
+    offset = offset_text(instant)
+    offset = "Z" if offset == "+00:00" and chance.random() < 0.5 else offset[:3] if offset.endswith(":00") and chance.random() < 0.5 else offset
+    return moment_word(chance, instant) + offset
 
 
 def day_word(chance, date):
@@ -285,6 +312,90 @@ def of_diff(chance, files):
         return Asked(words, kinds, 5, [shown], [dict(zip(("years", "months", "days"), numbers))])
     count = closed.between(start, end) if unit == "b" else apart(start, end, unit or "d")
     return Asked(words, kinds, 5 if unit else 3, [str(count)], [{keys[unit]: count}])
+
+
+def of_instant(chance, _):
+    """A command of date-times with their offsets, or of seconds since 1970: none of their words is spoiled."""
+    start, unix = any_instant(chance), chance.random() < 0.3
+    options = ["--unix"] * unix
+    if chance.random() < 0.3:
+        end = any_instant(chance)
+        text = duration_text(end - start)
+        return Asked(["diff", instant_word(chance, start, unix), instant_word(chance, end, unix), *options], [], 0, [text], [{"duration": text}])
+    word, made = instant_word(chance, start, unix), [a_move(chance, True, None) for _ in range(chance.choice((1, 1, 2, 3)))]
+    # (seconds have no offset)
+    reached = start.astimezone(datetime.timezone.utc) if re.fullmatch(r"-?\d+", word) else start
+    for _, move in made:
+        reached = move(reached)
+    text = instant_text(reached, unix)
+    words = ["add", word, *(it for it, _ in made)]
+    words[chance.choice((1, len(words))):0] = options
+    return Asked(words, [], 0, [text], [{"unix": int(text)} if unix else {"moment": text}])
+
+
+ZONES = ("America/New_York", "America/Sao_Paulo", "America/St_Johns", "Asia/Kolkata", "Asia/Tokyo", "Australia/Lord_Howe", "Europe/Berlin",
+         "Europe/Dublin", "Europe/London", "Pacific/Apia", "Pacific/Auckland", "UTC")
+# Days on which some of these clocks are set.
+SET_ON = (Date(2024, 3, 10), Date(2024, 11, 3), Date(2024, 3, 31), Date(2024, 10, 27), Date(2024, 4, 7), Date(2024, 10, 6), Date(2018, 2, 18), Date(2011, 12, 30), Date(2050, 3, 27))
+
+
+def instants_at(local, zone):
+    """The instants at which a zone's clock shows a local time, the earlier first."""
+    both = {local.replace(tzinfo=zone, fold=it).astimezone(datetime.timezone.utc) for it in (0, 1)}
+    return sorted(it for it in both if it.astimezone(zone).replace(tzinfo=None) == local)
+
+
+def any_local(chance):
+    """A local time, half of the time of a night on which clocks are set."""
+    if chance.random() < 0.5:
+        return DateTime.combine(chance.choice(SET_ON), datetime.time(chance.randrange(5), chance.choice((0, 15, 30, 59))))
+    return any_moment(chance).replace(year=chance.randint(1950, 2100), day=1)
+
+
+def of_zone(chance, _):
+    """What the clock of a zone shows: none of the words is spoiled."""
+    name, local = chance.choice(ZONES), any_local(chance)
+    source = chance.choice((None, *ZONES))
+    target = zoneinfo.ZoneInfo(name)
+    found, word = instants_at(local, zoneinfo.ZoneInfo(source or name)), moment_word(chance, local)
+    if chance.random() < 0.3:
+        found = [any_instant(chance).replace(year=chance.randint(1950, 2100), day=1)]
+        word = instant_word(chance, found[0], False)
+    shown = [it.astimezone(target) for it in found]
+    lines = [f"{instant_text(it, False)} {it.tzname()}" for it in shown] or ["none"]
+    objects = [{"moment": instant_text(it, False), "name": it.tzname()} for it in shown] or [{"moment": None}]
+    error = "" if found else f"{moment_text(local)}: the clock is set forward past it"
+    return Asked(["in", name, word, *(["--from-zone", source] if source else [])], [], 0, lines, objects, int(not found), error)
+
+
+def of_zoned_add(chance, _):
+    """A local time of a zone, moved there: none of the words is spoiled."""
+    name, local = chance.choice(ZONES), any_local(chance)
+    zone, word = zoneinfo.ZoneInfo(name), moment_word(chance, local)
+    moves = [a_move(chance, True, None) for _ in range(chance.choice((1, 1, 2)))]
+    words = ["add", word, *(it for it, _ in moves), "--zone", name]
+    not_once = "a local time that the zone's clock shows twice, or skips"
+
+    def no_answer(start):
+        return Asked(words, [], 0, ["none"], [{"moment": None}], 1, f"{start}: {not_once}")
+
+    found = instants_at(local, zone)
+    if len(found) != 1:
+        asked = no_answer(word)
+        asked.objects = [{"date": None}]
+        return asked
+    for text, move in moves:
+        last = found[0].astimezone(zone)
+        if text.lstrip("-0123456789") in ("d", "w", "mo", "y"):
+            found = instants_at(move(last.replace(tzinfo=None)), zone)
+        else:
+            found = [move(found[0])]
+        if not all(1950 < it.year < 2150 for it in found):
+            return of_zoned_add(chance, _)
+        if len(found) != 1:
+            return no_answer(f"{instant_text(last, False)} {text}")
+    text = instant_text(found[0].astimezone(zone), False)
+    return Asked(words, [], 0, [text], [{"moment": text}])
 
 
 def dated(days):
@@ -698,7 +809,7 @@ def asks_of_lines(words):
 
 
 SPOILERS = (with_wrong_word, with_wrong_word, with_words_missing, with_a_word_more, with_no_such_day)
-MAKERS = {of_day: 10, of_lines: 4, of_add: 16, of_diff: 16, of_seq: 10, of_week: 4, of_easter: 4, of_leap: 3, of_open: 8, of_roll: 9, of_each: 8, of_check: 5, of_due: 9, of_rule: 9, of_cal: 5}
+MAKERS = {of_day: 10, of_lines: 4, of_add: 16, of_diff: 16, of_instant: 8, of_zone: 6, of_zoned_add: 6, of_seq: 10, of_week: 4, of_easter: 4, of_leap: 3, of_open: 8, of_roll: 9, of_each: 8, of_check: 5, of_due: 9, of_rule: 9, of_cal: 5}
 
 
 def commands(chance, files, count):
@@ -707,7 +818,7 @@ def commands(chance, files, count):
     while len(made) < count:
         maker = chance.choices(list(MAKERS), list(MAKERS.values()))[0]
         asked = maker(chance, files)
-        if maker is of_each:
+        if maker in (of_each, of_instant, of_zone, of_zoned_add):
             made.append(asked)
             continue
         if asked.words and chance.random() < 0.2:

@@ -8,12 +8,14 @@ _dates()
     add:--weekend) COMPREPLY=($(compgen -W $'mon\ntue\nwed\nthu\nfri\nsat\nsun\nnone\n' -- "$word")) ;;
     add:--calendar) COMPREPLY=($(compgen -W $'us-federal\ntarget\nengland\n' -- "$word")) ;;
     add:--holidays) COMPREPLY+=($(compgen -f -- "$word")); compopt -o filenames 2>/dev/null ;;
-    add:*) COMPREPLY=($(compgen -W $'--weekend\n--calendar\n--holidays\n--json\n--help\n' -- "$word")) ;;
+    add:--zone) COMPREPLY=($(compgen -W $'' -- "$word")) ;;
+    add:*) COMPREPLY=($(compgen -W $'--weekend\n--calendar\n--holidays\n--zone\n--unix\n--json\n--help\n' -- "$word")) ;;
     diff:--weekend) COMPREPLY=($(compgen -W $'mon\ntue\nwed\nthu\nfri\nsat\nsun\nnone\n' -- "$word")) ;;
     diff:--calendar) COMPREPLY=($(compgen -W $'us-federal\ntarget\nengland\n' -- "$word")) ;;
     diff:--holidays) COMPREPLY+=($(compgen -f -- "$word")); compopt -o filenames 2>/dev/null ;;
+    diff:--zone) COMPREPLY=($(compgen -W $'' -- "$word")) ;;
     diff:in) COMPREPLY=($(compgen -W $'d\nw\nm\nmo\ny\nb\nymd\n' -- "$word")) ;;
-    diff:*) COMPREPLY=($(compgen -W $'--weekend\n--calendar\n--holidays\n--json\n--help\n' -- "$word")) ;;
+    diff:*) COMPREPLY=($(compgen -W $'--weekend\n--calendar\n--holidays\n--zone\n--unix\n--json\n--help\n' -- "$word")) ;;
     seq:*) COMPREPLY=($(compgen -W $'--json\n--help\n' -- "$word")) ;;
     week:*) COMPREPLY=($(compgen -W $'--json\n--help\n' -- "$word")) ;;
     weekday:*) COMPREPLY=($(compgen -W $'--json\n--help\n' -- "$word")) ;;
@@ -30,10 +32,10 @@ _dates()
     check:*) COMPREPLY=($(compgen -W $'--json\n--help\n' -- "$word")); COMPREPLY+=($(compgen -f -- "$word")); compopt -o filenames 2>/dev/null ;;
     next:--from) COMPREPLY=($(compgen -W $'' -- "$word")) ;;
     next:--count) COMPREPLY=($(compgen -W $'' -- "$word")) ;;
-    next:*) COMPREPLY=($(compgen -W $'--from\n--count\n--json\n--help\n' -- "$word")) ;;
+    next:*) COMPREPLY=($(compgen -W $'--from\n--count\n--unix\n--json\n--help\n' -- "$word")) ;;
     prev:--from) COMPREPLY=($(compgen -W $'' -- "$word")) ;;
     prev:--count) COMPREPLY=($(compgen -W $'' -- "$word")) ;;
-    prev:*) COMPREPLY=($(compgen -W $'--from\n--count\n--json\n--help\n' -- "$word")) ;;
+    prev:*) COMPREPLY=($(compgen -W $'--from\n--count\n--unix\n--json\n--help\n' -- "$word")) ;;
     rule:--start) COMPREPLY=($(compgen -W $'' -- "$word")) ;;
     rule:--from) COMPREPLY=($(compgen -W $'' -- "$word")) ;;
     rule:--count) COMPREPLY=($(compgen -W $'' -- "$word")) ;;
@@ -43,7 +45,15 @@ _dates()
     cal:--calendar) COMPREPLY=($(compgen -W $'us-federal\ntarget\nengland\n' -- "$word")) ;;
     cal:--holidays) COMPREPLY+=($(compgen -f -- "$word")); compopt -o filenames 2>/dev/null ;;
     cal:*) COMPREPLY=($(compgen -W $'--first\n--weekend\n--calendar\n--holidays\n--json\n--help\n' -- "$word")) ;;
-    *) COMPREPLY=($(compgen -W $'\nadd\ndiff\nseq\nweek\nweekday\neaster\nleap\nopen\nroll\ncheck\nnext\nprev\nrule\ncal\n--json\n--help\n--version\n--man\n--reference\n--completion\n' -- "$word")) ;;
+    now:--zone) COMPREPLY=($(compgen -W $'' -- "$word")) ;;
+    now:*) COMPREPLY=($(compgen -W $'--zone\n--unix\n--json\n--help\n' -- "$word")) ;;
+    today:--zone) COMPREPLY=($(compgen -W $'' -- "$word")) ;;
+    today:*) COMPREPLY=($(compgen -W $'--zone\n--json\n--help\n' -- "$word")) ;;
+    in:--from-zone) COMPREPLY=($(compgen -W $'' -- "$word")) ;;
+    in:*) COMPREPLY=($(compgen -W $'--from-zone\n--unix\n--json\n--help\n' -- "$word")) ;;
+    zone:--year) COMPREPLY=($(compgen -W $'' -- "$word")) ;;
+    zone:*) COMPREPLY=($(compgen -W $'--year\n--json\n--help\n' -- "$word")) ;;
+    *) COMPREPLY=($(compgen -W $'\nadd\ndiff\nseq\nweek\nweekday\neaster\nleap\nopen\nroll\ncheck\nnext\nprev\nrule\ncal\nnow\ntoday\nin\nzone\n--json\n--help\n--version\n--man\n--reference\n--completion\n' -- "$word")) ;;
     esac
 }
 complete -o default -F _dates dates

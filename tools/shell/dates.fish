@@ -2,12 +2,16 @@ complete -c dates -n __fish_use_subcommand -a add -d 'move a day or a date-time 
 complete -c dates -n '__fish_seen_subcommand_from add' -l weekend -r -a 'mon tue wed thu fri sat sun none '
 complete -c dates -n '__fish_seen_subcommand_from add' -l calendar -r -a 'us-federal target england '
 complete -c dates -n '__fish_seen_subcommand_from add' -l holidays -r -a ''
+complete -c dates -n '__fish_seen_subcommand_from add' -l zone -r -a ''
+complete -c dates -n '__fish_seen_subcommand_from add' -l unix
 complete -c dates -n '__fish_seen_subcommand_from add' -l json
 complete -c dates -n '__fish_seen_subcommand_from add' -l help
 complete -c dates -n __fish_use_subcommand -a diff -d 'print the days or whole units between two days'
 complete -c dates -n '__fish_seen_subcommand_from diff' -l weekend -r -a 'mon tue wed thu fri sat sun none '
 complete -c dates -n '__fish_seen_subcommand_from diff' -l calendar -r -a 'us-federal target england '
 complete -c dates -n '__fish_seen_subcommand_from diff' -l holidays -r -a ''
+complete -c dates -n '__fish_seen_subcommand_from diff' -l zone -r -a ''
+complete -c dates -n '__fish_seen_subcommand_from diff' -l unix
 complete -c dates -n '__fish_seen_subcommand_from diff' -l json
 complete -c dates -n '__fish_seen_subcommand_from diff' -l help
 complete -c dates -n __fish_use_subcommand -a seq -d 'print the days from one to another'
@@ -43,11 +47,13 @@ complete -c dates -n '__fish_seen_subcommand_from check' -l help
 complete -c dates -n __fish_use_subcommand -a next -d 'print when a schedule is due next'
 complete -c dates -n '__fish_seen_subcommand_from next' -l from -r -a ''
 complete -c dates -n '__fish_seen_subcommand_from next' -l count -r -a ''
+complete -c dates -n '__fish_seen_subcommand_from next' -l unix
 complete -c dates -n '__fish_seen_subcommand_from next' -l json
 complete -c dates -n '__fish_seen_subcommand_from next' -l help
 complete -c dates -n __fish_use_subcommand -a prev -d 'print when a schedule was due before'
 complete -c dates -n '__fish_seen_subcommand_from prev' -l from -r -a ''
 complete -c dates -n '__fish_seen_subcommand_from prev' -l count -r -a ''
+complete -c dates -n '__fish_seen_subcommand_from prev' -l unix
 complete -c dates -n '__fish_seen_subcommand_from prev' -l json
 complete -c dates -n '__fish_seen_subcommand_from prev' -l help
 complete -c dates -n __fish_use_subcommand -a rule -d 'print the instances of a recurrence rule'
@@ -63,3 +69,21 @@ complete -c dates -n '__fish_seen_subcommand_from cal' -l calendar -r -a 'us-fed
 complete -c dates -n '__fish_seen_subcommand_from cal' -l holidays -r -a ''
 complete -c dates -n '__fish_seen_subcommand_from cal' -l json
 complete -c dates -n '__fish_seen_subcommand_from cal' -l help
+complete -c dates -n __fish_use_subcommand -a now -d 'print what time it is, to the second'
+complete -c dates -n '__fish_seen_subcommand_from now' -l zone -r -a ''
+complete -c dates -n '__fish_seen_subcommand_from now' -l unix
+complete -c dates -n '__fish_seen_subcommand_from now' -l json
+complete -c dates -n '__fish_seen_subcommand_from now' -l help
+complete -c dates -n __fish_use_subcommand -a today -d 'print what day it is'
+complete -c dates -n '__fish_seen_subcommand_from today' -l zone -r -a ''
+complete -c dates -n '__fish_seen_subcommand_from today' -l json
+complete -c dates -n '__fish_seen_subcommand_from today' -l help
+complete -c dates -n __fish_use_subcommand -a in -d 'print what a time zone's clock shows'
+complete -c dates -n '__fish_seen_subcommand_from in' -l from-zone -r -a ''
+complete -c dates -n '__fish_seen_subcommand_from in' -l unix
+complete -c dates -n '__fish_seen_subcommand_from in' -l json
+complete -c dates -n '__fish_seen_subcommand_from in' -l help
+complete -c dates -n __fish_use_subcommand -a zone -d 'print when a time zone's clock is set'
+complete -c dates -n '__fish_seen_subcommand_from zone' -l year -r -a ''
+complete -c dates -n '__fish_seen_subcommand_from zone' -l json
+complete -c dates -n '__fish_seen_subcommand_from zone' -l help

@@ -3,9 +3,9 @@
 use crate::closed::years_of_open_days;
 use crate::holidays::{Holidays, holidays_of};
 use crate::prelude::*;
-use crate::texts::{Move, Start, read_move, read_start};
-use crate::values::start_of;
-use chrono_datetime::TimeDelta;
+use crate::texts::{Move, Start, read_move};
+use crate::values::InstantForm;
+use crate::zoned::{Instants, instants_by};
 use dates_answer::moved;
 use std::io;
 
@@ -19,14 +19,14 @@ pub(crate) fn command() -> CommandRow {
     CommandRow {
         name: "add",
         operands: &[DAY_OR_LINES, SPAN],
-        options: OPEN_DAYS,
+        options: OPEN_DAYS_AND_INSTANTS,
         help: "move a day or a date-time by each span in turn",
         more: "A SPAN is a whole number of days, weeks, months or years, as 3d, -2w, 1mo and\n\
             4y, or of open days, as 5b. Of a day, 1m is 1mo too.\n\
             A month or a year leads to the same day of its month, or to its last where that\n\
             is shorter.\n\
             A date-time in place of the day is moved by times too: 36h, 90min, 15s, and\n\
-            PT1.5S, seconds alone.\n\
+            PT1.5S, seconds alone. It may have an offset, as 2024-02-29T04:30+01:00.\n\
             From a closed day the next open day counts as the first: from a Saturday 1b\n\
             leads to Monday, as 0b does, and -1b to Friday.\n\
             With - in place of the day, or none, it moves each line of standard input.",
@@ -64,6 +64,7 @@ impl<'a, A: Allocator> Steps<'a, A> {
 #[derive(Drop)]
 struct Add<'a, A: Allocator> {
     form: OutputForm,
+    instants: Instants<A>,
     steps: Steps<'a, A>,
     holidays: Holidays<A>,
 }
@@ -76,9 +77,11 @@ pub(crate) fn answer<'a, R: Host>(rt: &R, asked: &mut Asked<'a, impl Allocator>)
         short: None,
         timed: false,
     };
-    let start = value!(read(asked.words.operands.as_slice(), &mut steps));
+    let instants = value!(instants_by(rt, asked));
+    let start = value!(read(&instants, asked.words.operands.as_slice(), &mut steps));
     let mut add = Add {
         form: asked.form,
+        instants,
         steps,
         holidays: value!(holidays_of(rt, asked)),
     };
@@ -91,6 +94,7 @@ pub(crate) fn answer<'a, R: Host>(rt: &R, asked: &mut Asked<'a, impl Allocator>)
 // Reads what is moved, and puts at least one step into the list. Each line of the input is moved, as `None`, where the first word is
 // `-` or writes a step.
 fn read<'a>(
+    instants: &Instants<impl Allocator>,
     words: &[Word<'a>],
     steps: &mut Steps<'a, impl Allocator>,
 ) -> Result<Option<Start>, Fault<'a>> {
@@ -99,7 +103,7 @@ fn read<'a>(
     };
     let start = match read_move(first.text.as_bytes()) {
         _ if first.text == "-" => None,
-        None => Some(value!(start_of(*first))),
+        None => Some(value!(instants.start_of(*first))),
         Some(by) => {
             steps.push(by, *first)?;
             None
@@ -136,9 +140,9 @@ fn check_steps<'a>(
 ) -> Result<(), Fault<'a>> {
     match (steps.short, start) {
         _ if steps.moves.is_empty() => Err(Fault::Missing("SPAN")),
-        (Some(word), Some(Start::DateTime(_))) => Err(Fault::Word(word, Cause::Months(word.text))),
-        (Some(word), _) if steps.timed => Err(Fault::Word(word, Cause::Months(word.text))),
-        _ => Ok(()),
+        (None, _) => Ok(()),
+        (Some(_), None | Some(Start::Day(_))) if !steps.timed => Ok(()),
+        (Some(word), _) => Err(Fault::Word(word, Cause::Months(word.text))),
     }
 }
 
@@ -148,16 +152,25 @@ impl<'a, A: Allocator> Add<'a, A> {
         let mut last = start;
         let mut step: usize = 0;
         for by in self.steps.moves.as_slice() {
-            match moved_by(last, *by, &mut self.holidays)? {
-                Some(reached) => last = reached,
-                None => {
+            match moved_by(&self.instants, last, *by, &mut self.holidays)? {
+                Ok(reached) => last = reached,
+                Err(why) => {
                     let text = text_at(self.steps.words.as_slice(), step);
-                    return print_past(rt, self.form, none_of(last), place, &last, text);
+                    let none = self.none_of(last);
+                    return print_nowhere(rt, self.form, none, place, &last, text, why);
                 }
             }
             step = step.saturating_add(1);
         }
-        print_reply(rt, self.form, reply_of(last))
+        print_reply(rt, self.form, self.instants.form.reply(last))
+    }
+
+    // That there is no day, or no date-time, as is the start.
+    fn none_of(&self, start: Start) -> Reply {
+        match start {
+            Start::Day(_) => Reply::Nothing(Key::Date),
+            Start::DateTime(_) | Start::Stamp(_) => self.instants.form.no_moment(),
+        }
     }
 
     // What a date-time of a line comes to, which no `m` moves; the exit status.
@@ -165,7 +178,7 @@ impl<'a, A: Allocator> Add<'a, A> {
         let Some(Word { text, .. }) = self.steps.short else {
             return self.answer_start(rt, place, start);
         };
-        print_reply(rt, self.form, Reply::Nothing(Key::Moment))?;
+        print_reply(rt, self.form, self.instants.form.no_moment())?;
         let _ = eprintln!(rt; "{place}{start} {text}: months; minutes are {text}in");
         Ok(NONE)
     }
@@ -174,13 +187,17 @@ impl<'a, A: Allocator> Add<'a, A> {
 impl<'a, A: Allocator> EachLine for Add<'a, A> {
     fn take_line(&mut self, rt: &impl Host, number: u64, line: &[u8]) -> io::Result<u8> {
         let place = Place::Line(number);
-        match read_start(line) {
-            Ok(start @ Start::DateTime(_)) => self.answer_moment(rt, place, start),
-            Ok(start) if !self.steps.timed => self.answer_start(rt, place, start),
-            _ if self.steps.timed || line.contains(&b'T') => {
-                print_reply(rt, self.form, Reply::Nothing(Key::Moment))
+        let none = match self.instants.form {
+            InstantForm::Text if !self.steps.timed && !line.contains(&b'T') => {
+                Reply::Nothing(Key::Date)
             }
-            _ => print_reply(rt, self.form, Reply::Nothing(Key::Date)),
+            form => form.no_moment(),
+        };
+        match self.instants.read(line) {
+            Ok(Start::Day(_)) if self.steps.timed => print_reply(rt, self.form, none),
+            Ok(start @ Start::Day(_)) => self.answer_start(rt, place, start),
+            Ok(start) => self.answer_moment(rt, place, start),
+            Err(_) => print_reply(rt, self.form, none),
         }
     }
 }
@@ -193,47 +210,24 @@ fn text_at<'a>(words: &[Word<'a>], place: usize) -> &'a str {
     }
 }
 
-// The day or the date-time.
-fn reply_of(reached: Start) -> Reply {
-    match reached {
-        Start::Day(date) => Reply::Date(date),
-        Start::DateTime(moment) => Reply::Moment(moment),
-    }
-}
-
-// That there is no day, or no date-time, as is the start.
-fn none_of(start: Start) -> Reply {
-    match start {
-        Start::Day(_) => Reply::Nothing(Key::Date),
-        Start::DateTime(_) => Reply::Nothing(Key::Moment),
-    }
-}
-
-// What lies a move away; a move of days keeps the time of day.
+// What lies a move away, or why nothing does; a move of days keeps the time of day.
 fn moved_by(
+    instants: &Instants<impl Allocator>,
     start: Start,
     by: Move,
     holidays: &mut Holidays<impl Allocator>,
-) -> io::Result<Option<Start>> {
-    let date = start.date();
+) -> io::Result<Result<Start, Nowhere>> {
+    let date = start.local().date();
     let reached = match by {
         Move::Calendar(span) | Move::ShortMonths(span) => moved(date, span),
         Move::OpenDays(count) => {
             let years = years_of_open_days(date, count, holidays.listed());
             holidays.calendar(years)?.add_open_days(date, count)
         }
-        Move::Time(time) => return Ok(timed(start, time)),
+        Move::Time(time) => return Ok(instants.later(start, time).ok_or(Nowhere::Past)),
     };
     match reached {
-        Some(date) => Ok(Some(start.on(date))),
-        None => Ok(None),
-    }
-}
-
-// The date-time that lies a time away; nothing from a day.
-fn timed(start: Start, by: Option<TimeDelta>) -> Option<Start> {
-    match start {
-        Start::Day(_) => None,
-        Start::DateTime(moment) => Some(Start::DateTime(moment.checked_add_signed(by?)?)),
+        Some(date) => Ok(instants.on(start, date).ok_or(Nowhere::NotOnce)),
+        None => Ok(Err(Nowhere::Past)),
     }
 }

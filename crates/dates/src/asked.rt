@@ -5,12 +5,13 @@ use command_words::{Arguments, Opt, Word};
 use dates_answer::{OutputForm, Reply, ReplyLine};
 use std::alloc::Allocator;
 use std::io::{self, Eprint};
-use std::rt::Files;
+use std::rt::{Env, Files};
+use std::time::Clock;
 
-/// What a command may use: memory, both outputs, standard input and files.
-pub(crate) trait Host: Alloc + Print + Eprint + Input + Files {}
+/// What a command may use: memory, both outputs, standard input, files, the environment and the clock.
+pub(crate) trait Host: Alloc + Print + Eprint + Input + Files + Env + Clock {}
 
-impl<R: Alloc + Print + Eprint + Input + Files> Host for R {}
+impl<R: Alloc + Print + Eprint + Input + Files + Env + Clock> Host for R {}
 
 /// The exit status of a command, or why it has no answer.
 pub(crate) type Answered<'a> = Result<u8, Fault<'a>>;

@@ -3,8 +3,9 @@
 use crate::closed::years_of;
 use crate::holidays::{Holidays, holidays_of};
 use crate::prelude::*;
-use crate::texts::{Start, read_start, unit_named};
-use crate::values::{DAYS, MOMENTS, begins_as_day, start_as, start_of};
+use crate::texts::{Start, unit_named};
+use crate::values::{DAYS, MOMENTS, STAMPS, begins_as_day};
+use crate::zoned::{Instants, ZONED, instants_by};
 use chrono_datetime::NaiveDate;
 use command_words::Arguments;
 use dates_answer::{Unit, distance, parts_between};
@@ -24,7 +25,7 @@ pub(crate) fn command() -> CommandRow {
     CommandRow {
         name: "diff",
         operands: &[DAY, DAY_OR_LINES, UNIT],
-        options: OPEN_DAYS,
+        options: OPEN_DAYS_AND_INSTANTS,
         help: "print the days or whole units between two days",
         more: "A UNIT is d, w, m or mo, y, b or ymd: days, weeks, months, years, open days, or\n\
             years, months and days. It goes back where the second day is the earlier.\n\
@@ -32,7 +33,7 @@ pub(crate) fn command() -> CommandRow {
             The unit b counts the first day, where it is open, and not the second; it alone\n\
             takes the options of open days.\n\
             Of two date-times in place of the days it is the time from one to the other, in\n\
-            seconds, as PT5400S.\n\
+            seconds, as PT5400S. Both have an offset as +01:00, or none has.\n\
             With - in place of a day, or no second day, each line of standard input is\n\
             taken for it.",
         example: "$ dates diff 2024-02-29 2024-12-24 in w\n\
@@ -58,6 +59,7 @@ type Ends = (Option<Start>, Option<Start>);
 #[derive(Drop)]
 struct Diff<A: Allocator> {
     form: OutputForm,
+    instants: Instants<A>,
     none: Reply,
     ends: Ends,
     measure: Measure,
@@ -66,11 +68,12 @@ struct Diff<A: Allocator> {
 
 // How far it is from one day to another, or to that of each line; the exit status.
 pub(crate) fn answer<'a>(rt: &impl Host, asked: &mut Asked<'a, impl Allocator>) -> Answered<'a> {
+    let instants = value!(instants_by(rt, asked));
     let (words, unit) = cut(asked.words.operands.as_slice());
     let measure = value!(measure_of(unit));
     asked.none = none_of(measure);
-    let (from, to) = value!(read(words));
-    if let Some(Start::DateTime(_)) = from.or(to) {
+    let (from, to) = value!(read(&instants, words));
+    if let Some(Start::DateTime(_) | Start::Stamp(_)) = from.or(to) {
         asked.none = Reply::Nothing(Key::Duration);
         if let [word, ..] = unit {
             return Err(Fault::expected(*word, NO_MORE));
@@ -79,6 +82,7 @@ pub(crate) fn answer<'a>(rt: &impl Host, asked: &mut Asked<'a, impl Allocator>) 
     value!(check_options(&asked.words, measure));
     let mut diff = Diff {
         form: asked.form,
+        instants,
         none: asked.none,
         ends: (from, to),
         measure,
@@ -120,21 +124,21 @@ fn measure_of<'a>(words: &[Word<'a>]) -> Result<Measure, Fault<'a>> {
 }
 
 // Reads the days or date-times, of which `-` or none at the end stands for the lines of the input.
-fn read<'a>(words: &[Word<'a>]) -> Result<Ends, Fault<'a>> {
+fn read<'a>(instants: &Instants<impl Allocator>, words: &[Word<'a>]) -> Result<Ends, Fault<'a>> {
     match words {
         [] => Err(Fault::Missing("DAY")),
         [only] if only.text == "-" => Err(Fault::Missing("DAY")),
-        [first] => ends_of(Some(*first), None),
-        [first, second] if first.text == "-" => ends_of(None, Some(*second)),
-        [first, second] if second.text == "-" => ends_of(Some(*first), None),
-        [first, second] => ends_of(Some(*first), Some(*second)),
+        [first] => ends_of(instants, Some(*first), None),
+        [first, second] if first.text == "-" => ends_of(instants, None, Some(*second)),
+        [first, second] if second.text == "-" => ends_of(instants, Some(*first), None),
+        [first, second] => ends_of(instants, Some(*first), Some(*second)),
         [first, other, ..] if !begins_as_day(*other) => {
-            let _start = value!(start_of(*first));
+            let _start = value!(instants.start_of(*first));
             Err(Fault::expected(*other, IN))
         }
-        [first, _, other, ..] => match value!(start_of(*first)) {
+        [first, _, other, ..] => match value!(instants.start_of(*first)) {
             Start::Day(_) => Err(Fault::expected(*other, IN)),
-            Start::DateTime(_) => Err(Fault::expected(*other, NO_MORE)),
+            Start::DateTime(_) | Start::Stamp(_) => Err(Fault::expected(*other, NO_MORE)),
         },
     }
 }
@@ -142,31 +146,44 @@ fn read<'a>(words: &[Word<'a>]) -> Result<Ends, Fault<'a>> {
 const IN: &str = "in and a unit, as 'in w'";
 
 // Two days or two date-times, or one beside each line.
-fn ends_of<'a>(first: Option<Word<'a>>, second: Option<Word<'a>>) -> Result<Ends, Fault<'a>> {
+fn ends_of<'a>(
+    instants: &Instants<impl Allocator>,
+    first: Option<Word<'a>>,
+    second: Option<Word<'a>>,
+) -> Result<Ends, Fault<'a>> {
     let from = match first {
-        Some(word) => Some(value!(start_of(word))),
+        Some(word) => Some(value!(instants.start_of(word))),
         None => None,
     };
     let to = match (second, from) {
         (None, _) => None,
-        (Some(word), None) => Some(value!(start_of(word))),
-        (Some(word), Some(from)) => Some(value!(like(from, word))),
+        (Some(word), None) => Some(value!(instants.start_of(word))),
+        (Some(word), Some(from)) => Some(value!(like(instants, from, word))),
     };
     Ok((from, to))
 }
 
-// The day or the date-time that a word names, of the kind of the first.
-fn like<'a>(first: Start, word: Word<'a>) -> Result<Start, Fault<'a>> {
+// The day, the date-time or the instant that a word names, of the kind of the first.
+fn like<'a>(
+    instants: &Instants<impl Allocator>,
+    first: Start,
+    word: Word<'a>,
+) -> Result<Start, Fault<'a>> {
     let what = match first {
         Start::Day(_) => DAYS,
         Start::DateTime(_) => MOMENTS,
+        Start::Stamp(_) => STAMPS,
     };
-    match (first, value!(start_as(word, what))) {
-        (Start::Day(_), Start::Day(date)) => Ok(Start::Day(date)),
-        (Start::DateTime(_), Start::DateTime(moment)) => Ok(Start::DateTime(moment)),
-        _ => Err(Fault::expected(word, "two days or two date-times, not one of each")),
+    match (first, value!(instants.start_as(word, what))) {
+        (Start::Day(_), other @ Start::Day(_)) => Ok(other),
+        (Start::DateTime(_), other @ Start::DateTime(_)) => Ok(other),
+        (Start::Stamp(_), other @ Start::Stamp(_)) => Ok(other),
+        (Start::Day(_), _) | (_, Start::Day(_)) => Err(Fault::expected(word, ONE_KIND)),
+        _ => Err(Fault::expected(word, "an offset of both date-times, or of none")),
     }
 }
+
+const ONE_KIND: &str = "two days or two date-times, not one of each";
 
 // Only open days take options.
 fn check_options<'a>(
@@ -176,7 +193,7 @@ fn check_options<'a>(
     for given in words.options.as_slice() {
         match measure {
             Measure::OpenDays => {}
-            _ if given.option.name == JSON.name => {}
+            _ if [JSON.name, UNIX.name, ZONED.name].contains(&given.option.name) => {}
             _ => return Err(Fault::expected(given.value, "no such option without 'in b'")),
         }
     }
@@ -208,11 +225,15 @@ impl<A: Allocator> Diff<A> {
         let answer = match from {
             Start::Day(from) => match to {
                 Start::Day(to) => self.days_between(from, to)?,
-                Start::DateTime(_) => self.none,
+                _ => self.none,
             },
             Start::DateTime(from) => match to {
-                Start::Day(_) => self.none,
                 Start::DateTime(to) => Reply::Duration(to.signed_duration_since(from)),
+                _ => self.none,
+            },
+            Start::Stamp(from) => match to {
+                Start::Stamp(to) => Reply::Duration(to.signed_duration_since(from)),
+                _ => self.none,
             },
         };
         print_reply(rt, self.form, answer)
@@ -233,7 +254,7 @@ impl<A: Allocator> Diff<A> {
 
 impl<A: Allocator> EachLine for Diff<A> {
     fn take_line(&mut self, rt: &impl Host, _number: u64, line: &[u8]) -> io::Result<u8> {
-        match (self.ends, read_start(line)) {
+        match (self.ends, self.instants.read(line)) {
             ((Some(from), _), Ok(to)) => self.answer_ends(rt, from, to),
             ((None, Some(to)), Ok(from)) => self.answer_ends(rt, from, to),
             _ => print_reply(rt, self.form, self.none),

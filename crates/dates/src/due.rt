@@ -1,7 +1,8 @@
 //! When a schedule is due.
 
 use crate::prelude::*;
-use crate::values::{amount_of, moment_of};
+use crate::texts::Start;
+use crate::values::{InstantForm, amount_of, moment_of};
 use chrono_cron::{Schedule, read_schedule};
 use chrono_datetime::NaiveDateTime;
 use std::io;
@@ -40,9 +41,6 @@ const MORE: &str = "A CRON is a nickname as @daily, or five fields in one word, 
     With both days and weekdays, neither beginning with *, it is due on either, as\n\
     with cron.";
 
-// That there is no answer.
-const NO_MOMENT: Reply = Reply::Nothing(Key::Moment);
-
 // The command that goes back.
 const PREV: &str = "prev";
 
@@ -50,7 +48,7 @@ pub(crate) fn next() -> CommandRow {
     CommandRow {
         name: "next",
         operands: &[CRON],
-        options: &[AFTER, HOW_MANY, JSON, HELP],
+        options: &[AFTER, HOW_MANY, UNIX, JSON, HELP],
         help: "print when a schedule is due next",
         more: MORE,
         example: "$ dates next '0 9 * * 5#3' --from 2024-03-01T00:00\n\
@@ -62,7 +60,7 @@ pub(crate) fn prev() -> CommandRow {
     CommandRow {
         name: PREV,
         operands: &[CRON],
-        options: &[BEFORE, HOW_MANY, JSON, HELP],
+        options: &[BEFORE, HOW_MANY, UNIX, JSON, HELP],
         help: "print when a schedule was due before",
         more: MORE,
         example: "$ dates prev '0 0 L * *' --from 2024-03-15T00:00\n\
@@ -72,12 +70,58 @@ pub(crate) fn prev() -> CommandRow {
 
 // The moments at which the schedule is due, on or back, a line each; `none` where there are fewer. The exit status.
 pub(crate) fn answer<'a>(rt: &impl Host, asked: &mut Asked<'a, impl Allocator>) -> Answered<'a> {
-    asked.none = NO_MOMENT;
+    let instants = InstantForm::of(&asked.words);
+    asked.none = instants.no_moment();
     let schedule = value!(schedule_of(asked.word(0)));
-    let from = value!(moment_of(asked.option(AFTER)));
+    let from = value!(moment_of(instants, asked.option(AFTER)));
     let count = value!(amount_of(asked.option(HOW_MANY)));
-    let goes_back = asked.command == PREV;
-    Ok(print_moments(rt, asked.form, &schedule, from, goes_back, count)?)
+    let dues = Dues {
+        schedule,
+        from,
+        goes_back: asked.command == PREV,
+    };
+    Ok(dues.print(rt, asked.form, instants, count)?)
+}
+
+// When a schedule is due behind a start, or before it.
+#[derive(Clone, Copy)]
+struct Dues {
+    schedule: Schedule,
+    from: Start,
+    goes_back: bool,
+}
+
+impl Dues {
+    // Prints so many date-times, or `none` where there are fewer; the exit status.
+    fn print(
+        &self,
+        rt: &impl Print,
+        form: OutputForm,
+        instants: InstantForm,
+        count: u64,
+    ) -> io::Result<u8> {
+        let mut last = self.from.local();
+        for _ in 0..count {
+            let Some(moment) = self.next(last) else {
+                return print_reply(rt, form, instants.no_moment());
+            };
+            match self.from.at(moment) {
+                Some(due) => print_reply(rt, form, instants.reply(due))?,
+                None => return print_reply(rt, form, instants.no_moment()),
+            };
+            last = moment;
+        }
+        Ok(ANSWERED)
+    }
+
+    // The next date-time from another on.
+    fn next(&self, last: NaiveDateTime) -> Option<NaiveDateTime> {
+        if self.goes_back {
+            self.schedule.prev_before(last)
+        } else {
+            self.schedule.next_after(last)
+        }
+    }
 }
 
 // The schedule that a word writes.
@@ -88,27 +132,3 @@ fn schedule_of<'a>(word: Word<'a>) -> Result<Schedule, Fault<'a>> {
     }
 }
 
-// So many moments at which a schedule is due behind one, or before it where it goes back; the exit status.
-fn print_moments(
-    rt: &impl Print,
-    form: OutputForm,
-    schedule: &Schedule,
-    from: NaiveDateTime,
-    goes_back: bool,
-    count: u64,
-) -> io::Result<u8> {
-    let mut last = from;
-    for _ in 0..count {
-        let found = if goes_back {
-            schedule.prev_before(last)
-        } else {
-            schedule.next_after(last)
-        };
-        let Some(moment) = found else {
-            return print_reply(rt, form, NO_MOMENT);
-        };
-        print_reply(rt, form, Reply::Moment(moment))?;
-        last = moment;
-    }
-    Ok(ANSWERED)
-}

@@ -1,7 +1,7 @@
 //! Faults: why a command has no answer, and the exit statuses.
 
 use crate::asked::{Host, print_reply};
-use crate::lines::{LineFault, Reason, fault_in};
+use crate::lines::{LineFault, NOT_ONCE, Reason, fault_in};
 use crate::source::{Shown, Source};
 use crate::table::{NAME, commands};
 use crate::values::Year;
@@ -14,6 +14,7 @@ use std::alloc::{AllocError, AllocFailed};
 use std::env::{Env, FillError};
 use std::io::{self, Eprint, ErrorKind};
 use std::{fmt, str};
+use zone_database::ZoneError;
 
 /// The exit status of an answer.
 pub(crate) const ANSWERED: u8 = 0;
@@ -29,6 +30,8 @@ pub(crate) const WRONG: u8 = 2;
 pub(crate) enum Fault<'a> {
     /// The word is written as a day is, and there is no such day.
     NoDay(Word<'a>, ReadError),
+    /// The zone's clock shows the date-time of the word twice, or skips it.
+    NotOnce(Word<'a>),
     /// The calendar has no such year.
     Outside(i32),
     /// The word is wrong.
@@ -37,6 +40,8 @@ pub(crate) enum Fault<'a> {
     Missing(&'static str),
     /// The option has to be given, with its value.
     MissingOption(&'static str, &'static str),
+    /// The word names no time zone.
+    Zone(Word<'a>, ZoneError),
     /// Lines cannot be read.
     Input(Source<'a>, io::Error),
     /// The line of holidays with that number is no day.
@@ -156,6 +161,11 @@ pub(crate) fn refuse(
             let _ = eprintln!(rt; "{}: {error}", word.text);
             Ok(NONE)
         }
+        Fault::NotOnce(word) => {
+            print_reply(rt, form, none)?;
+            let _ = eprintln!(rt; "{}: {NOT_ONCE}", word.text);
+            Ok(NONE)
+        }
         Fault::Outside(year) => {
             print_reply(rt, form, none)?;
             let year = Year { year };
@@ -183,6 +193,7 @@ fn say_fault(rt: &impl Eprint, command: &CommandRow, fault: &Fault<'_>) {
         Fault::MissingOption(name, value) => {
             eprintln!(rt; "dates: {name} {value} is missing; usage: {usage}")
         }
+        Fault::Zone(word, error) => eprintln!(rt; "dates: {}: {error}", Source::Word(*word)),
         Fault::Input(source, error) => eprintln!(rt; "dates: {source}: {error}"),
         Fault::NoHoliday(source, number, Reason::Form) => {
             eprintln!(rt; "dates: {source}, line {number}: expected {HOLIDAY}")

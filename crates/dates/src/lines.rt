@@ -103,7 +103,39 @@ impl fmt::Display for Place {
     }
 }
 
-// Prints that there is no answer, since a move from there leads out of the calendar; the exit status.
+/// Why a move leads nowhere.
+#[derive(Clone, Copy)]
+pub(crate) enum Nowhere {
+    /// It leads out of the calendar.
+    Past,
+    /// It leads to a local time that the zone's clock shows twice, or skips.
+    NotOnce,
+}
+
+// Prints that there is no answer, since a move from there leads nowhere; the exit status.
+pub(crate) fn print_nowhere(
+    rt: &(impl Print + Eprint),
+    form: OutputForm,
+    none: Reply,
+    place: Place,
+    from: &Start,
+    by: &str,
+    why: Nowhere,
+) -> io::Result<u8> {
+    print_reply(rt, form, none)?;
+    let gap = if by.is_empty() { "" } else { " " };
+    let why = match why {
+        Nowhere::Past => "past the calendar's end",
+        Nowhere::NotOnce => NOT_ONCE,
+    };
+    let _ = eprintln!(rt; "{place}{from}{gap}{by}: {why}");
+    Ok(NONE)
+}
+
+/// That a zone's clock shows no single instant.
+pub(crate) const NOT_ONCE: &str = "a local time that the zone's clock shows twice, or skips";
+
+// The same of a move that leads out of the calendar.
 pub(crate) fn print_past(
     rt: &(impl Print + Eprint),
     form: OutputForm,
@@ -112,10 +144,7 @@ pub(crate) fn print_past(
     from: &Start,
     by: &str,
 ) -> io::Result<u8> {
-    print_reply(rt, form, none)?;
-    let gap = if by.is_empty() { "" } else { " " };
-    let _ = eprintln!(rt; "{place}{from}{gap}{by}: past the calendar's end");
-    Ok(NONE)
+    print_nowhere(rt, form, none, place, from, by, Nowhere::Past)
 }
 
 /// Why a line names no day; `Form` is that it is not written as one, and `Mark` a byte order mark.
@@ -154,11 +183,11 @@ pub(crate) fn day_of_line(line: &[u8]) -> Result<NaiveDate, Reason> {
     match read_start(line) {
         Ok(start) => match start {
             Start::Day(date) => Ok(date),
-            Start::DateTime(_) => Err(Reason::Moment),
+            Start::DateTime(_) | Start::Stamp(_) => Err(Reason::Moment),
         },
         Err(error) => match error {
             StartError::NoDay(error) => Err(Reason::Day(error)),
-            StartError::Unread(_) => Err(beside_day(line)),
+            _ => Err(beside_day(line)),
         },
     }
 }

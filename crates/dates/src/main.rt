@@ -22,8 +22,10 @@ mod due;
 mod easter;
 mod fault;
 mod holidays;
+mod in_zone;
 mod leap;
 mod lines;
+mod now;
 mod open;
 mod options;
 mod prelude;
@@ -36,10 +38,12 @@ mod texts;
 mod values;
 mod week;
 mod weekday;
+mod zone_changes;
+mod zoned;
 
 use asked::Host;
 use fault::{WRONG, refuse_arguments};
-use std::env::{self, Env};
+use std::env;
 use std::io::{self, ErrorKind};
 use std::process::ExitCode;
 use table::answer_arguments;
@@ -59,7 +63,7 @@ fn main(rt: HostRuntime) -> ExitCode {
 }
 
 // Answers what the arguments ask for; the exit status.
-fn run(rt: &(impl Host + Env)) -> io::Result<u8> {
+fn run(rt: &impl Host) -> io::Result<u8> {
     let arguments = match env::args(rt) {
         Ok(arguments) => arguments,
         Err(fault) => return refuse_arguments(rt, fault),

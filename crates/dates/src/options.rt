@@ -1,5 +1,6 @@
 //! Rows that several commands share.
 
+use crate::zoned::ZONED;
 use command_words::{OPERAND, OPTION, Operand, Opt};
 
 /// The weekdays by their names.
@@ -42,6 +43,16 @@ pub(crate) const PLAIN: &[Opt] = &[JSON, HELP];
 
 /// The options of a command that knows open days.
 pub(crate) const OPEN_DAYS: &[Opt] = &[WEEKEND, CALENDAR, HOLIDAYS, JSON, HELP];
+
+/// The options of a command that knows open days and instants.
+pub(crate) const OPEN_DAYS_AND_INSTANTS: &[Opt] = &[WEEKEND, CALENDAR, HOLIDAYS, ZONED, UNIX, JSON, HELP];
+
+/// `--unix`.
+pub(crate) const UNIX: Opt = Opt {
+    name: "--unix",
+    help: "read and print instants as seconds since 1970 in UTC",
+    ..OPTION
+};
 
 /// `--weekend`.
 pub(crate) const WEEKEND: Opt = Opt {

@@ -29,6 +29,10 @@ macro_rules! each_command {
             due::prev,
             rule::command,
             cal::command,
+            now::now,
+            now::today,
+            in_zone::command,
+            zone_changes::command,
         }
     };
 }
@@ -89,7 +93,7 @@ const MORE: &str = "A DAY is a calendar date, an ordinal date or a week date, as
     \n\
     Where DAY is - or left out, dates, add, diff, open and roll answer each line of\n\
     standard input. A line that is no day is answered by none; check says why.\n\
-    dates never asks what day it is.\n\
+    Only now and today ask what time it is.\n\
     \n\
     An option may stand anywhere, and its value behind = too. Behind -- all words\n\
     are operands. 'dates COMMAND --help' says more of a command.\n\

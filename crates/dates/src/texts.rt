@@ -1,12 +1,14 @@
 //! Texts of days, date-times, spans, weeks and months.
 
 use crate::options::WEEKDAYS;
-use chrono_datetime::{NaiveDate, NaiveDateTime, TimeDelta, Weekday};
+use chrono_datetime::{NaiveDate, NaiveDateTime, NaiveTime, TimeDelta, Weekday};
 use chrono_reading::{
     ReadCause, ReadError, read_date, read_duration, read_ordinal_date, read_time, read_week_date,
     read_weekday,
 };
+use chrono_stamps::parse_from_iso8601;
 use chrono_text::{Text, read_decimal};
+use chrono_zoned::{DateTime, FixedOffset, InZone};
 use dates_answer::{Span, Unit};
 use std::fmt;
 
@@ -28,29 +30,44 @@ pub(crate) fn read_day(text: &[u8]) -> Result<NaiveDate, ReadError> {
     }
 }
 
-/// A day or a date-time.
+/// A day, a date-time, or an instant.
 #[derive(Clone, Copy)]
 pub enum Start {
     /// A day.
     Day(NaiveDate),
     /// A date-time.
     DateTime(NaiveDateTime),
+    /// A date-time with its offset.
+    Stamp(DateTime<FixedOffset>),
 }
 
 impl Start {
-    // The day.
-    pub(crate) fn date(self) -> NaiveDate {
-        match self {
-            Start::Day(date) => date,
-            Start::DateTime(moment) => moment.date(),
+    // The date-time that is written; midnight of a day.
+    pub(crate) fn local(&self) -> NaiveDateTime {
+        match *self {
+            Start::Day(date) => NaiveDateTime::new(date, NaiveTime::MIN),
+            Start::DateTime(moment) => moment,
+            Start::Stamp(stamp) => stamp.naive_local(),
         }
     }
 
-    // Another day, at the same time of day where there is one.
-    pub(crate) fn on(self, date: NaiveDate) -> Start {
+    // Whether it has an offset.
+    pub(crate) fn has_offset(&self) -> bool {
         match self {
-            Start::Day(_) => Start::Day(date),
-            Start::DateTime(moment) => Start::DateTime(NaiveDateTime::new(date, moment.time())),
+            Start::Stamp(_) => true,
+            _ => false,
+        }
+    }
+
+    // What is written in the same way of another date-time: of a day its date alone, of an instant with the same offset.
+    pub(crate) fn at(&self, moment: NaiveDateTime) -> Option<Start> {
+        match *self {
+            Start::Day(_) => Some(Start::Day(moment.date())),
+            Start::DateTime(_) => Some(Start::DateTime(moment)),
+            Start::Stamp(stamp) => {
+                let found = stamp.timezone().from_local_datetime(&moment);
+                Some(Start::Stamp(found.single()?))
+            }
         }
     }
 }
@@ -60,6 +77,7 @@ impl fmt::Display for Start {
         match self {
             Start::Day(date) => write!(f, "{date}"),
             Start::DateTime(moment) => write!(f, "{moment:?}"),
+            Start::Stamp(stamp) => write!(f, "{stamp:?}"),
         }
     }
 }
@@ -71,13 +89,15 @@ pub enum StartError {
     NoDay(ReadError),
     /// It cannot be read.
     Unread(ReadError),
+    /// The zone's clock shows it twice, or skips it.
+    NotOnce,
 }
 
 // The day or the date-time that a text names: a date-time where a time of day stands behind the day.
 pub(crate) fn read_start(text: &[u8]) -> Result<Start, StartError> {
     if let Some((day, time)) = parted(text) {
         return match moment_at(day, time) {
-            Ok(moment) => Ok(Start::DateTime(moment)),
+            Ok(start) => Ok(start),
             Err(error) => Err(StartError::Unread(error)),
         };
     }
@@ -86,6 +106,26 @@ pub(crate) fn read_start(text: &[u8]) -> Result<Start, StartError> {
         Err(error) if error.cause == ReadCause::NotThisForm => Err(StartError::Unread(error)),
         Err(error) => Err(StartError::NoDay(error)),
     }
+}
+
+// The instant that a text names by the seconds since 1970 in UTC, or by a date-time with its offset.
+pub(crate) fn read_instant(text: &[u8]) -> Result<Start, StartError> {
+    if let Some(seconds) = read_number(text) {
+        return match instant_at(seconds) {
+            Some(stamp) => Ok(Start::Stamp(stamp)),
+            None => Err(StartError::NoDay(date_out_of_range())),
+        };
+    }
+    match read_start(text) {
+        Ok(start @ Start::Stamp(_)) => Ok(start),
+        Ok(_) => Err(StartError::Unread(no_form(0))),
+        Err(error) => Err(error),
+    }
+}
+
+// The instant so many seconds after the start of 1970 in UTC.
+pub(crate) fn instant_at(seconds: i64) -> Option<DateTime<FixedOffset>> {
+    FixedOffset::east_opt(0)?.timestamp_opt(seconds, 0)
 }
 
 // What stands in front of the first `T` or blank, behind which a time of day stands, and behind it.
@@ -97,8 +137,8 @@ fn parted(text: &[u8]) -> Option<(&[u8], &[u8])> {
     }
 }
 
-// The date-time that a text names by its day and its time of day.
-pub(crate) fn read_moment(text: &[u8]) -> Result<NaiveDateTime, ReadError> {
+// The date-time that a text names by its day and its time of day, and by its offset where it has one.
+pub(crate) fn read_moment(text: &[u8]) -> Result<Start, ReadError> {
     match parted(text) {
         Some((day, time)) => moment_at(day, time),
         None => match read_day(text) {
@@ -108,15 +148,21 @@ pub(crate) fn read_moment(text: &[u8]) -> Result<NaiveDateTime, ReadError> {
     }
 }
 
-// The date-time that texts name, one its day and one its time of day, whose second may be left out.
-fn moment_at(day: &[u8], time: &[u8]) -> Result<NaiveDateTime, ReadError> {
+// The date-time that texts name, one its day and one its time of day, whose second may be left out, and behind which an offset may stand.
+fn moment_at(day: &[u8], time: &[u8]) -> Result<Start, ReadError> {
+    let has_offset = time
+        .iter()
+        .any(|byte| *byte == b'Z' || *byte == b'+' || *byte == b'-');
+    if has_offset {
+        return stamp_at(day, time);
+    }
     let date = read_day(day)?;
     let read = match time {
         [a, b, b':', c, d] => read_time(&[*a, *b, b':', *c, *d, b':', b'0', b'0']),
         _ => read_time(time),
     };
     match read {
-        Ok(time) => Ok(NaiveDateTime::new(date, time)),
+        Ok(time) => Ok(Start::DateTime(NaiveDateTime::new(date, time))),
         Err(ReadError { cause, byte }) => {
             let byte = day.len().saturating_add(1).saturating_add(byte);
             Err(ReadError { cause, byte })
@@ -124,10 +170,34 @@ fn moment_at(day: &[u8], time: &[u8]) -> Result<NaiveDateTime, ReadError> {
     }
 }
 
+// No day, and no time of day with its offset, has more bytes.
+const LONGEST_HALF: usize = 31;
+
+// The instant that texts name, one its day, and one its time of day and its offset.
+fn stamp_at(day: &[u8], time: &[u8]) -> Result<Start, ReadError> {
+    if day.len() > LONGEST_HALF || time.len() > LONGEST_HALF {
+        return Err(no_form(0));
+    }
+    let mut text: Text<63> = Text::new();
+    text.push_text(day);
+    text.push(b'T');
+    text.push_text(time);
+    match parse_from_iso8601(text.as_bytes()) {
+        Ok(stamp) => Ok(Start::Stamp(stamp)),
+        Err(error) => Err(error),
+    }
+}
+
 // That a text has no form, as that byte shows.
 fn no_form(byte: usize) -> ReadError {
     let cause = ReadCause::NotThisForm;
     ReadError { cause, byte }
+}
+
+// That a text names a time before the calendar's first date or behind its last.
+fn date_out_of_range() -> ReadError {
+    let cause = ReadCause::DateOutOfRange;
+    ReadError { cause, byte: 0 }
 }
 
 // No name of a day has more bytes.
@@ -215,12 +285,14 @@ pub(crate) fn unit_named(name: &[u8]) -> Option<Unit> {
 fn read_count(text: &[u8]) -> Option<(i64, &[u8])> {
     let at = text.iter().position(|byte| byte.is_ascii_lowercase())?;
     let (number, unit) = text.split_at(at);
-    match number {
-        [b'-', size @ ..] => {
-            let size = i64::try_from(read_decimal(size)?).ok()?;
-            Some((size.checked_neg()?, unit))
-        }
-        _ => Some((i64::try_from(read_decimal(number)?).ok()?, unit)),
+    Some((read_number(number)?, unit))
+}
+
+// The number that a text writes: `-` where it is below 0, and up to 18 digits without zeros in front.
+fn read_number(text: &[u8]) -> Option<i64> {
+    match text {
+        [b'-', size @ ..] => i64::try_from(read_decimal(size)?).ok()?.checked_neg(),
+        _ => i64::try_from(read_decimal(text)?).ok(),
     }
 }
 

@@ -1,11 +1,17 @@
 //! The values of words.
 
 use crate::fault::{Cause, Fault};
-use crate::texts::{Start, StartError, read_moment, read_start, read_week, weekday_named};
-use chrono_datetime::{NaiveDate, NaiveDateTime, Weekday};
+use crate::options::UNIX;
+use crate::texts::{
+    Start, StartError, read_instant, read_moment, read_start, read_week, weekday_named,
+};
+use chrono_datetime::{NaiveDate, Weekday};
 use chrono_reading::ReadError;
 use chrono_text::{read_decimal, read_year};
-use command_words::Word;
+use chrono_zoned::Timestamp;
+use command_words::{Arguments, Word};
+use dates_answer::{Key, Reply};
+use std::alloc::Allocator;
 use std::fmt;
 
 /// What is expected in place of a day.
@@ -14,43 +20,103 @@ pub(crate) const DAYS: &str = "a day as 2024-02-29, 2024-060 or 2024-W09-4";
 /// What is expected in place of a date-time.
 pub(crate) const MOMENTS: &str = "a date-time as 2024-02-29T04:30";
 
+/// What is expected in place of a date-time with its offset.
+pub(crate) const STAMPS: &str = "a date-time with its offset as 2024-02-29T04:30+01:00";
+
+/// How instants are written.
+#[derive(Clone, Copy)]
+pub(crate) enum InstantForm {
+    /// As date-times with their offset.
+    Text,
+    /// As seconds since 1970 in UTC.
+    Seconds,
+}
+
+impl InstantForm {
+    // The form by the options of a command.
+    pub(crate) fn of(words: &Arguments<'_, impl Allocator>) -> InstantForm {
+        if words.has(UNIX) {
+            InstantForm::Seconds
+        } else {
+            InstantForm::Text
+        }
+    }
+
+    // The day, the date-time or the instant that a text names; by seconds an instant alone.
+    pub(crate) fn read(self, text: &[u8]) -> Result<Start, StartError> {
+        match self {
+            InstantForm::Text => read_start(text),
+            InstantForm::Seconds => read_instant(text),
+        }
+    }
+
+    // The answer that is a day, a date-time or an instant.
+    pub(crate) fn reply(self, start: Start) -> Reply {
+        match start {
+            Start::Day(date) => Reply::Date(date),
+            Start::DateTime(moment) => Reply::Moment(moment),
+            Start::Stamp(stamp) => match self {
+                InstantForm::Text => Reply::Stamp(stamp),
+                InstantForm::Seconds => Reply::Number(Key::Unix, stamp.timestamp()),
+            },
+        }
+    }
+
+    // That there is no date-time.
+    pub(crate) fn no_moment(self) -> Reply {
+        match self {
+            InstantForm::Text => Reply::Nothing(Key::Moment),
+            InstantForm::Seconds => Reply::Nothing(Key::Unix),
+        }
+    }
+}
+
 // That a word cannot be read where something was expected.
 fn unread<'a>(word: Word<'a>, error: ReadError, what: &'static str) -> Fault<'a> {
     Fault::Word(word, Cause::Unread(error, what))
 }
 
-// The day or the date-time that a word names, where that is expected.
-pub(crate) fn start_as<'a>(word: Word<'a>, what: &'static str) -> Result<Start, Fault<'a>> {
-    match read_start(word.text.as_bytes()) {
+// The day, the date-time or the instant that a word names, where that is expected.
+pub(crate) fn start_as<'a>(
+    form: InstantForm,
+    word: Word<'a>,
+    what: &'static str,
+) -> Result<Start, Fault<'a>> {
+    match form.read(word.text.as_bytes()) {
         Ok(start) => Ok(start),
         Err(error) => match error {
             StartError::NoDay(error) => Err(Fault::NoDay(word, error)),
             StartError::Unread(error) => Err(unread(word, error, what)),
+            StartError::NotOnce => Err(Fault::NotOnce(word)),
         },
     }
 }
 
-// The day or the date-time that a word names.
-pub(crate) fn start_of<'a>(word: Word<'a>) -> Result<Start, Fault<'a>> {
-    start_as(
-        word,
-        "a day as 2024-02-29 or a date-time as 2024-02-29T04:30",
-    )
+// The day, the date-time or the instant that a word names.
+pub(crate) fn start_of<'a>(form: InstantForm, word: Word<'a>) -> Result<Start, Fault<'a>> {
+    let what = match form {
+        InstantForm::Text => "a day as 2024-02-29 or a date-time as 2024-02-29T04:30",
+        InstantForm::Seconds => "seconds since 1970 as 1709204400, or a date-time with its offset",
+    };
+    start_as(form, word, what)
 }
 
 // The day that a word names.
 pub(crate) fn day_of<'a>(word: Word<'a>) -> Result<NaiveDate, Fault<'a>> {
-    match value!(start_as(word, DAYS)) {
+    match value!(start_as(InstantForm::Text, word, DAYS)) {
         Start::Day(date) => Ok(date),
-        Start::DateTime(_) => Err(Fault::expected(word, DAYS)),
+        Start::DateTime(_) | Start::Stamp(_) => Err(Fault::expected(word, DAYS)),
     }
 }
 
-// The date-time that a word names.
-pub(crate) fn moment_of<'a>(word: Word<'a>) -> Result<NaiveDateTime, Fault<'a>> {
-    match read_moment(word.text.as_bytes()) {
-        Ok(moment) => Ok(moment),
-        Err(error) => Err(unread(word, error, MOMENTS)),
+// The date-time or the instant that a word names.
+pub(crate) fn moment_of<'a>(form: InstantForm, word: Word<'a>) -> Result<Start, Fault<'a>> {
+    match form {
+        InstantForm::Text => match read_moment(word.text.as_bytes()) {
+            Ok(moment) => Ok(moment),
+            Err(error) => Err(unread(word, error, MOMENTS)),
+        },
+        InstantForm::Seconds => start_of(form, word),
     }
 }
 

@@ -9,6 +9,8 @@ use Rattle.chrono_datetime.specs.Fields.{unix_epoch_day}
 use Rattle.chrono_datetime.specs.MomentText.{moment_text}
 use Rattle.chrono_datetime.specs.Text.{duration_text}
 use Rattle.chrono_datetime.specs.Weeks.{weekday_of}
+use Rattle.chrono_instant.specs.Offsets.{moment_ahead}
+use Rattle.chrono_zoned.specs.ZonedText.{zoned_debug_text}
 use Rattle.dates_answer.specs.declared.form.OutputForm.{OutputForm}
 use Rattle.dates_answer.specs.declared.form.OutputForm.TheVariants as forms
 use Rattle.dates_answer.specs.DayNames.{names_text, ordinal_name, week_name}
@@ -31,6 +33,7 @@ key_text keys.OpenDays = codes "open_days"
 key_text keys.Open = codes "open"
 key_text keys.Leap = codes "leap"
 key_text keys.Weekday = codes "weekday"
+key_text keys.Unix = codes "unix"
 
 -- months and days, as `2m 3d`: one that is 0 is left out, and both are `0d`
 unfoldable pub months_days_text : ℤ → ℤ → List ℕ
@@ -52,6 +55,7 @@ reply_text (replies.Names n) = names_text n
 reply_text (replies.Date n) = date_text n
 reply_text (replies.Weekday day) = weekday_name day
 reply_text (replies.Moment m) = moment_text (byte "T") m
+reply_text (replies.Stamp it) = zoned_debug_text (moment_ahead it.utc it.zone) it.zone
 reply_text (replies.Duration x) = duration_text x
 reply_text (replies.Number key z) = signed_decimal z
 reply_text (replies.Whether key holds) = if holds then codes "yes" else codes "no"
@@ -80,6 +84,7 @@ reply_object (replies.Names n) = names_object n
 reply_object (replies.Date n) = codes "{\"date\":\"" ++ (date_text n ++ codes "\"}")
 reply_object (replies.Weekday day) = codes "{\"weekday\":\"" ++ (weekday_name day ++ codes "\"}")
 reply_object (replies.Moment m) = codes "{\"moment\":\"" ++ (moment_text (byte "T") m ++ codes "\"}")
+reply_object (replies.Stamp it) = codes "{\"moment\":\"" ++ (zoned_debug_text (moment_ahead it.utc it.zone) it.zone ++ codes "\"}")
 reply_object (replies.Duration x) = codes "{\"duration\":\"" ++ (duration_text x ++ codes "\"}")
 reply_object (replies.Number key z) = codes "{\"" ++ (key_text key ++ (codes "\":" ++ (signed_decimal z ++ codes "}")))
 reply_object (replies.Whether key holds) = codes "{\"" ++ (key_text key ++ (codes "\":" ++ ((if holds then codes "true" else codes "false") ++ codes "}")))

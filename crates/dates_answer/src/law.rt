@@ -3,9 +3,11 @@ ghost use Rattle.std.specs.Prelude.{◌≡◌, ◌∷◌, [], ℤ, pos, neg_ℤ,
 ghost use Rattle.chrono_datetime.specs.declared.Weekday.TheVariants.{Mon, Sun};
 ghost use Rattle.chrono_datetime.specs.WeekdaySet.{no_days};
 ghost use Rattle.chrono_business.specs.OpenDays.{closed};
+ghost use Rattle.chrono_clock.specs.Time.{time_at};
+ghost use Rattle.chrono_datetime.specs.Moment.{moment};
 ghost use Rattle.dates_answer.specs.declared.span.Unit.TheVariants.{Days, Months, Weeks, Years};
 ghost use Rattle.dates_answer.specs.declared.form.OutputForm.TheVariants.{Text, Json};
-ghost use Rattle.dates_answer.specs.declared.line.Reply.TheVariants.{Date, Names, Nothing, Number, Parts, Week, Whether};
+ghost use Rattle.dates_answer.specs.declared.line.Reply.TheVariants.{Date, Names, Nothing, Number, Parts, Stamp, Week, Whether};
 ghost use Rattle.dates_answer.specs.declared.line.Key.TheVariants as keys;
 ghost use Rattle.dates_answer.specs.declared.parts.Parts as parts;
 ghost use Rattle.dates_answer.specs.DayNames.{names_text};
@@ -52,8 +54,8 @@ pub fn known_names()
 
 /// States known lines of answers.
 ///
-/// As text: a week, years and days without months, years and months without days, no days, and `yes`. As JSON: a date, a number, a day by its names, no answer, and a
-/// day of a sheet.
+/// As text: a week, years and days without months, years and months without days, no days, and `yes`. As JSON: a date, a number, a day by its names, no answer, an
+/// instant of an offset behind UTC, and a day of a sheet.
 pub fn known_lines()
     ensures week { line_text Text (Week (pos 1) (pos 7)) ≡ codes "0001-01-01 0001-01-07" }
     ensures parts { line_text Text (Parts (record { years = pos 1; months = pos 0; days = pos 3 })) ≡ codes "1y 3d" }
@@ -65,6 +67,8 @@ pub fn known_lines()
     ensures names { line_text Json (Names (pos 1))
         ≡ codes "{\"date\":\"0001-01-01\",\"ordinal\":\"0001-001\",\"week\":\"0001-W01-1\",\"weekday\":\"Monday\",\"day_number\":1,\"unix_day\":-719162}" }
     ensures none { line_text Json (Nothing keys.Leap) ≡ codes "{\"leap\":null}" }
+    ensures stamp { line_text Json (Stamp (record { utc = moment (pos 1) (time_at 2 0 0 0); zone = neg_ℤ (pos 3_600) }))
+        ≡ codes "{\"moment\":\"0001-01-01T01:00:00-01:00\"}" }
     ensures day_of_sheet { day_object (pos 1) false ≡ codes "{\"date\":\"0001-01-01\",\"week\":\"0001-W01-1\",\"weekday\":\"Monday\",\"open\":false}" }
 {}
 

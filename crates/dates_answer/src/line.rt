@@ -7,6 +7,7 @@ use crate::form::OutputForm;
 use crate::names::{DayNames, OrdinalName, WeekName};
 use crate::parts::Parts;
 use chrono_datetime::{Datelike, NaiveDate, NaiveDateTime, TimeDelta, Weekday};
+use chrono_zoned::{DateTime, FixedOffset};
 use std::fmt;
 
 /// The key under which an object of JSON has an answer.
@@ -34,6 +35,8 @@ pub enum Key {
     Leap,
     /// A weekday.
     Weekday,
+    /// An instant in seconds since 1970 in UTC.
+    Unix,
 }
 
 /// What a line says.
@@ -47,6 +50,8 @@ pub enum Reply {
     Weekday(Weekday),
     /// A date-time.
     Moment(NaiveDateTime),
+    /// A date-time with its offset.
+    Stamp(DateTime<FixedOffset>),
     /// How long it is between two date-times.
     Duration(TimeDelta),
     /// A number of what the key says.
@@ -179,6 +184,7 @@ fn write_text<W: fmt::Write>(reply: &Reply, f: &mut fmt::Formatter<W>) -> fmt::R
         Reply::Date(date) => write!(f, "{date}"),
         Reply::Weekday(day) => f.write_str(day.name()),
         Reply::Moment(moment) => write!(f, "{moment:?}"),
+        Reply::Stamp(stamp) => write!(f, "{stamp:?}"),
         Reply::Duration(duration) => write!(f, "{duration}"),
         Reply::Number(_, number) => write!(f, "{number}"),
         Reply::Whether(_, true) => f.write_str("yes"),
@@ -202,6 +208,7 @@ fn write_object<W: fmt::Write>(reply: &Reply, f: &mut fmt::Formatter<W>) -> fmt:
         Reply::Date(date) => write!(f, "{{\"date\":\"{date}\"}}"),
         Reply::Weekday(day) => write!(f, "{{\"weekday\":\"{}\"}}", day.name()),
         Reply::Moment(moment) => write!(f, "{{\"moment\":\"{moment:?}\"}}"),
+        Reply::Stamp(stamp) => write!(f, "{{\"moment\":\"{stamp:?}\"}}"),
         Reply::Duration(duration) => write!(f, "{{\"duration\":\"{duration}\"}}"),
         Reply::Number(key, number) => write!(f, "{{\"{key}\":{number}}}"),
         Reply::Whether(key, yes) => write!(f, "{{\"{key}\":{yes}}}"),
@@ -281,5 +288,6 @@ fn key_name(key: Key) -> &'static str
         Key::Open => "open",
         Key::Leap => "leap",
         Key::Weekday => "weekday",
+        Key::Unix => "unix",
     }
 }

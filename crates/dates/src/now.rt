@@ -1,0 +1,57 @@
+//! What time it is.
+
+use crate::prelude::*;
+use crate::texts::{Start, instant_at};
+use crate::values::InstantForm;
+use crate::zoned::{IN_ZONE, ZONES, shown_in, zone_of};
+use chrono_zoned::{DateTime, FixedOffset, Timestamp};
+use std::time::SystemTime;
+
+// The command that prints the day alone.
+const TODAY: &str = "today";
+
+pub(crate) fn now() -> CommandRow {
+    CommandRow {
+        name: "now",
+        operands: &[],
+        options: &[IN_ZONE, UNIX, JSON, HELP],
+        help: "print what time it is, to the second",
+        more: ZONES,
+        example: "$ dates now --zone UTC | cut -c 20-\n\
+            +00:00",
+    }
+}
+
+pub(crate) fn today() -> CommandRow {
+    CommandRow {
+        name: TODAY,
+        operands: &[],
+        options: &[IN_ZONE, JSON, HELP],
+        help: "print what day it is",
+        more: ZONES,
+        example: "$ dates today --zone Asia/Tokyo | wc -c\n\
+            11",
+    }
+}
+
+// The day, or the second, that the zone's clock shows now; the exit status.
+pub(crate) fn answer<'a>(rt: &impl Host, asked: &mut Asked<'a, impl Allocator>) -> Answered<'a> {
+    let zone = value!(zone_of(rt, asked.option(IN_ZONE)));
+    let shown = match second_of(SystemTime::now(rt)?) {
+        Some(stamp) => shown_in(&zone, stamp),
+        None => None,
+    };
+    let instants = InstantForm::of(&asked.words);
+    match shown {
+        Some(stamp) if asked.command == TODAY => {
+            asked.print(rt, Reply::Date(stamp.naive_local().date()))
+        }
+        Some(stamp) => asked.print(rt, instants.reply(Start::Stamp(stamp))),
+        None => asked.print(rt, asked.none),
+    }
+}
+
+// The second of a reading of the clock.
+fn second_of(time: SystemTime) -> Option<DateTime<FixedOffset>> {
+    instant_at(DateTime::from_system_time(time)?.timestamp())
+}

@@ -1,0 +1,124 @@
+//! When a time zone's clock is set.
+
+use crate::prelude::*;
+use crate::texts::instant_at;
+use crate::values::year_of;
+use crate::zoned::{ZONE, ZONES, print_in, shown_in, zone_of};
+use chrono_datetime::Datelike;
+use dates_answer::Quoted;
+use std::fmt;
+use zone_database::OwnedZone;
+
+const OF_YEAR: Opt = Opt {
+    name: "--year",
+    value: "YEAR",
+    help: "of which year (default: all, and the rule behind them)",
+    ..OPTION
+};
+
+pub(crate) fn command() -> CommandRow {
+    CommandRow {
+        name: "zone",
+        operands: &[ZONE],
+        options: &[OF_YEAR, JSON, HELP],
+        help: "print when a time zone's clock is set",
+        more: ZONES,
+        example: "$ dates zone Europe/Berlin --year 2024\n\
+            2024-03-31T03:00:00+02:00 CEST\n\
+            2024-10-27T02:00:00+01:00 CET",
+    }
+}
+
+// What the clock shows whenever it is set, a line each, and its rule behind them; the exit status.
+pub(crate) fn answer<'a>(rt: &impl Host, asked: &mut Asked<'a, impl Allocator>) -> Answered<'a> {
+    asked.none = Reply::Nothing(Key::Moment);
+    let year = match asked.words.value(OF_YEAR) {
+        Some(word) => Some(value!(year_of(word))),
+        None => None,
+    };
+    let zone = value!(zone_of(rt, asked.word(0)));
+    let mut status = NONE;
+    for row in zone.rows() {
+        status = status.min(value!(print_set(rt, asked, &zone, row.second, year)));
+    }
+    match year {
+        Some(year) => {
+            status = status.min(value!(print_by_rule(rt, asked, &zone, year)));
+        }
+        None => {
+            let (form, rule) = (asked.form, zone.rule_text());
+            if !rule.is_empty() {
+                println!(rt; "{}", RuleLine { form, rule })?;
+                status = ANSWERED;
+            }
+        }
+    }
+    if status == NONE {
+        return asked.print(rt, asked.none);
+    }
+    Ok(status)
+}
+
+// Prints what the clock shows when it is set at that second, unless that lies in another year than is asked for; the exit status.
+fn print_set<'a, A: Allocator>(
+    rt: &impl Print,
+    asked: &Asked<'a, impl Allocator>,
+    zone: &OwnedZone<A>,
+    second: i64,
+    year: Option<i32>,
+) -> Answered<'a> {
+    let Some(stamp) = instant_at(second) else {
+        return Ok(NONE);
+    };
+    let Some(shown) = shown_in(zone, stamp) else {
+        return Ok(NONE);
+    };
+    match year {
+        Some(year) if shown.naive_local().date().year() != year => Ok(NONE),
+        _ => print_in(rt, asked, zone, stamp),
+    }
+}
+
+// Prints what the clock shows when the rule sets it in a year, behind all rows; the exit status.
+fn print_by_rule<'a, A: Allocator>(
+    rt: &impl Print,
+    asked: &Asked<'a, impl Allocator>,
+    zone: &OwnedZone<A>,
+    year: i32,
+) -> Answered<'a> {
+    let mut status = NONE;
+    let Some((begins, ends)) = rule_changes(zone, year) else {
+        return Ok(status);
+    };
+    let last = match zone.rows().last() {
+        Some(row) => row.second,
+        None => i64::MIN,
+    };
+    for second in [begins.min(ends), begins.max(ends)] {
+        if last < second {
+            status = status.min(value!(print_set(rt, asked, zone, second, Some(year))));
+        }
+    }
+    Ok(status)
+}
+
+// When the rule sets the clock in a year, ahead and back.
+fn rule_changes<A: Allocator>(zone: &OwnedZone<A>, year: i32) -> Option<(i64, i64)> {
+    zone.rule()?.changes_in(year)
+}
+
+/// A line of the rule by which a zone's clock is set in the years to come.
+#[derive(Clone, Copy)]
+pub struct RuleLine<'a> {
+    pub form: OutputForm,
+    pub rule: &'a str,
+}
+
+impl fmt::Display for RuleLine<'_> {
+    fn fmt<W: fmt::Write>(&self, f: &mut fmt::Formatter<W>) -> fmt::Result {
+        match self.form {
+            OutputForm::Text => f.write_str(self.rule),
+            OutputForm::Json => write!(f, "{{\"rule\":{}}}", Quoted { text: self.rule }),
+        }
+    }
+}

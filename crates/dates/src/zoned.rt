@@ -1,0 +1,199 @@
+//! Time zones, and date-times as their clocks show them.
+
+use crate::prelude::*;
+use crate::texts::{Start, StartError};
+use crate::values::{InstantForm, start_as, start_of};
+use chrono_datetime::{NaiveDate, NaiveDateTime, TimeDelta};
+use chrono_zoned::{DateTime, FixedOffset, InZone, MappedLocalTime, Timestamp};
+use dates_answer::Quoted;
+use std::fmt;
+use std::io;
+use zone_database::{OwnedZone, ZoneError, local_zone, system_database};
+
+/// The name of a time zone.
+pub(crate) const ZONE: Operand = Operand {
+    name: "ZONE",
+    ..OPERAND
+};
+
+/// `--zone`.
+pub(crate) const IN_ZONE: Opt = Opt {
+    name: "--zone",
+    value: "ZONE",
+    default: LOCAL,
+    help: "in which time zone (default: local)",
+    ..OPTION
+};
+
+/// `--zone` of a command that moves date-times.
+pub(crate) const ZONED: Opt = Opt {
+    default: "",
+    help: "a date-time without offset is local time of this zone",
+    ..IN_ZONE
+};
+
+/// What a zone is, as helps say it.
+pub(crate) const ZONES: &str = "A ZONE is a name of the time zone database, as Europe/Berlin, or local, which is\n\
+    the machine's own: that of TZ in the environment, or else of /etc/localtime.";
+
+// The name of the machine's own zone.
+const LOCAL: &str = "local";
+
+// The zone that a word names.
+pub(crate) fn zone_of<'a, R: Host>(rt: &R, word: Word<'a>) -> Result<OwnedZone<R::A>, Fault<'a>> {
+    match read_zone(rt, word.text) {
+        Ok(zone) => Ok(zone),
+        Err(ZoneError::OutOfMemory) => Err(Fault::Failed(io::Error::from(io::ErrorKind::OutOfMemory))),
+        Err(error) => Err(Fault::Zone(word, error)),
+    }
+}
+
+// The zone of a name.
+fn read_zone<R: Host>(rt: &R, name: &str) -> Result<OwnedZone<R::A>, ZoneError> {
+    if name == LOCAL {
+        return Ok(local_zone(rt)?.zone);
+    }
+    system_database(rt)?.zone(rt, name)
+}
+
+/// How a command reads, moves and writes instants: in a zone, if one is named.
+#[derive(Drop)]
+pub(crate) struct Instants<A: Allocator> {
+    pub form: InstantForm,
+    zone: Option<OwnedZone<A>>,
+}
+
+// How a command takes instants, by its options.
+pub(crate) fn instants_by<'a, R: Host>(
+    rt: &R,
+    asked: &Asked<'a, impl Allocator>,
+) -> Result<Instants<R::A>, Fault<'a>> {
+    let form = InstantForm::of(&asked.words);
+    let zone = match asked.words.value(ZONED) {
+        Some(word) => Some(value!(zone_of(rt, word))),
+        None => None,
+    };
+    Ok(Instants { form, zone })
+}
+
+impl<A: Allocator> Instants<A> {
+    // What a text names: a date-time without offset is an instant of the zone.
+    pub(crate) fn read(&self, text: &[u8]) -> Result<Start, StartError> {
+        let start = self.form.read(text)?;
+        self.placed(start).ok_or(StartError::NotOnce)
+    }
+
+    // The day, the date-time or the instant as the zone's clock shows it, if it shows it once.
+    pub(crate) fn placed(&self, start: Start) -> Option<Start> {
+        match (&self.zone, start) {
+            (Some(zone), Start::DateTime(local)) => {
+                Some(Start::Stamp(instants_of_local(zone, local).single()?))
+            }
+            (Some(zone), Start::Stamp(stamp)) => Some(Start::Stamp(shown_in(zone, stamp)?)),
+            _ => Some(start),
+        }
+    }
+
+    // What a word names, where that is expected.
+    pub(crate) fn start_as<'a>(
+        &self,
+        word: Word<'a>,
+        what: &'static str,
+    ) -> Result<Start, Fault<'a>> {
+        let start = value!(start_as(self.form, word, what));
+        self.placed(start).ok_or(Fault::NotOnce(word))
+    }
+
+    // What a word names.
+    pub(crate) fn start_of<'a>(&self, word: Word<'a>) -> Result<Start, Fault<'a>> {
+        let start = value!(start_of(self.form, word));
+        self.placed(start).ok_or(Fault::NotOnce(word))
+    }
+
+    // Another day at the same time of day, where there is one.
+    pub(crate) fn on(&self, start: Start, date: NaiveDate) -> Option<Start> {
+        let local = NaiveDateTime::new(date, start.local().time());
+        if self.zone.is_some() && start.has_offset() {
+            self.placed(Start::DateTime(local))
+        } else {
+            start.at(local)
+        }
+    }
+
+    // The date-time or the instant that lies a time away; nothing from a day.
+    pub(crate) fn later(&self, start: Start, by: Option<TimeDelta>) -> Option<Start> {
+        match start {
+            Start::Day(_) => None,
+            Start::DateTime(moment) => Some(Start::DateTime(moment.checked_add_signed(by?)?)),
+            Start::Stamp(stamp) => self.placed(Start::Stamp(stamp.checked_add_signed(by?)?)),
+        }
+    }
+}
+
+// The instants at which a zone's clock shows a date-time; of an instant itself.
+pub(crate) fn instants_of<A: Allocator>(
+    zone: &OwnedZone<A>,
+    start: Start,
+) -> MappedLocalTime<DateTime<FixedOffset>> {
+    match start {
+        Start::Stamp(stamp) => MappedLocalTime::Single(stamp),
+        _ => instants_of_local(zone, start.local()),
+    }
+}
+
+fn instants_of_local<A: Allocator>(
+    zone: &OwnedZone<A>,
+    local: NaiveDateTime,
+) -> MappedLocalTime<DateTime<FixedOffset>> {
+    let lent = zone.zone();
+    match (&lent).from_local_datetime(&local) {
+        MappedLocalTime::None => MappedLocalTime::None,
+        MappedLocalTime::Single(only) => MappedLocalTime::Single(only.fixed_offset()),
+        MappedLocalTime::Ambiguous(earlier, later) => {
+            MappedLocalTime::Ambiguous(earlier.fixed_offset(), later.fixed_offset())
+        }
+    }
+}
+
+// What a zone's clock shows at an instant.
+pub(crate) fn shown_in<A: Allocator>(
+    zone: &OwnedZone<A>,
+    stamp: DateTime<FixedOffset>,
+) -> Option<DateTime<FixedOffset>> {
+    let lent = zone.zone();
+    Some(stamp.checked_with_timezone(&&lent)?.fixed_offset())
+}
+
+// Prints what a zone's clock shows at an instant, and the name of its time there; the exit status.
+pub(crate) fn print_in<'a, A: Allocator>(
+    rt: &impl Print,
+    asked: &Asked<'a, impl Allocator>,
+    zone: &OwnedZone<A>,
+    stamp: DateTime<FixedOffset>,
+) -> Answered<'a> {
+    let Some(shown) = shown_in(zone, stamp) else {
+        return asked.print(rt, asked.none);
+    };
+    let form = asked.form;
+    let name = zone.abbreviation(stamp.timestamp()).unwrap_or("");
+    println!(rt; "{}", ZonedLine { form, shown, name })?;
+    Ok(ANSWERED)
+}
+
+/// A line of a date-time with its offset and the name of its zone's time.
+#[derive(Clone, Copy)]
+pub struct ZonedLine<'a> {
+    pub form: OutputForm,
+    pub shown: DateTime<FixedOffset>,
+    pub name: &'a str,
+}
+
+impl fmt::Display for ZonedLine<'_> {
+    fn fmt<W: fmt::Write>(&self, f: &mut fmt::Formatter<W>) -> fmt::Result {
+        let (shown, name) = (self.shown, self.name);
+        match self.form {
+            OutputForm::Text => write!(f, "{shown:?} {name}"),
+            OutputForm::Json => write!(f, "{{\"moment\":\"{shown:?}\",\"name\":{}}}", Quoted { text: name }),
+        }
+    }
+}
