@@ -86,7 +86,7 @@ iso_name-after n y q o f e g past low high =
     (name.0, omega (arith, name.1))
 
 -- the ISO year of a date: of the library's years, or the one after
-last_years : (days_before_year (neg_ℤ (pos 262_143)) ≡ neg_ℤ (pos 95_746_130)) × (days_before_year (pos 262_144) ≡ pos 95_745_764)
+pub last_years : (days_before_year (neg_ℤ (pos 262_143)) ≡ neg_ℤ (pos 95_746_130)) × (days_before_year (pos 262_144) ≡ pos 95_745_764)
 last_years = (omega (arith, signed, days_before_year-closed (neg_ℤ (pos 262_143))), omega (arith, signed, days_before_year-closed (pos 262_144)))
 
 -- the first of the dates is a Thursday

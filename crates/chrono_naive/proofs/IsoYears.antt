@@ -11,7 +11,7 @@ use Rattle.chrono_calendar.proofs.Signed.{signed}
 use Rattle.chrono_calendar.proofs.Years.{days_before_year-closed}
 use Rattle.chrono_calendar.proofs.Names.{days_before_year-later, year_length_bounds}
 use Rattle.chrono_calendar.proofs.WeekDays.{weekday_of-previous}
-use Rattle.chrono_calendar.proofs.IsoWeeks.{before_monday, thursday_of_week-monday}
+use Rattle.chrono_calendar.proofs.IsoWeeks.{before_monday, last_years, thursday_of_week-monday}
 use Rattle.chrono_calendar.proofs.IsoDates.{before_monday-bound, day_number_of_iso-place, iso_week_of-bounds, thursday-place}
 use Rattle.chrono_calendar.proofs.GivenNames.{weeks_of_iso_year-range}
 
@@ -53,9 +53,6 @@ if_before (Some e) y w m one monday year week weekday = year_before e (e -ℤ po
 place : (y : ℤ) → day_number_of_iso y 1 1 ≡ days_before_year y +ℤ pos 4 -ℤ pos (before_monday y)
 place y = omega (arith, signed, day_number_of_iso-place y 1 Mon)
 
-first_year : days_before_year (neg_ℤ (pos 262_143)) ≡ neg_ℤ (pos 95_746_130)
-first_year = omega (arith, signed, days_before_year-closed (neg_ℤ (pos 262_143)))
-
 last_year : days_before_year (pos 262_143) ≡ pos 95_745_399
 last_year = omega (arith, signed, days_before_year-closed (pos 262_143))
 
@@ -67,7 +64,7 @@ in_last_year y e =
 
 in_first_year : (y : ℤ) → y ≡ neg_ℤ (pos 262_143) → day_number_of_iso y 1 1 ≡ neg_ℤ (pos 95_746_132)
 in_first_year y e =
-    let before : days_before_year y ≡ neg_ℤ (pos 95_746_130) = ap days_before_year e ∙ first_year in
+    let before : days_before_year y ≡ neg_ℤ (pos 95_746_130) = ap days_before_year e ∙ last_years.0 in
     let wednesday : days_from_sunday_of (days_before_year y) ≡ 3 = ap days_from_sunday_of before in
     omega (arith, signed, place y, before, wednesday)
 
@@ -76,7 +73,7 @@ is_date y low high =
     let first = days_before_year-later (neg_ℤ (pos 262_143)) y low in
     let at = place y in
     let bound = before_monday-bound y in (
-      omega (arith, signed, at, bound, first, first_year, year_length_bounds (neg_ℤ (pos 262_143))),
+      omega (arith, signed, at, bound, first, last_years.0, year_length_bounds (neg_ℤ (pos 262_143))),
       by_lt_z y (pos 262_143)
           (λ less. omega (arith, signed, at, bound, days_before_year-later y (pos 262_143) less, last_year, year_length_bounds y))
           (λ not_less. omega (arith, signed, in_last_year y (omega (arith, signed, not_less, high)))),
@@ -87,7 +84,7 @@ is_later y date =
     by_lt_z (neg_ℤ (pos 262_143)) y
     (λ less. less)
     (λ not_less. by_lt_z y (neg_ℤ (pos 262_143))
-    (λ before. absurd (omega (arith, signed, place y, date.0, days_before_year-later y (neg_ℤ (pos 262_143)) before, first_year, year_length_bounds y)))
+    (λ before. absurd (omega (arith, signed, place y, date.0, days_before_year-later y (neg_ℤ (pos 262_143)) before, last_years.0, year_length_bounds y)))
     (λ from. absurd (omega (arith, signed, date.0, in_first_year y (omega (arith, signed, not_less, from))))))
 
 is_earlier : (y : ℤ) → IsDate (day_number_of_iso y 1 1) → y ≤ℤ pos 262_143
