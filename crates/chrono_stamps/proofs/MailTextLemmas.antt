@@ -11,7 +11,7 @@ use Rattle.std.specs.List.{prefix_len}
 use Rattle.std.specs.Option.{option_and_then}
 use Rattle.std.specs.Str.{all_ascii_digits}
 use Rattle.chrono_text.proofs.DigitLemmas.{by_size}
-use Rattle.chrono_text.proofs.NaturalLemmas.{number_text-read}
+use Rattle.chrono_text.proofs.NaturalLemmas.{number_text-read, some_if}
 use Rattle.chrono_text.specs.Numbers.{count_of, natural_of, up_to}
 use Rattle.chrono_text.specs.Text.{all_digits, number_text, two_digits}
 use Rattle.chrono_calendar.proofs.NamedDates.{calendar_name-exists, date_of_ymd-again, day_of-small}
@@ -238,9 +238,6 @@ month_read September = refl
 month_read October = refl
 month_read November = refl
 month_read December = refl
-
-some_if : (b : Bool) (v n : ℕ) → b ≡ true → v ≡ n → (if b then Some v else None) ≡ Some n
-some_if b v n e f = rw e (ap Some f)
 
 all_four : (a b c d : ℕ) → 48 ≤ a → a ≤ 57 → 48 ≤ b → b ≤ 57 → 48 ≤ c → c ≤ 57 → 48 ≤ d → d ≤ 57 → all_ascii_digits (a ∷ b ∷ c ∷ d ∷ []) ≡ true
 all_four a b c d h i j k l m n o = grind (arith, nat_tests)

@@ -74,7 +74,7 @@ uncounted (Some n) h = let wrong : ⊥ = cc in absurd wrong
 
 -- ---- a number of one digit or two is read from them
 
-some_if : (b : Bool) (v n : ℕ) → b ≡ true → v ≡ n → (if b then Some v else None) ≡ Some n
+pub some_if : (b : Bool) (v n : ℕ) → b ≡ true → v ≡ n → (if b then Some v else None) ≡ Some n
 some_if b v n e f = rw e (ap Some f)
 
 all_two : (a b : ℕ) → 48 ≤ a → a ≤ 57 → 48 ≤ b → b ≤ 57 → all_ascii_digits (a ∷ b ∷ []) ≡ true

@@ -1,4 +1,4 @@
-//! Numbers as texts with a fixed number of digits.
+//! Numbers as texts with a fixed number of digits, or in one digit or two.
 ghost use Rattle.std.specs.Prelude.{◌≡◌, ◌+◌, ◌/◌, ◌%◌, ◌<◌, ◌≤◌, ◌++◌, length};
 ghost use Rattle.std.specs.Str.{byte};
 ghost use Rattle.chrono_text.specs.Text.{two_digits, all_digits, number_text};
