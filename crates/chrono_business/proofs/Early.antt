@@ -12,7 +12,7 @@ use Rattle.chrono_datetime.proofs.Signed.{signed}
 use Rattle.chrono_datetime.proofs.CountWhere.{one_if}
 use Rattle.chrono_datetime.specs.RisingDates.{AreRising}
 use Rattle.chrono_business.specs.OpenDays.{is_holiday, is_workday}
-use Rattle.chrono_datetime.proofs.RisingLists.{int_eq-other}
+use Rattle.chrono_datetime.proofs.RisingLists.{in_order, int_eq-other}
 
 -- how many days of the list come before t
 unfoldable pub early : List ℤ → ℤ → ℕ
@@ -50,18 +50,10 @@ early-place [] t d (suc j) bound behind ahead = absurd (omega arith)
 early-place (x ∷ xs) t d (suc j) bound behind ahead =
     omega (arith, is_before x t (behind 0 (omega arith)), early-place xs t d j (omega arith) (λ i low. behind (suc i) (omega arith)) (λ i low within. ahead (suc i) (omega arith) (omega arith)))
 
--- no day of a list that rises comes before one in front of it
-pub in_order : (xs : List ℤ) (d : ℤ) (i j k : ℕ) → AreRising xs → i < length xs → i ≡ j + k → slice_index_or xs j d ≤ℤ slice_index_or xs i d
-in_order xs d i j zero rising within e =
-    let same : i ≡ j = omega arith in
-    let here : slice_index_or xs i d ≡ slice_index_or xs j d = ap (λ k. slice_index_or xs k d) same in
-    omega (arith, signed, here)
-in_order xs d i j (suc k) rising within e = omega (arith, signed, rising j i d (omega arith) within)
-
 -- as many come before a day of the list as stand in front of it
 pub early-at : (xs : List ℤ) (d : ℤ) (j : ℕ) → AreRising xs → j < length xs → early xs (slice_index_or xs j d) ≡ j
 early-at xs d j rising within =
-    early-place xs (slice_index_or xs j d) d j (omega arith) (λ i low. rising i j d low within) (λ i low inside. in_order xs d i j (i - j) rising inside (omega arith))
+    early-place xs (slice_index_or xs j d) d j (omega arith) (λ i low. rising i j d low within) (λ i low inside. in_order xs d i j rising (omega arith) inside)
 
 -- a day later a day of the list itself comes before too
 either : (b c : Bool) → b ≡ false → one_if (b || c) ≡ one_if c
@@ -105,7 +97,7 @@ not_counted false n h = refl
 pub holiday_behind : (xs : List ℤ) (t d : ℤ) (j : ℕ) → AreRising xs → j < length xs → ((i : ℕ) → i < j → slice_index_or xs i d <ℤ t) → t <ℤ slice_index_or xs j d → is_holiday xs t ≡ false
 holiday_behind xs t d j rising within behind lt =
     let next : ℤ = t +ℤ pos 1 in
-    let from : (i : ℕ) → j ≤ i → i < length xs → next ≤ℤ slice_index_or xs i d = λ i low inside. omega (arith, signed, lt, in_order xs d i j (i - j) rising inside (omega arith)) in
+    let from : (i : ℕ) → j ≤ i → i < length xs → next ≤ℤ slice_index_or xs i d = λ i low inside. omega (arith, signed, lt, in_order xs d i j rising (omega arith) inside) in
     let here = early-place xs t d j (omega arith) behind (λ i low inside. omega (arith, signed, from i low inside)) in
     let there = early-place xs next d j (omega arith) (λ i low. omega (arith, signed, behind i low)) from in
     not_counted (is_holiday xs t) j (omega (arith, here, there, early-next xs t next rising refl))
@@ -113,8 +105,8 @@ holiday_behind xs t d j rising within behind lt =
 pub holiday_at : (xs : List ℤ) (t d : ℤ) (j : ℕ) → AreRising xs → j < length xs → ((i : ℕ) → i < j → slice_index_or xs i d <ℤ t) → slice_index_or xs j d ≡ t → is_holiday xs t ≡ true
 holiday_at xs t d j rising within behind same =
     let next : ℤ = t +ℤ pos 1 in
-    let here = early-place xs t d j (omega arith) behind (λ i low inside. omega (arith, signed, same, in_order xs d i j (i - j) rising inside (omega arith))) in
-    let before : (i : ℕ) → i < suc j → slice_index_or xs i d <ℤ next = λ i low. omega (arith, signed, same, in_order xs d j i (j - i) rising within (omega arith)) in
+    let here = early-place xs t d j (omega arith) behind (λ i low inside. omega (arith, signed, same, in_order xs d i j rising (omega arith) inside)) in
+    let before : (i : ℕ) → i < suc j → slice_index_or xs i d <ℤ next = λ i low. omega (arith, signed, same, in_order xs d j i rising (omega arith) within) in
     let there = early-place xs next d (suc j) (omega arith) before (λ i low inside. omega (arith, signed, same, rising j i d (omega arith) inside)) in
     counted_once (is_holiday xs t) j (omega (arith, here, there, early-next xs t next rising refl))
 
@@ -148,7 +140,7 @@ is_not_before-from x t h =
 -- those that come before t stand in front
 pub before-in_front : (xs : List ℤ) (t : ℤ) → AreRising xs → IsPartitionedBy (λ h. int_lt h t) xs
 before-in_front xs t rising = λ i j d order within is.
-    let low = in_order xs d j i (j - i) rising within (omega arith) in
+    let low = in_order xs d j i rising (omega arith) within in
     let before = is_before-from (slice_index_or xs j d) t is in
     let lower : slice_index_or xs i d <ℤ t = omega (arith, signed, low, before) in
     grind (arith, signed)

@@ -17,7 +17,8 @@ use Rattle.chrono_datetime.proofs.Signed.{signed}
 use Rattle.chrono_datetime.proofs.CountWhere.{one_if}
 use Rattle.chrono_datetime.specs.RisingDates.{AreRising}
 use Rattle.chrono_business.specs.OpenDays.{AreHolidays, is_holiday, is_workday}
-use Rattle.chrono_business.proofs.Early.{early, early-at, early-next, holiday_behind, in_order, one_if-true, past_place}
+use Rattle.chrono_datetime.proofs.RisingLists.{in_order}
+use Rattle.chrono_business.proofs.Early.{early, early-at, early-next, holiday_behind, one_if-true, past_place}
 
 -- ---- a day put behind so many of a list and turned to its place
 
@@ -208,7 +209,7 @@ no_longer (y ∷ ys) xs up rise all =
     let end : ℤ = last +ℤ pos 1 in
     let within : n < length zs = omega arith in
     let k : ℕ = unsigned_abs (end -ℤ y) in
-    let order : y ≤ℤ last = in_order zs y n 0 n up within (omega arith) in
+    let order : y ≤ℤ last = in_order zs y n 0 up (omega arith) within in
     let here : is_holiday zs last ≡ true = list_any_at (λ h. int_eq h last) zs n y within ((Decides-int_eq last last).1 refl) in
     let none : early zs y ≡ 0 = early-at zs y 0 up (omega arith) in
     omega (arith, early-at zs y n up within, early-next zs last end up refl, one_if-true (is_holiday zs last) here, early-few xs end, early-among zs xs y end k up rise none all (omega (arith, signed, order)))
@@ -222,7 +223,7 @@ too_many zs ys xs place room x w up full rise all here =
 
 pub ranks-rise : (zs : List ℤ) (x : ℤ) → AreRising zs → (i j : ℕ) (d : ℤ) → i ≤ j → j < length zs → ordering_index (int_cmp (slice_index_or zs i d) x) ≤ ordering_index (int_cmp (slice_index_or zs j d) x)
 ranks-rise zs x rising = λ i j d order within.
-    higher (slice_index_or zs i d) (slice_index_or zs j d) (in_order zs d j i (j - i) rising within (omega (arith, order)))
+    higher (slice_index_or zs i d) (slice_index_or zs j d) (in_order zs d j i rising (omega (arith, order)) within)
   where
     higher : (a b : ℤ) → a ≤ℤ b → ordering_index (int_cmp a x) ≤ ordering_index (int_cmp b x)
     higher a b le = grind (arith, signed)

@@ -12,7 +12,8 @@ use Rattle.chrono_datetime.proofs.Signed.{signed}
 use Rattle.chrono_datetime.proofs.CountWhere.{count_where-next, count_where-no_days, count_where-sum, one_if}
 use Rattle.chrono_datetime.proofs.CountBetween.{count_between-empty, count_between-le, count_between-next, count_between-sum, count_between-where}
 use Rattle.chrono_business.specs.OpenDays.{AreHolidays, Closed, IsNthOpenBack, IsNthOpenFrom, is_holiday, is_open, is_workday, open_days, open_days_signed}
-use Rattle.chrono_business.proofs.Early.{early, early-at, early-next, early-none, early-place, holiday_on_workday, in_order, one_if-true}
+use Rattle.chrono_datetime.proofs.RisingLists.{in_order}
+use Rattle.chrono_business.proofs.Early.{early, early-at, early-next, early-none, early-place, holiday_on_workday, one_if-true}
 use Rattle.chrono_business.proofs.Workdays.{no_workdays, workday-weeks, workdays-weeks}
 
 -- ---- counts between days
@@ -80,7 +81,7 @@ at_most_all_dates c (suc j) are bound =
 -- a later holiday has no lower rank
 pub rank-rises : (c : Closed) (d : ℤ) (i j : ℕ) → AreHolidays c.weekend c.holidays → i ≤ j → j < length c.holidays → open_days c first_date (slice_index_or c.holidays i d) ≤ open_days c first_date (slice_index_or c.holidays j d)
 rank-rises c d i j are low within =
-    open-rises c first_date (slice_index_or c.holidays i d) (slice_index_or c.holidays j d) (are.dates i d (omega arith)).0 (in_order c.holidays d j i (j - i) are.rising within (omega arith))
+    open-rises c first_date (slice_index_or c.holidays i d) (slice_index_or c.holidays j d) (are.dates i d (omega arith)).0 (in_order c.holidays d j i are.rising (omega arith) within)
 
 -- ---- the open day of a rank
 
