@@ -1,2 +1,3 @@
 -- Lemmas of this crate's own proofs.
 mod NameLemmas
+mod WrongFiles

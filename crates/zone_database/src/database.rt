@@ -1,5 +1,7 @@
 //! `Database`: a folder with a file for each zone.
-ghost use Rattle.std.specs.Prelude.{◌≤◌, ◌^◌, IfOk, length};
+ghost use Rattle.std.specs.Prelude.{◌≡◌, ◌≤◌, ◌^◌, Err, IfOk, false, length};
+ghost use Rattle.zone_database.specs.Names.{is_zone_name};
+ghost use Rattle.zone_database.specs.declared.error.ZoneError.TheVariants.{NoName};
 
 use crate::error::ZoneError;
 use crate::name::is_zone_name;
@@ -58,7 +60,9 @@ impl<A: Allocator> Database<A> {
     /// let database = Database::new(String::from_str(rt.alloc(), "/no/folder").ok()?);
     /// database.zone(rt, "Europe/Berlin").err() // Some(NoSuchZone)
     /// ```
-    pub fn zone<R: Files + Alloc>(&self, rt: &R, name: &str) -> Result<OwnedZone<R::A>, ZoneError> {
+    pub fn zone<R: Files + Alloc>(&self, rt: &R, name: &str) -> Result<OwnedZone<R::A>, ZoneError>
+        ensures { is_zone_name name.now ≡ false → result ≡ Err NoName }
+    {
         if !is_zone_name(name) {
             return Err(ZoneError::NoName);
         }

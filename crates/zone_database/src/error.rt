@@ -38,6 +38,11 @@ pub enum ZoneError {
 }
 
 impl From<AllocError> for ZoneError {
+    ghost use Rattle.std.specs.Prelude.{◌≡◌};
+    ghost use Rattle.zone_database.specs.declared.error.ZoneError.TheVariants.{OutOfMemory};
+
+    ghost from_gives = { λ _ e. e ≡ OutOfMemory };
+
     fn from(_error: AllocError) -> Self {
         ZoneError::OutOfMemory
     }

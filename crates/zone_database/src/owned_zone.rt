@@ -1,8 +1,9 @@
 //! `OwnedZone`: a zone with the memory for its rows and names.
-ghost use Rattle.std.specs.Prelude.{◌≡◌, IfNone, IfOk, length};
+ghost use Rattle.std.specs.Prelude.{◌≡◌, Option, IfErr, IfNone, IfOk, IfSome, codes, length};
 ghost use Rattle.zone_file.specs.Tables.{AreFileRows};
-ghost use Rattle.zone.specs.Parts.{IsZone};
-ghost use Rattle.zone_database.specs.OwnedZones.{IsFooterOf, IsZoneOfFile, IsZoneOfText};
+ghost use Rattle.zone_rule.specs.declared.rule.ZoneRule.{ZoneRule};
+ghost use Rattle.zone.specs.Parts.{IsFault, IsZone};
+ghost use Rattle.zone_database.specs.OwnedZones.{IsFileError, IsFooterOf, IsRowsError, IsTextError, IsZoneOfFile, IsZoneOfText};
 
 use crate::error::ZoneError;
 use std::alloc::Allocator;
@@ -10,6 +11,7 @@ use std::marker::Model;
 use std::str;
 use zone::{FixedOffset, Row, Zone, ZoneFault, ZoneRule};
 use zone_file::{LocalTimeKind, ZoneFile, ZoneRowsError};
+use zone_text::ZoneTextError;
 
 /// A time zone with its memory: rows, a rule, and the file or the text that they are from. [`zone`](OwnedZone::zone) lends it.
 ///
@@ -45,6 +47,7 @@ impl<A: Allocator> OwnedZone<A> {
     /// # Errors
     ///
     /// Returns an error if the bytes are no TZif file, if a row names no kind of local time, or if rows and rule make up no zone.
+    /// Each error is what it says, so no good file is refused unless memory is short.
     ///
     /// ```
     /// let mut bytes = Vec::new(rt.alloc());
@@ -52,17 +55,27 @@ impl<A: Allocator> OwnedZone<A> {
     /// OwnedZone::from_tzif(rt.alloc(), bytes).err() // Some(File(ZoneFileError { fault: CutOff, byte: 0 }))
     /// ```
     pub fn from_tzif(alloc: A, bytes: Vec<u8, A>) -> Result<OwnedZone<A>, ZoneError>
-        ensures { IfOk result (λ zone. IsZoneOfFile bytes.items zone) }
+        ensures read { IfOk result (λ zone. IsZoneOfFile bytes.items zone) }
+        ensures error { IfErr result (IsFileError bytes.items) }
     {
         let (first, rows, rule) = parts_of_file(alloc, bytes.as_slice())?;
-        checked(first, rows, rule, bytes, true)
+        if let Some(fault) = fault_of(first, rows.as_slice(), &rule) {
+            return Err(ZoneError::Zone(fault));
+        }
+        Ok(OwnedZone {
+            first,
+            rows,
+            rule,
+            source: bytes,
+            is_file: true,
+        })
     }
 
     /// Returns the zone of the rule that `text` writes, such as `EST5EDT,M3.2.0,M11.1.0`. `alloc` gives the memory for its names.
     ///
     /// # Errors
     ///
-    /// Returns an error if `text` writes no rule.
+    /// Returns an error if `text` writes no rule, or if memory is short.
     ///
     /// ```
     /// let zone = OwnedZone::from_posix(rt.alloc(), b"<+0330>-3:30").ok()?;
@@ -72,7 +85,8 @@ impl<A: Allocator> OwnedZone<A> {
     pub fn from_posix(alloc: A, text: &[u8]) -> Result<OwnedZone<A>, ZoneError>
     where
         A: Clone,
-        ensures { IfOk result (λ zone. IsZoneOfText text.now zone) }
+        ensures read { IfOk result (λ zone. IsZoneOfText text.now zone) }
+        ensures error { IfErr result (IsTextError text.now) }
     {
         let rule = match zone_text::read(text) {
             Ok(read) => read.rule,
@@ -80,7 +94,13 @@ impl<A: Allocator> OwnedZone<A> {
         };
         let rows = Vec::new(alloc.clone()?);
         let source = Vec::from_slice(alloc, text)?;
-        checked(rule.standard, rows, Some(rule), source, false)
+        Ok(OwnedZone {
+            first: rule.standard,
+            rows,
+            rule: Some(rule),
+            source,
+            is_file: false,
+        })
     }
 
     /// Returns UTC.
@@ -91,6 +111,7 @@ impl<A: Allocator> OwnedZone<A> {
     pub fn utc(alloc: A) -> Result<OwnedZone<A>, ZoneError>
     where
         A: Clone,
+        ensures { IfOk result (IsZoneOfText (codes "UTC0")) }
     {
         OwnedZone::from_posix(alloc, b"UTC0")
     }
@@ -190,31 +211,10 @@ impl<A: Allocator> OwnedZone<A> {
     }
 }
 
-// The zone of its parts, with what they are from.
-fn checked<A: Allocator>(
-    first: FixedOffset,
-    rows: Vec<Row, A>,
-    rule: Option<ZoneRule>,
-    source: Vec<u8, A>,
-    is_file: bool,
-) -> Result<OwnedZone<A>, ZoneError>
-    ensures { IfOk result (λ zone. zone ≡ record { first = first; rows = rows.items; rule = rule }) }
-{
-    if let Some(fault) = fault_of(first, rows.as_slice(), &rule) {
-        return Err(ZoneError::Zone(fault));
-    }
-    Ok(OwnedZone {
-        first,
-        rows,
-        rule,
-        source,
-        is_file,
-    })
-}
-
 // Why the parts make up no zone.
 fn fault_of(first: FixedOffset, rows: &[Row], rule: &Option<ZoneRule>) -> Option<ZoneFault>
-    ensures { IfNone result (IsZone (record { first = first; rows = rows.now; rule = rule.now })) }
+    ensures zone { IfNone result (IsZone (record { first = first; rows = rows.now; rule = rule.now })) }
+    ensures fault { IfSome result (IsFault (record { first = first; rows = rows.now; rule = rule.now })) }
 {
     match Zone::new(first, rows, *rule) {
         Ok(_) => None,
@@ -227,7 +227,8 @@ fn parts_of_file<A: Allocator>(
     alloc: A,
     bytes: &[u8],
 ) -> Result<(FixedOffset, Vec<Row, A>, Option<ZoneRule>), ZoneError>
-    ensures { IfOk result (λ it. IsZoneOfFile bytes.now (record { first = it.0; rows = it.1.items; rule = it.2 })) }
+    ensures read { IfOk result (λ it. IsZoneOfFile bytes.now (record { first = it.0; rows = it.1.items; rule = it.2 })) }
+    ensures error { IfErr result (IsFileError bytes.now) }
 {
     let file = match zone_file::read(bytes) {
         Ok(file) => file,
@@ -236,7 +237,10 @@ fn parts_of_file<A: Allocator>(
     let Some(kind) = file.kind(0) else {
         return Err(ZoneError::NoFirstKind);
     };
-    let rule = rule_of_footer(file.footer)?;
+    let rule = match rule_of_footer(file.footer) {
+        Ok(rule) => rule,
+        Err(error) => return Err(ZoneError::Rule(error)),
+    };
     let rows = rows_of_file(alloc, &file, kind.offset)?;
     Ok((kind.offset, rows, rule))
 }
@@ -249,6 +253,7 @@ fn rows_of_file<A: Allocator>(
 ) -> Result<Vec<Row, A>, ZoneError>
     ensures count { IfOk result (λ rows. length rows.items ≡ length file.now.places.now) }
     ensures rows { IfOk result (λ rows. AreFileRows file.now.version file.now.times.now file.now.places.now file.now.kinds.now (length file.now.places.now) rows.items) }
+    ensures error { IfErr result (IsRowsError file.now.version file.now.times.now file.now.places.now file.now.kinds.now) }
 {
     let mut rows = vec![in alloc; Row { second: 0, offset }; file.places.len()]?;
     match file.read_rows(rows.as_mut_slice()) {
@@ -260,15 +265,16 @@ fn rows_of_file<A: Allocator>(
 }
 
 // The rule that a footer writes, if it is not empty.
-fn rule_of_footer(footer: &[u8]) -> Result<Option<ZoneRule>, ZoneError>
-    ensures { IfOk result (λ rule. IsFooterOf footer.now rule) }
+fn rule_of_footer(footer: &[u8]) -> Result<Option<ZoneRule>, ZoneTextError>
+    ensures read { IfOk result (λ rule. IsFooterOf footer.now rule) }
+    ensures error { IfErr result (λ _. (rule : Option ZoneRule) → ¬ IsFooterOf footer.now rule) }
 {
     if footer.is_empty() {
         return Ok(None);
     }
     match zone_text::read(footer) {
         Ok(read) => Ok(Some(read.rule)),
-        Err(error) => Err(ZoneError::Rule(error)),
+        Err(error) => Err(error),
     }
 }
 
