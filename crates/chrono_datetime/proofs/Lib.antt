@@ -19,6 +19,7 @@ pub use Rattle.chrono_naive.proofs.Birthdays
 pub use Rattle.chrono_naive.proofs.LastWeekdays
 pub use Rattle.chrono_naive.proofs.DateTextLemmas
 pub use Rattle.chrono_naive.proofs.RisingLists
+pub use Rattle.chrono_naive.proofs.DateListLemmas
 pub mod MonthPlaces
 -- The rest serve this crate's own proofs alone.
 mod ReachLemmas

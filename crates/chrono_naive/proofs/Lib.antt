@@ -14,11 +14,11 @@ pub use Rattle.chrono_calendar.proofs.CountWhere
 pub use Rattle.chrono_calendar.proofs.CountBetween
 pub use Rattle.chrono_calendar.proofs.Birthdays
 pub use Rattle.chrono_calendar.proofs.LastWeekdays
+pub mod DateListLemmas
 pub mod DateTextLemmas
 pub mod RisingLists
 -- The rest serve this crate's own proofs alone.
 mod DayMoves
-mod DateListLemmas
 mod FirstSoon
 mod IsoYears
 mod KnownValues

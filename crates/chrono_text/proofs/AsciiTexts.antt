@@ -5,8 +5,8 @@ use Rattle.std.specs.Str.{IsAscii}
 use Rattle.std.specs.Fmt.{decimal, sign_text}
 use Rattle.std.specs.Int.{is_negative}
 use Rattle.std.specs.Ordering.{int_eq}
-use Rattle.std.proofs.lemmas.Bool.{ltb-true}
 use Rattle.std.proofs.Math.Nat.{mod-lt, one-le-pow, pow-succ'}
+use Rattle.std.proofs.lemmas.Bool.{ltb-true}
 use Rattle.std.proofs.lemmas.Fmt.{IsAscii-decimal}
 use Rattle.std.proofs.lemmas.Nat.{div_below}
 use Rattle.std.proofs.lemmas.Str.{IsAscii-append}
@@ -14,7 +14,7 @@ use Rattle.std.proofs.lemmas.Str.Ascii.{IsAscii-nil, IsAscii-cons}
 use Rattle.chrono_text.proofs.DigitLemmas.{by_size}
 use Rattle.chrono_text.proofs.TextLemmas.{year_text-four, year_text-more}
 use Rattle.chrono_text.specs.Text.{nanos_per_second, number_text, two_digits, all_digits, fraction_digits, fraction_text, subsecond_text, year_digits, year_text, calendar_text, ordinal_text, week_text, week_date_text, clock_text, seconds_text, duration_text}
-use Rattle.std.specs.List.{AllByRecursion}
+use Rattle.std.specs.List.{AllByRecursion, join_with_byte}
 
 -- a text put behind nothing
 pub IsAscii-put : (old new text : List ℕ) → new ≡ old ++ text → old ≡ [] → IsAscii text → IsAscii new
@@ -43,6 +43,14 @@ AreAscii-if false texts others h k = k
 pub AreAscii-append : (texts others : List (List ℕ)) → AreAscii texts → AreAscii others → AreAscii (texts ++ others)
 AreAscii-append [] others h k = k
 AreAscii-append (text ∷ texts) others (first, rest) k = (first, AreAscii-append texts others rest k)
+
+-- texts with a separator between each two
+pub IsAscii-joined : (separator : ℕ) (texts : List (List ℕ)) → separator < 128 → AreAscii texts → IsAscii (join_with_byte separator texts)
+IsAscii-joined separator [] small are = IsAscii-nil
+IsAscii-joined separator (text ∷ []) small are = are.0
+IsAscii-joined separator (text ∷ next ∷ texts) small are =
+    IsAscii-append text (separator ∷ join_with_byte separator (next ∷ texts)) are.0
+    (IsAscii-cons separator (join_with_byte separator (next ∷ texts)) small (IsAscii-joined separator (next ∷ texts) small are.1))
 
 -- a text and one character behind it
 behind_with : (xs : List ℕ) (x : ℕ) → x < 128 → IsAscii xs → IsAscii (xs ++ x ∷ [])

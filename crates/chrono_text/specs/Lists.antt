@@ -1,6 +1,6 @@
 -- Texts that list items between separators.
-use Rattle.std.specs.Prelude.{◌≡◌, ℕ, ◌-◌, ◌==◌, nat_lt, Bool, List, [], ◌∷◌, length, Option, Some, codes, refl}
-use Rattle.std.specs.List.{position_or_len, slice_split}
+use Rattle.std.specs.Prelude.{◌≡◌, ℕ, ◌-◌, ◌==◌, nat_lt, Bool, true, false, List, [], ◌∷◌, length, Option, Some, codes, refl}
+use Rattle.std.specs.List.{join_with_byte, position_or_len, slice_split}
 use Rattle.std.specs.Option.{option_and_then}
 use Rattle.std.specs.Str.{byte}
 
@@ -21,6 +21,15 @@ abbrev pub pieces_behind : ℕ → List ℕ → List (List ℕ)
 pieces_behind separator [] = []
 pieces_behind separator (b ∷ bs) = pieces separator bs
 
+-- a text has a byte
+abbrev pub is_some_text : List ℕ → Bool
+is_some_text [] = false
+is_some_text (b ∷ bs) = true
+
+-- items with a comma between each two
+abbrev pub list_text : List (List ℕ) → List ℕ
+list_text items = join_with_byte (byte ",") items
+
 -- what a step makes of each piece in turn, from a value on; None if it makes nothing of one
 abbrev pub through : {S : Type 0} → (S → List ℕ → Option S) → S → List (List ℕ) → Option S
 through step s [] = Some s
@@ -38,3 +47,6 @@ pieces-two = refl
 
 pieces-empty : pieces (byte ",") (codes "1,,") ≡ codes "1" ∷ [] ∷ [] ∷ []
 pieces-empty = refl
+
+list_text-two : list_text (codes "MO" ∷ codes "TU" ∷ []) ≡ codes "MO,TU"
+list_text-two = refl
