@@ -8,7 +8,7 @@ use Rattle.std.proofs.lemmas.Bool.{and_parts, cases_eq, cases_lt, eq-eqb, eqb-fa
 use Rattle.std.proofs.lemmas.Nat.{leading_top, pow_pos}
 use Rattle.std.proofs.lemmas.Nat.Bits.{bit_at-lt, bit_at-zero, bit_at_above, bit_at_cat_low, bit_at_or, bit_at-pow_same, bit_at-pow_other, same_from_bits}
 use Rattle.chrono_sets.specs.Numbers.{Numbers, are_below, has, no_numbers, is_empty, lies_within, with_all, with_number, numbers}
-use Rattle.std.proofs.Math.Bool.{or-false, or-true}
+use Rattle.std.proofs.Math.Bool.{or-false, or-true, or_assoc}
 use Rattle.chrono_sets.proofs.Digits.{has_one, top_digit}
 
 -- two sets with the same members are one
@@ -47,10 +47,6 @@ unfolding has
 has-with_number s n k =
     one_max (bit_at s.code k) (bit_at (2 ^ n) k) (bit_at (bit_or s.code (2 ^ n)) k) (bit_at-lt s.code k) (bit_at-lt (2 ^ n) k) (bit_at_or s.code (2 ^ n) k)
     ∙ ap (λ b. (bit_at s.code k == 1) || b) (one_power n k)
-
-or_assoc : (a b c : Bool) → ((a || b) || c) ≡ (a || (b || c))
-or_assoc true b c = refl
-or_assoc false b c = refl
 
 -- the members of the set of a list
 has-with_all : (s : Numbers) (ns : List ℕ) (k : ℕ) → has (with_all s ns) k ≡ (has s k || list_any (λ n. k == n) ns)
