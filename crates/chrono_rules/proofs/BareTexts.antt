@@ -5,7 +5,7 @@ use Rattle.std.proofs.lemmas.Bool.{and_parts, and_right, false≢true}
 use Rattle.std.specs.Cmp.Derive.{both_true}
 use Rattle.chrono_rules.specs.RuleErrors.{frequency_text}
 use Rattle.chrono_rules.specs.RuleTexts.{IsRuleText, behind_property, ends_with_semicolon, is_named, is_part, parts, rule_body, without_semicolon}
-use Rattle.chrono_text.specs.Lists.{pieces}
+use Rattle.chrono_text.specs.Lists.{pieces, is_some_text}
 use Rattle.chrono_rules.specs.WrittenRules.{later_parts, rule_text}
 use Rattle.chrono_rules.specs.declared.rule.Frequency.{Frequency}
 use Rattle.chrono_rules.specs.declared.rule.Frequency.TheVariants.{Daily, Monthly, Weekly, Yearly}
@@ -30,27 +30,23 @@ written_front r = no_property r.frequency (later_parts r)
 
 -- ---- at the end
 
-abbrev is_some_piece : List ℕ → Bool
-is_some_piece [] = false
-is_some_piece (b ∷ bs) = true
-
 -- of the pieces behind the first none is empty
 abbrev are_some_behind : List (List ℕ) → Bool
 are_some_behind [] = true
-are_some_behind (p ∷ ps) = list_all is_some_piece ps
+are_some_behind (p ∷ ps) = list_all is_some_text ps
 
-part_some : (p : List ℕ) → is_part p ≡ true → is_some_piece p ≡ true
+part_some : (p : List ℕ) → is_part p ≡ true → is_some_text p ≡ true
 part_some [] is = absurd (false≢true is)
 part_some (b ∷ bs) is = refl
 
-all_some : (ps : List (List ℕ)) → list_all is_part ps ≡ true → list_all is_some_piece ps ≡ true
+all_some : (ps : List (List ℕ)) → list_all is_part ps ≡ true → list_all is_some_text ps ≡ true
 all_some [] is = refl
 all_some (p ∷ ps) is =
     both_true (part_some p (and_parts (is_part p) (list_all is_part ps) is).0) (all_some ps (and_parts (is_part p) (list_all is_part ps) is).1)
 
-some_behind : (ps : List (List ℕ)) → list_all is_some_piece ps ≡ true → are_some_behind ps ≡ true
+some_behind : (ps : List (List ℕ)) → list_all is_some_text ps ≡ true → are_some_behind ps ≡ true
 some_behind [] is = refl
-some_behind (p ∷ ps) is = (and_parts (is_some_piece p) (list_all is_some_piece ps) is).1
+some_behind (p ∷ ps) is = (and_parts (is_some_text p) (list_all is_some_text ps) is).1
 
 -- a byte in front of pieces, or an empty piece where the byte is the separator
 abbrev begun : Bool → ℕ → List (List ℕ) → List (List ℕ)
@@ -58,7 +54,7 @@ begun t b ps = cond t ([] ∷ ps) (onto_first b ps)
 
 behind_begun : (t : Bool) (b : ℕ) (ps : List (List ℕ)) → are_some_behind (begun t b ps) ≡ true → are_some_behind ps ≡ true
 behind_begun true b [] is = refl
-behind_begun true b (p ∷ ps) is = (and_parts (is_some_piece p) (list_all is_some_piece ps) is).1
+behind_begun true b (p ∷ ps) is = (and_parts (is_some_text p) (list_all is_some_text ps) is).1
 behind_begun false b [] is = refl
 behind_begun false b (p ∷ ps) is = is
 

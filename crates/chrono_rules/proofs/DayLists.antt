@@ -1,6 +1,8 @@
 -- Of all dates from a day on, those that pass a test.
 use Rattle.std.proofs.Common.{◌≡◌, ℕ, zero, suc, ◌+◌, ◌≤◌, Bool, true, false, cond, List, [], ◌∷◌, length, refl, ap, ◌∙◌, arith, ℤ, pos, ◌+ℤ◌, ◌-ℤ◌, ◌≤ℤ◌, ◌<ℤ◌, unsigned_abs}
 use Rattle.std.specs.Prelude.{filter}
+use Rattle.chrono_datetime.proofs.DateListLemmas.{length-days_from}
+use Rattle.chrono_text.proofs.ListLemmas.{filter-few}
 use Rattle.chrono_datetime.specs.Days.{IsDate}
 use Rattle.chrono_datetime.specs.DateLists.{IsDayCursor, days_from, in_steps}
 use Rattle.chrono_datetime.specs.Recurrence.{dates_left}
@@ -33,15 +35,6 @@ row-found p (suc j) k i n e m count at next is none =
     row-first p false (j + suc k) i n (omega (arith, count)) (none n (omega (arith, signed)) (omega (arith, signed, at)))
     ∙ row-found p j k (j + suc k) (n +ℤ pos 1) e m refl (omega (arith, signed, at)) next is (λ d low high. none d (omega (arith, signed, low)) high)
 
-kept-few : (b : Bool) (x : ℤ) (xs : List ℤ) (k : ℕ) → length xs ≤ k → length (cond b (x ∷ xs) xs) ≤ suc k
-kept-few true x xs k few = omega (arith, few)
-kept-few false x xs k few = omega (arith, few)
-
-row-few : (p : ℤ → Bool) (k : ℕ) (n : ℤ) → length (row p k n) ≤ k
-unfolding row in_steps
-row-few p zero n = omega arith
-row-few p (suc k) n = kept-few (p n) n (filter p (in_steps 1 k (n +ℤ pos 1))) k (row-few p k (n +ℤ pos 1))
-
 -- ---- the dates from a day on
 
 pub days-none : (p : ℤ → Bool) (n : ℤ) → IsDayCursor n → ((d : ℤ) → n ≤ℤ d → IsDate d → p d ≡ false) → filter p (days_from n) ≡ []
@@ -56,5 +49,4 @@ days-first p n e m low is next passes none =
     (omega (arith, signed, low, is.1, next)) (omega (arith, signed, low)) next passes none
 
 pub days-few : (p : ℤ → Bool) (n : ℤ) → length (filter p (days_from n)) ≤ dates_left n
-unfolding days_from row
-days-few p n = row-few p (dates_left n) n
+days-few p n = omega (arith, filter-few p (days_from n), length-days_from n)

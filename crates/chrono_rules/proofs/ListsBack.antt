@@ -13,9 +13,9 @@ use Rattle.chrono_sets.proofs.Members.{has-no_numbers, has-with_number, lies_wit
 use Rattle.chrono_text.specs.Numbers.{digits_of, natural_of}
 use Rattle.chrono_text.proofs.DigitLemmas.{natural_some}
 use Rattle.chrono_rules.specs.NumberLists.{ends_of, from_one, listed_number, month_list_of, no_ends, no_year_ends, signed_number, signed_number_of, with_month_text, with_signed, with_signed_day, with_signed_text, with_year_text, year_ends_of}
-use Rattle.chrono_text.specs.Lists.{through}
+use Rattle.chrono_text.specs.Lists.{through, list_text}
 use Rattle.chrono_rules.specs.WritableRules.{is_from_one_to}
-use Rattle.chrono_rules.specs.WrittenRules.{both_items, item_text, items, list_text}
+use Rattle.chrono_rules.specs.WrittenRules.{both_items, item_text, items}
 use Rattle.chrono_rules.specs.declared.text.list_writer.Naming.{Naming}
 use Rattle.chrono_rules.specs.declared.text.list_writer.Naming.TheVariants.{Number}
 use Rattle.chrono_rules.specs.declared.text.number_list.BothEnds.{BothEnds}

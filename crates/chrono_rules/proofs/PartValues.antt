@@ -4,8 +4,7 @@ use Rattle.std.specs.List.{AllByRecursion, list_all}
 use Rattle.std.proofs.lemmas.Bool.{and_from, and_parts}
 use Rattle.chrono_rules.specs.RuleTexts.{is_named, is_part, said, values}
 use Rattle.chrono_rules.specs.WrittenRules.{part_unless}
-use Rattle.chrono_text.proofs.ListLemmas.{lacks}
-use Rattle.chrono_rules.proofs.WordBytes.{all_of}
+use Rattle.chrono_text.proofs.ListLemmas.{lacks, all_of}
 
 -- a part: whether the rule lacks it, its name, and what stands behind that
 pub record Part : Type 0 where

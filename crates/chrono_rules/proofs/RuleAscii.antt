@@ -3,11 +3,12 @@ use Rattle.std.proofs.Common.{w32, FitsSigned, ◌≡◌, ℕ, zero, suc, ◌+�
 use Rattle.std.specs.Prelude.{codes, pos, negsuc, int_le, ◌&&◌}
 use Rattle.std.proofs.lemmas.Bool.{and_parts, leb-true}
 use Rattle.std.specs.Fmt.{decimal, sign_text}
-use Rattle.std.specs.List.{join_with_byte, list_all}
+use Rattle.std.specs.List.{list_all}
 use Rattle.std.specs.Str.{IsAscii}
 use Rattle.std.proofs.lemmas.Fmt.{IsAscii-decimal, IsAscii-signed}
 use Rattle.std.proofs.lemmas.Str.{IsAscii-append}
 use Rattle.std.proofs.lemmas.Str.Ascii.{IsAscii-nil, IsAscii-cons}
+use Rattle.chrono_text.specs.Lists.{list_text}
 use Rattle.chrono_text.specs.Text.{two_digits}
 use Rattle.chrono_datetime.specs.Names.{weekday_letters}
 use Rattle.chrono_datetime.specs.Weekday.{days_from_monday, weekday_from_monday}
@@ -19,18 +20,14 @@ use Rattle.chrono_rules.specs.declared.text.list_writer.Naming.TheVariants.{Each
 use Rattle.chrono_rules.specs.declared.rule.Rule.{Rule}
 use Rattle.chrono_rules.specs.RuleParts.{lacks_month_days, lacks_months, lacks_positions, lacks_weekdays, lacks_weeks, lacks_year_days}
 use Rattle.chrono_rules.specs.RuleErrors.{frequency_text}
-use Rattle.chrono_rules.specs.WrittenRules.{behind, both_items, end_parts, four_digits, item_at, item_text, items, later_parts, list_parts, list_text, numbered_items, part_unless, rule_text, weekday_items, letters_from_monday}
+use Rattle.chrono_rules.specs.WrittenRules.{behind, both_items, end_parts, four_digits, item_at, item_text, items, later_parts, list_parts, numbered_items, part_unless, rule_text, weekday_items, letters_from_monday}
 use Rattle.chrono_rules.proofs.ErrorLines.{frequency_ascii, is_low, low_ascii}
 use Rattle.chrono_rules.proofs.ListLemmas.{behind_append, join_behind}
-use Rattle.chrono_text.proofs.AsciiTexts.{AreAscii, AreAscii-append, AreAscii-if, IsAscii-if, IsAscii-two_digits}
+use Rattle.chrono_text.proofs.AsciiTexts.{AreAscii, AreAscii-append, AreAscii-if, IsAscii-if, IsAscii-two_digits, IsAscii-joined}
 
 behind_ascii : (sep : ℕ) (texts : List (List ℕ)) → sep < 128 → AreAscii texts → IsAscii (behind sep texts)
 behind_ascii sep [] low are = IsAscii-nil
 behind_ascii sep (text ∷ texts) low (first, rest) = IsAscii-append (sep ∷ text) (behind sep texts) (IsAscii-cons sep text low first) (behind_ascii sep texts low rest)
-
-joined : (sep : ℕ) (texts : List (List ℕ)) → sep < 128 → AreAscii texts → IsAscii (join_with_byte sep texts)
-joined sep [] low are = IsAscii-nil
-joined sep (text ∷ texts) low (first, rest) = rw (join_behind sep text texts) (IsAscii-append text (behind sep texts) first (behind_ascii sep texts low rest))
 
 pub year_ascii : (y : ℤ) → FitsSigned w32 y → IsAscii (four_digits y)
 year_ascii (pos n) fits =
@@ -102,7 +99,7 @@ part_ascii true name value h k = tt
 part_ascii false name value h k = (IsAscii-append name value h k, tt)
 
 list_ascii : (lacks : Bool) (name : List ℕ) (texts : List (List ℕ)) → IsAscii name → AreAscii texts → AreAscii (part_unless lacks name (list_text texts))
-list_ascii lacks name texts h are = part_ascii lacks name (list_text texts) h (joined 44 texts (omega arith) are)
+list_ascii lacks name texts h are = part_ascii lacks name (list_text texts) h (IsAscii-joined 44 texts (omega arith) are)
 
 lists_ascii : (r : Rule) → AreAscii (list_parts r)
 lists_ascii r =

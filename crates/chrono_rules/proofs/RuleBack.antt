@@ -5,12 +5,13 @@ use Rattle.std.specs.Fmt.{decimal}
 use Rattle.std.specs.List.{list_all, list_any}
 use Rattle.std.specs.Option.{option_map}
 use Rattle.std.proofs.lemmas.Bool.{and_parts, false≢true, leb-true, not-false, not-true, not_from_false, or_parts}
+use Rattle.chrono_text.specs.Lists.{list_text}
 use Rattle.chrono_datetime.specs.Names.{weekday_of_letters}
 use Rattle.chrono_datetime.specs.Weekday.{days_from_monday}
 use Rattle.chrono_datetime.specs.declared.Weekday.{Weekday}
 use Rattle.chrono_datetime.specs.declared.Weekday.TheVariants.{Fri, Mon, Sat, Sun, Thu, Tue, Wed}
 use Rattle.chrono_sets.specs.Numbers.{Numbers, are_empty, is_empty, no_numbers}
-use Rattle.chrono_sets.proofs.Members.{has-no_numbers, has-none, same_set}
+use Rattle.chrono_sets.proofs.Members.{is_empty-is}
 use Rattle.chrono_rules.specs.declared.weekday_places.WeekdayPlaces.{WeekdayPlaces}
 use Rattle.chrono_rules.specs.declared.rule.End.{End}
 use Rattle.chrono_rules.specs.declared.rule.End.TheVariants.{Count, Never, Until}
@@ -22,7 +23,7 @@ use Rattle.chrono_rules.specs.NumberLists.{ends_of, month_list_of, no_ends, no_y
 use Rattle.chrono_rules.specs.RuleErrors.{frequency_text}
 use Rattle.chrono_rules.specs.RuleTexts.{IsRuleText, Says, end_of, frequency_of, interval_of, is_part, parts, said, values, weekday_of_text}
 use Rattle.chrono_rules.specs.WritableRules.{IsWritableRule, IsWritableEnd}
-use Rattle.chrono_rules.specs.WrittenRules.{list_text, rule_text, weekday_items, letters_from_monday}
+use Rattle.chrono_rules.specs.WrittenRules.{rule_text, weekday_items, letters_from_monday}
 use Rattle.chrono_rules.proofs.EndsBack.{count_back, day_back, interval_back}
 use Rattle.chrono_rules.proofs.ListsBack.{ends_back, months_back, year_ends_back}
 use Rattle.chrono_rules.proofs.PartValues.{are_parts, found, said_part, values_found}
@@ -66,15 +67,12 @@ monday_is Sun is = absurd (false≢true is)
 
 -- ---- a part that the rule lacks
 
-no_set : (t : Numbers) → is_empty t ≡ true → no_numbers ≡ t
-no_set t is = same_set no_numbers t (λ k. has-no_numbers k ∙ sym (has-none t k is))
-
 no_sets : (sets : List Numbers) → are_empty sets ≡ true → blank sets ≡ sets
 no_sets [] are = refl
 no_sets (s ∷ sets) are =
     let other = list_any (λ t. not (is_empty t)) sets in
     let none = or_parts (not (is_empty s)) other (not-true (not (is_empty s) || other) are) in
-    ap₂ (λ t ts. t ∷ ts) (no_set s (not-false (is_empty s) none.0)) (no_sets sets (not_from_false other none.1))
+    ap₂ (λ t ts. t ∷ ts) (sym (is_empty-is s (not-false (is_empty s) none.0))) (no_sets sets (not_from_false other none.1))
 
 seven_empty : (sets : List Numbers) → length sets ≡ 7 → are_empty sets ≡ true → replicate 7 no_numbers ≡ sets
 seven_empty sets seven are = ap (λ n. replicate n no_numbers) (sym seven) ∙ sym (blank_is sets) ∙ no_sets sets are
@@ -82,18 +80,18 @@ seven_empty sets seven are = ap (λ n. replicate n no_numbers) (sym seven) ∙ s
 no_both : (front back : Numbers) → (is_empty front && is_empty back) ≡ true → Some no_ends ≡ Some (record { front = front; back = back })
 no_both front back are =
     let parts = and_parts (is_empty front) (is_empty back) are in
-    ap₂ (λ front back. Some (record { front = front; back = back })) (no_set front parts.0) (no_set back parts.1)
+    ap₂ (λ front back. Some (record { front = front; back = back })) (sym (is_empty-is front parts.0)) (sym (is_empty-is back parts.1))
 
 no_days : (front back : Numbers) → (is_empty front && is_empty back) ≡ true → Some no_year_ends ≡ Some (record { front = front; back = back })
 no_days front back are =
     let parts = and_parts (is_empty front) (is_empty back) are in
-    ap₂ (λ front back. Some (record { front = front; back = back })) (no_set front parts.0) (no_set back parts.1)
+    ap₂ (λ front back. Some (record { front = front; back = back })) (sym (is_empty-is front parts.0)) (sym (is_empty-is back parts.1))
 
 no_week : (days : WeekdayPlaces) → length days.front ≡ 7 → length days.back ≡ 7 → (is_empty days.every && (are_empty days.front && are_empty days.back)) ≡ true → Some no_weekdays ≡ Some days
 no_week days seven also are =
     let parts = and_parts (is_empty days.every) (are_empty days.front && are_empty days.back) are in
     let more = and_parts (are_empty days.front) (are_empty days.back) parts.1 in
-    ap (λ every. Some (record { every = every; front = no_weekdays.front; back = no_weekdays.back })) (no_set days.every parts.0)
+    ap (λ every. Some (record { every = every; front = no_weekdays.front; back = no_weekdays.back })) (sym (is_empty-is days.every parts.0))
     ∙ ap₂ (λ front back. Some (record { every = days.every; front = front; back = back })) (seven_empty days.front seven more.0) (seven_empty days.back also more.1)
 
 -- a rule has two lists of seven sets
@@ -113,7 +111,7 @@ says_back r sizes can =
           ∙ said_part interval_of (Some 1) (nat_le r.interval 1) (decimal r.interval) r.interval (λ is. ap Some (one_interval r.interval can.interval.0 is)) (λ is. interval_back r.interval can.interval.0 can.interval.1);
       end = ap₂ end_of (by (codes "COUNT=")) (by (codes "UNTIL=")) ∙ end_back r.end can.end;
       months = ap (said month_list_of (Some no_numbers)) (by (codes "BYMONTH="))
-          ∙ said_part month_list_of (Some no_numbers) (lacks_months r) (months_text r) r.months (λ is. ap Some (no_set r.months is)) (λ is. months_back r.months can.months is);
+          ∙ said_part month_list_of (Some no_numbers) (lacks_months r) (months_text r) r.months (λ is. ap Some (sym (is_empty-is r.months is))) (λ is. months_back r.months can.months is);
       month_days = ap (said (ends_of 2 31) (Some no_ends)) (by (codes "BYMONTHDAY="))
           ∙ said_part (ends_of 2 31) (Some no_ends) (lacks_month_days r) (month_days_text r) (record { front = r.month_days; back = r.month_days_from_end }) (no_both r.month_days r.month_days_from_end)
           (λ is. ends_back 31 r.month_days r.month_days_from_end (omega arith) can.month_days can.month_days_from_end is);

@@ -10,14 +10,14 @@ use Rattle.chrono_datetime.specs.Names.{weekday_of_letters}
 use Rattle.chrono_sets.specs.Numbers.{Numbers, are_empty, is_empty, lies_within, no_numbers, with_number}
 use Rattle.chrono_rules.specs.NumberLists.{signed_number, signed_number_of, listed_weekday, weekdays_of, with_nth, with_nth_of, with_weekday, with_weekday_text}
 use Rattle.chrono_rules.specs.RuleParts.{no_weekdays}
-use Rattle.chrono_text.specs.Lists.{through}
+use Rattle.chrono_text.specs.Lists.{through, list_text}
 use Rattle.chrono_rules.specs.WritableRules.{is_from_one_to}
-use Rattle.chrono_rules.specs.WrittenRules.{item_text, items, list_text, numbered_items, letters_from_monday}
+use Rattle.chrono_rules.specs.WrittenRules.{item_text, items, numbered_items, letters_from_monday}
 use Rattle.chrono_rules.specs.declared.text.list_writer.Naming.TheVariants.{Each, Numbered}
 use Rattle.chrono_rules.specs.declared.weekday_places.WeekdayPlaces.{WeekdayPlaces}
-use Rattle.chrono_text.proofs.ListLemmas.{pieces_joined}
+use Rattle.chrono_text.proofs.ListLemmas.{pieces_joined, all_of}
 use Rattle.chrono_rules.proofs.ListsBack.{from_one_back, place_back, set_back, some_of, through_append}
-use Rattle.chrono_rules.proofs.WordBytes.{all_of, are_word_bytes, items_words, numbered_words, words_lack}
+use Rattle.chrono_rules.proofs.WordBytes.{are_word_bytes, items_words, numbered_words, words_lack}
 
 abbrev days_with : Numbers → List Numbers → List Numbers → WeekdayPlaces
 days_with every front back = record { every = every; front = front; back = back }

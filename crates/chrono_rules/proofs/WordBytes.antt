@@ -6,8 +6,8 @@ use Rattle.std.specs.List.{list_all}
 use Rattle.std.specs.Str.{all_ascii_digits}
 use Rattle.std.proofs.lemmas.Bool.{and_from, and_parts, eqb-true, false≢true, le-leb, or_left, or_right}
 use Rattle.std.proofs.lemmas.Fmt.{digits_decimal}
-use Rattle.std.proofs.lemmas.List.Folds.{list_all-append}
 use Rattle.std.proofs.lemmas.Str.Parse.{IsNumeralModel, numerals_by_fold}
+use Rattle.chrono_text.specs.Lists.{list_text}
 use Rattle.chrono_datetime.specs.Names.{weekday_letters}
 use Rattle.chrono_datetime.specs.Weekday.{weekday_from_monday}
 use Rattle.chrono_datetime.specs.declared.Weekday.{Weekday}
@@ -15,12 +15,8 @@ use Rattle.chrono_datetime.specs.declared.Weekday.TheVariants.{Fri, Mon, Sat, Su
 use Rattle.chrono_sets.specs.Numbers.{Numbers, has}
 use Rattle.chrono_rules.specs.declared.text.list_writer.Naming.{Naming}
 use Rattle.chrono_rules.specs.declared.text.list_writer.Naming.TheVariants.{Each, Number, Numbered}
-use Rattle.chrono_rules.specs.WrittenRules.{both_items, item_at, item_text, items, list_text, numbered_items, letters_from_monday}
-use Rattle.chrono_text.proofs.ListLemmas.{lacks}
-
--- what all of two lists pass
-pub all_of : {X : Type 0} (p : X → Bool) (xs ys : List X) → list_all p xs ≡ true → list_all p ys ≡ true → list_all p (xs ++ ys) ≡ true
-all_of p xs ys first second = list_all-append p xs ys ∙ and_from (list_all p xs) (list_all p ys) first second
+use Rattle.chrono_rules.specs.WrittenRules.{both_items, item_at, item_text, items, numbered_items, letters_from_monday}
+use Rattle.chrono_text.proofs.ListLemmas.{all_of, lacks}
 
 -- a capital letter, a digit or `-`
 abbrev pub is_word_byte : ℕ → Bool

@@ -4,6 +4,7 @@ use Rattle.std.specs.Prelude.{codes}
 use Rattle.std.specs.Fmt.{decimal}
 use Rattle.std.specs.List.{list_all}
 use Rattle.std.proofs.lemmas.Bool.{false≢true}
+use Rattle.chrono_text.specs.Lists.{list_text}
 use Rattle.chrono_datetime.specs.Weekday.{days_from_monday}
 use Rattle.chrono_sets.specs.Numbers.{Numbers}
 use Rattle.chrono_rules.specs.declared.text.list_writer.Naming.TheVariants.{Each, Number}
@@ -16,11 +17,11 @@ use Rattle.chrono_rules.specs.RuleParts.{lacks_month_days, lacks_months, lacks_p
 use Rattle.chrono_rules.specs.RuleErrors.{frequency_text}
 use Rattle.chrono_rules.specs.RuleTexts.{parts}
 use Rattle.chrono_rules.specs.WritableRules.{IsWritableRule, IsWritableEnd}
-use Rattle.chrono_rules.specs.WrittenRules.{basic_date_text, both_items, end_parts, items, later_parts, list_parts, list_text, numbered_items, part_unless, rule_text, some_in, weekday_items, letters_from_monday}
+use Rattle.chrono_rules.specs.WrittenRules.{basic_date_text, both_items, end_parts, items, later_parts, list_parts, numbered_items, part_unless, rule_text, some_in, weekday_items, letters_from_monday}
 use Rattle.chrono_rules.proofs.EndsBack.{day_words}
-use Rattle.chrono_text.proofs.ListLemmas.{lacks, pieces_joined}
+use Rattle.chrono_text.proofs.ListLemmas.{lacks, pieces_joined, all_of}
 use Rattle.chrono_rules.proofs.PartValues.{Part, part_texts, parts_lack}
-use Rattle.chrono_rules.proofs.WordBytes.{all_of, are_word_bytes, both_words, decimal_words, items_words, letters_words, list_lacks, numbered_words, word_lacks}
+use Rattle.chrono_rules.proofs.WordBytes.{are_word_bytes, both_words, decimal_words, items_words, letters_words, list_lacks, numbered_words, word_lacks}
 
 abbrev pub lacks_count : End → Bool
 lacks_count Never = true

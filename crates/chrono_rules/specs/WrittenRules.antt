@@ -3,6 +3,7 @@ use Rattle.std.specs.Prelude.{◌≡◌, ℕ, zero, suc, ◌+◌, ◌/◌, ◌%�
 use Rattle.std.specs.Fmt.{decimal, digits, sign_text, signed_decimal}
 use Rattle.std.specs.List.{join_with_byte}
 use Rattle.std.specs.Str.{byte}
+use Rattle.chrono_text.specs.Lists.{list_text}
 use Rattle.chrono_text.specs.Text.{two_digits}
 use Rattle.chrono_datetime.specs.Days.{day_of, month_of, year_of}
 use Rattle.chrono_datetime.specs.Names.{weekday_letters}
@@ -62,10 +63,6 @@ both_items front back most = items front Number false most 1 ++ items back Numbe
 -- weekdays without a number first
 abbrev pub weekday_items : Rule → List (List ℕ)
 weekday_items r = items r.weekdays.every Each false 7 0 ++ (numbered_items false r.weekdays.front 0 ++ numbered_items true r.weekdays.back 0)
-
--- a list has a comma between each two items
-abbrev pub list_text : List (List ℕ) → List ℕ
-list_text items = join_with_byte (byte ",") items
 
 -- texts, each behind a separator; items behind others, or the first of a list; whether there is one
 abbrev pub behind : ℕ → List (List ℕ) → List ℕ

@@ -3,6 +3,7 @@
 //! Where a law says so, its dates are 2,000 years earlier than those that it names.
 //! These are five whole cycles of 400 years, after which the calendar repeats. So less has to be counted.
 ghost use Rattle.std.specs.Prelude.{◌≡◌, ◌&&◌, true, false, None, Some, Result, Ok, Err, [], ◌∷◌, neg_ℤ, pos, codes};
+ghost use Rattle.chrono_text.specs.Lists.{list_text};
 ghost use Rattle.chrono_datetime.specs.declared.Weekday.TheVariants.{Mon, Sun};
 ghost use Rattle.chrono_sets.specs.Numbers.{is_empty, numbers};
 ghost use Rattle.chrono_rules.specs.InstanceLists.{instances_from};
@@ -16,7 +17,7 @@ ghost use Rattle.chrono_rules.specs.RuleErrors.{IsChecked};
 ghost use Rattle.chrono_rules.specs.RuleParts.{plain};
 ghost use Rattle.chrono_rules.specs.RuleTexts.{IsRuleText, rule_body};
 ghost use Rattle.chrono_rules.specs.WritableRules.{IsWritableRule, is_from_one_to};
-ghost use Rattle.chrono_rules.specs.WrittenRules.{both_items, items, list_text, rule_text};
+ghost use Rattle.chrono_rules.specs.WrittenRules.{both_items, items, rule_text};
 ghost use Rattle.chrono_rules.specs.declared.rule.Frequency.TheVariants.{Daily, Monthly, Weekly, Yearly};
 ghost use Rattle.chrono_rules.specs.declared.rule.Rule.{Rule};
 ghost use Rattle.chrono_rules.specs.declared.text.list_writer.Naming.TheVariants.{Number};

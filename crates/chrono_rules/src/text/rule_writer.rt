@@ -2,10 +2,11 @@
 ghost use Rattle.std.specs.Prelude.{◌≡◌, ◌+◌, ◌<◌, ◌≤◌, ◌++◌, ◌==◌, nat_le, false, Some, length, codes};
 ghost use Rattle.std.specs.Fmt.{decimal};
 ghost use Rattle.std.specs.Str.{IsAscii, byte};
+ghost use Rattle.chrono_text.specs.Lists.{list_text};
 ghost use Rattle.chrono_datetime.specs.Weekday.{days_from_monday};
 ghost use Rattle.chrono_text.specs.Text.{two_digits};
 ghost use Rattle.chrono_rules.specs.RuleParts.{lacks_month_days, lacks_months, lacks_positions, lacks_weekdays, lacks_weeks, lacks_year_days};
-ghost use Rattle.chrono_rules.specs.WrittenRules.{basic_date_text, behind, both_items, end_parts, four_digits, items, list_parts, list_text, rule_text, text_unless, weekday_items, letters_from_monday};
+ghost use Rattle.chrono_rules.specs.WrittenRules.{basic_date_text, behind, both_items, end_parts, four_digits, items, list_parts, rule_text, text_unless, weekday_items, letters_from_monday};
 ghost use Rattle.chrono_rules.specs.declared.text.list_writer.Naming.TheVariants.{Number};
 
 use crate::rule::{End, Rule};

@@ -6,7 +6,7 @@ use Rattle.chrono_sets.specs.Numbers.{numbers}
 use Rattle.chrono_text.specs.Numbers.{count_of, digits_of, natural_of}
 use Rattle.chrono_rules.specs.ByParts.{has_numbers}
 use Rattle.chrono_rules.specs.KnownTexts.{every_other_day}
-use Rattle.chrono_rules.specs.NumberLists.{ends_of, listed_number, month_list_of, signed_number_of, weekdays_of, with_year_text, year_ends_of}
+use Rattle.chrono_rules.specs.NumberLists.{listed_number, signed_number_of, with_year_text, year_ends_of}
 use Rattle.chrono_rules.specs.RuleErrors.{is_read, name_fault, part_fault, part_name, unfit_error, unread_error, value_fault}
 use Rattle.chrono_rules.specs.RuleParts.{plain}
 use Rattle.chrono_rules.specs.RuleTexts.{end_of, frequency_of, has_month_days, has_year_parts, interval_of, rule_body, weekday_of_text}

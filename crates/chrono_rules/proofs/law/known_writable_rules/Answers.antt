@@ -1,4 +1,4 @@
-use Rattle.std.proofs.Common.{ℤ, pos, ◌≤ℤ◌, arith, refl, subst, sym}
+use Rattle.std.proofs.Common.{pos, ◌≤ℤ◌, arith, refl, subst, sym}
 use Rattle.std.proofs.lemmas.Bool.{false≢true}
 use Rattle.chrono_datetime.specs.Days.{date_of_ymd, days_before_year, days_of_months_in, days_of_years}
 use Rattle.chrono_datetime.proofs.NamedDates.{date_of_ymd-name}

@@ -1,8 +1,9 @@
 use Rattle.std.proofs.Common.{◌++◌, false}
 use Rattle.std.specs.Prelude.{codes}
+use Rattle.chrono_text.specs.Lists.{list_text}
 use Rattle.chrono_rules.specs.RuleParts.{lacks_month_days, lacks_months, lacks_positions, lacks_weekdays, lacks_weeks, lacks_year_days}
 use Rattle.chrono_rules.specs.declared.text.list_writer.Naming.TheVariants.{Number}
-use Rattle.chrono_rules.specs.WrittenRules.{both_items, items, list_text, part_unless, weekday_items}
+use Rattle.chrono_rules.specs.WrittenRules.{both_items, items, part_unless, weekday_items}
 use Rattle.chrono_rules.proofs.ListLemmas.{part_on, texts_on}
 use Rattle.chrono_rules.proofs.rule.Rule.put_lists.Goals as goal
 

@@ -1,8 +1,9 @@
 use Rattle.std.proofs.Common.{sym, ◌∙◌, false}
 use Rattle.std.specs.Prelude.{codes}
+use Rattle.chrono_text.specs.Lists.{list_text}
 use Rattle.chrono_rules.specs.RuleParts.{lacks_months}
 use Rattle.chrono_rules.specs.declared.text.list_writer.Naming.TheVariants.{Number}
-use Rattle.chrono_rules.specs.WrittenRules.{items, list_text, members}
+use Rattle.chrono_rules.specs.WrittenRules.{items, members}
 use Rattle.chrono_rules.proofs.ListLemmas.{part_put}
 use Rattle.chrono_rules.proofs.rule.Rule.put_months.Goals as goal
 

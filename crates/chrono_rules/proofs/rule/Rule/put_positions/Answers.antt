@@ -1,7 +1,8 @@
 use Rattle.std.proofs.Common.{sym, ◌∙◌}
 use Rattle.std.specs.Prelude.{codes}
+use Rattle.chrono_text.specs.Lists.{list_text}
 use Rattle.chrono_rules.specs.RuleParts.{lacks_positions}
-use Rattle.chrono_rules.specs.WrittenRules.{both_items, list_text, members}
+use Rattle.chrono_rules.specs.WrittenRules.{both_items, members}
 use Rattle.chrono_rules.proofs.ListLemmas.{part_put}
 use Rattle.chrono_rules.proofs.rule.Rule.put_positions.Goals as goal
 

@@ -1,8 +1,9 @@
 use Rattle.std.proofs.Common.{◌++◌, false, true, sym, ◌∙◌}
 use Rattle.std.specs.Prelude.{codes}
+use Rattle.chrono_text.specs.Lists.{list_text}
 use Rattle.chrono_rules.specs.RuleParts.{lacks_weekdays}
 use Rattle.chrono_rules.specs.declared.text.list_writer.Naming.TheVariants.{Each}
-use Rattle.chrono_rules.specs.WrittenRules.{items, list_text, members, numbered_items, weekday_items}
+use Rattle.chrono_rules.specs.WrittenRules.{items, members, numbered_items, weekday_items}
 use Rattle.chrono_rules.proofs.ListLemmas.{part_put, put_next}
 use Rattle.chrono_rules.proofs.rule.Rule.put_weekdays.Goals as goal
 
