@@ -3,7 +3,7 @@ use Rattle.std.proofs.Common.{◌≡◌, ℕ, zero, suc, ◌+◌, ◌-◌, ◌%�
 use Rattle.std.specs.Prelude.{◌⊎◌, map, codes, is_some, nat_le}
 use Rattle.std.specs.List.{filter, list_all, list_any}
 use Rattle.std.proofs.lemmas.Bool.{agree_below, agree_below_at, and_parts, cases_lt, eqb-true, false≢true, le-leb, lt-leb}
-use Rattle.std.proofs.lemmas.List.Folds.{list_all-append, list_any-append}
+use Rattle.std.proofs.lemmas.List.Folds.{list_any-append}
 use Rattle.std.proofs.lemmas.List.Elements.{filter-append}
 use Rattle.chrono_sets.specs.Steps.{is_by_steps}
 use Rattle.chrono_sets.specs.Numbers.{Numbers as FiniteSet, has}
@@ -12,10 +12,11 @@ use Rattle.chrono_cron.specs.declared.text.schedule_writer.DayName.{DayName}
 use Rattle.chrono_cron.specs.FieldTexts.{item_lists, items_list}
 use Rattle.chrono_cron.specs.ScheduleTexts.{is_number}
 use Rattle.chrono_cron.specs.WritableSchedules.{LieBetween}
-use Rattle.chrono_cron.specs.WrittenTexts.{are_all, name_text, names_from, number_items, number_text, range_text, ranges_from}
+use Rattle.chrono_cron.specs.WrittenTexts.{are_all, name_text, names_from, number_items, range_text, ranges_from}
 use Rattle.chrono_cron.proofs.FieldsReadBack.{StarReads, are_read, item_first, lacks_below, lacks_past, one_lists-has, pass_all, ranges_pass, ranges_read}
 use Rattle.chrono_cron.proofs.WrittenFields.{numbers_all, numbers_stepped, numbers_unstarred, ranges_are}
 use Rattle.std.proofs.Math.Bool.{or-true}
+use Rattle.chrono_text.specs.Text.{number_text}
 
 -- ---- names of days, as they are written
 
@@ -211,9 +212,6 @@ pub names_read : (number : List ℕ → Option ℕ) (naming : DayName) (low end 
 names_read number naming low end pass k from to = number_is k (number (name_text naming k)) (pass_at (λ j. is_number j (number (name_text naming j))) low end k pass from to)
 
 -- ---- parts of a list
-
-pub all_append : (p : List ℕ → Bool) (xs ys : List (List ℕ)) → list_all p xs ≡ true → list_all p ys ≡ true → list_all p (xs ++ ys) ≡ true
-all_append p xs ys a b = list_all-append p xs ys ∙ ap₂ (λ x y. x && y) a b
 
 pub any_append : (p : List ℕ → Bool) (xs ys : List (List ℕ)) (a b : Bool) → list_any p xs ≡ a → list_any p ys ≡ b → list_any p (xs ++ ys) ≡ (a || b)
 any_append p xs ys a b x y = list_any-append p xs ys ∙ ap₂ (λ x y. x || y) x y

@@ -5,6 +5,7 @@ use Rattle.std.specs.Option.{option_map, option_and_then}
 use Rattle.std.specs.List.{All, filter, list_any, slice_split, position_or_len}
 use Rattle.std.proofs.lemmas.List.Sums.{fails_before_first}
 use Rattle.std.proofs.lemmas.List.Splits.{slice_split_none, slice_split_first}
+use Rattle.std.proofs.Math.Bool.{or_assoc}
 use Rattle.chrono_text.specs.Lists.{pieces, stands_in}
 use Rattle.chrono_sets.specs.Numbers.{has, no_numbers}
 use Rattle.chrono_sets.proofs.Members.{has-no_numbers}
@@ -37,17 +38,13 @@ items_last place text at end =
     let lacks : All (λ x. (x == 44) ≡ false) text = λ k e m. fails_before_first (λ x. x == 44) text k e (omega (arith, at, end, m)) in
     slice_split_none (λ x. x == 44) text lacks
 
-or_or : (a b c : Bool) → (a || (b || c)) ≡ ((a || b) || c)
-or_or true b c = refl
-or_or false b c = refl
-
 -- one item more that may have the number, and the last
 more_numbers : (number : List ℕ → Option ℕ) (text item behind : List ℕ) (k : ℕ) (all so_far : Bool) → pieces 44 text ≡ item ∷ pieces 44 behind
     → all ≡ (so_far || an_item_is number text k) → all ≡ ((so_far || is_number k (number item)) || an_item_is number behind k)
 unfolding an_item_is
 more_numbers number text item behind k all so_far parts e =
     e ∙ ap (λ items. so_far || list_any (λ item. is_number k (number item)) items) parts
-    ∙ or_or so_far (is_number k (number item)) (list_any (λ item. is_number k (number item)) (items_of behind))
+    ∙ sym (or_assoc so_far (is_number k (number item)) (list_any (λ item. is_number k (number item)) (items_of behind)))
 
 last_number : (number : List ℕ → Option ℕ) (text : List ℕ) (k : ℕ) (all so_far : Bool) → pieces 44 text ≡ text ∷ []
     → all ≡ (so_far || an_item_is number text k) → all ≡ (so_far || is_number k (number text))

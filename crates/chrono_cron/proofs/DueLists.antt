@@ -1,14 +1,12 @@
 -- The list of the moments at which a schedule is due: how long it is, and what a step takes from it.
-use Rattle.std.proofs.Common.{◌≡◌, ℕ, zero, suc, ◌+◌, ◌*◌, ◌%◌, ◌<◌, ◌≤◌, Bool, true, false, cond, List, [], ◌∷◌, length, inl, inr, refl, sym, ap, ◌∙◌, arith, ℤ, pos, neg_ℤ, ◌+ℤ◌, ◌-ℤ◌, ◌≤ℤ◌, ◌<ℤ◌, unsigned_abs, Option, Some, None}
+use Rattle.std.proofs.Common.{◌≡◌, ℕ, zero, suc, ◌+◌, ◌*◌, ◌%◌, ◌<◌, ◌≤◌, Bool, true, false, cond, [], ◌∷◌, length, inl, inr, refl, sym, ap, ◌∙◌, arith, ℤ, pos, neg_ℤ, ◌+ℤ◌, ◌-ℤ◌, ◌≤ℤ◌, ◌<ℤ◌, unsigned_abs}
 use Rattle.std.proofs.lemmas.Int.{by_lt_z}
 use Rattle.std.specs.Prelude.{filter}
-use Rattle.std.specs.Bool.{⊤}
-use Rattle.std.specs.Iterator.{MakesProgress, YieldsFirst, item_count}
 use Rattle.std.specs.Int.{int_div_euclid, int_rem_euclid}
+use Rattle.chrono_text.proofs.ListLemmas.{filter-few}
 use Rattle.chrono_datetime.specs.Moment.{Moment, moment, IsBefore, IsMoment}
 use Rattle.chrono_datetime.specs.Time.{time_at}
 use Rattle.chrono_datetime.proofs.Signed.{signed}
-use Rattle.chrono_cron.specs.declared.search.dues.Dues.{Dues}
 use Rattle.chrono_cron.specs.declared.field_sets.FieldSets.{FieldSets}
 use Rattle.chrono_cron.specs.Due.{is_due}
 use Rattle.chrono_cron.specs.DueMoments.{minute_at, minute_number_of, minutes_left, minutes_from, dues_after}
@@ -45,19 +43,16 @@ minute_number_of-later start m small whole none (inr (date, inr same)) = absurd 
 
 -- ---- the list
 
-kept-few : (b : Bool) (x : Moment) (xs : List Moment) (n : ℕ) → length xs ≤ n → length (cond b (x ∷ xs) xs) ≤ suc n
-kept-few true x xs n few = omega (arith, few)
-kept-few false x xs n few = omega (arith, few)
-
-due-few : (s : FieldSets) (k : ℕ) (n : ℤ) → length (filter (is_due s) (minutes_from k n)) ≤ k
+length-minutes_from : (k : ℕ) (n : ℤ) → length (minutes_from k n) ≡ k
 unfolding minutes_from
-due-few s zero n = omega arith
-due-few s (suc k) n =
-    kept-few (is_due s (minute_at n)) (minute_at n) (filter (is_due s) (minutes_from k (n +ℤ pos 1))) k (due-few s k (n +ℤ pos 1))
+length-minutes_from zero n = refl
+length-minutes_from (suc k) n = ap suc (length-minutes_from k (n +ℤ pos 1))
 
 pub dues_after-few : (s : FieldSets) (m : Moment) → length (dues_after s m) ≤ minutes_left m
 unfolding dues_after
-dues_after-few s m = due-few s (minutes_left m) (minute_number_of m +ℤ pos 1)
+dues_after-few s m =
+    let after = minutes_from (minutes_left m) (minute_number_of m +ℤ pos 1) in
+    omega (arith, filter-few (is_due s) after, length-minutes_from (minutes_left m) (minute_number_of m +ℤ pos 1))
 
 -- one minute more in front
 minutes-in_front : (s : FieldSets) (b : Bool) (t k : ℕ) (n : ℤ) → t ≡ suc k → is_due s (minute_at n) ≡ b → filter (is_due s) (minutes_from t n) ≡ cond b (minute_at n ∷ filter (is_due s) (minutes_from k (n +ℤ pos 1))) (filter (is_due s) (minutes_from k (n +ℤ pos 1)))
@@ -114,10 +109,3 @@ dues_after-first s start m is end due later least =
 pub dues_after-end : (s : FieldSets) (m : Moment) → m ≡ moment (pos 95_745_399) (time_at 23 59 59 999_999_999) → dues_after s m ≡ []
 unfolding dues_after minutes_from
 dues_after-end s m end = rw end refl
-
--- and takes one from what is left
-pub YieldsFirst-goes : (rest : Dues → List Moment) (s : Dues) (o : Option Moment) (t : Dues) → YieldsFirst rest s o t → MakesProgress (λ _. ⊤) (item_count rest) s o t
-YieldsFirst-goes rest s None t h = record { on = λ _. tt; keeps = tt; rests = λ _. tt }
-YieldsFirst-goes rest s (Some x) t h =
-    let fewer : length (rest t) < length (rest s) = omega (arith, ap length h) in
-    record { on = λ _. (tt, tt, fewer); keeps = tt; rests = λ _. tt }

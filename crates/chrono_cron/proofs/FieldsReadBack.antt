@@ -13,12 +13,13 @@ use Rattle.chrono_cron.specs.declared.text.number_names.Names.{Names}
 use Rattle.chrono_cron.specs.declared.text.number_names.Names.TheVariants.{Numbers, Months}
 use Rattle.chrono_datetime.specs.Names.{month_of_letters, weekday_of_letters}
 use Rattle.chrono_cron.specs.FieldTexts.{field_lists, item_lists, items_list, number_between, number_of_name, onto, range_of, item_span, spelled_number, step_of}
-use Rattle.chrono_cron.specs.ScheduleTexts.{AreListed, is_blank, is_some_text}
+use Rattle.chrono_cron.specs.ScheduleTexts.{AreListed, is_blank}
 use Rattle.chrono_cron.specs.WritableSchedules.{LieBetween, Member}
-use Rattle.chrono_cron.specs.WrittenTexts.{are_all, field_text, number_items, one_lists, plain_text, range_text, ranges_from}
+use Rattle.chrono_cron.specs.WrittenTexts.{are_all, number_items, one_lists, plain_text, range_text, ranges_from}
 use Rattle.chrono_cron.proofs.FieldTexts.{item_plain}
 use Rattle.chrono_cron.proofs.WrittenFields.{AreRanges, numbers_all, numbers_unstarred, one_from, ranges_are, ranges_list}
 use Rattle.std.proofs.Math.Bool.{and-false, and-true}
+use Rattle.chrono_text.specs.Lists.{list_text, is_some_text}
 
 -- ---- texts cut where they were joined
 
@@ -52,11 +53,11 @@ lacks_blank item is =
     not-true (list_any is_blank item) (and_parts (not (list_any is_comma item)) (not (list_any is_blank item)) parts.1).1
 
 -- the items of a field that is written are those that were joined
-pub items_back : (item : List ℕ) (items : List (List ℕ)) → list_all is_item (item ∷ items) ≡ true → slice_split (λ x. x == 44) (field_text (item ∷ items)) ≡ item ∷ items
+pub items_back : (item : List ℕ) (items : List (List ℕ)) → list_all is_item (item ∷ items) ≡ true → slice_split (λ x. x == 44) (list_text (item ∷ items)) ≡ item ∷ items
 items_back item [] are = split_none is_comma item (lacks_comma item (and_parts (is_item item) true are).0)
 items_back item (next ∷ items) are =
     let parts = and_parts (is_item item) (list_all is_item (next ∷ items)) are in
-    split_at is_comma item 44 (field_text (next ∷ items)) (lacks_comma item parts.0) refl
+    split_at is_comma item 44 (list_text (next ∷ items)) (lacks_comma item parts.0) refl
     ∙ ap (λ others. item ∷ others) (items_back next items parts.1)
 
 -- ---- ranges
@@ -232,7 +233,7 @@ given None = false
 given (Some b) = b
 
 pub field_back : (names : Names) (low high k : ℕ) (items : List (List ℕ)) → list_all is_item items ≡ true → items_list names low high items k ≡ Some true
-    → slice_split (λ x. x == 44) (field_text items) ≡ items
+    → slice_split (λ x. x == 44) (list_text items) ≡ items
 field_back names low high k [] are is = absurd (false≢true (ap given is))
 field_back names low high k (item ∷ items) are is = items_back item items are
 
@@ -278,23 +279,23 @@ months_back set lie some = plain_back Months set 1 12 12 months_read months_star
 abbrev pub IsWord : List ℕ → Type 0
 IsWord text = (is_some_text text ≡ true) × (list_any is_blank text ≡ false)
 
-field_lacks_blank : (items : List (List ℕ)) → list_all is_item items ≡ true → list_any is_blank (field_text items) ≡ false
+field_lacks_blank : (items : List (List ℕ)) → list_all is_item items ≡ true → list_any is_blank (list_text items) ≡ false
 field_lacks_blank [] are = refl
 field_lacks_blank (item ∷ []) are = lacks_blank item (and_parts (is_item item) true are).0
 field_lacks_blank (item ∷ next ∷ items) are =
     let parts = and_parts (is_item item) (list_all is_item (next ∷ items)) are in
-    list_any-append is_blank item (44 ∷ field_text (next ∷ items)) ∙ ap₂ (λ a b. a || b) (lacks_blank item parts.0) (field_lacks_blank (next ∷ items) parts.1)
+    list_any-append is_blank item (44 ∷ list_text (next ∷ items)) ∙ ap₂ (λ a b. a || b) (lacks_blank item parts.0) (field_lacks_blank (next ∷ items) parts.1)
 
-field_is_some : (item : List ℕ) (items : List (List ℕ)) → is_item item ≡ true → is_some_text (field_text (item ∷ items)) ≡ true
+field_is_some : (item : List ℕ) (items : List (List ℕ)) → is_item item ≡ true → is_some_text (list_text (item ∷ items)) ≡ true
 field_is_some [] items is = absurd (false≢true is)
 field_is_some (x ∷ item) [] is = refl
 field_is_some (x ∷ item) (next ∷ items) is = refl
 
-pub field_is_word : (items : List (List ℕ)) → (items ≡ [] → ⊥) → list_all is_item items ≡ true → IsWord (field_text items)
+pub field_is_word : (items : List (List ℕ)) → (items ≡ [] → ⊥) → list_all is_item items ≡ true → IsWord (list_text items)
 field_is_word [] some are = absurd (some refl)
 field_is_word (item ∷ items) some are = (field_is_some item items (and_parts (is_item item) (list_all is_item items) are).0, field_lacks_blank (item ∷ items) are)
 
-pub field_items : (items : List (List ℕ)) → (items ≡ [] → ⊥) → list_all is_item items ≡ true → slice_split (λ x. x == 44) (field_text items) ≡ items
+pub field_items : (items : List (List ℕ)) → (items ≡ [] → ⊥) → list_all is_item items ≡ true → slice_split (λ x. x == 44) (list_text items) ≡ items
 field_items [] some are = absurd (some refl)
 field_items (item ∷ items) some are = items_back item items are
 

@@ -2,6 +2,7 @@
 use Rattle.std.proofs.Common.{◌≡◌, ℕ, zero, suc, ◌+◌, ◌-◌, ◌*◌, ◌/◌, ◌%◌, ◌<◌, ◌≤◌, ◌==◌, inl, inr, true, false, Bool, ◌&&◌, ◌||◌, refl, sym, ap, ◌∙◌, arith}
 use Rattle.std.proofs.lemmas.Bool.{agree_below_at, and_from, and_parts, cases_eq, eq-eqb, eqb-true, le-leb, leb-true, lt-ltb, ltb-true, ne_eqb, or_parts, true≢false}
 use Rattle.std.specs.Prelude.{nat_le, nat_lt}
+use Rattle.std.proofs.Math.Bool.{and_comm}
 use Rattle.chrono_datetime.proofs.NamedDates.{same_test}
 use Rattle.chrono_sets.specs.Numbers.{Numbers as FiniteSet, has, no_numbers, with_number}
 use Rattle.chrono_sets.proofs.Members.{has-no_numbers, has-with_number}
@@ -9,12 +10,6 @@ use Rattle.chrono_cron.specs.declared.month_days.MonthDays.{MonthDays}
 use Rattle.chrono_cron.specs.Due.{is_friday_for, is_last_workday, is_monday_for, is_named_by_place, is_named_by_weekday, is_nearest_workday, is_monday_to_friday}
 
 -- ---- tests that hold together
-
-turned : (a b : Bool) → (a && b) ≡ (b && a)
-turned true true = refl
-turned true false = refl
-turned false true = refl
-turned false false = refl
 
 and_both : (a b : Bool) → ((a && false) || (b && false)) ≡ false
 and_both true true = refl
@@ -111,19 +106,19 @@ in_week weeks k from =
 pub friday_for : (asked : FiniteSet) (length k w : ℕ) → 2 ≤ length → k ≤ length → (w == 5 && ((has asked (k + 1) && (nat_le 0 k && nat_lt k length)) || (has asked (k + 2) && (nat_le (length - 2) k && nat_lt k (length - 1))))) ≡ is_friday_for asked k (length - k) w
 unfolding is_friday_for
 friday_for asked length k w long le =
-    rw (followed length k le, followed_by_two length k long le, turned (has asked (k + 1)) (nat_le 1 (length - k)), turned (has asked (k + 2)) (length - k == 2)) refl
+    rw (followed length k le, followed_by_two length k long le, and_comm (has asked (k + 1)) (nat_le 1 (length - k)), and_comm (has asked (k + 2)) (length - k == 2)) refl
 
 -- from the third place two back is the first
 third_asked : (asked : FiniteSet) (k : ℕ) → ((nat_le 2 k && has asked (k - 2)) && (k == 3)) ≡ (k == 3 && has asked 1)
 third_asked asked k = elim (cases_eq k 3) [
-  | inl is ↦ rw is (turned (has asked 1) true)
-  | inr other ↦ rw (ne_eqb k 3 other) (turned (nat_le 2 k && has asked (k - 2)) false)
+  | inl is ↦ rw is (and_comm (has asked 1) true)
+  | inr other ↦ rw (ne_eqb k 3 other) (and_comm (nat_le 2 k && has asked (k - 2)) false)
 ]
 
 pub monday_for : (asked : FiniteSet) (k w : ℕ) → k < 40 → 1 ≤ k → (w == 1 && (((nat_le 1 k && has asked (k - 1)) && (nat_le 2 k && nat_lt k 40)) || ((nat_le 2 k && has asked (k - 2)) && (nat_le 3 k && nat_lt k 4)))) ≡ is_monday_for asked k w
 unfolding is_monday_for
 monday_for asked k w lt from =
-    rw (second_or_later k lt, third k, le-leb 1 k from, turned (has asked (k - 1)) (nat_le 2 k), third_asked asked k) refl
+    rw (second_or_later k lt, third k, le-leb 1 k from, and_comm (has asked (k - 1)) (nat_le 2 k), third_asked asked k) refl
 
 more_or_few : (k : ℕ) → (nat_lt k 3 || nat_lt k 1) ≡ nat_lt k 3
 more_or_few k = grind arith

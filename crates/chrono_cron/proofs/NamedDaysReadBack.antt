@@ -12,8 +12,9 @@ use Rattle.chrono_cron.specs.ScheduleTexts.{from_end_of, is_last_workday_text, i
 use Rattle.chrono_cron.specs.WritableSchedules.{LieBetween}
 use Rattle.chrono_cron.specs.WrittenTexts.{are_all, day_field_items, is_starred_by_day, name_text, names_from, number_items, range_text}
 use Rattle.chrono_cron.proofs.FieldsReadBack.{StarReads, are_read, is_item, pass_all, star_has}
-use Rattle.chrono_cron.proofs.DayFieldsReadBack.{StepReads, all_append, any_append, filter_append, lacks, names_any, names_read, names_tested, none_of, numbers_list, numbers_listed, numbers_pass, pass_from, stepped_has}
+use Rattle.chrono_cron.proofs.DayFieldsReadBack.{StepReads, any_append, filter_append, lacks, names_any, names_read, names_tested, none_of, numbers_list, numbers_listed, numbers_pass, pass_from, stepped_has}
 use Rattle.std.proofs.Math.Bool.{or-false}
+use Rattle.chrono_text.proofs.ListLemmas.{all_of}
 
 -- ---- the field of days
 
@@ -143,14 +144,14 @@ day_items_are s =
 pub days_are_items : (s : FieldSets) → list_all is_item (day_field_items s) ≡ true
 days_are_items s =
     ap (list_all is_item) (day_items_are s)
-    ∙ all_append is_item (day_numbers s) (day_names s) (numbers_pass is_item s.days 31 1 (is_starred_by_day s) refl refl numbers-items)
-    (all_append is_item (ends s) (last_workdays s.month_days.last_workday ++ workdays s) (names_tested is_item FromEnd s.month_days.from_end 31 0 ends-items)
-    (all_append is_item (last_workdays s.month_days.last_workday) (workdays s) (last-items s.month_days.last_workday) (names_tested is_item NearestWorkday s.month_days.nearest_workdays 31 1 workdays-items)))
+    ∙ all_of is_item (day_numbers s) (day_names s) (numbers_pass is_item s.days 31 1 (is_starred_by_day s) refl refl numbers-items)
+    (all_of is_item (ends s) (last_workdays s.month_days.last_workday ++ workdays s) (names_tested is_item FromEnd s.month_days.from_end 31 0 ends-items)
+    (all_of is_item (last_workdays s.month_days.last_workday) (workdays s) (last-items s.month_days.last_workday) (names_tested is_item NearestWorkday s.month_days.nearest_workdays 31 1 workdays-items)))
 
 day_names_are : (s : FieldSets) → list_all (names_by Numbers) (day_names s) ≡ true
 day_names_are s =
-    all_append (names_by Numbers) (ends s) (last_workdays s.month_days.last_workday ++ workdays s) (names_tested (names_by Numbers) FromEnd s.month_days.from_end 31 0 ends-days)
-    (all_append (names_by Numbers) (last_workdays s.month_days.last_workday) (workdays s) (last-days s.month_days.last_workday) (names_tested (names_by Numbers) NearestWorkday s.month_days.nearest_workdays 31 1 workdays-days))
+    all_of (names_by Numbers) (ends s) (last_workdays s.month_days.last_workday ++ workdays s) (names_tested (names_by Numbers) FromEnd s.month_days.from_end 31 0 ends-days)
+    (all_of (names_by Numbers) (last_workdays s.month_days.last_workday) (workdays s) (last-days s.month_days.last_workday) (names_tested (names_by Numbers) NearestWorkday s.month_days.nearest_workdays 31 1 workdays-days))
 
 day_numbers_are : (s : FieldSets) → list_all is_number_of_days (day_numbers s) ≡ true
 unfolding names_by names_by_place from_end_of is_last_workday_text nearest_workday_of number_between spelled_number digits_of number_of_name natural_of

@@ -4,16 +4,19 @@ use Rattle.std.specs.Prelude.{codes, map, nat_lt, slice_index}
 use Rattle.std.specs.List.{filter, list_all, list_any, slice_split}
 use Rattle.std.specs.Option.{option_and_then, option_map}
 use Rattle.std.proofs.lemmas.Bool.{and_parts, false≢true, not-true}
+use Rattle.chrono_text.proofs.ListLemmas.{all_of}
+use Rattle.chrono_text.specs.Lists.{list_text, is_some_text}
+use Rattle.chrono_text.specs.Text.{number_text}
 use Rattle.chrono_sets.specs.Numbers.{Numbers as FiniteSet, has}
 use Rattle.chrono_cron.specs.declared.text.number_names.Names.TheVariants.{Numbers, Weekdays}
 use Rattle.chrono_cron.specs.declared.field_sets.FieldSets.{FieldSets}
 use Rattle.chrono_cron.specs.declared.text.schedule_writer.DayName.TheVariants.{FromEnd, NearestWorkday, LastWeekday, NthWeekday}
 use Rattle.chrono_cron.specs.FieldTexts.{items_list}
-use Rattle.chrono_cron.specs.ScheduleTexts.{AreListed, AreNamedDays, IsScheduleText, an_item_is, begins_with_star, days_list, fields_of, from_end_of, is_blank, is_number, is_some_text, last_weekday_of, last_workday_of, names_by, nearest_workday_of, nth_weekday_of, spelled_out, weekdays_list, text_words}
+use Rattle.chrono_cron.specs.ScheduleTexts.{AreListed, AreNamedDays, IsScheduleText, an_item_is, begins_with_star, days_list, fields_of, from_end_of, is_blank, is_number, last_weekday_of, last_workday_of, names_by, nearest_workday_of, nth_weekday_of, spelled_out, weekdays_list, text_words}
 use Rattle.chrono_cron.specs.WritableSchedules.{IsWritable}
-use Rattle.chrono_cron.specs.WrittenTexts.{are_all, day_field_items, field_text, is_starred_by_day, is_starred_by_weekday, name_text, number_items, number_text, plain_text, range_text, ranges_from, schedule_text, weekday_field_items}
+use Rattle.chrono_cron.specs.WrittenTexts.{are_all, day_field_items, is_starred_by_day, is_starred_by_weekday, name_text, number_items, plain_text, range_text, ranges_from, schedule_text, weekday_field_items}
 use Rattle.chrono_cron.proofs.FieldsReadBack.{IsWord, all_has, field_is_word, field_items, given, hours_back, hours_word, is_item, lists_some, minutes_back, minutes_word, months_back, months_word, pass_all, ranges_pass, split_at, split_none}
-use Rattle.chrono_cron.proofs.DayFieldsReadBack.{all_append, filter_all, names_tested, pass_from}
+use Rattle.chrono_cron.proofs.DayFieldsReadBack.{filter_all, names_tested, pass_from}
 use Rattle.chrono_cron.proofs.NamedDaysReadBack.{day_items_are, day_names, day_numbers, days_are_items, days_listed, ends, ends_named, last_named, last_workdays, nearest_named, other_days, workdays}
 use Rattle.chrono_cron.proofs.WeekdaysReadBack.{lasts, lasts_named, nths, nths_named, other_weekdays, weekday_items_are, weekday_numbers, weekdays_are_items, weekdays_listed}
 use Rattle.chrono_cron.proofs.WrittenFields.{numbers_all, numbers_stepped, numbers_unstarred, ranges_are}
@@ -58,21 +61,21 @@ either_is s told = neither_starred s.either (are_all s.days 31 1) (are_all s.wee
 abbrev no_star : List ℕ → Bool
 no_star item = not (slice_index item 0 == 42)
 
-begins_first : (item : List ℕ) (items : List (List ℕ)) → is_item item ≡ true → begins_with_star (field_text (item ∷ items)) ≡ (slice_index item 0 == 42)
+begins_first : (item : List ℕ) (items : List (List ℕ)) → is_item item ≡ true → begins_with_star (list_text (item ∷ items)) ≡ (slice_index item 0 == 42)
 unfolding begins_with_star
 begins_first [] items is = absurd (false≢true is)
 begins_first (x ∷ item) [] is = refl
 begins_first (x ∷ item) (next ∷ items) is = refl
 
 begins_starred : (set : FiniteSet) (count low : ℕ) (starred all : Bool) (others : List (List ℕ)) → starred ≡ true → are_all set count low ≡ all → is_item (codes "*/" ++ number_text count) ≡ true
-    → begins_with_star (field_text (number_items starred set count low ++ others)) ≡ true
+    → begins_with_star (list_text (number_items starred set count low ++ others)) ≡ true
 begins_starred set count low starred true others s a is =
-    sym (ap (λ items. begins_with_star (field_text (items ++ others))) (numbers_all starred set count low s a)) ∙ begins_first (codes "*") others refl
+    sym (ap (λ items. begins_with_star (list_text (items ++ others))) (numbers_all starred set count low s a)) ∙ begins_first (codes "*") others refl
 begins_starred set count low starred false others s a is =
-    sym (ap (λ items. begins_with_star (field_text (items ++ others))) (numbers_stepped starred set count low s a))
+    sym (ap (λ items. begins_with_star (list_text (items ++ others))) (numbers_stepped starred set count low s a))
     ∙ begins_first (codes "*/" ++ number_text count) (map range_text (ranges_from set count low) ++ others) is
 
-begins_unstarred : (items : List (List ℕ)) → (items ≡ [] → ⊥) → list_all is_item items ≡ true → list_all no_star items ≡ true → begins_with_star (field_text items) ≡ false
+begins_unstarred : (items : List (List ℕ)) → (items ≡ [] → ⊥) → list_all is_item items ≡ true → list_all no_star items ≡ true → begins_with_star (list_text items) ≡ false
 begins_unstarred [] some are lack = absurd (some refl)
 begins_unstarred (item ∷ items) some are lack =
     begins_first item items (and_parts (is_item item) (list_all is_item items) are).0
@@ -105,26 +108,26 @@ last_lacks_star : (named : Bool) → list_all no_star (if named then codes "LW" 
 last_lacks_star true = refl
 last_lacks_star false = refl
 
-begins_day : (s : FieldSets) (starred : Bool) → is_starred_by_day s ≡ starred → (day_field_items s ≡ [] → ⊥) → begins_with_star (field_text (day_field_items s)) ≡ starred
+begins_day : (s : FieldSets) (starred : Bool) → is_starred_by_day s ≡ starred → (day_field_items s ≡ [] → ⊥) → begins_with_star (list_text (day_field_items s)) ≡ starred
 begins_day s true is some =
-    ap (λ items. begins_with_star (field_text items)) (day_items_are s) ∙ begins_starred s.days 31 1 (is_starred_by_day s) (are_all s.days 31 1) (day_names s) is refl refl
+    ap (λ items. begins_with_star (list_text items)) (day_items_are s) ∙ begins_starred s.days 31 1 (is_starred_by_day s) (are_all s.days 31 1) (day_names s) is refl refl
 begins_day s false is some =
     begins_unstarred (day_field_items s) some (days_are_items s)
     (ap (list_all no_star) (day_items_are s)
-    ∙ all_append no_star (day_numbers s) (day_names s) (ranges_lack_star s.days 31 1 (is_starred_by_day s) is days_lack_star)
-    (all_append no_star (ends s) (last_workdays s.month_days.last_workday ++ workdays s) (names_tested no_star FromEnd s.month_days.from_end 31 0 ends_lack_star)
-    (all_append no_star (last_workdays s.month_days.last_workday) (workdays s) (last_lacks_star s.month_days.last_workday)
+    ∙ all_of no_star (day_numbers s) (day_names s) (ranges_lack_star s.days 31 1 (is_starred_by_day s) is days_lack_star)
+    (all_of no_star (ends s) (last_workdays s.month_days.last_workday ++ workdays s) (names_tested no_star FromEnd s.month_days.from_end 31 0 ends_lack_star)
+    (all_of no_star (last_workdays s.month_days.last_workday) (workdays s) (last_lacks_star s.month_days.last_workday)
     (names_tested no_star NearestWorkday s.month_days.nearest_workdays 31 1 workdays_lack_star))))
 
-begins_weekday : (s : FieldSets) (starred : Bool) → is_starred_by_weekday s ≡ starred → (weekday_field_items s ≡ [] → ⊥) → begins_with_star (field_text (weekday_field_items s)) ≡ starred
+begins_weekday : (s : FieldSets) (starred : Bool) → is_starred_by_weekday s ≡ starred → (weekday_field_items s ≡ [] → ⊥) → begins_with_star (list_text (weekday_field_items s)) ≡ starred
 begins_weekday s true is some =
-    ap (λ items. begins_with_star (field_text items)) (weekday_items_are s)
+    ap (λ items. begins_with_star (list_text items)) (weekday_items_are s)
     ∙ begins_starred s.weekdays 7 0 (is_starred_by_weekday s) (are_all s.weekdays 7 0) (lasts s ++ nths s) is refl refl
 begins_weekday s false is some =
     begins_unstarred (weekday_field_items s) some (weekdays_are_items s)
     (ap (list_all no_star) (weekday_items_are s)
-    ∙ all_append no_star (weekday_numbers s) (lasts s ++ nths s) (ranges_lack_star s.weekdays 7 0 (is_starred_by_weekday s) is weekdays_lack_star)
-    (all_append no_star (lasts s) (nths s) (names_tested no_star LastWeekday s.month_days.last_weekdays 7 0 lasts_lack_star)
+    ∙ all_of no_star (weekday_numbers s) (lasts s ++ nths s) (ranges_lack_star s.weekdays 7 0 (is_starred_by_weekday s) is weekdays_lack_star)
+    (all_of no_star (lasts s) (nths s) (names_tested no_star LastWeekday s.month_days.last_weekdays 7 0 lasts_lack_star)
     (names_tested no_star NthWeekday s.month_days.nth_weekdays 35 0 nths_lack_star)))
 
 -- ---- neither field of days is empty
@@ -179,39 +182,39 @@ five_words a b c d e (some_a, lack_a) (some_b, lack_b) (some_c, lack_c) (some_d,
     (ap₂ (λ x y. x && y) some_a (ap₂ (λ x y. x && y) some_b (ap₂ (λ x y. x && y) some_c (ap₂ (λ x y. x && y) some_d (ap₂ (λ x y. x && y) some_e refl)))))
 
 fields_back : (s : FieldSets) → IsWritable s
-    → fields_of (schedule_text s) ≡ plain_text s.minutes 60 0 ∷ plain_text s.hours 24 0 ∷ field_text (day_field_items s) ∷ plain_text s.months 12 1 ∷ field_text (weekday_field_items s) ∷ []
+    → fields_of (schedule_text s) ≡ plain_text s.minutes 60 0 ∷ plain_text s.hours 24 0 ∷ list_text (day_field_items s) ∷ plain_text s.months 12 1 ∷ list_text (weekday_field_items s) ∷ []
 unfolding fields_of schedule_text
 fields_back s told =
     let nested : schedule_text s
-    ≡ plain_text s.minutes 60 0 ++ 32 ∷ (plain_text s.hours 24 0 ++ 32 ∷ (field_text (day_field_items s) ++ 32 ∷ (plain_text s.months 12 1 ++ 32 ∷ field_text (weekday_field_items s)))) =
+    ≡ plain_text s.minutes 60 0 ++ 32 ∷ (plain_text s.hours 24 0 ++ 32 ∷ (list_text (day_field_items s) ++ 32 ∷ (plain_text s.months 12 1 ++ 32 ∷ list_text (weekday_field_items s)))) =
     simp append_assoc refl in
     ap (λ text. spelled_out (text_words text)) nested
-    ∙ ap spelled_out (five_words (plain_text s.minutes 60 0) (plain_text s.hours 24 0) (field_text (day_field_items s)) (plain_text s.months 12 1) (field_text (weekday_field_items s))
+    ∙ ap spelled_out (five_words (plain_text s.minutes 60 0) (plain_text s.hours 24 0) (list_text (day_field_items s)) (plain_text s.months 12 1) (list_text (weekday_field_items s))
     (minutes_word s.minutes told.minutes told.a_minute) (hours_word s.hours told.hours told.an_hour) (field_is_word (day_field_items s) (some_days s told) (days_are_items s))
     (months_word s.months told.months told.a_month) (field_is_word (weekday_field_items s) (some_weekdays s told) (weekdays_are_items s)))
 
 -- ---- the schedule
 
-day_field : (s : FieldSets) → IsWritable s → slice_split (λ x. x == 44) (field_text (day_field_items s)) ≡ day_field_items s
+day_field : (s : FieldSets) → IsWritable s → slice_split (λ x. x == 44) (list_text (day_field_items s)) ≡ day_field_items s
 day_field s told = field_items (day_field_items s) (some_days s told) (days_are_items s)
 
-weekday_field : (s : FieldSets) → IsWritable s → slice_split (λ x. x == 44) (field_text (weekday_field_items s)) ≡ weekday_field_items s
+weekday_field : (s : FieldSets) → IsWritable s → slice_split (λ x. x == 44) (list_text (weekday_field_items s)) ≡ weekday_field_items s
 weekday_field s told = field_items (weekday_field_items s) (some_weekdays s told) (weekdays_are_items s)
 
-days_back : (s : FieldSets) → IsWritable s → AreListed s.days (days_list (field_text (day_field_items s)))
+days_back : (s : FieldSets) → IsWritable s → AreListed s.days (days_list (list_text (day_field_items s)))
 unfolding days_list
 days_back s told = λ k.
     ap (λ items. items_list Numbers 1 31 (filter (λ item. not (names_by Numbers item)) items) k) (day_field s told) ∙ ap (λ items. items_list Numbers 1 31 items k) (other_days s)
     ∙ days_listed s (day_first s) told.days k
 
-weekdays_back : (s : FieldSets) → IsWritable s → AreListed s.weekdays (weekdays_list (field_text (weekday_field_items s)))
+weekdays_back : (s : FieldSets) → IsWritable s → AreListed s.weekdays (weekdays_list (list_text (weekday_field_items s)))
 unfolding weekdays_list
 weekdays_back s told = λ k.
     ap (λ items. week_given k (items_list Weekdays 0 7 (filter (λ item. not (names_by Weekdays item)) items) 7) (items_list Weekdays 0 7 (filter (λ item. not (names_by Weekdays item)) items) k)) (weekday_field s told)
     ∙ ap (λ items. week_given k (items_list Weekdays 0 7 items 7) (items_list Weekdays 0 7 items k)) (other_weekdays s)
     ∙ weekdays_listed s (sunday_first s) told.weekdays k
 
-named_back : (s : FieldSets) → IsWritable s → AreNamedDays (field_text (day_field_items s)) (field_text (weekday_field_items s)) s.month_days
+named_back : (s : FieldSets) → IsWritable s → AreNamedDays (list_text (day_field_items s)) (list_text (weekday_field_items s)) s.month_days
 unfolding an_item_is
 named_back s told = record {
   from_end = λ k. ap (list_any (λ item. is_number k (from_end_of item))) (day_field s told) ∙ ends_named s told.from_end k;
@@ -225,9 +228,9 @@ pub schedule_back : (s : FieldSets) → IsWritable s → IsScheduleText (schedul
 schedule_back s told = record {
   minute = plain_text s.minutes 60 0;
   hour = plain_text s.hours 24 0;
-  day = field_text (day_field_items s);
+  day = list_text (day_field_items s);
   month = plain_text s.months 12 1;
-  weekday = field_text (weekday_field_items s);
+  weekday = list_text (weekday_field_items s);
   written = fields_back s told;
   minutes = minutes_back s.minutes told.minutes told.a_minute;
   hours = hours_back s.hours told.hours told.an_hour;

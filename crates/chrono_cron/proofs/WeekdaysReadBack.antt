@@ -15,8 +15,9 @@ use Rattle.chrono_cron.specs.ScheduleTexts.{is_number, last_weekday_of, names_by
 use Rattle.chrono_cron.specs.WritableSchedules.{LieBetween}
 use Rattle.chrono_cron.specs.WrittenTexts.{are_all, is_starred_by_weekday, name_text, names_from, number_items, range_text, weekday_field_items}
 use Rattle.chrono_cron.proofs.FieldsReadBack.{StarReads, all_has, are_read, by_ones, is_item, lacks_past, pass_all}
-use Rattle.chrono_cron.proofs.DayFieldsReadBack.{StepReads, all_append, any_append, filter_append, lacks, names_any, names_read, names_tested, none_of, numbers_list, numbers_listed, numbers_pass, pass_from, stepped_has}
+use Rattle.chrono_cron.proofs.DayFieldsReadBack.{StepReads, any_append, filter_append, lacks, names_any, names_read, names_tested, none_of, numbers_list, numbers_listed, numbers_pass, pass_from, stepped_has}
 use Rattle.std.proofs.Math.Bool.{or-false}
+use Rattle.chrono_text.proofs.ListLemmas.{all_of}
 use Rattle.chrono_units.proofs.SetMembers.{or-known}
 
 weekdays_read : are_read Weekdays 0 7 7 ≡ true
@@ -96,12 +97,12 @@ weekday_items_are s = append_assoc (weekday_numbers s) (lasts s) (nths s)
 pub weekdays_are_items : (s : FieldSets) → list_all is_item (weekday_field_items s) ≡ true
 weekdays_are_items s =
     ap (list_all is_item) (weekday_items_are s)
-    ∙ all_append is_item (weekday_numbers s) (lasts s ++ nths s) (numbers_pass is_item s.weekdays 7 0 (is_starred_by_weekday s) refl refl numbers-items)
-    (all_append is_item (lasts s) (nths s) (names_tested is_item LastWeekday s.month_days.last_weekdays 7 0 last-items) (names_tested is_item NthWeekday s.month_days.nth_weekdays 35 0 nth-items))
+    ∙ all_of is_item (weekday_numbers s) (lasts s ++ nths s) (numbers_pass is_item s.weekdays 7 0 (is_starred_by_weekday s) refl refl numbers-items)
+    (all_of is_item (lasts s) (nths s) (names_tested is_item LastWeekday s.month_days.last_weekdays 7 0 last-items) (names_tested is_item NthWeekday s.month_days.nth_weekdays 35 0 nth-items))
 
 names_are : (s : FieldSets) → list_all (names_by Weekdays) (lasts s ++ nths s) ≡ true
 names_are s =
-    all_append (names_by Weekdays) (lasts s) (nths s) (names_tested (names_by Weekdays) LastWeekday s.month_days.last_weekdays 7 0 last-weekdays)
+    all_of (names_by Weekdays) (lasts s) (nths s) (names_tested (names_by Weekdays) LastWeekday s.month_days.last_weekdays 7 0 last-weekdays)
     (names_tested (names_by Weekdays) NthWeekday s.month_days.nth_weekdays 35 0 nth-weekdays)
 
 numbers_are : (s : FieldSets) → list_all is_number_of_weekdays (weekday_numbers s) ≡ true

@@ -1,30 +1,24 @@
 -- Every byte of a schedule's text is ASCII.
-use Rattle.std.proofs.Common.{ℕ, zero, suc, ◌+◌, ◌/◌, ◌%◌, ◌<◌, ◌≤◌, ◌==◌, nat_lt, Bool, List, [], ◌∷◌, ◌++◌, if◌then◌else◌, arith}
+use Rattle.std.proofs.Common.{ℕ, zero, suc, ◌+◌, ◌/◌, ◌%◌, ◌<◌, ◌≤◌, ◌==◌, Bool, List, [], ◌∷◌, ◌++◌, if◌then◌else◌, arith}
 use Rattle.std.specs.Prelude.{map, codes}
-use Rattle.std.specs.List.{join_with_byte}
 use Rattle.std.specs.Str.{IsAscii}
-use Rattle.std.proofs.lemmas.Bool.{ltb-true}
 use Rattle.std.proofs.lemmas.Str.{IsAscii-append}
-use Rattle.std.proofs.lemmas.Str.Ascii.{IsAscii-nil, IsAscii-cons}
+use Rattle.std.proofs.lemmas.Str.Ascii.{IsAscii-cons}
+use Rattle.chrono_text.specs.Lists.{list_text}
+use Rattle.chrono_text.specs.Text.{number_text}
 use Rattle.chrono_sets.specs.Numbers.{Numbers as FiniteSet, has}
 use Rattle.chrono_cron.specs.declared.field_sets.FieldSets.{FieldSets}
 use Rattle.chrono_cron.specs.declared.text.schedule_writer.DayName.{DayName}
 use Rattle.chrono_cron.specs.declared.text.schedule_writer.DayName.TheVariants.{FromEnd, NearestWorkday, LastWeekday, NthWeekday}
-use Rattle.chrono_cron.specs.WrittenTexts.{are_all, day_field_items, field_text, is_starred_by_day, is_starred_by_weekday, name_text, names_from, number_items, number_text, plain_text, range_text, ranges_from, schedule_text, weekday_field_items}
+use Rattle.chrono_cron.specs.WrittenTexts.{are_all, day_field_items, is_starred_by_day, is_starred_by_weekday, name_text, names_from, number_items, plain_text, range_text, ranges_from, schedule_text, weekday_field_items}
 use Rattle.chrono_cron.proofs.WrittenFields.{AreRanges, ranges_are}
-use Rattle.chrono_text.proofs.AsciiTexts.{IsAscii-if, IsAscii-one, AreAscii, AreAscii-if, AreAscii-append}
-
-number_ascii : (n : ℕ) → n < 100 → IsAscii (number_text n)
-number_ascii n small =
-    IsAscii-if (nat_lt n 10) ((48 + n) ∷ []) ((48 + n / 10) ∷ (48 + n % 10) ∷ [])
-    (λ few. IsAscii-one (48 + n) (omega (arith, ltb-true n 10 few)))
-    (λ _. IsAscii-cons (48 + n / 10) ((48 + n % 10) ∷ []) (omega (arith, small)) (IsAscii-one (48 + n % 10) (omega arith)))
+use Rattle.chrono_text.proofs.AsciiTexts.{IsAscii-if, IsAscii-one, AreAscii, AreAscii-if, AreAscii-append, IsAscii-joined, IsAscii-number_text}
 
 range_ascii : (range : ℕ × ℕ) → range.0 < 100 → range.1 < 100 → IsAscii (range_text range)
 range_ascii range first last =
-    let begun = number_ascii range.0 first in
+    let begun = IsAscii-number_text range.0 first in
     IsAscii-if (range.0 == range.1) (number_text range.0) (number_text range.0 ++ codes "-" ++ number_text range.1) (λ _. begun)
-    (λ _. IsAscii-append (number_text range.0 ++ codes "-") (number_text range.1) (IsAscii-append (number_text range.0) (codes "-") begun (IsAscii-one 45 (omega arith))) (number_ascii range.1 last))
+    (λ _. IsAscii-append (number_text range.0 ++ codes "-") (number_text range.1) (IsAscii-append (number_text range.0) (codes "-") begun (IsAscii-one 45 (omega arith))) (IsAscii-number_text range.1 last))
 
 ranges_ascii : (low : ℕ) (ranges : List (ℕ × ℕ)) → AreRanges low 60 ranges → AreAscii (map range_text ranges)
 ranges_ascii low [] are = tt
@@ -33,12 +27,12 @@ ranges_ascii low (range ∷ ranges) (from, order, to, others) = (range_ascii ran
 name_ascii : (naming : DayName) (n : ℕ) → n < 60 → IsAscii (name_text naming n)
 name_ascii FromEnd n small =
     IsAscii-if (n == 0) (codes "L") (codes "L-" ++ number_text n) (λ _. IsAscii-one 76 (omega arith))
-    (λ _. IsAscii-append (codes "L-") (number_text n) (IsAscii-cons 76 (45 ∷ []) (omega arith) (IsAscii-one 45 (omega arith))) (number_ascii n (omega (arith, small))))
-name_ascii NearestWorkday n small = IsAscii-append (number_text n) (codes "W") (number_ascii n (omega (arith, small))) (IsAscii-one 87 (omega arith))
-name_ascii LastWeekday n small = IsAscii-append (number_text n) (codes "L") (number_ascii n (omega (arith, small))) (IsAscii-one 76 (omega arith))
+    (λ _. IsAscii-append (codes "L-") (number_text n) (IsAscii-cons 76 (45 ∷ []) (omega arith) (IsAscii-one 45 (omega arith))) (IsAscii-number_text n (omega (arith, small))))
+name_ascii NearestWorkday n small = IsAscii-append (number_text n) (codes "W") (IsAscii-number_text n (omega (arith, small))) (IsAscii-one 87 (omega arith))
+name_ascii LastWeekday n small = IsAscii-append (number_text n) (codes "L") (IsAscii-number_text n (omega (arith, small))) (IsAscii-one 76 (omega arith))
 name_ascii NthWeekday n small =
     IsAscii-append (number_text (n % 7) ++ codes "#") (number_text (n / 7 + 1))
-    (IsAscii-append (number_text (n % 7)) (codes "#") (number_ascii (n % 7) (omega arith)) (IsAscii-one 35 (omega arith))) (number_ascii (n / 7 + 1) (omega (arith, small)))
+    (IsAscii-append (number_text (n % 7)) (codes "#") (IsAscii-number_text (n % 7) (omega arith)) (IsAscii-one 35 (omega arith))) (IsAscii-number_text (n / 7 + 1) (omega (arith, small)))
 
 names_ascii : (naming : DayName) (set : FiniteSet) (count n : ℕ) → n + count ≤ 60 → AreAscii (names_from naming set count n)
 unfolding names_from
@@ -51,21 +45,19 @@ numbers_ascii : (starred : Bool) (set : FiniteSet) (count low : ℕ) → low + c
 unfolding number_items
 numbers_ascii starred set count low le =
     let ranges = ranges_ascii low (ranges_from set count low) (ranges_are set count low 60 le) in
-    let step = IsAscii-append (codes "*/") (number_text count) (IsAscii-cons 42 (47 ∷ []) (omega arith) (IsAscii-one 47 (omega arith))) (number_ascii count (omega (arith, le))) in
+    let step = IsAscii-append (codes "*/") (number_text count) (IsAscii-cons 42 (47 ∷ []) (omega arith) (IsAscii-one 47 (omega arith))) (IsAscii-number_text count (omega (arith, le))) in
     let stepped = (codes "*/" ++ number_text count) ∷ map range_text (ranges_from set count low) in
     AreAscii-if starred (if are_all set count low then codes "*" ∷ [] else stepped) (map range_text (ranges_from set count low))
     (AreAscii-if (are_all set count low) (codes "*" ∷ []) stepped (IsAscii-one 42 (omega arith), tt) (step, ranges)) ranges
 
-field_ascii : (items : List (List ℕ)) → AreAscii items → IsAscii (field_text items)
-field_ascii [] h = IsAscii-nil
-field_ascii (item ∷ []) h = h.0
-field_ascii (item ∷ next ∷ items) h = IsAscii-append item (44 ∷ join_with_byte 44 (next ∷ items)) h.0 (IsAscii-cons 44 (join_with_byte 44 (next ∷ items)) (omega arith) (field_ascii (next ∷ items) h.1))
+list_ascii : (items : List (List ℕ)) → AreAscii items → IsAscii (list_text items)
+list_ascii items are = IsAscii-joined 44 items (omega arith) are
 
 plain_ascii : (set : FiniteSet) (count low : ℕ) → low + count ≤ 60 → IsAscii (plain_text set count low)
 unfolding plain_text
-plain_ascii set count low le = field_ascii (number_items (are_all set count low) set count low) (numbers_ascii (are_all set count low) set count low le)
+plain_ascii set count low le = list_ascii (number_items (are_all set count low) set count low) (numbers_ascii (are_all set count low) set count low le)
 
-days_ascii : (s : FieldSets) → IsAscii (field_text (day_field_items s))
+days_ascii : (s : FieldSets) → IsAscii (list_text (day_field_items s))
 unfolding day_field_items
 days_ascii s =
     let numbers = number_items (is_starred_by_day s) s.days 31 1 in
@@ -73,18 +65,18 @@ days_ascii s =
     let last = if s.month_days.last_workday then codes "LW" ∷ [] else [] in
     let nearest = names_from NearestWorkday s.month_days.nearest_workdays 31 1 in
     let named = AreAscii-if s.month_days.last_workday (codes "LW" ∷ []) [] (IsAscii-cons 76 (87 ∷ []) (omega arith) (IsAscii-one 87 (omega arith)), tt) tt in
-    field_ascii (numbers ++ ends ++ last ++ nearest)
+    list_ascii (numbers ++ ends ++ last ++ nearest)
     (AreAscii-append (numbers ++ ends ++ last) nearest
     (AreAscii-append (numbers ++ ends) last (AreAscii-append numbers ends (numbers_ascii (is_starred_by_day s) s.days 31 1 (omega arith)) (names_ascii FromEnd s.month_days.from_end 31 0 (omega arith))) named)
     (names_ascii NearestWorkday s.month_days.nearest_workdays 31 1 (omega arith)))
 
-weekdays_ascii : (s : FieldSets) → IsAscii (field_text (weekday_field_items s))
+weekdays_ascii : (s : FieldSets) → IsAscii (list_text (weekday_field_items s))
 unfolding weekday_field_items
 weekdays_ascii s =
     let numbers = number_items (is_starred_by_weekday s) s.weekdays 7 0 in
     let lasts = names_from LastWeekday s.month_days.last_weekdays 7 0 in
     let nths = names_from NthWeekday s.month_days.nth_weekdays 35 0 in
-    field_ascii (numbers ++ lasts ++ nths)
+    list_ascii (numbers ++ lasts ++ nths)
     (AreAscii-append (numbers ++ lasts) nths
     (AreAscii-append numbers lasts (numbers_ascii (is_starred_by_weekday s) s.weekdays 7 0 (omega arith)) (names_ascii LastWeekday s.month_days.last_weekdays 7 0 (omega arith)))
     (names_ascii NthWeekday s.month_days.nth_weekdays 35 0 (omega arith)))
@@ -97,9 +89,9 @@ unfolding schedule_text
 schedule_ascii s =
     let minutes = plain_text s.minutes 60 0 in
     let hours = plain_text s.hours 24 0 in
-    let days = field_text (day_field_items s) in
+    let days = list_text (day_field_items s) in
     let months = plain_text s.months 12 1 in
     let two = spaced minutes hours (plain_ascii s.minutes 60 0 (omega arith)) (plain_ascii s.hours 24 0 (omega arith)) in
     let three = spaced (minutes ++ codes " " ++ hours) days two (days_ascii s) in
     let four = spaced (minutes ++ codes " " ++ hours ++ codes " " ++ days) months three (plain_ascii s.months 12 1 (omega arith)) in
-    spaced (minutes ++ codes " " ++ hours ++ codes " " ++ days ++ codes " " ++ months) (field_text (weekday_field_items s)) four (weekdays_ascii s)
+    spaced (minutes ++ codes " " ++ hours ++ codes " " ++ days ++ codes " " ++ months) (list_text (weekday_field_items s)) four (weekdays_ascii s)

@@ -5,8 +5,10 @@ use Rattle.std.specs.List.{join_with_byte}
 use Rattle.std.proofs.lemmas.Bool.{cases_lt, eqb-true, le-leb, lt-leb}
 use Rattle.chrono_sets.specs.Numbers.{Numbers as FiniteSet, has}
 use Rattle.chrono_cron.specs.declared.text.schedule_writer.DayName.{DayName}
-use Rattle.chrono_cron.specs.WrittenTexts.{are_all, behind_commas, field_text, put_in_front, name_text, names_from, number_items, number_text, one_lists, range_text, ranges_from}
+use Rattle.chrono_cron.specs.WrittenTexts.{are_all, behind_commas, put_in_front, name_text, names_from, number_items, one_lists, range_text, ranges_from}
 use Rattle.std.proofs.Math.Bool.{and-false}
+use Rattle.chrono_text.specs.Lists.{list_text}
+use Rattle.chrono_text.specs.Text.{number_text}
 
 -- ranges one behind another, from `low` on and below `end`
 abbrev pub AreRanges : ℕ → ℕ → List (ℕ × ℕ) → Type 0
@@ -153,14 +155,14 @@ comma_first : (item : List ℕ) (items : List (List ℕ)) → behind_commas (ite
 comma_first item [] = ap (λ text. 44 ∷ text) (append-nil item)
 comma_first item (next ∷ items) = ap (λ text. 44 ∷ item ++ text) (comma_first next items)
 
-pub without_comma : (items : List (List ℕ)) → drop 1 (behind_commas items) ≡ field_text items
+pub without_comma : (items : List (List ℕ)) → drop 1 (behind_commas items) ≡ list_text items
 without_comma [] = refl
 without_comma (item ∷ items) = ap (drop 1) (comma_first item items)
 
 pub item_put : (old new item : List ℕ) (items : List (List ℕ)) → new ≡ old ++ codes "," ++ item → new ++ behind_commas items ≡ old ++ behind_commas (item ∷ items)
 item_put old new item items put = ap (λ text. text ++ behind_commas items) put ∙ simp append_assoc refl
 
-pub field_put : (old new items : List ℕ) (list : List (List ℕ)) → new ≡ old ++ drop 1 items → items ≡ behind_commas list → new ≡ old ++ field_text list
+pub field_put : (old new items : List ℕ) (list : List (List ℕ)) → new ≡ old ++ drop 1 items → items ≡ behind_commas list → new ≡ old ++ list_text list
 field_put old new items list put are = put ∙ ap (λ text. old ++ drop 1 text) are ∙ ap (λ text. old ++ text) (without_comma list)
 
 pub first_put : (old new : List ℕ) (items : List (List ℕ)) → old ≡ [] → new ≡ old ++ behind_commas items → new ≡ behind_commas items

@@ -4,7 +4,7 @@ use Rattle.std.specs.Char.{to_ascii_lowercase}
 use Rattle.std.specs.Option.{option_map, option_and_then}
 use Rattle.std.specs.List.{filter, list_any, slice_split}
 use Rattle.std.specs.Str.{byte, str_eq_ignore_ascii_case}
-use Rattle.chrono_text.specs.Lists.{pieces}
+use Rattle.chrono_text.specs.Lists.{pieces, is_some_text}
 use Rattle.chrono_text.specs.Numbers.{digits_of, natural_of}
 use Rattle.chrono_sets.specs.Numbers.{Numbers as FiniteSet, has}
 use Rattle.chrono_datetime.specs.Names.{month_of_letters, weekday_of_letters}
@@ -17,11 +17,6 @@ use Rattle.chrono_cron.specs.declared.field_sets.FieldSets.{FieldSets}
 -- a space or a tab
 abbrev pub is_blank : ℕ → Bool
 is_blank x = x == byte " " || x == byte "\t"
-
--- whether a text has a byte
-abbrev pub is_some_text : List ℕ → Bool
-is_some_text [] = false
-is_some_text (x ∷ rest) = true
 
 -- what stands between the blanks of a text, before them and behind them
 unfoldable pub text_words : List ℕ → List (List ℕ)

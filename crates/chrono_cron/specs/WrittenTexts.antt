@@ -1,16 +1,11 @@
 -- The text that is written for a schedule.
-use Rattle.std.specs.Prelude.{ℕ, zero, suc, ◌+◌, ◌/◌, ◌%◌, ◌==◌, nat_le, nat_lt, Bool, true, false, not, ◌&&◌, ◌||◌, if◌then◌else◌, List, [], ◌∷◌, ◌++◌, map, codes}
-use Rattle.std.specs.List.{join_with_byte}
-use Rattle.std.specs.Str.{byte}
-use Rattle.chrono_text.specs.Text.{two_digits}
+use Rattle.std.specs.Prelude.{ℕ, zero, suc, ◌+◌, ◌/◌, ◌%◌, ◌==◌, nat_le, Bool, true, false, not, ◌&&◌, ◌||◌, if◌then◌else◌, List, [], ◌∷◌, ◌++◌, map, codes}
+use Rattle.chrono_text.specs.Lists.{list_text}
+use Rattle.chrono_text.specs.Text.{number_text}
 use Rattle.chrono_sets.specs.Numbers.{Numbers as FiniteSet, has}
 use Rattle.chrono_cron.specs.declared.field_sets.FieldSets.{FieldSets}
 use Rattle.chrono_cron.specs.declared.text.schedule_writer.DayName.{DayName}
 use Rattle.chrono_cron.specs.declared.text.schedule_writer.DayName.TheVariants.{FromEnd, NearestWorkday, LastWeekday, NthWeekday}
-
--- a number in one digit or two
-abbrev pub number_text : ℕ → List ℕ
-number_text n = if nat_lt n 10 then (byte "0" + n) ∷ [] else two_digits n
 
 -- a range by its first and its last number, or the one number alone
 abbrev pub range_text : ℕ × ℕ → List ℕ
@@ -61,13 +56,9 @@ abbrev pub behind_commas : List (List ℕ) → List ℕ
 behind_commas [] = []
 behind_commas (item ∷ items) = codes "," ++ item ++ behind_commas items
 
--- a field: items with a comma between each two
-abbrev pub field_text : List (List ℕ) → List ℕ
-field_text items = join_with_byte (byte ",") items
-
 -- the minutes, the hours or the months: `*`, or a list
 unfoldable pub plain_text : FiniteSet → ℕ → ℕ → List ℕ
-plain_text set count low = field_text (number_items (are_all set count low) set count low)
+plain_text set count low = list_text (number_items (are_all set count low) set count low)
 
 -- where a day has to match both of its fields, each that lists all its numbers begins with `*`. If neither does, then that
 -- of days does if it lists the 1st, and else that of weekdays if it lists Sunday
@@ -93,5 +84,5 @@ weekday_field_items s =
 -- the five fields with a space between each two
 unfoldable pub schedule_text : FieldSets → List ℕ
 schedule_text s =
-    plain_text s.minutes 60 0 ++ codes " " ++ plain_text s.hours 24 0 ++ codes " " ++ field_text (day_field_items s)
-    ++ codes " " ++ plain_text s.months 12 1 ++ codes " " ++ field_text (weekday_field_items s)
+    plain_text s.minutes 60 0 ++ codes " " ++ plain_text s.hours 24 0 ++ codes " " ++ list_text (day_field_items s)
+    ++ codes " " ++ plain_text s.months 12 1 ++ codes " " ++ list_text (weekday_field_items s)

@@ -1,7 +1,9 @@
 //! The text of a schedule.
 ghost use Rattle.std.specs.Prelude.{◌≡◌, ◌+◌, ◌-◌, ◌*◌, ◌<◌, ◌≤◌, ◌++◌, ℕ, Some, length, drop, map, codes, [], ◌∷◌, nat_lt, if◌then◌else◌};
+ghost use Rattle.chrono_text.specs.Lists.{list_text};
+ghost use Rattle.chrono_text.specs.Text.{number_text};
 ghost use Rattle.chrono_cron.specs.declared.text.schedule_writer.DayName.TheVariants.{FromEnd, NthWeekday};
-ghost use Rattle.chrono_cron.specs.WrittenTexts.{are_all, behind_commas, day_field_items, field_text, is_starred_by_day, is_starred_by_weekday, name_text, names_from, number_items, number_text, plain_text, range_text, ranges_from, schedule_text, weekday_field_items};
+ghost use Rattle.chrono_cron.specs.WrittenTexts.{are_all, behind_commas, day_field_items, is_starred_by_day, is_starred_by_weekday, name_text, names_from, number_items, plain_text, range_text, ranges_from, schedule_text, weekday_field_items};
 
 use crate::field_sets::FieldSets;
 use crate::schedule::Schedule;
@@ -98,7 +100,7 @@ fn put_plain<const N: usize>(text: &mut Text<N>, set: NumberSet, low: u32, end: 
 // Puts the field of days.
 fn put_days<const N: usize>(text: &mut Text<N>, sets: &FieldSets)
     requires { length text.old + 420 ≤ N }
-    ensures text { text.new ≡ text.old ++ field_text (day_field_items sets.now) }
+    ensures text { text.new ≡ text.old ++ list_text (day_field_items sets.now) }
     ensures fits { length text.new ≤ length text.old + 420 }
 {
     let mut items = Text::<LONGEST_FIELD>::new();
@@ -124,7 +126,7 @@ fn put_days<const N: usize>(text: &mut Text<N>, sets: &FieldSets)
 // Puts the field of weekdays.
 fn put_weekdays<const N: usize>(text: &mut Text<N>, sets: &FieldSets)
     requires { length text.old + 250 ≤ N }
-    ensures text { text.new ≡ text.old ++ field_text (weekday_field_items sets.now) }
+    ensures text { text.new ≡ text.old ++ list_text (weekday_field_items sets.now) }
     ensures fits { length text.new ≤ length text.old + 250 }
 {
     let mut items = Text::<LONGEST_FIELD>::new();

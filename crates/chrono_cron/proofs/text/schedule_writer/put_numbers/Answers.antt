@@ -1,6 +1,7 @@
 use Rattle.std.proofs.Common.{◌≡◌, ◌-◌, ◌++◌, ◌∷◌, append_assoc, ap, sym, ◌∙◌, refl}
 use Rattle.std.specs.Prelude.{map, codes}
-use Rattle.chrono_cron.specs.WrittenTexts.{behind_commas, number_text, range_text, ranges_from}
+use Rattle.chrono_text.specs.Text.{number_text}
+use Rattle.chrono_cron.specs.WrittenTexts.{behind_commas, range_text, ranges_from}
 use Rattle.chrono_cron.proofs.WrittenFields.{numbers_all, numbers_stepped, numbers_unstarred}
 use Rattle.chrono_cron.proofs.text.schedule_writer.put_numbers.Goals as goal
 
