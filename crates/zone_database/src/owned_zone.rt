@@ -164,6 +164,30 @@ impl<A: Allocator> OwnedZone<A> {
         self.rule
     }
 
+    /// Returns the text of the rule, such as `CET-1CEST,M3.5.0,M10.5.0/3`. It is empty if there is none.
+    ///
+    /// ```
+    /// OwnedZone::utc(rt.alloc()).ok()?.rule_text() // "UTC0"
+    /// ```
+    pub fn rule_text(&self) -> &str {
+        match str::from_utf8(self.rule_bytes()) {
+            Ok(text) => text,
+            Err(_) => "",
+        }
+    }
+
+    // The bytes of that text.
+    fn rule_bytes(&self) -> &[u8] {
+        let source = self.source.as_slice();
+        if !self.is_file {
+            return source;
+        }
+        match zone_file::read(source) {
+            Ok(file) => file.footer,
+            Err(_) => b"",
+        }
+    }
+
     /// Returns the kind of local time that holds at the instant `second`, in seconds from 1 January 1970 in UTC: its offset, whether
     /// it is daylight time, and its name.
     ///
