@@ -23,7 +23,7 @@ use chrono_text::{read_two, read_year};
 ///
 /// The form is the year, `-`, the month, `-` and the day. The month and the day have two digits each. A year from 0 to 9999 has four digits and no
 /// sign. Any other year has a sign and at least four digits, as in `-0001-12-31` and `+12345-01-01`.
-#[inline]
+#[inline(always)]
 pub fn read_date(text: &[u8]) -> Result<NaiveDate, ReadError>
     ensures read { IfOk result (λ n. IsDateText text.now n) }
     // Whatever date has this text is the answer: no text is refused, and none has two meanings.
@@ -37,7 +37,7 @@ pub fn read_date(text: &[u8]) -> Result<NaiveDate, ReadError>
 }
 
 // The date whose calendar name the text is.
-#[inline]
+#[inline(always)]
 pub(crate) fn date_of(text: &[u8]) -> Option<NaiveDate>
     ensures read { IfSome result (λ n. IsDateText text.now n) }
     ensures every { (n : ℤ) → IsDateText text.now n → result ≡ Some n }

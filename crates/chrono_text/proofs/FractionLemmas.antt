@@ -200,3 +200,31 @@ IsFractionText-told text other n m is also = (
   IsFractionText-one text other n m is also,
   λ same. IsFractionText-same text other n is (subst (λ k. IsFractionText other k) (sym same) also),
 )
+
+-- three digits behind a point are those of a count of milliseconds
+pub IsCount-millis : (digits : List ℕ) (n : ℕ) → length digits ≡ 3 → (c : IsCount digits n) → (c.count < 1_000) × (all_digits 3 c.count ≡ digits) × (c.count * 1_000_000 ≡ n)
+IsCount-millis digits n three c =
+    let below : c.count < 10 ^ 3 = rw three at c.below in
+    let written : all_digits 3 c.count ≡ digits = rw three at c.written in
+    let worth : c.count * 10 ^ (9 - 3) ≡ n = rw three at c.worth in
+    (below, written, worth)
+
+-- and a count of milliseconds is worth as many nanoseconds
+pub IsPointText-millis : (digits : List ℕ) (count : ℕ) → count < 1_000 → all_digits 3 count ≡ digits → IsPointText (46 ∷ digits) (count * 1_000_000)
+IsPointText-millis digits count below written = record {
+  places = 3;
+  count = count;
+  some = (omega arith, omega arith);
+  below = below;
+  worth = refl;
+  written = ap (λ (t : List ℕ). 46 ∷ t) written;
+}
+
+-- a fraction of four bytes is a point and the three behind it
+pub IsFractionText-millis : (text : List ℕ) (n : ℕ) → length text ≡ 4 → IsFractionText text n → IsPointText (46 ∷ get_or text 1 0 ∷ get_or text 2 0 ∷ get_or text 3 0 ∷ []) n
+IsFractionText-millis [] n e is = absurd (omega (arith, e))
+IsFractionText-millis (p ∷ []) n e is = absurd (omega (arith, e))
+IsFractionText-millis (p ∷ a ∷ []) n e is = absurd (omega (arith, e))
+IsFractionText-millis (p ∷ a ∷ b ∷ []) n e is = absurd (omega (arith, e))
+IsFractionText-millis (p ∷ a ∷ b ∷ d ∷ []) n e is = IsFractionText-some (p ∷ a ∷ b ∷ d ∷ []) n (omega arith) is
+IsFractionText-millis (p ∷ a ∷ b ∷ d ∷ x ∷ rest) n e is = absurd (omega (arith, e))

@@ -1,9 +1,9 @@
 //! Fractions of a second.
-ghost use Rattle.std.specs.Prelude.{◌≡◌, ◌<◌, ◌++◌, codes, ℕ, Some, IfSome};
+ghost use Rattle.std.specs.Prelude.{◌≡◌, ◌<◌, ◌∷◌, [], ◌++◌, codes, ℕ, Some, IfSome};
 ghost use Rattle.chrono_text.specs.Text.{nanos_per_second};
 ghost use Rattle.chrono_text.specs.Fractions.{IsFractionText, IsPointText};
 
-use crate::read::places::read_all;
+use crate::read::places::{read_all, read_three};
 
 // A nanosecond stands in the last of these places behind the point.
 const MOST_PLACES: usize = 9;
@@ -26,9 +26,21 @@ pub fn read_fraction(text: &[u8]) -> Option<u32>
 {
     match text {
         [] => Some(0),
+        // The usual three digits need no loop.
+        [b'.', hundreds, tens, ones] => read_millis(*hundreds, *tens, *ones),
         [b'.', digits @ ..] => read_places(digits),
         _ => None,
     }
+}
+
+// The nanoseconds that three digits write behind a point.
+#[inline]
+fn read_millis(hundreds: u8, tens: u8, ones: u8) -> Option<u32>
+    ensures some { IfSome result (λ n. (n < nanos_per_second) × IsPointText (codes "." ++ hundreds ∷ tens ∷ ones ∷ []) n) }
+    ensures every { (n : ℕ) → IsPointText (codes "." ++ hundreds ∷ tens ∷ ones ∷ []) n → result ≡ Some n }
+{
+    let millis = read_three(hundreds, tens, ones)?;
+    Some(millis * 1_000_000)
 }
 
 // The nanoseconds that one to nine digits write behind a point.

@@ -16,7 +16,7 @@ use crate::read::places::read_four;
 /// read_year(b"+12024") // Some(12024)
 /// read_year(b"+2024") // None
 /// ```
-#[inline]
+#[inline(always)]
 pub fn read_year(text: &[u8]) -> Option<i32>
     ensures some { IfSome result (λ y. (unsigned_abs y < 1_000_000) × (year_text y ≡ text.now)) }
     // Whatever year has this text is the answer.
