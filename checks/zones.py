@@ -1,7 +1,7 @@
 #!/usr/bin/env python3
 """Holds zone_table, zone_rule, zone_text, zone_file and zone to Python's zoneinfo, over all zones of the system's database.
 
-    checks/zones.py [--seed N] [--lines N]      (seed 1 and 20,000 lines, if left out)
+    checks/zones.py [--seed N] [--lines N] [--mutated N]      (seed 1, 20,000 lines and 200,000 files, if left out)
 
 Each zone's file is read by zone_file, which makes a table, and here once more. The text at its end is read by zone_text, which
 makes the rule. Up to the last row an answer is asked of the table, from there on of the rule, and everywhere of the whole zone. An offset is that of zoneinfo at the instant. The offsets of a local time are
@@ -9,6 +9,9 @@ those of the zone's offsets at whose instant zoneinfo gives them again. The next
 and zoneinfo has to change there. Rules are asked past the year 9999 and before it begins too, and so are texts made here at
 random. For these a second reading counts days and tries nine years. It also says which texts and files with one byte changed are right. `rt try` runs a small program unproved, in a copy of the
 crates: it answers the lines, and what differs is printed. A second run of the same lines with one answer changed has to find it.
+
+Then timed_zone reads files with up to four bytes changed, with all its checks at run time. None may stop it, and in each zone that
+it makes of one an instant has to be among those of its own local time.
 """
 import argparse
 import datetime
@@ -22,12 +25,15 @@ import sys
 import tempfile
 import zoneinfo
 
-from outside import put_program
+from outside import TOP, put_program
 
+TIMED = os.path.join(TOP, "crates", "timed_zone")
 UTC = datetime.timezone.utc
 DAY = 86_400
 # What zoneinfo has, two days from the ends of its years.
 FIRST, LAST = -62_135_596_800 + 2 * DAY, 253_402_300_799 - 2 * DAY
+# Zones whose files are changed: with rules north and south of the equator, and with one offset.
+MUTATED = ("America/New_York", "Europe/Dublin", "Asia/Jerusalem", "Australia/Lord_Howe", "Asia/Tehran")
 PROGRAM = r'''//! Answers questions on zones, a line each.
 #![tactic(auto)]
 
@@ -95,7 +101,9 @@ fn main(rt: HostRuntime) -> io::Result<()> {
                 Ok(zone) => {
                     rule = zone.rule;
                     has_rule = true;
-                    println!(rt; "= {} {} {:?}", name_of(zone.standard_name), name_of(zone.daylight_name), zone.rule)?
+                    let text = zone.to_text();
+                    let written = text.as_ref().map(|it| it.as_str()).unwrap_or("none");
+                    println!(rt; "= {} {} {:?} {written}", name_of(zone.standard_name), name_of(zone.daylight_name), zone.rule)?
                 }
                 Err(error) => println!(rt; "= none {}", error.byte <= line.as_str().len() - 5)?,
             },
@@ -232,7 +240,7 @@ class Rule:
         return text + names[1] + ("" if self.daylight == self.standard + 3_600 else self.clock(-self.daylight)) + f",{self.date(self.begins)},{self.date(self.ends)}"
 
     def told(self):
-        """The names and the rule, as the program tells them."""
+        """The names, the rule and its text, as the program tells them."""
         offset = lambda it: f"{'-' if it < 0 else '+'}{abs(it) // 3_600:02}:{abs(it) // 60 % 60:02}" + (f":{abs(it) % 60:02}" if it % 60 else "")  # noqa: E731
         days = ("Sun", "Mon", "Tue", "Wed", "Thu", "Fri", "Sat")
 
@@ -244,7 +252,7 @@ class Rule:
         daylight = "None"
         if self.daylight is not None:
             daylight = f"Some(Daylight {{ offset: {offset(self.daylight)}, begins: {change(self.begins)}, ends: {change(self.ends)} }})"
-        return f"{self.names[0]} {self.names[1]} ZoneRule {{ standard: {offset(self.standard)}, daylight: {daylight} }}"
+        return f"{self.names[0]} {self.names[1]} ZoneRule {{ standard: {offset(self.standard)}, daylight: {daylight} }} {self.text()}"
 
     @staticmethod
     def shown(change, year):
@@ -500,10 +508,29 @@ def differing(questions, answers, wanted):
     return [f"{it}: {a}, not {b}" for it, a, b in zip(questions, answers, wanted) if a != b]
 
 
+def mutated(room, zones, seed, count):
+    """What goes wrong in reading changed files, and how many were read."""
+    cases = os.path.join(room, "cases")
+    os.mkdir(cases)
+    found = [it for it in zones if it.info.key in MUTATED]
+    for zone in found:
+        path = os.path.join(cases, zone.info.key.replace("/", "_"))
+        with open(path, "wb") as it:
+            it.write(zone.data)
+        with open(f"{path}.args", "w") as it:
+            it.write(f"mutate\n{count // len(found)}\n{seed}\n")
+    ran = subprocess.run(["rt", "try", "--seconds", "300", "--cases", cases], cwd=TIMED, stdout=subprocess.PIPE, stderr=subprocess.STDOUT, text=True, errors="replace")
+    counts = re.findall(r"^Counts \{ read: (\d+), .*wrong: (\d+), refused: (\d+),", ran.stdout, re.M)
+    if ran.returncode or len(counts) != len(found) or any(int(wrong) for _, wrong, _ in counts):
+        sys.exit(f"a changed file stops timed_zone, or makes a wrong zone:\n{ran.stdout[-3000:]}")
+    return sum(int(it) for it, _, _ in counts), sum(int(it) for _, _, it in counts)
+
+
 def main():
     parser = argparse.ArgumentParser(description=__doc__.partition("\n")[0])
     parser.add_argument("--seed", type=int, default=1)
     parser.add_argument("--lines", type=int, default=20_000)
+    parser.add_argument("--mutated", type=int, default=200_000)
     options = parser.parse_args()
     draw = random.Random(options.seed)
     known = list(zones())
@@ -522,6 +549,7 @@ def main():
     questions, wanted = [it for it, _ in rows], [it for _, it in rows]
     with tempfile.TemporaryDirectory(prefix="zones-") as room:
         answers = answers_of(room, questions)
+        read, refused = mutated(room, known, options.seed, options.mutated)
     if len(answers) != len(wanted):
         sys.exit(f"{len(answers)} answers for {len(wanted)} lines")
     wrong = differing(questions, answers, wanted)
@@ -530,7 +558,7 @@ def main():
     changed = ["", *wanted[1:]]
     if len(differing(questions, answers, changed)) != len(wrong) + 1 and answers[0] == wanted[0]:
         sys.exit("a changed answer is not found")
-    print(f"{len(known)} zones")
+    print(f"{len(known)} zones, {read + refused} changed files, of which {refused} are refused")
     print(f"{len(wanted) - len(wrong)} passed, {len(wrong)} failed")
     sys.exit(bool(wrong))
 
