@@ -7,6 +7,12 @@ ghost use Rattle.zone_table.specs.Table.{IsTable, offset_after, table_offset, ro
 use crate::row::{Row, second_at, table_offset};
 use chrono_zoned::{FixedOffset, MappedLocalTime};
 
+// No offset is as much.
+const SECS_PER_DAY: i64 = 86_400;
+
+// How many places beside a guess are looked at first. Mostly the row there is the first that has not started.
+const NEAR_GUESS: u8 = 2;
+
 /// Returns the offset at the instant `second`: that of the last row that has begun by then, or `first` before all rows.
 ///
 /// Requires rows in which each follows the one before it ([`first_unordered`](crate::first_unordered)).
@@ -103,13 +109,17 @@ pub(crate) fn rows_begun(rows: &[Row], second: i64) -> usize
 // How many rows skip or repeat local seconds from `local` or an earlier one on.
 #[inline]
 fn starts_by(first: FixedOffset, rows: &[Row], local: i64) -> usize
-    requires { IsRising (local_start (row_second rows.now) (offset_after first rows.now)) (length rows.now) }
+    requires starts { IsRising (local_start (row_second rows.now) (offset_after first rows.now)) (length rows.now) }
+    requires seconds { IsRising (row_second rows.now) (length rows.now) }
     ensures { Come (local_start (row_second rows.now) (offset_after first rows.now)) (length rows.now) local result }
 {
+    let guess = rows_begun(rows, local.saturating_sub(SECS_PER_DAY));
     let mut low = 0;
     let mut high = rows.len();
+    let mut near = NEAR_GUESS;
     while low < high {
-        let middle = low + (high - low) / 2;
+        let middle = place_between(low, high, guess, near);
+        near = near.saturating_sub(1);
         if start_of(first, rows, middle) <= i128::from(local) {
             low = middle + 1;
         } else {
@@ -117,6 +127,19 @@ fn starts_by(first: FixedOffset, rows: &[Row], local: i64) -> usize
         }
     }
     low
+}
+
+// A place from `low` to before `high`: the next one to a guess, or the middle.
+#[inline]
+fn place_between(low: usize, high: usize, guess: usize, near: u8) -> usize
+    requires { low < high }
+    ensures first { low ≤ result }
+    ensures last { result < high }
+{
+    if 0 < near {
+        return guess.max(low).min(high - 1);
+    }
+    low + (high - low) / 2
 }
 
 // The local second from which a row skips or repeats seconds.
