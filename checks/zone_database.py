@@ -1,9 +1,10 @@
 #!/usr/bin/env python3
-"""Holds zone_database to Python's zoneinfo: all names of the system's database, the machine's own zone, and files that are no zone's.
+"""Holds zone_database to Python's zoneinfo and GNU date: all names of the system's database, the machine's own zone, and files that are no zone's.
 
     checks/zone_database.py [--seed N] [--instants N]      (seed 1 and 100 instants of each zone, if left out)
 
-At each instant the offset, the name and whether it is daylight time are those of zoneinfo. Names that leave the folder, and files
+At each instant the offset, the name and whether it is daylight time are those of zoneinfo. At 10,000 instants of a hundred zones
+the offset and the name are also those that GNU date prints. Names that leave the folder, and files
 that are no zone's, have to be refused, each for its own reason. The machine's zone is read with several texts of TZ. `rt try` runs a
 small program unproved, in a copy of the crates: it answers the lines, and what differs is printed. A second comparison with one
 answer changed has to find it.
@@ -13,6 +14,7 @@ import datetime
 import os
 import random
 import re
+import shutil
 import subprocess
 import sys
 import tempfile
@@ -202,6 +204,20 @@ def of_zones(draw, instants):
             yield f"at {second}", told(zone, second)
 
 
+def of_gnu_date(draw, zones=100, instants=100):
+    """Some zones, and instants of them, as GNU date tells them."""
+    for name in draw.sample(sorted(zoneinfo.available_timezones()), zones):
+        seconds = [draw.randrange(*OFTEN) for _ in range(instants)]
+        said = subprocess.run(["date", "--file=-", "+%::z %Z"], input="".join(f"@{it}\n" for it in seconds), env={**os.environ, "TZ": name, "LC_ALL": "C"},
+                              capture_output=True, text=True, check=True).stdout.split("\n")
+        yield f"zone {name}", "read"
+        for second, line in zip(seconds, said):
+            hours, minutes, rest = re.fullmatch(r"([+-]\d\d):(\d\d):(\d\d) .*", line).groups()
+            offset = (-1 if line[0] == "-" else 1) * (abs(int(hours)) * 3600 + int(minutes) * 60 + int(rest))
+            by_python = told(zoneinfo.ZoneInfo(name), second)
+            yield f"at {second}", f'{offset} Some({offset}) Some("{line.split(" ")[1]}") ' + by_python.rpartition(" ")[2]
+
+
 def of_faults(folder):
     """Names and files that are no zone's, each with what the program has to say; the files are in the folder."""
     yield from ((f"zone {it}", "NoName: no time zone has such a name") for it in NO_NAMES)
@@ -279,6 +295,8 @@ def main():
     options = parser.parse_args()
     draw = random.Random(options.seed)
     rows = list(of_zones(draw, options.instants))
+    if rows and shutil.which("date"):
+        rows += of_gnu_date(draw)
     if not rows:
         print("not run: checks/zone_database.py, which needs a database of time zones")
         return
