@@ -8,7 +8,7 @@ ghost use Rattle.chrono_rules.specs.Instances.{is_member};
 ghost use Rattle.chrono_rules.specs.RuleParts.{lacks_positions};
 ghost use Rattle.chrono_rules.specs.Periods.{period_end, period_first};
 
-use crate::rule::Rule;
+use crate::rule::{Frequency, Rule};
 use crate::search::first_members::Walked;
 use crate::search::periods::moved;
 use chrono_datetime::{Datelike, NaiveDate};
@@ -22,7 +22,7 @@ struct Counted {
 
 impl Rule {
     // The first members from a member on, as many as make them `most`, before `end`.
-    // Before `day` come `seen` of them. With BYSETPOS they are all of its period; without, the member alone.
+    // Before `day` come `seen` of them. With BYSETPOS they are all of its period; without, or in a period of one day, the member alone.
     pub(crate) fn members_on(
         &self,
         start: NaiveDate,
@@ -42,13 +42,13 @@ impl Rule {
         ensures few { result.seen ≤ most }
         ensures fewer { (d : ℤ) → day ≤ℤ d → d <ℤ result.day → count_between (is_member self.now start) start d < most }
     {
-        if self.lacks_positions() {
-            return Walked {
-                day: moved(day, 1),
-                seen: seen + 1,
-            };
+        if !self.lacks_positions() && self.frequency != Frequency::Daily {
+            return self.members_of_period(start, day, seen, end, most);
         }
-        self.members_of_period(start, day, seen, end, most)
+        Walked {
+            day: moved(day, 1),
+            seen: seen + 1,
+        }
     }
 
     // The same for a rule with BYSETPOS, from any day on. It looks at each day of the period once.

@@ -9,7 +9,7 @@ ghost use Rattle.chrono_rules.specs.Instances.{is_member};
 ghost use Rattle.chrono_rules.specs.RuleParts.{lacks_positions};
 ghost use Rattle.chrono_rules.specs.Periods.{period_end, period_first};
 
-use crate::rule::Rule;
+use crate::rule::{Frequency, Rule};
 use crate::search::instance_days::PAST_LAST_DAY;
 use chrono_datetime::{Datelike, NaiveDate};
 use chrono_sets::PlaceSet;
@@ -148,7 +148,7 @@ impl Rule {
         }
     }
 
-    // How many days from this one on have no place that BYSETPOS names, at most those of its period; 0 where the rule has none.
+    // How many days from this one on have no place that BYSETPOS names, at most those of its period; 0 where the rule names no place.
     #[inline]
     pub(crate) fn passed_by_position(&self, start: NaiveDate, day: NaiveDate) -> i64
         ensures passed { PassedOver (is_member self.now start) day (day +ℤ result) }
@@ -156,6 +156,10 @@ impl Rule {
         ensures high { result ≤ℤ pos 366 }
     {
         if self.lacks_positions() {
+            return 0;
+        }
+        if self.frequency == Frequency::Daily {
+            // The one day of the period is looked at by itself.
             return 0;
         }
         let before = self.passing_before(start, day);
