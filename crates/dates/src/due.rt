@@ -131,4 +131,3 @@ fn schedule_of<'a>(word: Word<'a>) -> Result<Schedule, Fault<'a>> {
         Err(error) => Err(Fault::Word(word, Cause::Schedule(error))),
     }
 }
-

@@ -45,7 +45,9 @@ pub(crate) const PLAIN: &[Opt] = &[JSON, HELP];
 pub(crate) const OPEN_DAYS: &[Opt] = &[WEEKEND, CALENDAR, HOLIDAYS, JSON, HELP];
 
 /// The options of a command that knows open days and instants.
-pub(crate) const OPEN_DAYS_AND_INSTANTS: &[Opt] = &[WEEKEND, CALENDAR, HOLIDAYS, ZONED, UNIX, JSON, HELP];
+pub(crate) const OPEN_DAYS_AND_INSTANTS: &[Opt] = &[
+    WEEKEND, CALENDAR, HOLIDAYS, ZONED, UNIX, JSON, HELP,
+];
 
 /// `--unix`.
 pub(crate) const UNIX: Opt = Opt {

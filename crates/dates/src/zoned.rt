@@ -6,8 +6,7 @@ use crate::values::{InstantForm, start_as, start_of};
 use chrono_datetime::{NaiveDate, NaiveDateTime, TimeDelta};
 use chrono_zoned::{DateTime, FixedOffset, InZone, MappedLocalTime, Timestamp};
 use dates_answer::Quoted;
-use std::fmt;
-use std::io;
+use std::{fmt, io};
 use zone_database::{OwnedZone, ZoneError, local_zone, system_database};
 
 /// The name of a time zone.
@@ -33,7 +32,8 @@ pub(crate) const ZONED: Opt = Opt {
 };
 
 /// What a zone is, as helps say it.
-pub(crate) const ZONES: &str = "A ZONE is a name of the time zone database, as Europe/Berlin, or local, which is\n\
+pub(crate) const ZONES: &str =
+    "A ZONE is a name of the time zone database, as Europe/Berlin, or local, which is\n\
     the machine's own: that of TZ in the environment, or else of /etc/localtime.";
 
 // The name of the machine's own zone.
@@ -43,7 +43,9 @@ const LOCAL: &str = "local";
 pub(crate) fn zone_of<'a, R: Host>(rt: &R, word: Word<'a>) -> Result<OwnedZone<R::A>, Fault<'a>> {
     match read_zone(rt, word.text) {
         Ok(zone) => Ok(zone),
-        Err(ZoneError::OutOfMemory) => Err(Fault::Failed(io::Error::from(io::ErrorKind::OutOfMemory))),
+        Err(ZoneError::OutOfMemory) => Err(Fault::Failed(io::Error::from(
+            io::ErrorKind::OutOfMemory,
+        ))),
         Err(error) => Err(Fault::Zone(word, error)),
     }
 }
@@ -193,7 +195,11 @@ impl fmt::Display for ZonedLine<'_> {
         let (shown, name) = (self.shown, self.name);
         match self.form {
             OutputForm::Text => write!(f, "{shown:?} {name}"),
-            OutputForm::Json => write!(f, "{{\"moment\":\"{shown:?}\",\"name\":{}}}", Quoted { text: name }),
+            OutputForm::Json => write!(
+                f,
+                "{{\"moment\":\"{shown:?}\",\"name\":{}}}",
+                Quoted { text: name }
+            ),
         }
     }
 }
