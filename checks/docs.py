@@ -54,10 +54,10 @@ ABSENT = {
     "of JavaScript": "calendarName PlainTime iso8601 RangeError Temporal overflow round toLocaleString",
     "of earlier versions": "check_rule check_schedule Nearest Roll::Nearest",
     "of C": "int32_t memcpy",
-    "of Rust's compiler and of the kit's options": "ConversionError serde target_feature wasm64",
-    "read from the environment": "CALENDAR_FOLDER CMAKE_PREFIX_PATH PKG_CONFIG_PATH",
+    "of Rust's compiler and of the kit's options": "ConversionError serde",
+    "read from the environment": "CALENDAR_FOLDER CMAKE_PREFIX_PATH PKG_CONFIG_PATH TZ TZDIR",
     "of chrono, and left out here": """from_timestamp_opt timestamp_nanos parse_from_str parse_and_remainder ParseMonthError ParseWeekdayError format_with_items
-        format_localized format_localized_with_items and_utc and_local_timezone Local
+        format_localized format_localized_with_items and_utc and_local_timezone
         BEFORE_MIN AFTER_MAX UNIX_EPOCH as_seconds_f64 as_seconds_f32 from_std to_std OutOfRangeError
         from_isoywd from_num_days_from_ce from_hms
         from_num_seconds_from_midnight and_hms NaiveDate::succ NaiveDate::pred""",
@@ -65,7 +65,7 @@ ABSENT = {
     "words of CMake, of the shell and of a line": "find_package cc move pkg-config",
     "words of the program dates": "MONTH mo us-federal modified-following modified-preceding",
     "digits of a number": "_294_967_297",
-    "texts and digits of a text": "P0D PT59M59 PT90S PT007S PT1H30M PT5400S PT0S",
+    "texts and digits of a text": "CEST P0D PT59M59 PT90S PT007S PT1H30M PT5400S PT0S",
     "made by tools/dist": "SHA256SUMS",
     "in the place of a name, or a part of names": "LAW ARGS condition with_ _opt _milli _micro _nano",
 }
@@ -76,6 +76,7 @@ NO_FILES = {
     "an option of a compiler": "-Ilanguages/c",
     "of the kit": "docs/WALKS.md",
     "of the reader": "main.c",
+    "of the machine": "/usr/share/zoneinfo /etc/localtime Europe/Berlin",
     "in the place of a name": "plants/MODULE.edits specs.MODULE.edits proofs/MODULE/FUNCTION/Answers.antt",
 }
 
