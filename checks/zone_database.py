@@ -170,11 +170,14 @@ fn main(rt: HostRuntime) -> io::Result<()> {
             }
             _ => {
                 let second: i64 = word.parse().unwrap_or(0);
-                let lent = zone.zone();
-                let kind = zone.kind_at(second);
-                let is_dst = kind.map(|kind| kind.is_dst);
-                let offset = kind.map(|kind| kind.offset.local_minus_utc());
-                println!(rt; "= {} {:?} {:?} {:?}", lent.offset_of_instant(second).local_minus_utc(), offset, zone.abbreviation(second), is_dst)?
+                let offset = zone.zone().offset_of_instant(second);
+                match zone.kind_at(second) {
+                    Some(kind) if kind.offset == offset => {
+                        let daylight = if kind.is_dst { "*" } else { "" };
+                        println!(rt; "= {} {}{daylight}", offset.local_minus_utc(), zone.abbreviation(second).unwrap_or("?"))?
+                    }
+                    _ => println!(rt; "= another kind")?,
+                }
             }
         }
     }
@@ -188,10 +191,9 @@ NO_ZONES = ("Europe", "Europe/Berlinn", "UTC/UTC", "-", "+", "_", "a" * 255, "/"
 
 
 def told(zone, second):
-    """What the program tells of a zone at an instant."""
+    """What the program tells of a zone at an instant: the offset, and the name, with a `*` in daylight time."""
     local = datetime.datetime.fromtimestamp(second, UTC).astimezone(zone)
-    offset = int(local.utcoffset().total_seconds())
-    return f'{offset} Some({offset}) Some("{local.tzname()}") Some({"true" if local.dst() else "false"})'
+    return f"{int(local.utcoffset().total_seconds())} {local.tzname()}{'*' * bool(local.dst())}"
 
 
 def of_zones(draw, instants):
@@ -265,7 +267,7 @@ def of_machine(room):
     """Texts of TZ and TZDIR, each with what is told of the machine's zone and of 1 July 2024 there."""
     second = 1_719_792_000
     berlin, new_york = (f"at {second}", told(zoneinfo.ZoneInfo("Europe/Berlin"), second)), (f"at {second}", told(zoneinfo.ZoneInfo("America/New_York"), second))
-    utc = (f"at {second}", '0 Some(0) Some("UTC") Some(false)')
+    utc = (f"at {second}", "0 UTC")
     folder = next(it for it in zoneinfo.TZPATH if os.path.isdir(it))
     yield from (("local Europe/Berlin", "named Europe/Berlin"), berlin)
     yield from (("local :Europe/Berlin", "named Europe/Berlin"), berlin)
