@@ -216,8 +216,9 @@ def of_gnu_date(draw, zones=100, instants=100):
         for second, line in zip(seconds, said):
             hours, minutes, rest = re.fullmatch(r"([+-]\d\d):(\d\d):(\d\d) .*", line).groups()
             offset = (-1 if line[0] == "-" else 1) * (abs(int(hours)) * 3600 + int(minutes) * 60 + int(rest))
-            by_python = told(zoneinfo.ZoneInfo(name), second)
-            yield f"at {second}", f'{offset} Some({offset}) Some("{line.split(" ")[1]}") ' + by_python.rpartition(" ")[2]
+            # (GNU date does not tell daylight time)
+            daylight = "*" * told(zoneinfo.ZoneInfo(name), second).endswith("*")
+            yield f"at {second}", f"{offset} {line.partition(' ')[2]}{daylight}"
 
 
 def of_faults(folder):
