@@ -21,14 +21,18 @@ pub fn sum_of_answers(call: InstantCall, generator: Generator, count: u64) -> u6
 
 fn timestamps(mut generator: Generator, count: u64) -> u64 {
     let moments = table(&mut generator, moment);
-    sum_of!(generator, count, drawn => of_signed(moments[first(drawn)].timestamp()))
+    sum_of!(generator, count, drawn => {
+        let moment = moments[first(drawn)];
+        of_signed(moment.timestamp())
+    })
 }
 
 fn local_times(mut generator: Generator, count: u64) -> u64 {
     let moments = table(&mut generator, moment);
     let offsets = table(&mut generator, offset);
     sum_of!(generator, count, drawn => {
-        match offsets[second(drawn)].from_utc_datetime(&moments[first(drawn)]) {
+        let (moment, offset) = (moments[first(drawn)], offsets[second(drawn)]);
+        match offset.from_utc_datetime(&moment) {
             Some(stamp) => of_moment(Some(stamp.naive_local())),
             None => 0,
         }
