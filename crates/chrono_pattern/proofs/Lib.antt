@@ -1,0 +1,2 @@
+-- All serve this crate's own proofs alone.
+mod PatternLemmas

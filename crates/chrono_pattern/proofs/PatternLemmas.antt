@@ -1,0 +1,93 @@
+-- A pattern byte by byte: its text, and its first error.
+use Rattle.std.proofs.Common.{◌≡◌, ℕ, ◌+◌, ◌≤◌, List, [], ◌∷◌, ◌++◌, length, length-append, append_assoc, append-nil, Option, None, Some, refl, ap, sym, ◌∙◌, arith}
+use Rattle.chrono_datetime.specs.Moment.{Moment}
+use Rattle.chrono_pattern.specs.Patterns.{begun_at, cut_error, error_from, item_text, text_from}
+use Rattle.chrono_pattern.specs.Steps.{pattern_step}
+use Rattle.chrono_pattern.specs.declared.error.PatternError.{PatternError}
+use Rattle.chrono_pattern.specs.declared.error.PatternFault.TheVariants.{Unknown}
+use Rattle.chrono_pattern.specs.declared.item.Item.{Item}
+use Rattle.chrono_pattern.specs.declared.item.State.{State}
+
+-- ---- the text
+
+text_from-more : (s : State) (c : ℕ) (bytes : List ℕ) (m : Moment) (next : State × Item) → pattern_step s c ≡ Some next
+    → text_from s (c ∷ bytes) m ≡ item_text next.1 m ++ text_from next.0 bytes m
+unfolding text_from
+text_from-more s c bytes m next e =
+    ap (λ (o : Option (State × Item)). elim o as (λ _. List ℕ) [ None ↦ [] | Some n ↦ item_text n.1 m ++ text_from n.0 bytes m ]) e
+
+text_from-none : (s : State) (c : ℕ) (bytes : List ℕ) (m : Moment) → pattern_step s c ≡ None
+    → text_from s (c ∷ bytes) m ≡ []
+unfolding text_from
+text_from-none s c bytes m e =
+    ap (λ (o : Option (State × Item)). elim o as (λ _. List ℕ) [ None ↦ [] | Some n ↦ item_text n.1 m ++ text_from n.0 bytes m ]) e
+
+text_from-nothing : (s : State) (m : Moment) → text_from s [] m ≡ []
+unfolding text_from
+text_from-nothing s m = refl
+
+-- the same of a text that begins with the byte
+pub text_from-goes_on : (s : State) (c : ℕ) (bytes behind : List ℕ) (m : Moment) (next : State × Item) → bytes ≡ c ∷ behind
+    → pattern_step s c ≡ Some next → text_from s bytes m ≡ item_text next.1 m ++ text_from next.0 behind m
+text_from-goes_on s c bytes behind m next is step = ap (λ (l : List ℕ). text_from s l m) is ∙ text_from-more s c behind m next step
+
+pub text_from-stops : (s : State) (c : ℕ) (bytes behind : List ℕ) (m : Moment) → bytes ≡ c ∷ behind
+    → pattern_step s c ≡ None → text_from s bytes m ≡ []
+text_from-stops s c bytes behind m is step = ap (λ (l : List ℕ). text_from s l m) is ∙ text_from-none s c behind m step
+
+pub text_from-ends : (s : State) (bytes : List ℕ) (m : Moment) → length bytes ≡ 0 → text_from s bytes m ≡ []
+text_from-ends s [] m none = text_from-nothing s m
+text_from-ends s (c ∷ bytes) m none = absurd (omega (arith, none))
+
+-- where nothing is left, all is written
+pub all_written : (text rest total : List ℕ) → text ++ rest ≡ total → rest ≡ [] → text ≡ total
+all_written text rest total whole none = sym (append-nil text) ∙ ap (λ (l : List ℕ). text ++ l) (sym none) ∙ whole
+
+-- an item is put behind the text
+pub text_grows : (text piece : List ℕ) (s : State) (c : ℕ) (bytes behind : List ℕ) (m : Moment) (next : State × Item) (total : List ℕ)
+    → text ++ text_from s bytes m ≡ total → bytes ≡ c ∷ behind → pattern_step s c ≡ Some next → piece ≡ item_text next.1 m
+    → (text ++ piece) ++ text_from next.0 behind m ≡ total
+text_grows text piece s c bytes behind m next total whole is step put =
+    append_assoc text piece (text_from next.0 behind m)
+    ∙ ap (λ (l : List ℕ). text ++ (l ++ text_from next.0 behind m)) put
+    ∙ ap (λ (l : List ℕ). text ++ l) (sym (text_from-goes_on s c bytes behind m next is step))
+    ∙ whole
+
+-- the whole text is no shorter than what is put
+pub no_shorter : (text piece rest total : List ℕ) → (text ++ piece) ++ rest ≡ total → length text + length piece ≤ length total
+no_shorter text piece rest total whole =
+    omega (arith, ap (λ (l : List ℕ). length l) whole, length-append (text ++ piece) rest, length-append text piece)
+
+-- ---- the first error
+
+error_from-more : (s : State) (begun place c : ℕ) (bytes : List ℕ) (next : State × Item) → pattern_step s c ≡ Some next
+    → error_from s begun place (c ∷ bytes) ≡ error_from next.0 (begun_at s begun place) (place + 1) bytes
+unfolding error_from
+error_from-more s begun place c bytes next e =
+    ap (λ (o : Option (State × Item)). elim o as (λ _. Option PatternError) [ None ↦ Some (record { byte = begun_at s begun place; cause = Unknown }) | Some n ↦ error_from n.0 (begun_at s begun place) (place + 1) bytes ]) e
+
+error_from-none : (s : State) (begun place c : ℕ) (bytes : List ℕ) → pattern_step s c ≡ None
+    → error_from s begun place (c ∷ bytes) ≡ Some (record { byte = begun_at s begun place; cause = Unknown })
+unfolding error_from
+error_from-none s begun place c bytes e =
+    ap (λ (o : Option (State × Item)). elim o as (λ _. Option PatternError) [ None ↦ Some (record { byte = begun_at s begun place; cause = Unknown }) | Some n ↦ error_from n.0 (begun_at s begun place) (place + 1) bytes ]) e
+
+error_from-nothing : (s : State) (begun place : ℕ) → error_from s begun place [] ≡ cut_error s begun
+unfolding error_from
+error_from-nothing s begun place = refl
+
+-- the same of bytes that begin with one
+pub error_from-goes_on : (s : State) (begun place c : ℕ) (bytes behind : List ℕ) (next : State × Item) → bytes ≡ c ∷ behind
+    → pattern_step s c ≡ Some next → error_from s begun place bytes ≡ error_from next.0 (begun_at s begun place) (place + 1) behind
+error_from-goes_on s begun place c bytes behind next is step =
+    ap (λ (l : List ℕ). error_from s begun place l) is ∙ error_from-more s begun place c behind next step
+
+pub error_from-stops : (s : State) (begun place c : ℕ) (bytes behind : List ℕ) → bytes ≡ c ∷ behind → pattern_step s c ≡ None
+    → error_from s begun place bytes ≡ Some (record { byte = begun_at s begun place; cause = Unknown })
+error_from-stops s begun place c bytes behind is step =
+    ap (λ (l : List ℕ). error_from s begun place l) is ∙ error_from-none s begun place c behind step
+
+pub error_from-ends : (s : State) (begun place : ℕ) (bytes : List ℕ) → length bytes ≡ 0
+    → error_from s begun place bytes ≡ cut_error s begun
+error_from-ends s begun place [] none = error_from-nothing s begun place
+error_from-ends s begun place (c ∷ bytes) none = absurd (omega (arith, none))

@@ -1,0 +1,49 @@
+//! Laws of patterns, each as the contract of a function.
+ghost use Rattle.std.specs.Prelude.{◌≡◌, ℤ, Some, codes, neg_ℤ, pos};
+ghost use Rattle.chrono_datetime.specs.Days.{day_of, month_of, ordinal_of, year_of};
+ghost use Rattle.chrono_datetime.specs.Moment.{Moment, moment};
+ghost use Rattle.chrono_datetime.specs.Time.{time_at};
+ghost use Rattle.chrono_datetime.specs.Weeks.{iso_week_of, iso_year_of, weekday_of};
+ghost use Rattle.chrono_datetime.specs.declared.Weekday.TheVariants.{Mon};
+ghost use Rattle.chrono_pattern.specs.Patterns.{IsPattern, pattern_error, pattern_text};
+ghost use Rattle.chrono_pattern.specs.declared.error.PatternFault.TheVariants.{Cut, Unknown};
+
+/// States known texts of times of day: midnight and noon on the clock of twelve hours, an hour of one digit with each padding, and a
+/// leap second with its fraction.
+pub fn known_texts_of_times()
+    ensures midnight { (n : ℤ) → pattern_text (codes "%I:%M %p") (moment n (time_at 0 0 0 0)) ≡ codes "12:00 AM" }
+    ensures noon { (n : ℤ) → pattern_text (codes "%l:%M %P") (moment n (time_at 12 0 0 0)) ≡ codes "12:00 pm" }
+    ensures hour { (n : ℤ) → pattern_text (codes "%H %k %-H %_I") (moment n (time_at 3 0 0 0)) ≡ codes "03  3 3  3" }
+    ensures leap { (n : ℤ) → pattern_text (codes "%T%.f %f") (moment n (time_at 23 59 59 1_500_000_000))
+        ≡ codes "23:59:60.500 500000000" }
+    ensures digits { (n : ℤ) → pattern_text (codes "%R%.3f %6f%.f") (moment n (time_at 9 5 0 0)) ≡ codes "09:05.000 000000" }
+{}
+
+/// States known texts of dates:
+///
+/// - 29 February 2024 by its numbers, and 5 March 2024 with a space and with no padding;
+/// - a date of the year -1, whose century is the one below 0;
+/// - 30 December 2024, which lies in the first ISO week of 2025.
+pub fn known_texts_of_dates()
+    ensures leap_day { (m : Moment) → year_of m.date ≡ pos 2024 → month_of m.date ≡ 2 → day_of m.date ≡ 29
+        → pattern_text (codes "%Y-%m-%d, %d.%m.%y") m ≡ codes "2024-02-29, 29.02.24" }
+    ensures padded { (m : Moment) → day_of m.date ≡ 5 → ordinal_of m.date ≡ 65
+        → pattern_text (codes "%e %-d %j") m ≡ codes " 5 5 065" }
+    ensures before_zero { (m : Moment) → year_of m.date ≡ neg_ℤ (pos 1)
+        → pattern_text (codes "%C %y %Y") m ≡ codes "-1 99 -0001" }
+    ensures five_digits { (m : Moment) → year_of m.date ≡ pos 12_345
+        → pattern_text (codes "%C %y %Y") m ≡ codes "123 45 +12345" }
+    ensures week { (m : Moment) → iso_year_of m.date ≡ pos 2025 → iso_week_of m.date ≡ 1 → weekday_of m.date ≡ Mon
+        → pattern_text (codes "%G-W%V-%u %a") m ≡ codes "2025-W01-1 Mon" }
+{}
+
+/// States known errors: a specifier that is unknown, one that is cut, a padding before a word, and a second padding.
+pub fn known_errors()
+    ensures unknown { pattern_error (codes "%Y-%Q") ≡ Some (record { byte = 3; cause = Unknown }) }
+    ensures cut { pattern_error (codes "100%") ≡ Some (record { byte = 3; cause = Cut }) }
+    ensures cut_padding { pattern_error (codes "%H:%-") ≡ Some (record { byte = 3; cause = Cut }) }
+    ensures word { pattern_error (codes "%-a") ≡ Some (record { byte = 0; cause = Unknown }) }
+    ensures second_padding { pattern_error (codes "%%%--d") ≡ Some (record { byte = 2; cause = Unknown }) }
+    ensures digits { pattern_error (codes "%.5f") ≡ Some (record { byte = 0; cause = Unknown }) }
+    ensures none { IsPattern (codes "100%% %.3f %-d") }
+{}

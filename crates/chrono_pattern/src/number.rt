@@ -1,0 +1,139 @@
+//! Writes the numbers of a date-time.
+ghost use Rattle.std.specs.Prelude.{◌≡◌, ◌+◌, ◌≤◌, ◌++◌, length, codes};
+ghost use Rattle.chrono_pattern.specs.Numbers.{least_digits, number_text, padded, padding_of, sign_of, size_of, year_sign};
+
+use crate::item::{NumberField, Padding};
+use chrono_datetime::{Datelike, NaiveDateTime, Timelike};
+use chrono_text::{NANOS_PER_SEC, Text};
+
+// Puts a number of a date-time.
+#[tactic(auto, unfolding(crate::specs::Numbers::number_text))]
+pub(crate) fn put_number(
+    text: &mut Text<64>,
+    field: NumberField,
+    padding: Padding,
+    moment: NaiveDateTime,
+)
+    requires room { length text.old + 20 ≤ 64 }
+    ensures text { text.new ≡ text.old ++ number_text field padding moment }
+    ensures fits { length text.new ≤ length text.old + 20 }
+{
+    let sign = sign_of(field, moment);
+    let least = least_digits(field, sign.len());
+    put_padded(
+        text,
+        padding_of(field, padding),
+        least,
+        sign,
+        size_of(field, moment),
+    );
+}
+
+// Puts a sign or none and a number, with what is missing to so many digits.
+fn put_padded(text: &mut Text<64>, padding: Padding, least: usize, sign: &[u8], size: u32)
+    requires room { length text.old + 20 ≤ 64 }
+    requires least { least ≤ 9 }
+    requires sign { length sign.now ≤ 1 }
+    ensures text { text.new ≡ text.old ++ padded padding least sign.now size }
+    ensures fits { length text.new ≤ length text.old + 20 }
+{
+    let mut digits = Text::<19>::new();
+    digits.push_u32(size);
+    let missing = least.saturating_sub(digits.as_bytes().len());
+    match padding {
+        Padding::Spaces => {
+            text.push_text(&b"         "[..missing]);
+            text.push_text(sign);
+        }
+        Padding::Zeros => {
+            text.push_text(sign);
+            text.push_text(&b"000000000"[..missing]);
+        }
+        Padding::Nothing | Padding::Usual => text.push_text(sign),
+    }
+    text.push_text(digits.as_bytes());
+}
+
+// The padding that is asked for, or else that of the number's specifier.
+fn padding_of(field: NumberField, padding: Padding) -> Padding
+    ensures { result ≡ padding_of field padding }
+{
+    match padding {
+        Padding::Usual => match field {
+            NumberField::SpacedDay | NumberField::SpacedHour | NumberField::SpacedHalfHour => {
+                Padding::Spaces
+            }
+            _ => Padding::Zeros,
+        },
+        _ => padding,
+    }
+}
+
+// How many digits are written at least, with a sign of so many bytes.
+fn least_digits(field: NumberField, sign: usize) -> usize
+    ensures value { result ≡ least_digits field sign }
+    ensures few { result ≤ 9 }
+{
+    match field {
+        NumberField::Year | NumberField::IsoYear => 4,
+        NumberField::Century => 2_usize.saturating_sub(sign),
+        NumberField::DayOfYear => 3,
+        NumberField::Quarter | NumberField::FromMonday | NumberField::FromSunday => 1,
+        NumberField::Nanosecond => 9,
+        _ => 2,
+    }
+}
+
+// The sign of a year: `-` below 0, and `+` where it has more than four digits.
+fn year_sign(year: i32) -> &'static [u8]
+    ensures sign { result.now ≡ year_sign year }
+    ensures short { length result.now ≤ 1 }
+{
+    if year < 0 {
+        b"-"
+    } else if year > 9_999 {
+        b"+"
+    } else {
+        b""
+    }
+}
+
+// The sign of a number.
+fn sign_of(field: NumberField, moment: NaiveDateTime) -> &'static [u8]
+    ensures sign { result.now ≡ sign_of field moment }
+    ensures short { length result.now ≤ 1 }
+{
+    match field {
+        NumberField::Year => year_sign(moment.date().year()),
+        NumberField::IsoYear => year_sign(moment.date().iso_week().year()),
+        NumberField::Century => { if moment.date().year() < 0 { b"-" } else { b"" } }
+        _ => b"",
+    }
+}
+
+// The size of a number.
+fn size_of(field: NumberField, moment: NaiveDateTime) -> u32
+    ensures { result ≡ size_of field moment }
+{
+    let date = moment.date();
+    let time = moment.time();
+    match field {
+        NumberField::Year => date.year().unsigned_abs(),
+        NumberField::Century => date.year().div_euclid(100).unsigned_abs(),
+        NumberField::YearOfCentury => date.year().rem_euclid(100).unsigned_abs(),
+        NumberField::Quarter => date.quarter(),
+        NumberField::Month => date.month(),
+        NumberField::Day | NumberField::SpacedDay => date.day(),
+        NumberField::DayOfYear => date.ordinal(),
+        NumberField::FromMonday => date.weekday().number_from_monday(),
+        NumberField::FromSunday => date.weekday().num_days_from_sunday(),
+        NumberField::IsoYear => date.iso_week().year().unsigned_abs(),
+        NumberField::IsoYearOfCentury => date.iso_week().year().rem_euclid(100).unsigned_abs(),
+        NumberField::IsoWeek => date.iso_week().week(),
+        NumberField::Hour | NumberField::SpacedHour => time.hour(),
+        NumberField::HalfHour | NumberField::SpacedHalfHour => time.hour12().1,
+        NumberField::Minute => time.minute(),
+        NumberField::Second => time.second() + time.nanosecond() / NANOS_PER_SEC,
+        NumberField::Nanosecond => time.nanosecond() % NANOS_PER_SEC,
+    }
+}

@@ -1,0 +1,180 @@
+//! `Pattern`: a pattern of texts, which writes date-times.
+ghost use Rattle.std.specs.Prelude.{◌≡◌, ◌↔◌, ◌≤◌, ℕ, List, Some, None, IfErr, IfOk, IfSome, IsOk, IsSome, length};
+ghost use Rattle.chrono_pattern.specs.Patterns.{IsPattern, begun_at, cut_error, item_text, pattern_error, pattern_text};
+
+use crate::error::{PatternError, PatternFault};
+use crate::group::put_group;
+use crate::item::{Item, State};
+use crate::number::put_number;
+use crate::step::pattern_step;
+use crate::subsecond::put_subsecond;
+use crate::word::put_word;
+use chrono_datetime::NaiveDateTime;
+use chrono_text::Text;
+use std::marker::Model;
+
+/// A pattern of texts: bytes that are written as they are, and specifiers, which begin with `%`.
+///
+/// A contract sees a pattern as its bytes. They are the caller's: a pattern allocates nothing.
+///
+/// ```
+/// use chrono_datetime::{AndTime, NaiveDate};
+/// let pattern = Pattern::new(b"%d.%m.%y").ok()?;
+/// let moment = NaiveDate::from_ymd_opt(2024, 2, 29)?.and_hms_opt(9, 30, 0)?;
+/// pattern.format::<16>(moment)?.as_bytes().len() // 8
+/// ```
+#[derive(Drop)]
+pub struct Pattern<'a> {
+    bytes: &'a [u8],
+}
+
+impl<'a> Model for Pattern<'a> {
+    ghost Value = { List ℕ };
+
+    ghost view = { λ p. p.bytes.now };
+
+    ghost invariant = { λ p. IsPattern p.bytes.now };
+}
+
+impl<'a> Pattern<'a> {
+    /// Returns the pattern that `bytes` are.
+    ///
+    /// # Errors
+    ///
+    /// Returns [`PatternError`] if a specifier is unknown, or if the bytes end within one. It names the first one.
+    ///
+    /// ```
+    /// Pattern::new(b"%H:%M").is_ok() // true
+    /// Pattern::new(b"%H:%L").err() // Some(PatternError { byte: 3, cause: Unknown })
+    /// Pattern::new(b"%H:%").err() // Some(PatternError { byte: 3, cause: Cut })
+    /// ```
+    ///
+    /// | Specifiers | Text |
+    /// |---|---|
+    /// | `%Y` `%C` `%y` `%q` | year, with a sign if it is not from 0 to 9999; its century; the year of the century; the quarter |
+    /// | `%m` `%d` `%e` `%j` | month; day of the month, `%e` with a space for a digit; day of the year |
+    /// | `%G` `%g` `%V` | ISO year, its year of the century, ISO week |
+    /// | `%u` `%w` | weekday, from 1 for Monday; from 0 for Sunday |
+    /// | `%A` `%a` `%B` `%b` `%h` | weekday and its three letters; month and its three letters |
+    /// | `%H` `%k` `%I` `%l` | hour; hour of the half day, from 1 to 12. `%k` and `%l` have a space for a digit |
+    /// | `%p` `%P` | `AM` or `PM`; `am` or `pm` |
+    /// | `%M` `%S` `%f` | minute; second, 60 in a leap second; nanoseconds in nine digits |
+    /// | `%3f` `%6f` `%9f` | so many digits of the fraction of the second |
+    /// | `%.3f` `%.6f` `%.9f` `%.f` | the same behind a point; as few of them as hold it, with no point for none |
+    /// | `%F` `%D` `%T` `%R` | `%Y-%m-%d`, `%m/%d/%y`, `%H:%M:%S`, `%H:%M` |
+    /// | `%n` `%t` `%%` | line feed, tab, `%` |
+    ///
+    /// Before a number, `-` asks for no padding, `_` for spaces, and `0` for zeros: `%-d`.
+    pub fn new(bytes: &'a [u8]) -> Result<Pattern<'a>, PatternError>
+        ensures bytes { IfOk result (λ p. p ≡ bytes.now) }
+        ensures exists { IsOk result ↔ IsPattern bytes.now }
+        ensures error { IfErr result (λ e. pattern_error bytes.now ≡ Some e) }
+    {
+        match pattern_error(bytes) {
+            None => Ok(Pattern { bytes }),
+            Some(error) => Err(error),
+        }
+    }
+
+    /// Returns the text of `moment`. Returns `None` if it has more than `N` bytes.
+    ///
+    /// The text is ASCII if the pattern is.
+    ///
+    /// ```
+    /// use chrono_datetime::{AndTime, NaiveDate};
+    /// let moment = NaiveDate::from_ymd_opt(2024, 2, 29)?.and_hms_opt(9, 30, 0)?;
+    /// Pattern::new(b"%I%p").ok()?.format::<8>(moment)?.as_bytes() // [48, 57, 65, 77]
+    /// Pattern::new(b"%F").ok()?.format::<8>(moment).is_none() // true
+    /// ```
+    pub fn format<const N: usize>(&self, moment: NaiveDateTime) -> Option<Text<N>>
+        ensures text { IfSome result (λ text. text ≡ pattern_text self.now moment) }
+        ensures exists { IsSome result ↔ (length (pattern_text self.now moment) ≤ N) }
+    {
+        text_of(self.bytes, moment)
+    }
+}
+
+// The text of a date-time by the bytes of a pattern, if there is room for it.
+fn text_of<const N: usize>(bytes: &[u8], moment: NaiveDateTime) -> Option<Text<N>>
+    ensures text { IfSome result (λ text. text ≡ pattern_text bytes.now moment) }
+    ensures exists { IsSome result ↔ (length (pattern_text bytes.now moment) ≤ N) }
+{
+    let mut text = Text::new();
+    let mut state = State::Outside;
+    let mut rest = bytes;
+    while let Some((byte, behind)) = rest.split_first() {
+        let Some(next) = pattern_step(state, *byte) else {
+            return Some(text);
+        };
+        let piece = item_text(next.1, moment);
+        if text.room() < piece.as_bytes().len() {
+            return None;
+        }
+        text.push_text(piece.as_bytes());
+        state = next.0;
+        rest = behind;
+    }
+    Some(text)
+}
+
+// What is wrong with bytes that are no pattern.
+fn pattern_error(bytes: &[u8]) -> Option<PatternError>
+    ensures { result ≡ pattern_error bytes.now }
+{
+    let mut state = State::Outside;
+    let mut begun = 0;
+    let mut place = 0;
+    let mut rest = bytes;
+    while let Some((byte, behind)) = rest.split_first() {
+        begun = begun_at(state, begun, place);
+        let Some(next) = pattern_step(state, *byte) else {
+            return Some(PatternError {
+                byte: begun,
+                cause: PatternFault::Unknown,
+            });
+        };
+        state = next.0;
+        place += 1;
+        rest = behind;
+    }
+    cut_error(state, begun)
+}
+
+// What is wrong where the bytes end.
+fn cut_error(state: State, begun: usize) -> Option<PatternError>
+    ensures { result ≡ cut_error state begun }
+{
+    match state {
+        State::Outside => None,
+        State::Opened(_) | State::Digits(_, _) => Some(PatternError {
+            byte: begun,
+            cause: PatternFault::Cut,
+        }),
+    }
+}
+
+// Where the specifier of a byte begins, or the byte itself.
+fn begun_at(state: State, begun: usize, place: usize) -> usize
+    ensures { result ≡ begun_at state begun place }
+{
+    match state {
+        State::Outside => place,
+        State::Opened(_) | State::Digits(_, _) => begun,
+    }
+}
+
+// The text of an item.
+fn item_text(item: Item, moment: NaiveDateTime) -> Text<64>
+    ensures { result ≡ item_text item moment }
+{
+    let mut text = Text::new();
+    match item {
+        Item::Empty => {}
+        Item::Byte(byte) => text.push(byte),
+        Item::Number(field, padding) => put_number(&mut text, field, padding, moment),
+        Item::Word(word) => put_word(&mut text, word, moment),
+        Item::Group(group) => put_group(&mut text, group, moment),
+        Item::Subsecond(point, count) => put_subsecond(&mut text, point, count, moment.time()),
+    }
+    text
+}

@@ -1,0 +1,243 @@
+//! Reads a pattern byte by byte.
+ghost use Rattle.std.specs.Prelude.{◌≡◌};
+ghost use Rattle.chrono_pattern.specs.Steps.{date_number_at, digits_at, digits_step, group_at, grouped_step, named_step, opened_step, padding_at, pattern_step, single_step, time_number_at, timed_step, unless_padded, unpadded_step, word_at};
+
+use crate::item::{GroupField, Item, NumberField, Padding, State, WordField};
+
+// Where a reader stands behind a byte, and what the byte writes. Nothing if no pattern has the byte there.
+pub(crate) fn pattern_step(state: State, byte: u8) -> Option<(State, Item)>
+    ensures { result ≡ pattern_step state byte }
+{
+    match state {
+        State::Outside => {
+            if byte == b'%' {
+                Some((State::Opened(Padding::Usual), Item::Empty))
+            } else {
+                Some((State::Outside, Item::Byte(byte)))
+            }
+        }
+        State::Opened(padding) => opened_step(padding, byte),
+        State::Digits(point, count) => digits_step(point, count, byte),
+    }
+}
+
+// The same behind `%` and a padding or none.
+#[tactic(auto, unfolding(crate::specs::Steps::opened_step))]
+fn opened_step(padding: Padding, byte: u8) -> Option<(State, Item)>
+    ensures { result ≡ opened_step padding byte }
+{
+    match date_number_at(byte) {
+        Some(number) => Some((State::Outside, Item::Number(number, padding))),
+        None => timed_step(padding, byte),
+    }
+}
+
+// The same where the byte names no number of a date.
+fn timed_step(padding: Padding, byte: u8) -> Option<(State, Item)>
+    ensures { result ≡ timed_step padding byte }
+{
+    match time_number_at(byte) {
+        Some(number) => Some((State::Outside, Item::Number(number, padding))),
+        None => unless_padded(padding, byte),
+    }
+}
+
+// The same where the byte names no number at all.
+fn unless_padded(padding: Padding, byte: u8) -> Option<(State, Item)>
+    ensures { result ≡ unless_padded padding byte }
+{
+    match padding {
+        Padding::Usual => unpadded_step(byte),
+        Padding::Nothing | Padding::Spaces | Padding::Zeros => None,
+    }
+}
+
+// The same behind `%` alone.
+#[tactic(auto, unfolding(crate::specs::Steps::unpadded_step))]
+fn unpadded_step(byte: u8) -> Option<(State, Item)>
+    ensures { result ≡ unpadded_step byte }
+{
+    match padding_at(byte) {
+        Some(padding) => Some((State::Opened(padding), Item::Empty)),
+        None => named_step(byte),
+    }
+}
+
+// The same where the byte asks for no padding.
+fn named_step(byte: u8) -> Option<(State, Item)>
+    ensures { result ≡ named_step byte }
+{
+    match word_at(byte) {
+        Some(word) => Some((State::Outside, Item::Word(word))),
+        None => grouped_step(byte),
+    }
+}
+
+// The same where the byte names no word either.
+fn grouped_step(byte: u8) -> Option<(State, Item)>
+    ensures { result ≡ grouped_step byte }
+{
+    match group_at(byte) {
+        Some(group) => Some((State::Outside, Item::Group(group))),
+        None => single_step(byte),
+    }
+}
+
+// The same where the byte names no group either.
+fn single_step(byte: u8) -> Option<(State, Item)>
+    ensures { result ≡ single_step byte }
+{
+    if byte == b'%' {
+        Some((State::Outside, Item::Byte(b'%')))
+    } else if byte == b'n' {
+        Some((State::Outside, Item::Byte(b'\n')))
+    } else if byte == b't' {
+        Some((State::Outside, Item::Byte(b'\t')))
+    } else if byte == b'.' {
+        Some((State::Digits(true, 0), Item::Empty))
+    } else {
+        digits_at(false, byte)
+    }
+}
+
+// The same where the byte is a number of digits.
+fn digits_at(point: bool, byte: u8) -> Option<(State, Item)>
+    ensures { result ≡ digits_at point byte }
+{
+    if byte == b'3' {
+        Some((State::Digits(point, 3), Item::Empty))
+    } else if byte == b'6' {
+        Some((State::Digits(point, 6), Item::Empty))
+    } else if byte == b'9' {
+        Some((State::Digits(point, 9), Item::Empty))
+    } else {
+        None
+    }
+}
+
+// The same behind a point or a number of digits.
+fn digits_step(point: bool, count: usize, byte: u8) -> Option<(State, Item)>
+    ensures { result ≡ digits_step point count byte }
+{
+    if byte == b'f' {
+        Some((State::Outside, Item::Subsecond(point, count)))
+    } else if count == 0 {
+        digits_at(point, byte)
+    } else {
+        None
+    }
+}
+
+// The padding that a byte asks for.
+fn padding_at(byte: u8) -> Option<Padding>
+    ensures { result ≡ padding_at byte }
+{
+    if byte == b'-' {
+        Some(Padding::Nothing)
+    } else if byte == b'_' {
+        Some(Padding::Spaces)
+    } else if byte == b'0' {
+        Some(Padding::Zeros)
+    } else {
+        None
+    }
+}
+
+// The number of a date that a byte names.
+#[tactic(auto, unfolding(crate::specs::Steps::date_number_at))]
+fn date_number_at(byte: u8) -> Option<NumberField>
+    ensures { result ≡ date_number_at byte }
+{
+    if byte == b'Y' {
+        Some(NumberField::Year)
+    } else if byte == b'C' {
+        Some(NumberField::Century)
+    } else if byte == b'y' {
+        Some(NumberField::YearOfCentury)
+    } else if byte == b'q' {
+        Some(NumberField::Quarter)
+    } else if byte == b'm' {
+        Some(NumberField::Month)
+    } else if byte == b'd' {
+        Some(NumberField::Day)
+    } else if byte == b'e' {
+        Some(NumberField::SpacedDay)
+    } else if byte == b'j' {
+        Some(NumberField::DayOfYear)
+    } else if byte == b'u' {
+        Some(NumberField::FromMonday)
+    } else if byte == b'w' {
+        Some(NumberField::FromSunday)
+    } else if byte == b'G' {
+        Some(NumberField::IsoYear)
+    } else if byte == b'g' {
+        Some(NumberField::IsoYearOfCentury)
+    } else if byte == b'V' {
+        Some(NumberField::IsoWeek)
+    } else {
+        None
+    }
+}
+
+// The number of a time of day that a byte names.
+#[tactic(auto, unfolding(crate::specs::Steps::time_number_at))]
+fn time_number_at(byte: u8) -> Option<NumberField>
+    ensures { result ≡ time_number_at byte }
+{
+    if byte == b'H' {
+        Some(NumberField::Hour)
+    } else if byte == b'k' {
+        Some(NumberField::SpacedHour)
+    } else if byte == b'I' {
+        Some(NumberField::HalfHour)
+    } else if byte == b'l' {
+        Some(NumberField::SpacedHalfHour)
+    } else if byte == b'M' {
+        Some(NumberField::Minute)
+    } else if byte == b'S' {
+        Some(NumberField::Second)
+    } else if byte == b'f' {
+        Some(NumberField::Nanosecond)
+    } else {
+        None
+    }
+}
+
+// The word that a byte names.
+#[tactic(auto, unfolding(crate::specs::Steps::word_at))]
+fn word_at(byte: u8) -> Option<WordField>
+    ensures { result ≡ word_at byte }
+{
+    if byte == b'B' {
+        Some(WordField::MonthName)
+    } else if byte == b'b' || byte == b'h' {
+        Some(WordField::MonthLetters)
+    } else if byte == b'A' {
+        Some(WordField::WeekdayName)
+    } else if byte == b'a' {
+        Some(WordField::WeekdayLetters)
+    } else if byte == b'p' {
+        Some(WordField::Half)
+    } else if byte == b'P' {
+        Some(WordField::SmallHalf)
+    } else {
+        None
+    }
+}
+
+// The group that a byte names.
+fn group_at(byte: u8) -> Option<GroupField>
+    ensures { result ≡ group_at byte }
+{
+    if byte == b'F' {
+        Some(GroupField::YearMonthDay)
+    } else if byte == b'D' {
+        Some(GroupField::MonthDayYear)
+    } else if byte == b'R' {
+        Some(GroupField::HourMinute)
+    } else if byte == b'T' {
+        Some(GroupField::HourMinuteSecond)
+    } else {
+        None
+    }
+}
