@@ -1,0 +1,234 @@
+#!/usr/bin/env python3
+"""Holds patterns to Python's strftime and to Debian's chrono, on random patterns and date-times.
+
+    checks/patterns.py [--seed N] [--lines N]      (seed 1 and 20,000 lines, if left out)
+
+An answer is this file's own, from its own count of days. In the years 1000 to 9999, Python's strftime has to write the same of each
+specifier that it has. Where there is Debian's chrono, checks/chrono_patterns has to write the same too, and to refuse the same patterns:
+all that have neither `%q` nor `%W`, for one is newer, and the other is not offered here. Bytes that are no pattern are read by a
+regular expression. `rt try` runs a small program unproved, in a copy of the crates: it answers the lines, and what differs is printed. A second run
+of the same lines with one answer changed has to find that answer.
+"""
+import argparse
+import datetime
+import os
+import random
+import re
+import subprocess
+import sys
+import tempfile
+
+from instants import civil
+from outside import put_program
+
+TOP = os.path.dirname(os.path.dirname(os.path.abspath(__file__)))
+sys.path.insert(0, os.path.join(TOP, "tools"))
+from debian import build_over_chrono, why_no_chrono  # noqa: E402
+
+FIRST, LAST = -95_746_129, 95_745_399
+# The day number of 1 January 1970, and the nanoseconds of a second.
+EPOCH, NANOS = 719_163, 10**9
+# How many lines one run of the program answers.
+PART = 10_000
+WEEKDAYS = "Monday Tuesday Wednesday Thursday Friday Saturday Sunday".split()
+MONTHS = "January February March April May June July August September October November December".split()
+NUMBERS, OTHERS = "YCyqmdejuwGgVHkIlMSf", "BbhAapPFDRTt%"
+SPECIFIER = re.compile(rf"%(?:([-_0]?)([{NUMBERS}])|([{OTHERS}])|([.]?[369]?)f)")
+# What a specifier may begin with where the bytes end.
+BEGUN = re.compile(r"%(?:[-_0]|[.]?[369]?)$")
+# The specifiers whose texts Python has with the same meaning.
+OF_PYTHON = set("YCymdejuwGgVHkIlMSBbhAapPFDRTt%")
+PROGRAM = r'''//! Writes date-times by patterns, a line each.
+#![tactic(auto)]
+
+use chrono_datetime::{NaiveDate, NaiveDateTime, NaiveTime};
+use chrono_pattern::Pattern;
+use std::io::{self, BufRead, BufReader};
+
+fn main(rt: HostRuntime) -> io::Result<()> {
+    for line in BufReader::new(rt.alloc(), rt.reader())?.lines(rt.alloc()) {
+        let line = line?;
+        let Some((day, rest)) = line.as_str().split_once(' ') else { return Ok(()); };
+        let Some((second, rest)) = rest.split_once(' ') else { return Ok(()); };
+        let Some((fraction, pattern)) = rest.split_once(' ') else { return Ok(()); };
+        let Some(date) = NaiveDate::from_num_days_from_ce_opt(day.parse().unwrap_or(0)) else { return Ok(()); };
+        let Some(time) = NaiveTime::from_num_seconds_from_midnight_opt(second.parse().unwrap_or(0), fraction.parse().unwrap_or(0)) else { return Ok(()); };
+        match Pattern::new(pattern.as_bytes()) {
+            Ok(pattern) => match pattern.format::<512>(NaiveDateTime::new(date, time)) {
+                Some(text) => println!(rt; "= {}", text.as_str())?,
+                None => println!(rt; "= too long")?,
+            },
+            Err(error) => println!(rt; "= {:?} {}", error.cause, error.byte)?,
+        }
+    }
+    Ok(())
+}
+'''
+
+
+class Moment:
+    """A date-time by its day number, second and fraction, and its names."""
+
+    def __init__(self, day, second, fraction):
+        self.day, self.at, self.fraction = day, second, fraction
+        self.year, self.month, self.of_month = civil(day - EPOCH)
+        self.weekday = (day - 1) % 7
+        self.ordinal = day - Moment.new_year(self.year) + 1
+        thursday = day - self.weekday + 3
+        self.iso_year = civil(thursday - EPOCH)[0]
+        self.iso_week = (thursday - Moment.new_year(self.iso_year)) // 7 + 1
+
+    @staticmethod
+    def new_year(year):
+        past = year - 1
+        return 365 * past + past // 4 - past // 100 + past // 400 + 1
+
+
+def number(moment, code, padding):
+    """A number: its sign, its digits, and what is missing."""
+    m, hour = moment, moment.at // 3600
+    value, least, usual = {
+        "Y": (m.year, 4, "0"), "C": (m.year // 100, 2, "0"), "y": (m.year % 100, 2, "0"), "q": ((m.month + 2) // 3, 1, "0"),
+        "m": (m.month, 2, "0"), "d": (m.of_month, 2, "0"), "e": (m.of_month, 2, "_"), "j": (m.ordinal, 3, "0"),
+        "u": (m.weekday + 1, 1, "0"), "w": ((m.weekday + 1) % 7, 1, "0"), "G": (m.iso_year, 4, "0"), "g": (m.iso_year % 100, 2, "0"),
+        "V": (m.iso_week, 2, "0"), "H": (hour, 2, "0"), "k": (hour, 2, "_"), "I": ((hour + 11) % 12 + 1, 2, "0"),
+        "l": ((hour + 11) % 12 + 1, 2, "_"), "M": (m.at // 60 % 60, 2, "0"), "S": (m.at % 60 + m.fraction // NANOS, 2, "0"),
+        "f": (m.fraction % NANOS, 9, "0"),
+    }[code]
+    signed = code in "YG" and not 0 <= value <= 9999
+    least += signed
+    form = "+" if signed else ""
+    fill = padding or usual
+    width = {"-": "", "_": str(least), "0": f"0{least}"}[fill]
+    return format(value, form + width)
+
+
+def piece(moment, found):
+    """What a specifier writes."""
+    padding, code, other, digits = found.groups()
+    if code:
+        return number(moment, code, padding)
+    groups = {"F": "%Y-%m-%d", "D": "%m/%d/%y", "R": "%H:%M", "T": "%H:%M:%S"}
+    if other in groups:
+        return SPECIFIER.sub(lambda it: piece(moment, it), groups[other])
+    if other:
+        half = "AP"[moment.at >= 43_200] + "M"
+        month, weekday = MONTHS[moment.month - 1], WEEKDAYS[moment.weekday]
+        return {"B": month, "b": month[:3], "h": month[:3], "A": weekday, "a": weekday[:3], "p": half, "P": half.lower(), "t": "\t", "%": "%"}[other]
+    past = moment.fraction % NANOS
+    places = int(digits.strip(".") or next(it for it in (0, 3, 6, 9) if past % 10 ** (9 - it) == 0))
+    return ("." if digits.startswith(".") and places else "") + f"{past:09}"[:places]
+
+
+def answer(moment, pattern):
+    """The text, or the first specifier that is none."""
+    made, at = [], 0
+    while at < len(pattern):
+        found = SPECIFIER.match(pattern, at)
+        if found:
+            told = piece(moment, found)
+            as_python(moment, found, told)
+            made.append(told)
+            at = found.end()
+        elif pattern[at] != "%":
+            made.append(pattern[at])
+            at += 1
+        else:
+            return f"{'Cut' if BEGUN.match(pattern, at) else 'Unknown'} {at}"
+    return "".join(made)
+
+
+def as_python(moment, found, told):
+    """Stops if strftime writes something else."""
+    code = found[2] or found[3]
+    if code in OF_PYTHON and 1000 <= moment.year <= 9999 and 1000 <= moment.iso_year <= 9999 and moment.fraction < NANOS:
+        date = datetime.datetime.fromordinal(moment.day) + datetime.timedelta(seconds=moment.at)
+        assert date.strftime(found[0]) == told, (date, found[0], told)
+
+
+def question(draw):
+    """A random line: a date-time, mostly of these centuries, and a pattern, mostly a right one."""
+    day = draw.choice((draw.randrange(700_000, 760_000), draw.randrange(700_000, 760_000), draw.randrange(FIRST, LAST + 1), draw.randrange(-800, 800), FIRST, LAST))
+    second = draw.choice((0, 43_200, 43_199, 86_399, draw.randrange(86_400)))
+    fraction = draw.choice((0, 500_000_000, 1_000, 120_000, draw.randrange(NANOS)))
+    if second % 60 == 59 and draw.random() < 0.5:
+        fraction += NANOS
+    return day, second, fraction, "".join(part(draw) for _ in range(draw.randrange(1, 8)))
+
+
+def part(draw):
+    kind = draw.random()
+    if kind < 0.5:
+        return "%" + draw.choice(("", "", "", "-", "_", "0")) + draw.choice(NUMBERS)
+    if kind < 0.7:
+        return "%" + draw.choice(OTHERS)
+    if kind < 0.78:
+        return "%" + draw.choice(("", ".")) + draw.choice(("", "3", "6", "9")) + "f"
+    if kind < 0.97:
+        return draw.choice(("-", ":", " ", "T", "/", ", ", "W", "100", "%%"))
+    return draw.choice(("%", "%Q", "%-a", "%--d", "%.5f", "%.", "%3", "%.3", "%-", "%0F", "%33f", "%.-d", "%_%"))
+
+
+def line_of(question):
+    return " ".join(map(str, question))
+
+
+def answers_of(room, questions):
+    """What the program answers. It runs for each part of the lines, for `rt try` hands on no more than a mebibyte of one run."""
+    folder = put_program(room, "patterns", ["chrono_datetime", "chrono_pattern"], PROGRAM)
+    os.mkdir(f"{room}/parts")
+    for start in range(0, len(questions), PART):
+        with open(f"{room}/parts/{start:08}", "w", encoding="utf-8") as it:
+            it.writelines(line_of(question) + "\n" for question in questions[start : start + PART])
+    said = subprocess.run(["rt", "try", "--cases", f"{room}/parts"], cwd=folder, stdout=subprocess.PIPE, stderr=subprocess.STDOUT, text=True, errors="replace").stdout
+    told = [line[2:] for line in said.split("\n") if line.startswith("= ")]
+    if len(told) != len(questions):
+        sys.exit(f"{len(told)} answers for {len(questions)} lines:\n{said[-3000:]}")
+    return told
+
+
+def by_chrono(room, questions):
+    """What chrono writes, `!` where it refuses the pattern, and `-` for a day that it lacks."""
+    program = build_over_chrono(room, "checks/chrono_patterns")
+    asked = "".join(f"{line_of(it)}\n" for it in questions)
+    return subprocess.run([program], input=asked, stdout=subprocess.PIPE, text=True, check=True).stdout.split("\n")[:-1]
+
+
+def differing(questions, told, wanted):
+    return [f"{line_of(it)}: {a!r}, not {b!r}" for it, a, b in zip(questions, told, wanted) if a != b]
+
+
+def as_chrono(question, told):
+    """Whether the answer is to be chrono's too."""
+    return told != "-" and not re.search("%[-_0]?[qW]", question[3])
+
+
+def main():
+    parser = argparse.ArgumentParser(description=__doc__.partition("\n")[0])
+    parser.add_argument("--seed", type=int, default=1)
+    parser.add_argument("--lines", type=int, default=20_000)
+    options = parser.parse_args()
+    draw = random.Random(options.seed)
+    questions = [question(draw) for _ in range(options.lines)]
+    wanted = [answer(Moment(*it[:3]), it[3]) for it in questions]
+    wrong = []
+    with tempfile.TemporaryDirectory(prefix="patterns-") as room:
+        if missing := why_no_chrono():
+            print(f"chrono is not asked: {missing}")
+        else:
+            others = [(it, a, b if not b.startswith(("Cut ", "Unknown ")) else "!") for it, a, b in zip(questions, by_chrono(room, questions), wanted) if as_chrono(it, a)]
+            wrong += ["chrono: " + it for it in differing(*zip(*others))]
+            print(f"{len(others)} of {len(questions)} by chrono too")
+        told = answers_of(room, questions)
+    own = differing(questions, told, wanted)
+    changed = ["", *wanted[1:]]
+    if len(differing(questions, told, changed)) != len(own) + 1 and told[0] == wanted[0]:
+        sys.exit("a changed answer is not found")
+    for it in (own + wrong)[:20]:
+        print(f"FAILED: {it}")
+    print(f"{len(wanted) - len(own)} passed, {len(own) + len(wrong)} failed")
+    sys.exit(bool(own or wrong))
+
+
+if __name__ == "__main__":
+    main()
