@@ -1,2 +1,3 @@
 -- All serve this crate's own proofs alone.
 mod PatternLemmas
+mod TimelessLemmas

@@ -1,6 +1,7 @@
 -- A pattern byte by byte: its text, and its first error.
-use Rattle.std.proofs.Common.{◌≡◌, ℕ, ◌+◌, ◌≤◌, List, [], ◌∷◌, ◌++◌, length, length-append, append_assoc, append-nil, Option, None, Some, refl, ap, sym, ◌∙◌, arith}
+use Rattle.std.proofs.Common.{◌≡◌, ℕ, Bool, true, false, ◌||◌, ◌+◌, ◌≤◌, List, [], ◌∷◌, ◌++◌, length, length-append, append_assoc, append-nil, Option, None, Some, refl, ap, sym, ◌∙◌, arith}
 use Rattle.chrono_datetime.specs.Moment.{Moment}
+use Rattle.chrono_pattern.specs.Needs.{item_needs_time, needs_time_from}
 use Rattle.chrono_pattern.specs.Patterns.{begun_at, cut_error, error_from, item_text, text_from}
 use Rattle.chrono_pattern.specs.Steps.{pattern_step}
 use Rattle.chrono_pattern.specs.declared.error.PatternError.{PatternError}
@@ -10,19 +11,19 @@ use Rattle.chrono_pattern.specs.declared.item.State.{State}
 
 -- ---- the text
 
-text_from-more : (s : State) (c : ℕ) (bytes : List ℕ) (m : Moment) (next : State × Item) → pattern_step s c ≡ Some next
+pub text_from-more : (s : State) (c : ℕ) (bytes : List ℕ) (m : Moment) (next : State × Item) → pattern_step s c ≡ Some next
     → text_from s (c ∷ bytes) m ≡ item_text next.1 m ++ text_from next.0 bytes m
 unfolding text_from
 text_from-more s c bytes m next e =
     ap (λ (o : Option (State × Item)). elim o as (λ _. List ℕ) [ None ↦ [] | Some n ↦ item_text n.1 m ++ text_from n.0 bytes m ]) e
 
-text_from-none : (s : State) (c : ℕ) (bytes : List ℕ) (m : Moment) → pattern_step s c ≡ None
+pub text_from-none : (s : State) (c : ℕ) (bytes : List ℕ) (m : Moment) → pattern_step s c ≡ None
     → text_from s (c ∷ bytes) m ≡ []
 unfolding text_from
 text_from-none s c bytes m e =
     ap (λ (o : Option (State × Item)). elim o as (λ _. List ℕ) [ None ↦ [] | Some n ↦ item_text n.1 m ++ text_from n.0 bytes m ]) e
 
-text_from-nothing : (s : State) (m : Moment) → text_from s [] m ≡ []
+pub text_from-nothing : (s : State) (m : Moment) → text_from s [] m ≡ []
 unfolding text_from
 text_from-nothing s m = refl
 
@@ -91,3 +92,39 @@ pub error_from-ends : (s : State) (begun place : ℕ) (bytes : List ℕ) → len
     → error_from s begun place bytes ≡ cut_error s begun
 error_from-ends s begun place [] none = error_from-nothing s begun place
 error_from-ends s begun place (c ∷ bytes) none = absurd (omega (arith, none))
+
+-- ---- whether a time of day is written
+
+pub needs_time_from-more : (s : State) (c : ℕ) (bytes : List ℕ) (next : State × Item) → pattern_step s c ≡ Some next
+    → needs_time_from s (c ∷ bytes) ≡ (item_needs_time next.1 || needs_time_from next.0 bytes)
+unfolding needs_time_from
+needs_time_from-more s c bytes next e =
+    ap (λ (o : Option (State × Item)). elim o as (λ _. Bool) [ None ↦ false | Some n ↦ item_needs_time n.1 || needs_time_from n.0 bytes ]) e
+
+needs_time_from-none : (s : State) (c : ℕ) (bytes : List ℕ) → pattern_step s c ≡ None → needs_time_from s (c ∷ bytes) ≡ false
+unfolding needs_time_from
+needs_time_from-none s c bytes e =
+    ap (λ (o : Option (State × Item)). elim o as (λ _. Bool) [ None ↦ false | Some n ↦ item_needs_time n.1 || needs_time_from n.0 bytes ]) e
+
+needs_time_from-nothing : (s : State) → needs_time_from s [] ≡ false
+unfolding needs_time_from
+needs_time_from-nothing s = refl
+
+-- the same of bytes that begin with one
+pub needs_time_from-goes_on : (s : State) (c : ℕ) (bytes behind : List ℕ) (next : State × Item) → bytes ≡ c ∷ behind
+    → pattern_step s c ≡ Some next → item_needs_time next.1 ≡ false → needs_time_from s bytes ≡ needs_time_from next.0 behind
+needs_time_from-goes_on s c bytes behind next is step not =
+    ap (λ (l : List ℕ). needs_time_from s l) is ∙ needs_time_from-more s c behind next step ∙ ap (λ (b : Bool). b || needs_time_from next.0 behind) not
+
+pub needs_time_from-found : (s : State) (c : ℕ) (bytes behind : List ℕ) (next : State × Item) → bytes ≡ c ∷ behind
+    → pattern_step s c ≡ Some next → item_needs_time next.1 ≡ true → needs_time_from s bytes ≡ true
+needs_time_from-found s c bytes behind next is step found =
+    ap (λ (l : List ℕ). needs_time_from s l) is ∙ needs_time_from-more s c behind next step ∙ ap (λ (b : Bool). b || needs_time_from next.0 behind) found
+
+pub needs_time_from-stops : (s : State) (c : ℕ) (bytes behind : List ℕ) → bytes ≡ c ∷ behind → pattern_step s c ≡ None
+    → needs_time_from s bytes ≡ false
+needs_time_from-stops s c bytes behind is step = ap (λ (l : List ℕ). needs_time_from s l) is ∙ needs_time_from-none s c behind step
+
+pub needs_time_from-ends : (s : State) (bytes : List ℕ) → length bytes ≡ 0 → needs_time_from s bytes ≡ false
+needs_time_from-ends s [] none = needs_time_from-nothing s
+needs_time_from-ends s (c ∷ bytes) none = absurd (omega (arith, none))

@@ -4,3 +4,4 @@ pub mod Words
 pub mod Groups
 pub mod Subseconds
 pub mod Patterns
+pub mod Needs

@@ -15,6 +15,7 @@ mod error;
 mod group;
 mod item;
 pub mod law;
+mod needs;
 mod number;
 mod pattern;
 mod step;

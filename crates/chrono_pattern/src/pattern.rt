@@ -1,15 +1,19 @@
 //! `Pattern`: a pattern of texts, which writes date-times.
-ghost use Rattle.std.specs.Prelude.{◌≡◌, ◌↔◌, ◌≤◌, ℕ, List, Some, None, IfErr, IfOk, IfSome, IsOk, IsSome, length};
+ghost use Rattle.std.specs.Prelude.{◌≡◌, ◌↔◌, ◌≤◌, ℕ, List, false, Some, None, IfErr, IfOk, IfSome, IsOk, IsSome, length};
+ghost use Rattle.chrono_datetime.specs.Moment.{moment};
+ghost use Rattle.chrono_datetime.specs.Time.{TimeOfDay, time_at};
+ghost use Rattle.chrono_pattern.specs.Needs.{needs_time};
 ghost use Rattle.chrono_pattern.specs.Patterns.{IsPattern, begun_at, cut_error, item_text, pattern_error, pattern_text};
 
 use crate::error::{PatternError, PatternFault};
 use crate::group::put_group;
 use crate::item::{Item, State};
+use crate::needs::needs_time;
 use crate::number::put_number;
 use crate::step::pattern_step;
 use crate::subsecond::put_subsecond;
 use crate::word::put_word;
-use chrono_datetime::NaiveDateTime;
+use chrono_datetime::{NaiveDate, NaiveDateTime, NaiveTime};
 use chrono_text::Text;
 use std::marker::Model;
 
@@ -91,6 +95,38 @@ impl<'a> Pattern<'a> {
         ensures exists { IsSome result ↔ (length (pattern_text self.now moment) ≤ N) }
     {
         text_of(self.bytes, moment)
+    }
+
+    /// Returns whether the pattern has a specifier of the time of day, such as `%H` or `%p`.
+    ///
+    /// ```
+    /// Pattern::new(b"%d.%m.%y").ok()?.needs_time() // false
+    /// Pattern::new(b"%F %R").ok()?.needs_time() // true
+    /// ```
+    pub fn needs_time(&self) -> bool
+        ensures { result ≡ needs_time self.now }
+    {
+        needs_time(self.bytes)
+    }
+
+    /// Returns the text of `date`. Returns `None` if the pattern needs a time of day, or if the text has more than `N` bytes.
+    ///
+    /// ```
+    /// use chrono_datetime::NaiveDate;
+    /// let date = NaiveDate::from_ymd_opt(2024, 2, 29)?;
+    /// Pattern::new(b"%j").ok()?.format_date::<8>(date)?.as_bytes() // [48, 54, 48]
+    /// Pattern::new(b"%j %H").ok()?.format_date::<8>(date).is_none() // true
+    /// ```
+    pub fn format_date<const N: usize>(&self, date: NaiveDate) -> Option<Text<N>>
+        // The text is the same at each time of the day.
+        ensures text { IfSome result (λ text. (t : TimeOfDay) → text ≡ pattern_text self.now (moment date t)) }
+        ensures exists { IsSome result ↔ ((needs_time self.now ≡ false)
+            × (length (pattern_text self.now (moment date (time_at 0 0 0 0))) ≤ N)) }
+    {
+        if self.needs_time() {
+            return None;
+        }
+        self.format(NaiveDateTime::new(date, NaiveTime::MIN))
     }
 }
 

@@ -1,0 +1,97 @@
+-- A pattern that needs no time of day writes the same at each time of a day.
+use Rattle.std.proofs.Common.{◌≡◌, ℕ, ℤ, Bool, true, false, ◌||◌, List, [], ◌∷◌, ◌++◌, Option, None, Some, refl, ap, sym, ◌∙◌}
+use Rattle.std.proofs.lemmas.Bool.{true≢false}
+use Rattle.chrono_datetime.specs.Moment.{moment}
+use Rattle.chrono_datetime.specs.Time.{TimeOfDay}
+use Rattle.chrono_pattern.specs.Groups.{group_text}
+use Rattle.chrono_pattern.specs.Needs.{group_needs_time, item_needs_time, needs_time_from, number_needs_time, word_needs_time}
+use Rattle.chrono_pattern.specs.Numbers.{number_text}
+use Rattle.chrono_pattern.specs.Patterns.{item_text, text_from}
+use Rattle.chrono_pattern.specs.Steps.{pattern_step}
+use Rattle.chrono_pattern.specs.Words.{word_text}
+use Rattle.chrono_pattern.specs.declared.item.Padding.{Padding}
+use Rattle.chrono_pattern.specs.declared.item.NumberField.{NumberField}
+use Rattle.chrono_pattern.specs.declared.item.NumberField.TheVariants.{Year, Century, YearOfCentury, Quarter, Month, Day, SpacedDay, DayOfYear, FromMonday, FromSunday, IsoYear, IsoYearOfCentury, IsoWeek, Hour, SpacedHour, HalfHour, SpacedHalfHour, Minute, Second, Nanosecond}
+use Rattle.chrono_pattern.specs.declared.item.WordField.{WordField}
+use Rattle.chrono_pattern.specs.declared.item.WordField.TheVariants.{MonthName, MonthLetters, WeekdayName, WeekdayLetters, Half, SmallHalf}
+use Rattle.chrono_pattern.specs.declared.item.GroupField.{GroupField}
+use Rattle.chrono_pattern.specs.declared.item.GroupField.TheVariants.{YearMonthDay, MonthDayYear, HourMinute, HourMinuteSecond}
+use Rattle.chrono_pattern.specs.declared.item.Item.{Item}
+use Rattle.chrono_pattern.specs.declared.item.Item.TheVariants.{Empty, Byte, Number, Word, Group, Subsecond}
+use Rattle.chrono_pattern.specs.declared.item.State.{State}
+use Rattle.chrono_pattern.proofs.PatternLemmas.{needs_time_from-more, text_from-more, text_from-none, text_from-nothing}
+
+-- ---- an item
+
+number_timeless : (f : NumberField) (p : Padding) (n : ℤ) (t u : TimeOfDay) → number_needs_time f ≡ false
+    → number_text f p (moment n t) ≡ number_text f p (moment n u)
+unfolding number_text
+number_timeless Year p n t u not = refl
+number_timeless Century p n t u not = refl
+number_timeless YearOfCentury p n t u not = refl
+number_timeless Quarter p n t u not = refl
+number_timeless Month p n t u not = refl
+number_timeless Day p n t u not = refl
+number_timeless SpacedDay p n t u not = refl
+number_timeless DayOfYear p n t u not = refl
+number_timeless FromMonday p n t u not = refl
+number_timeless FromSunday p n t u not = refl
+number_timeless IsoYear p n t u not = refl
+number_timeless IsoYearOfCentury p n t u not = refl
+number_timeless IsoWeek p n t u not = refl
+number_timeless Hour p n t u not = absurd (true≢false not)
+number_timeless SpacedHour p n t u not = absurd (true≢false not)
+number_timeless HalfHour p n t u not = absurd (true≢false not)
+number_timeless SpacedHalfHour p n t u not = absurd (true≢false not)
+number_timeless Minute p n t u not = absurd (true≢false not)
+number_timeless Second p n t u not = absurd (true≢false not)
+number_timeless Nanosecond p n t u not = absurd (true≢false not)
+
+word_timeless : (w : WordField) (n : ℤ) (t u : TimeOfDay) → word_needs_time w ≡ false → word_text w (moment n t) ≡ word_text w (moment n u)
+unfolding word_text
+word_timeless MonthName n t u not = refl
+word_timeless MonthLetters n t u not = refl
+word_timeless WeekdayName n t u not = refl
+word_timeless WeekdayLetters n t u not = refl
+word_timeless Half n t u not = absurd (true≢false not)
+word_timeless SmallHalf n t u not = absurd (true≢false not)
+
+group_timeless : (g : GroupField) (n : ℤ) (t u : TimeOfDay) → group_needs_time g ≡ false → group_text g (moment n t) ≡ group_text g (moment n u)
+unfolding group_text number_text
+group_timeless YearMonthDay n t u not = refl
+group_timeless MonthDayYear n t u not = refl
+group_timeless HourMinute n t u not = absurd (true≢false not)
+group_timeless HourMinuteSecond n t u not = absurd (true≢false not)
+
+item_timeless : (i : Item) (n : ℤ) (t u : TimeOfDay) → item_needs_time i ≡ false → item_text i (moment n t) ≡ item_text i (moment n u)
+item_timeless Empty n t u not = refl
+item_timeless (Byte c) n t u not = refl
+item_timeless (Number f p) n t u not = number_timeless f p n t u not
+item_timeless (Word w) n t u not = word_timeless w n t u not
+item_timeless (Group g) n t u not = group_timeless g n t u not
+item_timeless (Subsecond point count) n t u not = absurd (true≢false not)
+
+-- ---- a pattern
+
+neither : (b c : Bool) → (b || c) ≡ false → (b ≡ false) × (c ≡ false)
+neither true c not = absurd (true≢false not)
+neither false c not = (refl, not)
+
+-- the bytes behind one are timeless from each state
+abbrev IsTimeless : List ℕ → ℤ → TimeOfDay → TimeOfDay → Type 0
+IsTimeless bytes n t u = (s : State) → needs_time_from s bytes ≡ false → text_from s bytes (moment n t) ≡ text_from s bytes (moment n u)
+
+step_timeless : (s : State) (c : ℕ) (bytes : List ℕ) (n : ℤ) (t u : TimeOfDay) (o : Option (State × Item)) → pattern_step s c ≡ o
+    → IsTimeless bytes n t u → needs_time_from s (c ∷ bytes) ≡ false
+    → text_from s (c ∷ bytes) (moment n t) ≡ text_from s (c ∷ bytes) (moment n u)
+step_timeless s c bytes n t u None e rest not = text_from-none s c bytes (moment n t) e ∙ sym (text_from-none s c bytes (moment n u) e)
+step_timeless s c bytes n t u (Some next) e rest not =
+    let both = neither (item_needs_time next.1) (needs_time_from next.0 bytes) (sym (needs_time_from-more s c bytes next e) ∙ not) in
+    text_from-more s c bytes (moment n t) next e
+    ∙ ap (λ (l : List ℕ). l ++ text_from next.0 bytes (moment n t)) (item_timeless next.1 n t u both.0)
+    ∙ ap (λ (l : List ℕ). item_text next.1 (moment n u) ++ l) (rest next.0 both.1)
+    ∙ sym (text_from-more s c bytes (moment n u) next e)
+
+pub timeless : (bytes : List ℕ) (n : ℤ) (t u : TimeOfDay) → IsTimeless bytes n t u
+timeless [] n t u s not = text_from-nothing s (moment n t) ∙ sym (text_from-nothing s (moment n u))
+timeless (c ∷ bytes) n t u s not = step_timeless s c bytes n t u (pattern_step s c) refl (timeless bytes n t u) not

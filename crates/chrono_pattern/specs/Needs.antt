@@ -1,0 +1,54 @@
+-- Which patterns write a part of the time of day.
+use Rattle.std.specs.Prelude.{ℕ, Bool, true, false, ◌||◌, List, [], ◌∷◌, Some, None}
+use Rattle.chrono_pattern.specs.Steps.{pattern_step}
+use Rattle.chrono_pattern.specs.declared.item.NumberField.{NumberField}
+use Rattle.chrono_pattern.specs.declared.item.NumberField.TheVariants.{Hour, SpacedHour, HalfHour, SpacedHalfHour, Minute, Second, Nanosecond}
+use Rattle.chrono_pattern.specs.declared.item.WordField.{WordField}
+use Rattle.chrono_pattern.specs.declared.item.WordField.TheVariants.{Half, SmallHalf}
+use Rattle.chrono_pattern.specs.declared.item.GroupField.{GroupField}
+use Rattle.chrono_pattern.specs.declared.item.GroupField.TheVariants.{HourMinute, HourMinuteSecond}
+use Rattle.chrono_pattern.specs.declared.item.Item.{Item}
+use Rattle.chrono_pattern.specs.declared.item.Item.TheVariants.{Empty, Byte, Number, Word, Group, Subsecond}
+use Rattle.chrono_pattern.specs.declared.item.State.{State}
+use Rattle.chrono_pattern.specs.declared.item.State.TheVariants.{Outside}
+
+-- the number is of the time of day
+abbrev pub number_needs_time : NumberField → Bool
+number_needs_time Hour = true
+number_needs_time SpacedHour = true
+number_needs_time HalfHour = true
+number_needs_time SpacedHalfHour = true
+number_needs_time Minute = true
+number_needs_time Second = true
+number_needs_time Nanosecond = true
+number_needs_time _ = false
+
+-- the word is
+abbrev pub word_needs_time : WordField → Bool
+word_needs_time Half = true
+word_needs_time SmallHalf = true
+word_needs_time _ = false
+
+-- the group is
+abbrev pub group_needs_time : GroupField → Bool
+group_needs_time HourMinute = true
+group_needs_time HourMinuteSecond = true
+group_needs_time _ = false
+
+-- the item is
+abbrev pub item_needs_time : Item → Bool
+item_needs_time Empty = false
+item_needs_time (Byte c) = false
+item_needs_time (Number field p) = number_needs_time field
+item_needs_time (Word word) = word_needs_time word
+item_needs_time (Group group) = group_needs_time group
+item_needs_time (Subsecond point count) = true
+
+-- some item of the bytes is
+unfoldable pub needs_time_from : State → List ℕ → Bool
+needs_time_from s [] = false
+needs_time_from s (c ∷ bytes) = elim (pattern_step s c) [ None ↦ false | Some next ↦ item_needs_time next.1 || needs_time_from next.0 bytes ]
+
+-- the pattern has a specifier of the time of day
+abbrev pub needs_time : List ℕ → Bool
+needs_time bytes = needs_time_from Outside bytes
