@@ -7,7 +7,7 @@ use Rattle.std.specs.Option.{option_and_then, option_map}
 use Rattle.std.specs.Ordering.{int_eq}
 use Rattle.std.proofs.lemmas.Bool.{and_parts, cond_both}
 use Rattle.std.proofs.lemmas.Int.{ints}
-use Rattle.chrono_text.proofs.ListLemmas.{lacks}
+use Rattle.chrono_text.proofs.ListLemmas.{all_of, lacks}
 use Rattle.chrono_units.specs.Weekday.{days_from_sunday, weekday_from_sunday}
 use Rattle.chrono_units.specs.declared.weekday.Weekday.{Weekday}
 use Rattle.chrono_units.specs.declared.weekday.Weekday.TheVariants.{Mon, Tue, Wed, Thu, Fri, Sat, Sun}
@@ -18,7 +18,7 @@ use Rattle.zone_text.specs.ChangeTexts.{AreChangesText, IsChangeText, day_part, 
 use Rattle.zone_text.specs.HourTexts.{count_up_to, signed_seconds}
 use Rattle.zone_text.specs.NameTexts.{is_of_offset}
 use Rattle.zone_text.specs.WrittenTexts.{change_text, day_text, hour_text, time_text}
-use Rattle.zone_text.proofs.CutTexts.{after_sep, all_append, before_sep, is_other, others_lack, sep_lacks, sep_stands}
+use Rattle.zone_text.proofs.CutTexts.{after_sep, before_sep, is_other, others_lack, sep_lacks, sep_stands}
 use Rattle.zone_text.proofs.HoursBack.{hour_of_offset, hours_back}
 use Rattle.zone_text.proofs.NumbersBack.{count_back, decimal_digits, decimal_some}
 
@@ -100,15 +100,15 @@ day_lacks sep signs fails (Week m n d) is =
     let k = days_from_sunday d in
     let few = few_days d in
     ap (lacks sep) (week_is m n d)
-    ∙ all_append (λ b. not (b == sep)) (77 ∷ []) (decimal m ++ 46 ∷ (decimal n ++ 46 ∷ decimal k)) letters.1
-    (all_append (λ b. not (b == sep)) (decimal m) (46 ∷ (decimal n ++ 46 ∷ decimal k)) (no_sep sep m fails (omega (arith, is.0.1)))
-    (all_append (λ b. not (b == sep)) (46 ∷ []) (decimal n ++ 46 ∷ decimal k) (rw point.0 refl)
-    (all_append (λ b. not (b == sep)) (decimal n) (46 ∷ decimal k) (no_sep sep n fails (omega (arith, is.1.1)))
-    (all_append (λ b. not (b == sep)) (46 ∷ []) (decimal k) (rw point.0 refl) (no_sep sep k fails (omega (arith, few)))))))
+    ∙ all_of (λ b. not (b == sep)) (77 ∷ []) (decimal m ++ 46 ∷ (decimal n ++ 46 ∷ decimal k)) letters.1
+    (all_of (λ b. not (b == sep)) (decimal m) (46 ∷ (decimal n ++ 46 ∷ decimal k)) (no_sep sep m fails (omega (arith, is.0.1)))
+    (all_of (λ b. not (b == sep)) (46 ∷ []) (decimal n ++ 46 ∷ decimal k) (rw point.0 refl)
+    (all_of (λ b. not (b == sep)) (decimal n) (46 ∷ decimal k) (no_sep sep n fails (omega (arith, is.1.1)))
+    (all_of (λ b. not (b == sep)) (46 ∷ []) (decimal k) (rw point.0 refl) (no_sep sep k fails (omega (arith, few)))))))
 day_lacks sep signs fails (Julian n) is =
     let point = and_parts (not (46 == sep)) _ signs in
     let letters = and_parts (not (74 == sep)) _ point.1 in
-    all_append (λ b. not (b == sep)) (74 ∷ []) (decimal n) (rw letters.0 refl) (no_sep sep n fails (omega (arith, is.1)))
+    all_of (λ b. not (b == sep)) (74 ∷ []) (decimal n) (rw letters.0 refl) (no_sep sep n fails (omega (arith, is.1)))
 day_lacks sep signs fails (FromZero n) is = no_sep sep n fails (omega (arith, is))
 
 -- ---- times
@@ -146,7 +146,7 @@ change_lacks c is =
     let none = day_lacks 44 refl refl c.day is.day in
     timed (λ l. lacks 44 l ≡ true) (day_text c.day) c.second
     (λ same. ap (lacks 44) (append-nil (day_text c.day)) ∙ none)
-    (all_append (λ b. not (b == 44)) (day_text c.day) (47 ∷ hour_text c.second) none
+    (all_of (λ b. not (b == 44)) (day_text c.day) (47 ∷ hour_text c.second) none
     (others_lack is_of_offset 44 (hour_text c.second) refl (hour_of_offset c.second is.second)))
 
 -- ---- both changes

@@ -15,12 +15,6 @@ weaker p q f (b ∷ bs) all =
     let parts = and_parts (p b) (list_all p bs) all in
     and_from (q b) (list_all q bs) (f b parts.0) (weaker p q f bs parts.1)
 
-pub all_append : (p : ℕ → Bool) (front rest : List ℕ) → list_all p front ≡ true → list_all p rest ≡ true → list_all p (front ++ rest) ≡ true
-all_append p [] rest h k = k
-all_append p (b ∷ bs) rest h k =
-    let parts = and_parts (p b) (list_all p bs) h in
-    and_from (p b) (list_all p (bs ++ rest)) parts.0 (all_append p bs rest parts.1 k)
-
 -- a byte that fails is none of them
 pub is_other : (p : ℕ → Bool) (other b : ℕ) → p other ≡ false → p b ≡ true → (b == other) ≡ false
 is_other p other b fails passes = ne_eqb b other (λ same. let wrong : true ≡ false = sym passes ∙ ap p same ∙ fails in absurd cc)

@@ -12,7 +12,9 @@ use Rattle.chrono_text.specs.Text.{two_digits}
 use Rattle.zone_text.specs.HourTexts.{count_up_to, seconds_of_hours, seconds_of_minutes, seconds_together, signed_seconds}
 use Rattle.zone_text.specs.NameTexts.{is_of_offset}
 use Rattle.zone_text.specs.WrittenTexts.{hour_text, minute_text, second_text, size_text}
-use Rattle.zone_text.proofs.CutTexts.{after_sep, all_append, before_sep, is_other, others_lack, sep_lacks, sep_stands, weaker}
+use Rattle.chrono_text.proofs.ListLemmas.{all_of}
+use Rattle.chrono_text.proofs.TextLemmas.{is_negative-pos}
+use Rattle.zone_text.proofs.CutTexts.{after_sep, before_sep, is_other, others_lack, sep_lacks, sep_stands, weaker}
 use Rattle.zone_text.proofs.NumbersBack.{count_back, decimal_digits, decimal_some, two_are_digits, two_back}
 
 -- ---- minutes
@@ -88,11 +90,8 @@ minus_seconds : (text : List ℕ) → signed_seconds (45 ∷ text) ≡ option_ma
 unfolding signed_seconds
 minus_seconds text = refl
 
-not_negative : (n : ℕ) → is_negative (pos n) ≡ false
-not_negative n = grind (arith, ints)
-
 pub no_sign : (n : ℕ) → hour_text (pos n) ≡ size_text n
-no_sign n = ap (λ negative. sign_text negative ++ size_text n) (not_negative n)
+no_sign n = ap (λ negative. sign_text negative ++ size_text n) (is_negative-pos n)
 
 pub hours_back : (x : ℤ) → unsigned_abs x < 604_800 → signed_seconds (hour_text x) ≡ Some x
 hours_back (pos n) small =
@@ -118,12 +117,12 @@ second_of_offset n small = elim (cases_eq n 0) as (λ _. list_all is_of_offset (
 minute_of_offset : (n : ℕ) → n < 3_600 → list_all is_of_offset (minute_text n) ≡ true
 minute_of_offset n small = elim (cases_eq n 0) as (λ _. list_all is_of_offset (minute_text n) ≡ true) [
   | inl none ↦ rw none refl
-  | inr some ↦ rw (ne_eqb n 0 some) (all_append is_of_offset (two_digits (n / 60)) (second_text (n % 60)) (two_of_offset (n / 60) (omega (arith, small))) (second_of_offset (n % 60) (omega arith)))
+  | inr some ↦ rw (ne_eqb n 0 some) (all_of is_of_offset (two_digits (n / 60)) (second_text (n % 60)) (two_of_offset (n / 60) (omega (arith, small))) (second_of_offset (n % 60) (omega arith)))
 ]
 
 size_of_offset : (n : ℕ) → n < 604_800 → list_all is_of_offset (size_text n) ≡ true
 size_of_offset n small =
-    all_append is_of_offset (decimal (n / 3_600)) (minute_text (n % 3_600))
+    all_of is_of_offset (decimal (n / 3_600)) (minute_text (n % 3_600))
     (weaker is_ascii_digit is_of_offset of_digits (decimal (n / 3_600)) (decimal_digits (n / 3_600) (omega (arith, small))))
     (minute_of_offset (n % 3_600) (omega arith))
 
