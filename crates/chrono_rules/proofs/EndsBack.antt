@@ -11,6 +11,7 @@ use Rattle.chrono_datetime.specs.Days.{date_of_ymd, day_of, month_of, year_of}
 use Rattle.chrono_datetime.specs.Years.{is_leap_year}
 use Rattle.chrono_datetime.proofs.NamedDates.{IsDate-year, calendar_name-exists, date_of_ymd-again}
 use Rattle.chrono_datetime.proofs.Signed.{signed}
+use Rattle.chrono_text.proofs.NaturalLemmas.{two_digits-read}
 use Rattle.chrono_text.specs.Numbers.{count_of, digits_of, natural_of, up_to, value_of}
 use Rattle.chrono_rules.specs.RuleTexts.{above_0, date_of, interval_of}
 use Rattle.chrono_rules.specs.WrittenRules.{basic_date_text, four_digits}
@@ -35,12 +36,6 @@ two_are n rest small are =
     let low = and_from (nat_le 48 (48 + n % 10)) (nat_le (48 + n % 10) 57) (le-leb 48 (48 + n % 10) (omega arith)) (le-leb (48 + n % 10) 57 (omega arith)) in
     and_from (is_ascii_digit (48 + n / 10)) (all_ascii_digits ((48 + n % 10) ∷ rest)) high (and_from (is_ascii_digit (48 + n % 10)) (all_ascii_digits rest) low are)
 
-two_back : (n : ℕ) → n < 100 → digits_of 2 (two_digits n) ≡ Some n
-unfolding digits_of natural_of
-two_back n small =
-    let value : value_of (two_digits n) ≡ n = omega arith in
-    ap (λ t. if t then Some (value_of (two_digits n)) else None) (two_are n [] small refl) ∙ ap Some value
-
 four_back : (n : ℕ) → n ≤ 9_999 → digits_of 4 (two_digits (n / 100) ++ two_digits (n % 100)) ≡ Some n
 unfolding digits_of natural_of
 four_back n small =
@@ -53,8 +48,8 @@ eight_back : (y m d : ℕ) → y ≤ 9_999 → m < 100 → d < 100 → date_of (
 unfolding date_of
 eight_back y m d year month day =
     ap (option_and_then (λ y. option_and_then (λ m. option_and_then (date_of_ymd (pos y) m) (digits_of 2 (two_digits d))) (digits_of 2 (two_digits m)))) (four_back y year)
-    ∙ ap (option_and_then (λ m. option_and_then (date_of_ymd (pos y) m) (digits_of 2 (two_digits d)))) (two_back m month)
-    ∙ ap (option_and_then (date_of_ymd (pos y) m)) (two_back d day)
+    ∙ ap (option_and_then (λ m. option_and_then (date_of_ymd (pos y) m) (digits_of 2 (two_digits d)))) (two_digits-read m month)
+    ∙ ap (option_and_then (date_of_ymd (pos y) m)) (two_digits-read d day)
 
 length_few : (leap a b : Bool) → (if a then (if leap then 29 else 28) else (if b then 30 else 31)) ≤ 31
 length_few true true b = omega arith
