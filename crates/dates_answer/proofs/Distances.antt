@@ -3,33 +3,26 @@ use Rattle.dates_answer.proofs.Ground.{◌≡◌, ◌⊎◌, inl, inr, Option, S
 use Rattle.chrono_units.specs.Years.{IsYear}
 use Rattle.chrono_calendar.proofs.EveryMonths.{date_every-start}
 use Rattle.chrono_calendar.proofs.MonthOrder.{month_of-range}
+use Rattle.chrono_calendar.proofs.NamedDates.{date_of_day-Some, some-date_of_day}
 
 -- division rounds towards 0
 sevenths : (d : ℤ) → ((pos 0 ≤ℤ d) × ((pos 7 *ℤ int_div d (pos 7)) ≤ℤ d) × (d <ℤ (pos 7 *ℤ int_div d (pos 7) +ℤ pos 7))) ⊎ ((d <ℤ pos 0) × (d ≤ℤ (pos 7 *ℤ int_div d (pos 7))) × ((pos 7 *ℤ int_div d (pos 7) -ℤ pos 7) <ℤ d))
 sevenths (pos n) = inl (omega (arith, signed), omega (arith, signed), omega (arith, signed))
 sevenths (negsuc n) = inr (omega (arith, signed), omega (arith, signed), omega (arith, signed))
 
--- the number of a date, and the date of a number
-pub date_of_day-is : (m d : ℤ) → Some m ≡ date_of_day d → m ≡ d
-unfolding date_of_day
-date_of_day-is m d e = sym (cond_some (is_date d) d m (sym e)).1
-
-pub date_at : (n : ℤ) → IsDate n → date_of_day n ≡ Some n
-date_at n date = sym (date_of_day-SomeIff (Some n) n (date, refl))
-
 -- a move by no unit stays
 stays : (unit : Unit) (n z : ℤ) → IsDate n → z ≡ pos 0 → unit_move unit n z ≡ Some n
 unfolding unit_move
-stays Days n z date e = ap date_of_day (omega (arith, signed, e)) ∙ date_at n date
-stays Weeks n z date e = ap date_of_day (omega (arith, signed, e)) ∙ date_at n date
+stays Days n z date e = ap date_of_day (omega (arith, signed, e)) ∙ date_of_day-Some n date
+stays Weeks n z date e = ap date_of_day (omega (arith, signed, e)) ∙ date_of_day-Some n date
 stays Months n z date e = ap (month_move n) e ∙ date_every-start n (pos 0) 0 date refl
 stays Years n z date e = ap (month_move n) (omega (arith, signed, e)) ∙ date_every-start n (pos 0) 0 date refl
 
 -- a move by z comes to a day that lies z units on
 pub lies_on : (unit : Unit) (n z m : ℤ) → unit_move unit n z ≡ Some m → units_apart unit n m ≡ z
 unfolding unit_move units_apart
-lies_on Days n z m e = omega (arith, signed, date_of_day-is m (n +ℤ z) (sym e))
-lies_on Weeks n z m e = omega (arith, signed, date_of_day-is m (n +ℤ pos 7 *ℤ z) (sym e), sevenths (m -ℤ n))
+lies_on Days n z m e = omega (arith, signed, (some-date_of_day (n +ℤ z) m (sym e)).1)
+lies_on Weeks n z m e = omega (arith, signed, (some-date_of_day (n +ℤ pos 7 *ℤ z) m (sym e)).1, sevenths (m -ℤ n))
 lies_on Months n z m e = omega (arith, signed, (month_move-parts n z m e).0)
 lies_on Years n z m e = omega (arith, signed, (month_move-parts n (pos 12 *ℤ z) m e).0, month_of-range n, month_of-range m)
 
@@ -53,10 +46,10 @@ month_comes None n k e year = absurd (false≢true ((month_move-exists None n k 
 -- a move comes to a date if it lies between those by as many units as two dates lie on
 pub comes : (unit : Unit) (n z low high : ℤ) → IsDate n → IsDate low → IsDate high → units_apart unit n low ≤ℤ z → z ≤ℤ units_apart unit n high → Comes unit n z
 unfolding unit_move units_apart
-comes Days n z low high date is also above below = record { day = n +ℤ z; is = date_at (n +ℤ z) (omega (arith, signed, is.0, above), omega (arith, signed, also.1, below)) }
+comes Days n z low high date is also above below = record { day = n +ℤ z; is = date_of_day-Some (n +ℤ z) (omega (arith, signed, is.0, above), omega (arith, signed, also.1, below)) }
 comes Weeks n z low high date is also above below = record {
   day = n +ℤ pos 7 *ℤ z;
-  is = date_at (n +ℤ pos 7 *ℤ z)
+  is = date_of_day-Some (n +ℤ pos 7 *ℤ z)
       (omega (arith, signed, date.0, is.0, above, sevenths (low -ℤ n)), omega (arith, signed, date.1, also.1, below, sevenths (high -ℤ n)));
 }
 comes Months n z low high date is also above below =

@@ -1,6 +1,7 @@
 -- Months up to eleven, and how years, months and days add up.
 use Rattle.dates_answer.proofs.Ground.{◌≡◌, Option, Some, None, IsSomeAnd, refl, sym, ap, ◌∙◌, arith, ℤ, pos, neg_ℤ, ◌-ℤ◌, ◌≤ℤ◌, ◌<ℤ◌, [], ◌∷◌, by_lt_z, unwrap_or, IsDate, date_of_day, signed, Unit, Days, Months, Years, moved_from, unit_move, units_apart, IsUnitsBetween, IsMonthsLeft, IsPartsBetween}
-use Rattle.dates_answer.proofs.Distances.{Comes, after, at_unit, before, comes, date_at, lies_on, none_apart, reads, rises}
+use Rattle.chrono_calendar.proofs.NamedDates.{date_of_day-Some}
+use Rattle.dates_answer.proofs.Distances.{Comes, after, at_unit, before, comes, lies_on, none_apart, reads, rises}
 
 -- a move that comes to a day, of which something is known
 found_at : (o : Option ℤ) (unit : Unit) (n z : ℤ) (P : ℤ → Type 0) → o ≡ unit_move unit n z → IsSomeAnd o P → (found : Comes unit n z) × P found.day
@@ -61,7 +62,7 @@ months_come from to z most =
 
 last_days : (m to days : ℤ) → IsDate to → days ≡ to -ℤ m → unit_move Days m days ≡ Some to
 unfolding unit_move
-last_days m to days date e = ap date_of_day (omega (arith, signed, e)) ∙ date_at to date
+last_days m to days date e = ap date_of_day (omega (arith, signed, e)) ∙ date_of_day-Some to date
 
 comes_to : (from y m to years months days : ℤ) → IsDate to → unit_move Years from years ≡ Some y → unit_move Months y months ≡ Some m → days ≡ to -ℤ m
     → moved_from (record { count = years; unit = Years } ∷ record { count = months; unit = Months } ∷ record { count = days; unit = Days } ∷ []) from ≡ Some to
