@@ -364,7 +364,7 @@ def of_zone(chance, _):
     shown = [it.astimezone(target) for it in found]
     lines = [f"{instant_text(it, False)} {it.tzname()}" for it in shown] or ["none"]
     objects = [{"moment": instant_text(it, False), "name": it.tzname()} for it in shown] or [{"moment": None}]
-    error = "" if found else f"{moment_text(local)}: the clock is set forward past it"
+    error = "" if found else f"{moment_text(local)}: the zone's clock never shows it"
     return Asked(["in", name, word, *(["--from-zone", source] if source else [])], [], 0, lines, objects, int(not found), error)
 
 
@@ -374,7 +374,7 @@ def of_zoned_add(chance, _):
     zone, word = zoneinfo.ZoneInfo(name), moment_word(chance, local)
     moves = [a_move(chance, True, None) for _ in range(chance.choice((1, 1, 2)))]
     words = ["add", word, *(it for it, _ in moves), "--zone", name]
-    not_once = "a local time that the zone's clock shows twice, or skips"
+    not_once = "a local time that the zone's clock shows twice, or never"
 
     def no_answer(start):
         return Asked(words, [], 0, ["none"], [{"moment": None}], 1, f"{start}: {not_once}")
@@ -387,7 +387,9 @@ def of_zoned_add(chance, _):
     for text, move in moves:
         last = found[0].astimezone(zone)
         if text.lstrip("-0123456789") in ("d", "w", "mo", "y"):
-            found = instants_at(move(last.replace(tzinfo=None)), zone)
+            local = move(last.replace(tzinfo=None))
+            # (the same day stays the same instant)
+            found = found if local == last.replace(tzinfo=None) else instants_at(local, zone)
         else:
             found = [move(found[0])]
         if not all(1950 < it.year < 2150 for it in found):

@@ -45,7 +45,7 @@ pub(crate) fn answer<'a>(rt: &impl Host, asked: &mut Asked<'a, impl Allocator>) 
     match found {
         MappedLocalTime::None => {
             value!(asked.print(rt, asked.none));
-            let _ = eprintln!(rt; "{start}: the clock is set forward past it");
+            let _ = eprintln!(rt; "{start}: the zone's clock never shows it");
             Ok(NONE)
         }
         MappedLocalTime::Single(only) => print_in(rt, asked, &zone, only),

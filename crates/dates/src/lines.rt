@@ -108,7 +108,7 @@ impl fmt::Display for Place {
 pub(crate) enum Nowhere {
     /// It leads out of the calendar.
     Past,
-    /// It leads to a local time that the zone's clock shows twice, or skips.
+    /// It leads to a local time that the zone's clock shows twice, or never.
     NotOnce,
 }
 
@@ -133,7 +133,7 @@ pub(crate) fn print_nowhere(
 }
 
 /// That a zone's clock shows no single instant.
-pub(crate) const NOT_ONCE: &str = "a local time that the zone's clock shows twice, or skips";
+pub(crate) const NOT_ONCE: &str = "a local time that the zone's clock shows twice, or never";
 
 // The same of a move that leads out of the calendar.
 pub(crate) fn print_past(

@@ -112,9 +112,13 @@ impl<A: Allocator> Instants<A> {
         self.placed(start).ok_or(Fault::NotOnce(word))
     }
 
-    // Another day at the same time of day, where there is one.
+    // Another day at the same time of day, where there is one; the same day stays the same instant.
     pub(crate) fn on(&self, start: Start, date: NaiveDate) -> Option<Start> {
-        let local = NaiveDateTime::new(date, start.local().time());
+        let was = start.local();
+        if date == was.date() {
+            return Some(start);
+        }
+        let local = NaiveDateTime::new(date, was.time());
         if self.zone.is_some() && start.has_offset() {
             self.placed(Start::DateTime(local))
         } else {
