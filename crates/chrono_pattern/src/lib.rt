@@ -7,8 +7,8 @@
 //! pattern.format::<64>(moment)?.as_bytes().len() // 28
 //! ```
 //!
-//! The specifiers and their texts are those of chrono, with English names. A pattern borrows its bytes, and nothing here
-//! allocates.
+//! The specifiers, listed at [`Pattern::new`], are some of chrono's and have the same texts, with English names. A pattern borrows
+//! its bytes, and nothing here allocates.
 #![tactic(auto)]
 
 mod error;

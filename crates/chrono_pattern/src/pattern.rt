@@ -82,8 +82,6 @@ impl<'a> Pattern<'a> {
 
     /// Returns the text of `moment`. Returns `None` if it has more than `N` bytes.
     ///
-    /// The text is ASCII if the pattern is.
-    ///
     /// ```
     /// use chrono_datetime::{AndTime, NaiveDate};
     /// let moment = NaiveDate::from_ymd_opt(2024, 2, 29)?.and_hms_opt(9, 30, 0)?;
