@@ -14,11 +14,10 @@ import email.utils
 import os
 import random
 import re
-import subprocess
 import sys
 import tempfile
 
-from outside import put_program
+from outside import answers_in_parts, put_program
 
 UTC = datetime.timezone.utc
 EPOCH = datetime.datetime(1970, 1, 1, tzinfo=UTC)
@@ -681,16 +680,7 @@ def line_of(question):
 def answers_of(room, questions):
     """What the program answers."""
     folder = put_program(room, "instants", ["chrono_datetime", "chrono_zoned", "chrono_stamps"], PROGRAM)
-    # The program is built once. It runs for each part of the lines, for `rt try` hands on no more than a mebibyte of one run.
-    os.mkdir(f"{room}/parts")
-    for start in range(0, len(questions), PART):
-        with open(f"{room}/parts/{start:08}", "w", encoding="utf-8") as it:
-            it.writelines(line_of(question) + "\n" for question in questions[start : start + PART])
-    said = subprocess.run(["rt", "try", "--cases", f"{room}/parts"], cwd=folder, stdout=subprocess.PIPE, stderr=subprocess.STDOUT, text=True, errors="replace").stdout
-    told = [line[2:] for line in said.split("\n") if line.startswith("= ")]
-    if len(told) != len(questions):
-        sys.exit(f"{len(told)} answers for {len(questions)} lines:\n{said[-3000:]}")
-    return told
+    return answers_in_parts(room, folder, [line_of(it) for it in questions], PART)
 
 
 def differing(questions, told, wanted):

@@ -79,6 +79,22 @@ def put_program(room, name, uses, source):
     return folder
 
 
+def answers_in_parts(room, folder, lines, most):
+    """What a program answers to lines, behind `= ` each. It is built once, and runs for each part of at most so many lines.
+
+    `rt try` hands on no more than a mebibyte of one run.
+    """
+    os.mkdir(f"{room}/parts")
+    for start in range(0, len(lines), most):
+        with open(f"{room}/parts/{start:08}", "w", encoding="utf-8") as it:
+            it.writelines(f"{line}\n" for line in lines[start : start + most])
+    said = subprocess.run(["rt", "try", "--cases", f"{room}/parts"], cwd=folder, stdout=subprocess.PIPE, stderr=subprocess.STDOUT, text=True, errors="replace").stdout
+    told = [line[2:] for line in said.split("\n") if line.startswith("= ")]
+    if len(told) != len(lines):
+        sys.exit(f"{len(told)} answers for {len(lines)} lines:\n{said[-3000:]}")
+    return told
+
+
 def make_repository(room):
     """Writes the repository; the names of its libraries and of its callers."""
     crates, files = listed_crates(), quoted_files()

@@ -19,7 +19,7 @@ import sys
 import tempfile
 
 from instants import civil
-from outside import put_program
+from outside import answers_in_parts, put_program
 
 TOP = os.path.dirname(os.path.dirname(os.path.abspath(__file__)))
 sys.path.insert(0, os.path.join(TOP, "tools"))
@@ -174,17 +174,9 @@ def line_of(question):
 
 
 def answers_of(room, questions):
-    """What the program answers. It runs for each part of the lines, for `rt try` hands on no more than a mebibyte of one run."""
+    """What the program answers."""
     folder = put_program(room, "patterns", ["chrono_datetime", "chrono_pattern"], PROGRAM)
-    os.mkdir(f"{room}/parts")
-    for start in range(0, len(questions), PART):
-        with open(f"{room}/parts/{start:08}", "w", encoding="utf-8") as it:
-            it.writelines(line_of(question) + "\n" for question in questions[start : start + PART])
-    said = subprocess.run(["rt", "try", "--cases", f"{room}/parts"], cwd=folder, stdout=subprocess.PIPE, stderr=subprocess.STDOUT, text=True, errors="replace").stdout
-    told = [line[2:] for line in said.split("\n") if line.startswith("= ")]
-    if len(told) != len(questions):
-        sys.exit(f"{len(told)} answers for {len(questions)} lines:\n{said[-3000:]}")
-    return told
+    return answers_in_parts(room, folder, [line_of(it) for it in questions], PART)
 
 
 def by_chrono(room, questions):
