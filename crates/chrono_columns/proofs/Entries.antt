@@ -14,13 +14,10 @@ use Rattle.chrono_columns.specs.Columns.{number_entry, count_entry, wide_entry, 
 pub no_date : (n : ℤ) → false ≡ is_date n → None ≡ date_of_day n
 no_date n e = date_of_day-None n (λ h. false≢true (e ∙ is_date-test n h))
 
-pub a_date : (n : ℤ) → true ≡ is_date n → IsDate n
-a_date n e = is_date-fact n (sym e)
-
 -- of a date the entry is what holds of it, here told of the nearest date
 there : {X : Type 0} (from : Option ℤ → X) (n d : ℤ) → true ≡ is_date n → (IsDate n → d ≡ n) → from (Some d) ≡ from (date_of_day n)
 there from n d e same =
-    let date = a_date n e in
+    let date = is_date-fact n (sym e) in
     ap (λ z. from (Some z)) (same date) ∙ ap from (sym (date_of_day-Some n date))
 
 pub year-there : (n d : ℤ) → true ≡ is_date n → (IsDate n → d ≡ n) → year_of d ≡ year_entry n
@@ -83,7 +80,7 @@ iso_week-none n e = ap (λ o. count_entry (option_map iso_week_of o)) (no_date n
 -- days since 1970
 pub unix_date-there : (z : ℤ) → true ≡ is_date (z +ℤ pos 719_163) → z +ℤ pos 719_163 ≡ unix_date_entry z
 unfolding unix_date_entry
-unix_date-there z e = ap number_entry (sym (date_of_day-Some (z +ℤ pos 719_163) (a_date (z +ℤ pos 719_163) e)))
+unix_date-there z e = ap number_entry (sym (date_of_day-Some (z +ℤ pos 719_163) (is_date-fact (z +ℤ pos 719_163) (sym e))))
 
 pub unix_date-none : (z : ℤ) → false ≡ is_date (z +ℤ pos 719_163) → neg_ℤ (pos 2_147_483_648) ≡ unix_date_entry z
 unfolding unix_date_entry
@@ -114,14 +111,14 @@ later-past k n from past =
 pub later-none : (k n : ℤ) (a b : Bool) → (a && b) ≡ false → a ≡ is_date n → (IsDate n → IsDate (n +ℤ k) → b ≡ true) → neg_ℤ (pos 2_147_483_648) ≡ later_entry k n
 unfolding later_entry
 later-none k n false b e from to = ap (λ o. number_entry (option_and_then (λ d. date_of_day (d +ℤ k)) o)) (no_date n from)
-later-none k n true false e from to = later-past k n (a_date n from) (λ h. false≢true (to (a_date n from) h))
+later-none k n true false e from to = later-past k n (is_date-fact n (sym from)) (λ h. false≢true (to (is_date-fact n (sym from)) h))
 later-none k n true true e from to = absurd (false≢true (sym e))
 
 pub distance-there : (n m : ℤ) → true ≡ is_date n → true ≡ is_date m → n -ℤ m ≡ distance_entry n m
 unfolding distance_entry
 distance-there n m a b =
-    ap (λ o. number_entry (option_map (λ e. n -ℤ e) o)) (sym (date_of_day-Some m (a_date m b)))
-    ∙ ap (λ o. number_entry (option_and_then (λ d. option_map (λ e. d -ℤ e) (date_of_day m)) o)) (sym (date_of_day-Some n (a_date n a)))
+    ap (λ o. number_entry (option_map (λ e. n -ℤ e) o)) (sym (date_of_day-Some m (is_date-fact m (sym b))))
+    ∙ ap (λ o. number_entry (option_and_then (λ d. option_map (λ e. d -ℤ e) (date_of_day m)) o)) (sym (date_of_day-Some n (is_date-fact n (sym a))))
 
 nowhere : (o : Option ℤ) → neg_ℤ (pos 2_147_483_648) ≡ number_entry (option_and_then (λ (d : ℤ). None) o)
 nowhere None = refl
@@ -146,6 +143,6 @@ pub months-none : (k n : ℤ) (a b : Bool) → (a && b) ≡ false → a ≡ is_d
 unfolding months_later_entry
 months-none k n false b e from past = ap (λ o. number_entry (option_and_then (λ d. month_move d k) o)) (no_date n from)
 months-none k n true false e from past =
-    ap number_entry (past (a_date n from) refl)
-    ∙ ap (λ o. number_entry (option_and_then (λ d. month_move d k) o)) (sym (date_of_day-Some n (a_date n from)))
+    ap number_entry (past (is_date-fact n (sym from)) refl)
+    ∙ ap (λ o. number_entry (option_and_then (λ d. month_move d k) o)) (sym (date_of_day-Some n (is_date-fact n (sym from))))
 months-none k n true true e from past = absurd (false≢true (sym e))

@@ -1,5 +1,5 @@
 -- The days of a schedule come again after 400 years.
-use Rattle.std.proofs.Common.{◌≡◌, ℕ, zero, suc, ◌-◌, ◌*◌, Bool, ◌&&◌, ◌||◌, refl, sym, ap, ◌∙◌, arith, false, ℤ, pos, ◌+ℤ◌, ◌-ℤ◌, ◌≤ℤ◌, unsigned_abs, Option, Some, None, IfNone}
+use Rattle.std.proofs.Common.{◌≡◌, ℕ, zero, suc, ◌-◌, ◌*◌, Bool, ◌&&◌, ◌||◌, refl, sym, ap, ◌∙◌, arith, false, ℤ, pos, ◌+ℤ◌, ◌-ℤ◌, ◌≤ℤ◌, unsigned_abs}
 use Rattle.std.proofs.lemmas.Int.{by_lt_z}
 use Rattle.chrono_datetime.specs.Days.{day_of, month_of}
 use Rattle.chrono_datetime.specs.MonthMoves.{month_length_of}
@@ -52,8 +52,3 @@ none_earlier s to (suc k) d none high low =
 
 pub none_up_to : (s : FieldSets) (to d : ℤ) → ((d : ℤ) → (to -ℤ pos 146_097) ≤ℤ d → d ≤ℤ to → is_day s d ≡ false) → d ≤ℤ to → is_day s d ≡ false
 none_up_to s to d none high = none_earlier s to (unsigned_abs (to -ℤ d)) d none high (omega (arith, signed, high))
-
--- what follows where there is no answer
-pub if_none : (o : Option ℤ) (P Q : Type 0) → (P → Q) → IfNone o P → IfNone o Q
-if_none None P Q so p = so p
-if_none (Some e) P Q so p = tt

@@ -34,8 +34,9 @@ const LAST_YEAR: u32 = 262_142;
 /// - A year of two digits is from 1950 to 2049. One of three digits counts from 1900. One of four digits or more is itself, also
 ///   before 1900. A year after 262142 is an error, and so is one digit.
 /// - The seconds may be left out. The second 60 is the leap second that follows 59. Any minute may have it.
-/// - The offset is `+hhmm` or `-hhmm`, `UT`, `GMT`, or one of `EST`, `EDT`, `CST`, `CDT`, `MST`, `MDT`, `PST`, `PDT`. `-0000` and a letter
-///   alone but `J` are UTC, so `Z` is, and `A` too. Any other name, such as `CET`, is an error, since nothing says its offset.
+/// - The offset is `+hhmm` or `-hhmm` with hours up to 23, `UT`, `GMT`, or one of `EST`, `EDT`, `CST`, `CDT`, `MST`, `MDT`, `PST`,
+///   `PDT`. `-0000` and a letter alone but `J` are UTC, so `Z` is, and `A` too. Any other name, such as `CET`, is an error, since
+///   nothing says its offset.
 /// - White space and comments may stand between the parts. White space is spaces, tabs and ends of lines. A comment stands in
 ///   brackets.
 pub fn parse_from_rfc2822(text: &[u8]) -> Result<DateTime<FixedOffset>, ReadError>

@@ -16,8 +16,7 @@ use chrono_zoned::{DateTime, FixedOffset, TimeZone};
 ///
 /// The fraction of a second is cut off. A leap second is the second 60.
 ///
-/// Returns `None` if RFC 2822 has no such text: if the year is not from 0 to 9999, the offset has seconds, or a leap second
-/// is not at the end of a minute.
+/// Returns `None` if the year is not from 0 to 9999, the offset has seconds, or a leap second is not at the end of a minute.
 ///
 /// ```
 /// use chrono_zoned::{FixedOffset, InZone, Utc};

@@ -1,5 +1,5 @@
--- Answers that exist exactly under a fact, and answers that are the same.
-use Rattle.std.proofs.Common.{◌≡◌, Bool, true, false, cond, Option, Some, None, Result, Ok, refl, ap}
+-- Answers that exist exactly under a fact, what follows where there is none, and answers that are the same.
+use Rattle.std.proofs.Common.{◌≡◌, Bool, true, false, cond, Option, Some, None, IfNone, Result, Ok, refl, ap}
 use Rattle.std.proofs.lemmas.Bool.{false≢true}
 use Rattle.std.specs.Option.{SomeIff}
 
@@ -9,6 +9,11 @@ by_test true (Some x) v P f g given = ap Some given.1
 by_test true None v P f g given = absurd (given (f refl))
 by_test false (Some x) v P f g given = absurd (false≢true (g given.0))
 by_test false None v P f g given = refl
+
+-- what follows where there is no answer
+pub if_none : {A : Type 0} (o : Option A) (P Q : Type 0) → (P → Q) → IfNone o P → IfNone o Q
+if_none None P Q so p = so p
+if_none (Some v) P Q so p = tt
 
 -- the values of answers that are the same
 pub same_Ok : {T E : Type 0} (a b : T) → ◌≡◌ {A = Result T E} (Ok a) (Ok b) → a ≡ b

@@ -34,7 +34,7 @@ impl<A: Allocator> Database<A> {
     /// Returns the database in a folder.
     ///
     /// ```
-    /// Database::new(String::from_str(rt.alloc(), "/opt/zones").ok()?).folder() // "/opt/zones"
+    /// Database::new(String::from_str(rt.alloc(), "zoneinfo").ok()?).folder() // "zoneinfo"
     /// ```
     pub fn new(folder: String<A>) -> Database<A> {
         Database { folder }
@@ -43,7 +43,7 @@ impl<A: Allocator> Database<A> {
     /// Returns the folder.
     ///
     /// ```
-    /// Database::new(String::from_str(rt.alloc(), "/opt/zones").ok()?).folder() // "/opt/zones"
+    /// Database::new(String::from_str(rt.alloc(), "zoneinfo").ok()?).folder() // "zoneinfo"
     /// ```
     pub fn folder(&self) -> &str {
         self.folder.as_str()

@@ -3,10 +3,11 @@ use Rattle.std.specs.Prelude.{slice_index_or}
 use Rattle.std.proofs.lemmas.List.{length-take, length-take-le, take-take}
 use Rattle.std.proofs.lemmas.List.Folds.{list_any_at}
 use Rattle.std.specs.Ordering.{int_eq, is_eq}
+use Rattle.chrono_text.proofs.AnswerLemmas.{if_none}
 use Rattle.chrono_datetime.specs.Days.{IsDate}
 use Rattle.chrono_datetime.specs.WeekdaySet.{contains}
 use Rattle.chrono_business.specs.OpenDays.{is_workday}
-use Rattle.chrono_business.proofs.HolidayInserts.{IsWithDay, if-none, if-some, ranks-rise, less_by, greater_by, too_many, with-day, with-holidays, with-kept, with-only, with-rising}
+use Rattle.chrono_business.proofs.HolidayInserts.{IsWithDay, if-some, ranks-rise, less_by, greater_by, too_many, with-day, with-holidays, with-kept, with-only, with-rising}
 use Rattle.chrono_business.proofs.holiday_list.insert.Goals as goal
 
 pub returns-in-Ok-clause-here : goal.returns-in-Ok-clause-here
@@ -60,4 +61,4 @@ returns-in-Err-clause-none c =
     let ys : List ℤ = take c.in-Err.place zs ++ c.args.date ∷ drop c.in-Err.place zs in
     let w : IsWithDay zs ys c.in-Err.place c.args.date = record { bound = c.in-Err.ensures.bound; is = refl } in
     let up = with-rising zs ys c.in-Err.place c.args.date w c.requires.holidays.rising (before c) (after c) in
-    if-none c.insert_at.result _ _ (λ full xs rise all. too_many zs ys xs c.in-Err.place (length c.args.dates.now) c.args.date w up (sym full ∙ sym (length-take-le c.args.len c.args.dates.now c.requires.bound)) rise (λ d was. all d (inl was)) (all c.args.date (inr (refl, workday c)))) c.insert_at.ensures.none
+    if_none c.insert_at.result _ _ (λ full xs rise all. too_many zs ys xs c.in-Err.place (length c.args.dates.now) c.args.date w up (sym full ∙ sym (length-take-le c.args.len c.args.dates.now c.requires.bound)) rise (λ d was. all d (inl was)) (all c.args.date (inr (refl, workday c)))) c.insert_at.ensures.none

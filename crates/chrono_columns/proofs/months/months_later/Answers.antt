@@ -4,9 +4,10 @@ use Rattle.std.proofs.lemmas.Int.{to_z-of_z}
 use Rattle.chrono_units.specs.Years.{IsYear}
 use Rattle.chrono_calendar.specs.Days.{is_date, day_of}
 use Rattle.chrono_calendar.specs.MonthMoves.{day_number_in_month, month_index_of, year_of_month_index}
+use Rattle.chrono_calendar.proofs.Dates.{is_date-fact}
 use Rattle.chrono_calendar.proofs.Signed.{casts, signed}
 use Rattle.chrono_stored.proofs.MonthsFromMarch.{month_move-day}
-use Rattle.chrono_columns.proofs.Entries.{a_date, months-there, months-none}
+use Rattle.chrono_columns.proofs.Entries.{months-there, months-none}
 use Rattle.chrono_calendar.proofs.Moves.{month_move-None}
 use Rattle.chrono_columns.proofs.MonthTests.{near_month}
 use Rattle.chrono_columns.proofs.months.months_later.Goals as goal
@@ -20,7 +21,7 @@ returns-then-is_date-is_month c =
     let n = c.args.number in
     let here = to_z-of_z w32 n c.ranges.number in
     let both = and_parts c.is_date.result c.is_month.result c.if-is_date-is_month.true in
-    let from = a_date n (sym both.0 ∙ c.is_date.ensures ∙ ap (λ z. is_date z) here) in
+    let from = is_date-fact n (sym (sym both.0 ∙ c.is_date.ensures ∙ ap (λ z. is_date z) here)) in
     let near = to_z-of_z w32 c.nearest_date.result (search rules) ∙ (rw here at c.nearest_date.ensures.same) from in
     let b = c.month_and_day-begun.result.0 in
     let d = c.month_and_day-begun.result.1 in

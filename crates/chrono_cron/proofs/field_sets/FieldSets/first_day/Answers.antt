@@ -1,6 +1,7 @@
 use Rattle.std.proofs.Common.{refl, arith}
 use Rattle.chrono_datetime.proofs.Signed.{signed}
-use Rattle.chrono_cron.proofs.DayCycles.{if_none, none_from}
+use Rattle.chrono_text.proofs.AnswerLemmas.{if_none}
+use Rattle.chrono_cron.proofs.DayCycles.{none_from}
 use Rattle.chrono_cron.proofs.field_sets.FieldSets.first_day.Goals as goal
 
 pub returns-in-Some-clause-none : goal.returns-in-Some-clause-none
