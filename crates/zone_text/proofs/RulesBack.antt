@@ -5,8 +5,7 @@ use Rattle.std.specs.List.{list_all}
 use Rattle.std.specs.Option.{option_map}
 use Rattle.std.specs.Ordering.{int_eq}
 use Rattle.std.proofs.lemmas.Bool.{and_parts, cond_both, ne_eqb}
-use Rattle.std.proofs.lemmas.Bool.Decides.{nat_tests}
-use Rattle.std.proofs.lemmas.Int.{ints}
+use Rattle.std.proofs.lemmas.Bool.Decides.{Decides-int_eq, nat_tests}
 use Rattle.chrono_zoned.specs.Offsets.{IsOffset}
 use Rattle.zone_rule.specs.declared.rule.Daylight.{Daylight}
 use Rattle.zone_rule.specs.declared.rule.ZoneRule.{ZoneRule}
@@ -90,13 +89,10 @@ hour_some x small = read_some x (hour_text x) (hours_back x small)
 
 -- ---- daylight time
 
-same_offset : (x y : ℤ) → int_eq x y ≡ true → x ≡ y
-same_offset x y e = grind (arith, ints)
-
 -- the offset of daylight time: nothing, or a time
 of_daylight : (P : List ℕ → Type 0) (standard x : ℤ) → (x ≡ standard +ℤ pos 3_600 → P []) → P (hour_text (neg_ℤ x)) → P (daylight_hour_text standard x)
 of_daylight P standard x f g =
-    cond_both (int_eq x (standard +ℤ pos 3_600)) [] (hour_text (neg_ℤ x)) P (λ is. f (same_offset x (standard +ℤ pos 3_600) is)) (λ is_not. g)
+    cond_both (int_eq x (standard +ℤ pos 3_600)) [] (hour_text (neg_ℤ x)) P (λ is. f ((Decides-int_eq x (standard +ℤ pos 3_600)).0 is)) (λ is_not. g)
 
 record IsBack (standard x : ℤ) (text : List ℕ) : Type 0 where
   bytes : list_all is_of_offset text ≡ true
