@@ -2,7 +2,7 @@
 use Rattle.std.specs.Prelude.{◌≡◌, ℕ, Bool, not, ◌&&◌, ◌||◌, if◌then◌else◌, nat_eq, nat_lt, List, [], ◌∷◌, ◌++◌, length, map, codes, Option, Some, None, is_some, Result, Ok, Err, MatchResult}
 use Rattle.std.specs.List.{list_any, starts_with, position_or_len, before_first, after_first}
 use Rattle.std.specs.Str.{bytes_eq}
-use Rattle.std.specs.Option.{option_or}
+use Rattle.std.specs.Option.{option_and_then, option_or}
 use Rattle.command_words.specs.declared.table.Opt.{Opt}
 use Rattle.command_words.specs.declared.words.Word.{Word}
 use Rattle.command_words.specs.declared.words.GivenOption.{GivenOption}
@@ -129,9 +129,9 @@ read table g m (w ∷ ws) = and_then (step table g m w) (λ h k. read table h k 
 abbrev pub default_of : Opt → Option Seen
 default_of o = if nat_eq (length o.default.now) 0 then None else Some (0, o.default.now)
 
--- the value of an option: the first that is given, or else its default
-abbrev pub value_named : Opt → List (Opt × Seen) → Option Seen
-value_named o options = option_or (first_value o.name.now options) (default_of o)
+-- the value of the option of a name: the first that is given, or else its default in the table
+abbrev pub value_named : List ℕ → List Opt → List (Opt × Seen) → Option Seen
+value_named name table options = option_or (first_value name options) (option_and_then default_of (named name table))
 
 -- the first option of a table that has to be given and is not
 abbrev pub missing : List (Opt × Seen) → List Opt → Option Opt

@@ -1,32 +1,27 @@
 //! What a program asks of the words that are read.
 ghost use Rattle.std.specs.Prelude.{◌≡◌, map};
-ghost use Rattle.std.specs.Option.{option_map};
-ghost use Rattle.command_words.specs.Arguments.{is_given, missing, pair, seen, value_named, first_value};
+ghost use Rattle.std.specs.Option.{option_and_then, option_map};
+ghost use Rattle.command_words.specs.Arguments.{default_of, first_value, is_given, missing, named, pair, seen, value_named};
 
 use crate::table::{CommandRow, Operand, Opt};
-use crate::words::{Arguments, GivenOption, Word, is_given};
-use std::alloc::Allocator;
+use crate::words::{Arguments, GivenOption, Word, is_given, option_named};
 
-impl<'a, A: Allocator> Arguments<'a, A> {
-    /// Returns the value of an option as it is given first; else its default, as a word at place 0.
-    pub fn value(&self, option: Opt) -> Option<Word<'a>>
-        ensures { option_map seen result ≡ value_named option (map pair self.now.options.items) }
+impl<'a> Arguments<'a> {
+    /// Returns the value of the option of that name as it is given first; else its default in the table, as a word at place 0.
+    pub fn value(&self, table: &'static [Opt], name: &str) -> Option<Word<'a>>
+        ensures { option_map seen result ≡ value_named name.now table.now (map pair self.now.options.items) }
     {
-        match first_value(self.options.as_slice(), option.name) {
+        match first_value(self.options.as_slice(), name) {
             Some(value) => Some(value),
-            None if option.default.is_empty() => None,
-            None => Some(Word {
-                place: 0,
-                text: option.default,
-            }),
+            None => default_in(table, name),
         }
     }
 
-    /// Returns whether an option is given.
-    pub fn has(&self, option: Opt) -> bool
-        ensures { result ≡ is_given option.name.now (map pair self.now.options.items) }
+    /// Returns whether the option of that name is given.
+    pub fn has(&self, name: &str) -> bool
+        ensures { result ≡ is_given name.now (map pair self.now.options.items) }
     {
-        is_given(self.options.as_slice(), option.name)
+        is_given(self.options.as_slice(), name)
     }
 
     /// Returns the first option of a table that has to be given and is not.
@@ -76,6 +71,19 @@ impl<'a, A: Allocator> Arguments<'a, A> {
             places = places.saturating_add(words);
         }
         self.operand(places)
+    }
+}
+
+// The default of the option with that name, as a word at place 0.
+fn default_in<'a>(table: &'static [Opt], name: &str) -> Option<Word<'a>>
+    ensures { option_map seen result ≡ option_and_then default_of (named name.now table.now) }
+{
+    match option_named(table, name) {
+        Some(option) if !option.default.is_empty() => Some(Word {
+            place: 0,
+            text: option.default,
+        }),
+        _ => None,
     }
 }
 

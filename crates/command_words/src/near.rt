@@ -1,6 +1,6 @@
 //! The name that is most like a word.
 
-use std::alloc::{AllocError, Allocator};
+use std::alloc::{AllocError, Global};
 use strsim::osa_distance;
 
 /// Returns the name that is most like a word, if one is like it: every third character of it may be another.
@@ -9,8 +9,8 @@ use strsim::osa_distance;
 /// nearest(rt.alloc(), "folowing", &["following", "preceding"]).ok()? // Some("following")
 /// nearest(rt.alloc(), "soon", &["following", "preceding"]).ok()? // None
 /// ```
-pub fn nearest<A: Allocator + Clone>(
-    alloc: A,
+pub fn nearest(
+    alloc: Global,
     word: &str,
     names: &[&'static str],
 ) -> Result<Option<&'static str>, AllocError> {

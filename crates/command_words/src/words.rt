@@ -5,7 +5,7 @@ ghost use Rattle.command_words.specs.Arguments.{IsStep, attached, free, got, is_
 
 use crate::given::first_value;
 use crate::table::Opt;
-use std::alloc::{AllocError, Allocator};
+use std::alloc::{AllocError, Global};
 
 /// A word of a command line.
 #[derive(Clone, Copy)]
@@ -51,11 +51,11 @@ pub struct Wrong<'a> {
 
 /// The operands and the options of a command line.
 #[derive(Drop)]
-pub struct Arguments<'a, A: Allocator> {
+pub struct Arguments<'a> {
     /// The operands, in their order.
-    pub operands: Vec<Word<'a>, A>,
+    pub operands: Vec<Word<'a>>,
     /// The options, in the order in which they are given.
-    pub options: Vec<GivenOption<'a>, A>,
+    pub options: Vec<GivenOption<'a>>,
 }
 
 // How the next word is read.
@@ -78,11 +78,11 @@ type Step<'a> = Result<Result<Mode<'a>, Wrong<'a>>, AllocError>;
 /// A word with one hyphen is an operand too, since numbers may be negative.
 ///
 /// Returns the first word that breaks the table as an error.
-pub fn read_words<'a, A: Allocator + Clone>(
-    alloc: A,
+pub fn read_words<'a>(
+    alloc: Global,
     table: &'static [Opt],
     words: &[Word<'a>],
-) -> Result<Result<Arguments<'a, A>, Wrong<'a>>, AllocError>
+) -> Result<Result<Arguments<'a>, Wrong<'a>>, AllocError>
     ensures { IfOk result (λ r. MatchResult r
         (λ f. read table.now ([], []) free (map seen words.now) ≡ Ok (got f.operands.items f.options.items))
         (λ w. read table.now ([], []) free (map seen words.now) ≡ Err (seen w.word, w.why))) }
@@ -111,7 +111,7 @@ pub fn read_words<'a, A: Allocator + Clone>(
 // Reads a word behind others.
 fn read_word<'a>(
     table: &'static [Opt],
-    found: &mut Arguments<'a, impl Allocator>,
+    found: &mut Arguments<'a>,
     mode: Mode<'a>,
     word: Word<'a>,
 ) -> Step<'a>
@@ -128,11 +128,7 @@ fn read_word<'a>(
 }
 
 // Reads a word that begins with `--`.
-fn read_option<'a>(
-    table: &'static [Opt],
-    found: &mut Arguments<'a, impl Allocator>,
-    word: Word<'a>,
-) -> Step<'a>
+fn read_option<'a>(table: &'static [Opt], found: &mut Arguments<'a>, word: Word<'a>) -> Step<'a>
     ensures { IfOk result (λ r. IsStep (step_of_option table.now (got found.old.operands.items found.old.options.items) (seen word.entry)) r (got found.new.operands.items found.new.options.items)) }
 {
     if word.text == "--" {
@@ -148,7 +144,7 @@ fn read_option<'a>(
 
 // Puts an option behind the others, with what stands behind its `=`, or begins it.
 fn put_option<'a>(
-    found: &mut Arguments<'a, impl Allocator>,
+    found: &mut Arguments<'a>,
     option: Opt,
     word: Word<'a>,
     value: Option<&'a str>,
@@ -170,11 +166,7 @@ fn put_option<'a>(
 }
 
 // Puts an option behind the others with a value, if it may have that.
-fn put_value<'a>(
-    found: &mut Arguments<'a, impl Allocator>,
-    option: Opt,
-    value: Word<'a>,
-) -> Step<'a>
+fn put_value<'a>(found: &mut Arguments<'a>, option: Opt, value: Word<'a>) -> Step<'a>
     ensures { IfOk result (λ r. IsStep (valued option (got found.old.operands.items found.old.options.items) (seen value.entry)) r (got found.new.operands.items found.new.options.items)) }
 {
     if !may_be(option, value.text) {
@@ -207,7 +199,7 @@ pub(crate) fn is_given(options: &[GivenOption<'_>], name: &str) -> bool
 }
 
 // The option with that name.
-fn option_named(table: &'static [Opt], name: &str) -> Option<Opt>
+pub(crate) fn option_named(table: &'static [Opt], name: &str) -> Option<Opt>
     ensures { result ≡ named name.now table.now }
 {
     let mut rest = table;

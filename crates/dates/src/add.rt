@@ -6,7 +6,9 @@ use crate::prelude::*;
 use crate::texts::{Move, Start, read_move};
 use crate::values::InstantForm;
 use crate::zoned::{Instants, instants_by};
+use chrono_datetime::NaiveDate;
 use dates_answer::moved;
+use std::alloc::{Allocator, Global};
 use std::io;
 
 const SPAN: Operand = Operand {
@@ -62,41 +64,52 @@ impl<'a, A: Allocator> Steps<'a, A> {
 
 // Steps, and the holidays among them.
 #[derive(Drop)]
-struct Add<'a, A: Allocator> {
+struct Add<'a> {
     form: OutputForm,
-    instants: Instants<A>,
-    steps: Steps<'a, A>,
-    holidays: Holidays<A>,
+    instants: Instants,
+    steps: Steps<'a, Global>,
+    holidays: Holidays,
 }
 
 // The day or the date-time, or that of each line, moved; the exit status.
-pub(crate) fn answer<'a, R: Host>(rt: &R, asked: &mut Asked<'a, impl Allocator>) -> Answered<'a> {
-    let mut steps: Steps<'a, R::A> = Steps {
+pub(crate) fn answer<'a>(rt: &HostRuntime, asked: &mut Asked<'a>) -> Answered<'a> {
+    let instants = value!(instants_by(rt, asked));
+    let mut steps: Steps<'a, Global> = Steps {
         moves: Vec::new(rt.alloc()),
         words: Vec::new(rt.alloc()),
         short: None,
         timed: false,
     };
-    let instants = value!(instants_by(rt, asked));
     let start = value!(read(&instants, asked.words.operands.as_slice(), &mut steps));
+    answer_steps(rt, asked, instants, steps, start)
+}
+
+// What is moved by the steps; each line is, where it is `None`. The exit status.
+fn answer_steps<'a>(
+    rt: &HostRuntime,
+    asked: &Asked<'a>,
+    instants: Instants,
+    steps: Steps<'a, Global>,
+    start: Option<Start>,
+) -> Answered<'a> {
     let mut add = Add {
         form: asked.form,
+        holidays: value!(holidays_of(rt, asked)),
         instants,
         steps,
-        holidays: value!(holidays_of(rt, asked)),
     };
     match start {
         Some(start) => Ok(add.answer_start(rt, Place::Alone, start)?),
-        None => Ok(take_input(rt, &mut add)?),
+        None => take_input(rt, &mut add),
     }
 }
 
 // Reads what is moved, and puts at least one step into the list. Each line of the input is moved, as `None`, where the first word is
 // `-` or writes a step.
 fn read<'a>(
-    instants: &Instants<impl Allocator>,
+    instants: &Instants,
     words: &[Word<'a>],
-    steps: &mut Steps<'a, impl Allocator>,
+    steps: &mut Steps<'a, Global>,
 ) -> Result<Option<Start>, Fault<'a>> {
     let [first, rest @ ..] = words else {
         return Err(Fault::Missing("SPAN"));
@@ -120,7 +133,7 @@ fn read<'a>(
 fn put_step<'a>(
     word: Word<'a>,
     start: Option<Start>,
-    steps: &mut Steps<'a, impl Allocator>,
+    steps: &mut Steps<'a, Global>,
 ) -> Result<(), Fault<'a>> {
     match (read_move(word.text.as_bytes()), start) {
         (None, _) => Err(Fault::expected(word, MOVES)),
@@ -134,10 +147,7 @@ const MOVES: &str = "a span as 3d, -2w, 1mo, 4y, 5b, 36h, 90min, 15s or PT1.5S";
 const DAY_MOVES: &str = "a span of days, or a date-time before it as 2024-02-29T00:00";
 
 // There is a step, and none by `m`, which was meant for minutes, beside a time of day.
-fn check_steps<'a>(
-    start: Option<Start>,
-    steps: &Steps<'a, impl Allocator>,
-) -> Result<(), Fault<'a>> {
+fn check_steps<'a>(start: Option<Start>, steps: &Steps<'a, Global>) -> Result<(), Fault<'a>> {
     match (steps.short, start) {
         _ if steps.moves.is_empty() => Err(Fault::Missing("SPAN")),
         (None, _) => Ok(()),
@@ -146,9 +156,9 @@ fn check_steps<'a>(
     }
 }
 
-impl<'a, A: Allocator> Add<'a, A> {
+impl<'a> Add<'a> {
     // What is moved, by each step in turn, or `none` where one leads out of the calendar; the exit status.
-    fn answer_start(&mut self, rt: &impl Host, place: Place, start: Start) -> io::Result<u8> {
+    fn answer_start(&mut self, rt: &HostRuntime, place: Place, start: Start) -> io::Result<u8> {
         let mut last = start;
         let mut step: usize = 0;
         for by in self.steps.moves.as_slice() {
@@ -174,7 +184,7 @@ impl<'a, A: Allocator> Add<'a, A> {
     }
 
     // What a date-time of a line comes to, which no `m` moves; the exit status.
-    fn answer_moment(&mut self, rt: &impl Host, place: Place, start: Start) -> io::Result<u8> {
+    fn answer_moment(&mut self, rt: &HostRuntime, place: Place, start: Start) -> io::Result<u8> {
         let Some(Word { text, .. }) = self.steps.short else {
             return self.answer_start(rt, place, start);
         };
@@ -184,8 +194,8 @@ impl<'a, A: Allocator> Add<'a, A> {
     }
 }
 
-impl<'a, A: Allocator> EachLine for Add<'a, A> {
-    fn take_line(&mut self, rt: &impl Host, number: u64, line: &[u8]) -> io::Result<u8> {
+impl<'a> EachLine for Add<'a> {
+    fn take_line(&mut self, rt: &HostRuntime, number: u64, line: &[u8]) -> io::Result<u8> {
         let place = Place::Line(number);
         let none = match self.instants.form {
             InstantForm::Text if !self.steps.timed && !line.contains(&b'T') => {
@@ -212,22 +222,28 @@ fn text_at<'a>(words: &[Word<'a>], place: usize) -> &'a str {
 
 // What lies a move away, or why nothing does; a move of days keeps the time of day.
 fn moved_by(
-    instants: &Instants<impl Allocator>,
+    instants: &Instants,
     start: Start,
     by: Move,
-    holidays: &mut Holidays<impl Allocator>,
+    holidays: &mut Holidays,
 ) -> io::Result<Result<Start, Nowhere>> {
-    let date = start.local().date();
     let reached = match by {
-        Move::Calendar(span) | Move::ShortMonths(span) => moved(date, span),
-        Move::OpenDays(count) => {
-            let years = years_of_open_days(date, count, holidays.listed());
-            holidays.calendar(years)?.add_open_days(date, count)
-        }
+        Move::Calendar(span) | Move::ShortMonths(span) => moved(start.local().date(), span),
+        Move::OpenDays(count) => open_days_later(start.local().date(), count, holidays)?,
         Move::Time(time) => return Ok(instants.later(start, time).ok_or(Nowhere::Past)),
     };
     match reached {
         Some(date) => Ok(instants.on(start, date).ok_or(Nowhere::NotOnce)),
         None => Ok(Err(Nowhere::Past)),
     }
+}
+
+// The day so many open days from another.
+fn open_days_later(
+    date: NaiveDate,
+    count: i64,
+    holidays: &mut Holidays,
+) -> io::Result<Option<NaiveDate>> {
+    let years = years_of_open_days(date, count, holidays.listed());
+    Ok(holidays.calendar(years)?.add_open_days(date, count))
 }

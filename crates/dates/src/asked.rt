@@ -3,41 +3,40 @@
 use crate::fault::{ANSWERED, Fault, NONE};
 use command_words::{Arguments, Opt, Word};
 use dates_answer::{OutputForm, Reply, ReplyLine};
-use std::alloc::Allocator;
-use std::io::{self, Eprint};
-use std::rt::{Env, Files};
-use std::time::Clock;
-
-/// What a command may use: memory, both outputs, standard input, files, the environment and the clock.
-pub(crate) trait Host: Alloc + Print + Eprint + Input + Files + Env + Clock {}
-
-impl<R: Alloc + Print + Eprint + Input + Files + Env + Clock> Host for R {}
+use std::io;
 
 /// The exit status of a command, or why it has no answer.
 pub(crate) type Answered<'a> = Result<u8, Fault<'a>>;
 
 /// What a command is asked.
 #[derive(Drop)]
-pub(crate) struct Asked<'a, A: Allocator> {
+pub(crate) struct Asked<'a> {
     /// The name of the command.
     pub command: &'static str,
     /// In which form the answer is written.
     pub form: OutputForm,
     /// What is printed where there is no answer, by the key of the command.
     pub none: Reply,
+    /// The options that it may have.
+    pub options: &'static [Opt],
     /// The operands and the options.
-    pub words: Arguments<'a, A>,
+    pub words: Arguments<'a>,
 }
 
-impl<'a, A: Allocator> Asked<'a, A> {
+impl<'a> Asked<'a> {
     // The operand at a place, counted from 0, which the command's row requires.
     pub(crate) fn word(&self, place: usize) -> Word<'a> {
         self.words.operand(place).unwrap_or(NO_WORD)
     }
 
     // The value of an option that is required or has a default.
-    pub(crate) fn option(&self, option: Opt) -> Word<'a> {
-        self.words.value(option).unwrap_or(NO_WORD)
+    pub(crate) fn option(&self, name: &str) -> Word<'a> {
+        self.value(name).unwrap_or(NO_WORD)
+    }
+
+    // The value of an option, or its default.
+    pub(crate) fn value(&self, name: &str) -> Option<Word<'a>> {
+        self.words.value(self.options, name)
     }
 
     // The first operand, unless it is `-` or left out, which stand for the lines of the input.
@@ -49,7 +48,7 @@ impl<'a, A: Allocator> Asked<'a, A> {
     }
 
     // Prints the line of a reply; the exit status.
-    pub(crate) fn print(&self, rt: &impl Print, reply: Reply) -> Answered<'a> {
+    pub(crate) fn print(&self, rt: &HostRuntime, reply: Reply) -> Answered<'a> {
         Ok(print_reply(rt, self.form, reply)?)
     }
 }
@@ -57,7 +56,7 @@ impl<'a, A: Allocator> Asked<'a, A> {
 const NO_WORD: Word<'static> = Word { place: 0, text: "" };
 
 // Prints the line of a reply; the exit status.
-pub(crate) fn print_reply(rt: &impl Print, form: OutputForm, reply: Reply) -> io::Result<u8> {
+pub(crate) fn print_reply(rt: &HostRuntime, form: OutputForm, reply: Reply) -> io::Result<u8> {
     let status = status_of(&reply);
     println!(rt; "{}", ReplyLine { form, reply })?;
     Ok(status)

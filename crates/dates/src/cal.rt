@@ -51,9 +51,9 @@ struct Time {
 }
 
 // The month or the year as sheets with closed days marked; `none` where the calendar has no such year. The exit status.
-pub(crate) fn answer<'a>(rt: &impl Host, asked: &mut Asked<'a, impl Allocator>) -> Answered<'a> {
+pub(crate) fn answer<'a>(rt: &HostRuntime, asked: &mut Asked<'a>) -> Answered<'a> {
     let time = value!(time_of(asked.word(0)));
-    let start = value!(weekday_of(asked.option(FIRST)));
+    let start = value!(weekday_of(asked.option("--first")));
     let mut holidays = value!(holidays_of(rt, asked));
     let calendar = holidays.calendar(years_of(time.first, time.first))?;
     print_time(rt, asked.form, time, start, &calendar)?;
@@ -81,7 +81,7 @@ fn time_of<'a>(word: Word<'a>) -> Result<Time, Fault<'a>> {
 
 // A month or a year in a form.
 fn print_time(
-    rt: &impl Print,
+    rt: &HostRuntime,
     form: OutputForm,
     time: Time,
     start: Weekday,
@@ -90,39 +90,37 @@ fn print_time(
     let Time { first, is_year } = time;
     match form {
         OutputForm::Text if is_year => print_year(rt, first, start, calendar),
-        OutputForm::Text => print_month(rt, &month_of(first, 0, start), calendar),
+        OutputForm::Text => print_month(rt, month_of(first, 0, start), calendar),
         OutputForm::Json => print_days(rt, first, days_of(time), calendar),
     }
 }
 
 // A month alone.
-fn print_month(rt: &impl Print, sheet: &MonthSheet, calendar: &Calendar) -> io::Result<()> {
+fn print_month(rt: &HostRuntime, sheet: MonthSheet, calendar: &Calendar) -> io::Result<()> {
     let year = sheet.month.year();
-    println!(rt; "    {} {}", name_of(sheet), Year { year })?;
+    println!(rt; "    {} {}", name_of(&sheet), Year { year })?;
     println!(rt; "{}", heading(sheet.start))?;
-    for row in 0..6 {
-        if sheet.has_days(row) {
-            println!(rt; "{}", sheet.row(row, calendar))?;
-        }
-    }
-    Ok(())
+    print_rows(rt, &[sheet], calendar)
 }
 
 // The months of the year that begins on a day, three side by side.
 fn print_year(
-    rt: &impl Print,
+    rt: &HostRuntime,
     first: NaiveDate,
     start: Weekday,
     calendar: &Calendar,
 ) -> io::Result<()> {
     println!(rt; "{:37}{}", "", Year { year: first.year() })?;
     for quarter in 0..4u32 {
-        println!(rt; "")?;
         let months = 3 * i64::from(quarter);
         let left = month_of(first, months, start);
         let middle = month_of(first, months + 1, start);
         let right = month_of(first, months + 2, start);
-        print_quarter(rt, &left, &middle, &right, calendar)?;
+        let (a, b, c) = (name_of(&left), name_of(&middle), name_of(&right));
+        println!(rt; "\n    {a:<23}    {b:<23}    {c}")?;
+        let heading = heading(start);
+        println!(rt; "{heading}  {heading}  {heading}")?;
+        print_rows(rt, &[left, middle, right], calendar)?;
     }
     Ok(())
 }
@@ -135,38 +133,34 @@ fn month_of(first: NaiveDate, months: i64, start: Weekday) -> MonthSheet {
     }
 }
 
-// Three months side by side.
-fn print_quarter(
-    rt: &impl Print,
-    left: &MonthSheet,
-    middle: &MonthSheet,
-    right: &MonthSheet,
-    calendar: &Calendar,
-) -> io::Result<()> {
-    println!(rt;
-        "    {:<23}    {:<23}    {}",
-        name_of(left),
-        name_of(middle),
-        name_of(right)
-    )?;
-    let heading = heading(left.start);
-    println!(rt; "{heading}  {heading}  {heading}")?;
+// The weeks of months, side by side.
+fn print_rows(rt: &HostRuntime, sheets: &[MonthSheet], calendar: &Calendar) -> io::Result<()> {
     for row in 0..6 {
-        if left.has_days(row) || middle.has_days(row) || right.has_days(row) {
-            println!(rt;
-                "{}  {}  {}",
-                left.row(row, calendar),
-                middle.row(row, calendar),
-                right.row(row, calendar)
-            )?;
+        if sheets.iter().any(|sheet| sheet.has_days(row)) {
+            print_row(rt, sheets, row, calendar)?;
         }
     }
     Ok(())
 }
 
+// A week of each month, side by side.
+fn print_row(
+    rt: &HostRuntime,
+    sheets: &[MonthSheet],
+    row: u32,
+    calendar: &Calendar,
+) -> io::Result<()> {
+    let mut gap = "";
+    for sheet in sheets {
+        print!(rt; "{gap}{}", sheet.row(row, calendar))?;
+        gap = "  ";
+    }
+    println!(rt; "")
+}
+
 // So many days from one on, each with its week, its weekday and whether it is open.
 fn print_days(
-    rt: &impl Print,
+    rt: &HostRuntime,
     first: NaiveDate,
     count: u32,
     calendar: &Calendar,

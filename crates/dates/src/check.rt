@@ -1,7 +1,7 @@
 //! The lines of a file, or of standard input, that are no days.
 
 use crate::holidays::open_file;
-use crate::lines::{Reason, day_of_line, fault_in, take_lines};
+use crate::lines::{Reason, day_of_line, take_lines};
 use crate::prelude::*;
 use crate::source::Source;
 use dates_answer::WrongLine;
@@ -28,28 +28,25 @@ pub(crate) fn command() -> CommandRow {
 }
 
 // Lines of which those that are no days are printed.
-#[derive(Drop)]
+#[derive(Clone, Copy)]
 struct CheckedLines {
     form: OutputForm,
 }
 
 // Each line of the file, or of the input, that is no day; the exit status.
-pub(crate) fn answer<'a>(rt: &impl Host, asked: &mut Asked<'a, impl Allocator>) -> Answered<'a> {
+pub(crate) fn answer<'a>(rt: &HostRuntime, asked: &mut Asked<'a>) -> Answered<'a> {
     let mut lines = CheckedLines { form: asked.form };
     match asked.word_or_lines() {
         Some(word) => {
             let file = value!(open_file(rt, word));
-            match take_lines(rt, file, &mut lines) {
-                Ok(status) => Ok(status),
-                Err(fault) => Err(fault_in(Source::Word(word), fault)),
-            }
+            take_lines(rt, Source::Word(word), file, &mut lines)
         }
-        None => Ok(take_input(rt, &mut lines)?),
+        None => take_input(rt, &mut lines),
     }
 }
 
 impl EachLine for CheckedLines {
-    fn take_line(&mut self, rt: &impl Host, number: u64, line: &[u8]) -> io::Result<u8> {
+    fn take_line(&mut self, rt: &HostRuntime, number: u64, line: &[u8]) -> io::Result<u8> {
         match day_of_line(line) {
             Ok(_) => Ok(ANSWERED),
             Err(reason) => print_wrong(rt, self.form, number, line, reason),
@@ -59,7 +56,7 @@ impl EachLine for CheckedLines {
 
 // The line's number, and why it is no day; the exit status.
 fn print_wrong(
-    rt: &(impl Alloc + Print),
+    rt: &HostRuntime,
     form: OutputForm,
     number: u64,
     line: &[u8],

@@ -4,7 +4,6 @@ use crate::prelude::*;
 use crate::texts::weekday_named;
 use chrono_business::{HolidayRule, england_and_wales, target, us_federal};
 use chrono_datetime::{Datelike, NaiveDate, WeekdaySet};
-use std::alloc::AllocError;
 use std::io;
 
 // The weekend that a word names.
@@ -27,16 +26,36 @@ fn weekend_named(text: &str) -> Option<WeekdaySet> {
     }
 }
 
+/// The rules by which a calendar has holidays.
+#[derive(Clone, Copy)]
+pub(crate) enum Rules {
+    None,
+    UsFederal,
+    Target,
+    England,
+}
+
 // The rules of the calendar with that name; none where it is empty.
-pub(crate) fn rules_named<A: Allocator>(
-    alloc: A,
-    name: &str,
-) -> Result<Vec<HolidayRule, A>, AllocError> {
+pub(crate) fn rules_named(name: &str) -> Rules {
     match name {
-        "us-federal" => Ok(Vec::from_array(alloc, us_federal())?),
-        "target" => Ok(Vec::from_array(alloc, target())?),
-        "england" => Ok(Vec::from_array(alloc, england_and_wales())?),
-        _ => Ok(Vec::new(alloc)),
+        "us-federal" => Rules::UsFederal,
+        "target" => Rules::Target,
+        "england" => Rules::England,
+        _ => Rules::None,
+    }
+}
+
+// Puts the holidays by rules in these years into the list.
+pub(crate) fn put_holidays(
+    rules: Rules,
+    years: Years,
+    days: &mut Vec<NaiveDate>,
+) -> io::Result<()> {
+    match rules {
+        Rules::None => Ok(()),
+        Rules::UsFederal => put_ruled(&us_federal(), years, days),
+        Rules::Target => put_ruled(&target(), years, days),
+        Rules::England => put_ruled(&england_and_wales(), years, days),
     }
 }
 
@@ -94,11 +113,7 @@ const LAST_YEAR: i32 = 262_142;
 
 // Puts the dates of rules in these years, in the years of days that are listed, and in a year before and behind them into the list
 // of these.
-pub(crate) fn put_ruled(
-    rules: &[HolidayRule],
-    years: Years,
-    days: &mut Vec<NaiveDate, impl Allocator>,
-) -> io::Result<()> {
+fn put_ruled(rules: &[HolidayRule], years: Years, days: &mut Vec<NaiveDate>) -> io::Result<()> {
     let Years {
         mut first,
         mut last,

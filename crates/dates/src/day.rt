@@ -6,7 +6,7 @@ use crate::texts::read_day;
 use crate::values::{DAYS, begins_as_day, day_of};
 use chrono_datetime::NaiveDate;
 use chrono_reading::ReadCause;
-use command_words::{Arguments, Completion, ManPage, ReferencePage, Shell};
+use command_words::{Completion, ManPage, ReferencePage, Shell};
 use std::io;
 
 const VERSION: Opt = Opt {
@@ -53,14 +53,14 @@ pub(crate) fn command() -> CommandRow {
 }
 
 // The day by all its names, or that of each line, or a page of the program; the exit status.
-pub(crate) fn answer<'a>(rt: &impl Host, asked: &mut Asked<'a, impl Allocator>) -> Answered<'a> {
-    if let Some(page) = page_of(&asked.words) {
+pub(crate) fn answer<'a>(rt: &HostRuntime, asked: &mut Asked<'a>) -> Answered<'a> {
+    if let Some(page) = page_of(asked) {
         return Ok(print_page(rt, asked.form, page)?);
     }
     let form = asked.form;
     match asked.word_or_lines() {
         Some(word) => asked.print(rt, Reply::Names(value!(first_of(word)))),
-        None => Ok(take_input(rt, &mut NamedLines { form })?),
+        None => take_input(rt, &mut NamedLines { form }),
     }
 }
 
@@ -86,24 +86,24 @@ enum DayPage {
 }
 
 // The page that an option asks for.
-fn page_of(words: &Arguments<'_, impl Allocator>) -> Option<DayPage> {
-    if words.has(VERSION) {
+fn page_of(asked: &Asked<'_>) -> Option<DayPage> {
+    if asked.words.has("--version") {
         return Some(DayPage::Version);
     }
-    if words.has(MAN) {
+    if asked.words.has("--man") {
         return Some(DayPage::Man);
     }
-    if words.has(REFERENCE) {
+    if asked.words.has("--reference") {
         return Some(DayPage::Reference);
     }
-    match words.value(COMPLETION) {
+    match asked.value("--completion") {
         Some(word) => Some(DayPage::Completion(shell_named(word.text))),
         None => None,
     }
 }
 
 // Prints a page; the exit status.
-fn print_page(rt: &impl Print, form: OutputForm, page: DayPage) -> io::Result<u8> {
+fn print_page(rt: &HostRuntime, form: OutputForm, page: DayPage) -> io::Result<u8> {
     let rows = commands();
     let program = &program(&rows);
     match page {
@@ -125,13 +125,13 @@ fn shell_named(name: &str) -> Shell {
 }
 
 // Each line by all names of its day.
-#[derive(Drop)]
+#[derive(Clone, Copy)]
 struct NamedLines {
     form: OutputForm,
 }
 
 impl EachLine for NamedLines {
-    fn take_line(&mut self, rt: &impl Host, _number: u64, line: &[u8]) -> io::Result<u8> {
+    fn take_line(&mut self, rt: &HostRuntime, _number: u64, line: &[u8]) -> io::Result<u8> {
         match read_day(line) {
             Ok(date) => print_reply(rt, self.form, Reply::Names(date)),
             Err(_) => print_reply(rt, self.form, Reply::Nothing(Key::Date)),

@@ -57,17 +57,17 @@ type Ends = (Option<Start>, Option<Start>);
 
 // From where to where, in what, and by which holidays.
 #[derive(Drop)]
-struct Diff<A: Allocator> {
+struct Diff {
     form: OutputForm,
-    instants: Instants<A>,
+    instants: Instants,
     none: Reply,
     ends: Ends,
     measure: Measure,
-    holidays: Holidays<A>,
+    holidays: Holidays,
 }
 
 // How far it is from one day to another, or to that of each line; the exit status.
-pub(crate) fn answer<'a>(rt: &impl Host, asked: &mut Asked<'a, impl Allocator>) -> Answered<'a> {
+pub(crate) fn answer<'a>(rt: &HostRuntime, asked: &mut Asked<'a>) -> Answered<'a> {
     let instants = value!(instants_by(rt, asked));
     let (words, unit) = cut(asked.words.operands.as_slice());
     let measure = value!(measure_of(unit));
@@ -90,7 +90,7 @@ pub(crate) fn answer<'a>(rt: &impl Host, asked: &mut Asked<'a, impl Allocator>) 
     };
     match (from, to) {
         (Some(from), Some(to)) => Ok(diff.answer_ends(rt, from, to)?),
-        _ => Ok(take_input(rt, &mut diff)?),
+        _ => take_input(rt, &mut diff),
     }
 }
 
@@ -124,22 +124,27 @@ fn measure_of<'a>(words: &[Word<'a>]) -> Result<Measure, Fault<'a>> {
 }
 
 // Reads the days or date-times, of which `-` or none at the end stands for the lines of the input.
-fn read<'a>(instants: &Instants<impl Allocator>, words: &[Word<'a>]) -> Result<Ends, Fault<'a>> {
+fn read<'a>(instants: &Instants, words: &[Word<'a>]) -> Result<Ends, Fault<'a>> {
     match words {
         [] => Err(Fault::Missing("DAY")),
-        [only] if only.text == "-" => Err(Fault::Missing("DAY")),
-        [first] => ends_of(instants, Some(*first), None),
-        [first, second] if first.text == "-" => ends_of(instants, None, Some(*second)),
-        [first, second] if second.text == "-" => ends_of(instants, Some(*first), None),
-        [first, second] => ends_of(instants, Some(*first), Some(*second)),
-        [first, other, ..] if !begins_as_day(*other) => {
-            let _start = value!(instants.start_of(*first));
-            Err(Fault::expected(*other, IN))
-        }
-        [first, _, other, ..] => match value!(instants.start_of(*first)) {
-            Start::Day(_) => Err(Fault::expected(*other, IN)),
-            Start::DateTime(_) | Start::Stamp(_) => Err(Fault::expected(*other, NO_MORE)),
-        },
+        [first] => ends_of(instants, *first, None),
+        [first, second] => ends_of(instants, *first, Some(*second)),
+        [first, second, third, ..] => Err(third_word(instants, *first, *second, *third)),
+    }
+}
+
+// What is wrong where a third word stands in front of `in`.
+fn third_word<'a>(
+    instants: &Instants,
+    first: Word<'a>,
+    second: Word<'a>,
+    third: Word<'a>,
+) -> Fault<'a> {
+    match instants.start_of(first) {
+        Err(fault) => fault,
+        Ok(_) if !begins_as_day(second) => Fault::expected(second, IN),
+        Ok(Start::Day(_)) => Fault::expected(third, IN),
+        Ok(_) => Fault::expected(third, NO_MORE),
     }
 }
 
@@ -147,28 +152,28 @@ const IN: &str = "in and a unit, as 'in w'";
 
 // Two days or two date-times, or one beside each line.
 fn ends_of<'a>(
-    instants: &Instants<impl Allocator>,
-    first: Option<Word<'a>>,
+    instants: &Instants,
+    first: Word<'a>,
     second: Option<Word<'a>>,
 ) -> Result<Ends, Fault<'a>> {
-    let from = match first {
-        Some(word) => Some(value!(instants.start_of(word))),
-        None => None,
-    };
-    let to = match (second, from) {
-        (None, _) => None,
-        (Some(word), None) => Some(value!(instants.start_of(word))),
-        (Some(word), Some(from)) => Some(value!(like(instants, from, word))),
-    };
-    Ok((from, to))
+    if first.text == "-" {
+        return match second {
+            Some(word) => Ok((None, Some(value!(instants.start_of(word))))),
+            None => Err(Fault::Missing("DAY")),
+        };
+    }
+    let from = value!(instants.start_of(first));
+    match second {
+        Some(word) if word.text != "-" => Ok((
+            Some(from),
+            Some(value!(like(instants, from, word))),
+        )),
+        _ => Ok((Some(from), None)),
+    }
 }
 
 // The day, the date-time or the instant that a word names, of the kind of the first.
-fn like<'a>(
-    instants: &Instants<impl Allocator>,
-    first: Start,
-    word: Word<'a>,
-) -> Result<Start, Fault<'a>> {
+fn like<'a>(instants: &Instants, first: Start, word: Word<'a>) -> Result<Start, Fault<'a>> {
     let what = match first {
         Start::Day(_) => DAYS,
         Start::DateTime(_) => MOMENTS,
@@ -186,14 +191,11 @@ fn like<'a>(
 const ONE_KIND: &str = "two days or two date-times, not one of each";
 
 // Only open days take options.
-fn check_options<'a>(
-    words: &Arguments<'a, impl Allocator>,
-    measure: Measure,
-) -> Result<(), Fault<'a>> {
+fn check_options<'a>(words: &Arguments<'a>, measure: Measure) -> Result<(), Fault<'a>> {
     for given in words.options.as_slice() {
         match measure {
             Measure::OpenDays => {}
-            _ if [JSON.name, UNIX.name, ZONED.name].contains(&given.option.name) => {}
+            _ if ["--json", "--unix", "--zone"].contains(&given.option.name) => {}
             _ => return Err(Fault::expected(given.value, "no such option without 'in b'")),
         }
     }
@@ -219,9 +221,9 @@ fn key_of(unit: Unit) -> Key {
     }
 }
 
-impl<A: Allocator> Diff<A> {
+impl Diff {
     // How far it is from one day or date-time to another of its kind; the exit status.
-    fn answer_ends(&mut self, rt: &impl Print, from: Start, to: Start) -> io::Result<u8> {
+    fn answer_ends(&mut self, rt: &HostRuntime, from: Start, to: Start) -> io::Result<u8> {
         let answer = match from {
             Start::Day(from) => match to {
                 Start::Day(to) => self.days_between(from, to)?,
@@ -252,8 +254,8 @@ impl<A: Allocator> Diff<A> {
     }
 }
 
-impl<A: Allocator> EachLine for Diff<A> {
-    fn take_line(&mut self, rt: &impl Host, _number: u64, line: &[u8]) -> io::Result<u8> {
+impl EachLine for Diff {
+    fn take_line(&mut self, rt: &HostRuntime, _number: u64, line: &[u8]) -> io::Result<u8> {
         match (self.ends, self.instants.read(line)) {
             ((Some(from), _), Ok(to)) => self.answer_ends(rt, from, to),
             ((None, Some(to)), Ok(from)) => self.answer_ends(rt, from, to),

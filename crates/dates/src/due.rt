@@ -69,12 +69,12 @@ pub(crate) fn prev() -> CommandRow {
 }
 
 // The moments at which the schedule is due, on or back, a line each; `none` where there are fewer. The exit status.
-pub(crate) fn answer<'a>(rt: &impl Host, asked: &mut Asked<'a, impl Allocator>) -> Answered<'a> {
+pub(crate) fn answer<'a>(rt: &HostRuntime, asked: &mut Asked<'a>) -> Answered<'a> {
     let instants = InstantForm::of(&asked.words);
     asked.none = instants.no_moment();
     let schedule = value!(schedule_of(asked.word(0)));
-    let from = value!(moment_of(instants, asked.option(AFTER)));
-    let count = value!(amount_of(asked.option(HOW_MANY)));
+    let from = value!(moment_of(instants, asked.option("--from")));
+    let count = value!(amount_of(asked.option("--count")));
     let dues = Dues {
         schedule,
         from,
@@ -95,7 +95,7 @@ impl Dues {
     // Prints so many date-times, or `none` where there are fewer; the exit status.
     fn print(
         &self,
-        rt: &impl Print,
+        rt: &HostRuntime,
         form: OutputForm,
         instants: InstantForm,
         count: u64,

@@ -16,7 +16,7 @@ pub(crate) fn command() -> CommandRow {
 }
 
 // Easter Sunday of the year; the exit status.
-pub(crate) fn answer<'a>(rt: &impl Host, asked: &mut Asked<'a, impl Allocator>) -> Answered<'a> {
+pub(crate) fn answer<'a>(rt: &HostRuntime, asked: &mut Asked<'a>) -> Answered<'a> {
     let year = value!(year_of(asked.word(0)));
     let sunday = value!(chrono_business::easter(year).ok_or(Fault::Outside(year)));
     asked.print(rt, Reply::Date(sunday))

@@ -1,7 +1,7 @@
 //! Faults: why a command has no answer, and the exit statuses.
 
-use crate::asked::{Host, print_reply};
-use crate::lines::{LineFault, NOT_ONCE, Reason, fault_in};
+use crate::asked::print_reply;
+use crate::lines::{NOT_ONCE, Reason};
 use crate::source::{Shown, Source};
 use crate::table::{NAME, commands};
 use crate::values::Year;
@@ -12,7 +12,7 @@ use command_words::{Choices, CommandRow, Usage, Why, Word, Wrong, nearest};
 use dates_answer::{OutputForm, Reply};
 use std::alloc::{AllocError, AllocFailed};
 use std::env::{Env, FillError};
-use std::io::{self, Eprint, ErrorKind};
+use std::io::{self, ErrorKind};
 use std::{fmt, str};
 use zone_database::ZoneError;
 
@@ -26,7 +26,7 @@ pub(crate) const NONE: u8 = 1;
 pub(crate) const WRONG: u8 = 2;
 
 /// Why a command has no answer.
-#[derive(Drop)]
+#[derive(Clone, Copy)]
 pub(crate) enum Fault<'a> {
     /// The word is written as a day is, and there is no such day.
     NoDay(Word<'a>, ReadError),
@@ -115,12 +115,6 @@ impl From<io::Error> for Fault<'_> {
     }
 }
 
-impl From<LineFault> for Fault<'_> {
-    fn from(fault: LineFault) -> Self {
-        fault_in(Source::Input, fault)
-    }
-}
-
 impl From<AllocError> for Fault<'_> {
     fn from(error: AllocError) -> Self {
         Fault::Failed(io::Error::from(error))
@@ -148,68 +142,91 @@ impl<'a> From<Wrong<'a>> for Fault<'a> {
 
 // Says why a command has no answer; the exit status. That there is no such day or year is an answer too.
 pub(crate) fn refuse(
-    rt: &impl Host,
+    rt: &HostRuntime,
     command: &CommandRow,
     form: OutputForm,
     none: Reply,
     fault: Fault<'_>,
 ) -> io::Result<u8> {
-    match fault {
-        Fault::Failed(error) => Err(error),
-        Fault::NoDay(word, error) => {
-            print_reply(rt, form, none)?;
-            let _ = eprintln!(rt; "{}: {error}", word.text);
-            Ok(NONE)
+    let near = match fault {
+        Fault::Failed(error) => return Err(error),
+        Fault::Word(word, cause) => near_name(rt, command, word.text, cause)?,
+        _ => None,
+    };
+    let status = match fault {
+        Fault::NoDay(_, _) | Fault::NotOnce(_) | Fault::Outside(_) => print_reply(rt, form, none)?,
+        _ => WRONG,
+    };
+    let _ = eprintln!(rt;
+        "{}",
+        FaultLine {
+            command,
+            fault,
+            near
         }
-        Fault::NotOnce(word) => {
-            print_reply(rt, form, none)?;
-            let _ = eprintln!(rt; "{}: {NOT_ONCE}", word.text);
-            Ok(NONE)
-        }
-        Fault::Outside(year) => {
-            print_reply(rt, form, none)?;
-            let year = Year { year };
-            let _ = eprintln!(rt; "{year}: expected a year from -262143 to +262142");
-            Ok(NONE)
-        }
-        Fault::Word(word, cause) => {
-            let near = Near(near_name(rt, command, word.text, cause)?);
-            let _ = eprintln!(rt; "dates: {}: {cause}{near}", Source::Word(word));
-            Ok(WRONG)
-        }
-        fault => {
-            say_fault(rt, command, &fault);
-            Ok(WRONG)
-        }
-    }
+    );
+    Ok(status)
 }
 
-// Says what is missing, or what is wrong with lines.
-fn say_fault(rt: &impl Eprint, command: &CommandRow, fault: &Fault<'_>) {
-    let program = NAME;
-    let usage = Usage { program, command };
-    let _ = match fault {
-        Fault::Missing(name) => eprintln!(rt; "dates: {name} is missing; usage: {usage}"),
-        Fault::MissingOption(name, value) => {
-            eprintln!(rt; "dates: {name} {value} is missing; usage: {usage}")
+/// A line that says why a command has no answer.
+#[derive(Clone, Copy)]
+pub(crate) struct FaultLine<'a, 'b> {
+    command: &'b CommandRow,
+    fault: Fault<'a>,
+    // The name that is most like a wrong one, if one is like it.
+    near: Option<&'static str>,
+}
+
+impl fmt::Display for FaultLine<'_, '_> {
+    fn fmt<W: fmt::Write>(&self, f: &mut fmt::Formatter<W>) -> fmt::Result {
+        let program = NAME;
+        let usage = Usage {
+            program,
+            command: self.command,
+        };
+        match self.fault {
+            Fault::NoDay(word, error) => write!(f, "{}: {error}", word.text),
+            Fault::NotOnce(word) => write!(f, "{}: {NOT_ONCE}", word.text),
+            Fault::Outside(year) => {
+                write!(
+                    f,
+                    "{}: expected a year from -262143 to +262142",
+                    Year { year }
+                )
+            }
+            Fault::Word(word, cause) => {
+                write!(
+                    f,
+                    "dates: {}: {cause}{}",
+                    Source::Word(word),
+                    Near(self.near)
+                )
+            }
+            Fault::Missing(name) => write!(f, "dates: {name} is missing; usage: {usage}"),
+            Fault::MissingOption(name, value) => {
+                write!(f, "dates: {name} {value} is missing; usage: {usage}")
+            }
+            Fault::Zone(word, error) => write!(f, "dates: {}: {error}", Source::Word(word)),
+            Fault::Input(source, error) => write!(f, "dates: {source}: {error}"),
+            Fault::NoHoliday(source, number, Reason::Form) => {
+                write!(f, "dates: {source}, line {number}: expected {HOLIDAY}")
+            }
+            Fault::NoHoliday(source, number, reason) => {
+                write!(
+                    f,
+                    "dates: {source}, line {number}: {reason}; expected {HOLIDAY}"
+                )
+            }
+            Fault::Failed(error) => write!(f, "dates: {error}"),
         }
-        Fault::Zone(word, error) => eprintln!(rt; "dates: {}: {error}", Source::Word(*word)),
-        Fault::Input(source, error) => eprintln!(rt; "dates: {source}: {error}"),
-        Fault::NoHoliday(source, number, Reason::Form) => {
-            eprintln!(rt; "dates: {source}, line {number}: expected {HOLIDAY}")
-        }
-        Fault::NoHoliday(source, number, reason) => {
-            eprintln!(rt; "dates: {source}, line {number}: {reason}; expected {HOLIDAY}")
-        }
-        _ => Ok(()),
-    };
+    }
 }
 
 const HOLIDAY: &str = "a day as 2024-02-29";
 
 // The name that is most like a wrong one, if one is like it.
 fn near_name(
-    rt: &impl Alloc,
+    rt: &HostRuntime,
     command: &CommandRow,
     text: &str,
     cause: Cause<'_>,
@@ -223,8 +240,8 @@ fn near_name(
 }
 
 // The name of a command that is like a word.
-fn near_command(rt: &impl Alloc, text: &str) -> Result<Option<&'static str>, AllocError> {
-    let mut names: Vec<&'static str, _> = Vec::new(rt.alloc());
+fn near_command(rt: &HostRuntime, text: &str) -> Result<Option<&'static str>, AllocError> {
+    let mut names: Vec<&'static str> = Vec::new(rt.alloc());
     for command in &commands() {
         names.push(command.name)?;
     }
@@ -233,11 +250,11 @@ fn near_command(rt: &impl Alloc, text: &str) -> Result<Option<&'static str>, All
 
 // The name of an option that is like a word, up to its `=`.
 fn near_option(
-    rt: &impl Alloc,
+    rt: &HostRuntime,
     text: &str,
     command: &CommandRow,
 ) -> Result<Option<&'static str>, AllocError> {
-    let mut names: Vec<&'static str, _> = Vec::new(rt.alloc());
+    let mut names: Vec<&'static str> = Vec::new(rt.alloc());
     for option in command.options {
         names.push(option.name)?;
     }
@@ -259,14 +276,11 @@ impl fmt::Display for Near {
 }
 
 // Says that the arguments cannot be read: which of them is no UTF-8, where one is not; the exit status.
-pub(crate) fn refuse_arguments(
-    rt: &(impl Env + Alloc + Eprint),
-    fault: io::Error,
-) -> io::Result<u8> {
+pub(crate) fn refuse_arguments(rt: &HostRuntime, fault: io::Error) -> io::Result<u8> {
     if fault.kind() != ErrorKind::InvalidData {
         return Err(fault);
     }
-    let mut room: Vec<u8, _> = Vec::new(rt.alloc());
+    let mut room: Vec<u8> = Vec::new(rt.alloc());
     room.resize(LONGEST_ARGUMENT, 0)?;
     for place in 1..usize::MAX {
         match rt.arg(place, room.as_mut_slice()) {

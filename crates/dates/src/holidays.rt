@@ -1,28 +1,28 @@
 //! The holidays of a command: read once, and put together once for the lines that touch the same years.
 
-use crate::closed::{Years, both_years, put_ruled, rules_named, weekend_of};
+use crate::closed::{Rules, Years, both_years, put_holidays, rules_named, weekend_of};
 use crate::lines::{day_of_line, read_line};
 use crate::prelude::*;
 use crate::source::Source;
-use chrono_business::{Calendar, HolidayRule, without_weekends};
+use chrono_business::{Calendar, without_weekends};
 use chrono_datetime::{NaiveDate, WeekdaySet};
-use std::fs;
+use std::fs::{self, File};
 use std::io::{self, BufReader, ErrorKind};
 
 /// The holidays by the options of a command.
 #[derive(Drop)]
-pub(crate) struct Holidays<A: Allocator> {
+pub(crate) struct Holidays {
     weekend: WeekdaySet,
-    rules: Vec<HolidayRule, A>,
+    rules: Rules,
     // Those that the file of the options lists.
-    listed: Vec<NaiveDate, A>,
+    listed: Vec<NaiveDate>,
     // These and those of the rules in some years, in order and but for those on the weekend.
-    days: Vec<NaiveDate, A>,
+    days: Vec<NaiveDate>,
     // Those years.
     years: Option<Years>,
 }
 
-impl<A: Allocator> Holidays<A> {
+impl Holidays {
     // How many days the file lists.
     pub(crate) fn listed(&self) -> usize {
         self.listed.len()
@@ -49,7 +49,7 @@ impl<A: Allocator> Holidays<A> {
         for day in self.listed.as_slice() {
             self.days.push(*day)?;
         }
-        put_ruled(self.rules.as_slice(), years, &mut self.days)?;
+        put_holidays(self.rules, years, &mut self.days)?;
         self.days.as_mut_slice().sort_unstable();
         self.days.dedup();
         let weekend = self.weekend;
@@ -61,31 +61,28 @@ impl<A: Allocator> Holidays<A> {
 }
 
 // The holidays by the options of a command.
-pub(crate) fn holidays_of<'a, R: Host>(
-    rt: &R,
-    asked: &Asked<'a, impl Allocator>,
-) -> Result<Holidays<R::A>, Fault<'a>> {
-    let weekend = value!(weekend_of(asked.option(WEEKEND)));
-    let listed = value!(listed_in(rt, asked.words.value(HOLIDAYS)));
-    let rules = rules_named(rt.alloc(), asked.option(CALENDAR).text)?;
-    Ok(Holidays {
+pub(crate) fn holidays_of<'a>(rt: &HostRuntime, asked: &Asked<'a>) -> Result<Holidays, Fault<'a>> {
+    let weekend = value!(weekend_of(asked.option("--weekend")));
+    let mut holidays = Holidays {
         weekend,
-        rules,
-        listed,
+        rules: rules_named(asked.option("--calendar").text),
+        listed: Vec::new(rt.alloc()),
         days: Vec::new(rt.alloc()),
         years: None,
-    })
+    };
+    match asked.value("--holidays") {
+        Some(word) => value!(put_listed(rt, word, &mut holidays.listed)),
+        None => {}
+    }
+    Ok(holidays)
 }
 
-// The days that the file of a word lists.
-fn listed_in<'a, R: Host>(
-    rt: &R,
-    file: Option<Word<'a>>,
-) -> Result<Vec<NaiveDate, R::A>, Fault<'a>> {
-    let mut days = Vec::new(rt.alloc());
-    let Some(word) = file else {
-        return Ok(days);
-    };
+// Puts the days that the file of a word lists into a list.
+fn put_listed<'a>(
+    rt: &HostRuntime,
+    word: Word<'a>,
+    days: &mut Vec<NaiveDate>,
+) -> Result<(), Fault<'a>> {
     let source = Source::Word(word);
     let mut line = Vec::new(rt.alloc());
     let mut reader = BufReader::new(rt.alloc(), value!(open_file(rt, word)))?;
@@ -99,11 +96,11 @@ fn listed_in<'a, R: Host>(
             Err(error) => return Err(Fault::Input(source, error)),
         }
     }
-    Ok(days)
+    Ok(())
 }
 
 // The file that a word names.
-pub(crate) fn open_file<'a, R: Host>(rt: &R, word: Word<'a>) -> Result<R::File, Fault<'a>> {
+pub(crate) fn open_file<'a>(rt: &HostRuntime, word: Word<'a>) -> Result<File, Fault<'a>> {
     if word.text.is_empty() {
         return Err(Fault::expected(word, "the name of a file"));
     }

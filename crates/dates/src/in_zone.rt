@@ -3,8 +3,8 @@
 use crate::prelude::*;
 use crate::texts::Start;
 use crate::values::{InstantForm, MOMENTS, moment_of};
-use crate::zoned::{ZONE, ZONES, instants_of, print_in, zone_of};
-use chrono_zoned::MappedLocalTime;
+use crate::zoned::{OwnedZone, ZONE, ZONES, instants_of, print_in, zone_of};
+use chrono_zoned::{DateTime, FixedOffset, MappedLocalTime};
 
 const MOMENT: Operand = Operand {
     name: "TIME",
@@ -31,18 +31,11 @@ pub(crate) fn command() -> CommandRow {
 }
 
 // What the zone's clock shows at the instant, or at both where a local time is shown twice; the exit status.
-pub(crate) fn answer<'a>(rt: &impl Host, asked: &mut Asked<'a, impl Allocator>) -> Answered<'a> {
+pub(crate) fn answer<'a>(rt: &HostRuntime, asked: &mut Asked<'a>) -> Answered<'a> {
     asked.none = Reply::Nothing(Key::Moment);
     let zone = value!(zone_of(rt, asked.word(0)));
     let start = value!(moment_of(InstantForm::of(&asked.words), asked.word(1)));
-    let found = match asked.words.value(FROM_ZONE) {
-        Some(word) => {
-            let from = value!(zone_of(rt, word));
-            instants_of(&from, start)
-        }
-        None => instants_of(&zone, start),
-    };
-    match found {
+    match value!(found_in(rt, asked, &zone, start)) {
         MappedLocalTime::None => {
             value!(asked.print(rt, asked.none));
             let _ = eprintln!(rt; "{start}: the zone's clock never shows it");
@@ -53,5 +46,21 @@ pub(crate) fn answer<'a>(rt: &impl Host, asked: &mut Asked<'a, impl Allocator>) 
             value!(print_in(rt, asked, &zone, earlier));
             print_in(rt, asked, &zone, later)
         }
+    }
+}
+
+// The instants at which the clock of the zone, or of another that is asked for, shows a date-time.
+fn found_in<'a>(
+    rt: &HostRuntime,
+    asked: &Asked<'a>,
+    zone: &OwnedZone,
+    start: Start,
+) -> Result<MappedLocalTime<DateTime<FixedOffset>>, Fault<'a>> {
+    match asked.value("--from-zone") {
+        Some(word) => {
+            let from = value!(zone_of(rt, word));
+            Ok(instants_of(&from, start))
+        }
+        None => Ok(instants_of(zone, start)),
     }
 }

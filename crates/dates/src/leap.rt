@@ -16,7 +16,7 @@ pub(crate) fn command() -> CommandRow {
 }
 
 // `yes` where the year is a leap year, and else `no`; the exit status.
-pub(crate) fn answer<'a>(rt: &impl Host, asked: &mut Asked<'a, impl Allocator>) -> Answered<'a> {
+pub(crate) fn answer<'a>(rt: &HostRuntime, asked: &mut Asked<'a>) -> Answered<'a> {
     asked.none = Reply::Nothing(Key::Leap);
     let year = value!(year_of(asked.word(0)));
     let first = value!(start_of_year(year));

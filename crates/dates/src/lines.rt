@@ -1,15 +1,14 @@
 //! Lines of input, of each of which only so many bytes are kept, and commands that take each of them.
 
-use crate::asked::{Host, print_reply};
+use crate::asked::{Answered, print_reply};
 use crate::fault::{ANSWERED, Fault, NONE};
 use crate::source::Source;
 use crate::texts::{Start, StartError, read_day, read_start};
 use chrono_datetime::NaiveDate;
 use chrono_reading::ReadError;
 use dates_answer::{OutputForm, Reply};
-use std::alloc::Allocator;
 use std::fmt;
-use std::io::{self, BufRead, BufReader, Eprint, Read};
+use std::io::{self, BufRead, BufReader, Read};
 
 /// So many bytes of a line are kept; no text of as many names a day or a date-time.
 const MOST_BYTES: usize = 65_536;
@@ -17,7 +16,7 @@ const MOST_BYTES: usize = 65_536;
 // Reads the next line without the `\n` at its end, its first `MOST_BYTES` at most, the others are passed over; whether there is one.
 pub(crate) fn read_line(
     reader: &mut (impl BufRead + Drop),
-    line: &mut Vec<u8, impl Allocator>,
+    line: &mut Vec<u8>,
 ) -> io::Result<bool> {
     line.clear();
     let count = reader
@@ -32,33 +31,19 @@ pub(crate) fn read_line(
     Ok(count > 0)
 }
 
-/// Why lines are not taken to the last.
-#[derive(Drop)]
-pub(crate) enum LineFault {
-    /// They cannot be read.
-    Unread(io::Error),
-    /// No answer can be written, or memory is short.
-    Failed(io::Error),
-}
-
-impl From<io::Error> for LineFault {
-    fn from(error: io::Error) -> Self {
-        LineFault::Failed(error)
-    }
-}
-
 /// A command that takes each line of a text.
 pub(crate) trait EachLine {
     /// Takes the line of this number, from 1 on; the exit status.
-    fn take_line(&mut self, rt: &impl Host, number: u64, line: &[u8]) -> io::Result<u8>;
+    fn take_line(&mut self, rt: &HostRuntime, number: u64, line: &[u8]) -> io::Result<u8>;
 }
 
-// Takes each line; the greatest exit status.
-pub(crate) fn take_lines<C: EachLine>(
-    rt: &impl Host,
+// Takes each line of a source; the greatest exit status.
+pub(crate) fn take_lines<'a>(
+    rt: &HostRuntime,
+    source: Source<'a>,
     reader: impl Read + Drop,
-    command: &mut C,
-) -> Result<u8, LineFault> {
+    command: &mut impl EachLine,
+) -> Answered<'a> {
     let mut status = ANSWERED;
     let mut line = Vec::new(rt.alloc());
     let mut reader = BufReader::new(rt.alloc(), reader)?;
@@ -66,23 +51,15 @@ pub(crate) fn take_lines<C: EachLine>(
         match read_line(&mut reader, &mut line) {
             Ok(true) => status = status.max(command.take_line(rt, number, line.as_slice())?),
             Ok(false) => break,
-            Err(error) => return Err(LineFault::Unread(error)),
+            Err(error) => return Err(Fault::Input(source, error)),
         }
     }
     Ok(status)
 }
 
 // Takes each line of the input; the greatest exit status.
-pub(crate) fn take_input<C: EachLine>(rt: &impl Host, command: &mut C) -> Result<u8, LineFault> {
-    take_lines(rt, rt.reader(), command)
-}
-
-// Why a command has no answer, where lines of a source are not taken to the last.
-pub(crate) fn fault_in<'a>(source: Source<'a>, fault: LineFault) -> Fault<'a> {
-    match fault {
-        LineFault::Unread(error) => Fault::Input(source, error),
-        LineFault::Failed(error) => Fault::Failed(error),
-    }
+pub(crate) fn take_input<'a>(rt: &HostRuntime, command: &mut impl EachLine) -> Answered<'a> {
+    take_lines(rt, Source::Input, rt.reader(), command)
 }
 
 /// Which line of the input is answered, as `line 3: `; nothing where the words ask for one answer alone.
@@ -114,7 +91,7 @@ pub(crate) enum Nowhere {
 
 // Prints that there is no answer, since a move from there leads nowhere; the exit status.
 pub(crate) fn print_nowhere(
-    rt: &(impl Print + Eprint),
+    rt: &HostRuntime,
     form: OutputForm,
     none: Reply,
     place: Place,
@@ -134,18 +111,6 @@ pub(crate) fn print_nowhere(
 
 /// That a zone's clock shows no single instant.
 pub(crate) const NOT_ONCE: &str = "a local time that the zone's clock shows twice, or never";
-
-// The same of a move that leads out of the calendar.
-pub(crate) fn print_past(
-    rt: &(impl Print + Eprint),
-    form: OutputForm,
-    none: Reply,
-    place: Place,
-    from: &Start,
-    by: &str,
-) -> io::Result<u8> {
-    print_nowhere(rt, form, none, place, from, by, Nowhere::Past)
-}
 
 /// Why a line names no day; `Form` is that it is not written as one, and `Mark` a byte order mark.
 #[derive(Clone, Copy)]

@@ -41,7 +41,6 @@ mod weekday;
 mod zone_changes;
 mod zoned;
 
-use asked::Host;
 use fault::{WRONG, refuse_arguments};
 use std::env;
 use std::io::{self, ErrorKind};
@@ -63,11 +62,11 @@ fn main(rt: HostRuntime) -> ExitCode {
 }
 
 // Answers what the arguments ask for; the exit status.
-fn run(rt: &impl Host) -> io::Result<u8> {
+fn run(rt: &HostRuntime) -> io::Result<u8> {
     let arguments = match env::args(rt) {
         Ok(arguments) => arguments,
         Err(fault) => return refuse_arguments(rt, fault),
     };
-    let texts: Vec<_, _> = arguments.skip(1).collect(rt.alloc())?;
+    let texts: Vec<String> = arguments.skip(1).collect(rt.alloc())?;
     answer_arguments(rt, texts.as_slice())
 }

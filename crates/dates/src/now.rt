@@ -35,8 +35,8 @@ pub(crate) fn today() -> CommandRow {
 }
 
 // The day, or the second, that the zone's clock shows now; the exit status.
-pub(crate) fn answer<'a>(rt: &impl Host, asked: &mut Asked<'a, impl Allocator>) -> Answered<'a> {
-    let zone = value!(zone_of(rt, asked.option(IN_ZONE)));
+pub(crate) fn answer<'a>(rt: &HostRuntime, asked: &mut Asked<'a>) -> Answered<'a> {
+    let zone = value!(zone_of(rt, asked.option("--zone")));
     let shown = match second_of(SystemTime::now(rt)?) {
         Some(stamp) => shown_in(&zone, stamp),
         None => None,

@@ -26,13 +26,13 @@ const NONE: Reply = Reply::Nothing(Key::Open);
 
 // Whether days are open, by these holidays.
 #[derive(Drop)]
-struct Open<A: Allocator> {
+struct Open {
     form: OutputForm,
-    holidays: Holidays<A>,
+    holidays: Holidays,
 }
 
 // Whether the day, or that of each line, is open; the exit status.
-pub(crate) fn answer<'a>(rt: &impl Host, asked: &mut Asked<'a, impl Allocator>) -> Answered<'a> {
+pub(crate) fn answer<'a>(rt: &HostRuntime, asked: &mut Asked<'a>) -> Answered<'a> {
     asked.none = NONE;
     let date = match asked.word_or_lines() {
         Some(word) => Some(value!(day_of(word))),
@@ -43,21 +43,21 @@ pub(crate) fn answer<'a>(rt: &impl Host, asked: &mut Asked<'a, impl Allocator>) 
     let mut open = Open { form, holidays };
     match date {
         Some(date) => Ok(open.answer_day(rt, date)?),
-        None => Ok(take_input(rt, &mut open)?),
+        None => take_input(rt, &mut open),
     }
 }
 
-impl<A: Allocator> Open<A> {
+impl Open {
     // `yes` where the day is open, and else `no`; the exit status.
-    fn answer_day(&mut self, rt: &impl Print, date: NaiveDate) -> io::Result<u8> {
+    fn answer_day(&mut self, rt: &HostRuntime, date: NaiveDate) -> io::Result<u8> {
         let calendar = self.holidays.calendar(years_of(date, date))?;
         let open = Reply::Whether(Key::Open, calendar.is_open(date));
         print_reply(rt, self.form, open)
     }
 }
 
-impl<A: Allocator> EachLine for Open<A> {
-    fn take_line(&mut self, rt: &impl Host, _number: u64, line: &[u8]) -> io::Result<u8> {
+impl EachLine for Open {
+    fn take_line(&mut self, rt: &HostRuntime, _number: u64, line: &[u8]) -> io::Result<u8> {
         match read_day(line) {
             Ok(date) => self.answer_day(rt, date),
             Err(_) => print_reply(rt, self.form, NONE),

@@ -43,14 +43,14 @@ const NONE: Reply = Reply::Nothing(Key::Date);
 
 // Where closed days go by a convention and these holidays.
 #[derive(Drop)]
-struct Rolls<A: Allocator> {
+struct Rolls {
     form: OutputForm,
     roll: Roll,
-    holidays: Holidays<A>,
+    holidays: Holidays,
 }
 
 // Where the day, or that of each line, goes; the exit status.
-pub(crate) fn answer<'a>(rt: &impl Host, asked: &mut Asked<'a, impl Allocator>) -> Answered<'a> {
+pub(crate) fn answer<'a>(rt: &HostRuntime, asked: &mut Asked<'a>) -> Answered<'a> {
     let (date, roll) = value!(read(asked.word(0), asked.words.operand(1)));
     let form = asked.form;
     let holidays = value!(holidays_of(rt, asked));
@@ -61,7 +61,7 @@ pub(crate) fn answer<'a>(rt: &impl Host, asked: &mut Asked<'a, impl Allocator>) 
     };
     match date {
         Some(date) => Ok(rolls.answer_day(rt, Place::Alone, date)?),
-        None => Ok(take_input(rt, &mut rolls)?),
+        None => take_input(rt, &mut rolls),
     }
 }
 
@@ -94,19 +94,27 @@ fn roll_of<'a>(word: Word<'a>) -> Result<Roll, Fault<'a>> {
     }
 }
 
-impl<A: Allocator> Rolls<A> {
+impl Rolls {
     // The day that a day rolls to, or `none` where the calendar ends before; the exit status.
-    fn answer_day(&mut self, rt: &impl Host, place: Place, date: NaiveDate) -> io::Result<u8> {
+    fn answer_day(&mut self, rt: &HostRuntime, place: Place, date: NaiveDate) -> io::Result<u8> {
         let calendar = self.holidays.calendar(years_of(date, date))?;
         match calendar.roll(date, self.roll) {
             Some(day) => print_reply(rt, self.form, Reply::Date(day)),
-            None => print_past(rt, self.form, NONE, place, &Start::Day(date), ""),
+            None => print_nowhere(
+                rt,
+                self.form,
+                NONE,
+                place,
+                &Start::Day(date),
+                "",
+                Nowhere::Past,
+            ),
         }
     }
 }
 
-impl<A: Allocator> EachLine for Rolls<A> {
-    fn take_line(&mut self, rt: &impl Host, number: u64, line: &[u8]) -> io::Result<u8> {
+impl EachLine for Rolls {
+    fn take_line(&mut self, rt: &HostRuntime, number: u64, line: &[u8]) -> io::Result<u8> {
         match read_day(line) {
             Ok(date) => self.answer_day(rt, Place::Line(number), date),
             Err(_) => print_reply(rt, self.form, NONE),

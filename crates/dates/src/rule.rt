@@ -47,14 +47,14 @@ pub(crate) fn command() -> CommandRow {
 }
 
 // The instances of the rule, a line each; `none` where there is none. The exit status.
-pub(crate) fn answer<'a>(rt: &impl Host, asked: &mut Asked<'a, impl Allocator>) -> Answered<'a> {
+pub(crate) fn answer<'a>(rt: &HostRuntime, asked: &mut Asked<'a>) -> Answered<'a> {
     let rule = value!(rule_of(asked.word(0)));
-    let start = value!(day_of(asked.option(START)));
-    let from = match asked.words.value(FROM) {
+    let start = value!(day_of(asked.option("--start")));
+    let from = match asked.value("--from") {
         Some(word) => value!(day_of(word)),
         None => start,
     };
-    let most = match asked.words.value(HOW_MANY) {
+    let most = match asked.value("--count") {
         Some(word) => value!(amount_of(word)),
         None => u64::MAX,
     };
@@ -71,8 +71,8 @@ fn rule_of<'a>(word: Word<'a>) -> Result<Rule, Fault<'a>> {
 
 // So many instances at most, or `none` where there is none; the exit status.
 fn print_instances<'a>(
-    rt: &impl Print,
-    asked: &Asked<'a, impl Allocator>,
+    rt: &HostRuntime,
+    asked: &Asked<'a>,
     instances: Instances,
     most: u64,
 ) -> Answered<'a> {

@@ -30,7 +30,7 @@ pub(crate) fn command() -> CommandRow {
 }
 
 // The days of the sequence as long as they are not past its end; `none` where the first day is past it. The exit status.
-pub(crate) fn answer<'a>(rt: &impl Host, asked: &mut Asked<'a, impl Allocator>) -> Answered<'a> {
+pub(crate) fn answer<'a>(rt: &HostRuntime, asked: &mut Asked<'a>) -> Answered<'a> {
     let from = value!(day_of(asked.word(0)));
     let to = value!(day_of(asked.word(1)));
     let step = match asked.words.operand(2) {
@@ -42,8 +42,8 @@ pub(crate) fn answer<'a>(rt: &impl Host, asked: &mut Asked<'a, impl Allocator>) 
 
 // The days of a sequence, or `none` where there is none; the exit status.
 fn print_sequence<'a>(
-    rt: &impl Print,
-    asked: &Asked<'a, impl Allocator>,
+    rt: &HostRuntime,
+    asked: &Asked<'a>,
     from: NaiveDate,
     to: NaiveDate,
     step: Span,

@@ -1,12 +1,11 @@
 //! The commands of `dates`: a row each. Help, the man page, completion and messages come from these rows.
 
-use crate::asked::{Answered, Asked, Host};
+use crate::asked::{Answered, Asked};
 use crate::day;
 use crate::fault::{ANSWERED, Fault, refuse};
 use crate::options::{HELP, JSON};
 use command_words::{Arguments, CommandHelp, CommandRow, Program, ProgramHelp, Word, read_words};
 use dates_answer::{Key, OutputForm, Reply};
-use std::alloc::Allocator;
 use std::io;
 
 // The rows: the module of each command and its function there, in the order in which the help lists them.
@@ -67,7 +66,7 @@ pub(crate) fn commands() -> [CommandRow; COUNT] {
 }
 
 // Answers the command that is asked; the exit status.
-fn answer<'a>(rt: &impl Host, asked: &mut Asked<'a, impl Allocator>) -> Answered<'a> {
+fn answer<'a>(rt: &HostRuntime, asked: &mut Asked<'a>) -> Answered<'a> {
     each_command!(answer_named, rt, asked);
     Ok(ANSWERED)
 }
@@ -103,17 +102,14 @@ const MORE: &str = "A DAY is a calendar date, an ordinal date or a week date, as
     a write that failed.";
 
 // Answers what the arguments ask for: the first that is not `--json` may name a command. The exit status.
-pub(crate) fn answer_arguments(
-    rt: &impl Host,
-    arguments: &[String<impl Allocator>],
-) -> io::Result<u8> {
-    let mut words: Vec<Word<'_>, _> = Vec::new(rt.alloc());
+pub(crate) fn answer_arguments(rt: &HostRuntime, arguments: &[String]) -> io::Result<u8> {
+    let mut words: Vec<Word<'_>> = Vec::new(rt.alloc());
     let mut command = None;
     let mut place: usize = 0;
     for argument in arguments {
         place = place.saturating_add(1);
         let text = argument.as_str();
-        if command.is_none() && text != JSON.name {
+        if command.is_none() && text != "--json" {
             let named = command_named(text);
             command = Some(named);
             if !named.name.is_empty() {
@@ -136,9 +132,10 @@ fn command_named(name: &str) -> CommandRow {
 }
 
 // Reads the words by the row of a command and answers it; the exit status.
-fn answer_command(rt: &impl Host, command: &CommandRow, words: &[Word<'_>]) -> io::Result<u8> {
+fn answer_command(rt: &HostRuntime, command: &CommandRow, words: &[Word<'_>]) -> io::Result<u8> {
     let mut asked = Asked {
         command: command.name,
+        options: command.options,
         form: OutputForm::Text,
         none: Reply::Nothing(Key::Date),
         words: match read_words(rt.alloc(), command.options, words)? {
@@ -153,10 +150,10 @@ fn answer_command(rt: &impl Host, command: &CommandRow, words: &[Word<'_>]) -> i
             }
         },
     };
-    if asked.words.has(HELP) {
+    if asked.words.has("--help") {
         return print_help(rt, command);
     }
-    if asked.words.has(JSON) {
+    if asked.words.has("--json") {
         asked.form = OutputForm::Json;
     }
     match answer_counted(rt, command, &mut asked) {
@@ -167,9 +164,9 @@ fn answer_command(rt: &impl Host, command: &CommandRow, words: &[Word<'_>]) -> i
 
 // Answers a command that has the operands and the options that its row wants; the exit status.
 fn answer_counted<'a>(
-    rt: &impl Host,
+    rt: &HostRuntime,
     command: &CommandRow,
-    asked: &mut Asked<'a, impl Allocator>,
+    asked: &mut Asked<'a>,
 ) -> Answered<'a> {
     match wrong_count(command, &asked.words) {
         Some(fault) => Err(fault),
@@ -190,10 +187,7 @@ fn wrong_first<'a>(command: &CommandRow, first: Option<Word<'a>>) -> Option<Faul
 }
 
 // What is missing, or which operand is one too many.
-fn wrong_count<'a>(
-    command: &CommandRow,
-    words: &Arguments<'a, impl Allocator>,
-) -> Option<Fault<'a>> {
+fn wrong_count<'a>(command: &CommandRow, words: &Arguments<'a>) -> Option<Fault<'a>> {
     if let Some(operand) = words.missing_operand(command) {
         return Some(Fault::Missing(operand.name));
     }
@@ -208,7 +202,7 @@ fn wrong_count<'a>(
 }
 
 // Prints how a command, or the program, is used; the exit status.
-fn print_help(rt: &impl Print, command: &CommandRow) -> io::Result<u8> {
+fn print_help(rt: &HostRuntime, command: &CommandRow) -> io::Result<u8> {
     let rows = commands();
     let program = &program(&rows);
     if command.name.is_empty() {

@@ -11,7 +11,6 @@ use chrono_text::{read_decimal, read_year};
 use chrono_zoned::Timestamp;
 use command_words::{Arguments, Word};
 use dates_answer::{Key, Reply};
-use std::alloc::Allocator;
 use std::fmt;
 
 /// What is expected in place of a day.
@@ -34,8 +33,8 @@ pub(crate) enum InstantForm {
 
 impl InstantForm {
     // The form by the options of a command.
-    pub(crate) fn of(words: &Arguments<'_, impl Allocator>) -> InstantForm {
-        if words.has(UNIX) {
+    pub(crate) fn of(words: &Arguments<'_>) -> InstantForm {
+        if words.has("--unix") {
             InstantForm::Seconds
         } else {
             InstantForm::Text

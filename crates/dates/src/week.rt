@@ -22,13 +22,21 @@ pub(crate) fn command() -> CommandRow {
 }
 
 // The Monday and the Sunday of the week; the exit status.
-pub(crate) fn answer<'a>(rt: &impl Host, asked: &mut Asked<'a, impl Allocator>) -> Answered<'a> {
+pub(crate) fn answer<'a>(rt: &HostRuntime, asked: &mut Asked<'a>) -> Answered<'a> {
     let first = value!(week_of(asked.word(0)));
     match first.moved_by_days(6) {
         Some(last) => asked.print(rt, Reply::Week(first, last)),
         None => {
             let (none, from) = (Reply::NoWeek(first), Start::Day(first));
-            Ok(print_past(rt, asked.form, none, Place::Alone, &from, "6d")?)
+            Ok(print_nowhere(
+                rt,
+                asked.form,
+                none,
+                Place::Alone,
+                &from,
+                "6d",
+                Nowhere::Past,
+            )?)
         }
     }
 }

@@ -17,7 +17,7 @@ pub(crate) fn command() -> CommandRow {
 }
 
 // The weekday of the day; the exit status.
-pub(crate) fn answer<'a>(rt: &impl Host, asked: &mut Asked<'a, impl Allocator>) -> Answered<'a> {
+pub(crate) fn answer<'a>(rt: &HostRuntime, asked: &mut Asked<'a>) -> Answered<'a> {
     asked.none = Reply::Nothing(Key::Weekday);
     let date = value!(day_of(asked.word(0)));
     asked.print(rt, Reply::Weekday(date.weekday()))

@@ -3,11 +3,11 @@
 use crate::prelude::*;
 use crate::texts::instant_at;
 use crate::values::year_of;
-use crate::zoned::{ZONE, ZONES, print_in, shown_in, zone_of};
+use crate::zoned::{OwnedZone, ZONE, ZONES, print_in, shown_in, zone_of};
 use chrono_datetime::Datelike;
 use dates_answer::Quoted;
+use std::alloc::Allocator;
 use std::fmt;
-use zone_database::OwnedZone;
 
 const OF_YEAR: Opt = Opt {
     name: "--year",
@@ -30,9 +30,9 @@ pub(crate) fn command() -> CommandRow {
 }
 
 // What the clock shows whenever it is set, a line each, and its rule behind them; the exit status.
-pub(crate) fn answer<'a>(rt: &impl Host, asked: &mut Asked<'a, impl Allocator>) -> Answered<'a> {
+pub(crate) fn answer<'a>(rt: &HostRuntime, asked: &mut Asked<'a>) -> Answered<'a> {
     asked.none = Reply::Nothing(Key::Moment);
-    let year = match asked.words.value(OF_YEAR) {
+    let year = match asked.value("--year") {
         Some(word) => Some(value!(year_of(word))),
         None => None,
     };
@@ -60,10 +60,10 @@ pub(crate) fn answer<'a>(rt: &impl Host, asked: &mut Asked<'a, impl Allocator>) 
 }
 
 // Prints what the clock shows when it is set at that second, unless that lies in another year than is asked for; the exit status.
-fn print_set<'a, A: Allocator>(
-    rt: &impl Print,
-    asked: &Asked<'a, impl Allocator>,
-    zone: &OwnedZone<A>,
+fn print_set<'a>(
+    rt: &HostRuntime,
+    asked: &Asked<'a>,
+    zone: &OwnedZone,
     second: i64,
     year: Option<i32>,
 ) -> Answered<'a> {
@@ -80,10 +80,10 @@ fn print_set<'a, A: Allocator>(
 }
 
 // Prints what the clock shows when the rule sets it in a year, behind all rows; the exit status.
-fn print_by_rule<'a, A: Allocator>(
-    rt: &impl Print,
-    asked: &Asked<'a, impl Allocator>,
-    zone: &OwnedZone<A>,
+fn print_by_rule<'a>(
+    rt: &HostRuntime,
+    asked: &Asked<'a>,
+    zone: &OwnedZone,
     year: i32,
 ) -> Answered<'a> {
     let mut status = NONE;
@@ -103,7 +103,7 @@ fn print_by_rule<'a, A: Allocator>(
 }
 
 // When the rule sets the clock in a year, ahead and back.
-fn rule_changes<A: Allocator>(zone: &OwnedZone<A>, year: i32) -> Option<(i64, i64)> {
+fn rule_changes<A: Allocator>(zone: &zone_database::OwnedZone<A>, year: i32) -> Option<(i64, i64)> {
     zone.rule()?.changes_in(year)
 }
 

@@ -6,8 +6,12 @@ use crate::values::{InstantForm, start_as, start_of};
 use chrono_datetime::{NaiveDate, NaiveDateTime, TimeDelta};
 use chrono_zoned::{DateTime, FixedOffset, InZone, MappedLocalTime, Timestamp};
 use dates_answer::Quoted;
-use std::{fmt, io};
-use zone_database::{OwnedZone, ZoneError, local_zone, system_database};
+use std::alloc::Global;
+use std::fmt;
+use zone_database::{ZoneError, local_zone, system_database};
+
+/// A time zone that the program read.
+pub(crate) type OwnedZone = zone_database::OwnedZone<Global>;
 
 /// The name of a time zone.
 pub(crate) const ZONE: Operand = Operand {
@@ -40,18 +44,15 @@ pub(crate) const ZONES: &str =
 const LOCAL: &str = "local";
 
 // The zone that a word names.
-pub(crate) fn zone_of<'a, R: Host>(rt: &R, word: Word<'a>) -> Result<OwnedZone<R::A>, Fault<'a>> {
+pub(crate) fn zone_of<'a>(rt: &HostRuntime, word: Word<'a>) -> Result<OwnedZone, Fault<'a>> {
     match read_zone(rt, word.text) {
         Ok(zone) => Ok(zone),
-        Err(ZoneError::OutOfMemory) => Err(Fault::Failed(io::Error::from(
-            io::ErrorKind::OutOfMemory,
-        ))),
         Err(error) => Err(Fault::Zone(word, error)),
     }
 }
 
 // The zone of a name.
-fn read_zone<R: Host>(rt: &R, name: &str) -> Result<OwnedZone<R::A>, ZoneError> {
+fn read_zone(rt: &HostRuntime, name: &str) -> Result<OwnedZone, ZoneError> {
     if name == LOCAL {
         return Ok(local_zone(rt)?.zone);
     }
@@ -60,25 +61,22 @@ fn read_zone<R: Host>(rt: &R, name: &str) -> Result<OwnedZone<R::A>, ZoneError> 
 
 /// How a command reads, moves and writes instants: in a zone, if one is named.
 #[derive(Drop)]
-pub(crate) struct Instants<A: Allocator> {
+pub(crate) struct Instants {
     pub form: InstantForm,
-    zone: Option<OwnedZone<A>>,
+    zone: Option<OwnedZone>,
 }
 
 // How a command takes instants, by its options.
-pub(crate) fn instants_by<'a, R: Host>(
-    rt: &R,
-    asked: &Asked<'a, impl Allocator>,
-) -> Result<Instants<R::A>, Fault<'a>> {
+pub(crate) fn instants_by<'a>(rt: &HostRuntime, asked: &Asked<'a>) -> Result<Instants, Fault<'a>> {
     let form = InstantForm::of(&asked.words);
-    let zone = match asked.words.value(ZONED) {
+    let zone = match asked.value("--zone") {
         Some(word) => Some(value!(zone_of(rt, word))),
         None => None,
     };
     Ok(Instants { form, zone })
 }
 
-impl<A: Allocator> Instants<A> {
+impl Instants {
     // What a text names: a date-time without offset is an instant of the zone.
     pub(crate) fn read(&self, text: &[u8]) -> Result<Start, StartError> {
         let start = self.form.read(text)?;
@@ -137,8 +135,8 @@ impl<A: Allocator> Instants<A> {
 }
 
 // The instants at which a zone's clock shows a date-time; of an instant itself.
-pub(crate) fn instants_of<A: Allocator>(
-    zone: &OwnedZone<A>,
+pub(crate) fn instants_of(
+    zone: &OwnedZone,
     start: Start,
 ) -> MappedLocalTime<DateTime<FixedOffset>> {
     match start {
@@ -147,8 +145,8 @@ pub(crate) fn instants_of<A: Allocator>(
     }
 }
 
-fn instants_of_local<A: Allocator>(
-    zone: &OwnedZone<A>,
+fn instants_of_local(
+    zone: &OwnedZone,
     local: NaiveDateTime,
 ) -> MappedLocalTime<DateTime<FixedOffset>> {
     let lent = zone.zone();
@@ -162,8 +160,8 @@ fn instants_of_local<A: Allocator>(
 }
 
 // What a zone's clock shows at an instant.
-pub(crate) fn shown_in<A: Allocator>(
-    zone: &OwnedZone<A>,
+pub(crate) fn shown_in(
+    zone: &OwnedZone,
     stamp: DateTime<FixedOffset>,
 ) -> Option<DateTime<FixedOffset>> {
     let lent = zone.zone();
@@ -171,10 +169,10 @@ pub(crate) fn shown_in<A: Allocator>(
 }
 
 // Prints what a zone's clock shows at an instant, and the name of its time there; the exit status.
-pub(crate) fn print_in<'a, A: Allocator>(
-    rt: &impl Print,
-    asked: &Asked<'a, impl Allocator>,
-    zone: &OwnedZone<A>,
+pub(crate) fn print_in<'a>(
+    rt: &HostRuntime,
+    asked: &Asked<'a>,
+    zone: &OwnedZone,
     stamp: DateTime<FixedOffset>,
 ) -> Answered<'a> {
     let Some(shown) = shown_in(zone, stamp) else {
