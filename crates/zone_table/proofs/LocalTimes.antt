@@ -1,8 +1,9 @@
 -- The instants of a local time, where the changes are ordered.
-use Rattle.std.proofs.Common.{◌≡◌, ℕ, ◌+◌, ◌-◌, ◌≤◌, ◌<◌, ℤ, ◌+ℤ◌, ◌-ℤ◌, ◌≤ℤ◌, ◌<ℤ◌, ◌⊎◌, ap, ◌∙◌, arith, inl, inr, ⊎_elim}
+use Rattle.std.proofs.Common.{◌≡◌, ℕ, ◌+◌, ◌-◌, ◌≤◌, ◌<◌, ℤ, pos, ◌+ℤ◌, ◌-ℤ◌, ◌≤ℤ◌, ◌<ℤ◌, ◌⊎◌, ap, ◌∙◌, arith, inl, inr, ⊎_elim}
 use Rattle.std.proofs.lemmas.Bool.Decides.{leb_tells}
 use Rattle.std.proofs.lemmas.Int.{clamps, ints}
 use Rattle.chrono_zoned.specs.declared.mapped_local_time.MappedLocalTime.TheVariants.{None as NoInstant, Single, Ambiguous}
+use Rattle.chrono_zoned.specs.Offsets.{IsOffset}
 use Rattle.chrono_zoned.specs.Zones.{IsMapped, Shows}
 use Rattle.zone_table.specs.Sequence.{AreOrdered, Come, IsRising, come_by, local_end, local_start, offset_by}
 use Rattle.zone_table.proofs.SequenceLemmas.{Come-count, IsRising-le, come_by-Come}
@@ -171,3 +172,33 @@ mapped_after second after n l j ordered starts past over u =
           (near_all second after n l (j + 1) ordered starts u shows)),
       (λ is. shows_at second after n l u (j + 1) (ap (come_by second n) is ∙ after_change second after n l j ordered starts past) is),
     )
+
+-- ---- no change within a day of l
+
+-- a change that comes more than a day later starts behind l
+starts_later : (second after : ℕ → ℤ) (n : ℕ) (l : ℤ) (k : ℕ) → AreOrdered second after n → IsOffset (after k) → (k < n → IsOffset (after (k + 1))) → ((i : ℕ) → k ≤ i → i < n → (l +ℤ pos 86_400) <ℤ second i) → (i : ℕ) → k ≤ i → i < n → l <ℤ local_start second after i
+starts_later second after n l k ordered here next behind i le lt =
+    let late = behind k (omega arith) (omega (arith, le, lt)) in
+    let near = next (omega (arith, le, lt)) in
+    let start : l <ℤ local_start second after k = omega (arith, ints, clamps, late, here, near) in
+    let rise = IsRising-le (local_start second after) n (starts_rise second after n ordered) k i le lt in
+    omega (arith, ints, start, rise)
+
+pub settled_first : (second after : ℕ → ℤ) (n : ℕ) (l : ℤ) → AreOrdered second after n → IsOffset (after 0) → (0 < n → IsOffset (after 1)) → ((i : ℕ) → 0 ≤ i → i < n → (l +ℤ pos 86_400) <ℤ second i) → IsMapped (offset_by second after n) l (Single (after 0))
+settled_first second after n l ordered here next behind = mapped_first second after n l ordered (record {
+  bound = omega arith;
+  come = λ i lt. absurd (omega (arith, lt));
+  later = starts_later second after n l 0 ordered here next behind;
+})
+
+pub settled_after : (second after : ℕ → ℤ) (n : ℕ) (l : ℤ) (j : ℕ) → AreOrdered second after n → j < n → IsOffset (after j) → IsOffset (after (j + 1)) → (j + 1 < n → IsOffset (after (j + 1 + 1))) → second j <ℤ (l -ℤ pos 86_400) → ((i : ℕ) → j + 1 ≤ i → i < n → (l +ℤ pos 86_400) <ℤ second i) → IsMapped (offset_by second after n) l (Single (after (j + 1)))
+settled_after second after n l j ordered lt before here next early behind =
+    let start : local_start second after j ≤ℤ l = omega (arith, ints, clamps, early, before, here) in
+    let starts : Come (local_start second after) n l (j + 1) = record {
+      bound = omega (arith, lt);
+      come = λ i below.
+          let rise = IsRising-le (local_start second after) n (starts_rise second after n ordered) i j (omega (arith, below)) lt in
+          omega (arith, ints, rise, start);
+      later = starts_later second after n l (j + 1) ordered here next behind;
+    } in
+    mapped_after second after n l j ordered starts (omega (arith, ints, early, here)) (omega (arith, ints, early, before))

@@ -2,3 +2,4 @@ pub use Rattle.chrono_zoned.specs.Zones
 pub mod Sequence
 pub mod Table
 pub mod Changes
+pub mod Search

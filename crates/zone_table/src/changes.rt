@@ -4,8 +4,9 @@ ghost use Rattle.zone_table.specs.Changes.{IsNextChange, IsPreviousChange, IsSte
 ghost use Rattle.zone_table.specs.Sequence.{ChangesFirst, ChangesLast, IsSameFrom, IsSameTo};
 ghost use Rattle.zone_table.specs.Table.{IsTable, offset_after, table_offset};
 
-use crate::offsets::{offset_of_count, rows_begun};
+use crate::offsets::offset_of_count;
 use crate::row::{Row, second_at};
+use crate::search::rows_begun;
 use chrono_zoned::FixedOffset;
 
 /// Returns the first second after `second` at which the offset changes.

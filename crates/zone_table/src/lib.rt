@@ -20,6 +20,7 @@ pub mod law;
 mod offsets;
 mod order;
 mod row;
+mod search;
 
 pub use changes::{next_change, previous_change};
 pub use chrono_zoned::{FixedOffset, MappedLocalTime};

@@ -1,17 +1,17 @@
 //! The offset at an instant, and the offsets of a local time.
-ghost use Rattle.std.specs.Prelude.{◌≡◌, ◌≤◌, ◌<◌, ◌+◌, ◌+ℤ◌, length};
+ghost use Rattle.std.specs.Prelude.{◌≡◌, ◌≤◌, ◌<◌, ◌+◌, ◌-◌, ◌+ℤ◌, IfSome, length};
+ghost use Rattle.chrono_zoned.specs.declared.mapped_local_time.MappedLocalTime.TheVariants.{Single};
+ghost use Rattle.chrono_zoned.specs.Offsets.{IsOffset};
 ghost use Rattle.chrono_zoned.specs.Zones.{IsMapped};
 ghost use Rattle.zone_table.specs.Sequence.{Come, IsRising, local_start};
 ghost use Rattle.zone_table.specs.Table.{IsTable, offset_after, table_offset, row_second};
 
 use crate::row::{Row, second_at, table_offset};
+use crate::search::last_begun;
 use chrono_zoned::{FixedOffset, MappedLocalTime};
 
 // No offset is as much.
 const SECS_PER_DAY: i64 = 86_400;
-
-// How many places beside a guess are looked at first. Mostly the row there is the first that has not started.
-const NEAR_GUESS: u8 = 2;
 
 /// Returns the offset at the instant `second`: that of the last row that has begun by then, or `first` before all rows.
 ///
@@ -24,12 +24,16 @@ const NEAR_GUESS: u8 = 2;
 /// offset_of_instant(zero, &rows, 999) // +00:00
 /// offset_of_instant(zero, &rows, 1_000) // +01:00
 /// ```
-#[inline]
+// In a loop around it the search would have a branch for each step.
+#[inline(never)]
 pub fn offset_of_instant(first: FixedOffset, rows: &[Row], second: i64) -> FixedOffset
     requires { IsTable first rows.now }
     ensures { result ≡ table_offset first rows.now second }
 {
-    offset_of_count(first, rows, rows_begun(rows, second))
+    match last_begun(rows, second) {
+        Some(from) => table_offset(from, 0),
+        None => first,
+    }
 }
 
 /// Returns the offsets at all instants at which the clock shows the local second `local`, the earlier instant first.
@@ -55,6 +59,49 @@ pub fn offsets_of_local(
     rows: &[Row],
     local: i64,
 ) -> MappedLocalTime<FixedOffset>
+    requires { IsTable first rows.now }
+    ensures { IsMapped (table_offset first rows.now) local result }
+{
+    match settled_offset(first, rows, local) {
+        Some(offset) => MappedLocalTime::Single(offset),
+        None => offsets_near_change(first, rows, local),
+    }
+}
+
+// The offset of the local second, if no row begins within a day of it.
+#[inline(never)]
+fn settled_offset(first: FixedOffset, rows: &[Row], local: i64) -> Option<FixedOffset>
+    requires { IsTable first rows.now }
+    ensures { IfSome result (λ only. IsMapped (table_offset first rows.now) local (Single only)) }
+{
+    let early = local.checked_sub(SECS_PER_DAY)?;
+    let late = local.checked_add(SECS_PER_DAY)?;
+    let Some(from) = last_begun(rows, late) else {
+        touch_offsets(first, rows, 0);
+        return Some(first);
+    };
+    touch_offsets(first, rows, rows.len() - from.len() + 1);
+    if second_at(from, 0) < early {
+        return Some(table_offset(from, 0));
+    }
+    None
+}
+
+// Reads the offsets around that of `count` rows, since a proof knows the range of what is read. The compiler leaves it out.
+#[inline(always)]
+fn touch_offsets(first: FixedOffset, rows: &[Row], count: usize)
+    requires { count ≤ length rows.now }
+    ensures before { IsOffset (offset_after first rows.now (count - 1)) }
+    ensures here { IsOffset (offset_after first rows.now count) }
+    ensures next { count < length rows.now → IsOffset (offset_after first rows.now (count + 1)) }
+{
+    let _before = offset_of_count(first, rows, count.saturating_sub(1));
+    let _here = offset_of_count(first, rows, count);
+    let _next = offset_of_count(first, rows, rows.len().min(count + 1));
+}
+
+// The offsets of any local second.
+fn offsets_near_change(first: FixedOffset, rows: &[Row], local: i64) -> MappedLocalTime<FixedOffset>
     requires { IsTable first rows.now }
     ensures { IsMapped (table_offset first rows.now) local result }
 {
@@ -87,39 +134,15 @@ pub(crate) fn offset_of_count(first: FixedOffset, rows: &[Row], count: usize) ->
     }
 }
 
-// How many rows have begun by the second.
-#[inline]
-pub(crate) fn rows_begun(rows: &[Row], second: i64) -> usize
-    requires { IsRising (row_second rows.now) (length rows.now) }
-    ensures { Come (row_second rows.now) (length rows.now) second result }
+// How many rows skip or repeat local seconds from `local` or an earlier one on.
+fn starts_by(first: FixedOffset, rows: &[Row], local: i64) -> usize
+    requires { IsRising (local_start (row_second rows.now) (offset_after first rows.now)) (length rows.now) }
+    ensures { Come (local_start (row_second rows.now) (offset_after first rows.now)) (length rows.now) local result }
 {
     let mut low = 0;
     let mut high = rows.len();
     while low < high {
         let middle = low + (high - low) / 2;
-        if second_at(rows, middle) <= second {
-            low = middle + 1;
-        } else {
-            high = middle;
-        }
-    }
-    low
-}
-
-// How many rows skip or repeat local seconds from `local` or an earlier one on.
-#[inline]
-fn starts_by(first: FixedOffset, rows: &[Row], local: i64) -> usize
-    requires starts { IsRising (local_start (row_second rows.now) (offset_after first rows.now)) (length rows.now) }
-    requires seconds { IsRising (row_second rows.now) (length rows.now) }
-    ensures { Come (local_start (row_second rows.now) (offset_after first rows.now)) (length rows.now) local result }
-{
-    let guess = rows_begun(rows, local.saturating_sub(SECS_PER_DAY));
-    let mut low = 0;
-    let mut high = rows.len();
-    let mut near = NEAR_GUESS;
-    while low < high {
-        let middle = place_between(low, high, guess, near);
-        near = near.saturating_sub(1);
         if start_of(first, rows, middle) <= i128::from(local) {
             low = middle + 1;
         } else {
@@ -127,19 +150,6 @@ fn starts_by(first: FixedOffset, rows: &[Row], local: i64) -> usize
         }
     }
     low
-}
-
-// A place from `low` to before `high`: the next one to a guess, or the middle.
-#[inline]
-fn place_between(low: usize, high: usize, guess: usize, near: u8) -> usize
-    requires { low < high }
-    ensures first { low ≤ result }
-    ensures last { result < high }
-{
-    if 0 < near {
-        return guess.max(low).min(high - 1);
-    }
-    low + (high - low) / 2
 }
 
 // The local second from which a row skips or repeats seconds.

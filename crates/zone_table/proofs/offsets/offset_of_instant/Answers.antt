@@ -1,15 +1,19 @@
-use Rattle.std.proofs.Common.{◌∙◌, sym, ap, length, w64, to_z, of_z}
+use Rattle.std.proofs.Common.{◌∙◌, ap, length, w64, to_z, of_z}
 use Rattle.std.proofs.lemmas.Int.{to_z-of_z}
-use Rattle.zone_table.specs.Table.{offset_after, row_second}
+use Rattle.zone_table.specs.Table.{offset_after, row_second, table_offset}
 use Rattle.zone_table.proofs.LocalTimes.{seconds_rise}
-use Rattle.zone_table.proofs.SequenceLemmas.{Come-at, Come-count}
+use Rattle.zone_table.proofs.SearchLemmas.{offset-last, offset-none}
 use Rattle.zone_table.proofs.offsets.offset_of_instant.Goals as goal
 
-pub rows_begun-requires : goal.rows_begun-requires
-rows_begun-requires c = seconds_rise (row_second c.args.rows.now) (offset_after c.args.first c.args.rows.now) (length c.args.rows.now) c.requires
+pub last_begun-requires : goal.last_begun-requires
+last_begun-requires c = seconds_rise (row_second c.args.rows.now) (offset_after c.args.first c.args.rows.now) (length c.args.rows.now) c.requires
 
-pub returns : goal.returns
-returns c =
-    let rows = c.args.rows.now in
-    let come = Come-at (row_second rows) (length rows) (to_z w64 (of_z w64 c.args.second)) c.args.second c.rows_begun.result (to_z-of_z w64 c.args.second c.ranges.second) c.rows_begun.ensures in
-    c.offset_of_count.ensures ∙ ap (offset_after c.args.first rows) (sym (Come-count (row_second rows) (length rows) c.args.second c.rows_begun.result come))
+pub returns-in-Some : goal.returns-in-Some
+returns-in-Some c =
+    c.table_offset.ensures ∙ offset-last c.args.first c.args.rows.now c.in-Some.from.now (to_z w64 (of_z w64 c.args.second)) c.in-Some.ensures.some
+    ∙ ap (table_offset c.args.first c.args.rows.now) (to_z-of_z w64 c.args.second c.ranges.second)
+
+pub returns-in-None : goal.returns-in-None
+returns-in-None c =
+    offset-none c.args.first c.args.rows.now (to_z w64 (of_z w64 c.args.second)) c.in-None.ensures.none
+    ∙ ap (table_offset c.args.first c.args.rows.now) (to_z-of_z w64 c.args.second c.ranges.second)

@@ -4,15 +4,12 @@ use Rattle.chrono_zoned.specs.declared.mapped_local_time.MappedLocalTime.TheVari
 use Rattle.chrono_zoned.specs.Zones.{IsMapped}
 use Rattle.zone_table.specs.Sequence.{Come, local_start}
 use Rattle.zone_table.specs.Table.{offset_after, table_offset, row_second}
-use Rattle.zone_table.proofs.LocalTimes.{mapped_after, mapped_both, mapped_first, mapped_none, seconds_rise, starts_rise}
+use Rattle.zone_table.proofs.LocalTimes.{mapped_after, mapped_both, mapped_first, mapped_none, starts_rise}
 use Rattle.zone_table.proofs.SequenceLemmas.{Come-at}
-use Rattle.zone_table.proofs.offsets.offsets_of_local.Goals as goal
+use Rattle.zone_table.proofs.offsets.offsets_near_change.Goals as goal
 
-pub starts_by-count-requires-clause-starts : goal.starts_by-count-requires-clause-starts
-starts_by-count-requires-clause-starts c = starts_rise (row_second c.args.rows.now) (offset_after c.args.first c.args.rows.now) (length c.args.rows.now) c.requires
-
-pub starts_by-count-requires-clause-seconds : goal.starts_by-count-requires-clause-seconds
-starts_by-count-requires-clause-seconds c = seconds_rise (row_second c.args.rows.now) (offset_after c.args.first c.args.rows.now) (length c.args.rows.now) c.requires
+pub starts_by-count-requires : goal.starts_by-count-requires
+starts_by-count-requires c = starts_rise (row_second c.args.rows.now) (offset_after c.args.first c.args.rows.now) (length c.args.rows.now) c.requires
 
 pub returns-then-count-eq0 : goal.returns-then-count-eq0
 returns-then-count-eq0 c =
