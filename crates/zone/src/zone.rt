@@ -121,7 +121,7 @@ impl<'a> Zone<'a> {
     {
         if let Some(rule) = &self.rule {
             if is_local_behind(self.first, self.rows, rule, local) {
-                return rule.offsets_of_local(local);
+                return offsets_by_rule(rule, local);
             }
         }
         zone_table::offsets_of_local(self.first, self.rows, local)
@@ -148,6 +148,14 @@ fn is_joined(rows: &[Row], rule: &Option<ZoneRule>) -> bool
         (Some(rule), Some(row)) => goes_on(row, rule),
         _ => true,
     }
+}
+
+// The offsets of a local second by a rule. It stands alone, so that those by the rows need not save what it works on.
+#[inline(never)]
+fn offsets_by_rule(rule: &ZoneRule, local: i64) -> MappedLocalTime<FixedOffset>
+    ensures { IsMapped (rule_offset rule.now) local result }
+{
+    rule.offsets_of_local(local)
 }
 
 // Whether the rule goes on from a row.

@@ -1,13 +1,12 @@
--- The names of time zones, as the file `theory.html` of the Time Zone Database says: "Use only valid POSIX file name components (i.e., the
--- parts of names other than "/"). Do not use the file name components "." and "..". Within a file name component, use only ASCII letters,
--- ".", "-" and "_"."
+-- The names of time zones that this library reads files of. The rule is its own. Each name in Debian's tzdata meets it, and none
+-- that does leads out of the folder.
 use Rattle.std.specs.Prelude.{◌≡◌, ◌==◌, ℕ, nat_lt, nat_le, Bool, true, false, ◌&&◌, ◌||◌, List, [], ◌∷◌, length, replicate, codes, refl}
 use Rattle.std.specs.Char.{is_ascii_alphanumeric}
 use Rattle.std.specs.List.{list_all}
 use Rattle.std.specs.Str.{byte}
 use Rattle.chrono_text.specs.Lists.{pieces}
 
--- a byte of a name. Digits and the plus-sign stand in older names, such as Etc/GMT+5. No name has a dot: `zone.tab` names no zone
+-- a byte of a name: a letter, a digit, "-", "+" or "_" of ASCII, as in Etc/GMT+5. No name has a dot: `zone.tab` names no zone
 abbrev pub is_of_zone_name : ℕ → Bool
 is_of_zone_name c = is_ascii_alphanumeric c || ((c == byte "-") || ((c == byte "+") || (c == byte "_")))
 

@@ -24,7 +24,7 @@ const SECS_PER_DAY: i64 = 86_400;
 /// offset_of_instant(zero, &rows, 999) // +00:00
 /// offset_of_instant(zero, &rows, 1_000) // +01:00
 /// ```
-// In a loop around it the search would have a branch for each step.
+// Within a caller's loop the search would have a branch for each step.
 #[inline(never)]
 pub fn offset_of_instant(first: FixedOffset, rows: &[Row], second: i64) -> FixedOffset
     requires { IsTable first rows.now }
@@ -54,6 +54,7 @@ pub fn offset_of_instant(first: FixedOffset, rows: &[Row], second: i64) -> Fixed
 /// offsets_of_local(hour, &back, 1_000) // Ambiguous(+01:00, +00:00)
 /// offsets_of_local(hour, &back, 4_600) // Single(+00:00)
 /// ```
+#[inline(never)]
 pub fn offsets_of_local(
     first: FixedOffset,
     rows: &[Row],
@@ -69,7 +70,7 @@ pub fn offsets_of_local(
 }
 
 // The offset of the local second, if no row begins within a day of it.
-#[inline(never)]
+#[inline(always)]
 fn settled_offset(first: FixedOffset, rows: &[Row], local: i64) -> Option<FixedOffset>
     requires { IsTable first rows.now }
     ensures { IfSome result (λ only. IsMapped (table_offset first rows.now) local (Single only)) }
@@ -101,6 +102,7 @@ fn touch_offsets(first: FixedOffset, rows: &[Row], count: usize)
 }
 
 // The offsets of any local second.
+#[inline(never)]
 fn offsets_near_change(first: FixedOffset, rows: &[Row], local: i64) -> MappedLocalTime<FixedOffset>
     requires { IsTable first rows.now }
     ensures { IsMapped (table_offset first rows.now) local result }
