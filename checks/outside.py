@@ -64,14 +64,14 @@ def copy_crates(room, names):
                 shutil.copytree(f"{TOP}/crates/{name}/{part}", f"{room}/crates/{name}/{part}")
 
 
-def put_program(room, name, uses, source):
-    """Puts a program and all libraries below it into a repository; the program's folder."""
+def put_program(room, name, uses, source, kit=()):
+    """Puts a program and all libraries below it into a repository; the program's folder. It may use crates of the kit too."""
     crates = listed_crates()
     used = all_below(uses, crates)
     copy_crates(room, used)
     with open(f"{room}/crates.txt", "w", encoding="utf-8") as it:
         it.writelines(f"{library}: {' '.join(crates[library])}\n" for library in used)
-        it.write(f"{name}: {' '.join(uses)}\n")
+        it.write(f"{name}: {' '.join([*uses, *kit])}\n")
     folder = f"{room}/crates/{name}"
     os.makedirs(f"{folder}/src")
     with open(f"{folder}/src/main.rt", "w", encoding="utf-8") as it:
