@@ -227,7 +227,7 @@ def main():
             lines.append(f"byte {place} {change}")
     with tempfile.TemporaryDirectory(prefix="zone-readers-") as room:
         folder = put_program(room, "zone_readers", ["zone_table", "zone_rule", "zone_text", "zone_file", "zone"], PROGRAM, ("jiff_core", "jiff_tz"))
-        said = subprocess.run(["rt", "try"], cwd=folder, input="".join(f"{it}\n" for it in lines), stdout=subprocess.PIPE, stderr=subprocess.STDOUT, text=True, errors="replace").stdout
+        said = subprocess.run(["rt", "try", "--seconds", "300"], cwd=folder, input="".join(f"{it}\n" for it in lines), stdout=subprocess.PIPE, stderr=subprocess.STDOUT, text=True, errors="replace").stdout
     answers = [it[2:].split() for it in said.splitlines() if it.startswith("= ")]
     if len(answers) != len(lines):
         sys.exit(f"{len(answers)} answers for {len(lines)} lines:\n{said[-3000:]}")

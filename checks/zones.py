@@ -15,6 +15,7 @@ it makes of one an instant has to be among those of its own local time.
 """
 import argparse
 import datetime
+import functools
 import itertools
 import os
 import random
@@ -34,6 +35,8 @@ DAY = 86_400
 FIRST, LAST = -62_135_596_800 + 2 * DAY, 253_402_300_799 - 2 * DAY
 # Zones whose files are changed: with rules north and south of the equator, and with one offset.
 MUTATED = ("America/New_York", "Europe/Dublin", "Asia/Jerusalem", "Australia/Lord_Howe", "Asia/Tehran")
+# About so many questions are asked in one run.
+MOST_OF_PART = 10_000
 PROGRAM = r'''//! Answers questions on zones, a line each.
 #![tactic(auto)]
 
@@ -174,6 +177,13 @@ def year_of(second):
     return (datetime.date(2000, 1, 1) + datetime.timedelta(days=rest)).year + 400 * cycles
 
 
+@functools.cache
+def days_of_month(year, month):
+    """The days of the month, counted from 1 January as 0."""
+    first = datetime.date(year, 1, 1)
+    return [it for it in range(366) if (first + datetime.timedelta(days=it)).timetuple()[:2] == (year, month)]
+
+
 class Rule:
     """A rule: two names, an offset, and an offset of daylight time with two changes, each a day as three numbers and a second."""
 
@@ -261,9 +271,7 @@ class Rule:
         if month:
             first = year_day(year)
             # The year 2000 + y % 400 has the same days.
-            like = 2000 + year % 400
-            days = [it for it in range(366) if (datetime.date(like, 1, 1) + datetime.timedelta(days=it)).timetuple()[:2] == (like, month)]
-            fitting = [first + it for it in days if (first + it + 4) % 7 == day]
+            fitting = [first + it for it in days_of_month(2000 + year % 400, month) if (first + it + 4) % 7 == day]
             return fitting[min(week // 10, len(fitting)) - 1] * DAY + second
         leap = year_day(year + 1) - year_day(year) == 366
         return (year_day(year) + (day - 1 + (leap and day >= 60) if week else day)) * DAY + second
@@ -495,12 +503,22 @@ def zones():
                 break
 
 
-def answers_of(room, questions):
-    """What the program answers."""
+def answers_of(room, groups):
+    """What the program answers. It is built once, and runs for each part: some groups of questions, since one sets what the next asks.
+
+    `rt try` hands on no more than a mebibyte of one run.
+    """
     folder = put_program(room, "zones", ["chrono_datetime", "zone_table", "zone_rule", "zone_text", "zone_file", "zone"], PROGRAM)
-    said = subprocess.run(["rt", "try"], cwd=folder, input="".join(f"{it}\n" for it in questions), stdout=subprocess.PIPE, stderr=subprocess.STDOUT, text=True, errors="replace").stdout
-    if not re.search(r"^run=ended status=0 ", said, re.M):
-        sys.exit(f"the program fails:\n{said[-3000:]}")
+    parts = [[]]
+    for group in groups:
+        if sum(map(len, parts[-1])) > MOST_OF_PART:
+            parts.append([])
+        parts[-1].append(group)
+    os.mkdir(f"{room}/parts")
+    for at, part in enumerate(parts):
+        with open(f"{room}/parts/{at:06}", "w", encoding="utf-8") as it:
+            it.writelines(f"{question}\n" for group in part for question, _ in group)
+    said = subprocess.run(["rt", "try", "--seconds", "300", "--cases", f"{room}/parts"], cwd=folder, stdout=subprocess.PIPE, stderr=subprocess.STDOUT, text=True, errors="replace").stdout
     return [line[2:] for line in said.splitlines() if line.startswith("= ")]
 
 
@@ -537,18 +555,17 @@ def main():
     if not known:
         print("not run: checks/zones.py, which needs a database of time zones")
         return
-    rows = []
     each = max(1, options.lines // (3 * len(known)))
-    for zone in known:
-        rows += of_zone(draw, zone, each)
-    rows += faults()
-    while len(rows) < options.lines:
+    groups = [list(of_zone(draw, zone, each)) for zone in known] + [list(faults())]
+    lines = sum(map(len, groups))
+    while lines < options.lines:
         rule = made_rule(draw)
-        rows += of_rule(draw, rule, 20)
-        rows += [changed_text(draw, rule.text()) for _ in range(10)]
+        groups.append([*of_rule(draw, rule, 20), *(changed_text(draw, rule.text()) for _ in range(10))])
+        lines += len(groups[-1])
+    rows = [it for group in groups for it in group]
     questions, wanted = [it for it, _ in rows], [it for _, it in rows]
     with tempfile.TemporaryDirectory(prefix="zones-") as room:
-        answers = answers_of(room, questions)
+        answers = answers_of(room, groups)
         read, refused = mutated(room, known, options.seed, options.mutated)
     if len(answers) != len(wanted):
         sys.exit(f"{len(answers)} answers for {len(wanted)} lines")

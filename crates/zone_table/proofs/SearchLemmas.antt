@@ -4,11 +4,19 @@ use Rattle.std.proofs.lemmas.Int.{by_lt_z, ints}
 use Rattle.std.proofs.lemmas.List.{drop-drop, get_or-drop, length-drop}
 use Rattle.chrono_zoned.proofs.TimeLemmas.{int_le-above, int_le-below}
 use Rattle.zone_table.specs.declared.row.Row.{Row}
-use Rattle.zone_table.specs.Search.{FromLast, Within}
+use Rattle.zone_table.specs.Search.{FromLast}
 use Rattle.zone_table.specs.Sequence.{Come, IsRising}
 use Rattle.zone_table.specs.Table.{no_row, offset_after, row_at, row_second, table_offset}
 use Rattle.zone_table.proofs.SequenceLemmas.{Come-count, IsRising-le}
 use Rattle.zone_table.proofs.TableLemmas.{offset_after-none, offset_after-some}
+
+-- `from` are the last of the rows, the first of them has begun by the second u, and those from the place `width` on have not
+pub record Within (rows from : List Row) (u : ℤ) (width : ℕ) : Type 0 where
+  pub part : from ≡ drop (length rows - length from) rows
+  pub some : 0 < width
+  pub bound : width ≤ length from
+  pub begun : row_second from 0 ≤ℤ u
+  pub later : (i : ℕ) → width ≤ i → i < length from → u <ℤ row_second from i
 
 -- the row i behind k others
 row_behind : (rows : List Row) (k i : ℕ) → row_second (drop k rows) i ≡ row_second rows (k + i)

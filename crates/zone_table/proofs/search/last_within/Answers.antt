@@ -1,8 +1,7 @@
 use Rattle.std.proofs.Common.{ℤ, ◌≤ℤ◌, subst, sym, w64, to_z, of_z}
 use Rattle.std.proofs.lemmas.Int.{to_z-of_z}
-use Rattle.zone_table.specs.Search.{Within}
 use Rattle.zone_table.specs.Table.{row_second}
-use Rattle.zone_table.proofs.SearchLemmas.{FromLast-one, Within-half, Within-windows}
+use Rattle.zone_table.proofs.SearchLemmas.{FromLast-one, Within, Within-half, Within-windows}
 use Rattle.zone_table.proofs.search.last_within.Goals as goal
 
 pub loop-width-init : goal.loop-width-init

@@ -1,4 +1,4 @@
-use Rattle.zone_table.specs.Search.{Within}
+use Rattle.zone_table.proofs.SearchLemmas.{Within}
 use Rattle.zone_table.proofs.search.last_within.Given as goal
 
 abbrev pub decreases-loop-width : goal.decreases-loop-width
