@@ -145,6 +145,10 @@ class Parts:
         self.text = self.tail[1:].partition(b"\n")[0]
         self.rule = Rule.read(self.text.decode("latin-1")) if self.text else None
 
+    def goes_on(self):
+        """Whether bytes follow the one block of version 1, or the second newline of a later version."""
+        return len(self.tail) > (len(self.text) + 2 if self.version else 0)
+
     def name(self, kind):
         """The name of a kind, or None where it does not end."""
         name, end, _ = self.names[kind[2] :].partition(b"\0")
@@ -172,7 +176,7 @@ class Parts:
         come = [it for near in (year - 1, year, year + 1) for it in self.rule.changes(near) if it[0] <= self.times[-1]]
         is_dst = max(come)[1] if come else 0
         kind = self.last_kind()
-        return is_dst != bool(kind[1]) or self.rule.names[is_dst].encode() != self.name(kind)
+        return is_dst != (kind[1] == 1) or self.rule.names[is_dst].encode() != self.name(kind)
 
     def indicators_fit(self):
         """Whether each indicator is 0 or 1, and a kind in UT is one of standard time too, as RFC 9636 has it."""
@@ -184,8 +188,8 @@ class Parts:
 REASONS = (
     ("file", "zone", "jiff_tz takes each version that is not 0 as a later one", lambda it: it.version not in b"\x00234"),
     ("file", "zone", "jiff_tz steps over leap seconds", lambda it: it.counts[2] > 0),
-    ("file", "zone", "jiff_tz lets bytes follow the second newline", lambda it: it.version and it.tail[1:].find(b"\n") < len(it.tail) - 2),
-    ("kind", "zone", "jiff_tz takes each byte that is not 0 as daylight time", lambda it: it.kinds[0][1] > 1),
+    ("file", "zone", "jiff_tz lets bytes follow what it reads", lambda it: it.goes_on()),
+    ("kind", "zone", "jiff_tz takes each byte but 1 as standard time", lambda it: it.kinds[0][1] > 1),
     ("kind", "zone", "jiff_tz takes offsets of a day and more", lambda it: abs(it.kinds[0][0]) >= DAY),
     ("rows", "zone", "jiff_tz takes offsets of a day and more", lambda it: any(abs(at) >= DAY for at, _, _ in it.kinds)),
     ("unordered", "zone", "jiff_tz takes two rows at one second", lambda it: any(a == b for a, b in itertools.pairwise(it.times))),
