@@ -1,0 +1,237 @@
+-- Which instants a planned local time takes.
+use Rattle.std.proofs.Common.{true, is_some, ◌≡◌, ◌↔◌, ◌⊎◌, ⊎_elim, inl, inr, ℤ, pos, ◌+ℤ◌, ◌-ℤ◌, ◌≤ℤ◌, ◌<ℤ◌, Option, Some, None, arith, refl, subst, sym, ◌∙◌}
+use Rattle.std.proofs.lemmas.Int.{by_lt_z, ints}
+use Rattle.chrono_instant.specs.Instants.{IsEpochSecond}
+use Rattle.chrono_instant.specs.Offsets.{IsOffset}
+use Rattle.chrono_zoned.specs.declared.mapped_local_time.MappedLocalTime.{MappedLocalTime}
+use Rattle.chrono_zoned.specs.declared.mapped_local_time.MappedLocalTime.TheVariants.{None as NoInstant, Single, Ambiguous}
+use Rattle.chrono_zoned.specs.Zones.{AreAll, IsAmong, IsMapped, IsOnly, Shows, earliest_of}
+use Rattle.zoned_cron.specs.declared.policy.Fold.{Fold}
+use Rattle.zoned_cron.specs.declared.policy.Fold.TheVariants.{Both, Earlier, Later}
+use Rattle.zoned_cron.specs.declared.policy.Gap.{Gap}
+use Rattle.zoned_cron.specs.declared.policy.Gap.TheVariants.{FirstAfter, Skip}
+use Rattle.zoned_cron.specs.declared.policy.Policy.{Policy}
+use Rattle.zoned_cron.specs.Fires.{IsBehindGap, IsFirst, IsGap, IsLast, Takes, TakesShown, TakesSkipped}
+use Rattle.zoned_cron.specs.Private.{EndsGap, IsDated, IsFirstIn, IsLastIn, TakesDated}
+
+-- the values that stand for P's seconds stand for Q's, where the two have the same
+same_all : (P Q : ℤ → Type 0) (found : MappedLocalTime ℤ) → ((u : ℤ) → P u ↔ Q u) → AreAll P (λ u. u) found → AreAll Q (λ u. u) found
+same_all P Q NoInstant same h = λ u q. h u ((same u).1 q)
+same_all P Q (Single x) same h = λ u. (λ q. (h u).0 ((same u).1 q), λ e. (same u).0 ((h u).1 e))
+same_all P Q (Ambiguous x y) same h = (h.0, λ u. (λ q. (h.1 u).0 ((same u).1 q), λ e. (same u).0 ((h.1 u).1 e)))
+
+-- and an instant is among them exactly if P holds of it
+pub among : (P : ℤ → Type 0) (found : MappedLocalTime ℤ) (u : ℤ) → AreAll P (λ u. u) found → IsAmong u found ↔ P u
+among P NoInstant u h = (λ e. absurd e, λ p. h u p)
+among P (Single x) u h = (λ e. (h u).1 e, λ p. (h u).0 p)
+among P (Ambiguous x y) u h = (λ e. (h.1 u).1 e, λ p. (h.1 u).0 p)
+
+-- ---- a policy at a local time that is shown, and at one that is not
+
+pub shown : (fold : Fold) (ahead : ℤ → ℤ) (l u : ℤ) → TakesShown fold ahead l u → Shows ahead l u
+shown Earlier ahead l u h = h.0
+shown Later ahead l u h = h.0
+shown Both ahead l u h = h
+
+pub behind : (gap : Gap) (ahead : ℤ → ℤ) (l u : ℤ) → TakesSkipped gap ahead l u → IsBehindGap ahead l u
+behind Skip ahead l u h = absurd h
+behind FirstAfter ahead l u h = h
+
+pub in_gap : (ahead : ℤ → ℤ) (l u : ℤ) → IsBehindGap ahead l u → IsGap ahead l
+in_gap ahead l u h = h.skipped l (omega (arith, ints)) h.later
+
+if_shown : (p : Policy) (ahead : ℤ → ℤ) (l u v : ℤ) → Shows ahead l v → Takes p ahead l u → TakesShown p.fold ahead l u
+if_shown p ahead l u v there (inl h) = h
+if_shown p ahead l u v there (inr h) = absurd (in_gap ahead l u (behind p.gap ahead l u h) v there)
+
+if_gap : (p : Policy) (ahead : ℤ → ℤ) (l u : ℤ) → IsGap ahead l → Takes p ahead l u → TakesSkipped p.gap ahead l u
+if_gap p ahead l u gap (inl h) = absurd (gap u (shown p.fold ahead l u h))
+if_gap p ahead l u gap (inr h) = h
+
+-- the only instant is taken whatever the policy
+pub only_taken : (fold : Fold) (ahead : ℤ → ℤ) (l u : ℤ) → IsOnly (Shows ahead l) u → TakesShown fold ahead l u
+only_taken Earlier ahead l u only = ((only u).1 refl, λ v shows. omega (arith, ints, (only v).0 shows))
+only_taken Later ahead l u only = ((only u).1 refl, λ v shows. omega (arith, ints, (only v).0 shows))
+only_taken Both ahead l u only = (only u).1 refl
+
+-- where the clock shows a second of dates, and is ahead by an offset, it is so by that offset
+dated : (ahead : ℤ → ℤ) (l o u : ℤ) → IsEpochSecond l → IsOffset o → Shows ahead l u → u ≡ (l -ℤ o) → IsDated ahead u
+dated ahead l o u date near shows e =
+    let same : o ≡ ahead u = omega (arith, ints, shows, e) in
+    (subst (λ (s : ℤ). IsEpochSecond s) (sym shows) date, subst (λ (x : ℤ). IsOffset x) same near)
+
+pub taken_single : (p : Policy) (ahead : ℤ → ℤ) (l o u : ℤ) → IsEpochSecond l → IsOffset o → IsMapped ahead l (Single o) → u ≡ (l -ℤ o) → IsOnly (TakesDated p ahead l) u
+taken_single p ahead l o u date near mapped e =
+    let only : IsOnly (Shows ahead l) u = subst (λ (s : ℤ). IsOnly (Shows ahead l) s) (sym e) mapped in
+    λ v. (
+      λ h. (only v).0 (shown p.fold ahead l v (if_shown p ahead l v u ((only u).1 refl) h.1)),
+      λ same.
+          let here : IsOnly (Shows ahead l) v = subst (λ (s : ℤ). IsOnly (Shows ahead l) s) (sym same) only in
+          (dated ahead l o v date near ((here v).1 refl) (same ∙ e), inl (only_taken p.fold ahead l v here)),
+    )
+
+-- two instants, the earlier first
+pub record AreTwo (ahead : ℤ → ℤ) (l x y : ℤ) : Type 0 where
+  pub order : x <ℤ y
+  pub both : (u : ℤ) → Shows ahead l u ↔ ((u ≡ x) ⊎ (u ≡ y))
+
+-- each instant at which the clock shows l is one of dates
+abbrev pub AllDated : (ℤ → ℤ) → ℤ → Type 0
+AllDated ahead l = (u : ℤ) → Shows ahead l u → IsDated ahead u
+
+pub AreTwo-mapped : (ahead : ℤ → ℤ) (l a b x y : ℤ) → IsMapped ahead l (Ambiguous a b) → x ≡ (l -ℤ a) → y ≡ (l -ℤ b) → AreTwo ahead l x y
+AreTwo-mapped ahead l a b x y mapped is_x is_y = record {
+  order = omega (arith, ints, mapped.0, is_x, is_y);
+  both = λ u. (
+    λ shows. ⊎_elim (λ e. inl (e ∙ sym is_x)) (λ e. inr (e ∙ sym is_y)) ((mapped.1 u).0 shows),
+    λ is. (mapped.1 u).1 (⊎_elim (λ e. inl (e ∙ is_x)) (λ e. inr (e ∙ is_y)) is),
+  );
+}
+
+pub AllDated-mapped : (ahead : ℤ → ℤ) (l a b : ℤ) → IsEpochSecond l → IsOffset a → IsOffset b → IsMapped ahead l (Ambiguous a b) → AllDated ahead l
+AllDated-mapped ahead l a b date near_a near_b mapped = λ u shows.
+    ⊎_elim (λ e. dated ahead l a u date near_a shows e) (λ e. dated ahead l b u date near_b shows e) ((mapped.1 u).0 shows)
+
+pub first_of_two : (ahead : ℤ → ℤ) (l x y u : ℤ) → AreTwo ahead l x y → IsFirst ahead l u ↔ (u ≡ x)
+first_of_two ahead l x y u two = (
+  λ h. ⊎_elim (λ e. e) (λ e. absurd (omega (arith, ints, e, two.order, h.1 x ((two.both x).1 (inl refl))))) ((two.both u).0 h.0),
+  λ e. (
+    (two.both u).1 (inl e),
+    λ v shows. ⊎_elim (λ is. omega (arith, ints, e, is)) (λ is. omega (arith, ints, e, is, two.order)) ((two.both v).0 shows),
+  ),
+)
+
+pub last_of_two : (ahead : ℤ → ℤ) (l x y u : ℤ) → AreTwo ahead l x y → IsLast ahead l u ↔ (u ≡ y)
+last_of_two ahead l x y u two = (
+  λ h. ⊎_elim (λ e. absurd (omega (arith, ints, e, two.order, h.1 y ((two.both y).1 (inr refl))))) (λ e. e) ((two.both u).0 h.0),
+  λ e. (
+    (two.both u).1 (inr e),
+    λ v shows. ⊎_elim (λ is. omega (arith, ints, e, is, two.order)) (λ is. omega (arith, ints, e, is)) ((two.both v).0 shows),
+  ),
+)
+
+-- what a policy takes of a local time that is shown, as the policy of folds has it
+by_fold : (p : Policy) (ahead : ℤ → ℤ) (l v u : ℤ) → AllDated ahead l → Shows ahead l v → TakesShown p.fold ahead l u ↔ TakesDated p ahead l u
+by_fold p ahead l v u dates there = (
+  λ h. (dates u (shown p.fold ahead l u h), inl h),
+  λ h. if_shown p ahead l u v there h.1,
+)
+
+pub taken_earlier : (p : Policy) (ahead : ℤ → ℤ) (l x y : ℤ) → AllDated ahead l → AreTwo ahead l x y → p.fold ≡ Earlier → IsOnly (TakesDated p ahead l) x
+taken_earlier p ahead l x y dates two fold = λ u.
+    let by : TakesShown p.fold ahead l u ↔ TakesDated p ahead l u = by_fold p ahead l x u dates ((two.both x).1 (inl refl)) in
+    let first : IsFirst ahead l u ↔ TakesDated p ahead l u = subst (λ (f : Fold). TakesShown f ahead l u ↔ TakesDated p ahead l u) fold by in
+    (λ h. (first_of_two ahead l x y u two).0 (first.1 h), λ e. first.0 ((first_of_two ahead l x y u two).1 e))
+
+pub taken_later : (p : Policy) (ahead : ℤ → ℤ) (l x y : ℤ) → AllDated ahead l → AreTwo ahead l x y → p.fold ≡ Later → IsOnly (TakesDated p ahead l) y
+taken_later p ahead l x y dates two fold = λ u.
+    let by : TakesShown p.fold ahead l u ↔ TakesDated p ahead l u = by_fold p ahead l x u dates ((two.both x).1 (inl refl)) in
+    let last : IsLast ahead l u ↔ TakesDated p ahead l u = subst (λ (f : Fold). TakesShown f ahead l u ↔ TakesDated p ahead l u) fold by in
+    (λ h. (last_of_two ahead l x y u two).0 (last.1 h), λ e. last.0 ((last_of_two ahead l x y u two).1 e))
+
+pub taken_both : (p : Policy) (ahead : ℤ → ℤ) (l x y : ℤ) → AllDated ahead l → AreTwo ahead l x y → p.fold ≡ Both → AreAll (TakesDated p ahead l) (λ u. u) (Ambiguous x y)
+taken_both p ahead l x y dates two fold = (
+  two.order,
+  λ u.
+      let by : TakesShown p.fold ahead l u ↔ TakesDated p ahead l u = by_fold p ahead l x u dates ((two.both x).1 (inl refl)) in
+      let each : Shows ahead l u ↔ TakesDated p ahead l u = subst (λ (f : Fold). TakesShown f ahead l u ↔ TakesDated p ahead l u) fold by in
+      (λ h. (two.both u).0 (each.1 h), λ e. each.0 ((two.both u).1 e)),
+)
+
+pub taken_skipped : (p : Policy) (ahead : ℤ → ℤ) (l : ℤ) → IsGap ahead l → p.gap ≡ Skip → AreAll (TakesDated p ahead l) (λ u. u) NoInstant
+taken_skipped p ahead l gap skip u h = subst (λ (g : Gap). TakesSkipped g ahead l u) skip (if_gap p ahead l u gap h.1)
+
+pub taken_behind : (p : Policy) (ahead : ℤ → ℤ) {k : ℤ} (l : ℤ) (found : MappedLocalTime ℤ) → AreAll (EndsGap ahead k) (λ u. u) found → k ≡ l → IsGap ahead l → p.gap ≡ FirstAfter → AreAll (TakesDated p ahead l) (λ u. u) found
+taken_behind p ahead {k} l found ends is gap after =
+    let here : AreAll (EndsGap ahead l) (λ u. u) found = subst (λ (s : ℤ). AreAll (EndsGap ahead s) (λ u. u) found) is ends in
+    same_all (EndsGap ahead l) (TakesDated p ahead l) found (λ u. (
+      λ h. (h.0, inr (subst (λ (g : Gap). TakesSkipped g ahead l u) (sym after) h.1)),
+      λ h. (h.0, subst (λ (g : Gap). TakesSkipped g ahead l u) after (if_gap p ahead l u gap h.1)),
+    )) here
+
+-- ---- the end of a gap
+
+-- the clock skips the local seconds from one up to before another
+abbrev pub AreGaps : (ℤ → ℤ) → ℤ → ℤ → Type 0
+AreGaps ahead from end = (j : ℤ) → from ≤ℤ j → j <ℤ end → IsGap ahead j
+
+pub more_gaps : (ahead : ℤ → ℤ) (from end : ℤ) → AreGaps ahead from end → IsGap ahead end → AreGaps ahead from (end +ℤ pos 1)
+more_gaps ahead from end gaps gap = λ j low high.
+    by_lt_z j end (λ lt. gaps j low lt) (λ ge. subst (λ (s : ℤ). IsGap ahead s) (omega (arith, ints, ge, high)) gap)
+
+pub gap_if_none : (ahead : ℤ → ℤ) (l : ℤ) (found : MappedLocalTime ℤ) → IsMapped ahead l found → earliest_of found ≡ None → IsGap ahead l
+gap_if_none ahead l NoInstant h none = h
+gap_if_none ahead l (Single x) h none = absurd cc
+gap_if_none ahead l (Ambiguous x y) h none = absurd cc
+
+pub no_gap : (ahead : ℤ → ℤ) (l : ℤ) (found : MappedLocalTime ℤ) → IsMapped ahead l found → is_some (earliest_of found) ≡ true → IsGap ahead l → ⊥
+no_gap ahead l NoInstant h some gap = absurd cc
+no_gap ahead l (Single x) h some gap = gap (l -ℤ x) ((h (l -ℤ x)).1 refl)
+no_gap ahead l (Ambiguous x y) h some gap = gap (l -ℤ x) ((h.1 (l -ℤ x)).1 (inl refl))
+
+some_offset : (x o : ℤ) → Some x ≡ Some o → x ≡ o
+some_offset x o e = cc
+
+pub first_if_some : (ahead : ℤ → ℤ) (l o u : ℤ) (found : MappedLocalTime ℤ) → IsMapped ahead l found → earliest_of found ≡ Some o → u ≡ (l -ℤ o) → IsFirst ahead l u
+first_if_some ahead l o u NoInstant h some e = absurd cc
+first_if_some ahead l o u (Single x) h some e =
+    let is : u ≡ (l -ℤ x) = omega (arith, ints, e, some_offset x o some) in
+    ((h u).1 is, λ v shows. omega (arith, ints, is, (h v).0 shows))
+first_if_some ahead l o u (Ambiguous x y) h some e =
+    let is : u ≡ (l -ℤ x) = omega (arith, ints, e, some_offset x o some) in
+    (first_of_two ahead l u (l -ℤ y) u (AreTwo-mapped ahead l x y u (l -ℤ y) h is refl)).1 refl
+
+-- the first local second that is shown ends the gap
+pub gap_ends : (ahead : ℤ → ℤ) (gap k o u : ℤ) → IsEpochSecond k → IsOffset o → u ≡ (k -ℤ o) → gap <ℤ k → AreGaps ahead gap k → IsFirst ahead k u → IsOnly (EndsGap ahead gap) u
+gap_ends ahead gap k o u date near at later gaps first = λ v. (
+  λ h.
+      let low : k ≤ℤ (v +ℤ ahead v) = by_lt_z (v +ℤ ahead v) k (λ lt. absurd (gaps (v +ℤ ahead v) (omega (arith, ints, h.1.later)) lt v refl)) (λ ge. ge) in
+      let high : (v +ℤ ahead v) ≤ℤ k = by_lt_z k (v +ℤ ahead v) (λ lt. absurd (h.1.skipped k (omega (arith, ints, later)) lt u first.0)) (λ ge. ge) in
+      let same : (v +ℤ ahead v) ≡ k = omega (arith, ints, low, high) in
+      let there : IsFirst ahead k v = subst (λ (s : ℤ). IsFirst ahead s v) same h.1.first in
+      omega (arith, ints, there.1 u first.0, first.1 v there.0),
+  λ e.
+      let there : IsFirst ahead k v = subst (λ (s : ℤ). IsFirst ahead k s) (sym e) first in
+      let is : k ≡ (v +ℤ ahead v) = sym there.0 in (
+        dated ahead k o v date near there.0 (e ∙ at),
+        record {
+          later = subst (λ (s : ℤ). gap <ℤ s) is later;
+          skipped = subst (λ (s : ℤ). AreGaps ahead gap s) is gaps;
+          first = subst (λ (s : ℤ). IsFirst ahead s v) is there;
+        },
+      ),
+)
+
+-- and where none is up to the end of dates, none does
+pub gap_never_ends : (ahead : ℤ → ℤ) (gap k : ℤ) → IsEpochSecond gap → (IsEpochSecond k → ⊥) → gap <ℤ k → AreGaps ahead gap k → (u : ℤ) → EndsGap ahead gap u → ⊥
+gap_never_ends ahead gap k date past later gaps u h =
+    by_lt_z (u +ℤ ahead u) k (λ lt. gaps (u +ℤ ahead u) (omega (arith, ints, h.1.later)) lt u refl)
+    (λ ge. past (omega (arith, ints, date.0, later), omega (arith, ints, ge, h.0.0.1)))
+
+-- ---- the first and the last of them in a range
+
+pub first_of_all : (P : ℤ → Type 0) (found : MappedLocalTime ℤ) (start : ℤ) (result : Option ℤ) → AreAll P (λ u. u) found → IsFirstIn (λ u. IsAmong u found) start result → IsFirstIn P start result
+first_of_all P found start None all h = λ u p. h u ((among P found u all).1 p)
+first_of_all P found start (Some x) all h = ((among P found x all).0 h.0, h.1, h.2, λ u p. h.3 u ((among P found u all).1 p))
+
+pub last_of_all : (P : ℤ → Type 0) (found : MappedLocalTime ℤ) (end : ℤ) (result : Option ℤ) → AreAll P (λ u. u) found → IsLastIn (λ u. IsAmong u found) end result → IsLastIn P end result
+last_of_all P found end None all h = λ u p. h u ((among P found u all).1 p)
+last_of_all P found end (Some x) all h = ((among P found x all).0 h.0, h.1, h.2, λ u p. h.3 u ((among P found u all).1 p))
+
+-- ---- as a search finds them
+
+-- the first local second that is shown ends the gap; K is its number as the search has it
+pub ends_here : (ahead : ℤ → ℤ) {G K : ℤ} → ((G <ℤ K) × AreGaps ahead G K) → (gap k o u : ℤ) → G ≡ gap → K ≡ k → IsEpochSecond k → IsOffset o → u ≡ (k -ℤ o) → IsFirst ahead k u → IsOnly (EndsGap ahead gap) u
+ends_here ahead {G} {K} h gap k o u is_gap is_k date near at first =
+    let gaps : AreGaps ahead gap k = λ j low high. h.1 j (omega (arith, ints, is_gap, low)) (omega (arith, ints, is_k, high)) in
+    gap_ends ahead gap k o u date near at (omega (arith, ints, is_gap, is_k, h.0)) gaps first
+
+pub goes_on : (ahead : ℤ → ℤ) {G K : ℤ} → ((G <ℤ K) × AreGaps ahead G K) → (k next : ℤ) → K ≡ k → next ≡ (k +ℤ pos 1) → IsGap ahead k → (G <ℤ next) × AreGaps ahead G next
+goes_on ahead {G} {K} h k next is_k is_next gap = (
+  omega (arith, ints, h.0, is_k, is_next),
+  λ j low high. more_gaps ahead G k (λ i from end. h.1 i from (omega (arith, ints, is_k, end))) gap j low (omega (arith, ints, is_next, high)),
+)
+
+pub never_ends : (ahead : ℤ → ℤ) {G K : ℤ} → ((G <ℤ K) × AreGaps ahead G K) → (gap : ℤ) → G ≡ gap → IsEpochSecond gap → (IsEpochSecond K → ⊥) → (u : ℤ) → EndsGap ahead gap u → ⊥
+never_ends ahead {G} {K} h gap is_gap date past =
+    gap_never_ends ahead gap K date past (omega (arith, ints, is_gap, h.0)) (λ j low high. h.1 j (omega (arith, ints, is_gap, low)) high)

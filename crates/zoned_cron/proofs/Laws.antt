@@ -1,0 +1,109 @@
+-- Laws of what fires.
+use Rattle.std.proofs.Common.{◌≡◌, ◌↔◌, ◌⊎◌, ⊎_elim, inl, inr, true, ℤ, pos, neg_ℤ, ◌+ℤ◌, ◌-ℤ◌, ◌≤ℤ◌, arith, refl, subst, sym}
+use Rattle.std.proofs.lemmas.Int.{by_lt_z, ints}
+use Rattle.chrono_datetime.specs.Moment.{IsMoment, Moment}
+use Rattle.chrono_instant.specs.Instants.{IsEpochSecond, epoch_second}
+use Rattle.chrono_instant.specs.Offsets.{moment_ahead}
+use Rattle.chrono_instant.proofs.InstantLemmas.{IsMoment-second, IsTime-ahead, epoch_second-ahead}
+use Rattle.chrono_zoned.specs.declared.mapped_local_time.MappedLocalTime.{MappedLocalTime}
+use Rattle.chrono_zoned.specs.declared.mapped_local_time.MappedLocalTime.TheVariants.{None as NoInstant, Single, Ambiguous}
+use Rattle.chrono_zoned.specs.KnownZones.{set_ahead, set_back}
+use Rattle.chrono_zoned.specs.Zones.{IsMapped, IsOnly, Shows}
+use Rattle.chrono_zoned.proofs.OneChangeLemmas.{ChangesOnce-set_ahead, ChangesOnce-set_back, never, once_late, twice}
+use Rattle.chrono_cron.specs.declared.field_sets.FieldSets.{FieldSets}
+use Rattle.chrono_cron.specs.Due.{is_due}
+use Rattle.zoned_cron.specs.declared.policy.Fold.{Fold}
+use Rattle.zoned_cron.specs.declared.policy.Fold.TheVariants.{Both, Earlier, Later}
+use Rattle.zoned_cron.specs.declared.policy.Policy.{Policy}
+use Rattle.zoned_cron.specs.Fires.{FiresAt, IsBehindGap, IsFirst, IsGap, IsInstant, Takes, TakesShown, as_shown, once_each}
+use Rattle.zoned_cron.proofs.Instants.{AreTwo-mapped, behind, first_of_two, in_gap, last_of_two, only_taken}
+use Rattle.zoned_cron.proofs.Windows.{planned_now}
+
+-- ---- a zone of one offset
+
+only_there : (x u : ℤ) → IsOnly (Shows (λ (_ : ℤ). x) (u +ℤ x)) u
+only_there x u = λ v. (λ e. omega (arith, ints, e), λ e. omega (arith, ints, e))
+
+pub one_offset : (s : FieldSets) (p : Policy) (x : ℤ) (m : Moment) → IsMoment m → m.time.fraction ≡ 0 → IsInstant (λ (_ : ℤ). x) (epoch_second m) → FiresAt s (λ (_ : ℤ). x) p m ↔ (is_due s (moment_ahead m x) ≡ true)
+one_offset s p x m i whole instant =
+    let u = epoch_second m in
+    let local = moment_ahead m x in
+    let shows : epoch_second local ≡ (u +ℤ x) = epoch_second-ahead m x in
+    let date : IsEpochSecond (epoch_second local) = subst (λ (l : ℤ). IsEpochSecond l) (sym shows) instant.local in
+    let exists : IsMoment local = IsMoment-second local (IsTime-ahead m x i.time) date in (
+      λ fires.
+          ⊎_elim (λ now. now.0)
+          (λ skipped. absurd (in_gap (λ (_ : ℤ). x) (epoch_second fires.1.planned) u (behind p.gap (λ (_ : ℤ). x) (epoch_second fires.1.planned) u skipped.0) (epoch_second fires.1.planned -ℤ x) (omega (arith, ints))))
+          (planned_now s (λ (_ : ℤ). x) p local u exists whole shows fires.1),
+      λ due. (
+        whole,
+        record {
+          instant = instant;
+          planned = local;
+          exists = exists;
+          due = due;
+          takes = inl (subst (λ (l : ℤ). TakesShown p.fold (λ (_ : ℤ). x) l u) (sym shows) (only_taken p.fold (λ (_ : ℤ). x) (u +ℤ x) u (only_there x u)));
+        },
+      ),
+    )
+
+-- ---- once each
+
+behind_once : (ahead : ℤ → ℤ) (l u v : ℤ) → IsBehindGap ahead l u → IsBehindGap ahead l v → (u +ℤ ahead u) ≡ (v +ℤ ahead v)
+behind_once ahead l u v h k =
+    let low : (u +ℤ ahead u) ≤ℤ (v +ℤ ahead v) = by_lt_z (v +ℤ ahead v) (u +ℤ ahead u) (λ lt. absurd (h.skipped (v +ℤ ahead v) (omega (arith, ints, k.later)) lt v refl)) (λ ge. ge) in
+    let high : (v +ℤ ahead v) ≤ℤ (u +ℤ ahead u) = by_lt_z (u +ℤ ahead u) (v +ℤ ahead v) (λ lt. absurd (k.skipped (u +ℤ ahead u) (omega (arith, ints, h.later)) lt u refl)) (λ ge. ge) in
+    omega (arith, ints, low, high)
+
+first_once : (ahead : ℤ → ℤ) (l u v : ℤ) → IsFirst ahead l u → IsFirst ahead l v → u ≡ v
+first_once ahead l u v h k = omega (arith, ints, h.1 v k.0, k.1 u h.0)
+
+pub fires_once : (ahead : ℤ → ℤ) (l u v : ℤ) → Takes once_each ahead l u → Takes once_each ahead l v → u ≡ v
+fires_once ahead l u v (inl h) (inl k) = first_once ahead l u v h k
+fires_once ahead l u v (inl h) (inr k) = absurd (in_gap ahead l v k u h.0)
+fires_once ahead l u v (inr h) (inl k) = absurd (in_gap ahead l u h v k.0)
+fires_once ahead l u v (inr h) (inr k) =
+    first_once ahead (v +ℤ ahead v) u v (subst (λ (s : ℤ). IsFirst ahead s u) (behind_once ahead l u v h k) h.first) k.first
+
+two_taken : (fold : Fold) (ahead : ℤ → ℤ) (l a b : ℤ) → IsMapped ahead l (Ambiguous a b) → (u : ℤ) × TakesShown fold ahead l u
+two_taken Earlier ahead l a b h = (l -ℤ a, (first_of_two ahead l (l -ℤ a) (l -ℤ b) (l -ℤ a) (AreTwo-mapped ahead l a b (l -ℤ a) (l -ℤ b) h refl refl)).1 refl)
+two_taken Later ahead l a b h = (l -ℤ b, (last_of_two ahead l (l -ℤ a) (l -ℤ b) (l -ℤ b) (AreTwo-mapped ahead l a b (l -ℤ a) (l -ℤ b) h refl refl)).1 refl)
+two_taken Both ahead l a b h = (l -ℤ a, (h.1 (l -ℤ a)).1 (inl refl))
+
+pub none_missed : (fold : Fold) (ahead : ℤ → ℤ) (l : ℤ) (found : MappedLocalTime ℤ) → IsMapped ahead l found → IsGap ahead l ⊎ ((u : ℤ) × TakesShown fold ahead l u)
+none_missed fold ahead l NoInstant h = inl h
+none_missed fold ahead l (Single a) h = inr (l -ℤ a, only_taken fold ahead l (l -ℤ a) h)
+none_missed fold ahead l (Ambiguous a b) h = inr (two_taken fold ahead l a b h)
+
+-- ---- known values
+
+pub gap_once : Takes once_each set_ahead (pos 2_000) (pos 1_000)
+gap_once =
+    let only = once_late set_ahead (pos 1_000) (pos 0) (pos 3_600) (pos 4_600) ChangesOnce-set_ahead (omega (arith, ints)) (omega (arith, ints)) in
+    inr (record {
+      later = omega (arith, ints);
+      skipped = λ j low high. never set_ahead (pos 1_000) (pos 0) (pos 3_600) j ChangesOnce-set_ahead (omega (arith, ints, low)) (omega (arith, ints, high));
+      first = ((only (pos 1_000)).1 refl, λ v shows. omega (arith, ints, (only v).0 shows));
+    })
+
+pub gap_never : (u : ℤ) → ¬ Takes as_shown set_ahead (pos 2_000) u
+gap_never u h =
+    ⊎_elim (λ shows. never set_ahead (pos 1_000) (pos 0) (pos 3_600) (pos 2_000) ChangesOnce-set_ahead (omega (arith, ints)) (omega (arith, ints)) u shows) (λ none. none) h
+
+folded : IsMapped set_back (pos 2_000) (Ambiguous (pos 3_600) (pos 0))
+folded = twice set_back (pos 1_000) (pos 3_600) (pos 0) (pos 2_000) ChangesOnce-set_back (omega (arith, ints)) (omega (arith, ints))
+
+pub fold_first : Takes as_shown set_back (pos 2_000) (neg_ℤ (pos 1_600))
+fold_first = inl ((folded.1 (neg_ℤ (pos 1_600))).1 (inl refl))
+
+pub fold_second : Takes as_shown set_back (pos 2_000) (pos 2_000)
+fold_second = inl ((folded.1 (pos 2_000)).1 (inr refl))
+
+pub fold_once : Takes once_each set_back (pos 2_000) (neg_ℤ (pos 1_600))
+fold_once =
+    inl ((first_of_two set_back (pos 2_000) (neg_ℤ (pos 1_600)) (pos 2_000) (neg_ℤ (pos 1_600)) (AreTwo-mapped set_back (pos 2_000) (pos 3_600) (pos 0) (neg_ℤ (pos 1_600)) (pos 2_000) folded refl refl)).1 refl)
+
+pub fold_not_again : ¬ Takes once_each set_back (pos 2_000) (pos 2_000)
+fold_not_again h =
+    let same : pos 2_000 ≡ neg_ℤ (pos 1_600) = fires_once set_back (pos 2_000) (pos 2_000) (neg_ℤ (pos 1_600)) h fold_once in
+    absurd (omega (arith, ints, same))

@@ -1,0 +1,3 @@
+mod Instants
+mod Windows
+mod Laws

@@ -1,0 +1,335 @@
+-- Which planned local times can fire in a range, and what a search has seen.
+use Rattle.std.proofs.Common.{◌≡◌, ◌⊎◌, ⊎_elim, inl, inr, true, false, ◌==◌, ◌&&◌, ℕ, ◌/◌, ◌%◌, ◌<◌, ℤ, pos, neg_ℤ, ◌+ℤ◌, ◌-ℤ◌, ◌≤ℤ◌, ◌<ℤ◌, Option, Some, None, IfNone, IfSome, IsSome, IsSomeAnd, unsigned_abs, arith, ap, subst, sym, ◌∙◌}
+use Rattle.std.proofs.lemmas.Bool.{and_parts, both_ways, eqb-true}
+use Rattle.std.proofs.lemmas.Int.{by_lt_z, ints}
+use Rattle.chrono_datetime.specs.Moment.{IsBefore, IsMoment, Moment, moment}
+use Rattle.chrono_datetime.specs.Time.{FractionFits, IsEarlier, IsTime, TimeOfDay, time_at}
+use Rattle.chrono_datetime.proofs.Signed.{casts}
+use Rattle.chrono_instant.specs.Instants.{IsEpochSecond, LiesIn, epoch_second, second_of_minute}
+use Rattle.chrono_instant.specs.Offsets.{IsOffset}
+use Rattle.chrono_instant.proofs.InstantLemmas.{IsBefore-by_second, IsEpochSecond-moment, one_moment}
+use Rattle.chrono_zoned.specs.declared.mapped_local_time.MappedLocalTime.{MappedLocalTime}
+use Rattle.chrono_zoned.specs.Zones.{AreAll, IsAmong}
+use Rattle.chrono_cron.specs.declared.field_sets.FieldSets.{FieldSets}
+use Rattle.chrono_cron.specs.Due.{NotDueAfter, NotDueBefore, NotDueBetween, is_day, is_due, is_minute}
+use Rattle.zoned_cron.specs.declared.policy.Gap.{Gap}
+use Rattle.zoned_cron.specs.declared.policy.Gap.TheVariants.{FirstAfter, Skip}
+use Rattle.zoned_cron.specs.declared.policy.Policy.{Policy}
+use Rattle.zoned_cron.specs.Fires.{Fires, FiresAt, NotFiringAfter, NotFiringBefore, NotFiringBetween, Takes, TakesSkipped}
+use Rattle.zoned_cron.specs.Private.{CoversBefore, CoversBehind, FiresFor, IsAtLeast, IsAtMost, IsFirstIn, IsLastIn, TakesDated}
+use Rattle.zoned_cron.proofs.Instants.{among, behind, shown}
+
+-- ---- how far an instant can be from the local time
+
+-- less than a day
+pub near : (x : ℤ) → IsOffset x → (neg_ℤ (pos 86_400) <ℤ x) × (x <ℤ pos 86_400)
+near x h = (omega (arith, casts, h), omega (arith, casts, h))
+
+-- where what is planned for l fires, the clock shows l or more
+reached : (p : Policy) (ahead : ℤ → ℤ) (l u : ℤ) → Takes p ahead l u → l ≤ℤ (u +ℤ ahead u)
+reached p ahead l u (inl h) = omega (arith, ints, shown p.fold ahead l u h)
+reached p ahead l u (inr h) = omega (arith, ints, (behind p.gap ahead l u h).later)
+
+-- so it does not fire a day or more before l
+pub too_late : (p : Policy) (ahead : ℤ → ℤ) (l c u : ℤ) → (c +ℤ pos 86_400) ≤ℤ l → IsOffset (ahead u) → Takes p ahead l u → c <ℤ u
+too_late p ahead l c u far offset takes = omega (arith, ints, far, near (ahead u) offset, reached p ahead l u takes)
+
+-- and it does not fire after a start, if the clock showed l or more two days before that
+pub too_early : (p : Policy) (ahead : ℤ → ℤ) (l start v k u : ℤ) → v ≡ (start -ℤ pos 172_800) → k ≡ (v +ℤ ahead v) → IsOffset (ahead v) → l ≤ℤ k → IsOffset (ahead u) → Takes p ahead l u → u ≤ℤ start
+too_early p ahead l start v k u is_v is_k offset_v low offset_u (inl h) =
+    omega (arith, ints, is_v, is_k, near (ahead v) offset_v, low, near (ahead u) offset_u, shown p.fold ahead l u h)
+too_early p ahead l start v k u is_v is_k offset_v low offset_u (inr h) =
+    by_lt_z start u
+    (λ lt. absurd ((behind p.gap ahead l u h).skipped k low (omega (arith, ints, is_v, is_k, near (ahead v) offset_v, near (ahead u) offset_u, lt)) v (sym is_k)))
+    (λ ge. ge)
+
+-- ---- planned local times
+
+-- a schedule is due at the beginning of a second
+pub due_fraction : (s : FieldSets) (m : Moment) → is_due s m ≡ true → m.time.fraction ≡ 0
+unfolding is_due
+due_fraction s m due =
+    let day = and_parts (is_day s m.date) (is_minute s (m.time.second / 60) && (m.time.second % 60 == 0 && m.time.fraction == 0)) due in
+    let minute = and_parts (is_minute s (m.time.second / 60)) (m.time.second % 60 == 0 && m.time.fraction == 0) day.1 in
+    let begins = and_parts (m.time.second % 60 == 0) (m.time.fraction == 0) minute.1 in
+    eqb-true _ _ begins.1
+
+pub earlier_second : (a b : Moment) → IsMoment a → IsMoment b → epoch_second a <ℤ epoch_second b → IsBefore a b
+earlier_second a b i j lt = (IsBefore-by_second a b i j).1 (inl lt)
+
+-- one that is later and begins a second lies in a later second
+pub later_second : (a b : Moment) → IsMoment a → IsMoment b → IsBefore a b → b.time.fraction ≡ 0 → epoch_second a <ℤ epoch_second b
+later_second a b i j before whole =
+    ⊎_elim (λ lt. lt) (λ same. absurd (omega (arith, same.1, whole))) ((IsBefore-by_second a b i j).0 before)
+
+-- what fires for a local time is one of its instants
+taken : (s : FieldSets) (ahead : ℤ → ℤ) (p : Policy) (m local : Moment) (u : ℤ) → FiresFor s ahead p m u → epoch_second m ≡ epoch_second local → TakesDated p ahead (epoch_second local) u
+taken s ahead p m local u f same = ((f.instant.local, f.instant.near), subst (λ (l : ℤ). Takes p ahead l u) same f.takes)
+
+pub fires_for : (s : FieldSets) (ahead : ℤ → ℤ) (p : Policy) (u : ℤ) (f : Fires s ahead p u) → FiresFor s ahead p f.planned u
+fires_for s ahead p u f = record { instant = f.instant; exists = f.exists; due = f.due; takes = f.takes }
+
+pub fires_by : (s : FieldSets) (ahead : ℤ → ℤ) (p : Policy) (m : Moment) (u : ℤ) → IsEpochSecond u → IsMoment m → is_due s m ≡ true → TakesDated p ahead (epoch_second m) u → Fires s ahead p u
+fires_by s ahead p m u utc exists due takes = record {
+  instant = record { utc = utc; local = takes.0.0; near = takes.0.1 };
+  planned = m;
+  exists = exists;
+  due = due;
+  takes = takes.1;
+}
+
+-- ---- the search ahead
+
+pub fires_first : (s : FieldSets) (ahead : ℤ → ℤ) (p : Policy) (start : ℤ) (m : Moment) (found : Option ℤ) → IsEpochSecond start → IsMoment m → is_due s m ≡ true → IsFirstIn (TakesDated p ahead (epoch_second m)) start found → IfSome found (λ c. (start <ℤ c) × Fires s ahead p c)
+fires_first s ahead p start m None date exists due h = tt
+fires_first s ahead p start m (Some x) date exists due h =
+    (h.1, fires_by s ahead p m x (omega (arith, ints, date.0, h.1), h.2) exists due h.0)
+
+first_covers : (s : FieldSets) (ahead : ℤ → ℤ) (p : Policy) (start : ℤ) (m local : Moment) (found : Option ℤ) (u : ℤ) → IsFirstIn (TakesDated p ahead (epoch_second local)) start found → FiresFor s ahead p m u → epoch_second m ≡ epoch_second local → start <ℤ u → IsAtLeast found u
+first_covers s ahead p start m local None u h f same later =
+    omega (arith, ints, h u (taken s ahead p m local u f same) later, f.instant.utc.1)
+first_covers s ahead p start m local (Some x) u h f same later = h.3 u (taken s ahead p m local u f same) later
+
+-- each local time up to `local` has been seen
+up_to : (s : FieldSets) (ahead : ℤ → ℤ) (p : Policy) (start : ℤ) (local : Moment) (best found result : Option ℤ) → CoversBefore s ahead p start (epoch_second local) best → IsFirstIn (TakesDated p ahead (epoch_second local)) start found → ((u : ℤ) → IsAtLeast best u ⊎ IsAtLeast found u → IsAtLeast result u) → (m : Moment) (u : ℤ) → FiresFor s ahead p m u → epoch_second m ≤ℤ epoch_second local → start <ℤ u → IsAtLeast result u
+up_to s ahead p start local best found result covers first join m u f low later =
+    by_lt_z (epoch_second m) (epoch_second local) (λ lt. join u (inl (covers m u f lt later)))
+    (λ ge. join u (inr (first_covers s ahead p start m local found u first f (omega (arith, ints, low, ge)) later)))
+
+pub covers_next : (s : FieldSets) (ahead : ℤ → ℤ) (p : Policy) (start : ℤ) (local next : Moment) (best found result : Option ℤ) → IsMoment local → IsMoment next → CoversBefore s ahead p start (epoch_second local) best → IsFirstIn (TakesDated p ahead (epoch_second local)) start found → ((u : ℤ) → IsAtLeast best u ⊎ IsAtLeast found u → IsAtLeast result u) → NotDueBetween s local next → CoversBefore s ahead p start (epoch_second next) result
+covers_next s ahead p start local next best found result i j covers first join none = λ m u f lt later.
+    by_lt_z (epoch_second local) (epoch_second m)
+    (λ gt. absurd (both_ways (is_due s m) (none m f.exists (earlier_second local m i f.exists gt) (earlier_second m next f.exists j lt)) f.due))
+    (λ le. up_to s ahead p start local best found result covers first join m u f le later)
+
+pub covers_all : (s : FieldSets) (ahead : ℤ → ℤ) (p : Policy) (start : ℤ) (local : Moment) (best found result : Option ℤ) → IsMoment local → CoversBefore s ahead p start (epoch_second local) best → IsFirstIn (TakesDated p ahead (epoch_second local)) start found → ((u : ℤ) → IsAtLeast best u ⊎ IsAtLeast found u → IsAtLeast result u) → NotDueAfter s local → (u : ℤ) → start <ℤ u → Fires s ahead p u → IsAtLeast result u
+covers_all s ahead p start local best found result i covers first join none = λ u later f.
+    by_lt_z (epoch_second local) (epoch_second f.planned)
+    (λ gt. absurd (both_ways (is_due s f.planned) (none f.planned f.exists (earlier_second local f.planned i f.exists gt)) f.due))
+    (λ le. up_to s ahead p start local best found result covers first join f.planned u (fires_for s ahead p u f) le later)
+
+-- the search may end a day behind what it found
+pub covers_far : (s : FieldSets) (ahead : ℤ → ℤ) (p : Policy) (start l : ℤ) (best : Option ℤ) → CoversBefore s ahead p start l best → IsSomeAnd best (λ c. (c +ℤ pos 86_400) ≤ℤ l) → (u : ℤ) → start <ℤ u → Fires s ahead p u → IsAtLeast best u
+covers_far s ahead p start l None covers far u later f = absurd far
+covers_far s ahead p start l (Some c) covers far u later f =
+    by_lt_z (epoch_second f.planned) l (λ lt. covers f.planned u (fires_for s ahead p u f) lt later)
+    (λ ge.
+    let after = too_late p ahead (epoch_second f.planned) c u (omega (arith, ints, far, ge)) f.instant.near f.takes in
+    omega (arith, ints, after))
+
+-- where it begins: behind what the clock showed two days before the start
+pub none_before : (s : FieldSets) (ahead : ℤ → ℤ) (p : Policy) (start : ℤ) {v : ℤ} (k first : Moment) → epoch_second k ≡ (v +ℤ ahead v) → v ≡ (start -ℤ pos 172_800) → IsOffset (ahead v) → IsMoment k → NotDueBetween s k first → (m : Moment) (u : ℤ) → FiresFor s ahead p m u → IsBefore m first → u ≤ℤ start
+none_before s ahead p start {v} k first is_k is_v offset i none m u f before =
+    by_lt_z (epoch_second k) (epoch_second m)
+    (λ gt. absurd (both_ways (is_due s m) (none m f.exists (earlier_second k m i f.exists gt) before) f.due))
+    (λ le. too_early p ahead (epoch_second m) start v (epoch_second k) u is_v is_k offset le f.instant.near f.takes)
+
+pub none_after : (s : FieldSets) (ahead : ℤ → ℤ) (p : Policy) (start : ℤ) {v : ℤ} (k : Moment) → epoch_second k ≡ (v +ℤ ahead v) → v ≡ (start -ℤ pos 172_800) → IsOffset (ahead v) → IsMoment k → NotDueAfter s k → (m : Moment) (u : ℤ) → FiresFor s ahead p m u → u ≤ℤ start
+none_after s ahead p start {v} k is_k is_v offset i none m u f =
+    by_lt_z (epoch_second k) (epoch_second m)
+    (λ gt. absurd (both_ways (is_due s m) (none m f.exists (earlier_second k m i f.exists gt)) f.due))
+    (λ le. too_early p ahead (epoch_second m) start v (epoch_second k) u is_v is_k offset le f.instant.near f.takes)
+
+-- ---- facts of options
+
+pub if_none : {X A B : Type 0} (r : Option X) → IfNone r A → (A → B) → IfNone r B
+if_none None h f = f h
+if_none (Some x) h f = tt
+
+pub if_any : {X B : Type 0} (r : Option X) → B → IfNone r B
+if_any None b = b
+if_any (Some x) b = tt
+
+pub if_never : {X : Type 0} (B : Type 0) (r : Option X) → IsSome r → IfNone r B
+if_never B None h = absurd cc
+if_never B (Some x) h = tt
+
+pub some_and : {X : Type 0} {P Q : X → Type 0} (r : Option X) → IsSomeAnd r P → ((x : X) → P x → Q x) → IsSomeAnd r Q
+some_and None h f = absurd h
+some_and (Some x) h f = f x h
+
+pub one_of : (P : ℤ → Type 0) (a b r : Option ℤ) → (r ≡ a) ⊎ (r ≡ b) → IfSome a P → IfSome b P → IfSome r P
+one_of P a b r is h k = ⊎_elim (λ e. subst (λ (o : Option ℤ). IfSome o P) (sym e) h) (λ e. subst (λ (o : Option ℤ). IfSome o P) (sym e) k) is
+
+-- ---- the measures of the searches
+
+pub closer : (a b : ℤ) → a <ℤ b → b ≤ℤ pos 8_210_266_876_799 → unsigned_abs (pos 8_210_266_876_800 -ℤ b) < unsigned_abs (pos 8_210_266_876_800 -ℤ a)
+closer a b lt high = omega (arith, casts, lt, high)
+
+pub closer_back : (a b : ℤ) → a <ℤ b → neg_ℤ (pos 8_334_601_228_800) ≤ℤ a → unsigned_abs (a +ℤ pos 8_334_601_228_801) < unsigned_abs (b +ℤ pos 8_334_601_228_801)
+closer_back a b lt low = omega (arith, casts, lt, low)
+
+-- ---- from the beginning of the calendar
+
+pub none_from_first : (s : FieldSets) (first q m : Moment) → first ≡ moment (neg_ℤ (pos 95_746_129)) (time_at 0 0 0 0) → is_due s first ≡ false → IsMoment m → is_due s m ≡ true → (IsBefore first m → ⊥) → ⊥
+none_from_first s first q m is_first not i due none =
+    by_lt_z (pos 0) (pos m.time.second)
+    (λ later.
+    by_lt_z (neg_ℤ (pos 95_746_129)) m.date (λ lt. none (subst (λ (k : Moment). IsBefore k m) (sym is_first) (inl lt)))
+    (λ ge. none (subst (λ (k : Moment). IsBefore k m) (sym is_first) (inr (omega (arith, ints, ge, i.date.0), inl (omega (arith, ints, later)))))))
+    (λ start.
+    by_lt_z (neg_ℤ (pos 95_746_129)) m.date (λ lt. none (subst (λ (k : Moment). IsBefore k m) (sym is_first) (inl lt)))
+    (λ ge.
+    let zero : TimeOfDay = time_at 0 0 0 0 in
+    let date : m.date ≡ neg_ℤ (pos 95_746_129) = omega (arith, ints, ge, i.date.0) in
+    let second : m.time.second ≡ 0 = omega (arith, ints, start) in
+    let one : m ≡ first =
+    ap (λ n. moment n m.time) date ∙ ap (λ (n : ℕ). moment (neg_ℤ (pos 95_746_129)) (record { second = n; fraction = m.time.fraction })) second
+    ∙ ap (λ (n : ℕ). moment (neg_ℤ (pos 95_746_129)) (record { second = 0; fraction = n })) (due_fraction s m due) ∙ sym is_first in
+    both_ways (is_due s first) not (ap (is_due s) (sym one) ∙ due)))
+
+-- ---- the search back
+
+before_midnight : (t : TimeOfDay) → IsTime t → t.fraction ≡ 0 → IsEarlier t (time_at 23 59 59 999_999_999)
+before_midnight t i whole =
+    by_lt_z (pos t.second) (pos 86_399) (λ lt. inl (omega (arith, ints, lt))) (λ ge. inr (omega (arith, ints, ge, i.second), omega (arith, whole)))
+
+pub fires_last : (s : FieldSets) (ahead : ℤ → ℤ) (p : Policy) (end : ℤ) (m : Moment) (found : Option ℤ) → end ≤ℤ pos 8_210_266_876_800 → IsMoment m → is_due s m ≡ true → IsLastIn (TakesDated p ahead (epoch_second m)) end found → IfSome found (λ c. (c <ℤ end) × Fires s ahead p c)
+fires_last s ahead p end m None high exists due h = tt
+fires_last s ahead p end m (Some x) high exists due h =
+    (h.1, fires_by s ahead p m x (h.2, omega (arith, ints, high, h.1)) exists due h.0)
+
+last_covers : (s : FieldSets) (ahead : ℤ → ℤ) (p : Policy) (end : ℤ) (m local : Moment) (found : Option ℤ) (u : ℤ) → IsLastIn (TakesDated p ahead (epoch_second local)) end found → FiresFor s ahead p m u → epoch_second m ≡ epoch_second local → u <ℤ end → IsAtMost found u
+last_covers s ahead p end m local None u h f same before =
+    omega (arith, ints, h u (taken s ahead p m local u f same) before, f.instant.utc.0)
+last_covers s ahead p end m local (Some x) u h f same before = h.3 u (taken s ahead p m local u f same) before
+
+-- each local time from `local` on has been seen
+from_on : (s : FieldSets) (ahead : ℤ → ℤ) (p : Policy) (end : ℤ) (local : Moment) (best found result : Option ℤ) → CoversBehind s ahead p end (epoch_second local) best → IsLastIn (TakesDated p ahead (epoch_second local)) end found → ((u : ℤ) → IsAtMost best u ⊎ IsAtMost found u → IsAtMost result u) → (m : Moment) (u : ℤ) → FiresFor s ahead p m u → epoch_second local ≤ℤ epoch_second m → u <ℤ end → IsAtMost result u
+from_on s ahead p end local best found result covers last join m u f high before =
+    by_lt_z (epoch_second local) (epoch_second m) (λ lt. join u (inl (covers m u f lt before)))
+    (λ ge. join u (inr (last_covers s ahead p end m local found u last f (omega (arith, ints, high, ge)) before)))
+
+pub covers_previous : (s : FieldSets) (ahead : ℤ → ℤ) (p : Policy) (end : ℤ) (local earlier : Moment) (best found result : Option ℤ) → IsMoment local → IsMoment earlier → CoversBehind s ahead p end (epoch_second local) best → IsLastIn (TakesDated p ahead (epoch_second local)) end found → ((u : ℤ) → IsAtMost best u ⊎ IsAtMost found u → IsAtMost result u) → NotDueBetween s earlier local → CoversBehind s ahead p end (epoch_second earlier) result
+covers_previous s ahead p end local earlier best found result i j covers last join none = λ m u f gt before.
+    by_lt_z (epoch_second m) (epoch_second local)
+    (λ lt. absurd (both_ways (is_due s m) (none m f.exists (earlier_second earlier m j f.exists gt) (earlier_second m local f.exists i lt)) f.due))
+    (λ ge. from_on s ahead p end local best found result covers last join m u f ge before)
+
+pub covers_all_behind : (s : FieldSets) (ahead : ℤ → ℤ) (p : Policy) (end : ℤ) (local : Moment) (best found result : Option ℤ) → IsMoment local → CoversBehind s ahead p end (epoch_second local) best → IsLastIn (TakesDated p ahead (epoch_second local)) end found → ((u : ℤ) → IsAtMost best u ⊎ IsAtMost found u → IsAtMost result u) → NotDueBefore s local → (u : ℤ) → u <ℤ end → Fires s ahead p u → IsAtMost result u
+covers_all_behind s ahead p end local best found result i covers last join none = λ u before f.
+    by_lt_z (epoch_second f.planned) (epoch_second local)
+    (λ lt. absurd (both_ways (is_due s f.planned) (none f.planned f.exists (earlier_second f.planned local f.exists i lt)) f.due))
+    (λ ge. from_on s ahead p end local best found result covers last join f.planned u (fires_for s ahead p u f) ge before)
+
+-- the search may end where no earlier local time fires later than what it found
+pub covers_far_behind : (s : FieldSets) (ahead : ℤ → ℤ) (p : Policy) (end l : ℤ) (best : Option ℤ) → CoversBehind s ahead p end l best → IsSomeAnd best (λ c. (m : Moment) (u : ℤ) → FiresFor s ahead p m u → epoch_second m ≤ℤ l → u ≤ℤ c) → (u : ℤ) → u <ℤ end → Fires s ahead p u → IsAtMost best u
+covers_far_behind s ahead p end l None covers far u before f = absurd far
+covers_far_behind s ahead p end l (Some c) covers far u before f =
+    by_lt_z l (epoch_second f.planned) (λ gt. covers f.planned u (fires_for s ahead p u f) gt before)
+    (λ le. far f.planned u (fires_for s ahead p u f) le)
+
+-- where it begins: a day behind the end, or at the end of the calendar
+pub none_behind : (s : FieldSets) (ahead : ℤ → ℤ) (p : Policy) (end : ℤ) (k last : Moment) → epoch_second k ≡ (end +ℤ pos 86_400) → IsMoment k → NotDueBetween s last k → (m : Moment) (u : ℤ) → FiresFor s ahead p m u → IsBefore last m → end ≤ℤ u
+none_behind s ahead p end k last is_k i none m u f behind =
+    by_lt_z (epoch_second m) (epoch_second k)
+    (λ lt. absurd (both_ways (is_due s m) (none m f.exists behind (earlier_second m k f.exists i lt)) f.due))
+    (λ ge.
+    let after = too_late p ahead (epoch_second m) end u (omega (arith, ints, is_k, ge)) f.instant.near f.takes in
+    omega (arith, ints, after))
+
+pub none_up_to : (s : FieldSets) (ahead : ℤ → ℤ) (p : Policy) (end : ℤ) (k : Moment) → epoch_second k ≡ (end +ℤ pos 86_400) → IsMoment k → NotDueBefore s k → (m : Moment) (u : ℤ) → FiresFor s ahead p m u → end ≤ℤ u
+none_up_to s ahead p end k is_k i none m u f =
+    by_lt_z (epoch_second m) (epoch_second k)
+    (λ lt. absurd (both_ways (is_due s m) (none m f.exists (earlier_second m k f.exists i lt)) f.due))
+    (λ ge.
+    let after = too_late p ahead (epoch_second m) end u (omega (arith, ints, is_k, ge)) f.instant.near f.takes in
+    omega (arith, ints, after))
+
+-- each local time that is planned comes before the end of the calendar
+pub before_last : (s : FieldSets) (m last : Moment) → last ≡ moment (pos 95_745_399) (time_at 23 59 59 999_999_999) → IsMoment m → is_due s m ≡ true → IsBefore m last
+before_last s m last is i due =
+    subst (λ (k : Moment). IsBefore m k) (sym is)
+    (by_lt_z m.date (pos 95_745_399) (λ lt. inl lt)
+    (λ ge.
+    let date : m.date ≡ pos 95_745_399 = omega (arith, ints, ge, i.date.1) in
+    inr (date, before_midnight m.time i.time (due_fraction s m due))))
+
+-- ---- at an instant
+
+-- a later local time of the same gap fires there too
+later_in_gap : (gap : Gap) (ahead : ℤ → ℤ) (l k u : ℤ) → l ≤ℤ k → k <ℤ (u +ℤ ahead u) → TakesSkipped gap ahead l u → TakesSkipped gap ahead k u
+later_in_gap Skip ahead l k u low high h = h
+later_in_gap FirstAfter ahead l k u low high h = record { later = high; skipped = λ j from end. h.skipped j (omega (arith, ints, low, from)) end; first = h.first }
+
+-- what fires at u is planned for what the clock shows there, or for an earlier time that it skipped
+pub planned_now : (s : FieldSets) (ahead : ℤ → ℤ) (p : Policy) (local : Moment) (u : ℤ) → IsMoment local → local.time.fraction ≡ 0 → epoch_second local ≡ (u +ℤ ahead u) → (f : Fires s ahead p u)
+    → ((is_due s local ≡ true) × TakesDated p ahead (epoch_second local) u) ⊎ (TakesSkipped p.gap ahead (epoch_second f.planned) u × IsBefore f.planned local)
+planned_now s ahead p local u i whole is f =
+    ⊎_elim
+    (λ h.
+    let same : epoch_second f.planned ≡ epoch_second local = sym (shown p.fold ahead (epoch_second f.planned) u h) ∙ sym is in
+    let one : f.planned ≡ local = one_moment f.planned local f.exists.time i.time same (due_fraction s f.planned f.due ∙ sym whole) in
+    inl (ap (is_due s) (sym one) ∙ f.due, taken s ahead p f.planned local u (fires_for s ahead p u f) same))
+    (λ h.
+    inr (h, earlier_second f.planned local f.exists i (subst (λ (l : ℤ). epoch_second f.planned <ℤ l) (sym is) (behind p.gap ahead (epoch_second f.planned) u h).later)))
+    f.takes
+
+-- and so for the last that is planned before it
+pub planned_before : (s : FieldSets) (ahead : ℤ → ℤ) (p : Policy) (local earlier : Moment) (u : ℤ) → IsMoment local → IsMoment earlier → IsBefore earlier local → local.time.fraction ≡ 0 → epoch_second local ≡ (u +ℤ ahead u) → NotDueBetween s earlier local → (f : Fires s ahead p u) → TakesSkipped p.gap ahead (epoch_second f.planned) u → IsBefore f.planned local → TakesDated p ahead (epoch_second earlier) u
+planned_before s ahead p local earlier u i j before whole is none f skipped sooner =
+    let low : epoch_second f.planned ≤ℤ epoch_second earlier = by_lt_z (epoch_second earlier) (epoch_second f.planned) (λ gt. absurd (both_ways (is_due s f.planned) (none f.planned f.exists (earlier_second earlier f.planned j f.exists gt) sooner) f.due)) (λ le. le) in
+    let high : epoch_second earlier <ℤ (u +ℤ ahead u) = subst (λ (l : ℤ). epoch_second earlier <ℤ l) is (later_second earlier local j i before whole) in
+    ((f.instant.local, f.instant.near), inr (later_in_gap p.gap ahead (epoch_second f.planned) (epoch_second earlier) u low high skipped))
+
+-- ---- the public calls
+
+-- the schedule fires where UTC shows the second that was found
+pub fires_there : (s : FieldSets) (ahead : ℤ → ℤ) (p : Policy) {X : ℤ} (x : ℤ) (d : Moment) → LiesIn X 0 d → X ≡ x → Fires s ahead p x → FiresAt s ahead p d
+fires_there s ahead p {X} x d h is f = (h.past, subst (λ (u : ℤ). Fires s ahead p u) (sym (h.second ∙ is)) f)
+
+pub due_by : (s : FieldSets) (ahead : ℤ → ℤ) (p : Policy) (m utc : Moment) {U : ℤ} (found : MappedLocalTime ℤ) → AreAll (TakesDated p ahead (epoch_second m)) (λ u. u) found → IsAmong U found → U ≡ epoch_second utc → IsMoment utc → IsMoment m → is_due s m ≡ true → Fires s ahead p (epoch_second utc)
+due_by s ahead p m utc {U} found all is_among is i j due =
+    fires_by s ahead p m (epoch_second utc) (IsEpochSecond-moment utc i) j due (subst (λ (u : ℤ). TakesDated p ahead (epoch_second m) u) is ((among (TakesDated p ahead (epoch_second m)) found U all).0 is_among))
+
+pub later_there : (start d : Moment) {S X : ℤ} (x : ℤ) → S <ℤ x → S ≡ epoch_second start → LiesIn X 0 d → X ≡ x → IsMoment start → IsBefore start d
+later_there start d {S} {X} x lt is_s h is i = earlier_second start d i h.exists (omega (arith, ints, lt, is_s, h.second, is))
+
+pub not_between : (s : FieldSets) (ahead : ℤ → ℤ) (p : Policy) (start d : Moment) {S X : ℤ} (x : ℤ) → ((u : ℤ) → S <ℤ u → Fires s ahead p u → x ≤ℤ u) → S ≡ epoch_second start → LiesIn X 0 d → X ≡ x → IsMoment start → NotFiringBetween s ahead p start d
+not_between s ahead p start d {S} {X} x least is_s h is i = λ m j after before fires.
+    let from : S <ℤ epoch_second m = omega (arith, ints, is_s, later_second start m i j after fires.0) in
+    let low : x ≤ℤ epoch_second m = least (epoch_second m) from fires.1 in
+    let high : epoch_second m <ℤ epoch_second d = later_second m d j h.exists before h.past in
+    absurd (omega (arith, ints, low, high, h.second, is))
+
+pub not_after : (s : FieldSets) (ahead : ℤ → ℤ) (p : Policy) (start : Moment) {S : ℤ} → ((u : ℤ) → S <ℤ u → Fires s ahead p u → ⊥) → S ≡ epoch_second start → IsMoment start → NotFiringAfter s ahead p start
+not_after s ahead p start {S} least is_s i = λ m j after fires. least (epoch_second m) (omega (arith, ints, is_s, later_second start m i j after fires.0)) fires.1
+
+-- the first second that begins no earlier than a date-time
+pub record IsBegunBy (E : ℤ) (m : Moment) : Type 0 where
+  pub whole : m.time.fraction ≡ 0 → E ≡ epoch_second m
+  pub within : 0 < m.time.fraction → E ≡ (epoch_second m +ℤ pos 1)
+
+by_fraction : {A : Type 0} (n : ℕ) → (n ≡ 0 → A) → (0 < n → A) → A
+by_fraction n f h = by_lt_z (pos 0) (pos n) (λ lt. h (omega (arith, ints, lt))) (λ ge. f (omega (arith, ints, ge)))
+
+begun_before : (E : ℤ) (m end : Moment) → IsBegunBy E end → IsMoment m → IsMoment end → IsBefore m end → m.time.fraction ≡ 0 → epoch_second m <ℤ E
+begun_before E m end h i j before whole =
+    ⊎_elim (λ lt. by_fraction end.time.fraction (λ none. omega (arith, ints, lt, h.whole none)) (λ some. omega (arith, ints, lt, h.within some)))
+    (λ same. omega (arith, ints, same.0, h.within (omega (arith, same.1)))) ((IsBefore-by_second m end i j).0 before)
+
+ends_before : (E : ℤ) (m end : Moment) → IsBegunBy E end → IsMoment m → IsMoment end → epoch_second m <ℤ E → m.time.fraction ≡ 0 → IsBefore m end
+ends_before E m end h i j lt none =
+    by_fraction end.time.fraction (λ whole. (IsBefore-by_second m end i j).1 (inl (omega (arith, ints, lt, h.whole whole))))
+    (λ some.
+    by_lt_z (epoch_second m) (epoch_second end) (λ less. (IsBefore-by_second m end i j).1 (inl less))
+    (λ ge. (IsBefore-by_second m end i j).1 (inr (omega (arith, ints, lt, ge, h.within some), omega (arith, none, some)))))
+
+pub earlier_there : (end d : Moment) {E X : ℤ} (x : ℤ) → x <ℤ E → LiesIn X 0 d → IsBegunBy E end → X ≡ x → IsMoment end → IsBefore d end
+earlier_there end d {E} {X} x lt h begun is i = ends_before E d end begun h.exists i (omega (arith, ints, lt, h.second, is)) h.past
+
+pub not_between_back : (s : FieldSets) (ahead : ℤ → ℤ) (p : Policy) (end d : Moment) {E X : ℤ} (x : ℤ) → ((u : ℤ) → u <ℤ E → Fires s ahead p u → u ≤ℤ x) → LiesIn X 0 d → IsBegunBy E end → X ≡ x → IsMoment end → NotFiringBetween s ahead p d end
+not_between_back s ahead p end d {E} {X} x greatest h begun is i = λ m j after before fires.
+    let to : epoch_second m <ℤ E = begun_before E m end begun j i before fires.0 in
+    let high : epoch_second m ≤ℤ x = greatest (epoch_second m) to fires.1 in
+    let low : epoch_second d <ℤ epoch_second m = later_second d m h.exists j after fires.0 in
+    absurd (omega (arith, ints, low, high, h.second, is))
+
+pub not_before : (s : FieldSets) (ahead : ℤ → ℤ) (p : Policy) (end : Moment) {E : ℤ} → ((u : ℤ) → u <ℤ E → Fires s ahead p u → ⊥) → IsBegunBy E end → IsMoment end → NotFiringBefore s ahead p end
+not_before s ahead p end {E} greatest begun i = λ m j before fires. greatest (epoch_second m) (begun_before E m end begun j i before fires.0) fires.1
+
+-- a date-time of the zone is at each instant at which a schedule fires
+pub exists_there : (s : FieldSets) (ahead : ℤ → ℤ) (p : Policy) (X x : ℤ) → X ≡ x → Fires s ahead p x → IsEpochSecond X × FractionFits (second_of_minute X) 0 × IsEpochSecond (X +ℤ ahead X)
+exists_there s ahead p X x is f =
+    subst (λ (y : ℤ). IsEpochSecond y × FractionFits (second_of_minute y) 0 × IsEpochSecond (y +ℤ ahead y)) (sym is)
+    (f.instant.utc, (omega arith, λ leap. absurd (omega (arith, leap))), f.instant.local)

@@ -1,0 +1,63 @@
+-- Words of functions that are not public.
+use Rattle.std.specs.Prelude.{◌≡◌, true, ℤ, ◌+ℤ◌, ◌≤ℤ◌, ◌<ℤ◌, pos, neg_ℤ, Option, Some, None}
+use Rattle.chrono_datetime.specs.Moment.{IsMoment, Moment}
+use Rattle.chrono_instant.specs.Instants.{IsEpochSecond, epoch_second}
+use Rattle.chrono_instant.specs.Offsets.{IsOffset}
+use Rattle.chrono_zoned.specs.declared.mapped_local_time.MappedLocalTime.{MappedLocalTime}
+use Rattle.chrono_zoned.specs.declared.mapped_local_time.MappedLocalTime.TheVariants.{None as NoInstant, Single, Ambiguous}
+use Rattle.chrono_cron.specs.declared.field_sets.FieldSets.{FieldSets}
+use Rattle.chrono_cron.specs.Due.{is_due}
+use Rattle.zoned_cron.specs.declared.policy.Policy.{Policy}
+use Rattle.zoned_cron.specs.Fires.{IsBehindGap, IsInstant, Takes}
+
+-- the clock shows a date at u, and is ahead by less than a day
+abbrev pub IsDated : (ℤ → ℤ) → ℤ → Type 0
+IsDated ahead u = IsEpochSecond (u +ℤ ahead u) × IsOffset (ahead u)
+
+-- there, what is planned for l fires at u
+abbrev pub TakesDated : Policy → (ℤ → ℤ) → ℤ → ℤ → Type 0
+TakesDated p ahead l u = IsDated ahead u × Takes p ahead l u
+
+-- there, u is the first instant behind the gap in which l lies
+abbrev pub EndsGap : (ℤ → ℤ) → ℤ → ℤ → Type 0
+EndsGap ahead l u = IsDated ahead u × IsBehindGap ahead l u
+
+-- the schedule is due at the local time m, and what is planned for m fires at u
+pub record FiresFor (s : FieldSets) (ahead : ℤ → ℤ) (p : Policy) (m : Moment) (u : ℤ) : Type 0 where
+  pub instant : IsInstant ahead u
+  pub exists : IsMoment m
+  pub due : is_due s m ≡ true
+  pub takes : Takes p ahead (epoch_second m) u
+
+-- R holds of two values, if there are two
+abbrev pub IfTwo : (ℤ → ℤ → Type 0) → MappedLocalTime ℤ → Type 0
+IfTwo R NoInstant = Unit {0}
+IfTwo R (Single x) = Unit {0}
+IfTwo R (Ambiguous x y) = R x y
+
+-- u is no earlier than what was found, and if nothing was found there is no such u
+abbrev pub IsAtLeast : Option ℤ → ℤ → Type 0
+IsAtLeast None u = ⊥
+IsAtLeast (Some x) u = x ≤ℤ u
+
+-- and no later
+abbrev pub IsAtMost : Option ℤ → ℤ → Type 0
+IsAtMost None u = ⊥
+IsAtMost (Some x) u = u ≤ℤ x
+
+-- of the seconds after a start of which P holds, what was found is the first; seconds past UTC's dates are left out
+abbrev pub IsFirstIn : (ℤ → Type 0) → ℤ → Option ℤ → Type 0
+IsFirstIn P start None = (u : ℤ) → P u → start <ℤ u → pos 8_210_266_876_799 <ℤ u
+IsFirstIn P start (Some x) = P x × (start <ℤ x) × (x ≤ℤ pos 8_210_266_876_799) × ((u : ℤ) → P u → start <ℤ u → x ≤ℤ u)
+
+abbrev pub IsLastIn : (ℤ → Type 0) → ℤ → Option ℤ → Type 0
+IsLastIn P end None = (u : ℤ) → P u → u <ℤ end → u <ℤ neg_ℤ (pos 8_334_601_228_800)
+IsLastIn P end (Some x) = P x × (x <ℤ end) × (neg_ℤ (pos 8_334_601_228_800) ≤ℤ x) × ((u : ℤ) → P u → u <ℤ end → u ≤ℤ x)
+
+-- what was found is no later than each instant after `start` at which a local time before l fires
+abbrev pub CoversBefore : FieldSets → (ℤ → ℤ) → Policy → ℤ → ℤ → Option ℤ → Type 0
+CoversBefore s ahead p start l found = (m : Moment) (u : ℤ) → FiresFor s ahead p m u → epoch_second m <ℤ l → start <ℤ u → IsAtLeast found u
+
+-- and no earlier than each one before `end` at which a local time after l fires
+abbrev pub CoversBehind : FieldSets → (ℤ → ℤ) → Policy → ℤ → ℤ → Option ℤ → Type 0
+CoversBehind s ahead p end l found = (m : Moment) (u : ℤ) → FiresFor s ahead p m u → l <ℤ epoch_second m → u <ℤ end → IsAtMost found u

@@ -1,0 +1,48 @@
+//! Laws of schedules in a zone, each as the contract of a function that does nothing.
+ghost use Rattle.std.specs.Prelude.{◌≡◌, ◌↔◌, ◌⊎◌, true, ℤ, pos, neg_ℤ};
+ghost use Rattle.chrono_datetime.specs.Moment.{IsMoment, Moment};
+ghost use Rattle.chrono_instant.specs.Instants.{epoch_second};
+ghost use Rattle.chrono_instant.specs.Offsets.{moment_ahead};
+ghost use Rattle.chrono_zoned.specs.KnownZones.{set_ahead, set_back};
+ghost use Rattle.chrono_zoned.specs.Zones.{IsMapped};
+ghost use Rattle.chrono_zoned.specs.declared.mapped_local_time.MappedLocalTime.{MappedLocalTime};
+ghost use Rattle.chrono_cron.specs.Due.{is_due};
+ghost use Rattle.chrono_cron.specs.declared.field_sets.FieldSets.{FieldSets};
+ghost use Rattle.zoned_cron.specs.Fires.{FiresAt, IsGap, IsInstant, Takes, TakesShown, as_shown, once_each};
+ghost use Rattle.zoned_cron.specs.declared.policy.Fold.{Fold};
+ghost use Rattle.zoned_cron.specs.declared.policy.Policy.{Policy};
+
+/// In a zone of one offset a schedule fires exactly where it is due at the local time, whatever the policy.
+pub fn one_offset_is_local_time()
+    ensures { (s : FieldSets) (p : Policy) (x : ℤ) (m : Moment) → IsMoment m → m.time.fraction ≡ 0 → IsInstant (λ _. x) (epoch_second m)
+        → FiresAt s (λ _. x) p m ↔ (is_due s (moment_ahead m x) ≡ true) }
+{}
+
+/// By the policy of a schedule with fixed times, no planned local time fires twice.
+pub fn no_planned_time_fires_twice()
+    ensures { (ahead : ℤ → ℤ) (l u v : ℤ) → Takes once_each ahead l u → Takes once_each ahead l v → u ≡ v }
+{}
+
+/// A planned local time that the clock shows fires, whatever the policy.
+pub fn no_shown_time_is_missed()
+    ensures { (fold : Fold) (ahead : ℤ → ℤ) (l : ℤ) (found : MappedLocalTime ℤ) → IsMapped ahead l found
+        → IsGap ahead l ⊎ ((u : ℤ) × TakesShown fold ahead l u) }
+{}
+
+/// What becomes of the local second 2,000 where the clock is set ahead from 1,000 to 4,600.
+///
+/// Once each means the instant 1,000, the first behind the gap. A schedule that follows the clock does not fire for it.
+pub fn known_gap()
+    ensures once { Takes once_each set_ahead (pos 2_000) (pos 1_000) }
+    ensures never { (u : ℤ) → ¬ Takes as_shown set_ahead (pos 2_000) u }
+{}
+
+/// What becomes of the local second 2,000 where the clock is set back from 4,600 to 1,000.
+///
+/// The clock shows it at the instants -1,600 and 2,000. Once each means the earlier. A schedule that follows the clock fires at both.
+pub fn known_fold()
+    ensures once { Takes once_each set_back (pos 2_000) (neg_ℤ (pos 1_600)) }
+    ensures not_again { ¬ Takes once_each set_back (pos 2_000) (pos 2_000) }
+    ensures first { Takes as_shown set_back (pos 2_000) (neg_ℤ (pos 1_600)) }
+    ensures second { Takes as_shown set_back (pos 2_000) (pos 2_000) }
+{}

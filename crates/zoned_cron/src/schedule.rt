@@ -1,0 +1,129 @@
+//! `ZonedSchedule`: a schedule in a zone, and the instants at which it fires.
+ghost use Rattle.std.specs.Prelude.{◌≡◌, ◌↔◌, IfNone, IfSome, IsTrue};
+ghost use Rattle.chrono_datetime.specs.Moment.{IsBefore};
+ghost use Rattle.zoned_cron.specs.Fires.{FiresAt, NotFiringAfter, NotFiringBefore, NotFiringBetween};
+
+use crate::policy::Policy;
+use crate::search::instants::{begun_by, contains, is_shown, lies_in_dates};
+use chrono_cron::Schedule;
+use chrono_datetime::Timelike;
+use chrono_instant::{AddOffset, Timestamp};
+use chrono_zoned::{DateTime, InZone, TimeZone};
+
+/// A cron schedule in a zone.
+///
+/// The zone's clock shows the local time at which the schedule is planned. The policy says what becomes of a local time that the clock
+/// skips or shows twice.
+///
+/// ```
+/// let schedule = read_schedule(b"30 2 * * *").ok()?;
+/// let zone = FixedOffset::east_opt(3_600)?;
+/// ZonedSchedule::new(schedule, zone, Policy::vixie(&schedule)).policy.fold // Earlier
+/// ```
+#[derive(Clone, Copy)]
+pub struct ZonedSchedule<Z: TimeZone> {
+    /// The schedule, in local time.
+    pub schedule: Schedule,
+    /// The zone.
+    pub zone: Z,
+    /// What becomes of a local time that is skipped or comes twice.
+    pub policy: Policy,
+}
+
+impl<Z: TimeZone> ZonedSchedule<Z> {
+    /// Returns a schedule in a zone, with a policy.
+    ///
+    /// ```
+    /// let schedule = read_schedule(b"30 2 * * *").ok()?;
+    /// let policy = Policy { gap: Gap::Skip, fold: Fold::Later };
+    /// ZonedSchedule::new(schedule, FixedOffset::east_opt(0)?, policy).policy == policy // true
+    /// ```
+    pub fn new(schedule: Schedule, zone: Z, policy: Policy) -> ZonedSchedule<Z>
+        ensures { result ≡ record { schedule = schedule; zone = zone; policy = policy } }
+    {
+        ZonedSchedule {
+            schedule,
+            zone,
+            policy,
+        }
+    }
+
+    /// Returns whether the schedule fires at `instant`.
+    ///
+    /// Only the instant counts, and the schedule's own zone: that of `instant` makes no difference.
+    ///
+    /// ```
+    /// let schedule = read_schedule(b"30 2 * * *").ok()?;
+    /// let zone = FixedOffset::east_opt(3_600)?;
+    /// let nightly = ZonedSchedule::new(schedule, zone, Policy::vixie(&schedule));
+    /// nightly.is_due(zone.with_ymd_and_hms(2024, 3, 31, 2, 30, 0).single()?) // true
+    /// nightly.is_due(zone.with_ymd_and_hms(2024, 3, 31, 2, 30, 1).single()?) // false
+    /// ```
+    pub fn is_due(&self, instant: DateTime<Z>) -> bool
+        ensures { IsTrue result ↔ FiresAt self.now.schedule.sets (Z.ahead self.now.zone) self.now.policy instant.utc }
+    {
+        let utc = instant.naive_utc();
+        if utc.nanosecond() > 0 {
+            return false;
+        }
+        let offset = self.zone.offset_from_utc_datetime(&utc);
+        let Some(local) = utc.checked_add_offset(offset) else {
+            return false;
+        };
+        let second = utc.timestamp();
+        if self.schedule.is_due(local) && contains(self.taken(local), second) {
+            return true;
+        }
+        if is_shown(self.zone, local.timestamp() - 1) {
+            return false;
+        }
+        match self.schedule.prev_before(local) {
+            Some(earlier) => contains(self.taken(earlier), second),
+            None => false,
+        }
+    }
+
+    /// Returns the first instant after `start` at which the schedule fires.
+    ///
+    /// Returns `None` if there is none for which UTC and the clock have a date.
+    ///
+    /// ```
+    /// let schedule = read_schedule(b"30 2 * * *").ok()?;
+    /// let zone = FixedOffset::east_opt(3_600)?;
+    /// let nightly = ZonedSchedule::new(schedule, zone, Policy::vixie(&schedule));
+    /// nightly.next_after(zone.with_ymd_and_hms(2024, 3, 31, 2, 30, 0).single()?) // Some(2024-04-01T02:30:00+01:00)
+    /// ```
+    pub fn next_after(&self, start: DateTime<Z>) -> Option<DateTime<Z>>
+        ensures fires { IfSome result (λ d. FiresAt self.now.schedule.sets (Z.ahead self.now.zone) self.now.policy d.utc) }
+        ensures zone { IfSome result (λ d. d.zone ≡ self.now.zone) }
+        ensures later { IfSome result (λ d. IsBefore start.utc d.utc) }
+        ensures least { IfSome result (λ d. NotFiringBetween self.now.schedule.sets (Z.ahead self.now.zone) self.now.policy start.utc d.utc) }
+        ensures none { IfNone result (NotFiringAfter self.now.schedule.sets (Z.ahead self.now.zone) self.now.policy start.utc) }
+    {
+        let utc = start.naive_utc();
+        lies_in_dates(utc);
+        self.zone
+            .timestamp_opt(self.first_after(utc.timestamp())?, 0)
+    }
+
+    /// Returns the last instant before `start` at which the schedule fires.
+    ///
+    /// Returns `None` if there is none for which UTC and the clock have a date.
+    ///
+    /// ```
+    /// let schedule = read_schedule(b"30 2 * * *").ok()?;
+    /// let zone = FixedOffset::east_opt(3_600)?;
+    /// let nightly = ZonedSchedule::new(schedule, zone, Policy::vixie(&schedule));
+    /// nightly.prev_before(zone.with_ymd_and_hms(2024, 3, 31, 2, 30, 0).single()?) // Some(2024-03-30T02:30:00+01:00)
+    /// ```
+    pub fn prev_before(&self, start: DateTime<Z>) -> Option<DateTime<Z>>
+        ensures fires { IfSome result (λ d. FiresAt self.now.schedule.sets (Z.ahead self.now.zone) self.now.policy d.utc) }
+        ensures zone { IfSome result (λ d. d.zone ≡ self.now.zone) }
+        ensures earlier { IfSome result (λ d. IsBefore d.utc start.utc) }
+        ensures greatest { IfSome result (λ d. NotFiringBetween self.now.schedule.sets (Z.ahead self.now.zone) self.now.policy d.utc start.utc) }
+        ensures none { IfNone result (NotFiringBefore self.now.schedule.sets (Z.ahead self.now.zone) self.now.policy start.utc) }
+    {
+        let end = begun_by(start.naive_utc());
+        self.zone.timestamp_opt(self.last_before(end)?, 0)
+    }
+}

@@ -1,0 +1,167 @@
+//! The instants at which one planned local time fires.
+ghost use Rattle.std.specs.Prelude.{◌≡◌, ◌↔◌, ◌<◌, ℤ, pos, ◌+ℤ◌, ◌-ℤ◌, ◌≤ℤ◌, ◌<ℤ◌, neg_ℤ, IfSome, IsTrue};
+ghost use Rattle.chrono_datetime.specs.Moment.{IsMoment};
+ghost use Rattle.chrono_instant.specs.Instants.{IsEpochSecond, LiesIn, epoch_second};
+ghost use Rattle.chrono_zoned.specs.Offsets.{IsOffset};
+ghost use Rattle.chrono_zoned.specs.Zones.{AreAll, IsAmong};
+ghost use Rattle.zoned_cron.specs.Fires.{IsGap};
+ghost use Rattle.zoned_cron.specs.Private.{EndsGap, IfTwo, IsFirstIn, IsLastIn, TakesDated};
+
+use crate::policy::{Fold, Gap};
+use crate::schedule::ZonedSchedule;
+use chrono_datetime::{Datelike, LAST_DAY, NaiveDateTime, Timelike};
+use chrono_instant::{FixedOffset, FromTimestamp, Timestamp};
+use chrono_zoned::{MappedLocalTime, TimeZone};
+
+// The first second of the first date, and the last of the last date, in UTC.
+const FIRST_SECOND: i64 = -8_334_601_228_800;
+
+const LAST_SECOND: i64 = 8_210_266_876_799;
+
+// The seconds of a day, and the nanoseconds that end a leap second.
+const SECONDS_PER_DAY: u32 = 86_400;
+
+const PAST_LEAP_SECOND: u32 = 2_000_000_000;
+
+impl<Z: TimeZone> ZonedSchedule<Z> {
+    // The instants at which a planned local time fires, as seconds from 1 January 1970.
+    pub(crate) fn taken(&self, local: NaiveDateTime) -> MappedLocalTime<i64>
+        ensures all { AreAll (TakesDated self.now.policy (Z.ahead self.now.zone) (epoch_second local)) (λ u. u) result }
+        ensures exists { IsMoment local }
+    {
+        lies_in_dates(local);
+        let second = local.timestamp();
+        match self.zone.offset_from_local_datetime(&local) {
+            MappedLocalTime::None => match self.policy.gap {
+                Gap::Skip => MappedLocalTime::None,
+                Gap::FirstAfter => end_of_gap(self.zone, second),
+            },
+            MappedLocalTime::Single(offset) => MappedLocalTime::Single(before(second, offset)),
+            MappedLocalTime::Ambiguous(first, last) => {
+                let earlier = before(second, first);
+                let later = before(second, last);
+                match self.policy.fold {
+                    Fold::Earlier => MappedLocalTime::Single(earlier),
+                    Fold::Later => MappedLocalTime::Single(later),
+                    Fold::Both => MappedLocalTime::Ambiguous(earlier, later),
+                }
+            }
+        }
+    }
+}
+
+// Each date-time is one of the calendar's.
+pub(crate) fn lies_in_dates(moment: NaiveDateTime)
+    ensures { IsMoment moment }
+{
+    prove!(moment.date().num_days_from_ce() <= LAST_DAY);
+    prove!(moment.time().num_seconds_from_midnight() < SECONDS_PER_DAY);
+    prove!(moment.time().nanosecond() < PAST_LEAP_SECOND);
+}
+
+// The first second that begins no earlier than a date-time.
+pub(crate) fn begun_by(utc: NaiveDateTime) -> i64
+    ensures whole { utc.time.fraction ≡ 0 → result ≡ epoch_second utc }
+    ensures within { 0 < utc.time.fraction → result ≡ epoch_second utc +ℤ pos 1 }
+    ensures low { neg_ℤ (pos 8_334_601_228_800) ≤ℤ result }
+    ensures high { result ≤ℤ pos 8_210_266_876_800 }
+    ensures exists { IsMoment utc }
+{
+    lies_in_dates(utc);
+    let second = utc.timestamp();
+    if utc.nanosecond() > 0 {
+        second + 1
+    } else {
+        second
+    }
+}
+
+// The instant at which a clock shows the local second, where it is so far ahead.
+fn before(local: i64, offset: FixedOffset) -> i64
+    requires { IsEpochSecond local }
+    ensures value { result ≡ local -ℤ offset }
+    ensures near { IsOffset offset }
+{
+    local - i64::from(offset.local_minus_utc())
+}
+
+// The first instant behind the gap in which the local second lies.
+fn end_of_gap<Z: TimeZone>(zone: Z, gap: i64) -> MappedLocalTime<i64>
+    requires date { IsEpochSecond gap }
+    requires gap { IsGap (Z.ahead zone) gap }
+    ensures { AreAll (EndsGap (Z.ahead zone) gap) (λ u. u) result }
+{
+    let mut local = gap + 1;
+    while let Some(shown) = NaiveDateTime::from_timestamp(local, 0) {
+        if let Some(offset) = zone.offset_from_local_datetime(&shown).earliest() {
+            return MappedLocalTime::Single(before(local, offset));
+        }
+        local += 1;
+    }
+    MappedLocalTime::None
+}
+
+// What the clock shows at a second, if UTC and the clock have a date there.
+pub(crate) fn shown_at<Z: TimeZone>(zone: Z, second: i64) -> Option<NaiveDateTime>
+    ensures shown { IfSome result (LiesIn (second +ℤ Z.ahead zone second) 0) }
+    ensures near { IfSome result (λ _. IsOffset (Z.ahead zone second)) }
+{
+    let utc = NaiveDateTime::from_timestamp(second, 0)?;
+    let offset = zone.offset_from_utc_datetime(&utc);
+    NaiveDateTime::from_timestamp(second + i64::from(offset.local_minus_utc()), 0)
+}
+
+// Whether the clock shows a local second, as it does but in a gap.
+pub(crate) fn is_shown<Z: TimeZone>(zone: Z, local: i64) -> bool
+    ensures { IsTrue result → ¬ IsGap (Z.ahead zone) local }
+{
+    let Some(local) = NaiveDateTime::from_timestamp(local, 0) else {
+        return false;
+    };
+    zone.offset_from_local_datetime(&local).earliest().is_some()
+}
+
+// Whether an instant is among those.
+pub(crate) fn contains(found: MappedLocalTime<i64>, second: i64) -> bool
+    ensures { IsTrue result ↔ IsAmong second found }
+{
+    match found {
+        MappedLocalTime::None => false,
+        MappedLocalTime::Single(only) => second == only,
+        MappedLocalTime::Ambiguous(first, last) => second == first || second == last,
+    }
+}
+
+// The first of the instants after a start that UTC has a date for.
+pub(crate) fn first_in(found: MappedLocalTime<i64>, start: i64) -> Option<i64>
+    requires order { IfTwo (λ x y. x <ℤ y) found }
+    ensures { IsFirstIn (λ u. IsAmong u found) start result }
+{
+    let candidate = match found {
+        MappedLocalTime::None => return None,
+        MappedLocalTime::Single(only) => only,
+        MappedLocalTime::Ambiguous(first, last) => { if start < first { first } else { last } }
+    };
+    if start < candidate && candidate <= LAST_SECOND {
+        Some(candidate)
+    } else {
+        None
+    }
+}
+
+// The last of the instants before an end that UTC has a date for.
+pub(crate) fn last_in(found: MappedLocalTime<i64>, end: i64) -> Option<i64>
+    requires order { IfTwo (λ x y. x <ℤ y) found }
+    ensures { IsLastIn (λ u. IsAmong u found) end result }
+{
+    let candidate = match found {
+        MappedLocalTime::None => return None,
+        MappedLocalTime::Single(only) => only,
+        MappedLocalTime::Ambiguous(first, last) => { if last < end { last } else { first } }
+    };
+    if candidate < end && FIRST_SECOND <= candidate {
+        Some(candidate)
+    } else {
+        None
+    }
+}

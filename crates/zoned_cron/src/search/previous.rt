@@ -1,0 +1,83 @@
+//! The last instant before an end at which a schedule fires.
+ghost use Rattle.std.specs.Prelude.{◌≡◌, ◌⊎◌, ℤ, pos, neg_ℤ, ◌≤ℤ◌, ◌<ℤ◌, IfNone, IfSome, IsFalse, IsSomeAnd, IsTrue};
+ghost use Rattle.chrono_datetime.specs.Moment.{IsBefore, Moment};
+ghost use Rattle.chrono_instant.specs.Instants.{IsEpochSecond, epoch_second};
+ghost use Rattle.chrono_cron.specs.Due.{is_due};
+ghost use Rattle.zoned_cron.specs.Fires.{Fires};
+ghost use Rattle.zoned_cron.specs.Private.{FiresFor, IsAtMost};
+
+use crate::schedule::ZonedSchedule;
+use crate::search::instants::{last_in, lies_in_dates, shown_at};
+use chrono_datetime::NaiveDateTime;
+use chrono_datetime::law::last_date_time;
+use chrono_instant::{FromTimestamp, Timestamp};
+use chrono_zoned::TimeZone;
+
+// A clock is ahead of UTC by less than a day.
+const DAY: i64 = 86_400;
+
+impl<Z: TimeZone> ZonedSchedule<Z> {
+    // The last instant before `end` at which the schedule fires, as a second from 1 January 1970.
+    pub(crate) fn last_before(&self, end: i64) -> Option<i64>
+        requires low { neg_ℤ (pos 8_334_601_228_800) ≤ℤ end }
+        requires high { end ≤ℤ pos 8_210_266_876_800 }
+        ensures fires { IfSome result (λ c. (c <ℤ end) × Fires self.now.schedule.sets (Z.ahead self.now.zone) self.now.policy c) }
+        ensures greatest { (u : ℤ) → u <ℤ end → Fires self.now.schedule.sets (Z.ahead self.now.zone) self.now.policy u → IsAtMost result u }
+    {
+        let Some(mut local) = self.last_planned(end) else {
+            return None;
+        };
+        lies_in_dates(local);
+        let mut best: Option<i64> = None;
+        while self.may_follow(local, best) {
+            best = later(best, last_in(self.taken(local), end));
+            let Some(earlier) = self.schedule.prev_before(local) else {
+                return best;
+            };
+            lies_in_dates(earlier);
+            local = earlier;
+        }
+        best
+    }
+
+    // The last planned local time that may fire before `end`.
+    fn last_planned(&self, end: i64) -> Option<NaiveDateTime>
+        requires low { neg_ℤ (pos 8_334_601_228_800) ≤ℤ end }
+        requires high { end ≤ℤ pos 8_210_266_876_800 }
+        ensures due { IfSome result (λ m. IsTrue (is_due self.now.schedule.sets m)) }
+        ensures later { IfSome result (λ q. (m : Moment) (u : ℤ) → FiresFor self.now.schedule.sets (Z.ahead self.now.zone) self.now.policy m u → IsBefore q m → end ≤ℤ u) }
+        ensures none { IfNone result ((m : Moment) (u : ℤ) → FiresFor self.now.schedule.sets (Z.ahead self.now.zone) self.now.policy m u → end ≤ℤ u) }
+    {
+        if let Some(past) = NaiveDateTime::from_timestamp(end + DAY, 0) {
+            return self.schedule.prev_before(past);
+        }
+        let (last, _) = last_date_time();
+        self.schedule.prev_before(last)
+    }
+
+    // Whether a local time may fire after the best instant so far: none does that the clock showed or skipped two days earlier.
+    fn may_follow(&self, local: NaiveDateTime, best: Option<i64>) -> bool
+        requires { IfSome best IsEpochSecond }
+        ensures { IsFalse result → IsSomeAnd best (λ c. (m : Moment) (u : ℤ) → FiresFor self.now.schedule.sets (Z.ahead self.now.zone) self.now.policy m u → epoch_second m ≤ℤ epoch_second local → u ≤ℤ c) }
+    {
+        let Some(best) = best else {
+            return true;
+        };
+        match shown_at(self.zone, best - 2 * DAY) {
+            Some(shown) => shown.timestamp() < local.timestamp(),
+            None => true,
+        }
+    }
+}
+
+// The later of two instants, if there is one.
+fn later(one: Option<i64>, other: Option<i64>) -> Option<i64>
+    ensures greatest { (u : ℤ) → IsAtMost one u ⊎ IsAtMost other u → IsAtMost result u }
+    ensures either { (result ≡ one) ⊎ (result ≡ other) }
+{
+    match (one, other) {
+        (Some(one), Some(other)) => Some(one.max(other)),
+        (Some(only), None) | (None, Some(only)) => Some(only),
+        (None, None) => None,
+    }
+}
