@@ -1,3 +1,4 @@
 -- All serve this crate's own proofs alone.
 mod PatternLemmas
 mod TimelessLemmas
+mod ReadLemmas

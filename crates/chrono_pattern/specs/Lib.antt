@@ -5,3 +5,10 @@ pub mod Groups
 pub mod Subseconds
 pub mod Patterns
 pub mod Needs
+pub mod Parts
+pub mod Progress
+pub mod NumberReads
+pub mod WordReads
+pub mod SubsecondReads
+pub mod ItemReads
+pub mod Reads

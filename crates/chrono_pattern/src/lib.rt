@@ -11,16 +11,24 @@
 //! its bytes, and nothing here allocates.
 #![tactic(auto)]
 
+mod class;
 mod error;
 mod group;
 mod item;
 pub mod law;
 mod needs;
 mod number;
+mod number_reader;
+mod parsed;
 mod pattern;
+mod reader;
 mod step;
+mod stop;
 mod subsecond;
+mod subsecond_reader;
 mod word;
+mod word_reader;
 
-pub use error::{PatternError, PatternFault};
+pub use error::{PatternError, PatternFault, PatternReadError, ReadFault};
+pub use parsed::Parsed;
 pub use pattern::Pattern;

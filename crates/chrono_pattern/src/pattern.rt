@@ -1,15 +1,19 @@
 //! `Pattern`: a pattern of texts, which writes date-times.
-ghost use Rattle.std.specs.Prelude.{◌≡◌, ◌↔◌, ◌≤◌, ℕ, List, false, Some, None, IfErr, IfOk, IfSome, IsOk, IsSome, length};
+ghost use Rattle.std.specs.Prelude.{◌≡◌, ◌↔◌, ◌≤◌, ℕ, List, false, Some, None, Ok, Err, IfErr, IfOk, IfSome, IsOk, IsSome, length};
 ghost use Rattle.chrono_datetime.specs.Moment.{moment};
 ghost use Rattle.chrono_datetime.specs.Time.{TimeOfDay, time_at};
 ghost use Rattle.chrono_pattern.specs.Needs.{needs_time};
+ghost use Rattle.chrono_pattern.specs.Reads.{read_error, text_read};
+ghost use Rattle.chrono_pattern.specs.declared.stop.Stop.{Stop};
 ghost use Rattle.chrono_pattern.specs.Patterns.{IsPattern, begun_at, cut_error, item_text, pattern_error, pattern_text};
 
-use crate::error::{PatternError, PatternFault};
+use crate::error::{PatternError, PatternFault, PatternReadError};
 use crate::group::put_group;
 use crate::item::{Item, State};
 use crate::needs::needs_time;
 use crate::number::put_number;
+use crate::parsed::Parsed;
+use crate::reader::{Reader, read_by};
 use crate::step::pattern_step;
 use crate::subsecond::put_subsecond;
 use crate::word::put_word;
@@ -105,6 +109,35 @@ impl<'a> Pattern<'a> {
         ensures { result ≡ needs_time self.now }
     {
         needs_time(self.bytes)
+    }
+
+    /// Returns the parts that `text` gives.
+    ///
+    /// # Errors
+    ///
+    /// Returns [`PatternReadError`] if the pattern does not read the text. It names the first piece that is wrong.
+    ///
+    /// ```
+    /// let pattern = Pattern::new(b"%d %b %Y").ok()?;
+    /// pattern.read_parts(b"29 feb 2024").ok()?.month // Some(2)
+    /// pattern.read_parts(b"29 feb 24").ok()?.year // Some(24)
+    /// pattern.read_parts(b"29 feb").err() // Some(PatternReadError { byte: 6, cause: TooShort })
+    /// ```
+    pub fn read_parts(&self, text: &[u8]) -> Result<Parsed, PatternReadError>
+        ensures parts { IfOk result (λ p. text_read self.now text.now ≡ Ok p) }
+        ensures error { IfErr result (λ e. (stop : Stop) × (text_read self.now text.now ≡ Err stop) × (e ≡ read_error text.now stop)) }
+    {
+        let start = Reader {
+            rest: text,
+            parsed: Parsed::new(),
+        };
+        match read_by(self.bytes, start) {
+            Ok(parsed) => Ok(parsed),
+            Err(stop) => Err(PatternReadError {
+                byte: text.len().saturating_sub(stop.left),
+                cause: stop.cause,
+            }),
+        }
     }
 
     /// Returns the text of `date`. Returns `None` if the pattern needs a time of day, or if the text has more than `N` bytes.

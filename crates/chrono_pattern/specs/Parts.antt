@@ -1,0 +1,94 @@
+-- The parts of a date-time that a text gives.
+use Rattle.std.specs.Prelude.{ℕ, ℤ, pos, neg_ℤ, if◌then◌else◌, Option, Some, None, Result, Ok, Err}
+use Rattle.std.specs.Int.RustNames.{int_lt}
+use Rattle.std.specs.Ordering.{int_eq}
+use Rattle.chrono_pattern.specs.declared.error.ReadFault.{ReadFault}
+use Rattle.chrono_pattern.specs.declared.error.ReadFault.TheVariants.{OutOfRange, Impossible}
+use Rattle.chrono_pattern.specs.declared.parsed.Parsed.{Parsed}
+use Rattle.chrono_pattern.specs.declared.parsed.Part.{Part}
+use Rattle.chrono_pattern.specs.declared.parsed.Part.TheVariants.{FullYear, YearDiv100, YearMod100, FullIsoYear, IsoYearMod100, QuarterOfYear, MonthOfYear, WeekOfIsoYear, DayOfWeek, OrdinalDay, DayOfMonth, HourDiv12, HourMod12, MinuteOfHour, SecondOfMinute, NanosecondOfSecond}
+
+-- nothing is given
+abbrev pub no_parts : Parsed
+no_parts = record {
+  year = None;
+  year_div_100 = None;
+  year_mod_100 = None;
+  isoyear = None;
+  isoyear_mod_100 = None;
+  quarter = None;
+  month = None;
+  isoweek = None;
+  weekday = None;
+  ordinal = None;
+  day = None;
+  hour_div_12 = None;
+  hour_mod_12 = None;
+  minute = None;
+  second = None;
+  nanosecond = None;
+}
+
+-- the part, if it is given
+abbrev pub part_of : Part → Parsed → Option ℤ
+part_of FullYear p = p.year
+part_of YearDiv100 p = p.year_div_100
+part_of YearMod100 p = p.year_mod_100
+part_of FullIsoYear p = p.isoyear
+part_of IsoYearMod100 p = p.isoyear_mod_100
+part_of QuarterOfYear p = p.quarter
+part_of MonthOfYear p = p.month
+part_of WeekOfIsoYear p = p.isoweek
+part_of DayOfWeek p = p.weekday
+part_of OrdinalDay p = p.ordinal
+part_of DayOfMonth p = p.day
+part_of HourDiv12 p = p.hour_div_12
+part_of HourMod12 p = p.hour_mod_12
+part_of MinuteOfHour p = p.minute
+part_of SecondOfMinute p = p.second
+part_of NanosecondOfSecond p = p.nanosecond
+
+-- the parts with another value of one
+abbrev pub with_part : Part → ℤ → Parsed → Parsed
+with_part FullYear v p = record p { year = Some v }
+with_part YearDiv100 v p = record p { year_div_100 = Some v }
+with_part YearMod100 v p = record p { year_mod_100 = Some v }
+with_part FullIsoYear v p = record p { isoyear = Some v }
+with_part IsoYearMod100 v p = record p { isoyear_mod_100 = Some v }
+with_part QuarterOfYear v p = record p { quarter = Some v }
+with_part MonthOfYear v p = record p { month = Some v }
+with_part WeekOfIsoYear v p = record p { isoweek = Some v }
+with_part DayOfWeek v p = record p { weekday = Some v }
+with_part OrdinalDay v p = record p { ordinal = Some v }
+with_part DayOfMonth v p = record p { day = Some v }
+with_part HourDiv12 v p = record p { hour_div_12 = Some v }
+with_part HourMod12 v p = record p { hour_mod_12 = Some v }
+with_part MinuteOfHour v p = record p { minute = Some v }
+with_part SecondOfMinute v p = record p { second = Some v }
+with_part NanosecondOfSecond v p = record p { nanosecond = Some v }
+
+-- the least and the greatest value of the part that a text may give
+abbrev pub range_of : Part → ℤ × ℤ
+range_of FullYear = (neg_ℤ (pos 999_999_999), pos 999_999_999)
+range_of FullIsoYear = (neg_ℤ (pos 999_999_999), pos 999_999_999)
+range_of YearDiv100 = (pos 0, pos 99)
+range_of YearMod100 = (pos 0, pos 99)
+range_of IsoYearMod100 = (pos 0, pos 99)
+range_of QuarterOfYear = (pos 1, pos 4)
+range_of MonthOfYear = (pos 1, pos 12)
+range_of WeekOfIsoYear = (pos 1, pos 53)
+range_of DayOfWeek = (pos 1, pos 7)
+range_of OrdinalDay = (pos 1, pos 366)
+range_of DayOfMonth = (pos 1, pos 31)
+range_of HourDiv12 = (pos 0, pos 1)
+range_of HourMod12 = (pos 0, pos 11)
+range_of MinuteOfHour = (pos 0, pos 59)
+range_of SecondOfMinute = (pos 0, pos 60)
+range_of NanosecondOfSecond = (pos 0, pos 999_999_999)
+
+-- the parts with one more, if its value is in its range and is the one that was given before
+unfoldable pub put : Part → ℤ → Parsed → Result Parsed ReadFault
+put part v p =
+    if int_lt v (range_of part).0 then Err OutOfRange
+    else if int_lt (range_of part).1 v then Err OutOfRange
+    else elim (part_of part p) [ None ↦ Ok (with_part part v p) | Some w ↦ if int_eq w v then Ok p else Err Impossible ]

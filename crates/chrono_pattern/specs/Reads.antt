@@ -1,0 +1,30 @@
+-- How a text is read by the bytes of a pattern.
+use Rattle.std.specs.Prelude.{ℕ, ◌-◌, ◌==◌, if◌then◌else◌, List, [], ◌∷◌, length, Option, Some, None, Result, Ok, Err}
+use Rattle.chrono_pattern.specs.ItemReads.{item_read}
+use Rattle.chrono_pattern.specs.Parts.{no_parts}
+use Rattle.chrono_pattern.specs.Progress.{Progress, stopped}
+use Rattle.chrono_pattern.specs.Steps.{pattern_step}
+use Rattle.chrono_pattern.specs.declared.error.PatternReadError.{PatternReadError}
+use Rattle.chrono_pattern.specs.declared.error.ReadFault.TheVariants.{TooLong}
+use Rattle.chrono_pattern.specs.declared.item.Item.{Item}
+use Rattle.chrono_pattern.specs.declared.item.State.{State}
+use Rattle.chrono_pattern.specs.declared.item.State.TheVariants.{Outside}
+use Rattle.chrono_pattern.specs.declared.parsed.Parsed.{Parsed}
+use Rattle.chrono_pattern.specs.declared.stop.Stop.{Stop}
+
+-- the parts, if nothing is left of the text
+abbrev pub end_read : Progress → Result Parsed Stop
+end_read r = if length r.rest == 0 then Ok r.parsed else Err (stopped TooLong r.rest)
+
+-- the items of the bytes of a pattern, one after another
+unfoldable pub read_from : State → List ℕ → Progress → Result Parsed Stop
+read_from s [] r = end_read r
+read_from s (c ∷ bytes) r = elim (pattern_step s c) [ None ↦ Ok r.parsed | Some next ↦ elim (item_read next.1 r) [ Ok q ↦ read_from next.0 bytes q | Err e ↦ Err e ] ]
+
+-- the error of a text by where a reader stopped
+abbrev pub read_error : List ℕ → Stop → PatternReadError
+read_error text e = record { byte = length text - e.left; cause = e.cause }
+
+-- the parts of a text, or where a reader stops
+abbrev pub text_read : List ℕ → List ℕ → Result Parsed Stop
+text_read bytes text = read_from Outside bytes (record { rest = text; parsed = no_parts })

@@ -1,0 +1,42 @@
+//! Classes of bytes, and how many of one a text begins with.
+ghost use Rattle.std.specs.Prelude.{◌≡◌, ◌≤◌, length};
+ghost use Rattle.chrono_pattern.specs.Progress.{behind_blanks, in_front, is_of};
+
+// A class of bytes.
+#[derive(Clone, Copy)]
+pub(crate) enum Class {
+    Blank,
+    Digit,
+}
+
+// Whether a byte is of a class.
+pub(crate) fn is_of(class: Class, byte: u8) -> bool
+    ensures { result ≡ is_of class byte }
+{
+    match class {
+        Class::Blank => matches!(byte, b' ' | b'\t'..=b'\r'),
+        Class::Digit => byte.is_ascii_digit(),
+    }
+}
+
+// How many bytes of a class a text begins with.
+pub(crate) fn in_front(class: Class, text: &[u8]) -> usize
+    ensures value { result ≡ in_front class text.now }
+    ensures within { result ≤ length text.now }
+{
+    let mut len = 0;
+    while len < text.len() {
+        if !is_of(class, text[len]) {
+            return len;
+        }
+        len += 1;
+    }
+    len
+}
+
+// The text behind the blanks in front.
+pub(crate) fn skip_blanks(text: &[u8]) -> &[u8]
+    ensures { result.now ≡ behind_blanks text.now }
+{
+    &text[in_front(Class::Blank, text)..]
+}
