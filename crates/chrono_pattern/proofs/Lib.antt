@@ -2,3 +2,4 @@
 mod PatternLemmas
 mod TimelessLemmas
 mod ReadLemmas
+mod DatePartLemmas

@@ -12,3 +12,5 @@ pub mod WordReads
 pub mod SubsecondReads
 pub mod ItemReads
 pub mod Reads
+pub mod DateParts
+pub mod TimeParts

@@ -34,8 +34,10 @@ pub enum ReadFault {
     Invalid,
     /// The field has no such value.
     OutOfRange,
-    /// The same field has another value before.
+    /// Two fields contradict each other.
     Impossible,
+    /// The fields do not suffice for the value.
+    NotEnough,
 }
 
 /// Why a pattern does not read a text, and where.

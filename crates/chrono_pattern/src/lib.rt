@@ -12,6 +12,7 @@
 #![tactic(auto)]
 
 mod class;
+mod date_parts;
 mod error;
 mod group;
 mod item;

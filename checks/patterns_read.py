@@ -1,0 +1,320 @@
+#!/usr/bin/env python3
+"""Holds the reading of texts by patterns to an own reader, to Python's strptime and to Debian's chrono, on random patterns and texts.
+
+    checks/patterns_read.py [--seed N] [--lines N]      (seed 1 and 20,000 lines, if left out)
+
+A text is one that its pattern writes, often with a byte changed, left out or put in. The wanted answer is this file's own. Where it is a
+date, its fields are compared with all dates that fit, by their names. Python's strptime has to read the same date wherever it has all specifiers
+of a pattern and reads the text. Debian's chrono has to read the same date, or none where none is wanted. It differs where the tables below say.
+`rt try` runs a small program unproved, in a copy of the crates. A second run of the same lines with one answer changed has to find that answer.
+"""
+import argparse
+import datetime
+import random
+import re
+import subprocess
+import sys
+import tempfile
+
+from outside import answers_in_parts, put_program
+from patterns import FIRST, LAST, MONTHS, NANOS, PART, SPECIFIER, WEEKDAYS, Moment, answer, build_over_chrono, why_no_chrono
+
+GROUPS = {"F": "%Y-%m-%d", "D": "%m/%d/%y", "R": "%H:%M", "T": "%H:%M:%S", "h": "%b", "n": "\n", "t": "\t"}
+# The part of a number, and its least and greatest value.
+PARTS = {
+    "Y": ("year", -999_999_999, 999_999_999), "C": ("century", 0, 99), "y": ("place", 0, 99), "q": ("quarter", 1, 4), "m": ("month", 1, 12),
+    "d": ("day", 1, 31), "e": ("day", 1, 31), "j": ("ordinal", 1, 366), "u": ("weekday", 1, 7), "G": ("isoyear", -999_999_999, 999_999_999),
+    "g": ("isoplace", 0, 99), "V": ("isoweek", 1, 53), "M": ("minute", 0, 59), "S": ("second", 0, 60), "f": ("nanos", 0, 999_999_999),
+}
+WIDTHS = {"Y": 4, "G": 4, "j": 3, "q": 1, "u": 1, "w": 1, "f": 9}
+BLANKS = " \t\n\v\f\r"
+# What Python's strptime reads as chrono's patterns do.
+OF_PYTHON = "YmdjbBaAHIMSpy"
+# Patterns whose dates Debian's chrono reads otherwise: it has no `%q`, reads a date by `%g`, and takes no century of a year below 0.
+NOT_OF_CHRONO = re.compile(r"%[-_0]?[qgCy]")
+PROGRAM = r'''//! Reads dates by patterns, a line each.
+#![tactic(auto)]
+
+use chrono_pattern::Pattern;
+use std::io::{self, BufRead, BufReader};
+
+fn main(rt: HostRuntime) -> io::Result<()> {
+    for line in BufReader::new(rt.alloc(), rt.reader())?.lines(rt.alloc()) {
+        let line = line?;
+        let Some((pattern, text)) = line.as_str().split_once('|') else { return Ok(()); };
+        match Pattern::new(pattern.as_bytes()) {
+            Ok(pattern) => match pattern.read_parts(text.as_bytes()) {
+                Ok(parts) => match parts.to_date() {
+                    Ok(date) => println!(rt; "= {date}")?,
+                    Err(cause) => println!(rt; "{cause:?}")?,
+                },
+                Err(error) => println!(rt; "{:?} {}", error.cause, error.byte)?,
+            },
+            Err(_) => println!(rt; "no pattern")?,
+        }
+    }
+    Ok(())
+}
+'''
+
+
+class Wrong(Exception):
+    """What is wrong with a text, and where."""
+
+
+class Reader:
+    """A text that is read, and the parts that it gives."""
+
+    def __init__(self, text):
+        self.text, self.at, self.parts = text, 0, {}
+
+    def fail(self, cause, at=None):
+        raise Wrong(f"{cause} {self.at if at is None else at}")
+
+    def put(self, name, value, least, most, at):
+        if not least <= value <= most:
+            self.fail("OutOfRange", at)
+        if self.parts.setdefault(name, value) != value:
+            self.fail("Impossible", at)
+
+    def blanks(self):
+        while self.at < len(self.text) and self.text[self.at] in BLANKS:
+            self.at += 1
+
+    def byte(self, byte):
+        if byte in BLANKS:
+            return self.blanks()
+        if self.at == len(self.text):
+            self.fail("TooShort")
+        if self.text[self.at] != byte:
+            self.fail("Invalid")
+        self.at += 1
+
+    def digits(self, most):
+        found = re.compile(f"[0-9]{{1,{most}}}").match(self.text, self.at)
+        if not found:
+            self.fail("TooShort" if self.at == len(self.text) else "Invalid")
+        return found[0]
+
+    def number(self, code):
+        self.blanks()
+        sign, width = "", WIDTHS.get(code, 2)
+        if code in "YG" and self.text[self.at : self.at + 1] in ("-", "+"):
+            sign, width = self.text[self.at], 9
+            self.at += 1
+        found, at = self.digits(width), self.at
+        value = -int(found) if sign == "-" else int(found)
+        if code in "Hk":
+            self.put("half", value // 12, 0, 1, at)
+            self.put("hour", value % 12, 0, 11, at)
+        elif code in "Il":
+            self.put("hour", {0: 12, 12: 0}.get(value, value), 0, 11, at)
+        elif code == "w":
+            self.put("weekday", {0: 7, 7: 8}.get(value, value), 1, 7, at)
+        else:
+            name, least, most = PARTS[code]
+            self.put(name, value, least, most, at)
+        self.at += len(found)
+
+    def name(self, names, whole, part):
+        at, letters = self.at, self.text[self.at : self.at + 3].lower()
+        if len(letters) < 3:
+            self.fail("TooShort")
+        found = [k for k, it in enumerate(names) if it[:3].lower() == letters]
+        if not found:
+            self.fail("Invalid")
+        name = names[found[0]]
+        self.put(part, found[0] + 1, 1, len(names), at)
+        self.at += len(name) if whole and self.text[at : at + len(name)].lower() == name.lower() else 3
+
+    def half(self):
+        letters = self.text[self.at : self.at + 2].lower()
+        if len(letters) < 2:
+            self.fail("TooShort")
+        if letters not in ("am", "pm"):
+            self.fail("Invalid")
+        self.put("half", int(letters == "pm"), 0, 1, self.at)
+        self.at += 2
+
+    def fraction(self, form):
+        if form.startswith("."):
+            if self.text[self.at : self.at + 1] != ".":
+                return
+            self.at += 1
+            found = re.compile("[0-9]*").match(self.text, self.at)[0]
+            if not found:
+                self.digits(1)
+            kept = found[:9]
+        else:
+            count = int(form)
+            if len(self.text) - self.at < count:
+                self.fail("TooShort")
+            found = kept = self.text[self.at : self.at + count]
+            if not re.fullmatch("[0-9]*", kept):
+                self.fail("Invalid")
+        self.put("nanos", int(kept.ljust(9, "0")), 0, 999_999_999, self.at)
+        self.at += len(found)
+
+    def item(self, found):
+        _, code, other, form = found.groups()
+        if code:
+            self.number(code)
+        elif other in GROUPS:
+            self.pattern(GROUPS[other])
+        elif other in ("B", "b"):
+            self.name(MONTHS, other == "B", "month")
+        elif other in ("A", "a"):
+            self.name(WEEKDAYS, other == "A", "weekday")
+        elif other in ("p", "P"):
+            self.half()
+        elif other == "%":
+            self.byte("%")
+        else:
+            self.fraction(form)
+
+    def pattern(self, pattern):
+        at = 0
+        while at < len(pattern):
+            found = SPECIFIER.match(pattern, at)
+            if found:
+                self.item(found)
+                at = found.end()
+            else:
+                self.byte(pattern[at])
+                at += 1
+
+
+def by_names(parts):
+    """The dates that a set of parts that suffices names; none if no set does."""
+    year = parts.get("year")
+    if year is None and "place" in parts:
+        year = parts["century"] * 100 + parts["place"] if "century" in parts else parts["place"] + (2000 if parts["place"] < 70 else 1900)
+    if year is not None and {"month", "day"} <= parts.keys():
+        new_year, leap = Moment.new_year(year), (year % 4 == 0 and year % 100 != 0) or year % 400 == 0
+        lengths = [31, 28 + leap, 31, 30, 31, 30, 31, 31, 30, 31, 30, 31]
+        return [new_year + sum(lengths[: parts["month"] - 1]) + parts["day"] - 1] if parts["day"] <= lengths[parts["month"] - 1] else []
+    if year is not None and "ordinal" in parts:
+        return [Moment.new_year(year) + parts["ordinal"] - 1]
+    if {"isoyear", "isoweek", "weekday"} <= parts.keys():
+        fourth = Moment.new_year(parts["isoyear"]) + 3
+        return [fourth - (fourth - 1) % 7 + 7 * (parts["isoweek"] - 1) + parts["weekday"] - 1]
+    return None
+
+
+def fits(parts, day):
+    """Whether a date fits all parts."""
+    if not FIRST <= day <= LAST:
+        return False
+    it = Moment(day, 0, 0)
+    told = {
+        "year": it.year, "century": it.year // 100, "place": it.year % 100, "isoyear": it.iso_year, "isoplace": it.iso_year % 100,
+        "quarter": (it.month + 2) // 3, "month": it.month, "isoweek": it.iso_week, "weekday": it.weekday + 1, "ordinal": it.ordinal, "day": it.of_month,
+    }
+    alone = "place" in parts and "year" not in parts and "century" not in parts
+    return all(parts.get(name, value) == value for name, value in told.items()) and not (alone and not 1970 <= it.year <= 2069)
+
+
+def written(day):
+    it = Moment(day, 0, 0)
+    year = f"{it.year:04}" if 0 <= it.year <= 9999 else f"{it.year:+05}" if it.year < 0 else f"+{it.year}"
+    return f"= {year}-{it.month:02}-{it.of_month:02}"
+
+
+def wanted_of(pattern, text):
+    reader = Reader(text)
+    try:
+        reader.pattern(pattern)
+        if reader.at < len(text):
+            reader.fail("TooLong")
+    except Wrong as wrong:
+        return str(wrong)
+    days = by_names(reader.parts)
+    if days is None:
+        return "NotEnough"
+    right = [it for it in days if fits(reader.parts, it)]
+    told = written(right[0]) if right else "Impossible"
+    as_python(pattern, text, told)
+    return told
+
+
+def as_python(pattern, text, told):
+    """Stops if strptime reads another date."""
+    codes = "".join(it[1] + it[2] + it[3] for it in re.findall(SPECIFIER.pattern, pattern))
+    if not set(codes) <= set(OF_PYTHON) or re.search("%[-_0]", pattern) or not told.startswith("= ") or ("y" in codes and int(told[2:6]) > 2068):
+        return
+    try:
+        date = datetime.datetime.strptime(text, pattern).date()
+    except ValueError:
+        return
+    assert f"= {date:%Y-%m-%d}".replace("= ", "= ").endswith(told[2:].lstrip("0")), (pattern, text, told, date)
+
+
+PATTERNS = (
+    "%Y-%m-%d", "%F", "%d.%m.%y", "%m/%d/%Y", "%D", "%Y%m%d", "%d %b %Y", "%A, %d %B %Y", "%a %e %b %Y", "%Y-%j", "%G-W%V-%u", "%G %V %a", "%C%y-%m-%d",
+    "%Y-%m-%dT%T%.f", "%F %I:%M %p", "%F %H%M%S%3f", "%q %F", "%F %w", "%B %d %Y %A", "%y%j", "%d%m%y %H", "%Y %b", "%g %V %u", "%b %d", "%F%n%T", "%Y %m %d %f",
+)
+
+
+def question(draw):
+    """A random line: a pattern, and a text that it writes, often spoilt."""
+    pattern = draw.choice(PATTERNS)
+    if draw.random() < 0.3:
+        pattern = "".join(draw.choice(("%Y", "%m", "%d", "%j", "%y", "%C", "%b", "%B", "%a", "%A", "%e", "%u", "%w", "%G", "%V", "%H", "%I", "%p", "%M", "%-d", "%_m", " ", "-", "/", "x")) for _ in range(draw.randrange(2, 9)))
+    day = draw.choice((draw.randrange(719_163, 755_000), draw.randrange(600_000, 800_000), draw.randrange(FIRST, LAST + 1)))
+    fraction = draw.choice((0, 500_000_000, draw.randrange(NANOS)))
+    text = answer(Moment(day, draw.randrange(86_400), fraction), pattern)
+    if draw.random() < 0.5:
+        at = draw.randrange(len(text) + 1)
+        put = draw.choice(("", "0", "1", "9", " ", "-", "x", ":", "A"))
+        text = text[:at] + put + text[at + draw.randrange(2) :]
+    if draw.random() < 0.2:
+        text = text.swapcase()
+    return pattern, text
+
+
+def line_of(question):
+    return "|".join(question)
+
+
+def by_chrono(room, questions):
+    """The dates that chrono reads, and `!` for none."""
+    program = build_over_chrono(room, "checks/chrono_patterns")
+    asked = "".join(f"{line_of(it)}\n" for it in questions)
+    return subprocess.run([program, "read"], input=asked, stdout=subprocess.PIPE, text=True, check=True).stdout.split("\n")[:-1]
+
+
+def differing(questions, told, wanted):
+    return [f"{line_of(it)}: {a!r}, not {b!r}" for it, a, b in zip(questions, told, wanted) if a != b]
+
+
+def main():
+    parser = argparse.ArgumentParser(description=__doc__.partition("\n")[0])
+    parser.add_argument("--seed", type=int, default=1)
+    parser.add_argument("--lines", type=int, default=20_000)
+    options = parser.parse_args()
+    draw = random.Random(options.seed)
+    questions = [it for it in (question(draw) for _ in range(options.lines)) if "\n" not in line_of(it)]
+    wanted = [wanted_of(*it) for it in questions]
+    wrong = []
+    with tempfile.TemporaryDirectory(prefix="patterns-read-") as room:
+        if missing := why_no_chrono():
+            print(f"chrono is not asked: {missing}")
+        else:
+            # Debian's chrono does not look at the range of an hour or a minute where it reads a date.
+            others = [(it, a, b if b.startswith("= ") else "!") for it, a, b in zip(questions, by_chrono(room, questions), wanted) if not NOT_OF_CHRONO.search(it[0]) and not b.startswith("OutOfRange")]
+            wrong += ["chrono: " + it for it in differing(*zip(*others))]
+            print(f"{len(others)} of {len(questions)} by chrono too")
+        folder = put_program(room, "patterns_read", ["chrono_pattern"], PROGRAM)
+        told = [it.removeprefix("") for it in answers_in_parts(room, folder, [line_of(it) for it in questions], PART)]
+    own = differing(questions, told, wanted)
+    changed = ["", *wanted[1:]]
+    if len(differing(questions, told, changed)) != len(own) + 1 and told[0] == wanted[0]:
+        sys.exit("a changed answer is not found")
+    for it in (own + wrong)[:20]:
+        print(f"FAILED: {it}")
+    print(f"{len(wanted) - len(own)} passed, {len(own) + len(wrong)} failed")
+    sys.exit(bool(own or wrong))
+
+
+if __name__ == "__main__":
+    main()

@@ -1,0 +1,225 @@
+-- The date that fits parts is the one that they name.
+use Rattle.std.proofs.Common.{◌≡◌, ℕ, Bool, true, false, ◌&&◌, Option, None, Some, refl, ap, sym, ◌∙◌, ◌≤◌, ℤ, pos, neg_ℤ, SFits, of_z, to_z, w32, arith, rules}
+use Rattle.std.proofs.lemmas.Bool.{and_parts, false≢true}
+use Rattle.std.proofs.lemmas.Bool.Decides.{Decides-int_eq}
+use Rattle.std.proofs.lemmas.Int.{ints, to_z-of_z}
+use Rattle.std.specs.Int.{int_div_euclid, int_rem_euclid}
+use Rattle.std.specs.Prelude.{◌≤ℤ◌, if◌then◌else◌, int_le}
+use Rattle.chrono_calendar.proofs.IsoDates.{before_monday-bound, date_of_iso-again, iso_week_of-bounds}
+use Rattle.chrono_calendar.proofs.IsoWeeks.{iso_year_of-range}
+use Rattle.chrono_calendar.proofs.Signed.{signed}
+use Rattle.chrono_calendar.proofs.NamedDates.{calendar_name-exists, date_of_yo-again, date_of_ymd-again, day_of-small}
+use Rattle.chrono_calendar.proofs.Names.{ordinal_name_of-number, year_length_bounds}
+use Rattle.chrono_datetime.specs.Days.{IsDate, date_of_ymd, date_of_yo, day_of, month_of, ordinal_of, year_of}
+use Rattle.chrono_datetime.specs.Weekday.{number_from_monday}
+use Rattle.chrono_datetime.specs.Years.{IsYear}
+use Rattle.chrono_datetime.specs.Weeks.{date_of_iso, iso_week_of, iso_year_of, weekday_of}
+use Rattle.chrono_datetime.specs.declared.Weekday.{Weekday}
+use Rattle.chrono_datetime.specs.declared.Weekday.TheVariants.{Mon, Tue, Wed, Thu, Fri, Sat, Sun}
+use Rattle.chrono_pattern.specs.DateParts.{date_fits, day_fits, in_window, is_given, names_calendar, names_date, names_ordinal, names_week, names_year, says, week_fits, weekday_numbered, year_fits}
+use Rattle.chrono_pattern.specs.declared.parsed.Parsed.{Parsed}
+
+-- ---- what fits
+
+-- a part that is given is what it says
+pub said : (o : Option ℤ) (w v : ℤ) → o ≡ Some w → says o v ≡ true → w ≡ v
+said None w v is fits = cc
+said (Some u) w v is fits = let same : u ≡ w = cc in sym same ∙ (Decides-int_eq u v).0 fits
+
+-- the parts of a year, of a day and of a week fit each
+pub record FitsEach (p : Parsed) (n : ℤ) : Type 0 where
+  pub year : year_fits p (year_of n) ≡ true
+  pub day : day_fits p n ≡ true
+  pub week : week_fits p n ≡ true
+
+pub fits_each : (p : Parsed) (n : ℤ) → date_fits p n ≡ true → FitsEach p n
+unfolding date_fits
+fits_each p n fits =
+    let both = and_parts (year_fits p (year_of n)) (day_fits p n && week_fits p n) fits in
+    let rest = and_parts (day_fits p n) (week_fits p n) both.1 in
+    record { year = both.0; day = rest.0; week = rest.1 }
+
+pub month_said : (p : Parsed) (n m : ℤ) → day_fits p n ≡ true → p.month ≡ Some m → m ≡ pos (month_of n)
+unfolding day_fits
+month_said p n m fits is = said p.month m _ is (and_parts _ _ (and_parts _ _ fits).0).0
+
+pub day_said : (p : Parsed) (n d : ℤ) → day_fits p n ≡ true → p.day ≡ Some d → d ≡ pos (day_of n)
+unfolding day_fits
+day_said p n d fits is = said p.day d _ is (and_parts _ _ (and_parts _ _ fits).0).1
+
+pub ordinal_said : (p : Parsed) (n o : ℤ) → day_fits p n ≡ true → p.ordinal ≡ Some o → o ≡ pos (ordinal_of n)
+unfolding day_fits
+ordinal_said p n o fits is = said p.ordinal o _ is (and_parts _ _ (and_parts _ _ fits).1).0
+
+pub isoyear_said : (p : Parsed) (n y : ℤ) → week_fits p n ≡ true → p.isoyear ≡ Some y → y ≡ iso_year_of n
+unfolding week_fits
+isoyear_said p n y fits is = said p.isoyear y _ is (and_parts _ _ (and_parts _ _ fits).0).0
+
+pub isoweek_said : (p : Parsed) (n w : ℤ) → week_fits p n ≡ true → p.isoweek ≡ Some w → w ≡ pos (iso_week_of n)
+unfolding week_fits
+isoweek_said p n w fits is = said p.isoweek w _ is (and_parts _ _ (and_parts _ _ fits).1).0
+
+pub weekday_said : (p : Parsed) (n d : ℤ) → week_fits p n ≡ true → p.weekday ≡ Some d → d ≡ pos (number_from_monday (weekday_of n))
+unfolding week_fits
+weekday_said p n d fits is = said p.weekday d _ is (and_parts _ _ (and_parts _ _ fits).1).1
+
+-- ---- what is named
+
+-- a part that is wanted is there
+pub is_missing : (o : Option ℤ) → o ≡ None → is_given o ≡ true → ⊥
+is_missing None none given = absurd (false≢true given)
+is_missing (Some v) none given = cc
+
+pub record NamesCalendar (p : Parsed) : Type 0 where
+  pub year : names_year p ≡ true
+  pub month : is_given p.month ≡ true
+  pub day : is_given p.day ≡ true
+
+pub calendar_names : (p : Parsed) → names_calendar p ≡ true → NamesCalendar p
+unfolding names_calendar
+calendar_names p named =
+    let both = and_parts (names_year p) (is_given p.month && is_given p.day) named in
+    let rest = and_parts (is_given p.month) (is_given p.day) both.1 in
+    record { year = both.0; month = rest.0; day = rest.1 }
+
+pub ordinal_names : (p : Parsed) → names_ordinal p ≡ true → (names_year p ≡ true) × (is_given p.ordinal ≡ true)
+unfolding names_ordinal
+ordinal_names p named = and_parts (names_year p) (is_given p.ordinal) named
+
+pub record NamesWeek (p : Parsed) : Type 0 where
+  pub year : is_given p.isoyear ≡ true
+  pub week : is_given p.isoweek ≡ true
+  pub weekday : is_given p.weekday ≡ true
+
+pub week_names : (p : Parsed) → names_week p ≡ true → NamesWeek p
+unfolding names_week
+week_names p named =
+    let both = and_parts (is_given p.isoyear) (is_given p.isoweek && is_given p.weekday) named in
+    let rest = and_parts (is_given p.isoweek) (is_given p.weekday) both.1 in
+    record { year = both.0; week = rest.0; weekday = rest.1 }
+
+third : (a b c : Bool) → (if a then true else if b then true else c) ≡ true → a ≡ false → b ≡ false → c ≡ true
+third true b c h first second = absurd (false≢true (sym first))
+third false true c h first second = absurd (false≢true (sym second))
+third false false c h first second = h
+
+pub week_named : (p : Parsed) → names_date p ≡ true → names_calendar p ≡ false → names_ordinal p ≡ false → names_week p ≡ true
+unfolding names_date
+week_named p named first second = third (names_calendar p) (names_ordinal p) (names_week p) named first second
+
+-- ---- the year
+
+pub year_said : (p : Parsed) (y z : ℤ) → year_fits p y ≡ true → p.year ≡ Some z → z ≡ y
+unfolding year_fits
+year_said p y z fits is = said p.year z y is (and_parts _ _ (and_parts _ _ fits).0).0
+
+pub century_said : (p : Parsed) (y q : ℤ) → year_fits p y ≡ true → p.year_div_100 ≡ Some q → q ≡ int_div_euclid y (pos 100)
+unfolding year_fits
+century_said p y q fits is = said p.year_div_100 q _ is (and_parts _ _ (and_parts _ _ fits).0).1
+
+pub place_said : (p : Parsed) (y r : ℤ) → year_fits p y ≡ true → p.year_mod_100 ≡ Some r → r ≡ int_rem_euclid y (pos 100)
+unfolding year_fits
+place_said p y r fits is = said p.year_mod_100 r _ is (and_parts _ _ (and_parts _ _ fits).1).0
+
+within_window : (y : ℤ) → (int_le (pos 1970) y && int_le y (pos 2069)) ≡ true → (pos 1970 ≤ℤ y) × (y ≤ℤ pos 2069)
+within_window y within = (grind (arith, ints), grind (arith, ints))
+
+window : (a b c : Option ℤ) (r y : ℤ) → a ≡ None → b ≡ None → c ≡ Some r → in_window a b c y ≡ true → (pos 1970 ≤ℤ y) × (y ≤ℤ pos 2069)
+window None None (Some r) s y first second third within = within_window y within
+window None None None s y first second third within = cc
+window None (Some b) c s y first second third within = cc
+window (Some a) b c s y first second third within = cc
+
+pub window_said : (p : Parsed) (y r : ℤ) → year_fits p y ≡ true → p.year ≡ None → p.year_div_100 ≡ None → p.year_mod_100 ≡ Some r
+    → (pos 1970 ≤ℤ y) × (y ≤ℤ pos 2069)
+unfolding year_fits
+window_said p y r fits year century place =
+    window p.year p.year_div_100 p.year_mod_100 r y year century place (and_parts _ _ (and_parts _ _ fits).1).1
+
+-- ---- numbers as machine words
+
+small_fits : (z : ℤ) → neg_ℤ (pos 1_000_000) ≤ℤ z → z ≤ℤ pos 1_000_000 → SFits w32 z
+small_fits z least most = search rules
+
+cast_is : (x y : ℤ) → neg_ℤ (pos 1_000_000) ≤ℤ y → y ≤ℤ pos 1_000_000 → x ≡ y → to_z w32 (of_z w32 x) ≡ y
+cast_is x y least most same = ap (λ (z : ℤ). to_z w32 (of_z w32 z)) same ∙ to_z-of_z w32 y (small_fits y least most)
+
+pub year_cast : (x y : ℤ) → IsYear y → x ≡ y → to_z w32 (of_z w32 x) ≡ y
+year_cast x y year same = cast_is x y (omega (arith, signed, year.0)) (omega (arith, signed, year.1)) same
+
+pub iso_year_cast : (x n : ℤ) → IsDate n → x ≡ iso_year_of n → to_z w32 (of_z w32 x) ≡ iso_year_of n
+iso_year_cast x n date same =
+    let range = iso_year_of-range n date in
+    cast_is x (iso_year_of n) (omega (arith, signed, range.0)) (omega (arith, signed, range.1)) same
+
+pub century_cast : (x y : ℤ) → IsYear y → x ≡ int_div_euclid y (pos 100) → to_z w32 (of_z w32 x) ≡ int_div_euclid y (pos 100)
+century_cast x y year same = cast_is x (int_div_euclid y (pos 100)) (omega (arith, signed, year.0)) (omega (arith, signed, year.1)) same
+
+pub place_cast : (x y : ℤ) → x ≡ int_rem_euclid y (pos 100) → to_z w32 (of_z w32 x) ≡ int_rem_euclid y (pos 100)
+place_cast x y same = cast_is x (int_rem_euclid y (pos 100)) (omega (arith, signed)) (omega (arith, signed)) same
+
+number_cast : (x : ℤ) (k : ℕ) → k ≤ 1_000_000 → x ≡ pos k → to_z w32 (of_z w32 x) ≡ pos k
+number_cast x k small same = cast_is x (pos k) (omega (arith, signed, small)) (omega (arith, signed, small)) same
+
+numbers_small : (d : Weekday) → number_from_monday d ≤ 1_000_000
+numbers_small Mon = omega arith
+numbers_small Tue = omega arith
+numbers_small Wed = omega arith
+numbers_small Thu = omega arith
+numbers_small Fri = omega arith
+numbers_small Sat = omega arith
+numbers_small Sun = omega arith
+
+pub weekday_cast : (x : ℤ) (d : Weekday) → x ≡ pos (number_from_monday d) → to_z w32 (of_z w32 x) ≡ pos (number_from_monday d)
+weekday_cast x d same = number_cast x (number_from_monday d) (numbers_small d) same
+
+pub month_cast : (x n : ℤ) → x ≡ pos (month_of n) → to_z w32 (of_z w32 x) ≡ pos (month_of n)
+month_cast x n same = number_cast x (month_of n) (omega (arith, (calendar_name-exists n).0)) same
+
+pub day_cast : (x n : ℤ) → x ≡ pos (day_of n) → to_z w32 (of_z w32 x) ≡ pos (day_of n)
+day_cast x n same = number_cast x (day_of n) (omega (arith, day_of-small n)) same
+
+pub ordinal_cast : (x n : ℤ) → x ≡ pos (ordinal_of n) → to_z w32 (of_z w32 x) ≡ pos (ordinal_of n)
+ordinal_cast x n same =
+    number_cast x (ordinal_of n) (omega (arith, (ordinal_name_of-number n).exists, year_length_bounds (year_of n))) same
+
+pub iso_week_cast : (x n : ℤ) → x ≡ pos (iso_week_of n) → to_z w32 (of_z w32 x) ≡ pos (iso_week_of n)
+iso_week_cast x n same =
+    number_cast x (iso_week_of n) (omega (arith, iso_week_of-bounds n, year_length_bounds (iso_year_of n), before_monday-bound (iso_year_of n))) same
+
+-- ---- the date of names
+
+pub ymd_found : (n y : ℤ) (a b : ℕ) (found : Option ℤ) → IsDate n → found ≡ date_of_ymd y a b → y ≡ year_of n → a ≡ month_of n
+    → b ≡ day_of n → found ≡ Some n
+ymd_found n y a b found date is year month day =
+    is
+    ∙ ap (λ (z : ℤ). date_of_ymd z a b) year
+    ∙ ap (λ (k : ℕ). date_of_ymd (year_of n) k b) month
+    ∙ ap (λ (k : ℕ). date_of_ymd (year_of n) (month_of n) k) day
+    ∙ date_of_ymd-again n date
+
+pub yo_found : (n y : ℤ) (a : ℕ) (found : Option ℤ) → IsDate n → found ≡ date_of_yo y a → y ≡ year_of n → a ≡ ordinal_of n
+    → found ≡ Some n
+yo_found n y a found date is year ordinal =
+    is
+    ∙ ap (λ (z : ℤ). date_of_yo z a) year
+    ∙ ap (λ (k : ℕ). date_of_yo (year_of n) k) ordinal
+    ∙ date_of_yo-again n date
+
+pub numbered : (d : Weekday) → weekday_numbered (pos (number_from_monday d)) ≡ d
+numbered Mon = refl
+numbered Tue = refl
+numbered Wed = refl
+numbered Thu = refl
+numbered Fri = refl
+numbered Sat = refl
+numbered Sun = refl
+
+pub iso_found : (n y : ℤ) (a : ℕ) (k : Weekday) (found : Option ℤ) → IsDate n → found ≡ date_of_iso y a k → y ≡ iso_year_of n
+    → a ≡ iso_week_of n → k ≡ weekday_of n → found ≡ Some n
+iso_found n y a k found date is year week day =
+    is
+    ∙ ap (λ (z : ℤ). date_of_iso z a k) year
+    ∙ ap (λ (z : ℕ). date_of_iso (iso_year_of n) z k) week
+    ∙ ap (λ (z : Weekday). date_of_iso (iso_year_of n) (iso_week_of n) z) day
+    ∙ date_of_iso-again n date

@@ -1,0 +1,272 @@
+//! The date that the parts of a text give.
+ghost use Rattle.std.specs.Prelude.{◌≡◌, ◌↔◌, ◌≤ℤ◌, ℤ, pos, true, false, Ok, Err, Some, None, IfOk, IfSome};
+ghost use Rattle.std.specs.Int.{int_div_euclid, int_rem_euclid};
+ghost use Rattle.chrono_datetime.specs.Days.{IsDate};
+ghost use Rattle.chrono_datetime.specs.Years.{IsYear};
+ghost use Rattle.chrono_pattern.specs.DateParts.{date_fits, day_fits, in_window, is_given, names_calendar, names_date, names_ordinal, names_week, names_year, says, week_fits, weekday_numbered, year_fits};
+ghost use Rattle.chrono_pattern.specs.declared.error.ReadFault.TheVariants.{NotEnough};
+
+use crate::error::ReadFault;
+use crate::parsed::Parsed;
+use chrono_datetime::{Datelike, NaiveDate, Weekday};
+
+impl Parsed {
+    /// Returns the date that fits all parts.
+    ///
+    /// It has to be named: by year, month and day; by year and day of the year; or by ISO year, week and weekday. A year is also its
+    /// century and its year there, or that year alone for 1970 to 2069.
+    ///
+    /// # Errors
+    ///
+    /// Returns `NotEnough` if no date is named, which is told by the fields alone. Returns `Impossible` if no date fits.
+    ///
+    /// ```
+    /// let parsed = Pattern::new(b"%a %d.%m.%y").ok()?.read_parts(b"Thu 29.02.24").ok()?;
+    /// parsed.to_date().ok() // Some(2024-02-29)
+    /// let parsed = Pattern::new(b"%a %d.%m.%y").ok()?.read_parts(b"Fri 29.02.24").ok()?;
+    /// parsed.to_date().err() // Some(Impossible)
+    /// Parsed::new().to_date().err() // Some(NotEnough)
+    /// ```
+    pub fn to_date(&self) -> Result<NaiveDate, ReadFault>
+        ensures named { IfOk result (λ n. names_date self.now ≡ true) }
+        ensures fits { IfOk result (λ n. date_fits self.now n ≡ true) }
+        // So no two dates fit parts that name one.
+        ensures every { (n : ℤ) → IsDate n → names_date self.now ≡ true → date_fits self.now n ≡ true → result ≡ Ok n }
+        ensures not_enough { (result ≡ Err NotEnough) ↔ (names_date self.now ≡ false) }
+    {
+        let parts = *self;
+        if !names_date(parts) {
+            return Err(ReadFault::NotEnough);
+        }
+        match named_date(parts) {
+            Some(date) => {
+                if fits_date(parts, date) {
+                    Ok(date)
+                } else {
+                    Err(ReadFault::Impossible)
+                }
+            }
+            None => Err(ReadFault::Impossible),
+        }
+    }
+}
+
+// Whether a part is this value, if it is given.
+pub(crate) fn says(part: Option<i32>, value: i32) -> bool
+    ensures { result ≡ says part value }
+{
+    match part {
+        None => true,
+        Some(given) => given == value,
+    }
+}
+
+// Whether the parts suffice for a date.
+#[tactic(auto, unfolding(crate::specs::DateParts::names_date))]
+fn names_date(parts: Parsed) -> bool
+    ensures { result ≡ names_date parts }
+{
+    if names_calendar(parts) {
+        true
+    } else if names_ordinal(parts) {
+        true
+    } else {
+        names_week(parts)
+    }
+}
+
+// Whether the parts name a year.
+fn names_year(parts: Parsed) -> bool
+    ensures { result ≡ names_year parts }
+{
+    if parts.year.is_some() {
+        true
+    } else {
+        parts.year_mod_100.is_some()
+    }
+}
+
+// Whether the parts name a year, a month and a day.
+#[tactic(auto, unfolding(crate::specs::DateParts::names_calendar))]
+fn names_calendar(parts: Parsed) -> bool
+    ensures { result ≡ names_calendar parts }
+{
+    names_year(parts) && parts.month.is_some() && parts.day.is_some()
+}
+
+// Whether the parts name a year and a day there.
+#[tactic(auto, unfolding(crate::specs::DateParts::names_ordinal))]
+fn names_ordinal(parts: Parsed) -> bool
+    ensures { result ≡ names_ordinal parts }
+{
+    names_year(parts) && parts.ordinal.is_some()
+}
+
+// Whether the parts name an ISO year, a week and a weekday.
+#[tactic(auto, unfolding(crate::specs::DateParts::names_week))]
+fn names_week(parts: Parsed) -> bool
+    ensures { result ≡ names_week parts }
+{
+    parts.isoyear.is_some() && parts.isoweek.is_some() && parts.weekday.is_some()
+}
+
+// Whether a date fits all parts.
+#[tactic(auto, unfolding(crate::specs::DateParts::date_fits))]
+fn fits_date(parts: Parsed, date: NaiveDate) -> bool
+    ensures { result ≡ date_fits parts date }
+{
+    fits_year(parts, date.year()) && fits_day(parts, date) && fits_week(parts, date)
+}
+
+// Whether a year fits its parts.
+#[tactic(auto, unfolding(crate::specs::DateParts::year_fits))]
+fn fits_year(parts: Parsed, year: i32) -> bool
+    ensures { result ≡ year_fits parts year }
+{
+    says(parts.year, year)
+        && says(parts.year_div_100, year.div_euclid(100))
+        && says(parts.year_mod_100, year.rem_euclid(100))
+        && is_in_window(parts, year)
+}
+
+// Whether a year of a century that stands alone may stand for a year.
+fn is_in_window(parts: Parsed, year: i32) -> bool
+    ensures { result ≡ in_window parts.year parts.year_div_100 parts.year_mod_100 year }
+{
+    match (parts.year, parts.year_div_100, parts.year_mod_100) {
+        (None, None, Some(_)) => 1_970 <= year && year <= 2_069,
+        _ => true,
+    }
+}
+
+// Whether a date fits the parts of a day of the year.
+#[tactic(auto, unfolding(crate::specs::DateParts::day_fits))]
+fn fits_day(parts: Parsed, date: NaiveDate) -> bool
+    ensures { result ≡ day_fits parts date }
+{
+    says(parts.month, date.month() as i32)
+        && says(parts.day, date.day() as i32)
+        && says(parts.ordinal, date.ordinal() as i32)
+        && says(parts.quarter, date.quarter() as i32)
+}
+
+// Whether a date fits the parts of a day of an ISO week.
+#[tactic(auto, unfolding(crate::specs::DateParts::week_fits))]
+fn fits_week(parts: Parsed, date: NaiveDate) -> bool
+    ensures { result ≡ week_fits parts date }
+{
+    says(parts.isoyear, date.iso_week().year())
+        && says(
+            parts.isoyear_mod_100,
+            date.iso_week().year().rem_euclid(100),
+        )
+        && says(parts.isoweek, date.iso_week().week() as i32)
+        && says(parts.weekday, date.weekday().number_from_monday() as i32)
+}
+
+// The date that the parts name, if they name one.
+fn named_date(parts: Parsed) -> Option<NaiveDate>
+    ensures { (n : ℤ) → IsDate n → names_date parts ≡ true → date_fits parts n ≡ true → result ≡ Some n }
+{
+    if names_calendar(parts) {
+        calendar_date(parts)
+    } else if names_ordinal(parts) {
+        ordinal_date(parts)
+    } else {
+        week_date(parts)
+    }
+}
+
+// The date by year, month and day.
+fn calendar_date(parts: Parsed) -> Option<NaiveDate>
+    ensures { (n : ℤ) → IsDate n → names_calendar parts ≡ true → date_fits parts n ≡ true → result ≡ Some n }
+{
+    let year = named_year(parts)?;
+    let month = parts.month?;
+    let day = parts.day?;
+    NaiveDate::from_ymd_opt(year, month.unsigned_abs(), day.unsigned_abs())
+}
+
+// The date by year and day of the year.
+fn ordinal_date(parts: Parsed) -> Option<NaiveDate>
+    ensures { (n : ℤ) → IsDate n → names_ordinal parts ≡ true → date_fits parts n ≡ true → result ≡ Some n }
+{
+    let year = named_year(parts)?;
+    let ordinal = parts.ordinal?;
+    NaiveDate::from_yo_opt(year, ordinal.unsigned_abs())
+}
+
+// The date by ISO year, week and weekday.
+fn week_date(parts: Parsed) -> Option<NaiveDate>
+    ensures { (n : ℤ) → IsDate n → names_week parts ≡ true → date_fits parts n ≡ true → result ≡ Some n }
+{
+    let year = parts.isoyear?;
+    let week = parts.isoweek?;
+    let weekday = parts.weekday?;
+    NaiveDate::from_isoywd_opt(year, week.unsigned_abs(), weekday_numbered(weekday))
+}
+
+// The weekday of a number from 1 for Monday, and Sunday for any other.
+fn weekday_numbered(number: i32) -> Weekday
+    ensures { result ≡ weekday_numbered number }
+{
+    if number == 1 {
+        Weekday::Mon
+    } else if number == 2 {
+        Weekday::Tue
+    } else if number == 3 {
+        Weekday::Wed
+    } else if number == 4 {
+        Weekday::Thu
+    } else if number == 5 {
+        Weekday::Fri
+    } else if number == 6 {
+        Weekday::Sat
+    } else {
+        Weekday::Sun
+    }
+}
+
+// The year that the parts name.
+fn named_year(parts: Parsed) -> Option<i32>
+    ensures { (y : ℤ) → IsYear y → names_year parts ≡ true → year_fits parts y ≡ true → result ≡ Some y }
+{
+    match parts.year {
+        Some(_) => parts.year,
+        None => year_in_century(parts),
+    }
+}
+
+// The year that its place in its century names, with the century or alone.
+fn year_in_century(parts: Parsed) -> Option<i32>
+    ensures { (y : ℤ) → IsYear y → parts.year ≡ None → names_year parts ≡ true → year_fits parts y ≡ true → result ≡ Some y }
+{
+    let part = parts.year_mod_100?;
+    match parts.year_div_100 {
+        Some(century) => year_of_century(century, part),
+        None => year_in_window(part),
+    }
+}
+
+// The year of a century by its place there. Nothing if it is none of a date.
+fn year_of_century(century: i32, part: i32) -> Option<i32>
+    ensures { (y : ℤ) → IsYear y → century ≡ int_div_euclid y (pos 100) → part ≡ int_rem_euclid y (pos 100) → result ≡ Some y }
+{
+    if century < -3_000 || century > 3_000 || part < 0 || part > 99 {
+        return None;
+    }
+    Some(century * 100 + part)
+}
+
+// The year from 1970 to 2069 with this place in its century, if there is one.
+fn year_in_window(part: i32) -> Option<i32>
+    ensures { (y : ℤ) → pos 1970 ≤ℤ y → y ≤ℤ pos 2069 → part ≡ int_rem_euclid y (pos 100) → result ≡ Some y }
+{
+    if part < 0 || part > 99 {
+        None
+    } else if part < 70 {
+        Some(2_000 + part)
+    } else {
+        Some(1_900 + part)
+    }
+}
