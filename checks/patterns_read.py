@@ -46,11 +46,11 @@ fn main(rt: HostRuntime) -> io::Result<()> {
             Ok(pattern) => match pattern.read_parts(text.as_bytes()) {
                 Ok(parts) => match parts.to_date() {
                     Ok(date) => println!(rt; "= {date}")?,
-                    Err(cause) => println!(rt; "{cause:?}")?,
+                    Err(cause) => println!(rt; "= {cause:?}")?,
                 },
-                Err(error) => println!(rt; "{:?} {}", error.cause, error.byte)?,
+                Err(error) => println!(rt; "= {:?} {}", error.cause, error.byte)?,
             },
-            Err(_) => println!(rt; "no pattern")?,
+            Err(_) => println!(rt; "= no pattern")?,
         }
     }
     Ok(())
@@ -217,7 +217,7 @@ def fits(parts, day):
 def written(day):
     it = Moment(day, 0, 0)
     year = f"{it.year:04}" if 0 <= it.year <= 9999 else f"{it.year:+05}" if it.year < 0 else f"+{it.year}"
-    return f"= {year}-{it.month:02}-{it.of_month:02}"
+    return f"{year}-{it.month:02}-{it.of_month:02}"
 
 
 def wanted_of(pattern, text):
@@ -237,16 +237,20 @@ def wanted_of(pattern, text):
     return told
 
 
+# What a date begins with.
+DATE = re.compile("[-+0-9]")
+
+
 def as_python(pattern, text, told):
-    """Stops if strptime reads another date."""
+    """Stops if strptime reads another date. Where two numbers touch, it may read fewer digits of the first."""
     codes = "".join(it[1] + it[2] + it[3] for it in re.findall(SPECIFIER.pattern, pattern))
-    if not set(codes) <= set(OF_PYTHON) or re.search("%[-_0]", pattern) or not told.startswith("= ") or ("y" in codes and int(told[2:6]) > 2068):
+    if not set(codes) <= set(OF_PYTHON) or re.search("%[-_0]|%[YmdjHIMSy]%", pattern) or not DATE.match(told) or ("y" in codes and int(told[:4]) > 2068):
         return
     try:
         date = datetime.datetime.strptime(text, pattern).date()
-    except ValueError:
+    except (ValueError, re.error):
         return
-    assert f"= {date:%Y-%m-%d}".replace("= ", "= ").endswith(told[2:].lstrip("0")), (pattern, text, told, date)
+    assert date.isoformat() == told, (pattern, text, told, date)
 
 
 PATTERNS = (
@@ -301,11 +305,11 @@ def main():
             print(f"chrono is not asked: {missing}")
         else:
             # Debian's chrono does not look at the range of an hour or a minute where it reads a date.
-            others = [(it, a, b if b.startswith("= ") else "!") for it, a, b in zip(questions, by_chrono(room, questions), wanted) if not NOT_OF_CHRONO.search(it[0]) and not b.startswith("OutOfRange")]
+            others = [(it, a, b if DATE.match(b) else "!") for it, a, b in zip(questions, by_chrono(room, questions), wanted) if not NOT_OF_CHRONO.search(it[0]) and not b.startswith("OutOfRange")]
             wrong += ["chrono: " + it for it in differing(*zip(*others))]
             print(f"{len(others)} of {len(questions)} by chrono too")
         folder = put_program(room, "patterns_read", ["chrono_pattern"], PROGRAM)
-        told = [it.removeprefix("") for it in answers_in_parts(room, folder, [line_of(it) for it in questions], PART)]
+        told = answers_in_parts(room, folder, [line_of(it) for it in questions], PART)
     own = differing(questions, told, wanted)
     changed = ["", *wanted[1:]]
     if len(differing(questions, told, changed)) != len(own) + 1 and told[0] == wanted[0]:

@@ -1,7 +1,7 @@
-//! What chrono writes by the patterns of `checks/patterns.py`.
+//! What chrono writes by the patterns of `checks/patterns.py`, and reads by those of `checks/patterns_read.py`.
 //!
 //! A line has the day number, the second, its fraction and the pattern. The answer is the text, `!` where chrono has no such
-//! pattern, and `-` where it has no such date-time.
+//! pattern, and `-` where it has no such date-time. With the word `read` a line has the pattern, `|` and the text. The answer is the date, or `!`.
 
 use chrono::{NaiveDate, NaiveDateTime, NaiveTime};
 use std::fmt::Write as _;
@@ -17,10 +17,24 @@ fn parts(line: &str) -> Option<(NaiveDateTime, &str)> {
     Some((NaiveDateTime::new(date, time), words.next()?))
 }
 
+/// The date that a text gives by its pattern.
+fn read(line: &str) -> Option<NaiveDate> {
+    let (pattern, text) = line.split_once('|')?;
+    NaiveDate::parse_from_str(text, pattern).ok()
+}
+
 fn main() -> io::Result<()> {
+    let reads = std::env::args().nth(1).as_deref() == Some("read");
     let mut out = BufWriter::new(io::stdout().lock());
     for line in io::stdin().lock().lines() {
         let line = line?;
+        if reads {
+            match read(&line) {
+                Some(date) => writeln!(out, "{date:?}")?,
+                None => writeln!(out, "!")?,
+            }
+            continue;
+        }
         let mut text = String::new();
         match parts(&line) {
             Some((moment, pattern)) if write!(text, "{}", moment.format(pattern)).is_ok() => writeln!(out, "{text}")?,

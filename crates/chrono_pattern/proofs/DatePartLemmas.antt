@@ -158,7 +158,7 @@ century_cast x y year same = cast_is x (int_div_euclid y (pos 100)) (omega (arit
 pub place_cast : (x y : ℤ) → x ≡ int_rem_euclid y (pos 100) → to_z w32 (of_z w32 x) ≡ int_rem_euclid y (pos 100)
 place_cast x y same = cast_is x (int_rem_euclid y (pos 100)) (omega (arith, signed)) (omega (arith, signed)) same
 
-number_cast : (x : ℤ) (k : ℕ) → k ≤ 1_000_000 → x ≡ pos k → to_z w32 (of_z w32 x) ≡ pos k
+pub number_cast : (x : ℤ) (k : ℕ) → k ≤ 1_000_000 → x ≡ pos k → to_z w32 (of_z w32 x) ≡ pos k
 number_cast x k small same = cast_is x (pos k) (omega (arith, signed, small)) (omega (arith, signed, small)) same
 
 numbers_small : (d : Weekday) → number_from_monday d ≤ 1_000_000

@@ -3,3 +3,4 @@ mod PatternLemmas
 mod TimelessLemmas
 mod ReadLemmas
 mod DatePartLemmas
+mod TimePartLemmas

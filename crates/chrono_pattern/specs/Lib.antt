@@ -14,3 +14,4 @@ pub mod ItemReads
 pub mod Reads
 pub mod DateParts
 pub mod TimeParts
+pub mod Parses

@@ -63,7 +63,7 @@ pub(crate) fn says(part: Option<i32>, value: i32) -> bool
 
 // Whether the parts suffice for a date.
 #[tactic(auto, unfolding(crate::specs::DateParts::names_date))]
-fn names_date(parts: Parsed) -> bool
+pub(crate) fn names_date(parts: Parsed) -> bool
     ensures { result ≡ names_date parts }
 {
     if names_calendar(parts) {

@@ -13,6 +13,7 @@
 
 mod class;
 mod date_parts;
+mod date_time_parts;
 mod error;
 mod group;
 mod item;
@@ -20,6 +21,7 @@ pub mod law;
 mod needs;
 mod number;
 mod number_reader;
+mod parse;
 mod parsed;
 mod pattern;
 mod reader;
@@ -27,6 +29,7 @@ mod step;
 mod stop;
 mod subsecond;
 mod subsecond_reader;
+mod time_parts;
 mod word;
 mod word_reader;
 
