@@ -16,7 +16,7 @@ use Rattle.chrono_datetime.specs.Years.{IsYear}
 use Rattle.chrono_datetime.specs.Weeks.{date_of_iso, iso_week_of, iso_year_of, weekday_of}
 use Rattle.chrono_datetime.specs.declared.Weekday.{Weekday}
 use Rattle.chrono_datetime.specs.declared.Weekday.TheVariants.{Mon, Tue, Wed, Thu, Fri, Sat, Sun}
-use Rattle.chrono_pattern.specs.DateParts.{date_fits, day_fits, in_window, is_given, names_calendar, names_date, names_ordinal, names_week, names_year, says, week_fits, weekday_numbered, year_fits}
+use Rattle.chrono_pattern.specs.DateParts.{date_fits, day_fits, in_window, is_given, names_calendar, names_date, names_ordinal, names_week, names_year, says, week_fits, weekday_at_number, year_fits}
 use Rattle.chrono_pattern.specs.declared.parsed.Parsed.{Parsed}
 
 -- ---- what fits
@@ -206,7 +206,7 @@ yo_found n y a found date is year ordinal =
     ∙ ap (λ (k : ℕ). date_of_yo (year_of n) k) ordinal
     ∙ date_of_yo-again n date
 
-pub numbered : (d : Weekday) → weekday_numbered (pos (number_from_monday d)) ≡ d
+pub numbered : (d : Weekday) → weekday_at_number (pos (number_from_monday d)) ≡ d
 numbered Mon = refl
 numbered Tue = refl
 numbered Wed = refl

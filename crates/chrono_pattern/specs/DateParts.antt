@@ -68,8 +68,8 @@ unfoldable pub names_date : Parsed → Bool
 names_date p = if names_calendar p then true else if names_ordinal p then true else names_week p
 
 -- the weekday of a number from 1 for Monday, and Sunday for any other
-abbrev pub weekday_numbered : ℤ → Weekday
-weekday_numbered v =
+abbrev pub weekday_at_number : ℤ → Weekday
+weekday_at_number v =
     if int_eq v (pos 1) then Mon
     else if int_eq v (pos 2) then Tue
     else if int_eq v (pos 3) then Wed

@@ -3,7 +3,7 @@ ghost use Rattle.std.specs.Prelude.{◌≡◌, ◌↔◌, ◌≤ℤ◌, ℤ, pos
 ghost use Rattle.std.specs.Int.{int_div_euclid, int_rem_euclid};
 ghost use Rattle.chrono_datetime.specs.Days.{IsDate};
 ghost use Rattle.chrono_datetime.specs.Years.{IsYear};
-ghost use Rattle.chrono_pattern.specs.DateParts.{date_fits, day_fits, in_window, is_given, names_calendar, names_date, names_ordinal, names_week, names_year, says, week_fits, weekday_numbered, year_fits};
+ghost use Rattle.chrono_pattern.specs.DateParts.{date_fits, day_fits, in_window, is_given, names_calendar, names_date, names_ordinal, names_week, names_year, says, week_fits, weekday_at_number, year_fits};
 ghost use Rattle.chrono_pattern.specs.declared.error.ReadFault.TheVariants.{NotEnough};
 
 use crate::error::ReadFault;
@@ -203,12 +203,12 @@ fn week_date(parts: Parsed) -> Option<NaiveDate>
     let year = parts.isoyear?;
     let week = parts.isoweek?;
     let weekday = parts.weekday?;
-    NaiveDate::from_isoywd_opt(year, week.unsigned_abs(), weekday_numbered(weekday))
+    NaiveDate::from_isoywd_opt(year, week.unsigned_abs(), weekday_at_number(weekday))
 }
 
 // The weekday of a number from 1 for Monday, and Sunday for any other.
-fn weekday_numbered(number: i32) -> Weekday
-    ensures { result ≡ weekday_numbered number }
+fn weekday_at_number(number: i32) -> Weekday
+    ensures { result ≡ weekday_at_number number }
 {
     if number == 1 {
         Weekday::Mon

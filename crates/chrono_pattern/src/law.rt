@@ -1,10 +1,13 @@
 //! Laws of patterns, each as the contract of a function.
-ghost use Rattle.std.specs.Prelude.{◌≡◌, ℤ, Some, codes, neg_ℤ, pos};
+ghost use Rattle.std.specs.Prelude.{◌≡◌, ℤ, Some, Ok, Err, codes, neg_ℤ, pos};
 ghost use Rattle.chrono_datetime.specs.Days.{day_of, month_of, ordinal_of, year_of};
 ghost use Rattle.chrono_datetime.specs.Moment.{Moment, moment};
 ghost use Rattle.chrono_datetime.specs.Time.{time_at};
 ghost use Rattle.chrono_datetime.specs.Weeks.{iso_week_of, iso_year_of, weekday_of};
 ghost use Rattle.chrono_datetime.specs.declared.Weekday.TheVariants.{Mon};
+ghost use Rattle.chrono_pattern.specs.Parts.{no_parts};
+ghost use Rattle.chrono_pattern.specs.Reads.{text_read};
+ghost use Rattle.chrono_pattern.specs.declared.error.ReadFault.TheVariants.{Impossible, Invalid, OutOfRange, TooLong, TooShort};
 ghost use Rattle.chrono_pattern.specs.Patterns.{IsPattern, pattern_error, pattern_text};
 ghost use Rattle.chrono_pattern.specs.declared.error.PatternFault.TheVariants.{Cut, Unknown};
 
@@ -46,4 +49,36 @@ pub fn known_errors()
     ensures second_padding { pattern_error (codes "%%%--d") ≡ Some (record { byte = 2; cause = Unknown }) }
     ensures digits { pattern_error (codes "%.5f") ≡ Some (record { byte = 0; cause = Unknown }) }
     ensures none { IsPattern (codes "100%% %.3f %-d") }
+{}
+
+/// States what known texts give:
+///
+/// - a name in small letters, and a number behind blanks;
+/// - a year below 0, and a year of four digits with digits behind it;
+/// - midnight on the clock of twelve hours, and a leap second with its fraction;
+/// - Sunday by its number and by its name.
+pub fn known_readings()
+    ensures date { text_read (codes "%d %b %Y") (codes "9 feb  2024")
+        ≡ Ok (record no_parts { day = Some (pos 9); month = Some (pos 2); year = Some (pos 2024) }) }
+    ensures below_zero { text_read (codes "%Y") (codes "-0044") ≡ Ok (record no_parts { year = Some (neg_ℤ (pos 44)) }) }
+    ensures four_digits { text_read (codes "%Y%m") (codes "202407")
+        ≡ Ok (record no_parts { year = Some (pos 2024); month = Some (pos 7) }) }
+    ensures midnight { text_read (codes "%I %p") (codes "12 AM")
+        ≡ Ok (record no_parts { hour_div_12 = Some (pos 0); hour_mod_12 = Some (pos 0) }) }
+    ensures leap { text_read (codes "%S%.f") (codes "60.5")
+        ≡ Ok (record no_parts { second = Some (pos 60); nanosecond = Some (pos 500_000_000) }) }
+    ensures sunday { text_read (codes "%w %A") (codes "0 SUNDAY") ≡ Ok (record no_parts { weekday = Some (pos 7) }) }
+{}
+
+/// States where known texts are wrong, by the bytes that are left:
+///
+/// - a second value of a field, and a month 13;
+/// - another byte than that of the pattern;
+/// - an end that comes too soon, and one that comes too late.
+pub fn known_reading_errors()
+    ensures twice { text_read (codes "%d %d") (codes "1 2") ≡ Err (record { cause = Impossible; left = 1 }) }
+    ensures thirteen { text_read (codes "%m") (codes "13") ≡ Err (record { cause = OutOfRange; left = 2 }) }
+    ensures letter { text_read (codes "%d.") (codes "12-") ≡ Err (record { cause = Invalid; left = 1 }) }
+    ensures short { text_read (codes "%b") (codes "ma") ≡ Err (record { cause = TooShort; left = 2 }) }
+    ensures long { text_read (codes "%y") (codes "2024") ≡ Err (record { cause = TooLong; left = 2 }) }
 {}

@@ -1,10 +1,11 @@
-//! Patterns of texts in the manner of `strftime`: a pattern is checked once, and writes any date-time.
+//! Patterns of texts in the manner of `strftime` and `strptime`: a pattern is checked once, writes any date-time, and reads texts.
 //!
 //! ```
 //! use chrono_datetime::{AndTime, NaiveDate};
 //! let pattern = Pattern::new(b"%a %e %B %Y, %H:%M").ok()?;
 //! let moment = NaiveDate::from_ymd_opt(2024, 2, 29)?.and_hms_opt(9, 30, 0)?;
 //! pattern.format::<64>(moment)?.as_bytes().len() // 28
+//! Pattern::new(b"%e %B %Y").ok()?.parse_date(b"29 february 2024").ok() // Some(2024-02-29)
 //! ```
 //!
 //! The specifiers, listed at [`Pattern::new`], are some of chrono's and have the same texts, with English names. A pattern borrows

@@ -1,4 +1,4 @@
-//! `Pattern`: a pattern of texts, which writes date-times.
+//! `Pattern`: a pattern of texts, which writes date-times and reads parts of them.
 ghost use Rattle.std.specs.Prelude.{◌≡◌, ◌↔◌, ◌≤◌, ℕ, List, false, Some, None, Ok, Err, IfErr, IfOk, IfSome, IsOk, IsSome, length};
 ghost use Rattle.chrono_datetime.specs.Moment.{moment};
 ghost use Rattle.chrono_datetime.specs.Time.{TimeOfDay, time_at};
@@ -112,6 +112,13 @@ impl<'a> Pattern<'a> {
     }
 
     /// Returns the parts that `text` gives.
+    ///
+    /// - A blank of the pattern stands for any blanks and for none. Blanks before a number are left out.
+    /// - A number has one digit or more, at most those of its specifier, and as many as stand there. `%Y` and `%G` have at most four. They
+    ///   may have a sign, and then at most nine.
+    /// - `%f` is a number of nanoseconds. `%.f` and its like are a point and any digits behind it, or nothing.
+    /// - Names are in letters of any case. `%B` and `%A` read three letters too.
+    /// - A field that stands twice has the same value in both places.
     ///
     /// # Errors
     ///

@@ -1,7 +1,7 @@
 use Rattle.std.proofs.Common.{ap, ◌∙◌}
 use Rattle.std.specs.Prelude.{unsigned_abs}
 use Rattle.chrono_datetime.specs.Weeks.{weekday_of}
-use Rattle.chrono_pattern.specs.DateParts.{weekday_numbered}
+use Rattle.chrono_pattern.specs.DateParts.{weekday_at_number}
 use Rattle.chrono_pattern.proofs.DatePartLemmas.{fits_each, is_missing, iso_found, iso_week_cast, iso_year_cast, isoweek_said, isoyear_said, numbered, week_names, weekday_cast, weekday_said}
 use Rattle.chrono_pattern.proofs.date_parts.week_date.Goals as goal
 
@@ -20,4 +20,4 @@ returns c = λ n date named fits.
     let place = iso_week_cast _ n (isoweek_said c.args.parts n _ week c.in_ok-week.was) in
     let day = weekday_cast _ (weekday_of n) (weekday_said c.args.parts n _ week c.in_ok-weekday.was) in
     iso_found n _ _ _ _ date c.from_isoywd_opt.ensures.date (iso_year_cast _ n date (isoyear_said c.args.parts n _ week c.in_ok-year.was))
-    (c.unsigned_abs.ensures.value ∙ ap unsigned_abs place) (c.weekday_numbered.ensures ∙ ap weekday_numbered day ∙ numbered (weekday_of n))
+    (c.unsigned_abs.ensures.value ∙ ap unsigned_abs place) (c.weekday_at_number.ensures ∙ ap weekday_at_number day ∙ numbered (weekday_of n))
