@@ -48,7 +48,7 @@ COMMENTS = {".rt": r"//[^\n]*", ".rs": r"//[^\n]*", ".antt": r"--[^\n]*", ".c": 
 ABSENT = {
     "of Rust and its std": """From Display DoubleEndedIterator String Drop Eq FromIterator FromPrimitive FromStr Hash
         IntoIterator Ok Option Result Some Sum TryFrom collect fmt::Write if match mod requires self str u8 unsafe unwrap""",
-    "of the kit: its words, its tactics and its std": """IfSome_then SomeIff agree_below agree_below_at num_traits omega refl subst
+    "of the kit: its words, its tactics and its std": """IfSome_then SomeIff agree_below agree_below_at jiff_tz num_traits omega refl subst
         unfoldable view_is ensures """,
     "of Python": "OverflowError True TypeError ValueError datetime operator strftime timedelta __slots__ __getstate__",
     "of JavaScript": "calendarName PlainTime iso8601 RangeError Temporal overflow round toLocaleString",
@@ -56,12 +56,12 @@ ABSENT = {
     "of C": "int32_t memcpy",
     "of Rust's compiler and of the kit's options": "ConversionError serde",
     "read from the environment": "CALENDAR_FOLDER CMAKE_PREFIX_PATH PKG_CONFIG_PATH TZ TZDIR",
-    "of chrono, and left out here": """from_timestamp_opt timestamp_nanos parse_from_str parse_and_remainder ParseMonthError ParseWeekdayError format_with_items
+    "of chrono, and left out here": """timestamp_nanos parse_and_remainder ParseMonthError ParseWeekdayError format_with_items
         format_localized format_localized_with_items and_utc and_local_timezone
         BEFORE_MIN AFTER_MAX UNIX_EPOCH MIN_UTC MAX_UTC timestamp_millis_opt from_timestamp_secs as_seconds_f64 as_seconds_f32 from_std to_std OutOfRangeError
         from_isoywd from_num_days_from_ce from_hms
         from_num_seconds_from_midnight and_hms NaiveDate::succ NaiveDate::pred""",
-    "files and modules of chrono": "naive internals isoweek",
+    "files and modules of chrono": "naive internals ",
     "words of CMake, of the shell and of a line": "find_package cc move pkg-config",
     "words of the program dates": "MONTH mo us-federal modified-following modified-preceding",
     "digits of a number": "_294_967_297",
