@@ -4,7 +4,7 @@ use Rattle.std.proofs.lemmas.Bool.{and_parts}
 use Rattle.std.proofs.lemmas.Bool.Decides.{Decides-int_eq}
 use Rattle.chrono_datetime.specs.Duration.{nanos_per_second}
 use Rattle.chrono_datetime.specs.Time.{TimeOfDay, hour_of, minute_of, second_of}
-use Rattle.chrono_pattern.specs.DateParts.{is_given, says}
+use Rattle.chrono_pattern.specs.DateParts.{is_given}
 use Rattle.chrono_pattern.specs.TimeParts.{clock_fits, counts, names_second, names_time, second_fits, size_or_zero, time_fits}
 use Rattle.chrono_pattern.specs.declared.parsed.Parsed.{Parsed}
 use Rattle.chrono_pattern.proofs.DatePartLemmas.{said}

@@ -14,4 +14,5 @@ pub mod ItemReads
 pub mod Reads
 pub mod DateParts
 pub mod TimeParts
+pub mod NamedParts
 pub mod Parses

@@ -1,12 +1,11 @@
 -- How a text is read by the bytes of a pattern.
-use Rattle.std.specs.Prelude.{ℕ, ◌-◌, ◌==◌, if◌then◌else◌, List, [], ◌∷◌, length, Option, Some, None, Result, Ok, Err}
+use Rattle.std.specs.Prelude.{ℕ, ◌-◌, ◌==◌, if◌then◌else◌, List, [], ◌∷◌, length, Some, None, Result, Ok, Err}
 use Rattle.chrono_pattern.specs.ItemReads.{item_read}
 use Rattle.chrono_pattern.specs.Parts.{no_parts}
 use Rattle.chrono_pattern.specs.Progress.{Progress, stopped}
 use Rattle.chrono_pattern.specs.Steps.{pattern_step}
 use Rattle.chrono_pattern.specs.declared.error.PatternReadError.{PatternReadError}
 use Rattle.chrono_pattern.specs.declared.error.ReadFault.TheVariants.{TooLong}
-use Rattle.chrono_pattern.specs.declared.item.Item.{Item}
 use Rattle.chrono_pattern.specs.declared.item.State.{State}
 use Rattle.chrono_pattern.specs.declared.item.State.TheVariants.{Outside}
 use Rattle.chrono_pattern.specs.declared.parsed.Parsed.{Parsed}

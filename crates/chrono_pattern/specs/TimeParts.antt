@@ -1,5 +1,5 @@
 -- Which times of day fit the parts that a text gives, and which parts suffice for one.
-use Rattle.std.specs.Prelude.{◌≡◌, ℕ, ◌+◌, ◌/◌, ◌%◌, Bool, true, false, ◌&&◌, if◌then◌else◌, ℤ, pos, Option, Some, None, unsigned_abs}
+use Rattle.std.specs.Prelude.{ℕ, ◌+◌, ◌/◌, ◌%◌, Bool, true, false, ◌&&◌, if◌then◌else◌, ℤ, pos, Option, Some, None, unsigned_abs}
 use Rattle.std.specs.Ordering.{int_eq}
 use Rattle.chrono_datetime.specs.Duration.{nanos_per_second}
 use Rattle.chrono_datetime.specs.Time.{FractionFits, IsTime, TimeOfDay, hour_of, minute_of, second_of}

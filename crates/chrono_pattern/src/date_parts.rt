@@ -1,9 +1,9 @@
 //! The date that the parts of a text give.
-ghost use Rattle.std.specs.Prelude.{◌≡◌, ◌↔◌, ◌≤ℤ◌, ℤ, pos, true, false, Ok, Err, Some, None, IfOk, IfSome};
+ghost use Rattle.std.specs.Prelude.{◌≡◌, ◌↔◌, ◌≤ℤ◌, ℤ, pos, true, false, Ok, Err, Some, None, IfOk};
 ghost use Rattle.std.specs.Int.{int_div_euclid, int_rem_euclid};
 ghost use Rattle.chrono_datetime.specs.Days.{IsDate};
 ghost use Rattle.chrono_datetime.specs.Years.{IsYear};
-ghost use Rattle.chrono_pattern.specs.DateParts.{date_fits, day_fits, in_window, is_given, names_calendar, names_date, names_ordinal, names_week, names_year, says, week_fits, weekday_at_number, year_fits};
+ghost use Rattle.chrono_pattern.specs.DateParts.{date_fits, day_fits, in_window, names_calendar, names_date, names_ordinal, names_week, names_year, says, week_fits, weekday_at_number, year_fits};
 ghost use Rattle.chrono_pattern.specs.declared.error.ReadFault.TheVariants.{NotEnough};
 
 use crate::error::ReadFault;

@@ -1,6 +1,5 @@
 //! Writes the numbers of a date-time that stand together.
-ghost use Rattle.std.specs.Prelude.{◌≡◌, ◌+◌, ◌≤◌, ◌++◌, ◌∷◌, [], length};
-ghost use Rattle.chrono_pattern.specs.Numbers.{number_text};
+ghost use Rattle.std.specs.Prelude.{◌≡◌, ◌+◌, ◌≤◌, ◌++◌, ◌∷◌, length};
 ghost use Rattle.chrono_pattern.specs.Groups.{group_text, usual_text};
 
 use crate::item::{GroupField, NumberField, Padding};

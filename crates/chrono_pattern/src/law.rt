@@ -1,15 +1,19 @@
 //! Laws of patterns, each as the contract of a function.
-ghost use Rattle.std.specs.Prelude.{◌≡◌, ℤ, Some, Ok, Err, codes, neg_ℤ, pos};
+ghost use Rattle.std.specs.Prelude.{◌≡◌, ℕ, ℤ, List, true, Some, Ok, Err, codes, neg_ℤ, pos};
 ghost use Rattle.chrono_datetime.specs.Days.{day_of, month_of, ordinal_of, year_of};
 ghost use Rattle.chrono_datetime.specs.Moment.{Moment, moment};
 ghost use Rattle.chrono_datetime.specs.Time.{time_at};
 ghost use Rattle.chrono_datetime.specs.Weeks.{iso_week_of, iso_year_of, weekday_of};
 ghost use Rattle.chrono_datetime.specs.declared.Weekday.TheVariants.{Mon};
+ghost use Rattle.chrono_pattern.specs.DateParts.{names_date};
+ghost use Rattle.chrono_pattern.specs.NamedParts.{named_parts};
 ghost use Rattle.chrono_pattern.specs.Parts.{no_parts};
 ghost use Rattle.chrono_pattern.specs.Reads.{text_read};
 ghost use Rattle.chrono_pattern.specs.declared.error.ReadFault.TheVariants.{Impossible, Invalid, OutOfRange, TooLong, TooShort};
+ghost use Rattle.chrono_pattern.specs.TimeParts.{names_second, names_time};
 ghost use Rattle.chrono_pattern.specs.Patterns.{IsPattern, pattern_error, pattern_text};
 ghost use Rattle.chrono_pattern.specs.declared.error.PatternFault.TheVariants.{Cut, Unknown};
+ghost use Rattle.chrono_pattern.specs.declared.parsed.Parsed.{Parsed};
 
 /// States known texts of times of day: midnight and noon on the clock of twelve hours, an hour of one digit with each padding, and a
 /// leap second with its fraction.
@@ -81,4 +85,14 @@ pub fn known_reading_errors()
     ensures letter { text_read (codes "%d.") (codes "12-") ≡ Err (record { cause = Invalid; left = 1 }) }
     ensures short { text_read (codes "%b") (codes "ma") ≡ Err (record { cause = TooShort; left = 2 }) }
     ensures long { text_read (codes "%y") (codes "2024") ≡ Err (record { cause = TooLong; left = 2 }) }
+{}
+
+/// States that the specifiers of a pattern tell what its texts name, before any text is read:
+///
+/// - a date: all texts that it reads name one, or none does;
+/// - a time of day: the same, unless the pattern has a fraction and no second. A text may leave such a fraction out.
+pub fn fields_tell_what_is_named()
+    ensures date { (bytes text : List ℕ) → (parts : Parsed) → text_read bytes text ≡ Ok parts → names_date parts ≡ names_date (named_parts bytes) }
+    ensures time { (bytes text : List ℕ) → (parts : Parsed) → names_second (named_parts bytes) ≡ true → text_read bytes text ≡ Ok parts
+        → names_time parts ≡ names_time (named_parts bytes) }
 {}

@@ -19,6 +19,7 @@ mod error;
 mod group;
 mod item;
 pub mod law;
+mod named_parts;
 mod needs;
 mod number;
 mod number_reader;

@@ -1,5 +1,5 @@
 //! Writes the numbers of a date-time.
-ghost use Rattle.std.specs.Prelude.{◌≡◌, ◌+◌, ◌≤◌, ◌++◌, length, codes};
+ghost use Rattle.std.specs.Prelude.{◌≡◌, ◌+◌, ◌≤◌, ◌++◌, length};
 ghost use Rattle.chrono_pattern.specs.Numbers.{least_digits, number_text, padded, padding_of, sign_of, size_of, year_sign};
 
 use crate::item::{NumberField, Padding};

@@ -100,7 +100,7 @@ fn put_half(parsed: Parsed, field: NumberField, value: i32) -> Result<Parsed, Re
 }
 
 // The part that a number gives, and its value.
-fn number_part(field: NumberField, value: i32) -> (Part, i32)
+pub(crate) fn number_part(field: NumberField, value: i32) -> (Part, i32)
     ensures { result ≡ number_part field value }
 {
     match field {

@@ -1,13 +1,14 @@
 //! Reads dates, times of day and date-times by patterns.
 ghost use Rattle.std.specs.Prelude.{◌≡◌, ℤ, Ok, IfOk};
 ghost use Rattle.chrono_datetime.specs.Days.{IsDate};
+ghost use Rattle.chrono_datetime.specs.Moment.{Moment};
 ghost use Rattle.chrono_datetime.specs.Time.{TimeOfDay};
 ghost use Rattle.chrono_pattern.specs.Parses.{IsDateBy, IsTimeBy};
 ghost use Rattle.chrono_pattern.specs.TimeParts.{IsClockTime};
 
 use crate::error::PatternReadError;
 use crate::pattern::Pattern;
-use chrono_datetime::{NaiveDate, NaiveTime};
+use chrono_datetime::{NaiveDate, NaiveDateTime, NaiveTime};
 
 impl<'a> Pattern<'a> {
     /// Returns the date that `text` is of.
@@ -52,6 +53,35 @@ impl<'a> Pattern<'a> {
         match self.read_parts(text) {
             Ok(parts) => match parts.to_time() {
                 Ok(time) => Ok(time),
+                Err(cause) => Err(PatternReadError {
+                    byte: text.len(),
+                    cause,
+                }),
+            },
+            Err(error) => Err(error),
+        }
+    }
+
+    /// Returns the date-time that `text` is of.
+    ///
+    /// # Errors
+    ///
+    /// Returns [`PatternReadError`] as [`Pattern::read_parts`] does, and at the end of the text for the causes of
+    /// [`Parsed::to_date_time`](crate::Parsed::to_date_time).
+    ///
+    /// ```
+    /// Pattern::new(b"%F %R").ok()?.parse_date_time(b"2024-02-29 09:30").ok() // Some(2024-02-29T09:30:00)
+    /// Pattern::new(b"%F %H").ok()?.parse_date_time(b"2024-02-29 09").err() // Some(PatternReadError { byte: 13, cause: NotEnough })
+    /// ```
+    pub fn parse_date_time(&self, text: &[u8]) -> Result<NaiveDateTime, PatternReadError>
+        ensures date { IfOk result (λ m. IsDateBy self.now text.now m.date) }
+        ensures time { IfOk result (λ m. IsTimeBy self.now text.now m.time) }
+        ensures every { (m : Moment) → IsDate m.date → IsClockTime m.time → IsDateBy self.now text.now m.date
+            → IsTimeBy self.now text.now m.time → result ≡ Ok m }
+    {
+        match self.read_parts(text) {
+            Ok(parts) => match parts.to_date_time() {
+                Ok(moment) => Ok(moment),
                 Err(cause) => Err(PatternReadError {
                     byte: text.len(),
                     cause,

@@ -121,7 +121,7 @@ impl Parsed {
     }
 
     // The parts with another value of one.
-    fn with_part(self, part: Part, value: i32) -> Parsed
+    pub(crate) fn with_part(self, part: Part, value: i32) -> Parsed
         ensures { result ≡ with_part part value self }
     {
         let value = Some(value);

@@ -1,21 +1,27 @@
 //! `Pattern`: a pattern of texts, which writes date-times and reads parts of them.
-ghost use Rattle.std.specs.Prelude.{◌≡◌, ◌↔◌, ◌≤◌, ℕ, List, false, Some, None, Ok, Err, IfErr, IfOk, IfSome, IsOk, IsSome, length};
+ghost use Rattle.std.specs.Prelude.{◌≡◌, ◌↔◌, ◌&&◌, ◌≤◌, ℕ, List, false, Some, None, Ok, Err, IfErr, IfOk, IfSome, IsOk, IsSome, length};
 ghost use Rattle.chrono_datetime.specs.Moment.{moment};
 ghost use Rattle.chrono_datetime.specs.Time.{TimeOfDay, time_at};
+ghost use Rattle.chrono_pattern.specs.DateParts.{names_date};
+ghost use Rattle.chrono_pattern.specs.NamedParts.{named_parts};
 ghost use Rattle.chrono_pattern.specs.Needs.{needs_time};
 ghost use Rattle.chrono_pattern.specs.Reads.{read_error, text_read};
+ghost use Rattle.chrono_pattern.specs.TimeParts.{names_time};
 ghost use Rattle.chrono_pattern.specs.declared.stop.Stop.{Stop};
 ghost use Rattle.chrono_pattern.specs.Patterns.{IsPattern, begun_at, cut_error, item_text, pattern_error, pattern_text};
 
+use crate::date_parts::names_date;
 use crate::error::{PatternError, PatternFault, PatternReadError};
 use crate::group::put_group;
 use crate::item::{Item, State};
+use crate::named_parts::named_parts;
 use crate::needs::needs_time;
 use crate::number::put_number;
 use crate::parsed::Parsed;
 use crate::reader::{Reader, read_by};
 use crate::step::pattern_step;
 use crate::subsecond::put_subsecond;
+use crate::time_parts::names_time;
 use crate::word::put_word;
 use chrono_datetime::{NaiveDate, NaiveDateTime, NaiveTime};
 use chrono_text::Text;
@@ -109,6 +115,46 @@ impl<'a> Pattern<'a> {
         ensures { result ≡ needs_time self.now }
     {
         needs_time(self.bytes)
+    }
+
+    /// Returns whether the specifiers of the pattern name a date, as [`Parsed::to_date`] says. If they do not, no text gives one.
+    ///
+    /// ```
+    /// Pattern::new(b"%a %e %B %y").ok()?.names_date() // true
+    /// Pattern::new(b"%e %B").ok()?.names_date() // false
+    /// ```
+    pub fn names_date(&self) -> bool
+        ensures { result ≡ names_date (named_parts self.now) }
+    {
+        names_date(named_parts(self.bytes))
+    }
+
+    /// Returns whether the specifiers of the pattern name a time of day, as [`Parsed::to_time`] says.
+    ///
+    /// A fraction such as `%.f` counts as given, though a text may leave it out.
+    ///
+    /// ```
+    /// Pattern::new(b"%I:%M %p").ok()?.names_time() // true
+    /// Pattern::new(b"%I:%M").ok()?.names_time() // false
+    /// Pattern::new(b"%R%.f").ok()?.names_time() // false
+    /// ```
+    pub fn names_time(&self) -> bool
+        ensures { result ≡ names_time (named_parts self.now) }
+    {
+        names_time(named_parts(self.bytes))
+    }
+
+    /// Returns whether the specifiers of the pattern name both a date and a time of day.
+    ///
+    /// ```
+    /// Pattern::new(b"%F %R").ok()?.names_date_time() // true
+    /// Pattern::new(b"%F %H").ok()?.names_date_time() // false
+    /// ```
+    pub fn names_date_time(&self) -> bool
+        ensures { result ≡ (names_date (named_parts self.now) && names_time (named_parts self.now)) }
+    {
+        let parts = named_parts(self.bytes);
+        names_date(parts) && names_time(parts)
     }
 
     /// Returns the parts that `text` gives.

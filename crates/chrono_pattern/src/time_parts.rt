@@ -1,5 +1,5 @@
 //! The time of day, and the date-time, that the parts of a text give.
-ghost use Rattle.std.specs.Prelude.{◌≡◌, ◌↔◌, ◌+◌, ◌/◌, ◌%◌, ℤ, true, false, Ok, Err, Some, IfOk, IfSome};
+ghost use Rattle.std.specs.Prelude.{◌≡◌, ◌↔◌, ◌+◌, ◌/◌, ◌%◌, true, false, Ok, Err, Some, IfOk};
 ghost use Rattle.chrono_datetime.specs.Duration.{nanos_per_second};
 ghost use Rattle.chrono_datetime.specs.Time.{TimeOfDay, hour_of, minute_of, second_of};
 ghost use Rattle.chrono_pattern.specs.TimeParts.{IsClockTime, clock_fits, counts, names_second, names_time, second_fits, size_or_zero, time_fits};

@@ -1,0 +1,465 @@
+-- A text that a pattern reads gives the parts that the pattern names, but for a fraction that it may leave out.
+use Rattle.std.proofs.Common.{◌≡◌, ℕ, Bool, true, false, ◌==◌, List, [], ◌∷◌, length, take, Option, None, Some, Result, Ok, Err, IfOk, ℤ, pos, refl, ap, sym, ◌∙◌, if◌then◌else◌}
+use Rattle.std.proofs.lemmas.Bool.{false≢true}
+use Rattle.std.specs.Int.{int_div_euclid, int_rem_euclid}
+use Rattle.std.specs.Int.RustNames.{int_lt}
+use Rattle.std.specs.Ordering.{int_eq}
+use Rattle.std.specs.Prelude.{min, nat_lt}
+use Rattle.std.specs.Str.{byte}
+use Rattle.chrono_text.specs.Numbers.{digits_of, signed}
+use Rattle.chrono_datetime.specs.Month.{number_from_month}
+use Rattle.chrono_datetime.specs.Names.{month_of_letters, weekday_of_letters}
+use Rattle.chrono_datetime.specs.Weekday.{number_from_monday}
+use Rattle.chrono_datetime.specs.declared.Month.{Month as MonthOf}
+use Rattle.chrono_datetime.specs.declared.Weekday.{Weekday}
+use Rattle.chrono_pattern.specs.DateParts.{is_given, names_calendar, names_date, names_ordinal, names_week}
+use Rattle.chrono_pattern.specs.ItemReads.{behind_read, group_read, item_read, three_read, two_read}
+use Rattle.chrono_pattern.specs.NamedParts.{named_from, named_parts, with_group, with_half, with_item, with_named, with_number, word_part}
+use Rattle.chrono_pattern.specs.NumberReads.{digits_in, digits_read, half_put, has_sign, hour_of_clock, most_digits, number_part, number_put, number_read, part_put, signed_read, value_read, weekday_of_sunday}
+use Rattle.chrono_pattern.specs.Parts.{no_parts, part_of, put, range_of, with_part}
+use Rattle.chrono_pattern.specs.Progress.{Progress, behind_blanks, byte_behind, byte_read, in_front, is_blank, literal_read, progress, then_read}
+use Rattle.chrono_pattern.specs.Reads.{read_from, text_read}
+use Rattle.chrono_pattern.specs.Steps.{pattern_step}
+use Rattle.chrono_pattern.specs.SubsecondReads.{places_read, places_value, point_behind, subsecond_read}
+use Rattle.chrono_pattern.specs.TimeParts.{names_second, names_time}
+use Rattle.chrono_pattern.specs.WordReads.{half_behind, half_of, half_read, least_letters, letters_read, month_behind, month_read, weekday_behind, weekday_read, word_read}
+use Rattle.chrono_pattern.specs.declared.class.Class.TheVariants.{Digit}
+use Rattle.chrono_pattern.specs.declared.error.ReadFault.{ReadFault}
+use Rattle.chrono_pattern.specs.declared.error.ReadFault.TheVariants.{Impossible}
+use Rattle.chrono_pattern.specs.declared.item.GroupField.{GroupField}
+use Rattle.chrono_pattern.specs.declared.item.GroupField.TheVariants.{YearMonthDay, MonthDayYear, HourMinute, HourMinuteSecond}
+use Rattle.chrono_pattern.specs.declared.item.Item.{Item}
+use Rattle.chrono_pattern.specs.declared.item.Item.TheVariants.{Empty, Byte, Number, Word, Group, Subsecond}
+use Rattle.chrono_pattern.specs.declared.item.NumberField.{NumberField}
+use Rattle.chrono_pattern.specs.declared.item.NumberField.TheVariants.{Year, Century, YearOfCentury, Quarter, Month, Day, SpacedDay, DayOfYear, FromMonday, FromSunday, IsoYear, IsoYearOfCentury, IsoWeek, Hour, SpacedHour, HalfHour, SpacedHalfHour, Minute, Second, Nanosecond}
+use Rattle.chrono_pattern.specs.declared.item.State.{State}
+use Rattle.chrono_pattern.specs.declared.item.State.TheVariants.{Outside}
+use Rattle.chrono_pattern.specs.declared.item.WordField.{WordField}
+use Rattle.chrono_pattern.specs.declared.item.WordField.TheVariants.{MonthName, MonthLetters, WeekdayName, WeekdayLetters, Half, SmallHalf}
+use Rattle.chrono_pattern.specs.declared.parsed.Parsed.{Parsed}
+use Rattle.chrono_pattern.specs.declared.parsed.Part.{Part}
+use Rattle.chrono_pattern.specs.declared.parsed.Part.TheVariants.{FullYear, YearDiv100, YearMod100, FullIsoYear, IsoYearMod100, QuarterOfYear, MonthOfYear, WeekOfIsoYear, DayOfWeek, OrdinalDay, DayOfMonth, HourDiv12, HourMod12, MinuteOfHour, SecondOfMinute, NanosecondOfSecond}
+use Rattle.chrono_pattern.specs.declared.stop.Stop.{Stop}
+
+-- ---- which parts are given
+
+abbrev mark : Option ℤ → Option ℤ
+mark None = None
+mark (Some v) = Some (pos 0)
+
+-- each part that is given as 0, and the fraction so in any case
+abbrev shape : Parsed → Parsed
+shape p = record {
+  year = mark p.year;
+  year_div_100 = mark p.year_div_100;
+  year_mod_100 = mark p.year_mod_100;
+  isoyear = mark p.isoyear;
+  isoyear_mod_100 = mark p.isoyear_mod_100;
+  quarter = mark p.quarter;
+  month = mark p.month;
+  isoweek = mark p.isoweek;
+  weekday = mark p.weekday;
+  ordinal = mark p.ordinal;
+  day = mark p.day;
+  hour_div_12 = mark p.hour_div_12;
+  hour_mod_12 = mark p.hour_mod_12;
+  minute = mark p.minute;
+  second = mark p.second;
+  nanosecond = Some (pos 0);
+}
+
+with_shape : (part : Part) (v : ℤ) (p : Parsed) → shape (with_part part v p) ≡ with_named part (shape p)
+with_shape FullYear v p = refl
+with_shape YearDiv100 v p = refl
+with_shape YearMod100 v p = refl
+with_shape FullIsoYear v p = refl
+with_shape IsoYearMod100 v p = refl
+with_shape QuarterOfYear v p = refl
+with_shape MonthOfYear v p = refl
+with_shape WeekOfIsoYear v p = refl
+with_shape DayOfWeek v p = refl
+with_shape OrdinalDay v p = refl
+with_shape DayOfMonth v p = refl
+with_shape HourDiv12 v p = refl
+with_shape HourMod12 v p = refl
+with_shape MinuteOfHour v p = refl
+with_shape SecondOfMinute v p = refl
+with_shape NanosecondOfSecond v p = refl
+
+kept_shape : (part : Part) (w : ℤ) (p : Parsed) → part_of part p ≡ Some w → with_named part (shape p) ≡ shape p
+kept_shape FullYear w p e = ap (λ (o : Option ℤ). record (shape p) { year = mark o }) (sym e)
+kept_shape YearDiv100 w p e = ap (λ (o : Option ℤ). record (shape p) { year_div_100 = mark o }) (sym e)
+kept_shape YearMod100 w p e = ap (λ (o : Option ℤ). record (shape p) { year_mod_100 = mark o }) (sym e)
+kept_shape FullIsoYear w p e = ap (λ (o : Option ℤ). record (shape p) { isoyear = mark o }) (sym e)
+kept_shape IsoYearMod100 w p e = ap (λ (o : Option ℤ). record (shape p) { isoyear_mod_100 = mark o }) (sym e)
+kept_shape QuarterOfYear w p e = ap (λ (o : Option ℤ). record (shape p) { quarter = mark o }) (sym e)
+kept_shape MonthOfYear w p e = ap (λ (o : Option ℤ). record (shape p) { month = mark o }) (sym e)
+kept_shape WeekOfIsoYear w p e = ap (λ (o : Option ℤ). record (shape p) { isoweek = mark o }) (sym e)
+kept_shape DayOfWeek w p e = ap (λ (o : Option ℤ). record (shape p) { weekday = mark o }) (sym e)
+kept_shape OrdinalDay w p e = ap (λ (o : Option ℤ). record (shape p) { ordinal = mark o }) (sym e)
+kept_shape DayOfMonth w p e = ap (λ (o : Option ℤ). record (shape p) { day = mark o }) (sym e)
+kept_shape HourDiv12 w p e = ap (λ (o : Option ℤ). record (shape p) { hour_div_12 = mark o }) (sym e)
+kept_shape HourMod12 w p e = ap (λ (o : Option ℤ). record (shape p) { hour_mod_12 = mark o }) (sym e)
+kept_shape MinuteOfHour w p e = ap (λ (o : Option ℤ). record (shape p) { minute = mark o }) (sym e)
+kept_shape SecondOfMinute w p e = ap (λ (o : Option ℤ). record (shape p) { second = mark o }) (sym e)
+kept_shape NanosecondOfSecond w p e = refl
+
+-- the same parts are given, and a fraction only if the other parts have one
+record Like (p q : Parsed) : Type 0 where
+  pub same : shape p ≡ shape q
+  pub fraction : is_given p.nanosecond ≡ true → is_given q.nanosecond ≡ true
+
+fraction_named : (part : Part) (p q : Parsed) → Like p q → is_given p.nanosecond ≡ true → is_given (with_named part q).nanosecond ≡ true
+fraction_named FullYear p q e h = e.fraction h
+fraction_named YearDiv100 p q e h = e.fraction h
+fraction_named YearMod100 p q e h = e.fraction h
+fraction_named FullIsoYear p q e h = e.fraction h
+fraction_named IsoYearMod100 p q e h = e.fraction h
+fraction_named QuarterOfYear p q e h = e.fraction h
+fraction_named MonthOfYear p q e h = e.fraction h
+fraction_named WeekOfIsoYear p q e h = e.fraction h
+fraction_named DayOfWeek p q e h = e.fraction h
+fraction_named OrdinalDay p q e h = e.fraction h
+fraction_named DayOfMonth p q e h = e.fraction h
+fraction_named HourDiv12 p q e h = e.fraction h
+fraction_named HourMod12 p q e h = e.fraction h
+fraction_named MinuteOfHour p q e h = e.fraction h
+fraction_named SecondOfMinute p q e h = e.fraction h
+fraction_named NanosecondOfSecond p q e h = refl
+
+fraction_put : (part : Part) (v : ℤ) (p q : Parsed) → Like p q → is_given (with_part part v p).nanosecond ≡ true
+    → is_given (with_named part q).nanosecond ≡ true
+fraction_put FullYear v p q e h = e.fraction h
+fraction_put YearDiv100 v p q e h = e.fraction h
+fraction_put YearMod100 v p q e h = e.fraction h
+fraction_put FullIsoYear v p q e h = e.fraction h
+fraction_put IsoYearMod100 v p q e h = e.fraction h
+fraction_put QuarterOfYear v p q e h = e.fraction h
+fraction_put MonthOfYear v p q e h = e.fraction h
+fraction_put WeekOfIsoYear v p q e h = e.fraction h
+fraction_put DayOfWeek v p q e h = e.fraction h
+fraction_put OrdinalDay v p q e h = e.fraction h
+fraction_put DayOfMonth v p q e h = e.fraction h
+fraction_put HourDiv12 v p q e h = e.fraction h
+fraction_put HourMod12 v p q e h = e.fraction h
+fraction_put MinuteOfHour v p q e h = e.fraction h
+fraction_put SecondOfMinute v p q e h = e.fraction h
+fraction_put NanosecondOfSecond v p q e h = refl
+
+abbrev Shaped : Result Parsed ReadFault → Parsed → Type 0
+Shaped o q = IfOk o (λ p. Like p q)
+
+abbrev Gives : Result Progress Stop → Parsed → Type 0
+Gives o q = IfOk o (λ r. Like r.parsed q)
+
+if_shaped : (b : Bool) (x y : Result Parsed ReadFault) (q : Parsed) → Shaped x q → Shaped y q → Shaped (if b then x else y) q
+if_shaped true x y q hx hy = hx
+if_shaped false x y q hx hy = hy
+
+if_gives : (b : Bool) (x y : Result Progress Stop) (q : Parsed) → Gives x q → Gives y q → Gives (if b then x else y) q
+if_gives true x y q hx hy = hx
+if_gives false x y q hx hy = hy
+
+progress_gives : (o : Result Parsed ReadFault) (rest text : List ℕ) (q : Parsed) → Shaped o q → Gives (progress o rest text) q
+progress_gives (Ok p) rest text q h = h
+progress_gives (Err cause) rest text q h = tt
+
+same_named : (part : Part) (p q : Parsed) → shape p ≡ shape q → with_named part (shape p) ≡ shape (with_named part q)
+same_named part p q e = ap (λ (s : Parsed). with_named part s) e ∙ sym (with_shape part (pos 0) q)
+
+put_found : (part : Part) (v : ℤ) (p q : Parsed) → Like p q → (o : Option ℤ) → part_of part p ≡ o
+    → Shaped (elim o as (λ _. Result Parsed ReadFault) [ None ↦ Ok (with_part part v p) | Some w ↦ if int_eq w v then Ok p else Err Impossible ]) (with_named part q)
+put_found part v p q e None is = record { same = with_shape part v p ∙ same_named part p q e.same; fraction = fraction_put part v p q e }
+put_found part v p q e (Some w) is =
+    if_shaped (int_eq w v) (Ok p) (Err Impossible) (with_named part q)
+    (record { same = sym (kept_shape part w p is) ∙ same_named part p q e.same; fraction = fraction_named part p q e }) tt
+
+put_shaped : (part : Part) (v : ℤ) (p q : Parsed) → Like p q → Shaped (put part v p) (with_named part q)
+unfolding put
+put_shaped part v p q e =
+    if_shaped (int_lt v (range_of part).0) _ _ (with_named part q) tt
+    (if_shaped (int_lt (range_of part).1 v) _ _ (with_named part q) tt (put_found part v p q e (part_of part p) refl))
+
+-- ---- a number
+
+half_shaped : (field : NumberField) (v : ℤ) (p q : Parsed) → Like p q → Shaped (half_put field v p) (with_half field q)
+half_shaped Year v p q e = e
+half_shaped Century v p q e = e
+half_shaped YearOfCentury v p q e = e
+half_shaped Quarter v p q e = e
+half_shaped Month v p q e = e
+half_shaped Day v p q e = e
+half_shaped SpacedDay v p q e = e
+half_shaped DayOfYear v p q e = e
+half_shaped FromMonday v p q e = e
+half_shaped FromSunday v p q e = e
+half_shaped IsoYear v p q e = e
+half_shaped IsoYearOfCentury v p q e = e
+half_shaped IsoWeek v p q e = e
+half_shaped Hour v p q e = put_shaped HourDiv12 (int_div_euclid v (pos 12)) p q e
+half_shaped SpacedHour v p q e = put_shaped HourDiv12 (int_div_euclid v (pos 12)) p q e
+half_shaped HalfHour v p q e = e
+half_shaped SpacedHalfHour v p q e = e
+half_shaped Minute v p q e = e
+half_shaped Second v p q e = e
+half_shaped Nanosecond v p q e = e
+
+put_number_shaped : (field : NumberField) (v : ℤ) (p q : Parsed) → Like p q
+    → Shaped (part_put (Ok p) field v) (with_named (number_part field (pos 0)).0 q)
+put_number_shaped Year v p q e = put_shaped FullYear v p q e
+put_number_shaped Century v p q e = put_shaped YearDiv100 v p q e
+put_number_shaped YearOfCentury v p q e = put_shaped YearMod100 v p q e
+put_number_shaped Quarter v p q e = put_shaped QuarterOfYear v p q e
+put_number_shaped Month v p q e = put_shaped MonthOfYear v p q e
+put_number_shaped Day v p q e = put_shaped DayOfMonth v p q e
+put_number_shaped SpacedDay v p q e = put_shaped DayOfMonth v p q e
+put_number_shaped DayOfYear v p q e = put_shaped OrdinalDay v p q e
+put_number_shaped FromMonday v p q e = put_shaped DayOfWeek v p q e
+put_number_shaped FromSunday v p q e = put_shaped DayOfWeek (weekday_of_sunday v) p q e
+put_number_shaped IsoYear v p q e = put_shaped FullIsoYear v p q e
+put_number_shaped IsoYearOfCentury v p q e = put_shaped IsoYearMod100 v p q e
+put_number_shaped IsoWeek v p q e = put_shaped WeekOfIsoYear v p q e
+put_number_shaped Hour v p q e = put_shaped HourMod12 (int_rem_euclid v (pos 12)) p q e
+put_number_shaped SpacedHour v p q e = put_shaped HourMod12 (int_rem_euclid v (pos 12)) p q e
+put_number_shaped HalfHour v p q e = put_shaped HourMod12 (hour_of_clock v) p q e
+put_number_shaped SpacedHalfHour v p q e = put_shaped HourMod12 (hour_of_clock v) p q e
+put_number_shaped Minute v p q e = put_shaped MinuteOfHour v p q e
+put_number_shaped Second v p q e = put_shaped SecondOfMinute v p q e
+put_number_shaped Nanosecond v p q e = put_shaped NanosecondOfSecond v p q e
+
+part_shaped : (o : Result Parsed ReadFault) (field : NumberField) (v : ℤ) (q : Parsed) → Shaped o q
+    → Shaped (part_put o field v) (with_named (number_part field (pos 0)).0 q)
+part_shaped (Ok p) field v q h = put_number_shaped field v p q h
+part_shaped (Err cause) field v q h = tt
+
+value_gives : (o : Option ℕ) (field : NumberField) (most : ℕ) (negative : Bool) (text : List ℕ) (p q : Parsed) → Like p q
+    → Gives (value_read o field most negative text p) (with_number field q)
+value_gives None field most negative text p q e = tt
+value_gives (Some n) field most negative text p q e =
+    let v = signed negative n in
+    progress_gives (number_put field v p) _ text (with_number field q)
+    (part_shaped (half_put field v p) field v (with_half field q) (half_shaped field v p q e))
+
+digits_gives : (field : NumberField) (most : ℕ) (negative : Bool) (text : List ℕ) (p q : Parsed) → Like p q
+    → Gives (digits_read field most negative text p) (with_number field q)
+unfolding digits_read
+digits_gives field most negative text p q e = value_gives (digits_of most (take (digits_in most text) text)) field most negative text p q e
+
+signed_gives : (field : NumberField) (text : List ℕ) (p q : Parsed) → Like p q
+    → Gives (signed_read field text p) (with_number field q)
+unfolding signed_read
+signed_gives field [] p q e = tt
+signed_gives field (c ∷ digits) p q e =
+    if_gives (c == byte "-") _ _ (with_number field q) (digits_gives field 9 true digits p q e)
+    (if_gives (c == byte "+") _ _ (with_number field q) (digits_gives field 9 false digits p q e)
+    (digits_gives field (most_digits field) false (c ∷ digits) p q e))
+
+number_gives : (field : NumberField) (r : Progress) (q : Parsed) → Like r.parsed q
+    → Gives (number_read field r) (with_number field q)
+unfolding number_read
+number_gives field r q e =
+    if_gives (has_sign field) _ _ (with_number field q) (signed_gives field (behind_blanks r.rest) r.parsed q e)
+    (digits_gives field (most_digits field) false (behind_blanks r.rest) r.parsed q e)
+
+-- ---- a word
+
+month_gives : (o : Option MonthOf) (whole : Bool) (text : List ℕ) (p q : Parsed) → Like p q
+    → Gives (month_behind o whole text p) (with_named MonthOfYear q)
+month_gives None whole text p q e = tt
+month_gives (Some m) whole text p q e =
+    progress_gives (put MonthOfYear (pos (number_from_month m)) p) _ text (with_named MonthOfYear q) (put_shaped MonthOfYear (pos (number_from_month m)) p q e)
+
+weekday_gives : (o : Option Weekday) (whole : Bool) (text : List ℕ) (p q : Parsed) → Like p q
+    → Gives (weekday_behind o whole text p) (with_named DayOfWeek q)
+weekday_gives None whole text p q e = tt
+weekday_gives (Some d) whole text p q e =
+    progress_gives (put DayOfWeek (pos (number_from_monday d)) p) _ text (with_named DayOfWeek q) (put_shaped DayOfWeek (pos (number_from_monday d)) p q e)
+
+half_gives : (o : Option ℤ) (text : List ℕ) (p q : Parsed) → Like p q → Gives (half_behind o text p) (with_named HourDiv12 q)
+half_gives None text p q e = tt
+half_gives (Some half) text p q e = progress_gives (put HourDiv12 half p) _ text (with_named HourDiv12 q) (put_shaped HourDiv12 half p q e)
+
+letters_give : (word : WordField) (r : Progress) (q : Parsed) → Like r.parsed q
+    → Gives (letters_read word r) (with_named (word_part word) q)
+unfolding month_read weekday_read half_read
+letters_give MonthName r q e = month_gives (month_of_letters (take 3 r.rest)) true r.rest r.parsed q e
+letters_give MonthLetters r q e = month_gives (month_of_letters (take 3 r.rest)) false r.rest r.parsed q e
+letters_give WeekdayName r q e = weekday_gives (weekday_of_letters 3 (take 3 r.rest)) true r.rest r.parsed q e
+letters_give WeekdayLetters r q e = weekday_gives (weekday_of_letters 3 (take 3 r.rest)) false r.rest r.parsed q e
+letters_give Half r q e = half_gives (half_of (take 2 r.rest)) r.rest r.parsed q e
+letters_give SmallHalf r q e = half_gives (half_of (take 2 r.rest)) r.rest r.parsed q e
+
+word_gives : (word : WordField) (r : Progress) (q : Parsed) → Like r.parsed q
+    → Gives (word_read word r) (with_named (word_part word) q)
+unfolding word_read
+word_gives word r q e =
+    if_gives (nat_lt (length r.rest) (least_letters word)) _ _ (with_named (word_part word) q) tt (letters_give word r q e)
+
+-- ---- bytes and groups
+
+then_gives : (o : Result Progress Stop) (next : Progress → Result Progress Stop) (q other : Parsed) → Gives o q
+    → ((r : Progress) → Like r.parsed q → Gives (next r) other) → Gives (then_read o next) other
+then_gives (Ok r) next q other h more = more r h
+then_gives (Err k) next q other h more = tt
+
+byte_gives : (c : ℕ) (text : List ℕ) (p q : Parsed) → Like p q → Gives (byte_behind c text p) q
+byte_gives c [] p q e = tt
+byte_gives c (d ∷ rest) p q e = if_gives (d == c) _ _ q e tt
+
+literal_gives : (c : ℕ) (r : Progress) (q : Parsed) → Like r.parsed q → Gives (literal_read c r) q
+unfolding literal_read
+literal_gives c r q e = if_gives (is_blank c) _ _ q e (byte_gives c r.rest r.parsed q e)
+
+behind_gives : (c : ℕ) (field : NumberField) (r : Progress) (q : Parsed) → Like r.parsed q
+    → Gives (behind_read c field r) (with_number field q)
+behind_gives c field r q e =
+    then_gives (byte_read c r) (number_read field) q (with_number field q) (byte_gives c r.rest r.parsed q e) (λ t h. number_gives field t q h)
+
+two_give : (first : NumberField) (c : ℕ) (second : NumberField) (r : Progress) (q : Parsed) → Like r.parsed q
+    → Gives (two_read first c second r) (with_number second (with_number first q))
+two_give first c second r q e =
+    then_gives (number_read first r) (behind_read c second) (with_number first q) (with_number second (with_number first q))
+    (number_gives first r q e) (λ t h. behind_gives c second t (with_number first q) h)
+
+three_give : (first : NumberField) (c : ℕ) (second third : NumberField) (r : Progress) (q : Parsed) → Like r.parsed q
+    → Gives (three_read first c second third r) (with_number third (with_number second (with_number first q)))
+three_give first c second third r q e =
+    let both = with_number second (with_number first q) in
+    then_gives (two_read first c second r) (behind_read c third) both (with_number third both)
+    (two_give first c second r q e) (λ t h. behind_gives c third t both h)
+
+group_gives : (group : GroupField) (r : Progress) (q : Parsed) → Like r.parsed q → Gives (group_read group r) (with_group group q)
+unfolding group_read with_group
+group_gives YearMonthDay r q e = three_give Year (byte "-") Month Day r q e
+group_gives MonthDayYear r q e = three_give Month (byte "/") Day YearOfCentury r q e
+group_gives HourMinute r q e = two_give Hour (byte ":") Minute r q e
+group_gives HourMinuteSecond r q e = three_give Hour (byte ":") Minute Second r q e
+
+-- ---- the fraction
+
+value_of_places : (o : Option ℕ) (places count : ℕ) (text : List ℕ) (p q : Parsed) → Like p q
+    → Gives (places_value o places count text p) (with_named NanosecondOfSecond q)
+value_of_places None places count text p q e = tt
+value_of_places (Some n) places count text p q e =
+    progress_gives (put NanosecondOfSecond _ p) _ text (with_named NanosecondOfSecond q) (put_shaped NanosecondOfSecond _ p q e)
+
+places_give : (places count : ℕ) (text : List ℕ) (p q : Parsed) → Like p q
+    → Gives (places_read places count text p) (with_named NanosecondOfSecond q)
+unfolding places_read
+places_give places count text p q e = value_of_places (digits_of places (take places text)) places count text p q e
+
+-- a point may be left out
+left_out : (p q : Parsed) → Like p q → Like p (with_named NanosecondOfSecond q)
+left_out p q e = record { same = e.same; fraction = fraction_named NanosecondOfSecond p q e }
+
+point_gives : (text : List ℕ) (p q : Parsed) → Like p q → Gives (point_behind text p) (with_named NanosecondOfSecond q)
+point_gives [] p q e = left_out p q e
+point_gives (c ∷ digits) p q e =
+    if_gives (c == byte ".") _ _ (with_named NanosecondOfSecond q)
+    (places_give (min (in_front Digit digits) 9) (in_front Digit digits) digits p q e) (left_out p q e)
+
+subsecond_gives : (point : Bool) (count : ℕ) (r : Progress) (q : Parsed) → Like r.parsed q
+    → Gives (subsecond_read point count r) (with_named NanosecondOfSecond q)
+unfolding subsecond_read
+subsecond_gives point count r q e =
+    if_gives point _ _ (with_named NanosecondOfSecond q) (point_gives r.rest r.parsed q e)
+    (if_gives (nat_lt (length r.rest) (min count 9)) _ _ (with_named NanosecondOfSecond q) tt
+    (places_give (min count 9) (min count 9) r.rest r.parsed q e))
+
+-- ---- all items
+
+item_gives : (item : Item) (r : Progress) (q : Parsed) → Like r.parsed q → Gives (item_read item r) (with_item item q)
+item_gives Empty r q e = e
+item_gives (Byte c) r q e = literal_gives c r q e
+item_gives (Number field padding) r q e = number_gives field r q e
+item_gives (Word word) r q e = word_gives word r q e
+item_gives (Group group) r q e = group_gives group r q e
+item_gives (Subsecond point count) r q e = subsecond_gives point count r q e
+
+abbrev Ends : Result Parsed Stop → Parsed → Type 0
+Ends o q = IfOk o (λ p. Like p q)
+
+abbrev Keeps : List ℕ → Type 0
+Keeps bytes = (s : State) (r : Progress) (q : Parsed) → Like r.parsed q → Ends (read_from s bytes r) (named_from s bytes q)
+
+end_keeps : (b : Bool) (r : Progress) (stop : Stop) (q : Parsed) → Like r.parsed q → Ends (if b then Ok r.parsed else Err stop) q
+end_keeps true r stop q e = e
+end_keeps false r stop q e = tt
+
+item_keeps : (bytes : List ℕ) → Keeps bytes → (s : State) (q : Parsed) (a : Result Progress Stop) → Gives a q
+    → Ends (elim a as (λ _. Result Parsed Stop) [ Ok t ↦ read_from s bytes t | Err k ↦ Err k ]) (named_from s bytes q)
+item_keeps bytes rest s q (Ok t) h = rest s t q h
+item_keeps bytes rest s q (Err k) h = tt
+
+step_keeps : (bytes : List ℕ) → Keeps bytes → (r : Progress) (q : Parsed) → Like r.parsed q → (o : Option (State × Item))
+    → Ends (elim o as (λ _. Result Parsed Stop) [ None ↦ Ok r.parsed | Some n ↦ elim (item_read n.1 r) as (λ _. Result Parsed Stop) [ Ok t ↦ read_from n.0 bytes t | Err k ↦ Err k ] ])
+    (elim o as (λ _. Parsed) [ None ↦ q | Some n ↦ named_from n.0 bytes (with_item n.1 q) ])
+step_keeps bytes rest r q e None = e
+step_keeps bytes rest r q e (Some n) = item_keeps bytes rest n.0 (with_item n.1 q) (item_read n.1 r) (item_gives n.1 r q e)
+
+keeps : (bytes : List ℕ) → Keeps bytes
+unfolding read_from named_from
+keeps [] s r q e = end_keeps (length r.rest == 0) r _ q e
+keeps (c ∷ bytes) s r q e = step_keeps bytes (keeps bytes) r q e (pattern_step s c)
+
+-- ---- what the parts name
+
+given_mark : (o : Option ℤ) → is_given (mark o) ≡ is_given o
+given_mark None = refl
+given_mark (Some v) = refl
+
+date_of_shape : (p : Parsed) → names_date (shape p) ≡ names_date p
+unfolding names_date names_calendar names_ordinal names_week
+date_of_shape p =
+    let year = given_mark p.year in
+    let place = given_mark p.year_mod_100 in
+    let month = given_mark p.month in
+    let day = given_mark p.day in
+    let ordinal = given_mark p.ordinal in
+    let isoyear = given_mark p.isoyear in
+    let isoweek = given_mark p.isoweek in
+    let weekday = given_mark p.weekday in
+    cc
+
+ok_named : (o : Result Parsed Stop) (q p : Parsed) → Ends o q → o ≡ Ok p → Like p q
+ok_named (Ok r) q p h is =
+    let same : r ≡ p = cc in
+    record { same = sym (ap (λ (t : Parsed). shape t) same) ∙ h.same; fraction = λ g. h.fraction (ap (λ (t : Parsed). is_given t.nanosecond) same ∙ g) }
+ok_named (Err k) q p h is = cc
+
+nothing_read : Like no_parts no_parts
+nothing_read = record { same = refl; fraction = λ h. h }
+
+read_like : (bytes text : List ℕ) (p : Parsed) → text_read bytes text ≡ Ok p → Like p (named_parts bytes)
+read_like bytes text p is =
+    ok_named (text_read bytes text) (named_parts bytes) p (keeps bytes Outside (record { rest = text; parsed = no_parts }) no_parts nothing_read) is
+
+pub date_is_named : (bytes text : List ℕ) (p : Parsed) → text_read bytes text ≡ Ok p → names_date p ≡ names_date (named_parts bytes)
+date_is_named bytes text p is =
+    sym (date_of_shape p) ∙ ap (λ (t : Parsed). names_date t) (read_like bytes text p is).same ∙ date_of_shape (named_parts bytes)
+
+same_given : (o other : Option ℤ) → mark o ≡ mark other → is_given o ≡ is_given other
+same_given o other e = sym (given_mark o) ∙ ap (λ (t : Option ℤ). is_given t) e ∙ given_mark other
+
+abbrev is_enough : Option ℤ → Option ℤ → Bool
+is_enough second fraction = if is_given second then true else if is_given fraction then false else true
+
+enough : (s n t m : Option ℤ) → mark s ≡ mark t → (is_given n ≡ true → is_given m ≡ true) → is_enough t m ≡ true → is_enough s n ≡ true
+enough (Some v) n t m e f named = refl
+enough None None t m e f named = refl
+enough None (Some w) (Some v) m e f named = cc
+enough None (Some w) None None e f named = absurd (false≢true (f refl))
+enough None (Some w) None (Some x) e f named = absurd (false≢true named)
+
+time_of_like : (p q : Parsed) → Like p q → names_second q ≡ true → names_time p ≡ names_time q
+unfolding names_time
+time_of_like p q e named =
+    let half = same_given p.hour_div_12 q.hour_div_12 (ap (λ (t : Parsed). t.hour_div_12) e.same) in
+    let hour = same_given p.hour_mod_12 q.hour_mod_12 (ap (λ (t : Parsed). t.hour_mod_12) e.same) in
+    let minute = same_given p.minute q.minute (ap (λ (t : Parsed). t.minute) e.same) in
+    let second = enough p.second p.nanosecond q.second q.nanosecond (ap (λ (t : Parsed). t.second) e.same) e.fraction named in
+    cc
+
+pub time_is_named : (bytes text : List ℕ) (p : Parsed) → names_second (named_parts bytes) ≡ true → text_read bytes text ≡ Ok p
+    → names_time p ≡ names_time (named_parts bytes)
+time_is_named bytes text p named is = time_of_like p (named_parts bytes) (read_like bytes text p is) named

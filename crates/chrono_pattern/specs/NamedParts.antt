@@ -1,0 +1,66 @@
+-- Which parts the specifiers of a pattern read.
+use Rattle.std.specs.Prelude.{ℕ, List, [], ◌∷◌, pos, Some, None}
+use Rattle.chrono_pattern.specs.NumberReads.{number_part}
+use Rattle.chrono_pattern.specs.Parts.{no_parts, with_part}
+use Rattle.chrono_pattern.specs.Steps.{pattern_step}
+use Rattle.chrono_pattern.specs.declared.parsed.Parsed.{Parsed}
+use Rattle.chrono_pattern.specs.declared.parsed.Part.{Part}
+use Rattle.chrono_pattern.specs.declared.parsed.Part.TheVariants.{MonthOfYear, DayOfWeek, HourDiv12, NanosecondOfSecond}
+use Rattle.chrono_pattern.specs.declared.item.NumberField.{NumberField}
+use Rattle.chrono_pattern.specs.declared.item.NumberField.TheVariants.{Year, YearOfCentury, Month, Day, Hour, SpacedHour, Minute, Second}
+use Rattle.chrono_pattern.specs.declared.item.WordField.{WordField}
+use Rattle.chrono_pattern.specs.declared.item.WordField.TheVariants.{MonthName, MonthLetters, WeekdayName, WeekdayLetters, Half, SmallHalf}
+use Rattle.chrono_pattern.specs.declared.item.GroupField.{GroupField}
+use Rattle.chrono_pattern.specs.declared.item.GroupField.TheVariants.{YearMonthDay, MonthDayYear, HourMinute, HourMinuteSecond}
+use Rattle.chrono_pattern.specs.declared.item.Item.{Item}
+use Rattle.chrono_pattern.specs.declared.item.Item.TheVariants.{Empty, Byte, Number, Word, Group, Subsecond}
+use Rattle.chrono_pattern.specs.declared.item.State.{State}
+use Rattle.chrono_pattern.specs.declared.item.State.TheVariants.{Outside}
+
+-- The parts with one more. Its value is 0, and tells only that it is named.
+abbrev pub with_named : Part → Parsed → Parsed
+with_named part p = with_part part (pos 0) p
+
+-- an hour from 0 to 23 names the half of the day also
+abbrev pub with_half : NumberField → Parsed → Parsed
+with_half Hour p = with_named HourDiv12 p
+with_half SpacedHour p = with_named HourDiv12 p
+with_half field p = p
+
+-- the parts with those of a number
+abbrev pub with_number : NumberField → Parsed → Parsed
+with_number field p = with_named (number_part field (pos 0)).0 (with_half field p)
+
+-- the part of a word
+abbrev pub word_part : WordField → Part
+word_part MonthName = MonthOfYear
+word_part MonthLetters = MonthOfYear
+word_part WeekdayName = DayOfWeek
+word_part WeekdayLetters = DayOfWeek
+word_part Half = HourDiv12
+word_part SmallHalf = HourDiv12
+
+-- the parts with those of a group
+unfoldable pub with_group : GroupField → Parsed → Parsed
+with_group YearMonthDay p = with_number Day (with_number Month (with_number Year p))
+with_group MonthDayYear p = with_number YearOfCentury (with_number Day (with_number Month p))
+with_group HourMinute p = with_number Minute (with_number Hour p)
+with_group HourMinuteSecond p = with_number Second (with_number Minute (with_number Hour p))
+
+-- the parts with those of an item
+abbrev pub with_item : Item → Parsed → Parsed
+with_item Empty p = p
+with_item (Byte c) p = p
+with_item (Number field padding) p = with_number field p
+with_item (Word word) p = with_named (word_part word) p
+with_item (Group group) p = with_group group p
+with_item (Subsecond point count) p = with_named NanosecondOfSecond p
+
+-- the parts with those of the items of the bytes
+unfoldable pub named_from : State → List ℕ → Parsed → Parsed
+named_from s [] p = p
+named_from s (c ∷ bytes) p = elim (pattern_step s c) [ None ↦ p | Some next ↦ named_from next.0 bytes (with_item next.1 p) ]
+
+-- the parts that the specifiers of a pattern read, each as 0
+abbrev pub named_parts : List ℕ → Parsed
+named_parts bytes = named_from Outside bytes no_parts

@@ -1,0 +1,98 @@
+//! Which parts the specifiers of a pattern read.
+ghost use Rattle.std.specs.Prelude.{◌≡◌};
+ghost use Rattle.chrono_pattern.specs.NamedParts.{named_parts, with_group, with_half, with_item, with_named, with_number, word_part};
+
+use crate::item::{GroupField, Item, NumberField, State, WordField};
+use crate::number_reader::number_part;
+use crate::parsed::{Parsed, Part};
+use crate::step::pattern_step;
+
+// The parts that the specifiers of a pattern read, each as 0.
+pub(crate) fn named_parts(bytes: &[u8]) -> Parsed
+    ensures { result ≡ named_parts bytes.now }
+{
+    let mut parts = Parsed::new();
+    let mut state = State::Outside;
+    let mut rest = bytes;
+    while let Some((byte, behind)) = rest.split_first() {
+        let Some(next) = pattern_step(state, *byte) else {
+            return parts;
+        };
+        parts = with_item(parts, next.1);
+        state = next.0;
+        rest = behind;
+    }
+    parts
+}
+
+// The parts with those of an item.
+fn with_item(parts: Parsed, item: Item) -> Parsed
+    ensures { result ≡ with_item item parts }
+{
+    match item {
+        Item::Empty | Item::Byte(_) => parts,
+        Item::Number(field, _) => with_number(parts, field),
+        Item::Word(word) => with_named(parts, word_part(word)),
+        Item::Group(group) => with_group(parts, group),
+        Item::Subsecond(_, _) => with_named(parts, Part::NanosecondOfSecond),
+    }
+}
+
+// The parts with those of a group.
+#[tactic(auto, unfolding(crate::specs::NamedParts::with_group))]
+fn with_group(parts: Parsed, group: GroupField) -> Parsed
+    ensures { result ≡ with_group group parts }
+{
+    match group {
+        GroupField::YearMonthDay => {
+            let parts = with_number(with_number(parts, NumberField::Year), NumberField::Month);
+            with_number(parts, NumberField::Day)
+        }
+        GroupField::MonthDayYear => {
+            let parts = with_number(with_number(parts, NumberField::Month), NumberField::Day);
+            with_number(parts, NumberField::YearOfCentury)
+        }
+        GroupField::HourMinute => {
+            with_number(with_number(parts, NumberField::Hour), NumberField::Minute)
+        }
+        GroupField::HourMinuteSecond => {
+            let parts = with_number(with_number(parts, NumberField::Hour), NumberField::Minute);
+            with_number(parts, NumberField::Second)
+        }
+    }
+}
+
+// The part of a word.
+fn word_part(word: WordField) -> Part
+    ensures { result ≡ word_part word }
+{
+    match word {
+        WordField::MonthName | WordField::MonthLetters => Part::MonthOfYear,
+        WordField::WeekdayName | WordField::WeekdayLetters => Part::DayOfWeek,
+        WordField::Half | WordField::SmallHalf => Part::HourDiv12,
+    }
+}
+
+// The parts with those of a number.
+fn with_number(parts: Parsed, field: NumberField) -> Parsed
+    ensures { result ≡ with_number field parts }
+{
+    with_named(with_half(parts, field), number_part(field, 0).0)
+}
+
+// The parts with the half of the day, if an hour from 0 to 23 names it.
+fn with_half(parts: Parsed, field: NumberField) -> Parsed
+    ensures { result ≡ with_half field parts }
+{
+    match field {
+        NumberField::Hour | NumberField::SpacedHour => with_named(parts, Part::HourDiv12),
+        _ => parts,
+    }
+}
+
+// The parts with one more, as 0.
+fn with_named(parts: Parsed, part: Part) -> Parsed
+    ensures { result ≡ with_named part parts }
+{
+    parts.with_part(part, 0)
+}
