@@ -77,6 +77,7 @@ NO_FILES = {
     "of the kit": "docs/WALKS.md",
     "of the reader": "main.c",
     "of the machine": "/usr/share/zoneinfo /etc/localtime Europe/Berlin",
+    "a date": "29/02/2024",
     "in the place of a name": "plants/MODULE.edits specs.MODULE.edits proofs/MODULE/FUNCTION/Answers.antt",
 }
 

@@ -7,7 +7,7 @@ An answer is this file's own, from its own count of days. In the years 1000 to 9
 specifier that it has. Where there is Debian's chrono, checks/chrono_patterns has to write the same too, and to refuse the same patterns:
 all that have neither `%q` nor `%W`, for one is newer, and the other is not offered here. Bytes that are no pattern are read by a
 regular expression. `rt try` runs a small program unproved, in a copy of the crates: it answers the lines, and what differs is printed. A second run
-of the same lines with one answer changed has to find that answer.
+of the same lines with one answer changed has to find that answer. The table of patterns in docs/chrono.md is asked with them.
 """
 import argparse
 import datetime
@@ -38,6 +38,9 @@ SPECIFIER = re.compile(rf"%(?:([-_0]?)([{NUMBERS}])|([{OTHERS}])|([.]?[369]?)f)"
 BEGUN = re.compile(r"%(?:[-_0]|[.]?[369]?)$")
 # The specifiers whose texts Python has with the same meaning.
 OF_PYTHON = set("YCymdejuwGgVHkIlMSBbhAapPFDRTt%")
+# The page with a table of patterns and their texts, how many it has, and the date-time that they are of.
+PAGE, SHOWN, MOMENT = "docs/chrono.md", 10, (738_945, 32_707, 250_000_000)
+ROW = re.compile(r"`(%[^`]*)` \| `([^`]*)` \|")
 PROGRAM = r'''//! Writes date-times by patterns, a line each.
 #![tactic(auto)]
 
@@ -169,6 +172,15 @@ def part(draw):
     return draw.choice(("%", "%Q", "%-a", "%--d", "%.5f", "%.", "%3", "%.3", "%-", "%0F", "%33f", "%.-d", "%_%"))
 
 
+def of_page():
+    """The patterns of the page as questions, and their texts there."""
+    with open(f"{TOP}/{PAGE}", encoding="utf-8") as it:
+        rows = ROW.findall(it.read())
+    if len(rows) != SHOWN:
+        sys.exit(f"{PAGE}: {len(rows)} patterns with their texts, not {SHOWN}")
+    return [(*MOMENT, pattern) for pattern, _ in rows], [text for _, text in rows]
+
+
 def line_of(question):
     return " ".join(map(str, question))
 
@@ -203,7 +215,9 @@ def main():
     draw = random.Random(options.seed)
     questions = [question(draw) for _ in range(options.lines)]
     wanted = [answer(Moment(*it[:3]), it[3]) for it in questions]
-    wrong = []
+    shown, texts = of_page()
+    wrong = [f"{PAGE}: {it}" for it in differing(shown, texts, [answer(Moment(*it[:3]), it[3]) for it in shown])]
+    questions, wanted = questions + shown, wanted + texts
     with tempfile.TemporaryDirectory(prefix="patterns-") as room:
         if missing := why_no_chrono():
             print(f"chrono is not asked: {missing}")
