@@ -1,3 +1,4 @@
+mod FiringLists
 mod Instants
 mod Windows
 mod Laws

@@ -1,2 +1,3 @@
 pub mod Fires
+pub mod FiringLists
 pub mod Private

@@ -20,3 +20,4 @@ pub use chrono_cron::{Schedule, read_schedule};
 pub use chrono_zoned::{DateTime, FixedOffset, InZone, TimeZone};
 pub use policy::{Fold, Gap, Policy};
 pub use schedule::ZonedSchedule;
+pub use search::firings::Firings;

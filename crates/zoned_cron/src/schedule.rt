@@ -1,9 +1,13 @@
 //! `ZonedSchedule`: a schedule in a zone, and the instants at which it fires.
-ghost use Rattle.std.specs.Prelude.{◌≡◌, ◌↔◌, IfNone, IfSome, IsTrue};
+ghost use Rattle.std.specs.Prelude.{◌≡◌, ◌↔◌, ◌≤◌, IfNone, IfSome, IsTrue, List, Some};
+ghost use Rattle.std.specs.Iterator.{Drains};
 ghost use Rattle.chrono_datetime.specs.Moment.{IsBefore};
+ghost use Rattle.chrono_zoned.specs.Zoned.{Zoned};
 ghost use Rattle.zoned_cron.specs.Fires.{FiresAt, NotFiringAfter, NotFiringBefore, NotFiringBetween};
+ghost use Rattle.zoned_cron.specs.FiringLists.{AreFirings, GivesNext, seconds_after};
 
 use crate::policy::Policy;
+use crate::search::firings::Firings;
 use crate::search::instants::{begun_by, contains, is_shown, lies_in_dates};
 use chrono_cron::Schedule;
 use chrono_datetime::Timelike;
@@ -125,5 +129,30 @@ impl<Z: TimeZone> ZonedSchedule<Z> {
     {
         let end = begun_by(start.naive_utc());
         self.zone.timestamp_opt(self.last_before(end)?, 0)
+    }
+
+    /// Returns an iterator over the instants after `start` at which the schedule fires.
+    ///
+    /// They come in order, as far as UTC and the clock have dates.
+    ///
+    /// ```
+    /// let schedule = read_schedule(b"30 2 * * *").ok()?;
+    /// let zone = FixedOffset::east_opt(3_600)?;
+    /// let nightly = ZonedSchedule::new(schedule, zone, Policy::vixie(&schedule));
+    /// let mut nights = nightly.after(zone.with_ymd_and_hms(2024, 2, 28, 12, 0, 0).single()?);
+    /// (nights.next(), nights.next()) // (Some(2024-02-29T02:30:00+01:00), Some(2024-03-01T02:30:00+01:00))
+    /// ```
+    pub fn after(&self, start: DateTime<Z>) -> Firings<Z>
+        ensures value { result ≡ record { schedule = self.now; last = Some start } }
+        // No more seconds are left than that.
+        ensures few { seconds_after result.last ≤ 16_544_868_105_599 }
+        // What calls of `next` give, up to the first `None`, is the instants in order.
+        ensures runs { (given : List (Zoned Z)) → Drains (GivesNext Z.ahead) result given → AreFirings Z.ahead self.now start.utc given }
+    {
+        lies_in_dates(start.naive_utc());
+        Firings {
+            schedule: *self,
+            last: Some(start),
+        }
     }
 }

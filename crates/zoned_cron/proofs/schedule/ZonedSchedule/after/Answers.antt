@@ -1,0 +1,7 @@
+use Rattle.std.proofs.Common.{arith, refl}
+use Rattle.chrono_datetime.proofs.Signed.{casts}
+use Rattle.zoned_cron.proofs.FiringLists.{given_in_order}
+use Rattle.zoned_cron.proofs.schedule.ZonedSchedule.after.Goals as goal
+
+pub returns-clause-runs : goal.returns-clause-runs
+returns-clause-runs g c = λ given drains. given_in_order (g.Z.TimeZone.ahead) c.args.self.now _ c.args.start given refl refl drains
