@@ -1,29 +1,26 @@
 #!/usr/bin/env python3
 """Holds zoned_cron to a cron that is run here, minute by minute over Python's zoneinfo.
 
-    checks/zoned_schedules.py [--years N]      (2 years of each zone, if left out)
+    checks/zoned_schedules.py [--years N]      (1 year of each zone, if left out)
 
 The cron here keeps the last local minute that it has dealt with, as cronie does. If the clock has been set ahead, it runs the jobs of the
 minutes in between at once. If the clock has been set back, it runs no job again until the clock is past that minute. A job that
 follows the clock runs at each minute that the clock shows. The later instant of two is found by the same walk, from the end back.
 The zones have gaps and folds of half an hour, of one hour and of two, a day that is left out, and four changes in a year.
 Some days around each change are gone through by `next_after` and by `prev_before`, and some hours by `is_due` at each half minute. For schedules
-with few times the whole year is gone through by `next_after`. `rt try` runs a small program unproved, in a copy of the crates. A second comparison with one
-answer changed has to find it.
+with few times the whole year is gone through by `next_after`. `rt try` runs a small program unproved, in a copy of the crates.
 """
 import argparse
 import datetime
 import itertools
-import re
-import subprocess
 import sys
 import tempfile
 import zoneinfo
 
-from outside import put_program
+from outside import answers_in_parts, put_program
 
-# The lines of one run; the first names the zone.
-LINES = 90
+# The lines of one run.
+LINES = 20
 HOUR = 3_600
 DAY = 86_400
 EPOCH = datetime.date(1970, 1, 1)
@@ -43,34 +40,27 @@ PROGRAM = r'''//! Answers questions on schedules in a zone, a line each.
 use chrono_datetime::NaiveDateTime;
 use chrono_instant::{FromTimestamp, Timestamp};
 use std::io::{self, BufRead, BufReader};
-use zone_database::{OwnedZone, Zone, system_database};
+use zone_database::{Zone, system_database};
 use zoned_cron::{DateTime, Fold, Gap, InZone, Policy, ZonedSchedule, read_schedule};
 
 fn main(rt: HostRuntime) -> io::Result<()> {
-    let (Ok(database), Ok(mut zone)) = (system_database(&rt), OwnedZone::utc(rt.alloc())) else {
+    let Ok(database) = system_database(&rt) else {
         return Ok(());
     };
     for line in BufReader::new(rt.alloc(), rt.reader())?.lines(rt.alloc()) {
         let line = line?;
-        let (call, words) = line.as_str().split_once(' ').unwrap_or((line.as_str(), ""));
-        if call == "zone" {
-            match database.zone(&rt, words) {
-                Ok(read) => {
-                    zone = read;
-                    println!(rt; "= read")?
-                }
-                Err(error) => println!(rt; "= {error}")?,
-            }
-        } else {
-            let lent = zone.zone();
-            answer(&rt, &lent, call, words)?;
+        let (name, words) = line.as_str().split_once(' ').unwrap_or((line.as_str(), ""));
+        match database.zone(&rt, name) {
+            Ok(zone) => answer(&rt, &zone.zone(), words)?,
+            Err(error) => println!(rt; "= {error}")?,
         }
     }
     Ok(())
 }
 
 // Answers `CALL GAP FOLD START END SCHEDULE`.
-fn answer(rt: &HostRuntime, zone: &Zone, call: &str, words: &str) -> io::Result<()> {
+fn answer(rt: &HostRuntime, zone: &Zone, words: &str) -> io::Result<()> {
+    let (call, words) = words.split_once(' ').unwrap_or((words, ""));
     let (gap, words) = words.split_once(' ').unwrap_or((words, ""));
     let (fold, words) = words.split_once(' ').unwrap_or((words, ""));
     let (start, words) = words.split_once(' ').unwrap_or((words, ""));
@@ -90,7 +80,7 @@ fn answer(rt: &HostRuntime, zone: &Zone, call: &str, words: &str) -> io::Result<
     };
     let (start, end): (i64, i64) = (start.parse().unwrap_or(0), end.parse().unwrap_or(0));
     let zoned = ZonedSchedule::new(schedule, zone, policy);
-    print!(rt; "=")?;
+    print!(rt; "= ")?;
     match call {
         "next" => {
             let mut from = zone.timestamp_opt(start - 1, 999_999_999);
@@ -98,7 +88,7 @@ fn answer(rt: &HostRuntime, zone: &Zone, call: &str, words: &str) -> io::Result<
                 from = None;
                 if let Some(next) = zoned.next_after(instant) {
                     if next.timestamp() < end {
-                        print!(rt; " {}", next.timestamp())?;
+                        print!(rt; "{} ", next.timestamp())?;
                         from = Some(next);
                     }
                 }
@@ -110,7 +100,7 @@ fn answer(rt: &HostRuntime, zone: &Zone, call: &str, words: &str) -> io::Result<
                 from = None;
                 if let Some(prev) = zoned.prev_before(instant) {
                     if start <= prev.timestamp() {
-                        print!(rt; " {}", prev.timestamp())?;
+                        print!(rt; "{} ", prev.timestamp())?;
                         from = Some(prev);
                     }
                 }
@@ -121,7 +111,7 @@ fn answer(rt: &HostRuntime, zone: &Zone, call: &str, words: &str) -> io::Result<
             while second < end {
                 if let Some(instant) = zone.timestamp_opt(second, 0) {
                     if zoned.is_due(instant) {
-                        print!(rt; " {second}")?;
+                        print!(rt; "{second} ")?;
                     }
                 }
                 second += 30;
@@ -150,6 +140,7 @@ class Schedule:
         fields = text.split()
         self.minutes, self.hours, self.days, self.months, self.weekdays = (numbers_of(it, *ends) for it, ends in zip(fields, FIELDS))
         self.either = not (fields[2].startswith("*") or fields[4].startswith("*"))
+        self.times = {60 * hour + minute for hour in self.hours for minute in self.minutes}
         self.follows_clock = "*" in fields[:2]
         self.known = {}
 
@@ -163,8 +154,7 @@ class Schedule:
 
     def is_planned(self, minute):
         """Whether a local minute, counted from 1970, is planned."""
-        hour, past = divmod(minute % 1440, 60)
-        return past in self.minutes and hour in self.hours and self.has_day(minute // 1440)
+        return minute % 1440 in self.times and self.has_day(minute // 1440)
 
 
 def walk(zone, start, end):
@@ -179,7 +169,7 @@ def cron(minutes, schedule, gap, fold):
     run = set()
     dealt_with = minutes[0][1] - 1
     for second, local in minutes:
-        if gap == "after" and any(schedule.is_planned(it) for it in range(dealt_with + 1, local)):
+        if gap == "after" and local > dealt_with + 1 and any(schedule.is_planned(it) for it in range(dealt_with + 1, local)):
             run.add(second)
         if (fold == "both" or fold == "earlier" and local > dealt_with) and schedule.is_planned(local):
             run.add(second)
@@ -201,13 +191,12 @@ def policy_of(schedule, gap, fold):
 
 
 def questions(name, first, years):
-    """Lines of the program on a zone, each with what it has to answer."""
+    """Questions on a zone, each with what the program has to answer."""
     zone = zoneinfo.ZoneInfo(name)
-    yield f"zone {name}", "read"
     for year in range(first, first + years):
         start, end = ((datetime.date(it, 1, 1) - EPOCH).days * DAY for it in (year, year + 1))
         # (some days more on each side, so that the walk begins and ends with no change in sight)
-        minutes = list(walk(zone, start - 6 * DAY, end + 6 * DAY))
+        minutes = list(walk(zone, start - 3 * DAY, end + 3 * DAY))
         changes = [after[0] for before, after in itertools.pairwise(minutes) if after[1] != before[1] + 1]
         # (a gap of a day takes long to go through, for each time in it)
         longest = max(after[1] - before[1] for before, after in itertools.pairwise(minutes))
@@ -215,7 +204,7 @@ def questions(name, first, years):
         for text in sparse:
             yield from of_window("next", minutes, start, end, text, "-", "vixie")
         for change in changes:
-            yield from of_change([it for it in minutes if abs(it[0] - change) <= 6 * DAY], change, sparse)
+            yield from of_change([it for it in minutes if abs(it[0] - change) <= 3 * DAY], change, sparse)
 
 
 def of_change(near, change, sparse):
@@ -228,9 +217,9 @@ def of_change(near, change, sparse):
     if sparse != SPARSE:
         return
     for text in DENSE:
-        for call in ("next", "prev", "due"):
-            yield from of_window(call, near, change - 3 * HOUR, change + 3 * HOUR, text, "-", "vixie")
-    for call, before in (("next", 300), ("prev", 300), ("due", 3 * HOUR)):
+        for call, before in (("next", HOUR), ("prev", HOUR), ("due", 3 * HOUR)):
+            yield from of_window(call, near, change - before, change + before, text, "-", "vixie")
+    for call, before in (("next", 120), ("prev", 120), ("due", 3 * HOUR)):
         yield from of_window(call, near, change - before, change + before, EACH_MINUTE, "-", "vixie")
 
 
@@ -241,42 +230,29 @@ def of_window(call, minutes, start, end, text, gap, fold):
     yield f"{call} {gap} {fold} {start} {end} {text}", " ".join(map(str, run[::-1] if call == "prev" else run))
 
 
-def answers_of(folder, lines):
-    """What the program answers, which has two minutes for so many lines."""
-    if len(lines) > LINES:
-        return answers_of(folder, lines[:LINES]) + answers_of(folder, [lines[0], *lines[LINES:]])[1:]
-    said = subprocess.run(["rt", "try"], cwd=folder, input="".join(f"{it}\n" for it in lines), stdout=subprocess.PIPE, stderr=subprocess.STDOUT, text=True, errors="replace", check=False).stdout
-    if not re.search(r"^run=ended status=0 ", said, re.M):
-        sys.exit(f"the program fails:\n{said[-3000:]}")
-    return [line[1:].strip() for line in said.splitlines() if line.startswith("=")]
-
-
 def differing(rows, answers):
     return [f"{it}: {a}, not {b}" for (it, b), a in zip(rows, answers) if a != b]
 
 
 def main():
     parser = argparse.ArgumentParser(description=__doc__.partition("\n")[0])
-    parser.add_argument("--years", type=int, default=2)
+    parser.add_argument("--years", type=int, default=1)
     options = parser.parse_args()
     if not zoneinfo.available_timezones():
         print("not run: checks/zoned_schedules.py, which needs a database of time zones")
         return
-    rows, answers = [], []
+    rows = [(f"{name} {it}", run) for name, first in ZONES for it, run in questions(name, first, options.years)]
     with tempfile.TemporaryDirectory(prefix="zoned_schedules-") as room:
         folder = put_program(room, "firings", ["chrono_datetime", "chrono_instant", "zone_database", "zoned_cron"], PROGRAM)
-        for name, first in ZONES:
-            more = list(questions(name, first, options.years))
-            said = answers_of(folder, [it for it, _ in more])
-            if len(said) != len(more):
-                sys.exit(f"{name}: {len(said)} answers for {len(more)} lines")
-            rows, answers = rows + more, answers + said
-            print(f"{name}: {len(more)} lines, {len(differing(more, said))} answered otherwise", flush=True)
+        answers = [it.strip() for it in answers_in_parts(room, folder, [it for it, _ in rows], LINES)]
+    for name, _ in ZONES:
+        asked = [pair for pair in zip(rows, answers) if pair[0][0].startswith(name)]
+        print(f"{name}: {len(asked)} lines, {sum(a != b for (_, b), a in asked)} answered otherwise")
     wrong = differing(rows, answers)
     for it in wrong[:20]:
         print(f"FAILED: {it[:300]}")
-    changed = [(rows[1][0], rows[1][1] + " 0"), *rows[2:]]
-    if len(differing(changed, answers[1:])) != len(wrong) + 1 and answers[1] == rows[1][1]:
+    changed = [(rows[0][0], f"{answers[0]} 0"), *rows[1:]]
+    if len(differing(changed, answers)) != len(wrong) + (answers[0] == rows[0][1]):
         sys.exit("a changed answer is not found")
     print(f"{len(rows) - len(wrong)} passed, {len(wrong)} failed")
     sys.exit(bool(wrong))
