@@ -6,7 +6,7 @@
 The cron here keeps the last local minute that it has dealt with, as cronie does. If the clock has been set ahead, it runs the jobs of the
 minutes in between at once. If the clock has been set back, it runs no job again until the clock is past that minute. A job that
 follows the clock runs at each minute that the clock shows. The later instant of two is found by the same walk, from the end back.
-The zones have gaps and folds of half an hour, of one hour and of two, a day that is left out, and four changes in a year.
+The zones have gaps and folds of half an hour, of one hour and of two, and four changes in a year.
 Some days around each change are gone through by `next_after` and by `prev_before`, and some hours by `is_due` at each half minute. For schedules
 with few times the whole year is gone through by `next_after`. `rt try` runs a small program unproved, in a copy of the crates.
 """
@@ -25,7 +25,7 @@ HOUR = 3_600
 DAY = 86_400
 EPOCH = datetime.date(1970, 1, 1)
 # Zones, each with its first year here.
-ZONES = (("Australia/Lord_Howe", 2023), ("Africa/Casablanca", 2012), ("Antarctica/Troll", 2023), ("America/New_York", 2023), ("Europe/Berlin", 2023), ("Pacific/Apia", 2011))
+ZONES = (("Australia/Lord_Howe", 2023), ("Africa/Casablanca", 2012), ("Antarctica/Troll", 2023), ("America/New_York", 2023), ("Europe/Berlin", 2023))
 FIELDS = ((0, 59), (0, 23), (1, 31), (1, 12), (0, 6))
 # Schedules with fixed times, near the changes and at all times, and such as follow the clock.
 SPARSE = ("30 2 * * *", "0 2 * * *", "15 1,2 * * *", "0,30 0-3 * * *", "45 23 * * *", "0 3 * * 0", "59 1 31 * *", "30 12 30,31 12 *", "15 2 29 10,3 *")
