@@ -198,8 +198,20 @@ def by_chrono(room, questions):
     return subprocess.run([program], input=asked, stdout=subprocess.PIPE, text=True, check=True).stdout.split("\n")[:-1]
 
 
-def differing(questions, told, wanted):
-    return [f"{line_of(it)}: {a!r}, not {b!r}" for it, a, b in zip(questions, told, wanted) if a != b]
+def differing(lines, told, wanted):
+    return [f"{it}: {a!r}, not {b!r}" for it, a, b in zip(lines, told, wanted) if a != b]
+
+
+def end(lines, told, wanted, wrong):
+    """Prints what differs and what else is wrong, once a comparison with one answer changed has found that, and ends."""
+    own = differing(lines, told, wanted)
+    changed = ["", *wanted[1:]]
+    if len(differing(lines, told, changed)) != len(own) + 1 and told[0] == wanted[0]:
+        sys.exit("a changed answer is not found")
+    for it in (own + wrong)[:20]:
+        print(f"FAILED: {it}")
+    print(f"{len(wanted) - len(own)} passed, {len(own) + len(wrong)} failed")
+    sys.exit(bool(own or wrong))
 
 
 def as_chrono(question, told):
@@ -216,24 +228,17 @@ def main():
     questions = [question(draw) for _ in range(options.lines)]
     wanted = [answer(Moment(*it[:3]), it[3]) for it in questions]
     shown, texts = of_page()
-    wrong = [f"{PAGE}: {it}" for it in differing(shown, texts, [answer(Moment(*it[:3]), it[3]) for it in shown])]
+    wrong = [f"{PAGE}: {it}" for it in differing([line_of(it) for it in shown], texts, [answer(Moment(*it[:3]), it[3]) for it in shown])]
     questions, wanted = questions + shown, wanted + texts
     with tempfile.TemporaryDirectory(prefix="patterns-") as room:
         if missing := why_no_chrono():
             print(f"chrono is not asked: {missing}")
         else:
-            others = [(it, a, b if not b.startswith(("Cut ", "Unknown ")) else "!") for it, a, b in zip(questions, by_chrono(room, questions), wanted) if as_chrono(it, a)]
+            others = [(line_of(it), a, b if not b.startswith(("Cut ", "Unknown ")) else "!") for it, a, b in zip(questions, by_chrono(room, questions), wanted) if as_chrono(it, a)]
             wrong += ["chrono: " + it for it in differing(*zip(*others))]
             print(f"{len(others)} of {len(questions)} by chrono too")
         told = answers_of(room, questions)
-    own = differing(questions, told, wanted)
-    changed = ["", *wanted[1:]]
-    if len(differing(questions, told, changed)) != len(own) + 1 and told[0] == wanted[0]:
-        sys.exit("a changed answer is not found")
-    for it in (own + wrong)[:20]:
-        print(f"FAILED: {it}")
-    print(f"{len(wanted) - len(own)} passed, {len(own) + len(wrong)} failed")
-    sys.exit(bool(own or wrong))
+    end([line_of(it) for it in questions], told, wanted, wrong)
 
 
 if __name__ == "__main__":

@@ -13,11 +13,10 @@ import datetime
 import random
 import re
 import subprocess
-import sys
 import tempfile
 
 from outside import answers_in_parts, put_program
-from patterns import FIRST, LAST, MONTHS, NANOS, PART, SPECIFIER, WEEKDAYS, Moment, answer, build_over_chrono, why_no_chrono
+from patterns import FIRST, LAST, MONTHS, NANOS, PART, SPECIFIER, WEEKDAYS, Moment, answer, build_over_chrono, differing, end, why_no_chrono
 
 GROUPS = {"F": "%Y-%m-%d", "D": "%m/%d/%y", "R": "%H:%M", "T": "%H:%M:%S", "h": "%b", "n": "\n", "t": "\t"}
 # The part of a number, and its least and greatest value.
@@ -287,10 +286,6 @@ def by_chrono(room, questions):
     return subprocess.run([program, "read"], input=asked, stdout=subprocess.PIPE, text=True, check=True).stdout.split("\n")[:-1]
 
 
-def differing(questions, told, wanted):
-    return [f"{line_of(it)}: {a!r}, not {b!r}" for it, a, b in zip(questions, told, wanted) if a != b]
-
-
 def main():
     parser = argparse.ArgumentParser(description=__doc__.partition("\n")[0])
     parser.add_argument("--seed", type=int, default=1)
@@ -305,19 +300,13 @@ def main():
             print(f"chrono is not asked: {missing}")
         else:
             # Debian's chrono does not look at the range of an hour or a minute where it reads a date.
-            others = [(it, a, b if DATE.match(b) else "!") for it, a, b in zip(questions, by_chrono(room, questions), wanted) if not NOT_OF_CHRONO.search(it[0]) and not b.startswith("OutOfRange")]
+            others = [(line_of(it), a, b if DATE.match(b) else "!") for it, a, b in zip(questions, by_chrono(room, questions), wanted) if not NOT_OF_CHRONO.search(it[0]) and not b.startswith("OutOfRange")]
             wrong += ["chrono: " + it for it in differing(*zip(*others))]
             print(f"{len(others)} of {len(questions)} by chrono too")
         folder = put_program(room, "patterns_read", ["chrono_pattern"], PROGRAM)
-        told = answers_in_parts(room, folder, [line_of(it) for it in questions], PART)
-    own = differing(questions, told, wanted)
-    changed = ["", *wanted[1:]]
-    if len(differing(questions, told, changed)) != len(own) + 1 and told[0] == wanted[0]:
-        sys.exit("a changed answer is not found")
-    for it in (own + wrong)[:20]:
-        print(f"FAILED: {it}")
-    print(f"{len(wanted) - len(own)} passed, {len(own) + len(wrong)} failed")
-    sys.exit(bool(own or wrong))
+        lines = [line_of(it) for it in questions]
+        told = answers_in_parts(room, folder, lines, PART)
+    end(lines, told, wanted, wrong)
 
 
 if __name__ == "__main__":
