@@ -1,7 +1,7 @@
 #!/usr/bin/env python3
 """Holds zoned_cron to a cron that is run here, minute by minute over Python's zoneinfo.
 
-    checks/zoned_schedules.py [--years N]      (1 year of each zone, if left out)
+    checks/zoned_schedules.py [--zones N] [--years N]      (2 zones of five and 1 year of each, if left out)
 
 The cron here keeps the last local minute that it has dealt with, as cronie does. If the clock has been set ahead, it runs the jobs of the
 minutes in between at once. If the clock has been set back, it runs no job again until the clock is past that minute. A job that
@@ -25,7 +25,7 @@ HOUR = 3_600
 DAY = 86_400
 EPOCH = datetime.date(1970, 1, 1)
 # Zones, each with its first year here.
-ZONES = (("Australia/Lord_Howe", 2023), ("Africa/Casablanca", 2012), ("Antarctica/Troll", 2023), ("America/New_York", 2023), ("Europe/Berlin", 2023))
+ZONES = (("Australia/Lord_Howe", 2023), ("America/New_York", 2023), ("Antarctica/Troll", 2023), ("Europe/Berlin", 2023), ("Africa/Casablanca", 2012))
 FIELDS = ((0, 59), (0, 23), (1, 31), (1, 12), (0, 6))
 # Schedules with fixed times, near the changes and at all times, and such as follow the clock.
 SPARSE = ("30 2 * * *", "0 2 * * *", "15 1,2 * * *", "0,30 0-3 * * *", "45 23 * * *", "0 3 * * 0", "59 1 31 * *", "30 12 30,31 12 *", "15 2 29 10,3 *")
@@ -236,16 +236,18 @@ def differing(rows, answers):
 
 def main():
     parser = argparse.ArgumentParser(description=__doc__.partition("\n")[0])
+    parser.add_argument("--zones", type=int, default=2)
     parser.add_argument("--years", type=int, default=1)
     options = parser.parse_args()
+    zones = ZONES[:options.zones]
     if not zoneinfo.available_timezones():
         print("not run: checks/zoned_schedules.py, which needs a database of time zones")
         return
-    rows = [(f"{name} {it}", run) for name, first in ZONES for it, run in questions(name, first, options.years)]
+    rows = [(f"{name} {it}", run) for name, first in zones for it, run in questions(name, first, options.years)]
     with tempfile.TemporaryDirectory(prefix="zoned_schedules-") as room:
         folder = put_program(room, "firings", ["chrono_datetime", "chrono_instant", "zone_database", "zoned_cron"], PROGRAM)
         answers = [it.strip() for it in answers_in_parts(room, folder, [it for it, _ in rows], LINES)]
-    for name, _ in ZONES:
+    for name, _ in zones:
         asked = [pair for pair in zip(rows, answers) if pair[0][0].startswith(name)]
         print(f"{name}: {len(asked)} lines, {sum(a != b for (_, b), a in asked)} answered otherwise")
     wrong = differing(rows, answers)
