@@ -124,70 +124,27 @@ impl Parsed {
     pub(crate) fn with_part(self, part: Part, value: i32) -> Parsed
         ensures { result ≡ with_part part value self }
     {
+        let mut parsed = self;
         let value = Some(value);
         match part {
-            Part::FullYear => Parsed {
-                year: value,
-                ..self
-            },
-            Part::YearDiv100 => Parsed {
-                year_div_100: value,
-                ..self
-            },
-            Part::YearMod100 => Parsed {
-                year_mod_100: value,
-                ..self
-            },
-            Part::FullIsoYear => Parsed {
-                isoyear: value,
-                ..self
-            },
-            Part::IsoYearMod100 => Parsed {
-                isoyear_mod_100: value,
-                ..self
-            },
-            Part::QuarterOfYear => Parsed {
-                quarter: value,
-                ..self
-            },
-            Part::MonthOfYear => Parsed {
-                month: value,
-                ..self
-            },
-            Part::WeekOfIsoYear => Parsed {
-                isoweek: value,
-                ..self
-            },
-            Part::DayOfWeek => Parsed {
-                weekday: value,
-                ..self
-            },
-            Part::OrdinalDay => Parsed {
-                ordinal: value,
-                ..self
-            },
-            Part::DayOfMonth => Parsed { day: value, ..self },
-            Part::HourDiv12 => Parsed {
-                hour_div_12: value,
-                ..self
-            },
-            Part::HourMod12 => Parsed {
-                hour_mod_12: value,
-                ..self
-            },
-            Part::MinuteOfHour => Parsed {
-                minute: value,
-                ..self
-            },
-            Part::SecondOfMinute => Parsed {
-                second: value,
-                ..self
-            },
-            Part::NanosecondOfSecond => Parsed {
-                nanosecond: value,
-                ..self
-            },
+            Part::FullYear => parsed.year = value,
+            Part::YearDiv100 => parsed.year_div_100 = value,
+            Part::YearMod100 => parsed.year_mod_100 = value,
+            Part::FullIsoYear => parsed.isoyear = value,
+            Part::IsoYearMod100 => parsed.isoyear_mod_100 = value,
+            Part::QuarterOfYear => parsed.quarter = value,
+            Part::MonthOfYear => parsed.month = value,
+            Part::WeekOfIsoYear => parsed.isoweek = value,
+            Part::DayOfWeek => parsed.weekday = value,
+            Part::OrdinalDay => parsed.ordinal = value,
+            Part::DayOfMonth => parsed.day = value,
+            Part::HourDiv12 => parsed.hour_div_12 = value,
+            Part::HourMod12 => parsed.hour_mod_12 = value,
+            Part::MinuteOfHour => parsed.minute = value,
+            Part::SecondOfMinute => parsed.second = value,
+            Part::NanosecondOfSecond => parsed.nanosecond = value,
         }
+        parsed
     }
 
     // The parts with one more. A part has its range, and is given the same in all places.
