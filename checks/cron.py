@@ -680,7 +680,8 @@ RIGHT = [*NICKNAMES, *KNOWN, *dict.fromkeys(it for it, _, _ in due_out())]
 ERROR_OUT = """\
  | none 0 empty
   \t | none 3 empty
-@reboot | none 0 nickname
+@reboot | none 0 reboot
+ @REBOOT 5 | none 1 reboot
  @Dayly | none 1 nickname
 @daily 0 | none 8 few
 * | none 1 few

@@ -60,8 +60,8 @@ FIELDS = {"Minute": "minute", "Hour": "hour", "Day": "day of the month", "Month"
 SCHEDULE_FAULTS = {
     "Empty": "nothing stands there", "TooFewFields": "fewer than five fields", "TooManyFields": "more than five fields",
     "UnknownNickname": "an unknown nickname", "Interval": "an interval, which is no schedule",
-    "TimeZone": "a time zone, which no schedule has", "UnknownName": "an unknown name",
-    "LongName": "a name of more than three letters", "NotANumber": "no number of one digit or two",
+    "Reboot": "the start of a machine, which is no schedule", "TimeZone": "a time zone, which no schedule has",
+    "UnknownName": "an unknown name", "LongName": "a name of more than three letters", "NotANumber": "no number of one digit or two",
     "OutOfRange": "a number that is out of range", "RangeTurnedRound": "a range whose end is below its beginning",
     "StepOfZero": "a step of 0", "StepOfNumber": "a step behind a number alone",
 }

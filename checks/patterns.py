@@ -1,12 +1,13 @@
 #!/usr/bin/env python3
-"""Holds patterns to Python's strftime and to Debian's chrono, on random patterns and date-times.
+"""Holds patterns to Python's strftime, to GNU date and to Debian's chrono, on random patterns and date-times.
 
     checks/patterns.py [--seed N] [--lines N]      (seed 1 and 20,000 lines, if left out)
 
 An answer is this file's own, from its own count of days. In the years 1000 to 9999, Python's strftime has to write the same of each
-specifier that it has. Where there is Debian's chrono, checks/chrono_patterns has to write the same too, and to refuse the same patterns:
-all that have neither `%q` nor `%W`, for one is newer, and the other is not offered here. Bytes that are no pattern are read by a
-regular expression. `rt try` runs a small program unproved, in a copy of the crates: it answers the lines, and what differs is printed. A second run
+specifier that it has, and GNU date of all its specifiers in one pattern. Where there is Debian's chrono, checks/chrono_patterns has to write
+the same too, and to refuse the same patterns: all that have none of `%q`, `%U` and `%W`. The first is newer. Of the other two Debian's
+chrono writes another number in some years, where GNU date and Python agree: how many lines differ is printed. Bytes that are no
+pattern are read by a regular expression. `rt try` runs a small program unproved, in a copy of the crates: it answers the lines, and what differs is printed. A second run
 of the same lines with one answer changed has to find that answer. The table of patterns in docs/chrono.md is asked with them.
 """
 import argparse
@@ -32,12 +33,19 @@ EPOCH, NANOS = 719_163, 10**9
 PART = 10_000
 WEEKDAYS = "Monday Tuesday Wednesday Thursday Friday Saturday Sunday".split()
 MONTHS = "January February March April May June July August September October November December".split()
-NUMBERS, OTHERS = "YCyqmdejuwGgVHkIlMSf", "BbhAapPFDRTt%"
+NUMBERS, OTHERS = "YCyqmdejuwGgVUWHkIlMSf", "BbhAapPFDRTcxXrvt%"
 SPECIFIER = re.compile(rf"%(?:([-_0]?)([{NUMBERS}])|([{OTHERS}])|([.]?[369]?)f)")
+# The specifiers that stand for others.
+GROUPS = {
+    "F": "%Y-%m-%d", "D": "%m/%d/%y", "x": "%m/%d/%y", "R": "%H:%M", "T": "%H:%M:%S", "X": "%H:%M:%S", "r": "%I:%M:%S %p", "v": "%e-%b-%Y",
+    "c": "%a %b %e %H:%M:%S %Y",
+}
 # What a specifier may begin with where the bytes end.
 BEGUN = re.compile(r"%(?:[-_0]|[.]?[369]?)$")
 # The specifiers whose texts Python has with the same meaning.
-OF_PYTHON = set("YCymdejuwGgVHkIlMSBbhAapPFDRTt%")
+OF_PYTHON = set("YCymdejuwGgVUWHkIlMSBbhAapPFDRTcxXrt%")
+# The specifiers that GNU date has with the same meaning.
+OF_GNU = "|".join(f"%{it}" for it in [*"YCyqmdejuwGgVUWHkIlMSBbhAapPFDRTcxXr%", "-d", "_j", "-U", "_W", "-I"])
 # The page with a table of patterns and their texts, how many it has, and the date-time that they are of.
 PAGE, SHOWN, MOMENT = "docs/chrono.md", 10, (738_945, 32_707, 250_000_000)
 ROW = re.compile(r"`(%[^`]*)` \| `([^`]*)` \|")
@@ -81,6 +89,10 @@ class Moment:
         self.iso_year = civil(thursday - EPOCH)[0]
         self.iso_week = (thursday - Moment.new_year(self.iso_year)) // 7 + 1
 
+    def weeks(self, weekday):
+        """How many days of the year up to this one have the weekday."""
+        return sum((day - 1) % 7 == weekday for day in range(self.day - self.ordinal + 1, self.day + 1))
+
     @staticmethod
     def new_year(year):
         past = year - 1
@@ -94,7 +106,7 @@ def number(moment, code, padding):
         "Y": (m.year, 4, "0"), "C": (m.year // 100, 2, "0"), "y": (m.year % 100, 2, "0"), "q": ((m.month + 2) // 3, 1, "0"),
         "m": (m.month, 2, "0"), "d": (m.of_month, 2, "0"), "e": (m.of_month, 2, "_"), "j": (m.ordinal, 3, "0"),
         "u": (m.weekday + 1, 1, "0"), "w": ((m.weekday + 1) % 7, 1, "0"), "G": (m.iso_year, 4, "0"), "g": (m.iso_year % 100, 2, "0"),
-        "V": (m.iso_week, 2, "0"), "H": (hour, 2, "0"), "k": (hour, 2, "_"), "I": ((hour + 11) % 12 + 1, 2, "0"),
+        "V": (m.iso_week, 2, "0"), "U": (m.weeks(6), 2, "0"), "W": (m.weeks(0), 2, "0"), "H": (hour, 2, "0"), "k": (hour, 2, "_"), "I": ((hour + 11) % 12 + 1, 2, "0"),
         "l": ((hour + 11) % 12 + 1, 2, "_"), "M": (m.at // 60 % 60, 2, "0"), "S": (m.at % 60 + m.fraction // NANOS, 2, "0"),
         "f": (m.fraction % NANOS, 9, "0"),
     }[code]
@@ -111,9 +123,8 @@ def piece(moment, found):
     padding, code, other, digits = found.groups()
     if code:
         return number(moment, code, padding)
-    groups = {"F": "%Y-%m-%d", "D": "%m/%d/%y", "R": "%H:%M", "T": "%H:%M:%S"}
-    if other in groups:
-        return SPECIFIER.sub(lambda it: piece(moment, it), groups[other])
+    if other in GROUPS:
+        return SPECIFIER.sub(lambda it: piece(moment, it), GROUPS[other])
     if other:
         half = "AP"[moment.at >= 43_200] + "M"
         month, weekday = MONTHS[moment.month - 1], WEEKDAYS[moment.weekday]
@@ -181,6 +192,11 @@ def of_page():
     return [(*MOMENT, pattern) for pattern, _ in rows], [text for _, text in rows]
 
 
+def draw_weeks(draw, count):
+    """Random days of these centuries, to be written by their weeks of the year."""
+    return [(draw.randrange(700_000, 760_000), 0, 0, "%U %W") for _ in range(count)]
+
+
 def line_of(question):
     return " ".join(map(str, question))
 
@@ -196,6 +212,16 @@ def by_chrono(room, questions):
     program = build_over_chrono(room, "checks/chrono_patterns")
     asked = "".join(f"{line_of(it)}\n" for it in questions)
     return subprocess.run([program], input=asked, stdout=subprocess.PIPE, text=True, check=True).stdout.split("\n")[:-1]
+
+
+def by_gnu(room, questions):
+    """What GNU date writes of the date-times of the years 1000 to 9999, and what it should."""
+    moments = [it for it in (Moment(*it[:3]) for it in questions) if 1000 <= it.year <= 9999 and 1000 <= it.iso_year <= 9999 and it.fraction < NANOS]
+    with open(f"{room}/dates", "w", encoding="ascii") as it:
+        it.writelines(f"@{(moment.day - EPOCH) * 86_400 + moment.at}\n" for moment in moments)
+    env = {"PATH": os.environ["PATH"], "LC_ALL": "C"}
+    told = subprocess.run(["date", "-u", "-f", f"{room}/dates", f"+{OF_GNU}"], stdout=subprocess.PIPE, text=True, check=True, env=env).stdout
+    return [f"@{it.day} {it.at}" for it in moments], told.split("\n")[:-1], [answer(it, OF_GNU) for it in moments]
 
 
 def differing(lines, told, wanted):
@@ -216,7 +242,7 @@ def end(lines, told, wanted, wrong):
 
 def as_chrono(question, told):
     """Whether the answer is to be chrono's too."""
-    return told != "-" and not re.search("%[-_0]?[qW]", question[3])
+    return told != "-" and not re.search("%[-_0]?[qUW]", question[3])
 
 
 def main():
@@ -237,6 +263,12 @@ def main():
             others = [(line_of(it), a, b if not b.startswith(("Cut ", "Unknown ")) else "!") for it, a, b in zip(questions, by_chrono(room, questions), wanted) if as_chrono(it, a)]
             wrong += ["chrono: " + it for it in differing(*zip(*others))]
             print(f"{len(others)} of {len(questions)} by chrono too")
+            weeks = draw_weeks(draw, options.lines // 4)
+            other = [a != answer(Moment(*it[:3]), it[3]) for it, a in zip(weeks, by_chrono(room, weeks)) if a != "-"]
+            print(f"chrono differs in {sum(other)} of {len(other)} lines of %U and %W")
+        gnu = by_gnu(room, questions)
+        wrong += ["GNU date: " + it for it in differing(*gnu)]
+        print(f"{len(gnu[0])} lines by GNU date too")
         told = answers_of(room, questions)
     end([line_of(it) for it in questions], told, wanted, wrong)
 

@@ -3,10 +3,11 @@
 
     checks/patterns_read.py [--seed N] [--lines N]      (seed 1 and 20,000 lines, if left out)
 
-A text is one that its pattern writes, often with a byte changed, left out or put in. The wanted answer is this file's own. Where it is a
-date, its fields are compared with all dates that fit, by their names. Python's strptime has to read the same date wherever it has all specifiers
-of a pattern and reads the text. Debian's chrono has to read the same date, or none where none is wanted. It differs where the tables below say.
-`rt try` runs a small program unproved, in a copy of the crates. A second run of the same lines with one answer changed has to find that answer.
+A text is one that its pattern writes, often with a byte changed, left out or put in. It is read whole, and its front alone. The wanted
+answer is this file's own. Where it is a date, its fields are compared with all dates that fit, by their names. Python's strptime has to
+read the same date wherever it has all specifiers of a pattern and reads the text. Debian's chrono has to read the same date, or none
+where none is wanted. It differs where the tables below say. `rt try` runs a small program unproved, in a copy of the crates. A second run
+of the same lines with one answer changed has to find that answer.
 """
 import argparse
 import datetime
@@ -16,21 +17,22 @@ import subprocess
 import tempfile
 
 from outside import answers_in_parts, put_program
-from patterns import FIRST, LAST, MONTHS, NANOS, PART, SPECIFIER, WEEKDAYS, Moment, answer, build_over_chrono, differing, end, why_no_chrono
+from patterns import FIRST, GROUPS, LAST, MONTHS, NANOS, PART, SPECIFIER, WEEKDAYS, Moment, answer, build_over_chrono, differing, end, why_no_chrono
 
-GROUPS = {"F": "%Y-%m-%d", "D": "%m/%d/%y", "R": "%H:%M", "T": "%H:%M:%S", "h": "%b", "n": "\n", "t": "\t"}
+SINGLES = {"h": "%b", "n": "\n", "t": "\t"}
 # The part of a number, and its least and greatest value.
 PARTS = {
     "Y": ("year", -999_999_999, 999_999_999), "C": ("century", 0, 99), "y": ("place", 0, 99), "q": ("quarter", 1, 4), "m": ("month", 1, 12),
     "d": ("day", 1, 31), "e": ("day", 1, 31), "j": ("ordinal", 1, 366), "u": ("weekday", 1, 7), "G": ("isoyear", -999_999_999, 999_999_999),
-    "g": ("isoplace", 0, 99), "V": ("isoweek", 1, 53), "M": ("minute", 0, 59), "S": ("second", 0, 60), "f": ("nanos", 0, 999_999_999),
+    "g": ("isoplace", 0, 99), "V": ("isoweek", 1, 53), "U": ("from_sunday", 0, 53), "W": ("from_monday", 0, 53), "M": ("minute", 0, 59), "S": ("second", 0, 60), "f": ("nanos", 0, 999_999_999),
 }
 WIDTHS = {"Y": 4, "G": 4, "j": 3, "q": 1, "u": 1, "w": 1, "f": 9}
 BLANKS = " \t\n\v\f\r"
 # What Python's strptime reads as chrono's patterns do.
 OF_PYTHON = "YmdjbBaAHIMSpy"
-# Patterns whose dates Debian's chrono reads otherwise: it has no `%q`, reads a date by `%g`, and takes no century of a year below 0.
-NOT_OF_CHRONO = re.compile(r"%[-_0]?[qgCy]")
+# Patterns whose dates Debian's chrono reads otherwise: it has no `%q`, reads a date by `%g`, takes no century of a year
+# below 0, and has other weeks of the year.
+NOT_OF_CHRONO = re.compile(r"%[-_0]?[qgCyUW]")
 PROGRAM = r'''//! Reads dates by patterns, a line each.
 #![tactic(auto)]
 
@@ -42,13 +44,19 @@ fn main(rt: HostRuntime) -> io::Result<()> {
         let line = line?;
         let Some((pattern, text)) = line.as_str().split_once('|') else { return Ok(()); };
         match Pattern::new(pattern.as_bytes()) {
-            Ok(pattern) => match pattern.read_parts(text.as_bytes()) {
-                Ok(parts) => match parts.to_date() {
-                    Ok(date) => println!(rt; "= {date}")?,
-                    Err(cause) => println!(rt; "= {cause:?}")?,
-                },
-                Err(error) => println!(rt; "= {:?} {}", error.cause, error.byte)?,
-            },
+            Ok(pattern) => {
+                match pattern.read_parts(text.as_bytes()) {
+                    Ok(parts) => match parts.to_date() {
+                        Ok(date) => print!(rt; "= {date}")?,
+                        Err(cause) => print!(rt; "= {cause:?}")?,
+                    },
+                    Err(error) => print!(rt; "= {:?} {}", error.cause, error.byte)?,
+                }
+                match pattern.parse_date_and_remainder(text.as_bytes()) {
+                    Ok((date, rest)) => println!(rt; "; {date} + {}", rest.len())?,
+                    Err(error) => println!(rt; "; {:?} {}", error.cause, error.byte)?,
+                }
+            }
             Err(_) => println!(rt; "= no pattern")?,
         }
     }
@@ -158,8 +166,8 @@ class Reader:
         _, code, other, form = found.groups()
         if code:
             self.number(code)
-        elif other in GROUPS:
-            self.pattern(GROUPS[other])
+        elif other in GROUPS or other in SINGLES:
+            self.pattern(GROUPS.get(other) or SINGLES[other])
         elif other in ("B", "b"):
             self.name(MONTHS, other == "B", "month")
         elif other in ("A", "a"):
@@ -194,6 +202,10 @@ def by_names(parts):
         return [new_year + sum(lengths[: parts["month"] - 1]) + parts["day"] - 1] if parts["day"] <= lengths[parts["month"] - 1] else []
     if year is not None and "ordinal" in parts:
         return [Moment.new_year(year) + parts["ordinal"] - 1]
+    for name, first in (("from_sunday", 6), ("from_monday", 0)):
+        if year is not None and {name, "weekday"} <= parts.keys():
+            days = range(Moment.new_year(year), Moment.new_year(year + 1))
+            return [it for it in days if (it - 1) % 7 + 1 == parts["weekday"] and Moment(it, 0, 0).weeks(first) == parts[name]]
     if {"isoyear", "isoweek", "weekday"} <= parts.keys():
         fourth = Moment.new_year(parts["isoyear"]) + 3
         return [fourth - (fourth - 1) % 7 + 7 * (parts["isoweek"] - 1) + parts["weekday"] - 1]
@@ -208,6 +220,7 @@ def fits(parts, day):
     told = {
         "year": it.year, "century": it.year // 100, "place": it.year % 100, "isoyear": it.iso_year, "isoplace": it.iso_year % 100,
         "quarter": (it.month + 2) // 3, "month": it.month, "isoweek": it.iso_week, "weekday": it.weekday + 1, "ordinal": it.ordinal, "day": it.of_month,
+        "from_sunday": it.weeks(6), "from_monday": it.weeks(0),
     }
     alone = "place" in parts and "year" not in parts and "century" not in parts
     return all(parts.get(name, value) == value for name, value in told.items()) and not (alone and not 1970 <= it.year <= 2069)
@@ -219,21 +232,28 @@ def written(day):
     return f"{year}-{it.month:02}-{it.of_month:02}"
 
 
+def date_of(parts):
+    """The date that fits parts, or why there is none."""
+    days = by_names(parts)
+    if days is None:
+        return "NotEnough"
+    right = [it for it in days if fits(parts, it)]
+    return written(right[0]) if right else "Impossible"
+
+
 def wanted_of(pattern, text):
+    """The date of a whole text, or what is wrong; and the date of its front with how many bytes are behind it, or what is wrong with that."""
     reader = Reader(text)
     try:
         reader.pattern(pattern)
-        if reader.at < len(text):
-            reader.fail("TooLong")
     except Wrong as wrong:
-        return str(wrong)
-    days = by_names(reader.parts)
-    if days is None:
-        return "NotEnough"
-    right = [it for it in days if fits(reader.parts, it)]
-    told = written(right[0]) if right else "Impossible"
-    as_python(pattern, text, told)
-    return told
+        return str(wrong), str(wrong)
+    date, left = date_of(reader.parts), len(text) - reader.at
+    front = f"{date} + {left}" if DATE.match(date) else f"{date} {reader.at}"
+    if left:
+        return f"TooLong {reader.at}", front
+    as_python(pattern, text, date)
+    return date, front
 
 
 # What a date begins with.
@@ -255,6 +275,7 @@ def as_python(pattern, text, told):
 PATTERNS = (
     "%Y-%m-%d", "%F", "%d.%m.%y", "%m/%d/%Y", "%D", "%Y%m%d", "%d %b %Y", "%A, %d %B %Y", "%a %e %b %Y", "%Y-%j", "%G-W%V-%u", "%G %V %a", "%C%y-%m-%d",
     "%Y-%m-%dT%T%.f", "%F %I:%M %p", "%F %H%M%S%3f", "%q %F", "%F %w", "%B %d %Y %A", "%y%j", "%d%m%y %H", "%Y %b", "%g %V %u", "%b %d", "%F%n%T", "%Y %m %d %f",
+    "%Y %U %a", "%Y-W%W-%u", "%y%W%w", "%U %F", "%c", "%v", "%x %X", "%F %r", "%r %v",
 )
 
 
@@ -262,7 +283,7 @@ def question(draw):
     """A random line: a pattern, and a text that it writes, often spoilt."""
     pattern = draw.choice(PATTERNS)
     if draw.random() < 0.3:
-        pattern = "".join(draw.choice(("%Y", "%m", "%d", "%j", "%y", "%C", "%b", "%B", "%a", "%A", "%e", "%u", "%w", "%G", "%V", "%H", "%I", "%p", "%M", "%-d", "%_m", " ", "-", "/", "x")) for _ in range(draw.randrange(2, 9)))
+        pattern = "".join(draw.choice(("%Y", "%m", "%d", "%j", "%y", "%C", "%b", "%B", "%a", "%A", "%e", "%u", "%w", "%G", "%V", "%U", "%W", "%H", "%I", "%p", "%M", "%-d", "%_m", " ", "-", "/", "x")) for _ in range(draw.randrange(2, 9)))
     day = draw.choice((draw.randrange(719_163, 755_000), draw.randrange(600_000, 800_000), draw.randrange(FIRST, LAST + 1)))
     fraction = draw.choice((0, 500_000_000, draw.randrange(NANOS)))
     text = answer(Moment(day, draw.randrange(86_400), fraction), pattern)
@@ -293,14 +314,14 @@ def main():
     options = parser.parse_args()
     draw = random.Random(options.seed)
     questions = [it for it in (question(draw) for _ in range(options.lines)) if "\n" not in line_of(it)]
-    wanted = [wanted_of(*it) for it in questions]
-    wrong = []
+    answers = [wanted_of(*it) for it in questions]
+    wanted, wrong = ["; ".join(it) for it in answers], []
     with tempfile.TemporaryDirectory(prefix="patterns-read-") as room:
         if missing := why_no_chrono():
             print(f"chrono is not asked: {missing}")
         else:
             # Debian's chrono does not look at the range of an hour or a minute where it reads a date.
-            others = [(line_of(it), a, b if DATE.match(b) else "!") for it, a, b in zip(questions, by_chrono(room, questions), wanted) if not NOT_OF_CHRONO.search(it[0]) and not b.startswith("OutOfRange")]
+            others = [(line_of(it), a, b if DATE.match(b) else "!") for it, a, (b, _) in zip(questions, by_chrono(room, questions), answers) if not NOT_OF_CHRONO.search(it[0]) and not b.startswith("OutOfRange")]
             wrong += ["chrono: " + it for it in differing(*zip(*others))]
             print(f"{len(others)} of {len(questions)} by chrono too")
         folder = put_program(room, "patterns_read", ["chrono_pattern"], PROGRAM)

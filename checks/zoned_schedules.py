@@ -1,12 +1,12 @@
 #!/usr/bin/env python3
 """Holds zoned_cron to a cron that is run here, minute by minute over Python's zoneinfo.
 
-    checks/zoned_schedules.py [--zones N] [--years N]      (2 zones of five and 1 year of each, if left out)
+    checks/zoned_schedules.py [--zones N] [--years N]      (2 zones of six and 1 year of each, if left out)
 
 The cron here keeps the last local minute that it has dealt with, as cronie does. If the clock has been set ahead, it runs the jobs of the
 minutes in between at once. If the clock has been set back, it runs no job again until the clock is past that minute. A job that
 follows the clock runs at each minute that the clock shows. The later instant of two is found by the same walk, from the end back.
-The zones have gaps and folds of half an hour, of one hour and of two, and four changes in a year.
+The zones have gaps and folds of half an hour, of one hour and of two, four changes in a year, and a day that the clock skips.
 Some days around each change are gone through by `next_after` and by `prev_before`, and some hours by `is_due` at each half minute. For schedules
 with few times the whole year is gone through by `next_after`. `rt try` runs a small program unproved, in a copy of the crates.
 """
@@ -25,7 +25,8 @@ HOUR = 3_600
 DAY = 86_400
 EPOCH = datetime.date(1970, 1, 1)
 # Zones, each with its first year here.
-ZONES = (("Australia/Lord_Howe", 2023), ("America/New_York", 2023), ("Antarctica/Troll", 2023), ("Europe/Berlin", 2023), ("Africa/Casablanca", 2012))
+ZONES = (("Australia/Lord_Howe", 2023), ("America/New_York", 2023), ("Antarctica/Troll", 2023), ("Europe/Berlin", 2023), ("Africa/Casablanca", 2012),
+         ("Pacific/Apia", 2011))
 FIELDS = ((0, 59), (0, 23), (1, 31), (1, 12), (0, 6))
 # Schedules with fixed times, near the changes and at all times, and such as follow the clock.
 SPARSE = ("30 2 * * *", "0 2 * * *", "15 1,2 * * *", "0,30 0-3 * * *", "45 23 * * *", "0 3 * * 0", "59 1 31 * *", "30 12 30,31 12 *", "15 2 29 10,3 *")
@@ -198,28 +199,23 @@ def questions(name, first, years):
         # (some days more on each side, so that the walk begins and ends with no change in sight)
         minutes = list(walk(zone, start - 3 * DAY, end + 3 * DAY))
         changes = [after[0] for before, after in itertools.pairwise(minutes) if after[1] != before[1] + 1]
-        # (a gap of a day takes long to go through, for each time in it)
-        longest = max(after[1] - before[1] for before, after in itertools.pairwise(minutes))
-        sparse = SPARSE if longest < 600 else SPARSE[:1]
-        for text in sparse:
+        for text in SPARSE:
             yield from of_window("next", minutes, start, end, text, "-", "vixie")
         for change in changes:
-            yield from of_change([it for it in minutes if abs(it[0] - change) <= 3 * DAY], change, sparse)
+            yield from of_change([it for it in minutes if abs(it[0] - change) <= 3 * DAY], change)
 
 
-def of_change(near, change, sparse):
+def of_change(near, change):
     """Questions on the days and the hours around a change."""
-    for text in sparse:
-        for gap, fold in [("-", "vixie"), *(POLICIES if text in ALL_WAYS and sparse == SPARSE else ())]:
+    for text in SPARSE:
+        for gap, fold in [("-", "vixie"), *(POLICIES if text in ALL_WAYS else ())]:
             for call in ("next", "prev"):
                 yield from of_window(call, near, change - DAY, change + DAY, text, gap, fold)
             yield from of_window("due", near, change - 3 * HOUR, change + 3 * HOUR, text, gap, fold)
-    if sparse != SPARSE:
-        return
     for text in DENSE:
         for call, before in (("next", HOUR), ("prev", HOUR), ("due", 3 * HOUR)):
             yield from of_window(call, near, change - before, change + before, text, "-", "vixie")
-    for call, before in (("next", 120), ("prev", 120), ("due", 3 * HOUR)):
+    for call, before in (("next", 3 * HOUR), ("prev", 120), ("due", 3 * HOUR)):
         yield from of_window(call, near, change - before, change + before, EACH_MINUTE, "-", "vixie")
 
 

@@ -7,7 +7,7 @@ ghost use Rattle.caltool_command.specs.Words.{words};
 ghost use Rattle.caltool_command.specs.Grammar.{numbers_of};
 ghost use Rattle.caltool_command.specs.Private.{EndsWord, numbers_behind};
 
-use chrono_text::{Line, Way, read_number};
+use chrono_text::{Line, Way, digit, read_number};
 
 const SPACE: u8 = b' ';
 
@@ -49,11 +49,11 @@ pub(crate) fn next_digit<'a>(text: &Line<'a>) -> Option<(i64, Line<'a>)>
     if !stands_alone(text) {
         return None;
     }
-    let digit = text.byte(0);
-    if digit < b'0' || digit > b'9' {
+    let value = digit(text.byte(0));
+    if value > 9 {
         return None;
     }
-    Some((i64::from(digit - b'0'), text.skip(1)))
+    Some((i64::from(value), text.skip(1)))
 }
 
 // Whether the first byte of a text is the first word.

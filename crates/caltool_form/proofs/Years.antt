@@ -1,14 +1,8 @@
 -- The text of a year, which is put again from the text of a date.
-use Rattle.std.proofs.Common.{◌≡◌, ◌∙◌, ◌+◌, ◌-◌, ◌≤◌, zero, suc, ℕ, ℤ, codes, List, [], ◌∷◌, ◌++◌, length, take, drop, refl, ap, append_assoc, length-append, arith}
+use Rattle.std.proofs.Common.{◌≡◌, ◌∙◌, ◌+◌, ◌-◌, ◌≤◌, ℕ, ℤ, codes, List, ◌++◌, length, take, drop, refl, ap, append_assoc, length-append, arith}
+use Rattle.std.proofs.lemmas.List.{take-take}
 use Rattle.std.proofs.Math.Seq.{take-append_seam, take-append-add, take-length, drop-append_seam}
 use Rattle.chrono_text.specs.Text.{calendar_text, two_digits, year_text}
-
--- of more bytes the first ones
-take_front : (k n : ℕ) (xs : List ℕ) → k ≤ n → take k (take n xs) ≡ take k xs
-take_front zero n xs le = refl
-take_front (suc k) zero xs le = absurd (omega arith)
-take_front (suc k) (suc n) [] le = refl
-take_front (suc k) (suc n) (x ∷ xs) le = ap (λ l. x ∷ l) (take_front k n xs (omega arith))
 
 -- the first bytes behind others
 behind : (old front more all : List ℕ) → all ≡ old ++ (front ++ more) → length front ≤ 8
@@ -18,7 +12,7 @@ behind old front more all is few =
     let count : length all - length old ≡ length (front ++ more) = omega (arith, ap length is, length-append old (front ++ more)) in
     let whole : take (length all - length old) (drop (length old) all) ≡ front ++ more =
     ap (λ k. take k (drop (length old) all)) count ∙ ap (take (length (front ++ more))) rest ∙ take-length (front ++ more) in
-    ap (λ l. take (length front) (take 8 l)) whole ∙ take_front (length front) 8 (front ++ more) few ∙ take-append_seam front more
+    ap (λ l. take (length front) (take 8 l)) whole ∙ take-take (length front) 8 (front ++ more) few ∙ take-append_seam front more
 
 -- the year of a date, from the bytes behind those of before
 pub year_again : (old first second a b c e : List ℕ) (y : ℤ) (m d : ℕ) → first ≡ old ++ calendar_text y m d → second ≡ first ++ a ++ b ++ c ++ e → length first ≤ length old + 13

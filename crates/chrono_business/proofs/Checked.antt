@@ -94,19 +94,3 @@ all-next P xs i x within is here front = λ k d low high. by_lt_z (pos k) (pos i
     let same : k ≡ i = omega (arith, signed, ge) in
     let at : x ≡ slice_index_or xs k d = is ∙ (get_or_default xs i x d within ∙ ap (λ j. slice_index_or xs j d) (sym same)) in
     rw at at here)
-
--- so they rise, if the next is later than each of them
-pub rising-next : (xs : List ℤ) (i : ℕ) (x : ℤ) → i < length xs → x ≡ slice_index_or xs i x → ((k : ℕ) (d : ℤ) → k < i → slice_index_or xs k d <ℤ x) → ((j k : ℕ) (d : ℤ) → j < k → k < i → slice_index_or xs j d <ℤ slice_index_or xs k d) → (j k : ℕ) (d : ℤ) → j < k → k < i + 1 → slice_index_or xs j d <ℤ slice_index_or xs k d
-rising-next xs i x within is behind rising = λ j k d order high. by_lt_z (pos k) (pos i) (λ lt. rising j k d order (omega (arith, signed, lt))) (λ ge.
-    let same : k ≡ i = omega (arith, signed, ge) in
-    let at : x ≡ slice_index_or xs k d = is ∙ (get_or_default xs i x d within ∙ ap (λ j. slice_index_or xs j d) (sym same)) in
-    omega (arith, signed, at, behind j d (omega arith)))
-
--- a day later than the last of days that rise is later than each of them
-pub later_than_all : (xs : List ℤ) (i : ℕ) (x last : ℤ) → 0 < i → i < length xs → last ≡ slice_index_or xs (i - 1) last → last <ℤ x → ((j k : ℕ) (d : ℤ) → j < k → k < i → slice_index_or xs j d <ℤ slice_index_or xs k d) → (k : ℕ) (d : ℤ) → k < i → slice_index_or xs k d <ℤ x
-later_than_all xs i x last some within is later rising = λ k d low.
-    let at : last ≡ slice_index_or xs (i - 1) d = is ∙ get_or_default xs (i - 1) last d (omega arith) in
-    by_lt_z (pos k) (pos (i - 1)) (λ lt. omega (arith, signed, at, later, rising k (i - 1) d (omega (arith, signed, lt)) (omega arith))) (λ ge.
-    let same : k ≡ i - 1 = omega (arith, signed, ge) in
-    let here : slice_index_or xs k d ≡ slice_index_or xs (i - 1) d = ap (λ j. slice_index_or xs j d) same in
-    omega (arith, signed, at, here, later))

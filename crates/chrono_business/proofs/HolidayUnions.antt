@@ -1,8 +1,8 @@
 -- Holidays to which the dates of rules are added, one rule after another and year after year.
-use Rattle.std.proofs.Common.{◌≡◌, ℕ, ◌+◌, ◌<◌, ◌≤◌, Bool, true, false, ◌||◌, ◌⊎◌, inl, inr, List, [], length, drop, take, Some, refl, sym, ap, ◌∙◌, arith, ℤ, pos, ◌+ℤ◌, ◌≤ℤ◌, ◌<ℤ◌}
+use Rattle.std.proofs.Common.{◌≡◌, ℕ, ◌+◌, ◌<◌, ◌≤◌, true, false, ◌||◌, ◌⊎◌, inl, inr, List, [], length, drop, take, Some, sym, ap, ◌∙◌, arith, ℤ, pos, ◌+ℤ◌, ◌≤ℤ◌, ◌<ℤ◌}
 use Rattle.std.specs.Prelude.{slice_index_or}
 use Rattle.std.specs.Ordering.{int_eq}
-use Rattle.std.proofs.lemmas.Bool.{false≢true}
+use Rattle.std.proofs.lemmas.Bool.{false≢true, or_cases, or_left}
 use Rattle.std.proofs.lemmas.Bool.Decides.{Decides-int_eq}
 use Rattle.std.proofs.lemmas.Int.{by_lt_z}
 use Rattle.std.proofs.lemmas.List.{get_or_default, take-append-drop}
@@ -161,23 +161,15 @@ with-day weekend zs xs x are only kept here = record {
   each = λ d same workday. ap (is_holiday xs) same ∙ here (ap (is_workday weekend) (sym same) ∙ workday);
 }
 
-either : (a b : Bool) → (a || b) ≡ true → (a ≡ true) ⊎ (b ≡ true)
-either true b h = inl refl
-either false b h = inr h
-
-or_first : (a b : Bool) → a ≡ true → (a || b) ≡ true
-or_first true b h = refl
-or_first false b h = absurd (false≢true h)
-
 pub list-parts : (xs : List ℤ) (i : ℕ) (r d : ℤ) → i < length xs → r ≡ slice_index_or xs i r → is_holiday (take (i + 1) xs) d ≡ true → (is_holiday (take i xs) d ≡ true) ⊎ (d ≡ r)
 list-parts xs i r d within is h =
-    elim (either (is_holiday (take i xs) d) (int_eq (slice_index_or xs i r) d) (sym (list_any_more (λ e. int_eq e d) xs i r within) ∙ h)) [
+    elim (or_cases (is_holiday (take i xs) d) (int_eq (slice_index_or xs i r) d) (sym (list_any_more (λ e. int_eq e d) xs i r within) ∙ h)) [
       | inl was ↦ inl was
       | inr here ↦ inr (sym (is ∙ (Decides-int_eq (slice_index_or xs i r) d).0 here))
     ]
 
 pub list-more : (xs : List ℤ) (i : ℕ) (r d : ℤ) → i < length xs → is_holiday (take i xs) d ≡ true → is_holiday (take (i + 1) xs) d ≡ true
-list-more xs i r d within h = list_any_more (λ e. int_eq e d) xs i r within ∙ or_first (is_holiday (take i xs) d) (int_eq (slice_index_or xs i r) d) h
+list-more xs i r d within h = list_any_more (λ e. int_eq e d) xs i r within ∙ or_left (is_holiday (take i xs) d) (int_eq (slice_index_or xs i r) d) h
 
 pub list-next : (xs : List ℤ) (i : ℕ) (r d : ℤ) → i < length xs → d ≡ slice_index_or xs i r → is_holiday (take (i + 1) xs) d ≡ true
 list-next xs i r d within same =
@@ -191,7 +183,7 @@ list-in xs i r d within same = list_any_at (λ e. int_eq e d) xs i r within ((De
 pub list-front : (xs : List ℤ) (i : ℕ) (d : ℤ) → is_holiday (take i xs) d ≡ true → is_holiday xs d ≡ true
 list-front xs i d h =
     ap (λ (l : List ℤ). is_holiday l d) (sym (take-append-drop i xs))
-    ∙ (list_any-append (λ e. int_eq e d) (take i xs) (drop i xs) ∙ or_first (is_holiday (take i xs) d) (is_holiday (drop i xs) d) h)
+    ∙ (list_any-append (λ e. int_eq e d) (take i xs) (drop i xs) ∙ or_left (is_holiday (take i xs) d) (is_holiday (drop i xs) d) h)
 
 pub too_many-day : (weekend : DaySet) (zs : List ℤ) (x : ℤ) (n : ℕ) → AreTooMany (λ d. (is_holiday zs d ≡ true) ⊎ ((d ≡ x) × (is_workday weekend x ≡ true))) n → AreTooMany (λ d. (is_holiday zs d ≡ true) ⊎ ((d ≡ x) × (is_workday weekend d ≡ true))) n
 too_many-day weekend zs x n many = λ xs rise all.

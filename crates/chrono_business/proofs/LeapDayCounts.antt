@@ -2,22 +2,16 @@
 use Rattle.std.proofs.Common.{◌≡◌, ℕ, zero, suc, ◌+◌, ◌-◌, ◌<◌, ◌≤◌, Bool, true, false, not, nat_lt, cond, ◌⊎◌, inl, inr, refl, sym, ap, ◌∙◌, arith, ℤ, pos, negsuc, ◌+ℤ◌, ◌-ℤ◌, ◌*ℤ◌, unsigned_abs}
 use Rattle.std.proofs.lemmas.Int.{by_lt_z}
 use Rattle.chrono_datetime.specs.Years.{is_leap_year, year_length}
-use Rattle.chrono_datetime.specs.Days.{IsOrdinalName, OrdinalName, days_after_zero, days_before_zero, ordinal_name_of, year_of, month_of, day_of, ordinal_of, ordinal_of_ymd}
+use Rattle.chrono_datetime.specs.Days.{IsOrdinalName, OrdinalName, days_after_zero, days_before_zero, ordinal_name_of, year_of, ordinal_of}
 use Rattle.chrono_datetime.specs.Recurrence.{count_between, count_where}
 use Rattle.chrono_datetime.proofs.Signed.{signed}
-use Rattle.chrono_datetime.proofs.NamedDates.{IsCalendarName-ordinal, calendar_name-exists, number-calendar_name, number-ordinal_name}
+use Rattle.chrono_datetime.proofs.Names.{ordinal_name_of-number}
 use Rattle.chrono_datetime.proofs.CountWhere.{count_where-next, count_where-no_days, one_if}
 use Rattle.chrono_datetime.proofs.CountBetween.{count_between-empty, count_between-where}
 use Rattle.chrono_business.specs.DayCounts.{days_actual_actual, in_leap_year}
 use Rattle.chrono_business.specs.LeapDays.{leap_before, leap_before_in}
 
 -- ---- the name of the next day
-
-pub ordinal-exists : (n : ℤ) → IsOrdinalName (year_of n) (ordinal_of n)
-ordinal-exists n =
-    let h = IsCalendarName-ordinal (year_of n) (month_of n) (day_of n) (calendar_name-exists n) in
-    let same : ordinal_of_ymd (year_of n) (month_of n) (day_of n) ≡ ordinal_of n = omega (arith, signed, number-ordinal_name n, number-calendar_name n) in
-    rw same at h
 
 -- b is the name of the day after that with the name a
 abbrev IsNext : OrdinalName → OrdinalName → Type 0
@@ -42,16 +36,16 @@ previous-is false a is h =
 from-zero : (k : ℕ) → IsNext (ordinal_name_of (pos k)) (ordinal_name_of (pos (suc k)))
 unfolding ordinal_name_of days_after_zero
 from-zero k =
-    next-is (nat_lt (days_after_zero k).ordinal (year_length (days_after_zero k).year)) (days_after_zero k) (ordinal-exists (pos k)) refl
+    next-is (nat_lt (days_after_zero k).ordinal (year_length (days_after_zero k).year)) (days_after_zero k) (ordinal_name_of-number (pos k)).exists refl
 
 below-zero : (k : ℕ) → IsNext (ordinal_name_of (negsuc (suc k))) (ordinal_name_of (negsuc k))
 unfolding ordinal_name_of days_before_zero
 below-zero k =
-    previous-is (nat_lt 1 (days_before_zero (suc k)).ordinal) (days_before_zero (suc k)) (ordinal-exists (negsuc k)) refl
+    previous-is (nat_lt 1 (days_before_zero (suc k)).ordinal) (days_before_zero (suc k)) (ordinal_name_of-number (negsuc k)).exists refl
 
 to-zero : IsNext (ordinal_name_of (negsuc 0)) (ordinal_name_of (pos 0))
 unfolding ordinal_name_of days_after_zero days_before_zero
-to-zero = previous-is true (days_before_zero 0) (ordinal-exists (pos 0)) refl
+to-zero = previous-is true (days_before_zero 0) (ordinal_name_of-number (pos 0)).exists refl
 
 name-next : (n m : ℤ) → m ≡ n +ℤ pos 1 → IsNext (ordinal_name_of n) (ordinal_name_of m)
 name-next (pos k) m e = let at : m ≡ pos (suc k) = omega (arith, signed, e) in rw at (from-zero k)

@@ -1,9 +1,9 @@
 -- Workdays counted by whole weeks.
-use Rattle.std.proofs.Common.{◌≡◌, ℕ, zero, suc, ◌+◌, ◌-◌, ◌*◌, ◌/◌, ◌%◌, Bool, true, false, not, refl, ap, ◌∙◌, arith, ℤ, pos, ◌+ℤ◌}
+use Rattle.std.proofs.Common.{◌≡◌, ℕ, zero, suc, ◌+◌, ◌-◌, ◌*◌, ◌/◌, ◌%◌, not, refl, ap, ◌∙◌, arith, ℤ, pos, ◌+ℤ◌}
 use Rattle.chrono_datetime.specs.WeekdaySet.{DaySet, contains}
-use Rattle.chrono_datetime.specs.Recurrence.{IsWeekly, is_on, count_where}
+use Rattle.chrono_datetime.specs.Recurrence.{IsWeekly, count_where}
 use Rattle.chrono_datetime.proofs.Signed.{signed}
-use Rattle.chrono_datetime.proofs.CountWhere.{count_where-next, count_where-no_days, one_if, count_where-sum, count_where-weeks, weekdays-weekly}
+use Rattle.chrono_datetime.proofs.CountWhere.{count_where-sum, count_where-weeks, weekdays-weekly}
 use Rattle.chrono_business.specs.OpenDays.{is_workday}
 
 pub workdays-weekly : (weekend : DaySet) → IsWeekly (is_workday weekend)
@@ -28,14 +28,3 @@ no_workdays weekend k n none =
     let rest = count_where-sum (is_workday weekend) r (7 - r) 7 n (n +ℤ pos r) (omega arith) refl in
     let no_weeks : w * count_where (is_workday weekend) 7 n ≡ 0 = ap (λ d. w * d) none ∙ omega arith in
     omega (arith, workdays-weeks weekend w r k n (omega arith), rest, none, no_weeks)
-
--- each day is on the weekend or a workday
-one_day : (b : Bool) → one_if (not b) + one_if b ≡ 1
-one_day true = refl
-one_day false = refl
-
-pub workdays-and_weekend : (weekend : DaySet) (k : ℕ) (n : ℤ) → count_where (is_workday weekend) k n + count_where (is_on weekend) k n ≡ k
-workdays-and_weekend weekend zero n = omega (arith, count_where-no_days (is_workday weekend) n, count_where-no_days (is_on weekend) n)
-workdays-and_weekend weekend (suc k) n =
-    let d : ℤ = n +ℤ pos k in
-    omega (arith, workdays-and_weekend weekend k n, count_where-next (is_workday weekend) k (suc k) n d (omega arith) refl, count_where-next (is_on weekend) k (suc k) n d (omega arith) refl, one_day (is_on weekend d))

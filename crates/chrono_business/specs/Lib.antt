@@ -5,7 +5,7 @@ pub mod Rolls
 pub mod DayCounts
 pub mod Easter
 pub mod HolidayRules
-pub mod GivenCalendars
+pub mod PublicHolidays
 pub mod HolidayLists
 pub mod OpenDayLists
 pub mod LeapDays

@@ -1,16 +1,16 @@
 //! `Calendar`: which days are closed.
 //!
-//! `ranks` finds the numbers of open days. `open_days`, `rolls` and `months` have the public functions.
-//! `checked` makes a calendar of holidays that may be wrong.
+//! `open_day_numbers` numbers the open days. `open_days`, `rolls` and `open_days_of_month` have the public functions.
+//! `valid_holidays` makes a calendar of holidays that may be wrong.
 ghost use Rattle.std.specs.Prelude.{◌≡◌};
 ghost use Rattle.chrono_business.specs.OpenDays.{AreHolidays};
 
-mod checked;
 mod joined;
-mod months;
+mod open_day_numbers;
 mod open_days;
-mod ranks;
+mod open_days_of_month;
 mod rolls;
+mod valid_holidays;
 
 use crate::workweek::Workweek;
 use chrono_datetime::{NaiveDate, RisingDates, WeekdaySet};

@@ -20,7 +20,7 @@ ghost use Rattle.chrono_business.specs.Rolls.{IsLastOpen, IsNextOpen, MonthBegin
 ghost use Rattle.chrono_business.specs.WrongHolidays.{IsWrong};
 ghost use Rattle.chrono_business.specs.OpenDayLists.{open_days_list};
 ghost use Rattle.chrono_business.specs.HolidayLists.{AreHolidaysWith, AreTooMany, IsOfRules};
-ghost use Rattle.chrono_business.specs.GivenCalendars.{england_and_wales_rules, target_rules, us_federal_rules};
+ghost use Rattle.chrono_business.specs.PublicHolidays.{england_and_wales_rules, target_rules, us_federal_rules};
 ghost use Rattle.chrono_business.specs.declared.holiday_error.HolidayError.TheVariants.{NotRising, OnWeekend};
 ghost use Rattle.chrono_business.specs.declared.holiday_error.HolidayError.{HolidayError};
 ghost use Rattle.chrono_business.specs.declared.roll.Roll.{Roll};

@@ -17,12 +17,12 @@
 mod calendar;
 mod computus;
 mod day_count;
-mod given;
 mod holiday_error;
 mod holiday_list;
 mod holiday_rule;
 pub mod law;
 mod open_days_iterator;
+mod public_holidays;
 mod roll;
 mod workweek;
 
@@ -31,9 +31,9 @@ pub use computus::easter;
 pub use day_count::{
     Fraction, actual_360, actual_365_fixed, actual_actual_isda, thirty_360, thirty_e_360,
 };
-pub use given::{england_and_wales, target, us_federal};
 pub use holiday_error::HolidayError;
 pub use holiday_list::{holidays_of, without_weekends};
 pub use holiday_rule::{HolidayDay, HolidayRule, Moved};
 pub use open_days_iterator::OpenDaysIterator;
+pub use public_holidays::{england_and_wales, target, us_federal};
 pub use roll::Roll;

@@ -1,15 +1,16 @@
 -- The birthdays of a day: in which year each lies, and how many of them have come.
-use Rattle.std.proofs.Common.{◌≡◌, ◌↔◌, ℕ, ◌+◌, ◌-◌, ◌*◌, ◌<◌, ◌≤◌, ◌||◌, inl, inr, Bool, true, false, cond, nat_le, nat_lt, min, Some, None, Option, refl, sym, ap, ◌∙◌, arith, ℤ, pos, ◌+ℤ◌, ◌≤ℤ◌, ◌<ℤ◌, unsigned_abs, int_lt, ◌*ℤ◌}
+use Rattle.std.proofs.Common.{◌≡◌, ◌↔◌, ℕ, ◌+◌, ◌-◌, ◌*◌, ◌<◌, ◌≤◌, ◌||◌, inl, inr, Bool, true, false, cond, nat_le, nat_lt, min, Some, None, refl, sym, ap, ◌∙◌, arith, ℤ, pos, ◌+ℤ◌, ◌≤ℤ◌, ◌<ℤ◌, unsigned_abs, int_lt, ◌*ℤ◌}
 use Rattle.std.proofs.lemmas.Bool.{cases_order, cases_lt, false≢true}
 use Rattle.std.proofs.lemmas.Bool.Decides.{nat_tests}
 use Rattle.std.proofs.lemmas.Int.{ints, by_lt_z}
 use Rattle.std.specs.Int.{IsInRange}
+use Rattle.chrono_text.proofs.AnswerLemmas.{no_one, the_one}
 use Rattle.chrono_units.specs.Years.{is_leap_year, month_length_in}
 use Rattle.chrono_calendar.specs.Days.{days_of_months_in, IsOrdinalName, ordinal_of_ymd, year_of, ordinal_of, month_of, day_of}
 use Rattle.chrono_calendar.specs.MonthMoves.{month_index, month_index_of, month_length_of}
 use Rattle.chrono_calendar.specs.Recurrence.{IsLeapDay, date_every}
 use Rattle.chrono_calendar.specs.YearsBetween.{birthday, years_between}
-use Rattle.chrono_calendar.proofs.Signed.{signed}
+use Rattle.chrono_text.proofs.Signed.{signed}
 use Rattle.chrono_calendar.proofs.Tests.{passes_below, passes_below-at}
 use Rattle.chrono_calendar.proofs.Names.{day_number-lt_year, ordinal_name_of-number}
 use Rattle.chrono_calendar.proofs.NamedDates.{calendar_name-exists, day_of-small, number-calendar_name}
@@ -158,28 +159,16 @@ come-counted n base k false t h =
     (λ le. let same : year_of n ≡ year_of base +ℤ pos (k + 1) = omega (arith, signed, le, year.1) in absurd (omega (arith, signed, h.1, from_birthday n base (k + 1) same ge)))
 
 -- the whole years are as many as birthdays have come
-same_count : (o : Option ℕ) (i k : ℕ) → Some i ≡ o → o ≡ Some k → i ≡ k
-same_count o i k e f = some_same i k (e ∙ f)
-  where
-    some_same : (i k : ℕ) → Some i ≡ Some k → i ≡ k
-    some_same i k e = cc
-
-no_count : (o : Option ℕ) (k : ℕ) (P : Type 0) → None ≡ o → o ≡ Some k → P
-no_count o k P e f = absurd (apart k (e ∙ f))
-  where
-    apart : (k : ℕ) → None ≡ Some k → ⊥
-    apart k e = cc
-
 pub years_between-come : (n base : ℤ) (k : ℕ) → (years_between n base ≡ Some k) ↔ HasCome n base k
 years_between-come n base k =
     let earlier = nat_lt (place n) (place base) in
     let years = years_counted (year_of n) (year_of base) earlier in (
       λ h.
-          by_lt_z years (pos 0) (λ lt. no_count (years_between n base) k (HasCome n base k) (years_between-None n base lt) h)
+          by_lt_z years (pos 0) (λ lt. absurd (no_one (years_between n base) k (years_between-None n base lt) h))
           (λ ge.
           let i : ℕ = unsigned_abs years in
           let counted : pos i ≡ years = omega (arith, signed, ge) in
-          let same : pos k ≡ years = ap pos (sym (same_count (years_between n base) i k (years_between-Some n base i counted) h)) ∙ counted in
+          let same : pos k ≡ years = ap pos (sym (the_one (years_between n base) i k (years_between-Some n base i counted) h)) ∙ counted in
           counted-come n base k earlier refl same),
       λ h. sym (years_between-Some n base k (come-counted n base k earlier refl h)),
     )

@@ -3,7 +3,7 @@ use Rattle.std.proofs.Common.{◌≡◌, ℕ, ◌+◌, Bool, true, false, cond, 
 use Rattle.std.proofs.lemmas.Int.{by_lt_z}
 use Rattle.chrono_calendar.specs.Recurrence.{count_between, count_where, days_between}
 use Rattle.chrono_calendar.proofs.CountWhere.{count_where-le, count_where-next, count_where-no_days, count_where-none, count_where-same, count_where-sum, one_if}
-use Rattle.chrono_calendar.proofs.Signed.{signed}
+use Rattle.chrono_text.proofs.Signed.{signed}
 
 -- so many days lie between a day and the one as many days on
 pub days_between-ahead : (a b : ℤ) (k : ℕ) → b ≡ a +ℤ pos k → days_between a b ≡ k

@@ -7,7 +7,7 @@ use Rattle.chrono_units.specs.Weekday.{next_weekday}
 use Rattle.chrono_units.specs.WeekdaySet.{DaySet, contains, days_in_row, walk}
 use Rattle.chrono_calendar.specs.Weeks.{weekday_of}
 use Rattle.chrono_calendar.specs.Recurrence.{IsWeekly, count_where, is_on}
-use Rattle.chrono_calendar.proofs.Signed.{signed}
+use Rattle.chrono_text.proofs.Signed.{signed}
 use Rattle.chrono_calendar.proofs.WeekDays.{weekday_of-next, weekday_of-week}
 
 -- what a day that passes, or does not, adds to a count

@@ -6,7 +6,7 @@ use Rattle.chrono_units.specs.Years.{is_leap_year, year_length}
 use Rattle.chrono_calendar.specs.Days.{days_before_year, IsOrdinalName, day_number_of_yo, month_of_ordinal, day_of_ordinal, year_of, ordinal_of, month_of, day_of}
 use Rattle.chrono_calendar.specs.Weeks.{days_from_sunday_of, thursday_of_week, iso_year_of, iso_week_of}
 use Rattle.chrono_calendar.specs.Flags.{flags_of_year, IsYearFlags}
-use Rattle.chrono_calendar.proofs.Signed.{signed}
+use Rattle.chrono_text.proofs.Signed.{signed}
 use Rattle.chrono_calendar.proofs.Years.{leap_day, year_length-leap_day, days_before_year-next, days_before_year-closed}
 use Rattle.chrono_calendar.proofs.Names.{ordinal_name_of-number, year_of-number, ordinal_of-number}
 use Rattle.chrono_calendar.proofs.IsoWeeks.{days_from_monday-of, thursday_of_week-monday}

@@ -6,7 +6,7 @@ use Rattle.chrono_units.specs.Years.{is_leap_year, is_year, month_length_in}
 use Rattle.chrono_calendar.specs.Days.{IsDate, year_of, month_of, day_of}
 use Rattle.chrono_calendar.specs.MonthMoves.{month_index_of, year_of_month_index, day_number_in_month, month_length_of, month_move, LaterMultiplesAreLater}
 use Rattle.chrono_calendar.specs.Recurrence.{date_every, IsLeapDay, IsLastOfFebruary}
-use Rattle.chrono_calendar.proofs.Signed.{signed}
+use Rattle.chrono_text.proofs.Signed.{signed}
 use Rattle.chrono_calendar.proofs.Dates.{is_year-test}
 use Rattle.chrono_calendar.proofs.MonthOrder.{length_at, before_month, month_index-parts, month_of-range, day_at-exists, day_at-moved}
 use Rattle.chrono_calendar.proofs.MonthMoveLaws.{month_move-parts, month_move-LaterMultiplesAreLater, year_of-range}

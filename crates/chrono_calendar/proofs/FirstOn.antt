@@ -8,7 +8,7 @@ use Rattle.chrono_units.specs.WeekdaySet.{DaySet, IsSubset, contains, no_days, w
 use Rattle.chrono_calendar.specs.Days.{IsDate, date_of_day}
 use Rattle.chrono_calendar.specs.Weeks.{weekday_of}
 use Rattle.chrono_calendar.specs.Recurrence.{IsFirstWhere, NoneFrom, past_last_date, is_on, date_on}
-use Rattle.chrono_calendar.proofs.Signed.{signed}
+use Rattle.chrono_text.proofs.Signed.{signed}
 use Rattle.chrono_calendar.proofs.NamedDates.{date_of_day-Some, date_of_day-None}
 use Rattle.chrono_calendar.proofs.WeekDays.{weekday_of-after, weekday_of-week}
 use Rattle.chrono_calendar.proofs.FirstWhere.{first_where-Some, first_where-found, first_where-None, first_where-nowhere}

@@ -4,7 +4,7 @@ use Rattle.std.proofs.lemmas.Bool.{false≢true}
 use Rattle.std.proofs.lemmas.Int.{by_lt_z}
 use Rattle.chrono_calendar.specs.Days.{IsDate}
 use Rattle.chrono_calendar.specs.Recurrence.{IsFirstWhere, NoneFrom, first_of_days, first_where, past_last_date, dates_left}
-use Rattle.chrono_calendar.proofs.Signed.{signed}
+use Rattle.chrono_text.proofs.Signed.{signed}
 
 -- a walk over some days finds the first of them that passes
 some_first : (p : ℤ → Bool) (k : ℕ) (n e : ℤ) (b : Bool) → p n ≡ b → cond b (Some n) (first_of_days p k (n +ℤ pos 1)) ≡ Some e → (first_of_days p k (n +ℤ pos 1) ≡ Some e → IsFirstWhere p (n +ℤ pos 1) e × (e <ℤ (n +ℤ pos 1 +ℤ pos k))) → IsFirstWhere p n e × (e <ℤ (n +ℤ pos (suc k)))

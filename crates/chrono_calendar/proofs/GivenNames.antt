@@ -12,7 +12,7 @@ use Rattle.chrono_units.proofs.WeekdayCycle.{days_from_monday-lt}
 use Rattle.chrono_calendar.specs.Days.{IsDate, is_date, IsOrdinalName, is_ordinal_name, IsCalendarName, is_calendar_name, days_before_year, day_number_of_yo, day_number_of_ymd, date_of_yo, date_of_ymd, year_of, ordinal_of, month_of, day_of}
 use Rattle.chrono_calendar.specs.Weeks.{day_number_of_iso, is_iso_name, date_of_iso, days_from_sunday_of, iso_year_of, iso_week_of, weekday_of}
 use Rattle.chrono_calendar.specs.Flags.{IsIsoWeek, weeks_of_iso_year}
-use Rattle.chrono_calendar.proofs.Signed.{signed}
+use Rattle.chrono_text.proofs.Signed.{signed}
 use Rattle.chrono_calendar.proofs.Years.{days_before_year-closed}
 use Rattle.chrono_calendar.proofs.Names.{days_before_year-later, year_length_bounds}
 use Rattle.chrono_calendar.proofs.Dates.{is_date-fact, is_year-fact, is_year-test, is_ordinal_name-fact, is_ordinal_name-test, is_calendar_name-fact, is_calendar_name-test}

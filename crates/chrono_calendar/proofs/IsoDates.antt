@@ -12,7 +12,7 @@ use Rattle.chrono_units.specs.Weekday.{days_from_monday, number_from_monday}
 use Rattle.chrono_units.proofs.WeekdayCycle.{days_from_monday-lt}
 use Rattle.chrono_calendar.specs.Days.{IsDate, is_date, days_before_year, IsOrdinalName, day_number_of_yo, ordinal_of, date_of_day, date_of_yo}
 use Rattle.chrono_calendar.specs.Weeks.{days_from_sunday_of, iso_weekday_of, weekday_of, thursday_of_week, iso_year_of, iso_week_of, day_number_of_iso, is_iso_name, date_of_iso}
-use Rattle.chrono_calendar.proofs.Signed.{signed}
+use Rattle.chrono_text.proofs.Signed.{signed}
 use Rattle.chrono_calendar.proofs.Years.{days_before_year-next}
 use Rattle.chrono_calendar.proofs.Names.{ordinal_name_of-number, year_length_bounds}
 use Rattle.chrono_calendar.proofs.Dates.{is_date-fact}

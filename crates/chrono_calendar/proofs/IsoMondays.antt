@@ -3,7 +3,7 @@ use Rattle.std.proofs.Common.{◌≡◌, refl, ap, arith, ℤ, pos, ◌+ℤ◌}
 use Rattle.chrono_units.specs.declared.weekday.Weekday.TheVariants.{Mon}
 use Rattle.chrono_calendar.specs.Days.{year_of, ordinal_of, days_before_year}
 use Rattle.chrono_calendar.specs.Weeks.{thursday_of_week, iso_year_of, iso_week_of, week_first_of}
-use Rattle.chrono_calendar.proofs.Signed.{signed}
+use Rattle.chrono_text.proofs.Signed.{signed}
 use Rattle.chrono_calendar.proofs.IsoWeeks.{days_from_monday-of, thursday_of_week-monday, before_monday}
 use Rattle.chrono_calendar.proofs.IsoDates.{thursday-place}
 use Rattle.chrono_units.specs.Weekday.{days_from_monday}

@@ -7,7 +7,7 @@ use Rattle.chrono_units.specs.Weekday.{days_from_monday}
 use Rattle.chrono_calendar.specs.Days.{days_before_year, ordinal_of}
 use Rattle.chrono_calendar.specs.Weeks.{weekday_of, thursday_of_week, iso_year_of, iso_week_of}
 use Rattle.chrono_calendar.specs.NameLaws.{iso_cmp}
-use Rattle.chrono_calendar.proofs.Signed.{signed}
+use Rattle.chrono_text.proofs.Signed.{signed}
 use Rattle.chrono_calendar.proofs.Names.{ordinal_name_of-number, day_number-lt_year}
 use Rattle.chrono_calendar.proofs.Order.{ranked_then, ranked_by}
 use Rattle.chrono_calendar.proofs.IsoWeeks.{before_monday, days_from_monday-of, thursday_of_week-monday}

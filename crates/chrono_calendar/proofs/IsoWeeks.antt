@@ -11,7 +11,7 @@ use Rattle.chrono_units.specs.Weekday.{days_from_monday, weekday_from_sunday}
 use Rattle.chrono_units.proofs.WeekdayCycle.{days_from_monday-lt}
 use Rattle.chrono_calendar.specs.Days.{IsDate, days_before_year, IsOrdinalName, day_number_of_yo}
 use Rattle.chrono_calendar.specs.Weeks.{days_from_sunday_of, iso_weekday_of, weekday_of, thursday_of_week, iso_year_of, iso_week_of}
-use Rattle.chrono_calendar.proofs.Signed.{signed}
+use Rattle.chrono_text.proofs.Signed.{signed}
 use Rattle.chrono_calendar.proofs.Tests.{passes_below, passes_below-at}
 use Rattle.chrono_calendar.proofs.Years.{days_before_year-next, days_before_year-closed}
 use Rattle.chrono_calendar.proofs.Names.{ordinal_name_of-number, year_of-number, ordinal_of-number, days_before_year-later, year_length_bounds}

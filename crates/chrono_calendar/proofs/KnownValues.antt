@@ -8,7 +8,7 @@ use Rattle.chrono_calendar.specs.Recurrence.{count_where, first_of_days, is_on}
 use Rattle.chrono_calendar.specs.Flags.{flags_of_year, weeks_of_iso_year}
 use Rattle.chrono_calendar.specs.Weeks.{date_of_iso, iso_week_of}
 use Rattle.chrono_calendar.specs.YearsBetween.{years_between}
-use Rattle.chrono_calendar.proofs.Signed.{signed}
+use Rattle.chrono_text.proofs.Signed.{signed}
 use Rattle.chrono_calendar.proofs.Years.{days_before_year-closed}
 use Rattle.chrono_calendar.proofs.Weeks.{weeks_of_iso_year-flags}
 

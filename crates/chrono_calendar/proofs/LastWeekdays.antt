@@ -8,7 +8,7 @@ use Rattle.chrono_units.specs.declared.weekday.Weekday.{Weekday}
 use Rattle.chrono_calendar.specs.Days.{date_of_day, date_of_ymd, year_of, month_of, day_of}
 use Rattle.chrono_calendar.specs.MonthMoves.{InSameMonth, month_last_of}
 use Rattle.chrono_calendar.specs.Weeks.{date_of_last_weekday, date_of_nth_weekday, week_first_of, weekday_of}
-use Rattle.chrono_calendar.proofs.Signed.{signed}
+use Rattle.chrono_text.proofs.Signed.{signed}
 use Rattle.chrono_calendar.proofs.GivenNames.{given_ymd}
 use Rattle.chrono_calendar.proofs.GivenWeekdays.{given_nth_weekday, nth_weekday-named}
 use Rattle.chrono_calendar.proofs.MonthDays.{day_of-bounds, later_in_month, month-days}

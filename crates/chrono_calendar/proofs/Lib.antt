@@ -1,5 +1,5 @@
 -- Lemmas that other crates cite stand in these modules.
-pub mod Signed
+pub use Rattle.chrono_text.proofs.Signed
 pub mod Years
 pub mod Names
 pub mod Tests

@@ -3,7 +3,7 @@ use Rattle.std.proofs.Common.{◌≡◌, ◌↔◌, ℕ, Option, Some, None, IfS
 use Rattle.std.proofs.lemmas.Int.{by_lt_z}
 use Rattle.chrono_calendar.specs.Days.{IsDate, date_of_day, date_of_ymd, year_of, month_of, day_of}
 use Rattle.chrono_calendar.specs.MonthMoves.{InSameMonth, month_first_of, month_index_of, month_last_of, month_length_of}
-use Rattle.chrono_calendar.proofs.Signed.{signed}
+use Rattle.chrono_text.proofs.Signed.{signed}
 use Rattle.chrono_calendar.proofs.MonthOrder.{before_month, before_month-next, day_at-exists, day_at-unique, length_at, length_at-bounds, month_of-range}
 use Rattle.chrono_calendar.proofs.MonthMoveLaws.{in_same_month, month_length_of-at, year_of-range}
 use Rattle.chrono_calendar.proofs.NamedDates.{IsDate-year, date_of_day-None, date_of_day-number, date_of_ymd-again, none-date_of_day}

@@ -5,7 +5,7 @@ use Rattle.std.proofs.Math.Nat.{mul-lt-mul_of_pos_left}
 use Rattle.chrono_units.specs.Years.{is_year, IsYear}
 use Rattle.chrono_calendar.specs.Days.{IsDate, year_of, ordinal_of, month_of, day_of}
 use Rattle.chrono_calendar.specs.MonthMoves.{year_of_month_index, month_of_month_index, day_number_in_month, month_index_of, month_length_of, month_move, InSameMonth, KeepsOrder, IsMonthMoveBack, ComesBack, MonthMovesAddUp, LaterMultiplesAreLater}
-use Rattle.chrono_calendar.proofs.Signed.{signed}
+use Rattle.chrono_text.proofs.Signed.{signed}
 use Rattle.chrono_calendar.proofs.Names.{ordinal_name_of-number, year_in_range, day_number_in_range}
 use Rattle.chrono_calendar.proofs.Dates.{is_year-fact, is_year-test}
 use Rattle.chrono_calendar.proofs.GivenNames.{exists_if}

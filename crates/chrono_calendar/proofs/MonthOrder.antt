@@ -6,7 +6,7 @@ use Rattle.std.specs.Int.{IsInRange}
 use Rattle.chrono_units.specs.Years.{is_leap_year, year_length, month_length_in, month_length}
 use Rattle.chrono_calendar.specs.Days.{days_of_months_in, days_of_months, days_before_year, IsOrdinalName, day_number_of_yo, year_of, ordinal_of, month_of, day_of}
 use Rattle.chrono_calendar.specs.MonthMoves.{month_index, month_index_of, year_of_month_index, month_of_month_index, day_number_in_month}
-use Rattle.chrono_calendar.proofs.Signed.{signed}
+use Rattle.chrono_text.proofs.Signed.{signed}
 use Rattle.chrono_calendar.proofs.Years.{days_before_year-next}
 use Rattle.chrono_calendar.proofs.Names.{ordinal_name_of-number, year_of-number, ordinal_of-number}
 use Rattle.chrono_calendar.proofs.Months.{days_of_months_in-year, month_length_in-bounds, ordinal_within, month_of_ordinal-exists, month_of_ordinal-unique}
@@ -37,9 +37,17 @@ month_index-whole : (i : ℤ) → month_index (year_of_month_index i) (month_of_
 month_index-whole i = omega (arith, signed)
 
 -- the days of the months before one and its own are those of the months up to it
-pub days_of_months_in-own : (leap : Bool) (n : ℕ) → days_of_months_in leap n + month_length_in leap (suc n) ≡ days_of_months_in leap (suc n)
+days_of_months_in-own : (leap : Bool) (n : ℕ) → days_of_months_in leap n + month_length_in leap (suc n) ≡ days_of_months_in leap (suc n)
 unfolding days_of_months_in
 days_of_months_in-own leap n = refl
+
+-- a month ends where the next one begins
+pub days_of_months_in-next : (leap : Bool) (m : ℕ) → 1 ≤ m → days_of_months_in leap (m + 1 - 1) ≡ days_of_months_in leap (m - 1) + month_length_in leap m
+days_of_months_in-next leap m h =
+    let back : suc (m - 1) ≡ m = omega arith in
+    let ahead : m + 1 - 1 ≡ m = omega arith in
+    let next = rw back at (sym (days_of_months_in-own leap (m - 1))) in
+    rw ahead next
 
 year_length-months : (y : ℤ) → year_length y ≡ days_of_months y 12
 year_length-months y = sym (days_of_months_in-year (is_leap_year y))
@@ -52,10 +60,8 @@ days_of_months_in-zero leap = refl
 before_month-in_year : (i j y : ℤ) (m : ℕ) → year_of_month_index i ≡ y → month_of_month_index i ≡ m → year_of_month_index j ≡ y → month_of_month_index j ≡ m + 1 → 1 ≤ m → before_month j ≡ before_month i +ℤ pos (length_at i)
 unfolding before_month length_at
 before_month-in_year i j y m a b c d h =
-    let back : suc (m - 1) ≡ m = omega arith in
-    let next = rw back at (days_of_months_in-own (is_leap_year y) (m - 1)) in
-    let same : m + 1 - 1 ≡ m = omega arith in
-    rw (a, b, c, d, same) (omega (arith, signed, next))
+    let next = days_of_months_in-next (is_leap_year y) m h in
+    rw (a, b, c, d) (omega (arith, signed, next))
 
 before_month-new_year : (i j y : ℤ) → year_of_month_index i ≡ y → month_of_month_index i ≡ 12 → year_of_month_index j ≡ y +ℤ pos 1 → month_of_month_index j ≡ 1 → before_month j ≡ before_month i +ℤ pos (length_at i)
 unfolding before_month length_at

@@ -5,7 +5,7 @@ use Rattle.std.specs.Cmp.Derive.{both_true}
 use Rattle.chrono_units.specs.Years.{is_leap_year, is_year, IsYear, month_length}
 use Rattle.chrono_calendar.specs.Days.{IsCalendarName, is_calendar_name, date_of_ymd, day_of}
 use Rattle.chrono_calendar.specs.MonthMoves.{year_of_month_index, month_of_month_index, month_index_of, day_number_in_month, month_move}
-use Rattle.chrono_calendar.proofs.Signed.{signed}
+use Rattle.chrono_text.proofs.Signed.{signed}
 use Rattle.chrono_calendar.proofs.Months.{month_length_in-bounds}
 use Rattle.chrono_calendar.proofs.Dates.{is_year-fact, is_calendar_name-test}
 use Rattle.chrono_calendar.proofs.NamedDates.{None-cond, same_test, calendar_name-exists, date_of_ymd-name}

@@ -8,7 +8,7 @@ use Rattle.chrono_calendar.specs.Days.{IsDate, is_date, IsOrdinalName, is_ordina
 use Rattle.chrono_calendar.proofs.Names.{ordinal_name_of-number, year_of-number, ordinal_of-number, day_number_in_range, year_in_range}
 use Rattle.chrono_calendar.proofs.Months.{month_length_in-bounds, ordinal_within, month_of_ordinal-exists, month_of_ordinal-unique}
 use Rattle.chrono_calendar.proofs.Dates.{is_year-fact, is_year-test, is_date-fact, is_date-test, is_ordinal_name-fact, is_ordinal_name-test, is_calendar_name-fact, is_calendar_name-test}
-use Rattle.chrono_calendar.proofs.Signed.{casts}
+use Rattle.chrono_text.proofs.Signed.{casts}
 
 -- tests that hold together are one
 pub same_test : (a b : Bool) → (a ≡ true → b ≡ true) → (b ≡ true → a ≡ true) → a ≡ b

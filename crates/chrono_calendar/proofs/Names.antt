@@ -5,7 +5,7 @@ use Rattle.std.proofs.lemmas.Bool.Decides.{nat_tests}
 use Rattle.std.proofs.lemmas.Int.{by_lt_z}
 use Rattle.chrono_units.specs.Years.{year_length, IsYear}
 use Rattle.chrono_calendar.specs.Days.{days_of_years, days_before_year, IsDate, IsOrdinalName, day_number_of_yo, OrdinalName, next_day, previous_day, days_after_zero, days_before_zero, ordinal_name_of, year_of, ordinal_of}
-use Rattle.chrono_calendar.proofs.Signed.{signed}
+use Rattle.chrono_text.proofs.Signed.{signed}
 use Rattle.chrono_calendar.proofs.Years.{days_of_years-to_year, days_before_year-to_year, days_before_year-next, days_before_year-closed}
 use borrow.Author.Differences.{up, down}
 

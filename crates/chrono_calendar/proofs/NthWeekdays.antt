@@ -12,7 +12,7 @@ use Rattle.chrono_units.specs.Weekday.{days_from_monday, days_from_sunday, days_
 use Rattle.chrono_units.proofs.WeekdayCycle.{days_from_monday-lt}
 use Rattle.chrono_calendar.specs.Days.{days_before_year, days_of_months, day_number_of_ymd, is_calendar_name, date_of_ymd}
 use Rattle.chrono_calendar.specs.Weeks.{days_from_sunday_of, weekday_of, days_with_weekday, date_of_nth_weekday}
-use Rattle.chrono_calendar.proofs.Signed.{signed}
+use Rattle.chrono_text.proofs.Signed.{signed}
 use Rattle.chrono_calendar.proofs.Tests.{passes_below, passes_below-at}
 use Rattle.chrono_calendar.proofs.Months.{month_length_in-bounds}
 use Rattle.chrono_calendar.proofs.NamedDates.{None-cond}

@@ -9,7 +9,7 @@ use Rattle.std.specs.declared.cmp.Ordering.TheVariants.{Less, Equal, Greater}
 use Rattle.chrono_units.specs.Years.{is_leap_year, month_length_in}
 use Rattle.chrono_calendar.specs.Days.{days_before_year, days_of_months_in, year_of, ordinal_of, month_of, day_of}
 use Rattle.chrono_calendar.specs.Order.{ordinal_cmp, calendar_cmp}
-use Rattle.chrono_calendar.proofs.Signed.{signed}
+use Rattle.chrono_text.proofs.Signed.{signed}
 use Rattle.chrono_calendar.proofs.Tests.{passes_below, passes_below-at}
 use Rattle.chrono_calendar.proofs.Months.{IsMonthAndDay, month_of_ordinal-exists}
 use Rattle.chrono_calendar.proofs.Names.{ordinal_name_of-number, day_number-lt_year}

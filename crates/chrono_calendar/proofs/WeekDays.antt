@@ -5,7 +5,7 @@ use Rattle.chrono_units.specs.Weekday.{days_from_monday, days_since, next_weekda
 use Rattle.chrono_units.specs.WeekdaySet.{weekday_after}
 use Rattle.chrono_units.proofs.WeekdayCycle.{days_from_monday-lt, days_from_monday-weekday_from_monday}
 use Rattle.chrono_calendar.specs.Weeks.{days_from_sunday_of, weekday_of, week_first_of}
-use Rattle.chrono_calendar.proofs.Signed.{signed}
+use Rattle.chrono_text.proofs.Signed.{signed}
 use Rattle.chrono_calendar.proofs.IsoWeeks.{days_from_monday-of, same_weekday}
 
 -- the weekday of the next day, and of the day before

@@ -7,7 +7,7 @@ use Rattle.chrono_units.specs.Years.{is_leap_year, year_length}
 use Rattle.chrono_calendar.specs.Days.{days_before_year, days_of_months_in, IsOrdinalName, day_number_of_yo, day_number_of_ymd}
 use Rattle.chrono_calendar.specs.Weeks.{days_from_sunday_of, iso_weekday_of, thursday_of_week, iso_year_of, iso_week_of}
 use Rattle.chrono_calendar.specs.Flags.{flags_of_year, weeks_of_iso_year, week_counted_in}
-use Rattle.chrono_calendar.proofs.Signed.{signed}
+use Rattle.chrono_text.proofs.Signed.{signed}
 use Rattle.chrono_calendar.proofs.Years.{days_before_year-next}
 use Rattle.chrono_calendar.proofs.Names.{year_of-number, ordinal_of-number, year_length_bounds}
 use Rattle.chrono_calendar.proofs.IsoWeeks.{before_monday, days_from_sunday_of-bound}

@@ -7,7 +7,7 @@ use Rattle.std.proofs.lemmas.Int.{ints, by_lt_z}
 use Rattle.chrono_units.specs.Years.{is_leap_year}
 use Rattle.chrono_calendar.specs.Days.{day_number_of_ymd, year_of, month_of, day_of}
 use Rattle.chrono_calendar.specs.YearsBetween.{is_earlier_in_year, years_between}
-use Rattle.chrono_calendar.proofs.Signed.{signed}
+use Rattle.chrono_text.proofs.Signed.{signed}
 use Rattle.chrono_calendar.proofs.Months.{month_length_in-bounds}
 use Rattle.chrono_calendar.proofs.Order.{earlier_year, earlier_month, same_month}
 use Rattle.chrono_calendar.proofs.NamedDates.{calendar_name-exists, number-calendar_name}

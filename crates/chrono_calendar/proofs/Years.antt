@@ -5,7 +5,7 @@ use Rattle.std.proofs.lemmas.Bool.Decides.{nat_tests}
 use Rattle.std.specs.Int.{int_div_euclid}
 use Rattle.chrono_units.specs.Years.{divides, year_length, IsYear}
 use Rattle.chrono_calendar.specs.Days.{days_of_years, days_before_year}
-use Rattle.chrono_calendar.proofs.Signed.{signed}
+use Rattle.chrono_text.proofs.Signed.{signed}
 use Rattle.std.proofs.lemmas.Int.{ints}
 
 -- 1 for a leap year, and else 0

@@ -3,7 +3,7 @@ use Rattle.std.proofs.Common.{◌≡◌, ℕ, ◌+◌, ◌*◌, ◌/◌, ◌%◌
 use Rattle.chrono_text.proofs.DigitLemmas.{by_size}
 use Rattle.chrono_clock.specs.Duration.{nanos_per_day, units_of}
 use Rattle.chrono_clock.specs.Time.{TimeOfDay, Landing, IsTime, IsLeap, IsPlain, IsEarlier, landing_of, later, place, place_beside, plain_landing, leap_landing, land, distance}
-use Rattle.chrono_clock.specs.Signed.{signed}
+use Rattle.chrono_text.proofs.Signed.{signed}
 use Rattle.chrono_clock.proofs.TimeLemmas.{by_leap, by_parts, is_leap-plain, is_leap-leap, land-plain, land-leap, leap_landing-before, leap_landing-inside, leap_landing-past}
 use Rattle.chrono_clock.proofs.LandingLemmas.{IsPlain-plain_landing, place-plain_landing, plain_landing-shift}
 

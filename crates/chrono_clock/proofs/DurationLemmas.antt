@@ -14,7 +14,7 @@ use Rattle.std.specs.Prelude.{Option, Some, None}
 use Rattle.std.specs.Option.{SomeIff}
 use Rattle.chrono_clock.specs.Duration.{IsDuration, longest, nanos_of, floor_secs, past_floor, two_step_quotient}
 use Rattle.chrono_clock.specs.StoredLemmas.{floor_secs-nanos_of, past_floor-nanos_of}
-use Rattle.chrono_clock.specs.Signed.{signed}
+use Rattle.chrono_text.proofs.Signed.{signed}
 
 -- ---- answers
 

@@ -2,7 +2,7 @@
 use Rattle.std.proofs.Common.{◌≡◌, ℕ, ◌+◌, ◌*◌, ◌/◌, ◌%◌, ◌⊎◌, ⊎_elim, ℤ, pos, ◌+ℤ◌, ◌-ℤ◌, ◌*ℤ◌, ◌<ℤ◌, ◌≤ℤ◌, arith, sym, ap, ◌∙◌, unsigned_abs}
 use Rattle.std.specs.Int.{int_div_euclid, int_rem_euclid}
 use Rattle.chrono_clock.specs.Time.{TimeOfDay, Landing, IsTime, IsLeap, IsPlain, SameWay, TimeMovesAddUp, place, plain_landing, leap_landing, land, later}
-use Rattle.chrono_clock.specs.Signed.{signed}
+use Rattle.chrono_text.proofs.Signed.{signed}
 use Rattle.chrono_clock.proofs.TimeLemmas.{by_leap, by_parts, land-plain, land-leap, leap_landing-before, leap_landing-inside, leap_landing-past}
 
 -- ---- the plain line

@@ -3,7 +3,7 @@ use Rattle.std.proofs.Common.{◌≡◌, ◌⊎◌, inl, inr, ⊎_elim, ℤ, pos
 use Rattle.chrono_clock.specs.Duration.{nanos_per_day, units_of}
 use Rattle.chrono_clock.specs.Time.{TimeOfDay, IsPlain, distance, land}
 use Rattle.chrono_clock.specs.Moment.{Moment, moment, moment_on, moved, moment_distance, reach_by}
-use Rattle.chrono_clock.specs.Signed.{signed}
+use Rattle.chrono_text.proofs.Signed.{signed}
 use Rattle.chrono_clock.proofs.DistanceLemmas.{distance-turned, land-away}
 
 -- the clock answers a time and the days that are passed, and the date moves by these

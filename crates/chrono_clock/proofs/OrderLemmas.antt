@@ -3,7 +3,7 @@ use Rattle.std.proofs.Common.{◌≡◌, ℕ, ◌+◌, ◌*◌, ◌<◌, ◌⊎�
 use Rattle.std.proofs.lemmas.Int.{by_lt_z}
 use Rattle.chrono_text.proofs.DigitLemmas.{by_size}
 use Rattle.chrono_clock.specs.Time.{TimeOfDay, Landing, IsTime, IsEarlierLanding, landing_of, place, plain_landing, land}
-use Rattle.chrono_clock.specs.Signed.{signed}
+use Rattle.chrono_text.proofs.Signed.{signed}
 use Rattle.chrono_clock.proofs.TimeLemmas.{by_leap, by_parts, land-plain, land-leap, leap_landing-before, leap_landing-inside, leap_landing-past}
 use Rattle.chrono_clock.proofs.LandingLemmas.{place-plain_landing}
 

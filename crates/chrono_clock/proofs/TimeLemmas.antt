@@ -4,7 +4,7 @@ use Rattle.std.specs.Int.RustNames.{int_le, int_lt}
 use Rattle.std.proofs.lemmas.Int.{ints, by_lt_z}
 use Rattle.chrono_text.proofs.DigitLemmas.{by_size}
 use Rattle.chrono_clock.specs.Time.{TimeOfDay, IsLeap, IsPlain, is_leap, place, plain_landing, leap_landing, land}
-use Rattle.chrono_clock.specs.Signed.{signed}
+use Rattle.chrono_text.proofs.Signed.{signed}
 
 -- ---- cases
 

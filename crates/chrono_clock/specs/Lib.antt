@@ -1,4 +1,3 @@
-pub mod Signed
 pub mod Duration
 pub mod StoredLemmas
 pub mod StoredDelta

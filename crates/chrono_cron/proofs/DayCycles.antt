@@ -9,7 +9,7 @@ use Rattle.chrono_datetime.proofs.MonthPlaces.{month_length_of-again}
 use Rattle.chrono_datetime.proofs.Cycles.{calendar_name-again}
 use Rattle.chrono_datetime.proofs.Signed.{signed}
 use Rattle.chrono_datetime.proofs.WeekDays.{weekday_of-weeks}
-use Rattle.chrono_sets.specs.Numbers.{has}
+use Rattle.chrono_sets.specs.FiniteSets.{has}
 use Rattle.chrono_cron.specs.declared.field_sets.FieldSets.{FieldSets}
 use Rattle.chrono_cron.specs.Due.{either_or_both, is_day, is_listed_day, is_named_by_place, is_named_by_weekday}
 

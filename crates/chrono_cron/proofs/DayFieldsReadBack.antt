@@ -6,7 +6,7 @@ use Rattle.std.proofs.lemmas.Bool.{agree_below, agree_below_at, and_parts, cases
 use Rattle.std.proofs.lemmas.List.Folds.{list_any-append}
 use Rattle.std.proofs.lemmas.List.Elements.{filter-append}
 use Rattle.chrono_sets.specs.Steps.{is_by_steps}
-use Rattle.chrono_sets.specs.Numbers.{Numbers as FiniteSet, has}
+use Rattle.chrono_sets.specs.FiniteSets.{FiniteSet, has}
 use Rattle.chrono_cron.specs.declared.text.number_names.Names.{Names}
 use Rattle.chrono_cron.specs.declared.text.schedule_writer.DayName.{DayName}
 use Rattle.chrono_cron.specs.FieldTexts.{item_lists, items_list}
@@ -16,6 +16,7 @@ use Rattle.chrono_cron.specs.WrittenTexts.{are_all, name_text, names_from, numbe
 use Rattle.chrono_cron.proofs.FieldsReadBack.{StarReads, are_read, item_first, lacks_below, lacks_past, one_lists-has, pass_all, ranges_pass, ranges_read}
 use Rattle.chrono_cron.proofs.WrittenFields.{numbers_all, numbers_stepped, numbers_unstarred, ranges_are}
 use Rattle.std.proofs.Math.Bool.{or-true}
+use Rattle.std.proofs.Math.Nat.{mod-eq_of_lt}
 use Rattle.chrono_text.specs.Text.{number_text}
 
 -- ---- names of days, as they are written
@@ -119,13 +120,6 @@ none_of number (item ∷ items) k are =
     let parts = and_parts (not (is_some (number item))) (list_all (λ i. not (is_some (number i))) items) are in
     ap₂ (λ a b. a || b) (no_number k (number item) parts.0) (none_of number items k parts.1)
 
--- a test that all items of a part pass which one of another test follows from
-pub weaker : (p q : List ℕ → Bool) (items : List (List ℕ)) → ((item : List ℕ) → p item ≡ true → q item ≡ true) → list_all p items ≡ true → list_all q items ≡ true
-weaker p q [] follows are = refl
-weaker p q (item ∷ items) follows are =
-    let parts = and_parts (p item) (list_all p items) are in
-    ap₂ (λ a b. a && b) (follows item parts.0) (weaker p q items follows parts.1)
-
 -- ---- the items that list numbers, by cases of whether they begin with `*` and whether that lists all
 
 numbers_pass-by : (test : List ℕ → Bool) (set : FiniteSet) (count low : ℕ) (starred all : Bool) → starred ≡ starred → test (codes "*") ≡ true → test (codes "*/" ++ number_text count) ≡ true
@@ -146,16 +140,13 @@ numbers_pass test set count low starred star stepped pass =
 abbrev pub StepReads : Names → ℕ → ℕ → ℕ → Type 0
 StepReads names low high count = (k : ℕ) → item_lists names low high (codes "*/" ++ number_text count) k ≡ Some (is_by_steps low high count k)
 
-pub rest_is : (n d : ℕ) → n < d → n % d ≡ n
-rest_is n d lt = grind arith
-
 no_step : (low high count k : ℕ) → k ≢ low → (k ≤ high → k < low + count) → is_by_steps low high count k ≡ false
 no_step low high count k other less = elim (cases_lt k low) [
   | inl before ↦ ap (λ b. b && (nat_le k high && ((k - low) % count == 0))) (lt-leb low k before)
   | inr from ↦ elim (cases_lt high k) [
     | inl past ↦ ap (λ b. nat_le low k && (b && ((k - low) % count == 0))) (lt-leb k high past) ∙ ap (λ b. b && false) (le-leb low k from)
     | inr to ↦
-        let rest : (k - low) % count ≡ k - low = rest_is (k - low) count (omega (arith, from, less to)) in
+        let rest : (k - low) % count ≡ k - low = mod-eq_of_lt {n = k - low} {m = count} (omega (arith, from, less to)) in
         ap₂ (λ a b. a && (b && ((k - low) % count == 0))) (le-leb low k from) (le-leb k high to)
         ∙ ap (λ r. r == 0) rest ∙ ne_eqb (k - low) 0 (omega (arith, from, other))
   ]

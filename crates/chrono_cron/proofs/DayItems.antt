@@ -7,9 +7,9 @@ use Rattle.std.proofs.lemmas.List.Sums.{fails_before_first}
 use Rattle.std.proofs.lemmas.List.Splits.{slice_split_none, slice_split_first}
 use Rattle.std.proofs.Math.Bool.{or_assoc}
 use Rattle.chrono_text.specs.Lists.{pieces, stands_in}
-use Rattle.chrono_sets.specs.Numbers.{has, no_numbers}
+use Rattle.chrono_sets.specs.FiniteSets.{has, no_numbers}
 use Rattle.chrono_sets.proofs.Members.{has-no_numbers}
-use Rattle.chrono_cron.specs.declared.month_days.MonthDays.{MonthDays}
+use Rattle.chrono_cron.specs.declared.named_days.MonthDays.{MonthDays}
 use Rattle.chrono_cron.specs.declared.text.number_names.Names.{Names}
 use Rattle.chrono_cron.specs.declared.text.number_names.Names.TheVariants.{Numbers}
 use Rattle.chrono_cron.specs.Due.{no_month_days}

@@ -1,7 +1,7 @@
 -- The minutes of a day, by their hour and their minute past it.
 use Rattle.std.proofs.Common.{◌≡◌, ℕ, ◌+◌, ◌*◌, ◌/◌, ◌%◌, ◌<◌, true, false, refl, arith}
 use Rattle.std.proofs.lemmas.Bool.{and_left, and_right}
-use Rattle.chrono_sets.specs.Numbers.{has}
+use Rattle.chrono_sets.specs.FiniteSets.{has}
 use Rattle.chrono_cron.specs.declared.field_sets.FieldSets.{FieldSets}
 use Rattle.chrono_cron.specs.Due.{is_minute}
 

@@ -1,5 +1,5 @@
 -- The days of a month, and those between a day and the end of an earlier or the beginning of a later month.
-use Rattle.std.proofs.Common.{◌≡◌, ℕ, ◌+◌, ◌-◌, ◌%◌, ◌<◌, ◌≤◌, ◌⊎◌, inl, inr, Bool, true, false, ◌||◌, refl, sym, ap, ◌∙◌, arith, ℤ, pos, ◌+ℤ◌, ◌-ℤ◌, ◌≤ℤ◌, ◌<ℤ◌, Option, Some, None, IfSome, IfNone, IsSome, ◌↔◌, ap₂, to_z, of_z, w32}
+use Rattle.std.proofs.Common.{◌≡◌, ℕ, ◌+◌, ◌-◌, ◌%◌, ◌<◌, ◌≤◌, inl, inr, Bool, true, false, ◌||◌, refl, sym, ap, ◌∙◌, arith, ℤ, pos, ◌+ℤ◌, ◌-ℤ◌, ◌≤ℤ◌, ◌<ℤ◌, Option, Some, None, IfSome, IfNone, IsSome, ◌↔◌, ap₂, to_z, of_z, w32}
 use Rattle.std.proofs.lemmas.Bool.{cases_lt}
 use Rattle.std.proofs.lemmas.Int.{by_lt_z, to_z-of_z}
 use Rattle.chrono_datetime.specs.Years.{IsYear, month_length}
@@ -12,8 +12,10 @@ use Rattle.chrono_datetime.proofs.MonthDays.{day_of-bounds}
 use Rattle.chrono_datetime.proofs.MonthOrder.{month_of-range}
 use Rattle.chrono_datetime.proofs.Rising.{month_index_of-rises}
 use Rattle.chrono_datetime.proofs.Signed.{signed}
-use Rattle.chrono_sets.specs.Numbers.{Numbers as FiniteSet, has}
+use Rattle.chrono_datetime.proofs.Years.{year_fits}
+use Rattle.chrono_sets.specs.FiniteSets.{FiniteSet, has}
 use Rattle.chrono_cron.specs.declared.field_sets.FieldSets.{FieldSets}
+use Rattle.chrono_cron.specs.DaySearch.{InMonthOrNoDay}
 use Rattle.chrono_cron.specs.Due.{either_or_both, is_day, is_listed_day, is_named_by_place, is_named_by_weekday}
 
 -- a set of the days of a month by their weekdays has those that the schedule has
@@ -80,7 +82,7 @@ no_day_of_no_month s d none =
 -- ---- later months
 
 -- a later day of the year, in a month before an end
-pub later_in_year : (s : FieldSets) (n d : ℤ) (end : ℕ) → n ≤ℤ d → year_of d ≡ year_of n → month_of d < end → NoMonths s (month_of n + 1) end → InSameMonth d n ⊎ (is_day s d ≡ false)
+pub later_in_year : (s : FieldSets) (n d : ℤ) (end : ℕ) → n ≤ℤ d → year_of d ≡ year_of n → month_of d < end → NoMonths s (month_of n + 1) end → InMonthOrNoDay s n d
 later_in_year s n d end low year high none =
     let rises = month_index_of-rises n d low in
     let from : month_of n ≤ month_of d = omega (arith, signed, rises, year, month_of-range n, month_of-range d) in
@@ -90,7 +92,7 @@ later_in_year s n d end low year high none =
     ]
 
 -- up to the first of a month of the same year
-pub before_later_month : (s : FieldSets) (n d e : ℤ) → n ≤ℤ d → d <ℤ e → day_of e ≡ 1 → year_of e ≡ year_of n → NoMonths s (month_of n + 1) (month_of e) → InSameMonth d n ⊎ (is_day s d ≡ false)
+pub before_later_month : (s : FieldSets) (n d e : ℤ) → n ≤ℤ d → d <ℤ e → day_of e ≡ 1 → year_of e ≡ year_of n → NoMonths s (month_of n + 1) (month_of e) → InMonthOrNoDay s n d
 before_later_month s n d e low high first year none =
     let rises = month_index_of-rises n d low in
     let less = month_before_first d e first high in
@@ -98,7 +100,7 @@ before_later_month s n d e low high first year none =
     later_in_year s n d (month_of e) low same (omega (arith, signed, less, same, year, month_of-range d, month_of-range e)) none
 
 -- up to the first of a month of the next year
-pub before_next_year : (s : FieldSets) (n d e : ℤ) → n ≤ℤ d → d <ℤ e → day_of e ≡ 1 → year_of e ≡ year_of n +ℤ pos 1 → NoMonths s (month_of n + 1) 13 → NoMonths s 1 (month_of e) → InSameMonth d n ⊎ (is_day s d ≡ false)
+pub before_next_year : (s : FieldSets) (n d e : ℤ) → n ≤ℤ d → d <ℤ e → day_of e ≡ 1 → year_of e ≡ year_of n +ℤ pos 1 → NoMonths s (month_of n + 1) 13 → NoMonths s 1 (month_of e) → InMonthOrNoDay s n d
 before_next_year s n d e low high first year none next =
     let rises = month_index_of-rises n d low in
     let less = month_before_first d e first high in
@@ -109,7 +111,7 @@ before_next_year s n d e low high first year none next =
 
 -- ---- earlier months
 
-pub earlier_in_year : (s : FieldSets) (n d : ℤ) (from : ℕ) → d ≤ℤ n → year_of d ≡ year_of n → from ≤ month_of d → NoMonths s from (month_of n) → InSameMonth d n ⊎ (is_day s d ≡ false)
+pub earlier_in_year : (s : FieldSets) (n d : ℤ) (from : ℕ) → d ≤ℤ n → year_of d ≡ year_of n → from ≤ month_of d → NoMonths s from (month_of n) → InMonthOrNoDay s n d
 earlier_in_year s n d from high year low none =
     let rises = month_index_of-rises d n high in
     let end : month_of d ≤ month_of n = omega (arith, signed, rises, year, month_of-range n, month_of-range d) in
@@ -119,7 +121,7 @@ earlier_in_year s n d from high year low none =
     ]
 
 -- back to the last of a month of the same year
-pub after_earlier_month : (s : FieldSets) (n d e : ℤ) → d ≤ℤ n → e <ℤ d → day_of e ≡ month_length_of e → year_of e ≡ year_of n → NoMonths s (month_of e + 1) (month_of n) → InSameMonth d n ⊎ (is_day s d ≡ false)
+pub after_earlier_month : (s : FieldSets) (n d e : ℤ) → d ≤ℤ n → e <ℤ d → day_of e ≡ month_length_of e → year_of e ≡ year_of n → NoMonths s (month_of e + 1) (month_of n) → InMonthOrNoDay s n d
 after_earlier_month s n d e high low last year none =
     let rises = month_index_of-rises d n high in
     let more = month_after_last d e last low in
@@ -127,7 +129,7 @@ after_earlier_month s n d e high low last year none =
     earlier_in_year s n d (month_of e + 1) high same (omega (arith, signed, more, same, year, month_of-range d, month_of-range e)) none
 
 -- back to the last of a month of the year before
-pub after_previous_year : (s : FieldSets) (n d e : ℤ) → d ≤ℤ n → e <ℤ d → day_of e ≡ month_length_of e → year_of e +ℤ pos 1 ≡ year_of n → NoMonths s 1 (month_of n) → NoMonths s (month_of e + 1) 13 → InSameMonth d n ⊎ (is_day s d ≡ false)
+pub after_previous_year : (s : FieldSets) (n d e : ℤ) → d ≤ℤ n → e <ℤ d → day_of e ≡ month_length_of e → year_of e +ℤ pos 1 ≡ year_of n → NoMonths s 1 (month_of n) → NoMonths s (month_of e + 1) 13 → InMonthOrNoDay s n d
 after_previous_year s n d e high low last year none before =
     let rises = month_index_of-rises d n high in
     let more = month_after_last d e last low in
@@ -156,9 +158,6 @@ pub if_named : (o : Option ℤ) (y : ℤ) (m k : ℕ) (P : ℤ → Type 0) → I
 if_named None y m k P year month day so = tt
 if_named (Some e) y m k P year month day so = so e year month day
 
-pub year_fits : (y : ℤ) → IsYear y → to_z w32 (of_z w32 y) ≡ y
-year_fits y year = to_z-of_z w32 y (omega (arith, signed, year))
-
 -- and what is so where there is no such date
 pub if_unnamed : (o : Option ℤ) (y : ℤ) (m k : ℕ) (P : Type 0) → (IsSome o ↔ (IsYear y × IsCalendarName y m k)) → ((IsYear y × IsCalendarName y m k → ⊥) → P) → IfNone o P
 if_unnamed None y m k P exists so = so (λ named. let no = exists.1 named in cc)
@@ -176,10 +175,10 @@ previous_year_fits y year =
 
 -- ---- loops over months
 
-pub later_passed : (s : FieldSets) (start n d : ℤ) → ((d : ℤ) → start ≤ℤ d → d <ℤ n → is_day s d ≡ false) → (n ≤ℤ d → InSameMonth d n ⊎ (is_day s d ≡ false)) → (n ≤ℤ d → InSameMonth d n → is_day s d ≡ false) → start ≤ℤ d → is_day s d ≡ false
+pub later_passed : (s : FieldSets) (start n d : ℤ) → ((d : ℤ) → start ≤ℤ d → d <ℤ n → is_day s d ≡ false) → (n ≤ℤ d → InMonthOrNoDay s n d) → (n ≤ℤ d → InSameMonth d n → is_day s d ≡ false) → start ≤ℤ d → is_day s d ≡ false
 later_passed s start n d before passed month low =
     by_lt_z d n (λ lt. before d low lt) (λ ge. elim (passed ge) [ inl same ↦ month ge same | inr none ↦ none ])
 
-pub earlier_passed : (s : FieldSets) (start n d : ℤ) → ((d : ℤ) → n <ℤ d → d ≤ℤ start → is_day s d ≡ false) → (d ≤ℤ n → InSameMonth d n ⊎ (is_day s d ≡ false)) → (d ≤ℤ n → InSameMonth d n → is_day s d ≡ false) → d ≤ℤ start → is_day s d ≡ false
+pub earlier_passed : (s : FieldSets) (start n d : ℤ) → ((d : ℤ) → n <ℤ d → d ≤ℤ start → is_day s d ≡ false) → (d ≤ℤ n → InMonthOrNoDay s n d) → (d ≤ℤ n → InSameMonth d n → is_day s d ≡ false) → d ≤ℤ start → is_day s d ≡ false
 earlier_passed s start n d after passed month high =
     by_lt_z n d (λ lt. after d lt high) (λ ge. elim (passed ge) [ inl same ↦ month ge same | inr none ↦ none ])

@@ -8,7 +8,7 @@ use Rattle.chrono_datetime.specs.Weekday.{days_from_sunday}
 use Rattle.chrono_datetime.specs.Weeks.{weekday_of}
 use Rattle.chrono_datetime.proofs.MonthOrder.{month_of-range}
 use Rattle.chrono_datetime.proofs.MonthPlaces.{place-bounds, weekday_small}
-use Rattle.chrono_sets.specs.Numbers.{has}
+use Rattle.chrono_sets.specs.FiniteSets.{has}
 use Rattle.chrono_cron.specs.Due.{begins_minute, is_day, is_due, is_listed_day, is_minute}
 use Rattle.chrono_cron.specs.KnownSchedules.{each_minute}
 

@@ -7,14 +7,14 @@ use Rattle.std.proofs.lemmas.Bool.{cases_lt, false≢true, le-leb, lt-leb, lt-lt
 use Rattle.std.proofs.lemmas.Option.{none-some, same_Some}
 use Rattle.std.proofs.lemmas.List.{drop_all}
 use Rattle.chrono_text.specs.Lists.{pieces, stands_in}
-use Rattle.chrono_text.specs.Numbers.{digits_of, natural_of}
-use Rattle.chrono_sets.specs.Numbers.{Numbers as FiniteSet, has, no_numbers}
+use Rattle.chrono_text.specs.Numbers.{above_zero, digits_of, if_within, natural_of}
+use Rattle.chrono_sets.specs.FiniteSets.{FiniteSet, has, no_numbers}
 use Rattle.chrono_sets.specs.Steps.{is_by_steps}
 use Rattle.chrono_sets.proofs.Members.{has-no_numbers}
 use Rattle.chrono_cron.specs.declared.text.number_names.Names.{Names}
 use Rattle.chrono_cron.specs.declared.text.number_names.Names.TheVariants.{Numbers, Months, Weekdays}
 use Rattle.chrono_datetime.specs.Names.{month_of_letters, weekday_of_letters}
-use Rattle.chrono_cron.specs.FieldTexts.{above_zero, before_byte, behind_byte, field_lists, is_star, item_lists, items_list, number_between, number_of_name, onto, range_of, item_span, spelled_number, step_of, if_within}
+use Rattle.chrono_cron.specs.FieldTexts.{before_byte, behind_byte, field_lists, is_star, item_lists, items_list, lists_by_steps, number_between, number_of_name, onto, range_of, range_to, item_span, spelled_number, step_of}
 use Rattle.chrono_units.proofs.SetMembers.{or-or_false}
 
 -- a number in digits, or a name
@@ -55,19 +55,16 @@ number_between-nothing Months low high = refl
 number_between-nothing Weekdays low high = refl
 
 -- both ends of a range
-abbrev pub last_of : Names → ℕ → List ℕ → ℕ → Option (ℕ × ℕ)
-last_of names high text first = option_map (λ last. (first, last)) (number_between names first high text)
-
 pub range_star : (names : Names) (low high : ℕ) (text : List ℕ) → is_star text ≡ true → range_of names low high text ≡ Some (low, high)
 unfolding range_of
 range_star names low high text e =
-    ap (λ t. if t then Some (low, high) else option_and_then (last_of names high (behind_byte 45 text)) (number_between names low high (before_byte 45 text))) e
+    ap (λ t. if t then Some (low, high) else option_and_then (range_to names high (behind_byte 45 text)) (number_between names low high (before_byte 45 text))) e
 
 range_ends : (names : Names) (low high : ℕ) (text : List ℕ) → is_star text ≡ false
-    → range_of names low high text ≡ option_and_then (last_of names high (behind_byte 45 text)) (number_between names low high (before_byte 45 text))
+    → range_of names low high text ≡ option_and_then (range_to names high (behind_byte 45 text)) (number_between names low high (before_byte 45 text))
 unfolding range_of
 range_ends names low high text e =
-    ap (λ t. if t then Some (low, high) else option_and_then (last_of names high (behind_byte 45 text)) (number_between names low high (before_byte 45 text))) e
+    ap (λ t. if t then Some (low, high) else option_and_then (range_to names high (behind_byte 45 text)) (number_between names low high (before_byte 45 text))) e
 
 -- nothing stands behind a byte that does not stand in the text
 pub nothing_behind : (sign : ℕ) (text : List ℕ) → stands_in sign text ≡ false → behind_byte sign text ≡ []
@@ -76,7 +73,7 @@ nothing_behind sign text none = elim (cases_lt (position_or_len (λ x. x == sign
   | inr end ↦ drop_all (position_or_len (λ x. x == sign) text + 1) text (omega (arith, end))
 ]
 
-no_last : (names : Names) (high : ℕ) (text : List ℕ) (first : Option ℕ) → text ≡ [] → option_and_then (last_of names high text) first ≡ None
+no_last : (names : Names) (high : ℕ) (text : List ℕ) (first : Option ℕ) → text ≡ [] → option_and_then (range_to names high text) first ≡ None
 no_last names high text None e = refl
 no_last names high text (Some first) e = ap (λ t. option_map (λ last. (first, last)) (number_between names first high t)) e ∙ ap (option_map (λ last. (first, last))) (number_between-nothing names first high)
 
@@ -85,12 +82,12 @@ range_alone names low high text e none =
     range_ends names low high text e ∙ no_last names high (behind_byte 45 text) (number_between names low high (before_byte 45 text)) (nothing_behind 45 text none)
 
 pub range_first : (names : Names) (low high : ℕ) (text : List ℕ) → is_star text ≡ false → number_between names low high (before_byte 45 text) ≡ None → range_of names low high text ≡ None
-range_first names low high text e none = range_ends names low high text e ∙ ap (option_and_then (last_of names high (behind_byte 45 text))) none
+range_first names low high text e none = range_ends names low high text e ∙ ap (option_and_then (range_to names high (behind_byte 45 text))) none
 
 pub range_last : (names : Names) (low high first : ℕ) (text : List ℕ) (last : Option ℕ) → is_star text ≡ false → number_between names low high (before_byte 45 text) ≡ Some first
     → number_between names first high (behind_byte 45 text) ≡ last → range_of names low high text ≡ option_map (λ n. (first, n)) last
 range_last names low high first text last e is ends =
-    range_ends names low high text e ∙ ap (option_and_then (last_of names high (behind_byte 45 text))) is ∙ ap (option_map (λ n. (first, n))) ends
+    range_ends names low high text e ∙ ap (option_and_then (range_to names high (behind_byte 45 text))) is ∙ ap (option_map (λ n. (first, n))) ends
 
 pub span_number : (names : Names) (low high n : ℕ) (text : List ℕ) → number_between names low high text ≡ Some n → item_span names low high text ≡ Some (n, n)
 unfolding item_span
@@ -116,11 +113,8 @@ step_some text n = above_zero_some (digits_of 3 text) n
 abbrev by_ones : ℕ → ℕ × ℕ → Bool
 by_ones k span = is_by_steps span.0 span.1 1 k
 
-abbrev by_text : List ℕ → ℕ → ℕ × ℕ → Option Bool
-by_text text k span = option_map (λ step. is_by_steps span.0 span.1 step k) (step_of text)
-
 abbrev item_tested : Names → ℕ → ℕ → List ℕ → ℕ → Bool → Option Bool
-item_tested names low high text k t = if t then option_and_then (by_text (behind_byte 47 text) k) (range_of names low high (before_byte 47 text)) else option_map (by_ones k) (item_span names low high text)
+item_tested names low high text k t = if t then option_and_then (lists_by_steps (behind_byte 47 text) k) (range_of names low high (before_byte 47 text)) else option_map (by_ones k) (item_span names low high text)
 
 pub item_plain : (names : Names) (low high : ℕ) (text : List ℕ) (k : ℕ) → stands_in 47 text ≡ false → item_lists names low high text k ≡ option_map (λ span. is_by_steps span.0 span.1 1 k) (item_span names low high text)
 unfolding item_lists
@@ -129,7 +123,7 @@ item_plain names low high text k none = ap (item_tested names low high text k) n
 pub item_stepped : (names : Names) (low high : ℕ) (text : List ℕ) (k : ℕ) (span : Option (ℕ × ℕ)) → stands_in 47 text ≡ true → range_of names low high (before_byte 47 text) ≡ span
     → item_lists names low high text k ≡ option_and_then (λ s. option_map (λ step. is_by_steps s.0 s.1 step k) (step_of (behind_byte 47 text))) span
 unfolding item_lists
-item_stepped names low high text k span some is = ap (item_tested names low high text k) some ∙ ap (option_and_then (by_text (behind_byte 47 text) k)) is
+item_stepped names low high text k span some is = ap (item_tested names low high text k) some ∙ ap (option_and_then (lists_by_steps (behind_byte 47 text) k)) is
 
 -- the items of a field, from the first on
 abbrev pub put : Option Bool → Bool → Option Bool

@@ -1,64 +1,46 @@
 -- Items that are written are read back: numbers in ranges, and `*` with or without steps.
 use Rattle.std.proofs.Common.{◌≡◌, ℕ, zero, suc, ◌+◌, ◌-◌, ◌%◌, ◌<◌, ◌≤◌, ◌==◌, Bool, true, false, not, ◌&&◌, ◌||◌, List, [], ◌∷◌, ◌++◌, length, Option, Some, None, inl, inr, refl, sym, ap, ap₂, ◌∙◌, arith, eq-eqb}
 use Rattle.std.specs.Prelude.{map, codes, nat_le}
-use Rattle.std.specs.List.{list_all, list_any, onto_first, position_or_len, slice_split}
+use Rattle.std.specs.List.{list_all, list_any, position_or_len, slice_split}
 use Rattle.std.specs.Option.{option_and_then, option_map}
-use Rattle.std.proofs.lemmas.Bool.{agree_below, agree_below_at, and_parts, cases_lt, eqb-true, false_from_ne_true, false≢true, le-leb, le-ltb, lt-leb, not-true, or_parts}
+use Rattle.std.proofs.lemmas.Bool.{agree_below, agree_below_at, and_parts, cases_lt, eqb-true, false_from_ne_true, false≢true, le-leb, le-ltb, lt-leb, not-true}
 use Rattle.std.proofs.lemmas.List.Folds.{list_any-append}
-use Rattle.std.proofs.lemmas.List.Splits.{slice_split-cons_no, slice_split-cons_yes}
 use Rattle.chrono_text.specs.Numbers.{digits_of, natural_of}
 use Rattle.chrono_sets.specs.Steps.{is_by_steps}
-use Rattle.chrono_sets.specs.Numbers.{Numbers as FiniteSet, has}
+use Rattle.chrono_sets.specs.FiniteSets.{FiniteSet, has}
 use Rattle.chrono_cron.specs.declared.text.number_names.Names.{Names}
 use Rattle.chrono_cron.specs.declared.text.number_names.Names.TheVariants.{Numbers, Months}
 use Rattle.chrono_datetime.specs.Names.{month_of_letters, weekday_of_letters}
 use Rattle.chrono_cron.specs.FieldTexts.{field_lists, item_lists, items_list, number_between, number_of_name, onto, range_of, item_span, spelled_number, step_of}
-use Rattle.chrono_cron.specs.ScheduleTexts.{AreListed, is_blank}
+use Rattle.chrono_cron.specs.ScheduleTexts.{AreListed}
 use Rattle.chrono_cron.specs.WritableSchedules.{LieBetween, Member}
 use Rattle.chrono_cron.specs.WrittenTexts.{are_all, number_items, one_lists, plain_text, range_text, ranges_from}
 use Rattle.chrono_cron.proofs.FieldTexts.{item_plain}
 use Rattle.chrono_cron.proofs.WrittenFields.{AreRanges, numbers_all, numbers_unstarred, one_from, ranges_are, ranges_list}
 use Rattle.std.proofs.Math.Bool.{and-false, and-true}
-use Rattle.chrono_text.specs.Lists.{list_text, is_some_text}
+use Rattle.chrono_text.specs.Lists.{is_blank, is_some_text, list_text}
+use Rattle.chrono_text.proofs.ListLemmas.{lacks, pieces_joined, weaker}
 
 -- ---- texts cut where they were joined
 
-pub split_none : (p : ℕ → Bool) (item : List ℕ) → list_any p item ≡ false → slice_split p item ≡ item ∷ []
-split_none p [] lacks = refl
-split_none p (x ∷ item) lacks =
-    let parts = or_parts (p x) (list_any p item) lacks in
-    slice_split-cons_no p x item parts.0 ∙ ap (onto_first x) (split_none p item parts.1)
-
-pub split_at : (p : ℕ → Bool) (item : List ℕ) (y : ℕ) (rest : List ℕ) → list_any p item ≡ false → p y ≡ true → slice_split p (item ++ y ∷ rest) ≡ item ∷ slice_split p rest
-split_at p [] y rest lacks is = slice_split-cons_yes p y rest is
-split_at p (x ∷ item) y rest lacks is =
-    let parts = or_parts (p x) (list_any p item) lacks in
-    slice_split-cons_no p x (item ++ y ∷ rest) parts.0 ∙ ap (onto_first x) (split_at p item y rest parts.1 is)
-
-abbrev is_comma : ℕ → Bool
-is_comma x = x == 44
-
 -- an item: some text, with neither a comma nor a blank
 abbrev pub is_item : List ℕ → Bool
-is_item text = is_some_text text && (not (list_any (λ x. x == 44) text) && not (list_any is_blank text))
+is_item text = is_some_text text && (lacks 44 text && not (list_any is_blank text))
 
-lacks_comma : (item : List ℕ) → is_item item ≡ true → list_any is_comma item ≡ false
+lacks_comma : (item : List ℕ) → is_item item ≡ true → lacks 44 item ≡ true
 lacks_comma item is =
-    let parts = and_parts (is_some_text item) (not (list_any is_comma item) && not (list_any is_blank item)) is in
-    not-true (list_any is_comma item) (and_parts (not (list_any is_comma item)) (not (list_any is_blank item)) parts.1).0
+    let parts = and_parts (is_some_text item) (lacks 44 item && not (list_any is_blank item)) is in
+    (and_parts (lacks 44 item) (not (list_any is_blank item)) parts.1).0
 
 pub lacks_blank : (item : List ℕ) → is_item item ≡ true → list_any is_blank item ≡ false
 lacks_blank item is =
-    let parts = and_parts (is_some_text item) (not (list_any is_comma item) && not (list_any is_blank item)) is in
-    not-true (list_any is_blank item) (and_parts (not (list_any is_comma item)) (not (list_any is_blank item)) parts.1).1
+    let parts = and_parts (is_some_text item) (lacks 44 item && not (list_any is_blank item)) is in
+    not-true (list_any is_blank item) (and_parts (lacks 44 item) (not (list_any is_blank item)) parts.1).1
 
 -- the items of a field that is written are those that were joined
 pub items_back : (item : List ℕ) (items : List (List ℕ)) → list_all is_item (item ∷ items) ≡ true → slice_split (λ x. x == 44) (list_text (item ∷ items)) ≡ item ∷ items
-items_back item [] are = split_none is_comma item (lacks_comma item (and_parts (is_item item) true are).0)
-items_back item (next ∷ items) are =
-    let parts = and_parts (is_item item) (list_all is_item (next ∷ items)) are in
-    split_at is_comma item 44 (list_text (next ∷ items)) (lacks_comma item parts.0) refl
-    ∙ ap (λ others. item ∷ others) (items_back next items parts.1)
+items_back item items are =
+    pieces_joined 44 (item ∷ items) (λ none. let size = ap length none in omega (arith, size)) (weaker is_item (lacks 44) (item ∷ items) lacks_comma are)
 
 -- ---- ranges
 

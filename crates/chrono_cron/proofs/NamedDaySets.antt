@@ -4,9 +4,9 @@ use Rattle.std.proofs.lemmas.Bool.{agree_below_at, and_from, and_parts, cases_eq
 use Rattle.std.specs.Prelude.{nat_le, nat_lt}
 use Rattle.std.proofs.Math.Bool.{and_comm}
 use Rattle.chrono_datetime.proofs.NamedDates.{same_test}
-use Rattle.chrono_sets.specs.Numbers.{Numbers as FiniteSet, has, no_numbers, with_number}
+use Rattle.chrono_sets.specs.FiniteSets.{FiniteSet, has, no_numbers, with_number}
 use Rattle.chrono_sets.proofs.Members.{has-no_numbers, has-with_number}
-use Rattle.chrono_cron.specs.declared.month_days.MonthDays.{MonthDays}
+use Rattle.chrono_cron.specs.declared.named_days.MonthDays.{MonthDays}
 use Rattle.chrono_cron.specs.Due.{is_friday_for, is_last_workday, is_monday_for, is_named_by_place, is_named_by_weekday, is_nearest_workday, is_monday_to_friday}
 
 -- ---- tests that hold together

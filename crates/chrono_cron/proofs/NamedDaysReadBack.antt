@@ -3,12 +3,12 @@ use Rattle.std.proofs.Common.{◌≡◌, ℕ, Bool, true, false, not, ◌||◌, 
 use Rattle.std.specs.Prelude.{codes}
 use Rattle.std.specs.List.{filter, list_all, list_any}
 use Rattle.chrono_text.specs.Numbers.{digits_of, natural_of}
-use Rattle.chrono_sets.specs.Numbers.{Numbers as FiniteSet, has}
+use Rattle.chrono_sets.specs.FiniteSets.{FiniteSet, has}
 use Rattle.chrono_cron.specs.declared.text.number_names.Names.TheVariants.{Numbers}
 use Rattle.chrono_cron.specs.declared.field_sets.FieldSets.{FieldSets}
 use Rattle.chrono_cron.specs.declared.text.schedule_writer.DayName.TheVariants.{FromEnd, NearestWorkday}
 use Rattle.chrono_cron.specs.FieldTexts.{item_lists, items_list, number_between, number_of_name, range_of, item_span, spelled_number, step_of}
-use Rattle.chrono_cron.specs.ScheduleTexts.{from_end_of, is_last_workday_text, is_number, last_workday_of, names_by, names_by_place, nearest_workday_of}
+use Rattle.chrono_cron.specs.ScheduleTexts.{from_end_of, is_last_workday_text, is_number, last_workday_of, names_by_place, nearest_workday_of}
 use Rattle.chrono_cron.specs.WritableSchedules.{LieBetween}
 use Rattle.chrono_cron.specs.WrittenTexts.{are_all, day_field_items, is_starred_by_day, name_text, names_from, number_items, range_text}
 use Rattle.chrono_cron.proofs.FieldsReadBack.{StarReads, are_read, is_item, pass_all, star_has}
@@ -32,14 +32,14 @@ days_step k = refl
 
 -- items that list numbers: each is some text without a comma or a blank, and names no day
 abbrev is_number_of_days : List ℕ → Bool
-is_number_of_days item = not (names_by Numbers item)
+is_number_of_days item = not (names_by_place item)
 
 -- and each lacks a number by a kind of name
 numbers-items : pass_all (λ r. is_item (range_text r)) 1 32 ≡ true
 numbers-items = refl
 
 numbers-days : pass_all (λ r. is_number_of_days (range_text r)) 1 32 ≡ true
-unfolding names_by names_by_place from_end_of is_last_workday_text nearest_workday_of number_between spelled_number digits_of number_of_name natural_of
+unfolding names_by_place from_end_of is_last_workday_text nearest_workday_of number_between spelled_number digits_of number_of_name natural_of
 numbers-days = refl
 
 numbers-from_end : pass_all (λ r. lacks from_end_of (range_text r)) 1 32 ≡ true
@@ -58,8 +58,8 @@ numbers-nearest = refl
 ends-items : pass_from (λ k. is_item (name_text FromEnd k)) 0 31 ≡ true
 ends-items = refl
 
-ends-days : pass_from (λ k. names_by Numbers (name_text FromEnd k)) 0 31 ≡ true
-unfolding names_by names_by_place from_end_of is_last_workday_text nearest_workday_of number_between spelled_number digits_of number_of_name natural_of
+ends-days : pass_from (λ k. names_by_place (name_text FromEnd k)) 0 31 ≡ true
+unfolding names_by_place from_end_of is_last_workday_text nearest_workday_of number_between spelled_number digits_of number_of_name natural_of
 ends-days = refl
 
 ends-from_end : pass_from (λ k. is_number k (from_end_of (name_text FromEnd k))) 0 31 ≡ true
@@ -78,8 +78,8 @@ ends-nearest = refl
 workdays-items : pass_from (λ k. is_item (name_text NearestWorkday k)) 1 32 ≡ true
 workdays-items = refl
 
-workdays-days : pass_from (λ k. names_by Numbers (name_text NearestWorkday k)) 1 32 ≡ true
-unfolding names_by names_by_place from_end_of is_last_workday_text nearest_workday_of number_between spelled_number digits_of number_of_name natural_of
+workdays-days : pass_from (λ k. names_by_place (name_text NearestWorkday k)) 1 32 ≡ true
+unfolding names_by_place from_end_of is_last_workday_text nearest_workday_of number_between spelled_number digits_of number_of_name natural_of
 workdays-days = refl
 
 workdays-from_end : pass_from (λ k. lacks from_end_of (name_text NearestWorkday k)) 1 32 ≡ true
@@ -102,8 +102,8 @@ last-items : (named : Bool) → list_all is_item (last_workdays named) ≡ true
 last-items true = refl
 last-items false = refl
 
-last-days : (named : Bool) → list_all (names_by Numbers) (last_workdays named) ≡ true
-unfolding names_by names_by_place from_end_of is_last_workday_text nearest_workday_of number_between spelled_number digits_of number_of_name natural_of
+last-days : (named : Bool) → list_all names_by_place (last_workdays named) ≡ true
+unfolding names_by_place from_end_of is_last_workday_text nearest_workday_of number_between spelled_number digits_of number_of_name natural_of
 last-days true = refl
 last-days false = refl
 
@@ -148,17 +148,17 @@ days_are_items s =
     (all_of is_item (ends s) (last_workdays s.month_days.last_workday ++ workdays s) (names_tested is_item FromEnd s.month_days.from_end 31 0 ends-items)
     (all_of is_item (last_workdays s.month_days.last_workday) (workdays s) (last-items s.month_days.last_workday) (names_tested is_item NearestWorkday s.month_days.nearest_workdays 31 1 workdays-items)))
 
-day_names_are : (s : FieldSets) → list_all (names_by Numbers) (day_names s) ≡ true
+day_names_are : (s : FieldSets) → list_all names_by_place (day_names s) ≡ true
 day_names_are s =
-    all_of (names_by Numbers) (ends s) (last_workdays s.month_days.last_workday ++ workdays s) (names_tested (names_by Numbers) FromEnd s.month_days.from_end 31 0 ends-days)
-    (all_of (names_by Numbers) (last_workdays s.month_days.last_workday) (workdays s) (last-days s.month_days.last_workday) (names_tested (names_by Numbers) NearestWorkday s.month_days.nearest_workdays 31 1 workdays-days))
+    all_of names_by_place (ends s) (last_workdays s.month_days.last_workday ++ workdays s) (names_tested names_by_place FromEnd s.month_days.from_end 31 0 ends-days)
+    (all_of names_by_place (last_workdays s.month_days.last_workday) (workdays s) (last-days s.month_days.last_workday) (names_tested names_by_place NearestWorkday s.month_days.nearest_workdays 31 1 workdays-days))
 
 day_numbers_are : (s : FieldSets) → list_all is_number_of_days (day_numbers s) ≡ true
-unfolding names_by names_by_place from_end_of is_last_workday_text nearest_workday_of number_between spelled_number digits_of number_of_name natural_of
+unfolding names_by_place from_end_of is_last_workday_text nearest_workday_of number_between spelled_number digits_of number_of_name natural_of
 day_numbers_are s = numbers_pass is_number_of_days s.days 31 1 (is_starred_by_day s) refl refl numbers-days
 
-pub other_days : (s : FieldSets) → filter (λ item. not (names_by Numbers item)) (day_field_items s) ≡ number_items (is_starred_by_day s) s.days 31 1
-other_days s = ap (filter (λ item. not (names_by Numbers item))) (day_items_are s) ∙ filter_append (names_by Numbers) (day_numbers s) (day_names s) (day_numbers_are s) (day_names_are s)
+pub other_days : (s : FieldSets) → filter (λ item. not (names_by_place item)) (day_field_items s) ≡ number_items (is_starred_by_day s) s.days 31 1
+other_days s = ap (filter (λ item. not (names_by_place item))) (day_items_are s) ∙ filter_append names_by_place (day_numbers s) (day_names s) (day_numbers_are s) (day_names_are s)
 
 days_value : (set : FiniteSet) (k : ℕ) (starred all : Bool) → (starred ≡ true → has set 1 ≡ true) → are_all set 31 1 ≡ all → LieBetween set 1 32 → numbers_list set 1 31 31 k starred all ≡ has set k
 days_value set k true true first is lie = star_has set 1 31 31 k lie is refl

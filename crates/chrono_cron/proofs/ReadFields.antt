@@ -1,18 +1,19 @@
 -- A field that is read lists a number, and none but its own.
 use Rattle.std.proofs.Common.{◌≡◌, ◌==◌, ◌-◌, ◌%◌, ◌<◌, ◌≤◌, ◌+◌, ◌&&◌, ◌||◌, ℕ, Bool, true, false, List, [], ◌∷◌, Option, Some, None, refl, sym, ap, ap₂, ◌∙◌, arith, eq-eqb, ◌⊎◌, inl, inr}
+use Rattle.std.proofs.Math.Nat.{mod-eq_of_lt}
 use Rattle.std.specs.Prelude.{nat_le, if◌then◌else◌}
 use Rattle.std.specs.Option.{option_map, option_and_then, option_or}
 use Rattle.std.proofs.lemmas.Bool.{and_parts, false≢true, leb-true}
 use Rattle.std.proofs.lemmas.Option.{none-some, same_Some}
 use Rattle.chrono_sets.specs.Steps.{is_by_steps}
-use Rattle.chrono_sets.specs.Numbers.{Numbers as FiniteSet, has}
+use Rattle.chrono_sets.specs.FiniteSets.{FiniteSet, has}
 use Rattle.chrono_cron.specs.declared.text.number_names.Names.{Names}
 use Rattle.chrono_text.specs.Lists.{stands_in}
-use Rattle.chrono_cron.specs.FieldTexts.{before_byte, behind_byte, field_lists, is_star, item_lists, items_list, number_between, onto, range_of, item_span, spelled_number, step_of, if_within}
+use Rattle.chrono_text.specs.Numbers.{if_within}
+use Rattle.chrono_cron.specs.FieldTexts.{before_byte, behind_byte, field_lists, is_star, item_lists, items_list, number_between, onto, range_of, item_span, spelled_number, step_of}
 use Rattle.chrono_cron.proofs.FieldTexts.{step_some}
 use Rattle.chrono_cron.specs.ScheduleTexts.{AreListed, items_of}
 use Rattle.chrono_cron.specs.WritableSchedules.{LieBetween, Member}
-use Rattle.chrono_cron.proofs.DayFieldsReadBack.{rest_is}
 use Rattle.chrono_cron.proofs.FieldFaults.{some_items}
 use Rattle.chrono_sets.proofs.Steps.{is_by_steps-true}
 
@@ -137,7 +138,7 @@ pub item_first : (names : Names) (low high : ℕ) (text : List ℕ) (found : Spa
 item_first names low high text found =
     let first = found.0.0 in
     let none : first - first ≡ 0 = omega arith in
-    let whole = eq-eqb ((first - first) % found.1) 0 (ap (λ n. n % found.1) none ∙ rest_is 0 found.1 found.2) in
+    let whole = eq-eqb ((first - first) % found.1) 0 (ap (λ n. n % found.1) none ∙ mod-eq_of_lt {n = 0} {m = found.1} found.2) in
     found.4 first ∙ ap Some (is_by_steps-true first found.0.1 found.1 first (omega arith) found.3.1 whole)
 
 pub both_first : (names : Names) (low high k : ℕ) (item : List ℕ) (items : List (List ℕ)) (b : Bool) → items_list names low high (item ∷ items) k ≡ Some b → (h : Bool) × (item_lists names low high item k ≡ Some h)

@@ -10,18 +10,19 @@ use Rattle.std.proofs.lemmas.Bool.{and_parts, cases_Bool, cases_lt, eqb-true, fa
 use Rattle.std.proofs.lemmas.List.Splits.{slice_split-cons_no}
 use Rattle.std.proofs.lemmas.Option.{none-some, same_Some}
 use Rattle.chrono_text.specs.Numbers.{digits_of, natural_of}
-use Rattle.chrono_sets.specs.Numbers.{Numbers as FiniteSet, has}
+use Rattle.chrono_sets.specs.FiniteSets.{FiniteSet, has}
 use Rattle.chrono_cron.specs.declared.text.number_names.Names.{Names}
 use Rattle.chrono_cron.specs.declared.text.number_names.Names.TheVariants.{Numbers, Months, Weekdays}
 use Rattle.chrono_cron.specs.declared.field_sets.FieldSets.{FieldSets}
+use Rattle.chrono_text.specs.Lists.{begins_alike}
 use Rattle.chrono_datetime.specs.Names.{month_of_letters, weekday_of_letters}
-use Rattle.chrono_cron.specs.FieldTexts.{before_byte, behind_byte, item_lists, items_list, number_between, number_of_name, range_of, spelled_number}
-use Rattle.chrono_cron.specs.ScheduleTexts.{AreListed, AreNamed, AreNamedDays, IsScheduleText, an_item_is, before_letter, begins_with_star, days_list, from_end_of, is_last_workday_text, is_number, items_of, last_weekday_of, last_workday_of, names_by, names_by_place, names_by_weekday, nearest_workday_of, nth_weekday_of, spelled_weekday, weekdays_list}
+use Rattle.chrono_cron.specs.FieldTexts.{before_byte, behind_byte, item_lists, items_list, number_between, number_of_name, range_of, range_to, spelled_number}
+use Rattle.chrono_cron.specs.ScheduleTexts.{AreListed, AreNamed, AreNamedDays, IsScheduleText, an_item_is, before_letter, begins_with_star, days_list, from_end_of, is_last_workday_text, is_number, items_of, last_weekday_of, last_workday_of, names_by_place, names_by_weekday, nearest_workday_of, nth_weekday_of, spelled_weekday, weekdays_list}
 use Rattle.chrono_cron.specs.WritableSchedules.{IsWritable, LieBetween, Member}
 use Rattle.chrono_cron.proofs.DayFieldsReadBack.{number_is}
 use Rattle.chrono_cron.proofs.FieldsReadBack.{given}
 use Rattle.chrono_cron.proofs.FieldFaults.{some_items}
-use Rattle.chrono_cron.proofs.FieldTexts.{last_of, number_between-nothing, number_none, span_range}
+use Rattle.chrono_cron.proofs.FieldTexts.{number_between-nothing, number_none, span_range}
 use Rattle.chrono_cron.proofs.ReadFields.{field_told, both_first, first_listed, item_first, item_of_items, items_bounds, number_bounds, one_of, spans}
 
 -- ---- the numbers of names
@@ -33,7 +34,7 @@ from_end_by false false text n e = absurd (none-some n e)
 
 from_end_bounds : (text : List ℕ) (n : ℕ) → from_end_of text ≡ Some n → n ≤ 30
 unfolding from_end_of
-from_end_bounds text n e = from_end_by (str_eq_ignore_ascii_case text (codes "L")) (str_eq_ignore_ascii_case (take 2 text) (codes "L-")) (drop 2 text) n e
+from_end_bounds text n e = from_end_by (str_eq_ignore_ascii_case text (codes "L")) (begins_alike (codes "L-") text) (drop 2 text) n e
 
 nearest_by : (front : Option (List ℕ)) (n : ℕ) → option_and_then (number_between Numbers 1 31) front ≡ Some n → (1 ≤ n) × (n ≤ 31)
 nearest_by None n e = absurd (none-some n e)
@@ -110,24 +111,23 @@ day_named s day weekday item items at named e =
     inr (inr (inr (named_member nearest_workday_of day item items s.month_days.nearest_workdays found.0 at found.1 named.nearest_workdays)))))
 
 -- the items that name no days, from the first on
-abbrev others_of : Names → List (List ℕ) → List (List ℕ)
-others_of names items = filter (λ item. not (names_by names item)) items
+abbrev others_of : (List ℕ → Bool) → List (List ℕ) → List (List ℕ)
+others_of named items = filter (λ item. not (named item)) items
 
-other_first : (names : Names) (text item : List ℕ) (items : List (List ℕ)) → items_of text ≡ item ∷ items → names_by names item ≡ false → others_of names (items_of text) ≡ item ∷ others_of names items
-other_first names text item items at e = ap (others_of names) at ∙ ap (λ t. cond (not t) (item ∷ others_of names items) (others_of names items)) e
+other_first : (named : List ℕ → Bool) (text item : List ℕ) (items : List (List ℕ)) → items_of text ≡ item ∷ items → named item ≡ false → others_of named (items_of text) ≡ item ∷ others_of named items
+other_first named text item items at e = ap (others_of named) at ∙ ap (λ t. cond (not t) (item ∷ others_of named items) (others_of named items)) e
 
 days_between : (day : List ℕ) (set : FiniteSet) → AreListed set (days_list day) → LieBetween set 1 32
 unfolding days_list
-days_between day set all = λ k is. let bounds = items_bounds Numbers 1 31 (others_of Numbers (items_of day)) k (omega arith) (all k ∙ ap Some is) in (bounds.0, omega (arith, bounds.1))
+days_between day set all = λ k is. let bounds = items_bounds Numbers 1 31 (others_of names_by_place (items_of day)) k (omega arith) (all k ∙ ap Some is) in (bounds.0, omega (arith, bounds.1))
 
-day_listed : (day item : List ℕ) (items : List (List ℕ)) (set : FiniteSet) → items_of day ≡ item ∷ items → names_by Numbers item ≡ false → AreListed set (days_list day) → Member set
+day_listed : (day item : List ℕ) (items : List (List ℕ)) (set : FiniteSet) → items_of day ≡ item ∷ items → names_by_place item ≡ false → AreListed set (days_list day) → Member set
 unfolding days_list
 day_listed day item items set at e all =
-    let first = first_listed Numbers 1 31 item (others_of Numbers items) (has set) (omega arith) (λ k. sym (ap (λ them. items_list Numbers 1 31 them k) (other_first Numbers day item items at e)) ∙ all k) in
+    let first = first_listed Numbers 1 31 item (others_of names_by_place items) (has set) (omega arith) (λ k. sym (ap (λ them. items_list Numbers 1 31 them k) (other_first names_by_place day item items at e)) ∙ all k) in
     (first.0, first.2)
 
 a_day : (s : FieldSets) (day weekday : List ℕ) → AreListed s.days (days_list day) → AreNamedDays day weekday s.month_days → SomeDay s
-unfolding names_by
 a_day s day weekday listed named =
     let some = some_items day in
     elim (cases_Bool (names_by_place some.0)) [
@@ -160,7 +160,7 @@ week_read (Some h) None k b e = absurd (none-some b e)
 week_read (Some h) (Some s) k b e = (h, s, refl, refl, same_Some (nat_lt k 7 && (h || (k == 0 && s))) b e)
 
 abbrev in_week : List ℕ → ℕ → Option Bool
-in_week text k = items_list Weekdays 0 7 (others_of Weekdays (items_of text)) k
+in_week text k = items_list Weekdays 0 7 (others_of names_by_weekday (items_of text)) k
 
 weekdays_between : (text : List ℕ) (set : FiniteSet) → AreListed set (weekdays_list text) → LieBetween set 0 7
 unfolding weekdays_list
@@ -193,10 +193,10 @@ in_week_read text set k all =
     let found = week_read (in_week text k) (in_week text 7) k (has set k) (all k) in
     some_answered (in_week text k) found.0 found.2
 
-weekday_listed : (text item : List ℕ) (items : List (List ℕ)) (set : FiniteSet) → items_of text ≡ item ∷ items → names_by Weekdays item ≡ false → AreListed set (weekdays_list text) → Member set
+weekday_listed : (text item : List ℕ) (items : List (List ℕ)) (set : FiniteSet) → items_of text ≡ item ∷ items → names_by_weekday item ≡ false → AreListed set (weekdays_list text) → Member set
 weekday_listed text item items set at e all =
-    let others = other_first Weekdays text item items at e in
-    let first = first_listed Weekdays 0 7 item (others_of Weekdays items) (λ k. given (in_week text k)) (omega arith)
+    let others = other_first names_by_weekday text item items at e in
+    let first = first_listed Weekdays 0 7 item (others_of names_by_weekday items) (λ k. given (in_week text k)) (omega arith)
     (λ k. sym (ap (λ them. items_list Weekdays 0 7 them k) others) ∙ in_week_read text set k all) in
     let n = first.0 in
     let is = in_week_read text set n all ∙ ap Some first.2 in
@@ -206,7 +206,6 @@ weekday_listed text item items set at e all =
     ]
 
 a_weekday : (s : FieldSets) (day weekday : List ℕ) → AreListed s.weekdays (weekdays_list weekday) → AreNamedDays day weekday s.month_days → SomeWeekday s
-unfolding names_by
 a_weekday s day weekday listed named =
     let some = some_items weekday in
     elim (cases_Bool (names_by_weekday some.0)) [
@@ -263,7 +262,7 @@ unfolding range_of
 range_star names low high [] span e = sym (ap (λ (s : ℕ × ℕ). s.0) (same_Some (low, high) span e))
 range_star names low high (y ∷ text) span e =
     let none = ap (number_between names low high) (before_dash (y ∷ text)) ∙ number_star names low high (take (place 45 (y ∷ text)) (y ∷ text)) in
-    absurd (none-some span (sym (ap (option_and_then (last_of names high (behind_byte 45 (42 ∷ y ∷ text)))) none) ∙ e))
+    absurd (none-some span (sym (ap (option_and_then (range_to names high (behind_byte 45 (42 ∷ y ∷ text)))) none) ∙ e))
 
 item_star : (names : Names) (low high k : ℕ) (text : List ℕ) (b : Bool) → low ≤ high → item_lists names low high (42 ∷ text) k ≡ Some b → item_lists names low high (42 ∷ text) low ≡ Some true
 item_star names low high k text b le e =
@@ -307,24 +306,23 @@ names_by_weekday-star text = ap₂ (λ a b. is_some a || is_some b) (last-star t
 
 -- so a field that begins with it lists the first of its numbers
 day_star : (day : List ℕ) (set : FiniteSet) → begins_with_star day ≡ true → AreListed set (days_list day) → has set 1 ≡ true
-unfolding days_list names_by
+unfolding days_list
 day_star day set e all =
     let found = star_items day e in
     let item = found.0 in
-    let others = other_first Numbers day (42 ∷ item) found.1 found.2 (names_by_place-star item) in
-    let first = item_of_items Numbers 1 31 1 (42 ∷ item) (others_of Numbers found.1) (has set 1) in
-    let read = both_first Numbers 1 31 1 (42 ∷ item) (others_of Numbers found.1) (has set 1) (sym (ap (λ them. items_list Numbers 1 31 them 1) others) ∙ all 1) in
+    let others = other_first names_by_place day (42 ∷ item) found.1 found.2 (names_by_place-star item) in
+    let first = item_of_items Numbers 1 31 1 (42 ∷ item) (others_of names_by_place found.1) (has set 1) in
+    let read = both_first Numbers 1 31 1 (42 ∷ item) (others_of names_by_place found.1) (has set 1) (sym (ap (λ them. items_list Numbers 1 31 them 1) others) ∙ all 1) in
     first (sym (ap (λ them. items_list Numbers 1 31 them 1) others) ∙ all 1) (item_star Numbers 1 31 1 item read.0 (omega arith) read.1)
 
 weekday_star : (text : List ℕ) (set : FiniteSet) → begins_with_star text ≡ true → AreListed set (weekdays_list text) → has set 0 ≡ true
-unfolding names_by
 weekday_star text set e all =
     let found = star_items text e in
     let item = found.0 in
-    let others = other_first Weekdays text (42 ∷ item) found.1 found.2 (names_by_weekday-star item) in
+    let others = other_first names_by_weekday text (42 ∷ item) found.1 found.2 (names_by_weekday-star item) in
     let whole = sym (ap (λ them. items_list Weekdays 0 7 them 0) others) ∙ in_week_read text set 0 all in
-    let read = both_first Weekdays 0 7 0 (42 ∷ item) (others_of Weekdays found.1) (given (in_week text 0)) whole in
-    let first = item_of_items Weekdays 0 7 0 (42 ∷ item) (others_of Weekdays found.1) (given (in_week text 0)) whole (item_star Weekdays 0 7 0 item read.0 (omega arith) read.1) in
+    let read = both_first Weekdays 0 7 0 (42 ∷ item) (others_of names_by_weekday found.1) (given (in_week text 0)) whole in
+    let first = item_of_items Weekdays 0 7 0 (42 ∷ item) (others_of names_by_weekday found.1) (given (in_week text 0)) whole (item_star Weekdays 0 7 0 item read.0 (omega arith) read.1) in
     listed_weekday text set 0 all (omega arith) (in_week_read text set 0 all ∙ ap Some first)
 
 one_starred : (d w : Bool) (P : Type 0) → (not d && not w) ≡ false → (d ≡ true → P) → (w ≡ true → P) → P

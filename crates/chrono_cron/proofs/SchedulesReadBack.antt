@@ -4,18 +4,18 @@ use Rattle.std.specs.Prelude.{codes, map, nat_lt, slice_index}
 use Rattle.std.specs.List.{filter, list_all, list_any, slice_split}
 use Rattle.std.specs.Option.{option_and_then, option_map}
 use Rattle.std.proofs.lemmas.Bool.{and_parts, false≢true, not-true}
-use Rattle.chrono_text.proofs.ListLemmas.{all_of}
-use Rattle.chrono_text.specs.Lists.{list_text, is_some_text}
+use Rattle.chrono_text.proofs.ListLemmas.{all_of, split_at, split_none}
+use Rattle.chrono_text.specs.Lists.{is_blank, is_some_text, list_text}
 use Rattle.chrono_text.specs.Text.{number_text}
-use Rattle.chrono_sets.specs.Numbers.{Numbers as FiniteSet, has}
+use Rattle.chrono_sets.specs.FiniteSets.{FiniteSet, has}
 use Rattle.chrono_cron.specs.declared.text.number_names.Names.TheVariants.{Numbers, Weekdays}
 use Rattle.chrono_cron.specs.declared.field_sets.FieldSets.{FieldSets}
 use Rattle.chrono_cron.specs.declared.text.schedule_writer.DayName.TheVariants.{FromEnd, NearestWorkday, LastWeekday, NthWeekday}
 use Rattle.chrono_cron.specs.FieldTexts.{items_list}
-use Rattle.chrono_cron.specs.ScheduleTexts.{AreListed, AreNamedDays, IsScheduleText, an_item_is, begins_with_star, days_list, fields_of, from_end_of, is_blank, is_number, last_weekday_of, last_workday_of, names_by, nearest_workday_of, nth_weekday_of, spelled_out, weekdays_list, text_words}
+use Rattle.chrono_cron.specs.ScheduleTexts.{AreListed, AreNamedDays, IsScheduleText, an_item_is, begins_with_star, days_list, fields_of, from_end_of, is_number, last_weekday_of, last_workday_of, nearest_workday_of, nth_weekday_of, spelled_out, weekdays_list, text_words, names_by_place, names_by_weekday}
 use Rattle.chrono_cron.specs.WritableSchedules.{IsWritable}
 use Rattle.chrono_cron.specs.WrittenTexts.{are_all, day_field_items, is_starred_by_day, is_starred_by_weekday, name_text, number_items, plain_text, range_text, ranges_from, schedule_text, weekday_field_items}
-use Rattle.chrono_cron.proofs.FieldsReadBack.{IsWord, all_has, field_is_word, field_items, given, hours_back, hours_word, is_item, lists_some, minutes_back, minutes_word, months_back, months_word, pass_all, ranges_pass, split_at, split_none}
+use Rattle.chrono_cron.proofs.FieldsReadBack.{IsWord, all_has, field_is_word, field_items, given, hours_back, hours_word, is_item, lists_some, minutes_back, minutes_word, months_back, months_word, pass_all, ranges_pass}
 use Rattle.chrono_cron.proofs.DayFieldsReadBack.{filter_all, names_tested, pass_from}
 use Rattle.chrono_cron.proofs.NamedDaysReadBack.{day_items_are, day_names, day_numbers, days_are_items, days_listed, ends, ends_named, last_named, last_workdays, nearest_named, other_days, workdays}
 use Rattle.chrono_cron.proofs.WeekdaysReadBack.{lasts, lasts_named, nths, nths_named, other_weekdays, weekday_items_are, weekday_numbers, weekdays_are_items, weekdays_listed}
@@ -141,7 +141,7 @@ filter_some p items others are some none = some (sym are ∙ ap (filter p) none)
 some_days : (s : FieldSets) → IsWritable s → day_field_items s ≡ [] → ⊥
 some_days s told = elim told.a_day [
   | inl (k, is) ↦
-      filter_some (λ item. not (names_by Numbers item)) (day_field_items s) (number_items (is_starred_by_day s) s.days 31 1) (other_days s)
+      filter_some (λ item. not (names_by_place item)) (day_field_items s) (number_items (is_starred_by_day s) s.days 31 1) (other_days s)
       (lists_some Numbers 1 31 k (number_items (is_starred_by_day s) s.days 31 1) (days_listed s (day_first s) told.days k ∙ ap Some is))
   | inr (inl (k, is)) ↦ any_some (λ item. is_number k (from_end_of item)) (day_field_items s) (ends_named s told.from_end k ∙ is)
   | inr (inr (inl is)) ↦ any_some (λ item. is_number 0 (last_workday_of item)) (day_field_items s) (last_named s ∙ is)
@@ -159,7 +159,7 @@ never false b = refl
 some_weekdays : (s : FieldSets) → IsWritable s → weekday_field_items s ≡ [] → ⊥
 some_weekdays s told = elim told.a_weekday [
   | inl (k, is) ↦
-      filter_some (λ item. not (names_by Weekdays item)) (weekday_field_items s) (number_items (is_starred_by_weekday s) s.weekdays 7 0) (other_weekdays s)
+      filter_some (λ item. not (names_by_weekday item)) (weekday_field_items s) (number_items (is_starred_by_weekday s) s.weekdays 7 0) (other_weekdays s)
       (λ none.
       false≢true (sym (never (nat_lt k 7) (k == 0)) ∙ sym (ap (λ items. given (week_given k (items_list Weekdays 0 7 items 7) (items_list Weekdays 0 7 items k))) none)
       ∙ ap given (weekdays_listed s (sunday_first s) told.weekdays k) ∙ is))
@@ -204,13 +204,13 @@ weekday_field s told = field_items (weekday_field_items s) (some_weekdays s told
 days_back : (s : FieldSets) → IsWritable s → AreListed s.days (days_list (list_text (day_field_items s)))
 unfolding days_list
 days_back s told = λ k.
-    ap (λ items. items_list Numbers 1 31 (filter (λ item. not (names_by Numbers item)) items) k) (day_field s told) ∙ ap (λ items. items_list Numbers 1 31 items k) (other_days s)
+    ap (λ items. items_list Numbers 1 31 (filter (λ item. not (names_by_place item)) items) k) (day_field s told) ∙ ap (λ items. items_list Numbers 1 31 items k) (other_days s)
     ∙ days_listed s (day_first s) told.days k
 
 weekdays_back : (s : FieldSets) → IsWritable s → AreListed s.weekdays (weekdays_list (list_text (weekday_field_items s)))
 unfolding weekdays_list
 weekdays_back s told = λ k.
-    ap (λ items. week_given k (items_list Weekdays 0 7 (filter (λ item. not (names_by Weekdays item)) items) 7) (items_list Weekdays 0 7 (filter (λ item. not (names_by Weekdays item)) items) k)) (weekday_field s told)
+    ap (λ items. week_given k (items_list Weekdays 0 7 (filter (λ item. not (names_by_weekday item)) items) 7) (items_list Weekdays 0 7 (filter (λ item. not (names_by_weekday item)) items) k)) (weekday_field s told)
     ∙ ap (λ items. week_given k (items_list Weekdays 0 7 items 7) (items_list Weekdays 0 7 items k)) (other_weekdays s)
     ∙ weekdays_listed s (sunday_first s) told.weekdays k
 

@@ -6,9 +6,9 @@ use Rattle.std.proofs.lemmas.Bool.{both_ways, cases_lt}
 use Rattle.std.proofs.lemmas.List.{at_drop_more, drop-drop, drop_all, drop_more, get_or-drop, length-drop, length-map, take_all}
 use Rattle.std.proofs.lemmas.List.Sums.{fails_before_first, passes_at_first}
 use Rattle.std.proofs.lemmas.List.Splits.{slice_split-cons_yes, slice_split_none, slice_split_first}
-use Rattle.chrono_text.specs.Lists.{is_some_text}
+use Rattle.chrono_text.specs.Lists.{is_blank, is_some_text}
 use Rattle.chrono_cron.specs.PlacedWords.{placed, placed_words}
-use Rattle.chrono_cron.specs.ScheduleTexts.{IsScheduleText, fields_of, is_blank, nickname_meaning, spelled_out, text_words}
+use Rattle.chrono_cron.specs.ScheduleTexts.{IsScheduleText, fields_of, nickname_meaning, spelled_out, text_words}
 use Rattle.chrono_cron.specs.declared.field_sets.FieldSets.{FieldSets}
 
 abbrev some_piece : ℕ × List ℕ → Bool

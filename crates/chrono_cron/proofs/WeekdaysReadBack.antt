@@ -5,13 +5,13 @@ use Rattle.std.specs.List.{filter, list_all, list_any}
 use Rattle.std.specs.Option.{option_and_then, option_map}
 use Rattle.std.proofs.lemmas.Bool.{cases_lt, false≢true, le-leb, le-ltb, lt-ltb}
 use Rattle.chrono_text.specs.Numbers.{digits_of, natural_of}
-use Rattle.chrono_sets.specs.Numbers.{Numbers as FiniteSet, has}
+use Rattle.chrono_sets.specs.FiniteSets.{FiniteSet, has}
 use Rattle.chrono_cron.specs.declared.text.number_names.Names.TheVariants.{Weekdays}
 use Rattle.chrono_cron.specs.declared.field_sets.FieldSets.{FieldSets}
 use Rattle.chrono_cron.specs.declared.text.schedule_writer.DayName.TheVariants.{LastWeekday, NthWeekday}
 use Rattle.chrono_datetime.specs.Names.{month_of_letters, weekday_of_letters}
 use Rattle.chrono_cron.specs.FieldTexts.{item_lists, items_list, number_between, number_of_name, range_of, item_span, spelled_number, step_of}
-use Rattle.chrono_cron.specs.ScheduleTexts.{is_number, last_weekday_of, names_by, names_by_weekday, nth_weekday_of}
+use Rattle.chrono_cron.specs.ScheduleTexts.{is_number, last_weekday_of, names_by_weekday, nth_weekday_of}
 use Rattle.chrono_cron.specs.WritableSchedules.{LieBetween}
 use Rattle.chrono_cron.specs.WrittenTexts.{are_all, is_starred_by_weekday, name_text, names_from, number_items, range_text, weekday_field_items}
 use Rattle.chrono_cron.proofs.FieldsReadBack.{StarReads, all_has, are_read, by_ones, is_item, lacks_past, pass_all}
@@ -33,13 +33,13 @@ unfolding item_lists step_of range_of number_between spelled_number digits_of nu
 weekdays_step k = refl
 
 abbrev is_number_of_weekdays : List ℕ → Bool
-is_number_of_weekdays item = not (names_by Weekdays item)
+is_number_of_weekdays item = not (names_by_weekday item)
 
 numbers-items : pass_all (λ r. is_item (range_text r)) 0 7 ≡ true
 numbers-items = refl
 
 numbers-weekdays : pass_all (λ r. is_number_of_weekdays (range_text r)) 0 7 ≡ true
-unfolding names_by names_by_weekday last_weekday_of nth_weekday_of number_between spelled_number digits_of number_of_name month_of_letters weekday_of_letters natural_of
+unfolding names_by_weekday last_weekday_of nth_weekday_of number_between spelled_number digits_of number_of_name month_of_letters weekday_of_letters natural_of
 numbers-weekdays = refl
 
 numbers-last : pass_all (λ r. lacks last_weekday_of (range_text r)) 0 7 ≡ true
@@ -53,8 +53,8 @@ numbers-nth = refl
 last-items : pass_from (λ k. is_item (name_text LastWeekday k)) 0 7 ≡ true
 last-items = refl
 
-last-weekdays : pass_from (λ k. names_by Weekdays (name_text LastWeekday k)) 0 7 ≡ true
-unfolding names_by names_by_weekday last_weekday_of nth_weekday_of number_between spelled_number digits_of number_of_name month_of_letters weekday_of_letters natural_of
+last-weekdays : pass_from (λ k. names_by_weekday (name_text LastWeekday k)) 0 7 ≡ true
+unfolding names_by_weekday last_weekday_of nth_weekday_of number_between spelled_number digits_of number_of_name month_of_letters weekday_of_letters natural_of
 last-weekdays = refl
 
 last-last : pass_from (λ k. is_number k (last_weekday_of (name_text LastWeekday k))) 0 7 ≡ true
@@ -68,8 +68,8 @@ last-nth = refl
 nth-items : pass_from (λ k. is_item (name_text NthWeekday k)) 0 35 ≡ true
 nth-items = refl
 
-nth-weekdays : pass_from (λ k. names_by Weekdays (name_text NthWeekday k)) 0 35 ≡ true
-unfolding names_by names_by_weekday last_weekday_of nth_weekday_of number_between spelled_number digits_of number_of_name month_of_letters weekday_of_letters natural_of
+nth-weekdays : pass_from (λ k. names_by_weekday (name_text NthWeekday k)) 0 35 ≡ true
+unfolding names_by_weekday last_weekday_of nth_weekday_of number_between spelled_number digits_of number_of_name month_of_letters weekday_of_letters natural_of
 nth-weekdays = refl
 
 nth-last : pass_from (λ k. lacks last_weekday_of (name_text NthWeekday k)) 0 35 ≡ true
@@ -100,17 +100,17 @@ weekdays_are_items s =
     ∙ all_of is_item (weekday_numbers s) (lasts s ++ nths s) (numbers_pass is_item s.weekdays 7 0 (is_starred_by_weekday s) refl refl numbers-items)
     (all_of is_item (lasts s) (nths s) (names_tested is_item LastWeekday s.month_days.last_weekdays 7 0 last-items) (names_tested is_item NthWeekday s.month_days.nth_weekdays 35 0 nth-items))
 
-names_are : (s : FieldSets) → list_all (names_by Weekdays) (lasts s ++ nths s) ≡ true
+names_are : (s : FieldSets) → list_all names_by_weekday (lasts s ++ nths s) ≡ true
 names_are s =
-    all_of (names_by Weekdays) (lasts s) (nths s) (names_tested (names_by Weekdays) LastWeekday s.month_days.last_weekdays 7 0 last-weekdays)
-    (names_tested (names_by Weekdays) NthWeekday s.month_days.nth_weekdays 35 0 nth-weekdays)
+    all_of names_by_weekday (lasts s) (nths s) (names_tested names_by_weekday LastWeekday s.month_days.last_weekdays 7 0 last-weekdays)
+    (names_tested names_by_weekday NthWeekday s.month_days.nth_weekdays 35 0 nth-weekdays)
 
 numbers_are : (s : FieldSets) → list_all is_number_of_weekdays (weekday_numbers s) ≡ true
-unfolding names_by names_by_weekday last_weekday_of nth_weekday_of number_between spelled_number digits_of number_of_name month_of_letters weekday_of_letters natural_of
+unfolding names_by_weekday last_weekday_of nth_weekday_of number_between spelled_number digits_of number_of_name month_of_letters weekday_of_letters natural_of
 numbers_are s = numbers_pass is_number_of_weekdays s.weekdays 7 0 (is_starred_by_weekday s) refl refl numbers-weekdays
 
-pub other_weekdays : (s : FieldSets) → filter (λ item. not (names_by Weekdays item)) (weekday_field_items s) ≡ number_items (is_starred_by_weekday s) s.weekdays 7 0
-other_weekdays s = ap (filter (λ item. not (names_by Weekdays item))) (weekday_items_are s) ∙ filter_append (names_by Weekdays) (weekday_numbers s) (lasts s ++ nths s) (numbers_are s) (names_are s)
+pub other_weekdays : (s : FieldSets) → filter (λ item. not (names_by_weekday item)) (weekday_field_items s) ≡ number_items (is_starred_by_weekday s) s.weekdays 7 0
+other_weekdays s = ap (filter (λ item. not (names_by_weekday item))) (weekday_items_are s) ∙ filter_append names_by_weekday (weekday_numbers s) (lasts s ++ nths s) (numbers_are s) (names_are s)
 
 -- within the week the items list the members, and 7 besides only where they list 0
 within_week : (set : FiniteSet) (k : ℕ) (starred all : Bool) → (starred ≡ true → has set 0 ≡ true) → are_all set 7 0 ≡ all → k < 7 → numbers_list set 0 7 7 k starred all ≡ has set k

@@ -1,13 +1,13 @@
 -- The ranges, the names and the items of a field, as they are written one after another.
-use Rattle.std.proofs.Common.{◌≡◌, ℕ, zero, suc, ◌+◌, ◌-◌, ◌<◌, ◌≤◌, ◌==◌, Bool, true, false, ◌&&◌, ◌||◌, List, [], ◌∷◌, ◌++◌, drop, if◌then◌else◌, inl, inr, refl, sym, ap, ◌∙◌, arith, append_assoc, append-nil, eq-eqb, ne_eqb}
+use Rattle.std.proofs.Common.{◌≡◌, ℕ, zero, suc, ◌+◌, ◌-◌, ◌<◌, ◌≤◌, ◌==◌, Bool, true, false, ◌&&◌, ◌||◌, List, [], ◌∷◌, ◌++◌, drop, if◌then◌else◌, inl, inr, refl, sym, ap, ◌∙◌, arith, append_assoc, eq-eqb, ne_eqb}
 use Rattle.std.specs.Prelude.{map, codes, nat_le, ⊤}
-use Rattle.std.specs.List.{join_with_byte}
 use Rattle.std.proofs.lemmas.Bool.{cases_lt, eqb-true, le-leb, lt-leb}
-use Rattle.chrono_sets.specs.Numbers.{Numbers as FiniteSet, has}
+use Rattle.chrono_sets.specs.FiniteSets.{FiniteSet, has}
 use Rattle.chrono_cron.specs.declared.text.schedule_writer.DayName.{DayName}
-use Rattle.chrono_cron.specs.WrittenTexts.{are_all, behind_commas, put_in_front, name_text, names_from, number_items, one_lists, range_text, ranges_from}
+use Rattle.chrono_cron.specs.WrittenTexts.{are_all, put_in_front, name_text, names_from, number_items, one_lists, range_text, ranges_from}
 use Rattle.std.proofs.Math.Bool.{and-false}
-use Rattle.chrono_text.specs.Lists.{list_text}
+use Rattle.chrono_text.specs.Lists.{each_behind, list_text}
+use Rattle.chrono_text.proofs.ListLemmas.{each_behind-append, join-behind}
 use Rattle.chrono_text.specs.Text.{number_text}
 
 -- ranges one behind another, from `low` on and below `end`
@@ -144,32 +144,22 @@ all_by_gap set low gap end from to members ends = elim (cases_lt gap end) [
   | inr ge ↦ eq-eqb gap end (omega (arith, ge, to)) ∙ sym (all_members (end - low) set low (λ k l h. members k l (omega (arith, l, h, ge, to, from))))
 ]
 
--- items behind commas, put together, and without the first comma
-pub behind_commas-append : (items others : List (List ℕ)) → behind_commas (items ++ others) ≡ behind_commas items ++ behind_commas others
-behind_commas-append [] others = refl
-behind_commas-append (item ∷ items) others =
-    ap (λ text. codes "," ++ item ++ text) (behind_commas-append items others)
-    ∙ simp append_assoc refl
-
-comma_first : (item : List ℕ) (items : List (List ℕ)) → behind_commas (item ∷ items) ≡ 44 ∷ join_with_byte 44 (item ∷ items)
-comma_first item [] = ap (λ text. 44 ∷ text) (append-nil item)
-comma_first item (next ∷ items) = ap (λ text. 44 ∷ item ++ text) (comma_first next items)
-
-pub without_comma : (items : List (List ℕ)) → drop 1 (behind_commas items) ≡ list_text items
+-- items behind commas, without the first comma and put together
+pub without_comma : (items : List (List ℕ)) → drop 1 (each_behind 44 items) ≡ list_text items
 without_comma [] = refl
-without_comma (item ∷ items) = ap (drop 1) (comma_first item items)
+without_comma (item ∷ items) = sym (join-behind 44 item items)
 
-pub item_put : (old new item : List ℕ) (items : List (List ℕ)) → new ≡ old ++ codes "," ++ item → new ++ behind_commas items ≡ old ++ behind_commas (item ∷ items)
-item_put old new item items put = ap (λ text. text ++ behind_commas items) put ∙ simp append_assoc refl
+pub item_put : (old new item : List ℕ) (items : List (List ℕ)) → new ≡ old ++ codes "," ++ item → new ++ each_behind 44 items ≡ old ++ each_behind 44 (item ∷ items)
+item_put old new item items put = ap (λ text. text ++ each_behind 44 items) put ∙ simp append_assoc refl
 
-pub field_put : (old new items : List ℕ) (list : List (List ℕ)) → new ≡ old ++ drop 1 items → items ≡ behind_commas list → new ≡ old ++ list_text list
+pub field_put : (old new items : List ℕ) (list : List (List ℕ)) → new ≡ old ++ drop 1 items → items ≡ each_behind 44 list → new ≡ old ++ list_text list
 field_put old new items list put are = put ∙ ap (λ text. old ++ drop 1 text) are ∙ ap (λ text. old ++ text) (without_comma list)
 
-pub first_put : (old new : List ℕ) (items : List (List ℕ)) → old ≡ [] → new ≡ old ++ behind_commas items → new ≡ behind_commas items
-first_put old new items none put = put ∙ ap (λ front. front ++ behind_commas items) none
+pub first_put : (old new : List ℕ) (items : List (List ℕ)) → old ≡ [] → new ≡ old ++ each_behind 44 items → new ≡ each_behind 44 items
+first_put old new items none put = put ∙ ap (λ front. front ++ each_behind 44 items) none
 
-pub items_put : (old new : List ℕ) (list more : List (List ℕ)) → old ≡ behind_commas list → new ≡ old ++ behind_commas more → new ≡ behind_commas (list ++ more)
-items_put old new list more are put = put ∙ ap (λ text. text ++ behind_commas more) are ∙ sym (behind_commas-append list more)
+pub items_put : (old new : List ℕ) (list more : List (List ℕ)) → old ≡ each_behind 44 list → new ≡ old ++ each_behind 44 more → new ≡ each_behind 44 (list ++ more)
+items_put old new list more are put = put ∙ ap (λ text. text ++ each_behind 44 more) are ∙ sym (each_behind-append 44 list more)
 
 -- the items of a field that lists numbers
 abbrev listed : FiniteSet → ℕ → ℕ → Bool → Bool → List (List ℕ)

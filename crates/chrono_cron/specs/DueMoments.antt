@@ -4,7 +4,7 @@ use Rattle.std.specs.Int.{int_div_euclid, int_rem_euclid}
 use Rattle.chrono_datetime.specs.Moment.{Moment, moment}
 use Rattle.chrono_datetime.specs.Recurrence.{past_last_date}
 use Rattle.chrono_datetime.specs.Time.{time_at}
-use Rattle.chrono_cron.specs.declared.search.dues.Dues.{Dues}
+use Rattle.chrono_cron.specs.declared.search.due_moments.Dues.{Dues}
 use Rattle.chrono_cron.specs.declared.field_sets.FieldSets.{FieldSets}
 use Rattle.chrono_cron.specs.Due.{is_due}
 

@@ -3,7 +3,7 @@ use Rattle.std.specs.Prelude.{◌≡◌, ℕ, List, [], ◌∷◌, ◌++◌, map
 use Rattle.std.specs.Fmt.{decimal}
 use Rattle.chrono_cron.specs.declared.text.schedule_error.ScheduleError.{ScheduleError}
 use Rattle.chrono_cron.specs.declared.text.schedule_error.ScheduleFault.{ScheduleFault}
-use Rattle.chrono_cron.specs.declared.text.schedule_error.ScheduleFault.TheVariants.{Empty, TooFewFields, TooManyFields, UnknownNickname, Interval, TimeZone, UnknownName, LongName, NotANumber, OutOfRange, RangeTurnedRound, StepOfZero, StepOfNumber}
+use Rattle.chrono_cron.specs.declared.text.schedule_error.ScheduleFault.TheVariants.{Empty, TooFewFields, TooManyFields, UnknownNickname, Interval, Reboot, TimeZone, UnknownName, LongName, NotANumber, OutOfRange, RangeTurnedRound, StepOfZero, StepOfNumber}
 use Rattle.chrono_cron.specs.declared.text.schedule_error.ScheduleField.{ScheduleField}
 use Rattle.chrono_cron.specs.declared.text.schedule_error.ScheduleField.TheVariants.{Minute, Hour, Day, Month, Weekday}
 
@@ -23,6 +23,7 @@ schedule_fault_text TooFewFields = codes "fewer than five fields"
 schedule_fault_text TooManyFields = codes "more than five fields"
 schedule_fault_text UnknownNickname = codes "an unknown nickname"
 schedule_fault_text Interval = codes "an interval, which is no schedule"
+schedule_fault_text Reboot = codes "the start of a machine, which is no schedule"
 schedule_fault_text TimeZone = codes "a time zone, which no schedule has"
 schedule_fault_text UnknownName = codes "an unknown name"
 schedule_fault_text LongName = codes "a name of more than three letters"
@@ -47,9 +48,9 @@ field_in_front-each : map field_in_front (Some Minute ∷ Some Hour ∷ Some Day
 unfolding field_in_front
 field_in_front-each = refl
 
-schedule_fault_text-fields : map schedule_fault_text (Empty ∷ TooFewFields ∷ TooManyFields ∷ UnknownNickname ∷ Interval ∷ TimeZone ∷ [])
+schedule_fault_text-fields : map schedule_fault_text (Empty ∷ TooFewFields ∷ TooManyFields ∷ UnknownNickname ∷ Interval ∷ Reboot ∷ TimeZone ∷ [])
     ≡ codes "nothing stands there" ∷ codes "fewer than five fields" ∷ codes "more than five fields" ∷ codes "an unknown nickname"
-    ∷ codes "an interval, which is no schedule" ∷ codes "a time zone, which no schedule has" ∷ []
+    ∷ codes "an interval, which is no schedule" ∷ codes "the start of a machine, which is no schedule" ∷ codes "a time zone, which no schedule has" ∷ []
 unfolding schedule_fault_text
 schedule_fault_text-fields = refl
 

@@ -1,11 +1,11 @@
 -- The texts of a schedule's fields, and which numbers they list.
 -- Sentences in quotation marks are those of crontab(5), the manual page of Vixie's cron 3.0pl1.
-use Rattle.std.specs.Prelude.{◌≡◌, ℕ, ◌==◌, nat_le, Bool, true, false, ◌&&◌, ◌||◌, if◌then◌else◌, List, [], ◌∷◌, Option, Some, None, codes, refl}
+use Rattle.std.specs.Prelude.{◌≡◌, ℕ, ◌==◌, Bool, true, false, ◌||◌, if◌then◌else◌, List, [], ◌∷◌, Option, Some, None, codes, refl}
 use Rattle.std.specs.Option.{option_map, option_and_then, option_or}
 use Rattle.std.specs.List.{before_first, after_first}
 use Rattle.std.specs.Str.{byte}
 use Rattle.chrono_text.specs.Lists.{pieces, stands_in}
-use Rattle.chrono_text.specs.Numbers.{digits_of, natural_of}
+use Rattle.chrono_text.specs.Numbers.{above_zero, digits_of, if_within, natural_of}
 use Rattle.chrono_sets.specs.Steps.{is_by_steps}
 use Rattle.chrono_datetime.specs.Month.{number_from_month}
 use Rattle.chrono_datetime.specs.Names.{month_of_letters, weekday_of_letters}
@@ -20,10 +20,6 @@ before_byte sign text = before_first (λ x. x == sign) text
 -- what stands behind the first byte `sign` of a text
 abbrev pub behind_byte : ℕ → List ℕ → List ℕ
 behind_byte sign text = after_first (λ x. x == sign) text
-
--- the number, if it is above 0
-abbrev pub above_zero : ℕ → Option ℕ
-above_zero n = if nat_le 1 n then Some n else None
 
 -- the number of a name: "Use the first three letters of the particular day or month (case doesn't matter)."
 -- Months count from 1, weekdays from 0 for Sunday. The page takes no ranges and lists of names. To take them is our choice, and that of cronie's code
@@ -40,10 +36,6 @@ spelled_number names text = option_or (digits_of 2 text) (number_of_name names t
 unfoldable pub step_of : List ℕ → Option ℕ
 step_of text = option_and_then above_zero (digits_of 3 text)
 
--- such a number from `low` to `high`
-abbrev pub if_within : ℕ → ℕ → ℕ → Option ℕ
-if_within low high n = if nat_le low n && nat_le n high then Some n else None
-
 -- the number that a text spells, if it is from `low` to `high`
 unfoldable pub number_between : Names → ℕ → ℕ → List ℕ → Option ℕ
 number_between names low high text = option_and_then (if_within low high) (spelled_number names text)
@@ -54,25 +46,33 @@ is_star [] = false
 is_star (x ∷ []) = x == byte "*"
 is_star (x ∷ y ∷ rest) = false
 
+-- a range by its first number and by the text of its last, which is at least the first
+abbrev pub range_to : Names → ℕ → List ℕ → ℕ → Option (ℕ × ℕ)
+range_to names high text first = option_map (λ last. (first, last)) (number_between names first high text)
+
 -- the first and the last number of a range: of `*` those of the field, of `a-b` a and b. "The specified range is inclusive." To refuse a b below a
--- is our choice
+-- is our choice. The name sun is 0 and never 7, so `sat-sun` runs backwards and is refused; write `6-7`
 unfoldable pub range_of : Names → ℕ → ℕ → List ℕ → Option (ℕ × ℕ)
 range_of names low high text =
     if is_star text then Some (low, high)
-    else option_and_then (λ first. option_map (λ last. (first, last)) (number_between names first high (behind_byte (byte "-") text))) (number_between names low high (before_byte (byte "-") text))
+    else option_and_then (range_to names high (behind_byte (byte "-") text)) (number_between names low high (before_byte (byte "-") text))
 
 -- those of a number alone, or of a range
 unfoldable pub item_span : Names → ℕ → ℕ → List ℕ → Option (ℕ × ℕ)
 item_span names low high text = option_or (option_map (λ n. (n, n)) (number_between names low high text)) (range_of names low high text)
 
--- whether an item lists k: a range by the steps behind a `/`, from 1 to 999, or a number or a range by steps of 1; none if the text is no item.
+-- whether a span by the steps that a text writes lists k; None if it writes none
+abbrev pub lists_by_steps : List ℕ → ℕ → ℕ × ℕ → Option Bool
+lists_by_steps text k span = option_map (λ step. is_by_steps span.0 span.1 step k) (step_of text)
+
+-- whether an item lists k: a range by steps of 1 to 999 behind a `/`, or a number or a range by ones. None if the text is no item.
 -- "Following a range with "/<number>" specifies skips of the number's value through the range." "Steps are also permitted after an asterisk"
 unfoldable pub item_lists : Names → ℕ → ℕ → List ℕ → ℕ → Option Bool
 item_lists names low high text k =
-    if stands_in (byte "/") text then option_and_then (λ span. option_map (λ step. is_by_steps span.0 span.1 step k) (step_of (behind_byte (byte "/") text))) (range_of names low high (before_byte (byte "/") text))
+    if stands_in (byte "/") text then option_and_then (lists_by_steps (behind_byte (byte "/") text) k) (range_of names low high (before_byte (byte "/") text))
     else option_map (λ span. is_by_steps span.0 span.1 1 k) (item_span names low high text)
 
--- whether one of the items lists k; none if one of the texts is no item
+-- whether an item or one of the others lists k, by whether the item does; none if one of the others cannot be read
 abbrev pub onto : Bool → Option Bool → Option Bool
 onto here others = option_map (λ there. here || there) others
 

@@ -4,8 +4,8 @@ use Rattle.chrono_datetime.specs.Days.{day_of}
 use Rattle.chrono_datetime.specs.MonthMoves.{month_length_of}
 use Rattle.chrono_datetime.specs.Weekday.{days_from_sunday}
 use Rattle.chrono_datetime.specs.Weeks.{weekday_of}
-use Rattle.chrono_sets.specs.Numbers.{numbers}
-use Rattle.chrono_cron.specs.declared.month_days.MonthDays.{MonthDays}
+use Rattle.chrono_sets.specs.FiniteSets.{numbers}
+use Rattle.chrono_cron.specs.declared.named_days.MonthDays.{MonthDays}
 use Rattle.chrono_cron.specs.Due.{is_named_by_place, is_named_by_weekday}
 
 -- the days L and L-k, kW, LW, dL and d#k, by lists of their numbers

@@ -2,9 +2,9 @@
 use Rattle.std.specs.Prelude.{ℕ, zero, suc, ◌+◌, ◌*◌, Bool, true, false, List, [], ◌∷◌, map, ℤ}
 use Rattle.chrono_datetime.specs.Moment.{Moment, moment}
 use Rattle.chrono_datetime.specs.Time.{time_at}
-use Rattle.chrono_sets.specs.Numbers.{numbers}
+use Rattle.chrono_sets.specs.FiniteSets.{numbers}
 use Rattle.chrono_cron.specs.declared.field_sets.FieldSets.{FieldSets}
-use Rattle.chrono_cron.specs.declared.search.dues.Dues.{Dues}
+use Rattle.chrono_cron.specs.declared.search.due_moments.Dues.{Dues}
 use Rattle.chrono_cron.specs.Due.{no_month_days}
 use Rattle.chrono_cron.specs.KnownMonthDays.{days_named}
 

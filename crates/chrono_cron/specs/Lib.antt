@@ -1,3 +1,4 @@
+pub mod DaySearch
 pub mod Due
 pub mod DueMoments
 pub mod ErrorTexts

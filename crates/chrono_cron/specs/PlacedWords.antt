@@ -1,8 +1,8 @@
 -- Pieces of a text, each with the place at which it begins.
 use Rattle.std.specs.Prelude.{◌≡◌, ℕ, ◌+◌, List, [], ◌∷◌, length, codes, refl}
 use Rattle.std.specs.List.{filter, slice_split}
-use Rattle.chrono_text.specs.Lists.{is_some_text}
-use Rattle.chrono_cron.specs.ScheduleTexts.{is_blank, items_of}
+use Rattle.chrono_text.specs.Lists.{is_blank, is_some_text}
+use Rattle.chrono_cron.specs.ScheduleTexts.{items_of}
 
 -- pieces with one byte between each two, of which the first begins at a place
 abbrev pub placed : ℕ → List (List ℕ) → List (ℕ × List ℕ)

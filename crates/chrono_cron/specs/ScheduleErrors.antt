@@ -3,15 +3,15 @@ use Rattle.std.specs.Prelude.{◌≡◌, ◌↔◌, ◌≤◌, ◌+◌, ◌==◌
 use Rattle.std.specs.Char.{is_ascii_alphabetic}
 use Rattle.std.specs.Option.{option_and_then}
 use Rattle.std.specs.Str.{byte, str_eq_ignore_ascii_case}
-use Rattle.chrono_text.specs.Lists.{stands_in}
+use Rattle.chrono_text.specs.Lists.{begins_alike, stands_in}
 use Rattle.chrono_datetime.specs.Names.{month_of_letters, weekday_of_letters}
 use Rattle.chrono_cron.specs.FieldTexts.{before_byte, behind_byte, field_lists, item_lists, number_between, number_of_name, range_of, item_span, spelled_number, step_of}
 use Rattle.chrono_cron.specs.PlacedWords.{first_word, placed_items, placed_words}
-use Rattle.chrono_cron.specs.ScheduleTexts.{IsScheduleText, before_letter, days_list, from_end_of, is_last_workday_text, last_weekday_of, names_by, names_by_place, names_by_weekday, nearest_workday_of, nth_weekday_of, spelled_weekday, weekdays_list, text_words}
+use Rattle.chrono_cron.specs.ScheduleTexts.{IsScheduleText, before_letter, days_list, from_end_of, is_last_workday_text, last_weekday_of, names_by_place, names_by_weekday, nearest_workday_of, nth_weekday_of, spelled_weekday, weekdays_list, text_words}
 use Rattle.chrono_text.specs.Numbers.{are_digits, digits_of, natural_of}
 use Rattle.chrono_cron.specs.declared.text.schedule_error.ScheduleError.{ScheduleError}
 use Rattle.chrono_cron.specs.declared.text.schedule_error.ScheduleFault.{ScheduleFault}
-use Rattle.chrono_cron.specs.declared.text.schedule_error.ScheduleFault.TheVariants.{Empty, TooFewFields, TooManyFields, UnknownNickname, Interval, TimeZone, UnknownName, LongName, NotANumber, OutOfRange, RangeTurnedRound, StepOfZero, StepOfNumber}
+use Rattle.chrono_cron.specs.declared.text.schedule_error.ScheduleFault.TheVariants.{Empty, TooFewFields, TooManyFields, UnknownNickname, Interval, Reboot, TimeZone, UnknownName, LongName, NotANumber, OutOfRange, RangeTurnedRound, StepOfZero, StepOfNumber}
 use Rattle.chrono_cron.specs.declared.text.schedule_error.ScheduleField.{ScheduleField}
 use Rattle.chrono_cron.specs.declared.text.schedule_error.ScheduleField.TheVariants.{Minute, Hour, Day, Month, Weekday}
 use Rattle.chrono_cron.specs.declared.text.number_names.Names.{Names}
@@ -78,7 +78,7 @@ field_number_fault names text =
     else if is_some (number_of_name names (take 3 text)) then LongName
     else unspelled_fault text
 
--- the same of the end of a range whose beginning can be read, and of a step
+-- what is wrong with the end of a range whose beginning can be read
 abbrev pub last_fault : Names → ℕ → ℕ → List ℕ → ScheduleFault
 last_fault names low high text = if is_some (number_between names low high text) then RangeTurnedRound else field_number_fault names text
 
@@ -117,7 +117,7 @@ letter_fault names letter item = if is_some (option_and_then (spelled_number nam
 
 -- what is wrong with the number of a day that is named: with that behind `L-`, or with that before `W`
 unfoldable pub day_name_fault : List ℕ → Option (ℕ × ScheduleFault)
-day_name_fault item = if str_eq_ignore_ascii_case (take 2 item) (codes "L-") then Some (2, field_number_fault Numbers (drop 2 item)) else letter_fault Numbers (byte "w") item
+day_name_fault item = if begins_alike (codes "L-") item then Some (2, field_number_fault Numbers (drop 2 item)) else letter_fault Numbers (byte "w") item
 
 -- what is wrong around a `#`: with the weekday before it, or with the number behind it
 abbrev pub sharp_fault : List ℕ → ℕ × ScheduleFault
@@ -135,13 +135,13 @@ named_fault Day item = day_name_fault item
 named_fault Weekday item = weekday_name_fault item
 named_fault others item = None
 
--- whether an item of a field can be read: it names days, or it lists numbers
+-- whether an item of a field names a day
 abbrev pub names_days : ScheduleField → List ℕ → Bool
 names_days Day item = names_by_place item
 names_days Weekday item = names_by_weekday item
 names_days others item = false
 
--- whether an item of a field can be read
+-- whether an item of a field can be read: it names a day, or it lists numbers
 unfoldable pub is_item : ScheduleField → List ℕ → Bool
 is_item field item = names_days field item || is_some (item_lists (names_of_field field) (least_of_field field) (greatest_of_field field) item 0)
 
@@ -181,11 +181,13 @@ count_fault end (word ∷ []) = one_word_fault end word
 count_fault end (a ∷ b ∷ c ∷ d ∷ e ∷ sixth ∷ more) = (sixth.0, TooManyFields)
 count_fault end others = (end, TooFewFields)
 
--- what a first word is in place of a field: an interval, or a time zone; none if it is neither
+-- what stands in front in place of a field: an interval (`@every`, of Go's cron libraries), the start of a machine (`@reboot`, of cronie) or a time
+-- zone. None otherwise
 unfoldable pub front_fault : List ℕ → Option ScheduleFault
 front_fault word =
     if str_eq_ignore_ascii_case word (codes "@every") then Some Interval
-    else if str_eq_ignore_ascii_case (take 3 word) (codes "TZ=") || str_eq_ignore_ascii_case (take 8 word) (codes "CRON_TZ=") then Some TimeZone
+    else if str_eq_ignore_ascii_case word (codes "@reboot") then Some Reboot
+    else if begins_alike (codes "TZ=") word || begins_alike (codes "CRON_TZ=") word then Some TimeZone
     else None
 
 -- what is wrong with the first of some words, or else with their number
@@ -217,7 +219,7 @@ pub record IsScheduleRead (text : List ℕ) (result : Result Schedule ScheduleEr
 
 -- known values: of two fields that cannot be read the first, and none of four
 wrong_field-day : wrong_field (codes "* * 32 * 8") ≡ Some Day
-unfolding wrong_field text_words days_list names_by names_by_place from_end_of is_last_workday_text nearest_workday_of field_lists item_lists step_of item_span range_of number_between spelled_number digits_of number_of_name natural_of
+unfolding wrong_field text_words days_list names_by_place from_end_of is_last_workday_text nearest_workday_of field_lists item_lists step_of item_span range_of number_between spelled_number digits_of number_of_name natural_of
 wrong_field-day = refl
 
 wrong_field-four : wrong_field (codes "* * * 13") ≡ None
@@ -226,27 +228,27 @@ wrong_field-four = refl
 
 -- the 60 of a list, a range backwards, steps of 0 and behind a number, and a name behind one of a day, by their places in the text
 schedule_error-sixty : schedule_error (codes " 5,60 * * * *") ≡ schedule_error_at (Some Minute) (3, OutOfRange)
-unfolding schedule_error wrong_field text_words placed_words placed_items field_fault fault_in is_item field_item_fault span_fault field_number_fault day_name_fault weekday_name_fault days_list names_by names_by_place names_by_weekday from_end_of is_last_workday_text nearest_workday_of last_weekday_of nth_weekday_of weekdays_list field_lists item_lists step_of item_span range_of number_between spelled_number digits_of number_of_name month_of_letters weekday_of_letters natural_of
+unfolding schedule_error wrong_field text_words placed_words placed_items field_fault fault_in is_item field_item_fault span_fault field_number_fault day_name_fault weekday_name_fault days_list names_by_place names_by_weekday from_end_of is_last_workday_text nearest_workday_of last_weekday_of nth_weekday_of weekdays_list field_lists item_lists step_of item_span range_of number_between spelled_number digits_of number_of_name month_of_letters weekday_of_letters natural_of
 schedule_error-sixty = refl
 
 schedule_error-turned : schedule_error (codes "* * * feb-jan *") ≡ schedule_error_at (Some Month) (10, RangeTurnedRound)
-unfolding schedule_error wrong_field text_words placed_words placed_items field_fault fault_in is_item field_item_fault span_fault field_number_fault day_name_fault weekday_name_fault days_list names_by names_by_place names_by_weekday from_end_of is_last_workday_text nearest_workday_of last_weekday_of nth_weekday_of weekdays_list field_lists item_lists step_of item_span range_of number_between spelled_number digits_of number_of_name month_of_letters weekday_of_letters natural_of
+unfolding schedule_error wrong_field text_words placed_words placed_items field_fault fault_in is_item field_item_fault span_fault field_number_fault day_name_fault weekday_name_fault days_list names_by_place names_by_weekday from_end_of is_last_workday_text nearest_workday_of last_weekday_of nth_weekday_of weekdays_list field_lists item_lists step_of item_span range_of number_between spelled_number digits_of number_of_name month_of_letters weekday_of_letters natural_of
 schedule_error-turned = refl
 
 schedule_error-step_of_0 : schedule_error (codes "* */0 * * *") ≡ schedule_error_at (Some Hour) (4, StepOfZero)
-unfolding schedule_error wrong_field text_words placed_words placed_items field_fault fault_in is_item field_item_fault span_fault field_number_fault day_name_fault weekday_name_fault days_list names_by names_by_place names_by_weekday from_end_of is_last_workday_text nearest_workday_of last_weekday_of nth_weekday_of weekdays_list field_lists item_lists step_of item_span range_of number_between spelled_number digits_of number_of_name month_of_letters weekday_of_letters natural_of
+unfolding schedule_error wrong_field text_words placed_words placed_items field_fault fault_in is_item field_item_fault span_fault field_number_fault day_name_fault weekday_name_fault days_list names_by_place names_by_weekday from_end_of is_last_workday_text nearest_workday_of last_weekday_of nth_weekday_of weekdays_list field_lists item_lists step_of item_span range_of number_between spelled_number digits_of number_of_name month_of_letters weekday_of_letters natural_of
 schedule_error-step_of_0 = refl
 
 schedule_error-step_of_number : schedule_error (codes "5/2 * * * *") ≡ schedule_error_at (Some Minute) (1, StepOfNumber)
-unfolding schedule_error wrong_field text_words placed_words placed_items field_fault fault_in is_item field_item_fault span_fault field_number_fault day_name_fault weekday_name_fault days_list names_by names_by_place names_by_weekday from_end_of is_last_workday_text nearest_workday_of last_weekday_of nth_weekday_of weekdays_list field_lists item_lists step_of item_span range_of number_between spelled_number digits_of number_of_name month_of_letters weekday_of_letters natural_of
+unfolding schedule_error wrong_field text_words placed_words placed_items field_fault fault_in is_item field_item_fault span_fault field_number_fault day_name_fault weekday_name_fault days_list names_by_place names_by_weekday from_end_of is_last_workday_text nearest_workday_of last_weekday_of nth_weekday_of weekdays_list field_lists item_lists step_of item_span range_of number_between spelled_number digits_of number_of_name month_of_letters weekday_of_letters natural_of
 schedule_error-step_of_number = refl
 
 schedule_error-named : schedule_error (codes "* * L,x * *") ≡ schedule_error_at (Some Day) (6, UnknownName)
-unfolding schedule_error wrong_field text_words placed_words placed_items field_fault fault_in is_item field_item_fault span_fault field_number_fault day_name_fault weekday_name_fault days_list names_by names_by_place names_by_weekday from_end_of is_last_workday_text nearest_workday_of last_weekday_of nth_weekday_of weekdays_list field_lists item_lists step_of item_span range_of number_between spelled_number digits_of number_of_name month_of_letters weekday_of_letters natural_of
+unfolding schedule_error wrong_field text_words placed_words placed_items field_fault fault_in is_item field_item_fault span_fault field_number_fault day_name_fault weekday_name_fault days_list names_by_place names_by_weekday from_end_of is_last_workday_text nearest_workday_of last_weekday_of nth_weekday_of weekdays_list field_lists item_lists step_of item_span range_of number_between spelled_number digits_of number_of_name month_of_letters weekday_of_letters natural_of
 schedule_error-named = refl
 
 schedule_error-nothing : schedule_error (codes "* * * * 1,") ≡ schedule_error_at (Some Weekday) (10, Empty)
-unfolding schedule_error wrong_field text_words placed_words placed_items field_fault fault_in is_item field_item_fault span_fault field_number_fault day_name_fault weekday_name_fault days_list names_by names_by_place names_by_weekday from_end_of is_last_workday_text nearest_workday_of last_weekday_of nth_weekday_of weekdays_list field_lists item_lists step_of item_span range_of number_between spelled_number digits_of number_of_name month_of_letters weekday_of_letters natural_of
+unfolding schedule_error wrong_field text_words placed_words placed_items field_fault fault_in is_item field_item_fault span_fault field_number_fault day_name_fault weekday_name_fault days_list names_by_place names_by_weekday from_end_of is_last_workday_text nearest_workday_of last_weekday_of nth_weekday_of weekdays_list field_lists item_lists step_of item_span range_of number_between spelled_number digits_of number_of_name month_of_letters weekday_of_letters natural_of
 schedule_error-nothing = refl
 
 -- a sixth word, too few, and a word that is no nickname
@@ -258,40 +260,44 @@ schedule_error-four : schedule_error (codes " * * * *") ≡ schedule_error_at No
 unfolding schedule_error wrong_field text_words placed_words front_or front_fault
 schedule_error-four = refl
 
-schedule_error-nickname : schedule_error (codes " @reboot") ≡ schedule_error_at None (1, UnknownNickname)
+schedule_error-nickname : schedule_error (codes " @Dayly") ≡ schedule_error_at None (1, UnknownNickname)
 unfolding schedule_error wrong_field text_words placed_words front_or front_fault
 schedule_error-nickname = refl
 
 -- numbers of days that are named: past 31 and past the fifth, none before the last, and a weekday past 7
 schedule_error-past_workday : schedule_error (codes "* * L,32W * *") ≡ schedule_error_at (Some Day) (6, OutOfRange)
-unfolding schedule_error wrong_field text_words placed_words placed_items field_fault fault_in is_item field_item_fault span_fault field_number_fault day_name_fault weekday_name_fault days_list names_by names_by_place names_by_weekday from_end_of is_last_workday_text nearest_workday_of last_weekday_of nth_weekday_of weekdays_list field_lists item_lists step_of item_span range_of number_between spelled_number digits_of number_of_name month_of_letters weekday_of_letters natural_of
+unfolding schedule_error wrong_field text_words placed_words placed_items field_fault fault_in is_item field_item_fault span_fault field_number_fault day_name_fault weekday_name_fault days_list names_by_place names_by_weekday from_end_of is_last_workday_text nearest_workday_of last_weekday_of nth_weekday_of weekdays_list field_lists item_lists step_of item_span range_of number_between spelled_number digits_of number_of_name month_of_letters weekday_of_letters natural_of
 schedule_error-past_workday = refl
 
 schedule_error-past_fifth : schedule_error (codes "* * * * fri#6") ≡ schedule_error_at (Some Weekday) (12, OutOfRange)
-unfolding schedule_error wrong_field text_words placed_words placed_items field_fault fault_in is_item field_item_fault span_fault field_number_fault day_name_fault weekday_name_fault days_list names_by names_by_place names_by_weekday from_end_of is_last_workday_text nearest_workday_of last_weekday_of nth_weekday_of weekdays_list field_lists item_lists step_of item_span range_of number_between spelled_number digits_of number_of_name month_of_letters weekday_of_letters natural_of
+unfolding schedule_error wrong_field text_words placed_words placed_items field_fault fault_in is_item field_item_fault span_fault field_number_fault day_name_fault weekday_name_fault days_list names_by_place names_by_weekday from_end_of is_last_workday_text nearest_workday_of last_weekday_of nth_weekday_of weekdays_list field_lists item_lists step_of item_span range_of number_between spelled_number digits_of number_of_name month_of_letters weekday_of_letters natural_of
 schedule_error-past_fifth = refl
 
 schedule_error-before_last : schedule_error (codes "* * L-31 * *") ≡ schedule_error_at (Some Day) (6, OutOfRange)
-unfolding schedule_error wrong_field text_words placed_words placed_items field_fault fault_in is_item field_item_fault span_fault field_number_fault day_name_fault weekday_name_fault days_list names_by names_by_place names_by_weekday from_end_of is_last_workday_text nearest_workday_of last_weekday_of nth_weekday_of weekdays_list field_lists item_lists step_of item_span range_of number_between spelled_number digits_of number_of_name month_of_letters weekday_of_letters natural_of
+unfolding schedule_error wrong_field text_words placed_words placed_items field_fault fault_in is_item field_item_fault span_fault field_number_fault day_name_fault weekday_name_fault days_list names_by_place names_by_weekday from_end_of is_last_workday_text nearest_workday_of last_weekday_of nth_weekday_of weekdays_list field_lists item_lists step_of item_span range_of number_between spelled_number digits_of number_of_name month_of_letters weekday_of_letters natural_of
 schedule_error-before_last = refl
 
 schedule_error-past_weekday : schedule_error (codes "* * * * 8L") ≡ schedule_error_at (Some Weekday) (8, OutOfRange)
-unfolding schedule_error wrong_field text_words placed_words placed_items field_fault fault_in is_item field_item_fault span_fault field_number_fault day_name_fault weekday_name_fault days_list names_by names_by_place names_by_weekday from_end_of is_last_workday_text nearest_workday_of last_weekday_of nth_weekday_of weekdays_list field_lists item_lists step_of item_span range_of number_between spelled_number digits_of number_of_name month_of_letters weekday_of_letters natural_of
+unfolding schedule_error wrong_field text_words placed_words placed_items field_fault fault_in is_item field_item_fault span_fault field_number_fault day_name_fault weekday_name_fault days_list names_by_place names_by_weekday from_end_of is_last_workday_text nearest_workday_of last_weekday_of nth_weekday_of weekdays_list field_lists item_lists step_of item_span range_of number_between spelled_number digits_of number_of_name month_of_letters weekday_of_letters natural_of
 schedule_error-past_weekday = refl
 
 -- a name in full, and a step of four digits
 schedule_error-in_full : schedule_error (codes "* * * * 1,monday") ≡ schedule_error_at (Some Weekday) (10, LongName)
-unfolding schedule_error wrong_field text_words placed_words placed_items field_fault fault_in is_item field_item_fault span_fault field_number_fault day_name_fault weekday_name_fault days_list names_by names_by_place names_by_weekday from_end_of is_last_workday_text nearest_workday_of last_weekday_of nth_weekday_of weekdays_list field_lists item_lists step_of item_span range_of number_between spelled_number digits_of number_of_name month_of_letters weekday_of_letters natural_of
+unfolding schedule_error wrong_field text_words placed_words placed_items field_fault fault_in is_item field_item_fault span_fault field_number_fault day_name_fault weekday_name_fault days_list names_by_place names_by_weekday from_end_of is_last_workday_text nearest_workday_of last_weekday_of nth_weekday_of weekdays_list field_lists item_lists step_of item_span range_of number_between spelled_number digits_of number_of_name month_of_letters weekday_of_letters natural_of
 schedule_error-in_full = refl
 
 schedule_error-long_step : schedule_error (codes "*/1000 * * * *") ≡ schedule_error_at (Some Minute) (2, OutOfRange)
-unfolding schedule_error wrong_field text_words placed_words placed_items field_fault fault_in is_item field_item_fault span_fault field_number_fault day_name_fault weekday_name_fault days_list names_by names_by_place names_by_weekday from_end_of is_last_workday_text nearest_workday_of last_weekday_of nth_weekday_of weekdays_list field_lists item_lists step_of item_span range_of number_between spelled_number digits_of number_of_name month_of_letters weekday_of_letters natural_of
+unfolding schedule_error wrong_field text_words placed_words placed_items field_fault fault_in is_item field_item_fault span_fault field_number_fault day_name_fault weekday_name_fault days_list names_by_place names_by_weekday from_end_of is_last_workday_text nearest_workday_of last_weekday_of nth_weekday_of weekdays_list field_lists item_lists step_of item_span range_of number_between spelled_number digits_of number_of_name month_of_letters weekday_of_letters natural_of
 schedule_error-long_step = refl
 
--- an interval and a time zone in front
+-- an interval, the start of a machine and a time zone in front
 schedule_error-interval : schedule_error (codes " @Every 5m") ≡ schedule_error_at None (1, Interval)
 unfolding schedule_error wrong_field text_words placed_words front_or front_fault
 schedule_error-interval = refl
+
+schedule_error-reboot : schedule_error (codes " @Reboot") ≡ schedule_error_at None (1, Reboot)
+unfolding schedule_error wrong_field text_words placed_words front_or front_fault
+schedule_error-reboot = refl
 
 schedule_error-zone : schedule_error (codes "TZ=UTC 0 0 * * *") ≡ schedule_error_at None (0, TimeZone)
 unfolding schedule_error wrong_field text_words placed_words front_or front_fault
@@ -303,101 +309,101 @@ schedule_error-cron_zone = refl
 
 -- each field ends with its greatest number and begins with its least
 schedule_error-past_minute : schedule_error (codes "59,60 * * * *") ≡ schedule_error_at (Some Minute) (3, OutOfRange)
-unfolding schedule_error wrong_field text_words placed_words placed_items field_fault fault_in is_item field_item_fault span_fault field_number_fault day_name_fault weekday_name_fault days_list names_by names_by_place names_by_weekday from_end_of is_last_workday_text nearest_workday_of last_weekday_of nth_weekday_of weekdays_list field_lists item_lists step_of item_span range_of number_between spelled_number digits_of number_of_name month_of_letters weekday_of_letters natural_of
+unfolding schedule_error wrong_field text_words placed_words placed_items field_fault fault_in is_item field_item_fault span_fault field_number_fault day_name_fault weekday_name_fault days_list names_by_place names_by_weekday from_end_of is_last_workday_text nearest_workday_of last_weekday_of nth_weekday_of weekdays_list field_lists item_lists step_of item_span range_of number_between spelled_number digits_of number_of_name month_of_letters weekday_of_letters natural_of
 schedule_error-past_minute = refl
 
 schedule_error-past_hour : schedule_error (codes "* 23,24 * * *") ≡ schedule_error_at (Some Hour) (5, OutOfRange)
-unfolding schedule_error wrong_field text_words placed_words placed_items field_fault fault_in is_item field_item_fault span_fault field_number_fault day_name_fault weekday_name_fault days_list names_by names_by_place names_by_weekday from_end_of is_last_workday_text nearest_workday_of last_weekday_of nth_weekday_of weekdays_list field_lists item_lists step_of item_span range_of number_between spelled_number digits_of number_of_name month_of_letters weekday_of_letters natural_of
+unfolding schedule_error wrong_field text_words placed_words placed_items field_fault fault_in is_item field_item_fault span_fault field_number_fault day_name_fault weekday_name_fault days_list names_by_place names_by_weekday from_end_of is_last_workday_text nearest_workday_of last_weekday_of nth_weekday_of weekdays_list field_lists item_lists step_of item_span range_of number_between spelled_number digits_of number_of_name month_of_letters weekday_of_letters natural_of
 schedule_error-past_hour = refl
 
 schedule_error-past_day : schedule_error (codes "* * 31,32 * *") ≡ schedule_error_at (Some Day) (7, OutOfRange)
-unfolding schedule_error wrong_field text_words placed_words placed_items field_fault fault_in is_item field_item_fault span_fault field_number_fault day_name_fault weekday_name_fault days_list names_by names_by_place names_by_weekday from_end_of is_last_workday_text nearest_workday_of last_weekday_of nth_weekday_of weekdays_list field_lists item_lists step_of item_span range_of number_between spelled_number digits_of number_of_name month_of_letters weekday_of_letters natural_of
+unfolding schedule_error wrong_field text_words placed_words placed_items field_fault fault_in is_item field_item_fault span_fault field_number_fault day_name_fault weekday_name_fault days_list names_by_place names_by_weekday from_end_of is_last_workday_text nearest_workday_of last_weekday_of nth_weekday_of weekdays_list field_lists item_lists step_of item_span range_of number_between spelled_number digits_of number_of_name month_of_letters weekday_of_letters natural_of
 schedule_error-past_day = refl
 
 schedule_error-past_month : schedule_error (codes "* * * 12,13 *") ≡ schedule_error_at (Some Month) (9, OutOfRange)
-unfolding schedule_error wrong_field text_words placed_words placed_items field_fault fault_in is_item field_item_fault span_fault field_number_fault day_name_fault weekday_name_fault days_list names_by names_by_place names_by_weekday from_end_of is_last_workday_text nearest_workday_of last_weekday_of nth_weekday_of weekdays_list field_lists item_lists step_of item_span range_of number_between spelled_number digits_of number_of_name month_of_letters weekday_of_letters natural_of
+unfolding schedule_error wrong_field text_words placed_words placed_items field_fault fault_in is_item field_item_fault span_fault field_number_fault day_name_fault weekday_name_fault days_list names_by_place names_by_weekday from_end_of is_last_workday_text nearest_workday_of last_weekday_of nth_weekday_of weekdays_list field_lists item_lists step_of item_span range_of number_between spelled_number digits_of number_of_name month_of_letters weekday_of_letters natural_of
 schedule_error-past_month = refl
 
 schedule_error-past_saturday : schedule_error (codes "* * * * 7,8") ≡ schedule_error_at (Some Weekday) (10, OutOfRange)
-unfolding schedule_error wrong_field text_words placed_words placed_items field_fault fault_in is_item field_item_fault span_fault field_number_fault day_name_fault weekday_name_fault days_list names_by names_by_place names_by_weekday from_end_of is_last_workday_text nearest_workday_of last_weekday_of nth_weekday_of weekdays_list field_lists item_lists step_of item_span range_of number_between spelled_number digits_of number_of_name month_of_letters weekday_of_letters natural_of
+unfolding schedule_error wrong_field text_words placed_words placed_items field_fault fault_in is_item field_item_fault span_fault field_number_fault day_name_fault weekday_name_fault days_list names_by_place names_by_weekday from_end_of is_last_workday_text nearest_workday_of last_weekday_of nth_weekday_of weekdays_list field_lists item_lists step_of item_span range_of number_between spelled_number digits_of number_of_name month_of_letters weekday_of_letters natural_of
 schedule_error-past_saturday = refl
 
 schedule_error-before_day : schedule_error (codes "* * 0,32 * *") ≡ schedule_error_at (Some Day) (4, OutOfRange)
-unfolding schedule_error wrong_field text_words placed_words placed_items field_fault fault_in is_item field_item_fault span_fault field_number_fault day_name_fault weekday_name_fault days_list names_by names_by_place names_by_weekday from_end_of is_last_workday_text nearest_workday_of last_weekday_of nth_weekday_of weekdays_list field_lists item_lists step_of item_span range_of number_between spelled_number digits_of number_of_name month_of_letters weekday_of_letters natural_of
+unfolding schedule_error wrong_field text_words placed_words placed_items field_fault fault_in is_item field_item_fault span_fault field_number_fault day_name_fault weekday_name_fault days_list names_by_place names_by_weekday from_end_of is_last_workday_text nearest_workday_of last_weekday_of nth_weekday_of weekdays_list field_lists item_lists step_of item_span range_of number_between spelled_number digits_of number_of_name month_of_letters weekday_of_letters natural_of
 schedule_error-before_day = refl
 
 schedule_error-before_month : schedule_error (codes "* * * 0,13 *") ≡ schedule_error_at (Some Month) (6, OutOfRange)
-unfolding schedule_error wrong_field text_words placed_words placed_items field_fault fault_in is_item field_item_fault span_fault field_number_fault day_name_fault weekday_name_fault days_list names_by names_by_place names_by_weekday from_end_of is_last_workday_text nearest_workday_of last_weekday_of nth_weekday_of weekdays_list field_lists item_lists step_of item_span range_of number_between spelled_number digits_of number_of_name month_of_letters weekday_of_letters natural_of
+unfolding schedule_error wrong_field text_words placed_words placed_items field_fault fault_in is_item field_item_fault span_fault field_number_fault day_name_fault weekday_name_fault days_list names_by_place names_by_weekday from_end_of is_last_workday_text nearest_workday_of last_weekday_of nth_weekday_of weekdays_list field_lists item_lists step_of item_span range_of number_between spelled_number digits_of number_of_name month_of_letters weekday_of_letters natural_of
 schedule_error-before_month = refl
 
 -- the first workday and the first weekday are the 1st, and a sign is no number
 schedule_error-no_workday : schedule_error (codes "* * 0W * *") ≡ schedule_error_at (Some Day) (4, OutOfRange)
-unfolding schedule_error wrong_field text_words placed_words placed_items field_fault fault_in is_item field_item_fault span_fault field_number_fault day_name_fault weekday_name_fault days_list names_by names_by_place names_by_weekday from_end_of is_last_workday_text nearest_workday_of last_weekday_of nth_weekday_of weekdays_list field_lists item_lists step_of item_span range_of number_between spelled_number digits_of number_of_name month_of_letters weekday_of_letters natural_of
+unfolding schedule_error wrong_field text_words placed_words placed_items field_fault fault_in is_item field_item_fault span_fault field_number_fault day_name_fault weekday_name_fault days_list names_by_place names_by_weekday from_end_of is_last_workday_text nearest_workday_of last_weekday_of nth_weekday_of weekdays_list field_lists item_lists step_of item_span range_of number_between spelled_number digits_of number_of_name month_of_letters weekday_of_letters natural_of
 schedule_error-no_workday = refl
 
 schedule_error-no_weekday : schedule_error (codes "* * * * 5#0") ≡ schedule_error_at (Some Weekday) (10, OutOfRange)
-unfolding schedule_error wrong_field text_words placed_words placed_items field_fault fault_in is_item field_item_fault span_fault field_number_fault day_name_fault weekday_name_fault days_list names_by names_by_place names_by_weekday from_end_of is_last_workday_text nearest_workday_of last_weekday_of nth_weekday_of weekdays_list field_lists item_lists step_of item_span range_of number_between spelled_number digits_of number_of_name month_of_letters weekday_of_letters natural_of
+unfolding schedule_error wrong_field text_words placed_words placed_items field_fault fault_in is_item field_item_fault span_fault field_number_fault day_name_fault weekday_name_fault days_list names_by_place names_by_weekday from_end_of is_last_workday_text nearest_workday_of last_weekday_of nth_weekday_of weekdays_list field_lists item_lists step_of item_span range_of number_between spelled_number digits_of number_of_name month_of_letters weekday_of_letters natural_of
 schedule_error-no_weekday = refl
 
 schedule_error-sign : schedule_error (codes "? * * * *") ≡ schedule_error_at (Some Minute) (0, NotANumber)
-unfolding schedule_error wrong_field text_words placed_words placed_items field_fault fault_in is_item field_item_fault span_fault field_number_fault day_name_fault weekday_name_fault days_list names_by names_by_place names_by_weekday from_end_of is_last_workday_text nearest_workday_of last_weekday_of nth_weekday_of weekdays_list field_lists item_lists step_of item_span range_of number_between spelled_number digits_of number_of_name month_of_letters weekday_of_letters natural_of
+unfolding schedule_error wrong_field text_words placed_words placed_items field_fault fault_in is_item field_item_fault span_fault field_number_fault day_name_fault weekday_name_fault days_list names_by_place names_by_weekday from_end_of is_last_workday_text nearest_workday_of last_weekday_of nth_weekday_of weekdays_list field_lists item_lists step_of item_span range_of number_between spelled_number digits_of number_of_name month_of_letters weekday_of_letters natural_of
 schedule_error-sign = refl
 
 -- the first of the fields that cannot be read
 wrong_field-first : map wrong_field (codes "60 24 32 13 8" ∷ codes "0 24 32 13 8" ∷ codes "0 0 32 13 8" ∷ codes "0 0 1 13 8" ∷ codes "0 0 1 1 8" ∷ codes "0 0 1 1 0" ∷ [])
     ≡ Some Minute ∷ Some Hour ∷ Some Day ∷ Some Month ∷ Some Weekday ∷ None ∷ []
-unfolding wrong_field text_words days_list names_by names_by_place names_by_weekday from_end_of is_last_workday_text nearest_workday_of last_weekday_of nth_weekday_of weekdays_list field_lists item_lists step_of item_span range_of number_between spelled_number digits_of number_of_name month_of_letters weekday_of_letters natural_of
+unfolding wrong_field text_words days_list names_by_place names_by_weekday from_end_of is_last_workday_text nearest_workday_of last_weekday_of nth_weekday_of weekdays_list field_lists item_lists step_of item_span range_of number_between spelled_number digits_of number_of_name month_of_letters weekday_of_letters natural_of
 wrong_field-first = refl
 
 -- months begin with 1 and have names, which minutes and hours do not; and days that are named can be read
 wrong_field-others : map wrong_field (codes "0 0 1 0 0" ∷ codes "jan 0 1 1 0" ∷ codes "0 mon 1 1 0" ∷ codes "0 0 L jan 5L" ∷ [])
     ≡ Some Month ∷ Some Minute ∷ Some Hour ∷ None ∷ []
-unfolding wrong_field text_words days_list names_by names_by_place names_by_weekday from_end_of is_last_workday_text nearest_workday_of last_weekday_of nth_weekday_of weekdays_list field_lists item_lists step_of item_span range_of number_between spelled_number digits_of number_of_name month_of_letters weekday_of_letters natural_of
+unfolding wrong_field text_words days_list names_by_place names_by_weekday from_end_of is_last_workday_text nearest_workday_of last_weekday_of nth_weekday_of weekdays_list field_lists item_lists step_of item_span range_of number_between spelled_number digits_of number_of_name month_of_letters weekday_of_letters natural_of
 wrong_field-others = refl
 
 -- 0 is a minute, an hour and a weekday
 schedule_error-zeros : map schedule_error (codes "0,60 * * * *" ∷ codes "* 0,24 * * *" ∷ codes "* * * * 0,8" ∷ [])
     ≡ schedule_error_at (Some Minute) (2, OutOfRange) ∷ schedule_error_at (Some Hour) (4, OutOfRange) ∷ schedule_error_at (Some Weekday) (10, OutOfRange) ∷ []
-unfolding schedule_error wrong_field text_words placed_words placed_items field_fault fault_in is_item field_item_fault span_fault field_number_fault day_name_fault weekday_name_fault days_list names_by names_by_place names_by_weekday from_end_of is_last_workday_text nearest_workday_of last_weekday_of nth_weekday_of weekdays_list field_lists item_lists step_of item_span range_of number_between spelled_number digits_of number_of_name month_of_letters weekday_of_letters natural_of
+unfolding schedule_error wrong_field text_words placed_words placed_items field_fault fault_in is_item field_item_fault span_fault field_number_fault day_name_fault weekday_name_fault days_list names_by_place names_by_weekday from_end_of is_last_workday_text nearest_workday_of last_weekday_of nth_weekday_of weekdays_list field_lists item_lists step_of item_span range_of number_between spelled_number digits_of number_of_name month_of_letters weekday_of_letters natural_of
 schedule_error-zeros = refl
 
 -- the first item is wrong if its number is past the last, and the second if the first has the least number or names a day
 schedule_error-first_items : map schedule_error (codes "60,x * * * *" ∷ codes "* 24,x * * *" ∷ codes "* * 32,x * *" ∷ codes "* * * 13,x *" ∷ codes "* * * * 8,x" ∷ [])
     ≡ schedule_error_at (Some Minute) (0, OutOfRange) ∷ schedule_error_at (Some Hour) (2, OutOfRange) ∷ schedule_error_at (Some Day) (4, OutOfRange) ∷ schedule_error_at (Some Month) (6, OutOfRange) ∷ schedule_error_at (Some Weekday) (8, OutOfRange) ∷ []
-unfolding schedule_error wrong_field text_words placed_words placed_items field_fault fault_in is_item field_item_fault span_fault field_number_fault day_name_fault weekday_name_fault days_list names_by names_by_place names_by_weekday from_end_of is_last_workday_text nearest_workday_of last_weekday_of nth_weekday_of weekdays_list field_lists item_lists step_of item_span range_of number_between spelled_number digits_of number_of_name month_of_letters weekday_of_letters natural_of
+unfolding schedule_error wrong_field text_words placed_words placed_items field_fault fault_in is_item field_item_fault span_fault field_number_fault day_name_fault weekday_name_fault days_list names_by_place names_by_weekday from_end_of is_last_workday_text nearest_workday_of last_weekday_of nth_weekday_of weekdays_list field_lists item_lists step_of item_span range_of number_between spelled_number digits_of number_of_name month_of_letters weekday_of_letters natural_of
 schedule_error-first_items = refl
 
 schedule_error-second_items : map schedule_error (codes "* * 1,x * *" ∷ codes "* * * 1,x *" ∷ codes "* * * * 5L,x" ∷ [])
     ≡ schedule_error_at (Some Day) (6, UnknownName) ∷ schedule_error_at (Some Month) (8, UnknownName) ∷ schedule_error_at (Some Weekday) (11, UnknownName) ∷ []
-unfolding schedule_error wrong_field text_words placed_words placed_items field_fault fault_in is_item field_item_fault span_fault field_number_fault day_name_fault weekday_name_fault days_list names_by names_by_place names_by_weekday from_end_of is_last_workday_text nearest_workday_of last_weekday_of nth_weekday_of weekdays_list field_lists item_lists step_of item_span range_of number_between spelled_number digits_of number_of_name month_of_letters weekday_of_letters natural_of
+unfolding schedule_error wrong_field text_words placed_words placed_items field_fault fault_in is_item field_item_fault span_fault field_number_fault day_name_fault weekday_name_fault days_list names_by_place names_by_weekday from_end_of is_last_workday_text nearest_workday_of last_weekday_of nth_weekday_of weekdays_list field_lists item_lists step_of item_span range_of number_between spelled_number digits_of number_of_name month_of_letters weekday_of_letters natural_of
 schedule_error-second_items = refl
 
 -- no field reads the names of another, nor days that another names
 schedule_error-names_of_others : map schedule_error (codes "jan,60 * * * *" ∷ codes "* mon,24 * * *" ∷ codes "* * jan,32 * *" ∷ codes "* * * mon,13 *" ∷ codes "* * * * jan,8" ∷ [])
     ≡ schedule_error_at (Some Minute) (0, UnknownName) ∷ schedule_error_at (Some Hour) (2, UnknownName) ∷ schedule_error_at (Some Day) (4, UnknownName) ∷ schedule_error_at (Some Month) (6, UnknownName) ∷ schedule_error_at (Some Weekday) (8, UnknownName) ∷ []
-unfolding schedule_error wrong_field text_words placed_words placed_items field_fault fault_in is_item field_item_fault span_fault field_number_fault day_name_fault weekday_name_fault days_list names_by names_by_place names_by_weekday from_end_of is_last_workday_text nearest_workday_of last_weekday_of nth_weekday_of weekdays_list field_lists item_lists step_of item_span range_of number_between spelled_number digits_of number_of_name month_of_letters weekday_of_letters natural_of
+unfolding schedule_error wrong_field text_words placed_words placed_items field_fault fault_in is_item field_item_fault span_fault field_number_fault day_name_fault weekday_name_fault days_list names_by_place names_by_weekday from_end_of is_last_workday_text nearest_workday_of last_weekday_of nth_weekday_of weekdays_list field_lists item_lists step_of item_span range_of number_between spelled_number digits_of number_of_name month_of_letters weekday_of_letters natural_of
 schedule_error-names_of_others = refl
 
 schedule_error-days_of_others : map schedule_error (codes "L,60 * * * *" ∷ codes "* * 5L,32 * *" ∷ codes "* * * L,13 *" ∷ codes "* * * * LW,8" ∷ [])
     ≡ schedule_error_at (Some Minute) (0, UnknownName) ∷ schedule_error_at (Some Day) (4, NotANumber) ∷ schedule_error_at (Some Month) (6, UnknownName) ∷ schedule_error_at (Some Weekday) (8, UnknownName) ∷ []
-unfolding schedule_error wrong_field text_words placed_words placed_items field_fault fault_in is_item field_item_fault span_fault field_number_fault day_name_fault weekday_name_fault days_list names_by names_by_place names_by_weekday from_end_of is_last_workday_text nearest_workday_of last_weekday_of nth_weekday_of weekdays_list field_lists item_lists step_of item_span range_of number_between spelled_number digits_of number_of_name month_of_letters weekday_of_letters natural_of
+unfolding schedule_error wrong_field text_words placed_words placed_items field_fault fault_in is_item field_item_fault span_fault field_number_fault day_name_fault weekday_name_fault days_list names_by_place names_by_weekday from_end_of is_last_workday_text nearest_workday_of last_weekday_of nth_weekday_of weekdays_list field_lists item_lists step_of item_span range_of number_between spelled_number digits_of number_of_name month_of_letters weekday_of_letters natural_of
 schedule_error-days_of_others = refl
 
 -- what is wrong on either side of `-`, `/` and `#`
 schedule_error-ranges : map schedule_error (codes "5-60 * * * *" ∷ codes "5- * * * *" ∷ codes "60-61 * * * *" ∷ codes "1-2-3 * * * *" ∷ [])
     ≡ schedule_error_at (Some Minute) (2, OutOfRange) ∷ schedule_error_at (Some Minute) (2, Empty) ∷ schedule_error_at (Some Minute) (0, OutOfRange) ∷ schedule_error_at (Some Minute) (2, NotANumber) ∷ []
-unfolding schedule_error wrong_field text_words placed_words placed_items field_fault fault_in is_item field_item_fault span_fault field_number_fault day_name_fault weekday_name_fault days_list names_by names_by_place names_by_weekday from_end_of is_last_workday_text nearest_workday_of last_weekday_of nth_weekday_of weekdays_list field_lists item_lists step_of item_span range_of number_between spelled_number digits_of number_of_name month_of_letters weekday_of_letters natural_of
+unfolding schedule_error wrong_field text_words placed_words placed_items field_fault fault_in is_item field_item_fault span_fault field_number_fault day_name_fault weekday_name_fault days_list names_by_place names_by_weekday from_end_of is_last_workday_text nearest_workday_of last_weekday_of nth_weekday_of weekdays_list field_lists item_lists step_of item_span range_of number_between spelled_number digits_of number_of_name month_of_letters weekday_of_letters natural_of
 schedule_error-ranges = refl
 
 schedule_error-steps : map schedule_error (codes "*/x * * * *" ∷ codes "*/ * * * *" ∷ codes "60/5 * * * *" ∷ codes "* * * * 8#2" ∷ [])
     ≡ schedule_error_at (Some Minute) (2, UnknownName) ∷ schedule_error_at (Some Minute) (2, Empty) ∷ schedule_error_at (Some Minute) (0, OutOfRange) ∷ schedule_error_at (Some Weekday) (8, OutOfRange) ∷ []
-unfolding schedule_error wrong_field text_words placed_words placed_items field_fault fault_in is_item field_item_fault span_fault field_number_fault day_name_fault weekday_name_fault days_list names_by names_by_place names_by_weekday from_end_of is_last_workday_text nearest_workday_of last_weekday_of nth_weekday_of weekdays_list field_lists item_lists step_of item_span range_of number_between spelled_number digits_of number_of_name month_of_letters weekday_of_letters natural_of
+unfolding schedule_error wrong_field text_words placed_words placed_items field_fault fault_in is_item field_item_fault span_fault field_number_fault day_name_fault weekday_name_fault days_list names_by_place names_by_weekday from_end_of is_last_workday_text nearest_workday_of last_weekday_of nth_weekday_of weekdays_list field_lists item_lists step_of item_span range_of number_between spelled_number digits_of number_of_name month_of_letters weekday_of_letters natural_of
 schedule_error-steps = refl
 
 -- a step of three zeros, a name in full before `#`, and `L-` in a field without days; an error has its field and its place
 schedule_error-more_names : map schedule_error (codes "*/000 * * * *" ∷ codes "* * * * monday#2" ∷ codes "L-1 * * * *" ∷ [])
     ≡ record { field = Some Minute; byte = 2; fault = StepOfZero } ∷ record { field = Some Weekday; byte = 8; fault = LongName } ∷ record { field = Some Minute; byte = 0; fault = UnknownName } ∷ []
-unfolding schedule_error wrong_field text_words placed_words placed_items field_fault fault_in is_item field_item_fault span_fault field_number_fault day_name_fault weekday_name_fault days_list names_by names_by_place names_by_weekday from_end_of is_last_workday_text nearest_workday_of last_weekday_of nth_weekday_of weekdays_list field_lists item_lists step_of item_span range_of number_between spelled_number digits_of number_of_name month_of_letters weekday_of_letters natural_of
+unfolding schedule_error wrong_field text_words placed_words placed_items field_fault fault_in is_item field_item_fault span_fault field_number_fault day_name_fault weekday_name_fault days_list names_by_place names_by_weekday from_end_of is_last_workday_text nearest_workday_of last_weekday_of nth_weekday_of weekdays_list field_lists item_lists step_of item_span range_of number_between spelled_number digits_of number_of_name month_of_letters weekday_of_letters natural_of
 schedule_error-more_names = refl
 
 -- one word and none, and a nickname before a word

@@ -4,19 +4,14 @@ use Rattle.std.specs.Char.{to_ascii_lowercase}
 use Rattle.std.specs.Option.{option_map, option_and_then}
 use Rattle.std.specs.List.{filter, list_any, slice_split}
 use Rattle.std.specs.Str.{byte, str_eq_ignore_ascii_case}
-use Rattle.chrono_text.specs.Lists.{pieces, is_some_text}
+use Rattle.chrono_text.specs.Lists.{begins_alike, is_blank, is_some_text, pieces}
 use Rattle.chrono_text.specs.Numbers.{digits_of, natural_of}
-use Rattle.chrono_sets.specs.Numbers.{Numbers as FiniteSet, has}
+use Rattle.chrono_sets.specs.FiniteSets.{FiniteSet, has}
 use Rattle.chrono_datetime.specs.Names.{month_of_letters, weekday_of_letters}
 use Rattle.chrono_cron.specs.FieldTexts.{before_byte, behind_byte, field_lists, item_lists, items_list, number_between, number_of_name, range_of, item_span, spelled_number, step_of}
-use Rattle.chrono_cron.specs.declared.month_days.MonthDays.{MonthDays}
-use Rattle.chrono_cron.specs.declared.text.number_names.Names.{Names}
+use Rattle.chrono_cron.specs.declared.named_days.MonthDays.{MonthDays}
 use Rattle.chrono_cron.specs.declared.text.number_names.Names.TheVariants.{Numbers, Months, Weekdays}
 use Rattle.chrono_cron.specs.declared.field_sets.FieldSets.{FieldSets}
-
--- a space or a tab
-abbrev pub is_blank : ℕ → Bool
-is_blank x = x == byte " " || x == byte "\t"
 
 -- what stands between the blanks of a text, before them and behind them
 unfoldable pub text_words : List ℕ → List (List ℕ)
@@ -52,18 +47,20 @@ before_letter letter text =
 abbrev pub spelled_weekday : List ℕ → Option ℕ
 spelled_weekday text = option_map (λ d. d % 7) (number_between Weekdays 0 7 text)
 
+-- The names of days that follow are those of Quartz: see Due. Their letters may have either case.
+
 -- `L`, the month's last day, and `L-k`: how many days of the month follow it
 unfoldable pub from_end_of : List ℕ → Option ℕ
 from_end_of text =
     if str_eq_ignore_ascii_case text (codes "L") then Some 0
-    else if str_eq_ignore_ascii_case (take 2 text) (codes "L-") then number_between Numbers 1 30 (drop 2 text)
+    else if begins_alike (codes "L-") text then number_between Numbers 1 30 (drop 2 text)
     else None
 
--- `LW`, the month's last workday; told as the number 0
+-- the text is `LW`, the month's last workday
 unfoldable pub is_last_workday_text : List ℕ → Bool
 is_last_workday_text text = str_eq_ignore_ascii_case text (codes "LW")
 
--- the number 0 for `LW`, the month's last workday
+-- the same as a number, for `an_item_is`: 0 for `LW`
 abbrev pub last_workday_of : List ℕ → Option ℕ
 last_workday_of text = if is_last_workday_text text then Some 0 else None
 
@@ -79,35 +76,29 @@ last_weekday_of text = option_and_then spelled_weekday (before_letter (byte "l")
 unfoldable pub nth_weekday_of : List ℕ → Option ℕ
 nth_weekday_of text = option_and_then (λ d. option_map (λ k. 7 * (k - 1) + d) (number_between Numbers 1 5 (behind_byte (byte "#") text))) (spelled_weekday (before_byte (byte "#") text))
 
--- the item of a field names a day of the month by its place, or by its weekday
+-- whether an item names a day of the month by its place: `L`, `L-k`, `LW` or `kW`
 unfoldable pub names_by_place : List ℕ → Bool
 names_by_place item = is_some (from_end_of item) || (is_last_workday_text item || is_some (nearest_workday_of item))
 
--- whether an item names one day of the month by its weekday
+-- whether an item names a day of the month by its weekday: `dL` or `d#k`
 unfoldable pub names_by_weekday : List ℕ → Bool
 names_by_weekday item = is_some (last_weekday_of item) || is_some (nth_weekday_of item)
-
--- an item of a field with these names names days: of the field of days, which has none, and of that of weekdays
-unfoldable pub names_by : Names → List ℕ → Bool
-names_by Numbers item = names_by_place item
-names_by Months item = false
-names_by Weekdays item = names_by_weekday item
 
 -- the items of a field, with commas between
 abbrev pub items_of : List ℕ → List (List ℕ)
 items_of text = pieces (byte ",") text
 
--- those of them that fail a test
+-- those of them that fail a test: that name no day
 abbrev pub other_items : (List ℕ → Bool) → List ℕ → List (List ℕ)
 other_items names text = filter (λ item. not (names item)) (items_of text)
 
 -- whether the field of days lists k by an item that names no day; none if one of the items is none
 unfoldable pub days_list : List ℕ → ℕ → Option Bool
-days_list text k = items_list Numbers 1 31 (other_items (names_by Numbers) text) k
+days_list text k = items_list Numbers 1 31 (other_items names_by_place text) k
 
 -- the same of the field of weekdays, in which 7 stands for Sunday too: "0 or 7 is Sun, or use names" in crontab(5)
 abbrev pub weekday_items_list : List ℕ → ℕ → Option Bool
-weekday_items_list text k = items_list Weekdays 0 7 (other_items (names_by Weekdays) text) k
+weekday_items_list text k = items_list Weekdays 0 7 (other_items names_by_weekday text) k
 
 -- whether the field of weekdays lists k; 7 stands for Sunday too
 unfoldable pub weekdays_list : List ℕ → ℕ → Option Bool
@@ -151,8 +142,8 @@ pub record AreNamedWith (m : MonthDays) (item : List ℕ) (n : MonthDays) : Type
   pub last_weekdays : (k : ℕ) → has n.last_weekdays k ≡ (has m.last_weekdays k || is_number k (last_weekday_of item))
   pub nth_weekdays : (k : ℕ) → has n.nth_weekdays k ≡ (has m.nth_weekdays k || is_number k (nth_weekday_of item))
 
--- a text of the schedule that lists these sets: its fields are minutes, hours, days of the month, months and weekdays; either field of
--- days will do if neither begins with `*`
+-- a text of the schedule with these sets: minutes, hours, days of the month, months, weekdays. Either field of days will do if neither begins
+-- with `*`
 pub record IsScheduleText (text : List ℕ) (s : FieldSets) : Type 0 where
   pub minute : List ℕ
   pub hour : List ℕ
@@ -187,25 +178,25 @@ unfolding field_lists item_lists step_of item_span range_of number_between spell
 month-name = refl
 
 weekdays_list-seven : weekdays_list (codes "5-7") 0 ≡ Some true
-unfolding weekdays_list names_by names_by_weekday last_weekday_of nth_weekday_of item_lists step_of item_span range_of number_between spelled_number digits_of number_of_name month_of_letters weekday_of_letters natural_of
+unfolding weekdays_list names_by_weekday last_weekday_of nth_weekday_of item_lists step_of item_span range_of number_between spelled_number digits_of number_of_name month_of_letters weekday_of_letters natural_of
 weekdays_list-seven = refl
 
 -- a week has no day 7, and Sunday is listed where either of its numbers is
 weekdays_list-sunday : weekdays_list (codes "SUN") 0 ≡ Some true
-unfolding weekdays_list names_by names_by_weekday last_weekday_of nth_weekday_of item_lists step_of item_span range_of number_between spelled_number digits_of number_of_name month_of_letters weekday_of_letters natural_of
+unfolding weekdays_list names_by_weekday last_weekday_of nth_weekday_of item_lists step_of item_span range_of number_between spelled_number digits_of number_of_name month_of_letters weekday_of_letters natural_of
 weekdays_list-sunday = refl
 
 weekdays_list-no_seven : weekdays_list (codes "7") 7 ≡ Some false
-unfolding weekdays_list names_by names_by_weekday last_weekday_of nth_weekday_of item_lists step_of item_span range_of number_between spelled_number digits_of number_of_name month_of_letters weekday_of_letters natural_of
+unfolding weekdays_list names_by_weekday last_weekday_of nth_weekday_of item_lists step_of item_span range_of number_between spelled_number digits_of number_of_name month_of_letters weekday_of_letters natural_of
 weekdays_list-no_seven = refl
 
 -- a name is read in a list beside a number, and lists none; `L` alone is no weekday
 days_list-named : days_list (codes "L-3,15") 15 ≡ Some true
-unfolding days_list names_by names_by_place from_end_of is_last_workday_text nearest_workday_of item_lists step_of item_span range_of number_between spelled_number digits_of number_of_name month_of_letters weekday_of_letters natural_of
+unfolding days_list names_by_place from_end_of is_last_workday_text nearest_workday_of item_lists step_of item_span range_of number_between spelled_number digits_of number_of_name month_of_letters weekday_of_letters natural_of
 days_list-named = refl
 
 weekdays_list-no_weekday : weekdays_list (codes "L") 0 ≡ None
-unfolding weekdays_list names_by names_by_weekday last_weekday_of nth_weekday_of item_lists step_of item_span range_of number_between spelled_number digits_of number_of_name month_of_letters weekday_of_letters natural_of
+unfolding weekdays_list names_by_weekday last_weekday_of nth_weekday_of item_lists step_of item_span range_of number_between spelled_number digits_of number_of_name month_of_letters weekday_of_letters natural_of
 weekdays_list-no_weekday = refl
 
 -- names of days
@@ -293,23 +284,23 @@ nth_weekday_of-nothing = refl
 
 -- days that are named list no numbers, and numbers past the ends are no items
 days_list-names_alone : days_list (codes "LW,15W,L") 15 ≡ Some false
-unfolding days_list names_by names_by_place from_end_of is_last_workday_text nearest_workday_of item_lists step_of item_span range_of number_between spelled_number digits_of number_of_name month_of_letters weekday_of_letters natural_of
+unfolding days_list names_by_place from_end_of is_last_workday_text nearest_workday_of item_lists step_of item_span range_of number_between spelled_number digits_of number_of_name month_of_letters weekday_of_letters natural_of
 days_list-names_alone = refl
 
 days_list-zeroth : days_list (codes "0") 1 ≡ None
-unfolding days_list names_by names_by_place from_end_of is_last_workday_text nearest_workday_of item_lists step_of item_span range_of number_between spelled_number digits_of number_of_name month_of_letters weekday_of_letters natural_of
+unfolding days_list names_by_place from_end_of is_last_workday_text nearest_workday_of item_lists step_of item_span range_of number_between spelled_number digits_of number_of_name month_of_letters weekday_of_letters natural_of
 days_list-zeroth = refl
 
 days_list-last : days_list (codes "31") 31 ≡ Some true
-unfolding days_list names_by names_by_place from_end_of is_last_workday_text nearest_workday_of item_lists step_of item_span range_of number_between spelled_number digits_of number_of_name month_of_letters weekday_of_letters natural_of
+unfolding days_list names_by_place from_end_of is_last_workday_text nearest_workday_of item_lists step_of item_span range_of number_between spelled_number digits_of number_of_name month_of_letters weekday_of_letters natural_of
 days_list-last = refl
 
 weekdays_list-names_alone : weekdays_list (codes "5L,5#2") 5 ≡ Some false
-unfolding weekdays_list names_by names_by_weekday last_weekday_of nth_weekday_of item_lists step_of item_span range_of number_between spelled_number digits_of number_of_name month_of_letters weekday_of_letters natural_of
+unfolding weekdays_list names_by_weekday last_weekday_of nth_weekday_of item_lists step_of item_span range_of number_between spelled_number digits_of number_of_name month_of_letters weekday_of_letters natural_of
 weekdays_list-names_alone = refl
 
 weekdays_list-eight : weekdays_list (codes "8") 1 ≡ None
-unfolding weekdays_list names_by names_by_weekday last_weekday_of nth_weekday_of item_lists step_of item_span range_of number_between spelled_number digits_of number_of_name month_of_letters weekday_of_letters natural_of
+unfolding weekdays_list names_by_weekday last_weekday_of nth_weekday_of item_lists step_of item_span range_of number_between spelled_number digits_of number_of_name month_of_letters weekday_of_letters natural_of
 weekdays_list-eight = refl
 
 -- a line feed is no blank, and a nickname stands for fields where it is the one word
@@ -321,11 +312,7 @@ fields_of-nickname_in_front : fields_of (codes "@daily *") ≡ codes "@daily" �
 unfolding fields_of text_words
 fields_of-nickname_in_front = refl
 
--- no month names a day, and an item is read as the number that it names alone
-names_by-month : names_by Months (codes "L") ≡ false
-unfolding names_by
-names_by-month = refl
-
+-- an item is read as the number that it names alone
 an_item_is-three : an_item_is from_end_of (codes "15,L-3") 3 ≡ true
 unfolding an_item_is from_end_of number_between spelled_number digits_of number_of_name natural_of
 an_item_is-three = refl

@@ -1,6 +1,6 @@
 -- The schedules that texts tell.
 use Rattle.std.specs.Prelude.{◌≡◌, ℕ, ◌<◌, ◌≤◌, ◌||◌, ◌⊎◌, true, false}
-use Rattle.chrono_sets.specs.Numbers.{Numbers as FiniteSet, has}
+use Rattle.chrono_sets.specs.FiniteSets.{FiniteSet, has}
 use Rattle.chrono_cron.specs.declared.field_sets.FieldSets.{FieldSets}
 
 -- a member of a set
@@ -11,8 +11,8 @@ Member set = (k : ℕ) × (has set k ≡ true)
 abbrev pub LieBetween : FiniteSet → ℕ → ℕ → Type 0
 LieBetween set low end = (k : ℕ) → has set k ≡ true → (low ≤ k) × (k < end)
 
--- each set has numbers of its field alone, each field lists or names something, and where both fields of days have to match, the 1st or
--- Sunday is listed, by which one of them can begin with `*`
+-- each set has numbers of its field alone, and each field lists or names something. Where both fields of days have to match, the 1st or Sunday
+-- is listed: that field can begin with `*`
 pub record IsWritable (s : FieldSets) : Type 0 where
   pub minutes : LieBetween s.minutes 0 60
   pub hours : LieBetween s.hours 0 24

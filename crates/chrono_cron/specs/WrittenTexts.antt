@@ -2,7 +2,7 @@
 use Rattle.std.specs.Prelude.{ℕ, zero, suc, ◌+◌, ◌/◌, ◌%◌, ◌==◌, nat_le, Bool, true, false, not, ◌&&◌, ◌||◌, if◌then◌else◌, List, [], ◌∷◌, ◌++◌, map, codes}
 use Rattle.chrono_text.specs.Lists.{list_text}
 use Rattle.chrono_text.specs.Text.{number_text}
-use Rattle.chrono_sets.specs.Numbers.{Numbers as FiniteSet, has}
+use Rattle.chrono_sets.specs.FiniteSets.{FiniteSet, has}
 use Rattle.chrono_cron.specs.declared.field_sets.FieldSets.{FieldSets}
 use Rattle.chrono_cron.specs.declared.text.schedule_writer.DayName.{DayName}
 use Rattle.chrono_cron.specs.declared.text.schedule_writer.DayName.TheVariants.{FromEnd, NearestWorkday, LastWeekday, NthWeekday}
@@ -50,11 +50,6 @@ unfoldable pub number_items : Bool → FiniteSet → ℕ → ℕ → List (List 
 number_items starred set count low =
     if starred then (if are_all set count low then codes "*" ∷ [] else (codes "*/" ++ number_text count) ∷ map range_text (ranges_from set count low))
     else map range_text (ranges_from set count low)
-
--- items, each behind a comma
-abbrev pub behind_commas : List (List ℕ) → List ℕ
-behind_commas [] = []
-behind_commas (item ∷ items) = codes "," ++ item ++ behind_commas items
 
 -- the minutes, the hours or the months: `*`, or a list
 unfoldable pub plain_text : FiniteSet → ℕ → ℕ → List ℕ

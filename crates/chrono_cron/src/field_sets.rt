@@ -4,10 +4,10 @@ ghost use Rattle.chrono_datetime.specs.Days.{day_of};
 ghost use Rattle.chrono_datetime.specs.MonthMoves.{InSameMonth};
 ghost use Rattle.chrono_datetime.specs.Weekday.{days_from_sunday};
 ghost use Rattle.chrono_datetime.specs.Weeks.{weekday_of};
-ghost use Rattle.chrono_sets.specs.Numbers.{has};
+ghost use Rattle.chrono_sets.specs.FiniteSets.{has};
 ghost use Rattle.chrono_cron.specs.Due.{either_or_both, is_day, is_listed_day, is_minute, is_named_by_place, is_named_by_weekday};
 
-use crate::month_days::MonthDays;
+use crate::named_days::MonthDays;
 use chrono_datetime::{Datelike, NaiveDate};
 use chrono_sets::NumberSet;
 

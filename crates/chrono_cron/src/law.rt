@@ -1,6 +1,6 @@
 //! Known days, moments and texts, and laws of schedules. Each is a clause of a function that does nothing.
-ghost use Rattle.std.specs.Prelude.{◌≡◌, ◌<◌, ◌≤◌, ◌-◌, ℕ, ◌+◌, ◌^◌, true, false, None, Some, Result, Err, pos, neg_ℤ, [], ◌∷◌, codes};
-ghost use Rattle.chrono_sets.specs.Numbers.{has};
+ghost use Rattle.std.specs.Prelude.{◌≡◌, ◌<◌, ◌≤◌, ◌-◌, ℕ, true, false, None, Some, Result, Err, pos, neg_ℤ, [], ◌∷◌, codes};
+ghost use Rattle.chrono_sets.specs.FiniteSets.{has};
 ghost use Rattle.chrono_cron.specs.Due.{IsNeverDue, MeanTheSame, NotDueAfter, NotDueBefore, NotDueBetween, is_due};
 ghost use Rattle.chrono_cron.specs.DueMoments.{dues_after, dues_left};
 ghost use Rattle.chrono_cron.specs.KnownMonthDays.{is_named_day, days_named};

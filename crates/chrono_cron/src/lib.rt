@@ -15,16 +15,16 @@
 
 mod field_sets;
 pub mod law;
-mod month_days;
+mod named_days;
 mod schedule;
 mod search;
 mod text;
 
 pub use chrono_sets::NumberSet;
 pub use field_sets::FieldSets;
-pub use month_days::MonthDays;
+pub use named_days::MonthDays;
 pub use schedule::Schedule;
-pub use search::dues::Dues;
+pub use search::due_moments::Dues;
 pub use text::field::read_field;
 pub use text::number_names::Names;
 pub use text::schedule_error::{ScheduleError, ScheduleFault, ScheduleField};

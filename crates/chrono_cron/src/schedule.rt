@@ -8,9 +8,10 @@ ghost use Rattle.chrono_cron.specs.Due.{IsNeverDue, MeanTheSame, NotDueAfter, No
 ghost use Rattle.chrono_cron.specs.DueMoments.{dues_after, dues_left};
 
 use crate::field_sets::FieldSets;
-use crate::search::dues::{Dues, lies_in_calendar};
+use crate::search::due_moments::Dues;
 use crate::search::minutes::{MINUTES_PER_DAY, SECONDS};
-use crate::search::same_moments::mean_the_same;
+use crate::search::same_minutes::mean_the_same;
+use chrono_datetime::law::date_times_exist;
 use chrono_datetime::{NaiveDateTime, NaiveTime, Timelike};
 
 /// A cron schedule.
@@ -154,7 +155,7 @@ impl Schedule {
         // Any calls of `next` give the list's moments in order: what chains of iterators are proved by.
         ensures runs { YieldsInOrder (YieldsFirst dues_left) dues_left }
     {
-        lies_in_calendar(start);
+        date_times_exist(start);
         Dues {
             schedule: *self,
             last: start,

@@ -1,8 +1,11 @@
 -- Lemmas that crates above cite: of signed numbers for `omega`, of names, weekdays, weeks and months, of texts, and of days that pass a test.
+pub use Rattle.chrono_units.proofs.Years
 pub use Rattle.chrono_units.proofs.WeekdayCycle
 pub use Rattle.chrono_units.proofs.ListsLeft
 pub use Rattle.chrono_units.proofs.SetTexts
+pub use Rattle.chrono_units.proofs.DayNames
 pub use Rattle.chrono_naive.proofs.Signed
+pub use Rattle.chrono_naive.proofs.MonthLengths
 pub use Rattle.chrono_naive.proofs.Names
 pub use Rattle.chrono_naive.proofs.NamedDates
 pub use Rattle.chrono_naive.proofs.WeekDays

@@ -3,13 +3,15 @@ use Rattle.std.proofs.Common.{◌≡◌, ℕ, ◌+◌, ◌-◌, ◌%◌, ◌<◌
 use Rattle.std.proofs.lemmas.Bool.{agree_below_at, cases_lt, eqb-true}
 use Rattle.std.proofs.lemmas.Int.{by_lt_z}
 use Rattle.chrono_units.specs.Weekday.{days_from_sunday, weekday_from_sunday}
-use Rattle.chrono_units.specs.Years.{IsYear, month_length}
+use Rattle.chrono_units.specs.Years.{IsYear, is_leap_year, month_length}
 use Rattle.chrono_naive.specs.Days.{IsCalendarName, year_of, month_of, day_of}
 use Rattle.chrono_naive.specs.MonthMoves.{InSameMonth, month_index_of, month_length_of}
 use Rattle.chrono_naive.specs.Weeks.{days_from_sunday_of, weekday_of}
 use Rattle.chrono_naive.proofs.Cycles.{calendar_name-again}
 use Rattle.chrono_naive.proofs.MonthDays.{day_of-bounds, later_in_month, month-days, month-next}
 use Rattle.chrono_naive.proofs.MonthOrder.{before_month, day_at-exists, length_at-bounds, month_of-range}
+use Rattle.chrono_naive.proofs.MonthLengths.{month_length_in-bounds}
+pub use Rattle.chrono_naive.proofs.Rising.{later_month}
 use Rattle.chrono_naive.proofs.Rising.{month_index_of-rises}
 use Rattle.chrono_naive.proofs.Signed.{signed}
 
@@ -26,7 +28,7 @@ place-bounds n =
     (here.first, omega (arith, here.last, length_at-bounds (month_index_of n)))
 
 -- the number of a day's weekday
-weekday_number : (n : ℤ) → days_from_sunday (weekday_of n) ≡ days_from_sunday_of n
+pub weekday_number : (n : ℤ) → days_from_sunday (weekday_of n) ≡ days_from_sunday_of n
 weekday_number n =
     eqb-true _ _ (agree_below_at (λ k. days_from_sunday (weekday_from_sunday k) == k) (λ k. true) 7 (days_from_sunday_of n) refl (omega (arith, signed)))
 
@@ -81,9 +83,6 @@ past_month n d k year same some nameless =
       | inr le ↦ absurd (nameless (year, (month_of-range n, (some, omega (arith, le, lengths, day_of-bounds d)))))
     ]
 
-pub later_month : (n e : ℤ) → month_index_of n <ℤ month_index_of e → n <ℤ e
-later_month n e less = by_lt_z n e (λ lt. lt) (λ ge. absurd (omega (arith, signed, less, month_index_of-rises e n ge)))
-
 -- the last day of a month that was named by its first
 pub month_before : (n f e : ℤ) → InSameMonth e f → year_of f ≡ year_of n → month_of f < month_of n → e <ℤ n
 month_before n f e same year less =
@@ -97,11 +96,8 @@ pub last_place : (f e : ℤ) → InSameMonth e f → day_of e ≡ month_length_o
 last_place f e same day = day ∙ sym (ap₂ month_length same.0 same.1)
 
 -- each month has a first day
-first_place : (y : ℤ) (m : ℕ) → 1 ≤ month_length y m
-first_place y m = grind arith
-
 pub first_day_exists : (y : ℤ) (m : ℕ) → IsYear y → 1 ≤ m → m < 13 → IsYear y × IsCalendarName y m 1
-first_day_exists y m year low high = (year, ((low, omega (arith, high)), (omega arith, first_place y m)))
+first_day_exists y m year low high = (year, ((low, omega (arith, high)), (omega arith, omega (arith, month_length_in-bounds (is_leap_year y) m))))
 
 -- the last year has no next one, nor the first one before it
 pub last_year : (n d : ℤ) → IsYear (year_of n) → (IsYear (year_of n +ℤ pos 1) → ⊥) → IsYear (year_of d) → n ≤ℤ d → year_of d ≡ year_of n

@@ -15,6 +15,14 @@ PassedBetween test first end = (d : ℤ) → first <ℤ d → d <ℤ end → tes
 abbrev pub PassedUpTo : (ℤ → Bool) → ℤ → ℤ → Type 0
 PassedUpTo test first last = (d : ℤ) → first <ℤ d → d ≤ℤ last → test d ≡ false
 
+-- no date of the calendar from a day on and before another does
+abbrev pub NoDateFrom : (ℤ → Bool) → ℤ → ℤ → Type 0
+NoDateFrom test from end = (d : ℤ) → from ≤ℤ d → d <ℤ end → IsDate d → test d ≡ false
+
+-- no date of the calendar after a day and before another does
+abbrev pub NoDateAfter : (ℤ → Bool) → ℤ → ℤ → Type 0
+NoDateAfter test first end = (d : ℤ) → first <ℤ d → d <ℤ end → IsDate d → test d ≡ false
+
 -- no date of the calendar after a day does
 abbrev pub NoneAfter : (ℤ → Bool) → ℤ → Type 0
 NoneAfter test first = (d : ℤ) → first <ℤ d → IsDate d → test d ≡ false

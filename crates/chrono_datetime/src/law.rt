@@ -4,13 +4,14 @@ ghost use Rattle.std.specs.Prelude.{◌≡◌, pos, neg_ℤ, Some, None, codes};
 ghost use Rattle.std.specs.Str.{byte};
 ghost use Rattle.std.proofs.Common.{Less};
 ghost use Rattle.chrono_clock.specs.Time.{time_at};
-ghost use Rattle.chrono_datetime.specs.Moment.{moment, moment_cmp, moment_distance, reach};
+ghost use Rattle.chrono_datetime.specs.Moment.{IsMoment, moment, moment_cmp, moment_distance, reach};
 ghost use Rattle.chrono_datetime.specs.MomentText.{moment_text};
 
 use crate::naive_date_time::{MAX_DATETIME, MIN_DATETIME, NaiveDateTime};
 pub use chrono_clock::law::{
     first_time, greatest_duration, known_time_texts, last_time, least_duration,
 };
+use chrono_clock::{SECS_PER_DAY, Timelike};
 pub use chrono_naive::law::{
     calendar_comes_again, calendar_names_are_in_order, counts_add_up, counts_between_days,
     dates_are_counted, dates_are_days_of_years, dates_have_at_most_thirteen_bytes,
@@ -24,7 +25,20 @@ pub use chrono_naive::law::{
     sevens_of_days_have_each_weekday, weekdays_follow, weekly_counts_come_again,
     weeks_have_one_first_day, whole_years_are_birthdays, years_and_months_rise,
 };
+use chrono_naive::{Datelike, LAST_DAY};
 pub use chrono_units::law::named_sets;
+
+// What the nanoseconds of a second lie below, a leap second's among them.
+const PAST_LEAP_SECOND: u32 = 2_000_000_000;
+
+/// Each date-time is one of the calendar's: its date is one of its dates, and its time is a time of day.
+pub fn date_times_exist(moment: NaiveDateTime)
+    ensures { IsMoment moment }
+{
+    prove!(moment.date().num_days_from_ce() <= LAST_DAY);
+    prove!(moment.time().num_seconds_from_midnight() < SECS_PER_DAY);
+    prove!(moment.time().nanosecond() < PAST_LEAP_SECOND);
+}
 
 /// The first date-time, as [`NaiveDateTime::MIN`] and as [`MIN_DATETIME`]: day -95,746,129, 00:00:00.
 ///

@@ -1,16 +1,12 @@
 -- The texts of offsets from UTC, as lists of ASCII codes.
-use Rattle.std.specs.Prelude.{◌≡◌, ℕ, ◌/◌, ◌%◌, ◌==◌, List, [], ◌++◌, if◌then◌else◌, codes, ℤ, pos, neg_ℤ, unsigned_abs, refl}
+use Rattle.std.specs.Prelude.{◌≡◌, ℕ, ◌/◌, ◌%◌, List, ◌++◌, if◌then◌else◌, codes, ℤ, pos, neg_ℤ, unsigned_abs, refl}
 use Rattle.std.specs.Int.{is_negative}
-use Rattle.chrono_text.specs.Text.{two_digits}
-
--- a colon and the seconds in two digits, or nothing for 0
-abbrev pub offset_seconds_text : ℕ → List ℕ
-offset_seconds_text n = if n == 0 then [] else codes ":" ++ two_digits n
+use Rattle.chrono_text.specs.Text.{colon_seconds_text, two_digits}
 
 -- hours, minutes and seconds, the seconds left out if they are 0
 abbrev pub offset_size_text : ℕ → List ℕ
 offset_size_text n =
-    two_digits (n / 3_600) ++ codes ":" ++ two_digits (n / 60 % 60) ++ offset_seconds_text (n % 60)
+    two_digits (n / 3_600) ++ codes ":" ++ two_digits (n / 60 % 60) ++ colon_seconds_text (n % 60)
 
 -- what `{}` and `{:?}` write for an offset of x seconds: a sign, and the size of x
 abbrev pub offset_text : ℤ → List ℕ

@@ -2,7 +2,7 @@
 use Rattle.std.proofs.Common.{◌≡◌, ℕ, ◌<◌, ◌≤◌, ℤ, pos, negsuc, ◌≤ℤ◌, Some, length, unsigned_abs, arith, sym, ◌∙◌}
 use Rattle.std.proofs.lemmas.Int.{ints}
 use Rattle.chrono_units.specs.Years.{IsYear}
-use Rattle.chrono_text.specs.Text.{year_text, calendar_text}
+use Rattle.chrono_text.specs.Text.{calendar_text}
 use Rattle.chrono_text.proofs.TextLemmas.{calendar_text_injective, length-calendar_text, length-year_text-four, length-year_text-le}
 use Rattle.chrono_calendar.specs.Days.{IsDate, date_of_ymd, day_number_of_ymd, year_of, month_of, day_of}
 use Rattle.chrono_calendar.proofs.MonthMoveLaws.{year_of-range}
@@ -46,12 +46,8 @@ pub IsAscii-iso_week_text : (w : IsoYearAndWeek) → IsIsoYear w.year → IsInRa
 IsAscii-iso_week_text w h k = IsAscii-week_text w.year w.week (omega (arith, IsIsoYear-small w.year h)) (omega (arith, k.1))
 
 -- how long a date's text is
-four_digits : (y : ℤ) → pos 0 ≤ℤ y → y ≤ℤ pos 9_999 → length (year_text y) ≡ 4
-four_digits (pos n) low high = length-year_text-four n (omega (arith, ints, high))
-four_digits (negsuc n) low high = absurd (omega (arith, ints, low))
-
 pub length-date_text-four : (n : ℤ) → pos 0 ≤ℤ year_of n → year_of n ≤ℤ pos 9_999 → length (date_text n) ≡ 10
-length-date_text-four n low high = omega (arith, length-calendar_text (year_of n) (month_of n) (day_of n), four_digits (year_of n) low high)
+length-date_text-four n low high = omega (arith, length-calendar_text (year_of n) (month_of n) (day_of n), length-year_text-four (year_of n) low high)
 
 pub length-date_text-le : (n : ℤ) → IsDate n → length (date_text n) ≤ 13
 length-date_text-le n h = omega (arith, length-calendar_text (year_of n) (month_of n) (day_of n), length-year_text-le (year_of n) (IsYear-small (year_of n) (year_of-range n h)))

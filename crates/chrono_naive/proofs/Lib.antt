@@ -16,6 +16,7 @@ pub use Rattle.chrono_calendar.proofs.Birthdays
 pub use Rattle.chrono_calendar.proofs.LastWeekdays
 pub mod DateListLemmas
 pub mod DateTextLemmas
+pub mod MonthLengths
 pub mod RisingLists
 -- The rest serve this crate's own proofs alone.
 mod DayMoves

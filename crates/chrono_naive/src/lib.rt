@@ -16,6 +16,7 @@ mod rising_dates;
 
 pub use chrono_calendar::ends::{FIRST_DAY, LAST_DAY};
 pub use chrono_clock::{NaiveTime, TimeDelta, Timelike};
+pub use chrono_units::year::{MAX_YEAR, MIN_YEAR};
 pub use chrono_units::{Month, Months, OutOfRange, Weekday, WeekdaySet, WeekdaySetIter};
 pub use datelike::Datelike;
 pub use days::Days;

@@ -1,5 +1,5 @@
 -- The date that fits parts is the one that they name.
-use Rattle.std.proofs.Common.{◌≡◌, ℕ, Bool, true, false, ◌&&◌, Option, None, Some, refl, ap, sym, ◌∙◌, ◌≤◌, ℤ, pos, neg_ℤ, SFits, of_z, to_z, w32, arith, rules}
+use Rattle.std.proofs.Common.{◌≡◌, ℕ, Bool, true, false, ◌&&◌, Option, None, Some, refl, ap, sym, subst, ◌∙◌, ◌≤◌, ℤ, pos, neg_ℤ, SFits, of_z, to_z, w32, arith, rules}
 use Rattle.std.proofs.lemmas.Bool.{and_parts, false≢true}
 use Rattle.std.proofs.lemmas.Bool.Decides.{Decides-int_eq}
 use Rattle.std.proofs.lemmas.Int.{ints, to_z-of_z}
@@ -16,7 +16,8 @@ use Rattle.chrono_datetime.specs.Years.{IsYear}
 use Rattle.chrono_datetime.specs.Weeks.{date_of_iso, iso_week_of, iso_year_of, weekday_of}
 use Rattle.chrono_datetime.specs.declared.Weekday.{Weekday}
 use Rattle.chrono_datetime.specs.declared.Weekday.TheVariants.{Mon, Tue, Wed, Thu, Fri, Sat, Sun}
-use Rattle.chrono_pattern.specs.DateParts.{date_fits, day_fits, in_window, is_given, names_calendar, names_date, names_ordinal, names_week, names_year, says, week_fits, weekday_at_number, year_fits}
+use Rattle.chrono_pattern.specs.DateParts.{date_fits, day_fits, in_window, is_present, names_calendar, names_date, names_ordinal, names_week, names_year, names_year_week, says, week_fits, weekday_at_number, year_fits, year_week_fits}
+use Rattle.chrono_pattern.specs.YearWeeks.{week_from_monday, week_from_sunday}
 use Rattle.chrono_pattern.specs.declared.parsed.Parsed.{Parsed}
 
 -- ---- what fits
@@ -31,13 +32,24 @@ pub record FitsEach (p : Parsed) (n : ℤ) : Type 0 where
   pub year : year_fits p (year_of n) ≡ true
   pub day : day_fits p n ≡ true
   pub week : week_fits p n ≡ true
+  pub year_week : year_week_fits p n ≡ true
 
 pub fits_each : (p : Parsed) (n : ℤ) → date_fits p n ≡ true → FitsEach p n
 unfolding date_fits
 fits_each p n fits =
-    let both = and_parts (year_fits p (year_of n)) (day_fits p n && week_fits p n) fits in
-    let rest = and_parts (day_fits p n) (week_fits p n) both.1 in
-    record { year = both.0; day = rest.0; week = rest.1 }
+    let both = and_parts (year_fits p (year_of n)) (day_fits p n && (week_fits p n && year_week_fits p n)) fits in
+    let rest = and_parts (day_fits p n) (week_fits p n && year_week_fits p n) both.1 in
+    let weeks = and_parts (week_fits p n) (year_week_fits p n) rest.1 in
+    record { year = both.0; day = rest.0; week = weeks.0; year_week = weeks.1 }
+
+-- the weeks of the year that fit
+pub from_sunday_fits : (p : Parsed) (n : ℤ) → date_fits p n ≡ true → says p.week_from_sun (pos (week_from_sunday n)) ≡ true
+unfolding year_week_fits
+from_sunday_fits p n fits = (and_parts _ _ (fits_each p n fits).year_week).0
+
+pub from_monday_fits : (p : Parsed) (n : ℤ) → date_fits p n ≡ true → says p.week_from_mon (pos (week_from_monday n)) ≡ true
+unfolding year_week_fits
+from_monday_fits p n fits = (and_parts _ _ (fits_each p n fits).year_week).1
 
 pub month_said : (p : Parsed) (n m : ℤ) → day_fits p n ≡ true → p.month ≡ Some m → m ≡ pos (month_of n)
 unfolding day_fits
@@ -66,46 +78,60 @@ weekday_said p n d fits is = said p.weekday d _ is (and_parts _ _ (and_parts _ _
 -- ---- what is named
 
 -- a part that is wanted is there
-pub is_missing : (o : Option ℤ) → o ≡ None → is_given o ≡ true → ⊥
+pub is_missing : (o : Option ℤ) → o ≡ None → is_present o ≡ true → ⊥
 is_missing None none given = absurd (false≢true given)
 is_missing (Some v) none given = cc
 
 pub record NamesCalendar (p : Parsed) : Type 0 where
   pub year : names_year p ≡ true
-  pub month : is_given p.month ≡ true
-  pub day : is_given p.day ≡ true
+  pub month : is_present p.month ≡ true
+  pub day : is_present p.day ≡ true
 
 pub calendar_names : (p : Parsed) → names_calendar p ≡ true → NamesCalendar p
 unfolding names_calendar
 calendar_names p named =
-    let both = and_parts (names_year p) (is_given p.month && is_given p.day) named in
-    let rest = and_parts (is_given p.month) (is_given p.day) both.1 in
+    let both = and_parts (names_year p) (is_present p.month && is_present p.day) named in
+    let rest = and_parts (is_present p.month) (is_present p.day) both.1 in
     record { year = both.0; month = rest.0; day = rest.1 }
 
-pub ordinal_names : (p : Parsed) → names_ordinal p ≡ true → (names_year p ≡ true) × (is_given p.ordinal ≡ true)
+pub ordinal_names : (p : Parsed) → names_ordinal p ≡ true → (names_year p ≡ true) × (is_present p.ordinal ≡ true)
 unfolding names_ordinal
-ordinal_names p named = and_parts (names_year p) (is_given p.ordinal) named
+ordinal_names p named = and_parts (names_year p) (is_present p.ordinal) named
 
 pub record NamesWeek (p : Parsed) : Type 0 where
-  pub year : is_given p.isoyear ≡ true
-  pub week : is_given p.isoweek ≡ true
-  pub weekday : is_given p.weekday ≡ true
+  pub year : is_present p.isoyear ≡ true
+  pub week : is_present p.isoweek ≡ true
+  pub weekday : is_present p.weekday ≡ true
 
 pub week_names : (p : Parsed) → names_week p ≡ true → NamesWeek p
 unfolding names_week
 week_names p named =
-    let both = and_parts (is_given p.isoyear) (is_given p.isoweek && is_given p.weekday) named in
-    let rest = and_parts (is_given p.isoweek) (is_given p.weekday) both.1 in
+    let both = and_parts (is_present p.isoyear) (is_present p.isoweek && is_present p.weekday) named in
+    let rest = and_parts (is_present p.isoweek) (is_present p.weekday) both.1 in
     record { year = both.0; week = rest.0; weekday = rest.1 }
 
-third : (a b c : Bool) → (if a then true else if b then true else c) ≡ true → a ≡ false → b ≡ false → c ≡ true
-third true b c h first second = absurd (false≢true (sym first))
-third false true c h first second = absurd (false≢true (sym second))
-third false false c h first second = h
+pub year_week_names : (week : Option ℤ) (p : Parsed) → names_year_week week p ≡ true
+    → (names_year p ≡ true) × (is_present week ≡ true) × (is_present p.weekday ≡ true)
+unfolding names_year_week
+year_week_names week p named =
+    let both = and_parts (names_year p) (is_present week && is_present p.weekday) named in
+    let rest = and_parts (is_present week) (is_present p.weekday) both.1 in
+    (both.0, rest.0, rest.1)
 
-pub week_named : (p : Parsed) → names_date p ≡ true → names_calendar p ≡ false → names_ordinal p ≡ false → names_week p ≡ true
+-- the last of five tests holds where the others do not
+fifth : (a b c d e : Bool) → (if a then true else if b then true else if c then true else if d then true else e) ≡ true
+    → a ≡ false → b ≡ false → c ≡ false → d ≡ false → e ≡ true
+fifth false false false false e h first second third fourth = h
+fifth true b c d e h first second third fourth = absurd (false≢true (sym first))
+fifth false true c d e h first second third fourth = absurd (false≢true (sym second))
+fifth false false true d e h first second third fourth = absurd (false≢true (sym third))
+fifth false false false true e h first second third fourth = absurd (false≢true (sym fourth))
+
+pub last_named : (p : Parsed) → names_date p ≡ true → names_calendar p ≡ false → names_ordinal p ≡ false → names_week p ≡ false
+    → names_year_week p.week_from_sun p ≡ false → names_year_week p.week_from_mon p ≡ true
 unfolding names_date
-week_named p named first second = third (names_calendar p) (names_ordinal p) (names_week p) named first second
+last_named p named first second third fourth =
+    fifth (names_calendar p) (names_ordinal p) (names_week p) (names_year_week p.week_from_sun p) (names_year_week p.week_from_mon p) named first second third fourth
 
 -- ---- the year
 
@@ -146,6 +172,9 @@ cast_is x y least most same = ap (λ (z : ℤ). to_z w32 (of_z w32 z)) same ∙ 
 
 pub year_cast : (x y : ℤ) → IsYear y → x ≡ y → to_z w32 (of_z w32 x) ≡ y
 year_cast x y year same = cast_is x y (omega (arith, signed, year.0)) (omega (arith, signed, year.1)) same
+
+pub year_is_year : (x y : ℤ) → IsYear y → x ≡ y → IsYear (to_z w32 (of_z w32 x))
+year_is_year x y year same = subst IsYear (sym (year_cast x y year same)) year
 
 pub iso_year_cast : (x n : ℤ) → IsDate n → x ≡ iso_year_of n → to_z w32 (of_z w32 x) ≡ iso_year_of n
 iso_year_cast x n date same =

@@ -1,14 +1,14 @@
 -- A text that a pattern reads gives the parts that its specifiers name.
 use Rattle.std.proofs.Common.{◌≡◌, ℕ, List, [], ◌∷◌, length, Option, None, Some, refl, ap, sym, ◌∙◌, arith}
 use Rattle.chrono_pattern.specs.NamedParts.{named_from, with_item}
-use Rattle.chrono_pattern.specs.Steps.{pattern_step}
+use Rattle.chrono_pattern.specs.PatternSteps.{pattern_step}
 use Rattle.chrono_pattern.specs.declared.item.Item.{Item}
 use Rattle.chrono_pattern.specs.declared.item.State.{State}
 use Rattle.chrono_pattern.specs.declared.parsed.Parsed.{Parsed}
 
 -- ---- the parts that the bytes name, byte by byte
 
-named_from-more : (s : State) (c : ℕ) (bytes : List ℕ) (p : Parsed) (next : State × Item) → pattern_step s c ≡ Some next
+pub named_from-more : (s : State) (c : ℕ) (bytes : List ℕ) (p : Parsed) (next : State × Item) → pattern_step s c ≡ Some next
     → named_from s (c ∷ bytes) p ≡ named_from next.0 bytes (with_item next.1 p)
 unfolding named_from
 named_from-more s c bytes p next e =
@@ -19,7 +19,7 @@ unfolding named_from
 named_from-none s c bytes p e =
     ap (λ (o : Option (State × Item)). elim o as (λ _. Parsed) [ None ↦ p | Some n ↦ named_from n.0 bytes (with_item n.1 p) ]) e
 
-named_from-nothing : (s : State) (p : Parsed) → named_from s [] p ≡ p
+pub named_from-nothing : (s : State) (p : Parsed) → named_from s [] p ≡ p
 unfolding named_from
 named_from-nothing s p = refl
 

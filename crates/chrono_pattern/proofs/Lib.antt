@@ -6,3 +6,11 @@ mod ShapeLemmas
 mod ReadLemmas
 mod DatePartLemmas
 mod TimePartLemmas
+mod YearWeekLemmas
+mod WriteLemmas
+mod AsciiLemmas
+mod ItemLemmas
+mod BackNumbers
+mod BackParts
+mod BackItems
+mod BackPatterns

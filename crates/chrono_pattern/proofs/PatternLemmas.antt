@@ -2,8 +2,8 @@
 use Rattle.std.proofs.Common.{◌≡◌, ℕ, Bool, true, false, ◌||◌, ◌+◌, ◌≤◌, List, [], ◌∷◌, ◌++◌, length, length-append, append_assoc, append-nil, Option, None, Some, refl, ap, sym, ◌∙◌, arith}
 use Rattle.chrono_datetime.specs.Moment.{Moment}
 use Rattle.chrono_pattern.specs.Needs.{item_needs_time, needs_time_from}
-use Rattle.chrono_pattern.specs.Patterns.{begun_at, cut_error, error_from, item_text, text_from}
-use Rattle.chrono_pattern.specs.Steps.{pattern_step}
+use Rattle.chrono_pattern.specs.Patterns.{begun_at, cut_error, error_from, text_of_item, text_from}
+use Rattle.chrono_pattern.specs.PatternSteps.{pattern_step}
 use Rattle.chrono_pattern.specs.declared.error.PatternError.{PatternError}
 use Rattle.chrono_pattern.specs.declared.error.PatternFault.TheVariants.{Unknown}
 use Rattle.chrono_pattern.specs.declared.item.Item.{Item}
@@ -12,16 +12,16 @@ use Rattle.chrono_pattern.specs.declared.item.State.{State}
 -- ---- the text
 
 pub text_from-more : (s : State) (c : ℕ) (bytes : List ℕ) (m : Moment) (next : State × Item) → pattern_step s c ≡ Some next
-    → text_from s (c ∷ bytes) m ≡ item_text next.1 m ++ text_from next.0 bytes m
+    → text_from s (c ∷ bytes) m ≡ text_of_item next.1 m ++ text_from next.0 bytes m
 unfolding text_from
 text_from-more s c bytes m next e =
-    ap (λ (o : Option (State × Item)). elim o as (λ _. List ℕ) [ None ↦ [] | Some n ↦ item_text n.1 m ++ text_from n.0 bytes m ]) e
+    ap (λ (o : Option (State × Item)). elim o as (λ _. List ℕ) [ None ↦ [] | Some n ↦ text_of_item n.1 m ++ text_from n.0 bytes m ]) e
 
 pub text_from-none : (s : State) (c : ℕ) (bytes : List ℕ) (m : Moment) → pattern_step s c ≡ None
     → text_from s (c ∷ bytes) m ≡ []
 unfolding text_from
 text_from-none s c bytes m e =
-    ap (λ (o : Option (State × Item)). elim o as (λ _. List ℕ) [ None ↦ [] | Some n ↦ item_text n.1 m ++ text_from n.0 bytes m ]) e
+    ap (λ (o : Option (State × Item)). elim o as (λ _. List ℕ) [ None ↦ [] | Some n ↦ text_of_item n.1 m ++ text_from n.0 bytes m ]) e
 
 pub text_from-nothing : (s : State) (m : Moment) → text_from s [] m ≡ []
 unfolding text_from
@@ -29,7 +29,7 @@ text_from-nothing s m = refl
 
 -- the same of a text that begins with the byte
 pub text_from-goes_on : (s : State) (c : ℕ) (bytes behind : List ℕ) (m : Moment) (next : State × Item) → bytes ≡ c ∷ behind
-    → pattern_step s c ≡ Some next → text_from s bytes m ≡ item_text next.1 m ++ text_from next.0 behind m
+    → pattern_step s c ≡ Some next → text_from s bytes m ≡ text_of_item next.1 m ++ text_from next.0 behind m
 text_from-goes_on s c bytes behind m next is step = ap (λ (l : List ℕ). text_from s l m) is ∙ text_from-more s c behind m next step
 
 pub text_from-stops : (s : State) (c : ℕ) (bytes behind : List ℕ) (m : Moment) → bytes ≡ c ∷ behind
@@ -46,7 +46,7 @@ all_written text rest total whole none = sym (append-nil text) ∙ ap (λ (l : L
 
 -- an item is put behind the text
 pub text_grows : (text piece : List ℕ) (s : State) (c : ℕ) (bytes behind : List ℕ) (m : Moment) (next : State × Item) (total : List ℕ)
-    → text ++ text_from s bytes m ≡ total → bytes ≡ c ∷ behind → pattern_step s c ≡ Some next → piece ≡ item_text next.1 m
+    → text ++ text_from s bytes m ≡ total → bytes ≡ c ∷ behind → pattern_step s c ≡ Some next → piece ≡ text_of_item next.1 m
     → (text ++ piece) ++ text_from next.0 behind m ≡ total
 text_grows text piece s c bytes behind m next total whole is step put =
     append_assoc text piece (text_from next.0 behind m)

@@ -12,14 +12,14 @@ use Rattle.chrono_datetime.specs.Names.{month_of_letters, weekday_of_letters}
 use Rattle.chrono_datetime.specs.Weekday.{number_from_monday}
 use Rattle.chrono_datetime.specs.declared.Month.{Month as MonthOf}
 use Rattle.chrono_datetime.specs.declared.Weekday.{Weekday}
-use Rattle.chrono_pattern.specs.DateParts.{is_given, names_calendar, names_date, names_ordinal, names_week}
-use Rattle.chrono_pattern.specs.ItemReads.{behind_read, group_read, item_read, three_read, two_read}
-use Rattle.chrono_pattern.specs.NamedParts.{named_from, named_parts, with_group, with_half, with_item, with_named, with_number, word_part}
+use Rattle.chrono_pattern.specs.DateParts.{is_present, names_calendar, names_date, names_ordinal, names_week, names_year_week}
+use Rattle.chrono_pattern.specs.ItemReads.{behind_read, clock_year_read, day_read, group_read, half_clock_read, item_read, short_date_read, three_read, two_read, word_behind_read}
+use Rattle.chrono_pattern.specs.NamedParts.{named_from, named_parts, with_clock, with_group, with_half, with_item, with_named, with_number_field, word_part}
 use Rattle.chrono_pattern.specs.NumberReads.{digits_in, digits_read, half_put, has_sign, hour_of_clock, most_digits, number_part, number_put, number_read, part_put, signed_read, value_read, weekday_of_sunday}
-use Rattle.chrono_pattern.specs.Parts.{no_parts, part_of, put, range_of, with_part}
-use Rattle.chrono_pattern.specs.Progress.{Progress, behind_blanks, byte_behind, byte_read, in_front, is_blank, literal_read, progress, then_read}
-use Rattle.chrono_pattern.specs.Reads.{read_from, text_read}
-use Rattle.chrono_pattern.specs.Steps.{pattern_step}
+use Rattle.chrono_pattern.specs.Parts.{no_parts, part_of, put, part_range, with_part}
+use Rattle.chrono_pattern.specs.Progress.{Progress, behind_blanks, byte_behind, class_len, is_pattern_blank, literal_read, progress, then_read}
+use Rattle.chrono_pattern.specs.Reads.{end_read, front_read, read_from, text_read}
+use Rattle.chrono_pattern.specs.PatternSteps.{pattern_step}
 use Rattle.chrono_pattern.specs.SubsecondReads.{places_read, places_value, point_behind, subsecond_read}
 use Rattle.chrono_pattern.specs.TimeParts.{names_second, names_time}
 use Rattle.chrono_pattern.specs.WordReads.{half_behind, half_of, half_read, least_letters, letters_read, month_behind, month_read, weekday_behind, weekday_read, word_read}
@@ -27,18 +27,18 @@ use Rattle.chrono_pattern.specs.declared.class.Class.TheVariants.{Digit}
 use Rattle.chrono_pattern.specs.declared.error.ReadFault.{ReadFault}
 use Rattle.chrono_pattern.specs.declared.error.ReadFault.TheVariants.{Impossible}
 use Rattle.chrono_pattern.specs.declared.item.GroupField.{GroupField}
-use Rattle.chrono_pattern.specs.declared.item.GroupField.TheVariants.{YearMonthDay, MonthDayYear, HourMinute, HourMinuteSecond}
+use Rattle.chrono_pattern.specs.declared.item.GroupField.TheVariants.{YearMonthDay, MonthDayYear, HourMinute, HourMinuteSecond, HalfClock, DayMonthYear, DateAndTime}
 use Rattle.chrono_pattern.specs.declared.item.Item.{Item}
 use Rattle.chrono_pattern.specs.declared.item.Item.TheVariants.{Empty, Byte, Number, Word, Group, Subsecond}
 use Rattle.chrono_pattern.specs.declared.item.NumberField.{NumberField}
-use Rattle.chrono_pattern.specs.declared.item.NumberField.TheVariants.{Year, Century, YearOfCentury, Quarter, Month, Day, SpacedDay, DayOfYear, FromMonday, FromSunday, IsoYear, IsoYearOfCentury, IsoWeek, Hour, SpacedHour, HalfHour, SpacedHalfHour, Minute, Second, Nanosecond}
+use Rattle.chrono_pattern.specs.declared.item.NumberField.TheVariants.{Year, Century, YearOfCentury, Quarter, Month, Day, SpacedDay, DayOfYear, FromMonday, FromSunday, IsoYear, IsoYearOfCentury, IsoWeek, WeekFromSunday, WeekFromMonday, Hour, SpacedHour, HalfHour, SpacedHalfHour, Minute, Second, Nanosecond}
 use Rattle.chrono_pattern.specs.declared.item.State.{State}
 use Rattle.chrono_pattern.specs.declared.item.State.TheVariants.{Outside}
 use Rattle.chrono_pattern.specs.declared.item.WordField.{WordField}
 use Rattle.chrono_pattern.specs.declared.item.WordField.TheVariants.{MonthName, MonthLetters, WeekdayName, WeekdayLetters, Half, SmallHalf}
 use Rattle.chrono_pattern.specs.declared.parsed.Parsed.{Parsed}
 use Rattle.chrono_pattern.specs.declared.parsed.Part.{Part}
-use Rattle.chrono_pattern.specs.declared.parsed.Part.TheVariants.{FullYear, YearDiv100, YearMod100, FullIsoYear, IsoYearMod100, QuarterOfYear, MonthOfYear, WeekOfIsoYear, DayOfWeek, OrdinalDay, DayOfMonth, HourDiv12, HourMod12, MinuteOfHour, SecondOfMinute, NanosecondOfSecond}
+use Rattle.chrono_pattern.specs.declared.parsed.Part.TheVariants.{FullYear, YearDiv100, YearMod100, FullIsoYear, IsoYearMod100, QuarterOfYear, MonthOfYear, WeekOfIsoYear, WeekFromSun, WeekFromMon, DayOfWeek, OrdinalDay, DayOfMonth, HourDiv12, HourMod12, MinuteOfHour, SecondOfMinute, NanosecondOfSecond}
 use Rattle.chrono_pattern.specs.declared.stop.Stop.{Stop}
 
 -- ---- which parts are given
@@ -58,6 +58,8 @@ shape p = record {
   quarter = mark p.quarter;
   month = mark p.month;
   isoweek = mark p.isoweek;
+  week_from_sun = mark p.week_from_sun;
+  week_from_mon = mark p.week_from_mon;
   weekday = mark p.weekday;
   ordinal = mark p.ordinal;
   day = mark p.day;
@@ -77,6 +79,8 @@ with_shape IsoYearMod100 v p = refl
 with_shape QuarterOfYear v p = refl
 with_shape MonthOfYear v p = refl
 with_shape WeekOfIsoYear v p = refl
+with_shape WeekFromSun v p = refl
+with_shape WeekFromMon v p = refl
 with_shape DayOfWeek v p = refl
 with_shape OrdinalDay v p = refl
 with_shape DayOfMonth v p = refl
@@ -95,6 +99,8 @@ kept_shape IsoYearMod100 w p e = ap (λ (o : Option ℤ). record (shape p) { iso
 kept_shape QuarterOfYear w p e = ap (λ (o : Option ℤ). record (shape p) { quarter = mark o }) (sym e)
 kept_shape MonthOfYear w p e = ap (λ (o : Option ℤ). record (shape p) { month = mark o }) (sym e)
 kept_shape WeekOfIsoYear w p e = ap (λ (o : Option ℤ). record (shape p) { isoweek = mark o }) (sym e)
+kept_shape WeekFromSun w p e = ap (λ (o : Option ℤ). record (shape p) { week_from_sun = mark o }) (sym e)
+kept_shape WeekFromMon w p e = ap (λ (o : Option ℤ). record (shape p) { week_from_mon = mark o }) (sym e)
 kept_shape DayOfWeek w p e = ap (λ (o : Option ℤ). record (shape p) { weekday = mark o }) (sym e)
 kept_shape OrdinalDay w p e = ap (λ (o : Option ℤ). record (shape p) { ordinal = mark o }) (sym e)
 kept_shape DayOfMonth w p e = ap (λ (o : Option ℤ). record (shape p) { day = mark o }) (sym e)
@@ -107,9 +113,9 @@ kept_shape NanosecondOfSecond w p e = refl
 -- the same parts are given, and a fraction only if the other parts have one
 record Like (p q : Parsed) : Type 0 where
   pub same : shape p ≡ shape q
-  pub fraction : is_given p.nanosecond ≡ true → is_given q.nanosecond ≡ true
+  pub fraction : is_present p.nanosecond ≡ true → is_present q.nanosecond ≡ true
 
-fraction_named : (part : Part) (p q : Parsed) → Like p q → is_given p.nanosecond ≡ true → is_given (with_named part q).nanosecond ≡ true
+fraction_named : (part : Part) (p q : Parsed) → Like p q → is_present p.nanosecond ≡ true → is_present (with_named part q).nanosecond ≡ true
 fraction_named FullYear p q e h = e.fraction h
 fraction_named YearDiv100 p q e h = e.fraction h
 fraction_named YearMod100 p q e h = e.fraction h
@@ -118,6 +124,8 @@ fraction_named IsoYearMod100 p q e h = e.fraction h
 fraction_named QuarterOfYear p q e h = e.fraction h
 fraction_named MonthOfYear p q e h = e.fraction h
 fraction_named WeekOfIsoYear p q e h = e.fraction h
+fraction_named WeekFromSun p q e h = e.fraction h
+fraction_named WeekFromMon p q e h = e.fraction h
 fraction_named DayOfWeek p q e h = e.fraction h
 fraction_named OrdinalDay p q e h = e.fraction h
 fraction_named DayOfMonth p q e h = e.fraction h
@@ -127,8 +135,8 @@ fraction_named MinuteOfHour p q e h = e.fraction h
 fraction_named SecondOfMinute p q e h = e.fraction h
 fraction_named NanosecondOfSecond p q e h = refl
 
-fraction_put : (part : Part) (v : ℤ) (p q : Parsed) → Like p q → is_given (with_part part v p).nanosecond ≡ true
-    → is_given (with_named part q).nanosecond ≡ true
+fraction_put : (part : Part) (v : ℤ) (p q : Parsed) → Like p q → is_present (with_part part v p).nanosecond ≡ true
+    → is_present (with_named part q).nanosecond ≡ true
 fraction_put FullYear v p q e h = e.fraction h
 fraction_put YearDiv100 v p q e h = e.fraction h
 fraction_put YearMod100 v p q e h = e.fraction h
@@ -137,6 +145,8 @@ fraction_put IsoYearMod100 v p q e h = e.fraction h
 fraction_put QuarterOfYear v p q e h = e.fraction h
 fraction_put MonthOfYear v p q e h = e.fraction h
 fraction_put WeekOfIsoYear v p q e h = e.fraction h
+fraction_put WeekFromSun v p q e h = e.fraction h
+fraction_put WeekFromMon v p q e h = e.fraction h
 fraction_put DayOfWeek v p q e h = e.fraction h
 fraction_put OrdinalDay v p q e h = e.fraction h
 fraction_put DayOfMonth v p q e h = e.fraction h
@@ -177,8 +187,8 @@ put_found part v p q e (Some w) is =
 put_shaped : (part : Part) (v : ℤ) (p q : Parsed) → Like p q → Shaped (put part v p) (with_named part q)
 unfolding put
 put_shaped part v p q e =
-    if_shaped (int_lt v (range_of part).0) _ _ (with_named part q) tt
-    (if_shaped (int_lt (range_of part).1 v) _ _ (with_named part q) tt (put_found part v p q e (part_of part p) refl))
+    if_shaped (int_lt v (part_range part).0) _ _ (with_named part q) tt
+    (if_shaped (int_lt (part_range part).1 v) _ _ (with_named part q) tt (put_found part v p q e (part_of part p) refl))
 
 -- ---- a number
 
@@ -196,6 +206,8 @@ half_shaped FromSunday v p q e = e
 half_shaped IsoYear v p q e = e
 half_shaped IsoYearOfCentury v p q e = e
 half_shaped IsoWeek v p q e = e
+half_shaped WeekFromSunday v p q e = e
+half_shaped WeekFromMonday v p q e = e
 half_shaped Hour v p q e = put_shaped HourDiv12 (int_div_euclid v (pos 12)) p q e
 half_shaped SpacedHour v p q e = put_shaped HourDiv12 (int_div_euclid v (pos 12)) p q e
 half_shaped HalfHour v p q e = e
@@ -219,6 +231,8 @@ put_number_shaped FromSunday v p q e = put_shaped DayOfWeek (weekday_of_sunday v
 put_number_shaped IsoYear v p q e = put_shaped FullIsoYear v p q e
 put_number_shaped IsoYearOfCentury v p q e = put_shaped IsoYearMod100 v p q e
 put_number_shaped IsoWeek v p q e = put_shaped WeekOfIsoYear v p q e
+put_number_shaped WeekFromSunday v p q e = put_shaped WeekFromSun v p q e
+put_number_shaped WeekFromMonday v p q e = put_shaped WeekFromMon v p q e
 put_number_shaped Hour v p q e = put_shaped HourMod12 (int_rem_euclid v (pos 12)) p q e
 put_number_shaped SpacedHour v p q e = put_shaped HourMod12 (int_rem_euclid v (pos 12)) p q e
 put_number_shaped HalfHour v p q e = put_shaped HourMod12 (hour_of_clock v) p q e
@@ -233,32 +247,33 @@ part_shaped (Ok p) field v q h = put_number_shaped field v p q h
 part_shaped (Err cause) field v q h = tt
 
 value_gives : (o : Option ℕ) (field : NumberField) (most : ℕ) (negative : Bool) (text : List ℕ) (p q : Parsed) → Like p q
-    → Gives (value_read o field most negative text p) (with_number field q)
+    → Gives (value_read o field most negative text p) (with_number_field field q)
+unfolding number_put
 value_gives None field most negative text p q e = tt
 value_gives (Some n) field most negative text p q e =
     let v = signed negative n in
-    progress_gives (number_put field v p) _ text (with_number field q)
+    progress_gives (number_put field v p) _ text (with_number_field field q)
     (part_shaped (half_put field v p) field v (with_half field q) (half_shaped field v p q e))
 
 digits_gives : (field : NumberField) (most : ℕ) (negative : Bool) (text : List ℕ) (p q : Parsed) → Like p q
-    → Gives (digits_read field most negative text p) (with_number field q)
+    → Gives (digits_read field most negative text p) (with_number_field field q)
 unfolding digits_read
 digits_gives field most negative text p q e = value_gives (digits_of most (take (digits_in most text) text)) field most negative text p q e
 
 signed_gives : (field : NumberField) (text : List ℕ) (p q : Parsed) → Like p q
-    → Gives (signed_read field text p) (with_number field q)
+    → Gives (signed_read field text p) (with_number_field field q)
 unfolding signed_read
 signed_gives field [] p q e = tt
 signed_gives field (c ∷ digits) p q e =
-    if_gives (c == byte "-") _ _ (with_number field q) (digits_gives field 9 true digits p q e)
-    (if_gives (c == byte "+") _ _ (with_number field q) (digits_gives field 9 false digits p q e)
+    if_gives (c == byte "-") _ _ (with_number_field field q) (digits_gives field 9 true digits p q e)
+    (if_gives (c == byte "+") _ _ (with_number_field field q) (digits_gives field 9 false digits p q e)
     (digits_gives field (most_digits field) false (c ∷ digits) p q e))
 
 number_gives : (field : NumberField) (r : Progress) (q : Parsed) → Like r.parsed q
-    → Gives (number_read field r) (with_number field q)
+    → Gives (number_read field r) (with_number_field field q)
 unfolding number_read
 number_gives field r q e =
-    if_gives (has_sign field) _ _ (with_number field q) (signed_gives field (behind_blanks r.rest) r.parsed q e)
+    if_gives (has_sign field) _ _ (with_number_field field q) (signed_gives field (behind_blanks r.rest) r.parsed q e)
     (digits_gives field (most_digits field) false (behind_blanks r.rest) r.parsed q e)
 
 -- ---- a word
@@ -308,25 +323,70 @@ byte_gives c (d ∷ rest) p q e = if_gives (d == c) _ _ q e tt
 
 literal_gives : (c : ℕ) (r : Progress) (q : Parsed) → Like r.parsed q → Gives (literal_read c r) q
 unfolding literal_read
-literal_gives c r q e = if_gives (is_blank c) _ _ q e (byte_gives c r.rest r.parsed q e)
+literal_gives c r q e = if_gives (is_pattern_blank c) _ _ q e (byte_gives c r.rest r.parsed q e)
 
 behind_gives : (c : ℕ) (field : NumberField) (r : Progress) (q : Parsed) → Like r.parsed q
-    → Gives (behind_read c field r) (with_number field q)
+    → Gives (behind_read c field r) (with_number_field field q)
 behind_gives c field r q e =
-    then_gives (byte_read c r) (number_read field) q (with_number field q) (byte_gives c r.rest r.parsed q e) (λ t h. number_gives field t q h)
+    then_gives (literal_read c r) (number_read field) q (with_number_field field q) (literal_gives c r q e) (λ t h. number_gives field t q h)
+
+word_behind_gives : (c : ℕ) (word : WordField) (r : Progress) (q : Parsed) → Like r.parsed q
+    → Gives (word_behind_read c word r) (with_named (word_part word) q)
+word_behind_gives c word r q e =
+    then_gives (literal_read c r) (word_read word) q (with_named (word_part word) q) (literal_gives c r q e) (λ t h. word_gives word t q h)
 
 two_give : (first : NumberField) (c : ℕ) (second : NumberField) (r : Progress) (q : Parsed) → Like r.parsed q
-    → Gives (two_read first c second r) (with_number second (with_number first q))
+    → Gives (two_read first c second r) (with_number_field second (with_number_field first q))
 two_give first c second r q e =
-    then_gives (number_read first r) (behind_read c second) (with_number first q) (with_number second (with_number first q))
-    (number_gives first r q e) (λ t h. behind_gives c second t (with_number first q) h)
+    then_gives (number_read first r) (behind_read c second) (with_number_field first q) (with_number_field second (with_number_field first q))
+    (number_gives first r q e) (λ t h. behind_gives c second t (with_number_field first q) h)
 
 three_give : (first : NumberField) (c : ℕ) (second third : NumberField) (r : Progress) (q : Parsed) → Like r.parsed q
-    → Gives (three_read first c second third r) (with_number third (with_number second (with_number first q)))
+    → Gives (three_read first c second third r) (with_number_field third (with_number_field second (with_number_field first q)))
 three_give first c second third r q e =
-    let both = with_number second (with_number first q) in
-    then_gives (two_read first c second r) (behind_read c third) both (with_number third both)
+    let both = with_number_field second (with_number_field first q) in
+    then_gives (two_read first c second r) (behind_read c third) both (with_number_field third both)
     (two_give first c second r q e) (λ t h. behind_gives c third t both h)
+
+half_clock_gives : (r : Progress) (q : Parsed) → Like r.parsed q → Gives (half_clock_read r) (with_named HourDiv12 (with_clock HalfHour q))
+half_clock_gives r q e =
+    then_gives (three_read HalfHour (byte ":") Minute Second r) (word_behind_read (byte " ") Half) (with_clock HalfHour q) (with_named HourDiv12 (with_clock HalfHour q))
+    (three_give HalfHour (byte ":") Minute Second r q e) (λ t h. word_behind_gives (byte " ") Half t (with_clock HalfHour q) h)
+
+short_date_gives : (r : Progress) (q : Parsed) → Like r.parsed q
+    → Gives (short_date_read r) (with_number_field Year (with_named MonthOfYear (with_number_field SpacedDay q)))
+short_date_gives r q e =
+    let day = with_number_field SpacedDay q in
+    let month = with_named MonthOfYear day in
+    then_gives (then_read (number_read SpacedDay r) (word_behind_read (byte "-") MonthLetters)) (behind_read (byte "-") Year) month (with_number_field Year month)
+    (then_gives (number_read SpacedDay r) (word_behind_read (byte "-") MonthLetters) day month (number_gives SpacedDay r q e) (λ t h. word_behind_gives (byte "-") MonthLetters t day h))
+    (λ t h. behind_gives (byte "-") Year t month h)
+
+day_gives : (r : Progress) (q : Parsed) → Like r.parsed q
+    → Gives (day_read r) (with_number_field SpacedDay (with_named MonthOfYear (with_named DayOfWeek q)))
+day_gives r q e =
+    let weekday = with_named DayOfWeek q in
+    let month = with_named MonthOfYear weekday in
+    then_gives (then_read (word_read WeekdayLetters r) (word_behind_read (byte " ") MonthLetters)) (behind_read (byte " ") SpacedDay) month (with_number_field SpacedDay month)
+    (then_gives (word_read WeekdayLetters r) (word_behind_read (byte " ") MonthLetters) weekday month (word_gives WeekdayLetters r q e) (λ t h. word_behind_gives (byte " ") MonthLetters t weekday h))
+    (λ t h. behind_gives (byte " ") SpacedDay t month h)
+
+clock_year_gives : (r : Progress) (q : Parsed) → Like r.parsed q → Gives (clock_year_read r) (with_number_field Year (with_clock Hour q))
+clock_year_gives r q e =
+    let hour = with_number_field Hour q in
+    let minute = with_number_field Minute hour in
+    let second = with_number_field Second minute in
+    then_gives (then_read (then_read (behind_read (byte " ") Hour r) (behind_read (byte ":") Minute)) (behind_read (byte ":") Second)) (behind_read (byte " ") Year) second (with_number_field Year second)
+    (then_gives (then_read (behind_read (byte " ") Hour r) (behind_read (byte ":") Minute)) (behind_read (byte ":") Second) minute second
+    (then_gives (behind_read (byte " ") Hour r) (behind_read (byte ":") Minute) hour minute (behind_gives (byte " ") Hour r q e) (λ t h. behind_gives (byte ":") Minute t hour h))
+    (λ t h. behind_gives (byte ":") Second t minute h))
+    (λ t h. behind_gives (byte " ") Year t second h)
+
+date_and_time_gives : (r : Progress) (q : Parsed) → Like r.parsed q → Gives (then_read (day_read r) clock_year_read) (with_group DateAndTime q)
+unfolding with_group
+date_and_time_gives r q e =
+    let day = with_number_field SpacedDay (with_named MonthOfYear (with_named DayOfWeek q)) in
+    then_gives (day_read r) clock_year_read day (with_number_field Year (with_clock Hour day)) (day_gives r q e) (λ t h. clock_year_gives t day h)
 
 group_gives : (group : GroupField) (r : Progress) (q : Parsed) → Like r.parsed q → Gives (group_read group r) (with_group group q)
 unfolding group_read with_group
@@ -334,6 +394,9 @@ group_gives YearMonthDay r q e = three_give Year (byte "-") Month Day r q e
 group_gives MonthDayYear r q e = three_give Month (byte "/") Day YearOfCentury r q e
 group_gives HourMinute r q e = two_give Hour (byte ":") Minute r q e
 group_gives HourMinuteSecond r q e = three_give Hour (byte ":") Minute Second r q e
+group_gives HalfClock r q e = half_clock_gives r q e
+group_gives DayMonthYear r q e = short_date_gives r q e
+group_gives DateAndTime r q e = date_and_time_gives r q e
 
 -- ---- the fraction
 
@@ -356,7 +419,7 @@ point_gives : (text : List ℕ) (p q : Parsed) → Like p q → Gives (point_beh
 point_gives [] p q e = left_out p q e
 point_gives (c ∷ digits) p q e =
     if_gives (c == byte ".") _ _ (with_named NanosecondOfSecond q)
-    (places_give (min (in_front Digit digits) 9) (in_front Digit digits) digits p q e) (left_out p q e)
+    (places_give (min (class_len Digit digits) 9) (class_len Digit digits) digits p q e) (left_out p q e)
 
 subsecond_gives : (point : Bool) (count : ℕ) (r : Progress) (q : Parsed) → Like r.parsed q
     → Gives (subsecond_read point count r) (with_named NanosecondOfSecond q)
@@ -376,40 +439,44 @@ item_gives (Word word) r q e = word_gives word r q e
 item_gives (Group group) r q e = group_gives group r q e
 item_gives (Subsecond point count) r q e = subsecond_gives point count r q e
 
-abbrev Ends : Result Parsed Stop → Parsed → Type 0
-Ends o q = IfOk o (λ p. Like p q)
-
 abbrev Keeps : List ℕ → Type 0
-Keeps bytes = (s : State) (r : Progress) (q : Parsed) → Like r.parsed q → Ends (read_from s bytes r) (named_from s bytes q)
-
-end_keeps : (b : Bool) (r : Progress) (stop : Stop) (q : Parsed) → Like r.parsed q → Ends (if b then Ok r.parsed else Err stop) q
-end_keeps true r stop q e = e
-end_keeps false r stop q e = tt
+Keeps bytes = (s : State) (r : Progress) (q : Parsed) → Like r.parsed q → Gives (read_from s bytes r) (named_from s bytes q)
 
 item_keeps : (bytes : List ℕ) → Keeps bytes → (s : State) (q : Parsed) (a : Result Progress Stop) → Gives a q
-    → Ends (elim a as (λ _. Result Parsed Stop) [ Ok t ↦ read_from s bytes t | Err k ↦ Err k ]) (named_from s bytes q)
+    → Gives (elim a as (λ _. Result Progress Stop) [ Ok t ↦ read_from s bytes t | Err k ↦ Err k ]) (named_from s bytes q)
 item_keeps bytes rest s q (Ok t) h = rest s t q h
 item_keeps bytes rest s q (Err k) h = tt
 
 step_keeps : (bytes : List ℕ) → Keeps bytes → (r : Progress) (q : Parsed) → Like r.parsed q → (o : Option (State × Item))
-    → Ends (elim o as (λ _. Result Parsed Stop) [ None ↦ Ok r.parsed | Some n ↦ elim (item_read n.1 r) as (λ _. Result Parsed Stop) [ Ok t ↦ read_from n.0 bytes t | Err k ↦ Err k ] ])
+    → Gives (elim o as (λ _. Result Progress Stop) [ None ↦ Ok r | Some n ↦ elim (item_read n.1 r) as (λ _. Result Progress Stop) [ Ok t ↦ read_from n.0 bytes t | Err k ↦ Err k ] ])
     (elim o as (λ _. Parsed) [ None ↦ q | Some n ↦ named_from n.0 bytes (with_item n.1 q) ])
 step_keeps bytes rest r q e None = e
 step_keeps bytes rest r q e (Some n) = item_keeps bytes rest n.0 (with_item n.1 q) (item_read n.1 r) (item_gives n.1 r q e)
 
 keeps : (bytes : List ℕ) → Keeps bytes
 unfolding read_from named_from
-keeps [] s r q e = end_keeps (length r.rest == 0) r _ q e
+keeps [] s r q e = e
 keeps (c ∷ bytes) s r q e = step_keeps bytes (keeps bytes) r q e (pattern_step s c)
+
+abbrev Ends : Result Parsed Stop → Parsed → Type 0
+Ends o q = IfOk o (λ p. Like p q)
+
+if_ends : (b : Bool) (p : Parsed) (stop : Stop) (q : Parsed) → Like p q → Ends (if b then Ok p else Err stop) q
+if_ends true p stop q e = e
+if_ends false p stop q e = tt
+
+end_keeps : (o : Result Progress Stop) (q : Parsed) → Gives o q → Ends (end_read o) q
+end_keeps (Ok r) q e = if_ends (length r.rest == 0) r.parsed _ q e
+end_keeps (Err k) q e = tt
 
 -- ---- what the parts name
 
-given_mark : (o : Option ℤ) → is_given (mark o) ≡ is_given o
+given_mark : (o : Option ℤ) → is_present (mark o) ≡ is_present o
 given_mark None = refl
 given_mark (Some v) = refl
 
 date_of_shape : (p : Parsed) → names_date (shape p) ≡ names_date p
-unfolding names_date names_calendar names_ordinal names_week
+unfolding names_date names_calendar names_ordinal names_week names_year_week
 date_of_shape p =
     let year = given_mark p.year in
     let place = given_mark p.year_mod_100 in
@@ -419,12 +486,14 @@ date_of_shape p =
     let isoyear = given_mark p.isoyear in
     let isoweek = given_mark p.isoweek in
     let weekday = given_mark p.weekday in
+    let from_sunday = given_mark p.week_from_sun in
+    let from_monday = given_mark p.week_from_mon in
     cc
 
 ok_named : (o : Result Parsed Stop) (q p : Parsed) → Ends o q → o ≡ Ok p → Like p q
 ok_named (Ok r) q p h is =
     let same : r ≡ p = cc in
-    record { same = sym (ap (λ (t : Parsed). shape t) same) ∙ h.same; fraction = λ g. h.fraction (ap (λ (t : Parsed). is_given t.nanosecond) same ∙ g) }
+    record { same = sym (ap (λ (t : Parsed). shape t) same) ∙ h.same; fraction = λ g. h.fraction (ap (λ (t : Parsed). is_present t.nanosecond) same ∙ g) }
 ok_named (Err k) q p h is = cc
 
 nothing_read : Like no_parts no_parts
@@ -432,19 +501,20 @@ nothing_read = record { same = refl; fraction = λ h. h }
 
 read_like : (bytes text : List ℕ) (p : Parsed) → text_read bytes text ≡ Ok p → Like p (named_parts bytes)
 read_like bytes text p is =
-    ok_named (text_read bytes text) (named_parts bytes) p (keeps bytes Outside (record { rest = text; parsed = no_parts }) no_parts nothing_read) is
+    ok_named (text_read bytes text) (named_parts bytes) p
+    (end_keeps (front_read bytes text) (named_parts bytes) (keeps bytes Outside (record { rest = text; parsed = no_parts }) no_parts nothing_read)) is
 
 pub date_is_named : (bytes text : List ℕ) (p : Parsed) → text_read bytes text ≡ Ok p → names_date p ≡ names_date (named_parts bytes)
 date_is_named bytes text p is =
     sym (date_of_shape p) ∙ ap (λ (t : Parsed). names_date t) (read_like bytes text p is).same ∙ date_of_shape (named_parts bytes)
 
-same_given : (o other : Option ℤ) → mark o ≡ mark other → is_given o ≡ is_given other
-same_given o other e = sym (given_mark o) ∙ ap (λ (t : Option ℤ). is_given t) e ∙ given_mark other
+same_given : (o other : Option ℤ) → mark o ≡ mark other → is_present o ≡ is_present other
+same_given o other e = sym (given_mark o) ∙ ap (λ (t : Option ℤ). is_present t) e ∙ given_mark other
 
 abbrev is_enough : Option ℤ → Option ℤ → Bool
-is_enough second fraction = if is_given second then true else if is_given fraction then false else true
+is_enough second fraction = if is_present second then true else if is_present fraction then false else true
 
-enough : (s n t m : Option ℤ) → mark s ≡ mark t → (is_given n ≡ true → is_given m ≡ true) → is_enough t m ≡ true → is_enough s n ≡ true
+enough : (s n t m : Option ℤ) → mark s ≡ mark t → (is_present n ≡ true → is_present m ≡ true) → is_enough t m ≡ true → is_enough s n ≡ true
 enough (Some v) n t m e f named = refl
 enough None None t m e f named = refl
 enough None (Some w) (Some v) m e f named = cc

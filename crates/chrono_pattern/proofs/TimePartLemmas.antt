@@ -4,22 +4,22 @@ use Rattle.std.proofs.lemmas.Bool.{and_parts}
 use Rattle.std.proofs.lemmas.Bool.Decides.{Decides-int_eq}
 use Rattle.chrono_datetime.specs.Duration.{nanos_per_second}
 use Rattle.chrono_datetime.specs.Time.{TimeOfDay, hour_of, minute_of, second_of}
-use Rattle.chrono_pattern.specs.DateParts.{is_given}
+use Rattle.chrono_pattern.specs.DateParts.{is_present}
 use Rattle.chrono_pattern.specs.TimeParts.{clock_fits, counts, names_second, names_time, second_fits, size_or_zero, time_fits}
 use Rattle.chrono_pattern.specs.declared.parsed.Parsed.{Parsed}
 use Rattle.chrono_pattern.proofs.DatePartLemmas.{said}
 
 pub record NamesTime (p : Parsed) : Type 0 where
-  pub half : is_given p.hour_div_12 ≡ true
-  pub hour : is_given p.hour_mod_12 ≡ true
-  pub minute : is_given p.minute ≡ true
+  pub half : is_present p.hour_div_12 ≡ true
+  pub hour : is_present p.hour_mod_12 ≡ true
+  pub minute : is_present p.minute ≡ true
 
 pub time_names : (p : Parsed) → names_time p ≡ true → NamesTime p
 unfolding names_time
 time_names p named =
-    let both = and_parts (is_given p.hour_div_12 && is_given p.hour_mod_12) (is_given p.minute && names_second p) named in
-    let front = and_parts (is_given p.hour_div_12) (is_given p.hour_mod_12) both.0 in
-    record { half = front.0; hour = front.1; minute = (and_parts (is_given p.minute) (names_second p) both.1).0 }
+    let both = and_parts (is_present p.hour_div_12 && is_present p.hour_mod_12) (is_present p.minute && names_second p) named in
+    let front = and_parts (is_present p.hour_div_12) (is_present p.hour_mod_12) both.0 in
+    record { half = front.0; hour = front.1; minute = (and_parts (is_present p.minute) (names_second p) both.1).0 }
 
 pub half_said : (p : Parsed) (t : TimeOfDay) (v : ℤ) → time_fits p t ≡ true → p.hour_div_12 ≡ Some v → v ≡ pos (hour_of t / 12)
 unfolding time_fits clock_fits

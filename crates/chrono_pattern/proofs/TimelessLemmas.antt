@@ -1,21 +1,21 @@
 -- A pattern that needs no time of day writes the same at each time of a day.
 use Rattle.std.proofs.Common.{◌≡◌, ℕ, ℤ, Bool, true, false, ◌||◌, List, [], ◌∷◌, ◌++◌, Option, None, Some, refl, ap, sym, ◌∙◌}
-use Rattle.std.proofs.lemmas.Bool.{true≢false}
+use Rattle.std.proofs.lemmas.Bool.{or_parts, true≢false}
 use Rattle.chrono_datetime.specs.Moment.{moment}
 use Rattle.chrono_datetime.specs.Time.{TimeOfDay}
 use Rattle.chrono_pattern.specs.Groups.{group_text}
 use Rattle.chrono_pattern.specs.Needs.{group_needs_time, item_needs_time, needs_time_from, number_needs_time, word_needs_time}
-use Rattle.chrono_pattern.specs.Numbers.{number_text}
-use Rattle.chrono_pattern.specs.Patterns.{item_text, text_from}
-use Rattle.chrono_pattern.specs.Steps.{pattern_step}
+use Rattle.chrono_pattern.specs.Numbers.{field_text}
+use Rattle.chrono_pattern.specs.Patterns.{text_of_item, text_from}
+use Rattle.chrono_pattern.specs.PatternSteps.{pattern_step}
 use Rattle.chrono_pattern.specs.Words.{word_text}
 use Rattle.chrono_pattern.specs.declared.item.Padding.{Padding}
 use Rattle.chrono_pattern.specs.declared.item.NumberField.{NumberField}
-use Rattle.chrono_pattern.specs.declared.item.NumberField.TheVariants.{Year, Century, YearOfCentury, Quarter, Month, Day, SpacedDay, DayOfYear, FromMonday, FromSunday, IsoYear, IsoYearOfCentury, IsoWeek, Hour, SpacedHour, HalfHour, SpacedHalfHour, Minute, Second, Nanosecond}
+use Rattle.chrono_pattern.specs.declared.item.NumberField.TheVariants.{Year, Century, YearOfCentury, Quarter, Month, Day, SpacedDay, DayOfYear, FromMonday, FromSunday, IsoYear, IsoYearOfCentury, IsoWeek, WeekFromSunday, WeekFromMonday, Hour, SpacedHour, HalfHour, SpacedHalfHour, Minute, Second, Nanosecond}
 use Rattle.chrono_pattern.specs.declared.item.WordField.{WordField}
 use Rattle.chrono_pattern.specs.declared.item.WordField.TheVariants.{MonthName, MonthLetters, WeekdayName, WeekdayLetters, Half, SmallHalf}
 use Rattle.chrono_pattern.specs.declared.item.GroupField.{GroupField}
-use Rattle.chrono_pattern.specs.declared.item.GroupField.TheVariants.{YearMonthDay, MonthDayYear, HourMinute, HourMinuteSecond}
+use Rattle.chrono_pattern.specs.declared.item.GroupField.TheVariants.{YearMonthDay, MonthDayYear, HourMinute, HourMinuteSecond, HalfClock, DayMonthYear, DateAndTime}
 use Rattle.chrono_pattern.specs.declared.item.Item.{Item}
 use Rattle.chrono_pattern.specs.declared.item.Item.TheVariants.{Empty, Byte, Number, Word, Group, Subsecond}
 use Rattle.chrono_pattern.specs.declared.item.State.{State}
@@ -24,8 +24,8 @@ use Rattle.chrono_pattern.proofs.PatternLemmas.{needs_time_from-more, text_from-
 -- ---- an item
 
 number_timeless : (f : NumberField) (p : Padding) (n : ℤ) (t u : TimeOfDay) → number_needs_time f ≡ false
-    → number_text f p (moment n t) ≡ number_text f p (moment n u)
-unfolding number_text
+    → field_text f p (moment n t) ≡ field_text f p (moment n u)
+unfolding field_text
 number_timeless Year p n t u not = refl
 number_timeless Century p n t u not = refl
 number_timeless YearOfCentury p n t u not = refl
@@ -39,6 +39,8 @@ number_timeless FromSunday p n t u not = refl
 number_timeless IsoYear p n t u not = refl
 number_timeless IsoYearOfCentury p n t u not = refl
 number_timeless IsoWeek p n t u not = refl
+number_timeless WeekFromSunday p n t u not = refl
+number_timeless WeekFromMonday p n t u not = refl
 number_timeless Hour p n t u not = absurd (true≢false not)
 number_timeless SpacedHour p n t u not = absurd (true≢false not)
 number_timeless HalfHour p n t u not = absurd (true≢false not)
@@ -57,13 +59,16 @@ word_timeless Half n t u not = absurd (true≢false not)
 word_timeless SmallHalf n t u not = absurd (true≢false not)
 
 group_timeless : (g : GroupField) (n : ℤ) (t u : TimeOfDay) → group_needs_time g ≡ false → group_text g (moment n t) ≡ group_text g (moment n u)
-unfolding group_text number_text
+unfolding group_text field_text word_text
 group_timeless YearMonthDay n t u not = refl
 group_timeless MonthDayYear n t u not = refl
 group_timeless HourMinute n t u not = absurd (true≢false not)
 group_timeless HourMinuteSecond n t u not = absurd (true≢false not)
+group_timeless HalfClock n t u not = absurd (true≢false not)
+group_timeless DayMonthYear n t u not = refl
+group_timeless DateAndTime n t u not = absurd (true≢false not)
 
-item_timeless : (i : Item) (n : ℤ) (t u : TimeOfDay) → item_needs_time i ≡ false → item_text i (moment n t) ≡ item_text i (moment n u)
+item_timeless : (i : Item) (n : ℤ) (t u : TimeOfDay) → item_needs_time i ≡ false → text_of_item i (moment n t) ≡ text_of_item i (moment n u)
 item_timeless Empty n t u not = refl
 item_timeless (Byte c) n t u not = refl
 item_timeless (Number f p) n t u not = number_timeless f p n t u not
@@ -72,10 +77,6 @@ item_timeless (Group g) n t u not = group_timeless g n t u not
 item_timeless (Subsecond point count) n t u not = absurd (true≢false not)
 
 -- ---- a pattern
-
-neither : (b c : Bool) → (b || c) ≡ false → (b ≡ false) × (c ≡ false)
-neither true c not = absurd (true≢false not)
-neither false c not = (refl, not)
 
 -- the bytes behind one are timeless from each state
 abbrev IsTimeless : List ℕ → ℤ → TimeOfDay → TimeOfDay → Type 0
@@ -86,10 +87,10 @@ step_timeless : (s : State) (c : ℕ) (bytes : List ℕ) (n : ℤ) (t u : TimeOf
     → text_from s (c ∷ bytes) (moment n t) ≡ text_from s (c ∷ bytes) (moment n u)
 step_timeless s c bytes n t u None e rest not = text_from-none s c bytes (moment n t) e ∙ sym (text_from-none s c bytes (moment n u) e)
 step_timeless s c bytes n t u (Some next) e rest not =
-    let both = neither (item_needs_time next.1) (needs_time_from next.0 bytes) (sym (needs_time_from-more s c bytes next e) ∙ not) in
+    let both = or_parts (item_needs_time next.1) (needs_time_from next.0 bytes) (sym (needs_time_from-more s c bytes next e) ∙ not) in
     text_from-more s c bytes (moment n t) next e
     ∙ ap (λ (l : List ℕ). l ++ text_from next.0 bytes (moment n t)) (item_timeless next.1 n t u both.0)
-    ∙ ap (λ (l : List ℕ). item_text next.1 (moment n u) ++ l) (rest next.0 both.1)
+    ∙ ap (λ (l : List ℕ). text_of_item next.1 (moment n u) ++ l) (rest next.0 both.1)
     ∙ sym (text_from-more s c bytes (moment n u) next e)
 
 pub timeless : (bytes : List ℕ) (n : ℤ) (t u : TimeOfDay) → IsTimeless bytes n t u

@@ -1,6 +1,8 @@
-pub mod Steps
+pub mod PatternSteps
+pub mod YearWeeks
 pub mod Numbers
 pub mod Words
+pub mod GroupParts
 pub mod Groups
 pub mod Subseconds
 pub mod Patterns
@@ -16,3 +18,5 @@ pub mod DateParts
 pub mod TimeParts
 pub mod NamedParts
 pub mod Parses
+pub mod ReadBack
+pub mod PatternItems

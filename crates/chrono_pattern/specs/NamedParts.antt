@@ -2,16 +2,16 @@
 use Rattle.std.specs.Prelude.{ℕ, List, [], ◌∷◌, pos, Some, None}
 use Rattle.chrono_pattern.specs.NumberReads.{number_part}
 use Rattle.chrono_pattern.specs.Parts.{no_parts, with_part}
-use Rattle.chrono_pattern.specs.Steps.{pattern_step}
+use Rattle.chrono_pattern.specs.PatternSteps.{pattern_step}
 use Rattle.chrono_pattern.specs.declared.parsed.Parsed.{Parsed}
 use Rattle.chrono_pattern.specs.declared.parsed.Part.{Part}
 use Rattle.chrono_pattern.specs.declared.parsed.Part.TheVariants.{MonthOfYear, DayOfWeek, HourDiv12, NanosecondOfSecond}
 use Rattle.chrono_pattern.specs.declared.item.NumberField.{NumberField}
-use Rattle.chrono_pattern.specs.declared.item.NumberField.TheVariants.{Year, YearOfCentury, Month, Day, Hour, SpacedHour, Minute, Second}
+use Rattle.chrono_pattern.specs.declared.item.NumberField.TheVariants.{Year, YearOfCentury, Month, Day, SpacedDay, Hour, SpacedHour, HalfHour, Minute, Second}
 use Rattle.chrono_pattern.specs.declared.item.WordField.{WordField}
 use Rattle.chrono_pattern.specs.declared.item.WordField.TheVariants.{MonthName, MonthLetters, WeekdayName, WeekdayLetters, Half, SmallHalf}
 use Rattle.chrono_pattern.specs.declared.item.GroupField.{GroupField}
-use Rattle.chrono_pattern.specs.declared.item.GroupField.TheVariants.{YearMonthDay, MonthDayYear, HourMinute, HourMinuteSecond}
+use Rattle.chrono_pattern.specs.declared.item.GroupField.TheVariants.{YearMonthDay, MonthDayYear, HourMinute, HourMinuteSecond, HalfClock, DayMonthYear, DateAndTime}
 use Rattle.chrono_pattern.specs.declared.item.Item.{Item}
 use Rattle.chrono_pattern.specs.declared.item.Item.TheVariants.{Empty, Byte, Number, Word, Group, Subsecond}
 use Rattle.chrono_pattern.specs.declared.item.State.{State}
@@ -28,8 +28,8 @@ with_half SpacedHour p = with_named HourDiv12 p
 with_half field p = p
 
 -- the parts with those of a number
-abbrev pub with_number : NumberField → Parsed → Parsed
-with_number field p = with_named (number_part field (pos 0)).0 (with_half field p)
+abbrev pub with_number_field : NumberField → Parsed → Parsed
+with_number_field field p = with_named (number_part field (pos 0)).0 (with_half field p)
 
 -- the part of a word
 abbrev pub word_part : WordField → Part
@@ -40,18 +40,26 @@ word_part WeekdayLetters = DayOfWeek
 word_part Half = HourDiv12
 word_part SmallHalf = HourDiv12
 
+-- the parts with those of an hour, a minute and a second
+abbrev pub with_clock : NumberField → Parsed → Parsed
+with_clock hour p = with_number_field Second (with_number_field Minute (with_number_field hour p))
+
 -- the parts with those of a group
 unfoldable pub with_group : GroupField → Parsed → Parsed
-with_group YearMonthDay p = with_number Day (with_number Month (with_number Year p))
-with_group MonthDayYear p = with_number YearOfCentury (with_number Day (with_number Month p))
-with_group HourMinute p = with_number Minute (with_number Hour p)
-with_group HourMinuteSecond p = with_number Second (with_number Minute (with_number Hour p))
+with_group YearMonthDay p = with_number_field Day (with_number_field Month (with_number_field Year p))
+with_group MonthDayYear p = with_number_field YearOfCentury (with_number_field Day (with_number_field Month p))
+with_group HourMinute p = with_number_field Minute (with_number_field Hour p)
+with_group HourMinuteSecond p = with_clock Hour p
+with_group HalfClock p = with_named HourDiv12 (with_clock HalfHour p)
+with_group DayMonthYear p = with_number_field Year (with_named MonthOfYear (with_number_field SpacedDay p))
+with_group DateAndTime p =
+    with_number_field Year (with_clock Hour (with_number_field SpacedDay (with_named MonthOfYear (with_named DayOfWeek p))))
 
 -- the parts with those of an item
 abbrev pub with_item : Item → Parsed → Parsed
 with_item Empty p = p
 with_item (Byte c) p = p
-with_item (Number field padding) p = with_number field p
+with_item (Number field padding) p = with_number_field field p
 with_item (Word word) p = with_named (word_part word) p
 with_item (Group group) p = with_group group p
 with_item (Subsecond point count) p = with_named NanosecondOfSecond p

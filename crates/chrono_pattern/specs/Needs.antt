@@ -1,12 +1,12 @@
 -- Which patterns write a part of the time of day.
 use Rattle.std.specs.Prelude.{ℕ, Bool, true, false, ◌||◌, List, [], ◌∷◌, Some, None}
-use Rattle.chrono_pattern.specs.Steps.{pattern_step}
+use Rattle.chrono_pattern.specs.PatternSteps.{pattern_step}
 use Rattle.chrono_pattern.specs.declared.item.NumberField.{NumberField}
 use Rattle.chrono_pattern.specs.declared.item.NumberField.TheVariants.{Hour, SpacedHour, HalfHour, SpacedHalfHour, Minute, Second, Nanosecond}
 use Rattle.chrono_pattern.specs.declared.item.WordField.{WordField}
 use Rattle.chrono_pattern.specs.declared.item.WordField.TheVariants.{Half, SmallHalf}
 use Rattle.chrono_pattern.specs.declared.item.GroupField.{GroupField}
-use Rattle.chrono_pattern.specs.declared.item.GroupField.TheVariants.{HourMinute, HourMinuteSecond}
+use Rattle.chrono_pattern.specs.declared.item.GroupField.TheVariants.{HourMinute, HourMinuteSecond, HalfClock, DateAndTime}
 use Rattle.chrono_pattern.specs.declared.item.Item.{Item}
 use Rattle.chrono_pattern.specs.declared.item.Item.TheVariants.{Empty, Byte, Number, Word, Group, Subsecond}
 use Rattle.chrono_pattern.specs.declared.item.State.{State}
@@ -33,6 +33,8 @@ word_needs_time _ = false
 abbrev pub group_needs_time : GroupField → Bool
 group_needs_time HourMinute = true
 group_needs_time HourMinuteSecond = true
+group_needs_time HalfClock = true
+group_needs_time DateAndTime = true
 group_needs_time _ = false
 
 -- the item is

@@ -5,16 +5,16 @@ use Rattle.std.specs.Ordering.{int_eq}
 use Rattle.std.specs.Str.{byte}
 use Rattle.chrono_text.specs.Numbers.{digits_of, signed}
 use Rattle.chrono_pattern.specs.Parts.{put}
-use Rattle.chrono_pattern.specs.Progress.{Progress, behind_blanks, in_front, missing, progress, stopped}
+use Rattle.chrono_pattern.specs.Progress.{Progress, behind_blanks, class_len, fault_without, progress, stopped}
 use Rattle.chrono_pattern.specs.declared.class.Class.TheVariants.{Digit}
 use Rattle.chrono_pattern.specs.declared.error.ReadFault.{ReadFault}
 use Rattle.chrono_pattern.specs.declared.error.ReadFault.TheVariants.{TooShort}
 use Rattle.chrono_pattern.specs.declared.parsed.Parsed.{Parsed}
 use Rattle.chrono_pattern.specs.declared.parsed.Part.{Part}
-use Rattle.chrono_pattern.specs.declared.parsed.Part.TheVariants.{FullYear, YearDiv100, YearMod100, QuarterOfYear, MonthOfYear, DayOfMonth, OrdinalDay, DayOfWeek, FullIsoYear, IsoYearMod100, WeekOfIsoYear, HourMod12, MinuteOfHour, SecondOfMinute, NanosecondOfSecond, HourDiv12}
+use Rattle.chrono_pattern.specs.declared.parsed.Part.TheVariants.{FullYear, YearDiv100, YearMod100, QuarterOfYear, MonthOfYear, DayOfMonth, OrdinalDay, DayOfWeek, FullIsoYear, IsoYearMod100, WeekOfIsoYear, WeekFromSun, WeekFromMon, HourMod12, MinuteOfHour, SecondOfMinute, NanosecondOfSecond, HourDiv12}
 use Rattle.chrono_pattern.specs.declared.stop.Stop.{Stop}
 use Rattle.chrono_pattern.specs.declared.item.NumberField.{NumberField}
-use Rattle.chrono_pattern.specs.declared.item.NumberField.TheVariants.{Year, Century, YearOfCentury, Quarter, Month, Day, SpacedDay, DayOfYear, FromMonday, FromSunday, IsoYear, IsoYearOfCentury, IsoWeek, Hour, SpacedHour, HalfHour, SpacedHalfHour, Minute, Second, Nanosecond}
+use Rattle.chrono_pattern.specs.declared.item.NumberField.TheVariants.{Year, Century, YearOfCentury, Quarter, Month, Day, SpacedDay, DayOfYear, FromMonday, FromSunday, IsoYear, IsoYearOfCentury, IsoWeek, WeekFromSunday, WeekFromMonday, Hour, SpacedHour, HalfHour, SpacedHalfHour, Minute, Second, Nanosecond}
 
 -- the number may have a sign
 abbrev pub has_sign : NumberField → Bool
@@ -56,6 +56,8 @@ number_part FromSunday v = (DayOfWeek, weekday_of_sunday v)
 number_part IsoYear v = (FullIsoYear, v)
 number_part IsoYearOfCentury v = (IsoYearMod100, v)
 number_part IsoWeek v = (WeekOfIsoYear, v)
+number_part WeekFromSunday v = (WeekFromSun, v)
+number_part WeekFromMonday v = (WeekFromMon, v)
 number_part Hour v = (HourMod12, int_rem_euclid v (pos 12))
 number_part SpacedHour v = (HourMod12, int_rem_euclid v (pos 12))
 number_part HalfHour v = (HourMod12, hour_of_clock v)
@@ -75,16 +77,16 @@ part_put (Ok p) field v = put (number_part field v).0 (number_part field v).1 p
 part_put (Err cause) field v = Err cause
 
 -- what the number gives
-abbrev pub number_put : NumberField → ℤ → Parsed → Result Parsed ReadFault
+unfoldable pub number_put : NumberField → ℤ → Parsed → Result Parsed ReadFault
 number_put field v p = part_put (half_put field v p) field v
 
 -- the digits in front of a text, at most so many
 abbrev pub digits_in : ℕ → List ℕ → ℕ
-digits_in most text = min (in_front Digit text) most
+digits_in most text = min (class_len Digit text) most
 
 -- the value of the digits, if there are any
 abbrev pub value_read : Option ℕ → NumberField → ℕ → Bool → List ℕ → Parsed → Result Progress Stop
-value_read None field most negative text p = Err (stopped (missing 1 text) text)
+value_read None field most negative text p = Err (stopped (fault_without 1 text) text)
 value_read (Some n) field most negative text p =
     progress (number_put field (signed negative n) p) (drop (digits_in most text) text) text
 

@@ -10,10 +10,11 @@ use Rattle.chrono_datetime.specs.Moment.{Moment}
 use Rattle.chrono_datetime.specs.Time.{hour12_of, hour_of, minute_of, second_of}
 use Rattle.chrono_datetime.specs.Weekday.{days_from_sunday, number_from_monday}
 use Rattle.chrono_datetime.specs.Weeks.{iso_week_of, iso_year_of, weekday_of}
+use Rattle.chrono_pattern.specs.YearWeeks.{week_from_monday, week_from_sunday}
 use Rattle.chrono_pattern.specs.declared.item.Padding.{Padding}
 use Rattle.chrono_pattern.specs.declared.item.Padding.TheVariants.{Usual, Nothing, Spaces, Zeros}
 use Rattle.chrono_pattern.specs.declared.item.NumberField.{NumberField}
-use Rattle.chrono_pattern.specs.declared.item.NumberField.TheVariants.{Year, Century, YearOfCentury, Quarter, Month, Day, SpacedDay, DayOfYear, FromMonday, FromSunday, IsoYear, IsoYearOfCentury, IsoWeek, Hour, SpacedHour, HalfHour, SpacedHalfHour, Minute, Second, Nanosecond}
+use Rattle.chrono_pattern.specs.declared.item.NumberField.TheVariants.{Year, Century, YearOfCentury, Quarter, Month, Day, SpacedDay, DayOfYear, FromMonday, FromSunday, IsoYear, IsoYearOfCentury, IsoWeek, WeekFromSunday, WeekFromMonday, Hour, SpacedHour, HalfHour, SpacedHalfHour, Minute, Second, Nanosecond}
 
 -- the size of the number
 abbrev pub size_of : NumberField → Moment → ℕ
@@ -30,6 +31,8 @@ size_of FromSunday m = days_from_sunday (weekday_of m.date)
 size_of IsoYear m = unsigned_abs (iso_year_of m.date)
 size_of IsoYearOfCentury m = unsigned_abs (int_rem_euclid (iso_year_of m.date) (pos 100))
 size_of IsoWeek m = iso_week_of m.date
+size_of WeekFromSunday m = week_from_sunday m.date
+size_of WeekFromMonday m = week_from_monday m.date
 size_of Hour m = hour_of m.time
 size_of SpacedHour m = hour_of m.time
 size_of HalfHour m = hour12_of m.time
@@ -83,6 +86,6 @@ padded Nothing least sign n = sign ++ decimal n
 padded Usual least sign n = sign ++ decimal n
 
 -- the number as a pattern writes it
-unfoldable pub number_text : NumberField → Padding → Moment → List ℕ
-number_text field p m =
+unfoldable pub field_text : NumberField → Padding → Moment → List ℕ
+field_text field p m =
     padded (padding_of field p) (least_digits field (length (sign_of field m))) (sign_of field m) (size_of field m)

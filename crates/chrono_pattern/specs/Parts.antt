@@ -6,7 +6,7 @@ use Rattle.chrono_pattern.specs.declared.error.ReadFault.{ReadFault}
 use Rattle.chrono_pattern.specs.declared.error.ReadFault.TheVariants.{OutOfRange, Impossible}
 use Rattle.chrono_pattern.specs.declared.parsed.Parsed.{Parsed}
 use Rattle.chrono_pattern.specs.declared.parsed.Part.{Part}
-use Rattle.chrono_pattern.specs.declared.parsed.Part.TheVariants.{FullYear, YearDiv100, YearMod100, FullIsoYear, IsoYearMod100, QuarterOfYear, MonthOfYear, WeekOfIsoYear, DayOfWeek, OrdinalDay, DayOfMonth, HourDiv12, HourMod12, MinuteOfHour, SecondOfMinute, NanosecondOfSecond}
+use Rattle.chrono_pattern.specs.declared.parsed.Part.TheVariants.{FullYear, YearDiv100, YearMod100, FullIsoYear, IsoYearMod100, QuarterOfYear, MonthOfYear, WeekOfIsoYear, WeekFromSun, WeekFromMon, DayOfWeek, OrdinalDay, DayOfMonth, HourDiv12, HourMod12, MinuteOfHour, SecondOfMinute, NanosecondOfSecond}
 
 -- nothing is given
 abbrev pub no_parts : Parsed
@@ -19,6 +19,8 @@ no_parts = record {
   quarter = None;
   month = None;
   isoweek = None;
+  week_from_sun = None;
+  week_from_mon = None;
   weekday = None;
   ordinal = None;
   day = None;
@@ -39,6 +41,8 @@ part_of IsoYearMod100 p = p.isoyear_mod_100
 part_of QuarterOfYear p = p.quarter
 part_of MonthOfYear p = p.month
 part_of WeekOfIsoYear p = p.isoweek
+part_of WeekFromSun p = p.week_from_sun
+part_of WeekFromMon p = p.week_from_mon
 part_of DayOfWeek p = p.weekday
 part_of OrdinalDay p = p.ordinal
 part_of DayOfMonth p = p.day
@@ -58,6 +62,8 @@ with_part IsoYearMod100 v p = record p { isoyear_mod_100 = Some v }
 with_part QuarterOfYear v p = record p { quarter = Some v }
 with_part MonthOfYear v p = record p { month = Some v }
 with_part WeekOfIsoYear v p = record p { isoweek = Some v }
+with_part WeekFromSun v p = record p { week_from_sun = Some v }
+with_part WeekFromMon v p = record p { week_from_mon = Some v }
 with_part DayOfWeek v p = record p { weekday = Some v }
 with_part OrdinalDay v p = record p { ordinal = Some v }
 with_part DayOfMonth v p = record p { day = Some v }
@@ -68,27 +74,29 @@ with_part SecondOfMinute v p = record p { second = Some v }
 with_part NanosecondOfSecond v p = record p { nanosecond = Some v }
 
 -- the least and the greatest value of the part that a text may give
-abbrev pub range_of : Part → ℤ × ℤ
-range_of FullYear = (neg_ℤ (pos 999_999_999), pos 999_999_999)
-range_of FullIsoYear = (neg_ℤ (pos 999_999_999), pos 999_999_999)
-range_of YearDiv100 = (pos 0, pos 99)
-range_of YearMod100 = (pos 0, pos 99)
-range_of IsoYearMod100 = (pos 0, pos 99)
-range_of QuarterOfYear = (pos 1, pos 4)
-range_of MonthOfYear = (pos 1, pos 12)
-range_of WeekOfIsoYear = (pos 1, pos 53)
-range_of DayOfWeek = (pos 1, pos 7)
-range_of OrdinalDay = (pos 1, pos 366)
-range_of DayOfMonth = (pos 1, pos 31)
-range_of HourDiv12 = (pos 0, pos 1)
-range_of HourMod12 = (pos 0, pos 11)
-range_of MinuteOfHour = (pos 0, pos 59)
-range_of SecondOfMinute = (pos 0, pos 60)
-range_of NanosecondOfSecond = (pos 0, pos 999_999_999)
+abbrev pub part_range : Part → ℤ × ℤ
+part_range FullYear = (neg_ℤ (pos 999_999_999), pos 999_999_999)
+part_range FullIsoYear = (neg_ℤ (pos 999_999_999), pos 999_999_999)
+part_range YearDiv100 = (pos 0, pos 99)
+part_range YearMod100 = (pos 0, pos 99)
+part_range IsoYearMod100 = (pos 0, pos 99)
+part_range QuarterOfYear = (pos 1, pos 4)
+part_range MonthOfYear = (pos 1, pos 12)
+part_range WeekOfIsoYear = (pos 1, pos 53)
+part_range WeekFromSun = (pos 0, pos 53)
+part_range WeekFromMon = (pos 0, pos 53)
+part_range DayOfWeek = (pos 1, pos 7)
+part_range OrdinalDay = (pos 1, pos 366)
+part_range DayOfMonth = (pos 1, pos 31)
+part_range HourDiv12 = (pos 0, pos 1)
+part_range HourMod12 = (pos 0, pos 11)
+part_range MinuteOfHour = (pos 0, pos 59)
+part_range SecondOfMinute = (pos 0, pos 60)
+part_range NanosecondOfSecond = (pos 0, pos 999_999_999)
 
 -- the parts with one more, if its value is in its range and is the one that was given before
 unfoldable pub put : Part → ℤ → Parsed → Result Parsed ReadFault
 put part v p =
-    if int_lt v (range_of part).0 then Err OutOfRange
-    else if int_lt (range_of part).1 v then Err OutOfRange
+    if int_lt v (part_range part).0 then Err OutOfRange
+    else if int_lt (part_range part).1 v then Err OutOfRange
     else elim (part_of part p) [ None ↦ Ok (with_part part v p) | Some w ↦ if int_eq w v then Ok p else Err Impossible ]

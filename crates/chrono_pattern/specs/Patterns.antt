@@ -2,8 +2,8 @@
 use Rattle.std.specs.Prelude.{◌≡◌, ℕ, ◌+◌, List, [], ◌∷◌, ◌++◌, Option, Some, None}
 use Rattle.chrono_datetime.specs.Moment.{Moment}
 use Rattle.chrono_pattern.specs.Groups.{group_text}
-use Rattle.chrono_pattern.specs.Numbers.{number_text}
-use Rattle.chrono_pattern.specs.Steps.{pattern_step}
+use Rattle.chrono_pattern.specs.Numbers.{field_text}
+use Rattle.chrono_pattern.specs.PatternSteps.{pattern_step}
 use Rattle.chrono_pattern.specs.Subseconds.{subsecond_of}
 use Rattle.chrono_pattern.specs.Words.{word_text}
 use Rattle.chrono_pattern.specs.declared.error.PatternError.{PatternError}
@@ -39,18 +39,18 @@ abbrev pub IsPattern : List ℕ → Type 0
 IsPattern bytes = pattern_error bytes ≡ None
 
 -- the text of an item
-abbrev pub item_text : Item → Moment → List ℕ
-item_text Empty m = []
-item_text (Byte c) m = c ∷ []
-item_text (Number field p) m = number_text field p m
-item_text (Word word) m = word_text word m
-item_text (Group group) m = group_text group m
-item_text (Subsecond point count) m = subsecond_of point count m.time
+abbrev pub text_of_item : Item → Moment → List ℕ
+text_of_item Empty m = []
+text_of_item (Byte c) m = c ∷ []
+text_of_item (Number field p) m = field_text field p m
+text_of_item (Word word) m = word_text word m
+text_of_item (Group group) m = group_text group m
+text_of_item (Subsecond point count) m = subsecond_of point count m.time
 
 -- the texts of the bytes of a pattern, one after another
 unfoldable pub text_from : State → List ℕ → Moment → List ℕ
 text_from s [] m = []
-text_from s (c ∷ bytes) m = elim (pattern_step s c) [ None ↦ [] | Some next ↦ item_text next.1 m ++ text_from next.0 bytes m ]
+text_from s (c ∷ bytes) m = elim (pattern_step s c) [ None ↦ [] | Some next ↦ text_of_item next.1 m ++ text_from next.0 bytes m ]
 
 -- the text that a pattern writes of a date-time
 abbrev pub pattern_text : List ℕ → Moment → List ℕ

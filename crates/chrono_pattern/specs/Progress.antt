@@ -18,25 +18,25 @@ pub record Progress : Type 0 where
   pub parsed : Parsed
 
 -- a blank is a space, a tab, a line feed, a vertical tab, a form feed or a carriage return
-abbrev pub is_blank : ℕ → Bool
-is_blank c = (c == byte " ") || (nat_le 9 c && nat_le c 13)
+abbrev pub is_pattern_blank : ℕ → Bool
+is_pattern_blank c = (c == byte " ") || (nat_le 9 c && nat_le c 13)
 
 -- the byte is of the class
 abbrev pub is_of : Class → ℕ → Bool
-is_of Blank c = is_blank c
+is_of Blank c = is_pattern_blank c
 is_of Digit c = is_ascii_digit c
 
 -- how many bytes of the class a text begins with
-unfoldable pub in_front : Class → List ℕ → ℕ
-in_front class text = prefix_len (is_of class) text
+unfoldable pub class_len : Class → List ℕ → ℕ
+class_len class text = prefix_len (is_of class) text
 
 -- the text behind the blanks in front
 abbrev pub behind_blanks : List ℕ → List ℕ
-behind_blanks text = drop (in_front Blank text) text
+behind_blanks text = drop (class_len Blank text) text
 
 -- what is wrong with a text that has not so many bytes, or other ones
-abbrev pub missing : ℕ → List ℕ → ReadFault
-missing least text = if nat_lt (length text) least then TooShort else Invalid
+abbrev pub fault_without : ℕ → List ℕ → ReadFault
+fault_without least text = if nat_lt (length text) least then TooShort else Invalid
 
 -- a reader stops in front of a text
 abbrev pub stopped : ReadFault → List ℕ → Stop
@@ -66,4 +66,4 @@ byte_read c r = byte_behind c r.rest r.parsed
 
 -- a byte that stands for itself; a blank stands for any blanks and for none
 unfoldable pub literal_read : ℕ → Progress → Result Progress Stop
-literal_read c r = if is_blank c then Ok (record { rest = behind_blanks r.rest; parsed = r.parsed }) else byte_read c r
+literal_read c r = if is_pattern_blank c then Ok (record { rest = behind_blanks r.rest; parsed = r.parsed }) else byte_read c r

@@ -2,7 +2,7 @@
 use Rattle.std.specs.Prelude.{ℕ, ◌*◌, ◌-◌, ◌^◌, ◌==◌, Bool, if◌then◌else◌, nat_lt, min, List, [], ◌∷◌, length, take, pos, Option, Some, None, Result, Ok, Err}
 use Rattle.std.specs.Str.{byte}
 use Rattle.chrono_text.specs.Numbers.{digits_of}
-use Rattle.chrono_pattern.specs.Progress.{Progress, in_front, missing, put_behind, stopped}
+use Rattle.chrono_pattern.specs.Progress.{Progress, class_len, fault_without, put_behind, stopped}
 use Rattle.chrono_pattern.specs.declared.class.Class.TheVariants.{Digit}
 use Rattle.chrono_pattern.specs.declared.error.ReadFault.TheVariants.{TooShort}
 use Rattle.chrono_pattern.specs.declared.parsed.Parsed.{Parsed}
@@ -11,7 +11,7 @@ use Rattle.chrono_pattern.specs.declared.stop.Stop.{Stop}
 
 -- so many places behind the point are worth that many nanoseconds
 abbrev pub places_value : Option ℕ → ℕ → ℕ → List ℕ → Parsed → Result Progress Stop
-places_value None places count text p = Err (stopped (missing 1 text) text)
+places_value None places count text p = Err (stopped (fault_without 1 text) text)
 places_value (Some n) places count text p = put_behind count text NanosecondOfSecond (pos (n * 10 ^ (9 - places))) p
 
 -- the first places of a text are the fraction, and more digits are left out
@@ -22,7 +22,7 @@ places_read places count text p = places_value (digits_of places (take places te
 abbrev pub point_behind : List ℕ → Parsed → Result Progress Stop
 point_behind [] p = Ok (record { rest = []; parsed = p })
 point_behind (c ∷ digits) p =
-    if c == byte "." then places_read (min (in_front Digit digits) 9) (in_front Digit digits) digits p
+    if c == byte "." then places_read (min (class_len Digit digits) 9) (class_len Digit digits) digits p
     else Ok (record { rest = c ∷ digits; parsed = p })
 
 abbrev pub point_read : Progress → Result Progress Stop

@@ -9,8 +9,8 @@ abbrev pub nine_digits : ℕ → List ℕ
 nine_digits n = all_digits 3 (n / 1_000_000) ++ all_digits 3 (n / 1_000 % 1_000) ++ all_digits 3 (n % 1_000)
 
 -- how many digits are written: the number that is asked for, or for 0 none, three, six or nine, the fewest that hold the fraction
-abbrev pub digits_of : ℕ → ℕ → ℕ
-digits_of count n =
+abbrev pub digit_count : ℕ → ℕ → ℕ
+digit_count count n =
     if nat_lt 0 count then (if nat_le count 9 then count else 9)
     else if n == 0 then 0
     else if n % 1_000_000 == 0 then 3
@@ -24,4 +24,4 @@ fraction_with point count n = (if point && nat_lt 0 count then codes "." else []
 -- the fraction of the second of a time, past a leap second too
 unfoldable pub subsecond_of : Bool → ℕ → TimeOfDay → List ℕ
 subsecond_of point count t =
-    fraction_with point (digits_of count (t.fraction % nanos_per_second)) (t.fraction % nanos_per_second)
+    fraction_with point (digit_count count (t.fraction % nanos_per_second)) (t.fraction % nanos_per_second)

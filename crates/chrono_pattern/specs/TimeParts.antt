@@ -3,7 +3,7 @@ use Rattle.std.specs.Prelude.{ℕ, ◌+◌, ◌/◌, ◌%◌, Bool, true, false,
 use Rattle.std.specs.Ordering.{int_eq}
 use Rattle.chrono_datetime.specs.Duration.{nanos_per_second}
 use Rattle.chrono_datetime.specs.Time.{FractionFits, IsTime, TimeOfDay, hour_of, minute_of, second_of}
-use Rattle.chrono_pattern.specs.DateParts.{is_given, says}
+use Rattle.chrono_pattern.specs.DateParts.{is_present, says}
 use Rattle.chrono_pattern.specs.declared.parsed.Parsed.{Parsed}
 
 -- the part is this value, and 0 if it is not given
@@ -34,11 +34,11 @@ pub record IsClockTime (t : TimeOfDay) : Type 0 where
 
 -- a fraction stands behind a second
 abbrev pub names_second : Parsed → Bool
-names_second p = if is_given p.second then true else if is_given p.nanosecond then false else true
+names_second p = if is_present p.second then true else if is_present p.nanosecond then false else true
 
 -- the parts suffice for a time of day: its half day, its hour there and its minute
 unfoldable pub names_time : Parsed → Bool
-names_time p = (is_given p.hour_div_12 && is_given p.hour_mod_12) && (is_given p.minute && names_second p)
+names_time p = (is_present p.hour_div_12 && is_present p.hour_mod_12) && (is_present p.minute && names_second p)
 
 -- the size of the part, and 0 if it is not given
 abbrev pub size_or_zero : Option ℤ → ℕ

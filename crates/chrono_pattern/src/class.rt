@@ -1,6 +1,6 @@
 //! Classes of bytes, and how many of one a text begins with.
 ghost use Rattle.std.specs.Prelude.{◌≡◌, ◌≤◌, length};
-ghost use Rattle.chrono_pattern.specs.Progress.{behind_blanks, in_front, is_of};
+ghost use Rattle.chrono_pattern.specs.Progress.{behind_blanks, class_len, is_of};
 
 // A class of bytes.
 #[derive(Clone, Copy)]
@@ -10,6 +10,7 @@ pub(crate) enum Class {
 }
 
 // Whether a byte is of a class.
+#[inline(always)]
 pub(crate) fn is_of(class: Class, byte: u8) -> bool
     ensures { result ≡ is_of class byte }
 {
@@ -20,8 +21,9 @@ pub(crate) fn is_of(class: Class, byte: u8) -> bool
 }
 
 // How many bytes of a class a text begins with.
-pub(crate) fn in_front(class: Class, text: &[u8]) -> usize
-    ensures value { result ≡ in_front class text.now }
+#[inline(always)]
+pub(crate) fn class_len(class: Class, text: &[u8]) -> usize
+    ensures value { result ≡ class_len class text.now }
     ensures within { result ≤ length text.now }
 {
     let mut len = 0;
@@ -35,8 +37,9 @@ pub(crate) fn in_front(class: Class, text: &[u8]) -> usize
 }
 
 // The text behind the blanks in front.
+#[inline(always)]
 pub(crate) fn skip_blanks(text: &[u8]) -> &[u8]
     ensures { result.now ≡ behind_blanks text.now }
 {
-    &text[in_front(Class::Blank, text)..]
+    &text[class_len(Class::Blank, text)..]
 }

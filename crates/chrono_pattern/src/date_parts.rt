@@ -1,20 +1,28 @@
 //! The date that the parts of a text give.
-ghost use Rattle.std.specs.Prelude.{◌≡◌, ◌↔◌, ◌≤ℤ◌, ℤ, pos, true, false, Ok, Err, Some, None, IfOk};
+ghost use Rattle.std.specs.Prelude.{◌≡◌, ◌↔◌, ◌<◌, ◌≤ℤ◌, ℤ, pos, true, false, Ok, Err, Some, None, IfOk};
 ghost use Rattle.std.specs.Int.{int_div_euclid, int_rem_euclid};
 ghost use Rattle.chrono_datetime.specs.Days.{IsDate};
 ghost use Rattle.chrono_datetime.specs.Years.{IsYear};
-ghost use Rattle.chrono_pattern.specs.DateParts.{date_fits, day_fits, in_window, names_calendar, names_date, names_ordinal, names_week, names_year, says, week_fits, weekday_at_number, year_fits};
+ghost use Rattle.chrono_pattern.specs.DateParts.{date_fits, day_fits, in_window, names_calendar, names_date, names_ordinal, names_week, names_year, names_year_week, says, week_fits, weekday_at_number, year_fits, year_week_fits};
+ghost use Rattle.chrono_pattern.specs.YearWeeks.{weeks_begun};
 ghost use Rattle.chrono_pattern.specs.declared.error.ReadFault.TheVariants.{NotEnough};
 
 use crate::error::ReadFault;
 use crate::parsed::Parsed;
+use crate::year_week::{first_weekday, ordinal_in_week, week_from_monday, week_from_sunday};
 use chrono_datetime::{Datelike, NaiveDate, Weekday};
 
 impl Parsed {
     /// Returns the date that fits all parts.
     ///
-    /// It has to be named: by year, month and day; by year and day of the year; or by ISO year, week and weekday. A year is also its
-    /// century and its year there, or that year alone for 1970 to 2069.
+    /// It has to be named in one of these ways:
+    ///
+    /// - by year, month and day;
+    /// - by year and day of the year;
+    /// - by year, week of the year from Sunday or from Monday on, and weekday;
+    /// - by ISO year, ISO week and weekday.
+    ///
+    /// A year is also its century and its year there, or that year alone for 1970 to 2069.
     ///
     /// # Errors
     ///
@@ -70,8 +78,12 @@ pub(crate) fn names_date(parts: Parsed) -> bool
         true
     } else if names_ordinal(parts) {
         true
+    } else if names_week(parts) {
+        true
+    } else if names_year_week(parts.week_from_sun, parts) {
+        true
     } else {
-        names_week(parts)
+        names_year_week(parts.week_from_mon, parts)
     }
 }
 
@@ -110,12 +122,23 @@ fn names_week(parts: Parsed) -> bool
     parts.isoyear.is_some() && parts.isoweek.is_some() && parts.weekday.is_some()
 }
 
+// Whether the parts name a year, this week of it and a weekday.
+#[tactic(auto, unfolding(crate::specs::DateParts::names_year_week))]
+fn names_year_week(week: Option<i32>, parts: Parsed) -> bool
+    ensures { result ≡ names_year_week week parts }
+{
+    names_year(parts) && week.is_some() && parts.weekday.is_some()
+}
+
 // Whether a date fits all parts.
 #[tactic(auto, unfolding(crate::specs::DateParts::date_fits))]
 fn fits_date(parts: Parsed, date: NaiveDate) -> bool
     ensures { result ≡ date_fits parts date }
 {
-    fits_year(parts, date.year()) && fits_day(parts, date) && fits_week(parts, date)
+    fits_year(parts, date.year())
+        && fits_day(parts, date)
+        && fits_week(parts, date)
+        && fits_year_week(parts, date)
 }
 
 // Whether a year fits its parts.
@@ -164,6 +187,15 @@ fn fits_week(parts: Parsed, date: NaiveDate) -> bool
         && says(parts.weekday, date.weekday().number_from_monday() as i32)
 }
 
+// Whether a date fits the parts of a week of the year.
+#[tactic(auto, unfolding(crate::specs::DateParts::year_week_fits))]
+fn fits_year_week(parts: Parsed, date: NaiveDate) -> bool
+    ensures { result ≡ year_week_fits parts date }
+{
+    says(parts.week_from_sun, week_from_sunday(date) as i32)
+        && says(parts.week_from_mon, week_from_monday(date) as i32)
+}
+
 // The date that the parts name, if they name one.
 fn named_date(parts: Parsed) -> Option<NaiveDate>
     ensures { (n : ℤ) → IsDate n → names_date parts ≡ true → date_fits parts n ≡ true → result ≡ Some n }
@@ -172,8 +204,12 @@ fn named_date(parts: Parsed) -> Option<NaiveDate>
         calendar_date(parts)
     } else if names_ordinal(parts) {
         ordinal_date(parts)
-    } else {
+    } else if names_week(parts) {
         week_date(parts)
+    } else if names_year_week(parts.week_from_sun, parts) {
+        year_week_date(parts, parts.week_from_sun, 0)
+    } else {
+        year_week_date(parts, parts.week_from_mon, 1)
     }
 }
 
@@ -204,6 +240,20 @@ fn week_date(parts: Parsed) -> Option<NaiveDate>
     let week = parts.isoweek?;
     let weekday = parts.weekday?;
     NaiveDate::from_isoywd_opt(year, week.unsigned_abs(), weekday_at_number(weekday))
+}
+
+// The date by year, week of the year and weekday. The weeks begin so many days after Sunday.
+fn year_week_date(parts: Parsed, week: Option<i32>, start: u32) -> Option<NaiveDate>
+    requires { start < 7 }
+    ensures { (n : ℤ) → IsDate n → names_year_week week parts ≡ true → says week (pos (weeks_begun start n)) ≡ true → date_fits parts n ≡ true
+        → result ≡ Some n }
+{
+    let year = named_year(parts)?;
+    let week = week?;
+    let weekday = parts.weekday?;
+    let first = first_weekday(year)?;
+    let ordinal = ordinal_in_week(first, start, week.unsigned_abs(), weekday.unsigned_abs())?;
+    NaiveDate::from_yo_opt(year, ordinal)
 }
 
 // The weekday of a number from 1 for Monday, and Sunday for any other.

@@ -26,6 +26,8 @@ pub(crate) enum NumberField {
     IsoYear,
     IsoYearOfCentury,
     IsoWeek,
+    WeekFromSunday,
+    WeekFromMonday,
     Hour,
     SpacedHour,
     HalfHour,
@@ -46,13 +48,16 @@ pub(crate) enum WordField {
     SmallHalf,
 }
 
-// Numbers with bytes between them.
+// Numbers and words with bytes between them.
 #[derive(Clone, Copy)]
 pub(crate) enum GroupField {
     YearMonthDay,
     MonthDayYear,
     HourMinute,
     HourMinuteSecond,
+    HalfClock,
+    DayMonthYear,
+    DateAndTime,
 }
 
 // What a pattern writes where one of its bytes stands.
@@ -65,7 +70,7 @@ pub(crate) enum Item {
     Word(WordField),
     Group(GroupField),
     // So many digits of the fraction of a second, or as few as hold it for 0, and whether a point is before them.
-    Subsecond(bool, usize),
+    Subsecond(bool, u8),
 }
 
 // Where a reader of a pattern stands.
@@ -76,5 +81,5 @@ pub(crate) enum State {
     // Behind `%` and a padding.
     Opened(Padding),
     // Behind `%`, a point or none, and a number of digits or 0 for none.
-    Digits(bool, usize),
+    Digits(bool, u8),
 }

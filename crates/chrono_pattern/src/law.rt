@@ -1,14 +1,21 @@
 //! Laws of patterns, each as the contract of a function.
-ghost use Rattle.std.specs.Prelude.{◌≡◌, ℕ, ℤ, List, true, Some, Ok, Err, codes, neg_ℤ, pos};
-ghost use Rattle.chrono_datetime.specs.Days.{day_of, month_of, ordinal_of, year_of};
+ghost use Rattle.std.specs.Prelude.{◌≡◌, ◌+◌, ◌-◌, ◌/◌, ◌%◌, ◌≤ℤ◌, ℕ, ℤ, List, true, Some, Ok, Err, codes, neg_ℤ, pos};
+ghost use Rattle.std.specs.Str.{IsAscii};
+ghost use Rattle.chrono_datetime.specs.Days.{IsDate, day_of, month_of, ordinal_of, year_of};
 ghost use Rattle.chrono_datetime.specs.Moment.{Moment, moment};
-ghost use Rattle.chrono_datetime.specs.Time.{time_at};
+ghost use Rattle.chrono_datetime.specs.Duration.{nanos_per_second};
+ghost use Rattle.chrono_datetime.specs.Time.{IsTime, time_at};
+ghost use Rattle.chrono_datetime.specs.Weekday.{days_from_monday, days_from_sunday};
 ghost use Rattle.chrono_datetime.specs.Weeks.{iso_week_of, iso_year_of, weekday_of};
 ghost use Rattle.chrono_datetime.specs.declared.Weekday.TheVariants.{Mon};
-ghost use Rattle.chrono_pattern.specs.DateParts.{names_date};
+ghost use Rattle.chrono_pattern.specs.DateParts.{is_present, names_date};
 ghost use Rattle.chrono_pattern.specs.NamedParts.{named_parts};
+ghost use Rattle.chrono_pattern.specs.Parses.{IsDateBy, IsTimeBy};
 ghost use Rattle.chrono_pattern.specs.Parts.{no_parts};
+ghost use Rattle.chrono_pattern.specs.PatternItems.{pattern_items};
+ghost use Rattle.chrono_pattern.specs.ReadBack.{is_fixed, parts_of};
 ghost use Rattle.chrono_pattern.specs.Reads.{text_read};
+ghost use Rattle.chrono_pattern.specs.YearWeeks.{week_from_monday, week_from_sunday};
 ghost use Rattle.chrono_pattern.specs.declared.error.ReadFault.TheVariants.{Impossible, Invalid, OutOfRange, TooLong, TooShort};
 ghost use Rattle.chrono_pattern.specs.TimeParts.{names_second, names_time};
 ghost use Rattle.chrono_pattern.specs.Patterns.{IsPattern, pattern_error, pattern_text};
@@ -95,4 +102,47 @@ pub fn fields_tell_what_is_named()
     ensures date { (bytes text : List ℕ) → (parts : Parsed) → text_read bytes text ≡ Ok parts → names_date parts ≡ names_date (named_parts bytes) }
     ensures time { (bytes text : List ℕ) → (parts : Parsed) → names_second (named_parts bytes) ≡ true → text_read bytes text ≡ Ok parts
         → names_time parts ≡ names_time (named_parts bytes) }
+{}
+
+/// States that a pattern of bytes and of numbers with a fixed number of digits reads back what it writes of the years 0 to 9999.
+///
+/// Such a pattern has no specifiers but `%Y`, `%m`, `%d`, `%H`, `%M`, `%S`, `%F`, `%R` and `%T`, with no padding asked for. Its other bytes
+/// are any, and no blank is behind a blank. Such patterns are `%Y-%m-%d`, `%F %T`, `%Y%m%d` and `%d/%m/%Y`.
+///
+/// - A text gives the parts that the pattern names, each as the date-time has it.
+/// - It is of the date, if the pattern names one.
+/// - It is of the time of day, if the pattern names one with its second, and the time is a whole second or a leap second.
+pub fn fixed_patterns_read_back()
+    ensures parts { (bytes : List ℕ) → (m : Moment) → is_fixed bytes ≡ true → IsTime m.time → pos 0 ≤ℤ year_of m.date → year_of m.date ≤ℤ pos 9999
+        → text_read bytes (pattern_text bytes m) ≡ Ok (parts_of (named_parts bytes) m) }
+    ensures date { (bytes : List ℕ) → (m : Moment) → is_fixed bytes ≡ true → names_date (named_parts bytes) ≡ true → IsTime m.time
+        → pos 0 ≤ℤ year_of m.date → year_of m.date ≤ℤ pos 9999 → IsDateBy bytes (pattern_text bytes m) m.date }
+    ensures time { (bytes : List ℕ) → (m : Moment) → is_fixed bytes ≡ true → names_time (named_parts bytes) ≡ true
+        → is_present (named_parts bytes).second ≡ true → IsTime m.time → m.time.fraction % nanos_per_second ≡ 0
+        → pos 0 ≤ℤ year_of m.date → year_of m.date ≤ℤ pos 9999 → IsTimeBy bytes (pattern_text bytes m) m.time }
+    ensures dashes { is_fixed (codes "%Y-%m-%d") ≡ true }
+    ensures date_and_time { is_fixed (codes "%F %T") ≡ true }
+    ensures digits { is_fixed (codes "%Y%m%dT%H%M%S") ≡ true }
+    ensures slashes { is_fixed (codes "%d/%m/%Y") ≡ true }
+{}
+
+/// States that patterns with the same items write the same texts, and read each text alike.
+///
+/// So `%x` is `%D`, `%X` is `%T`, and `%h` is `%b`.
+pub fn items_tell_the_pattern()
+    ensures written { (a b : List ℕ) → (m : Moment) → pattern_items a ≡ pattern_items b → pattern_text a m ≡ pattern_text b m }
+    ensures read { (a b text : List ℕ) → pattern_items a ≡ pattern_items b → text_read a text ≡ text_read b text }
+    ensures short_date { pattern_items (codes "%x %h") ≡ pattern_items (codes "%D %b") }
+    ensures short_time { pattern_items (codes "%X") ≡ pattern_items (codes "%T") }
+{}
+
+/// States the week of the year by the place of a day in its year and by its weekday.
+pub fn weeks_are_found_by_places()
+    ensures from_sunday { (n : ℤ) → week_from_sunday n ≡ (ordinal_of n + 6 - days_from_sunday (weekday_of n)) / 7 }
+    ensures from_monday { (n : ℤ) → week_from_monday n ≡ (ordinal_of n + 6 - days_from_monday (weekday_of n)) / 7 }
+{}
+
+/// States that a pattern of ASCII bytes writes ASCII. So its text is a string, as `as_str` of `Text` asks.
+pub fn ascii_patterns_write_ascii()
+    ensures { (bytes : List ℕ) → (m : Moment) → IsAscii bytes → IsDate m.date → IsTime m.time → IsAscii (pattern_text bytes m) }
 {}

@@ -8,8 +8,8 @@
 //! Pattern::new(b"%e %B %Y").ok()?.parse_date(b"29 february 2024").ok() // Some(2024-02-29)
 //! ```
 //!
-//! The specifiers, listed at [`Pattern::new`], are some of chrono's and have the same texts, with English names. A pattern borrows
-//! its bytes, and nothing here allocates.
+//! The specifiers, listed at [`Pattern::new`], are chrono's, except for `%s`, `%+` and those of zones. They have the same texts, with
+//! English names. A pattern borrows its bytes, and nothing here allocates.
 #![tactic(auto)]
 
 mod class;
@@ -34,6 +34,8 @@ mod subsecond_reader;
 mod time_parts;
 mod word;
 mod word_reader;
+mod writer;
+mod year_week;
 
 pub use error::{PatternError, PatternFault, PatternReadError, ReadFault};
 pub use parsed::Parsed;

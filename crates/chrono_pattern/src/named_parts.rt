@@ -1,6 +1,6 @@
 //! Which parts the specifiers of a pattern read.
 ghost use Rattle.std.specs.Prelude.{◌≡◌};
-ghost use Rattle.chrono_pattern.specs.NamedParts.{named_parts, with_group, with_half, with_item, with_named, with_number, word_part};
+ghost use Rattle.chrono_pattern.specs.NamedParts.{named_parts, with_clock, with_group, with_half, with_item, with_named, with_number_field, word_part};
 
 use crate::item::{GroupField, Item, NumberField, State, WordField};
 use crate::number_reader::number_part;
@@ -31,7 +31,7 @@ fn with_item(parts: Parsed, item: Item) -> Parsed
 {
     match item {
         Item::Empty | Item::Byte(_) => parts,
-        Item::Number(field, _) => with_number(parts, field),
+        Item::Number(field, _) => with_number_field(parts, field),
         Item::Word(word) => with_named(parts, word_part(word)),
         Item::Group(group) => with_group(parts, group),
         Item::Subsecond(_, _) => with_named(parts, Part::NanosecondOfSecond),
@@ -44,22 +44,52 @@ fn with_group(parts: Parsed, group: GroupField) -> Parsed
     ensures { result ≡ with_group group parts }
 {
     match group {
-        GroupField::YearMonthDay => {
-            let parts = with_number(with_number(parts, NumberField::Year), NumberField::Month);
-            with_number(parts, NumberField::Day)
-        }
-        GroupField::MonthDayYear => {
-            let parts = with_number(with_number(parts, NumberField::Month), NumberField::Day);
-            with_number(parts, NumberField::YearOfCentury)
-        }
+        GroupField::YearMonthDay => with_three(
+            parts,
+            NumberField::Year,
+            NumberField::Month,
+            NumberField::Day,
+        ),
+        GroupField::MonthDayYear => with_three(
+            parts,
+            NumberField::Month,
+            NumberField::Day,
+            NumberField::YearOfCentury,
+        ),
         GroupField::HourMinute => {
-            with_number(with_number(parts, NumberField::Hour), NumberField::Minute)
+            let parts = with_number_field(parts, NumberField::Hour);
+            with_number_field(parts, NumberField::Minute)
         }
-        GroupField::HourMinuteSecond => {
-            let parts = with_number(with_number(parts, NumberField::Hour), NumberField::Minute);
-            with_number(parts, NumberField::Second)
+        GroupField::HourMinuteSecond => with_clock(parts, NumberField::Hour),
+        GroupField::HalfClock => with_named(
+            with_clock(parts, NumberField::HalfHour),
+            Part::HourDiv12,
+        ),
+        GroupField::DayMonthYear => {
+            let parts = with_number_field(parts, NumberField::SpacedDay);
+            with_number_field(with_named(parts, Part::MonthOfYear), NumberField::Year)
+        }
+        GroupField::DateAndTime => {
+            let parts = with_named(with_named(parts, Part::DayOfWeek), Part::MonthOfYear);
+            let parts = with_number_field(parts, NumberField::SpacedDay);
+            with_number_field(with_clock(parts, NumberField::Hour), NumberField::Year)
         }
     }
+}
+
+// The parts with those of an hour, a minute and a second.
+fn with_clock(parts: Parsed, hour: NumberField) -> Parsed
+    ensures { result ≡ with_clock hour parts }
+{
+    with_three(parts, hour, NumberField::Minute, NumberField::Second)
+}
+
+// The parts with those of three numbers.
+fn with_three(parts: Parsed, first: NumberField, second: NumberField, third: NumberField) -> Parsed
+    ensures { result ≡ with_number_field third (with_number_field second (with_number_field first parts)) }
+{
+    let parts = with_number_field(with_number_field(parts, first), second);
+    with_number_field(parts, third)
 }
 
 // The part of a word.
@@ -74,8 +104,8 @@ fn word_part(word: WordField) -> Part
 }
 
 // The parts with those of a number.
-fn with_number(parts: Parsed, field: NumberField) -> Parsed
-    ensures { result ≡ with_number field parts }
+fn with_number_field(parts: Parsed, field: NumberField) -> Parsed
+    ensures { result ≡ with_number_field field parts }
 {
     with_named(with_half(parts, field), number_part(field, 0).0)
 }
@@ -94,5 +124,7 @@ fn with_half(parts: Parsed, field: NumberField) -> Parsed
 fn with_named(parts: Parsed, part: Part) -> Parsed
     ensures { result ≡ with_named part parts }
 {
-    parts.with_part(part, 0)
+    let mut named = parts;
+    named.set(part, 0);
+    named
 }

@@ -33,7 +33,10 @@ fn item_needs_time(item: Item) -> bool
         Item::Number(field, _) => number_needs_time(field),
         Item::Word(word) => matches!(word, WordField::Half | WordField::SmallHalf),
         Item::Group(group) => {
-            matches!(group, GroupField::HourMinute | GroupField::HourMinuteSecond)
+            !matches!(
+                group,
+                GroupField::YearMonthDay | GroupField::MonthDayYear | GroupField::DayMonthYear
+            )
         }
         Item::Subsecond(_, _) => true,
     }

@@ -1,105 +1,137 @@
 //! Reads the numbers of a date-time.
-ghost use Rattle.std.specs.Prelude.{◌≡◌, ◌≤◌, ◌<◌, ◌^◌, length};
+ghost use Rattle.std.specs.Prelude.{◌≡◌, ◌≤◌, ◌<◌, ◌^◌, Ok, Err, IfErr, IfOk, drop, length};
 ghost use Rattle.chrono_text.specs.Numbers.{signed};
-ghost use Rattle.chrono_pattern.specs.NumberReads.{digits_in, digits_read, half_put, has_sign, most_digits, number_part, number_put, number_read, signed_read};
+ghost use Rattle.chrono_pattern.specs.Progress.{progress};
+ghost use Rattle.chrono_pattern.specs.NumberReads.{digits_in, digits_read, half_put, has_sign, hour_of_clock, most_digits, number_part, number_put, number_read, signed_read, weekday_of_sunday};
 
-use crate::class::{Class, in_front, skip_blanks};
+use crate::class::{Class, class_len, skip_blanks};
 use crate::error::ReadFault;
 use crate::item::NumberField;
 use crate::parsed::{Parsed, Part};
-use crate::reader::{Reader, behind};
-use crate::stop::{Stop, missing, stopped};
+use crate::reader::Reader;
+use crate::stop::{Stop, fault_without, stopped};
 use chrono_text::read_digits;
 
 // The most digits that are read behind a sign.
 const SIGNED_DIGITS: usize = 9;
 
 // Reads a number behind blanks or none.
+#[inline(always)]
 #[tactic(auto, unfolding(crate::specs::NumberReads::number_read))]
-pub(crate) fn read_number<'a>(reader: Reader<'a>, field: NumberField) -> Result<Reader<'a>, Stop>
-    ensures { result ≡ number_read field reader.entry }
+pub(crate) fn read_number(reader: &mut Reader<'_>, field: NumberField) -> Result<(), Stop>
+    ensures read { IfOk result (λ u. number_read field reader.old ≡ Ok reader.new) }
+    ensures stop { IfErr result (λ e. number_read field reader.old ≡ Err e) }
 {
     let text = skip_blanks(reader.rest);
     if has_sign(field) {
-        read_signed(text, field, reader.parsed)
+        read_signed(reader, text, field)
     } else {
-        read_size(text, field, most_digits(field), false, reader.parsed)
+        read_size(reader, text, field, most_digits(field), false)
     }
 }
 
 // Reads a number that may have a sign.
+#[inline(always)]
 #[tactic(auto, unfolding(crate::specs::NumberReads::signed_read))]
-fn read_signed<'a>(text: &'a [u8], field: NumberField, parsed: Parsed) -> Result<Reader<'a>, Stop>
-    ensures { result ≡ signed_read field text.now parsed }
+fn read_signed<'a>(reader: &mut Reader<'a>, text: &'a [u8], field: NumberField) -> Result<(), Stop>
+    ensures read { IfOk result (λ u. signed_read field text.now reader.old.parsed ≡ Ok reader.new) }
+    ensures stop { IfErr result (λ e. signed_read field text.now reader.old.parsed ≡ Err e) }
 {
     match text.split_first() {
         None => Err(stopped(ReadFault::TooShort, text)),
         Some((first, digits)) => {
             if *first == b'-' {
-                read_size(digits, field, SIGNED_DIGITS, true, parsed)
+                read_size(reader, digits, field, SIGNED_DIGITS, true)
             } else if *first == b'+' {
-                read_size(digits, field, SIGNED_DIGITS, false, parsed)
+                read_size(reader, digits, field, SIGNED_DIGITS, false)
             } else {
-                read_size(text, field, most_digits(field), false, parsed)
+                read_size(reader, text, field, most_digits(field), false)
             }
         }
     }
 }
 
 // Reads the digits of a number, at most so many.
+#[inline(always)]
 #[tactic(auto, unfolding(crate::specs::NumberReads::digits_read))]
 fn read_size<'a>(
+    reader: &mut Reader<'a>,
     text: &'a [u8],
     field: NumberField,
     most: usize,
     negative: bool,
-    parsed: Parsed,
-) -> Result<Reader<'a>, Stop>
+) -> Result<(), Stop>
     requires { most ≤ 9 }
-    ensures { result ≡ digits_read field most negative text.now parsed }
+    ensures read { IfOk result (λ u. digits_read field most negative text.now reader.old.parsed ≡ Ok reader.new) }
+    ensures stop { IfErr result (λ e. digits_read field most negative text.now reader.old.parsed ≡ Err e) }
 {
     let count = digits_in(most, text);
     match read_digits(&text[..count], most) {
-        None => Err(stopped(missing(1, text), text)),
-        Some(size) => behind(
-            put_number(parsed, field, with_sign(negative, size)),
-            count,
-            text,
-        ),
+        None => Err(stopped(fault_without(1, text), text)),
+        Some(size) => put_number_behind(reader, field, with_sign(negative, size), count, text),
+    }
+}
+
+// Puts the parts that a number of so many digits gives, and goes behind it.
+#[inline(always)]
+fn put_number_behind<'a>(
+    reader: &mut Reader<'a>,
+    field: NumberField,
+    value: i32,
+    count: usize,
+    text: &'a [u8],
+) -> Result<(), Stop>
+    requires { count ≤ length text.now }
+    ensures read { IfOk result (λ u. progress (number_put field value reader.old.parsed) (drop count text.now) text.now ≡ Ok reader.new) }
+    ensures stop { IfErr result (λ e. progress (number_put field value reader.old.parsed) (drop count text.now) text.now ≡ Err e) }
+{
+    match put_number(&mut reader.parsed, field, value) {
+        Ok(()) => {
+            reader.rest = &text[count..];
+            Ok(())
+        }
+        Err(cause) => Err(stopped(cause, text)),
     }
 }
 
 // How many digits a text begins with, at most so many.
+#[inline(always)]
 fn digits_in(most: usize, text: &[u8]) -> usize
     ensures value { result ≡ digits_in most text.now }
     ensures within { result ≤ length text.now }
     ensures few { result ≤ most }
 {
-    in_front(Class::Digit, text).min(most)
+    class_len(Class::Digit, text).min(most)
 }
 
 // Puts the parts that a number gives.
-fn put_number(parsed: Parsed, field: NumberField, value: i32) -> Result<Parsed, ReadFault>
-    ensures { result ≡ number_put field value parsed }
+#[inline(always)]
+#[tactic(auto, unfolding(crate::specs::NumberReads::number_put))]
+fn put_number(parsed: &mut Parsed, field: NumberField, value: i32) -> Result<(), ReadFault>
+    ensures put { IfOk result (λ u. number_put field value parsed.old ≡ Ok parsed.new) }
+    ensures refused { IfErr result (λ cause. number_put field value parsed.old ≡ Err cause) }
 {
-    let parsed = put_half(parsed, field, value)?;
+    put_half(parsed, field, value)?;
     let (part, value) = number_part(field, value);
     parsed.put(part, value)
 }
 
 // Puts the half of the day that an hour from 0 to 23 gives.
-fn put_half(parsed: Parsed, field: NumberField, value: i32) -> Result<Parsed, ReadFault>
-    ensures { result ≡ half_put field value parsed }
+#[inline(always)]
+fn put_half(parsed: &mut Parsed, field: NumberField, value: i32) -> Result<(), ReadFault>
+    ensures put { IfOk result (λ u. half_put field value parsed.old ≡ Ok parsed.new) }
+    ensures refused { IfErr result (λ cause. half_put field value parsed.old ≡ Err cause) }
 {
     match field {
         NumberField::Hour | NumberField::SpacedHour => {
             parsed.put(Part::HourDiv12, value.div_euclid(12))
         }
-        _ => Ok(parsed),
+        _ => Ok(()),
     }
 }
 
 // The part that a number gives, and its value.
+#[inline(always)]
 pub(crate) fn number_part(field: NumberField, value: i32) -> (Part, i32)
     ensures { result ≡ number_part field value }
 {
@@ -112,37 +144,52 @@ pub(crate) fn number_part(field: NumberField, value: i32) -> (Part, i32)
         NumberField::Day | NumberField::SpacedDay => (Part::DayOfMonth, value),
         NumberField::DayOfYear => (Part::OrdinalDay, value),
         NumberField::FromMonday => (Part::DayOfWeek, value),
-        NumberField::FromSunday => (
-            Part::DayOfWeek,
-            if value == 0 {
-                7
-            } else if value == 7 {
-                8
-            } else {
-                value
-            },
-        ),
+        NumberField::FromSunday => (Part::DayOfWeek, weekday_of_sunday(value)),
         NumberField::IsoYear => (Part::FullIsoYear, value),
         NumberField::IsoYearOfCentury => (Part::IsoYearMod100, value),
         NumberField::IsoWeek => (Part::WeekOfIsoYear, value),
+        NumberField::WeekFromSunday => (Part::WeekFromSun, value),
+        NumberField::WeekFromMonday => (Part::WeekFromMon, value),
         NumberField::Hour | NumberField::SpacedHour => (Part::HourMod12, value.rem_euclid(12)),
-        NumberField::HalfHour | NumberField::SpacedHalfHour => (
-            Part::HourMod12,
-            if value == 0 {
-                12
-            } else if value == 12 {
-                0
-            } else {
-                value
-            },
-        ),
+        NumberField::HalfHour | NumberField::SpacedHalfHour => {
+            (Part::HourMod12, hour_of_clock(value))
+        }
         NumberField::Minute => (Part::MinuteOfHour, value),
         NumberField::Second => (Part::SecondOfMinute, value),
         NumberField::Nanosecond => (Part::NanosecondOfSecond, value),
     }
 }
 
+// The weekday from 1 for Monday of a number from Sunday, which is 0. No number from Sunday is 7.
+#[inline(always)]
+fn weekday_of_sunday(value: i32) -> i32
+    ensures { result ≡ weekday_of_sunday value }
+{
+    if value == 0 {
+        7
+    } else if value == 7 {
+        8
+    } else {
+        value
+    }
+}
+
+// The hour of the half day of what a clock of twelve hours shows.
+#[inline(always)]
+fn hour_of_clock(value: i32) -> i32
+    ensures { result ≡ hour_of_clock value }
+{
+    if value == 0 {
+        12
+    } else if value == 12 {
+        0
+    } else {
+        value
+    }
+}
+
 // The number of a sign and a size.
+#[inline(always)]
 fn with_sign(negative: bool, size: u32) -> i32
     requires { size < 10 ^ 9 }
     ensures { result ≡ signed negative size }
@@ -152,6 +199,7 @@ fn with_sign(negative: bool, size: u32) -> i32
 }
 
 // Whether a number may have a sign.
+#[inline(always)]
 fn has_sign(field: NumberField) -> bool
     ensures { result ≡ has_sign field }
 {
@@ -159,6 +207,7 @@ fn has_sign(field: NumberField) -> bool
 }
 
 // The most digits of a number without a sign.
+#[inline(always)]
 fn most_digits(field: NumberField) -> usize
     ensures value { result ≡ most_digits field }
     ensures few { result ≤ 9 }

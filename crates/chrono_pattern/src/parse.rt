@@ -1,9 +1,9 @@
 //! Reads dates, times of day and date-times by patterns.
-ghost use Rattle.std.specs.Prelude.{◌≡◌, ℤ, Ok, IfOk};
+ghost use Rattle.std.specs.Prelude.{◌≡◌, ℕ, ℤ, List, Ok, IfOk, IsOk};
 ghost use Rattle.chrono_datetime.specs.Days.{IsDate};
 ghost use Rattle.chrono_datetime.specs.Moment.{Moment};
 ghost use Rattle.chrono_datetime.specs.Time.{TimeOfDay};
-ghost use Rattle.chrono_pattern.specs.Parses.{IsDateBy, IsTimeBy};
+ghost use Rattle.chrono_pattern.specs.Parses.{IsDateBy, IsDateInFront, IsTimeBy, IsTimeInFront};
 ghost use Rattle.chrono_pattern.specs.TimeParts.{IsClockTime};
 
 use crate::error::PatternReadError;
@@ -84,6 +84,105 @@ impl<'a> Pattern<'a> {
                 Ok(moment) => Ok(moment),
                 Err(cause) => Err(PatternReadError {
                     byte: text.len(),
+                    cause,
+                }),
+            },
+            Err(error) => Err(error),
+        }
+    }
+
+    /// Returns the date that the front of `text` is of, and what is behind it.
+    ///
+    /// # Errors
+    ///
+    /// Returns [`PatternReadError`] as [`Pattern::read_front`] does, and at the end of the front for the causes of [`Parsed::to_date`](crate::Parsed::to_date).
+    ///
+    /// ```
+    /// let (date, rest) = Pattern::new(b"%F").ok()?.parse_date_and_remainder(b"2024-02-29T09:30").ok()?;
+    /// date // 2024-02-29
+    /// rest.len() // 6
+    /// ```
+    pub fn parse_date_and_remainder<'t>(
+        &self,
+        text: &'t [u8],
+    ) -> Result<(NaiveDate, &'t [u8]), PatternReadError>
+        ensures date { IfOk result (λ r. IsDateInFront self.now text.now r.0 r.1.now) }
+        ensures exists { (n : ℤ) → (rest : List ℕ) → IsDate n → IsDateInFront self.now text.now n rest → IsOk result }
+        ensures only { (n : ℤ) → (rest : List ℕ) → IsDate n → IsDateInFront self.now text.now n rest
+            → IfOk result (λ r. (r.0 ≡ n) × (r.1.now ≡ rest)) }
+    {
+        match self.read_front(text) {
+            Ok((parts, rest)) => match parts.to_date() {
+                Ok(date) => Ok((date, rest)),
+                Err(cause) => Err(PatternReadError {
+                    byte: text.len().saturating_sub(rest.len()),
+                    cause,
+                }),
+            },
+            Err(error) => Err(error),
+        }
+    }
+
+    /// Returns the time of day that the front of `text` is of, and what is behind it.
+    ///
+    /// # Errors
+    ///
+    /// Returns [`PatternReadError`] as [`Pattern::read_front`] does, and at the end of the front for the causes of [`Parsed::to_time`](crate::Parsed::to_time).
+    ///
+    /// ```
+    /// let (time, rest) = Pattern::new(b"%R").ok()?.parse_time_and_remainder(b"09:30:15").ok()?;
+    /// time // 09:30:00
+    /// rest // [58, 49, 53]
+    /// ```
+    pub fn parse_time_and_remainder<'t>(
+        &self,
+        text: &'t [u8],
+    ) -> Result<(NaiveTime, &'t [u8]), PatternReadError>
+        ensures time { IfOk result (λ r. IsTimeInFront self.now text.now r.0 r.1.now) }
+        ensures exists { (t : TimeOfDay) → (rest : List ℕ) → IsClockTime t → IsTimeInFront self.now text.now t rest → IsOk result }
+        ensures only { (t : TimeOfDay) → (rest : List ℕ) → IsClockTime t → IsTimeInFront self.now text.now t rest
+            → IfOk result (λ r. (r.0 ≡ t) × (r.1.now ≡ rest)) }
+    {
+        match self.read_front(text) {
+            Ok((parts, rest)) => match parts.to_time() {
+                Ok(time) => Ok((time, rest)),
+                Err(cause) => Err(PatternReadError {
+                    byte: text.len().saturating_sub(rest.len()),
+                    cause,
+                }),
+            },
+            Err(error) => Err(error),
+        }
+    }
+
+    /// Returns the date-time that the front of `text` is of, and what is behind it.
+    ///
+    /// # Errors
+    ///
+    /// Returns [`PatternReadError`] as [`Pattern::read_front`] does, and at the end of the front for the causes of
+    /// [`Parsed::to_date_time`](crate::Parsed::to_date_time).
+    ///
+    /// ```
+    /// let (moment, rest) = Pattern::new(b"%F %R").ok()?.parse_date_time_and_remainder(b"2024-02-29 09:30 UTC").ok()?;
+    /// moment // 2024-02-29T09:30:00
+    /// rest.len() // 4
+    /// ```
+    pub fn parse_date_time_and_remainder<'t>(
+        &self,
+        text: &'t [u8],
+    ) -> Result<(NaiveDateTime, &'t [u8]), PatternReadError>
+        ensures date { IfOk result (λ r. IsDateInFront self.now text.now r.0.date r.1.now) }
+        ensures time { IfOk result (λ r. IsTimeInFront self.now text.now r.0.time r.1.now) }
+        ensures exists { (m : Moment) → (rest : List ℕ) → IsDate m.date → IsClockTime m.time → IsDateInFront self.now text.now m.date rest
+            → IsTimeInFront self.now text.now m.time rest → IsOk result }
+        ensures only { (m : Moment) → (rest : List ℕ) → IsDate m.date → IsClockTime m.time → IsDateInFront self.now text.now m.date rest
+            → IsTimeInFront self.now text.now m.time rest → IfOk result (λ r. (r.0 ≡ m) × (r.1.now ≡ rest)) }
+    {
+        match self.read_front(text) {
+            Ok((parts, rest)) => match parts.to_date_time() {
+                Ok(moment) => Ok((moment, rest)),
+                Err(cause) => Err(PatternReadError {
+                    byte: text.len().saturating_sub(rest.len()),
                     cause,
                 }),
             },

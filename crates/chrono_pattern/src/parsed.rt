@@ -1,6 +1,6 @@
 //! `Parsed`: the numbers that a text gives, by the fields that they are of.
-ghost use Rattle.std.specs.Prelude.{◌≡◌};
-ghost use Rattle.chrono_pattern.specs.Parts.{no_parts, part_of, put, range_of, with_part};
+ghost use Rattle.std.specs.Prelude.{◌≡◌, Ok, Err, IfErr, IfOk};
+ghost use Rattle.chrono_pattern.specs.Parts.{no_parts, part_of, put, part_range, with_part};
 
 use crate::error::ReadFault;
 
@@ -15,6 +15,8 @@ pub(crate) enum Part {
     QuarterOfYear,
     MonthOfYear,
     WeekOfIsoYear,
+    WeekFromSun,
+    WeekFromMon,
     DayOfWeek,
     OrdinalDay,
     DayOfMonth,
@@ -49,6 +51,10 @@ pub struct Parsed {
     pub month: Option<i32>,
     /// The ISO week, from 1.
     pub isoweek: Option<i32>,
+    /// The week of the year that begins on Sunday, from 0.
+    pub week_from_sun: Option<i32>,
+    /// The week of the year that begins on Monday, from 0.
+    pub week_from_mon: Option<i32>,
     /// The weekday, from 1 for Monday.
     pub weekday: Option<i32>,
     /// The day of the year, from 1.
@@ -85,6 +91,8 @@ impl Parsed {
             quarter: None,
             month: None,
             isoweek: None,
+            week_from_sun: None,
+            week_from_mon: None,
             weekday: None,
             ordinal: None,
             day: None,
@@ -97,8 +105,9 @@ impl Parsed {
     }
 
     // A part, if it is given.
-    fn part(self, part: Part) -> Option<i32>
-        ensures { result ≡ part_of part self }
+    #[inline(always)]
+    fn part(&self, part: Part) -> Option<i32>
+        ensures { result ≡ part_of part self.now }
     {
         match part {
             Part::FullYear => self.year,
@@ -109,6 +118,8 @@ impl Parsed {
             Part::QuarterOfYear => self.quarter,
             Part::MonthOfYear => self.month,
             Part::WeekOfIsoYear => self.isoweek,
+            Part::WeekFromSun => self.week_from_sun,
+            Part::WeekFromMon => self.week_from_mon,
             Part::DayOfWeek => self.weekday,
             Part::OrdinalDay => self.ordinal,
             Part::DayOfMonth => self.day,
@@ -120,39 +131,42 @@ impl Parsed {
         }
     }
 
-    // The parts with another value of one.
-    pub(crate) fn with_part(self, part: Part, value: i32) -> Parsed
-        ensures { result ≡ with_part part value self }
+    // Gives a part another value.
+    #[inline(always)]
+    pub(crate) fn set(&mut self, part: Part, value: i32)
+        ensures { self.new ≡ with_part part value self.old }
     {
-        let mut parsed = self;
         let value = Some(value);
         match part {
-            Part::FullYear => parsed.year = value,
-            Part::YearDiv100 => parsed.year_div_100 = value,
-            Part::YearMod100 => parsed.year_mod_100 = value,
-            Part::FullIsoYear => parsed.isoyear = value,
-            Part::IsoYearMod100 => parsed.isoyear_mod_100 = value,
-            Part::QuarterOfYear => parsed.quarter = value,
-            Part::MonthOfYear => parsed.month = value,
-            Part::WeekOfIsoYear => parsed.isoweek = value,
-            Part::DayOfWeek => parsed.weekday = value,
-            Part::OrdinalDay => parsed.ordinal = value,
-            Part::DayOfMonth => parsed.day = value,
-            Part::HourDiv12 => parsed.hour_div_12 = value,
-            Part::HourMod12 => parsed.hour_mod_12 = value,
-            Part::MinuteOfHour => parsed.minute = value,
-            Part::SecondOfMinute => parsed.second = value,
-            Part::NanosecondOfSecond => parsed.nanosecond = value,
+            Part::FullYear => self.year = value,
+            Part::YearDiv100 => self.year_div_100 = value,
+            Part::YearMod100 => self.year_mod_100 = value,
+            Part::FullIsoYear => self.isoyear = value,
+            Part::IsoYearMod100 => self.isoyear_mod_100 = value,
+            Part::QuarterOfYear => self.quarter = value,
+            Part::MonthOfYear => self.month = value,
+            Part::WeekOfIsoYear => self.isoweek = value,
+            Part::WeekFromSun => self.week_from_sun = value,
+            Part::WeekFromMon => self.week_from_mon = value,
+            Part::DayOfWeek => self.weekday = value,
+            Part::OrdinalDay => self.ordinal = value,
+            Part::DayOfMonth => self.day = value,
+            Part::HourDiv12 => self.hour_div_12 = value,
+            Part::HourMod12 => self.hour_mod_12 = value,
+            Part::MinuteOfHour => self.minute = value,
+            Part::SecondOfMinute => self.second = value,
+            Part::NanosecondOfSecond => self.nanosecond = value,
         }
-        parsed
     }
 
-    // The parts with one more. A part has its range, and is given the same in all places.
+    // Gives one part more. A part has its range, and is given the same in all places.
+    #[inline(always)]
     #[tactic(auto, unfolding(crate::specs::Parts::put))]
-    pub(crate) fn put(self, part: Part, value: i32) -> Result<Parsed, ReadFault>
-        ensures { result ≡ put part value self }
+    pub(crate) fn put(&mut self, part: Part, value: i32) -> Result<(), ReadFault>
+        ensures put { IfOk result (λ u. put part value self.old ≡ Ok self.new) }
+        ensures refused { IfErr result (λ cause. put part value self.old ≡ Err cause) }
     {
-        let (least, most) = range_of(part);
+        let (least, most) = part_range(part);
         if value < least {
             return Err(ReadFault::OutOfRange);
         }
@@ -160,10 +174,13 @@ impl Parsed {
             return Err(ReadFault::OutOfRange);
         }
         match self.part(part) {
-            None => Ok(self.with_part(part, value)),
+            None => {
+                self.set(part, value);
+                Ok(())
+            }
             Some(before) => {
                 if before == value {
-                    Ok(self)
+                    Ok(())
                 } else {
                     Err(ReadFault::Impossible)
                 }
@@ -173,8 +190,9 @@ impl Parsed {
 }
 
 // The least and the greatest value of a part that a text may give.
-fn range_of(part: Part) -> (i32, i32)
-    ensures { result ≡ range_of part }
+#[inline(always)]
+fn part_range(part: Part) -> (i32, i32)
+    ensures { result ≡ part_range part }
 {
     match part {
         Part::FullYear | Part::FullIsoYear => (-999_999_999, 999_999_999),
@@ -182,6 +200,7 @@ fn range_of(part: Part) -> (i32, i32)
         Part::QuarterOfYear => (1, 4),
         Part::MonthOfYear => (1, 12),
         Part::WeekOfIsoYear => (1, 53),
+        Part::WeekFromSun | Part::WeekFromMon => (0, 53),
         Part::DayOfWeek => (1, 7),
         Part::OrdinalDay => (1, 366),
         Part::DayOfMonth => (1, 31),

@@ -5,24 +5,22 @@ ghost use Rattle.chrono_datetime.specs.Time.{TimeOfDay, time_at};
 ghost use Rattle.chrono_pattern.specs.DateParts.{names_date};
 ghost use Rattle.chrono_pattern.specs.NamedParts.{named_parts};
 ghost use Rattle.chrono_pattern.specs.Needs.{needs_time};
-ghost use Rattle.chrono_pattern.specs.Reads.{read_error, text_read};
+ghost use Rattle.chrono_pattern.specs.Reads.{front_read, read_error, text_read};
 ghost use Rattle.chrono_pattern.specs.TimeParts.{names_time};
 ghost use Rattle.chrono_pattern.specs.declared.stop.Stop.{Stop};
-ghost use Rattle.chrono_pattern.specs.Patterns.{IsPattern, begun_at, cut_error, item_text, pattern_error, pattern_text};
+ghost use Rattle.chrono_pattern.specs.Patterns.{IsPattern, begun_at, cut_error, pattern_error, pattern_text};
 
 use crate::date_parts::names_date;
 use crate::error::{PatternError, PatternFault, PatternReadError};
-use crate::group::put_group;
-use crate::item::{Item, State};
+use crate::item::State;
 use crate::named_parts::named_parts;
 use crate::needs::needs_time;
-use crate::number::put_number;
 use crate::parsed::Parsed;
-use crate::reader::{Reader, read_by};
+use crate::reader::{read_front, read_text};
 use crate::step::pattern_step;
-use crate::subsecond::put_subsecond;
+use crate::stop::Stop;
 use crate::time_parts::names_time;
-use crate::word::put_word;
+use crate::writer::text_of;
 use chrono_datetime::{NaiveDate, NaiveDateTime, NaiveTime};
 use chrono_text::Text;
 use std::marker::Model;
@@ -68,6 +66,7 @@ impl<'a> Pattern<'a> {
     /// | `%Y` `%C` `%y` `%q` | year, with a sign if it is not from 0 to 9999; its century; the year of the century; the quarter |
     /// | `%m` `%d` `%e` `%j` | month; day of the month, `%e` with a space for a digit; day of the year |
     /// | `%G` `%g` `%V` | ISO year, its year of the century, ISO week |
+    /// | `%U` `%W` | week of the year: how many Sundays have come by the day; how many Mondays |
     /// | `%u` `%w` | weekday, from 1 for Monday; from 0 for Sunday |
     /// | `%A` `%a` `%B` `%b` `%h` | weekday and its three letters; month and its three letters |
     /// | `%H` `%k` `%I` `%l` | hour; hour of the half day, from 1 to 12. `%k` and `%l` have a space for a digit |
@@ -76,6 +75,8 @@ impl<'a> Pattern<'a> {
     /// | `%3f` `%6f` `%9f` | so many digits of the fraction of the second |
     /// | `%.3f` `%.6f` `%.9f` `%.f` | the same behind a point; as few of them as hold it, with no point for none |
     /// | `%F` `%D` `%T` `%R` | `%Y-%m-%d`, `%m/%d/%y`, `%H:%M:%S`, `%H:%M` |
+    /// | `%x` `%X` `%r` | `%m/%d/%y`, `%H:%M:%S`, `%I:%M:%S %p` |
+    /// | `%c` `%v` | `%a %b %e %H:%M:%S %Y`, `%e-%b-%Y` |
     /// | `%n` `%t` `%%` | line feed, tab, `%` |
     ///
     /// Before a number, `-` asks for no padding, `_` for spaces, and `0` for zeros: `%-d`.
@@ -180,16 +181,33 @@ impl<'a> Pattern<'a> {
         ensures parts { IfOk result (λ p. text_read self.now text.now ≡ Ok p) }
         ensures error { IfErr result (λ e. (stop : Stop) × (text_read self.now text.now ≡ Err stop) × (e ≡ read_error text.now stop)) }
     {
-        let start = Reader {
-            rest: text,
-            parsed: Parsed::new(),
-        };
-        match read_by(self.bytes, start) {
+        match read_text(self.bytes, text) {
             Ok(parsed) => Ok(parsed),
-            Err(stop) => Err(PatternReadError {
-                byte: text.len().saturating_sub(stop.left),
-                cause: stop.cause,
-            }),
+            Err(stop) => Err(read_error(text, stop)),
+        }
+    }
+
+    /// Returns the parts that the front of `text` gives, and what is behind it.
+    ///
+    /// The front is what [`read_parts`](Self::read_parts) reads.
+    ///
+    /// # Errors
+    ///
+    /// Returns [`PatternReadError`] if the pattern reads no front of the text. It names the first piece that is wrong.
+    ///
+    /// ```
+    /// let pattern = Pattern::new(b"%H:%M").ok()?;
+    /// let (parsed, rest) = pattern.read_front(b"09:30 Z").ok()?;
+    /// parsed.minute // Some(30)
+    /// rest // [32, 90]
+    /// ```
+    pub fn read_front<'t>(&self, text: &'t [u8]) -> Result<(Parsed, &'t [u8]), PatternReadError>
+        ensures parts { IfOk result (λ r. front_read self.now text.now ≡ Ok (record { rest = r.1.now; parsed = r.0 })) }
+        ensures error { IfErr result (λ e. (stop : Stop) × (front_read self.now text.now ≡ Err stop) × (e ≡ read_error text.now stop)) }
+    {
+        match read_front(self.bytes, text) {
+            Ok(reader) => Ok((reader.parsed, reader.rest)),
+            Err(stop) => Err(read_error(text, stop)),
         }
     }
 
@@ -214,27 +232,14 @@ impl<'a> Pattern<'a> {
     }
 }
 
-// The text of a date-time by the bytes of a pattern, if there is room for it.
-fn text_of<const N: usize>(bytes: &[u8], moment: NaiveDateTime) -> Option<Text<N>>
-    ensures text { IfSome result (λ text. text ≡ pattern_text bytes.now moment) }
-    ensures exists { IsSome result ↔ (length (pattern_text bytes.now moment) ≤ N) }
+// The error of a text by where a reader stopped.
+fn read_error(text: &[u8], stop: Stop) -> PatternReadError
+    ensures { result ≡ read_error text.now stop }
 {
-    let mut text = Text::new();
-    let mut state = State::Outside;
-    let mut rest = bytes;
-    while let Some((byte, behind)) = rest.split_first() {
-        let Some(next) = pattern_step(state, *byte) else {
-            return Some(text);
-        };
-        let piece = item_text(next.1, moment);
-        if text.room() < piece.as_bytes().len() {
-            return None;
-        }
-        text.push_text(piece.as_bytes());
-        state = next.0;
-        rest = behind;
+    PatternReadError {
+        byte: text.len().saturating_sub(stop.left),
+        cause: stop.cause,
     }
-    Some(text)
 }
 
 // What is wrong with bytes that are no pattern.
@@ -281,20 +286,4 @@ fn begun_at(state: State, begun: usize, place: usize) -> usize
         State::Outside => place,
         State::Opened(_) | State::Digits(_, _) => begun,
     }
-}
-
-// The text of an item.
-fn item_text(item: Item, moment: NaiveDateTime) -> Text<64>
-    ensures { result ≡ item_text item moment }
-{
-    let mut text = Text::new();
-    match item {
-        Item::Empty => {}
-        Item::Byte(byte) => text.push(byte),
-        Item::Number(field, padding) => put_number(&mut text, field, padding, moment),
-        Item::Word(word) => put_word(&mut text, word, moment),
-        Item::Group(group) => put_group(&mut text, group, moment),
-        Item::Subsecond(point, count) => put_subsecond(&mut text, point, count, moment.time()),
-    }
-    text
 }

@@ -1,15 +1,15 @@
 //! Reads the items of a pattern from the front of a text.
-ghost use Rattle.std.specs.Prelude.{◌≡◌, ◌≤◌, drop, length};
-ghost use Rattle.chrono_pattern.specs.ItemReads.{group_read, item_read, three_read, two_read};
-ghost use Rattle.chrono_pattern.specs.Progress.{Progress, byte_read, literal_read, progress};
-ghost use Rattle.chrono_pattern.specs.Reads.{end_read, read_from};
+ghost use Rattle.std.specs.Prelude.{◌≡◌, ◌≤◌, Ok, Err, IfErr, IfOk, length};
+ghost use Rattle.chrono_pattern.specs.ItemReads.{behind_read, clock_year_read, day_read, group_read, half_clock_read, item_read, short_date_read, three_read, two_read, word_behind_read};
+ghost use Rattle.chrono_pattern.specs.Progress.{Progress, byte_read, literal_read, put_behind};
+ghost use Rattle.chrono_pattern.specs.Reads.{front_read, read_from, text_read};
 ghost use Rattle.chrono_pattern.specs.declared.item.State.TheVariants.{Outside};
 
 use crate::class::{Class, is_of, skip_blanks};
 use crate::error::ReadFault;
-use crate::item::{GroupField, Item, NumberField, State};
+use crate::item::{GroupField, Item, NumberField, State, WordField};
 use crate::number_reader::read_number;
-use crate::parsed::Parsed;
+use crate::parsed::{Parsed, Part};
 use crate::step::pattern_step;
 use crate::stop::{Stop, stopped};
 use crate::subsecond_reader::read_subsecond;
@@ -29,91 +29,163 @@ impl<'a> Model for Reader<'a> {
     ghost view = { λ r. record { rest = r.rest.now; parsed = r.parsed } };
 }
 
-// The parts that so many bytes of a text give, and the rest behind them.
-pub(crate) fn behind<'a>(
-    put: Result<Parsed, ReadFault>,
+// Puts a part that so many bytes of a text give, and goes behind them.
+pub(crate) fn put_behind<'a>(
+    reader: &mut Reader<'a>,
+    part: Part,
+    value: i32,
     count: usize,
     text: &'a [u8],
-) -> Result<Reader<'a>, Stop>
+) -> Result<(), Stop>
     requires { count ≤ length text.now }
-    ensures { result ≡ progress put (drop count text.now) text.now }
+    ensures read { IfOk result (λ u. put_behind count text.now part value reader.old.parsed ≡ Ok reader.new) }
+    ensures stop { IfErr result (λ e. put_behind count text.now part value reader.old.parsed ≡ Err e) }
 {
-    match put {
-        Ok(parsed) => Ok(Reader {
-            rest: &text[count..],
-            parsed,
-        }),
+    match reader.parsed.put(part, value) {
+        Ok(()) => {
+            reader.rest = &text[count..];
+            Ok(())
+        }
         Err(cause) => Err(stopped(cause, text)),
     }
 }
 
 // Reads a byte.
-fn read_byte<'a>(reader: Reader<'a>, byte: u8) -> Result<Reader<'a>, Stop>
-    ensures { result ≡ byte_read byte reader.entry }
+#[inline(always)]
+fn read_byte(reader: &mut Reader<'_>, byte: u8) -> Result<(), Stop>
+    ensures read { IfOk result (λ u. byte_read byte reader.old ≡ Ok reader.new) }
+    ensures stop { IfErr result (λ e. byte_read byte reader.old ≡ Err e) }
 {
-    match reader.rest.split_first() {
-        None => Err(stopped(ReadFault::TooShort, reader.rest)),
+    let text = reader.rest;
+    match text.split_first() {
+        None => Err(stopped(ReadFault::TooShort, text)),
         Some((first, rest)) => {
             if *first == byte {
-                Ok(Reader {
-                    rest,
-                    parsed: reader.parsed,
-                })
+                reader.rest = rest;
+                Ok(())
             } else {
-                Err(stopped(ReadFault::Invalid, reader.rest))
+                Err(stopped(ReadFault::Invalid, text))
             }
         }
     }
 }
 
 // Reads a byte that stands for itself. A blank stands for any blanks and for none.
+#[inline(always)]
 #[tactic(auto, unfolding(crate::specs::Progress::literal_read))]
-fn read_literal<'a>(reader: Reader<'a>, byte: u8) -> Result<Reader<'a>, Stop>
-    ensures { result ≡ literal_read byte reader.entry }
+fn read_literal(reader: &mut Reader<'_>, byte: u8) -> Result<(), Stop>
+    ensures read { IfOk result (λ u. literal_read byte reader.old ≡ Ok reader.new) }
+    ensures stop { IfErr result (λ e. literal_read byte reader.old ≡ Err e) }
 {
     if is_of(Class::Blank, byte) {
-        Ok(Reader {
-            rest: skip_blanks(reader.rest),
-            parsed: reader.parsed,
-        })
+        reader.rest = skip_blanks(reader.rest);
+        Ok(())
     } else {
         read_byte(reader, byte)
     }
 }
 
+// Reads a byte or blanks, and a number behind them.
+#[inline(always)]
+fn read_behind(reader: &mut Reader<'_>, byte: u8, field: NumberField) -> Result<(), Stop>
+    ensures read { IfOk result (λ u. behind_read byte field reader.old ≡ Ok reader.new) }
+    ensures stop { IfErr result (λ e. behind_read byte field reader.old ≡ Err e) }
+{
+    read_literal(reader, byte)?;
+    read_number(reader, field)
+}
+
+// Reads a byte or blanks, and a word behind them.
+fn read_word_behind(reader: &mut Reader<'_>, byte: u8, word: WordField) -> Result<(), Stop>
+    ensures read { IfOk result (λ u. word_behind_read byte word reader.old ≡ Ok reader.new) }
+    ensures stop { IfErr result (λ e. word_behind_read byte word reader.old ≡ Err e) }
+{
+    read_literal(reader, byte)?;
+    read_word(reader, word)
+}
+
 // Reads a number, a byte, and another number.
-fn read_two<'a>(
-    reader: Reader<'a>,
+#[inline(always)]
+fn read_two(
+    reader: &mut Reader<'_>,
     first: NumberField,
     byte: u8,
     second: NumberField,
-) -> Result<Reader<'a>, Stop>
-    ensures { result ≡ two_read first byte second reader.entry }
+) -> Result<(), Stop>
+    ensures read { IfOk result (λ u. two_read first byte second reader.old ≡ Ok reader.new) }
+    ensures stop { IfErr result (λ e. two_read first byte second reader.old ≡ Err e) }
 {
-    let reader = read_number(reader, first)?;
-    let reader = read_byte(reader, byte)?;
-    read_number(reader, second)
+    read_number(reader, first)?;
+    read_behind(reader, byte, second)
 }
 
 // Reads three numbers, with a byte between each two.
-fn read_three<'a>(
-    reader: Reader<'a>,
+#[inline(always)]
+fn read_three(
+    reader: &mut Reader<'_>,
     first: NumberField,
     byte: u8,
     second: NumberField,
     third: NumberField,
-) -> Result<Reader<'a>, Stop>
-    ensures { result ≡ three_read first byte second third reader.entry }
+) -> Result<(), Stop>
+    ensures read { IfOk result (λ u. three_read first byte second third reader.old ≡ Ok reader.new) }
+    ensures stop { IfErr result (λ e. three_read first byte second third reader.old ≡ Err e) }
 {
-    let reader = read_two(reader, first, byte, second)?;
-    let reader = read_byte(reader, byte)?;
-    read_number(reader, third)
+    read_two(reader, first, byte, second)?;
+    read_behind(reader, byte, third)
 }
 
-// Reads the numbers of a group.
+// Reads a time of day on the clock of twelve hours.
+fn read_half_clock(reader: &mut Reader<'_>) -> Result<(), Stop>
+    ensures read { IfOk result (λ u. half_clock_read reader.old ≡ Ok reader.new) }
+    ensures stop { IfErr result (λ e. half_clock_read reader.old ≡ Err e) }
+{
+    read_three(
+        reader,
+        NumberField::HalfHour,
+        b':',
+        NumberField::Minute,
+        NumberField::Second,
+    )?;
+    read_word_behind(reader, b' ', WordField::Half)
+}
+
+// Reads a day, the letters of a month and a year.
+fn read_short_date(reader: &mut Reader<'_>) -> Result<(), Stop>
+    ensures read { IfOk result (λ u. short_date_read reader.old ≡ Ok reader.new) }
+    ensures stop { IfErr result (λ e. short_date_read reader.old ≡ Err e) }
+{
+    read_number(reader, NumberField::SpacedDay)?;
+    read_word_behind(reader, b'-', WordField::MonthLetters)?;
+    read_behind(reader, b'-', NumberField::Year)
+}
+
+// Reads the letters of a weekday and of a month, and a day.
+fn read_day(reader: &mut Reader<'_>) -> Result<(), Stop>
+    ensures read { IfOk result (λ u. day_read reader.old ≡ Ok reader.new) }
+    ensures stop { IfErr result (λ e. day_read reader.old ≡ Err e) }
+{
+    read_word(reader, WordField::WeekdayLetters)?;
+    read_word_behind(reader, b' ', WordField::MonthLetters)?;
+    read_behind(reader, b' ', NumberField::SpacedDay)
+}
+
+// Reads an hour, a minute, a second and a year, each behind a byte or blanks.
+fn read_clock_year(reader: &mut Reader<'_>) -> Result<(), Stop>
+    ensures read { IfOk result (λ u. clock_year_read reader.old ≡ Ok reader.new) }
+    ensures stop { IfErr result (λ e. clock_year_read reader.old ≡ Err e) }
+{
+    read_behind(reader, b' ', NumberField::Hour)?;
+    read_behind(reader, b':', NumberField::Minute)?;
+    read_behind(reader, b':', NumberField::Second)?;
+    read_behind(reader, b' ', NumberField::Year)
+}
+
+// Reads the numbers and the words of a group.
 #[tactic(auto, unfolding(crate::specs::ItemReads::group_read))]
-fn read_group<'a>(reader: Reader<'a>, group: GroupField) -> Result<Reader<'a>, Stop>
-    ensures { result ≡ group_read group reader.entry }
+fn read_group(reader: &mut Reader<'_>, group: GroupField) -> Result<(), Stop>
+    ensures read { IfOk result (λ u. group_read group reader.old ≡ Ok reader.new) }
+    ensures stop { IfErr result (λ e. group_read group reader.old ≡ Err e) }
 {
     match group {
         GroupField::YearMonthDay => read_three(
@@ -138,15 +210,22 @@ fn read_group<'a>(reader: Reader<'a>, group: GroupField) -> Result<Reader<'a>, S
             NumberField::Minute,
             NumberField::Second,
         ),
+        GroupField::HalfClock => read_half_clock(reader),
+        GroupField::DayMonthYear => read_short_date(reader),
+        GroupField::DateAndTime => {
+            read_day(reader)?;
+            read_clock_year(reader)
+        }
     }
 }
 
 // Reads an item.
-pub(crate) fn read_item<'a>(reader: Reader<'a>, item: Item) -> Result<Reader<'a>, Stop>
-    ensures { result ≡ item_read item reader.entry }
+fn read_item(reader: &mut Reader<'_>, item: Item) -> Result<(), Stop>
+    ensures read { IfOk result (λ u. item_read item reader.old ≡ Ok reader.new) }
+    ensures stop { IfErr result (λ e. item_read item reader.old ≡ Err e) }
 {
     match item {
-        Item::Empty => Ok(reader),
+        Item::Empty => Ok(()),
         Item::Byte(byte) => read_literal(reader, byte),
         Item::Number(field, _) => read_number(reader, field),
         Item::Word(word) => read_word(reader, word),
@@ -155,8 +234,31 @@ pub(crate) fn read_item<'a>(reader: Reader<'a>, item: Item) -> Result<Reader<'a>
     }
 }
 
-// Reads a text by the bytes of a pattern.
-pub(crate) fn read_by<'a>(bytes: &[u8], start: Reader<'a>) -> Result<Parsed, Stop>
+// Reads the front of a text by the bytes of a pattern.
+pub(crate) fn read_front<'a>(bytes: &[u8], text: &'a [u8]) -> Result<Reader<'a>, Stop>
+    ensures { result ≡ front_read bytes.now text.now }
+{
+    let start = Reader {
+        rest: text,
+        parsed: Parsed::new(),
+    };
+    read_by(bytes, start)
+}
+
+// Reads a whole text by the bytes of a pattern.
+pub(crate) fn read_text(bytes: &[u8], text: &[u8]) -> Result<Parsed, Stop>
+    ensures { result ≡ text_read bytes.now text.now }
+{
+    let reader = read_front(bytes, text)?;
+    if reader.rest.is_empty() {
+        Ok(reader.parsed)
+    } else {
+        Err(stopped(ReadFault::TooLong, reader.rest))
+    }
+}
+
+// Reads the items of a pattern.
+fn read_by<'a>(bytes: &[u8], start: Reader<'a>) -> Result<Reader<'a>, Stop>
     ensures { result ≡ read_from Outside bytes.now start.entry }
 {
     let mut reader = start;
@@ -164,25 +266,14 @@ pub(crate) fn read_by<'a>(bytes: &[u8], start: Reader<'a>) -> Result<Parsed, Sto
     let mut rest = bytes;
     while let Some((byte, behind)) = rest.split_first() {
         let Some(next) = pattern_step(state, *byte) else {
-            return Ok(reader.parsed);
+            return Ok(reader);
         };
-        match read_item(reader, next.1) {
-            Ok(read) => reader = read,
+        match read_item(&mut reader, next.1) {
+            Ok(()) => {}
             Err(stop) => return Err(stop),
         }
         state = next.0;
         rest = behind;
     }
-    read_end(reader)
-}
-
-// The parts, if nothing is left of the text.
-fn read_end<'a>(reader: Reader<'a>) -> Result<Parsed, Stop>
-    ensures { result ≡ end_read reader.entry }
-{
-    if reader.rest.is_empty() {
-        Ok(reader.parsed)
-    } else {
-        Err(stopped(ReadFault::TooLong, reader.rest))
-    }
+    Ok(reader)
 }

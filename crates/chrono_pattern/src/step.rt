@@ -1,6 +1,6 @@
 //! Reads a pattern byte by byte.
 ghost use Rattle.std.specs.Prelude.{◌≡◌};
-ghost use Rattle.chrono_pattern.specs.Steps.{date_number_at, digits_at, digits_step, group_at, grouped_step, named_step, opened_step, padding_at, pattern_step, single_step, time_number_at, timed_step, unless_padded, unpadded_step, word_at};
+ghost use Rattle.chrono_pattern.specs.PatternSteps.{date_number_at, digits_at, digits_step, group_at, grouped_step, named_step, opened_step, padding_at, pattern_step, single_step, time_number_at, timed_step, unless_padded, unpadded_step, word_at};
 
 use crate::item::{GroupField, Item, NumberField, Padding, State, WordField};
 
@@ -22,7 +22,8 @@ pub(crate) fn pattern_step(state: State, byte: u8) -> Option<(State, Item)>
 }
 
 // The same behind `%` and a padding or none.
-#[tactic(auto, unfolding(crate::specs::Steps::opened_step))]
+#[inline(always)]
+#[tactic(auto, unfolding(crate::specs::PatternSteps::opened_step))]
 fn opened_step(padding: Padding, byte: u8) -> Option<(State, Item)>
     ensures { result ≡ opened_step padding byte }
 {
@@ -33,6 +34,7 @@ fn opened_step(padding: Padding, byte: u8) -> Option<(State, Item)>
 }
 
 // The same where the byte names no number of a date.
+#[inline(always)]
 fn timed_step(padding: Padding, byte: u8) -> Option<(State, Item)>
     ensures { result ≡ timed_step padding byte }
 {
@@ -43,6 +45,7 @@ fn timed_step(padding: Padding, byte: u8) -> Option<(State, Item)>
 }
 
 // The same where the byte names no number at all.
+#[inline(always)]
 fn unless_padded(padding: Padding, byte: u8) -> Option<(State, Item)>
     ensures { result ≡ unless_padded padding byte }
 {
@@ -53,7 +56,8 @@ fn unless_padded(padding: Padding, byte: u8) -> Option<(State, Item)>
 }
 
 // The same behind `%` alone.
-#[tactic(auto, unfolding(crate::specs::Steps::unpadded_step))]
+#[inline(always)]
+#[tactic(auto, unfolding(crate::specs::PatternSteps::unpadded_step))]
 fn unpadded_step(byte: u8) -> Option<(State, Item)>
     ensures { result ≡ unpadded_step byte }
 {
@@ -64,6 +68,7 @@ fn unpadded_step(byte: u8) -> Option<(State, Item)>
 }
 
 // The same where the byte asks for no padding.
+#[inline(always)]
 fn named_step(byte: u8) -> Option<(State, Item)>
     ensures { result ≡ named_step byte }
 {
@@ -74,6 +79,7 @@ fn named_step(byte: u8) -> Option<(State, Item)>
 }
 
 // The same where the byte names no word either.
+#[inline(always)]
 fn grouped_step(byte: u8) -> Option<(State, Item)>
     ensures { result ≡ grouped_step byte }
 {
@@ -84,6 +90,7 @@ fn grouped_step(byte: u8) -> Option<(State, Item)>
 }
 
 // The same where the byte names no group either.
+#[inline(always)]
 fn single_step(byte: u8) -> Option<(State, Item)>
     ensures { result ≡ single_step byte }
 {
@@ -101,6 +108,7 @@ fn single_step(byte: u8) -> Option<(State, Item)>
 }
 
 // The same where the byte is a number of digits.
+#[inline(always)]
 fn digits_at(point: bool, byte: u8) -> Option<(State, Item)>
     ensures { result ≡ digits_at point byte }
 {
@@ -116,7 +124,8 @@ fn digits_at(point: bool, byte: u8) -> Option<(State, Item)>
 }
 
 // The same behind a point or a number of digits.
-fn digits_step(point: bool, count: usize, byte: u8) -> Option<(State, Item)>
+#[inline(always)]
+fn digits_step(point: bool, count: u8, byte: u8) -> Option<(State, Item)>
     ensures { result ≡ digits_step point count byte }
 {
     if byte == b'f' {
@@ -129,6 +138,7 @@ fn digits_step(point: bool, count: usize, byte: u8) -> Option<(State, Item)>
 }
 
 // The padding that a byte asks for.
+#[inline(always)]
 fn padding_at(byte: u8) -> Option<Padding>
     ensures { result ≡ padding_at byte }
 {
@@ -144,7 +154,8 @@ fn padding_at(byte: u8) -> Option<Padding>
 }
 
 // The number of a date that a byte names.
-#[tactic(auto, unfolding(crate::specs::Steps::date_number_at))]
+#[inline(always)]
+#[tactic(auto, unfolding(crate::specs::PatternSteps::date_number_at))]
 fn date_number_at(byte: u8) -> Option<NumberField>
     ensures { result ≡ date_number_at byte }
 {
@@ -174,13 +185,18 @@ fn date_number_at(byte: u8) -> Option<NumberField>
         Some(NumberField::IsoYearOfCentury)
     } else if byte == b'V' {
         Some(NumberField::IsoWeek)
+    } else if byte == b'U' {
+        Some(NumberField::WeekFromSunday)
+    } else if byte == b'W' {
+        Some(NumberField::WeekFromMonday)
     } else {
         None
     }
 }
 
 // The number of a time of day that a byte names.
-#[tactic(auto, unfolding(crate::specs::Steps::time_number_at))]
+#[inline(always)]
+#[tactic(auto, unfolding(crate::specs::PatternSteps::time_number_at))]
 fn time_number_at(byte: u8) -> Option<NumberField>
     ensures { result ≡ time_number_at byte }
 {
@@ -204,7 +220,8 @@ fn time_number_at(byte: u8) -> Option<NumberField>
 }
 
 // The word that a byte names.
-#[tactic(auto, unfolding(crate::specs::Steps::word_at))]
+#[inline(always)]
+#[tactic(auto, unfolding(crate::specs::PatternSteps::word_at))]
 fn word_at(byte: u8) -> Option<WordField>
     ensures { result ≡ word_at byte }
 {
@@ -226,17 +243,25 @@ fn word_at(byte: u8) -> Option<WordField>
 }
 
 // The group that a byte names.
+#[inline(always)]
+#[tactic(auto, unfolding(crate::specs::PatternSteps::group_at))]
 fn group_at(byte: u8) -> Option<GroupField>
     ensures { result ≡ group_at byte }
 {
     if byte == b'F' {
         Some(GroupField::YearMonthDay)
-    } else if byte == b'D' {
+    } else if byte == b'D' || byte == b'x' {
         Some(GroupField::MonthDayYear)
     } else if byte == b'R' {
         Some(GroupField::HourMinute)
-    } else if byte == b'T' {
+    } else if byte == b'T' || byte == b'X' {
         Some(GroupField::HourMinuteSecond)
+    } else if byte == b'r' {
+        Some(GroupField::HalfClock)
+    } else if byte == b'v' {
+        Some(GroupField::DayMonthYear)
+    } else if byte == b'c' {
+        Some(GroupField::DateAndTime)
     } else {
         None
     }

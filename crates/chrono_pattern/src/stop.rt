@@ -1,6 +1,6 @@
 //! Where a reader stops, and why.
 ghost use Rattle.std.specs.Prelude.{◌≡◌};
-ghost use Rattle.chrono_pattern.specs.Progress.{missing, stopped};
+ghost use Rattle.chrono_pattern.specs.Progress.{fault_without, stopped};
 
 use crate::error::ReadFault;
 
@@ -12,8 +12,8 @@ pub(crate) struct Stop {
 }
 
 // What is wrong with a text that has not so many bytes, or other ones.
-pub(crate) fn missing(least: usize, text: &[u8]) -> ReadFault
-    ensures { result ≡ missing least text.now }
+pub(crate) fn fault_without(least: usize, text: &[u8]) -> ReadFault
+    ensures { result ≡ fault_without least text.now }
 {
     if text.len() < least {
         ReadFault::TooShort

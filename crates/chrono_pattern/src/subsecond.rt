@@ -1,6 +1,6 @@
 //! Writes the fraction of a second.
 ghost use Rattle.std.specs.Prelude.{◌≡◌, ◌+◌, ◌≤◌, ◌<◌, ◌++◌, length};
-ghost use Rattle.chrono_pattern.specs.Subseconds.{digits_of, nine_digits, subsecond_of};
+ghost use Rattle.chrono_pattern.specs.Subseconds.{digit_count, nine_digits, subsecond_of};
 ghost use Rattle.chrono_datetime.specs.Duration.{nanos_per_second};
 
 use chrono_datetime::{NaiveTime, Timelike};
@@ -8,12 +8,18 @@ use chrono_text::{NANOS_PER_MICRO, NANOS_PER_MILLI, NANOS_PER_SEC, Text};
 
 // Puts so many digits of the fraction of a second, or as few as hold it for 0. A point may be before them.
 #[tactic(auto, unfolding(crate::specs::Subseconds::subsecond_of))]
-pub(crate) fn put_subsecond(text: &mut Text<64>, point: bool, count: usize, time: NaiveTime)
-    requires room { length text.old + 20 ≤ 64 }
-    ensures { text.new ≡ text.old ++ subsecond_of point count time }
+pub(crate) fn put_subsecond<const N: usize>(
+    text: &mut Text<N>,
+    point: bool,
+    count: u8,
+    time: NaiveTime,
+)
+    requires room { length text.old + 10 ≤ N }
+    ensures text { text.new ≡ text.old ++ subsecond_of point count time }
+    ensures fits { length text.new ≤ length text.old + 10 }
 {
     let nanos = time.nanosecond() % NANOS_PER_SEC;
-    let count = digits_of(count, nanos);
+    let count = digit_count(count, nanos);
     text.push_if(point && count > 0, b'.');
     let mut digits = Text::<9>::new();
     put_nine_digits(&mut digits, nanos);
@@ -21,12 +27,12 @@ pub(crate) fn put_subsecond(text: &mut Text<64>, point: bool, count: usize, time
 }
 
 // How many digits are written, at most nine.
-fn digits_of(count: usize, nanos: u32) -> usize
-    ensures value { result ≡ digits_of count nanos }
+fn digit_count(count: u8, nanos: u32) -> usize
+    ensures value { result ≡ digit_count count nanos }
     ensures few { result ≤ 9 }
 {
     if count > 0 {
-        count.min(9)
+        usize::from(count).min(9)
     } else if nanos == 0 {
         0
     } else if nanos % NANOS_PER_MILLI == 0 {

@@ -12,9 +12,10 @@ use chrono_text::Text;
 
 // Puts a word of a date-time.
 #[tactic(auto, unfolding(crate::specs::Words::word_text))]
-pub(crate) fn put_word(text: &mut Text<64>, word: WordField, moment: NaiveDateTime)
-    requires room { length text.old + 20 ≤ 64 }
-    ensures { text.new ≡ text.old ++ word_text word moment }
+pub(crate) fn put_word<const N: usize>(text: &mut Text<N>, word: WordField, moment: NaiveDateTime)
+    requires room { length text.old + 9 ≤ N }
+    ensures text { text.new ≡ text.old ++ word_text word moment }
+    ensures fits { length text.new ≤ length text.old + 9 }
 {
     match word {
         WordField::MonthName => text.push_text(month_name(moment.date())),
@@ -27,7 +28,7 @@ pub(crate) fn put_word(text: &mut Text<64>, word: WordField, moment: NaiveDateTi
 }
 
 // The English name of a date's month.
-fn month_name(date: NaiveDate) -> &'static [u8]
+pub(crate) fn month_name(date: NaiveDate) -> &'static [u8]
     ensures name { result.now ≡ month_name (month_from_number (month_of date)) }
     ensures least { 3 ≤ length result.now }
     ensures most { length result.now ≤ 9 }
@@ -44,7 +45,7 @@ fn weekday_name(date: NaiveDate) -> &'static [u8]
 }
 
 // The half of the day.
-fn half(time: NaiveTime) -> &'static [u8]
+pub(crate) fn half(time: NaiveTime) -> &'static [u8]
     ensures text { result.now ≡ half_text time }
     ensures short { length result.now ≤ 2 }
 {

@@ -1,18 +1,19 @@
 //! Reads the words of a date-time.
-ghost use Rattle.std.specs.Prelude.{◌≡◌, ◌≤◌, length, take};
+ghost use Rattle.std.specs.Prelude.{◌≡◌, ◌≤◌, Ok, Err, IfErr, IfOk, length, take};
 ghost use Rattle.chrono_pattern.specs.WordReads.{half_of, half_read, least_letters, month_read, name_len, weekday_read, word_read};
 
 use crate::error::ReadFault;
 use crate::item::WordField;
 use crate::parsed::Part;
-use crate::reader::{Reader, behind};
+use crate::reader::{Reader, put_behind};
 use crate::stop::{Stop, stopped};
 use chrono_datetime::{Month, Weekday};
 
 // Reads a word.
 #[tactic(auto, unfolding(crate::specs::WordReads::word_read))]
-pub(crate) fn read_word<'a>(reader: Reader<'a>, word: WordField) -> Result<Reader<'a>, Stop>
-    ensures { result ≡ word_read word reader.entry }
+pub(crate) fn read_word(reader: &mut Reader<'_>, word: WordField) -> Result<(), Stop>
+    ensures read { IfOk result (λ u. word_read word reader.old ≡ Ok reader.new) }
+    ensures stop { IfErr result (λ e. word_read word reader.old ≡ Err e) }
 {
     if reader.rest.len() < least_letters(word) {
         return Err(stopped(ReadFault::TooShort, reader.rest));
@@ -38,19 +39,20 @@ fn least_letters(word: WordField) -> usize
 
 // Reads the three letters of a month, and the rest of its name if that may follow.
 #[tactic(auto, unfolding(crate::specs::WordReads::month_read))]
-fn read_month<'a>(reader: Reader<'a>, whole: bool) -> Result<Reader<'a>, Stop>
-    requires { 3 ≤ length reader.rest }
-    ensures { result ≡ month_read whole reader.entry }
+fn read_month(reader: &mut Reader<'_>, whole: bool) -> Result<(), Stop>
+    requires { 3 ≤ length reader.old.rest }
+    ensures read { IfOk result (λ u. month_read whole reader.old ≡ Ok reader.new) }
+    ensures stop { IfErr result (λ e. month_read whole reader.old ≡ Err e) }
 {
     let text = reader.rest;
     let Some(month) = Month::from_letters(front(text, 3)) else {
         return Err(stopped(ReadFault::Invalid, text));
     };
     let len = name_len(whole, month.name().as_bytes(), text);
-    behind(
-        reader
-            .parsed
-            .put(Part::MonthOfYear, month.number_from_month() as i32),
+    put_behind(
+        reader,
+        Part::MonthOfYear,
+        month.number_from_month() as i32,
         len,
         text,
     )
@@ -58,19 +60,20 @@ fn read_month<'a>(reader: Reader<'a>, whole: bool) -> Result<Reader<'a>, Stop>
 
 // Reads the three letters of a weekday, and the rest of its name if that may follow.
 #[tactic(auto, unfolding(crate::specs::WordReads::weekday_read))]
-fn read_weekday<'a>(reader: Reader<'a>, whole: bool) -> Result<Reader<'a>, Stop>
-    requires { 3 ≤ length reader.rest }
-    ensures { result ≡ weekday_read whole reader.entry }
+fn read_weekday(reader: &mut Reader<'_>, whole: bool) -> Result<(), Stop>
+    requires { 3 ≤ length reader.old.rest }
+    ensures read { IfOk result (λ u. weekday_read whole reader.old ≡ Ok reader.new) }
+    ensures stop { IfErr result (λ e. weekday_read whole reader.old ≡ Err e) }
 {
     let text = reader.rest;
     let Some(weekday) = Weekday::from_letters(front(text, 3), 3) else {
         return Err(stopped(ReadFault::Invalid, text));
     };
     let len = name_len(whole, weekday.name().as_bytes(), text);
-    behind(
-        reader
-            .parsed
-            .put(Part::DayOfWeek, weekday.number_from_monday() as i32),
+    put_behind(
+        reader,
+        Part::DayOfWeek,
+        weekday.number_from_monday() as i32,
         len,
         text,
     )
@@ -78,13 +81,14 @@ fn read_weekday<'a>(reader: Reader<'a>, whole: bool) -> Result<Reader<'a>, Stop>
 
 // Reads the half of the day.
 #[tactic(auto, unfolding(crate::specs::WordReads::half_read))]
-fn read_half<'a>(reader: Reader<'a>) -> Result<Reader<'a>, Stop>
-    requires { 2 ≤ length reader.rest }
-    ensures { result ≡ half_read reader.entry }
+fn read_half(reader: &mut Reader<'_>) -> Result<(), Stop>
+    requires { 2 ≤ length reader.old.rest }
+    ensures read { IfOk result (λ u. half_read reader.old ≡ Ok reader.new) }
+    ensures stop { IfErr result (λ e. half_read reader.old ≡ Err e) }
 {
     let text = reader.rest;
     match half_of(front(text, 2)) {
-        Some(half) => behind(reader.parsed.put(Part::HourDiv12, half), 2, text),
+        Some(half) => put_behind(reader, Part::HourDiv12, half, 2, text),
         None => Err(stopped(ReadFault::Invalid, text)),
     }
 }

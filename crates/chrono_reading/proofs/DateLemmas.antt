@@ -1,5 +1,5 @@
 -- How the text of a date falls into its parts, and the ranges of those that name a date.
-use Rattle.std.proofs.Common.{[], ◌+◌, ◌≡◌, ℕ, ◌-◌, ◌<◌, ◌≤◌, true, List, ◌∷◌, ◌++◌, codes, length, take, drop, append_assoc, ℤ, unsigned_abs, Option, Some, None, IfSome, arith, rules, refl, sym, ◌∙◌}
+use Rattle.std.proofs.Common.{[], ◌+◌, ◌≡◌, ℕ, ◌-◌, ◌<◌, true, List, ◌∷◌, ◌++◌, codes, length, take, drop, append_assoc, ℤ, unsigned_abs, Option, Some, None, IfSome, arith, rules, refl, sym, ◌∙◌}
 use Rattle.std.proofs.lemmas.Bool.{and_parts}
 use Rattle.std.proofs.lemmas.Bool.Decides.{nat_tests}
 use Rattle.std.proofs.lemmas.List.{take-append-drop}
@@ -8,7 +8,7 @@ use Rattle.std.proofs.Common.{SFits, w32}
 use Rattle.std.specs.Int.{IsInRange}
 use Rattle.chrono_calendar.proofs.Dates.{is_year-fact}
 use Rattle.chrono_calendar.proofs.Years.{IsYear-small}
-use Rattle.chrono_datetime.specs.Years.{is_year, month_length, year_length}
+use Rattle.chrono_datetime.specs.Years.{is_leap_year, is_year}
 use Rattle.chrono_datetime.specs.Days.{IsDate, year_of, month_of, day_of, ordinal_of, date_of_ymd, date_of_yo, is_calendar_name, is_ordinal_name}
 use Rattle.chrono_datetime.specs.declared.Weekday.{Weekday}
 use Rattle.chrono_datetime.specs.Fields.{IsIsoYear}
@@ -16,6 +16,8 @@ use Rattle.chrono_datetime.specs.Weekday.{number_from_monday}
 use Rattle.chrono_datetime.specs.Weeks.{date_of_iso, iso_week_of, iso_year_of, weekday_of}
 use Rattle.chrono_datetime.specs.DateText.{date_text}
 use Rattle.chrono_datetime.specs.NameLaws.{DatesHaveOneCalendarName, DatesHaveOneIsoName, DatesHaveOneOrdinalName}
+use Rattle.chrono_datetime.proofs.MonthLengths.{month_length_in-bounds}
+use Rattle.chrono_datetime.proofs.Names.{year_length_bounds}
 use Rattle.chrono_text.proofs.TextLemmas.{end_is}
 use Rattle.chrono_text.specs.Text.{all_digits, two_digits, year_text, calendar_text, ordinal_text, week_date_text}
 use Rattle.chrono_reading.specs.DateTexts.{IsDateText, IsOrdinalDateText, IsWeekDateText}
@@ -36,14 +38,11 @@ pub calendar_text-joined : (text : List ℕ) (y : ℤ) (m d k : ℕ) → year_te
 calendar_text-joined text y m d k front end = calendar_text-parts y m d ∙ rw (front, end) (take-append-drop k text)
 
 -- the parts of the name of a date are small
-month_length-small : (y : ℤ) (m : ℕ) → month_length y m ≤ 31
-month_length-small y m = grind (arith, nat_tests)
-
 pub date_of_ymd-small : (y : ℤ) (m d : ℕ) (n : ℤ) → date_of_ymd y m d ≡ Some n → (unsigned_abs y < 1_000_000) × (m < 100) × (d < 100)
 unfolding date_of_ymd
 date_of_ymd-small y m d n e =
     let named = and_parts (is_year y) (is_calendar_name y m d) (cond_some _ _ _ e).0 in
-    let last = month_length-small y m in
+    let last = (month_length_in-bounds (is_leap_year y) m).1 in
     (IsYear-small y (is_year-fact y named.0), grind (arith, nat_tests), grind (arith, nat_tests))
 
 -- a date found by its name has the text of that name
@@ -78,14 +77,11 @@ date_text-same text other n m same inside law is also =
 
 -- ---- ordinal dates
 
-year_length-small : (y : ℤ) → year_length y ≤ 366
-year_length-small y = grind (arith, nat_tests)
-
 pub joined : (front end text : List ℕ) (k : ℕ) → front ≡ take k text → end ≡ drop k text → front ++ end ≡ text
 joined front end text k e f = rw (e, f) (take-append-drop k text)
 
 ordinal-small : (y : ℤ) (o : ℕ) → is_ordinal_name y o ≡ true → o < 1_000
-ordinal-small y o e = let last = year_length-small y in grind (arith, nat_tests)
+ordinal-small y o e = let last = (year_length_bounds y).1 in grind (arith, nat_tests)
 
 pub ordinal_parts : (year : List ℕ) (o : ℕ) → year ++ codes "-" ++ all_digits 3 o ≡ year ++ 45 ∷ all_digits 3 o
 ordinal_parts year o = simp append_assoc

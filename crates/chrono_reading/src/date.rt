@@ -9,7 +9,7 @@ ghost use Rattle.chrono_reading.specs.DateTexts.{IsDateText};
 
 use crate::error::{ReadCause, ReadError, error_at};
 use crate::fitting::{fitting_year, is_of_year_form};
-use chrono_datetime::{Datelike, NaiveDate};
+use chrono_datetime::{Datelike, MAX_YEAR, MIN_YEAR, NaiveDate};
 use chrono_text::{read_two, read_year};
 
 /// Reads a calendar date (ISO 8601), such as `2024-02-29`. Returns the date.
@@ -99,7 +99,7 @@ pub(crate) fn calendar_year(text: &[u8]) -> Option<i32>
     ensures none { IfNone result ((y : ℤ) → IsYear y → year_text y ≢ text.now) }
 {
     let year = read_year(text)?;
-    if year < -262_143 || year > 262_142 {
+    if year < MIN_YEAR || year > MAX_YEAR {
         return None;
     }
     Some(year)

@@ -4,8 +4,8 @@ use Rattle.std.specs.List.{join_with_byte, list_all, onto_first}
 use Rattle.std.proofs.lemmas.Bool.{and_parts, and_right, false≢true}
 use Rattle.std.specs.Cmp.Derive.{both_true}
 use Rattle.chrono_rules.specs.RuleErrors.{frequency_text}
-use Rattle.chrono_rules.specs.RuleTexts.{IsRuleText, behind_property, ends_with_semicolon, is_named, is_part, parts, rule_body, without_semicolon}
-use Rattle.chrono_text.specs.Lists.{pieces, is_some_text}
+use Rattle.chrono_rules.specs.RuleTexts.{IsRuleText, behind_property, ends_with_semicolon, is_part, parts, rule_body, without_semicolon}
+use Rattle.chrono_text.specs.Lists.{begins_alike, is_some_text, pieces}
 use Rattle.chrono_rules.specs.WrittenRules.{later_parts, rule_text}
 use Rattle.chrono_rules.specs.declared.rule.Frequency.{Frequency}
 use Rattle.chrono_rules.specs.declared.rule.Frequency.TheVariants.{Daily, Monthly, Weekly, Yearly}
@@ -13,7 +13,7 @@ use Rattle.chrono_rules.specs.declared.rule.Rule.{Rule}
 
 -- ---- in front
 
-no_property : (f : Frequency) (later : List (List ℕ)) → is_named (codes "RRULE:") (join_with_byte 59 ((codes "FREQ=" ++ frequency_text f) ∷ later)) ≡ false
+no_property : (f : Frequency) (later : List (List ℕ)) → begins_alike (codes "RRULE:") (join_with_byte 59 ((codes "FREQ=" ++ frequency_text f) ∷ later)) ≡ false
 unfolding frequency_text
 no_property Daily [] = refl
 no_property Daily (p ∷ ps) = refl
@@ -24,7 +24,7 @@ no_property Monthly (p ∷ ps) = refl
 no_property Yearly [] = refl
 no_property Yearly (p ∷ ps) = refl
 
-written_front : (r : Rule) → is_named (codes "RRULE:") (rule_text r) ≡ false
+written_front : (r : Rule) → begins_alike (codes "RRULE:") (rule_text r) ≡ false
 unfolding rule_text
 written_front r = no_property r.frequency (later_parts r)
 

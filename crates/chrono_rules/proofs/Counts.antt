@@ -7,7 +7,7 @@ use Rattle.chrono_datetime.specs.Recurrence.{count_between}
 use Rattle.chrono_datetime.proofs.CountBetween.{count_between-empty, count_between-next, count_between-none, count_between-same, count_between-sum}
 use Rattle.chrono_datetime.proofs.Signed.{signed}
 use Rattle.chrono_rules.specs.Instances.{is_counted, is_instance, is_member}
-use Rattle.chrono_rules.specs.InstanceLists.{may_follow, seen_before, seen_with}
+use Rattle.chrono_rules.specs.InstanceWalks.{may_follow, seen_before, seen_with}
 use Rattle.chrono_rules.specs.declared.rule.End.{End}
 use Rattle.chrono_rules.specs.declared.rule.End.TheVariants.{Count, Never, Until}
 use Rattle.chrono_rules.specs.declared.rule.Rule.{Rule}

@@ -1,53 +1,33 @@
 -- INTERVAL, COUNT and UNTIL that are written are read back.
-use Rattle.std.proofs.Common.{◌≡◌, ℕ, ◌+◌, ◌/◌, ◌%◌, ◌^◌, ◌<◌, ◌≤◌, ◌==◌, nat_le, Bool, true, false, ◌||◌, if◌then◌else◌, List, [], ◌∷◌, ◌++◌, Some, None, ℤ, ◌≤ℤ◌, refl, sym, ap, ◌∙◌, arith}
+use Rattle.std.proofs.Common.{◌≡◌, ℕ, ◌+◌, ◌/◌, ◌%◌, ◌^◌, ◌<◌, ◌≤◌, ◌==◌, Bool, true, false, ◌||◌, if◌then◌else◌, List, [], ◌∷◌, ◌++◌, Some, None, ℤ, ◌≤ℤ◌, refl, sym, ap, ◌∙◌, arith}
 use Rattle.std.specs.Prelude.{int_le, negsuc, pos}
-use Rattle.std.specs.Char.{is_ascii_digit}
 use Rattle.std.specs.Fmt.{decimal}
 use Rattle.std.specs.Option.{option_and_then}
-use Rattle.std.specs.Str.{all_ascii_digits}
-use Rattle.std.proofs.lemmas.Bool.{and_from, le-leb, ne_eqb}
-use Rattle.chrono_text.specs.Text.{two_digits}
+use Rattle.std.proofs.lemmas.Bool.{and_from, le-leb}
+use Rattle.chrono_text.specs.Text.{all_digits, two_digits}
 use Rattle.chrono_datetime.specs.Days.{date_of_ymd, day_of, month_of, year_of}
 use Rattle.chrono_datetime.specs.Years.{is_leap_year}
 use Rattle.chrono_datetime.proofs.NamedDates.{IsDate-year, calendar_name-exists, date_of_ymd-again}
 use Rattle.chrono_datetime.proofs.Signed.{signed}
-use Rattle.chrono_text.proofs.NaturalLemmas.{two_digits-read}
-use Rattle.chrono_text.specs.Numbers.{count_of, digits_of, natural_of, up_to, value_of}
-use Rattle.chrono_rules.specs.RuleTexts.{above_0, date_of, interval_of}
+use Rattle.chrono_text.proofs.Decimals.{four_places}
+use Rattle.chrono_text.proofs.NaturalLemmas.{four_digits-read, two_digits-read}
+use Rattle.chrono_text.proofs.NumberLemmas.{count_back}
+use Rattle.chrono_text.specs.Numbers.{above_zero, digits_of}
+use Rattle.chrono_rules.specs.RuleTexts.{date_of, interval_of}
 use Rattle.chrono_rules.specs.WrittenRules.{basic_date_text, four_digits}
-use Rattle.chrono_rules.proofs.ListsBack.{decimal_back}
 use Rattle.chrono_rules.proofs.WordBytes.{are_word_bytes, is_digit, is_word_byte}
-
-pub count_back : (n : ℕ) → n < 2 ^ 32 → count_of (decimal n) ≡ Some n
-unfolding count_of natural_of
-count_back n fits =
-    ap (option_and_then (up_to 4_294_967_295)) (decimal_back n (omega (arith, fits))) ∙ ap (λ t. if t then Some n else None) (le-leb n 4_294_967_295 (omega (arith, fits)))
 
 pub interval_back : (n : ℕ) → 1 ≤ n → n < 2 ^ 32 → interval_of (decimal n) ≡ Some n
 unfolding interval_of
 interval_back n some fits =
-    ap (option_and_then above_0) (count_back n fits) ∙ ap (λ t. if t then None else Some n) (ne_eqb n 0 (λ e. omega (arith, some, e)))
+    ap (option_and_then above_zero) (count_back n fits) ∙ ap (λ t. if t then Some n else None) (le-leb 1 n some)
 
 -- ---- a date in eight digits
-
-two_are : (n : ℕ) (rest : List ℕ) → n < 100 → all_ascii_digits rest ≡ true → all_ascii_digits (two_digits n ++ rest) ≡ true
-two_are n rest small are =
-    let high = and_from (nat_le 48 (48 + n / 10)) (nat_le (48 + n / 10) 57) (le-leb 48 (48 + n / 10) (omega arith)) (le-leb (48 + n / 10) 57 (omega (arith, small))) in
-    let low = and_from (nat_le 48 (48 + n % 10)) (nat_le (48 + n % 10) 57) (le-leb 48 (48 + n % 10) (omega arith)) (le-leb (48 + n % 10) 57 (omega arith)) in
-    and_from (is_ascii_digit (48 + n / 10)) (all_ascii_digits ((48 + n % 10) ∷ rest)) high (and_from (is_ascii_digit (48 + n % 10)) (all_ascii_digits rest) low are)
-
-four_back : (n : ℕ) → n ≤ 9_999 → digits_of 4 (two_digits (n / 100) ++ two_digits (n % 100)) ≡ Some n
-unfolding digits_of natural_of
-four_back n small =
-    let text = two_digits (n / 100) ++ two_digits (n % 100) in
-    let value : value_of text ≡ n = omega arith in
-    let are = two_are (n / 100) (two_digits (n % 100)) (omega (arith, small)) (two_are (n % 100) [] (omega arith) refl) in
-    ap (λ t. if t then Some (value_of text) else None) are ∙ ap Some value
 
 eight_back : (y m d : ℕ) → y ≤ 9_999 → m < 100 → d < 100 → date_of (((two_digits (y / 100) ++ two_digits (y % 100)) ++ two_digits m) ++ two_digits d) ≡ date_of_ymd (pos y) m d
 unfolding date_of
 eight_back y m d year month day =
-    ap (option_and_then (λ y. option_and_then (λ m. option_and_then (date_of_ymd (pos y) m) (digits_of 2 (two_digits d))) (digits_of 2 (two_digits m)))) (four_back y year)
+    ap (option_and_then (λ y. option_and_then (λ m. option_and_then (date_of_ymd (pos y) m) (digits_of 2 (two_digits d))) (digits_of 2 (two_digits m)))) (four_digits-read y year)
     ∙ ap (option_and_then (λ m. option_and_then (date_of_ymd (pos y) m) (digits_of 2 (two_digits d)))) (two_digits-read m month)
     ∙ ap (option_and_then (date_of_ymd (pos y) m)) (two_digits-read d day)
 
@@ -61,10 +41,12 @@ length_few leap false false = omega arith
 year_digits : (y : ℤ) → pos 0 ≤ℤ y → y ≤ℤ pos 9_999 → (k : ℕ) × (y ≡ pos k) × (k ≤ 9_999) × (four_digits y ≡ two_digits (k / 100) ++ two_digits (k % 100))
 year_digits (pos k) low high =
     let few : k ≤ 9_999 = omega (arith, signed, high) in
-    (k, refl, few, ap (λ t. if t then two_digits (k / 100) ++ two_digits (k % 100) else decimal k) (and_from (int_le (pos 0) (pos k)) (int_le (pos k) (pos 9_999)) (le-leb 0 k (omega arith)) (le-leb k 9_999 few)))
+    let four : four_digits (pos k) ≡ all_digits 4 k =
+    ap (λ t. if t then all_digits 4 k else decimal k) (and_from (int_le (pos 0) (pos k)) (int_le (pos k) (pos 9_999)) (le-leb 0 k (omega arith)) (le-leb k 9_999 few)) in
+    (k, refl, few, four ∙ four_places k (omega (arith, few)))
 year_digits (negsuc k) low high = absurd (omega (arith, signed, low))
 
-name_small : (n : ℤ) → (month_of n < 100) × (day_of n < 100)
+pub name_small : (n : ℤ) → (month_of n < 100) × (day_of n < 100)
 name_small n =
     let name = calendar_name-exists n in
     let m = month_of n in

@@ -1,16 +1,15 @@
 -- What a walk keeps of the members that came before its day.
-use Rattle.std.proofs.Common.{◌≡◌, ℕ, ◌≤◌, ◌<◌, true, false, min, nat_lt, refl, sym, ap, ◌∙◌, arith, ℤ, pos, ◌+ℤ◌, ◌≤ℤ◌, ◌<ℤ◌}
+use Rattle.std.proofs.Common.{◌≡◌, ℕ, ◌+◌, ◌≤◌, ◌<◌, true, false, min, nat_lt, refl, sym, ap, ◌∙◌, arith, ℤ, pos, ◌+ℤ◌, ◌≤ℤ◌, ◌<ℤ◌}
 use Rattle.std.proofs.lemmas.Bool.{false≢true}
 use Rattle.std.proofs.lemmas.Bool.Decides.{nat_tests}
 use Rattle.chrono_datetime.specs.Recurrence.{count_between}
 use Rattle.chrono_datetime.proofs.Signed.{signed}
 use Rattle.chrono_rules.specs.Instances.{is_counted, is_instance, is_member}
-use Rattle.chrono_rules.specs.InstanceLists.{IsKept, may_follow, seen_before, seen_with}
+use Rattle.chrono_rules.specs.InstanceWalks.{IsKept, may_follow, seen_before, seen_with}
 use Rattle.chrono_rules.specs.declared.rule.End.{End}
 use Rattle.chrono_rules.specs.declared.rule.End.TheVariants.{Count, Never, Until}
 use Rattle.chrono_rules.specs.declared.rule.Rule.{Rule}
-use Rattle.chrono_rules.proofs.Counts.{ended-later, first_follows, none_follows, not_counted, seen-kept}
-use Rattle.chrono_rules.proofs.Walks.{walk-seen}
+use Rattle.chrono_rules.proofs.Counts.{ended-later, first_follows, none_follows, not_counted, seen-kept, seen-next}
 
 pub kept-counted : (r : Rule) (s a : ℤ) (seen : ℕ) → seen ≡ seen_before r.end r s a → IsKept r s a seen
 kept-counted r s a seen is = record { counted = λ may. is; ended = λ full d low. none_follows r s a d seen is full low }
@@ -68,6 +67,12 @@ kept-later r s a e seen kept le none = record {
   ended = λ full d low. kept.ended full d (omega (arith, signed, le, low));
 }
 
+walk-seen : (r : Rule) (s a e m : ℤ) (seen after : ℕ) → seen ≡ seen_before r.end r s a → after ≡ seen_with r.end seen → a ≤ℤ e → m ≡ e +ℤ pos 1 → is_member r s e ≡ true → ((d : ℤ) → a ≤ℤ d → d <ℤ e → is_member r s d ≡ false) → after ≡ seen_before r.end r s m
+walk-seen r s a e m seen after kept is low next member least =
+    is
+    ∙ (ap (seen_with r.end) (kept ∙ sym (seen-kept r.end r s a e low least))
+    ∙ sym (seen-next r.end r s e m next member))
+
 pub kept-behind : (r : Rule) (s a e : ℤ) (seen : ℕ) → IsKept r s a seen → may_follow r.end seen ≡ true → a ≤ℤ e → is_member r s e ≡ true → ((d : ℤ) → a ≤ℤ d → d <ℤ e → is_member r s d ≡ false) → IsKept r s (e +ℤ pos 1) (seen_with r.end seen)
 kept-behind r s a e seen kept may le member least =
     kept-counted r s (e +ℤ pos 1) (seen_with r.end seen)
@@ -76,3 +81,9 @@ kept-behind r s a e seen kept may le member least =
 -- the first member from the day on is an instance if one may follow
 pub kept-instance : (r : Rule) (s a e : ℤ) (seen : ℕ) → IsKept r s a seen → may_follow r.end seen ≡ true → a ≤ℤ e → is_member r s e ≡ true → ((d : ℤ) → a ≤ℤ d → d <ℤ e → is_member r s d ≡ false) → is_instance r s e ≡ true
 kept-instance r s a e seen kept may le member least = first_follows r s a e seen (kept.counted may) may le member least
+
+pub seen_with-few : (f : End) (n : ℕ) → seen_with f n ≤ n + 1
+unfolding seen_with
+seen_with-few Never n = omega arith
+seen_with-few (Until u) n = omega arith
+seen_with-few (Count c) n = omega arith

@@ -5,6 +5,7 @@ mod Cycles
 mod DayLists
 mod ErrorLines
 mod EndsBack
+mod FoundValues
 mod GivenDays
 mod Kept
 mod ListLemmas
@@ -25,7 +26,6 @@ mod RuleAscii
 mod RuleBack
 mod RuleWritable
 mod Skipped
-mod Walks
 mod WeekdaysBack
 mod WordBytes
 mod WrittenParts

@@ -1,31 +1,22 @@
 -- Items of lists one after another, and texts behind separators.
 use Rattle.std.proofs.Common.{◌≡◌, ℕ, zero, suc, ◌+◌, ◌-◌, ◌<◌, ◌≤◌, Bool, true, false, ◌||◌, if◌then◌else◌, List, [], ◌∷◌, ◌++◌, refl, sym, ap, ◌∙◌, arith, append_assoc, append-nil, drop, get_or, length}
-use Rattle.std.specs.List.{join_with_byte}
-use Rattle.chrono_sets.specs.Numbers.{Numbers, no_numbers}
+use Rattle.chrono_sets.specs.FiniteSets.{FiniteSet, no_numbers}
+use Rattle.chrono_text.specs.Lists.{each_behind}
+use Rattle.chrono_text.proofs.ListLemmas.{each_behind-append, join-behind}
 use Rattle.chrono_rules.specs.declared.text.list_writer.ListedSet.{ListedSet}
 use Rattle.chrono_rules.specs.declared.text.list_writer.ListedSet.TheVariants.{Large, Small}
 use Rattle.chrono_rules.specs.declared.text.list_writer.Naming.{Naming}
 use Rattle.chrono_rules.specs.declared.text.list_writer.Naming.TheVariants.{Numbered}
-use Rattle.chrono_rules.specs.WrittenRules.{behind, item_at, items, limit, listed_on, numbered_items, part_unless, some_in, text_unless}
+use Rattle.chrono_rules.specs.WrittenRules.{item_at, items, limit, listed_on, numbered_items, part_unless, some_in, text_unless}
 use Rattle.std.proofs.Math.Bool.{or-false}
-
--- behind a first text, each of the others has a separator
-pub join_behind : (sep : ℕ) (text : List ℕ) (texts : List (List ℕ)) → join_with_byte sep (text ∷ texts) ≡ text ++ behind sep texts
-join_behind sep text [] = sym (append-nil text)
-join_behind sep text (next ∷ texts) = ap (λ rest. text ++ (sep ∷ rest)) (join_behind sep next texts)
-
-pub behind_append : (sep : ℕ) (texts others : List (List ℕ)) → behind sep (texts ++ others) ≡ behind sep texts ++ behind sep others
-behind_append sep [] others = refl
-behind_append sep (text ∷ texts) others =
-    ap (λ rest. (sep ∷ text) ++ rest) (behind_append sep texts others) ∙ sym (append_assoc (sep ∷ text) (behind sep texts) (behind sep others))
 
 -- items behind items
 pub on_append : (begun : Bool) (xs ys : List (List ℕ)) → listed_on begun (xs ++ ys) ≡ listed_on begun xs ++ listed_on (begun || some_in xs) ys
-on_append true xs ys = behind_append 44 xs ys
+on_append true xs ys = each_behind-append 44 xs ys
 on_append false [] ys = refl
 on_append false (x ∷ xs) ys =
-    join_behind 44 x (xs ++ ys) ∙ ap (λ rest. x ++ rest) (behind_append 44 xs ys)
-    ∙ sym (append_assoc x (behind 44 xs) (behind 44 ys)) ∙ ap (λ front. front ++ behind 44 ys) (sym (join_behind 44 x xs))
+    join-behind 44 x (xs ++ ys) ∙ ap (λ rest. x ++ rest) (each_behind-append 44 xs ys)
+    ∙ sym (append_assoc x (each_behind 44 xs) (each_behind 44 ys)) ∙ ap (λ front. front ++ each_behind 44 ys) (sym (join-behind 44 x xs))
 
 pub some_append : (begun : Bool) (xs ys : List (List ℕ)) → (begun || some_in (xs ++ ys)) ≡ ((begun || some_in xs) || some_in ys)
 some_append true xs ys = refl
@@ -33,19 +24,19 @@ some_append false [] ys = refl
 some_append false (x ∷ xs) ys = refl
 
 -- what is put for a part, with its separator
-pub part_behind : (lacks : Bool) (name value : List ℕ) → behind 59 (part_unless lacks name value) ≡ text_unless lacks ((59 ∷ name) ++ value)
+pub part_behind : (lacks : Bool) (name value : List ℕ) → each_behind 59 (part_unless lacks name value) ≡ text_unless lacks ((59 ∷ name) ++ value)
 part_behind true name value = refl
 part_behind false name value = append-nil ((59 ∷ name) ++ value)
 
 -- one item of the rest of a list
-pub items_next : (listed : Numbers) (naming : Naming) (from_end : Bool) (end n : ℕ) → n < end
+pub items_next : (listed : FiniteSet) (naming : Naming) (from_end : Bool) (end n : ℕ) → n < end
     → items listed naming from_end (end - n) n ≡ item_at listed naming from_end n ++ items listed naming from_end (end - (n + 1)) (n + 1)
 unfolding items
 items_next listed naming from_end end n less =
     let one : end - n ≡ suc (end - (n + 1)) = omega (arith, less) in
     ap (λ count. items listed naming from_end count n) one
 
-pub items_end : (listed : Numbers) (naming : Naming) (from_end : Bool) (end n : ℕ) → end ≤ n → items listed naming from_end (end - n) n ≡ []
+pub items_end : (listed : FiniteSet) (naming : Naming) (from_end : Bool) (end n : ℕ) → end ≤ n → items listed naming from_end (end - n) n ≡ []
 unfolding items
 items_end listed naming from_end end n past =
     let none : end - n ≡ 0 = omega (arith, past) in
@@ -83,14 +74,14 @@ limit_within (Small set) = omega arith
 limit_within (Large set) = omega arith
 
 -- the weekdays that are left
-pub numbered_next : (from_end : Bool) (sets : List Numbers) (w v : ℕ) → w < length sets
+pub numbered_next : (from_end : Bool) (sets : List FiniteSet) (w v : ℕ) → w < length sets
     → numbered_items from_end (drop w sets) v ≡ items (get_or sets w no_numbers) (Numbered v) from_end 53 1 ++ numbered_items from_end (drop (suc w) sets) (v + 1)
 unfolding numbered_items
 numbered_next from_end [] w v less = absurd (omega (arith, less))
 numbered_next from_end (set ∷ sets) zero v less = refl
 numbered_next from_end (set ∷ sets) (suc w) v less = numbered_next from_end sets w v (omega (arith, less))
 
-pub numbered_end : (from_end : Bool) (sets : List Numbers) (w v : ℕ) → length sets ≤ w → numbered_items from_end (drop w sets) v ≡ []
+pub numbered_end : (from_end : Bool) (sets : List FiniteSet) (w v : ℕ) → length sets ≤ w → numbered_items from_end (drop w sets) v ≡ []
 unfolding numbered_items
 numbered_end from_end [] zero v past = refl
 numbered_end from_end [] (suc w) v past = refl
@@ -102,11 +93,11 @@ pub part_put : (old mid new name value : List ℕ) (lacks : Bool) → lacks ≡ 
 part_put old mid new name value lacks has first second =
     second ∙ ap (λ text. text ++ value) first ∙ append_assoc old name value ∙ ap (λ text. old ++ text) (ap (λ b. text_unless b (name ++ value)) (sym has))
 
-pub texts_on : (old new end : List ℕ) (xs ys : List (List ℕ)) → new ≡ old ++ behind 59 xs → end ≡ new ++ behind 59 ys → end ≡ old ++ behind 59 (xs ++ ys)
+pub texts_on : (old new end : List ℕ) (xs ys : List (List ℕ)) → new ≡ old ++ each_behind 59 xs → end ≡ new ++ each_behind 59 ys → end ≡ old ++ each_behind 59 (xs ++ ys)
 texts_on old new end xs ys first second =
-    second ∙ ap (λ text. text ++ behind 59 ys) first ∙ append_assoc old (behind 59 xs) (behind 59 ys) ∙ ap (λ text. old ++ text) (sym (behind_append 59 xs ys))
+    second ∙ ap (λ text. text ++ each_behind 59 ys) first ∙ append_assoc old (each_behind 59 xs) (each_behind 59 ys) ∙ ap (λ text. old ++ text) (sym (each_behind-append 59 xs ys))
 
-pub part_on : (old new : List ℕ) (lacks : Bool) (name value : List ℕ) → new ≡ old ++ text_unless lacks ((59 ∷ name) ++ value) → new ≡ old ++ behind 59 (part_unless lacks name value)
+pub part_on : (old new : List ℕ) (lacks : Bool) (name value : List ℕ) → new ≡ old ++ text_unless lacks ((59 ∷ name) ++ value) → new ≡ old ++ each_behind 59 (part_unless lacks name value)
 part_on old new lacks name value put = put ∙ ap (λ text. old ++ text) (sym (part_behind lacks name value))
 
 pub three_put : (old a b c one two three : List ℕ) → one ≡ old ++ a → two ≡ one ++ b → three ≡ two ++ c → three ≡ old ++ ((a ++ b) ++ c)

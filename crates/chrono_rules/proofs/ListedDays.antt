@@ -6,7 +6,7 @@ use Rattle.chrono_datetime.specs.Days.{day_of}
 use Rattle.chrono_datetime.specs.MonthMoves.{month_length_of}
 use Rattle.chrono_datetime.specs.Weekday.{days_from_monday}
 use Rattle.chrono_datetime.specs.Weeks.{weekday_of}
-use Rattle.chrono_sets.specs.Numbers.{Numbers, are_empty, has, is_empty}
+use Rattle.chrono_sets.specs.FiniteSets.{FiniteSet, are_empty, has, is_empty}
 use Rattle.chrono_sets.proofs.Members.{has-no_numbers, has-none}
 use Rattle.chrono_rules.specs.ByParts.{counted_place, days_behind, has_numbers, on_month_day, on_weekday, passes}
 use Rattle.chrono_rules.specs.Instances.{is_instance, is_member}
@@ -43,7 +43,7 @@ unfolding is_instance is_member passes
 named_weekday r start n some is = grind (arith, some, is)
 
 -- in lists that are all empty no number stands
-none_listed : (sets : List Numbers) (w k : ℕ) → are_empty sets ≡ true → lists_nth sets w k ≡ false
+none_listed : (sets : List FiniteSet) (w k : ℕ) → are_empty sets ≡ true → lists_nth sets w k ≡ false
 none_listed [] w k are = has-no_numbers k
 none_listed (s ∷ sets) zero k are =
     let other = list_any (λ t. not (is_empty t)) sets in

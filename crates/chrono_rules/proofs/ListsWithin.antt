@@ -7,10 +7,11 @@ use Rattle.std.proofs.lemmas.Option.{cond_some, none-some, option_and_then_some,
 use Rattle.chrono_datetime.specs.Names.{weekday_of_letters}
 use Rattle.chrono_datetime.specs.Weekday.{days_from_monday}
 use Rattle.chrono_datetime.proofs.WeekdayCycle.{days_from_monday-lt}
-use Rattle.chrono_sets.specs.Numbers.{Numbers, has, lies_within, no_numbers, with_number}
+use Rattle.chrono_sets.specs.FiniteSets.{FiniteSet, has, lies_within, no_numbers, with_number}
 use Rattle.chrono_sets.proofs.Members.{has-with_number, lies_within-all, lies_within-has}
-use Rattle.chrono_text.specs.Numbers.{digits_of}
-use Rattle.chrono_rules.specs.NumberLists.{ends_of, from_one, listed_number, month_list_of, no_ends, no_year_ends, signed_number, signed_number_of, listed_weekday, weekdays_of, with_month_text, with_nth, with_nth_of, with_signed, with_signed_day, with_signed_text, with_weekday, with_weekday_text, with_year_text, year_ends_of}
+use Rattle.chrono_text.specs.Numbers.{digits_of, if_within}
+use Rattle.chrono_text.proofs.NumberLemmas.{mapped}
+use Rattle.chrono_rules.specs.NumberLists.{signed_list_of, listed_number, month_list_of, no_signed, no_year_ends, signed_number, signed_number_of, listed_weekday, weekdays_of, with_month_text, with_nth, with_nth_of, with_signed, with_signed_day, with_signed_text, with_weekday, with_weekday_text, with_year_text, signed_year_list_of}
 use Rattle.chrono_rules.specs.RuleParts.{no_weekdays}
 use Rattle.chrono_rules.specs.RuleTexts.{said}
 use Rattle.chrono_text.specs.Lists.{pieces, through}
@@ -21,10 +22,6 @@ use Rattle.chrono_rules.specs.declared.text.year_day_list.YearEnds.{YearEnds}
 use Rattle.chrono_rules.specs.declared.weekday_places.WeekdayPlaces.{WeekdayPlaces}
 
 -- ---- options
-
-pub mapped : {A B : Type 0} (f : A → B) (o : Option A) (y : B) → option_map f o ≡ Some y → (x : A) × (o ≡ Some x) × (f x ≡ y)
-mapped f None y is = absurd (none-some y is)
-mapped f (Some x) y is = (x, refl, same_Some (f x) y is)
 
 pub guarded : {A : Type 0} (b : Bool) (o : Option A) (x : A) (P : Type 0) → (b ≡ true → o ≡ Some x → P) → (if b then o else None) ≡ Some x → P
 guarded true o x P then_it is = then_it refl is
@@ -46,7 +43,7 @@ said_has read without P absent there (text ∷ next ∷ more) x is = absurd (non
 
 -- ---- numbers
 
-from_one-bounds : (most x n : ℕ) → from_one most x ≡ Some n → (1 ≤ n) × (n ≤ most)
+from_one-bounds : (most x n : ℕ) → if_within 1 most x ≡ Some n → (1 ≤ n) × (n ≤ most)
 from_one-bounds most x n is =
     let found = cond_some (nat_le 1 x && nat_le x most) x n is in
     let parts = and_parts (nat_le 1 x) (nat_le x most) found.0 in
@@ -56,7 +53,7 @@ from_one-bounds most x n is =
 
 number_bounds : (digits most : ℕ) (text : List ℕ) (n : ℕ) → listed_number digits most text ≡ Some n → (1 ≤ n) × (n ≤ most)
 unfolding listed_number
-number_bounds digits most text n is = option_and_then_some (from_one most) (digits_of digits text) n is (λ x made given. from_one-bounds most x n given)
+number_bounds digits most text n is = option_and_then_some (if_within 1 most) (digits_of digits text) n is (λ x made given. from_one-bounds most x n given)
 
 placed_bounds : (from_end : Bool) (digits most : ℕ) (text : List ℕ) (p : SignedNumber) → option_map (signed_number from_end) (listed_number digits most text) ≡ Some p → (1 ≤ p.number) × (p.number ≤ most)
 placed_bounds from_end digits most text p is =
@@ -87,22 +84,22 @@ member_within first end n k false true within same bounds is =
 member_within first end n k false false within same bounds is = absurd (false≢true is)
 
 -- a set with one more number that it may have
-with_within : (first end : ℕ) (s : Numbers) (n : ℕ) → lies_within first end s ≡ true → (first ≤ n) × (n < end) → lies_within first end (with_number s n) ≡ true
+with_within : (first end : ℕ) (s : FiniteSet) (n : ℕ) → lies_within first end s ≡ true → (first ≤ n) × (n < end) → lies_within first end (with_number s n) ≡ true
 with_within first end s n is bounds =
     lies_within-all first end (with_number s n)
     (λ k at. member_within first end n k (has s k) (k == n) (lies_within-has first end s is k) refl bounds (sym (has-with_number s n k) ∙ at))
 
-set_with : (most : ℕ) (s : Numbers) (n : ℕ) → is_from_one_to most s ≡ true → (1 ≤ n) × (n ≤ most) → is_from_one_to most (with_number s n) ≡ true
+set_with : (most : ℕ) (s : FiniteSet) (n : ℕ) → is_from_one_to most s ≡ true → (1 ≤ n) × (n ≤ most) → is_from_one_to most (with_number s n) ≡ true
 set_with most s n is bounds = with_within 1 (most + 1) s n is (bounds.0, omega (arith, bounds.1))
 
 -- BYMONTH
-month_kept : (s t : Numbers) (text : List ℕ) → is_from_one_to 12 s ≡ true → with_month_text s text ≡ Some t → is_from_one_to 12 t ≡ true
+month_kept : (s t : FiniteSet) (text : List ℕ) → is_from_one_to 12 s ≡ true → with_month_text s text ≡ Some t → is_from_one_to 12 t ≡ true
 unfolding with_month_text
 month_kept s t text at is =
     let found = mapped (with_number s) (listed_number 2 12 text) t is in
-    subst (λ u. is_from_one_to 12 u ≡ true) found.2 (set_with 12 s found.0 at (number_bounds 2 12 text found.0 found.1))
+    subst (λ u. is_from_one_to 12 u ≡ true) (sym found.2) (set_with 12 s found.0 at (number_bounds 2 12 text found.0 found.1))
 
-pub months_within : (text : List ℕ) (set : Numbers) → month_list_of text ≡ Some set → is_from_one_to 12 set ≡ true
+pub months_within : (text : List ℕ) (set : FiniteSet) → month_list_of text ≡ Some set → is_from_one_to 12 set ≡ true
 unfolding month_list_of
 months_within text set is = through_keeps with_month_text (λ s. is_from_one_to 12 s ≡ true) month_kept no_numbers set (pieces 44 text) refl is
 
@@ -119,22 +116,22 @@ end_kept : (most : ℕ) (s t : BothEnds) (text : List ℕ) → AreEnds most s �
 unfolding with_signed_text
 end_kept most s t text at is =
     let found = mapped (with_signed s) (signed_number_of 2 most text) t is in
-    subst (AreEnds most) found.2 (signed_kept most s found.0 found.0.from_end refl at (place_bounds 2 most text found.0 found.1))
+    subst (AreEnds most) (sym found.2) (signed_kept most s found.0 found.0.from_end refl at (place_bounds 2 most text found.0 found.1))
 
-pub ends_within : (most : ℕ) → AreEnds most no_ends → (text : List ℕ) (ends : BothEnds) → ends_of 2 most text ≡ Some ends → AreEnds most ends
-unfolding ends_of
-ends_within most none text ends is = through_keeps (with_signed_text 2 most) (AreEnds most) (end_kept most) no_ends ends (pieces 44 text) none is
+pub ends_within : (most : ℕ) → AreEnds most no_signed → (text : List ℕ) (ends : BothEnds) → signed_list_of 2 most text ≡ Some ends → AreEnds most ends
+unfolding signed_list_of
+ends_within most none text ends is = through_keeps (with_signed_text 2 most) (AreEnds most) (end_kept most) no_signed ends (pieces 44 text) none is
 
 -- ---- the sets of seven weekdays
 
-all_set : (p : Numbers → Bool) (sets : List Numbers) (i : ℕ) (x : Numbers) → list_all p sets ≡ true → p x ≡ true → list_all p (set sets i x) ≡ true
+all_set : (p : FiniteSet → Bool) (sets : List FiniteSet) (i : ℕ) (x : FiniteSet) → list_all p sets ≡ true → p x ≡ true → list_all p (set sets i x) ≡ true
 all_set p [] i x all one = refl
 all_set p (s ∷ sets) zero x all one = and_from (p x) (list_all p sets) one (and_parts (p s) (list_all p sets) all).1
 all_set p (s ∷ sets) (suc i) x all one =
     let parts = and_parts (p s) (list_all p sets) all in
     and_from (p s) (list_all p (set sets i x)) parts.0 (all_set p sets i x parts.1 one)
 
-all_get : (p : Numbers → Bool) (sets : List Numbers) (i : ℕ) (d : Numbers) → list_all p sets ≡ true → p d ≡ true → p (get_or sets i d) ≡ true
+all_get : (p : FiniteSet → Bool) (sets : List FiniteSet) (i : ℕ) (d : FiniteSet) → list_all p sets ≡ true → p d ≡ true → p (get_or sets i d) ≡ true
 all_get p [] i d all one = one
 all_get p (s ∷ sets) zero d all one = (and_parts (p s) (list_all p sets) all).0
 all_get p (s ∷ sets) (suc i) d all one = all_get p sets i d (and_parts (p s) (list_all p sets) all).1 one
@@ -145,7 +142,7 @@ pub record AreDays (days : WeekdayPlaces) : Type 0 where
   pub front : list_all (is_from_one_to 53) days.front ≡ true
   pub back : list_all (is_from_one_to 53) days.back ≡ true
 
-nth_with : (sets : List Numbers) (w n : ℕ) → list_all (is_from_one_to 53) sets ≡ true → (1 ≤ n) × (n ≤ 53) → list_all (is_from_one_to 53) (with_nth_of sets w n) ≡ true
+nth_with : (sets : List FiniteSet) (w n : ℕ) → list_all (is_from_one_to 53) sets ≡ true → (1 ≤ n) × (n ≤ 53) → list_all (is_from_one_to 53) (with_nth_of sets w n) ≡ true
 nth_with sets w n all bounds =
     all_set (is_from_one_to 53) sets w (with_number (get_or sets w no_numbers) n) all (set_with 53 (get_or sets w no_numbers) n (all_get (is_from_one_to 53) sets w no_numbers all refl) bounds)
 
@@ -159,7 +156,7 @@ weekday_kept s t [] w less at is =
     subst AreDays (same_Some _ t is) (record { every = with_within 0 7 s.every w at.every (omega arith, less); front = at.front; back = at.back })
 weekday_kept s t (b ∷ bs) w less at is =
     let found = mapped (with_nth s w) (signed_number_of 2 53 (b ∷ bs)) t is in
-    subst AreDays found.2 (nth_kept s w found.0.number found.0.from_end at (place_bounds 2 53 (b ∷ bs) found.0 found.1))
+    subst AreDays (sym found.2) (nth_kept s w found.0.number found.0.from_end at (place_bounds 2 53 (b ∷ bs) found.0 found.1))
 
 letters_small : (text : List ℕ) (w : ℕ) → listed_weekday text ≡ Some w → w < 7
 unfolding listed_weekday
@@ -192,8 +189,8 @@ year_kept : (s t : YearEnds) (text : List ℕ) → AreYearEnds s → with_year_t
 unfolding with_year_text
 year_kept s t text at is =
     let found = mapped (with_signed_day s) (signed_number_of 3 366 text) t is in
-    subst AreYearEnds found.2 (day_end_kept s found.0.number found.0.from_end at (place_bounds 3 366 text found.0 found.1))
+    subst AreYearEnds (sym found.2) (day_end_kept s found.0.number found.0.from_end at (place_bounds 3 366 text found.0 found.1))
 
-pub year_ends_within : (text : List ℕ) (ends : YearEnds) → year_ends_of text ≡ Some ends → AreYearEnds ends
-unfolding year_ends_of
+pub year_ends_within : (text : List ℕ) (ends : YearEnds) → signed_year_list_of text ≡ Some ends → AreYearEnds ends
+unfolding signed_year_list_of
 year_ends_within text ends is = through_keeps with_year_text AreYearEnds year_kept no_year_ends ends (pieces 44 text) (refl, refl) is

@@ -1,12 +1,13 @@
 -- Instances at a time of day, by those of days.
-use Rattle.std.proofs.Common.{◌≡◌, ◌==◌, ℕ, Bool, true, false, ◌&&◌, inl, inr, refl, sym, ap, ◌∙◌, arith, ℤ, ◌<ℤ◌}
+use Rattle.std.proofs.Common.{◌≡◌, ◌==◌, ℕ, nat_lt, Bool, true, false, cond, ◌&&◌, ◌||◌, Less, Equal, Greater, inl, inr, refl, sym, ap, ◌∙◌, arith, ℤ, ◌<ℤ◌}
+use Rattle.std.specs.Ordering.{is_lt, ordering_then}
 use Rattle.std.proofs.lemmas.Bool.{and_parts}
 use Rattle.std.proofs.lemmas.Bool.Decides.{nat_tests}
 use Rattle.chrono_datetime.specs.Moment.{IsBefore, Moment, moment}
-use Rattle.chrono_datetime.specs.Time.{IsEarlier, TimeOfDay}
+use Rattle.chrono_datetime.specs.Time.{IsEarlier, TimeOfDay, time_cmp}
 use Rattle.chrono_datetime.proofs.Signed.{signed}
 use Rattle.chrono_rules.specs.Instances.{is_instance}
-use Rattle.chrono_rules.specs.InstanceMoments.{earlier_time, is_instance_at, same_time}
+use Rattle.chrono_rules.specs.InstanceMoments.{is_instance_at, same_time}
 use Rattle.chrono_rules.specs.declared.rule.Rule.{Rule}
 
 and-by : (a b : Bool) → (b ≡ true → a ≡ false) → (a && b) ≡ false
@@ -31,9 +32,20 @@ pub instance_at : (r : Rule) (start : Moment) (d : ℤ) → is_instance r start.
 unfolding is_instance_at
 instance_at r start d is = rw (is, same_time-self start.time) refl
 
-earlier-is : (a b : TimeOfDay) → IsEarlier a b → earlier_time a b ≡ true
-earlier-is a b (inl less) = grind (arith, nat_tests, less)
-earlier-is a b (inr (same, less)) = grind (arith, nat_tests, same, less)
+less-by : (p q r s : Bool) → is_lt (ordering_then (cond p Less (cond q Equal Greater)) (cond r Less (cond s Equal Greater))) ≡ (p || (q && r))
+less-by true q r s = refl
+less-by false false r s = refl
+less-by false true true s = refl
+less-by false true false true = refl
+less-by false true false false = refl
+
+earlier-tests : (a b : TimeOfDay) → IsEarlier a b → (nat_lt a.second b.second || ((a.second == b.second) && nat_lt a.fraction b.fraction)) ≡ true
+earlier-tests a b (inl less) = grind (arith, nat_tests, less)
+earlier-tests a b (inr (same, less)) = grind (arith, nat_tests, same, less)
+
+earlier-is : (a b : TimeOfDay) → IsEarlier a b → is_lt (time_cmp a b) ≡ true
+earlier-is a b earlier =
+    less-by (nat_lt a.second b.second) (a.second == b.second) (nat_lt a.fraction b.fraction) (a.fraction == b.fraction) ∙ earlier-tests a b earlier
 
 -- between a moment and the instance of its own day
 pub none_on_day : (r : Rule) (start m q : Moment) → IsBefore m q → IsBefore q (moment m.date start.time) → is_instance_at r start q ≡ false
@@ -52,15 +64,15 @@ at_time a b t (inl less) second fraction = inl (omega (arith, less, second))
 at_time a b t (inr (same, less)) second fraction = inr (omega (arith, same, second), omega (arith, less, fraction))
 
 -- behind a moment whose own day has no instance left
-pub none_later : (r : Rule) (start m q : Moment) → (earlier_time m.time start.time && is_instance r start.date m.date) ≡ false → (m.date <ℤ q.date → is_instance r start.date q.date ≡ false) → IsBefore m q → is_instance_at r start q ≡ false
+pub none_later : (r : Rule) (start m q : Moment) → (is_lt (time_cmp m.time start.time) && is_instance r start.date m.date) ≡ false → (m.date <ℤ q.date → is_instance r start.date q.date ≡ false) → IsBefore m q → is_instance_at r start q ≡ false
 none_later r start m q today days (inl later) = not_at r start q (λ second fraction. days later)
 none_later r start m q today days (inr (date, time)) =
     not_at r start q
     (λ second fraction.
     ap (is_instance r start.date) (sym date)
-    ∙ and-rest (earlier_time m.time start.time) (is_instance r start.date m.date) (earlier-is m.time start.time (at_time m.time q.time start.time time second fraction)) today)
+    ∙ and-rest (is_lt (time_cmp m.time start.time)) (is_instance r start.date m.date) (earlier-is m.time start.time (at_time m.time q.time start.time time second fraction)) today)
 
-pub least_later : (r : Rule) (start m q : Moment) (e : ℤ) → (earlier_time m.time start.time && is_instance r start.date m.date) ≡ false → ((d : ℤ) → m.date <ℤ d → d <ℤ e → is_instance r start.date d ≡ false) → IsBefore m q → IsBefore q (moment e start.time) → is_instance_at r start q ≡ false
+pub least_later : (r : Rule) (start m q : Moment) (e : ℤ) → (is_lt (time_cmp m.time start.time) && is_instance r start.date m.date) ≡ false → ((d : ℤ) → m.date <ℤ d → d <ℤ e → is_instance r start.date d ≡ false) → IsBefore m q → IsBefore q (moment e start.time) → is_instance_at r start q ≡ false
 least_later r start m q e today days after (inl less) = none_later r start m q today (λ later. days q.date later less) after
 least_later r start m q e today days after (inr (date, inl less)) = not_at r start q (λ second fraction. absurd (omega (arith, less, second)))
 least_later r start m q e today days after (inr (date, inr (same, less))) = not_at r start q (λ second fraction. absurd (omega (arith, less, fraction)))
@@ -77,15 +89,15 @@ from_time : (a b t : TimeOfDay) → IsEarlier a b → t.second ≡ a.second → 
 from_time a b t (inl less) second fraction = inl (omega (arith, less, second))
 from_time a b t (inr (same, less)) second fraction = inr (omega (arith, same, second), omega (arith, less, fraction))
 
-pub none_earlier : (r : Rule) (start m q : Moment) → (earlier_time start.time m.time && is_instance r start.date m.date) ≡ false → (q.date <ℤ m.date → is_instance r start.date q.date ≡ false) → IsBefore q m → is_instance_at r start q ≡ false
+pub none_earlier : (r : Rule) (start m q : Moment) → (is_lt (time_cmp start.time m.time) && is_instance r start.date m.date) ≡ false → (q.date <ℤ m.date → is_instance r start.date q.date ≡ false) → IsBefore q m → is_instance_at r start q ≡ false
 none_earlier r start m q today days (inl earlier) = not_at r start q (λ second fraction. days earlier)
 none_earlier r start m q today days (inr (date, time)) =
     not_at r start q
     (λ second fraction.
     ap (is_instance r start.date) date
-    ∙ and-rest (earlier_time start.time m.time) (is_instance r start.date m.date) (earlier-is start.time m.time (from_time q.time m.time start.time time second fraction)) today)
+    ∙ and-rest (is_lt (time_cmp start.time m.time)) (is_instance r start.date m.date) (earlier-is start.time m.time (from_time q.time m.time start.time time second fraction)) today)
 
-pub greatest_earlier : (r : Rule) (start m q : Moment) (e : ℤ) → (earlier_time start.time m.time && is_instance r start.date m.date) ≡ false → ((d : ℤ) → e <ℤ d → d <ℤ m.date → is_instance r start.date d ≡ false) → IsBefore (moment e start.time) q → IsBefore q m → is_instance_at r start q ≡ false
+pub greatest_earlier : (r : Rule) (start m q : Moment) (e : ℤ) → (is_lt (time_cmp start.time m.time) && is_instance r start.date m.date) ≡ false → ((d : ℤ) → e <ℤ d → d <ℤ m.date → is_instance r start.date d ≡ false) → IsBefore (moment e start.time) q → IsBefore q m → is_instance_at r start q ≡ false
 greatest_earlier r start m q e today days (inl more) before = none_earlier r start m q today (λ earlier. days q.date more earlier) before
 greatest_earlier r start m q e today days (inr (date, inl less)) before = not_at r start q (λ second fraction. absurd (omega (arith, less, second)))
 greatest_earlier r start m q e today days (inr (date, inr (same, less))) before = not_at r start q (λ second fraction. absurd (omega (arith, less, fraction)))

@@ -2,7 +2,8 @@
 use Rattle.std.proofs.Common.{◌≡◌, ℕ, ◌==◌, Bool, true, false, not, if◌then◌else◌, List, [], ◌∷◌, ◌++◌, length, drop, Option, Some, refl, ap, ◌∙◌}
 use Rattle.std.specs.List.{AllByRecursion, list_all}
 use Rattle.std.proofs.lemmas.Bool.{and_from, and_parts}
-use Rattle.chrono_rules.specs.RuleTexts.{is_named, is_part, said, values}
+use Rattle.chrono_text.specs.Lists.{begins_alike}
+use Rattle.chrono_rules.specs.RuleTexts.{is_part, said, values}
 use Rattle.chrono_rules.specs.WrittenRules.{part_unless}
 use Rattle.chrono_text.proofs.ListLemmas.{lacks, all_of}
 
@@ -20,7 +21,7 @@ part_texts (p ∷ ps) = part_unless p.lacks p.name p.value ++ part_texts ps
 abbrev pub found : List ℕ → List Part → List (List ℕ)
 found name [] = []
 found name (p ∷ ps) =
-    if is_named name (p.name ++ p.value) then (if p.lacks then found name ps else drop (length name) (p.name ++ p.value) ∷ found name ps)
+    if begins_alike name (p.name ++ p.value) then (if p.lacks then found name ps else drop (length name) (p.name ++ p.value) ∷ found name ps)
     else found name ps
 
 same_either : (b : Bool) (texts : List (List ℕ)) → texts ≡ (if b then texts else texts)
@@ -28,9 +29,9 @@ same_either true texts = refl
 same_either false texts = refl
 
 found_one : (name text : List ℕ) (lacks : Bool) (rest got : List (List ℕ)) → values name rest ≡ got
-    → values name ((if lacks then [] else text ∷ []) ++ rest) ≡ (if is_named name text then (if lacks then got else drop (length name) text ∷ got) else got)
-found_one name text true rest got is = is ∙ same_either (is_named name text) got
-found_one name text false rest got is = ap (λ them. if is_named name text then drop (length name) text ∷ them else them) is
+    → values name ((if lacks then [] else text ∷ []) ++ rest) ≡ (if begins_alike name text then (if lacks then got else drop (length name) text ∷ got) else got)
+found_one name text true rest got is = is ∙ same_either (begins_alike name text) got
+found_one name text false rest got is = ap (λ them. if begins_alike name text then drop (length name) text ∷ them else them) is
 
 pub values_found : (name : List ℕ) (ps : List Part) → values name (part_texts ps) ≡ found name ps
 values_found name [] = refl

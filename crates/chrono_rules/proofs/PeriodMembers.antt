@@ -3,7 +3,7 @@ use Rattle.std.proofs.Common.{◌≡◌, ℕ, ◌+◌, ◌-◌, Bool, true, fals
 use Rattle.chrono_datetime.specs.Recurrence.{count_between}
 use Rattle.chrono_datetime.proofs.CountBetween.{count_between-sum}
 use Rattle.chrono_datetime.proofs.Signed.{signed}
-use Rattle.chrono_sets.specs.Numbers.{Numbers, has, is_empty}
+use Rattle.chrono_sets.specs.FiniteSets.{FiniteSet, has, is_empty}
 use Rattle.chrono_sets.proofs.Members.{has-none}
 use Rattle.chrono_rules.specs.ByParts.{date_passes, passes}
 use Rattle.chrono_rules.specs.Instances.{in_interval, in_positions, is_member, not_after}
@@ -11,7 +11,7 @@ use Rattle.chrono_rules.specs.Periods.{period_end, period_first}
 use Rattle.chrono_rules.specs.RuleParts.{lacks_positions}
 use Rattle.chrono_rules.specs.declared.rule.Rule.{Rule}
 
-has-at : (s : Numbers) (b : Bool) (k place : ℕ) → is_empty s ≡ b → (b ≡ false → k ≡ place) → has s place ≡ has s k
+has-at : (s : FiniteSet) (b : Bool) (k place : ℕ) → is_empty s ≡ b → (b ≡ false → k ≡ place) → has s place ≡ has s k
 has-at s true k place is same = has-none s place is ∙ sym (has-none s k is)
 has-at s false k place is same = ap (has s) (sym (same refl))
 

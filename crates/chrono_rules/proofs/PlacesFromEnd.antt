@@ -14,7 +14,7 @@ use Rattle.chrono_datetime.proofs.MonthDays.{day_of-bounds}
 use Rattle.chrono_datetime.proofs.NamedDates.{number-ordinal_name}
 use Rattle.chrono_datetime.proofs.Signed.{signed}
 use Rattle.chrono_datetime.proofs.WeekDays.{week_first_of-only, week_first_of-place}
-use Rattle.chrono_sets.specs.Numbers.{Numbers, has, is_empty}
+use Rattle.chrono_sets.specs.FiniteSets.{FiniteSet, has, is_empty}
 use Rattle.chrono_sets.proofs.Members.{has-none}
 use Rattle.chrono_rules.specs.ByParts.{date_passes, passes}
 use Rattle.chrono_rules.specs.Instances.{in_interval, in_positions, is_member, not_after}
@@ -86,7 +86,7 @@ pub counted-back : (p : ℤ → Bool) (e a c : ℤ) (n m : ℕ) → n ≡ count_
 counted-back p e a c n m n-is m-is less at = omega (arith, n-is, m-is, count_between-first p e a c less at)
 
 -- that day, if it does not pass or has another place
-not_named : (s : Numbers) (n m : ℕ) → m ≡ n + 1 → (nat_lt n m && has s m) ≡ false → has s m ≡ false
+not_named : (s : FiniteSet) (n m : ℕ) → m ≡ n + 1 → (nat_lt n m && has s m) ≡ false → has s m ≡ false
 not_named s n m one none =
     let less : nat_lt n m ≡ true = grind (arith, nat_tests, one) in
     rw less at none

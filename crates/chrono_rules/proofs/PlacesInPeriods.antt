@@ -8,12 +8,13 @@ use Rattle.chrono_datetime.specs.Years.{year_length}
 use Rattle.chrono_datetime.specs.Weekday.{days_since}
 use Rattle.chrono_datetime.specs.Weeks.{week_first_of, weekday_of}
 use Rattle.chrono_datetime.specs.declared.Weekday.{Weekday}
+use Rattle.chrono_datetime.proofs.Names.{ordinal_name_of-number}
 use Rattle.chrono_datetime.proofs.CountBetween.{count_between-sum}
 use Rattle.chrono_datetime.proofs.MonthDays.{day_of-bounds, later_in_month}
 use Rattle.chrono_datetime.proofs.NamedDates.{number-ordinal_name}
 use Rattle.chrono_datetime.proofs.Signed.{signed}
 use Rattle.chrono_datetime.proofs.WeekDays.{week_first_of-only, week_first_of-place}
-use Rattle.chrono_sets.specs.Numbers.{Numbers, has, is_empty}
+use Rattle.chrono_sets.specs.FiniteSets.{FiniteSet, has, is_empty}
 use Rattle.chrono_sets.proofs.Members.{has-none}
 use Rattle.chrono_rules.specs.ByParts.{date_passes, on_year_day, passes}
 use Rattle.chrono_rules.specs.Instances.{in_interval, in_positions, is_member, not_after}
@@ -25,7 +26,6 @@ use Rattle.chrono_rules.specs.declared.rule.Rule.{Rule}
 use Rattle.chrono_rules.proofs.Counts.{counted-next}
 use Rattle.chrono_rules.proofs.Months.{same_length}
 use Rattle.chrono_rules.proofs.Passed.{no_pass}
-use Rattle.chrono_rules.proofs.YearsOfDates.{ordinal_of-bounds}
 
 -- ---- days of one period
 
@@ -75,18 +75,18 @@ unfolding period_first
 from_period Daily w n = omega (arith, signed)
 from_period Weekly w n = omega (arith, signed)
 from_period Monthly w n = omega (arith, signed, day_of-bounds n)
-from_period Yearly w n = omega (arith, signed, ordinal_of-bounds n)
+from_period Yearly w n = omega (arith, signed, (ordinal_name_of-number n).exists)
 
 pub to_period : (f : Frequency) (w : Weekday) (n : ℤ) → n <ℤ period_end f w n
 unfolding period_end
 to_period Daily w n = omega (arith, signed)
 to_period Weekly w n = omega (arith, signed, (week_first_of-place n (week_first_of n w) w refl).2)
 to_period Monthly w n = omega (arith, signed, day_of-bounds n)
-to_period Yearly w n = omega (arith, signed, ordinal_of-bounds n)
+to_period Yearly w n = omega (arith, signed, (ordinal_name_of-number n).exists)
 
 -- ---- places that a set has
 
-not_at : (s : Numbers) (b : Bool) (k place : ℕ) → is_empty s ≡ b → (b ≡ false → k ≡ place) → has s k ≡ false → has s place ≡ false
+not_at : (s : FiniteSet) (b : Bool) (k place : ℕ) → is_empty s ≡ b → (b ≡ false → k ≡ place) → has s k ≡ false → has s place ≡ false
 not_at s true k place is same none = has-none s place is
 not_at s false k place is same none = ap (has s) (sym (same refl)) ∙ none
 
@@ -141,8 +141,8 @@ off_year_day r n d k back low high few back-is front end =
     let within : d <ℤ (n +ℤ rest) = omega (arith, signed, high, few) in
     let first = same_year_first n d rest refl low within in
     let last = same_year_end n d rest refl low within in
-    let here = ordinal_of-bounds n in
-    let there = ordinal_of-bounds d in
+    let here = (ordinal_name_of-number n).exists in
+    let there = (ordinal_name_of-number d).exists in
     let lt : j < k = omega (arith, signed, low, high) in
     let place : ordinal_of d ≡ ordinal_of n + j = omega (arith, signed, low, first) in
     let behind : year_length (year_of d) - ordinal_of d + 1 ≡ back - j = omega (arith, signed, low, first, last, here, there, back-is) in

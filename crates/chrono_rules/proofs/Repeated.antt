@@ -1,5 +1,5 @@
 -- The days of a rule repeat after 400 years for each period that INTERVAL counts.
-use Rattle.std.proofs.Common.{◌≡◌, ◌==◌, ℕ, zero, suc, ◌+◌, ◌-◌, ◌*◌, ◌/◌, ◌%◌, ◌<◌, ◌≤◌, Bool, true, false, cond, ◌&&◌, ◌||◌, not, refl, sym, ap, ◌∙◌, arith, ℤ, pos, ◌+ℤ◌, ◌-ℤ◌, ◌≤ℤ◌, ◌<ℤ◌, int_le, unsigned_abs}
+use Rattle.std.proofs.Common.{◌≡◌, ◌==◌, ℕ, zero, suc, ◌+◌, ◌-◌, ◌*◌, ◌/◌, ◌%◌, ◌<◌, Bool, true, false, cond, ◌&&◌, ◌||◌, not, refl, sym, ap, ◌∙◌, arith, ℤ, pos, ◌+ℤ◌, ◌-ℤ◌, ◌≤ℤ◌, ◌<ℤ◌, int_le, unsigned_abs}
 use Rattle.std.specs.Int.{int_rem_euclid}
 use Rattle.std.proofs.lemmas.Int.{by_lt_z, int_rem_euclid_is}
 use Rattle.std.proofs.lemmas.Bool.Decides.{nat_tests}
@@ -8,22 +8,23 @@ use Rattle.std.proofs.lemmas.Bool.{and_right}
 use Rattle.chrono_datetime.specs.Days.{IsDate, day_of, month_of, ordinal_of, year_of}
 use Rattle.chrono_datetime.specs.MonthMoves.{month_length_of}
 use Rattle.chrono_datetime.specs.Recurrence.{count_between, first_date, past_last_date}
-use Rattle.chrono_datetime.specs.Years.{is_leap_year, month_length_in, year_length}
+use Rattle.chrono_datetime.specs.Years.{is_leap_year, year_length}
 use Rattle.chrono_datetime.specs.Weekday.{days_from_monday, days_since}
 use Rattle.chrono_datetime.specs.Weeks.{week_first_of, weekday_of}
 use Rattle.chrono_datetime.specs.declared.Weekday.{Weekday}
 use Rattle.chrono_datetime.proofs.CountBetween.{count_between-empty, count_between-first, count_between-sum}
 use Rattle.chrono_datetime.proofs.CountWhere.{one_if}
 use Rattle.chrono_datetime.proofs.Cycles.{calendar_name-again, ordinal_name-again, year_length-again}
+use Rattle.chrono_datetime.proofs.MonthLengths.{month_length_in-bounds}
 use Rattle.chrono_datetime.proofs.MonthDays.{day_of-bounds}
 use Rattle.chrono_datetime.proofs.Signed.{signed}
 use Rattle.chrono_datetime.proofs.WeekDays.{week_first_of-place, weekday_of-weeks}
 use Rattle.chrono_rules.specs.ByParts.{counts_in_month, date_passes, fills_day, fills_month, fills_weekday, in_week, names_weekday, on_month_day, on_weekday, on_year_day, passes}
-use Rattle.chrono_sets.specs.Numbers.{has}
+use Rattle.chrono_sets.specs.FiniteSets.{has}
 use Rattle.chrono_rules.specs.Instances.{in_interval, in_positions, is_counted, is_member, not_after}
 use Rattle.chrono_rules.specs.RuleParts.{lacks_month_days, lacks_months, lacks_weekdays, lacks_weeks, lacks_year_days}
 use Rattle.chrono_rules.specs.Periods.{period_end, period_first, period_of}
-use Rattle.chrono_rules.specs.InstanceLists.{may_follow}
+use Rattle.chrono_rules.specs.InstanceWalks.{may_follow}
 use Rattle.chrono_rules.specs.declared.rule.End.{End}
 use Rattle.chrono_rules.specs.declared.rule.End.TheVariants.{Count, Never, Until}
 use Rattle.chrono_rules.specs.declared.rule.Frequency.{Frequency}
@@ -31,9 +32,8 @@ use Rattle.chrono_rules.specs.declared.rule.Frequency.TheVariants.{Daily, Monthl
 use Rattle.chrono_rules.specs.declared.rule.Rule.{Rule}
 use Rattle.chrono_rules.proofs.PeriodsLeftOut.{many}
 use Rattle.chrono_rules.proofs.PlacesInPeriods.{date_passes-is, from_period, to_period}
-use Rattle.chrono_rules.proofs.YearsOfDates.{ordinal_of-bounds}
 use Rattle.chrono_datetime.proofs.MonthPlaces.{not_longer}
-use Rattle.chrono_datetime.proofs.Names.{year_length_bounds}
+use Rattle.chrono_datetime.proofs.Names.{ordinal_name_of-number, year_length_bounds}
 
 -- ---- what the calendar says of a day, and of one that is whole cycles later
 
@@ -193,23 +193,20 @@ end-again Yearly w n m k e =
     let is = alike n m k e in
     omega (arith, signed, e, is.ordinal, is.year_length)
 
-at_most_31 : (leap : Bool) (m : ℕ) → month_length_in leap m ≤ 31
-at_most_31 leap m = grind arith
-
 -- no period is longer than a year of 366 days
 first-near : (f : Frequency) (w : Weekday) (n : ℤ) → n ≤ℤ (period_first f w n +ℤ pos 366)
 unfolding period_first
 first-near Daily w n = omega (arith, signed)
 first-near Weekly w n = omega (arith, signed, (week_first_of-place n (week_first_of n w) w refl).2)
-first-near Monthly w n = omega (arith, signed, day_of-bounds n, at_most_31 (is_leap_year (year_of n)) (month_of n))
-first-near Yearly w n = omega (arith, signed, ordinal_of-bounds n, (year_length_bounds (year_of n)).1)
+first-near Monthly w n = omega (arith, signed, day_of-bounds n, month_length_in-bounds (is_leap_year (year_of n)) (month_of n))
+first-near Yearly w n = omega (arith, signed, (ordinal_name_of-number n).exists, (year_length_bounds (year_of n)).1)
 
 end-near : (f : Frequency) (w : Weekday) (n : ℤ) → period_end f w n ≤ℤ (n +ℤ pos 366)
 unfolding period_end
 end-near Daily w n = omega (arith, signed)
 end-near Weekly w n = omega (arith, signed, (week_first_of-place n (week_first_of n w) w refl).1)
-end-near Monthly w n = omega (arith, signed, day_of-bounds n, at_most_31 (is_leap_year (year_of n)) (month_of n))
-end-near Yearly w n = omega (arith, signed, ordinal_of-bounds n, (year_length_bounds (year_of n)).1)
+end-near Monthly w n = omega (arith, signed, day_of-bounds n, month_length_in-bounds (is_leap_year (year_of n)) (month_of n))
+end-near Yearly w n = omega (arith, signed, (ordinal_name_of-number n).exists, (year_length_bounds (year_of n)).1)
 
 -- a count of days that are so many days later
 pub count-shifted : (p q : ℤ → Bool) (a c b d : ℤ) (s k : ℕ) → c ≡ a +ℤ pos k → b ≡ a +ℤ pos s → d ≡ c +ℤ pos s → ((e f : ℤ) → a ≤ℤ e → e <ℤ c → f ≡ e +ℤ pos s → q f ≡ p e) → count_between q b d ≡ count_between p a c

@@ -1,5 +1,5 @@
 -- Every byte of a rule's text is ASCII.
-use Rattle.std.proofs.Common.{w32, FitsSigned, ◌≡◌, ℕ, zero, suc, ◌+◌, ◌/◌, ◌%◌, ◌<◌, ◌≤◌, ◌==◌, nat_le, Bool, true, false, List, [], ◌∷◌, ◌++◌, ℤ, refl, sym, ap, ◌∙◌, subst, arith}
+use Rattle.std.proofs.Common.{w32, FitsSigned, ◌≡◌, ℕ, zero, suc, ◌+◌, ◌<◌, ◌≤◌, ◌==◌, nat_le, Bool, true, false, List, [], ◌∷◌, ◌++◌, ℤ, refl, sym, ap, ◌∙◌, subst, arith}
 use Rattle.std.specs.Prelude.{codes, pos, negsuc, int_le, ◌&&◌}
 use Rattle.std.proofs.lemmas.Bool.{and_parts, leb-true}
 use Rattle.std.specs.Fmt.{decimal, sign_text}
@@ -8,32 +8,32 @@ use Rattle.std.specs.Str.{IsAscii}
 use Rattle.std.proofs.lemmas.Fmt.{IsAscii-decimal, IsAscii-signed}
 use Rattle.std.proofs.lemmas.Str.{IsAscii-append}
 use Rattle.std.proofs.lemmas.Str.Ascii.{IsAscii-nil, IsAscii-cons}
-use Rattle.chrono_text.specs.Lists.{list_text}
-use Rattle.chrono_text.specs.Text.{two_digits}
+use Rattle.chrono_text.specs.Lists.{each_behind, list_text}
+use Rattle.chrono_text.specs.Text.{all_digits, two_digits}
 use Rattle.chrono_datetime.specs.Names.{weekday_letters}
 use Rattle.chrono_datetime.specs.Weekday.{days_from_monday, weekday_from_monday}
 use Rattle.chrono_datetime.specs.declared.Weekday.{Weekday}
 use Rattle.chrono_datetime.specs.declared.Weekday.TheVariants.{Fri, Mon, Sat, Sun, Thu, Tue, Wed}
-use Rattle.chrono_sets.specs.Numbers.{Numbers, has}
+use Rattle.chrono_sets.specs.FiniteSets.{FiniteSet, has}
+use Rattle.chrono_text.proofs.ListLemmas.{each_behind-append, join-behind}
 use Rattle.chrono_rules.specs.declared.text.list_writer.Naming.{Naming}
 use Rattle.chrono_rules.specs.declared.text.list_writer.Naming.TheVariants.{Each, Number, Numbered}
 use Rattle.chrono_rules.specs.declared.rule.Rule.{Rule}
 use Rattle.chrono_rules.specs.RuleParts.{lacks_month_days, lacks_months, lacks_positions, lacks_weekdays, lacks_weeks, lacks_year_days}
 use Rattle.chrono_rules.specs.RuleErrors.{frequency_text}
-use Rattle.chrono_rules.specs.WrittenRules.{behind, both_items, end_parts, four_digits, item_at, item_text, items, later_parts, list_parts, numbered_items, part_unless, rule_text, weekday_items, letters_from_monday}
+use Rattle.chrono_rules.specs.WrittenRules.{both_items, end_parts, four_digits, item_at, item_text, items, later_parts, list_parts, numbered_items, part_unless, rule_text, weekday_items, letters_from_monday}
 use Rattle.chrono_rules.proofs.ErrorLines.{frequency_ascii, is_low, low_ascii}
-use Rattle.chrono_rules.proofs.ListLemmas.{behind_append, join_behind}
-use Rattle.chrono_text.proofs.AsciiTexts.{AreAscii, AreAscii-append, AreAscii-if, IsAscii-if, IsAscii-two_digits, IsAscii-joined}
+use Rattle.chrono_text.proofs.AsciiTexts.{AreAscii, AreAscii-append, AreAscii-if, IsAscii-all_digits, IsAscii-if, IsAscii-joined}
 
-behind_ascii : (sep : ℕ) (texts : List (List ℕ)) → sep < 128 → AreAscii texts → IsAscii (behind sep texts)
+behind_ascii : (sep : ℕ) (texts : List (List ℕ)) → sep < 128 → AreAscii texts → IsAscii (each_behind sep texts)
 behind_ascii sep [] low are = IsAscii-nil
-behind_ascii sep (text ∷ texts) low (first, rest) = IsAscii-append (sep ∷ text) (behind sep texts) (IsAscii-cons sep text low first) (behind_ascii sep texts low rest)
+behind_ascii sep (text ∷ texts) low (first, rest) = IsAscii-append (sep ∷ text) (each_behind sep texts) (IsAscii-cons sep text low first) (behind_ascii sep texts low rest)
 
 pub year_ascii : (y : ℤ) → FitsSigned w32 y → IsAscii (four_digits y)
 year_ascii (pos n) fits =
-    IsAscii-if (int_le (pos 0) (pos n) && int_le (pos n) (pos 9_999)) (two_digits (n / 100) ++ two_digits (n % 100)) (decimal n)
+    IsAscii-if (int_le (pos 0) (pos n) && int_le (pos n) (pos 9_999)) (all_digits 4 n) (decimal n)
     (λ is. let few : n ≤ 9_999 = leb-true n 9_999 (and_parts (int_le (pos 0) (pos n)) (int_le (pos n) (pos 9_999)) is).1 in
-    IsAscii-append (two_digits (n / 100)) (two_digits (n % 100)) (IsAscii-two_digits (n / 100) (omega (arith, few))) (IsAscii-two_digits (n % 100) (omega arith)))
+    IsAscii-all_digits 4 n (omega (arith, few)))
     (λ _. IsAscii-decimal n (omega (arith, fits)))
 year_ascii (negsuc n) fits = IsAscii-signed (negsuc n) (omega (arith, fits))
 
@@ -68,7 +68,7 @@ item_ascii Number from_end n small = signed_ascii from_end n small
 item_ascii Each from_end n small = letters_ascii n
 item_ascii (Numbered w) from_end n small = IsAscii-append (sign_text from_end ++ decimal n) (letters_from_monday w) (signed_ascii from_end n small) (letters_ascii w)
 
-items_ascii : (listed : Numbers) (naming : Naming) (from_end : Bool) (count n : ℕ) → n + count ≤ 384 → AreAscii (items listed naming from_end count n)
+items_ascii : (listed : FiniteSet) (naming : Naming) (from_end : Bool) (count n : ℕ) → n + count ≤ 384 → AreAscii (items listed naming from_end count n)
 unfolding items
 items_ascii listed naming from_end zero n within = tt
 items_ascii listed naming from_end (suc count) n within =
@@ -76,14 +76,14 @@ items_ascii listed naming from_end (suc count) n within =
     (AreAscii-if (has listed n) (item_text naming from_end n ∷ []) [] (item_ascii naming from_end n (omega (arith, within)), tt) tt)
     (items_ascii listed naming from_end count (n + 1) (omega (arith, within)))
 
-numbered_ascii : (from_end : Bool) (sets : List Numbers) (w : ℕ) → AreAscii (numbered_items from_end sets w)
+numbered_ascii : (from_end : Bool) (sets : List FiniteSet) (w : ℕ) → AreAscii (numbered_items from_end sets w)
 unfolding numbered_items
 numbered_ascii from_end [] w = tt
 numbered_ascii from_end (set ∷ sets) w =
     AreAscii-append (items set (Numbered w) from_end 53 1) (numbered_items from_end sets (w + 1))
     (items_ascii set (Numbered w) from_end 53 1 (omega arith)) (numbered_ascii from_end sets (w + 1))
 
-both_ascii : (front back : Numbers) (most : ℕ) → most < 384 → AreAscii (both_items front back most)
+both_ascii : (front back : FiniteSet) (most : ℕ) → most < 384 → AreAscii (both_items front back most)
 both_ascii front back most small =
     AreAscii-append (items front Number false most 1) (items back Number true most 1)
     (items_ascii front Number false most 1 (omega (arith, small))) (items_ascii back Number true most 1 (omega (arith, small)))
@@ -114,18 +114,18 @@ start_ascii : (lacks : Bool) (w : ℕ) → AreAscii (part_unless lacks (codes "W
 start_ascii lacks w = part_ascii lacks (codes "WKST=") (letters_from_monday w) (low_ascii (codes "WKST=") refl) (letters_ascii w)
 
 -- the whole text, if INTERVAL, and COUNT or UNTIL, are so
-pub rule_ascii : (r : Rule) → IsAscii (decimal r.interval) → IsAscii (behind 59 (end_parts r.end)) → IsAscii (rule_text r)
+pub rule_ascii : (r : Rule) → IsAscii (decimal r.interval) → IsAscii (each_behind 59 (end_parts r.end)) → IsAscii (rule_text r)
 unfolding rule_text
 rule_ascii r interval end =
     let name = codes "FREQ=" ++ frequency_text r.frequency in
     let first = part_unless (nat_le r.interval 1) (codes "INTERVAL=") (decimal r.interval) in
     let start = part_unless (days_from_monday r.week_start == 0) (codes "WKST=") (letters_from_monday (days_from_monday r.week_start)) in
     let others = list_parts r ++ start in
-    let is : rule_text r ≡ name ++ (behind 59 first ++ (behind 59 (end_parts r.end) ++ behind 59 others)) =
-    join_behind 59 name (later_parts r) ∙ ap (λ text. name ++ text) (behind_append 59 first (end_parts r.end ++ others))
-    ∙ ap (λ text. name ++ (behind 59 first ++ text)) (behind_append 59 (end_parts r.end) others) in
+    let is : rule_text r ≡ name ++ (each_behind 59 first ++ (each_behind 59 (end_parts r.end) ++ each_behind 59 others)) =
+    join-behind 59 name (later_parts r) ∙ ap (λ text. name ++ text) (each_behind-append 59 first (end_parts r.end ++ others))
+    ∙ ap (λ text. name ++ (each_behind 59 first ++ text)) (each_behind-append 59 (end_parts r.end) others) in
     subst IsAscii (sym is)
     (IsAscii-append name _ (IsAscii-append (codes "FREQ=") (frequency_text r.frequency) (low_ascii (codes "FREQ=") refl) (frequency_ascii r.frequency))
-    (IsAscii-append (behind 59 first) _ (behind_ascii 59 first (omega arith) (part_ascii (nat_le r.interval 1) (codes "INTERVAL=") (decimal r.interval) (low_ascii (codes "INTERVAL=") refl) interval))
-    (IsAscii-append (behind 59 (end_parts r.end)) (behind 59 others) end
+    (IsAscii-append (each_behind 59 first) _ (behind_ascii 59 first (omega arith) (part_ascii (nat_le r.interval 1) (codes "INTERVAL=") (decimal r.interval) (low_ascii (codes "INTERVAL=") refl) interval))
+    (IsAscii-append (each_behind 59 (end_parts r.end)) (each_behind 59 others) end
     (behind_ascii 59 others (omega arith) (AreAscii-append (list_parts r) start (lists_ascii r) (start_ascii (days_from_monday r.week_start == 0) (days_from_monday r.week_start)))))))

@@ -10,7 +10,7 @@ use Rattle.chrono_datetime.specs.Names.{weekday_of_letters}
 use Rattle.chrono_datetime.specs.Weekday.{days_from_monday}
 use Rattle.chrono_datetime.specs.declared.Weekday.{Weekday}
 use Rattle.chrono_datetime.specs.declared.Weekday.TheVariants.{Fri, Mon, Sat, Sun, Thu, Tue, Wed}
-use Rattle.chrono_sets.specs.Numbers.{Numbers, are_empty, is_empty, no_numbers}
+use Rattle.chrono_sets.specs.FiniteSets.{FiniteSet, are_empty, is_empty, no_numbers}
 use Rattle.chrono_sets.proofs.Members.{is_empty-is}
 use Rattle.chrono_rules.specs.declared.weekday_places.WeekdayPlaces.{WeekdayPlaces}
 use Rattle.chrono_rules.specs.declared.rule.End.{End}
@@ -19,12 +19,13 @@ use Rattle.chrono_rules.specs.declared.rule.Frequency.{Frequency}
 use Rattle.chrono_rules.specs.declared.rule.Frequency.TheVariants.{Daily, Monthly, Weekly, Yearly}
 use Rattle.chrono_rules.specs.declared.rule.Rule.{Rule}
 use Rattle.chrono_rules.specs.RuleParts.{lacks_month_days, lacks_months, lacks_positions, lacks_weekdays, lacks_weeks, lacks_year_days, no_weekdays}
-use Rattle.chrono_rules.specs.NumberLists.{ends_of, month_list_of, no_ends, no_year_ends, listed_weekday, weekdays_of, year_ends_of}
+use Rattle.chrono_rules.specs.NumberLists.{signed_list_of, month_list_of, no_signed, no_year_ends, listed_weekday, weekdays_of, signed_year_list_of}
 use Rattle.chrono_rules.specs.RuleErrors.{frequency_text}
 use Rattle.chrono_rules.specs.RuleTexts.{IsRuleText, Says, end_of, frequency_of, interval_of, is_part, parts, said, values, weekday_of_text}
 use Rattle.chrono_rules.specs.WritableRules.{IsWritableRule, IsWritableEnd}
 use Rattle.chrono_rules.specs.WrittenRules.{rule_text, weekday_items, letters_from_monday}
-use Rattle.chrono_rules.proofs.EndsBack.{count_back, day_back, interval_back}
+use Rattle.chrono_text.proofs.NumberLemmas.{count_back}
+use Rattle.chrono_rules.proofs.EndsBack.{day_back, interval_back}
 use Rattle.chrono_rules.proofs.ListsBack.{ends_back, months_back, year_ends_back}
 use Rattle.chrono_rules.proofs.PartValues.{are_parts, found, said_part, values_found}
 use Rattle.chrono_rules.proofs.WeekdaysBack.{blank, blank_is, weekdays_back}
@@ -67,22 +68,22 @@ monday_is Sun is = absurd (false≢true is)
 
 -- ---- a part that the rule lacks
 
-no_sets : (sets : List Numbers) → are_empty sets ≡ true → blank sets ≡ sets
+no_sets : (sets : List FiniteSet) → are_empty sets ≡ true → blank sets ≡ sets
 no_sets [] are = refl
 no_sets (s ∷ sets) are =
     let other = list_any (λ t. not (is_empty t)) sets in
     let none = or_parts (not (is_empty s)) other (not-true (not (is_empty s) || other) are) in
     ap₂ (λ t ts. t ∷ ts) (sym (is_empty-is s (not-false (is_empty s) none.0))) (no_sets sets (not_from_false other none.1))
 
-seven_empty : (sets : List Numbers) → length sets ≡ 7 → are_empty sets ≡ true → replicate 7 no_numbers ≡ sets
+seven_empty : (sets : List FiniteSet) → length sets ≡ 7 → are_empty sets ≡ true → replicate 7 no_numbers ≡ sets
 seven_empty sets seven are = ap (λ n. replicate n no_numbers) (sym seven) ∙ sym (blank_is sets) ∙ no_sets sets are
 
-no_both : (front back : Numbers) → (is_empty front && is_empty back) ≡ true → Some no_ends ≡ Some (record { front = front; back = back })
+no_both : (front back : FiniteSet) → (is_empty front && is_empty back) ≡ true → Some no_signed ≡ Some (record { front = front; back = back })
 no_both front back are =
     let parts = and_parts (is_empty front) (is_empty back) are in
     ap₂ (λ front back. Some (record { front = front; back = back })) (sym (is_empty-is front parts.0)) (sym (is_empty-is back parts.1))
 
-no_days : (front back : Numbers) → (is_empty front && is_empty back) ≡ true → Some no_year_ends ≡ Some (record { front = front; back = back })
+no_days : (front back : FiniteSet) → (is_empty front && is_empty back) ≡ true → Some no_year_ends ≡ Some (record { front = front; back = back })
 no_days front back are =
     let parts = and_parts (is_empty front) (is_empty back) are in
     ap₂ (λ front back. Some (record { front = front; back = back })) (sym (is_empty-is front parts.0)) (sym (is_empty-is back parts.1))
@@ -112,20 +113,20 @@ says_back r sizes can =
       end = ap₂ end_of (by (codes "COUNT=")) (by (codes "UNTIL=")) ∙ end_back r.end can.end;
       months = ap (said month_list_of (Some no_numbers)) (by (codes "BYMONTH="))
           ∙ said_part month_list_of (Some no_numbers) (lacks_months r) (months_text r) r.months (λ is. ap Some (sym (is_empty-is r.months is))) (λ is. months_back r.months can.months is);
-      month_days = ap (said (ends_of 2 31) (Some no_ends)) (by (codes "BYMONTHDAY="))
-          ∙ said_part (ends_of 2 31) (Some no_ends) (lacks_month_days r) (month_days_text r) (record { front = r.month_days; back = r.month_days_from_end }) (no_both r.month_days r.month_days_from_end)
+      month_days = ap (said (signed_list_of 2 31) (Some no_signed)) (by (codes "BYMONTHDAY="))
+          ∙ said_part (signed_list_of 2 31) (Some no_signed) (lacks_month_days r) (month_days_text r) (record { front = r.month_days; back = r.month_days_from_end }) (no_both r.month_days r.month_days_from_end)
           (λ is. ends_back 31 r.month_days r.month_days_from_end (omega arith) can.month_days can.month_days_from_end is);
       weekdays = ap (said weekdays_of (Some no_weekdays)) (by (codes "BYDAY="))
           ∙ said_part weekdays_of (Some no_weekdays) (lacks_weekdays r) (list_text (weekday_items r)) r.weekdays (no_week r.weekdays sizes.front sizes.back)
           (λ is. weekdays_back r.weekdays.every r.weekdays.front r.weekdays.back can.weekdays sizes.front sizes.back can.numbered_weekdays can.numbered_weekdays_from_end is);
-      year_days = ap (said year_ends_of (Some no_year_ends)) (by (codes "BYYEARDAY="))
-          ∙ said_part year_ends_of (Some no_year_ends) (lacks_year_days r) (year_days_text r) (record { front = r.year_days; back = r.year_days_from_end }) (no_days r.year_days r.year_days_from_end)
+      year_days = ap (said signed_year_list_of (Some no_year_ends)) (by (codes "BYYEARDAY="))
+          ∙ said_part signed_year_list_of (Some no_year_ends) (lacks_year_days r) (year_days_text r) (record { front = r.year_days; back = r.year_days_from_end }) (no_days r.year_days r.year_days_from_end)
           (λ is. year_ends_back r.year_days r.year_days_from_end can.year_days can.year_days_from_end is);
-      weeks = ap (said (ends_of 2 53) (Some no_ends)) (by (codes "BYWEEKNO="))
-          ∙ said_part (ends_of 2 53) (Some no_ends) (lacks_weeks r) (weeks_text r) (record { front = r.weeks; back = r.weeks_from_end }) (no_both r.weeks r.weeks_from_end)
+      weeks = ap (said (signed_list_of 2 53) (Some no_signed)) (by (codes "BYWEEKNO="))
+          ∙ said_part (signed_list_of 2 53) (Some no_signed) (lacks_weeks r) (weeks_text r) (record { front = r.weeks; back = r.weeks_from_end }) (no_both r.weeks r.weeks_from_end)
           (λ is. ends_back 53 r.weeks r.weeks_from_end (omega arith) can.weeks can.weeks_from_end is);
-      positions = ap (said year_ends_of (Some no_year_ends)) (by (codes "BYSETPOS="))
-          ∙ said_part year_ends_of (Some no_year_ends) (lacks_positions r) (positions_text r) (record { front = r.positions; back = r.positions_from_end }) (no_days r.positions r.positions_from_end)
+      positions = ap (said signed_year_list_of (Some no_year_ends)) (by (codes "BYSETPOS="))
+          ∙ said_part signed_year_list_of (Some no_year_ends) (lacks_positions r) (positions_text r) (record { front = r.positions; back = r.positions_from_end }) (no_days r.positions r.positions_from_end)
           (λ is. year_ends_back r.positions r.positions_from_end can.positions can.positions_from_end is);
       week_start = ap (said weekday_of_text (Some Mon)) (by (codes "WKST="))
           ∙ said_part weekday_of_text (Some Mon) (days_from_monday r.week_start == 0) (start_text r) r.week_start (λ is. ap Some (sym (monday_is r.week_start is))) (λ is. start_back r.week_start);

@@ -1,24 +1,25 @@
 -- Rules that are read are rules that a text can write.
-use Rattle.std.proofs.Common.{◌≡◌, ℕ, ◌^◌, ◌<◌, ◌≤◌, ◌==◌, nat_le, Bool, true, false, if◌then◌else◌, List, [], ◌∷◌, length, drop, take, Some, None, ℤ, ◌≤ℤ◌, refl, subst, arith}
+use Rattle.std.proofs.Common.{◌≡◌, ℕ, ◌^◌, ◌<◌, ◌≤◌, ◌==◌, nat_le, true, List, [], ◌∷◌, length, drop, take, Some, ℤ, ◌≤ℤ◌, refl, subst, arith, sym}
 use Rattle.std.specs.Prelude.{pos}
 use Rattle.std.specs.Option.{option_and_then, option_map}
 use Rattle.std.proofs.Math.Nat.{pow-le-pow_right}
-use Rattle.std.proofs.lemmas.Bool.{eqb-false, leb-true}
+use Rattle.std.proofs.lemmas.Bool.{leb-true}
 use Rattle.std.proofs.lemmas.Option.{cond_some, none-some, option_and_then_some, same_Some}
 use Rattle.chrono_datetime.specs.Days.{date_of_ymd, year_of}
 use Rattle.chrono_datetime.proofs.NamedDates.{date_of_ymd-name}
 use Rattle.chrono_datetime.proofs.Signed.{signed}
-use Rattle.chrono_sets.specs.Numbers.{Numbers, no_numbers}
+use Rattle.chrono_sets.specs.FiniteSets.{FiniteSet, no_numbers}
 use Rattle.chrono_rules.specs.declared.rule.End.{End}
 use Rattle.chrono_rules.specs.declared.rule.End.TheVariants.{Count, Never, Until}
 use Rattle.chrono_rules.specs.declared.rule.Rule.{Rule}
 use Rattle.chrono_rules.specs.RuleParts.{no_weekdays}
-use Rattle.chrono_text.specs.Numbers.{count_of, digits_of, natural_of, up_to}
+use Rattle.chrono_text.specs.Numbers.{above_zero, count_of, digits_of, natural_of, up_to}
 use Rattle.chrono_text.proofs.NaturalLemmas.{natural_small}
-use Rattle.chrono_rules.specs.NumberLists.{ends_of, month_list_of, no_ends, no_year_ends, weekdays_of, year_ends_of}
-use Rattle.chrono_rules.specs.RuleTexts.{IsRuleText, above_0, date_of, end_of, interval_of}
+use Rattle.chrono_rules.specs.NumberLists.{signed_list_of, month_list_of, no_signed, no_year_ends, weekdays_of, signed_year_list_of}
+use Rattle.chrono_rules.specs.RuleTexts.{IsRuleText, date_of, end_of, interval_of}
 use Rattle.chrono_rules.specs.WritableRules.{IsWritableRule, IsWritableEnd, is_from_one_to}
-use Rattle.chrono_rules.proofs.ListsWithin.{AreDays, AreEnds, AreYearEnds, ends_within, guarded, mapped, months_within, none_days, said_has, weekdays_within, year_ends_within}
+use Rattle.chrono_text.proofs.NumberLemmas.{mapped}
+use Rattle.chrono_rules.proofs.ListsWithin.{AreDays, AreEnds, AreYearEnds, ends_within, guarded, months_within, none_days, said_has, weekdays_within, year_ends_within}
 
 -- ---- INTERVAL, COUNT and UNTIL
 
@@ -32,16 +33,15 @@ count_small : (text : List ℕ) (n : ℕ) → count_of text ≡ Some n → n < 2
 unfolding count_of natural_of
 count_small text n is = option_and_then_some (up_to 4_294_967_295) (natural_of text) n is (λ x made given. up_to-small x n given)
 
-above-bound : (b : Bool) (x n : ℕ) → (x == 0) ≡ b → x < 2 ^ 32 → (if b then None else Some x) ≡ Some n → (1 ≤ n) × (n < 2 ^ 32)
-above-bound true x n at small is = absurd (none-some n is)
-above-bound false x n at small is =
-    let some = eqb-false x 0 at in
-    let same = same_Some x n is in
-    (omega (arith, some, same), omega (arith, small, same))
-
 interval_writable : (text : List ℕ) (n : ℕ) → interval_of text ≡ Some n → (1 ≤ n) × (n < 2 ^ 32)
 unfolding interval_of
-interval_writable text n is = option_and_then_some above_0 (count_of text) n is (λ x made given. above-bound (x == 0) x n refl (count_small text x made) given)
+interval_writable text n is =
+    option_and_then_some above_zero (count_of text) n is
+    (λ x made given.
+    let found = cond_some (nat_le 1 x) x n given in
+    let some = leb-true 1 x found.0 in
+    let small = count_small text x made in
+    (omega (arith, some, found.1), omega (arith, small, found.1)))
 
 one_writable : (n : ℕ) → Some 1 ≡ Some n → (1 ≤ n) × (n < 2 ^ 32)
 one_writable n is = let same = same_Some 1 n is in (omega (arith, same), omega (arith, same))
@@ -78,10 +78,10 @@ never_writable : (e : End) → Some Never ≡ Some e → IsWritableEnd e
 never_writable e is = subst IsWritableEnd (same_Some Never e is) tt
 
 count_writable : (text : List ℕ) (e : End) → option_map Count (count_of text) ≡ Some e → IsWritableEnd e
-count_writable text e is = let found = mapped Count (count_of text) e is in subst IsWritableEnd found.2 (count_small text found.0 found.1)
+count_writable text e is = let found = mapped Count (count_of text) e is in subst IsWritableEnd (sym found.2) (count_small text found.0 found.1)
 
 until_writable : (text : List ℕ) (e : End) → option_map Until (date_of text) ≡ Some e → IsWritableEnd e
-until_writable text e is = let found = mapped Until (date_of text) e is in subst IsWritableEnd found.2 (date_writable text found.0 found.1)
+until_writable text e is = let found = mapped Until (date_of text) e is in subst IsWritableEnd (sym found.2) (date_writable text found.0 found.1)
 
 end_writable : (counts untils : List (List ℕ)) (e : End) → end_of counts untils ≡ Some e → IsWritableEnd e
 unfolding end_of
@@ -98,12 +98,12 @@ absent_has P x at y is = subst P (same_Some x y is) at
 pub rule_writable : (text : List ℕ) (r : Rule) → IsRuleText text r → IsWritableRule r
 rule_writable text r is =
     let says = is.says in
-    let IsMonths = λ (s : Numbers). is_from_one_to 12 s ≡ true in
-    let month_days = said_has (ends_of 2 31) (Some no_ends) (AreEnds 31) (absent_has (AreEnds 31) no_ends (refl, refl)) (ends_within 31 (refl, refl)) _ _ says.month_days in
-    let weeks = said_has (ends_of 2 53) (Some no_ends) (AreEnds 53) (absent_has (AreEnds 53) no_ends (refl, refl)) (ends_within 53 (refl, refl)) _ _ says.weeks in
+    let IsMonths = λ (s : FiniteSet). is_from_one_to 12 s ≡ true in
+    let month_days = said_has (signed_list_of 2 31) (Some no_signed) (AreEnds 31) (absent_has (AreEnds 31) no_signed (refl, refl)) (ends_within 31 (refl, refl)) _ _ says.month_days in
+    let weeks = said_has (signed_list_of 2 53) (Some no_signed) (AreEnds 53) (absent_has (AreEnds 53) no_signed (refl, refl)) (ends_within 53 (refl, refl)) _ _ says.weeks in
     let days = said_has weekdays_of (Some no_weekdays) AreDays (absent_has AreDays no_weekdays none_days) weekdays_within _ _ says.weekdays in
-    let year_days = said_has year_ends_of (Some no_year_ends) AreYearEnds (absent_has AreYearEnds no_year_ends (refl, refl)) year_ends_within _ _ says.year_days in
-    let positions = said_has year_ends_of (Some no_year_ends) AreYearEnds (absent_has AreYearEnds no_year_ends (refl, refl)) year_ends_within _ _ says.positions in
+    let year_days = said_has signed_year_list_of (Some no_year_ends) AreYearEnds (absent_has AreYearEnds no_year_ends (refl, refl)) year_ends_within _ _ says.year_days in
+    let positions = said_has signed_year_list_of (Some no_year_ends) AreYearEnds (absent_has AreYearEnds no_year_ends (refl, refl)) year_ends_within _ _ says.positions in
     record {
       interval = said_has interval_of (Some 1) (λ n. (1 ≤ n) × (n < 2 ^ 32)) one_writable interval_writable _ _ says.interval;
       end = end_writable _ _ r.end says.end;

@@ -1,6 +1,5 @@
 -- What the parts of a rule pass over.
-use Rattle.std.proofs.Common.{◌≡◌, ◌==◌, ℕ, ◌+◌, ◌-◌, ◌%◌, ◌/◌, ◌<◌, ◌≤◌, Bool, slice_index_or, true, false, cond, sym, neg_ℤ, to_z, of_z, w32, ◌&&◌, ◌||◌, not, inl, inr, refl, ap, ◌∙◌, arith, ℤ, pos, ◌+ℤ◌, ◌-ℤ◌, ◌≤ℤ◌, ◌<ℤ◌}
-use Rattle.std.proofs.lemmas.Int.{to_z-of_z}
+use Rattle.std.proofs.Common.{◌≡◌, ◌==◌, ℕ, ◌+◌, ◌-◌, ◌%◌, ◌/◌, ◌<◌, ◌≤◌, Bool, slice_index_or, true, false, cond, sym, ◌&&◌, ◌||◌, not, inl, inr, refl, ap, ◌∙◌, arith, ℤ, pos, ◌+ℤ◌, ◌-ℤ◌, ◌≤ℤ◌, ◌<ℤ◌}
 use Rattle.std.proofs.lemmas.Bool.{and_right, cases_lt, ne_eqb}
 use Rattle.std.specs.Int.{IsInRange}
 use Rattle.chrono_datetime.specs.Days.{IsDate, day_of, days_before_year, month_of, ordinal_of, year_of}
@@ -8,18 +7,19 @@ use Rattle.chrono_datetime.specs.MonthMoves.{month_index, month_index_of, month_
 use Rattle.chrono_datetime.specs.Weekday.{days_from_monday, days_since}
 use Rattle.chrono_datetime.specs.Weeks.{week_first_of, weekday_of}
 use Rattle.chrono_datetime.specs.Years.{year_length}
+use Rattle.chrono_datetime.proofs.Names.{ordinal_name_of-number}
 use Rattle.chrono_datetime.proofs.IsoWeeks.{days_from_monday-of}
 use Rattle.chrono_datetime.proofs.MonthDays.{day_of-bounds, later_in_month}
 use Rattle.chrono_datetime.proofs.NamedDates.{number-ordinal_name}
 use Rattle.chrono_datetime.proofs.Signed.{signed}
 use Rattle.chrono_rules.specs.ByParts.{counted_place, counts_in_month, days_behind, filled, fills_day, fills_month, fills_weekday, has_numbers, in_week, names_weekday, on_month_day, on_weekday, on_year_day, passes}
-use Rattle.chrono_sets.specs.Numbers.{Numbers, has, is_empty, no_numbers}
+use Rattle.chrono_sets.specs.FiniteSets.{FiniteSet, has, is_empty, no_numbers}
 use Rattle.chrono_sets.proofs.Members.{has-none}
 use Rattle.chrono_rules.specs.Instances.{is_member}
 use Rattle.chrono_rules.specs.RuleParts.{lacks_month_days, lacks_months, lacks_weekdays, lacks_weeks, lacks_year_days, lists_nth}
 use Rattle.chrono_rules.specs.declared.rule.Rule.{Rule}
 use Rattle.chrono_rules.proofs.Passed.{no_pass}
-use Rattle.chrono_rules.proofs.YearsOfDates.{in_year_date, ordinal_of-bounds, same_year}
+use Rattle.chrono_rules.proofs.YearsOfDates.{in_year_date, same_year}
 use Rattle.chrono_rules.proofs.Months.{in_month, same_length}
 use Rattle.std.proofs.Math.Bool.{and-false}
 
@@ -77,10 +77,6 @@ not_start_weekday r start d fills other =
     let out : filled r start d ≡ false = rw (fills, other) refl in
     no_pass r start d (rw out refl)
 
--- a year near the calendar's fits its word
-pub year_fits : (y : ℤ) → neg_ℤ (pos 300_000) ≤ℤ y → y ≤ℤ pos 300_000 → to_z w32 (of_z w32 y) ≡ y
-year_fits y low high = to_z-of_z w32 y (omega (arith, signed, low, high))
-
 -- months in a row behind those so far
 pub months_on : (r : Rule) (start day d y : ℤ) (m months gap j : ℕ) → month_index y m ≡ month_index_of day +ℤ pos months
     → ((d : ℤ) (j : ℕ) → j < months → month_index_of d ≡ month_index_of day +ℤ pos j → is_member r start d ≡ false)
@@ -107,7 +103,7 @@ place_later r n d j false counts date at last =
     let behind : days_behind r n ≡ year_length (year_of n) - ordinal_of n = ap (λ b. cond b (month_length_of n - day_of n) (year_length (year_of n) - ordinal_of n)) counts in
     let rest : days_behind r d ≡ year_length (year_of d) - ordinal_of d = ap (λ b. cond b (month_length_of d - day_of d) (year_length (year_of d) - ordinal_of d)) counts in
     let low : n ≤ℤ d = omega (arith, signed, at) in
-    let high : d <ℤ (((n +ℤ pos 1) +ℤ pos (year_length (year_of n))) -ℤ pos (ordinal_of n)) = omega (arith, signed, at, last, behind, ordinal_of-bounds n) in
+    let high : d <ℤ (((n +ℤ pos 1) +ℤ pos (year_length (year_of n))) -ℤ pos (ordinal_of n)) = omega (arith, signed, at, last, behind, (ordinal_name_of-number n).exists) in
     let year = same_year n d low high (in_year_date n d low high date) in
     let length = ap (λ (y : ℤ). year_length y) year in
     let day : ordinal_of d ≡ ordinal_of n + j = omega (arith, signed, at, number-ordinal_name n, number-ordinal_name d, ap (λ (y : ℤ). days_before_year y) year) in
@@ -166,7 +162,7 @@ other_weekday n d start k low high is =
 pub other_month_on : (m month sm j : ℕ) → IsInRange 1 12 month → IsInRange 1 12 sm → j < (sm + 12 - month) % 12 → m ≡ 1 + (month - 1 + j) % 12 → (m == sm) ≡ false
 other_month_on m month sm j here there lt at = ne_eqb m sm (λ e. omega (arith, e, here, there, lt, at))
 
-pub month_left_out : (set : Numbers) (m month j : ℕ) → IsInRange 1 12 month → j < 12 → m ≡ 1 + (month - 1 + j) % 12 → (month + j < 13 → has set (month + j) ≡ false) → (13 ≤ month + j → has set (1 + (month + j - 13)) ≡ false) → has set m ≡ false
+pub month_left_out : (set : FiniteSet) (m month j : ℕ) → IsInRange 1 12 month → j < 12 → m ≡ 1 + (month - 1 + j) % 12 → (month + j < 13 → has set (month + j) ≡ false) → (13 ≤ month + j → has set (1 + (month + j - 13)) ≡ false) → has set m ≡ false
 month_left_out set m month j here lt at ahead around = elim (cases_lt (month + j) 13) [
   | inl less ↦ let place : m ≡ month + j = omega (arith, here, lt, at, less) in ap (has set) place ∙ ahead less
   | inr more ↦ let place : m ≡ 1 + (month + j - 13) = omega (arith, here, lt, at, more) in ap (has set) place ∙ around more

@@ -7,7 +7,7 @@ use Rattle.std.proofs.Math.Seq.{drop-append_seam, get_or-append_seam, set-append
 use Rattle.std.proofs.lemmas.Bool.{and_parts, false≢true}
 use Rattle.std.proofs.lemmas.Fmt.{decimal_nonempty, length-decimal-le}
 use Rattle.chrono_datetime.specs.Names.{weekday_of_letters}
-use Rattle.chrono_sets.specs.Numbers.{Numbers, are_empty, is_empty, lies_within, no_numbers, with_number}
+use Rattle.chrono_sets.specs.FiniteSets.{FiniteSet, are_empty, is_empty, lies_within, no_numbers, with_number}
 use Rattle.chrono_rules.specs.NumberLists.{signed_number, signed_number_of, listed_weekday, weekdays_of, with_nth, with_nth_of, with_weekday, with_weekday_text}
 use Rattle.chrono_rules.specs.RuleParts.{no_weekdays}
 use Rattle.chrono_text.specs.Lists.{through, list_text}
@@ -19,7 +19,7 @@ use Rattle.chrono_text.proofs.ListLemmas.{pieces_joined, all_of}
 use Rattle.chrono_rules.proofs.ListsBack.{from_one_back, place_back, set_back, some_of, through_append}
 use Rattle.chrono_rules.proofs.WordBytes.{are_word_bytes, items_words, numbered_words, words_lack}
 
-abbrev days_with : Numbers → List Numbers → List Numbers → WeekdayPlaces
+abbrev days_with : FiniteSet → List FiniteSet → List FiniteSet → WeekdayPlaces
 days_with every front back = record { every = every; front = front; back = back }
 
 -- a weekday's two letters name it
@@ -46,7 +46,7 @@ cut_back days front letters w two is =
     ∙ ap (option_and_then (with_weekday days front)) is
 
 -- weekdays without a number
-each_step : (u : Numbers) (w : ℕ) → w < 7 → with_weekday_text (days_with u no_weekdays.front no_weekdays.back) (item_text Each false w) ≡ Some (days_with (with_number u w) no_weekdays.front no_weekdays.back)
+each_step : (u : FiniteSet) (w : ℕ) → w < 7 → with_weekday_text (days_with u no_weekdays.front no_weekdays.back) (item_text Each false w) ≡ Some (days_with (with_number u w) no_weekdays.front no_weekdays.back)
 unfolding item_text with_weekday
 each_step u w less =
     let letters = letters_back w less in
@@ -67,21 +67,21 @@ nth_step days from_end w k less some within =
     cut_back days text (letters_from_monday w) w letters.0 letters.1 ∙ with_number_text days text w has
     ∙ ap (option_map (with_nth days w)) (place_back from_end 2 53 k (omega (arith, within)) some (omega (arith, within)) (length-decimal-le 2 k (omega arith) (omega (arith, within)) (omega (arith, within))))
 
-nth_here : (before after : List Numbers) (u : Numbers) (n : ℕ) → with_nth_of (before ++ u ∷ after) (length before) n ≡ before ++ with_number u n ∷ after
+nth_here : (before after : List FiniteSet) (u : FiniteSet) (n : ℕ) → with_nth_of (before ++ u ∷ after) (length before) n ≡ before ++ with_number u n ∷ after
 nth_here before after u n =
     ap (λ x. set (before ++ u ∷ after) (length before) (with_number x n)) (get_or-append_seam before u after no_numbers) ∙ set-append_seam before u after (with_number u n)
 
 -- as many sets without a member
-abbrev pub blank : List Numbers → List Numbers
+abbrev pub blank : List FiniteSet → List FiniteSet
 blank [] = []
 blank (s ∷ sets) = no_numbers ∷ blank sets
 
-pub blank_is : (sets : List Numbers) → blank sets ≡ replicate (length sets) no_numbers
+pub blank_is : (sets : List FiniteSet) → blank sets ≡ replicate (length sets) no_numbers
 blank_is [] = refl
 blank_is (s ∷ sets) = ap (λ rest. no_numbers ∷ rest) (blank_is sets)
 
-numbered_back : (state : List Numbers → WeekdayPlaces) (from_end : Bool) (before sets : List Numbers) → length before + length sets ≤ 7 → list_all (is_from_one_to 53) sets ≡ true
-    → ((xs : List Numbers) (w k : ℕ) → w < 7 → 1 ≤ k → k < 1 + 53 → with_weekday_text (state xs) (item_text (Numbered w) from_end k) ≡ Some (state (with_nth_of xs w k)))
+numbered_back : (state : List FiniteSet → WeekdayPlaces) (from_end : Bool) (before sets : List FiniteSet) → length before + length sets ≤ 7 → list_all (is_from_one_to 53) sets ≡ true
+    → ((xs : List FiniteSet) (w k : ℕ) → w < 7 → 1 ≤ k → k < 1 + 53 → with_weekday_text (state xs) (item_text (Numbered w) from_end k) ≡ Some (state (with_nth_of xs w k)))
     → through with_weekday_text (state (before ++ blank sets)) (numbered_items from_end sets (length before)) ≡ Some (state (before ++ sets))
 unfolding numbered_items
 numbered_back state from_end before [] room are steps = refl
@@ -102,14 +102,14 @@ numbered_back state from_end before (t ∷ sets) room are steps =
     ∙ ap (λ sets. Some (state sets)) (append_assoc before (t ∷ []) sets)
 
 -- those of all seven weekdays
-seven_back : (state : List Numbers → WeekdayPlaces) (from_end : Bool) (sets : List Numbers) → length sets ≡ 7 → list_all (is_from_one_to 53) sets ≡ true
-    → ((xs : List Numbers) (w k : ℕ) → w < 7 → 1 ≤ k → k < 1 + 53 → with_weekday_text (state xs) (item_text (Numbered w) from_end k) ≡ Some (state (with_nth_of xs w k)))
+seven_back : (state : List FiniteSet → WeekdayPlaces) (from_end : Bool) (sets : List FiniteSet) → length sets ≡ 7 → list_all (is_from_one_to 53) sets ≡ true
+    → ((xs : List FiniteSet) (w k : ℕ) → w < 7 → 1 ≤ k → k < 1 + 53 → with_weekday_text (state xs) (item_text (Numbered w) from_end k) ≡ Some (state (with_nth_of xs w k)))
     → through with_weekday_text (state no_weekdays.front) (numbered_items from_end sets 0) ≡ Some (state sets)
 seven_back state from_end sets seven are steps =
     ap (λ xs. through with_weekday_text (state xs) (numbered_items from_end sets 0)) (sym (blank_is sets ∙ ap (λ n. replicate n no_numbers) seven))
     ∙ numbered_back state from_end [] sets (omega (arith, seven)) are steps
 
-pub weekdays_back : (every : Numbers) (front back : List Numbers) → lies_within 0 7 every ≡ true → length front ≡ 7 → length back ≡ 7 → list_all (is_from_one_to 53) front ≡ true → list_all (is_from_one_to 53) back ≡ true
+pub weekdays_back : (every : FiniteSet) (front back : List FiniteSet) → lies_within 0 7 every ≡ true → length front ≡ 7 → length back ≡ 7 → list_all (is_from_one_to 53) front ≡ true → list_all (is_from_one_to 53) back ≡ true
     → (is_empty every && (are_empty front && are_empty back)) ≡ false
     → weekdays_of (list_text (items every Each false 7 0 ++ (numbered_items false front 0 ++ numbered_items true back 0))) ≡ Some (days_with every front back)
 unfolding weekdays_of

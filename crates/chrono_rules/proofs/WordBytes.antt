@@ -12,7 +12,7 @@ use Rattle.chrono_datetime.specs.Names.{weekday_letters}
 use Rattle.chrono_datetime.specs.Weekday.{weekday_from_monday}
 use Rattle.chrono_datetime.specs.declared.Weekday.{Weekday}
 use Rattle.chrono_datetime.specs.declared.Weekday.TheVariants.{Fri, Mon, Sat, Sun, Thu, Tue, Wed}
-use Rattle.chrono_sets.specs.Numbers.{Numbers, has}
+use Rattle.chrono_sets.specs.FiniteSets.{FiniteSet, has}
 use Rattle.chrono_rules.specs.declared.text.list_writer.Naming.{Naming}
 use Rattle.chrono_rules.specs.declared.text.list_writer.Naming.TheVariants.{Each, Number, Numbered}
 use Rattle.chrono_rules.specs.WrittenRules.{both_items, item_at, item_text, items, numbered_items, letters_from_monday}
@@ -104,19 +104,19 @@ one_words : (b : Bool) (text : List ℕ) → are_word_bytes text ≡ true → li
 one_words true text are = and_from (are_word_bytes text) true are refl
 one_words false text are = refl
 
-pub items_words : (listed : Numbers) (naming : Naming) (from_end : Bool) (count n : ℕ) → n + count ≤ 384 → list_all are_word_bytes (items listed naming from_end count n) ≡ true
+pub items_words : (listed : FiniteSet) (naming : Naming) (from_end : Bool) (count n : ℕ) → n + count ≤ 384 → list_all are_word_bytes (items listed naming from_end count n) ≡ true
 unfolding items
 items_words listed naming from_end zero n within = refl
 items_words listed naming from_end (suc count) n within =
     all_of are_word_bytes (item_at listed naming from_end n) (items listed naming from_end count (n + 1))
     (one_words (has listed n) (item_text naming from_end n) (item_words naming from_end n (omega (arith, within)))) (items_words listed naming from_end count (n + 1) (omega (arith, within)))
 
-pub both_words : (front back : Numbers) (most : ℕ) → most < 384 → list_all are_word_bytes (both_items front back most) ≡ true
+pub both_words : (front back : FiniteSet) (most : ℕ) → most < 384 → list_all are_word_bytes (both_items front back most) ≡ true
 both_words front back most small =
     all_of are_word_bytes (items front Number false most 1) (items back Number true most 1)
     (items_words front Number false most 1 (omega (arith, small))) (items_words back Number true most 1 (omega (arith, small)))
 
-pub numbered_words : (from_end : Bool) (sets : List Numbers) (w : ℕ) → list_all are_word_bytes (numbered_items from_end sets w) ≡ true
+pub numbered_words : (from_end : Bool) (sets : List FiniteSet) (w : ℕ) → list_all are_word_bytes (numbered_items from_end sets w) ≡ true
 unfolding numbered_items
 numbered_words from_end [] w = refl
 numbered_words from_end (set ∷ sets) w =

@@ -6,7 +6,7 @@ use Rattle.std.specs.List.{list_all}
 use Rattle.std.proofs.lemmas.Bool.{false≢true}
 use Rattle.chrono_text.specs.Lists.{list_text}
 use Rattle.chrono_datetime.specs.Weekday.{days_from_monday}
-use Rattle.chrono_sets.specs.Numbers.{Numbers}
+use Rattle.chrono_sets.specs.FiniteSets.{FiniteSet}
 use Rattle.chrono_rules.specs.declared.text.list_writer.Naming.TheVariants.{Each, Number}
 use Rattle.chrono_rules.specs.declared.rule.End.{End}
 use Rattle.chrono_rules.specs.declared.rule.End.TheVariants.{Count, Never, Until}
@@ -134,7 +134,7 @@ weekdays_lack r =
     list_lacks (xs ++ (ys ++ zs))
     (all_of are_word_bytes xs (ys ++ zs) (items_words r.weekdays.every Each false 7 0 (omega arith)) (all_of are_word_bytes ys zs (numbered_words false r.weekdays.front 0) (numbered_words true r.weekdays.back 0)))
 
-both_lack : (front back : Numbers) (most : ℕ) → most < 384 → lacks 59 (list_text (both_items front back most)) ≡ true
+both_lack : (front back : FiniteSet) (most : ℕ) → most < 384 → lacks 59 (list_text (both_items front back most)) ≡ true
 both_lack front back most small = list_lacks (both_items front back most) (both_words front back most small)
 
 texts_lack : (r : Rule) → IsWritableRule r → list_all (lacks 59) (part_texts (all_parts r)) ≡ true

@@ -1,5 +1,5 @@
 -- The instances of a rule whose start has a time of day.
-use Rattle.std.specs.Prelude.{◌==◌, nat_lt, Bool, ◌&&◌, ◌||◌, List, map, ℤ}
+use Rattle.std.specs.Prelude.{◌==◌, Bool, ◌&&◌, List, map, ℤ}
 use Rattle.chrono_datetime.specs.Moment.{Moment, moment}
 use Rattle.chrono_datetime.specs.Time.{TimeOfDay}
 use Rattle.chrono_rules.specs.InstanceLists.{instances_from}
@@ -9,10 +9,6 @@ use Rattle.chrono_rules.specs.declared.rule.Rule.{Rule}
 -- two times of day are one
 abbrev pub same_time : TimeOfDay → TimeOfDay → Bool
 same_time a b = (a.second == b.second) && (a.fraction == b.fraction)
-
--- the first of them is the earlier
-abbrev pub earlier_time : TimeOfDay → TimeOfDay → Bool
-earlier_time a b = nat_lt a.second b.second || ((a.second == b.second) && nat_lt a.fraction b.fraction)
 
 -- the moment is an instance from the start on: its day is one, and it has the start's time
 unfoldable pub is_instance_at : Rule → Moment → Moment → Bool

@@ -2,7 +2,7 @@
 use Rattle.std.specs.Prelude.{ℕ, List, [], ◌∷◌, ℤ, pos}
 use Rattle.chrono_datetime.specs.Moment.{Moment}
 use Rattle.chrono_datetime.specs.declared.Weekday.{Weekday}
-use Rattle.chrono_sets.specs.Numbers.{no_numbers, numbers}
+use Rattle.chrono_sets.specs.FiniteSets.{no_numbers, numbers}
 use Rattle.chrono_rules.specs.NumberLists.{with_nth_of}
 use Rattle.chrono_rules.specs.RecurrenceSets.{RecurrenceSet}
 use Rattle.chrono_rules.specs.RuleParts.{no_weekdays, plain}
@@ -24,9 +24,9 @@ nth_weekday w n = record { every = no_numbers; front = with_nth_of no_weekdays.f
 abbrev pub nth_weekday_from_end : ℕ → ℕ → WeekdayPlaces
 nth_weekday_from_end w n = record { every = no_numbers; front = no_weekdays.front; back = with_nth_of no_weekdays.back w n }
 
--- FREQ=WEEKLY;INTERVAL=2;COUNT=4;BYDAY=TU,SU with weeks that begin on a weekday
+-- FREQ=WEEKLY;INTERVAL=2;COUNT=4;BYDAY=TU,SU with WKST
 abbrev pub fortnightly : Weekday → Rule
-fortnightly start = record (plain Weekly) { interval = 2; end = Count 4; weekdays = each_weekday (1 ∷ 6 ∷ []); week_start = start }
+fortnightly week_start = record (plain Weekly) { interval = 2; end = Count 4; weekdays = each_weekday (1 ∷ 6 ∷ []); week_start = week_start }
 
 -- FREQ=DAILY;INTERVAL=10;COUNT=5
 abbrev pub daily : Rule
@@ -34,7 +34,7 @@ daily = record (plain Daily) { interval = 10; end = Count 5 }
 
 -- FREQ=YEARLY with WKST, BYWEEKNO from the front and from the end, and BYDAY
 abbrev pub by_weeks : Weekday → List ℕ → List ℕ → List ℕ → Rule
-by_weeks start front back days = record (plain Yearly) { weekdays = each_weekday days; weeks = numbers front; weeks_from_end = numbers back; week_start = start }
+by_weeks week_start front back days = record (plain Yearly) { weekdays = each_weekday days; weeks = numbers front; weeks_from_end = numbers back; week_start = week_start }
 
 -- FREQ=YEARLY with INTERVAL, and BYYEARDAY from the front and from the end
 abbrev pub by_year_days : ℕ → List ℕ → List ℕ → Rule
@@ -58,7 +58,7 @@ monday_or_first_friday = record (plain Monthly) { weekdays = record { every = nu
 
 -- a FREQ with WKST, BYDAY, and BYSETPOS from the front and from the end
 abbrev pub by_positions : Frequency → Weekday → List ℕ → List ℕ → List ℕ → Rule
-by_positions frequency start days front back = record (plain frequency) { weekdays = each_weekday days; positions = numbers front; positions_from_end = numbers back; week_start = start }
+by_positions frequency week_start days front back = record (plain frequency) { weekdays = each_weekday days; positions = numbers front; positions_from_end = numbers back; week_start = week_start }
 
 -- FREQ=YEARLY;BYDAY=MO with INTERVAL, and BYWEEKNO and BYSETPOS from the front
 abbrev pub by_week_years : ℕ → List ℕ → List ℕ → Rule

@@ -1,7 +1,7 @@
 -- Rules of RFC 5545's examples (3.8.5.3), by what they list. Weekdays count from 0 for Monday.
 use Rattle.std.specs.Prelude.{[], ◌∷◌, pos}
 use Rattle.chrono_datetime.specs.declared.Weekday.TheVariants.{Sun}
-use Rattle.chrono_sets.specs.Numbers.{no_numbers, numbers}
+use Rattle.chrono_sets.specs.FiniteSets.{no_numbers, numbers}
 use Rattle.chrono_rules.specs.KnownRules.{each_weekday, nth_weekday, nth_weekday_from_end}
 use Rattle.chrono_rules.specs.NumberLists.{with_nth_of}
 use Rattle.chrono_rules.specs.RuleParts.{no_weekdays, plain}

@@ -1,10 +1,12 @@
 pub mod ByParts
 pub mod InstanceLists
+pub mod InstanceWalks
 pub mod InstanceMoments
 pub mod Instances
 pub mod KnownRules
 pub mod KnownTexts
 pub mod NumberLists
+pub mod PartsFound
 pub mod Periods
 pub mod RecurrenceSets
 pub mod RuleErrors

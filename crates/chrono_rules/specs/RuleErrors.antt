@@ -5,13 +5,13 @@ use Rattle.std.specs.Option.{is_some}
 use Rattle.std.specs.Str.{byte}
 use Rattle.chrono_datetime.specs.Names.{weekday_of_letters}
 use Rattle.chrono_datetime.specs.declared.Weekday.TheVariants.{Mon}
-use Rattle.chrono_sets.specs.Numbers.{no_numbers, numbers}
+use Rattle.chrono_sets.specs.FiniteSets.{no_numbers, numbers}
 use Rattle.chrono_text.specs.Numbers.{are_digits, count_of, digits_of, natural_of}
-use Rattle.chrono_text.specs.Lists.{pieces}
+use Rattle.chrono_text.specs.Lists.{begins_alike, has_blank, pieces}
 use Rattle.chrono_rules.specs.ByParts.{has_numbers}
-use Rattle.chrono_rules.specs.NumberLists.{ends_of, listed_number, listed_weekday, month_list_of, no_ends, no_year_ends, signed_number_of, weekdays_of, with_month_text, with_nth_of, with_signed_text, with_weekday, with_weekday_text, with_year_text, year_ends_of}
+use Rattle.chrono_rules.specs.NumberLists.{signed_list_of, listed_number, listed_weekday, month_list_of, no_signed, no_year_ends, signed_number_of, weekdays_of, with_month_text, with_nth_of, with_signed_text, with_weekday, with_weekday_text, with_year_text, signed_year_list_of}
 use Rattle.chrono_rules.specs.RuleParts.{lacks_month_days, lacks_weeks, lacks_year_days, no_weekdays, plain}
-use Rattle.chrono_rules.specs.RuleTexts.{IsRuleText, Says, body_start, date_of, end_of, fits, frequency_of, has_month_days, has_year_parts, interval_of, is_named, is_part, lacks_numbers, may_have_numbers, parts, rule_body, said, values_in, weekday_of_text}
+use Rattle.chrono_rules.specs.RuleTexts.{IsRuleText, Says, body_start, date_of, end_of, fits, frequency_of, has_month_days, has_year_parts, interval_of, is_part, lacks_numbers, may_have_numbers, parts, rule_body, said, values_in, weekday_of_text}
 use Rattle.chrono_rules.specs.declared.text.rule_error.RuleError.{RuleError}
 use Rattle.chrono_rules.specs.declared.text.rule_error.RuleFault.{RuleFault}
 use Rattle.chrono_rules.specs.declared.text.rule_error.RuleFault.TheVariants.{Unknown, OfHours, OfMinutes, OfSeconds, Extension, OfCalendars, OfSkips, Blank, Missing, Twice, Empty, NotAFrequency, NotANumber, Range, OutOfRange, NotADate, WithTime, NotAWeekday, BesideCount, NotWith, NumbersNotWith, NumbersBesideWeeks, Alone}
@@ -39,29 +39,25 @@ part_name Wkst = codes "WKST"
 abbrev pub part_key : RulePart → List ℕ
 part_key part = part_name part ++ codes "="
 
--- whether the part can be read: its one value, or that it lacks. An UNTIL cannot beside a COUNT
+-- the part can be read: its one value can, or it may lack. An UNTIL cannot be read beside a COUNT
 unfoldable pub is_read : List ℕ → RulePart → Bool
 is_read text Freq = is_some (said frequency_of None (values_in text (codes "FREQ=")))
 is_read text Interval = is_some (said interval_of (Some 1) (values_in text (codes "INTERVAL=")))
 is_read text Count = is_some (said count_of (Some 0) (values_in text (codes "COUNT=")))
 is_read text Until = is_some (end_of (values_in text (codes "COUNT=")) (values_in text (codes "UNTIL=")))
 is_read text ByMonth = is_some (said month_list_of (Some no_numbers) (values_in text (codes "BYMONTH=")))
-is_read text ByMonthDay = is_some (said (ends_of 2 31) (Some no_ends) (values_in text (codes "BYMONTHDAY=")))
+is_read text ByMonthDay = is_some (said (signed_list_of 2 31) (Some no_signed) (values_in text (codes "BYMONTHDAY=")))
 is_read text ByDay = is_some (said weekdays_of (Some no_weekdays) (values_in text (codes "BYDAY=")))
-is_read text ByYearDay = is_some (said year_ends_of (Some no_year_ends) (values_in text (codes "BYYEARDAY=")))
-is_read text ByWeekNo = is_some (said (ends_of 2 53) (Some no_ends) (values_in text (codes "BYWEEKNO=")))
-is_read text BySetPos = is_some (said year_ends_of (Some no_year_ends) (values_in text (codes "BYSETPOS=")))
+is_read text ByYearDay = is_some (said signed_year_list_of (Some no_year_ends) (values_in text (codes "BYYEARDAY=")))
+is_read text ByWeekNo = is_some (said (signed_list_of 2 53) (Some no_signed) (values_in text (codes "BYWEEKNO=")))
+is_read text BySetPos = is_some (said signed_year_list_of (Some no_year_ends) (values_in text (codes "BYSETPOS=")))
 is_read text Wkst = is_some (said weekday_of_text (Some Mon) (values_in text (codes "WKST=")))
-
--- a space or a tab stands in the text
-abbrev pub has_blank : List ℕ → Bool
-has_blank text = list_any (λ b. b == byte " " || b == byte "\t") text
 
 -- a `-` stands behind the first byte
 abbrev pub is_range : List ℕ → Bool
 is_range text = list_any (λ b. b == byte "-") (drop 1 text)
 
--- why a text is no number that a part may have: it is another number or too many digits, it has a blank, it is a range, or none of these
+-- why a text is no number that a part may have: digits are out of range; other text has a blank, is a range, or is no number
 unfoldable pub digits_fault : List ℕ → RuleFault
 digits_fault text = if are_digits text then OutOfRange else if has_blank text then Blank else if is_range text then Range else NotANumber
 
@@ -70,7 +66,7 @@ unfoldable pub number_fault : List ℕ → RuleFault
 number_fault [] = Empty
 number_fault (b ∷ bs) = digits_fault (b ∷ bs)
 
--- with a sign in front, or none
+-- why a text is no number with a sign in front, or none
 unfoldable pub signed_fault : List ℕ → RuleFault
 signed_fault [] = Empty
 signed_fault (b ∷ bs) = if (b == byte "-") || (b == byte "+") then digits_fault bs else digits_fault (b ∷ bs)
@@ -79,7 +75,7 @@ signed_fault (b ∷ bs) = if (b == byte "-") || (b == byte "+") then digits_faul
 abbrev pub blank_or : RuleFault → List ℕ → RuleFault
 blank_or fault text = if has_blank text then Blank else fault
 
--- a weekday, behind a number or not: letters that are none, or what stands in front
+-- why an item is no weekday: its letters are none, or what stands in front of them is no number
 unfoldable pub weekday_fault : List ℕ → RuleFault
 weekday_fault [] = Empty
 weekday_fault (b ∷ bs) =
@@ -104,11 +100,11 @@ abbrev pub list_fault : RulePart → ℕ → List (List ℕ) → ℕ × RuleFaul
 list_fault part at [] = (0, Empty)
 list_fault part at (item ∷ items) = if reads_item part item then list_fault part (at + length item + 1) items else (at, item_fault part item)
 
--- why a value is not the part's
+-- why a text is no word of a part: it is empty, it has a blank, or this fault
 abbrev pub word_fault : RuleFault → List ℕ → RuleFault
 word_fault fault text = if length text == 0 then Empty else blank_or fault text
 
--- a `T` stands behind the eight digits of a date
+-- the ninth byte is a `T`, as behind a date of eight digits; whether digits stand before it is not asked
 abbrev pub has_time : List ℕ → Bool
 has_time text = nat_lt 8 (length text) && ((slice_index text 8 == byte "T") || (slice_index text 8 == byte "t"))
 
@@ -128,9 +124,9 @@ value_fault part text = list_fault part 0 (pieces (byte ",") text)
 -- the parts with a name: where each begins, if the first of all parts begins at `at`, and its value
 abbrev pub placed_values : List ℕ → ℕ → List (List ℕ) → List (ℕ × List ℕ)
 placed_values name at [] = []
-placed_values name at (p ∷ ps) = if is_named name p then (at, drop (length name) p) ∷ placed_values name (at + length p + 1) ps else placed_values name (at + length p + 1) ps
+placed_values name at (p ∷ ps) = if begins_alike name p then (at, drop (length name) p) ∷ placed_values name (at + length p + 1) ps else placed_values name (at + length p + 1) ps
 
--- the same of a text
+-- the parts of a text that have the part's name: where each begins, and its value
 abbrev pub placed_in : List ℕ → RulePart → List (ℕ × List ℕ)
 placed_in text part = placed_values (part_key part) 0 (parts text)
 
@@ -172,7 +168,7 @@ abbrev pub first_unread : List ℕ → List RulePart → RulePart → RuleError
 first_unread text [] last = part_error text last
 first_unread text (p ∷ ps) last = if is_read text p then first_unread text ps last else part_error text p
 
--- the parts in their order, and the last
+-- the parts in their order, but for the last, which is WKST
 abbrev pub parts_but_last : List RulePart
 parts_but_last = Freq ∷ Interval ∷ Count ∷ Until ∷ ByMonth ∷ ByMonthDay ∷ ByDay ∷ ByYearDay ∷ ByWeekNo ∷ BySetPos ∷ []
 
@@ -198,18 +194,18 @@ unfit_error text r =
 abbrev pub are_named : List ℕ → Bool
 are_named text = list_all is_part (parts text)
 
--- why a part has no such name: it is of a time of day, of a user or of RFC 7529, it is empty, it has a blank, or it is of nothing
+-- why a part has no such name: it is of a time of day, an X- part or one of RFC 7529. Any other is empty, has a blank or is unknown
 unfoldable pub name_fault : List ℕ → RuleFault
 name_fault part =
-    if is_named (codes "BYHOUR=") part then OfHours
-    else if is_named (codes "BYMINUTE=") part then OfMinutes
-    else if is_named (codes "BYSECOND=") part then OfSeconds
-    else if is_named (codes "X-") part then Extension
-    else if is_named (codes "RSCALE=") part then OfCalendars
-    else if is_named (codes "SKIP=") part then OfSkips
+    if begins_alike (codes "BYHOUR=") part then OfHours
+    else if begins_alike (codes "BYMINUTE=") part then OfMinutes
+    else if begins_alike (codes "BYSECOND=") part then OfSeconds
+    else if begins_alike (codes "X-") part then Extension
+    else if begins_alike (codes "RSCALE=") part then OfCalendars
+    else if begins_alike (codes "SKIP=") part then OfSkips
     else word_fault Unknown part
 
--- by the first part that has none, and where it begins, if the first of all parts begins at `at`
+-- the first part without a name of rules over days: where it begins, if the first of all parts begins at `at`, and why it has none
 abbrev pub unnamed_fault : ℕ → List (List ℕ) → ℕ × RuleFault
 unnamed_fault at [] = (0, Unknown)
 unnamed_fault at (p ∷ ps) = if is_part p then unnamed_fault (at + length p + 1) ps else (at, name_fault p)
@@ -223,7 +219,7 @@ abbrev pub in_text : List ℕ → RuleError → RuleError
 in_text text e = record { part = e.part; byte = body_start text + e.byte; fault = e.fault }
 
 -- what a reading with errors answers
-pub record IsChecked (text : List ℕ) (result : Result Rule RuleError) : Type 0 where
+pub record IsRuleRead (text : List ℕ) (result : Result Rule RuleError) : Type 0 where
   pub read : IfOk result (λ r. IsRuleText (rule_body text) r)
   pub every : (r : Rule) → IsRuleText (rule_body text) r → result ≡ Ok r
   pub found : IsErr result ↔ ((r : Rule) → ¬ IsRuleText (rule_body text) r)
@@ -232,14 +228,14 @@ pub record IsChecked (text : List ℕ) (result : Result Rule RuleError) : Type 0
   pub unfit : (r : Rule) → are_named (rule_body text) ≡ true → Says (rule_body text) r → fits r ≡ false → result ≡ Err (in_text text (unfit_error (rule_body text) r))
   pub byte : IfErr result (λ e. e.byte ≤ length text)
 
--- the line that is told of an error: FREQ's words
+-- the word of a frequency, as FREQ writes it
 unfoldable pub frequency_text : Frequency → List ℕ
 frequency_text Daily = codes "DAILY"
 frequency_text Weekly = codes "WEEKLY"
 frequency_text Monthly = codes "MONTHLY"
 frequency_text Yearly = codes "YEARLY"
 
--- what is wrong, and which word of FREQ stands behind that
+-- what is wrong, in words
 unfoldable pub fault_words : RuleFault → List ℕ
 fault_words Unknown = codes "unknown part"
 fault_words OfHours = codes "BYHOUR: not in rules over days"
@@ -584,13 +580,13 @@ unread_parts texts = map (λ text. (unread_error text).part) texts
 
 unread_parts-order : unread_parts (codes "INTERVAL=x;FREQ=x" ∷ codes "COUNT=x;INTERVAL=x;FREQ=DAILY" ∷ codes "UNTIL=x;COUNT=x;FREQ=DAILY" ∷ codes "BYMONTH=x;UNTIL=x;FREQ=DAILY" ∷ codes "BYMONTHDAY=x;BYMONTH=x;FREQ=DAILY" ∷ codes "BYDAY=x;BYMONTHDAY=x;FREQ=DAILY" ∷ codes "BYYEARDAY=x;BYDAY=x;FREQ=DAILY" ∷ codes "BYWEEKNO=x;BYYEARDAY=x;FREQ=DAILY" ∷ codes "BYSETPOS=x;BYWEEKNO=x;FREQ=DAILY" ∷ codes "WKST=x;BYSETPOS=x;FREQ=DAILY" ∷ [])
     ≡ Some Freq ∷ Some Interval ∷ Some Count ∷ Some Until ∷ Some ByMonth ∷ Some ByMonthDay ∷ Some ByDay ∷ Some ByYearDay ∷ Some ByWeekNo ∷ Some BySetPos ∷ []
-unfolding unread_parts unread_error is_read frequency_of interval_of count_of end_of date_of month_list_of with_month_text ends_of with_signed_text signed_number_of weekdays_of with_weekday_text with_weekday listed_weekday weekday_of_letters year_ends_of with_year_text listed_number digits_of natural_of
+unfolding unread_parts unread_error is_read frequency_of interval_of count_of end_of date_of month_list_of with_month_text signed_list_of with_signed_text signed_number_of weekdays_of with_weekday_text with_weekday listed_weekday weekday_of_letters signed_year_list_of with_year_text listed_number digits_of natural_of
 unread_parts-order = refl
 
 -- days of the month end with 31 and weeks with 53, and the last part is wrong if each other can be read
 unread_parts-last : unread_parts (codes "FREQ=YEARLY;BYMONTHDAY=32;WKST=X" ∷ codes "FREQ=YEARLY;BYWEEKNO=54;WKST=X" ∷ codes "FREQ=YEARLY;BYMONTHDAY=31;BYWEEKNO=53;WKST=X" ∷ codes "FREQ=DAILY;WKST=X" ∷ codes "FREQ=DAILY;COUNT=3;UNTIL=19971224" ∷ [])
     ≡ Some ByMonthDay ∷ Some ByWeekNo ∷ Some Wkst ∷ Some Wkst ∷ Some Until ∷ []
-unfolding unread_parts unread_error is_read frequency_of interval_of count_of end_of date_of month_list_of with_month_text ends_of with_signed_text signed_number_of weekdays_of with_weekday_text with_weekday listed_weekday weekday_of_letters year_ends_of with_year_text listed_number digits_of natural_of
+unfolding unread_parts unread_error is_read frequency_of interval_of count_of end_of date_of month_list_of with_month_text signed_list_of with_signed_text signed_number_of weekdays_of with_weekday_text with_weekday listed_weekday weekday_of_letters signed_year_list_of with_year_text listed_number digits_of natural_of
 unread_parts-last = refl
 
 -- of several parts that do not go with FREQ the first in that order

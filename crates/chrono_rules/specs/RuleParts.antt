@@ -1,7 +1,7 @@
 -- The parts of a rule (RFC 5545, section 3.3.10): which of them it has, and what its BYDAY lists.
 use Rattle.std.specs.Prelude.{ℕ, Bool, ◌&&◌, List, [], ◌∷◌, slice_index_or}
 use Rattle.chrono_datetime.specs.declared.Weekday.TheVariants.{Mon}
-use Rattle.chrono_sets.specs.Numbers.{Numbers, are_empty, has, is_empty, no_numbers}
+use Rattle.chrono_sets.specs.FiniteSets.{FiniteSet, are_empty, has, is_empty, no_numbers}
 use Rattle.chrono_rules.specs.declared.rule.End.TheVariants.{Never}
 use Rattle.chrono_rules.specs.declared.rule.Frequency.{Frequency}
 use Rattle.chrono_rules.specs.declared.rule.Rule.{Rule}
@@ -15,8 +15,8 @@ no_weekdays = record {
   back = no_numbers ∷ no_numbers ∷ no_numbers ∷ no_numbers ∷ no_numbers ∷ no_numbers ∷ no_numbers ∷ [];
 }
 
--- the k-th day of the weekday w is listed, as `1MO` lists (0, 1); weekdays count from 0 for Monday
-abbrev pub lists_nth : List Numbers → ℕ → ℕ → Bool
+-- the k-th day of the weekday w is listed: `1MO` lists it for w = 0 and k = 1. Weekdays count from 0 for Monday
+abbrev pub lists_nth : List FiniteSet → ℕ → ℕ → Bool
 lists_nth weekdays w k = has (slice_index_or weekdays w no_numbers) k
 
 -- the rule that has FREQ alone

@@ -8,11 +8,11 @@ use Rattle.chrono_datetime.specs.Days.{date_of_ymd}
 use Rattle.chrono_datetime.specs.Names.{weekday_of_letters}
 use Rattle.chrono_datetime.specs.declared.Weekday.{Weekday}
 use Rattle.chrono_datetime.specs.declared.Weekday.TheVariants.{Mon}
-use Rattle.chrono_sets.specs.Numbers.{Numbers, are_empty, no_numbers, numbers}
-use Rattle.chrono_text.specs.Numbers.{count_of, digits_of, natural_of}
-use Rattle.chrono_text.specs.Lists.{pieces}
+use Rattle.chrono_sets.specs.FiniteSets.{FiniteSet, are_empty, no_numbers, numbers}
+use Rattle.chrono_text.specs.Numbers.{above_zero, count_of, digits_of, natural_of}
+use Rattle.chrono_text.specs.Lists.{begins_alike, pieces}
 use Rattle.chrono_rules.specs.ByParts.{has_numbers}
-use Rattle.chrono_rules.specs.NumberLists.{ends_of, month_list_of, no_ends, no_year_ends, weekdays_of, with_nth_of, year_ends_of}
+use Rattle.chrono_rules.specs.NumberLists.{signed_list_of, month_list_of, no_signed, no_year_ends, weekdays_of, with_nth_of, signed_year_list_of}
 use Rattle.chrono_rules.specs.RuleParts.{lacks_month_days, lacks_months, lacks_positions, lacks_weekdays, lacks_weeks, lacks_year_days, no_weekdays, plain}
 use Rattle.chrono_rules.specs.declared.rule.End.{End}
 use Rattle.chrono_rules.specs.declared.rule.End.TheVariants.{Never, Count, Until}
@@ -24,13 +24,9 @@ use Rattle.chrono_rules.specs.declared.rule.Rule.{Rule}
 abbrev pub parts : List ℕ → List (List ℕ)
 parts text = pieces (byte ";") text
 
--- a part begins with its name and `=`, in letters of either case
-abbrev pub is_named : List ℕ → List ℕ → Bool
-is_named name part = str_eq_ignore_ascii_case (take (length name) part) name
-
 -- where the parts begin: behind the name of the property in which a calendar has a rule (RFC 5545, 3.8.5.3), if it stands in front
 abbrev pub body_start : List ℕ → ℕ
-body_start text = if is_named (codes "RRULE:") text then 6 else 0
+body_start text = if begins_alike (codes "RRULE:") text then 6 else 0
 
 -- the text from there on
 abbrev pub behind_property : List ℕ → List ℕ
@@ -51,33 +47,33 @@ rule_body text = without_semicolon (behind_property text)
 -- what stands behind a name, in each part that has it
 abbrev pub values : List ℕ → List (List ℕ) → List (List ℕ)
 values name [] = []
-values name (p ∷ ps) = if is_named name p then drop (length name) p ∷ values name ps else values name ps
+values name (p ∷ ps) = if begins_alike name p then drop (length name) p ∷ values name ps else values name ps
 
--- the parts that a rule over days may have: lists, and others
+-- the values of the parts with a name
+abbrev pub values_in : List ℕ → List ℕ → List (List ℕ)
+values_in text name = values name (parts text)
+
+-- a part has the name of a list
 abbrev pub is_list_part : List ℕ → Bool
 is_list_part p =
-    is_named (codes "BYMONTH=") p || (is_named (codes "BYMONTHDAY=") p || (is_named (codes "BYDAY=") p
-    || (is_named (codes "BYYEARDAY=") p || (is_named (codes "BYWEEKNO=") p || is_named (codes "BYSETPOS=") p))))
+    begins_alike (codes "BYMONTH=") p || (begins_alike (codes "BYMONTHDAY=") p || (begins_alike (codes "BYDAY=") p
+    || (begins_alike (codes "BYYEARDAY=") p || (begins_alike (codes "BYWEEKNO=") p || begins_alike (codes "BYSETPOS=") p))))
 
--- whether a part has a name that rules over days have
+-- a part has a name that rules over days have
 abbrev pub is_part : List ℕ → Bool
 is_part p =
-    is_named (codes "FREQ=") p || (is_named (codes "INTERVAL=") p || (is_named (codes "COUNT=") p
-    || (is_named (codes "UNTIL=") p || (is_named (codes "WKST=") p || is_list_part p))))
+    begins_alike (codes "FREQ=") p || (begins_alike (codes "INTERVAL=") p || (begins_alike (codes "COUNT=") p
+    || (begins_alike (codes "UNTIL=") p || (begins_alike (codes "WKST=") p || is_list_part p))))
 
--- what a part says: its one value, or what a rule without it has; None if it stands there twice
+-- what a part says: its one value, or what a rule without it has; None if the value cannot be read, or if the part stands there twice
 abbrev pub said : {A : Type 0} → (List ℕ → Option A) → Option A → List (List ℕ) → Option A
 said read without [] = without
 said read without (v ∷ []) = read v
 said read without (v ∷ w ∷ more) = None
 
--- a number above 0
-abbrev pub above_0 : ℕ → Option ℕ
-above_0 n = if n == 0 then None else Some n
-
 -- the number above 0 that a text writes
 unfoldable pub interval_of : List ℕ → Option ℕ
-interval_of text = option_and_then above_0 (count_of text)
+interval_of text = option_and_then above_zero (count_of text)
 
 -- the frequency that a text names, in letters of either case
 unfoldable pub frequency_of : List ℕ → Option Frequency
@@ -88,20 +84,23 @@ frequency_of text =
     else if str_eq_ignore_ascii_case text (codes "YEARLY") then Some Yearly
     else None
 
--- the date that four digits of a year, two of a month and two of a day name
+-- the date of a year, a month and a day, if each can be read
+abbrev pub date_of_parts : Option ℕ → Option ℕ → Option ℕ → Option ℤ
+date_of_parts year month day = option_and_then (λ y. option_and_then (λ m. option_and_then (date_of_ymd (pos y) m) day) month) year
+
+-- the date that four digits of a year, two of a month and two of a day name.
+-- 3.3.10: UNTIL has "the same value type as the DTSTART property": a rule over days has a date
 unfoldable pub date_of : List ℕ → Option ℤ
 date_of text =
-    if length text == 8 then
-    option_and_then (λ y. option_and_then (λ m. option_and_then (date_of_ymd (pos y) m) (digits_of 2 (drop 6 text))) (digits_of 2 (take 2 (drop 4 text)))) (digits_of 4 (take 4 text))
-    else None
+    if length text == 8 then date_of_parts (digits_of 4 (take 4 text)) (digits_of 2 (take 2 (drop 4 text))) (digits_of 2 (drop 6 text)) else None
 
--- where a rule ends: at one of the two, or nowhere
+-- where a rule ends, by the values of its COUNT parts and of its UNTIL parts: never with neither. 3.3.10: both "MUST NOT occur in the same" rule
 unfoldable pub end_of : List (List ℕ) → List (List ℕ) → Option End
 end_of counts [] = said (λ text. option_map Count (count_of text)) (Some Never) counts
 end_of [] (u ∷ untils) = said (λ text. option_map Until (date_of text)) (Some Never) (u ∷ untils)
 end_of (c ∷ counts) (u ∷ untils) = None
 
--- the weekday that two letters name
+-- the weekday that two letters name, in either case
 unfoldable pub weekday_of_text : List ℕ → Option Weekday
 weekday_of_text text = weekday_of_letters 2 text
 
@@ -138,41 +137,36 @@ fits r =
     && ((has_year_parts r.frequency || (lacks_year_days r && lacks_weeks r))
     && ((may_have_numbers r || lacks_numbers r) && (lacks_positions r || not (lacks_lists r))))
 
--- the values of the parts with a name
-abbrev pub values_in : List ℕ → List ℕ → List (List ℕ)
-values_in text name = values name (parts text)
-
 -- what the parts of a text say, in any order and each at most once
 pub record Says (text : List ℕ) (r : Rule) : Type 0 where
   pub frequency : said frequency_of None (values_in text (codes "FREQ=")) ≡ Some r.frequency
   pub interval : said interval_of (Some 1) (values_in text (codes "INTERVAL=")) ≡ Some r.interval
   pub end : end_of (values_in text (codes "COUNT=")) (values_in text (codes "UNTIL=")) ≡ Some r.end
   pub months : said month_list_of (Some no_numbers) (values_in text (codes "BYMONTH=")) ≡ Some r.months
-  pub month_days : said (ends_of 2 31) (Some no_ends) (values_in text (codes "BYMONTHDAY=")) ≡ Some (record { front = r.month_days; back = r.month_days_from_end })
+  pub month_days : said (signed_list_of 2 31) (Some no_signed) (values_in text (codes "BYMONTHDAY=")) ≡ Some (record { front = r.month_days; back = r.month_days_from_end })
   pub weekdays : said weekdays_of (Some no_weekdays) (values_in text (codes "BYDAY=")) ≡ Some r.weekdays
-  pub year_days : said year_ends_of (Some no_year_ends) (values_in text (codes "BYYEARDAY=")) ≡ Some (record { front = r.year_days; back = r.year_days_from_end })
-  pub weeks : said (ends_of 2 53) (Some no_ends) (values_in text (codes "BYWEEKNO=")) ≡ Some (record { front = r.weeks; back = r.weeks_from_end })
-  pub positions : said year_ends_of (Some no_year_ends) (values_in text (codes "BYSETPOS=")) ≡ Some (record { front = r.positions; back = r.positions_from_end })
+  pub year_days : said signed_year_list_of (Some no_year_ends) (values_in text (codes "BYYEARDAY=")) ≡ Some (record { front = r.year_days; back = r.year_days_from_end })
+  pub weeks : said (signed_list_of 2 53) (Some no_signed) (values_in text (codes "BYWEEKNO=")) ≡ Some (record { front = r.weeks; back = r.weeks_from_end })
+  pub positions : said signed_year_list_of (Some no_year_ends) (values_in text (codes "BYSETPOS=")) ≡ Some (record { front = r.positions; back = r.positions_from_end })
   pub week_start : said weekday_of_text (Some Mon) (values_in text (codes "WKST=")) ≡ Some r.week_start
 
--- the text writes the rule
+-- the text writes the rule. It has no `RRULE:` in front and no `;` at the end: see `rule_body`
 pub record IsRuleText (text : List ℕ) (r : Rule) : Type 0 where
   pub named : list_all is_part (parts text) ≡ true
   pub says : Says text r
   pub fitting : fits r ≡ true
 
--- known values: which rules by days, weeks, months and years fit (the table of 3.3.10), with days of the month, of the year, and weeks, from
--- either end, with months, with weekdays, and with numbered ones from either end
+-- known values: which parts fit rules by days, weeks, months and years (the table of 3.3.10). Each list is tried from either end
 abbrev fits_by_frequency : (Frequency → Rule) → List Bool
 fits_by_frequency rule = fits (rule Daily) ∷ fits (rule Weekly) ∷ fits (rule Monthly) ∷ fits (rule Yearly) ∷ []
 
-abbrev first : Numbers
+abbrev first : FiniteSet
 first = numbers (1 ∷ [])
 
-abbrev first_monday : List Numbers
+abbrev first_monday : List FiniteSet
 first_monday = with_nth_of no_weekdays.front 0 1
 
-abbrev mondays : Numbers
+abbrev mondays : FiniteSet
 mondays = numbers (0 ∷ [])
 
 fits-month_days : fits_by_frequency (λ f. record (plain f) { month_days = first }) ≡ true ∷ false ∷ true ∷ true ∷ []

@@ -2,14 +2,14 @@
 use Rattle.std.specs.Prelude.{◌≡◌, ℕ, ◌+◌, ◌^◌, ◌<◌, ◌≤◌, Bool, true, pos, ◌≤ℤ◌}
 use Rattle.std.specs.List.{list_all}
 use Rattle.chrono_datetime.specs.Days.{year_of}
-use Rattle.chrono_sets.specs.Numbers.{Numbers, lies_within}
+use Rattle.chrono_sets.specs.FiniteSets.{FiniteSet, lies_within}
 use Rattle.chrono_rules.specs.RuleTexts.{fits}
 use Rattle.chrono_rules.specs.declared.rule.End.{End}
 use Rattle.chrono_rules.specs.declared.rule.End.TheVariants.{Never, Count, Until}
 use Rattle.chrono_rules.specs.declared.rule.Rule.{Rule}
 
 -- each number of the set is from 1 to `most`
-abbrev pub is_from_one_to : ℕ → Numbers → Bool
+abbrev pub is_from_one_to : ℕ → FiniteSet → Bool
 is_from_one_to most set = lies_within 1 (most + 1) set
 
 -- a number of instances below 2^32, or a last day in a year of four digits

@@ -1,15 +1,15 @@
 -- The text that is written for a rule.
-use Rattle.std.specs.Prelude.{◌≡◌, ℕ, zero, suc, ◌+◌, ◌/◌, ◌%◌, ◌==◌, nat_le, Bool, true, false, ◌&&◌, if◌then◌else◌, List, [], ◌∷◌, ◌++◌, ℤ, pos, unsigned_abs, int_le, codes, refl}
+use Rattle.std.specs.Prelude.{◌≡◌, ℕ, zero, suc, ◌+◌, ◌==◌, nat_le, Bool, true, false, ◌&&◌, if◌then◌else◌, List, [], ◌∷◌, ◌++◌, ℤ, pos, unsigned_abs, int_le, codes, refl}
 use Rattle.std.specs.Fmt.{decimal, digits, sign_text, signed_decimal}
 use Rattle.std.specs.List.{join_with_byte}
 use Rattle.std.specs.Str.{byte}
-use Rattle.chrono_text.specs.Lists.{list_text}
-use Rattle.chrono_text.specs.Text.{two_digits}
+use Rattle.chrono_text.specs.Lists.{each_behind, list_text}
+use Rattle.chrono_text.specs.Text.{all_digits, two_digits}
 use Rattle.chrono_datetime.specs.Days.{day_of, month_of, year_of}
 use Rattle.chrono_datetime.specs.Names.{weekday_letters}
 use Rattle.chrono_datetime.specs.Weekday.{days_from_monday, weekday_from_monday}
 use Rattle.chrono_datetime.specs.declared.Weekday.TheVariants.{Sat}
-use Rattle.chrono_sets.specs.Numbers.{Numbers, has, numbers}
+use Rattle.chrono_sets.specs.FiniteSets.{FiniteSet, has, numbers}
 use Rattle.chrono_rules.specs.declared.rule.End.{End}
 use Rattle.chrono_rules.specs.declared.rule.End.TheVariants.{Never, Count, Until}
 use Rattle.chrono_rules.specs.declared.rule.Frequency.TheVariants.{Daily, Yearly}
@@ -33,7 +33,7 @@ item_text Each from_end n = letters_from_monday n
 item_text (Numbered w) from_end n = (sign_text from_end ++ decimal n) ++ letters_from_monday w
 
 -- the numbers that are listed
-unfoldable pub members : ListedSet → Numbers
+unfoldable pub members : ListedSet → FiniteSet
 members (Small set) = set
 members (Large set) = set
 
@@ -43,35 +43,30 @@ limit (Small set) = 64
 limit (Large set) = 384
 
 -- the item of the number n, if it is listed
-abbrev pub item_at : Numbers → Naming → Bool → ℕ → List (List ℕ)
+abbrev pub item_at : FiniteSet → Naming → Bool → ℕ → List (List ℕ)
 item_at listed naming from_end n = if has listed n then item_text naming from_end n ∷ [] else []
 
 -- the items of the listed numbers among as many numbers from n on, rising
-unfoldable pub items : Numbers → Naming → Bool → ℕ → ℕ → List (List ℕ)
+unfoldable pub items : FiniteSet → Naming → Bool → ℕ → ℕ → List (List ℕ)
 items listed naming from_end zero n = []
 items listed naming from_end (suc count) n = item_at listed naming from_end n ++ items listed naming from_end count (n + 1)
 
 -- those of each of the weekdays in a row, from one on
-unfoldable pub numbered_items : Bool → List Numbers → ℕ → List (List ℕ)
+unfoldable pub numbered_items : Bool → List FiniteSet → ℕ → List (List ℕ)
 numbered_items from_end [] w = []
 numbered_items from_end (set ∷ sets) w = items set (Numbered w) from_end 53 1 ++ numbered_items from_end sets (w + 1)
 
 -- numbers from 1 to `most`, those that count from the front first
-abbrev pub both_items : Numbers → Numbers → ℕ → List (List ℕ)
+abbrev pub both_items : FiniteSet → FiniteSet → ℕ → List (List ℕ)
 both_items front back most = items front Number false most 1 ++ items back Number true most 1
 
 -- weekdays without a number first
 abbrev pub weekday_items : Rule → List (List ℕ)
 weekday_items r = items r.weekdays.every Each false 7 0 ++ (numbered_items false r.weekdays.front 0 ++ numbered_items true r.weekdays.back 0)
 
--- texts, each behind a separator; items behind others, or the first of a list; whether there is one
-abbrev pub behind : ℕ → List (List ℕ) → List ℕ
-behind sep [] = []
-behind sep (text ∷ texts) = (sep ∷ text) ++ behind sep texts
-
 -- items behind others, or as the first of a list
 abbrev pub listed_on : Bool → List (List ℕ) → List ℕ
-listed_on begun items = if begun then behind (byte ",") items else list_text items
+listed_on begun items = if begun then each_behind (byte ",") items else list_text items
 
 -- whether there is an item
 abbrev pub some_in : List (List ℕ) → Bool
@@ -82,26 +77,26 @@ some_in (item ∷ items) = true
 abbrev pub part_unless : Bool → List ℕ → List ℕ → List (List ℕ)
 part_unless lacks name value = if lacks then [] else (name ++ value) ∷ []
 
--- a text, if it is wanted
+-- a text, or nothing
 abbrev pub text_unless : Bool → List ℕ → List ℕ
 text_unless lacks text = if lacks then [] else text
 
--- a date in eight digits, if its year is one from 0 to 9999
+-- a year in four digits, if it is from 0 to 9999; else in as many as it has, with a `-` below 0
 abbrev pub four_digits : ℤ → List ℕ
 four_digits y =
-    if int_le (pos 0) y && int_le y (pos 9_999) then two_digits (unsigned_abs y / 100) ++ two_digits (unsigned_abs y % 100) else signed_decimal y
+    if int_le (pos 0) y && int_le y (pos 9_999) then all_digits 4 (unsigned_abs y) else signed_decimal y
 
--- a date in eight digits, if its year is from 0 to 9999
+-- a date as year, month and day, in eight digits if its year is from 0 to 9999: 19971224
 abbrev pub basic_date_text : ℤ → List ℕ
 basic_date_text n = (four_digits (year_of n) ++ two_digits (month_of n)) ++ two_digits (day_of n)
 
--- COUNT or UNTIL
+-- COUNT or UNTIL, or no part
 abbrev pub end_parts : End → List (List ℕ)
 end_parts Never = []
 end_parts (Count n) = (codes "COUNT=" ++ decimal n) ∷ []
 end_parts (Until n) = (codes "UNTIL=" ++ basic_date_text n) ∷ []
 
--- the lists
+-- the BY parts that the rule has, in this order
 abbrev pub list_parts : Rule → List (List ℕ)
 list_parts r =
     part_unless (lacks_months r) (codes "BYMONTH=") (list_text (items r.months Number false 12 1))

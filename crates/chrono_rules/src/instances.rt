@@ -4,7 +4,7 @@ ghost use Rattle.chrono_datetime.specs.Days.{IsDate};
 ghost use Rattle.chrono_datetime.specs.Recurrence.{count_between, dates_before};
 ghost use Rattle.chrono_datetime.specs.PassedOver.{NoneAfter, PassedBetween};
 ghost use Rattle.chrono_rules.specs.ByParts.{date_passes};
-ghost use Rattle.chrono_sets.specs.Numbers.{has};
+ghost use Rattle.chrono_sets.specs.FiniteSets.{has};
 ghost use Rattle.chrono_rules.specs.Instances.{in_positions, is_counted, is_instance, is_member};
 ghost use Rattle.chrono_rules.specs.Periods.{period_end, period_first};
 

@@ -5,15 +5,15 @@
 ghost use Rattle.std.specs.Prelude.{◌≡◌, ◌&&◌, true, false, None, Some, Result, Ok, Err, [], ◌∷◌, neg_ℤ, pos, codes};
 ghost use Rattle.chrono_text.specs.Lists.{list_text};
 ghost use Rattle.chrono_datetime.specs.declared.Weekday.TheVariants.{Mon, Sun};
-ghost use Rattle.chrono_sets.specs.Numbers.{is_empty, numbers};
+ghost use Rattle.chrono_sets.specs.FiniteSets.{is_empty, numbers};
 ghost use Rattle.chrono_rules.specs.InstanceLists.{instances_from};
 ghost use Rattle.chrono_rules.specs.InstanceMoments.{instance_moments, is_instance_at};
 ghost use Rattle.chrono_rules.specs.Instances.{is_instance};
 ghost use Rattle.chrono_rules.specs.KnownRules.{at_midnight, at_one, by_month_days, by_months, by_positions, by_week_days, by_week_years, by_weekdays, by_weeks, by_year_days, daily, daily_until, every_days, fortnightly, each_weekday, greatest_numbers, last_days, monday_or_first_friday, nth_weekday, nth_weekday_from_end, tenths};
 ghost use Rattle.chrono_rules.specs.KnownTexts.{both_sundays, days_of_the_year, election_day, every_other_day, every_other_week, first_and_last, first_friday, june_and_july, last_monday_but_one, last_workday_but_one, monday_of_week_20, third_to_last, until_christmas};
-ghost use Rattle.chrono_rules.specs.NumberLists.{ends_of, month_list_of, year_ends_of};
+ghost use Rattle.chrono_rules.specs.NumberLists.{signed_list_of, month_list_of, signed_year_list_of};
 ghost use Rattle.chrono_rules.specs.RecurrenceSets.{is_in_recurrence, recurrence_from};
-ghost use Rattle.chrono_rules.specs.RuleErrors.{IsChecked};
+ghost use Rattle.chrono_rules.specs.RuleErrors.{IsRuleRead};
 ghost use Rattle.chrono_rules.specs.RuleParts.{plain};
 ghost use Rattle.chrono_rules.specs.RuleTexts.{IsRuleText, rule_body};
 ghost use Rattle.chrono_rules.specs.WritableRules.{IsWritableRule, is_from_one_to};
@@ -247,6 +247,7 @@ pub fn known_moments()
 ///
 /// It is every tenth day from 2 September 1997, plus the two days after the start.
 /// The second of these and the second instance are exceptions.
+/// COUNT counts the excluded instance too. So the fifth instance, 12 October, is the last.
 pub fn known_recurrence()
     ensures instance { is_in_recurrence tenths (pos 729269) ≡ true }
     ensures date { is_in_recurrence tenths (pos 729270) ≡ true }
@@ -254,6 +255,8 @@ pub fn known_recurrence()
     ensures neither { is_in_recurrence tenths (pos 729272) ≡ false }
     ensures instance_excepted { is_in_recurrence tenths (pos 729279) ≡ false }
     ensures next { is_in_recurrence tenths (pos 729289) ≡ true }
+    ensures last { is_in_recurrence tenths (pos 729309) ≡ true }
+    ensures no_sixth { is_in_recurrence tenths (pos 729319) ≡ false }
 {}
 
 /// What texts of RFC 5545 say (3.8.5.3), with UNTIL as a date.
@@ -297,12 +300,12 @@ pub fn known_texts_of_no_rule()
 ///
 /// The errors are a part of a user, a value that cannot be read, and a part that needs another.
 pub fn known_answers()
-    ensures rule { (result : Result Rule RuleError) → IsChecked (codes "RRULE:FREQ=DAILY;INTERVAL=2;") result → result ≡ Ok every_other_day }
-    ensures unknown { (result : Result Rule RuleError) → IsChecked (codes "RRULE:X-A=1") result
+    ensures rule { (result : Result Rule RuleError) → IsRuleRead (codes "RRULE:FREQ=DAILY;INTERVAL=2;") result → result ≡ Ok every_other_day }
+    ensures unknown { (result : Result Rule RuleError) → IsRuleRead (codes "RRULE:X-A=1") result
         → result ≡ Err (record { part = None; byte = 6; fault = Extension }) }
-    ensures unread { (result : Result Rule RuleError) → IsChecked (codes "RRULE:FREQ=DAILY;WKST=X") result
+    ensures unread { (result : Result Rule RuleError) → IsRuleRead (codes "RRULE:FREQ=DAILY;WKST=X") result
         → result ≡ Err (record { part = Some Wkst; byte = 22; fault = NotAWeekday }) }
-    ensures unfit { (result : Result Rule RuleError) → IsChecked (codes "RRULE:FREQ=YEARLY;BYSETPOS=1") result
+    ensures unfit { (result : Result Rule RuleError) → IsRuleRead (codes "RRULE:FREQ=YEARLY;BYSETPOS=1") result
         → result ≡ Err (record { part = Some BySetPos; byte = 18; fault = Alone }) }
 {}
 
@@ -338,9 +341,9 @@ pub fn written_numbers_are_read(front: NumberSet, back: NumberSet)
     ensures months { is_from_one_to 12 front ≡ true → is_empty front ≡ false
         → month_list_of (list_text (items front Number false 12 1)) ≡ Some front }
     ensures month_days { is_from_one_to 31 front ≡ true → is_from_one_to 31 back ≡ true → (is_empty front && is_empty back) ≡ false
-        → ends_of 2 31 (list_text (both_items front back 31)) ≡ Some (record { front = front; back = back }) }
+        → signed_list_of 2 31 (list_text (both_items front back 31)) ≡ Some (record { front = front; back = back }) }
     ensures weeks { is_from_one_to 53 front ≡ true → is_from_one_to 53 back ≡ true → (is_empty front && is_empty back) ≡ false
-        → ends_of 2 53 (list_text (both_items front back 53)) ≡ Some (record { front = front; back = back }) }
+        → signed_list_of 2 53 (list_text (both_items front back 53)) ≡ Some (record { front = front; back = back }) }
 {}
 
 /// The text of a list of days of the year, or of positions, is read back as its numbers.
@@ -348,7 +351,7 @@ pub fn written_numbers_are_read(front: NumberSet, back: NumberSet)
 /// It has one number at least, from the front or from the end, and none that the list cannot have.
 pub fn written_year_days_are_read(front: &PlaceSet, back: &PlaceSet)
     ensures { is_from_one_to 366 front.now ≡ true → is_from_one_to 366 back.now ≡ true → (is_empty front.now && is_empty back.now) ≡ false
-        → year_ends_of (list_text (both_items front.now back.now 366)) ≡ Some (record { front = front.now; back = back.now }) }
+        → signed_year_list_of (list_text (both_items front.now back.now 366)) ≡ Some (record { front = front.now; back = back.now }) }
 {}
 
 /// The text that is written for a rule is a text of it. So `read_rule` returns the rule again.

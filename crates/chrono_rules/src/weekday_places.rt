@@ -1,6 +1,6 @@
 //! `WeekdayPlaces`: the weekdays that BYDAY lists.
 ghost use Rattle.std.specs.Prelude.{◌≡◌, ◌<◌, ◌&&◌, slice_index_or};
-ghost use Rattle.chrono_sets.specs.Numbers.{are_empty, is_empty, no_numbers};
+ghost use Rattle.chrono_sets.specs.FiniteSets.{are_empty, is_empty, no_numbers};
 ghost use Rattle.chrono_rules.specs.RuleParts.{no_weekdays};
 
 use chrono_sets::{NumberSet, are_empty};

@@ -6,17 +6,17 @@ use Rattle.std.proofs.lemmas.Nat.{shr-shr, leading_top, and_le_r, one_shl, pow_b
 use Rattle.std.proofs.lemmas.Nat.Bits.{bit_at-lt, bit_at-suc, bit_at-zero, bit_at_above, bit_at_and, bit_at_or, bit_at_lowest, bit_at_ones, bit_at_mask_above, bit_at_mask_below, bit_at_mask_inside, bit_at_cat_high, bit_at_cat_low, bit_at-trailing_zeros}
 use Rattle.std.specs.Prelude.{bit_and, bit_or, nat_le, nat_lt}
 use Rattle.std.specs.Int.{bit_at, w64, trailing_zeros, leading_zeros, reverse_bits_onto}
-use Rattle.chrono_sets.specs.Numbers.{Numbers, has}
+use Rattle.chrono_sets.specs.FiniteSets.{FiniteSet, has}
 
 -- whether a digit is 1
 abbrev is_one : ℕ → Bool
 is_one b = b == 1
 
-pub has_not : (s : Numbers) (k : ℕ) → bit_at s.code k ≡ 0 → has s k ≡ false
+pub has_not : (s : FiniteSet) (k : ℕ) → bit_at s.code k ≡ 0 → has s k ≡ false
 unfolding has
 has_not s k none = ap is_one none
 
-pub has_one : (s : Numbers) (k : ℕ) → bit_at s.code k ≡ 1 → has s k ≡ true
+pub has_one : (s : FiniteSet) (k : ℕ) → bit_at s.code k ≡ 1 → has s k ≡ true
 unfolding has
 has_one s k one = ap is_one one
 
@@ -30,17 +30,17 @@ bit_at-from n k j le =
     ap (bit_at n) at ∙ sym (bit_at-shifted n k (j - k))
 
 -- no digit from a place on is 1
-pub none_from : (s : Numbers) (from j : ℕ) → s.code / 2 ^ from ≡ 0 → from ≤ j → has s j ≡ false
+pub none_from : (s : FiniteSet) (from j : ℕ) → s.code / 2 ^ from ≡ 0 → from ≤ j → has s j ≡ false
 none_from s from j empty le =
     has_not s j (bit_at-from s.code from j le ∙ ap (λ n. bit_at n (j - from)) empty ∙ bit_at-zero (j - from))
 
 -- the lowest digit from a place on that is 1
-pub first_from : (s : Numbers) (from : ℕ) → 0 < s.code / 2 ^ from → s.code / 2 ^ from < 2 ^ 64 → has s (from + trailing_zeros w64 (s.code / 2 ^ from)) ≡ true
+pub first_from : (s : FiniteSet) (from : ℕ) → 0 < s.code / 2 ^ from → s.code / 2 ^ from < 2 ^ 64 → has s (from + trailing_zeros w64 (s.code / 2 ^ from)) ≡ true
 first_from s from some fits =
     let rest = s.code / 2 ^ from in
     has_one s (from + trailing_zeros w64 rest) (sym (bit_at-shifted s.code from (trailing_zeros w64 rest)) ∙ (bit_at-trailing_zeros w64 rest some fits).1)
 
-pub none_before_first : (s : Numbers) (from j : ℕ) → 0 < s.code / 2 ^ from → s.code / 2 ^ from < 2 ^ 64 → from ≤ j → j < from + trailing_zeros w64 (s.code / 2 ^ from) → has s j ≡ false
+pub none_before_first : (s : FiniteSet) (from j : ℕ) → 0 < s.code / 2 ^ from → s.code / 2 ^ from < 2 ^ 64 → from ≤ j → j < from + trailing_zeros w64 (s.code / 2 ^ from) → has s j ≡ false
 none_before_first s from j some fits low high =
     has_not s j (bit_at-from s.code from j low ∙ (bit_at-trailing_zeros w64 (s.code / 2 ^ from) some fits).2 (j - from) (omega arith))
 
@@ -57,7 +57,7 @@ below_fits : (n end : ℕ) → below n end < 2 ^ end
 below_fits n end = omega (arith, and_le_r n (2 ^ end - 1), pow_pos end)
 
 -- no digit below a place is 1
-pub none_below : (s : Numbers) (end j : ℕ) → below s.code end ≡ 0 → j < end → has s j ≡ false
+pub none_below : (s : FiniteSet) (end j : ℕ) → below s.code end ≡ 0 → j < end → has s j ≡ false
 none_below s end j empty lt =
     has_not s j (sym (bit_at-below s.code end j lt) ∙ ap (λ n. bit_at n j) empty ∙ bit_at-zero j)
 
@@ -79,7 +79,7 @@ top_digit n j low high =
     let quotient : n / 2 ^ j ≡ 1 = quotient_one n (2 ^ j) low (rw (pow-double j) at high) in
     ap (λ q. q % 2) quotient
 
-pub last_below : (s : Numbers) (end rest : ℕ) → end < 64 → rest ≡ below s.code end → (rest ≡ 0 → ⊥) → (has s (63 - leading_zeros w64 rest) ≡ true) × (63 - leading_zeros w64 rest < end) × ((j : ℕ) → 63 - leading_zeros w64 rest < j → j < end → has s j ≡ false)
+pub last_below : (s : FiniteSet) (end rest : ℕ) → end < 64 → rest ≡ below s.code end → (rest ≡ 0 → ⊥) → (has s (63 - leading_zeros w64 rest) ≡ true) × (63 - leading_zeros w64 rest < end) × ((j : ℕ) → 63 - leading_zeros w64 rest < j → j < end → has s j ≡ false)
 last_below s end rest lt is some =
     let fits : rest < 2 ^ end = omega (arith, is, below_fits s.code end) in
     let top = leading_top 64 rest (omega (arith, some)) (omega (arith, fits, pow_below end 64 lt)) in
@@ -106,7 +106,7 @@ unfolding repeated
 seven w = omega arith
 
 -- seven weeks in a row, from a day of the first on
-pub has-weeks : (s t : Numbers) (before k : ℕ) → before < 7 → k + before < 49 → t.code ≡ bit_and s.code 127 * 4_432_676_798_593 / 2 ^ before → has t k ≡ has s ((k + before) % 7)
+pub has-weeks : (s t : FiniteSet) (before k : ℕ) → before < 7 → k + before < 49 → t.code ≡ bit_and s.code 127 * 4_432_676_798_593 / 2 ^ before → has t k ≡ has s ((k + before) % 7)
 unfolding has
 has-weeks s t before k start end made =
     let week = bit_and s.code 127 in
@@ -120,7 +120,7 @@ has-weeks s t before k start end made =
     ap is_one digit
 
 -- past the seven weeks
-pub has-past_weeks : (n : ℕ) (t : Numbers) (before k : ℕ) → 49 ≤ k + before → t.code ≡ bit_and n 127 * 4_432_676_798_593 / 2 ^ before → has t k ≡ false
+pub has-past_weeks : (n : ℕ) (t : FiniteSet) (before k : ℕ) → 49 ≤ k + before → t.code ≡ bit_and n 127 * 4_432_676_798_593 / 2 ^ before → has t k ≡ false
 has-past_weeks n t before k past made =
     let weeks = bit_and n 127 * 4_432_676_798_593 in
     let fits : weeks < 2 ^ 49 = omega (arith, below_fits n 7) in
@@ -136,20 +136,20 @@ one_min a b x p q e = grind arith
 one_max : (a b x : ℕ) → a < 2 → b < 2 → x ≡ max a b → is_one x ≡ (is_one a || is_one b)
 one_max a b x p q e = grind arith
 
-pub has-and : (s t u : Numbers) (k : ℕ) → u.code ≡ bit_and s.code t.code → has u k ≡ (has s k && has t k)
+pub has-and : (s t u : FiniteSet) (k : ℕ) → u.code ≡ bit_and s.code t.code → has u k ≡ (has s k && has t k)
 unfolding has
 has-and s t u k made = one_min (bit_at s.code k) (bit_at t.code k) (bit_at u.code k) (bit_at-lt s.code k) (bit_at-lt t.code k) (ap (λ n. bit_at n k) made ∙ bit_at_and s.code t.code k)
 
-pub has-or : (s t u : Numbers) (k : ℕ) → u.code ≡ bit_or s.code t.code → has u k ≡ (has s k || has t k)
+pub has-or : (s t u : FiniteSet) (k : ℕ) → u.code ≡ bit_or s.code t.code → has u k ≡ (has s k || has t k)
 unfolding has
 has-or s t u k made = one_max (bit_at s.code k) (bit_at t.code k) (bit_at u.code k) (bit_at-lt s.code k) (bit_at-lt t.code k) (ap (λ n. bit_at n k) made ∙ bit_at_or s.code t.code k)
 
-pub has-none : (s : Numbers) (k : ℕ) → (s.code == 0) ≡ true → has s k ≡ false
+pub has-none : (s : FiniteSet) (k : ℕ) → (s.code == 0) ≡ true → has s k ≡ false
 has-none s k empty = has_not s k (ap (λ n. bit_at n k) (eqb-true s.code 0 empty) ∙ bit_at-zero k)
 
 -- ---- sets moved, mirrored and cut
 
-pub has-lowered : (s t : Numbers) (by k : ℕ) → t.code ≡ s.code / 2 ^ by → has t k ≡ has s (k + by)
+pub has-lowered : (s t : FiniteSet) (by k : ℕ) → t.code ≡ s.code / 2 ^ by → has t k ≡ has s (k + by)
 unfolding has
 has-lowered s t by k made =
     let place : by + k ≡ k + by = omega arith in
@@ -161,7 +161,7 @@ bit_at-wrapped n k lt =
     let whole : n / 2 ^ 64 * 2 ^ 64 + n % 2 ^ 64 ≡ n = omega arith in
     sym (bit_at_cat_low (n / 2 ^ 64) 64 (n % 2 ^ 64) k lt) ∙ ap (λ x. bit_at x k) whole
 
-pub has-raised : (s t : Numbers) (by k : ℕ) → k < 64 → t.code ≡ s.code * 2 ^ by % 2 ^ 64 → has t k ≡ (nat_le by k && has s (k - by))
+pub has-raised : (s t : FiniteSet) (by k : ℕ) → k < 64 → t.code ≡ s.code * 2 ^ by % 2 ^ 64 → has t k ≡ (nat_le by k && has s (k - by))
 unfolding has
 has-raised s t by k lt made =
     let digit : bit_at t.code k ≡ bit_at (s.code * 2 ^ by) k = ap (λ n. bit_at n k) made ∙ bit_at-wrapped (s.code * 2 ^ by) k lt in
@@ -196,14 +196,14 @@ bit_at-turned (suc k) n a i lt = elim (cases_lt i k) [
       ∙ bit_at_lowest (a * 2 + n % 2) ∙ lowest ∙ sym (bit_at_lowest n) ∙ ap (bit_at n) place
 ]
 
-pub has-mirrored : (s t : Numbers) (last k : ℕ) → last < 64 → k ≤ last → t.code ≡ reverse_bits_onto 64 s.code 0 / 2 ^ (63 - last) → has t k ≡ has s (last - k)
+pub has-mirrored : (s t : FiniteSet) (last k : ℕ) → last < 64 → k ≤ last → t.code ≡ reverse_bits_onto 64 s.code 0 / 2 ^ (63 - last) → has t k ≡ has s (last - k)
 unfolding has
 has-mirrored s t last k lt le made =
     let place : 64 - 1 - (63 - last + k) ≡ last - k = omega (arith, lt, le) in
     ap is_one (ap (λ n. bit_at n k) made ∙ bit_at-shifted (reverse_bits_onto 64 s.code 0) (63 - last) k
     ∙ bit_at-turned 64 s.code 0 (63 - last + k) (omega (arith, lt, le)) ∙ ap (bit_at s.code) place)
 
-pub has-past_mirror : (t : Numbers) (n last k : ℕ) → last < 64 → last < k → n < 2 ^ 64 → t.code ≡ n / 2 ^ (63 - last) → has t k ≡ false
+pub has-past_mirror : (t : FiniteSet) (n last k : ℕ) → last < 64 → last < k → n < 2 ^ 64 → t.code ≡ n / 2 ^ (63 - last) → has t k ≡ false
 has-past_mirror t n last k lt past fits made =
     has_not t k (ap (λ x. bit_at x k) made ∙ bit_at-shifted n (63 - last) k ∙ bit_at_above n 64 (63 - last + k) fits (omega (arith, lt, past)))
 
@@ -217,14 +217,14 @@ is_one-between from end k = elim (cases_lt k from) [
   ]
 ]
 
-pub has-between : (s t : Numbers) (from end k : ℕ) → t.code ≡ bit_and s.code (2 ^ end - 2 ^ from) → has t k ≡ (has s k && (nat_le from k && nat_lt k end))
+pub has-between : (s t : FiniteSet) (from end k : ℕ) → t.code ≡ bit_and s.code (2 ^ end - 2 ^ from) → has t k ≡ (has s k && (nat_le from k && nat_lt k end))
 unfolding has
 has-between s t from end k made =
     let mask = 2 ^ end - 2 ^ from in
     one_min (bit_at s.code k) (bit_at mask k) (bit_at t.code k) (bit_at-lt s.code k) (bit_at-lt mask k) (ap (λ n. bit_at n k) made ∙ bit_at_and s.code mask k)
     ∙ ap (λ b. is_one (bit_at s.code k) && b) (is_one-between from end k)
 
-pub has-range : (t : Numbers) (from end k : ℕ) → t.code ≡ 2 ^ end - 2 ^ from → has t k ≡ (nat_le from k && nat_lt k end)
+pub has-range : (t : FiniteSet) (from end k : ℕ) → t.code ≡ 2 ^ end - 2 ^ from → has t k ≡ (nat_le from k && nat_lt k end)
 unfolding has
 has-range t from end k made = ap (λ n. is_one (bit_at n k)) made ∙ is_one-between from end k
 

@@ -5,7 +5,7 @@ use Rattle.std.proofs.lemmas.Nat.{leading_length, leading_top, pow_pos}
 use Rattle.std.proofs.lemmas.Nat.Bits.{bit_at-trailing_zeros, bit_at-zero, bit_at_above, bit_at_cat_high, bit_at_cat_low}
 use Rattle.std.specs.Int.{bit_at, leading_zeros, trailing_zeros, w64}
 use lib.Count.{count_leading_zeros, count_trailing_zeros}
-use Rattle.chrono_sets.specs.Numbers.{Numbers, has}
+use Rattle.chrono_sets.specs.FiniteSets.{FiniteSet, has}
 use Rattle.chrono_sets.proofs.Digits.{bit_at-shifted, bit_at-wrapped, has_not, has_one, top_digit}
 
 -- ---- upwards
@@ -31,10 +31,10 @@ one-up n k fits lt =
     let some : 0 < n / 2 ^ k = omega (arith, none_left (n / 2 ^ k) lt) in
     sym (bit_at-shifted n k (trailing_zeros w64 (n / 2 ^ k))) ∙ (bit_at-trailing_zeros w64 (n / 2 ^ k) some fits).1
 
-pub gap-up : (s : Numbers) (k j : ℕ) → s.code / 2 ^ k < 2 ^ 64 → j < trailing_zeros w64 (s.code / 2 ^ k) → has s (k + j) ≡ false
+pub gap-up : (s : FiniteSet) (k j : ℕ) → s.code / 2 ^ k < 2 ^ 64 → j < trailing_zeros w64 (s.code / 2 ^ k) → has s (k + j) ≡ false
 gap-up s k j fits lt = has_not s (k + j) (zero-up s.code k j fits lt)
 
-pub member-up : (s : Numbers) (k : ℕ) → s.code / 2 ^ k < 2 ^ 64 → trailing_zeros w64 (s.code / 2 ^ k) < 64 → has s (k + trailing_zeros w64 (s.code / 2 ^ k)) ≡ true
+pub member-up : (s : FiniteSet) (k : ℕ) → s.code / 2 ^ k < 2 ^ 64 → trailing_zeros w64 (s.code / 2 ^ k) < 64 → has s (k + trailing_zeros w64 (s.code / 2 ^ k)) ≡ true
 member-up s k fits lt = has_one s (k + trailing_zeros w64 (s.code / 2 ^ k)) (one-up s.code k fits lt)
 
 -- ---- downwards
@@ -83,10 +83,10 @@ one-down n from fits lt =
     let place : from - gone ≡ top.0 - (63 - from) = omega (arith, at, inside, fits) in
     (inside, ap (bit_at n) place ∙ sym (bit_at-moved n (63 - from) top.0 (omega (arith, at, inside, fits)) (omega (arith, at))) ∙ digit)
 
-pub gap-down : (s : Numbers) (from j : ℕ) → from < 64 → j ≤ from → j < leading_zeros w64 (s.code * 2 ^ (63 - from) % 2 ^ 64) → has s (from - j) ≡ false
+pub gap-down : (s : FiniteSet) (from j : ℕ) → from < 64 → j ≤ from → j < leading_zeros w64 (s.code * 2 ^ (63 - from) % 2 ^ 64) → has s (from - j) ≡ false
 gap-down s from j fits le lt = has_not s (from - j) (zero-down s.code from j fits le lt)
 
-pub member-down : (s : Numbers) (from : ℕ) → from < 64 → leading_zeros w64 (s.code * 2 ^ (63 - from) % 2 ^ 64) < 64 → (leading_zeros w64 (s.code * 2 ^ (63 - from) % 2 ^ 64) ≤ from) × (has s (from - leading_zeros w64 (s.code * 2 ^ (63 - from) % 2 ^ 64)) ≡ true)
+pub member-down : (s : FiniteSet) (from : ℕ) → from < 64 → leading_zeros w64 (s.code * 2 ^ (63 - from) % 2 ^ 64) < 64 → (leading_zeros w64 (s.code * 2 ^ (63 - from) % 2 ^ 64) ≤ from) × (has s (from - leading_zeros w64 (s.code * 2 ^ (63 - from) % 2 ^ 64)) ≡ true)
 member-down s from fits lt =
     let it = one-down s.code from fits lt in
     (it.0, has_one s (from - leading_zeros w64 (s.code * 2 ^ (63 - from) % 2 ^ 64)) it.1)

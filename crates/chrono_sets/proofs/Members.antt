@@ -7,7 +7,7 @@ use Rattle.std.proofs.Math.Nat.{pow-suc, pow-le-pow_right}
 use Rattle.std.proofs.lemmas.Bool.{and_parts, cases_eq, cases_lt, eq-eqb, eqb-false, eqb-true, false≢true, le-leb, ltb-true, lt-leb, lt-ltb, ne_eqb}
 use Rattle.std.proofs.lemmas.Nat.{leading_top, pow_pos}
 use Rattle.std.proofs.lemmas.Nat.Bits.{bit_at-lt, bit_at-zero, bit_at_above, bit_at_cat_low, bit_at_or, bit_at-pow_same, bit_at-pow_other, same_from_bits}
-use Rattle.chrono_sets.specs.Numbers.{Numbers, are_below, has, no_numbers, is_empty, lies_within, with_all, with_number, numbers}
+use Rattle.chrono_sets.specs.FiniteSets.{FiniteSet, are_below, has, no_numbers, is_empty, lies_within, with_all, with_number, numbers}
 use Rattle.std.proofs.Math.Bool.{or-false, or-true, or_assoc}
 use Rattle.chrono_sets.proofs.Digits.{has_one, top_digit}
 
@@ -15,16 +15,16 @@ use Rattle.chrono_sets.proofs.Digits.{has_one, top_digit}
 same_digit : (a b : ℕ) → a < 2 → b < 2 → (a == 1) ≡ (b == 1) → a ≡ b
 same_digit a b p q e = grind arith
 
-same_digits : (s t : Numbers) (k : ℕ) → has s k ≡ has t k → bit_at s.code k ≡ bit_at t.code k
+same_digits : (s t : FiniteSet) (k : ℕ) → has s k ≡ has t k → bit_at s.code k ≡ bit_at t.code k
 unfolding has
 same_digits s t k e = same_digit (bit_at s.code k) (bit_at t.code k) (bit_at-lt s.code k) (bit_at-lt t.code k) e
 
-pub same_code : (s t : Numbers) → s.code ≡ t.code → s ≡ t
+pub same_code : (s t : FiniteSet) → s.code ≡ t.code → s ≡ t
 same_code s t same =
-    let made : ℕ → Numbers = λ n. record { code = n } in
+    let made : ℕ → FiniteSet = λ n. record { code = n } in
     ap made same
 
-pub same_set : (s t : Numbers) → ((k : ℕ) → has s k ≡ has t k) → s ≡ t
+pub same_set : (s t : FiniteSet) → ((k : ℕ) → has s k ≡ has t k) → s ≡ t
 same_set s t same = same_code s t (same_from_bits s.code t.code (λ k. same_digits s t k (same k)))
 
 -- the members of the empty set
@@ -42,14 +42,14 @@ one_power n k = elim (cases_eq k n) [
   | inr other ↦ ap (λ b. b == 1) (bit_at-pow_other n k other) ∙ sym (ne_eqb k n other)
 ]
 
-pub has-with_number : (s : Numbers) (n k : ℕ) → has (with_number s n) k ≡ (has s k || (k == n))
+pub has-with_number : (s : FiniteSet) (n k : ℕ) → has (with_number s n) k ≡ (has s k || (k == n))
 unfolding has
 has-with_number s n k =
     one_max (bit_at s.code k) (bit_at (2 ^ n) k) (bit_at (bit_or s.code (2 ^ n)) k) (bit_at-lt s.code k) (bit_at-lt (2 ^ n) k) (bit_at_or s.code (2 ^ n) k)
     ∙ ap (λ b. (bit_at s.code k == 1) || b) (one_power n k)
 
 -- the members of the set of a list
-has-with_all : (s : Numbers) (ns : List ℕ) (k : ℕ) → has (with_all s ns) k ≡ (has s k || list_any (λ n. k == n) ns)
+has-with_all : (s : FiniteSet) (ns : List ℕ) (k : ℕ) → has (with_all s ns) k ≡ (has s k || list_any (λ n. k == n) ns)
 has-with_all s [] k = sym (or-false (has s k))
 has-with_all s (n ∷ ns) k =
     has-with_all (with_number s n) ns k ∙ ap (λ b. b || list_any (λ n. k == n) ns) (has-with_number s n k) ∙ or_assoc (has s k) (k == n) (list_any (λ n. k == n) ns)
@@ -59,16 +59,16 @@ has-numbers ns k = has-with_all no_numbers ns k ∙ ap (λ b. b || list_any (λ 
 
 -- ---- sets with no member
 
-pub is_empty-is : (s : Numbers) → is_empty s ≡ true → s ≡ no_numbers
+pub is_empty-is : (s : FiniteSet) → is_empty s ≡ true → s ≡ no_numbers
 is_empty-is s empty = same_code s no_numbers (eqb-true s.code 0 empty)
 
-pub has-none : (s : Numbers) (k : ℕ) → is_empty s ≡ true → has s k ≡ false
+pub has-none : (s : FiniteSet) (k : ℕ) → is_empty s ≡ true → has s k ≡ false
 has-none s k empty = ap (λ s. has s k) (is_empty-is s empty) ∙ has-no_numbers k
 
-pub is_empty-none : (s : Numbers) → ((k : ℕ) → has s k ≡ false) → is_empty s ≡ true
+pub is_empty-none : (s : FiniteSet) → ((k : ℕ) → has s k ≡ false) → is_empty s ≡ true
 is_empty-none s none = ap is_empty (same_set s no_numbers (λ k. none k ∙ sym (has-no_numbers k)))
 
-pub is_empty-some : (s : Numbers) (k : ℕ) → has s k ≡ true → is_empty s ≡ false
+pub is_empty-some : (s : FiniteSet) (k : ℕ) → has s k ≡ true → is_empty s ≡ false
 is_empty-some s k is = elim (cases_eq s.code 0) [
   | inl none ↦ absurd (false≢true (sym (has-none s k (eq-eqb s.code 0 none)) ∙ is))
   | inr some ↦ ne_eqb s.code 0 some
@@ -79,22 +79,22 @@ lt_pow : (n : ℕ) → n < 2 ^ n
 lt_pow zero = omega arith
 lt_pow (suc n) = omega (arith, lt_pow n, pow-suc 2 n)
 
-pub top_member : (s : Numbers) → 0 < s.code → (k : ℕ) × (has s k ≡ true) × (s.code < 2 ^ suc k)
+pub top_member : (s : FiniteSet) → 0 < s.code → (k : ℕ) × (has s k ≡ true) × (s.code < 2 ^ suc k)
 top_member s some =
     let top = leading_top s.code s.code some (lt_pow s.code) in
     (top.0, has_one s top.0 (top_digit s.code top.0 top.2 top.3), top.3)
 
-pub some_member : (s : Numbers) → is_empty s ≡ false → (k : ℕ) × (has s k ≡ true)
+pub some_member : (s : FiniteSet) → is_empty s ≡ false → (k : ℕ) × (has s k ≡ true)
 some_member s some =
     let top = top_member s (omega (arith, eqb-false _ _ some)) in
     (top.0, top.1)
 
-not_member : (s : Numbers) (k : ℕ) → bit_at s.code k ≡ 0 → has s k ≡ true → ⊥
+not_member : (s : FiniteSet) (k : ℕ) → bit_at s.code k ≡ 0 → has s k ≡ true → ⊥
 unfolding has
 not_member s k none is = false≢true (sym (ap (λ b. b == 1) none) ∙ is)
 
 -- the digits that are left over by a power
-no_low_digit : (s : Numbers) (first k : ℕ) → (has s k ≡ true → first ≤ k) → bit_at (s.code % 2 ^ first) k ≡ 0
+no_low_digit : (s : FiniteSet) (first k : ℕ) → (has s k ≡ true → first ≤ k) → bit_at (s.code % 2 ^ first) k ≡ 0
 unfolding has
 no_low_digit s first k all = elim (cases_lt k first) [
   | inl low ↦
@@ -111,7 +111,7 @@ past_end : (n end k : ℕ) → 2 ^ end ≤ n → n < 2 ^ suc k → k < end → �
 past_end n end k over fits lt = omega (arith, over, fits, pow-le-pow_right {n = 2} (omega arith) {i = suc k} {j = end} (omega (arith, lt)))
 
 -- whether a set is empty that has the members of two
-pub is_empty-either : (s t u : Numbers) → ((k : ℕ) → has u k ≡ (has s k || has t k)) → is_empty u ≡ (is_empty s && is_empty t)
+pub is_empty-either : (s t u : FiniteSet) → ((k : ℕ) → has u k ≡ (has s k || has t k)) → is_empty u ≡ (is_empty s && is_empty t)
 is_empty-either s t u either = elim (cases_eq s.code 0) [
   | inl no_s ↦ elim (cases_eq t.code 0) [
     | inl no_t ↦
@@ -139,7 +139,7 @@ neither false false r = refl
 -- ---- sets within bounds
 
 -- a set below a power has no member from there on, and one that is not has one
-pub lies_within-has : (first end : ℕ) (s : Numbers) → lies_within first end s ≡ true → (k : ℕ) → has s k ≡ true → (first ≤ k) × (k < end)
+pub lies_within-has : (first end : ℕ) (s : FiniteSet) → lies_within first end s ≡ true → (k : ℕ) → has s k ≡ true → (first ≤ k) × (k < end)
 lies_within-has first end s within k is =
     let parts = and_parts (s.code % 2 ^ first == 0) (nat_lt s.code (2 ^ end)) within in
     let none : s.code % 2 ^ first ≡ 0 = eqb-true (s.code % 2 ^ first) 0 parts.0 in
@@ -154,7 +154,7 @@ lies_within-has first end s within k is =
     ] in
     (low, high)
 
-pub lies_within-all : (first end : ℕ) (s : Numbers) → ((k : ℕ) → has s k ≡ true → (first ≤ k) × (k < end)) → lies_within first end s ≡ true
+pub lies_within-all : (first end : ℕ) (s : FiniteSet) → ((k : ℕ) → has s k ≡ true → (first ≤ k) × (k < end)) → lies_within first end s ≡ true
 lies_within-all first end s all =
     let low : (s.code % 2 ^ first == 0) ≡ true = eq-eqb (s.code % 2 ^ first) 0 (same_from_bits (s.code % 2 ^ first) 0 (λ k. no_low_digit s first k (λ is. (all k is).0) ∙ sym (bit_at-zero k))) in
     let high : nat_lt s.code (2 ^ end) ≡ true = elim (cases_lt s.code (2 ^ end)) [

@@ -6,7 +6,7 @@ use Rattle.std.proofs.lemmas.Bool.{cases_eq, cases_lt, eq-eqb, ne_eqb}
 use Rattle.std.proofs.lemmas.Nat.{leading_top, one_shl, or_lt}
 use Rattle.std.proofs.lemmas.Nat.Bits.{bit_at-zero, bit_at_above, bit_at_cat_high, bit_at_cat_low, bit_at_or, bit_at-pow_same, bit_at-pow_other, same_from_bits}
 use Rattle.std.proofs.Common.{get_or-set_other, get_or-set_same, length-set}
-use Rattle.chrono_sets.specs.Numbers.{Numbers, has, with_number}
+use Rattle.chrono_sets.specs.FiniteSets.{FiniteSet, has, with_number}
 use Rattle.chrono_sets.specs.Words.{AreSixWords, joined}
 use lib.Pointwise.{pointwise}
 use Rattle.chrono_sets.proofs.Digits.{has-or, top_digit}
@@ -140,9 +140,9 @@ and_assoc false b c = refl
 
 pub none-next : (all w rest : ℕ) → ((bit_or all w == 0) && (rest == 0)) ≡ ((all == 0) && (rest * 2 ^ 64 + w == 0))
 none-next all w rest =
-    let left : Numbers = record { code = all } in
-    let right : Numbers = record { code = w } in
-    let both : Numbers = record { code = bit_or all w } in
+    let left : FiniteSet = record { code = all } in
+    let right : FiniteSet = record { code = w } in
+    let both : FiniteSet = record { code = bit_or all w } in
     ap (λ b. b && (rest == 0)) (is_empty-either left right both (λ k. has-or left right both k refl))
     ∙ and_assoc (all == 0) (w == 0) (rest == 0) ∙ ap (λ b. (all == 0) && b) (sym (joined_zero w rest))
 

@@ -1,3 +1,3 @@
-pub mod Numbers
+pub mod FiniteSets
 pub mod Steps
 pub mod Words

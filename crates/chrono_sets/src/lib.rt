@@ -6,7 +6,7 @@
 //! ```
 //!
 //! [`NumberSet`] has numbers from 0 to 63, and [`PlaceSet`] numbers from 0 to 383. Contracts see both as a finite set of
-//! numbers, by the words of `specs/Numbers.antt`: `has set k`, `no_numbers`, `numbers`, `with_number`, `is_empty`.
+//! numbers, by the words of `specs/FiniteSets.antt`: `has set k`, `no_numbers`, `numbers`, `with_number`, `is_empty`.
 #![tactic(auto)]
 
 mod moved;

@@ -1,6 +1,6 @@
 //! Sets whose members are moved, mirrored, repeated or cut.
 ghost use Rattle.std.specs.Prelude.{◌≡◌, ◌<◌, ◌≤◌, ◌+◌, ◌-◌, ◌%◌, nat_le, nat_lt, ◌&&◌, ℕ, false};
-ghost use Rattle.chrono_sets.specs.Numbers.{has};
+ghost use Rattle.chrono_sets.specs.FiniteSets.{has};
 
 use crate::number_set::NumberSet;
 

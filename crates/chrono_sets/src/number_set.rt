@@ -1,6 +1,6 @@
 //! `NumberSet`: a set of numbers from 0 to 63.
 ghost use Rattle.std.specs.Prelude.{◌≡◌, ◌<◌, ◌≤◌, ◌-◌, ◌==◌, nat_le, nat_lt, ◌&&◌, ◌||◌, ℕ, true, IsTrue};
-ghost use Rattle.chrono_sets.specs.Numbers.{are_below, are_empty, has, is_empty, no_numbers, numbers, with_number};
+ghost use Rattle.chrono_sets.specs.FiniteSets.{are_below, are_empty, has, is_empty, no_numbers, numbers, with_number};
 ghost use Rattle.chrono_sets.specs.Steps.{is_by_steps};
 
 use std::marker::Model;
@@ -18,9 +18,9 @@ pub struct NumberSet {
 }
 
 impl Model for NumberSet {
-    ghost use Rattle.chrono_sets.specs.Numbers.{Numbers};
+    ghost use Rattle.chrono_sets.specs.FiniteSets.{FiniteSet};
 
-    ghost Value = { Numbers };
+    ghost Value = { FiniteSet };
 
     ghost view = { λ s. record { code = s.digits } };
 
@@ -117,7 +117,7 @@ impl NumberSet {
     /// NumberSet::by_steps(9, 14, 2).contains(11) // true
     /// ```
     #[inline]
-    #[tactic(auto, using(std::proofs::lemmas::Nat::Bits::shr_and_one), unfolding(crate::specs::Numbers::has))]
+    #[tactic(auto, using(std::proofs::lemmas::Nat::Bits::shr_and_one), unfolding(crate::specs::FiniteSets::has))]
     pub fn contains(self, number: u32) -> bool
         requires { number < 64 }
         ensures { result ≡ has self number }

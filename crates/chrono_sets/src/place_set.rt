@@ -3,7 +3,7 @@ ghost use Rattle.std.specs.Prelude.{◌≡◌, ◌↔◌, ◌==◌, ◌<◌, ◌
 ghost use Rattle.std.specs.Cmp.Rules.{comparing};
 ghost use Rattle.std.specs.Ordering.{on};
 ghost use Rattle.std.proofs.Common.{rules};
-ghost use Rattle.chrono_sets.specs.Numbers.{code_of, has, is_empty, no_numbers, with_number};
+ghost use Rattle.chrono_sets.specs.FiniteSets.{code_of, has, is_empty, no_numbers, with_number};
 
 use std::marker::Model;
 
@@ -19,12 +19,12 @@ pub struct PlaceSet {
 }
 
 impl Model for PlaceSet {
-    ghost use Rattle.chrono_sets.specs.Numbers.{Numbers};
+    ghost use Rattle.chrono_sets.specs.FiniteSets.{FiniteSet};
     ghost use Rattle.chrono_sets.specs.Words.{AreSixWords, joined, words_of, words_of-six};
     ghost use Rattle.std.specs.Prelude.{ℕ, List};
     ghost use Rattle.std.proofs.Common.{ap};
 
-    ghost Value = { Numbers };
+    ghost Value = { FiniteSet };
 
     ghost view = { λ s. record { code = joined s.words } };
 

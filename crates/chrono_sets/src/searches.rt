@@ -1,6 +1,6 @@
 //! The first and the last member of a set in a range, and how many numbers in a row it leaves out.
 ghost use Rattle.std.specs.Prelude.{◌≡◌, ◌<◌, ◌≤◌, ◌+◌, ◌-◌, ℕ, true, false, IsTrue, IfSome, IfNone};
-ghost use Rattle.chrono_sets.specs.Numbers.{has};
+ghost use Rattle.chrono_sets.specs.FiniteSets.{has};
 
 use crate::number_set::NumberSet;
 

@@ -1,13 +1,13 @@
 -- What is written of ISO 8601 is a text by its grammar: where its date and its time end.
-use Rattle.std.proofs.Common.{◌≡◌, ◌==◌, inl, inr, Bool, true, false, not, cond, ◌||◌, if◌then◌else◌, nat_le, ℕ, suc, ◌+◌, ◌-◌, ◌/◌, ◌%◌, ◌<◌, ◌≤◌, ℤ, pos, negsuc, ◌-ℤ◌, unsigned_abs, List, [], ◌∷◌, ◌++◌, codes, length, take, drop, refl, sym, ap, subst, ◌∙◌, append_assoc, length-append, ne_eqb, arith}
-use Rattle.std.proofs.lemmas.Bool.{lt-ltb}
+use Rattle.std.proofs.Common.{◌≡◌, ◌==◌, inl, inr, Bool, true, false, not, ◌||◌, if◌then◌else◌, nat_le, ℕ, suc, ◌+◌, ◌-◌, ◌/◌, ◌%◌, ◌<◌, ◌≤◌, ℤ, pos, negsuc, ◌-ℤ◌, unsigned_abs, List, [], ◌∷◌, ◌++◌, codes, length, take, drop, refl, sym, ap, subst, ◌∙◌, append_assoc, length-append, ne_eqb, arith}
+use Rattle.std.proofs.lemmas.Bool.{and_from, lt-ltb}
 use Rattle.std.proofs.lemmas.Bool.Decides.{nat_tests}
 use Rattle.std.proofs.Math.Seq.{drop-append_seam, take-append_seam}
 use Rattle.std.proofs.lemmas.Fmt.{decimal_is_IsNumeral}
 use Rattle.std.proofs.lemmas.Str.Parse.{digit_from_value}
 use Rattle.std.specs.Fmt.{decimal}
 use Rattle.std.specs.Int.{is_negative}
-use Rattle.std.specs.List.{AllByRecursion, position_or_len, prefix_len}
+use Rattle.std.specs.List.{AllByRecursion, list_all, position_or_len, prefix_len}
 use Rattle.std.specs.Str.Parse.{AllDigits}
 use Rattle.chrono_calendar.proofs.MonthMoveLaws.{year_of-range}
 use Rattle.chrono_calendar.proofs.MonthOrder.{month_of-range}
@@ -24,6 +24,7 @@ use Rattle.chrono_instant.specs.OffsetText.{offset_size_text, offset_text}
 use Rattle.chrono_reading.specs.DateTexts.{IsDateText}
 use Rattle.chrono_reading.specs.TimeTexts.{IsTimeText}
 use Rattle.chrono_text.proofs.DigitLemmas.{by_size, to_digits}
+use Rattle.chrono_text.proofs.ListLemmas.{prefix_ends}
 use Rattle.chrono_text.specs.Lists.{stands_in}
 use Rattle.chrono_text.specs.Text.{all_digits, calendar_text, subsecond_text, two_digits, year_digits, year_text}
 use Rattle.chrono_zoned.specs.ZonedText.{zoned_debug_text}
@@ -37,24 +38,13 @@ use Rattle.chrono_stamps.specs.Iso8601.{IsExtendedText, IsIsoOffset, behind_date
 
 -- ---- where bytes of a kind end
 
-abbrev Passes : (ℕ → Bool) → List ℕ → Type 0
-Passes p text = AllByRecursion (λ c. p c ≡ true) text
-
-suc_of : (n : ℕ) → 1 + n ≡ suc n
-suc_of n = omega arith
-
-stops : (p : ℕ → Bool) (w rest : List ℕ) → Passes p w → prefix_len p rest ≡ 0 → prefix_len p (w ++ rest) ≡ length w
-stops p [] rest all none = none
-stops p (c ∷ w) rest all none =
-    ap (λ b. cond b (1 + prefix_len p (w ++ rest)) 0) all.0 ∙ ap (λ n. 1 + n) (stops p w rest all.1 none) ∙ suc_of (length w)
-
 -- bytes from one to the colon: signs, points and digits stand before it
 abbrev IsWithin : ℕ → List ℕ → Type 0
 IsWithin low text = AllByRecursion (λ c. (low ≤ c) × (c ≤ 58)) text
 
-passes : (p : ℕ → Bool) (low : ℕ) (text : List ℕ) → ((c : ℕ) → low ≤ c → c ≤ 58 → p c ≡ true) → IsWithin low text → Passes p text
-passes p low [] f all = tt
-passes p low (c ∷ text) f all = (f c all.0.0 all.0.1, passes p low text f all.1)
+passes : (p : ℕ → Bool) (low : ℕ) (text : List ℕ) → ((c : ℕ) → low ≤ c → c ≤ 58 → p c ≡ true) → IsWithin low text → list_all p text ≡ true
+passes p low [] f all = refl
+passes p low (c ∷ text) f all = and_from (p c) (list_all p text) (f c all.0.0 all.0.1) (passes p low text f all.1)
 
 within-append : (low : ℕ) (xs ys : List ℕ) → IsWithin low xs → IsWithin low ys → IsWithin low (xs ++ ys)
 within-append low [] ys first second = second
@@ -106,7 +96,7 @@ no_t : (c : ℕ) → 43 ≤ c → c ≤ 58 → not (c == 84) ≡ true
 no_t c low high = ap not (ne_eqb c 84 (λ e. omega (arith, e, high)))
 
 pub date_ends : (n : ℤ) (rest : List ℕ) → IsDate n → position_or_len (λ c. c == 84) (date_text n ++ 84 ∷ rest) ≡ length (date_text n)
-date_ends n rest is = stops (λ c. not (c == 84)) (date_text n) (84 ∷ rest) (passes (λ c. not (c == 84)) 43 (date_text n) no_t (within-date_text n is)) refl
+date_ends n rest is = prefix_ends (λ c. not (c == 84)) (date_text n) (84 ∷ rest) (passes (λ c. not (c == 84)) 43 (date_text n) no_t (within-date_text n is)) refl
 
 -- ---- times
 
@@ -139,7 +129,7 @@ signed_stops false size = refl
 
 time_ends : (t : TimeOfDay) (x : ℤ) → IsTime t → t.fraction < 2_000_000_000 → prefix_len is_of_time (time_text t ++ offset_text x) ≡ length (time_text t)
 time_ends t x is small =
-    stops is_of_time (time_text t) (offset_text x) (passes is_of_time 46 (time_text t) no_offset (within-time_text t is small)) (signed_stops (is_negative x) (offset_size_text (unsigned_abs x)))
+    prefix_ends is_of_time (time_text t) (offset_text x) (passes is_of_time 46 (time_text t) no_offset (within-time_text t is small)) (signed_stops (is_negative x) (offset_size_text (unsigned_abs x)))
 
 -- a time of two colons is shown as it is
 shown_subsecond : (a b c : Bool) (n : ℕ)

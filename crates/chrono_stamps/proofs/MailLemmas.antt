@@ -16,7 +16,7 @@ use Rattle.chrono_datetime.specs.declared.Month.{Month}
 use Rattle.chrono_datetime.specs.declared.Month.TheVariants.{January, February, March, April, May, June, July, August, September, October, November, December}
 use Rattle.chrono_instant.specs.Offsets.{IsOffset}
 use Rattle.chrono_stamps.proofs.YearLemmas.{four_places}
-use Rattle.chrono_stamps.specs.WrittenStamps.{mail_date_text, month_letters, zone_text}
+use Rattle.chrono_stamps.specs.WrittenStamps.{mail_date_text, mail_zone_text, month_letters}
 
 month_ascii : (m : Month) → IsAscii (take 3 (month_name m))
 month_ascii January = IsAscii-three 74 97 110 (omega arith) (omega arith) (omega arith)
@@ -42,7 +42,7 @@ mail_date_ascii n low high =
     let before_year = IsAscii-append _ (32 ∷ []) with_month (IsAscii-one 32 (omega arith)) in
     IsAscii-append _ (all_digits 4 (unsigned_abs (year_of n))) before_year (IsAscii-all_digits 4 (unsigned_abs (year_of n)) (four_places (year_of n) low high).0)
 
-pub zone_ascii : (x : ℤ) → IsOffset x → IsAscii (zone_text x)
+pub zone_ascii : (x : ℤ) → IsOffset x → IsAscii (mail_zone_text x)
 zone_ascii x small =
     let sign = IsAscii-if (is_negative x) (45 ∷ []) (43 ∷ []) (λ _. IsAscii-one 45 (omega arith)) (λ _. IsAscii-one 43 (omega arith)) in
     let hours = IsAscii-append _ (two_digits (unsigned_abs x / 3_600)) sign (IsAscii-two_digits (unsigned_abs x / 3_600) (omega (arith, small))) in

@@ -1,16 +1,16 @@
 -- What is written of RFC 2822 is a text by its grammar.
-use Rattle.std.proofs.Common.{◌≡◌, ◌==◌, ◌||◌, inl, inr, Bool, true, false, if◌then◌else◌, cond, nat_lt, nat_le, ℕ, suc, ◌+◌, ◌/◌, ◌%◌, ◌<◌, ◌≤◌, ℤ, pos, ◌≤ℤ◌, unsigned_abs, List, [], ◌∷◌, ◌++◌, codes, length, take, drop, Option, None, Some, refl, sym, ap, subst, ◌∙◌, append_assoc, eq-eqb, ne_eqb, arith}
+use Rattle.std.proofs.Common.{◌≡◌, ◌==◌, ◌||◌, inl, inr, Bool, true, false, if◌then◌else◌, nat_lt, nat_le, ℕ, ◌+◌, ◌/◌, ◌%◌, ◌<◌, ◌≤◌, ℤ, pos, ◌≤ℤ◌, unsigned_abs, List, [], ◌∷◌, ◌++◌, codes, length, take, drop, Option, None, Some, refl, sym, ap, subst, ◌∙◌, append_assoc, eq-eqb, ne_eqb, arith}
 use Rattle.std.proofs.Math.Seq.{drop-append_seam, take-append_seam}
-use Rattle.std.proofs.lemmas.Bool.{cases_eq}
+use Rattle.std.proofs.lemmas.Bool.{and_from, and_parts, cases_eq}
 use Rattle.std.proofs.lemmas.Bool.Decides.{nat_tests}
 use Rattle.std.proofs.lemmas.Int.{ints}
 use Rattle.std.proofs.lemmas.List.{append-nil}
-use Rattle.std.proofs.lemmas.List.Folds.{prefix_len-append}
 use Rattle.std.specs.Int.{is_negative}
-use Rattle.std.specs.List.{prefix_len}
+use Rattle.std.specs.List.{list_all, prefix_len}
 use Rattle.std.specs.Option.{option_and_then}
 use Rattle.std.specs.Str.{all_ascii_digits}
 use Rattle.chrono_text.proofs.DigitLemmas.{by_size}
+use Rattle.chrono_text.proofs.ListLemmas.{prefix_ends}
 use Rattle.chrono_text.proofs.NaturalLemmas.{number_text-read, some_if}
 use Rattle.chrono_text.specs.Numbers.{count_of, natural_of, up_to}
 use Rattle.chrono_text.specs.Text.{all_digits, number_text, two_digits}
@@ -31,9 +31,10 @@ use Rattle.chrono_instant.specs.Offsets.{IsOffset}
 use Rattle.chrono_instant.specs.OffsetText.{offset_size_text, offset_text}
 use Rattle.chrono_reading.proofs.TimeTextLemmas.{clock_digits}
 use Rattle.chrono_reading.specs.TimeTexts.{IsTimeText}
-use Rattle.chrono_stamps.specs.MailWords.{AreMailWords, IsColonWord, IsCommaWord, IsSpacedWord, IsMailWord, behind_gap, gap_end, gap_step, is_of_word, is_white}
+use Rattle.chrono_text.specs.Lists.{is_of_word}
+use Rattle.chrono_stamps.specs.MailWords.{AreMailWords, IsColonWord, IsCommaWord, IsSpacedWord, IsMailWord, behind_gap, gap_end, gap_step, is_white}
 use Rattle.chrono_stamps.specs.Rfc2822.{IsMailDate, IsRfc2822Text, IsZoneDigits}
-use Rattle.chrono_stamps.specs.WrittenStamps.{HasStampText, moment_cut, month_letters, rfc2822_text, whole_second, zone_text}
+use Rattle.chrono_stamps.specs.WrittenStamps.{HasStampText, mail_zone_text, moment_cut, month_letters, rfc2822_text, whole_second}
 use Rattle.chrono_stamps.specs.declared.seconds_format.SecondsFormat.TheVariants.{Secs}
 use Rattle.chrono_stamps.proofs.MailWordLemmas.{gap_end-none, gap_end-nothing}
 use Rattle.chrono_stamps.proofs.OffsetLemmas.{seconds_none, six_bytes}
@@ -45,22 +46,14 @@ use Rattle.chrono_stamps.proofs.WrittenLemmas.{leap_clock, plain_clock, time_wri
 -- a byte at least, and each of a word
 pub record IsPlain (w : List ℕ) : Type 0 where
   pub some : 0 < length w
-  pub whole : prefix_len is_of_word w ≡ length w
-
-by_byte : (b : Bool) (n m : ℕ) → cond b (1 + n) 0 ≡ suc m → (b ≡ true) × (n ≡ m)
-by_byte true n m e = (refl, omega (arith, e))
-by_byte false n m e = absurd (omega (arith, e))
+  pub whole : list_all is_of_word w ≡ true
 
 first_byte : (c : ℕ) (w : List ℕ) → IsPlain (c ∷ w) → is_of_word c ≡ true
-first_byte c w plain = (by_byte (is_of_word c) (prefix_len is_of_word w) (length w) plain.whole).0
-
-joined : (n l m : ℕ) → n ≡ l → m ≡ 0 → cond (n == l) (l + m) n ≡ l
-joined n l m e f = ap (λ b. cond b (l + m) n) (eq-eqb n l e) ∙ omega (arith, f)
+first_byte c w plain = (and_parts (is_of_word c) (list_all is_of_word w) plain.whole).0
 
 pub word_in_front : (w r : List ℕ) → IsPlain w → prefix_len is_of_word r ≡ 0 → IsMailWord (w ++ r) w r
 word_in_front w r plain stop =
-    let long : prefix_len is_of_word (w ++ r) ≡ length w =
-    prefix_len-append is_of_word w r ∙ joined (prefix_len is_of_word w) (length w) (prefix_len is_of_word r) plain.whole stop in
+    let long = prefix_ends is_of_word w r plain.whole stop in
     record {
       some = plain.some;
       front = ap (λ k. take k (w ++ r)) long ∙ take-append_seam w r;
@@ -145,11 +138,11 @@ laid_out weekday day month year hour minute second zone p q r s t u v w = record
 
 -- ---- the words that are written
 
+more : (c : ℕ) (w : List ℕ) → is_of_word c ≡ true → list_all is_of_word w ≡ true → list_all is_of_word (c ∷ w) ≡ true
+more c w is all = and_from (is_of_word c) (list_all is_of_word w) is all
+
 pub digit_byte : (c : ℕ) → 48 ≤ c → c ≤ 57 → is_of_word c ≡ true
 digit_byte c low high = grind (arith, nat_tests)
-
-pub more : (c : ℕ) (w : List ℕ) → is_of_word c ≡ true → prefix_len is_of_word w ≡ length w → prefix_len is_of_word (c ∷ w) ≡ length (c ∷ w)
-more c w is all = ap (λ b. cond b (1 + prefix_len is_of_word w) 0) is ∙ omega (arith, all)
 
 pub plain_two : (n : ℕ) → n < 100 → IsPlain (two_digits n)
 plain_two n small = record {
@@ -209,7 +202,7 @@ by_sign b h m p q =
       | false ↦ record { some = omega arith; whole = more 43 (a ∷ d ∷ minutes) refl all }
     ]
 
-pub plain_zone : (x : ℤ) → IsOffset x → IsPlain (zone_text x)
+pub plain_zone : (x : ℤ) → IsOffset x → IsPlain (mail_zone_text x)
 plain_zone x small = by_sign (is_negative x) (unsigned_abs x / 3_600) (unsigned_abs x / 60 % 60) (omega (arith, small)) (omega arith)
 
 -- ---- what they mean
@@ -276,12 +269,12 @@ zone_long : (b : Bool) (h m : ℕ) → length ((if b then codes "-" else codes "
 zone_long true h m = refl
 zone_long false h m = refl
 
-pub zone_read : (x : ℤ) → IsOffset x → unsigned_abs x % 60 ≡ 0 → IsZoneDigits (zone_text x) x
+pub zone_read : (x : ℤ) → IsOffset x → unsigned_abs x % 60 ≡ 0 → IsZoneDigits (mail_zone_text x) x
 zone_read x small whole =
     let n = unsigned_abs x in
     let size : offset_size_text n ≡ two_digits (n / 3_600) ++ 58 ∷ two_digits (n / 60 % 60) =
     ap (λ (l : List ℕ). two_digits (n / 3_600) ++ codes ":" ++ two_digits (n / 60 % 60) ++ l) (seconds_none (n % 60) whole) in
-    let written : offset_text x ≡ take 3 (zone_text x) ++ codes ":" ++ drop 3 (zone_text x) =
+    let written : offset_text x ≡ take 3 (mail_zone_text x) ++ codes ":" ++ drop 3 (mail_zone_text x) =
     zone_by (is_negative x) (offset_size_text n) (two_digits (n / 60 % 60)) (48 + n / 3_600 / 10) (48 + n / 3_600 % 10) size in
     record {
       long = zone_long (is_negative x) (n / 3_600) (n / 60 % 60);
@@ -333,10 +326,10 @@ mail_written m x is small has =
     let shown = second_of_text t is.time has.leap in
     let hour : hour_of t < 100 = omega (arith, is.time.second) in
     let weekday_word = weekday_text (weekday_of n) in
-    let words = laid_out weekday_word (number_text (day_of n)) (month_letters (month_of n)) (all_digits 4 (unsigned_abs (year_of n))) (two_digits (hour_of t)) (two_digits (minute_of t)) (two_digits shown.0) (zone_text x)
+    let words = laid_out weekday_word (number_text (day_of n)) (month_letters (month_of n)) (all_digits 4 (unsigned_abs (year_of n))) (two_digits (hour_of t)) (two_digits (minute_of t)) (two_digits shown.0) (mail_zone_text x)
     (plain_weekday (weekday_of n)) (plain_day (day_of n) day) (plain_month (month_from_number (month_of n))) (plain_four (unsigned_abs (year_of n)) year.0) (plain_two (hour_of t) hour) (plain_two (minute_of t) (omega arith)) (plain_two shown.0 shown.1) (plain_zone x small) in
-    let grouped = regroup weekday_word (number_text (day_of n)) (month_letters (month_of n)) (all_digits 4 (unsigned_abs (year_of n))) (time_text (whole_second t)) (zone_text x) in
-    let whole = grouped ∙ ap (λ (l : List ℕ). weekday_word ++ 44 ∷ (32 ∷ (number_text (day_of n) ++ 32 ∷ (month_letters (month_of n) ++ 32 ∷ (all_digits 4 (unsigned_abs (year_of n)) ++ 32 ∷ (l ++ 32 ∷ (zone_text x ++ []))))))) shown.2 in
+    let grouped = regroup weekday_word (number_text (day_of n)) (month_letters (month_of n)) (all_digits 4 (unsigned_abs (year_of n))) (time_text (whole_second t)) (mail_zone_text x) in
+    let whole = grouped ∙ ap (λ (l : List ℕ). weekday_word ++ 44 ∷ (32 ∷ (number_text (day_of n) ++ 32 ∷ (month_letters (month_of n) ++ 32 ∷ (all_digits 4 (unsigned_abs (year_of n)) ++ 32 ∷ (l ++ 32 ∷ (mail_zone_text x ++ []))))))) shown.2 in
     record {
       weekday = weekday_word;
       day = number_text (day_of n);
@@ -345,9 +338,9 @@ mail_written m x is small has =
       hour = two_digits (hour_of t);
       minute = two_digits (minute_of t);
       second = two_digits shown.0;
-      zone = zone_text x;
+      zone = mail_zone_text x;
       end = [];
-      words = subst (λ (l : List ℕ). AreMailWords l weekday_word (number_text (day_of n)) (month_letters (month_of n)) (all_digits 4 (unsigned_abs (year_of n))) (two_digits (hour_of t)) (two_digits (minute_of t)) (two_digits shown.0) (zone_text x) []) (sym whole) words;
+      words = subst (λ (l : List ℕ). AreMailWords l weekday_word (number_text (day_of n)) (month_letters (month_of n)) (all_digits 4 (unsigned_abs (year_of n))) (two_digits (hour_of t)) (two_digits (minute_of t)) (two_digits shown.0) (mail_zone_text x) []) (sym whole) words;
       ends = (ap (λ (p : ℕ × List ℕ). p.0) (gap_end-nothing 0 false), ap (λ (p : ℕ × List ℕ). p.1) (gap_end-nothing 0 false));
       weekday_is = inr (weekday_read (weekday_of n));
       date_is = date_read n is.date has.year.0 has.year.1;

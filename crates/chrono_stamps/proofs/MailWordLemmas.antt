@@ -1,7 +1,8 @@
 -- White space and comments, byte by byte, and the words of a text, one after another.
 use Rattle.std.proofs.Common.{◌≡◌, inl, inr, ◌==◌, Bool, true, false, if◌then◌else◌, cond, ℕ, ◌+◌, ◌-◌, ◌<◌, ◌≤◌, List, [], ◌∷◌, length, take, Option, None, Some, refl, sym, ap, subst, ◌∙◌, arith}
 use Rattle.std.specs.List.{prefix_len}
-use Rattle.chrono_stamps.specs.MailWords.{IsColonWord, IsCommaWord, IsOptional, IsSpacedWord, IsMailWord, behind_gap, gap_end, gap_step, is_of_word, is_white}
+use Rattle.chrono_text.specs.Lists.{is_of_word}
+use Rattle.chrono_stamps.specs.MailWords.{IsColonWord, IsCommaWord, IsOptional, IsSpacedWord, IsMailWord, behind_gap, gap_end, gap_step, is_white}
 
 -- ---- a byte
 

@@ -4,9 +4,9 @@ use Rattle.std.specs.Prelude.{get_or}
 use Rattle.std.specs.Int.{is_negative}
 use Rattle.std.proofs.lemmas.Bool.{cases_eq}
 use Rattle.chrono_text.proofs.TextLemmas.{unsigned_abs-zero}
-use Rattle.chrono_text.specs.Text.{two_digits}
+use Rattle.chrono_text.specs.Text.{colon_seconds_text, two_digits}
 use Rattle.chrono_instant.specs.Offsets.{IsOffset}
-use Rattle.chrono_instant.specs.OffsetText.{offset_seconds_text, offset_size_text, offset_text}
+use Rattle.chrono_instant.specs.OffsetText.{offset_size_text, offset_text}
 use Rattle.chrono_stamps.specs.Rfc3339.{IsNumericOffset, IsOffsetText, IsSixBytes, IsZulu}
 use Rattle.chrono_stamps.proofs.CutLemmas.{last_is}
 
@@ -19,13 +19,13 @@ pub signed_text : (x : ℤ) → (sign : ℕ) × (offset_text x ≡ sign ∷ offs
 signed_text x = by_sign (is_negative x) (offset_size_text (unsigned_abs x))
 
 -- the seconds stand in three bytes, or in none
-pub seconds_none : (k : ℕ) → k ≡ 0 → offset_seconds_text k ≡ []
+pub seconds_none : (k : ℕ) → k ≡ 0 → colon_seconds_text k ≡ []
 seconds_none k e = rw e refl
 
-seconds_three : (k : ℕ) → k ≢ 0 → length (offset_seconds_text k) ≡ 3
-seconds_three k some = let is : offset_seconds_text k ≡ 58 ∷ two_digits k = grind arith in ap (λ (l : List ℕ). length l) is
+seconds_three : (k : ℕ) → k ≢ 0 → length (colon_seconds_text k) ≡ 3
+seconds_three k some = let is : colon_seconds_text k ≡ 58 ∷ two_digits k = grind arith in ap (λ (l : List ℕ). length l) is
 
-pub no_seconds : (n : ℕ) → length (offset_size_text n) ≡ 5 → offset_seconds_text (n % 60) ≡ []
+pub no_seconds : (n : ℕ) → length (offset_size_text n) ≡ 5 → colon_seconds_text (n % 60) ≡ []
 no_seconds n five = elim (cases_eq (n % 60) 0) [
   | inl none ↦ seconds_none (n % 60) none
   | inr some ↦ absurd (omega (arith, five, seconds_three (n % 60) some))

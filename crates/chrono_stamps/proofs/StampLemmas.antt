@@ -49,14 +49,3 @@ pub found : (m new : Moment) (x offset date : ℤ) (time : TimeOfDay) → new �
 found m new x offset date time made d t o =
     let same : new ≡ m = made ∙ ap (λ n. moment n time) d ∙ ap (λ u. moment m.date u) t in
     ap (λ (n : Moment). Some (n, offset)) same ∙ ap (λ (y : ℤ). Some (m, y)) o
-
-pub same_found : (m n : Moment) (x y : ℤ) → ◌≡◌ {A = Option (Moment × ℤ)} (Some (m, x)) (Some (n, y)) → (m ≡ n) × (x ≡ y)
-same_found m n x y e =
-    let pair = same_Some {A = Moment × ℤ} (m, x) (n, y) e in
-    (ap (λ (p : Moment × ℤ). p.0) pair, ap (λ (p : Moment × ℤ). p.1) pair)
-
--- an offset and how many bytes it takes
-pub same_end : (x y : ℤ) (n k : ℕ) → ◌≡◌ {A = Option (ℤ × ℕ)} (Some (x, n)) (Some (y, k)) → (x ≡ y) × (n ≡ k)
-same_end x y n k e =
-    let pair = same_Some {A = ℤ × ℕ} (x, n) (y, k) e in
-    (ap (λ (p : ℤ × ℕ). p.0) pair, ap (λ (p : ℤ × ℕ). p.1) pair)

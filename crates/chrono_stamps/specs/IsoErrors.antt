@@ -11,6 +11,7 @@ use Rattle.chrono_reading.specs.declared.error.ReadCause.{ReadCause}
 use Rattle.chrono_reading.specs.declared.error.ReadCause.TheVariants.{DateOutOfRange, HourAbove23, MinuteAbove59, NotThisForm}
 use Rattle.chrono_reading.specs.declared.error.ReadError.{ReadError}
 use Rattle.chrono_text.specs.Lists.{stands_in}
+use Rattle.chrono_text.specs.Numbers.{digits_of, natural_of}
 use Rattle.chrono_stamps.specs.Iso8601.{IsIsoDate, IsIsoOffset, IsIsoTime, behind_date, clock_shown, date_part, offset_part, time_part}
 use Rattle.chrono_stamps.specs.MailErrors.{error_in}
 use Rattle.chrono_stamps.specs.StampErrors.{later_by, two_written}
@@ -21,8 +22,8 @@ is_of_form NotThisForm = false
 is_of_form others = true
 
 -- of two errors by two forms: that of a form that the text has, or else the one at which the text goes on further
-unfoldable pub further : ReadError → ReadError → ReadError
-further one other =
+unfoldable pub further_error : ReadError → ReadError → ReadError
+further_error one other =
     if is_of_form one.cause then one
     else (if is_of_form other.cause then other
     else (if nat_lt one.byte other.byte then other else one))
@@ -35,7 +36,7 @@ pub record IsIsoDateError (text : List ℕ) (e : ReadError) : Type 0 where
   pub by_calendar : IsDateError text calendar
   pub by_ordinal : IsOrdinalDateError text ordinal
   pub by_week : IsWeekDateError text week
-  pub error : e ≡ further calendar (further ordinal week)
+  pub error : e ≡ further_error calendar (further_error ordinal week)
 
 -- the error of a text that is of no time
 abbrev pub IsIsoTimeError : List ℕ → ReadError → Type 0
@@ -85,15 +86,15 @@ IsExtendedError text e =
 
 -- known values: hour 24 alone, minute 60 and second 60 of an offset, a colon at its end, and something behind each kind
 iso_offset_error-hour : iso_offset_error (codes "+24") ≡ error_at HourAbove23 1
-unfolding iso_offset_error size_error fitting
+unfolding iso_offset_error size_error fitting digits_of natural_of
 iso_offset_error-hour = refl
 
 iso_offset_error-minute : iso_offset_error (codes "-23:60") ≡ error_at MinuteAbove59 4
-unfolding iso_offset_error size_error fitting
+unfolding iso_offset_error size_error fitting digits_of natural_of
 iso_offset_error-minute = refl
 
 iso_offset_error-second : iso_offset_error (codes "-23:59:60") ≡ error_at NotThisForm 7
-unfolding iso_offset_error size_error fitting
+unfolding iso_offset_error size_error fitting digits_of natural_of
 iso_offset_error-second = refl
 
 iso_offset_error-colon : iso_offset_error (codes "+05:") ≡ error_at NotThisForm 4

@@ -18,9 +18,9 @@ use Rattle.chrono_reading.specs.NameErrors.{in_common, month_error, more_of, wee
 use Rattle.chrono_reading.specs.declared.error.ReadCause.{ReadCause}
 use Rattle.chrono_reading.specs.declared.error.ReadCause.TheVariants.{DateOutOfRange, DayAbove, DayZero, HourAbove23, MinuteAbove59, NotThisForm, SecondAbove60, UnknownName, YearOutOfRange}
 use Rattle.chrono_reading.specs.declared.error.ReadError.{ReadError}
-use Rattle.chrono_text.specs.Lists.{part_place}
+use Rattle.chrono_text.specs.Lists.{is_of_word, part_place}
 use Rattle.chrono_text.specs.Numbers.{count_of, digits_of, natural_of, up_to}
-use Rattle.chrono_stamps.specs.MailWords.{behind_gap, gap_end, is_of_word}
+use Rattle.chrono_stamps.specs.MailWords.{behind_gap, gap_end}
 use Rattle.chrono_stamps.specs.Rfc2822.{hours_behind, year_meant}
 use Rattle.chrono_stamps.specs.StampErrors.{two_written}
 
@@ -80,8 +80,8 @@ names_day None n = true
 names_day (Some d) n = number_from_monday d == number_from_monday (weekday_of n)
 
 -- what is wrong with a word of two digits, of which the number may be so great
-unfoldable pub number_fault : ReadCause → ℕ → List ℕ → Option ReadError
-number_fault above most word =
+unfoldable pub two_digits_fault : ReadCause → ℕ → List ℕ → Option ReadError
+two_digits_fault above most word =
     let fit = fitting (codes "dd") word in
     if length word == 2
     then (if fit == 2
@@ -101,21 +101,21 @@ zone_digits_fault digits =
     else Some (error_at NotThisForm (fit + 1))
 
 -- the word is the name of a zone
-abbrev pub is_zone_name : List ℕ → Bool
-is_zone_name word = elim (hours_behind word) [ None ↦ false | Some hours ↦ true ]
+abbrev pub is_mail_zone_name : List ℕ → Bool
+is_mail_zone_name word = elim (hours_behind word) [ None ↦ false | Some hours ↦ true ]
 
 -- How many bytes of a word are as a zone's name begins: a name of one letter, one of two, or one of three, which ends in `T`.
 unfoldable pub fitting_one : ℕ → ℕ
-fitting_one a = if is_zone_name (a ∷ []) then 1 else 0
+fitting_one a = if is_mail_zone_name (a ∷ []) then 1 else 0
 
 unfoldable pub fitting_two : ℕ → ℕ → ℕ
-fitting_two a b = if is_zone_name (a ∷ b ∷ []) then 2 else (if is_zone_name (a ∷ b ∷ codes "T") then 2 else fitting_one a)
+fitting_two a b = if is_mail_zone_name (a ∷ b ∷ []) then 2 else (if is_mail_zone_name (a ∷ b ∷ codes "T") then 2 else fitting_one a)
 
 unfoldable pub fitting_zone : List ℕ → ℕ
 fitting_zone [] = 0
 fitting_zone (a ∷ []) = fitting_one a
 fitting_zone (a ∷ b ∷ []) = fitting_two a b
-fitting_zone (a ∷ b ∷ c ∷ more) = if is_zone_name (a ∷ b ∷ c ∷ []) then 3 else fitting_two a b
+fitting_zone (a ∷ b ∷ c ∷ more) = if is_mail_zone_name (a ∷ b ∷ c ∷ []) then 3 else fitting_two a b
 
 -- what is wrong with the word of a zone: with the digits behind its sign, or with its name
 unfoldable pub zone_fault : List ℕ → Option ReadError
@@ -123,7 +123,7 @@ zone_fault [] = Some (error_at UnknownName 0)
 zone_fault (first ∷ rest) =
     if first == byte "+" then zone_digits_fault rest
     else (if first == byte "-" then zone_digits_fault rest
-    else (if is_zone_name (first ∷ rest) then None else Some (error_at UnknownName (fitting_zone (first ∷ rest)))))
+    else (if is_mail_zone_name (first ∷ rest) then None else Some (error_at UnknownName (fitting_zone (first ∷ rest)))))
 
 -- ---- from left to right
 
@@ -142,20 +142,20 @@ error_from_zone text part = elim (zone_fault (front_word part)) [
 ]
 
 unfoldable pub error_from_second : List ℕ → List ℕ → ReadError
-error_from_second text part = elim (number_fault SecondAbove60 60 (front_word part)) [
+error_from_second text part = elim (two_digits_fault SecondAbove60 60 (front_word part)) [
   | None ↦ error_from_zone text (next_part part)
   | Some e ↦ error_in text part e
 ]
 
 -- behind the minute a colon and a second may stand
 unfoldable pub error_from_minute : List ℕ → List ℕ → ReadError
-error_from_minute text part = elim (number_fault MinuteAbove59 59 (front_word part)) [
+error_from_minute text part = elim (two_digits_fault MinuteAbove59 59 (front_word part)) [
   | None ↦ elim (behind_sign (byte ":") (next_part part)) [ None ↦ error_from_zone text (next_part part) | Some second ↦ error_from_second text second ]
   | Some e ↦ error_in text part e
 ]
 
 unfoldable pub error_from_hour : List ℕ → List ℕ → ReadError
-error_from_hour text part = elim (number_fault HourAbove23 23 (front_word part)) [
+error_from_hour text part = elim (two_digits_fault HourAbove23 23 (front_word part)) [
   | None ↦ elim (behind_sign (byte ":") (next_part part)) [ None ↦ error_at NotThisForm (part_place text (next_part part) 0) | Some minute ↦ error_from_minute text minute ]
   | Some e ↦ error_in text part e
 ]
@@ -213,21 +213,21 @@ unfolding year_of_word count_of natural_of
 year_of_word-above = refl
 
 -- minute 60, and a minute of one digit
-number_fault-sixty : number_fault MinuteAbove59 59 (codes "60") ≡ Some (error_at MinuteAbove59 0)
-unfolding number_fault fitting
-number_fault-sixty = refl
+two_digits_fault-sixty : two_digits_fault MinuteAbove59 59 (codes "60") ≡ Some (error_at MinuteAbove59 0)
+unfolding two_digits_fault fitting digits_of natural_of
+two_digits_fault-sixty = refl
 
-number_fault-one : number_fault MinuteAbove59 59 (codes "6") ≡ Some (error_at NotThisForm 1)
-unfolding number_fault fitting
-number_fault-one = refl
+two_digits_fault-one : two_digits_fault MinuteAbove59 59 (codes "6") ≡ Some (error_at NotThisForm 1)
+unfolding two_digits_fault fitting
+two_digits_fault-one = refl
 
 -- zones: hour 24, minute 60, a name with a wrong last letter, the letter that is none, and names that are
 zone_fault-hour : zone_fault (codes "+2400") ≡ Some (error_at HourAbove23 1)
-unfolding zone_fault zone_digits_fault fitting
+unfolding zone_fault zone_digits_fault fitting digits_of natural_of
 zone_fault-hour = refl
 
 zone_fault-minute : zone_fault (codes "-2360") ≡ Some (error_at MinuteAbove59 3)
-unfolding zone_fault zone_digits_fault fitting
+unfolding zone_fault zone_digits_fault fitting digits_of natural_of
 zone_fault-minute = refl
 
 zone_fault-letter : zone_fault (codes "GMX") ≡ Some (error_at UnknownName 2)

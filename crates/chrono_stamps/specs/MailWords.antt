@@ -1,8 +1,8 @@
 -- The words of RFC 2822: runs of letters, digits and signs, with white space and comments between them.
 use Rattle.std.specs.Prelude.{◌≡◌, ◌==◌, ◌⊎◌, ◌<◌, ℕ, ◌+◌, ◌-◌, Bool, ◌||◌, false, List, [], ◌∷◌, length, take, drop, codes, if◌then◌else◌, Option, Some, None, refl}
-use Rattle.std.specs.Char.{is_ascii_alphanumeric}
 use Rattle.std.specs.List.{prefix_len}
 use Rattle.std.specs.Str.{byte}
+use Rattle.chrono_text.specs.Lists.{is_of_word}
 
 -- white space: a space, a tab, and the two bytes that end a line, for lines are folded (2.2.3)
 abbrev pub is_white : ℕ → Bool
@@ -28,12 +28,8 @@ abbrev pub behind_gap : List ℕ → List ℕ
 behind_gap text = (gap_end 0 false text).1
 
 -- the text is white space and comments alone, each with its end
-abbrev pub IsGap : List ℕ → Type 0
-IsGap text = ((gap_end 0 false text).0 ≡ 0) × ((gap_end 0 false text).1 ≡ [])
-
--- a byte of a word
-abbrev pub is_of_word : ℕ → Bool
-is_of_word c = is_ascii_alphanumeric c || ((c == byte "+") || (c == byte "-"))
+abbrev pub IsMailGap : List ℕ → Type 0
+IsMailGap text = ((gap_end 0 false text).0 ≡ 0) × ((gap_end 0 false text).1 ≡ [])
 
 -- the text begins with a word, which is as long as can be, and goes on with the rest
 pub record IsMailWord (text word rest : List ℕ) : Type 0 where

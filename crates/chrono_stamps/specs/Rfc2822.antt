@@ -12,7 +12,7 @@ use Rattle.chrono_datetime.specs.Years.{IsYear}
 use Rattle.chrono_datetime.specs.declared.Month.{Month}
 use Rattle.chrono_instant.specs.Instants.{IsEpochSecond, epoch_second}
 use Rattle.chrono_reading.specs.TimeTexts.{IsTimeText}
-use Rattle.chrono_stamps.specs.MailWords.{AreMailWords, IsGap}
+use Rattle.chrono_stamps.specs.MailWords.{AreMailWords, IsMailGap}
 use Rattle.chrono_stamps.specs.Rfc3339.{IsSixBytes}
 use Rattle.chrono_text.specs.Numbers.{count_of, digits_of}
 
@@ -83,7 +83,7 @@ hours_behind name =
     else (if is_military name then Some 0 else None))))))))))
 
 -- the zone's name, of three letters at most
-pub record IsZoneName (word : List ℕ) (x : ℤ) : Type 0 where
+pub record IsMailZoneName (word : List ℕ) (x : ℤ) : Type 0 where
   pub hours : ℕ
   pub short : length word ≤ 3
   pub behind : hours_behind word ≡ Some hours
@@ -91,7 +91,7 @@ pub record IsZoneName (word : List ℕ) (x : ℤ) : Type 0 where
 
 -- zone = (( "+" / "-" ) 4DIGIT) / obs-zone
 abbrev pub IsMailZone : List ℕ → ℤ → Type 0
-IsMailZone word x = IsZoneDigits word x ⊎ IsZoneName word x
+IsMailZone word x = IsZoneDigits word x ⊎ IsMailZoneName word x
 
 -- a text of the date-time and the offset, at which UTC has a date
 pub record IsRfc2822Text (text : List ℕ) (m : Moment) (x : ℤ) : Type 0 where
@@ -105,7 +105,7 @@ pub record IsRfc2822Text (text : List ℕ) (m : Moment) (x : ℤ) : Type 0 where
   pub zone : List ℕ
   pub end : List ℕ
   pub words : AreMailWords text weekday day month year hour minute second zone end
-  pub ends : IsGap end
+  pub ends : IsMailGap end
   pub weekday_is : IsDayOfWeek weekday m.date
   pub date_is : IsMailDate day month year m.date
   pub time_is : IsMailTime hour minute second m.time

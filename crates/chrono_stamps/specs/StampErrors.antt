@@ -1,5 +1,5 @@
 -- Why a text is none of RFC 3339, and at which byte: what is wrong first, from left to right.
-use Rattle.std.specs.Prelude.{◌≡◌, ◌==◌, ◌⊎◌, ◌+◌, ◌-◌, ◌*◌, ℕ, ℤ, Bool, true, false, ◌||◌, List, [], ◌∷◌, length, take, drop, codes, if◌then◌else◌, nat_lt, refl}
+use Rattle.std.specs.Prelude.{◌≡◌, ◌==◌, ◌⊎◌, ◌+◌, ◌-◌, ℕ, ℤ, Bool, true, false, ◌||◌, List, [], ◌∷◌, length, take, drop, codes, if◌then◌else◌, nat_lt, unwrap_or, refl}
 use Rattle.std.specs.Char.{is_ascii_digit}
 use Rattle.std.specs.List.{prefix_len}
 use Rattle.std.specs.Str.{byte}
@@ -12,16 +12,17 @@ use Rattle.chrono_reading.specs.TimeTexts.{IsTimeText}
 use Rattle.chrono_reading.specs.declared.error.ReadCause.TheVariants.{HourAbove23, MinuteAbove59, NotThisForm}
 use Rattle.chrono_reading.specs.declared.error.ReadError.{ReadError}
 use Rattle.chrono_stamps.specs.Rfc3339.{IsStampSeparator}
+use Rattle.chrono_text.specs.Numbers.{digits_of, natural_of}
 
 -- the error so many bytes later
 abbrev pub later_by : ℕ → ReadError → ReadError
 later_by bytes e = error_at e.cause (e.byte + bytes)
 
--- the number that the first two digits write
+-- the number that the first two digits write, 0 where there are none
 abbrev pub two_written : List ℕ → ℕ
 two_written [] = 0
 two_written (tens ∷ []) = 0
-two_written (tens ∷ ones ∷ more) = 10 * (tens - byte "0") + (ones - byte "0")
+two_written (tens ∷ ones ∷ more) = unwrap_or (digits_of 2 (tens ∷ ones ∷ [])) 0
 
 -- what is wrong behind the sign of an offset: the form, or else the hour if it is above 23, or else the minute
 unfoldable pub minutes_error : List ℕ → ReadError
@@ -79,11 +80,11 @@ unfolding offset_error minutes_error fitting
 offset_error-short = refl
 
 offset_error-hour : offset_error (codes "-24:60") ≡ error_at HourAbove23 1
-unfolding offset_error minutes_error fitting
+unfolding offset_error minutes_error fitting digits_of natural_of
 offset_error-hour = refl
 
 offset_error-minute : offset_error (codes "+23:60") ≡ error_at MinuteAbove59 4
-unfolding offset_error minutes_error fitting
+unfolding offset_error minutes_error fitting digits_of natural_of
 offset_error-minute = refl
 
 offset_error-long : offset_error (codes "+23:000") ≡ error_at NotThisForm 6

@@ -60,16 +60,16 @@ mail_date_text n =
     weekday_text (weekday_of n) ++ codes ", " ++ number_text (day_of n) ++ codes " " ++ month_letters (month_of n) ++ codes " " ++ all_digits 4 (unsigned_abs (year_of n))
 
 -- zone = ("+" / "-") 4DIGIT: the hours and the minutes
-abbrev pub zone_text : ℤ → List ℕ
-zone_text x = (if is_negative x then codes "-" else codes "+") ++ two_digits (unsigned_abs x / 3_600) ++ two_digits (unsigned_abs x / 60 % 60)
+abbrev pub mail_zone_text : ℤ → List ℕ
+mail_zone_text x = (if is_negative x then codes "-" else codes "+") ++ two_digits (unsigned_abs x / 3_600) ++ two_digits (unsigned_abs x / 60 % 60)
 
 -- the text of RFC 2822 that is written
 abbrev pub rfc2822_text : Moment → ℤ → List ℕ
-rfc2822_text m x = mail_date_text m.date ++ codes " " ++ time_text (whole_second m.time) ++ codes " " ++ zone_text x
+rfc2822_text m x = mail_date_text m.date ++ codes " " ++ time_text (whole_second m.time) ++ codes " " ++ mail_zone_text x
 
 -- known values
 month_letters-nine : month_letters 9 ≡ codes "Sep"
 month_letters-nine = refl
 
-zone_text-west : zone_text (neg_ℤ (pos 12_600)) ≡ codes "-0330"
-zone_text-west = refl
+mail_zone_text-west : mail_zone_text (neg_ℤ (pos 12_600)) ≡ codes "-0330"
+mail_zone_text-west = refl

@@ -2,7 +2,7 @@
 ghost use Rattle.std.specs.Prelude.{◌≡◌, ◌≤◌, drop};
 ghost use Rattle.chrono_reading.specs.DateErrors.{error_at};
 ghost use Rattle.chrono_reading.specs.declared.error.ReadCause.TheVariants.{DateOutOfRange};
-ghost use Rattle.chrono_stamps.specs.IsoErrors.{IsErrorWithoutTime, further, is_of_form, iso_offset_error, size_error};
+ghost use Rattle.chrono_stamps.specs.IsoErrors.{IsErrorWithoutTime, further_error, is_of_form, iso_offset_error, size_error};
 
 use crate::iso8601_reader::iso_date;
 use crate::pieces::behind_bytes;
@@ -21,9 +21,9 @@ pub(crate) fn error_without_time(text: &[u8]) -> ReadError
 }
 
 // Of two errors by two forms: that of a form that the text has, or else the one at which the text goes on further.
-#[tactic(auto, unfolding(crate::specs::IsoErrors::further))]
-pub(crate) fn further(one: ReadError, other: ReadError) -> ReadError
-    ensures { result ≡ further one other }
+#[tactic(auto, unfolding(crate::specs::IsoErrors::further_error))]
+pub(crate) fn further_error(one: ReadError, other: ReadError) -> ReadError
+    ensures { result ≡ further_error one other }
 {
     if is_of_form(one.cause) {
         one

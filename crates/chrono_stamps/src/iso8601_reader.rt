@@ -9,7 +9,7 @@ ghost use Rattle.chrono_stamps.specs.Iso8601.{IsExtendedText, IsIsoDate, IsIsoOf
 ghost use Rattle.chrono_stamps.specs.IsoErrors.{IsExtendedError, IsIsoDateError, IsIsoTimeError};
 ghost use Rattle.chrono_stamps.specs.IsoForms.{IsIso8601Error, IsIso8601Text};
 
-use crate::iso8601_error::{error_without_time, further, iso_offset_error, out_of_range};
+use crate::iso8601_error::{error_without_time, further_error, iso_offset_error, out_of_range};
 use crate::iso8601_forms::{basic_byte, is_basic, with_separators};
 use crate::rfc2822_error::error_in;
 use crate::rfc2822_reader::stamp_at;
@@ -106,7 +106,7 @@ pub(crate) fn iso_date(text: &[u8]) -> Result<NaiveDate, ReadError>
         Ok(date) => return Ok(date),
         Err(error) => error,
     };
-    Err(further(calendar, further(ordinal, week)))
+    Err(further_error(calendar, further_error(ordinal, week)))
 }
 
 // How many bytes in front are none that begins an offset.

@@ -1,7 +1,10 @@
 //! The words of the texts of RFC 2822, with white space and comments between them.
-ghost use Rattle.std.specs.Prelude.{◌≡◌, ◌↔◌, ◌<◌, IsTrue, ◌≤◌, ◌^◌, ◌-◌, [], ℕ, List, length, take, drop, false};
+ghost use Rattle.std.specs.Prelude.{◌≡◌, ◌↔◌, ◌<◌, IsTrue, ◌^◌, ◌-◌, [], ℕ, List, length, take, drop, false};
 ghost use Rattle.std.specs.List.{prefix_len};
-ghost use Rattle.chrono_stamps.specs.MailWords.{AreMailWords, IsColonWord, IsCommaWord, IsGap, IsSpacedWord, behind_gap, gap_end, gap_step, is_of_word, is_white};
+ghost use Rattle.chrono_text.specs.Lists.{is_of_word};
+ghost use Rattle.chrono_stamps.specs.MailWords.{AreMailWords, IsColonWord, IsCommaWord, IsMailGap, IsSpacedWord, behind_gap, gap_end, gap_step, is_white};
+
+use chrono_text::word_len;
 
 // The words of a text, and what stands behind the last one. A word that is not there is empty.
 #[derive(Drop)]
@@ -103,29 +106,6 @@ pub(crate) fn split_word(text: &[u8]) -> (&[u8], &[u8])
     text.split_at(word_len(text))
 }
 
-// How many bytes in front are of a word.
-fn word_len(text: &[u8]) -> usize
-    ensures value { result ≡ prefix_len is_of_word text.now }
-    ensures within { result ≤ length text.now }
-{
-    let mut len = 0;
-    while len < text.len() {
-        if !is_of_word(text[len]) {
-            return len;
-        }
-        len += 1;
-    }
-    len
-}
-
-// Whether a byte is a letter, a digit or a sign.
-#[inline]
-fn is_of_word(byte: u8) -> bool
-    ensures { result ≡ is_of_word byte }
-{
-    byte.is_ascii_alphanumeric() || (byte == b'+' || byte == b'-')
-}
-
 // What stands behind white space and comments. It is nothing if a comment has no end.
 pub(crate) fn skip_gap(text: &[u8]) -> &[u8]
     ensures { result.now ≡ behind_gap text.now }
@@ -135,7 +115,7 @@ pub(crate) fn skip_gap(text: &[u8]) -> &[u8]
 
 // Whether a text is white space and comments alone.
 pub(crate) fn is_gap(text: &[u8]) -> bool
-    ensures { IsTrue result ↔ IsGap text.now }
+    ensures { IsTrue result ↔ IsMailGap text.now }
 {
     let (depth, rest) = gap_end(text);
     depth == 0 && rest.is_empty()

@@ -4,7 +4,7 @@ ghost use Rattle.chrono_datetime.specs.Names.{month_of_letters, weekday_of_lette
 ghost use Rattle.chrono_reading.specs.DateErrors.{error_at};
 ghost use Rattle.chrono_reading.specs.NameErrors.{month_error, weekday_error};
 ghost use Rattle.chrono_reading.specs.declared.error.ReadCause.TheVariants.{UnknownName};
-ghost use Rattle.chrono_stamps.specs.MailErrors.{begins_with_letter, behind_sign, day_error, error_from_day, error_from_end, error_from_hour, error_from_minute, error_from_month, error_from_second, error_from_year, error_from_zone, error_in, fitting_one, fitting_two, fitting_zone, front_word, is_zone_name, month_word_error, names_day, next_part, number_fault, rfc2822_error, weekday_word_error, year_word_error, zone_digits_fault, zone_fault};
+ghost use Rattle.chrono_stamps.specs.MailErrors.{begins_with_letter, behind_sign, day_error, error_from_day, error_from_end, error_from_hour, error_from_minute, error_from_month, error_from_second, error_from_year, error_from_zone, error_in, fitting_one, fitting_two, fitting_zone, front_word, is_mail_zone_name, month_word_error, names_day, next_part, rfc2822_error, two_digits_fault, weekday_word_error, year_word_error, zone_digits_fault, zone_fault};
 
 use crate::mail_words::{gap_end, skip_gap, split_word};
 use crate::pieces::first_bytes;
@@ -95,7 +95,7 @@ fn error_from_year(
 fn error_from_hour(text: &[u8], part: &[u8]) -> ReadError
     ensures { result ≡ error_from_hour text.now part.now }
 {
-    if let Some(fault) = number_fault(ReadCause::HourAbove23, 23, front_word(part)) {
+    if let Some(fault) = two_digits_fault(ReadCause::HourAbove23, 23, front_word(part)) {
         return error_in(text, part, fault);
     }
     let colon = next_part(part);
@@ -110,7 +110,7 @@ fn error_from_hour(text: &[u8], part: &[u8]) -> ReadError
 fn error_from_minute(text: &[u8], part: &[u8]) -> ReadError
     ensures { result ≡ error_from_minute text.now part.now }
 {
-    if let Some(fault) = number_fault(ReadCause::MinuteAbove59, 59, front_word(part)) {
+    if let Some(fault) = two_digits_fault(ReadCause::MinuteAbove59, 59, front_word(part)) {
         return error_in(text, part, fault);
     }
     let next = next_part(part);
@@ -125,7 +125,7 @@ fn error_from_minute(text: &[u8], part: &[u8]) -> ReadError
 fn error_from_second(text: &[u8], part: &[u8]) -> ReadError
     ensures { result ≡ error_from_second text.now part.now }
 {
-    match number_fault(ReadCause::SecondAbove60, 60, front_word(part)) {
+    match two_digits_fault(ReadCause::SecondAbove60, 60, front_word(part)) {
         Some(fault) => error_in(text, part, fault),
         None => error_from_zone(text, next_part(part)),
     }
@@ -318,9 +318,9 @@ fn names_day(weekday: Option<Weekday>, date: NaiveDate) -> bool
 }
 
 // What is wrong with a word of two digits, of which the number may be so great.
-#[tactic(auto, unfolding(crate::specs::MailErrors::number_fault))]
-fn number_fault(above: ReadCause, most: u32, word: &[u8]) -> Option<ReadError>
-    ensures { result ≡ number_fault above most word.now }
+#[tactic(auto, unfolding(crate::specs::MailErrors::two_digits_fault))]
+fn two_digits_fault(above: ReadCause, most: u32, word: &[u8]) -> Option<ReadError>
+    ensures { result ≡ two_digits_fault above most word.now }
 {
     let fit = fitting_len(b"dd", word);
     if word.len() != 2 {
@@ -352,7 +352,7 @@ fn zone_fault(word: &[u8]) -> Option<ReadError>
     if *first == b'-' {
         return zone_digits_fault(rest);
     }
-    if is_zone_name(word) {
+    if is_mail_zone_name(word) {
         return None;
     }
     Some(unknown_name(fitting_zone(word)))
@@ -386,8 +386,8 @@ fn zone_digits_fault(digits: &[u8]) -> Option<ReadError>
 }
 
 // Whether a word is the name of a zone.
-fn is_zone_name(word: &[u8]) -> bool
-    ensures { result ≡ is_zone_name word.now }
+fn is_mail_zone_name(word: &[u8]) -> bool
+    ensures { result ≡ is_mail_zone_name word.now }
 {
     hours_behind(word).is_some()
 }
@@ -402,7 +402,7 @@ fn fitting_zone(word: &[u8]) -> usize
         [one] => fitting_one(*one),
         [one, two] => fitting_two(*one, *two),
         [one, two, three, ..] => {
-            if is_zone_name(&[*one, *two, *three]) {
+            if is_mail_zone_name(&[*one, *two, *three]) {
                 3
             } else {
                 fitting_two(*one, *two)
@@ -416,9 +416,9 @@ fn fitting_zone(word: &[u8]) -> usize
 fn fitting_two(one: u8, two: u8) -> usize
     ensures { result ≡ fitting_two one two }
 {
-    if is_zone_name(&[one, two]) {
+    if is_mail_zone_name(&[one, two]) {
         2
-    } else if is_zone_name(&[one, two, b'T']) {
+    } else if is_mail_zone_name(&[one, two, b'T']) {
         2
     } else {
         fitting_one(one)
@@ -430,5 +430,5 @@ fn fitting_two(one: u8, two: u8) -> usize
 fn fitting_one(one: u8) -> usize
     ensures { result ≡ fitting_one one }
 {
-    if is_zone_name(&[one]) { 1 } else { 0 }
+    if is_mail_zone_name(&[one]) { 1 } else { 0 }
 }

@@ -10,13 +10,13 @@ ghost use Rattle.chrono_stamps.specs.Rfc2822.{IsDayOfWeek, IsMailDate, IsMailTim
 use crate::mail_words::{is_gap, mail_words};
 use crate::rfc2822_error::mail_error;
 use crate::rfc3339_reader::six_bytes;
-use chrono_datetime::{Datelike, Month, NaiveDate, NaiveDateTime, NaiveTime, Weekday};
+use chrono_datetime::{Datelike, MAX_YEAR, Month, NaiveDate, NaiveDateTime, NaiveTime, Weekday};
 use chrono_reading::{ReadError, read_time};
 use chrono_text::{read_count, read_digits, same_but_for_case};
 use chrono_zoned::{DateTime, FixedOffset, InZone};
 
 // The last year of the calendar.
-const LAST_YEAR: u32 = 262_142;
+const LAST_YEAR: u32 = MAX_YEAR as u32;
 
 /// Reads a date, a time of day and an offset (RFC 2822, 3.3 and 4.3), such as `Thu, 29 Feb 2024 15:00:00 +0530`. Returns the
 /// instant, in a zone of that offset.

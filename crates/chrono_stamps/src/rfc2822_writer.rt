@@ -5,7 +5,7 @@ ghost use Rattle.std.specs.Str.{IsAscii};
 ghost use Rattle.chrono_datetime.specs.Days.{year_of};
 ghost use Rattle.chrono_datetime.specs.TimeText.{time_text};
 ghost use Rattle.chrono_zoned.specs.Zoned.{local_at, offset_at};
-ghost use Rattle.chrono_stamps.specs.WrittenStamps.{HasStampText, mail_date_text, month_letters, rfc2822_text, whole_second, zone_text};
+ghost use Rattle.chrono_stamps.specs.WrittenStamps.{HasStampText, mail_date_text, mail_zone_text, month_letters, rfc2822_text, whole_second};
 
 use crate::rfc3339_writer::has_stamp_text;
 use chrono_datetime::{Datelike, Month, NaiveDate, NaiveDateTime, NaiveTime, Timelike};
@@ -101,8 +101,8 @@ fn put_whole_second<const N: usize>(text: &mut Text<N>, time: NaiveTime)
 #[inline]
 fn put_zone<const N: usize>(text: &mut Text<N>, offset: FixedOffset)
     requires room { length text.old + 5 ≤ N }
-    ensures text { text.new ≡ text.old ++ zone_text offset }
-    ensures ascii { IsAscii (zone_text offset) }
+    ensures text { text.new ≡ text.old ++ mail_zone_text offset }
+    ensures ascii { IsAscii (mail_zone_text offset) }
 {
     let seconds = offset.local_minus_utc();
     let size = seconds.unsigned_abs();

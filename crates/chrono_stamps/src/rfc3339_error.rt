@@ -7,6 +7,7 @@ ghost use Rattle.chrono_stamps.specs.StampErrors.{IsClockError, IsErrorBehindDat
 
 use crate::rfc3339_reader::is_separator;
 use chrono_reading::{ReadCause, ReadError, fitting_len, read_date, read_time};
+use chrono_text::read_digits;
 
 // How many bytes a date has whose year has four digits.
 const DATE_LEN: usize = 10;
@@ -140,14 +141,12 @@ fn minutes_error(text: &[u8]) -> ReadError
     }
 }
 
-// The number that the first two digits write.
+// The number that the first two digits write, 0 where there are none.
 pub(crate) fn two_written(text: &[u8]) -> u32
     ensures { result ≡ two_written text.now }
 {
     match text {
-        [tens, ones, ..] => {
-            10 * u32::from(tens.saturating_sub(b'0')) + u32::from(ones.saturating_sub(b'0'))
-        }
+        [tens, ones, ..] => read_digits(&[*tens, *ones], 2).unwrap_or(0),
         _ => 0,
     }
 }

@@ -1,11 +1,9 @@
 -- The linear formulas of months tell what counting does.
-use Rattle.std.proofs.Common.{◌≡◌, ℕ, suc, ◌+◌, ◌-◌, ◌*◌, ◌/◌, ◌%◌, ◌≤◌, Bool, true, false, ◌&&◌, cond, nat_eq, nat_lt, refl, sym, arith}
+use Rattle.std.proofs.Common.{◌≡◌, ℕ, ◌+◌, ◌-◌, ◌*◌, ◌/◌, ◌%◌, Bool, true, false, ◌&&◌, cond, nat_eq, nat_lt, refl, arith}
 use Rattle.std.proofs.lemmas.Bool.{and_parts}
 use Rattle.std.proofs.lemmas.Bool.Decides.{nat_tests}
 use Rattle.std.specs.Int.{IsInRange}
-use Rattle.chrono_units.specs.Years.{month_length_in}
 use Rattle.chrono_calendar.specs.Days.{days_of_months_in, month_of_ordinal, day_of_ordinal}
-use Rattle.chrono_calendar.proofs.MonthOrder.{days_of_months_in-own}
 use Rattle.chrono_calendar.proofs.Tests.{passes_below, passes_below-at}
 
 -- the day from 0, where February has 30 days
@@ -46,11 +44,3 @@ days_of_months_in-told leap m h =
     let passed = passes_below-at (tells_start leap) 13 (starts_told leap) (m - 1) (omega arith) in
     let here = rw back at passed in
     grind (arith, nat_tests)
-
--- a month ends where the next one begins
-pub days_of_months_in-next : (leap : Bool) (m : ℕ) → 1 ≤ m → days_of_months_in leap (m + 1 - 1) ≡ days_of_months_in leap (m - 1) + month_length_in leap m
-days_of_months_in-next leap m h =
-    let back : suc (m - 1) ≡ m = omega arith in
-    let ahead : m + 1 - 1 ≡ m = omega arith in
-    let next = rw back at (sym (days_of_months_in-own leap (m - 1))) in
-    rw ahead next

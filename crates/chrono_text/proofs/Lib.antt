@@ -9,5 +9,6 @@ pub mod ListLemmas
 pub mod NaturalLemmas
 pub mod Decimals
 pub mod AnswerLemmas
+pub mod Signed
 -- The rest serve this crate's own proofs alone.
 mod LaneLemmas

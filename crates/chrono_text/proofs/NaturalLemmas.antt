@@ -1,11 +1,12 @@
 -- Numbers without a sign, of a whole text.
-use Rattle.std.proofs.Common.{◌≡◌, ℕ, ◌+◌, ◌-◌, ◌/◌, ◌%◌, ◌^◌, ◌<◌, ◌≤◌, min, nat_le, nat_lt, Bool, true, false, if◌then◌else◌, List, [], ◌∷◌, length, take, get_or, Some, None, Option, refl, sym, ap, ◌∙◌, arith}
+use Rattle.std.proofs.Common.{◌≡◌, ℕ, ◌+◌, ◌-◌, ◌/◌, ◌%◌, ◌^◌, ◌<◌, ◌≤◌, min, nat_le, nat_lt, Bool, true, false, if◌then◌else◌, List, [], ◌∷◌, length, take, get_or, Some, None, Option, refl, sym, ap, ◌∙◌, arith, ◌++◌}
+use Rattle.std.specs.Char.{is_ascii_digit}
 use Rattle.std.specs.Int.{IsInRange}
 use Rattle.std.specs.List.{AllByRecursion}
 use Rattle.std.specs.Option.{option_and_then, option_map}
 use Rattle.std.specs.Str.{all_ascii_digits}
 use Rattle.std.proofs.Math.Nat.{mul-le-mul_right, pow-succ', pow-le-pow_right}
-use Rattle.std.proofs.lemmas.Bool.{le-leb, lt-leb, ltb-true}
+use Rattle.std.proofs.lemmas.Bool.{le-leb, lt-leb, ltb-true, and_from}
 use Rattle.std.proofs.lemmas.Bool.Decides.{nat_tests}
 use Rattle.std.proofs.lemmas.List.{take_all}
 use Rattle.chrono_text.specs.Numbers.{digits_of, natural_of, up_to, value_of}
@@ -100,3 +101,19 @@ by_few false n small few = two_digits-read n small
 
 pub number_text-read : (n : ℕ) → n < 100 → digits_of 2 (number_text n) ≡ Some n
 number_text-read n small = by_few (nat_lt n 10) n small (λ few. ltb-true n 10 few)
+
+-- ---- two digits and four
+
+pub two_digits-all : (n : ℕ) (rest : List ℕ) → n < 100 → all_ascii_digits rest ≡ true → all_ascii_digits (two_digits n ++ rest) ≡ true
+two_digits-all n rest small are =
+    let high = and_from (nat_le 48 (48 + n / 10)) (nat_le (48 + n / 10) 57) (le-leb 48 (48 + n / 10) (omega arith)) (le-leb (48 + n / 10) 57 (omega (arith, small))) in
+    let low = and_from (nat_le 48 (48 + n % 10)) (nat_le (48 + n % 10) 57) (le-leb 48 (48 + n % 10) (omega arith)) (le-leb (48 + n % 10) 57 (omega arith)) in
+    and_from (is_ascii_digit (48 + n / 10)) (all_ascii_digits ((48 + n % 10) ∷ rest)) high (and_from (is_ascii_digit (48 + n % 10)) (all_ascii_digits rest) low are)
+
+pub four_digits-read : (n : ℕ) → n ≤ 9_999 → digits_of 4 (two_digits (n / 100) ++ two_digits (n % 100)) ≡ Some n
+unfolding digits_of natural_of
+four_digits-read n small =
+    let text = two_digits (n / 100) ++ two_digits (n % 100) in
+    let value : value_of text ≡ n = omega arith in
+    let are = two_digits-all (n / 100) (two_digits (n % 100)) (omega (arith, small)) (two_digits-all (n % 100) [] (omega arith) refl) in
+    ap (λ t. if t then Some (value_of text) else None) are ∙ ap Some value

@@ -1,18 +1,20 @@
 -- The whole numbers that texts write, and where they stand in a text.
-use Rattle.std.proofs.Common.{◌≡◌, ◌≢◌, ◌==◌, ◌<◌, ◌≤◌, ◌+◌, ◌-◌, ◌^◌, min, ℕ, zero, suc, Bool, true, false, inl, inr, List, [], ◌∷◌, ◌++◌, length, get_or, take, drop, refl, ap, sym, ◌∙◌, subst, arith, ℤ, pos, negsuc, neg_ℤ, int_le, FitsSigned, Option, Some, None, take-append-drop, drop-cons, length-take}
+use Rattle.std.proofs.Common.{◌≡◌, ◌≢◌, ◌==◌, ◌<◌, ◌≤◌, ◌+◌, ◌-◌, ◌^◌, min, ℕ, zero, suc, Bool, true, false, if◌then◌else◌, inl, inr, List, [], ◌∷◌, ◌++◌, length, get_or, take, drop, refl, ap, sym, ◌∙◌, subst, arith, ℤ, pos, negsuc, neg_ℤ, int_le, FitsSigned, Option, Some, None, take-append-drop, drop-cons, length-take}
 use mir.Val.{bool_byte}
 use Rattle.std.specs.Bool.{MatchBool}
+use Rattle.std.specs.Fmt.{decimal}
 use Rattle.std.specs.Int.{IsInRange, w64}
 use Rattle.std.specs.List.{AllByRecursion}
 use Rattle.std.specs.Option.{option_map, option_and_then}
 use Rattle.std.specs.Str.{all_ascii_digits}
 use Rattle.std.specs.Str.Parse.{AllDigits, digits_value}
-use Rattle.std.proofs.lemmas.Bool.{cases_eq, cases_lt, eq-eqb, ne_eqb}
+use Rattle.std.proofs.lemmas.Bool.{cases_eq, cases_lt, eq-eqb, le-leb, ne_eqb}
+use Rattle.std.proofs.lemmas.Fmt.{decimal_is_IsNumeral, decimal_nonempty}
 use Rattle.std.proofs.lemmas.Int.{ints}
 use Rattle.std.proofs.lemmas.List.{get_or-take}
 use Rattle.std.proofs.lemmas.Option.{cond_some}
 use Rattle.std.proofs.lemmas.Str.Parse.{digit_at, digit_from_value, tells_all_ascii_digits}
-use Rattle.chrono_text.specs.Numbers.{AreDigits, StandsBefore, WritesNumber, i64_of, natural_of, number_of, signed, to_i64, value_of}
+use Rattle.chrono_text.specs.Numbers.{AreDigits, StandsBefore, WritesNumber, count_of, i64_of, natural_of, number_of, signed, to_i64, up_to, value_of}
 use Rattle.chrono_text.proofs.DigitLemmas.{natural_none, natural_some}
 use Rattle.chrono_text.proofs.Types.{i64_read, i64_written}
 
@@ -37,6 +39,17 @@ natural_written : (text : List ℕ) → AreDigits text → natural_of text ≡ S
 unfolding natural_of
 natural_written [] h = absurd (omega (arith, h.some))
 natural_written (x ∷ xs) h = rw (test_from_digits (x ∷ xs) h.digits) refl
+
+-- a number that is written is read back
+pub decimal_back : (n : ℕ) → n < 2 ^ 64 → natural_of (decimal n) ≡ Some n
+decimal_back n fits =
+    let numeral = decimal_is_IsNumeral n fits in
+    natural_some (decimal n) numeral.0.1 (decimal_nonempty n fits) ∙ ap Some numeral.1
+
+pub count_back : (n : ℕ) → n < 2 ^ 32 → count_of (decimal n) ≡ Some n
+unfolding count_of
+count_back n fits =
+    ap (option_and_then (up_to 4_294_967_295)) (decimal_back n (omega (arith, fits))) ∙ ap (λ t. if t then Some n else None) (le-leb n 4_294_967_295 (omega (arith, fits)))
 
 pub mapped : {A B : Type 0} (f : A → B) (o : Option A) (b : B) → option_map f o ≡ Some b → (a : A) × (o ≡ Some a) × (b ≡ f a)
 mapped f None b h = let wrong : ⊥ = cc in absurd wrong

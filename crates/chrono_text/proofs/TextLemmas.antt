@@ -1,11 +1,12 @@
 -- Lemmas on the texts of numbers: how long they are, and that different numbers have different texts.
-use Rattle.std.proofs.Common.{◌≡◌, ℕ, suc, ◌+◌, ◌-◌, ◌/◌, ◌%◌, ◌^◌, ◌<◌, ◌≤◌, ℤ, pos, negsuc, false, List, [], ◌∷◌, ◌++◌, length, length-append, take, drop, unsigned_abs, arith, refl, sym, ap, ◌∙◌}
+use Rattle.std.proofs.Common.{◌≡◌, ℕ, suc, ◌+◌, ◌-◌, ◌/◌, ◌%◌, ◌^◌, ◌<◌, ◌≤◌, ◌≤ℤ◌, ℤ, pos, negsuc, false, List, [], ◌∷◌, ◌++◌, length, length-append, take, drop, unsigned_abs, arith, refl, sym, ap, ◌∙◌}
 use Rattle.std.specs.Prelude.{get_or}
 use Rattle.std.specs.Int.{is_negative}
 use Rattle.std.specs.Str.Parse.{digits_value}
 use Rattle.std.proofs.Math.Seq.{take-append_seam, drop-append_seam}
 use Rattle.std.proofs.lemmas.Bool.Decides.{nat_tests}
 use Rattle.std.proofs.lemmas.Fmt.{decimal_is_IsNumeral, length-decimal-le}
+use Rattle.std.proofs.lemmas.Int.{ints}
 use Rattle.std.specs.Fmt.{decimal}
 use Rattle.chrono_text.specs.Text.{two_digits, all_digits, year_digits, year_text, calendar_text}
 use Rattle.chrono_text.proofs.DigitLemmas.{all_digits-one, all_digits-value, by_size, decimal_below}
@@ -126,8 +127,9 @@ calendar_text_injective y z m n d k small also hm hn hd hk e =
     )
 
 -- how long the texts are
-pub length-year_text-four : (n : ℕ) → n < 10_000 → length (year_text (pos n)) ≡ 4
-length-year_text-four n h = rw (year_text-four n h) refl
+pub length-year_text-four : (y : ℤ) → pos 0 ≤ℤ y → y ≤ℤ pos 9_999 → length (year_text y) ≡ 4
+length-year_text-four (pos n) low high = rw (year_text-four n (omega (arith, ints, high))) refl
+length-year_text-four (negsuc n) low high = absurd (omega (arith, ints, low))
 
 length-year_digits : (n : ℕ) → n < 1_000_000 → length (year_digits n) ≤ 6
 length-year_digits n h = by_size 10_000 n
@@ -137,7 +139,7 @@ length-year_digits n h = by_size 10_000 n
 pub length-year_text-le : (y : ℤ) → unsigned_abs y < 1_000_000 → length (year_text y) ≤ 7
 length-year_text-le (negsuc n) h = omega (arith, length-year_digits (suc n) h)
 length-year_text-le (pos n) h = by_size 10_000 n
-    (λ low. omega (arith, length-year_text-four n low))
+    (λ low. omega (arith, length-year_text-four (pos n) (omega (arith, ints)) (omega (arith, ints, low))))
     (λ high. rw (year_text-more n high) (omega (arith, length-year_digits n h)))
 
 pub length-calendar_text : (y : ℤ) (m d : ℕ) → length (calendar_text y m d) ≡ length (year_text y) + 6

@@ -28,6 +28,14 @@ digits_of most text = if nat_le (length text) most then natural_of text else Non
 abbrev pub up_to : ℕ → ℕ → Option ℕ
 up_to most n = if nat_le n most then Some n else None
 
+-- the number, if it is above 0
+abbrev pub above_zero : ℕ → Option ℕ
+above_zero n = if nat_le 1 n then Some n else None
+
+-- the number, if it is from `low` to `high`
+abbrev pub if_within : ℕ → ℕ → ℕ → Option ℕ
+if_within low high n = if nat_le low n && nat_le n high then Some n else None
+
 -- the number that one digit or more write, if it is below 2^32
 unfoldable pub count_of : List ℕ → Option ℕ
 count_of text = option_and_then (up_to (2 ^ 32 - 1)) (natural_of text)

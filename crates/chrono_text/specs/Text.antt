@@ -35,6 +35,10 @@ duration_text x =
 abbrev pub two_digits : ℕ → List ℕ
 two_digits n = (byte "0" + n / 10) ∷ (byte "0" + n % 10) ∷ []
 
+-- a colon and the seconds past a minute in two digits, or nothing for 0
+abbrev pub colon_seconds_text : ℕ → List ℕ
+colon_seconds_text n = if n == 0 then [] else codes ":" ++ two_digits n
+
 -- n in one digit, or in two
 abbrev pub number_text : ℕ → List ℕ
 number_text n = if nat_lt n 10 then (byte "0" + n) ∷ [] else two_digits n

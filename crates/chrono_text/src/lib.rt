@@ -16,11 +16,13 @@ mod read;
 mod search;
 mod text;
 mod time_text;
+mod word;
 
 pub use digits::codes_of_two;
 pub use line::Line;
 pub use list::{
-    ItemReader, byte_place, first_piece, part_place, read_list, same_but_for_case, split_at_byte,
+    ItemReader, begins_but_for_case, byte_place, first_piece, part_place, read_list,
+    same_but_for_case, split_at_byte,
 };
 pub use read::{
     Way, are_digits, digit, read_count, read_decimal, read_digits, read_four, read_fraction,
@@ -29,3 +31,4 @@ pub use read::{
 pub use search::split_line;
 pub use text::Text;
 pub use time_text::{NANOS_PER_MICRO, NANOS_PER_MILLI, NANOS_PER_SEC};
+pub use word::word_len;

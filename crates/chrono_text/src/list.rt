@@ -2,7 +2,7 @@
 ghost use Rattle.std.specs.Prelude.{◌≡◌, ◌≤◌, ◌<◌, ◌+◌, ◌==◌, ◌∷◌, [], ℕ, List, Option, length, true, false, IfSome, IfNone};
 ghost use Rattle.std.specs.List.{after_first, before_first, position_or_len};
 ghost use Rattle.std.specs.Str.{str_eq_ignore_ascii_case};
-ghost use Rattle.chrono_text.specs.Lists.{part_place, pieces, pieces_behind, stands_in, through};
+ghost use Rattle.chrono_text.specs.Lists.{begins_alike, part_place, pieces, pieces_behind, stands_in, through};
 
 /// Returns where the first byte `byte` of `text` stands, or the length of `text` if there is none.
 ///
@@ -91,6 +91,19 @@ pub fn same_but_for_case(text: &[u8], other: &[u8]) -> bool
     ensures { result ≡ str_eq_ignore_ascii_case text.now other.now }
 {
     text.eq_ignore_ascii_case(other)
+}
+
+/// Returns whether `text` begins with `front`, but for the case of their ASCII letters.
+///
+/// ```
+/// begins_but_for_case(b"tz=UTC", b"TZ=") // true
+/// begins_but_for_case(b"T", b"TZ=") // false
+/// ```
+#[inline]
+pub fn begins_but_for_case(text: &[u8], front: &[u8]) -> bool
+    ensures { result ≡ begins_alike front.now text.now }
+{
+    same_but_for_case(&text[..front.len().min(text.len())], front)
 }
 
 /// A reader of the items of a list, such as `1,15`. It makes an `L` of the items, one after another.

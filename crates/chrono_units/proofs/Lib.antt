@@ -5,6 +5,7 @@ pub mod WalkLengths
 pub mod ListsLeft
 pub mod DayNames
 pub mod SetTexts
+pub mod Years
 -- The rest serve this crate's own proofs alone.
 mod EachSet
 mod KnownValues

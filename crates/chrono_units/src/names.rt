@@ -63,7 +63,7 @@ impl Weekday {
         ensures every { (d : Weekday) → IsWeekdayText text.now d → result ≡ Some d }
     {
         let weekday = weekday_in_front(first_letters(text)?)?;
-        if is_name(text, weekday.name().as_bytes()) {
+        if is_name(text, weekday.name()) {
             Some(weekday)
         } else {
             None
@@ -84,19 +84,19 @@ impl Weekday {
         requires most { count ≤ 3 }
         ensures { result ≡ weekday_of_letters count text.now }
     {
-        if begins(text, b"Monday", count) {
+        if begins(text, Weekday::Mon.name(), count) {
             Some(Weekday::Mon)
-        } else if begins(text, b"Tuesday", count) {
+        } else if begins(text, Weekday::Tue.name(), count) {
             Some(Weekday::Tue)
-        } else if begins(text, b"Wednesday", count) {
+        } else if begins(text, Weekday::Wed.name(), count) {
             Some(Weekday::Wed)
-        } else if begins(text, b"Thursday", count) {
+        } else if begins(text, Weekday::Thu.name(), count) {
             Some(Weekday::Thu)
-        } else if begins(text, b"Friday", count) {
+        } else if begins(text, Weekday::Fri.name(), count) {
             Some(Weekday::Fri)
-        } else if begins(text, b"Saturday", count) {
+        } else if begins(text, Weekday::Sat.name(), count) {
             Some(Weekday::Sat)
-        } else if begins(text, b"Sunday", count) {
+        } else if begins(text, Weekday::Sun.name(), count) {
             Some(Weekday::Sun)
         } else {
             None
@@ -118,7 +118,7 @@ impl Month {
         ensures every { (m : Month) → IsMonthText text.now m → result ≡ Some m }
     {
         let month = month_in_front(first_letters(text)?)?;
-        if is_name(text, month.name().as_bytes()) {
+        if is_name(text, month.name()) {
             Some(month)
         } else {
             None
@@ -137,29 +137,29 @@ impl Month {
     pub fn from_letters(text: &[u8]) -> Option<Month>
         ensures { result ≡ month_of_letters text.now }
     {
-        if begins(text, b"January", 3) {
+        if begins(text, Month::January.name(), 3) {
             Some(Month::January)
-        } else if begins(text, b"February", 3) {
+        } else if begins(text, Month::February.name(), 3) {
             Some(Month::February)
-        } else if begins(text, b"March", 3) {
+        } else if begins(text, Month::March.name(), 3) {
             Some(Month::March)
-        } else if begins(text, b"April", 3) {
+        } else if begins(text, Month::April.name(), 3) {
             Some(Month::April)
-        } else if begins(text, b"May", 3) {
+        } else if begins(text, Month::May.name(), 3) {
             Some(Month::May)
-        } else if begins(text, b"June", 3) {
+        } else if begins(text, Month::June.name(), 3) {
             Some(Month::June)
-        } else if begins(text, b"July", 3) {
+        } else if begins(text, Month::July.name(), 3) {
             Some(Month::July)
-        } else if begins(text, b"August", 3) {
+        } else if begins(text, Month::August.name(), 3) {
             Some(Month::August)
-        } else if begins(text, b"September", 3) {
+        } else if begins(text, Month::September.name(), 3) {
             Some(Month::September)
-        } else if begins(text, b"October", 3) {
+        } else if begins(text, Month::October.name(), 3) {
             Some(Month::October)
-        } else if begins(text, b"November", 3) {
+        } else if begins(text, Month::November.name(), 3) {
             Some(Month::November)
-        } else if begins(text, b"December", 3) {
+        } else if begins(text, Month::December.name(), 3) {
             Some(Month::December)
         } else {
             None
@@ -168,11 +168,11 @@ impl Month {
 }
 
 // Whether a text is so many first letters of a name, in letters of any case.
-fn begins(text: &[u8], name: &[u8], count: usize) -> bool
+fn begins(text: &[u8], name: &str, count: usize) -> bool
     requires { count ≤ length name.now }
     ensures { result ≡ begins count text.now name.now }
 {
-    text.eq_ignore_ascii_case(&name[..count])
+    text.eq_ignore_ascii_case(&name.as_bytes()[..count])
 }
 
 // The first three letters of a text, in lower case.
@@ -192,11 +192,11 @@ fn first_letters(text: &[u8]) -> Option<[u8; 3]>
 }
 
 // Whether a text is this name of three letters or more, or its first three, in letters of any case.
-fn is_name(text: &[u8], name: &[u8]) -> bool
+fn is_name(text: &[u8], name: &str) -> bool
     requires { 3 ≤ length name.now }
     ensures { IsTrue result ↔ IsNameText text.now name.now }
 {
-    text.eq_ignore_ascii_case(name) || text.eq_ignore_ascii_case(&name[..3])
+    text.eq_ignore_ascii_case(name.as_bytes()) || begins(text, name, 3)
 }
 
 // The weekday whose name begins with these small letters, if one does.

@@ -1,5 +1,5 @@
 -- Zones: how far a clock is ahead of UTC at each instant, and the instants at which it shows a local time.
-use Rattle.std.specs.Prelude.{◌≡◌, ◌↔◌, ◌⊎◌, ℤ, ◌+ℤ◌, ◌-ℤ◌, ◌<ℤ◌, Option, Some, None as Nothing}
+use Rattle.std.specs.Prelude.{◌≡◌, ◌↔◌, ◌⊎◌, ℤ, ◌+ℤ◌, ◌-ℤ◌, ◌<ℤ◌, ◌≤ℤ◌, Option, Some, None as Nothing}
 use Rattle.chrono_zoned.specs.declared.mapped_local_time.MappedLocalTime.{MappedLocalTime}
 use Rattle.chrono_zoned.specs.declared.mapped_local_time.MappedLocalTime.TheVariants.{None, Single, Ambiguous}
 
@@ -50,3 +50,7 @@ Shows ahead l u = (u +ℤ ahead u) ≡ l
 -- the offsets lead from the local second l to the instants that show it: to all of them, and to no others
 abbrev pub IsMapped : (ℤ → ℤ) → ℤ → MappedLocalTime ℤ → Type 0
 IsMapped ahead l offsets = AreAll (Shows ahead l) (λ offset. l -ℤ offset) offsets
+
+-- from the second s until t the clock keeps the offset that it has at s
+abbrev pub HoldsUntil : (ℤ → ℤ) → ℤ → ℤ → Type 0
+HoldsUntil ahead s t = (u : ℤ) → s ≤ℤ u → u <ℤ t → ahead u ≡ ahead s

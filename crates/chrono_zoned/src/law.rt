@@ -2,7 +2,7 @@
 ghost use Rattle.std.specs.Prelude.{◌≡◌, ℤ, pos, ◌+ℤ◌};
 ghost use Rattle.chrono_zoned.specs.declared.mapped_local_time.MappedLocalTime.{MappedLocalTime};
 ghost use Rattle.chrono_zoned.specs.KnownZones.{set_ahead, set_back};
-ghost use Rattle.chrono_zoned.specs.Zones.{IsAmong, IsMapped};
+ghost use Rattle.chrono_zoned.specs.Zones.{HoldsUntil, IsAmong, IsMapped};
 
 use crate::mapped_local_time::MappedLocalTime as Found;
 
@@ -34,4 +34,12 @@ pub fn known_fold()
     ensures first { IsMapped set_back (pos 1_000) (Found.Ambiguous (pos 3_600) (pos 0)) }
     ensures last { IsMapped set_back (pos 4_599) (Found.Ambiguous (pos 3_600) (pos 0)) }
     ensures behind { IsMapped set_back (pos 4_600) (Found.Single (pos 0)) }
+{}
+
+/// How long the offsets of these two clocks hold: each until the second 1,000, and no second longer.
+pub fn known_stretches()
+    ensures ahead { HoldsUntil set_ahead (pos 0) (pos 1_000) }
+    ensures ahead_no_longer { ¬ HoldsUntil set_ahead (pos 0) (pos 1_001) }
+    ensures back { HoldsUntil set_back (pos 0) (pos 1_000) }
+    ensures back_no_longer { ¬ HoldsUntil set_back (pos 0) (pos 1_001) }
 {}

@@ -17,6 +17,7 @@ mod date_time;
 mod in_zone;
 pub mod law;
 mod mapped_local_time;
+mod stretch;
 mod time_zone;
 mod zones;
 
@@ -24,5 +25,6 @@ pub use chrono_instant::{AddOffset, FixedOffset, FromTimestamp, Timestamp};
 pub use date_time::DateTime;
 pub use in_zone::InZone;
 pub use mapped_local_time::MappedLocalTime;
+pub use stretch::Stretch;
 pub use time_zone::TimeZone;
 pub use zones::Utc;

@@ -1,6 +1,7 @@
 //! The zones whose offset never changes: UTC, and any fixed offset.
 
 use crate::mapped_local_time::MappedLocalTime;
+use crate::stretch::Stretch;
 use crate::time_zone::TimeZone;
 use chrono_datetime::NaiveDateTime;
 use chrono_instant::FixedOffset;
@@ -27,6 +28,11 @@ impl TimeZone for Utc {
     fn offset_from_local_datetime(&self, _local: &NaiveDateTime) -> MappedLocalTime<FixedOffset> {
         MappedLocalTime::Single(FixedOffset::east_opt(0).unwrap())
     }
+
+    #[inline]
+    fn stretch_from(&self, _second: i64) -> Stretch {
+        Stretch::without_end(FixedOffset::east_opt(0).unwrap())
+    }
 }
 
 impl TimeZone for FixedOffset {
@@ -40,5 +46,10 @@ impl TimeZone for FixedOffset {
     #[inline]
     fn offset_from_local_datetime(&self, _local: &NaiveDateTime) -> MappedLocalTime<FixedOffset> {
         MappedLocalTime::Single(*self)
+    }
+
+    #[inline]
+    fn stretch_from(&self, _second: i64) -> Stretch {
+        Stretch::without_end(*self)
     }
 }

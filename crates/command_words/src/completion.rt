@@ -150,7 +150,7 @@ fn write_fish_option<W: fmt::Write>(
     word: &str,
     option: &Opt,
 ) -> fmt::Result {
-    let long = option.name.trim_start_matches('-');
+    let (_, long) = option.name.split_at_checked(2).unwrap_or(("", ""));
     write!(
         f,
         "complete -c {name} -n '__fish_seen_subcommand_from {word}' -l {long}"

@@ -34,15 +34,19 @@ impl fmt::Display for Usage<'_> {
 
 // An operand with a space in front of it.
 fn write_operand<W: fmt::Write>(f: &mut fmt::Formatter<W>, operand: &Operand) -> fmt::Result {
-    f.write_str(if operand.required { " " } else { " [" })?;
-    if !operand.keyword.is_empty() {
-        write!(f, "{} ", operand.keyword)?;
+    let (word, name) = (operand.keyword, operand.name);
+    let gap = text_if(!word.is_empty(), " ");
+    let more = text_if(operand.many, "...");
+    if operand.required {
+        write!(f, " {word}{gap}{name}{more}")
+    } else {
+        write!(f, " [{word}{gap}{name}{more}]")
     }
-    f.write_str(operand.name)?;
-    if operand.many {
-        f.write_str("...")?;
-    }
-    f.write_str(if operand.required { "" } else { "]" })
+}
+
+// The text where that holds, and else nothing.
+fn text_if(holds: bool, text: &'static str) -> &'static str {
+    if holds { text } else { "" }
 }
 
 /// The words that a value may be, as `a, b or c`.
@@ -132,7 +136,9 @@ impl fmt::Display for ProgramHelp<'_, '_> {
         f.write_str("\nCommands:\n")?;
         for command in program.commands {
             if !command.name.is_empty() {
-                writeln!(f, "  {:<8} {}", command.name, command.help)?;
+                write!(f, "  {}", command.name)?;
+                write_spaces(f, command.name.len(), 9)?;
+                writeln!(f, "{}", command.help)?;
             }
         }
         f.write_str("\nOptions:\n")?;
@@ -155,25 +161,31 @@ fn write_option<W: fmt::Write>(f: &mut fmt::Formatter<W>, option: &Opt) -> fmt::
         used = used.saturating_add(option.value.len()).saturating_add(1);
     }
     for line in option.help.split('\n') {
-        for _ in used..COLUMN {
-            f.write_char(' ')?;
-        }
+        write_spaces(f, used, COLUMN)?;
         writeln!(f, "{line}")?;
         used = 0;
     }
     Ok(())
 }
 
+// Spaces from one column to another.
+fn write_spaces<W: fmt::Write>(
+    f: &mut fmt::Formatter<W>,
+    used: usize,
+    column: usize,
+) -> fmt::Result {
+    for _ in used..column {
+        f.write_str(" ")?;
+    }
+    Ok(())
+}
+
 // A text as a sentence of its own line: with a capital letter and a full stop.
 fn write_sentence<W: fmt::Write>(f: &mut fmt::Formatter<W>, text: &str) -> fmt::Result {
-    let mut first = true;
-    for character in text.chars() {
-        f.write_char(if first {
-            character.to_ascii_uppercase()
-        } else {
-            character
-        })?;
-        first = false;
+    let (first, rest) = text.split_at_checked(1).unwrap_or(("", text));
+    match first.as_bytes() {
+        [letter, ..] => f.write_char(letter.to_ascii_uppercase() as char)?,
+        [] => {}
     }
-    f.write_str(".\n")
+    writeln!(f, "{rest}.")
 }

@@ -1,4 +1,4 @@
-//! The man page, and the page of a reference, of a program.
+//! The help of a program and of all its commands as one page: a man page, and a page of a reference.
 
 use crate::help::{CommandHelp, ProgramHelp};
 use crate::table::Program;
@@ -14,21 +14,12 @@ pub struct ManPage<'a, 'b> {
 impl fmt::Display for ManPage<'_, '_> {
     /// Writes the help of the program and of each command as it stands.
     fn fmt<W: fmt::Write>(&self, f: &mut fmt::Formatter<W>) -> fmt::Result {
-        let program = self.program;
-        let name = program.name;
-        writeln!(f, ".TH {name} 1\n.SH NAME\n{name} \\- {}", program.help)?;
-        writeln!(
+        let (name, help) = (self.program.name, self.program.help);
+        write!(
             f,
-            ".SH DESCRIPTION\n.nf\n.eo\n{}.ec\n.fi",
-            ProgramHelp { program }
+            ".TH {name} 1\n.SH NAME\n{name} \\- {help}\n.SH DESCRIPTION"
         )?;
-        for command in program.commands {
-            if !command.name.is_empty() {
-                let help = CommandHelp { program, command };
-                writeln!(f, ".SH {name} {}\n.nf\n.eo\n{help}.ec\n.fi", command.name)?;
-            }
-        }
-        Ok(())
+        write_page(f, self.program, ".SH ", "\n.nf\n.eo\n", ".ec\n.fi\n")
     }
 }
 
@@ -42,19 +33,26 @@ pub struct ReferencePage<'a, 'b> {
 impl fmt::Display for ReferencePage<'_, '_> {
     /// Writes the page.
     fn fmt<W: fmt::Write>(&self, f: &mut fmt::Formatter<W>) -> fmt::Result {
-        let program = self.program;
-        let name = program.name;
-        write!(
-            f,
-            "# Commands of {name}\n\n```text\n{}```\n",
-            ProgramHelp { program }
-        )?;
-        for command in program.commands {
-            if !command.name.is_empty() {
-                let help = CommandHelp { program, command };
-                write!(f, "\n## {name} {}\n\n```text\n{help}```\n", command.name)?;
-            }
-        }
-        Ok(())
+        write!(f, "# Commands of {}", self.program.name)?;
+        write_page(f, self.program, "\n## ", "\n\n```text\n", "```\n")
     }
+}
+
+// The help of a program, and that of each command behind its name: with texts in front of the name, behind it and behind the help.
+fn write_page<W: fmt::Write>(
+    f: &mut fmt::Formatter<W>,
+    program: &Program<'_>,
+    front: &'static str,
+    open: &'static str,
+    close: &'static str,
+) -> fmt::Result {
+    write!(f, "{open}{}{close}", ProgramHelp { program })?;
+    for command in program.commands {
+        let name = command.name;
+        if !name.is_empty() {
+            let help = CommandHelp { program, command };
+            write!(f, "{front}{} {name}{open}{help}{close}", program.name)?;
+        }
+    }
+    Ok(())
 }

@@ -19,21 +19,12 @@ use chrono_business::{
 };
 use chrono_datetime::{Datelike, NaiveDate};
 use named::Named;
-use std::io::{self, BufRead, BufReader};
+use rows_lines::check_rows;
+use std::io;
 
 fn main(rt: HostRuntime) -> io::Result<()> {
-    let (mut lines, mut others) = (0u64, 0u64);
     let mut named = Named::new(rt.alloc(), rt.alloc(), rt.alloc());
-    for line in BufReader::new(rt.alloc(), rt.reader())?.lines(rt.alloc()) {
-        let line = line?;
-        lines = lines.wrapping_add(1);
-        if !named.names(line.as_str())? && !named.is_answered(line.as_str()) {
-            others = others.wrapping_add(1);
-            println!(rt; "line {lines} is answered otherwise: {line}")?;
-        }
-    }
-    println!(rt; "{lines} lines, {others} of them answered otherwise")?;
-    Ok(())
+    check_rows(&rt, &mut named, "answered")
 }
 
 pub(crate) fn date_of(word: &str) -> Option<NaiveDate> {

@@ -3,6 +3,7 @@
 use crate::{answer_of, date_of, is_refused, is_said, lists};
 use chrono_business::{Calendar, HolidayRule};
 use chrono_datetime::{NaiveDate, Weekday, WeekdaySet};
+use rows_lines::Rows;
 use std::alloc::Allocator;
 use std::io;
 
@@ -63,6 +64,12 @@ impl<A: Allocator> Named<A> {
         let first = Calendar::try_new(self.weekend, self.holidays.as_slice()).ok()?;
         let second = Calendar::try_new(self.other_weekend, self.other_holidays.as_slice()).ok()?;
         lists::joined(&first, &second, words)
+    }
+}
+
+impl<A: Allocator> Rows for Named<A> {
+    fn agrees(&mut self, row: &str) -> io::Result<bool> {
+        Ok(self.names(row)? || self.is_answered(row))
     }
 }
 

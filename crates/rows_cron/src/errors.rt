@@ -40,6 +40,7 @@ fn fault_name(fault: ScheduleFault) -> &'static str {
         ScheduleFault::TooManyFields => "many",
         ScheduleFault::UnknownNickname => "nickname",
         ScheduleFault::Interval => "every",
+        ScheduleFault::Reboot => "reboot",
         ScheduleFault::TimeZone => "zone",
         ScheduleFault::UnknownName => "name",
         ScheduleFault::LongName => "long",

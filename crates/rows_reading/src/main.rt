@@ -13,23 +13,24 @@ use chrono_reading::{
     read_date, read_date_time, read_duration, read_month, read_ordinal_date, read_time,
     read_week_date, read_weekday,
 };
-use std::io::{self, BufRead, BufReader};
+use rows_lines::{Rows, check_rows};
+use std::io;
 
 // The numbers of a value, 0 for those that it does not have.
 type RowNumbers = (i64, i64, i64);
 
-fn main(rt: HostRuntime) -> io::Result<()> {
-    let (mut lines, mut others) = (0u64, 0u64);
-    for line in BufReader::new(rt.alloc(), rt.reader())?.lines(rt.alloc()) {
-        let line = line?;
-        lines = lines.wrapping_add(1);
-        if !is_read(line.as_str()) {
-            others = others.wrapping_add(1);
-            println!(rt; "line {lines} is read otherwise: {line}")?;
-        }
+// The texts of the rows.
+#[derive(Drop)]
+struct Texts;
+
+impl Rows for Texts {
+    fn agrees(&mut self, row: &str) -> io::Result<bool> {
+        Ok(is_read(row))
     }
-    println!(rt; "{lines} lines, {others} of them read otherwise")?;
-    Ok(())
+}
+
+fn main(rt: HostRuntime) -> io::Result<()> {
+    check_rows(&rt, &mut Texts, "read")
 }
 
 // Whether the text of the line is read as the numbers behind it.

@@ -1,10 +1,11 @@
 -- Which of a zone's two clocks shows a local time.
-use Rattle.std.proofs.Common.{◌≡◌, ◌↔◌, ℕ, ◌+◌, ◌-◌, ◌<◌, ℤ, pos, ◌+ℤ◌, ◌≤ℤ◌, ◌<ℤ◌, true, false, int_le, List, length, inl, inr, refl, sym, ap, ◌∙◌, arith}
-use Rattle.std.specs.Prelude.{Some}
+use Rattle.std.proofs.Common.{◌≡◌, ◌↔◌, ℕ, ◌+◌, ◌-◌, ◌<◌, ◌≤◌, ℤ, pos, ◌+ℤ◌, ◌≤ℤ◌, ◌<ℤ◌, true, false, int_le, List, length, inl, inr, refl, sym, ap, ◌∙◌, arith}
+use Rattle.std.specs.Prelude.{None, Some}
+use Rattle.std.proofs.lemmas.Bool.{both_ways, cond_both}
 use Rattle.std.proofs.lemmas.Bool.Decides.{leb_tells, nat_tests}
 use Rattle.std.proofs.lemmas.Int.{by_lt_z, int_min_is, ints}
 use Rattle.chrono_zoned.specs.Offsets.{IsOffset}
-use Rattle.chrono_zoned.specs.Zones.{IsMapped, Shows}
+use Rattle.chrono_zoned.specs.Zones.{HoldsUntil, IsMapped, Shows}
 use Rattle.chrono_zoned.specs.declared.mapped_local_time.MappedLocalTime.{MappedLocalTime}
 use Rattle.chrono_zoned.specs.declared.mapped_local_time.MappedLocalTime.TheVariants.{None as NoInstant, Single, Ambiguous}
 use Rattle.zone_rule.specs.Rules.{rule_offset}
@@ -133,3 +134,40 @@ show_by_rule first rows r l most table bounds u =
           ))
           (λ (come : t ≤ℤ u). same_shows (rule_offset r) (offset_with first rows (Some r)) l u (by_rule first rows r u (is_behind-come rows up u (λ _. come))))
     ]
+
+-- ---- how long an offset of a zone holds
+
+-- behind the rows as long as the rule's
+pub holds_behind : (first : ℤ) (rows : List Row) (r : ZoneRule) (s t : ℤ) → IsTable first rows → is_behind rows s ≡ true → HoldsUntil (rule_offset r) s t → HoldsUntil (offset_with first rows (Some r)) s t
+holds_behind first rows r s t table behind holds u from to =
+    let up = seconds_rise (row_second rows) (offset_after first rows) (length rows) table in
+    let come : 0 < length rows → (last_row rows).second ≤ℤ u = λ some.
+    by_lt_z s (last_row rows).second
+    (λ (early : s <ℤ (last_row rows).second). absurd (both_ways (is_behind rows s) (is_behind-later rows up s some early) behind))
+    (λ (late : (last_row rows).second ≤ℤ s). omega (arith, ints, late, from)) in
+    sym (by_rule first rows r u (is_behind-come rows up u come)) ∙ holds u from to ∙ by_rule first rows r s behind
+
+-- in front of the last row as long as the table's
+pub holds_before : (first : ℤ) (rows : List Row) (r : ZoneRule) (s t : ℤ) → IsTable first rows → is_behind rows s ≡ false → HoldsUntil (table_offset first rows) s t → ((k : ℕ) → k < length rows → s <ℤ row_second rows k → t ≤ℤ row_second rows k) → HoldsUntil (offset_with first rows (Some r)) s t
+holds_before first rows r s t table front holds by u from to =
+    let up = seconds_rise (row_second rows) (offset_after first rows) (length rows) table in
+    elim (leb_tells (length rows) 0) [
+      | inl none ↦ absurd (both_ways (is_behind rows s) front (is_behind-come rows up s (λ some. absurd (omega (arith, some, none.1)))))
+      | inr some ↦
+          let early : s <ℤ (last_row rows).second = by_lt_z s (last_row rows).second (λ (lt : s <ℤ (last_row rows).second). lt)
+          (λ (come : (last_row rows).second ≤ℤ s). absurd (both_ways (is_behind rows s) front (is_behind-come rows up s (λ _. come)))) in
+          let end : t ≤ℤ (last_row rows).second = by (length rows - 1) (omega (arith, some.1)) early in
+          sym (by_rows first rows r u (is_behind-later rows up u some.1 (omega (arith, ints, to, end)))) ∙ holds u from to ∙ by_rows first rows r s front
+    ]
+
+-- each offset is less than a day
+table_near : (first : ℤ) (rows : List Row) → IsTable first rows → ((k : ℕ) → k ≤ length rows → IsOffset (offset_after first rows k)) → (u : ℤ) → IsOffset (table_offset first rows u)
+table_near first rows table near u =
+    near (come_by (row_second rows) (length rows) u) (come_by-Come (row_second rows) (length rows) (seconds_rise (row_second rows) (offset_after first rows) (length rows) table) u).bound
+
+pub near_with : (first : ℤ) (rows : List Row) (r : ZoneRule) → IsTable first rows → ((k : ℕ) → k ≤ length rows → IsOffset (offset_after first rows k)) → ((u : ℤ) → IsOffset (rule_offset r u)) → (u : ℤ) → IsOffset (offset_with first rows (Some r) u)
+near_with first rows r table near ruled u =
+    cond_both (is_behind rows u) (rule_offset r u) (table_offset first rows u) (λ (x : ℤ). IsOffset x) (λ _. ruled u) (λ _. table_near first rows table near u)
+
+pub near_without : (first : ℤ) (rows : List Row) → IsTable first rows → ((k : ℕ) → k ≤ length rows → IsOffset (offset_after first rows k)) → (u : ℤ) → IsOffset (offset_with first rows None u)
+near_without first rows table near u = table_near first rows table near u

@@ -1,6 +1,8 @@
 -- What the contracts of private functions say.
-use Rattle.std.specs.Prelude.{◌≡◌, ◌↔◌, ◌<◌, ℤ, pos, ◌+ℤ◌, ◌≤ℤ◌, List, length, Option, Some, None}
+use Rattle.std.specs.Prelude.{◌≡◌, ◌↔◌, ℕ, ◌<◌, ◌≤◌, ℤ, pos, ◌+ℤ◌, ◌≤ℤ◌, List, length, Option, Some, None}
+use Rattle.chrono_zoned.specs.Offsets.{IsOffset}
 use Rattle.chrono_zoned.specs.Zones.{Shows}
+use Rattle.zone_table.specs.Table.{offset_after}
 use Rattle.zone_rule.specs.Rules.{rule_offset}
 use Rattle.zone_rule.specs.declared.rule.ZoneRule.{ZoneRule}
 use Rattle.zone_table.specs.declared.row.Row.{Row}
@@ -19,6 +21,7 @@ KeepsOn rows (Some r) = 0 < length rows → KeepsOffset (last_row rows) r
 pub record IsWhole (z : ZoneParts) : Type 0 where
   pub zone : IsZone z
   pub keeps : KeepsOn z.rows z.rule
+  pub near : (k : ℕ) → k ≤ length z.rows → IsOffset (offset_after z.first z.rows k)
 
 -- two clocks show the local second l at the same instants
 abbrev pub ShowAlike : (ℤ → ℤ) → (ℤ → ℤ) → ℤ → Type 0

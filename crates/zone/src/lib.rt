@@ -25,7 +25,7 @@ pub mod law;
 mod time_zone;
 mod zone;
 
-pub use chrono_zoned::{FixedOffset, MappedLocalTime};
+pub use chrono_zoned::{FixedOffset, MappedLocalTime, Stretch};
 pub use fault::ZoneFault;
 pub use zone::Zone;
 pub use zone_rule::{Change, Daylight, RuleDay, ZoneRule};

@@ -2,7 +2,7 @@
 
 use crate::zone::Zone;
 use chrono_datetime::NaiveDateTime;
-use chrono_zoned::{FixedOffset, MappedLocalTime, TimeZone, Timestamp};
+use chrono_zoned::{FixedOffset, MappedLocalTime, Stretch, TimeZone, Timestamp};
 
 impl<'b, 'a> TimeZone for &'b Zone<'a> {
     ghost use Rattle.zone.specs.Parts.{zone_offset};
@@ -15,5 +15,9 @@ impl<'b, 'a> TimeZone for &'b Zone<'a> {
 
     fn offset_from_local_datetime(&self, local: &NaiveDateTime) -> MappedLocalTime<FixedOffset> {
         self.offsets_of_local(local.timestamp())
+    }
+
+    fn stretch_from(&self, second: i64) -> Stretch {
+        self.stretch_of_instant(second)
     }
 }

@@ -1,7 +1,7 @@
 //! `Zone`: a table of changes, and the rule behind them.
-ghost use Rattle.std.specs.Prelude.{◌≡◌, ◌↔◌, ◌-◌, ◌<◌, ℤ, ◌+ℤ◌, ◌≤ℤ◌, IfErr, IfOk, IfSome, IsFalse, IsSome, IsTrue, Some, length};
+ghost use Rattle.std.specs.Prelude.{◌≡◌, ◌↔◌, ◌-◌, ◌<◌, ℤ, pos, ◌+ℤ◌, ◌≤ℤ◌, ◌<ℤ◌, IfErr, IfOk, IfSome, IsFalse, IsSome, IsTrue, Some, length};
 ghost use Rattle.chrono_zoned.specs.Offsets.{IsOffset};
-ghost use Rattle.chrono_zoned.specs.Zones.{IsMapped};
+ghost use Rattle.chrono_zoned.specs.Zones.{HoldsUntil, IsMapped};
 ghost use Rattle.zone_rule.specs.Rules.{rule_offset};
 ghost use Rattle.zone_table.specs.Sequence.{IsRising};
 ghost use Rattle.zone_table.specs.Table.{IsTable, offset_after, row_second, table_offset};
@@ -9,7 +9,7 @@ ghost use Rattle.zone.specs.Parts.{GoesOn, IsFault, IsJoined, IsZone, is_behind,
 ghost use Rattle.zone.specs.Private.{KeepsOffset, KeepsOn, ShowAlike};
 
 use crate::fault::ZoneFault;
-use chrono_zoned::{FixedOffset, MappedLocalTime};
+use chrono_zoned::{FixedOffset, MappedLocalTime, Stretch};
 use std::marker::Model;
 use zone_rule::ZoneRule;
 use zone_table::{Row, first_unordered};
@@ -101,6 +101,34 @@ impl<'a> Zone<'a> {
             }
         }
         zone_table::offset_of_instant(self.first, self.rows, second)
+    }
+
+    /// Returns the offset at the instant `second`, and a later second up to which it holds: that of the next row, or of the next
+    /// change by the rule.
+    ///
+    /// It is `i64::MAX` if there is none up to then.
+    ///
+    /// ```
+    /// let zero = FixedOffset::east_opt(0)?;
+    /// let hour = FixedOffset::east_opt(3_600)?;
+    /// let rows = [Row { second: 1_000, offset: hour }];
+    /// let zone = Zone::new(zero, &rows, None).ok()?;
+    /// zone.stretch_of_instant(999).until // 1000
+    /// ```
+    pub fn stretch_of_instant(&self, second: i64) -> Stretch
+        ensures offset { result.offset ≡ zone_offset self.now second }
+        ensures holds { HoldsUntil (zone_offset self.now) second result.until }
+        ensures later { second <ℤ pos 9_223_372_036_854_775_807 → second <ℤ result.until }
+        ensures near { (u : ℤ) → IsOffset (zone_offset self.now u) }
+    {
+        if let Some(rule) = &self.rule {
+            // A proof knows the range of what is read. The compiler leaves it out.
+            let _most = rule_most(rule);
+            if is_behind(self.rows, second) {
+                return rule.stretch_of_instant(second);
+            }
+        }
+        zone_table::stretch_of_instant(self.first, self.rows, second)
     }
 
     /// Returns the offsets at all instants at which the clock shows the local second `local`, the earlier instant first.

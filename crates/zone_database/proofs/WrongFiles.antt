@@ -3,7 +3,7 @@ use Rattle.std.proofs.Common.{◌≡◌, ℕ, List, [], Option, Some, None}
 use Rattle.zone_file.specs.ZoneFiles.{IsZoneFile}
 use Rattle.zone_rule.specs.declared.rule.ZoneRule.{ZoneRule}
 use Rattle.zone_text.specs.ZoneTexts.{IsZoneText}
-use Rattle.zone_database.specs.OwnedZones.{IsFileError, IsFooterOf, IsRowsError}
+use Rattle.zone_database.specs.OwnedZones.{IsFileError, IsFooterOf, IsOwnedRowsError}
 use Rattle.zone_database.specs.declared.error.ZoneError.{ZoneError}
 use Rattle.zone_database.specs.declared.error.ZoneError.TheVariants.{NoName, NoSuchZone, Unread, LongFile, File, NoFirstKind, NoRow, Rule, Zone, OutOfMemory}
 
@@ -12,7 +12,7 @@ no_rule footer some none None is = some is
 no_rule footer some none (Some rule) is = none is.standard is.daylight rule is.written
 
 pub no_rows : (bytes : List ℕ) (version : ℕ) (times places kinds names footer : List ℕ) → IsZoneFile bytes version times places kinds names footer
-    → (e : ZoneError) → IsRowsError version times places kinds e → IsFileError bytes e
+    → (e : ZoneError) → IsOwnedRowsError version times places kinds e → IsFileError bytes e
 no_rows bytes version times places kinds names footer file (NoRow k) is =
     record { version = version; times = times; places = places; kinds = kinds; names = names; footer = footer; file = file; is = is }
 no_rows bytes version times places kinds names footer file OutOfMemory is = tt

@@ -12,7 +12,7 @@ use Rattle.zone_database.specs.declared.error.ZoneError.{ZoneError}
 use Rattle.zone_database.specs.declared.error.ZoneError.TheVariants.{NoName, NoSuchZone, Unread, LongFile, File, NoFirstKind, NoRow, Rule, Zone, OutOfMemory}
 
 -- the text writes the rule
-pub record IsRuleText (text : List ℕ) (rule : ZoneRule) : Type 0 where
+pub record IsZoneRuleText (text : List ℕ) (rule : ZoneRule) : Type 0 where
   pub standard : List ℕ
   pub daylight : List ℕ
   pub written : IsZoneText text standard daylight rule
@@ -20,7 +20,7 @@ pub record IsRuleText (text : List ℕ) (rule : ZoneRule) : Type 0 where
 -- the footer of a file writes the rule, or is empty where there is none
 abbrev pub IsFooterOf : List ℕ → Option ZoneRule → Type 0
 IsFooterOf footer None = footer ≡ []
-IsFooterOf footer (Some rule) = IsRuleText footer rule
+IsFooterOf footer (Some rule) = IsZoneRuleText footer rule
 
 -- The bytes are those of a TZif file. The zone has the offset of its kind 0 at first, its rows, and the rule of its footer.
 pub record IsZoneOfFile (bytes : List ℕ) (zone : ZoneParts) : Type 0 where
@@ -41,7 +41,7 @@ pub record IsZoneOfFile (bytes : List ℕ) (zone : ZoneParts) : Type 0 where
 -- the zone is the rule that the text writes, with no row
 pub record IsZoneOfText (text : List ℕ) (zone : ZoneParts) : Type 0 where
   pub rule : ZoneRule
-  pub written : IsRuleText text rule
+  pub written : IsZoneRuleText text rule
   pub has_rule : zone.rule ≡ Some rule
   pub no_rows : zone.rows ≡ []
 
@@ -67,17 +67,17 @@ abbrev pub IsNoRow : ℕ → List ℕ → List ℕ → List ℕ → ℕ → Type
 IsNoRow version times places kinds k = (k < length places) × ((row : Row) → ¬ IsFileRow version times places kinds k row)
 
 -- why a file has no rows, where memory may be short
-abbrev pub IsRowsError : ℕ → List ℕ → List ℕ → List ℕ → ZoneError → Type 0
-IsRowsError version times places kinds (NoRow k) = IsNoRow version times places kinds k
-IsRowsError version times places kinds OutOfMemory = Unit {0}
-IsRowsError version times places kinds NoName = ⊥
-IsRowsError version times places kinds NoSuchZone = ⊥
-IsRowsError version times places kinds (Unread _) = ⊥
-IsRowsError version times places kinds LongFile = ⊥
-IsRowsError version times places kinds (File _) = ⊥
-IsRowsError version times places kinds NoFirstKind = ⊥
-IsRowsError version times places kinds (Rule _) = ⊥
-IsRowsError version times places kinds (Zone _) = ⊥
+abbrev pub IsOwnedRowsError : ℕ → List ℕ → List ℕ → List ℕ → ZoneError → Type 0
+IsOwnedRowsError version times places kinds (NoRow k) = IsNoRow version times places kinds k
+IsOwnedRowsError version times places kinds OutOfMemory = Unit {0}
+IsOwnedRowsError version times places kinds NoName = ⊥
+IsOwnedRowsError version times places kinds NoSuchZone = ⊥
+IsOwnedRowsError version times places kinds (Unread _) = ⊥
+IsOwnedRowsError version times places kinds LongFile = ⊥
+IsOwnedRowsError version times places kinds (File _) = ⊥
+IsOwnedRowsError version times places kinds NoFirstKind = ⊥
+IsOwnedRowsError version times places kinds (Rule _) = ⊥
+IsOwnedRowsError version times places kinds (Zone _) = ⊥
 
 -- why bytes hold no zone, where memory may be short
 abbrev pub IsFileError : List ℕ → ZoneError → Type 0
@@ -95,7 +95,7 @@ IsFileError bytes LongFile = ⊥
 
 -- why a text holds no zone, where memory may be short
 abbrev pub IsTextError : List ℕ → ZoneError → Type 0
-IsTextError text (Rule _) = (rule : ZoneRule) → ¬ IsRuleText text rule
+IsTextError text (Rule _) = (rule : ZoneRule) → ¬ IsZoneRuleText text rule
 IsTextError text OutOfMemory = Unit {0}
 IsTextError text NoName = ⊥
 IsTextError text NoSuchZone = ⊥

@@ -3,7 +3,7 @@ ghost use Rattle.std.specs.Prelude.{◌≡◌, Option, IfErr, IfNone, IfOk, IfSo
 ghost use Rattle.zone_file.specs.Tables.{AreFileRows};
 ghost use Rattle.zone_rule.specs.declared.rule.ZoneRule.{ZoneRule};
 ghost use Rattle.zone.specs.Parts.{IsFault, IsZone};
-ghost use Rattle.zone_database.specs.OwnedZones.{IsFileError, IsFooterOf, IsRowsError, IsTextError, IsZoneOfFile, IsZoneOfText};
+ghost use Rattle.zone_database.specs.OwnedZones.{IsFileError, IsFooterOf, IsOwnedRowsError, IsTextError, IsZoneOfFile, IsZoneOfText};
 
 use crate::error::ZoneError;
 use std::alloc::Allocator;
@@ -277,7 +277,7 @@ fn rows_of_file<A: Allocator>(
 ) -> Result<Vec<Row, A>, ZoneError>
     ensures count { IfOk result (λ rows. length rows.items ≡ length file.now.places.now) }
     ensures rows { IfOk result (λ rows. AreFileRows file.now.version file.now.times.now file.now.places.now file.now.kinds.now (length file.now.places.now) rows.items) }
-    ensures error { IfErr result (IsRowsError file.now.version file.now.times.now file.now.places.now file.now.kinds.now) }
+    ensures error { IfErr result (IsOwnedRowsError file.now.version file.now.times.now file.now.places.now file.now.kinds.now) }
 {
     let mut rows = vec![in alloc; Row { second: 0, offset }; file.places.len()]?;
     match file.read_rows(rows.as_mut_slice()) {

@@ -33,8 +33,8 @@ abbrev pub time_length : ℕ → ℕ
 time_length version = if version == 0 then 4 else 8
 
 -- the time at a place, in seconds from 1 January 1970 in UTC
-abbrev pub time_in : ℕ → List ℕ → ℕ → ℤ
-time_in version times k =
+abbrev pub transition_time : ℕ → List ℕ → ℕ → ℤ
+transition_time version times k =
     if version == 0 then cast_signed w32 (count_in (k * 4) times)
     else cast_signed w64 (from_be_bytes w64 (take 8 (drop (k * 8) times)))
 
@@ -42,15 +42,15 @@ time_in version times k =
 pub record IsFileRow (version : ℕ) (times places kinds : List ℕ) (k : ℕ) (row : Row) : Type 0 where
   pub within : k < length places
   pub timed : k * time_length version + time_length version ≤ length times
-  pub second : time_in version times k ≡ row.second
+  pub second : transition_time version times k ≡ row.second
   pub offset : IsKindOffset kinds (slice_index places k) row.offset
 
 -- known values: five hours behind UTC, the last minute of 1969, and the least time of 32 bits
 offset-new_york : cast_signed w32 (count_in 0 (255 ∷ 255 ∷ 185 ∷ 176 ∷ [])) ≡ neg_ℤ (pos 18_000)
 offset-new_york = refl
 
-time_in-second : time_in 50 (0 ∷ 0 ∷ 0 ∷ 0 ∷ 0 ∷ 0 ∷ 0 ∷ 0 ∷ 255 ∷ 255 ∷ 255 ∷ 255 ∷ 255 ∷ 255 ∷ 255 ∷ 196 ∷ []) 1 ≡ neg_ℤ (pos 60)
-time_in-second = refl
+transition_time-second : transition_time 50 (0 ∷ 0 ∷ 0 ∷ 0 ∷ 0 ∷ 0 ∷ 0 ∷ 0 ∷ 255 ∷ 255 ∷ 255 ∷ 255 ∷ 255 ∷ 255 ∷ 255 ∷ 196 ∷ []) 1 ≡ neg_ℤ (pos 60)
+transition_time-second = refl
 
-time_in-least : time_in 0 (128 ∷ 0 ∷ 0 ∷ 0 ∷ []) 0 ≡ neg_ℤ (pos 2_147_483_648)
-time_in-least = refl
+transition_time-least : transition_time 0 (128 ∷ 0 ∷ 0 ∷ 0 ∷ []) 0 ≡ neg_ℤ (pos 2_147_483_648)
+transition_time-least = refl

@@ -1,6 +1,6 @@
 //! The rows of the table of a file.
 ghost use Rattle.std.specs.Prelude.{◌≡◌, ◌<◌, ◌+◌, ◌*◌, ◌≤◌, ℤ, Some, IfSome, IfOk, IfErr, length};
-ghost use Rattle.zone_file.specs.Kinds.{IsFileRow, time_in, time_length};
+ghost use Rattle.zone_file.specs.Kinds.{IsFileRow, time_length, transition_time};
 ghost use Rattle.zone_file.specs.Tables.{AreFileRows, IsRowsError};
 ghost use Rattle.zone_table.specs.declared.row.Row.{Row};
 
@@ -71,16 +71,16 @@ impl<'a> ZoneFile<'a> {
         if place >= self.places.len() {
             return None;
         }
-        let second = time_in(self.version, self.times, place)?;
+        let second = transition_time(self.version, self.times, place)?;
         let offset = kind_offset(self.kinds, self.places[place])?;
         Some(Row { second, offset })
     }
 }
 
 // The time at a place, if it is there.
-fn time_in(version: u8, times: &[u8], place: usize) -> Option<i64>
-    ensures read { IfSome result (λ second. (place * time_length version + time_length version ≤ length times.now) × (time_in version times.now place ≡ second)) }
-    ensures every { place * time_length version + time_length version ≤ length times.now → result ≡ Some (time_in version times.now place) }
+fn transition_time(version: u8, times: &[u8], place: usize) -> Option<i64>
+    ensures read { IfSome result (λ second. (place * time_length version + time_length version ≤ length times.now) × (transition_time version times.now place ≡ second)) }
+    ensures every { place * time_length version + time_length version ≤ length times.now → result ≡ Some (transition_time version times.now place) }
 {
     if version == 0 {
         if times.len() / 4 <= place {

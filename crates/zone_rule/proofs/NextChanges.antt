@@ -1,14 +1,16 @@
 -- The next second at which a rule sets the clock.
 use Rattle.std.proofs.Common.{◌≡◌, ℕ, zero, suc, ℤ, pos, negsuc, ◌+ℤ◌, ◌-ℤ◌, ◌*ℤ◌, ◌≤ℤ◌, ◌<ℤ◌, true, false, inl, inr, refl, sym, ap, subst, ◌∙◌, arith}
 use Rattle.std.specs.Int.{int_min}
-use Rattle.std.specs.Prelude.{Some, int_lt}
+use Rattle.std.specs.Prelude.{None, Option, Some, int_lt}
 use Rattle.std.proofs.lemmas.Bool.{cond_both}
 use Rattle.std.proofs.lemmas.Int.{by_lt_z, ints}
 use Rattle.chrono_calendar.proofs.Signed.{signed}
 use Rattle.chrono_zoned.specs.Offsets.{IsOffset}
+use Rattle.chrono_zoned.specs.Zones.{HoldsUntil}
 use Rattle.zone_rule.specs.Changes.{IsChange, IsNextOf, YearlyChange, change_second, last_by, year_of_second}
-use Rattle.zone_rule.specs.Rules.{IsNextSetting, IsSetBy, IsSteadyUntil, ahead_by, is_daylight}
+use Rattle.zone_rule.specs.Rules.{IsNextSetting, IsSetBy, IsSteadyUntil, ahead_by, is_daylight, rule_offset}
 use Rattle.zone_rule.specs.declared.rule.Daylight.{Daylight}
+use Rattle.zone_rule.specs.declared.rule.ZoneRule.{ZoneRule}
 use Rattle.zone_rule.proofs.LastChanges.{last_by-some}
 use Rattle.zone_rule.proofs.LastOfAll.{change_second-later, last_change, rises}
 use Rattle.zone_rule.proofs.RuleCycles.{change_second-again}
@@ -127,3 +129,15 @@ is_steady offset d s t begins ends near far next u from to =
 -- each offset of a rule is one of its two
 pub offsets_near : (offset : ℤ) (d : Daylight) → IsOffset offset → IsOffset d.offset → (u : ℤ) → IsOffset (ahead_by offset (Some d) u)
 offsets_near offset d near far u = cond_both (is_daylight offset d u) d.offset offset (λ (x : ℤ). IsOffset x) (λ _. far) (λ _. near)
+
+pub all_near : (r : ZoneRule) (d : Daylight) → r.daylight ≡ Some d → IsOffset r.standard → IsOffset d.offset → (u : ℤ) → IsOffset (rule_offset r u)
+all_near r d is near far u = subst (λ (o : Option Daylight). IsOffset (ahead_by r.standard o u)) (sym is) (offsets_near r.standard d near far u)
+
+-- until the rule sets the clock its offset holds
+pub steady_holds : (r : ZoneRule) (d : Daylight) (s t until : ℤ) → r.daylight ≡ Some d → IsSteadyUntil (record { standard = r.standard; daylight = Some d }) s t → until ≤ℤ t → HoldsUntil (rule_offset r) s until
+steady_holds r d s t until is steady le u from to =
+    subst (λ (o : Option Daylight). ahead_by r.standard o u ≡ ahead_by r.standard o s) (sym is) (steady u from (omega (arith, signed, to, le)))
+
+-- where there is no daylight time, standard time holds
+pub always_standard : (r : ZoneRule) → r.daylight ≡ None → (u : ℤ) → rule_offset r u ≡ r.standard
+always_standard r is u = ap (λ (o : Option Daylight). ahead_by r.standard o u) is

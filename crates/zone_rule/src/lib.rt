@@ -30,6 +30,6 @@ mod rule_day;
 mod time_zone;
 
 pub use change::Change;
-pub use chrono_zoned::{FixedOffset, MappedLocalTime};
+pub use chrono_zoned::{FixedOffset, MappedLocalTime, Stretch};
 pub use rule::{Daylight, ZoneRule};
 pub use rule_day::RuleDay;

@@ -2,13 +2,13 @@
 ghost use Rattle.std.specs.Prelude.{◌≡◌, ◌↔◌, Bool, if◌then◌else◌, ℤ, pos, neg_ℤ, ◌+ℤ◌, ◌-ℤ◌, ◌<ℤ◌, ◌≤ℤ◌, IfNone, IfSome, IsSome, Some};
 ghost use Rattle.chrono_units.specs.Years.{IsYear};
 ghost use Rattle.chrono_zoned.specs.Offsets.{IsOffset};
-ghost use Rattle.chrono_zoned.specs.Zones.{IsMapped};
+ghost use Rattle.chrono_zoned.specs.Zones.{HoldsUntil, IsMapped};
 ghost use Rattle.zone_rule.specs.Changes.{IsChange, IsNextOf, IsYearOfCycle, change_second, last_by, year_of_second};
 ghost use Rattle.zone_rule.specs.Rules.{IsNextSetting, IsSetAt, IsSteadyUntil, is_daylight, is_daylight_by, rule_offset};
 
 use crate::change::{Change, SECS_PER_DAY, UNIX_EPOCH_DAY};
 use chrono_datetime::{Datelike, NaiveDate};
-use chrono_zoned::{FixedOffset, MappedLocalTime};
+use chrono_zoned::{FixedOffset, MappedLocalTime, Stretch};
 
 // The seconds of 400 years, after which the calendar comes again.
 const SECS_PER_CYCLE: i64 = 12_622_780_800;
@@ -153,6 +153,42 @@ impl ZoneRule {
     {
         let daylight = self.daylight?;
         Some(daylight.seconds_to_change(self.standard, second))
+    }
+
+    /// Returns the offset at the instant `second`, and the next second at which the rule sets the clock, up to which it holds.
+    ///
+    /// It is `i64::MAX` if there is none up to then.
+    ///
+    /// ```
+    /// let begins = Change::new(RuleDay::Julian(60), 7_200)?;
+    /// let ends = Change::new(RuleDay::Julian(300), 7_200)?;
+    /// let daylight = Daylight { offset: FixedOffset::east_opt(3_600)?, begins, ends };
+    /// let rule = ZoneRule { standard: FixedOffset::east_opt(0)?, daylight: Some(daylight) };
+    /// rule.stretch_of_instant(1_709_258_399).until // 1709258400
+    /// ```
+    pub fn stretch_of_instant(&self, second: i64) -> Stretch
+        ensures offset { result.offset ≡ rule_offset self.now second }
+        ensures holds { HoldsUntil (rule_offset self.now) second result.until }
+        ensures later { second <ℤ pos 9_223_372_036_854_775_807 → second <ℤ result.until }
+        ensures near { (u : ℤ) → IsOffset (rule_offset self.now u) }
+    {
+        let Some(daylight) = self.daylight else {
+            return Stretch::without_end(self.standard);
+        };
+        let offset = self.offset_of_instant(second);
+        let wait = daylight.seconds_to_change(self.standard, second);
+        // A proof knows the range of what is read. The compiler leaves it out.
+        let _near = (
+            self.standard.local_minus_utc(),
+            daylight.offset.local_minus_utc(),
+        );
+        let Some(until) = second.checked_add(wait) else {
+            return Stretch {
+                offset,
+                until: i64::MAX,
+            };
+        };
+        Stretch { offset, until }
     }
 
     /// Returns the offsets at all instants at which the clock shows the local second `local`, the earlier instant first.

@@ -1,7 +1,8 @@
 -- When the offset changes next, and when it changed last, where the changes are ordered.
-use Rattle.std.proofs.Common.{◌≡◌, ◌≢◌, ℕ, ◌+◌, ◌-◌, ◌≤◌, ◌<◌, ℤ, pos, ◌-ℤ◌, sym, ap, ◌∙◌, arith, inl, inr}
+use Rattle.std.proofs.Common.{◌≡◌, ◌≢◌, ℕ, ◌+◌, ◌-◌, ◌≤◌, ◌<◌, ℤ, pos, ◌-ℤ◌, ◌≤ℤ◌, sym, ap, ◌∙◌, arith, inl, inr}
 use Rattle.std.proofs.lemmas.Bool.Decides.{leb_tells}
 use Rattle.std.proofs.lemmas.Int.{ints}
+use Rattle.chrono_zoned.specs.Zones.{HoldsUntil}
 use Rattle.zone_table.specs.Changes.{ChangesAt, IsNextChange, IsPreviousChange, IsSteadyFrom, IsSteadyTo}
 use Rattle.zone_table.specs.Sequence.{AreOrdered, ChangesFirst, ChangesLast, IsSameFrom, IsSameTo, come_by, offset_by}
 use Rattle.zone_table.proofs.LocalTimes.{seconds_rise}
@@ -75,3 +76,17 @@ previous_is second after n s p ordered last =
 pub steady_to : (second after : ℕ → ℤ) (n : ℕ) (s : ℤ) → AreOrdered second after n → IsSameTo after (come_by second n s) → IsSteadyTo (offset_by second after n) s
 steady_to second after n s ordered same u short =
     same (come_by second n u) (come_by-le second n (seconds_rise second after n ordered) u s short)
+
+-- until the next change the offset holds
+pub holds_until : (second after : ℕ → ℤ) (n : ℕ) (s t : ℤ) (c : ℕ) → AreOrdered second after n → come_by second n s ≡ c → (c < n → t ≤ℤ second c) → HoldsUntil (offset_by second after n) s t
+holds_until second after n s t c ordered count next u from to =
+    let up = seconds_rise second after n ordered in
+    let least = come_by-le second n up s u from in
+    let bound = (come_by-Come second n up u).bound in
+    ap after (elim (leb_tells (come_by second n u) c) [
+      | inl few ↦ omega (arith, few.1, least, count)
+      | inr more ↦
+          let come = (come_by-Come second n up u).come c more.1 in
+          let later = next (omega (arith, more.1, bound)) in
+          absurd (omega (arith, ints, come, later, to))
+    ])

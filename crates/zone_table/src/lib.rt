@@ -23,7 +23,7 @@ mod row;
 mod search;
 
 pub use changes::{next_change, previous_change};
-pub use chrono_zoned::{FixedOffset, MappedLocalTime};
-pub use offsets::{offset_of_instant, offsets_of_local};
+pub use chrono_zoned::{FixedOffset, MappedLocalTime, Stretch};
+pub use offsets::{offset_of_instant, offsets_of_local, stretch_of_instant};
 pub use order::first_unordered;
 pub use row::Row;

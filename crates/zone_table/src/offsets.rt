@@ -1,14 +1,14 @@
 //! The offset at an instant, and the offsets of a local time.
-ghost use Rattle.std.specs.Prelude.{◌≡◌, ◌≤◌, ◌<◌, ◌+◌, ◌-◌, ◌+ℤ◌, IfSome, length};
+ghost use Rattle.std.specs.Prelude.{◌≡◌, ℕ, ◌≤◌, ◌<◌, ◌+◌, ◌-◌, pos, ◌+ℤ◌, ◌≤ℤ◌, ◌<ℤ◌, IfSome, length};
 ghost use Rattle.chrono_zoned.specs.declared.mapped_local_time.MappedLocalTime.TheVariants.{Single};
 ghost use Rattle.chrono_zoned.specs.Offsets.{IsOffset};
-ghost use Rattle.chrono_zoned.specs.Zones.{IsMapped};
+ghost use Rattle.chrono_zoned.specs.Zones.{HoldsUntil, IsMapped};
 ghost use Rattle.zone_table.specs.Sequence.{Come, IsRising, local_start};
 ghost use Rattle.zone_table.specs.Table.{IsTable, offset_after, table_offset, row_second};
 
 use crate::row::{Row, second_at, table_offset};
-use crate::search::last_begun;
-use chrono_zoned::{FixedOffset, MappedLocalTime};
+use crate::search::{last_begun, rows_begun};
+use chrono_zoned::{FixedOffset, MappedLocalTime, Stretch};
 
 // No offset is as much.
 const SECS_PER_DAY: i64 = 86_400;
@@ -34,6 +34,36 @@ pub fn offset_of_instant(first: FixedOffset, rows: &[Row], second: i64) -> Fixed
         Some(from) => table_offset(from, 0),
         None => first,
     }
+}
+
+/// Returns the offset at the instant `second`, and the second of the next row, up to which it holds.
+///
+/// It is `i64::MAX` if no row is left. Requires rows in which each follows the one before it
+/// ([`first_unordered`](crate::first_unordered)).
+///
+/// ```
+/// let hour = FixedOffset::east_opt(3_600)?;
+/// let rows = [Row { second: 1_000, offset: hour }];
+/// let zero = FixedOffset::east_opt(0)?;
+/// stretch_of_instant(zero, &rows, 999).until // 1000
+/// stretch_of_instant(zero, &rows, 1_000).until == i64::MAX // true
+/// ```
+#[inline(never)]
+pub fn stretch_of_instant(first: FixedOffset, rows: &[Row], second: i64) -> Stretch
+    requires { IsTable first rows.now }
+    ensures offset { result.offset ≡ table_offset first rows.now second }
+    ensures holds { HoldsUntil (table_offset first rows.now) second result.until }
+    ensures later { second <ℤ pos 9_223_372_036_854_775_807 → second <ℤ result.until }
+    // It ends no later than where a row begins.
+    ensures rows { (k : ℕ) → k < length rows.now → second <ℤ row_second rows.now k → result.until ≤ℤ row_second rows.now k }
+{
+    let count = rows_begun(rows, second);
+    let offset = offset_of_count(first, rows, count);
+    if count < rows.len() {
+        let until = second_at(rows, count);
+        return Stretch { offset, until };
+    }
+    Stretch::without_end(offset)
 }
 
 /// Returns the offsets at all instants at which the clock shows the local second `local`, the earlier instant first.

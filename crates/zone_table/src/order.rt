@@ -1,5 +1,6 @@
 //! Whether rows make a table.
-ghost use Rattle.std.specs.Prelude.{◌≡◌, ◌+◌, ◌<◌, ◌↔◌, IfNone, IfSome, IsTrue, length};
+ghost use Rattle.std.specs.Prelude.{◌≡◌, ℕ, ◌+◌, ◌<◌, ◌≤◌, ◌↔◌, IfNone, IfSome, IsTrue, length};
+ghost use Rattle.chrono_zoned.specs.Offsets.{IsOffset};
 ghost use Rattle.zone_table.specs.Sequence.{local_end};
 ghost use Rattle.zone_table.specs.Table.{IsFirstUnordered, IsTable, RowFollows, offset_after, row_second};
 
@@ -22,7 +23,10 @@ use chrono_zoned::FixedOffset;
 pub fn first_unordered(first: FixedOffset, rows: &[Row]) -> Option<usize>
     ensures unordered { IfSome result (IsFirstUnordered first rows.now) }
     ensures none { IfNone result (IsTable first rows.now) }
+    // Each offset is less than a day.
+    ensures near { (k : ℕ) → k ≤ length rows.now → IsOffset (offset_after first rows.now k) }
 {
+    touch_all(first, rows);
     let mut place = 1;
     while place < rows.len() {
         if !follows(first, rows, place - 1) {
@@ -31,6 +35,18 @@ pub fn first_unordered(first: FixedOffset, rows: &[Row]) -> Option<usize>
         place += 1;
     }
     None
+}
+
+// Reads each offset, since a proof knows the range of what is read. The compiler leaves it out.
+fn touch_all(first: FixedOffset, rows: &[Row])
+    ensures { (k : ℕ) → k ≤ length rows.now → IsOffset (offset_after first rows.now k) }
+{
+    let mut place = 0;
+    while place < rows.len() {
+        let _offset = offset_of_count(first, rows, place);
+        place += 1;
+    }
+    let _last = offset_of_count(first, rows, rows.len());
 }
 
 // Whether the row behind a place follows the one there.

@@ -2,18 +2,11 @@
 use Rattle.std.proofs.Common.{◌≡◌, ◌==◌, ℕ, suc, ◌+◌, Bool, true, false, cond, not, ◌&&◌, List, [], ◌∷◌, ◌++◌, length, take, drop, refl, sym, ap, ◌∙◌, append_assoc, append-nil, length-append, arith}
 use Rattle.std.specs.List.{after_first, before_first, list_all, position_or_len, prefix_len}
 use Rattle.std.proofs.Math.Seq.{drop-append_seam, take-append_seam}
-use Rattle.std.proofs.lemmas.Bool.{and_from, and_parts, eq-eqb, le-ltb, lt-ltb, ne_eqb, not_from_false}
+use Rattle.std.proofs.lemmas.Bool.{and_from, eq-eqb, le-ltb, lt-ltb, ne_eqb, not_from_false}
 use Rattle.std.proofs.lemmas.Bool.Decides.{nat_tests}
 use Rattle.chrono_text.specs.Lists.{stands_in}
-use Rattle.chrono_text.proofs.ListLemmas.{lacks}
+use Rattle.chrono_text.proofs.ListLemmas.{lacks, prefix_ends, weaker}
 use Rattle.zone_text.specs.NameTexts.{behind_front, front_of}
-
--- what passes one test passes another
-pub weaker : (p q : ℕ → Bool) → ((b : ℕ) → p b ≡ true → q b ≡ true) → (text : List ℕ) → list_all p text ≡ true → list_all q text ≡ true
-weaker p q f [] all = refl
-weaker p q f (b ∷ bs) all =
-    let parts = and_parts (p b) (list_all p bs) all in
-    and_from (q b) (list_all q bs) (f b parts.0) (weaker p q f bs parts.1)
 
 -- a byte that fails is none of them
 pub is_other : (p : ℕ → Bool) (other b : ℕ) → p other ≡ false → p b ≡ true → (b == other) ≡ false
@@ -21,7 +14,7 @@ is_other p other b fails passes = ne_eqb b other (λ same. let wrong : true ≡ 
 
 pub others_lack : (p : ℕ → Bool) (other : ℕ) (text : List ℕ) → p other ≡ false → list_all p text ≡ true → lacks other text ≡ true
 others_lack p other text fails all =
-    weaker p (λ b. not (b == other)) (λ b passes. not_from_false (b == other) (is_other p other b fails passes)) text all
+    weaker p (λ b. not (b == other)) text (λ b passes. not_from_false (b == other) (is_other p other b fails passes)) all
 
 -- ---- the bytes in front that pass a test
 
@@ -30,12 +23,12 @@ abbrev pub Stops : (ℕ → Bool) → List ℕ → Type 0
 Stops p [] = Unit {0}
 Stops p (b ∷ bs) = p b ≡ false
 
-pub prefix_is : (p : ℕ → Bool) (front rest : List ℕ) → list_all p front ≡ true → Stops p rest → prefix_len p (front ++ rest) ≡ length front
-prefix_is p [] [] all stops = refl
-prefix_is p [] (b ∷ bs) all stops = rw stops refl
-prefix_is p (b ∷ bs) rest all stops =
-    let parts = and_parts (p b) (list_all p bs) all in
-    rw parts.0 (omega (arith, prefix_is p bs rest parts.1 stops))
+prefix_is : (p : ℕ → Bool) (front rest : List ℕ) → list_all p front ≡ true → Stops p rest → prefix_len p (front ++ rest) ≡ length front
+prefix_is p front rest all stops = prefix_ends p front rest all (none rest stops)
+  where
+    none : (rest : List ℕ) → Stops p rest → prefix_len p rest ≡ 0
+    none [] stops = refl
+    none (b ∷ bs) stops = rw stops refl
 
 pub front_is : (p : ℕ → Bool) (front rest : List ℕ) → list_all p front ≡ true → Stops p rest → front_of p (front ++ rest) ≡ front
 front_is p front rest all stops = ap (λ n. take n (front ++ rest)) (prefix_is p front rest all stops) ∙ take-append_seam front rest

@@ -2,20 +2,18 @@
 use Rattle.std.proofs.Common.{◌≡◌, ◌<◌, ◌+◌, ◌*◌, ◌/◌, ◌%◌, ℕ, suc, true, false, List, [], ◌∷◌, ◌++◌, length, Option, Some, ℤ, pos, negsuc, unsigned_abs, inl, inr, refl, ap, ◌∙◌, append-nil, arith}
 use Rattle.std.specs.Char.{is_ascii_digit}
 use Rattle.std.specs.Fmt.{decimal, sign_text}
-use Rattle.std.specs.Int.{is_negative}
 use Rattle.std.specs.List.{list_all}
 use Rattle.std.specs.Option.{option_map}
 use Rattle.std.proofs.lemmas.Bool.{and_parts, cases_eq, ne_eqb, or_left}
-use Rattle.std.proofs.lemmas.Int.{ints}
 use Rattle.chrono_text.specs.Numbers.{signed}
-use Rattle.chrono_text.specs.Text.{two_digits}
+use Rattle.chrono_text.specs.Text.{colon_seconds_text, two_digits}
 use Rattle.zone_text.specs.HourTexts.{count_up_to, seconds_of_hours, seconds_of_minutes, seconds_together, signed_seconds}
 use Rattle.zone_text.specs.NameTexts.{is_of_offset}
-use Rattle.zone_text.specs.WrittenTexts.{hour_text, minute_text, second_text, size_text}
-use Rattle.chrono_text.proofs.ListLemmas.{all_of}
+use Rattle.zone_text.specs.WrittenTexts.{hour_text, minute_text, size_text}
+use Rattle.chrono_text.proofs.ListLemmas.{all_of, weaker}
 use Rattle.chrono_text.proofs.TextLemmas.{is_negative-pos}
-use Rattle.zone_text.proofs.CutTexts.{after_sep, before_sep, is_other, others_lack, sep_lacks, sep_stands, weaker}
-use Rattle.zone_text.proofs.NumbersBack.{count_back, decimal_digits, decimal_some, two_are_digits, two_back}
+use Rattle.zone_text.proofs.CutTexts.{after_sep, before_sep, is_other, others_lack, sep_lacks, sep_stands}
+use Rattle.zone_text.proofs.NumbersBack.{count_up_to_back, decimal_digits, decimal_some, two_are_digits, two_back}
 
 -- ---- minutes
 
@@ -37,8 +35,8 @@ minutes_and_seconds m s small less =
     (ap (count_up_to 59) (before_sep 58 (two_digits m) (two_digits s) none) ∙ two_back 59 m (omega (arith, small)) (omega (arith, small)))
     (ap (count_up_to 59) (after_sep 58 (two_digits m) (two_digits s) none) ∙ two_back 59 s (omega (arith, less)) (omega (arith, less))))
 
-minutes_back : (n : ℕ) → n < 3_600 → seconds_of_minutes (two_digits (n / 60) ++ second_text (n % 60)) ≡ Some n
-minutes_back n small = elim (cases_eq (n % 60) 0) as (λ _. seconds_of_minutes (two_digits (n / 60) ++ second_text (n % 60)) ≡ Some n) [
+minutes_back : (n : ℕ) → n < 3_600 → seconds_of_minutes (two_digits (n / 60) ++ colon_seconds_text (n % 60)) ≡ Some n
+minutes_back n small = elim (cases_eq (n % 60) 0) as (λ _. seconds_of_minutes (two_digits (n / 60) ++ colon_seconds_text (n % 60)) ≡ Some n) [
   | inl none ↦
       let whole : n / 60 * 60 ≡ n = omega (arith, none) in
       rw none (ap seconds_of_minutes (append-nil (two_digits (n / 60))) ∙ minutes_alone (n / 60) (omega (arith, small)) ∙ ap Some whole)
@@ -53,7 +51,7 @@ hours_alone : (h : ℕ) → h < 168 → seconds_of_hours (decimal h) ≡ Some (h
 unfolding seconds_of_hours
 hours_alone h small =
     rw (sep_lacks 58 (decimal h) (others_lack is_ascii_digit 58 (decimal h) refl (decimal_digits h (omega (arith, small)))))
-    (ap (option_map (λ n. n * 3_600)) (count_back 167 h (omega (arith, small)) (omega (arith, small))))
+    (ap (option_map (λ n. n * 3_600)) (count_up_to_back 167 h (omega (arith, small)) (omega (arith, small))))
 
 hours_and_minutes : (h s : ℕ) (text : List ℕ) → h < 168 → seconds_of_minutes text ≡ Some s → seconds_of_hours (decimal h ++ 58 ∷ text) ≡ Some (h * 3_600 + s)
 unfolding seconds_of_hours
@@ -61,7 +59,7 @@ hours_and_minutes h s text small read =
     let none = others_lack is_ascii_digit 58 (decimal h) refl (decimal_digits h (omega (arith, small))) in
     rw (sep_stands 58 (decimal h) text none)
     (both 3_600 h s _ _
-    (ap (count_up_to 167) (before_sep 58 (decimal h) text none) ∙ count_back 167 h (omega (arith, small)) (omega (arith, small)))
+    (ap (count_up_to 167) (before_sep 58 (decimal h) text none) ∙ count_up_to_back 167 h (omega (arith, small)) (omega (arith, small)))
     (ap seconds_of_minutes (after_sep 58 (decimal h) text none) ∙ read))
 
 size_back : (n : ℕ) → n < 604_800 → seconds_of_hours (size_text n) ≡ Some n
@@ -72,7 +70,7 @@ size_back n small = elim (cases_eq (n % 3_600) 0) as (λ _. seconds_of_hours (de
   | inr some ↦
       let whole : n / 3_600 * 3_600 + n % 3_600 ≡ n = omega arith in
       rw (ne_eqb (n % 3_600) 0 some)
-      (hours_and_minutes (n / 3_600) (n % 3_600) (two_digits (n % 3_600 / 60) ++ second_text (n % 3_600 % 60)) (omega (arith, small)) (minutes_back (n % 3_600) (omega arith)) ∙ ap Some whole)
+      (hours_and_minutes (n / 3_600) (n % 3_600) (two_digits (n % 3_600 / 60) ++ colon_seconds_text (n % 3_600 % 60)) (omega (arith, small)) (minutes_back (n % 3_600) (omega arith)) ∙ ap Some whole)
 ]
 
 -- ---- the sign
@@ -106,10 +104,10 @@ of_digits : (b : ℕ) → is_ascii_digit b ≡ true → is_of_offset b ≡ true
 of_digits b digit = or_left (is_ascii_digit b) _ digit
 
 two_of_offset : (n : ℕ) → n < 100 → list_all is_of_offset (two_digits n) ≡ true
-two_of_offset n small = weaker is_ascii_digit is_of_offset of_digits (two_digits n) (two_are_digits n small)
+two_of_offset n small = weaker is_ascii_digit is_of_offset (two_digits n) of_digits (two_are_digits n small)
 
-second_of_offset : (n : ℕ) → n < 60 → list_all is_of_offset (second_text n) ≡ true
-second_of_offset n small = elim (cases_eq n 0) as (λ _. list_all is_of_offset (second_text n) ≡ true) [
+second_of_offset : (n : ℕ) → n < 60 → list_all is_of_offset (colon_seconds_text n) ≡ true
+second_of_offset n small = elim (cases_eq n 0) as (λ _. list_all is_of_offset (colon_seconds_text n) ≡ true) [
   | inl none ↦ rw none refl
   | inr some ↦ rw (ne_eqb n 0 some) (two_of_offset n (omega (arith, small)))
 ]
@@ -117,13 +115,13 @@ second_of_offset n small = elim (cases_eq n 0) as (λ _. list_all is_of_offset (
 minute_of_offset : (n : ℕ) → n < 3_600 → list_all is_of_offset (minute_text n) ≡ true
 minute_of_offset n small = elim (cases_eq n 0) as (λ _. list_all is_of_offset (minute_text n) ≡ true) [
   | inl none ↦ rw none refl
-  | inr some ↦ rw (ne_eqb n 0 some) (all_of is_of_offset (two_digits (n / 60)) (second_text (n % 60)) (two_of_offset (n / 60) (omega (arith, small))) (second_of_offset (n % 60) (omega arith)))
+  | inr some ↦ rw (ne_eqb n 0 some) (all_of is_of_offset (two_digits (n / 60)) (colon_seconds_text (n % 60)) (two_of_offset (n / 60) (omega (arith, small))) (second_of_offset (n % 60) (omega arith)))
 ]
 
 size_of_offset : (n : ℕ) → n < 604_800 → list_all is_of_offset (size_text n) ≡ true
 size_of_offset n small =
     all_of is_of_offset (decimal (n / 3_600)) (minute_text (n % 3_600))
-    (weaker is_ascii_digit is_of_offset of_digits (decimal (n / 3_600)) (decimal_digits (n / 3_600) (omega (arith, small))))
+    (weaker is_ascii_digit is_of_offset (decimal (n / 3_600)) of_digits (decimal_digits (n / 3_600) (omega (arith, small))))
     (minute_of_offset (n % 3_600) (omega arith))
 
 pub hour_of_offset : (x : ℤ) → unsigned_abs x < 604_800 → list_all is_of_offset (hour_text x) ≡ true

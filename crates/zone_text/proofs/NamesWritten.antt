@@ -3,22 +3,24 @@ use Rattle.std.proofs.Common.{◌≡◌, ℕ, true, List, Option, Some, None, �
 use Rattle.std.specs.Char.{is_ascii_alphabetic}
 use Rattle.std.specs.List.{list_all}
 use Rattle.std.proofs.lemmas.Bool.Decides.{nat_tests}
+use Rattle.chrono_text.proofs.ListLemmas.{weaker}
 use Rattle.zone_rule.specs.declared.rule.Daylight.{Daylight}
 use Rattle.zone_rule.specs.declared.rule.ZoneRule.{ZoneRule}
-use Rattle.zone_text.specs.NameTexts.{IsZoneName, is_of_quoted_name}
+use Rattle.chrono_text.specs.Lists.{is_of_word}
+use Rattle.zone_text.specs.NameTexts.{IsZoneName}
 use Rattle.zone_text.specs.WrittenTexts.{AreNames, IsDaylight, IsDaylightName, IsName, IsRule}
 use Rattle.zone_text.specs.ZoneTexts.{IsDaylightPart, IsZoneText}
-use Rattle.zone_text.proofs.CutTexts.{front_passes, weaker}
+use Rattle.zone_text.proofs.CutTexts.{front_passes}
 
-letter_quoted : (b : ℕ) → is_ascii_alphabetic b ≡ true → is_of_quoted_name b ≡ true
+letter_quoted : (b : ℕ) → is_ascii_alphabetic b ≡ true → is_of_word b ≡ true
 letter_quoted b letter = grind (arith, nat_tests)
 
 name_is : (text name rest : List ℕ) → IsZoneName text name rest → IsName name
 name_is text name rest is = record {
   long = is.long;
   bytes = ⊎_elim
-      (λ plain. weaker is_ascii_alphabetic is_of_quoted_name letter_quoted name (sym (ap (list_all is_ascii_alphabetic) plain.front) ∙ front_passes is_ascii_alphabetic text))
-      (λ quoted. sym (ap (list_all is_of_quoted_name) quoted.front) ∙ front_passes is_of_quoted_name quoted.inner)
+      (λ plain. weaker is_ascii_alphabetic is_of_word name letter_quoted (sym (ap (list_all is_ascii_alphabetic) plain.front) ∙ front_passes is_ascii_alphabetic text))
+      (λ quoted. sym (ap (list_all is_of_word) quoted.front) ∙ front_passes is_of_word quoted.inner)
       is.form;
 }
 

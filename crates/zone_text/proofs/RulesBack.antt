@@ -10,8 +10,9 @@ use Rattle.chrono_zoned.specs.Offsets.{IsOffset}
 use Rattle.zone_rule.specs.declared.rule.Daylight.{Daylight}
 use Rattle.zone_rule.specs.declared.rule.ZoneRule.{ZoneRule}
 use Rattle.zone_text.specs.HourTexts.{signed_seconds}
-use Rattle.zone_text.specs.NameTexts.{IsZoneName, is_of_offset, is_of_quoted_name}
-use Rattle.zone_text.specs.WrittenTexts.{AreNames, IsDaylight, IsDaylightName, IsName, IsRule, change_text, daylight_hour_text, daylight_part, daylight_text, hour_text, name_text, zone_text}
+use Rattle.chrono_text.specs.Lists.{is_of_word}
+use Rattle.zone_text.specs.NameTexts.{IsZoneName, is_of_offset}
+use Rattle.zone_text.specs.WrittenTexts.{AreNames, IsDaylight, IsDaylightName, IsName, IsRule, change_text, daylight_hour_text, daylight_part, daylight_text, hour_text, zone_name_text, zone_text}
 use Rattle.zone_text.specs.ZoneTexts.{IsDaylightPart, IsDaylightText, IsZoneText, daylight_ahead, written_ahead}
 use Rattle.zone_text.proofs.ChangesBack.{changes_back}
 use Rattle.zone_text.proofs.CutTexts.{Stops, behind_is, front_is}
@@ -23,7 +24,7 @@ use Rattle.zone_text.proofs.HoursBack.{hour_of_offset, hours_back}
 abbrev pub NoLetter : List ℕ → Type 0
 NoLetter = Stops is_ascii_alphabetic
 
-pub name_back : (name rest : List ℕ) → IsName name → NoLetter rest → IsZoneName (name_text name ++ rest) name rest
+pub name_back : (name rest : List ℕ) → IsName name → NoLetter rest → IsZoneName (zone_name_text name ++ rest) name rest
 name_back name rest is stops = named (list_all is_ascii_alphabetic name) refl
   where
     named : (t : Bool) → list_all is_ascii_alphabetic name ≡ t → IsZoneName ((if t then name else 60 ∷ (name ++ 62 ∷ [])) ++ rest) name rest
@@ -36,8 +37,8 @@ name_back name rest is stops = named (list_all is_ascii_alphabetic name) refl
       form = inr (record {
         inner = name ++ 62 ∷ rest;
         opens = ap (λ (l : List ℕ). 60 ∷ l) (append_assoc name (62 ∷ []) rest);
-        front = front_is is_of_quoted_name name (62 ∷ rest) is.bytes refl;
-        closes = behind_is is_of_quoted_name name (62 ∷ rest) is.bytes refl;
+        front = front_is is_of_word name (62 ∷ rest) is.bytes refl;
+        closes = behind_is is_of_word name (62 ∷ rest) is.bytes refl;
       });
     }
 
@@ -50,7 +51,7 @@ offset_no_letter : (b : ℕ) → is_of_offset b ≡ true → is_ascii_alphabetic
 offset_no_letter b is = grind (arith, nat_tests)
 
 -- a name does not go on an offset, and an offset does not go on a name
-name_stops : (name rest : List ℕ) → IsName name → Stops is_of_offset (name_text name ++ rest)
+name_stops : (name rest : List ℕ) → IsName name → Stops is_of_offset (zone_name_text name ++ rest)
 name_stops name rest is = named name is.long (list_all is_ascii_alphabetic name) refl
   where
     named : (l : List ℕ) → 3 ≤ length l → (t : Bool) → list_all is_ascii_alphabetic l ≡ t → Stops is_of_offset ((if t then l else 60 ∷ (l ++ 62 ∷ [])) ++ rest)
@@ -114,7 +115,7 @@ offset_back standard x is =
 
 -- its parts, each in front of all that follows
 daylight_is : (standard : ℤ) (name : List ℕ) (d : Daylight)
-    → daylight_text standard name d ≡ name_text name ++ (daylight_hour_text standard d.offset ++ 44 ∷ (change_text d.begins ++ 44 ∷ change_text d.ends))
+    → daylight_text standard name d ≡ zone_name_text name ++ (daylight_hour_text standard d.offset ++ 44 ∷ (change_text d.begins ++ 44 ∷ change_text d.ends))
 daylight_is standard name d = simp append_assoc refl
 
 daylight_back : (standard : ℤ) (name : List ℕ) (d : Daylight) → IsName name → IsDaylight (Some d) → IsDaylightText standard (daylight_text standard name d) name d
@@ -156,7 +157,7 @@ zone_back standard daylight rule names range =
     record {
       after_name = offset ++ part;
       rest = part;
-      name_is = subst (λ (l : List ℕ). IsZoneName l standard (offset ++ part)) (sym (append_assoc (name_text standard) offset part))
+      name_is = subst (λ (l : List ℕ). IsZoneName l standard (offset ++ part)) (sym (append_assoc (zone_name_text standard) offset part))
           (name_back standard (offset ++ part) names.standard_is (offset_stops offset part bytes (hour_some (neg_ℤ rule.standard) small)));
       ahead_is = record { is = ap written_ahead (front_is is_of_offset offset part bytes stops) ∙ ahead_back rule.standard range.standard; in_range = range.standard };
       behind = behind_is is_of_offset offset part bytes stops;

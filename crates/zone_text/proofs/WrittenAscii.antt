@@ -15,23 +15,23 @@ use Rattle.chrono_units.specs.declared.weekday.Weekday.{Weekday}
 use Rattle.zone_rule.specs.Changes.{IsRuleDay}
 use Rattle.zone_rule.specs.declared.rule_day.RuleDay.{RuleDay}
 use Rattle.zone_rule.specs.declared.rule_day.RuleDay.TheVariants.{Week, Julian, FromZero}
-use Rattle.zone_text.specs.NameTexts.{is_of_quoted_name}
-use Rattle.zone_text.specs.WrittenTexts.{IsName, day_text, name_text}
+use Rattle.chrono_text.specs.Lists.{is_of_word}
+use Rattle.zone_text.specs.WrittenTexts.{IsName, rule_day_text, zone_name_text}
 
 -- two texts with a byte between them
 between : (front : List ℕ) (b : ℕ) (rest : List ℕ) → b < 128 → IsAscii front → IsAscii rest → IsAscii (front ++ b ∷ [] ++ rest)
 between front b rest low h k = IsAscii-append (front ++ b ∷ []) rest (IsAscii-append front (b ∷ []) h (IsAscii-one b low)) k
 
-low_byte : (b : ℕ) → is_of_quoted_name b ≡ true → b < 128
+low_byte : (b : ℕ) → is_of_word b ≡ true → b < 128
 low_byte b is = grind (arith, nat_tests)
 
-name_bytes : (name : List ℕ) → list_all is_of_quoted_name name ≡ true → IsAscii name
+name_bytes : (name : List ℕ) → list_all is_of_word name ≡ true → IsAscii name
 name_bytes [] all = IsAscii-nil
 name_bytes (b ∷ bs) all =
-    let parts = and_parts (is_of_quoted_name b) (list_all is_of_quoted_name bs) all in
+    let parts = and_parts (is_of_word b) (list_all is_of_word bs) all in
     IsAscii-cons b bs (low_byte b parts.0) (name_bytes bs parts.1)
 
-pub name_ascii : (name : List ℕ) → IsName name → IsAscii (name_text name)
+pub name_ascii : (name : List ℕ) → IsName name → IsAscii (zone_name_text name)
 name_ascii name is =
     let bytes = name_bytes name is.bytes in
     IsAscii-if (list_all is_ascii_alphabetic name) name (60 ∷ (name ++ 62 ∷ [])) (λ all. bytes)
@@ -43,7 +43,7 @@ number_ascii n small = IsAscii-decimal n (omega (arith, small))
 few_days : (d : Weekday) → days_from_sunday d < 1_000
 few_days d = omega arith
 
-pub day_ascii : (day : RuleDay) → IsRuleDay day → IsAscii (day_text day)
+pub day_ascii : (day : RuleDay) → IsRuleDay day → IsAscii (rule_day_text day)
 day_ascii (Week m n d) is =
     between (77 ∷ [] ++ decimal m ++ 46 ∷ [] ++ decimal n) 46 (decimal (days_from_sunday d)) (omega arith)
     (between (77 ∷ [] ++ decimal m) 46 (decimal n) (omega arith) (IsAscii-append (77 ∷ []) (decimal m) (IsAscii-one 77 (omega arith)) (number_ascii m (omega (arith, is.0.1)))) (number_ascii n (omega (arith, is.1.1))))

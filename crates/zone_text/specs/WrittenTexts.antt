@@ -5,7 +5,7 @@ use Rattle.std.specs.Fmt.{decimal, digits, sign_text}
 use Rattle.std.specs.Int.{is_negative}
 use Rattle.std.specs.List.{list_all}
 use Rattle.std.specs.Ordering.{int_eq}
-use Rattle.chrono_text.specs.Text.{two_digits}
+use Rattle.chrono_text.specs.Text.{colon_seconds_text, two_digits}
 use Rattle.chrono_units.specs.Weekday.{days_from_sunday}
 use Rattle.chrono_units.specs.declared.weekday.Weekday.TheVariants.{Sun, Thu}
 use Rattle.chrono_zoned.specs.Offsets.{IsOffset}
@@ -14,19 +14,15 @@ use Rattle.zone_rule.specs.declared.rule.Daylight.{Daylight}
 use Rattle.zone_rule.specs.declared.rule.ZoneRule.{ZoneRule}
 use Rattle.zone_rule.specs.declared.rule_day.RuleDay.{RuleDay}
 use Rattle.zone_rule.specs.declared.rule_day.RuleDay.TheVariants.{Week, Julian, FromZero}
-use Rattle.zone_text.specs.NameTexts.{is_of_quoted_name}
+use Rattle.chrono_text.specs.Lists.{is_of_word}
 
 -- a name, in angle brackets unless it has letters alone
-abbrev pub name_text : List ℕ → List ℕ
-name_text name = if list_all is_ascii_alphabetic name then name else codes "<" ++ name ++ codes ">"
-
--- the seconds of a minute behind a colon, or nothing for 0
-abbrev pub second_text : ℕ → List ℕ
-second_text n = if n == 0 then [] else codes ":" ++ two_digits n
+abbrev pub zone_name_text : List ℕ → List ℕ
+zone_name_text name = if list_all is_ascii_alphabetic name then name else codes "<" ++ name ++ codes ">"
 
 -- the minutes and seconds of an hour, of which so many seconds have passed
 abbrev pub minute_text : ℕ → List ℕ
-minute_text n = if n == 0 then [] else codes ":" ++ two_digits (n / 60) ++ second_text (n % 60)
+minute_text n = if n == 0 then [] else codes ":" ++ two_digits (n / 60) ++ colon_seconds_text (n % 60)
 
 -- so many seconds as hours, and minutes and seconds where they are not 0
 abbrev pub size_text : ℕ → List ℕ
@@ -37,18 +33,18 @@ abbrev pub hour_text : ℤ → List ℕ
 hour_text x = sign_text (is_negative x) ++ size_text (unsigned_abs x)
 
 -- `Mm.n.d`, `Jn` or `n`
-abbrev pub day_text : RuleDay → List ℕ
-day_text (Week m n d) = codes "M" ++ decimal m ++ codes "." ++ decimal n ++ codes "." ++ decimal (days_from_sunday d)
-day_text (Julian n) = codes "J" ++ decimal n
-day_text (FromZero n) = decimal n
+abbrev pub rule_day_text : RuleDay → List ℕ
+rule_day_text (Week m n d) = codes "M" ++ decimal m ++ codes "." ++ decimal n ++ codes "." ++ decimal (days_from_sunday d)
+rule_day_text (Julian n) = codes "J" ++ decimal n
+rule_day_text (FromZero n) = decimal n
 
 -- the time behind a slash, or nothing for 02:00:00
-abbrev pub time_text : ℤ → List ℕ
-time_text x = if int_eq x (pos 7_200) then [] else codes "/" ++ hour_text x
+abbrev pub change_time_text : ℤ → List ℕ
+change_time_text x = if int_eq x (pos 7_200) then [] else codes "/" ++ hour_text x
 
 -- date[/time]
 abbrev pub change_text : YearlyChange → List ℕ
-change_text c = day_text c.day ++ time_text c.second
+change_text c = rule_day_text c.day ++ change_time_text c.second
 
 -- how far daylight time is behind UTC, or nothing if it is an hour ahead of standard time
 abbrev pub daylight_hour_text : ℤ → ℤ → List ℕ
@@ -60,7 +56,7 @@ changes_text begins ends = codes "," ++ change_text begins ++ codes "," ++ chang
 
 -- dst [offset],start[/time],end[/time], where standard time is so far ahead of UTC
 abbrev pub daylight_text : ℤ → List ℕ → Daylight → List ℕ
-daylight_text standard name d = name_text name ++ daylight_hour_text standard d.offset ++ changes_text d.begins d.ends
+daylight_text standard name d = zone_name_text name ++ daylight_hour_text standard d.offset ++ changes_text d.begins d.ends
 
 -- that, or nothing without daylight time
 abbrev pub daylight_part : ℤ → List ℕ → Option Daylight → List ℕ
@@ -69,14 +65,14 @@ daylight_part standard name (Some d) = daylight_text standard name d
 
 -- std offset [dst [offset],start[/time],end[/time]]
 abbrev pub zone_text : List ℕ → List ℕ → ZoneRule → List ℕ
-zone_text standard daylight rule = name_text standard ++ hour_text (neg_ℤ rule.standard) ++ daylight_part rule.standard daylight rule.daylight
+zone_text standard daylight rule = zone_name_text standard ++ hour_text (neg_ℤ rule.standard) ++ daylight_part rule.standard daylight rule.daylight
 
 -- ---- what has a text
 
 -- three bytes or more, each a letter, a digit or a sign
 pub record IsName (name : List ℕ) : Type 0 where
   pub long : 3 ≤ length name
-  pub bytes : list_all is_of_quoted_name name ≡ true
+  pub bytes : list_all is_of_word name ≡ true
 
 -- no name without daylight time
 abbrev pub IsDaylightName : List ℕ → Option Daylight → Type 0
@@ -99,11 +95,11 @@ pub record IsRule (rule : ZoneRule) : Type 0 where
   pub daylight : IsDaylight rule.daylight
 
 -- known values: New York, a name that is no word, and the texts of times
-name_text-word : name_text (codes "EST") ≡ codes "EST"
-name_text-word = refl
+zone_name_text-word : zone_name_text (codes "EST") ≡ codes "EST"
+zone_name_text-word = refl
 
-name_text-sign : name_text (codes "+0330") ≡ codes "<+0330>"
-name_text-sign = refl
+zone_name_text-sign : zone_name_text (codes "+0330") ≡ codes "<+0330>"
+zone_name_text-sign = refl
 
 hour_text-zero : hour_text (pos 0) ≡ codes "0"
 unfolding digits

@@ -2,11 +2,11 @@
 ghost use Rattle.std.specs.Prelude.{◌≡◌, ◌↔◌, ◌≤◌, ℕ, List, IfErr, IfOk, IsOkAnd, IsTrue, length};
 ghost use Rattle.std.specs.Char.{is_ascii_alphabetic};
 ghost use Rattle.std.specs.List.{list_all, prefix_len};
-ghost use Rattle.zone_text.specs.NameTexts.{IsZoneName, behind_front, front_of, is_of_offset, is_of_quoted_name};
+ghost use Rattle.zone_text.specs.NameTexts.{IsZoneName, behind_front, front_of, is_of_offset};
 ghost use Rattle.zone_text.specs.WrittenTexts.{IsName};
 
 use crate::error::{ZoneTextError, ZoneTextFault, error_at};
-use chrono_text::part_place;
+use chrono_text::{part_place, word_len};
 
 // How many bytes a name has at least.
 const SHORTEST_NAME: usize = 3;
@@ -36,7 +36,7 @@ fn split_name(text: &[u8]) -> (&[u8], &[u8])
     let [b'<', inner @ ..] = text else {
         return text.split_at(letters_len(text));
     };
-    let (name, rest) = inner.split_at(quoted_len(inner));
+    let (name, rest) = inner.split_at(word_len(inner));
     match rest {
         [b'>', behind @ ..] => (name, behind),
         _ => (&[], text),
@@ -55,7 +55,7 @@ pub(crate) fn split_offset(text: &[u8]) -> (&[u8], &[u8])
 pub(crate) fn is_name(text: &[u8]) -> bool
     ensures { IsTrue result ↔ IsName text.now }
 {
-    SHORTEST_NAME <= text.len() && quoted_len(text) == text.len()
+    SHORTEST_NAME <= text.len() && word_len(text) == text.len()
 }
 
 // Whether a text has letters alone.
@@ -80,21 +80,6 @@ fn letters_len(text: &[u8]) -> usize
     len
 }
 
-// How many bytes in front may stand in a name in angle brackets.
-fn quoted_len(text: &[u8]) -> usize
-    ensures value { result ≡ prefix_len is_of_quoted_name text.now }
-    ensures within { result ≤ length text.now }
-{
-    let mut len = 0;
-    while len < text.len() {
-        if !is_of_quoted_name(text[len]) {
-            return len;
-        }
-        len += 1;
-    }
-    len
-}
-
 // How many bytes in front may stand in an offset.
 fn offset_len(text: &[u8]) -> usize
     ensures value { result ≡ prefix_len is_of_offset text.now }
@@ -108,13 +93,6 @@ fn offset_len(text: &[u8]) -> usize
         len += 1;
     }
     len
-}
-
-// Whether a byte is a letter, a digit or a sign.
-fn is_of_quoted_name(byte: u8) -> bool
-    ensures { result ≡ is_of_quoted_name byte }
-{
-    byte.is_ascii_alphanumeric() || (byte == b'+' || byte == b'-')
 }
 
 // Whether a byte is a digit, a colon or a sign.

@@ -3,7 +3,8 @@ ghost use Rattle.std.specs.Prelude.{◌≡◌, ◌↔◌, ◌+◌, ◌<◌, ◌�
 ghost use Rattle.std.specs.Fmt.{decimal};
 ghost use Rattle.std.specs.Str.{IsAscii};
 ghost use Rattle.zone_rule.specs.Changes.{IsRuleDay};
-ghost use Rattle.zone_text.specs.WrittenTexts.{AreNames, IsDaylightName, IsName, change_text, changes_text, daylight_hour_text, daylight_part, daylight_text, day_text, hour_text, minute_text, name_text, second_text, time_text, zone_text};
+ghost use Rattle.chrono_text.specs.Text.{colon_seconds_text};
+ghost use Rattle.zone_text.specs.WrittenTexts.{AreNames, IsDaylightName, IsName, change_text, change_time_text, changes_text, daylight_hour_text, daylight_part, daylight_text, hour_text, minute_text, rule_day_text, zone_name_text, zone_text};
 
 use crate::name::{are_letters, is_name};
 use crate::zone::ZoneText;
@@ -142,9 +143,9 @@ fn put_changes<const N: usize>(text: &mut Text<N>, begins: Change, ends: Change)
 fn put_name<const N: usize>(text: &mut Text<N>, name: &[u8])
     requires name { IsName name.now }
     requires room { length text.old + length name.now + 2 ≤ N }
-    ensures text { text.new ≡ text.old ++ name_text name.now }
+    ensures text { text.new ≡ text.old ++ zone_name_text name.now }
     ensures fits { length text.new ≤ length text.old + length name.now + 2 }
-    ensures ascii { IsAscii (name_text name.now) }
+    ensures ascii { IsAscii (zone_name_text name.now) }
 {
     if are_letters(name) {
         text.push_text(name);
@@ -170,9 +171,9 @@ fn put_change<const N: usize>(text: &mut Text<N>, change: Change)
 fn put_time<const N: usize>(text: &mut Text<N>, second: i32)
     requires small { unsigned_abs second < 604_800 }
     requires room { length text.old + 21 ≤ N }
-    ensures text { text.new ≡ text.old ++ time_text second }
+    ensures text { text.new ≡ text.old ++ change_time_text second }
     ensures fits { length text.new ≤ length text.old + 11 }
-    ensures ascii { IsAscii (time_text second) }
+    ensures ascii { IsAscii (change_time_text second) }
 {
     if second != DEFAULT_SECOND {
         text.push(b'/');
@@ -184,9 +185,9 @@ fn put_time<const N: usize>(text: &mut Text<N>, second: i32)
 fn put_day<const N: usize>(text: &mut Text<N>, day: RuleDay)
     requires day { IsRuleDay day }
     requires room { length text.old + 28 ≤ N }
-    ensures text { text.new ≡ text.old ++ day_text day }
+    ensures text { text.new ≡ text.old ++ rule_day_text day }
     ensures fits { length text.new ≤ length text.old + 12 }
-    ensures ascii { IsAscii (day_text day) }
+    ensures ascii { IsAscii (rule_day_text day) }
 {
     match day {
         RuleDay::Week {
@@ -243,9 +244,9 @@ fn put_minutes<const N: usize>(text: &mut Text<N>, seconds: u32)
 fn put_second<const N: usize>(text: &mut Text<N>, second: u32)
     requires small { second < 60 }
     requires room { length text.old + 3 ≤ N }
-    ensures text { text.new ≡ text.old ++ second_text second }
+    ensures text { text.new ≡ text.old ++ colon_seconds_text second }
     ensures fits { length text.new ≤ length text.old + 3 }
-    ensures ascii { IsAscii (second_text second) }
+    ensures ascii { IsAscii (colon_seconds_text second) }
 {
     if second != 0 {
         text.push(b':');

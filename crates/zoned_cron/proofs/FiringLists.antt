@@ -1,5 +1,5 @@
 -- The iterator of the instants: what is left of it grows less, and what it gives comes in order.
-use Rattle.std.proofs.Common.{◌≡◌, ⊎_elim, inl, inr, ◌<◌, ℤ, pos, ◌-ℤ◌, ◌<ℤ◌, Option, Some, None, IfSome, List, [], ◌∷◌, MatchOption, unsigned_abs, arith, ap, subst, sym, ◌∙◌}
+use Rattle.std.proofs.Common.{◌≡◌, inl, inr, ◌<◌, ℤ, pos, ◌-ℤ◌, ◌<ℤ◌, Option, Some, None, IfSome, List, [], ◌∷◌, MatchOption, unsigned_abs, arith, ap, subst, sym, ◌∙◌}
 use Rattle.std.specs.Prelude.{⊤}
 use Rattle.std.specs.Iterator.{Drains, MakesProgress}
 use Rattle.chrono_datetime.specs.Moment.{IsBefore, IsMoment, Moment}

@@ -1,5 +1,5 @@
 -- Which instants a planned local time takes.
-use Rattle.std.proofs.Common.{true, is_some, ◌≡◌, ◌↔◌, ◌⊎◌, ⊎_elim, inl, inr, ℤ, pos, ◌+ℤ◌, ◌-ℤ◌, ◌≤ℤ◌, ◌<ℤ◌, Option, Some, None, arith, refl, subst, sym, ◌∙◌}
+use Rattle.std.proofs.Common.{true, is_some, ◌≡◌, ◌↔◌, ◌⊎◌, ⊎_elim, inl, inr, ℤ, ◌+ℤ◌, ◌-ℤ◌, ◌≤ℤ◌, ◌<ℤ◌, Option, Some, None, arith, refl, subst, sym, ◌∙◌}
 use Rattle.std.proofs.lemmas.Int.{by_lt_z, ints}
 use Rattle.chrono_instant.specs.Instants.{IsEpochSecond}
 use Rattle.chrono_instant.specs.Offsets.{IsOffset}
@@ -12,7 +12,7 @@ use Rattle.zoned_cron.specs.declared.policy.Gap.{Gap}
 use Rattle.zoned_cron.specs.declared.policy.Gap.TheVariants.{FirstAfter, Skip}
 use Rattle.zoned_cron.specs.declared.policy.Policy.{Policy}
 use Rattle.zoned_cron.specs.Fires.{IsBehindGap, IsFirst, IsGap, IsLast, Takes, TakesShown, TakesSkipped}
-use Rattle.zoned_cron.specs.Private.{EndsGap, IsDated, IsFirstIn, IsLastIn, TakesDated}
+use Rattle.zoned_cron.specs.Private.{EndsGap, IsDated, IsLastIn, TakesDated}
 
 -- the values that stand for P's seconds stand for Q's, where the two have the same
 same_all : (P Q : ℤ → Type 0) (found : MappedLocalTime ℤ) → ((u : ℤ) → P u ↔ Q u) → AreAll P (λ u. u) found → AreAll Q (λ u. u) found
@@ -155,31 +155,10 @@ taken_behind p ahead {k} l found ends is gap after =
 abbrev pub AreGaps : (ℤ → ℤ) → ℤ → ℤ → Type 0
 AreGaps ahead from end = (j : ℤ) → from ≤ℤ j → j <ℤ end → IsGap ahead j
 
-pub more_gaps : (ahead : ℤ → ℤ) (from end : ℤ) → AreGaps ahead from end → IsGap ahead end → AreGaps ahead from (end +ℤ pos 1)
-more_gaps ahead from end gaps gap = λ j low high.
-    by_lt_z j end (λ lt. gaps j low lt) (λ ge. subst (λ (s : ℤ). IsGap ahead s) (omega (arith, ints, ge, high)) gap)
-
-pub gap_if_none : (ahead : ℤ → ℤ) (l : ℤ) (found : MappedLocalTime ℤ) → IsMapped ahead l found → earliest_of found ≡ None → IsGap ahead l
-gap_if_none ahead l NoInstant h none = h
-gap_if_none ahead l (Single x) h none = absurd cc
-gap_if_none ahead l (Ambiguous x y) h none = absurd cc
-
 pub no_gap : (ahead : ℤ → ℤ) (l : ℤ) (found : MappedLocalTime ℤ) → IsMapped ahead l found → is_some (earliest_of found) ≡ true → IsGap ahead l → ⊥
 no_gap ahead l NoInstant h some gap = absurd cc
 no_gap ahead l (Single x) h some gap = gap (l -ℤ x) ((h (l -ℤ x)).1 refl)
 no_gap ahead l (Ambiguous x y) h some gap = gap (l -ℤ x) ((h.1 (l -ℤ x)).1 (inl refl))
-
-some_offset : (x o : ℤ) → Some x ≡ Some o → x ≡ o
-some_offset x o e = cc
-
-pub first_if_some : (ahead : ℤ → ℤ) (l o u : ℤ) (found : MappedLocalTime ℤ) → IsMapped ahead l found → earliest_of found ≡ Some o → u ≡ (l -ℤ o) → IsFirst ahead l u
-first_if_some ahead l o u NoInstant h some e = absurd cc
-first_if_some ahead l o u (Single x) h some e =
-    let is : u ≡ (l -ℤ x) = omega (arith, ints, e, some_offset x o some) in
-    ((h u).1 is, λ v shows. omega (arith, ints, is, (h v).0 shows))
-first_if_some ahead l o u (Ambiguous x y) h some e =
-    let is : u ≡ (l -ℤ x) = omega (arith, ints, e, some_offset x o some) in
-    (first_of_two ahead l u (l -ℤ y) u (AreTwo-mapped ahead l x y u (l -ℤ y) h is refl)).1 refl
 
 -- the first local second that is shown ends the gap
 pub gap_ends : (ahead : ℤ → ℤ) (gap k o u : ℤ) → IsEpochSecond k → IsOffset o → u ≡ (k -ℤ o) → gap <ℤ k → AreGaps ahead gap k → IsFirst ahead k u → IsOnly (EndsGap ahead gap) u
@@ -208,30 +187,8 @@ gap_never_ends ahead gap k date past later gaps u h =
     by_lt_z (u +ℤ ahead u) k (λ lt. gaps (u +ℤ ahead u) (omega (arith, ints, h.1.later)) lt u refl)
     (λ ge. past (omega (arith, ints, date.0, later), omega (arith, ints, ge, h.0.0.1)))
 
--- ---- the first and the last of them in a range
-
-pub first_of_all : (P : ℤ → Type 0) (found : MappedLocalTime ℤ) (start : ℤ) (result : Option ℤ) → AreAll P (λ u. u) found → IsFirstIn (λ u. IsAmong u found) start result → IsFirstIn P start result
-first_of_all P found start None all h = λ u p. h u ((among P found u all).1 p)
-first_of_all P found start (Some x) all h = ((among P found x all).0 h.0, h.1, h.2, λ u p. h.3 u ((among P found u all).1 p))
+-- ---- the last of them in a range
 
 pub last_of_all : (P : ℤ → Type 0) (found : MappedLocalTime ℤ) (end : ℤ) (result : Option ℤ) → AreAll P (λ u. u) found → IsLastIn (λ u. IsAmong u found) end result → IsLastIn P end result
 last_of_all P found end None all h = λ u p. h u ((among P found u all).1 p)
 last_of_all P found end (Some x) all h = ((among P found x all).0 h.0, h.1, h.2, λ u p. h.3 u ((among P found u all).1 p))
-
--- ---- as a search finds them
-
--- the first local second that is shown ends the gap; K is its number as the search has it
-pub ends_here : (ahead : ℤ → ℤ) {G K : ℤ} → ((G <ℤ K) × AreGaps ahead G K) → (gap k o u : ℤ) → G ≡ gap → K ≡ k → IsEpochSecond k → IsOffset o → u ≡ (k -ℤ o) → IsFirst ahead k u → IsOnly (EndsGap ahead gap) u
-ends_here ahead {G} {K} h gap k o u is_gap is_k date near at first =
-    let gaps : AreGaps ahead gap k = λ j low high. h.1 j (omega (arith, ints, is_gap, low)) (omega (arith, ints, is_k, high)) in
-    gap_ends ahead gap k o u date near at (omega (arith, ints, is_gap, is_k, h.0)) gaps first
-
-pub goes_on : (ahead : ℤ → ℤ) {G K : ℤ} → ((G <ℤ K) × AreGaps ahead G K) → (k next : ℤ) → K ≡ k → next ≡ (k +ℤ pos 1) → IsGap ahead k → (G <ℤ next) × AreGaps ahead G next
-goes_on ahead {G} {K} h k next is_k is_next gap = (
-  omega (arith, ints, h.0, is_k, is_next),
-  λ j low high. more_gaps ahead G k (λ i from end. h.1 i from (omega (arith, ints, is_k, end))) gap j low (omega (arith, ints, is_next, high)),
-)
-
-pub never_ends : (ahead : ℤ → ℤ) {G K : ℤ} → ((G <ℤ K) × AreGaps ahead G K) → (gap : ℤ) → G ≡ gap → IsEpochSecond gap → (IsEpochSecond K → ⊥) → (u : ℤ) → EndsGap ahead gap u → ⊥
-never_ends ahead {G} {K} h gap is_gap date past =
-    gap_never_ends ahead gap K date past (omega (arith, ints, is_gap, h.0)) (λ j low high. h.1 j (omega (arith, ints, is_gap, low)) high)

@@ -1,9 +1,10 @@
 -- Laws of what fires.
-use Rattle.std.proofs.Common.{◌≡◌, ◌↔◌, ◌⊎◌, ⊎_elim, inl, inr, true, ℤ, pos, neg_ℤ, ◌+ℤ◌, ◌-ℤ◌, ◌≤ℤ◌, arith, refl, subst, sym}
+use Rattle.std.proofs.Common.{◌≡◌, ◌↔◌, ◌⊎◌, ⊎_elim, inl, inr, true, ℕ, zero, suc, ℤ, pos, neg_ℤ, ◌+ℤ◌, ◌-ℤ◌, ◌≤ℤ◌, ◌<ℤ◌, unsigned_abs, arith, refl, subst, sym}
 use Rattle.std.proofs.lemmas.Int.{by_lt_z, ints}
 use Rattle.chrono_datetime.specs.Moment.{IsMoment, Moment}
 use Rattle.chrono_instant.specs.Instants.{IsEpochSecond, epoch_second}
-use Rattle.chrono_instant.specs.Offsets.{moment_ahead}
+use Rattle.chrono_datetime.proofs.Signed.{casts}
+use Rattle.chrono_instant.specs.Offsets.{IsOffset, moment_ahead}
 use Rattle.chrono_instant.proofs.InstantLemmas.{IsMoment-second, IsTime-ahead, epoch_second-ahead}
 use Rattle.chrono_zoned.specs.declared.mapped_local_time.MappedLocalTime.{MappedLocalTime}
 use Rattle.chrono_zoned.specs.declared.mapped_local_time.MappedLocalTime.TheVariants.{None as NoInstant, Single, Ambiguous}
@@ -16,8 +17,8 @@ use Rattle.zoned_cron.specs.declared.policy.Fold.{Fold}
 use Rattle.zoned_cron.specs.declared.policy.Fold.TheVariants.{Both, Earlier, Later}
 use Rattle.zoned_cron.specs.declared.policy.Policy.{Policy}
 use Rattle.zoned_cron.specs.Fires.{FiresAt, IsBehindGap, IsFirst, IsGap, IsInstant, Takes, TakesShown, as_shown, once_each}
-use Rattle.zoned_cron.proofs.Instants.{AreTwo-mapped, behind, first_of_two, in_gap, last_of_two, only_taken}
-use Rattle.zoned_cron.proofs.Windows.{planned_now}
+use Rattle.zoned_cron.proofs.Instants.{AreGaps, AreTwo-mapped, behind, first_of_two, in_gap, last_of_two, only_taken}
+use Rattle.zoned_cron.proofs.Windows.{near, planned_now}
 
 -- ---- a zone of one offset
 
@@ -64,6 +65,54 @@ fires_once ahead l u v (inl h) (inr k) = absurd (in_gap ahead l v k u h.0)
 fires_once ahead l u v (inr h) (inl k) = absurd (in_gap ahead l u h v k.0)
 fires_once ahead l u v (inr h) (inr k) =
     first_once ahead (v +ℤ ahead v) u v (subst (λ (s : ℤ). IsFirst ahead s u) (behind_once ahead l u v h k) h.first) k.first
+
+-- ---- and once at least
+
+first_found : (ahead : ℤ → ℤ) (k : ℤ) (found : MappedLocalTime ℤ) → IsMapped ahead k found → IsGap ahead k ⊎ ((u : ℤ) × IsFirst ahead k u)
+first_found ahead k NoInstant h = inl h
+first_found ahead k (Single a) h = inr (k -ℤ a, only_taken Earlier ahead k (k -ℤ a) h)
+first_found ahead k (Ambiguous a b) h = inr (k -ℤ a, (first_of_two ahead k (k -ℤ a) (k -ℤ b) (k -ℤ a) (AreTwo-mapped ahead k a b (k -ℤ a) (k -ℤ b) h refl refl)).1 refl)
+
+ends_gap : (ahead : ℤ → ℤ) (l k u : ℤ) → l <ℤ k → AreGaps ahead l k → IsFirst ahead k u → IsBehindGap ahead l u
+ends_gap ahead l k u later gaps first =
+    let is : k ≡ (u +ℤ ahead u) = sym first.0 in
+    record {
+      later = subst (λ (x : ℤ). l <ℤ x) is later;
+      skipped = subst (λ (x : ℤ). AreGaps ahead l x) is gaps;
+      first = subst (λ (x : ℤ). IsFirst ahead x u) is first;
+    }
+
+one_more : (ahead : ℤ → ℤ) (l k : ℤ) → AreGaps ahead l k → IsGap ahead k → AreGaps ahead l (k +ℤ pos 1)
+one_more ahead l k gaps gap = λ j low high. by_lt_z j k (λ lt. gaps j low lt) (λ ge. subst (λ (x : ℤ). IsGap ahead x) (omega (arith, ints, ge, high)) gap)
+
+-- a gap in front of a second that the clock shows has an end
+find_end : (ahead : ℤ → ℤ) → ((k : ℤ) → (found : MappedLocalTime ℤ) × IsMapped ahead k found) → (n : ℕ) (l k v : ℤ) → l <ℤ k → AreGaps ahead l k → (k +ℤ pos n) ≡ (v +ℤ ahead v) → (u : ℤ) × IsBehindGap ahead l u
+find_end ahead mapped zero l k v later gaps is =
+    ⊎_elim
+    (λ gap. absurd (gap v (omega (arith, ints, is))))
+    (λ first. (first.0, ends_gap ahead l k first.0 later gaps first.1))
+    (first_found ahead k (mapped k).0 (mapped k).1)
+find_end ahead mapped (suc n) l k v later gaps is =
+    ⊎_elim
+    (λ gap. find_end ahead mapped n l (k +ℤ pos 1) v (omega (arith, ints, later)) (one_more ahead l k gaps gap) (omega (arith, ints, is)))
+    (λ first. (first.0, ends_gap ahead l k first.0 later gaps first.1))
+    (first_found ahead k (mapped k).0 (mapped k).1)
+
+fires_somewhere : (ahead : ℤ → ℤ) → ((u : ℤ) → IsOffset (ahead u)) → ((k : ℤ) → (found : MappedLocalTime ℤ) × IsMapped ahead k found) → (l : ℤ) → (u : ℤ) × Takes once_each ahead l u
+fires_somewhere ahead offsets mapped l =
+    ⊎_elim
+    (λ gap.
+    let v : ℤ = l +ℤ pos 86_400 in
+    let n : ℕ = unsigned_abs (v +ℤ ahead v -ℤ (l +ℤ pos 1)) in
+    let end = find_end ahead mapped n l (l +ℤ pos 1) v (omega (arith, ints)) (λ j low high. subst (λ (x : ℤ). IsGap ahead x) (omega (arith, ints, low, high)) gap) (omega (arith, casts, near (ahead v) (offsets v))) in
+    (end.0, inr end.1))
+    (λ first. (first.0, inl first.1))
+    (first_found ahead l (mapped l).0 (mapped l).1)
+
+pub one_firing : (ahead : ℤ → ℤ) → ((u : ℤ) → IsOffset (ahead u)) → ((k : ℤ) → (found : MappedLocalTime ℤ) × IsMapped ahead k found) → (l : ℤ) → (u : ℤ) × IsOnly (Takes once_each ahead l) u
+one_firing ahead offsets mapped l =
+    let there = fires_somewhere ahead offsets mapped l in
+    (there.0, λ v. (λ h. fires_once ahead l v there.0 h there.1, λ e. subst (λ (x : ℤ). Takes once_each ahead l x) (sym e) there.1))
 
 two_taken : (fold : Fold) (ahead : ℤ → ℤ) (l a b : ℤ) → IsMapped ahead l (Ambiguous a b) → (u : ℤ) × TakesShown fold ahead l u
 two_taken Earlier ahead l a b h = (l -ℤ a, (first_of_two ahead l (l -ℤ a) (l -ℤ b) (l -ℤ a) (AreTwo-mapped ahead l a b (l -ℤ a) (l -ℤ b) h refl refl)).1 refl)

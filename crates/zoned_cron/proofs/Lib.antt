@@ -1,4 +1,7 @@
 mod FiringLists
 mod Instants
 mod Windows
+mod Carried
+mod Gaps
+mod Stretches
 mod Laws

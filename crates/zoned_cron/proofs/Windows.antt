@@ -7,16 +7,16 @@ use Rattle.chrono_datetime.specs.Time.{FractionFits, IsEarlier, IsTime, TimeOfDa
 use Rattle.chrono_datetime.proofs.Signed.{casts}
 use Rattle.chrono_instant.specs.Instants.{IsEpochSecond, LiesIn, epoch_second, second_of_minute}
 use Rattle.chrono_instant.specs.Offsets.{IsOffset}
-use Rattle.chrono_instant.proofs.InstantLemmas.{IsBefore-by_second, IsEpochSecond-moment, one_moment}
+use Rattle.chrono_instant.proofs.InstantLemmas.{IsBefore-by_second, one_moment}
 use Rattle.chrono_zoned.specs.declared.mapped_local_time.MappedLocalTime.{MappedLocalTime}
 use Rattle.chrono_zoned.specs.Zones.{AreAll, IsAmong}
 use Rattle.chrono_cron.specs.declared.field_sets.FieldSets.{FieldSets}
-use Rattle.chrono_cron.specs.Due.{NotDueAfter, NotDueBefore, NotDueBetween, is_day, is_due, is_minute}
+use Rattle.chrono_cron.specs.Due.{NotDueBefore, NotDueBetween, is_day, is_due, is_minute}
 use Rattle.zoned_cron.specs.declared.policy.Gap.{Gap}
 use Rattle.zoned_cron.specs.declared.policy.Gap.TheVariants.{FirstAfter, Skip}
 use Rattle.zoned_cron.specs.declared.policy.Policy.{Policy}
 use Rattle.zoned_cron.specs.Fires.{Fires, FiresAt, NotFiringAfter, NotFiringBefore, NotFiringBetween, Takes, TakesSkipped}
-use Rattle.zoned_cron.specs.Private.{CoversBefore, CoversBehind, FiresFor, IsAtLeast, IsAtMost, IsFirstIn, IsLastIn, TakesDated}
+use Rattle.zoned_cron.specs.Private.{CoversBehind, FiresFor, IsAtMost, IsLastIn, TakesDated}
 use Rattle.zoned_cron.proofs.Instants.{among, behind, shown}
 
 -- ---- how far an instant can be from the local time
@@ -26,7 +26,7 @@ pub near : (x : ℤ) → IsOffset x → (neg_ℤ (pos 86_400) <ℤ x) × (x <ℤ
 near x h = (omega (arith, casts, h), omega (arith, casts, h))
 
 -- where what is planned for l fires, the clock shows l or more
-reached : (p : Policy) (ahead : ℤ → ℤ) (l u : ℤ) → Takes p ahead l u → l ≤ℤ (u +ℤ ahead u)
+pub reached : (p : Policy) (ahead : ℤ → ℤ) (l u : ℤ) → Takes p ahead l u → l ≤ℤ (u +ℤ ahead u)
 reached p ahead l u (inl h) = omega (arith, ints, shown p.fold ahead l u h)
 reached p ahead l u (inr h) = omega (arith, ints, (behind p.gap ahead l u h).later)
 
@@ -78,58 +78,6 @@ fires_by s ahead p m u utc exists due takes = record {
   takes = takes.1;
 }
 
--- ---- the search ahead
-
-pub fires_first : (s : FieldSets) (ahead : ℤ → ℤ) (p : Policy) (start : ℤ) (m : Moment) (found : Option ℤ) → IsEpochSecond start → IsMoment m → is_due s m ≡ true → IsFirstIn (TakesDated p ahead (epoch_second m)) start found → IfSome found (λ c. (start <ℤ c) × Fires s ahead p c)
-fires_first s ahead p start m None date exists due h = tt
-fires_first s ahead p start m (Some x) date exists due h =
-    (h.1, fires_by s ahead p m x (omega (arith, ints, date.0, h.1), h.2) exists due h.0)
-
-first_covers : (s : FieldSets) (ahead : ℤ → ℤ) (p : Policy) (start : ℤ) (m local : Moment) (found : Option ℤ) (u : ℤ) → IsFirstIn (TakesDated p ahead (epoch_second local)) start found → FiresFor s ahead p m u → epoch_second m ≡ epoch_second local → start <ℤ u → IsAtLeast found u
-first_covers s ahead p start m local None u h f same later =
-    omega (arith, ints, h u (taken s ahead p m local u f same) later, f.instant.utc.1)
-first_covers s ahead p start m local (Some x) u h f same later = h.3 u (taken s ahead p m local u f same) later
-
--- each local time up to `local` has been seen
-up_to : (s : FieldSets) (ahead : ℤ → ℤ) (p : Policy) (start : ℤ) (local : Moment) (best found result : Option ℤ) → CoversBefore s ahead p start (epoch_second local) best → IsFirstIn (TakesDated p ahead (epoch_second local)) start found → ((u : ℤ) → IsAtLeast best u ⊎ IsAtLeast found u → IsAtLeast result u) → (m : Moment) (u : ℤ) → FiresFor s ahead p m u → epoch_second m ≤ℤ epoch_second local → start <ℤ u → IsAtLeast result u
-up_to s ahead p start local best found result covers first join m u f low later =
-    by_lt_z (epoch_second m) (epoch_second local) (λ lt. join u (inl (covers m u f lt later)))
-    (λ ge. join u (inr (first_covers s ahead p start m local found u first f (omega (arith, ints, low, ge)) later)))
-
-pub covers_next : (s : FieldSets) (ahead : ℤ → ℤ) (p : Policy) (start : ℤ) (local next : Moment) (best found result : Option ℤ) → IsMoment local → IsMoment next → CoversBefore s ahead p start (epoch_second local) best → IsFirstIn (TakesDated p ahead (epoch_second local)) start found → ((u : ℤ) → IsAtLeast best u ⊎ IsAtLeast found u → IsAtLeast result u) → NotDueBetween s local next → CoversBefore s ahead p start (epoch_second next) result
-covers_next s ahead p start local next best found result i j covers first join none = λ m u f lt later.
-    by_lt_z (epoch_second local) (epoch_second m)
-    (λ gt. absurd (both_ways (is_due s m) (none m f.exists (earlier_second local m i f.exists gt) (earlier_second m next f.exists j lt)) f.due))
-    (λ le. up_to s ahead p start local best found result covers first join m u f le later)
-
-pub covers_all : (s : FieldSets) (ahead : ℤ → ℤ) (p : Policy) (start : ℤ) (local : Moment) (best found result : Option ℤ) → IsMoment local → CoversBefore s ahead p start (epoch_second local) best → IsFirstIn (TakesDated p ahead (epoch_second local)) start found → ((u : ℤ) → IsAtLeast best u ⊎ IsAtLeast found u → IsAtLeast result u) → NotDueAfter s local → (u : ℤ) → start <ℤ u → Fires s ahead p u → IsAtLeast result u
-covers_all s ahead p start local best found result i covers first join none = λ u later f.
-    by_lt_z (epoch_second local) (epoch_second f.planned)
-    (λ gt. absurd (both_ways (is_due s f.planned) (none f.planned f.exists (earlier_second local f.planned i f.exists gt)) f.due))
-    (λ le. up_to s ahead p start local best found result covers first join f.planned u (fires_for s ahead p u f) le later)
-
--- the search may end a day behind what it found
-pub covers_far : (s : FieldSets) (ahead : ℤ → ℤ) (p : Policy) (start l : ℤ) (best : Option ℤ) → CoversBefore s ahead p start l best → IsSomeAnd best (λ c. (c +ℤ pos 86_400) ≤ℤ l) → (u : ℤ) → start <ℤ u → Fires s ahead p u → IsAtLeast best u
-covers_far s ahead p start l None covers far u later f = absurd far
-covers_far s ahead p start l (Some c) covers far u later f =
-    by_lt_z (epoch_second f.planned) l (λ lt. covers f.planned u (fires_for s ahead p u f) lt later)
-    (λ ge.
-    let after = too_late p ahead (epoch_second f.planned) c u (omega (arith, ints, far, ge)) f.instant.near f.takes in
-    omega (arith, ints, after))
-
--- where it begins: behind what the clock showed two days before the start
-pub none_before : (s : FieldSets) (ahead : ℤ → ℤ) (p : Policy) (start : ℤ) {v : ℤ} (k first : Moment) → epoch_second k ≡ (v +ℤ ahead v) → v ≡ (start -ℤ pos 172_800) → IsOffset (ahead v) → IsMoment k → NotDueBetween s k first → (m : Moment) (u : ℤ) → FiresFor s ahead p m u → IsBefore m first → u ≤ℤ start
-none_before s ahead p start {v} k first is_k is_v offset i none m u f before =
-    by_lt_z (epoch_second k) (epoch_second m)
-    (λ gt. absurd (both_ways (is_due s m) (none m f.exists (earlier_second k m i f.exists gt) before) f.due))
-    (λ le. too_early p ahead (epoch_second m) start v (epoch_second k) u is_v is_k offset le f.instant.near f.takes)
-
-pub none_after : (s : FieldSets) (ahead : ℤ → ℤ) (p : Policy) (start : ℤ) {v : ℤ} (k : Moment) → epoch_second k ≡ (v +ℤ ahead v) → v ≡ (start -ℤ pos 172_800) → IsOffset (ahead v) → IsMoment k → NotDueAfter s k → (m : Moment) (u : ℤ) → FiresFor s ahead p m u → u ≤ℤ start
-none_after s ahead p start {v} k is_k is_v offset i none m u f =
-    by_lt_z (epoch_second k) (epoch_second m)
-    (λ gt. absurd (both_ways (is_due s m) (none m f.exists (earlier_second k m i f.exists gt)) f.due))
-    (λ le. too_early p ahead (epoch_second m) start v (epoch_second k) u is_v is_k offset le f.instant.near f.takes)
-
 -- ---- facts of options
 
 pub if_none : {X A B : Type 0} (r : Option X) → IfNone r A → (A → B) → IfNone r B
@@ -151,10 +99,11 @@ some_and (Some x) h f = f x h
 pub one_of : (P : ℤ → Type 0) (a b r : Option ℤ) → (r ≡ a) ⊎ (r ≡ b) → IfSome a P → IfSome b P → IfSome r P
 one_of P a b r is h k = ⊎_elim (λ e. subst (λ (o : Option ℤ). IfSome o P) (sym e) h) (λ e. subst (λ (o : Option ℤ). IfSome o P) (sym e) k) is
 
--- ---- the measures of the searches
+pub none_then : {X B : Type 0} (r : Option X) → ((IsSome r → ⊥) → B) → IfNone r B
+none_then None f = f (λ some. absurd cc)
+none_then (Some x) f = tt
 
-pub closer : (a b : ℤ) → a <ℤ b → b ≤ℤ pos 8_210_266_876_799 → unsigned_abs (pos 8_210_266_876_800 -ℤ b) < unsigned_abs (pos 8_210_266_876_800 -ℤ a)
-closer a b lt high = omega (arith, casts, lt, high)
+-- ---- the measure of the search back
 
 pub closer_back : (a b : ℤ) → a <ℤ b → neg_ℤ (pos 8_334_601_228_800) ≤ℤ a → unsigned_abs (a +ℤ pos 8_334_601_228_801) < unsigned_abs (b +ℤ pos 8_334_601_228_801)
 closer_back a b lt low = omega (arith, casts, lt, low)
@@ -278,9 +227,9 @@ planned_before s ahead p local earlier u i j before whole is none f skipped soon
 pub fires_there : (s : FieldSets) (ahead : ℤ → ℤ) (p : Policy) {X : ℤ} (x : ℤ) (d : Moment) → LiesIn X 0 d → X ≡ x → Fires s ahead p x → FiresAt s ahead p d
 fires_there s ahead p {X} x d h is f = (h.past, subst (λ (u : ℤ). Fires s ahead p u) (sym (h.second ∙ is)) f)
 
-pub due_by : (s : FieldSets) (ahead : ℤ → ℤ) (p : Policy) (m utc : Moment) {U : ℤ} (found : MappedLocalTime ℤ) → AreAll (TakesDated p ahead (epoch_second m)) (λ u. u) found → IsAmong U found → U ≡ epoch_second utc → IsMoment utc → IsMoment m → is_due s m ≡ true → Fires s ahead p (epoch_second utc)
-due_by s ahead p m utc {U} found all is_among is i j due =
-    fires_by s ahead p m (epoch_second utc) (IsEpochSecond-moment utc i) j due (subst (λ (u : ℤ). TakesDated p ahead (epoch_second m) u) is ((among (TakesDated p ahead (epoch_second m)) found U all).0 is_among))
+pub due_by : (s : FieldSets) (ahead : ℤ → ℤ) (p : Policy) (m : Moment) (u : ℤ) {U : ℤ} (found : MappedLocalTime ℤ) → AreAll (TakesDated p ahead (epoch_second m)) (λ x. x) found → IsAmong U found → U ≡ u → IsEpochSecond u → IsMoment m → is_due s m ≡ true → Fires s ahead p u
+due_by s ahead p m u {U} found all is_among is date j due =
+    fires_by s ahead p m u date j due (subst (λ (x : ℤ). TakesDated p ahead (epoch_second m) x) is ((among (TakesDated p ahead (epoch_second m)) found U all).0 is_among))
 
 pub later_there : (start d : Moment) {S X : ℤ} (x : ℤ) → S <ℤ x → S ≡ epoch_second start → LiesIn X 0 d → X ≡ x → IsMoment start → IsBefore start d
 later_there start d {S} {X} x lt is_s h is i = earlier_second start d i h.exists (omega (arith, ints, lt, is_s, h.second, is))

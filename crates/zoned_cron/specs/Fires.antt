@@ -5,7 +5,7 @@
 -- A job with `*` in the minute or the hour goes by what the clock shows. The manual takes a change of more than three hours for a correction of
 -- a wrong clock. Here a change of any length counts, which is our choice.
 use Rattle.std.specs.Prelude.{◌≡◌, ◌⊎◌, ◌<◌, ℕ, true, ℤ, ◌+ℤ◌, ◌≤ℤ◌, ◌<ℤ◌}
-use Rattle.chrono_sets.specs.Numbers.{Numbers, has}
+use Rattle.chrono_sets.specs.FiniteSets.{FiniteSet, has}
 use Rattle.chrono_datetime.specs.Moment.{IsBefore, IsMoment, Moment}
 use Rattle.chrono_instant.specs.Instants.{IsEpochSecond, epoch_second}
 use Rattle.chrono_instant.specs.Offsets.{IsOffset}
@@ -87,7 +87,7 @@ NotFiringBefore s ahead p end = (m : Moment) → IsMoment m → IsBefore m end �
 -- ---- the two policies of Vixie's cron
 
 -- a field lists each number below n, as `*` does; `*/2` does not, so that it is no wildcard, which is our choice
-abbrev pub ListsAll : Numbers → ℕ → Type 0
+abbrev pub ListsAll : FiniteSet → ℕ → Type 0
 ListsAll set n = (k : ℕ) → k < n → has set k ≡ true
 
 -- the schedule lists every minute of the hour, or every hour of the day

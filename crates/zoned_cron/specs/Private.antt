@@ -1,5 +1,5 @@
 -- Words of functions that are not public.
-use Rattle.std.specs.Prelude.{◌≡◌, true, ℤ, ◌+ℤ◌, ◌≤ℤ◌, ◌<ℤ◌, pos, neg_ℤ, Option, Some, None}
+use Rattle.std.specs.Prelude.{◌≡◌, true, ℤ, ◌+ℤ◌, ◌-ℤ◌, ◌≤ℤ◌, ◌<ℤ◌, pos, neg_ℤ, Option, Some, None}
 use Rattle.chrono_datetime.specs.Moment.{IsMoment, Moment}
 use Rattle.chrono_instant.specs.Instants.{IsEpochSecond, epoch_second}
 use Rattle.chrono_instant.specs.Offsets.{IsOffset}
@@ -29,6 +29,18 @@ pub record FiresFor (s : FieldSets) (ahead : ℤ → ℤ) (p : Policy) (m : Mome
   pub due : is_due s m ≡ true
   pub takes : Takes p ahead (epoch_second m) u
 
+-- the schedule is due at the beginning of the local second l
+pub record IsPlanned (s : FieldSets) (l : ℤ) : Type 0 where
+  pub moment : Moment
+  pub exists : IsMoment moment
+  pub due : is_due s moment ≡ true
+  pub second : epoch_second moment ≡ l
+
+-- for two days before the second u, and for two days from then on, the clock keeps its offset, which is less than a day, as all its offsets are
+pub record IsSettled (ahead : ℤ → ℤ) (u : ℤ) : Type 0 where
+  pub holds : (v : ℤ) → (u -ℤ pos 172_800) ≤ℤ v → v <ℤ (u +ℤ pos 172_800) → ahead v ≡ ahead u
+  pub near : (v : ℤ) → IsOffset (ahead v)
+
 -- R holds of two values, if there are two
 abbrev pub IfTwo : (ℤ → ℤ → Type 0) → MappedLocalTime ℤ → Type 0
 IfTwo R NoInstant = Unit {0}
@@ -45,19 +57,16 @@ abbrev pub IsAtMost : Option ℤ → ℤ → Type 0
 IsAtMost None u = ⊥
 IsAtMost (Some x) u = u ≤ℤ x
 
--- of the seconds after a start of which P holds, what was found is the first; seconds past UTC's dates are left out
-abbrev pub IsFirstIn : (ℤ → Type 0) → ℤ → Option ℤ → Type 0
-IsFirstIn P start None = (u : ℤ) → P u → start <ℤ u → pos 8_210_266_876_799 <ℤ u
-IsFirstIn P start (Some x) = P x × (start <ℤ x) × (x ≤ℤ pos 8_210_266_876_799) × ((u : ℤ) → P u → start <ℤ u → x ≤ℤ u)
+-- what was found is the second x; none was found if x lies behind UTC's dates
+abbrev pub IsInDates : ℤ → Option ℤ → Type 0
+IsInDates x None = pos 8_210_266_876_799 <ℤ x
+IsInDates x (Some c) = (c ≡ x) × (x ≤ℤ pos 8_210_266_876_799)
 
+-- of the seconds before an end of which P holds, what was found is the last; seconds before UTC's dates are left out
 abbrev pub IsLastIn : (ℤ → Type 0) → ℤ → Option ℤ → Type 0
 IsLastIn P end None = (u : ℤ) → P u → u <ℤ end → u <ℤ neg_ℤ (pos 8_334_601_228_800)
 IsLastIn P end (Some x) = P x × (x <ℤ end) × (neg_ℤ (pos 8_334_601_228_800) ≤ℤ x) × ((u : ℤ) → P u → u <ℤ end → u ≤ℤ x)
 
--- what was found is no later than each instant after `start` at which a local time before l fires
-abbrev pub CoversBefore : FieldSets → (ℤ → ℤ) → Policy → ℤ → ℤ → Option ℤ → Type 0
-CoversBefore s ahead p start l found = (m : Moment) (u : ℤ) → FiresFor s ahead p m u → epoch_second m <ℤ l → start <ℤ u → IsAtLeast found u
-
--- and no earlier than each one before `end` at which a local time after l fires
+-- what was found is no earlier than each instant before `end` at which a local time after l fires
 abbrev pub CoversBehind : FieldSets → (ℤ → ℤ) → Policy → ℤ → ℤ → Option ℤ → Type 0
 CoversBehind s ahead p end l found = (m : Moment) (u : ℤ) → FiresFor s ahead p m u → l <ℤ epoch_second m → u <ℤ end → IsAtMost found u

@@ -2,9 +2,9 @@
 ghost use Rattle.std.specs.Prelude.{◌≡◌, ◌↔◌, ◌⊎◌, true, ℤ, pos, neg_ℤ};
 ghost use Rattle.chrono_datetime.specs.Moment.{IsMoment, Moment};
 ghost use Rattle.chrono_instant.specs.Instants.{epoch_second};
-ghost use Rattle.chrono_instant.specs.Offsets.{moment_ahead};
+ghost use Rattle.chrono_instant.specs.Offsets.{IsOffset, moment_ahead};
 ghost use Rattle.chrono_zoned.specs.KnownZones.{set_ahead, set_back};
-ghost use Rattle.chrono_zoned.specs.Zones.{IsMapped};
+ghost use Rattle.chrono_zoned.specs.Zones.{IsMapped, IsOnly};
 ghost use Rattle.chrono_zoned.specs.declared.mapped_local_time.MappedLocalTime.{MappedLocalTime};
 ghost use Rattle.chrono_cron.specs.Due.{is_due};
 ghost use Rattle.chrono_cron.specs.declared.field_sets.FieldSets.{FieldSets};
@@ -21,6 +21,15 @@ pub fn one_offset_is_local_time()
 /// By the policy of a schedule with fixed times, no planned local time fires twice.
 pub fn no_planned_time_fires_twice()
     ensures { (ahead : ℤ → ℤ) (l u v : ℤ) → Takes once_each ahead l u → Takes once_each ahead l v → u ≡ v }
+{}
+
+/// By the policy of a schedule with fixed times, each planned local time fires at one instant, and at no other.
+///
+/// So a day has a firing for each of its planned minutes. Those that one gap skips have their firing in common. The clock is ahead of UTC
+/// by less than a day, and each local second stands for at most two instants, as in every [`TimeZone`](crate::TimeZone).
+pub fn each_planned_time_fires_once()
+    ensures { (ahead : ℤ → ℤ) → ((u : ℤ) → IsOffset (ahead u)) → ((k : ℤ) → (found : MappedLocalTime ℤ) × IsMapped ahead k found)
+        → (l : ℤ) → (u : ℤ) × IsOnly (Takes once_each ahead l) u }
 {}
 
 /// A planned local time that the clock shows fires, whatever the policy.

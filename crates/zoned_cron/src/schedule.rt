@@ -8,10 +8,11 @@ ghost use Rattle.zoned_cron.specs.FiringLists.{AreFirings, GivesNext, seconds_af
 
 use crate::policy::Policy;
 use crate::search::firings::Firings;
-use crate::search::instants::{begun_by, contains, is_shown, lies_in_dates};
+use crate::search::instants::begun_by;
 use chrono_cron::Schedule;
 use chrono_datetime::Timelike;
-use chrono_instant::{AddOffset, Timestamp};
+use chrono_datetime::law::date_times_exist;
+use chrono_instant::Timestamp;
 use chrono_zoned::{DateTime, InZone, TimeZone};
 
 /// A cron schedule in a zone.
@@ -70,21 +71,8 @@ impl<Z: TimeZone> ZonedSchedule<Z> {
         if utc.nanosecond() > 0 {
             return false;
         }
-        let offset = self.zone.offset_from_utc_datetime(&utc);
-        let Some(local) = utc.checked_add_offset(offset) else {
-            return false;
-        };
-        let second = utc.timestamp();
-        if self.schedule.is_due(local) && contains(self.taken(local), second) {
-            return true;
-        }
-        if is_shown(self.zone, local.timestamp() - 1) {
-            return false;
-        }
-        match self.schedule.prev_before(local) {
-            Some(earlier) => contains(self.taken(earlier), second),
-            None => false,
-        }
+        date_times_exist(utc);
+        self.fires_at(utc.timestamp())
     }
 
     /// Returns the first instant after `start` at which the schedule fires.
@@ -105,7 +93,7 @@ impl<Z: TimeZone> ZonedSchedule<Z> {
         ensures none { IfNone result (NotFiringAfter self.now.schedule.sets (Z.ahead self.now.zone) self.now.policy start.utc) }
     {
         let utc = start.naive_utc();
-        lies_in_dates(utc);
+        date_times_exist(utc);
         self.zone
             .timestamp_opt(self.first_after(utc.timestamp())?, 0)
     }
@@ -149,7 +137,7 @@ impl<Z: TimeZone> ZonedSchedule<Z> {
         // What calls of `next` give, up to the first `None`, is the instants in order.
         ensures runs { (given : List (Zoned Z)) → Drains (GivesNext Z.ahead) result given → AreFirings Z.ahead self.now start.utc given }
     {
-        lies_in_dates(start.naive_utc());
+        date_times_exist(start.naive_utc());
         Firings {
             schedule: *self,
             last: Some(start),

@@ -1,7 +1,7 @@
 //! A zone of a caller's own: its offset changes once.
 
 use chrono_datetime::NaiveDateTime;
-use chrono_zoned::{FixedOffset, MappedLocalTime, TimeZone, Timestamp};
+use chrono_zoned::{FixedOffset, MappedLocalTime, Stretch, TimeZone, Timestamp};
 
 /// A zone whose clock has one offset before the second `from`, counted from 1 January 1970 in UTC, and another from
 /// there on.
@@ -44,5 +44,18 @@ impl TimeZone for OneChange {
             return MappedLocalTime::None;
         }
         MappedLocalTime::Single(self.after)
+    }
+
+    fn stretch_from(&self, second: i64) -> Stretch {
+        let forever = Stretch::without_end(self.after);
+        let early = Stretch::without_end(self.before);
+        if second < self.from {
+            Stretch {
+                until: self.from,
+                ..early
+            }
+        } else {
+            forever
+        }
     }
 }

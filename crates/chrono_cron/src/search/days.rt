@@ -1,8 +1,9 @@
 //! The first day of a schedule from a day on, and the last up to one.
-ghost use Rattle.std.specs.Prelude.{◌≡◌, ◌⊎◌, ◌≤◌, ℤ, ◌≤ℤ◌, ◌<ℤ◌, IfSome, IfNone, IsTrue, false};
+ghost use Rattle.std.specs.Prelude.{◌≡◌, ◌≤◌, ℤ, ◌≤ℤ◌, ◌<ℤ◌, IfSome, IfNone, IsTrue, false};
 ghost use Rattle.chrono_datetime.specs.Days.{IsDate};
 ghost use Rattle.chrono_datetime.specs.MonthMoves.{InSameMonth};
 ghost use Rattle.chrono_datetime.specs.PassedOver.{NoneFrom, NoneUpTo, PassedOver, PassedUpTo};
+ghost use Rattle.chrono_cron.specs.DaySearch.{InMonthOrNoDay, NoDayFromTo};
 ghost use Rattle.chrono_cron.specs.Due.{is_day};
 
 use crate::field_sets::FieldSets;
@@ -38,10 +39,8 @@ impl FieldSets {
     fn next_month(&self, date: NaiveDate) -> Option<NaiveDate>
         ensures in_range { IfSome result (λ e. IsDate e) }
         ensures later { IfSome result (λ e. date <ℤ e) }
-        ensures passed { IfSome result (λ e. (d : ℤ) → date ≤ℤ d → d <ℤ e →
-            InSameMonth d date ⊎ (is_day self.now d ≡ false)) }
-        ensures none { IfNone result ((d : ℤ) → date ≤ℤ d → IsDate d →
-            InSameMonth d date ⊎ (is_day self.now d ≡ false)) }
+        ensures passed { IfSome result (λ e. (d : ℤ) → date ≤ℤ d → d <ℤ e → InMonthOrNoDay self.now date d) }
+        ensures none { IfNone result ((d : ℤ) → date ≤ℤ d → IsDate d → InMonthOrNoDay self.now date d) }
     {
         dates_are_days_of_years();
         let (year, month, _) = date.year_month_day();
@@ -61,7 +60,7 @@ impl FieldSets {
         ensures member { IfSome result (λ e. IsTrue (is_day self.now e)) }
         ensures not_before { IfSome result (λ e. date ≤ℤ e) }
         ensures least { IfSome result (λ e. PassedOver (is_day self.now) date e) }
-        ensures none { IfNone result ((d : ℤ) → date ≤ℤ d → IsDate d → d ≤ℤ last → is_day self.now d ≡ false) }
+        ensures none { IfNone result (NoDayFromTo self.now date last) }
     {
         let mut month = date;
         while month <= last {
@@ -124,10 +123,8 @@ impl FieldSets {
     fn previous_month(&self, date: NaiveDate) -> Option<NaiveDate>
         ensures in_range { IfSome result (λ e. IsDate e) }
         ensures earlier { IfSome result (λ e. e <ℤ date) }
-        ensures passed { IfSome result (λ e. (d : ℤ) → e <ℤ d → d ≤ℤ date →
-            InSameMonth d date ⊎ (is_day self.now d ≡ false)) }
-        ensures none { IfNone result ((d : ℤ) → d ≤ℤ date → IsDate d →
-            InSameMonth d date ⊎ (is_day self.now d ≡ false)) }
+        ensures passed { IfSome result (λ e. (d : ℤ) → e <ℤ d → d ≤ℤ date → InMonthOrNoDay self.now date d) }
+        ensures none { IfNone result ((d : ℤ) → d ≤ℤ date → IsDate d → InMonthOrNoDay self.now date d) }
     {
         dates_are_days_of_years();
         let (year, month, _) = date.year_month_day();
@@ -152,7 +149,7 @@ impl FieldSets {
         ensures member { IfSome result (λ e. IsTrue (is_day self.now e)) }
         ensures not_after { IfSome result (λ e. e ≤ℤ date) }
         ensures greatest { IfSome result (λ e. PassedUpTo (is_day self.now) e date) }
-        ensures none { IfNone result ((d : ℤ) → d ≤ℤ date → IsDate d → first ≤ℤ d → is_day self.now d ≡ false) }
+        ensures none { IfNone result (NoDayFromTo self.now first date) }
     {
         let mut month = date;
         while month >= first {

@@ -1,17 +1,19 @@
 //! Reading the two fields of days. Some of their items name days, and the others list numbers.
 ghost use Rattle.std.specs.Prelude.{◌≡◌, ◌<◌, ◌==◌, ◌&&◌, ◌||◌, nat_lt, ℕ, List, false, Some, if◌then◌else◌, IfSome};
 ghost use Rattle.std.specs.Option.{option_map};
-ghost use Rattle.chrono_sets.specs.Numbers.{has};
+ghost use Rattle.chrono_sets.specs.FiniteSets.{has};
 ghost use Rattle.chrono_cron.specs.FieldTexts.{item_lists, items_list};
-ghost use Rattle.chrono_cron.specs.ScheduleTexts.{AreNamedDays, AreNamedWith, days_list, is_number, names_by, other_items, weekdays_list};
+ghost use Rattle.chrono_cron.specs.ScheduleErrors.{greatest_of_field, least_of_field, names_days, names_of_field};
+ghost use Rattle.chrono_cron.specs.ScheduleTexts.{AreNamedDays, AreNamedWith, days_list, is_number, other_items, weekdays_list};
 
-use crate::month_days::MonthDays;
+use crate::named_days::MonthDays;
 use crate::text::day_items::{
     from_end_of, is_last_workday, last_weekday_of, names_by_place, names_by_weekday,
     nearest_workday_of, nth_weekday_of,
 };
 use crate::text::field::{COMMA, read_item};
 use crate::text::number_names::Names;
+use crate::text::schedule_error::ScheduleField;
 use chrono_sets::NumberSet;
 use chrono_text::split_at_byte;
 
@@ -78,7 +80,7 @@ pub(crate) fn read_days(text: &[u8]) -> Option<DayItems>
     ensures numbers { (k : ℕ) → option_map (λ items. has items.numbers k) result ≡ days_list text.now k }
     ensures named { IfSome result (λ items. AreNamedDays text.now text.now items.named) }
 {
-    read_items(text, Names::Numbers, 1, 31)
+    read_items(text, ScheduleField::Day)
 }
 
 // The weekdays that a field lists, from 0 for Sunday, for which 7 stands too, and the days that it names.
@@ -86,7 +88,7 @@ pub(crate) fn read_weekdays(text: &[u8]) -> Option<DayItems>
     ensures numbers { (k : ℕ) → option_map (λ items. has items.numbers k) result ≡ weekdays_list text.now k }
     ensures named { IfSome result (λ items. AreNamedDays text.now text.now items.named) }
 {
-    let Some(items) = read_items(text, Names::Weekdays, 0, 7) else {
+    let Some(items) = read_items(text, ScheduleField::Weekday) else {
         return None;
     };
     Some(DayItems {
@@ -104,10 +106,9 @@ fn one_week(set: NumberSet) -> NumberSet
 }
 
 // What the items of a field list, and which days they name, found in one pass.
-fn read_items(text: &[u8], names: Names, low: u32, high: u32) -> Option<DayItems>
-    requires { high < 64 }
+fn read_items(text: &[u8], field: ScheduleField) -> Option<DayItems>
     ensures numbers { (k : ℕ) → option_map (λ items. has items.numbers k) result
-        ≡ items_list names low high (other_items (names_by names) text.now) k }
+        ≡ items_list (names_of_field field) (least_of_field field) (greatest_of_field field) (other_items (names_days field) text.now) k }
     ensures named { IfSome result (λ items. AreNamedDays text.now text.now items.named) }
 {
     let mut items = DayItems {
@@ -116,38 +117,55 @@ fn read_items(text: &[u8], names: Names, low: u32, high: u32) -> Option<DayItems
     };
     let mut rest = text;
     while let Some((item, behind)) = split_at_byte(rest, COMMA) {
-        let Some(numbers) = read_other_item(item, names, low, high) else {
+        let Some(numbers) = read_other_item(item, field) else {
             return None;
         };
         items = items.with_item(numbers, item);
         rest = behind;
     }
-    let Some(numbers) = read_other_item(rest, names, low, high) else {
+    let Some(numbers) = read_other_item(rest, field) else {
         return None;
     };
     Some(items.with_item(numbers, rest))
 }
 
-// The numbers that an item lists: none if it names days.
-pub(crate) fn read_other_item(text: &[u8], names: Names, low: u32, high: u32) -> Option<NumberSet>
-    requires { high < 64 }
-    ensures { (k : ℕ) → option_map (λ set. has set k) result
-        ≡ (if names_by names text.now then Some false else item_lists names low high text.now k) }
+// The numbers that an item of a field lists: none if it names days.
+pub(crate) fn read_other_item(item: &[u8], field: ScheduleField) -> Option<NumberSet>
+    ensures { (k : ℕ) → option_map (λ set. has set k) result ≡ (if names_days field item.now then Some false
+        else item_lists (names_of_field field) (least_of_field field) (greatest_of_field field) item.now k) }
 {
-    if is_name_of_days(text, names) {
+    if names_days(item, field) {
         return Some(NumberSet::none());
     }
-    read_item(text, names, low, high)
+    let (names, low, high) = field.numbers();
+    read_item(item, names, low, high)
 }
 
-// Whether an item of a field with these names names days.
-#[tactic(auto, unfolding(crate::specs::ScheduleTexts::names_by))]
-fn is_name_of_days(item: &[u8], names: Names) -> bool
-    ensures { result ≡ names_by names item.now }
+// Whether an item of a field names days.
+fn names_days(item: &[u8], field: ScheduleField) -> bool
+    ensures { result ≡ names_days field item.now }
 {
-    match names {
-        Names::Numbers => names_by_place(item),
-        Names::Months => false,
-        Names::Weekdays => names_by_weekday(item),
+    match field {
+        ScheduleField::Day => names_by_place(item),
+        ScheduleField::Weekday => names_by_weekday(item),
+        ScheduleField::Minute | ScheduleField::Hour | ScheduleField::Month => false,
+    }
+}
+
+impl ScheduleField {
+    // The names that it has for its numbers, and the least and the greatest of these.
+    pub(crate) fn numbers(self) -> (Names, u32, u32)
+        ensures names { result.0 ≡ names_of_field self }
+        ensures low { result.1 ≡ least_of_field self }
+        ensures high { result.2 ≡ greatest_of_field self }
+        ensures small { result.2 < 64 }
+    {
+        match self {
+            ScheduleField::Minute => (Names::Numbers, 0, 59),
+            ScheduleField::Hour => (Names::Numbers, 0, 23),
+            ScheduleField::Day => (Names::Numbers, 1, 31),
+            ScheduleField::Month => (Names::Months, 1, 12),
+            ScheduleField::Weekday => (Names::Weekdays, 0, 7),
+        }
     }
 }

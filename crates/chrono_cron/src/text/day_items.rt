@@ -1,7 +1,6 @@
 //! Items of the two fields of days that name days of a month. They are `L`, `L-k`, `LW`, `kW`, `dL` and `d#k`.
-ghost use Rattle.std.specs.Prelude.{◌≡◌, ◌≤◌, ◌<◌, ◌-◌, ◌==◌, ℕ, length, take, drop, slice_index, IfSome, IfNone, is_some};
+ghost use Rattle.std.specs.Prelude.{◌≡◌, ◌<◌, ◌-◌, ◌==◌, IfSome, IfNone, is_some};
 ghost use Rattle.std.specs.Char.{to_ascii_lowercase};
-ghost use Rattle.std.specs.Str.{str_eq_ignore_ascii_case};
 ghost use Rattle.chrono_cron.specs.ScheduleTexts.{before_letter, from_end_of, is_last_workday_text, last_weekday_of, names_by_place, names_by_weekday, nearest_workday_of, nth_weekday_of, spelled_weekday};
 
 use crate::text::field::read_number;

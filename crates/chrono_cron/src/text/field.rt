@@ -1,8 +1,7 @@
 //! The reading of one field of a schedule's text.
-ghost use Rattle.std.specs.Prelude.{◌≡◌, ◌<◌, ◌≤◌, ◌+◌, ◌==◌, ℕ, drop, length, IfSome};
+ghost use Rattle.std.specs.Prelude.{◌≡◌, ◌<◌, ◌≤◌, ◌==◌, ℕ, IfSome};
 ghost use Rattle.std.specs.Option.{option_map};
-ghost use Rattle.std.specs.List.{position_or_len};
-ghost use Rattle.chrono_sets.specs.Numbers.{has};
+ghost use Rattle.chrono_sets.specs.FiniteSets.{has};
 ghost use Rattle.chrono_sets.specs.Steps.{is_by_steps};
 ghost use Rattle.chrono_cron.specs.FieldTexts.{field_lists, is_star, item_lists, number_between, range_of, item_span, spelled_number, step_of};
 
@@ -41,7 +40,7 @@ pub(crate) const STEP_DIGITS: usize = 3;
 /// - `*/n` and `a-b/n`: every `n`-th number of a range, from its beginning on. `n` is 1 to 999.
 ///
 /// Other numbers have one or two digits. A name from `names`, in letters of any case, may replace its number.
-/// A step has no name.
+/// A step has no name. The name `sun` is 0 and never 7. So `sat-sun` runs backwards and is refused: write `6-7`.
 pub fn read_field(text: &[u8], names: Names, low: u32, high: u32) -> Option<NumberSet>
     requires { high < 64 }
     ensures { (k : ℕ) → option_map (λ set. has set k) result ≡ field_lists names low high text.now k }

@@ -1,63 +1,26 @@
 //! What is wrong with a field that cannot be read, and where in the text.
 ghost use Rattle.std.specs.Prelude.{◌≡◌, ◌+◌, ◌<◌, ◌≤◌, ◌^◌, length, take, drop, Some, IfSome, is_some};
-ghost use Rattle.chrono_cron.specs.FieldTexts.{item_lists, number_of_name};
-ghost use Rattle.chrono_cron.specs.ScheduleErrors.{day_name_fault, schedule_error_at, fault_in, field_fault, greatest_of_field, is_item, field_item_fault, last_fault, least_of_field, letter_fault, named_fault, names_days, names_of_field, field_number_fault, span_fault, step_fault, unspelled_fault, weekday_name_fault};
+ghost use Rattle.chrono_cron.specs.FieldTexts.{number_of_name};
+ghost use Rattle.chrono_cron.specs.ScheduleErrors.{day_name_fault, schedule_error_at, fault_in, field_fault, greatest_of_field, is_item, field_item_fault, last_fault, least_of_field, letter_fault, named_fault, names_of_field, field_number_fault, span_fault, step_fault, unspelled_fault, weekday_name_fault};
 
-use crate::text::day_items::{
-    SHARP, before_letter, names_by_place, names_by_weekday, spelled_weekday,
-};
+use crate::text::day_fields::read_other_item;
+use crate::text::day_items::{SHARP, before_letter, spelled_weekday};
 use crate::text::field::{
-    COMMA, DASH, SLASH, STEP_DIGITS, read_item, read_number, read_range, spelled_number,
+    COMMA, DASH, SLASH, STEP_DIGITS, read_number, read_range, spelled_number,
 };
 use crate::text::number_names::Names;
 use crate::text::schedule_error::{ScheduleError, ScheduleFault, ScheduleField};
-use crate::text::split_text::{PlacedWord, begins_with};
-use chrono_text::{are_digits, byte_place, read_digits};
+use crate::text::split_fields::PlacedWord;
+use chrono_text::{are_digits, begins_but_for_case, byte_place, read_digits};
 
 impl ScheduleField {
-    // The names that it has for its numbers, and the least and the greatest of these.
-    fn numbers(self) -> (Names, u32, u32)
-        ensures names { result.0 ≡ names_of_field self }
-        ensures low { result.1 ≡ least_of_field self }
-        ensures high { result.2 ≡ greatest_of_field self }
-        ensures small { result.2 < 64 }
-    {
-        match self {
-            ScheduleField::Minute => (Names::Numbers, 0, 59),
-            ScheduleField::Hour => (Names::Numbers, 0, 23),
-            ScheduleField::Day => (Names::Numbers, 1, 31),
-            ScheduleField::Month => (Names::Months, 1, 12),
-            ScheduleField::Weekday => (Names::Weekdays, 0, 7),
-        }
-    }
-
     // Whether an item can be read in it.
     #[tactic(auto, unfolding(crate::specs::ScheduleErrors::is_item))]
     fn has_item(self, item: &[u8]) -> bool
         ensures { result ≡ is_item self item.now }
     {
-        let (names, low, high) = self.numbers();
-        names_days(self, item) || lists_numbers(item, names, low, high)
+        read_other_item(item, self).is_some()
     }
-}
-
-// Whether an item of a field names days.
-fn names_days(field: ScheduleField, item: &[u8]) -> bool
-    ensures { result ≡ names_days field item.now }
-{
-    match field {
-        ScheduleField::Day => names_by_place(item),
-        ScheduleField::Weekday => names_by_weekday(item),
-        ScheduleField::Minute | ScheduleField::Hour | ScheduleField::Month => false,
-    }
-}
-
-// Whether an item lists numbers.
-fn lists_numbers(item: &[u8], names: Names, low: u32, high: u32) -> bool
-    requires { high < 64 }
-    ensures { result ≡ is_some (item_lists names low high item.now 0) }
-{
-    read_item(item, names, low, high).is_some()
 }
 
 // The error of a field that cannot be read.
@@ -137,7 +100,7 @@ fn day_name_fault(item: &[u8]) -> Option<(usize, ScheduleFault)>
     ensures value { result ≡ day_name_fault item.now }
     ensures within { IfSome result (λ fault. fault.0 ≤ length item.now) }
 {
-    if item.len() >= 2 && begins_with(item, b"L-") {
+    if item.len() >= 2 && begins_but_for_case(item, b"L-") {
         return Some((2, field_number_fault(&item[2..], Names::Numbers)));
     }
     letter_fault(item, b'w', Names::Numbers)

@@ -32,6 +32,8 @@ pub enum ScheduleFault {
     UnknownNickname,
     /// The first word is `@every`. A schedule has times of a day, and no intervals.
     Interval,
+    /// The first word is `@reboot`. A schedule has times of a day, and no start of a machine.
+    Reboot,
     /// The string begins with a time zone, such as `TZ=UTC`. No schedule has one.
     TimeZone,
     /// The letters are no name of a month or a weekday that the field takes.
@@ -107,6 +109,7 @@ fn schedule_fault_text(fault: ScheduleFault) -> &'static str
         ScheduleFault::TooManyFields => "more than five fields",
         ScheduleFault::UnknownNickname => "an unknown nickname",
         ScheduleFault::Interval => "an interval, which is no schedule",
+        ScheduleFault::Reboot => "the start of a machine, which is no schedule",
         ScheduleFault::TimeZone => "a time zone, which no schedule has",
         ScheduleFault::UnknownName => "an unknown name",
         ScheduleFault::LongName => "a name of more than three letters",

@@ -1,5 +1,5 @@
 //! The reading of whole texts of schedules.
-ghost use Rattle.std.specs.Prelude.{◌≡◌, ◌≢◌, ◌↔◌, ◌∷◌, [], not, ◌&&◌, ◌==◌, ◌<◌, ◌≤◌, ℕ, List, length, slice_index, Some, None, Ok, IfSome, IfNone, IfOk, IfErr, IsErr};
+ghost use Rattle.std.specs.Prelude.{◌≡◌, ◌≢◌, ◌↔◌, ◌∷◌, [], not, ◌&&◌, ◌==◌, ◌<◌, ◌≤◌, ℕ, List, length, Some, None, Ok, IfSome, IfNone, IfOk, IfErr, IsErr};
 ghost use Rattle.chrono_cron.specs.PlacedWords.{placed_words};
 ghost use Rattle.chrono_cron.specs.ScheduleErrors.{IsScheduleRead, schedule_error_at, first_wrong, front_or, schedule_error, wrong_field};
 ghost use Rattle.chrono_cron.specs.ScheduleTexts.{IsScheduleText, begins_with_star, fields_of};
@@ -10,9 +10,10 @@ use crate::schedule::Schedule;
 use crate::text::day_fields::{named_days, read_days, read_weekdays};
 use crate::text::field::read_field;
 use crate::text::first_error::field_error;
+use crate::text::nicknames::nickname_meaning;
 use crate::text::number_names::Names;
 use crate::text::schedule_error::{ScheduleError, ScheduleFault, ScheduleField};
-use crate::text::split_text::{Fields, five_words, front_or, next_word, nickname_meaning};
+use crate::text::split_fields::{Fields, five_words, front_or, next_word};
 use std::str::FromStr;
 
 /// Reads a schedule as cron writes it, such as `30 4 1,15 * mon-fri`. Returns the [`Schedule`].

@@ -1,9 +1,9 @@
 //! The text of a schedule.
-ghost use Rattle.std.specs.Prelude.{◌≡◌, ◌+◌, ◌-◌, ◌*◌, ◌<◌, ◌≤◌, ◌++◌, ℕ, Some, length, drop, map, codes, [], ◌∷◌, nat_lt, if◌then◌else◌};
-ghost use Rattle.chrono_text.specs.Lists.{list_text};
-ghost use Rattle.chrono_text.specs.Text.{number_text};
+ghost use Rattle.std.specs.Prelude.{◌≡◌, ◌+◌, ◌-◌, ◌*◌, ◌<◌, ◌≤◌, ◌++◌, Some, length, drop, map, codes, [], ◌∷◌, if◌then◌else◌};
+ghost use Rattle.std.specs.Str.{byte};
+ghost use Rattle.chrono_text.specs.Lists.{each_behind, list_text};
 ghost use Rattle.chrono_cron.specs.declared.text.schedule_writer.DayName.TheVariants.{FromEnd, NthWeekday};
-ghost use Rattle.chrono_cron.specs.WrittenTexts.{are_all, behind_commas, day_field_items, is_starred_by_day, is_starred_by_weekday, name_text, names_from, number_items, plain_text, range_text, ranges_from, schedule_text, weekday_field_items};
+ghost use Rattle.chrono_cron.specs.WrittenTexts.{are_all, day_field_items, is_starred_by_day, is_starred_by_weekday, name_text, names_from, number_items, plain_text, range_text, ranges_from, schedule_text, weekday_field_items};
 
 use crate::field_sets::FieldSets;
 use crate::schedule::Schedule;
@@ -206,7 +206,7 @@ fn put_numbers<const N: usize>(
     requires order { low ≤ end }
     requires end { end ≤ 60 }
     requires room { length text.old + (3 * (end - low) + 5) ≤ N }
-    ensures text { text.new ≡ text.old ++ behind_commas (number_items starred set (end - low) low) }
+    ensures text { text.new ≡ text.old ++ each_behind (byte ",") (number_items starred set (end - low) low) }
     ensures fits { length text.new ≤ length text.old + (3 * (end - low) + 5) }
 {
     if !starred {
@@ -218,7 +218,7 @@ fn put_numbers<const N: usize>(
         return;
     }
     text.push_text(b",*/");
-    put_number(text, end - low);
+    text.push_number(end - low);
     put_ranges(text, set, low, end);
 }
 
@@ -227,7 +227,7 @@ fn put_ranges<const N: usize>(text: &mut Text<N>, set: NumberSet, low: u32, end:
     requires order { low ≤ end }
     requires end { end ≤ 60 }
     requires room { length text.old + 3 * (end - low) ≤ N }
-    ensures text { text.new ≡ text.old ++ behind_commas (map range_text (ranges_from set (end - low) low)) }
+    ensures text { text.new ≡ text.old ++ each_behind (byte ",") (map range_text (ranges_from set (end - low) low)) }
     ensures fits { length text.new ≤ length text.old + 3 * (end - low) }
 {
     let mut from = low;
@@ -251,10 +251,10 @@ fn put_range<const N: usize>(text: &mut Text<N>, first: u32, last: u32)
     ensures fits { length text.new ≤ length text.old + 3 * (last + 1 - first) }
 {
     text.push(b',');
-    put_number(text, first);
+    text.push_number(first);
     if first != last {
         text.push(b'-');
-        put_number(text, last);
+        text.push_number(last);
     }
 }
 
@@ -269,7 +269,7 @@ fn put_names<const N: usize>(
     requires order { low ≤ end }
     requires end { end ≤ 60 }
     requires room { length text.old + 5 * (end - low) ≤ N }
-    ensures text { text.new ≡ text.old ++ behind_commas (names_from naming set (end - low) low) }
+    ensures text { text.new ≡ text.old ++ each_behind (byte ",") (names_from naming set (end - low) low) }
     ensures fits { length text.new ≤ length text.old + 5 * (end - low) }
 {
     let mut number = low;
@@ -285,7 +285,7 @@ fn put_names<const N: usize>(
 // Puts `LW` behind a comma, if it is named.
 fn put_last_workday<const N: usize>(text: &mut Text<N>, is_named: bool)
     requires { length text.old + 3 ≤ N }
-    ensures text { text.new ≡ text.old ++ behind_commas (if is_named then codes "LW" ∷ [] else []) }
+    ensures text { text.new ≡ text.old ++ each_behind (byte ",") (if is_named then codes "LW" ∷ [] else []) }
     ensures fits { length text.new ≤ length text.old + 3 }
 {
     if is_named {
@@ -303,11 +303,11 @@ fn put_name<const N: usize>(text: &mut Text<N>, naming: DayName, number: u32)
     match naming {
         DayName::FromEnd => put_from_end(text, number),
         DayName::NearestWorkday => {
-            put_number(text, number);
+            text.push_number(number);
             text.push(b'W');
         }
         DayName::LastWeekday => {
-            put_number(text, number);
+            text.push_number(number);
             text.push(b'L');
         }
         DayName::NthWeekday => put_nth_weekday(text, number),
@@ -324,7 +324,7 @@ fn put_from_end<const N: usize>(text: &mut Text<N>, number: u32)
     text.push(b'L');
     if number > 0 {
         text.push(b'-');
-        put_number(text, number);
+        text.push_number(number);
     }
 }
 
@@ -337,19 +337,5 @@ fn put_nth_weekday<const N: usize>(text: &mut Text<N>, number: u32)
 {
     text.push(b'0' + (number % WEEK) as u8);
     text.push(b'#');
-    put_number(text, number / WEEK + 1);
-}
-
-// Puts a number in one digit or two.
-fn put_number<const N: usize>(text: &mut Text<N>, number: u32)
-    requires small { number < 100 }
-    requires room { length text.old + 2 ≤ N }
-    ensures text { text.new ≡ text.old ++ number_text number }
-    ensures fits { length text.new ≤ length text.old + (if nat_lt number 10 then 1 else 2) }
-{
-    if number < 10 {
-        text.push(b'0' + number as u8);
-    } else {
-        text.push_two(number);
-    }
+    text.push_number(number / WEEK + 1);
 }

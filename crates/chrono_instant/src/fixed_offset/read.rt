@@ -2,9 +2,9 @@
 ghost use Rattle.std.specs.Prelude.{◌≡◌, ◌<◌, ◌++◌, ◌∷◌, ℕ, ℤ, Some, IfSome};
 ghost use Rattle.std.specs.Str.{byte};
 ghost use Rattle.chrono_datetime.specs.Time.{seconds_per_day};
-ghost use Rattle.chrono_text.specs.Text.{two_digits};
+ghost use Rattle.chrono_text.specs.Text.{colon_seconds_text, two_digits};
 ghost use Rattle.chrono_instant.specs.Offsets.{IsOffset};
-ghost use Rattle.chrono_instant.specs.OffsetText.{offset_seconds_text, offset_size_text, offset_text};
+ghost use Rattle.chrono_instant.specs.OffsetText.{offset_size_text, offset_text};
 
 use super::FixedOffset;
 use chrono_text::read_two;
@@ -69,8 +69,8 @@ fn read_minutes(text: [u8; 5]) -> Option<(u32, u32)>
 
 // The seconds past the minute: `:` and two digits, or nothing for 0.
 fn read_seconds(text: &[u8]) -> Option<u32>
-    ensures read { IfSome result (λ n. (n < 60) × (offset_seconds_text n ≡ text.now)) }
-    ensures every { (n : ℕ) → n < 60 → offset_seconds_text n ≡ text.now → result ≡ Some n }
+    ensures read { IfSome result (λ n. (n < 60) × (colon_seconds_text n ≡ text.now)) }
+    ensures every { (n : ℕ) → n < 60 → colon_seconds_text n ≡ text.now → result ≡ Some n }
 {
     match text {
         [] => Some(0),

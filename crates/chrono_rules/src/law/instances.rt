@@ -8,7 +8,7 @@ ghost use Rattle.chrono_rules.specs.ByParts.{on_month_day, on_weekday};
 ghost use Rattle.chrono_rules.specs.Instances.{is_instance};
 ghost use Rattle.chrono_rules.specs.RuleParts.{lacks_month_days, lacks_weekdays};
 ghost use Rattle.chrono_rules.specs.declared.rule.End.TheVariants.{Until};
-ghost use Rattle.chrono_sets.specs.Numbers.{are_empty, has, is_empty};
+ghost use Rattle.chrono_sets.specs.FiniteSets.{are_empty, has, is_empty};
 
 use crate::rule::Rule;
 use chrono_datetime::NaiveDate;

@@ -5,8 +5,8 @@ ghost use Rattle.chrono_datetime.specs.PassedOver.{PassedOver};
 ghost use Rattle.chrono_rules.specs.Instances.{is_member, not_after};
 
 use crate::rule::Rule;
-use crate::search::cycles::LONGEST_PERIOD;
 use crate::search::periods::moved;
+use crate::search::repeats::LONGEST_PERIOD;
 use chrono_datetime::{Datelike, NaiveDate};
 
 // What a walk over the first members has come to.

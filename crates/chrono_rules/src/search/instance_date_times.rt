@@ -5,7 +5,7 @@ ghost use Rattle.std.specs.Iterator.SizeHint.{IsWithinCount};
 ghost use Rattle.chrono_rules.specs.InstanceMoments.{instance_moments};
 
 use crate::rule::Rule;
-use crate::search::instance_days::Instances;
+use crate::search::instance_iterator::Instances;
 use chrono_datetime::{NaiveDate, NaiveDateTime, NaiveTime};
 use std::iter::FusedIterator;
 use std::marker::Model;

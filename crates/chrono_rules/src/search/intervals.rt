@@ -5,8 +5,8 @@ ghost use Rattle.chrono_rules.specs.Instances.{is_member};
 ghost use Rattle.chrono_rules.specs.Periods.{period_of};
 
 use crate::rule::{Frequency, Rule};
-use crate::search::candidates::days_to_month;
 use crate::search::periods::remainder;
+use crate::search::skipped_days::days_to_month;
 use chrono_datetime::{Datelike, NaiveDate};
 
 impl Rule {

@@ -2,7 +2,7 @@
 ghost use Rattle.std.specs.Prelude.{◌≡◌, ◌≤◌, ◌<◌, ◌+◌, ◌-◌, ◌^◌, if◌then◌else◌, ◌≤ℤ◌, ◌<ℤ◌, ◌+ℤ◌, ℤ, pos, true, false};
 ghost use Rattle.chrono_datetime.specs.Days.{IsDate};
 ghost use Rattle.chrono_datetime.specs.Recurrence.{count_between};
-ghost use Rattle.chrono_sets.specs.Numbers.{is_empty};
+ghost use Rattle.chrono_sets.specs.FiniteSets.{is_empty};
 ghost use Rattle.chrono_rules.specs.ByParts.{date_passes, passes};
 ghost use Rattle.chrono_rules.specs.Instances.{is_member};
 ghost use Rattle.chrono_rules.specs.RuleParts.{lacks_positions};

@@ -78,8 +78,8 @@ fn week_first(date: NaiveDate, start: Weekday) -> i64
     i64::from(date.num_days_from_ce()) - i64::from(date.weekday().days_since(start))
 }
 
-// A date that stands in its year as the fourth day of the date's week stands in its own: 400 years from it, since that one may lie
-// outside the calendar.
+// A date that stands in its year as the fourth day of the date's week stands in its own.
+// It lies 400 years from that day, which may lie outside the calendar.
 pub(crate) fn like_fourth_of_week(date: NaiveDate, start: Weekday) -> NaiveDate
     ensures ordinal { ordinal_of result ≡ ordinal_of (week_first_of date start +ℤ pos 3) }
     ensures length { year_length (year_of result) ≡ year_length (year_of (week_first_of date start +ℤ pos 3)) }

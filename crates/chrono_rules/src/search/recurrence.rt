@@ -5,8 +5,8 @@ ghost use Rattle.chrono_rules.specs.RecurrenceSets.{is_in_recurrence, is_instanc
 
 use crate::rule::Rule;
 
-pub(crate) mod days;
 mod next_and_previous;
+pub(crate) mod recurrence_iterator;
 
 use crate::search::date_list::{are_rising, is_listed};
 use chrono_datetime::NaiveDate;
@@ -89,6 +89,19 @@ impl<'a> Recurrence<'a> {
             Some(Recurrence::new(rule, start, dates, exceptions))
         } else {
             None
+        }
+    }
+
+    // The same recurrence once more.
+    #[inline]
+    fn copied(&self) -> Recurrence<'a>
+        ensures { result ≡ self.now }
+    {
+        Recurrence {
+            rule: self.rule,
+            start: self.start,
+            dates: self.dates,
+            exceptions: self.exceptions,
         }
     }
 

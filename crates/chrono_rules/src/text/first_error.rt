@@ -1,24 +1,19 @@
 //! Which part of a text cannot be read, where, and why.
-ghost use Rattle.std.specs.Prelude.{◌≡◌, ◌≤◌, Some, None, codes, length, if◌then◌else◌};
-ghost use Rattle.std.specs.Option.{is_some};
+ghost use Rattle.std.specs.Prelude.{◌≡◌, ◌≤◌, Some, None, length};
 ghost use Rattle.std.specs.Str.{byte};
-ghost use Rattle.chrono_rules.specs.RuleParts.{no_weekdays};
-ghost use Rattle.chrono_text.specs.Numbers.{count_of};
-ghost use Rattle.chrono_text.specs.Lists.{pieces};
-ghost use Rattle.chrono_rules.specs.RuleErrors.{blank_or, date_fault, digits_fault, first_place, has_blank, has_time, is_range, is_read, item_fault, list_fault, name_fault, number_fault, part_error, part_fault, placed_in, reads_item, rule_error_at, signed_fault, unfit_part, unnamed_error, unnamed_fault, unread_error, until_fault, value_fault, values_fault, weekday_fault, word_fault};
-ghost use Rattle.chrono_rules.specs.RuleTexts.{parts, said, values_in};
+ghost use Rattle.chrono_text.specs.Lists.{has_blank, pieces};
+ghost use Rattle.chrono_rules.specs.RuleErrors.{blank_or, date_fault, digits_fault, first_place, has_time, is_range, is_read, item_fault, list_fault, name_fault, number_fault, part_error, part_fault, placed_in, reads_item, rule_error_at, signed_fault, unfit_part, unnamed_error, unnamed_fault, unread_error, until_fault, value_fault, values_fault, weekday_fault, word_fault};
+ghost use Rattle.chrono_rules.specs.RuleTexts.{parts};
 ghost use Rattle.chrono_rules.specs.declared.text.rule_error.RulePart.TheVariants.{Count, Until};
 
-use crate::text::named_parts::{SEMICOLON, first_placed, is_named, is_part, value_of};
+use crate::text::all_parts::TextParts;
 use crate::text::number_list::{read_from_one, read_signed};
-use crate::text::part_readers::{
-    end, frequency, interval, month_days, months, positions, week_start, weekdays, weeks, year_days,
-};
+use crate::text::part_by_name::{SEMICOLON, first_placed, is_part};
 use crate::text::rule_error::{RuleError, RuleFault, RulePart, key_of};
 use crate::text::weekday_list::with_text;
 use crate::weekday_places::WeekdayPlaces;
 use chrono_datetime::Weekday;
-use chrono_text::{are_digits, first_piece, read_count};
+use chrono_text::{are_digits, begins_but_for_case, first_piece};
 
 // The parts in their order, but the last.
 const PARTS_BUT_LAST: [RulePart; 10] = [
@@ -96,17 +91,17 @@ fn part_place(text: &[u8], part: RulePart) -> usize
 fn name_fault(part: &[u8]) -> RuleFault
     ensures { result ≡ name_fault part.now }
 {
-    if is_named(part, b"BYHOUR=") {
+    if begins_but_for_case(part, b"BYHOUR=") {
         RuleFault::OfHours
-    } else if is_named(part, b"BYMINUTE=") {
+    } else if begins_but_for_case(part, b"BYMINUTE=") {
         RuleFault::OfMinutes
-    } else if is_named(part, b"BYSECOND=") {
+    } else if begins_but_for_case(part, b"BYSECOND=") {
         RuleFault::OfSeconds
-    } else if is_named(part, b"X-") {
+    } else if begins_but_for_case(part, b"X-") {
         RuleFault::Extension
-    } else if is_named(part, b"RSCALE=") {
+    } else if begins_but_for_case(part, b"RSCALE=") {
         RuleFault::OfCalendars
-    } else if is_named(part, b"SKIP=") {
+    } else if begins_but_for_case(part, b"SKIP=") {
         RuleFault::OfSkips
     } else {
         word_fault(RuleFault::Unknown, part)
@@ -114,16 +109,16 @@ fn name_fault(part: &[u8]) -> RuleFault
 }
 
 // The first part that cannot be read; the last where all others can.
-pub(crate) fn unread_error(text: &[u8]) -> RuleError
-    ensures error { result ≡ unread_error text.now }
-    ensures byte { result.byte ≤ length text.now }
+pub(crate) fn unread_error(parts: &TextParts<'_>) -> RuleError
+    ensures error { result ≡ unread_error parts.now }
+    ensures byte { result.byte ≤ length parts.now }
 {
     for part in PARTS_BUT_LAST {
-        if !is_read(text, part) {
-            return part_error(text, part);
+        if !is_read(parts, part) {
+            return part_error(parts.text, part);
         }
     }
-    part_error(text, RulePart::Wkst)
+    part_error(parts.text, RulePart::Wkst)
 }
 
 // The part with what is wrong with it.
@@ -136,32 +131,21 @@ fn part_error(text: &[u8], part: RulePart) -> RuleError
 
 // Whether the part can be read.
 #[tactic(auto, unfolding(crate::specs::RuleErrors::is_read))]
-fn is_read(text: &[u8], part: RulePart) -> bool
-    ensures { result ≡ is_read text.now part }
+fn is_read(parts: &TextParts<'_>, part: RulePart) -> bool
+    ensures { result ≡ is_read parts.now part }
 {
     match part {
-        RulePart::Freq => frequency(text).is_some(),
-        RulePart::Interval => interval(text).is_some(),
-        RulePart::Count => is_count_read(text),
-        RulePart::Until => end(text).is_some(),
-        RulePart::ByMonth => months(text).is_some(),
-        RulePart::ByMonthDay => month_days(text).is_some(),
-        RulePart::ByDay => weekdays(text).is_some(),
-        RulePart::ByYearDay => year_days(text).is_some(),
-        RulePart::ByWeekNo => weeks(text).is_some(),
-        RulePart::BySetPos => positions(text).is_some(),
-        RulePart::Wkst => week_start(text).is_some(),
-    }
-}
-
-// Whether COUNT can be read.
-fn is_count_read(text: &[u8]) -> bool
-    ensures { result ≡ is_some (said count_of (Some 0) (values_in text.now (codes "COUNT="))) }
-{
-    match value_of(text, b"COUNT=") {
-        Some(Some(value)) => read_count(value).is_some(),
-        Some(None) => true,
-        None => false,
+        RulePart::Freq => parts.frequency().is_some(),
+        RulePart::Interval => parts.interval().is_some(),
+        RulePart::Count => parts.is_count_read(),
+        RulePart::Until => parts.end().is_some(),
+        RulePart::ByMonth => parts.months().is_some(),
+        RulePart::ByMonthDay => parts.month_days().is_some(),
+        RulePart::ByDay => parts.weekdays().is_some(),
+        RulePart::ByYearDay => parts.year_days().is_some(),
+        RulePart::ByWeekNo => parts.weeks().is_some(),
+        RulePart::BySetPos => parts.positions().is_some(),
+        RulePart::Wkst => parts.week_start().is_some(),
     }
 }
 

@@ -1,7 +1,7 @@
 //! The items of a rule's lists, written.
 ghost use Rattle.std.specs.Prelude.{◌≡◌, ◌+◌, ◌-◌, ◌*◌, ◌<◌, ◌≤◌, ◌++◌, ◌||◌, false, length};
 ghost use Rattle.std.specs.Fmt.{decimal, sign_text};
-ghost use Rattle.chrono_sets.specs.Numbers.{has};
+ghost use Rattle.chrono_sets.specs.FiniteSets.{has};
 ghost use Rattle.chrono_rules.specs.WrittenRules.{both_items, item_at, item_text, items, letters_from_monday, limit, listed_on, members, numbered_items, some_in};
 ghost use Rattle.chrono_rules.specs.declared.text.list_writer.Naming.TheVariants.{Numbered};
 
@@ -46,7 +46,7 @@ impl ListedSet {
 
 // Numbers of a list, from `low` to before `end`, and how they are written.
 #[derive(Clone, Copy)]
-pub(crate) struct Listing {
+pub(crate) struct WrittenList {
     pub(crate) listed: ListedSet,
     pub(crate) naming: Naming,
     pub(crate) from_end: bool,
@@ -54,7 +54,7 @@ pub(crate) struct Listing {
     pub(crate) end: u32,
 }
 
-impl Listing {
+impl WrittenList {
     // Puts the items, behind others or as the first of a list; whether there is one so far.
     pub(crate) fn put_into<const N: usize>(&self, text: &mut Text<N>, begun: bool) -> bool
         requires order { self.now.low ≤ self.now.end }
@@ -154,20 +154,20 @@ pub(crate) fn put_both<const N: usize>(
     ensures text { text.new ≡ text.old ++ listed_on false (both_items (members front) (members back) most) }
     ensures fits { length text.new ≤ length text.old + 14 * most }
 {
-    let listing = Listing {
+    let list = WrittenList {
         listed: front,
         naming: Naming::Number,
         from_end: false,
         low: 1,
         end: most + 1,
     };
-    let begun = listing.put_into(text, false);
-    let listing = Listing {
+    let begun = list.put_into(text, false);
+    let list = WrittenList {
         listed: back,
         from_end: true,
-        ..listing
+        ..list
     };
-    let _ = listing.put_into(text, begun);
+    let _ = list.put_into(text, begun);
 }
 
 // Puts the numbered weekdays, behind other weekdays or as the first of a list; whether there is one so far.
@@ -211,12 +211,12 @@ fn put_nth<const N: usize>(
     ensures begun { result ≡ (begun || some_in (items set (Numbered weekday) from_end 53 1)) }
     ensures fits { length text.new ≤ length text.old + 371 }
 {
-    let listing = Listing {
+    let list = WrittenList {
         listed: ListedSet::Small(set),
         naming: Naming::Numbered(weekday),
         from_end,
         low: 1,
         end: 54,
     };
-    listing.put_into(text, begun)
+    list.put_into(text, begun)
 }

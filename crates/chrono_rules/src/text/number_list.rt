@@ -1,7 +1,7 @@
 //! The numbers that the BY parts of a rule list, as texts.
 ghost use Rattle.std.specs.Prelude.{◌≡◌, ◌≤◌, ◌<◌, ℕ, IfSome};
 ghost use Rattle.std.specs.Option.{option_map};
-ghost use Rattle.chrono_rules.specs.NumberLists.{ends_of, listed_number, no_ends, signed_number, signed_number_of, with_signed, with_signed_text};
+ghost use Rattle.chrono_rules.specs.NumberLists.{signed_list_of, listed_number, no_signed, signed_number, signed_number_of, with_signed, with_signed_text};
 
 use chrono_sets::NumberSet;
 use chrono_text::{ItemReader, read_digits, read_list};
@@ -27,7 +27,7 @@ pub struct BothEnds {
 impl BothEnds {
     // No number.
     pub(crate) fn none() -> BothEnds
-        ensures { result ≡ no_ends }
+        ensures { result ≡ no_signed }
     {
         BothEnds {
             front: NumberSet::none(),
@@ -110,9 +110,9 @@ fn signed(number: Option<u32>, from_end: bool) -> Option<SignedNumber>
 /// (days.front.contains(1), days.back.contains(2)) // (true, true)
 /// read_month_days(b"32") // None
 /// ```
-#[tactic(auto, unfolding(crate::specs::NumberLists::ends_of))]
+#[tactic(auto, unfolding(crate::specs::NumberLists::signed_list_of))]
 pub fn read_month_days(text: &[u8]) -> Option<BothEnds>
-    ensures { result ≡ ends_of 2 31 text.now }
+    ensures { result ≡ signed_list_of 2 31 text.now }
 {
     read_list(&MonthDayReader, BothEnds::none(), text, b',')
 }
@@ -138,9 +138,9 @@ impl ItemReader<BothEnds> for MonthDayReader {
 /// (weeks.front.contains(20), weeks.back.contains(1)) // (true, true)
 /// read_weeks(b"54") // None
 /// ```
-#[tactic(auto, unfolding(crate::specs::NumberLists::ends_of))]
+#[tactic(auto, unfolding(crate::specs::NumberLists::signed_list_of))]
 pub fn read_weeks(text: &[u8]) -> Option<BothEnds>
-    ensures { result ≡ ends_of 2 53 text.now }
+    ensures { result ≡ signed_list_of 2 53 text.now }
 {
     read_list(&WeekReader, BothEnds::none(), text, b',')
 }

@@ -1,17 +1,16 @@
 //! The texts of rules.
 ghost use Rattle.std.specs.Prelude.{◌≡◌, ◌↔◌, ◌≤◌, ◌+◌, length, true, false, Some, None, Ok, Err, IfSome, IfOk, IfErr, IsErr};
-ghost use Rattle.chrono_rules.specs.RuleErrors.{IsChecked, are_named, in_text, unfit_error, unnamed_error, unread_error};
+ghost use Rattle.chrono_rules.specs.RuleErrors.{IsRuleRead, are_named, in_text, unfit_error, unnamed_error, unread_error};
 ghost use Rattle.chrono_rules.specs.RuleTexts.{IsRuleText, Says, behind_property, body_start, fits, has_month_days, has_year_parts, lacks_lists, lacks_numbers, may_have_numbers, rule_body, without_semicolon};
 ghost use Rattle.chrono_rules.specs.declared.rule.Rule.{Rule};
 
 use crate::rule::{Frequency, Rule};
+use crate::text::all_parts::TextParts;
 use crate::text::first_error::{unfit_part, unnamed_error, unread_error};
-use crate::text::named_parts::{SEMICOLON, are_parts, behind_name, is_named};
-use crate::text::part_readers::{
-    end, frequency, interval, month_days, months, positions, week_start, weekdays, weeks, year_days,
-};
+use crate::text::part_by_name::{SEMICOLON, are_parts, behind_name};
 use crate::text::rule_error::{RuleError, RuleFault, RulePart};
 use chrono_sets::are_empty;
+use chrono_text::begins_but_for_case;
 use std::str::FromStr;
 
 // The name of the property in which a calendar has a rule.
@@ -65,7 +64,7 @@ pub fn read_rule(text: &[u8]) -> Result<Rule, RuleError>
 impl FromStr for Rule {
     type Err = RuleError;
 
-    ghost from_str_gives = { IsChecked };
+    ghost from_str_gives = { IsRuleRead };
 
     /// Reads a rule as [`read_rule`] does.
     fn from_str(text: &str) -> Result<Rule, RuleError> {
@@ -97,7 +96,7 @@ fn behind_property(text: &[u8]) -> &[u8]
 fn body_start(text: &[u8]) -> usize
     ensures { result ≡ body_start text.now }
 {
-    if is_named(text, PROPERTY) {
+    if begins_but_for_case(text, PROPERTY) {
         PROPERTY.len()
     } else {
         0
@@ -130,8 +129,9 @@ fn read_body(text: &[u8]) -> Result<Rule, RuleError>
     if !are_parts(text) {
         return Err(unnamed_error(text));
     }
-    let Some(rule) = read_parts(text) else {
-        return Err(unread_error(text));
+    let parts = TextParts::of(text);
+    let Some(rule) = read_parts(&parts) else {
+        return Err(unread_error(&parts));
     };
     if !rule.fits() {
         return Err(rule.unfit_error(text));
@@ -140,20 +140,20 @@ fn read_body(text: &[u8]) -> Result<Rule, RuleError>
 }
 
 // What the parts say.
-fn read_parts(text: &[u8]) -> Option<Rule>
-    ensures read { IfSome result (λ r. Says text.now r) }
-    ensures every { (r : Rule) → Says text.now r → result ≡ Some r }
+fn read_parts(parts: &TextParts<'_>) -> Option<Rule>
+    ensures read { IfSome result (λ r. Says parts.now r) }
+    ensures every { (r : Rule) → Says parts.now r → result ≡ Some r }
 {
-    let frequency = frequency(text)?;
-    let interval = interval(text)?;
-    let end = end(text)?;
-    let months = months(text)?;
-    let month_days = month_days(text)?;
-    let weekdays = weekdays(text)?;
-    let year_days = year_days(text)?;
-    let weeks = weeks(text)?;
-    let positions = positions(text)?;
-    let week_start = week_start(text)?;
+    let frequency = parts.frequency()?;
+    let interval = parts.interval()?;
+    let end = parts.end()?;
+    let months = parts.months()?;
+    let month_days = parts.month_days()?;
+    let weekdays = parts.weekdays()?;
+    let year_days = parts.year_days()?;
+    let weeks = parts.weeks()?;
+    let positions = parts.positions()?;
+    let week_start = parts.week_start()?;
     Some(Rule {
         frequency,
         interval,

@@ -2,15 +2,16 @@
 ghost use Rattle.std.specs.Prelude.{◌≡◌, ◌+◌, ◌<◌, ◌≤◌, ◌++◌, ◌==◌, nat_le, false, Some, length, codes};
 ghost use Rattle.std.specs.Fmt.{decimal};
 ghost use Rattle.std.specs.Str.{IsAscii, byte};
-ghost use Rattle.chrono_text.specs.Lists.{list_text};
+ghost use Rattle.chrono_text.specs.Lists.{each_behind, list_text};
 ghost use Rattle.chrono_datetime.specs.Weekday.{days_from_monday};
-ghost use Rattle.chrono_text.specs.Text.{two_digits};
 ghost use Rattle.chrono_rules.specs.RuleParts.{lacks_month_days, lacks_months, lacks_positions, lacks_weekdays, lacks_weeks, lacks_year_days};
-ghost use Rattle.chrono_rules.specs.WrittenRules.{basic_date_text, behind, both_items, end_parts, four_digits, items, list_parts, rule_text, text_unless, weekday_items, letters_from_monday};
+ghost use Rattle.chrono_rules.specs.WrittenRules.{basic_date_text, both_items, end_parts, four_digits, items, list_parts, rule_text, text_unless, weekday_items, letters_from_monday};
 ghost use Rattle.chrono_rules.specs.declared.text.list_writer.Naming.TheVariants.{Number};
 
 use crate::rule::{End, Rule};
-use crate::text::list_writer::{ListedSet, Listing, Naming, put_both, put_numbered, put_weekday};
+use crate::text::list_writer::{
+    ListedSet, Naming, WrittenList, put_both, put_numbered, put_weekday,
+};
 use crate::text::rule_error::frequency_name;
 use chrono_datetime::{Datelike, NaiveDate, Weekday};
 use chrono_text::Text;
@@ -45,7 +46,7 @@ impl Rule {
     // Puts the lists.
     fn put_lists<const N: usize>(&self, text: &mut Text<N>)
         requires { length text.old + 16900 ≤ N }
-        ensures text { text.new ≡ text.old ++ behind (byte ";") (list_parts self.now) }
+        ensures text { text.new ≡ text.old ++ each_behind (byte ";") (list_parts self.now) }
         ensures fits { length text.new ≤ length text.old + 16900 }
     {
         self.put_months(text);
@@ -69,14 +70,14 @@ impl Rule {
             return;
         }
         text.push_text(b";BYMONTH=");
-        let listing = Listing {
+        let list = WrittenList {
             listed: ListedSet::Small(self.months),
             naming: Naming::Number,
             from_end: false,
             low: 1,
             end: 13,
         };
-        let _ = listing.put_into(text, false);
+        let _ = list.put_into(text, false);
     }
 
     // Puts the days of the month.
@@ -109,14 +110,14 @@ impl Rule {
             return;
         }
         text.push_text(b";BYDAY=");
-        let listing = Listing {
+        let list = WrittenList {
             listed: ListedSet::Small(self.weekdays.every),
             naming: Naming::Each,
             from_end: false,
             low: 0,
             end: 7,
         };
-        let begun = listing.put_into(text, false);
+        let begun = list.put_into(text, false);
         let begun = put_numbered(text, begun, &self.weekdays.front, false);
         let _ = put_numbered(text, begun, &self.weekdays.back, true);
     }
@@ -221,8 +222,8 @@ fn put_interval<const N: usize>(text: &mut Text<N>, interval: u32)
 // Puts COUNT or UNTIL, if the rule has one.
 fn put_end<const N: usize>(text: &mut Text<N>, end: End)
     requires { length text.old + 31 ≤ N }
-    ensures text { text.new ≡ text.old ++ behind (byte ";") (end_parts end) }
-    ensures ascii { IsAscii (behind (byte ";") (end_parts end)) }
+    ensures text { text.new ≡ text.old ++ each_behind (byte ";") (end_parts end) }
+    ensures ascii { IsAscii (each_behind (byte ";") (end_parts end)) }
     ensures fits { length text.new ≤ length text.old + 22 }
 {
     match end {
@@ -254,35 +255,21 @@ fn put_day<const N: usize>(text: &mut Text<N>, day: NaiveDate)
     ensures fits { length text.new ≤ length text.old + 15 }
 {
     put_year(text, day.year());
-    put_two(text, day.month());
-    put_two(text, day.day());
+    text.push_two(day.month());
+    text.push_two(day.day());
 }
 
 // Puts a year, in four digits if it is one from 0 to 9999.
 fn put_year<const N: usize>(text: &mut Text<N>, year: i32)
     requires { length text.old + 20 ≤ N }
     ensures text { text.new ≡ text.old ++ four_digits year }
-    ensures ascii { IsAscii (four_digits year) }
     ensures fits { length text.new ≤ length text.old + 11 }
 {
     if 0 <= year && year <= 9_999 {
-        let size = year.unsigned_abs();
-        put_two(text, size / 100);
-        put_two(text, size % 100);
+        text.push_four(year.unsigned_abs());
     } else {
         text.push_i32(year);
     }
-}
-
-// Puts a number in two digits.
-fn put_two<const N: usize>(text: &mut Text<N>, number: u32)
-    requires small { number < 100 }
-    requires room { length text.old + 2 ≤ N }
-    ensures text { text.new ≡ text.old ++ two_digits number }
-    ensures ascii { IsAscii (two_digits number) }
-    ensures fits { length text.new ≤ length text.old + 2 }
-{
-    text.push_two(number);
 }
 
 // Puts WKST, if it is not Monday.

@@ -1,6 +1,6 @@
 //! The days of the year and the positions that a rule lists, as texts.
 ghost use Rattle.std.specs.Prelude.{◌≡◌, ◌<◌};
-ghost use Rattle.chrono_rules.specs.NumberLists.{no_year_ends, with_signed_day, with_year_text, year_ends_of};
+ghost use Rattle.chrono_rules.specs.NumberLists.{no_year_ends, with_signed_day, with_year_text, signed_year_list_of};
 
 use crate::text::number_list::{SignedNumber, read_signed};
 use chrono_sets::PlaceSet;
@@ -55,9 +55,9 @@ impl YearEnds {
 /// (days.front.contains(1), days.back.contains(306)) // (true, true)
 /// read_year_days(b"367") // None
 /// ```
-#[tactic(auto, unfolding(crate::specs::NumberLists::year_ends_of))]
+#[tactic(auto, unfolding(crate::specs::NumberLists::signed_year_list_of))]
 pub fn read_year_days(text: &[u8]) -> Option<YearEnds>
-    ensures { result ≡ year_ends_of text.now }
+    ensures { result ≡ signed_year_list_of text.now }
 {
     read_list(&YearDayReader, YearEnds::none(), text, b',')
 }

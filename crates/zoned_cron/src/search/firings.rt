@@ -2,7 +2,7 @@
 ghost use Rattle.zoned_cron.specs.FiringLists.{GivesNext, instants_left};
 
 use crate::schedule::ZonedSchedule;
-use crate::search::instants::lies_in_dates;
+use chrono_datetime::law::date_times_exist;
 use chrono_instant::Timestamp;
 use chrono_zoned::{DateTime, TimeZone};
 use std::iter::FusedIterator;
@@ -29,7 +29,7 @@ impl<Z: TimeZone> Iterator for Firings<Z> {
     /// Returns the next instant at which the schedule fires. Returns `None` if none is left.
     fn next(&mut self) -> Option<DateTime<Z>> {
         let start = self.last?;
-        lies_in_dates(start.naive_utc());
+        date_times_exist(start.naive_utc());
         self.last = self.schedule.next_after(start);
         self.last
     }

@@ -1,35 +1,54 @@
 //! The instants at which one planned local time fires.
-ghost use Rattle.std.specs.Prelude.{◌≡◌, ◌↔◌, ◌<◌, ℤ, pos, ◌+ℤ◌, ◌-ℤ◌, ◌≤ℤ◌, ◌<ℤ◌, neg_ℤ, IfSome, IsTrue};
+ghost use Rattle.std.specs.Prelude.{◌≡◌, ◌↔◌, ◌<◌, ℤ, pos, ◌+ℤ◌, ◌-ℤ◌, ◌≤ℤ◌, ◌<ℤ◌, neg_ℤ, IfNone, IfSome, IsTrue};
 ghost use Rattle.chrono_datetime.specs.Moment.{IsMoment};
 ghost use Rattle.chrono_instant.specs.Instants.{IsEpochSecond, LiesIn, epoch_second};
 ghost use Rattle.chrono_zoned.specs.Offsets.{IsOffset};
-ghost use Rattle.chrono_zoned.specs.Zones.{AreAll, IsAmong};
-ghost use Rattle.zoned_cron.specs.Fires.{IsGap};
-ghost use Rattle.zoned_cron.specs.Private.{EndsGap, IfTwo, IsFirstIn, IsLastIn, TakesDated};
+ghost use Rattle.chrono_zoned.specs.Zones.{AreAll, IsAmong, Shows};
+ghost use Rattle.zoned_cron.specs.Fires.{Fires, IsGap};
+ghost use Rattle.zoned_cron.specs.Private.{EndsGap, IfTwo, IsLastIn, IsSettled, TakesDated};
 
 use crate::policy::{Fold, Gap};
 use crate::schedule::ZonedSchedule;
-use chrono_datetime::{Datelike, LAST_DAY, NaiveDateTime, Timelike};
+use chrono_datetime::law::date_times_exist;
+use chrono_datetime::{NaiveDateTime, Timelike};
 use chrono_instant::{FixedOffset, FromTimestamp, Timestamp};
 use chrono_zoned::{MappedLocalTime, TimeZone};
 
 // The first second of the first date, and the last of the last date, in UTC.
 const FIRST_SECOND: i64 = -8_334_601_228_800;
 
-const LAST_SECOND: i64 = 8_210_266_876_799;
+pub(crate) const LAST_SECOND: i64 = 8_210_266_876_799;
 
-// The seconds of a day, and the nanoseconds that end a leap second.
-const SECONDS_PER_DAY: u32 = 86_400;
-
-const PAST_LEAP_SECOND: u32 = 2_000_000_000;
+// The seconds of a day. A clock is ahead of UTC, or behind it, by less.
+pub(crate) const DAY: i64 = 86_400;
 
 impl<Z: TimeZone> ZonedSchedule<Z> {
+    // Whether the schedule fires at a second from 1 January 1970.
+    pub(crate) fn fires_at(&self, second: i64) -> bool
+        requires { IsEpochSecond second }
+        ensures { IsTrue result ↔ Fires self.now.schedule.sets (Z.ahead self.now.zone) self.now.policy second }
+    {
+        let Some(local) = shown_at(self.zone, second) else {
+            return false;
+        };
+        if self.schedule.is_due(local) && contains(self.taken(local), second) {
+            return true;
+        }
+        if is_shown(self.zone, local.timestamp() - 1) {
+            return false;
+        }
+        match self.schedule.prev_before(local) {
+            Some(earlier) => contains(self.taken(earlier), second),
+            None => false,
+        }
+    }
+
     // The instants at which a planned local time fires, as seconds from 1 January 1970.
     pub(crate) fn taken(&self, local: NaiveDateTime) -> MappedLocalTime<i64>
         ensures all { AreAll (TakesDated self.now.policy (Z.ahead self.now.zone) (epoch_second local)) (λ u. u) result }
         ensures exists { IsMoment local }
     {
-        lies_in_dates(local);
+        date_times_exist(local);
         let second = local.timestamp();
         match self.zone.offset_from_local_datetime(&local) {
             MappedLocalTime::None => match self.policy.gap {
@@ -50,15 +69,6 @@ impl<Z: TimeZone> ZonedSchedule<Z> {
     }
 }
 
-// Each date-time is one of the calendar's.
-pub(crate) fn lies_in_dates(moment: NaiveDateTime)
-    ensures { IsMoment moment }
-{
-    prove!(moment.date().num_days_from_ce() <= LAST_DAY);
-    prove!(moment.time().num_seconds_from_midnight() < SECONDS_PER_DAY);
-    prove!(moment.time().nanosecond() < PAST_LEAP_SECOND);
-}
-
 // The first second that begins no earlier than a date-time.
 pub(crate) fn begun_by(utc: NaiveDateTime) -> i64
     ensures whole { utc.time.fraction ≡ 0 → result ≡ epoch_second utc }
@@ -67,7 +77,7 @@ pub(crate) fn begun_by(utc: NaiveDateTime) -> i64
     ensures high { result ≤ℤ pos 8_210_266_876_800 }
     ensures exists { IsMoment utc }
 {
-    lies_in_dates(utc);
+    date_times_exist(utc);
     let second = utc.timestamp();
     if utc.nanosecond() > 0 {
         second + 1
@@ -85,26 +95,54 @@ fn before(local: i64, offset: FixedOffset) -> i64
     local - i64::from(offset.local_minus_utc())
 }
 
-// The first instant behind the gap in which the local second lies.
+// The first instant behind the gap in which the local second lies: of all local seconds that the clock shows behind it, it shows the
+// first there. The clock shows an earlier one until a day before, and a later one from a day behind.
 fn end_of_gap<Z: TimeZone>(zone: Z, gap: i64) -> MappedLocalTime<i64>
     requires date { IsEpochSecond gap }
     requires gap { IsGap (Z.ahead zone) gap }
     ensures { AreAll (EndsGap (Z.ahead zone) gap) (λ u. u) result }
 {
-    let mut local = gap + 1;
-    while let Some(shown) = NaiveDateTime::from_timestamp(local, 0) {
-        if let Some(offset) = zone.offset_from_local_datetime(&shown).earliest() {
-            return MappedLocalTime::Single(before(local, offset));
+    let before = zone.stretch_from(gap - DAY);
+    let mut second = before.until.min(gap + 5 * DAY);
+    let mut first = second;
+    let mut shown = gap + 3 * DAY;
+    while second < shown + DAY {
+        let stretch = zone.stretch_from(second);
+        let local = second + i64::from(stretch.offset.local_minus_utc());
+        if gap < local && local < shown {
+            first = second;
+            shown = local;
         }
-        local += 1;
+        second = stretch.until.min(gap + 5 * DAY);
     }
-    MappedLocalTime::None
+    if shown <= LAST_SECOND {
+        MappedLocalTime::Single(first)
+    } else {
+        MappedLocalTime::None
+    }
+}
+
+// The only instant at which the clock shows a planned local second, if no change is near and UTC has a date for it.
+pub(crate) fn settled_instant<Z: TimeZone>(zone: Z, local: i64) -> Option<i64>
+    requires { IsEpochSecond local }
+    ensures shows { IfSome result (Shows (Z.ahead zone) local) }
+    ensures settled { IfSome result (IsSettled (Z.ahead zone)) }
+    ensures exists { IfSome result IsEpochSecond }
+{
+    let stretch = zone.stretch_from(local - 3 * DAY);
+    let found = local - i64::from(stretch.offset.local_minus_utc());
+    if found + 2 * DAY <= stretch.until && FIRST_SECOND <= found && found <= LAST_SECOND {
+        Some(found)
+    } else {
+        None
+    }
 }
 
 // What the clock shows at a second, if UTC and the clock have a date there.
 pub(crate) fn shown_at<Z: TimeZone>(zone: Z, second: i64) -> Option<NaiveDateTime>
     ensures shown { IfSome result (LiesIn (second +ℤ Z.ahead zone second) 0) }
     ensures near { IfSome result (λ _. IsOffset (Z.ahead zone second)) }
+    ensures none { IfNone result (IsEpochSecond second → ¬ IsEpochSecond (second +ℤ Z.ahead zone second)) }
 {
     let utc = NaiveDateTime::from_timestamp(second, 0)?;
     let offset = zone.offset_from_utc_datetime(&utc);
@@ -129,23 +167,6 @@ pub(crate) fn contains(found: MappedLocalTime<i64>, second: i64) -> bool
         MappedLocalTime::None => false,
         MappedLocalTime::Single(only) => second == only,
         MappedLocalTime::Ambiguous(first, last) => second == first || second == last,
-    }
-}
-
-// The first of the instants after a start that UTC has a date for.
-pub(crate) fn first_in(found: MappedLocalTime<i64>, start: i64) -> Option<i64>
-    requires order { IfTwo (λ x y. x <ℤ y) found }
-    ensures { IsFirstIn (λ u. IsAmong u found) start result }
-{
-    let candidate = match found {
-        MappedLocalTime::None => return None,
-        MappedLocalTime::Single(only) => only,
-        MappedLocalTime::Ambiguous(first, last) => { if start < first { first } else { last } }
-    };
-    if start < candidate && candidate <= LAST_SECOND {
-        Some(candidate)
-    } else {
-        None
     }
 }
 

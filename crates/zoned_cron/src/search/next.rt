@@ -1,20 +1,15 @@
 //! The first instant after a start at which a schedule fires.
-ghost use Rattle.std.specs.Prelude.{◌≡◌, ◌⊎◌, ℤ, pos, ◌+ℤ◌, ◌≤ℤ◌, ◌<ℤ◌, IfNone, IfSome, IsFalse, IsSomeAnd, IsTrue};
-ghost use Rattle.chrono_datetime.specs.Moment.{IsBefore, Moment};
+ghost use Rattle.std.specs.Prelude.{◌≡◌, ℤ, ◌≤ℤ◌, ◌<ℤ◌, IfSome};
 ghost use Rattle.chrono_instant.specs.Instants.{IsEpochSecond};
-ghost use Rattle.chrono_cron.specs.Due.{is_due};
 ghost use Rattle.zoned_cron.specs.Fires.{Fires};
-ghost use Rattle.zoned_cron.specs.Private.{FiresFor, IsAtLeast};
+ghost use Rattle.zoned_cron.specs.Private.{IsAtLeast, IsInDates, IsPlanned};
 
 use crate::schedule::ZonedSchedule;
-use crate::search::instants::{first_in, lies_in_dates, shown_at};
+use crate::search::instants::{DAY, LAST_SECOND, settled_instant};
 use chrono_datetime::NaiveDateTime;
-use chrono_datetime::law::first_date_time;
-use chrono_instant::Timestamp;
+use chrono_datetime::law::{date_times_exist, first_date_time};
+use chrono_instant::{FromTimestamp, Timestamp};
 use chrono_zoned::TimeZone;
-
-// A clock is ahead of UTC by less than a day.
-const DAY: i64 = 86_400;
 
 impl<Z: TimeZone> ZonedSchedule<Z> {
     // The first instant after `start` at which the schedule fires, as a second from 1 January 1970.
@@ -23,59 +18,101 @@ impl<Z: TimeZone> ZonedSchedule<Z> {
         ensures fires { IfSome result (λ c. (start <ℤ c) × Fires self.now.schedule.sets (Z.ahead self.now.zone) self.now.policy c) }
         ensures least { (u : ℤ) → start <ℤ u → Fires self.now.schedule.sets (Z.ahead self.now.zone) self.now.policy u → IsAtLeast result u }
     {
-        let Some(mut local) = self.first_planned(start) else {
+        if let Some(found) = self.first_settled(start) {
+            return Some(found);
+        }
+        let mut second = start;
+        while let Some(next) = self.next_possible(second) {
+            if self.fires_at(next) {
+                return Some(next);
+            }
+            second = next;
+        }
+        None
+    }
+
+    // The same where no change is near the start, and none near the instant that is found. `None` says nothing.
+    fn first_settled(&self, start: i64) -> Option<i64>
+        requires { IsEpochSecond start }
+        ensures fires { IfSome result (λ c. (start <ℤ c) × Fires self.now.schedule.sets (Z.ahead self.now.zone) self.now.policy c) }
+        ensures least { IfSome result (λ c. (u : ℤ) → start <ℤ u → Fires self.now.schedule.sets (Z.ahead self.now.zone) self.now.policy u → c ≤ℤ u) }
+    {
+        let stretch = self.zone.stretch_from(start - 2 * DAY);
+        if stretch.until < start + 2 * DAY {
+            return None;
+        }
+        let ahead = i64::from(stretch.offset.local_minus_utc());
+        let Some(planned) = self.planned_after(start + ahead) else {
             return None;
         };
-        lies_in_dates(local);
-        let mut best: Option<i64> = None;
-        while may_precede(local.timestamp(), best) {
-            best = earlier(best, first_in(self.taken(local), start));
-            let Some(next) = self.schedule.next_after(local) else {
-                return best;
-            };
-            lies_in_dates(next);
-            local = next;
+        let near = planned - ahead;
+        if near + 2 * DAY <= stretch.until && near <= LAST_SECOND {
+            return Some(near);
         }
-        best
+        settled_instant(self.zone, planned)
     }
 
-    // The first planned local time that may fire after `start`: none counts that the clock showed or skipped two days earlier.
-    fn first_planned(&self, start: i64) -> Option<NaiveDateTime>
-        requires { IsEpochSecond start }
-        ensures due { IfSome result (λ m. IsTrue (is_due self.now.schedule.sets m)) }
-        ensures earlier { IfSome result (λ q. (m : Moment) (u : ℤ) → FiresFor self.now.schedule.sets (Z.ahead self.now.zone) self.now.policy m u → IsBefore m q → u ≤ℤ start) }
-        ensures none { IfNone result ((m : Moment) (u : ℤ) → FiresFor self.now.schedule.sets (Z.ahead self.now.zone) self.now.policy m u → u ≤ℤ start) }
+    // An instant after the second such that the schedule fires at none between them; `None` if it fires at none after the second.
+    fn next_possible(&self, second: i64) -> Option<i64>
+        requires { IsEpochSecond second }
+        ensures later { IfSome result (λ c. (second <ℤ c) × IsEpochSecond c) }
+        ensures least { (u : ℤ) → second <ℤ u → Fires self.now.schedule.sets (Z.ahead self.now.zone) self.now.policy u → IsAtLeast result u }
     {
-        if let Some(shown) = shown_at(self.zone, start - 2 * DAY) {
-            return self.schedule.next_after(shown);
+        let stretch = self.zone.stretch_from(second);
+        let ahead = i64::from(stretch.offset.local_minus_utc());
+        // What is planned up to now fires at no instant as late as that.
+        let is_long = second + 2 * DAY <= stretch.until;
+        let Some(planned) = self.planned_after(second + ahead) else {
+            return if is_long {
+                None
+            } else {
+                in_dates(stretch.until)
+            };
+        };
+        if planned - ahead < stretch.until {
+            return in_dates(planned - ahead);
+        }
+        if is_long && stretch.until < planned - DAY {
+            return in_dates(planned - DAY);
+        }
+        in_dates(stretch.until)
+    }
+
+    // The first planned local time after a local second, as a second.
+    fn planned_after(&self, local: i64) -> Option<i64>
+        ensures planned { IfSome result (λ l. (local <ℤ l) × IsPlanned self.now.schedule.sets l) }
+        ensures least { (l : ℤ) → local <ℤ l → IsPlanned self.now.schedule.sets l → IsAtLeast result l }
+    {
+        if let Some(local) = NaiveDateTime::from_timestamp(local, 0) {
+            let Some(next) = self.schedule.next_after(local) else {
+                return None;
+            };
+            date_times_exist(next);
+            return Some(next.timestamp());
+        }
+        if LAST_SECOND < local {
+            return None;
         }
         let (first, _) = first_date_time();
+        date_times_exist(first);
         if self.schedule.is_due(first) {
-            return Some(first);
+            return Some(first.timestamp());
         }
-        self.schedule.next_after(first)
+        let Some(next) = self.schedule.next_after(first) else {
+            return None;
+        };
+        date_times_exist(next);
+        Some(next.timestamp())
     }
 }
 
-// Whether a local time may fire before the best instant so far.
-fn may_precede(local: i64, best: Option<i64>) -> bool
-    requires { IfSome best IsEpochSecond }
-    ensures { IsFalse result → IsSomeAnd best (λ c. (c +ℤ pos 86_400) ≤ℤ local) }
+// A second, if it lies no later than UTC's dates.
+fn in_dates(second: i64) -> Option<i64>
+    ensures { IsInDates second result }
 {
-    match best {
-        Some(best) => local < best + DAY,
-        None => true,
-    }
-}
-
-// The earlier of two instants, if there is one.
-fn earlier(one: Option<i64>, other: Option<i64>) -> Option<i64>
-    ensures least { (u : ℤ) → IsAtLeast one u ⊎ IsAtLeast other u → IsAtLeast result u }
-    ensures either { (result ≡ one) ⊎ (result ≡ other) }
-{
-    match (one, other) {
-        (Some(one), Some(other)) => Some(one.min(other)),
-        (Some(only), None) | (None, Some(only)) => Some(only),
-        (None, None) => None,
+    if second <= LAST_SECOND {
+        Some(second)
+    } else {
+        None
     }
 }

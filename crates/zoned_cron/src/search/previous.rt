@@ -7,14 +7,11 @@ ghost use Rattle.zoned_cron.specs.Fires.{Fires};
 ghost use Rattle.zoned_cron.specs.Private.{FiresFor, IsAtMost};
 
 use crate::schedule::ZonedSchedule;
-use crate::search::instants::{last_in, lies_in_dates, shown_at};
+use crate::search::instants::{DAY, last_in, settled_instant, shown_at};
 use chrono_datetime::NaiveDateTime;
-use chrono_datetime::law::last_date_time;
+use chrono_datetime::law::{date_times_exist, last_date_time};
 use chrono_instant::{FromTimestamp, Timestamp};
 use chrono_zoned::TimeZone;
-
-// A clock is ahead of UTC by less than a day.
-const DAY: i64 = 86_400;
 
 impl<Z: TimeZone> ZonedSchedule<Z> {
     // The last instant before `end` at which the schedule fires, as a second from 1 January 1970.
@@ -24,20 +21,45 @@ impl<Z: TimeZone> ZonedSchedule<Z> {
         ensures fires { IfSome result (λ c. (c <ℤ end) × Fires self.now.schedule.sets (Z.ahead self.now.zone) self.now.policy c) }
         ensures greatest { (u : ℤ) → u <ℤ end → Fires self.now.schedule.sets (Z.ahead self.now.zone) self.now.policy u → IsAtMost result u }
     {
+        if let Some(found) = self.last_settled(end) {
+            return Some(found);
+        }
         let Some(mut local) = self.last_planned(end) else {
             return None;
         };
-        lies_in_dates(local);
+        date_times_exist(local);
         let mut best: Option<i64> = None;
         while self.may_follow(local, best) {
             best = later(best, last_in(self.taken(local), end));
             let Some(earlier) = self.schedule.prev_before(local) else {
                 return best;
             };
-            lies_in_dates(earlier);
+            date_times_exist(earlier);
             local = earlier;
         }
         best
+    }
+
+    // The same where no change is near the end, and none near the instant that is found. `None` says nothing.
+    fn last_settled(&self, end: i64) -> Option<i64>
+        requires low { neg_ℤ (pos 8_334_601_228_800) ≤ℤ end }
+        requires high { end ≤ℤ pos 8_210_266_876_800 }
+        ensures fires { IfSome result (λ c. (c <ℤ end) × Fires self.now.schedule.sets (Z.ahead self.now.zone) self.now.policy c) }
+        ensures greatest { IfSome result (λ c. (u : ℤ) → u <ℤ end → Fires self.now.schedule.sets (Z.ahead self.now.zone) self.now.policy u → u ≤ℤ c) }
+    {
+        let stretch = self.zone.stretch_from(end - 2 * DAY);
+        if stretch.until < end {
+            return None;
+        }
+        let ahead = i64::from(stretch.offset.local_minus_utc());
+        let Some(local) = NaiveDateTime::from_timestamp(end + ahead, 0) else {
+            return None;
+        };
+        let Some(planned) = self.schedule.prev_before(local) else {
+            return None;
+        };
+        date_times_exist(planned);
+        settled_instant(self.zone, planned.timestamp())
     }
 
     // The last planned local time that may fire before `end`.

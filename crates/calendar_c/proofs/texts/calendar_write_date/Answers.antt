@@ -3,9 +3,10 @@ use Rattle.std.proofs.lemmas.Int.{to_z-of_z}
 use Rattle.std.specs.Option.{option_map}
 use Rattle.chrono_calendar.proofs.NamedDates.{date_of_day-Some, none-date_of_day}
 use Rattle.chrono_datetime.specs.DateText.{date_text}
+use Rattle.chrono_text.proofs.AnswerLemmas.{the_one}
 use Rattle.calendar_c.specs.Answers.{count_or_none}
 use Rattle.calendar_c.specs.Texts.{length_of, overwritten, text_within}
-use Rattle.calendar_c.proofs.LengthLemmas.{enough, the_date}
+use Rattle.calendar_c.proofs.LengthLemmas.{enough}
 use Rattle.calendar_c.proofs.texts.calendar_write_date.Goals as goal
 
 -- the bytes that were put are the text of the date that was found
@@ -37,4 +38,4 @@ returns-clause-enough c =
     c.as_bytes.ensures.value ∙ c.put_into.ensures.text ∙ ap (λ s. s ++ date_text c.in-Some.date) c.new-written.ensures in
     λ date room.
     to_z-of_z w32 c.write_over.result fits ∙ c.write_over.ensures.length
-    ∙ enough c.as_bytes.result.now (date_text c.args.date) (length c.args.text.now) (written ∙ ap date_text (the_date _ _ _ found (date_of_day-Some c.args.date date))) (omega (arith, room, c.as_bytes.ensures.fits))
+    ∙ enough c.as_bytes.result.now (date_text c.args.date) (length c.args.text.now) (written ∙ ap date_text (the_one _ _ _ found (date_of_day-Some c.args.date date))) (omega (arith, room, c.as_bytes.ensures.fits))

@@ -3,10 +3,11 @@ use Rattle.std.proofs.lemmas.Int.{to_z-of_z}
 use Rattle.std.specs.Option.{option_map}
 use Rattle.chrono_datetime.specs.Moment.{Moment}
 use Rattle.chrono_datetime.specs.MomentText.{moment_text}
+use Rattle.chrono_text.proofs.AnswerLemmas.{no_one, the_one}
 use Rattle.calendar_c.specs.Answers.{count_or_none}
 use Rattle.calendar_c.specs.DateTimes.{moment_from_c}
 use Rattle.calendar_c.specs.Texts.{length_of, overwritten, text_within}
-use Rattle.calendar_c.proofs.LengthLemmas.{enough, no_moment, the_moment}
+use Rattle.calendar_c.proofs.LengthLemmas.{enough}
 use Rattle.calendar_c.proofs.texts.calendar_write_date_time.Goals as goal
 
 -- the bytes that were put are the text of the date-time that was found
@@ -25,7 +26,7 @@ returns-clause-bytes c =
     ∙ ap (λ (o : Option (List ℕ)). overwritten (text_within (length c.args.text.now) o) c.args.text.now) (put _ _ _ _ _ c.in-Some.ensures c.as_bytes.ensures.value c.put_into.ensures.text c.new-written.ensures)
 
 pub returns-in_default-clause-enough : goal.returns-in_default-clause-enough
-returns-in_default-clause-enough c = λ m is _. absurd (no_moment (moment_from_c c.args.moment) m c.in_default.ensures is)
+returns-in_default-clause-enough c = λ m is _. absurd (no_one (moment_from_c c.args.moment) m c.in_default.ensures is)
 
 pub returns-clause-enough : goal.returns-clause-enough
 returns-clause-enough c =
@@ -34,4 +35,4 @@ returns-clause-enough c =
     c.as_bytes.ensures.value ∙ c.put_into.ensures.text ∙ ap (λ s. s ++ moment_text 84 c.in-Some.moment) c.new-written.ensures in
     λ m is room.
     to_z-of_z w32 c.write_over.result fits ∙ c.write_over.ensures.length
-    ∙ enough c.as_bytes.result.now (moment_text 84 m) (length c.args.text.now) (written ∙ ap (moment_text 84) (the_moment _ _ _ c.in-Some.ensures is)) (omega (arith, room, c.as_bytes.ensures.fits))
+    ∙ enough c.as_bytes.result.now (moment_text 84 m) (length c.args.text.now) (written ∙ ap (moment_text 84) (the_one _ _ _ c.in-Some.ensures is)) (omega (arith, room, c.as_bytes.ensures.fits))

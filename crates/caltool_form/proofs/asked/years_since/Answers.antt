@@ -1,9 +1,9 @@
-use Rattle.std.proofs.Common.{◌≡◌, ℕ, ℤ, Option, Some, refl, ap, sym, ◌∙◌, subst, arith, to_z, of_z, w32}
+use Rattle.std.proofs.Common.{◌≡◌, ℕ, ℤ, Option, Some, refl, ap, sym, ◌∙◌, subst, to_z, of_z, w32}
 use Rattle.std.specs.Option.{option_map, option_and_then}
 use Rattle.chrono_units.specs.Years.{IsYear}
+use Rattle.chrono_units.proofs.Years.{year_fits}
 use Rattle.chrono_calendar.specs.Days.{IsCalendarName, day_number_of_ymd}
 use Rattle.chrono_calendar.specs.YearsBetween.{years_between}
-use Rattle.chrono_calendar.proofs.Signed.{casts}
 use Rattle.chrono_calendar.proofs.GivenNames.{given_ymd}
 use Rattle.chrono_calendar.proofs.WholeYears.{number-named}
 use Rattle.caltool_command.specs.declared.arguments.CalendarDate.{CalendarDate}
@@ -34,7 +34,7 @@ years date base n m result e f is =
 
 -- the year as the call is passed it
 same : (date : CalendarDate) (n : ℤ) → Named date n → to_z w32 (of_z w32 date.year) ≡ date.year
-same date n h = omega (arith, casts, h.name.0)
+same date n h = year_fits date.year h.name.0
 
 passed : (date : CalendarDate) (n : ℤ) → Some n ≡ the_date date → let y = to_z w32 (of_z w32 date.year) in IsYear y × IsCalendarName y date.month date.day
 passed date n e =

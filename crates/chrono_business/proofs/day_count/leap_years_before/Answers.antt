@@ -1,9 +1,8 @@
 use Rattle.std.proofs.Common.{◌≡◌, arith, ℤ, pos, neg_ℤ, ◌-ℤ◌, ◌*ℤ◌, ◌≤ℤ◌, to_z, of_z, w64}
 use Rattle.chrono_datetime.specs.Days.{ordinal_of, year_of}
 use Rattle.chrono_datetime.proofs.Signed.{casts, signed}
-use Rattle.chrono_business.proofs.LeapDayCounts.{ordinal-exists}
 use Rattle.chrono_business.proofs.day_count.leap_years_before.Goals as goal
-use Rattle.chrono_datetime.proofs.Names.{year_length_bounds}
+use Rattle.chrono_datetime.proofs.Names.{ordinal_name_of-number, year_length_bounds}
 
 abbrev IsSmall : ℤ → Type 0
 IsSmall n = (neg_ℤ (pos 100_000_000) ≤ℤ n) × (n ≤ℤ pos 100_000_000)
@@ -24,7 +23,7 @@ few c =
     let date = rw c.num_days_from_ce.ensures.value at c.num_days_from_ce.ensures.in_range in
     let year = rw c.year.ensures.value at c.year.ensures.in_range in
     let short = (year_length_bounds (year_of c.args.date)).1 in
-    let ordinal = (ordinal-exists c.args.date).1 in (
+    let ordinal = (ordinal_name_of-number c.args.date).exists.1 in (
       (omega (arith, signed, days c, date.0, ordinal, short), omega (arith, signed, days c, date.1)),
       (omega (arith, signed, years c, year.0), omega (arith, signed, years c, year.1)),
     )

@@ -3,7 +3,7 @@ use Rattle.chrono_datetime.specs.Days.{date_of_day, date_of_ymd, days_before_yea
 use Rattle.chrono_datetime.specs.Weeks.{date_of_nth_weekday, days_with_weekday}
 use Rattle.chrono_business.specs.Easter.{date_of_easter, days_to_moon, easter_day, epact}
 use Rattle.chrono_business.specs.HolidayRules.{holiday_named, date_of_rule, from_saturday, from_sunday}
-use Rattle.chrono_business.specs.GivenCalendars.{england_and_wales_rules, target_rules, us_federal_rules}
+use Rattle.chrono_business.specs.PublicHolidays.{england_and_wales_rules, target_rules, us_federal_rules}
 use Rattle.chrono_business.proofs.law.known_first_and_last_years.Goals as goal
 
 pub returns-clause-target_first : goal.returns-clause-target_first

@@ -1,7 +1,7 @@
 use Rattle.std.proofs.Common.{refl}
 use Rattle.chrono_datetime.specs.Days.{date_of_day, days_before_year, days_of_months_in, days_of_years}
 use Rattle.chrono_datetime.specs.Weeks.{date_of_nth_weekday, days_with_weekday}
-use Rattle.chrono_business.specs.GivenCalendars.{england_and_wales_rules, us_federal_rules}
+use Rattle.chrono_business.specs.PublicHolidays.{england_and_wales_rules, us_federal_rules}
 use Rattle.chrono_business.specs.HolidayRules.{date_of_rule, from_saturday, from_sunday, holiday_named}
 use Rattle.chrono_business.proofs.law.known_last_mondays.Goals as goal
 

@@ -1,5 +1,5 @@
 use Rattle.std.proofs.Common.{◌≡◌, ℕ, ℤ, pos, ◌+ℤ◌, ◌-ℤ◌, arith, unsigned_abs, to_z, of_z, w32}
-use Rattle.chrono_calendar.proofs.Signed.{casts}
+use Rattle.chrono_text.proofs.Signed.{casts}
 use Rattle.chrono_calendar.proofs.IsoWeeks.{days_before_year-counted}
 use Rattle.chrono_calendar.proofs.counted_years.days_counted_before.Goals as goal
 

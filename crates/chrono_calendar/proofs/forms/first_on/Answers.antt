@@ -1,7 +1,7 @@
 use Rattle.std.proofs.Common.{◌≡◌, ap, ◌∙◌, arith, pos, ◌+ℤ◌, to_z, of_z, w32}
 use Rattle.std.specs.Option.{option_map}
 use Rattle.chrono_calendar.specs.Days.{date_of_day}
-use Rattle.chrono_calendar.proofs.Signed.{casts}
+use Rattle.chrono_text.proofs.Signed.{casts}
 use Rattle.chrono_calendar.proofs.FirstOn.{date_of_day-on, date_on-no_days}
 use Rattle.chrono_calendar.proofs.forms.first_on.Goals as goal
 

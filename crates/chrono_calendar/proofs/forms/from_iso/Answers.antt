@@ -3,7 +3,7 @@ use Rattle.std.proofs.lemmas.Int.{to_z-of_z}
 use Rattle.chrono_units.specs.Years.{year_length}
 use Rattle.chrono_calendar.specs.Days.{days_before_year}
 use Rattle.chrono_calendar.specs.Weeks.{days_from_sunday_of}
-use Rattle.chrono_calendar.proofs.Signed.{casts}
+use Rattle.chrono_text.proofs.Signed.{casts}
 use Rattle.chrono_calendar.proofs.Names.{year_length_bounds}
 use Rattle.chrono_calendar.proofs.IsoDates.{before_monday-bound, date_of_iso-no_year, date_of_iso-no_week, date_of_iso-before, date_of_iso-inside, date_of_iso-after}
 use Rattle.chrono_calendar.proofs.forms.from_iso.Goals as goal

@@ -1,7 +1,7 @@
 use Rattle.std.proofs.Common.{ℤ, ◌-ℤ◌, ap, ◌∙◌, arith, to_z, of_z, w32}
 use Rattle.chrono_units.specs.Weekday.{days_since}
 use Rattle.chrono_units.specs.declared.weekday.Weekday.{Weekday}
-use Rattle.chrono_calendar.proofs.Signed.{casts}
+use Rattle.chrono_text.proofs.Signed.{casts}
 use Rattle.chrono_calendar.proofs.WeekDays.{weekday_of-start}
 use Rattle.chrono_calendar.proofs.forms.week_first.Goals as goal
 

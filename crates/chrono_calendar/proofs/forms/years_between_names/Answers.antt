@@ -2,7 +2,7 @@ use Rattle.std.proofs.Common.{◌≡◌, ◌+◌, ◌*◌, ℕ, ℤ, Bool, true,
 use mir.Val.{bool_byte}
 use Rattle.chrono_units.specs.Years.{IsYear}
 use Rattle.chrono_calendar.specs.Days.{IsCalendarName, day_number_of_ymd, year_of}
-use Rattle.chrono_calendar.proofs.Signed.{casts}
+use Rattle.chrono_text.proofs.Signed.{casts}
 use Rattle.chrono_calendar.proofs.NamedDates.{calendar_name-number}
 use Rattle.chrono_calendar.proofs.WholeYears.{years_counted, place, years_between-None, years_between-Some}
 use Rattle.chrono_calendar.proofs.forms.years_between_names.Goals as goal

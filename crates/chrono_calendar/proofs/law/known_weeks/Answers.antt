@@ -2,7 +2,7 @@ use Rattle.std.proofs.Common.{◌≡◌, refl, sym, ap, ◌∙◌, arith, pos}
 use Rattle.chrono_units.specs.declared.weekday.Weekday.TheVariants.{Mon, Sun}
 use Rattle.chrono_calendar.specs.Days.{days_of_years, days_before_year, date_of_day}
 use Rattle.chrono_calendar.specs.Weeks.{iso_year_of, iso_week_of, day_number_of_iso}
-use Rattle.chrono_calendar.proofs.Signed.{signed}
+use Rattle.chrono_text.proofs.Signed.{signed}
 use Rattle.chrono_calendar.proofs.NamedDates.{date_of_day-Some}
 use Rattle.chrono_calendar.proofs.IsoWeeks.{iso_name-thursday, before_monday}
 use Rattle.chrono_calendar.proofs.IsoDates.{date_of_iso-named, date_of_iso-no_week}

@@ -1,6 +1,6 @@
 use Rattle.std.proofs.Common.{◌≡◌, ℕ, ℤ, pos, neg_ℤ, refl, ◌/◌, ◌<◌, ◌+ℤ◌, arith, unsigned_abs, to_z, of_z, w32, w64}
 use Rattle.chrono_calendar.specs.MonthMoves.{month_index, year_of_month_index}
-use Rattle.chrono_calendar.proofs.Signed.{casts}
+use Rattle.chrono_text.proofs.Signed.{casts}
 use Rattle.chrono_calendar.proofs.Moves.{month_index-shifted, year_of_month_index-range, year_of_month_index-below, year_of_month_index-above}
 use Rattle.chrono_calendar.proofs.month_index.month_after.Goals as goal
 

@@ -1,7 +1,7 @@
 use Rattle.std.proofs.Common.{arith, to_z-of_z, FitsSigned, w64, ◌≡◌, ℕ, ◌+◌, ◌*◌, ℤ, pos, ◌-ℤ◌, unsigned_abs, ap, sym, ◌∙◌}
 use Rattle.chrono_clock.specs.Duration.{nanos_of}
 use Rattle.chrono_clock.specs.Time.{TimeOfDay, Landing, plain_landing}
-use Rattle.chrono_clock.specs.Signed.{signed}
+use Rattle.chrono_text.proofs.Signed.{signed}
 use Rattle.chrono_clock.proofs.TimeLemmas.{leap_landing-before, leap_landing-inside, leap_landing-past}
 use Rattle.chrono_clock.proofs.naive_time.landed_on_leap_line.Goals as goal
 

@@ -2,7 +2,7 @@ use Rattle.std.proofs.Common.{◌≡◌, ◌/◌, true, false, ◌&&◌, refl, s
 use Rattle.std.proofs.lemmas.Bool.{and_right, false≢true}
 use Rattle.chrono_datetime.specs.Moment.{IsMoment, Moment}
 use Rattle.chrono_datetime.proofs.Signed.{signed}
-use Rattle.chrono_sets.specs.Numbers.{has}
+use Rattle.chrono_sets.specs.FiniteSets.{has}
 use Rattle.chrono_cron.specs.Due.{begins_minute, is_day, is_due, is_minute}
 use Rattle.chrono_cron.specs.KnownSchedules.{each_minute, known_moment, no_minute}
 use Rattle.chrono_cron.proofs.EachMinute.{due_at}

@@ -1,7 +1,7 @@
 use Rattle.std.proofs.Common.{◌≡◌, true, Bool, cond, [], ◌∷◌, refl, ap₂, pos}
 use Rattle.std.specs.Prelude.{filter}
 use Rattle.chrono_datetime.specs.Moment.{Moment}
-use Rattle.chrono_sets.specs.Numbers.{has}
+use Rattle.chrono_sets.specs.FiniteSets.{has}
 use Rattle.chrono_cron.specs.Due.{is_due, is_minute}
 use Rattle.chrono_cron.specs.DueMoments.{dues_after, minutes_from}
 use Rattle.chrono_cron.specs.KnownSchedules.{each_minute, known_moment}

@@ -5,8 +5,8 @@ use Rattle.chrono_datetime.specs.MonthMoves.{month_length_of}
 use Rattle.chrono_datetime.specs.Weekday.{days_from_sunday}
 use Rattle.chrono_datetime.specs.Weeks.{weekday_of}
 use Rattle.chrono_datetime.proofs.NamedDates.{date_of_ymd-name}
-use Rattle.chrono_sets.specs.Numbers.{has}
-use Rattle.chrono_cron.specs.declared.month_days.MonthDays.{MonthDays}
+use Rattle.chrono_sets.specs.FiniteSets.{has}
+use Rattle.chrono_cron.specs.declared.named_days.MonthDays.{MonthDays}
 use Rattle.chrono_cron.specs.Due.{is_friday_for, is_last_workday, is_monday_for, is_named_by_place, is_named_by_weekday, is_nearest_workday}
 use Rattle.chrono_cron.specs.KnownMonthDays.{is_named_day, days_named}
 use Rattle.chrono_cron.proofs.law.known_month_days.Goals as goal

@@ -6,7 +6,7 @@ use Rattle.chrono_datetime.specs.Moment.{Moment}
 use Rattle.chrono_datetime.specs.Weekday.{days_from_sunday}
 use Rattle.chrono_datetime.specs.Weeks.{weekday_of}
 use Rattle.chrono_datetime.proofs.NamedDates.{date_of_ymd-name}
-use Rattle.chrono_sets.specs.Numbers.{has}
+use Rattle.chrono_sets.specs.FiniteSets.{has}
 use Rattle.chrono_cron.specs.declared.field_sets.FieldSets.{FieldSets}
 use Rattle.chrono_cron.specs.Due.{begins_minute, either_or_both, is_day, is_due, is_friday_for, is_last_workday, is_listed_day, is_minute, is_monday_for, is_named_by_place, is_named_by_weekday, is_nearest_workday}
 use Rattle.chrono_cron.specs.KnownSchedules.{every_day, every_month, every_weekday, fields, fields_with, known_moment, last_days_on, odd_days}

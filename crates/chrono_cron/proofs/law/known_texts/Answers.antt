@@ -1,5 +1,5 @@
 use Rattle.std.proofs.Common.{refl}
-use Rattle.chrono_sets.specs.Numbers.{has}
+use Rattle.chrono_sets.specs.FiniteSets.{has}
 use Rattle.chrono_cron.specs.WrittenTexts.{are_all, day_field_items, is_starred_by_day, is_starred_by_weekday, names_from, number_items, plain_text, ranges_from, schedule_text, weekday_field_items}
 use Rattle.chrono_cron.proofs.law.known_texts.Goals as goal
 

@@ -8,9 +8,9 @@ use Rattle.chrono_datetime.specs.Weekday.{number_from_monday}
 use Rattle.chrono_datetime.specs.WeekdayText.{weekday_text}
 use Rattle.chrono_datetime.specs.Weeks.{iso_week_of, weekday_of}
 use Rattle.chrono_datetime.specs.declared.Weekday.{Weekday}
-use Rattle.chrono_pattern.specs.Numbers.{number_text, padded, year_sign}
+use Rattle.chrono_pattern.specs.Numbers.{field_text, padded, year_sign}
 use Rattle.chrono_pattern.specs.Patterns.{text_from}
-use Rattle.chrono_pattern.specs.Steps.{date_number_at, opened_step, time_number_at, unpadded_step, word_at}
+use Rattle.chrono_pattern.specs.PatternSteps.{date_number_at, group_at, opened_step, time_number_at, unpadded_step, word_at}
 use Rattle.chrono_pattern.specs.Words.{word_text}
 use Rattle.chrono_pattern.specs.declared.item.Padding.TheVariants.{Nothing, Spaces, Zeros}
 use Rattle.chrono_pattern.proofs.law.known_texts_of_dates.Goals as goal
@@ -45,27 +45,27 @@ week_text y w d =
     year_part y ++ (codes "-W" ++ (two w ++ (codes "-" ++ (padded Zeros 1 [] (number_from_monday d) ++ (codes " " ++ (weekday_text d ++ ([])))))))
 
 pub returns-clause-leap_day : goal.returns-clause-leap_day
-unfolding text_from opened_step unpadded_step date_number_at time_number_at word_at number_text word_text digits
+unfolding text_from opened_step unpadded_step date_number_at time_number_at word_at group_at field_text word_text digits
 returns-clause-leap_day c m year month day =
     ap (λ (y : ℤ). leap_day_text y (month_of m.date) (day_of m.date)) year
     ∙ ap (λ (n : ℕ). leap_day_text (pos 2024) n (day_of m.date)) month
     ∙ ap (λ (n : ℕ). leap_day_text (pos 2024) 2 n) day
 
 pub returns-clause-padded : goal.returns-clause-padded
-unfolding text_from opened_step unpadded_step date_number_at time_number_at word_at number_text word_text digits
+unfolding text_from opened_step unpadded_step date_number_at time_number_at word_at group_at field_text word_text digits
 returns-clause-padded c m day ordinal =
     ap (λ (n : ℕ). padded_text n (ordinal_of m.date)) day ∙ ap (λ (n : ℕ). padded_text 5 n) ordinal
 
 pub returns-clause-before_zero : goal.returns-clause-before_zero
-unfolding text_from opened_step unpadded_step date_number_at time_number_at word_at number_text word_text digits
+unfolding text_from opened_step unpadded_step date_number_at time_number_at word_at group_at field_text word_text digits
 returns-clause-before_zero c m year = ap (λ (y : ℤ). century_text y) year
 
 pub returns-clause-five_digits : goal.returns-clause-five_digits
-unfolding text_from opened_step unpadded_step date_number_at time_number_at word_at number_text word_text digits
+unfolding text_from opened_step unpadded_step date_number_at time_number_at word_at group_at field_text word_text digits
 returns-clause-five_digits c m year = ap (λ (y : ℤ). century_text y) year
 
 pub returns-clause-week : goal.returns-clause-week
-unfolding text_from opened_step unpadded_step date_number_at time_number_at word_at number_text word_text digits
+unfolding text_from opened_step unpadded_step date_number_at time_number_at word_at group_at field_text word_text digits
 returns-clause-week c m year week weekday =
     ap (λ (y : ℤ). week_text y (iso_week_of m.date) (weekday_of m.date)) year
     ∙ ap (λ (n : ℕ). week_text (pos 2025) n (weekday_of m.date)) week

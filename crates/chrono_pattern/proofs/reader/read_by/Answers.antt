@@ -1,5 +1,4 @@
-use Rattle.std.proofs.Common.{Ok, ap, sym, ◌∙◌}
-use Rattle.chrono_pattern.specs.Progress.{Progress}
+use Rattle.std.proofs.Common.{sym, ◌∙◌}
 use Rattle.chrono_pattern.proofs.ReadLemmas.{read_from-ends, read_from-ends_early, read_from-goes_on, read_from-stops}
 use Rattle.chrono_pattern.proofs.reader.read_by.Goals as goal
 
@@ -7,21 +6,21 @@ pub returns-in_default-pattern_step : goal.returns-in_default-pattern_step
 returns-in_default-pattern_step c =
     let l = c.loop-byte in
     let early = read_from-ends_early l.state _ _ _ l.reader c.in-Some.ensures.cases.0 (sym c.pattern_step.ensures ∙ c.in_default-pattern_step.is) in
-    ap (λ (r : Progress). Ok r.parsed) c.reader.view_is ∙ sym early ∙ l.invariant
+    sym early ∙ l.invariant
 
 pub returns-in-Err : goal.returns-in-Err
 returns-in-Err c =
     let l = c.loop-byte in
     let step = sym c.pattern_step.ensures ∙ c.in-Some-pattern_step.is in
-    sym (read_from-stops l.state _ _ _ l.reader c.in-Err.stop c.in-Some-pattern_step.next c.in-Some.ensures.cases.0 step (sym c.read_item.ensures ∙ c.in-Err.is)) ∙ l.invariant
+    sym (read_from-stops l.state _ _ _ l.reader c.in-Err.stop c.in-Some-pattern_step.next c.in-Some.ensures.cases.0 step c.in-Err.ensures.stop) ∙ l.invariant
 
 pub loop-byte-preserved : goal.loop-byte-preserved
 loop-byte-preserved c =
     let l = c.loop-byte in
     let step = sym c.pattern_step.ensures ∙ c.in-Some-pattern_step.is in
-    sym (read_from-goes_on l.state _ _ _ l.reader c.in-Ok.read c.in-Some-pattern_step.next c.in-Some.ensures.cases.0 step (sym c.read_item.ensures ∙ c.in-Ok.is)) ∙ l.invariant
+    sym (read_from-goes_on l.state _ _ _ l.reader c.read_item.new.reader c.in-Some-pattern_step.next c.in-Some.ensures.cases.0 step c.in-Ok.ensures.read) ∙ l.invariant
 
 pub returns : goal.returns
 returns c =
     let l = c.loop-byte in
-    c.read_end.ensures ∙ sym (read_from-ends l.state _ l.reader c.in_default.ensures.cases) ∙ l.invariant
+    sym (read_from-ends l.state _ l.reader c.in_default.ensures.cases) ∙ l.invariant

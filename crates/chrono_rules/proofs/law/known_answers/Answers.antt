@@ -2,11 +2,11 @@ use Rattle.std.proofs.Common.{[], ◌∷◌, ap, refl}
 use Rattle.std.proofs.lemmas.Bool.{false≢true}
 use Rattle.std.specs.Option.{is_some}
 use Rattle.chrono_datetime.specs.Names.{weekday_of_letters}
-use Rattle.chrono_sets.specs.Numbers.{numbers}
+use Rattle.chrono_sets.specs.FiniteSets.{numbers}
 use Rattle.chrono_text.specs.Numbers.{count_of, digits_of, natural_of}
 use Rattle.chrono_rules.specs.ByParts.{has_numbers}
 use Rattle.chrono_rules.specs.KnownTexts.{every_other_day}
-use Rattle.chrono_rules.specs.NumberLists.{listed_number, signed_number_of, with_year_text, year_ends_of}
+use Rattle.chrono_rules.specs.NumberLists.{listed_number, signed_number_of, with_year_text, signed_year_list_of}
 use Rattle.chrono_rules.specs.RuleErrors.{is_read, name_fault, part_fault, part_name, unfit_error, unread_error, value_fault}
 use Rattle.chrono_rules.specs.RuleParts.{plain}
 use Rattle.chrono_rules.specs.RuleTexts.{end_of, frequency_of, has_month_days, has_year_parts, interval_of, rule_body, weekday_of_text}
@@ -30,6 +30,6 @@ unfolding rule_body unread_error is_read part_fault part_name value_fault freque
 returns-clause-unread c = λ result is. is.unread refl (λ r says. false≢true (ap is_some says.week_start))
 
 pub returns-clause-unfit : goal.returns-clause-unfit
-unfolding rule_body unfit_error part_name frequency_of interval_of end_of year_ends_of with_year_text signed_number_of listed_number digits_of natural_of has_month_days has_year_parts has_numbers
+unfolding rule_body unfit_error part_name frequency_of interval_of end_of signed_year_list_of with_year_text signed_number_of listed_number digits_of natural_of has_month_days has_year_parts has_numbers
 returns-clause-unfit c = λ result is.
     is.unfit (record (plain Yearly) { positions = numbers (1 ∷ []) }) refl (record { frequency = refl; interval = refl; end = refl; months = refl; month_days = refl; weekdays = refl; year_days = refl; weeks = refl; positions = refl; week_start = refl }) refl

@@ -6,7 +6,7 @@ use Rattle.chrono_rules.specs.InstanceLists.{instances_from}
 use Rattle.chrono_rules.specs.InstanceMoments.{instance_moments}
 use Rattle.chrono_rules.specs.RecurrenceSets.{is_in_recurrence, is_instance_or_date, recurrence_from}
 use Rattle.chrono_rules.specs.ByParts.{counts_in_month, date_passes, fills_day, fills_month, fills_weekday, has_numbers, in_week, on_month_day, on_weekday, on_year_day, passes}
-use Rattle.chrono_sets.specs.Numbers.{has}
+use Rattle.chrono_sets.specs.FiniteSets.{has}
 use Rattle.chrono_rules.specs.Instances.{in_interval, in_positions, is_counted, is_instance, is_member, not_after}
 use Rattle.chrono_rules.specs.Periods.{period_end, period_first, period_of}
 use Rattle.chrono_rules.proofs.law.known_lists.Goals as goal

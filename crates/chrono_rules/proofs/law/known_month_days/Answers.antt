@@ -2,7 +2,7 @@ use Rattle.std.proofs.Common.{refl}
 use Rattle.chrono_datetime.specs.Days.{day_of_ordinal, days_after_zero, days_before_zero, days_of_months_in, month_of_ordinal, ordinal_name_of}
 use Rattle.chrono_datetime.specs.Recurrence.{count_between, count_where}
 use Rattle.chrono_rules.specs.ByParts.{counts_in_month, date_passes, fills_day, fills_month, fills_weekday, has_numbers, in_week, on_month_day, on_weekday, on_year_day, passes}
-use Rattle.chrono_sets.specs.Numbers.{has}
+use Rattle.chrono_sets.specs.FiniteSets.{has}
 use Rattle.chrono_rules.specs.Instances.{in_interval, in_positions, is_counted, is_instance, is_member, not_after}
 use Rattle.chrono_rules.specs.Periods.{period_end, period_first, period_of}
 use Rattle.chrono_rules.proofs.law.known_month_days.Goals as goal

@@ -1,7 +1,7 @@
 use Rattle.std.proofs.Common.{refl}
 use Rattle.chrono_datetime.specs.Recurrence.{count_between, count_where}
 use Rattle.chrono_rules.specs.ByParts.{fills_day, fills_month, fills_weekday, has_numbers, passes}
-use Rattle.chrono_sets.specs.Numbers.{has}
+use Rattle.chrono_sets.specs.FiniteSets.{has}
 use Rattle.chrono_rules.specs.Instances.{in_interval, in_positions, is_counted, is_instance, is_member, not_after}
 use Rattle.chrono_rules.specs.Periods.{period_of}
 use Rattle.chrono_rules.specs.RecurrenceSets.{is_in_recurrence, is_instance_or_date}
@@ -30,3 +30,11 @@ returns-clause-instance_excepted c = refl
 pub returns-clause-next : goal.returns-clause-next
 unfolding is_in_recurrence is_instance_or_date is_instance is_counted is_member not_after in_interval in_positions passes has_numbers has fills_weekday fills_day fills_month period_of count_between count_where
 returns-clause-next c = refl
+
+pub returns-clause-last : goal.returns-clause-last
+unfolding is_in_recurrence is_instance_or_date is_instance is_counted is_member not_after in_interval in_positions passes has_numbers has fills_weekday fills_day fills_month period_of count_between count_where
+returns-clause-last c = refl
+
+pub returns-clause-no_sixth : goal.returns-clause-no_sixth
+unfolding is_in_recurrence is_instance_or_date is_instance is_counted is_member not_after in_interval in_positions passes has_numbers has fills_weekday fills_day fills_month period_of count_between count_where
+returns-clause-no_sixth c = refl

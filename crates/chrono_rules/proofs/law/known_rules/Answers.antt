@@ -2,7 +2,7 @@ use Rattle.std.proofs.Common.{refl}
 use Rattle.chrono_datetime.specs.Recurrence.{count_between, count_where}
 use Rattle.chrono_rules.specs.Instances.{in_interval, in_positions, is_counted, is_instance, is_member, not_after}
 use Rattle.chrono_rules.specs.ByParts.{fills_day, fills_month, fills_weekday, has_numbers, on_weekday, passes}
-use Rattle.chrono_sets.specs.Numbers.{has}
+use Rattle.chrono_sets.specs.FiniteSets.{has}
 use Rattle.chrono_rules.specs.Periods.{period_of}
 use Rattle.chrono_rules.proofs.law.known_rules.Goals as goal
 

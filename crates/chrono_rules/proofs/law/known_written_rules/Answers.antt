@@ -5,7 +5,7 @@ use Rattle.std.specs.Fmt.{digits}
 use Rattle.chrono_text.specs.Text.{two_digits}
 use Rattle.chrono_datetime.specs.Days.{date_of_ymd, day_of, days_before_year, days_of_months_in, days_of_years, month_of, year_of}
 use Rattle.chrono_datetime.proofs.NamedDates.{date_of_ymd-name}
-use Rattle.chrono_sets.specs.Numbers.{has}
+use Rattle.chrono_sets.specs.FiniteSets.{has}
 use Rattle.chrono_rules.specs.RuleErrors.{frequency_text}
 use Rattle.chrono_rules.specs.WrittenRules.{basic_date_text, four_digits, item_text, items, numbered_items, rule_text, letters_from_monday}
 use Rattle.chrono_rules.proofs.law.known_written_rules.Goals as goal

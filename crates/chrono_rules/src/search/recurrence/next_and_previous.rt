@@ -3,7 +3,7 @@ ghost use Rattle.std.specs.Prelude.{◌≡◌, ◌≤◌, ◌≤ℤ◌, ◌<ℤ�
 ghost use Rattle.chrono_datetime.specs.Days.{IsDate};
 ghost use Rattle.chrono_datetime.specs.Recurrence.{dates_before, past_last_date};
 ghost use Rattle.chrono_datetime.specs.PassedOver.{NoneAfter, NoneBefore, NoneFrom, PassedBetween, PassedOver};
-ghost use Rattle.chrono_rules.specs.InstanceLists.{IsKept, seen_with};
+ghost use Rattle.chrono_rules.specs.InstanceWalks.{IsKept, seen_with};
 ghost use Rattle.chrono_rules.specs.Instances.{is_instance};
 ghost use Rattle.chrono_rules.specs.RecurrenceSets.{is_in_recurrence, is_instance_or_date};
 

@@ -1,7 +1,7 @@
 use Rattle.std.proofs.Common.{◌≡◌, ◌+◌, ◌∷◌, ◌&&◌, suc, not, drop, sym, ap, ◌∙◌, arith}
 use Rattle.std.proofs.Math.Seq.{drop-cons}
 use Rattle.std.specs.List.{list_any}
-use Rattle.chrono_sets.specs.Numbers.{are_empty, is_empty}
+use Rattle.chrono_sets.specs.FiniteSets.{are_empty, is_empty}
 use Rattle.chrono_sets.proofs.Members.{is_empty-either, neither}
 use Rattle.chrono_sets.proofs.number_set.are_empty.Goals as goal
 

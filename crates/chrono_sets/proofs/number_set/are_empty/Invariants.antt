@@ -1,6 +1,6 @@
 -- The sets seen so far have a member if all of these together have one.
 use Rattle.std.proofs.Common.{◌≡◌, ◌&&◌, drop}
-use Rattle.chrono_sets.specs.Numbers.{are_empty, is_empty}
+use Rattle.chrono_sets.specs.FiniteSets.{are_empty, is_empty}
 use Rattle.chrono_sets.proofs.number_set.are_empty.Given as goal
 
 abbrev pub invariant-loop-set : goal.invariant-loop-set

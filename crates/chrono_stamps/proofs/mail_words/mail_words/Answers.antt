@@ -1,6 +1,7 @@
 use Rattle.std.proofs.Common.{◌≡◌, List, ℕ, ap, drop, subst, sym, take, ◌∙◌}
 use Rattle.std.specs.List.{prefix_len}
-use Rattle.chrono_stamps.specs.MailWords.{IsColonWord, IsOptional, IsSpacedWord, behind_gap, is_of_word}
+use Rattle.chrono_text.specs.Lists.{is_of_word}
+use Rattle.chrono_stamps.specs.MailWords.{IsColonWord, IsOptional, IsSpacedWord, behind_gap}
 use Rattle.chrono_stamps.proofs.MailWordLemmas.{colon_found, comma_found}
 use Rattle.chrono_stamps.proofs.mail_words.mail_words.Goals as goal
 

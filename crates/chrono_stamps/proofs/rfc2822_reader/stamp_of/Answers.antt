@@ -2,7 +2,7 @@ use Rattle.std.proofs.Common.{◌≡◌, ◌∙◌, ◌-ℤ◌, List, ap, subst,
 use Rattle.std.proofs.lemmas.Option.{same_Some}
 use Rattle.chrono_datetime.specs.Moment.{Moment, moment}
 use Rattle.chrono_instant.specs.Instants.{IsEpochSecond, epoch_second}
-use Rattle.chrono_stamps.specs.MailWords.{IsGap}
+use Rattle.chrono_stamps.specs.MailWords.{IsMailGap}
 use Rattle.chrono_stamps.specs.Rfc2822.{IsMailZone, IsRfc2822Text}
 use Rattle.chrono_stamps.proofs.MailStampLemmas.{same_date, same_stamp, same_time, same_weekday, some_day, some_month, some_zone, stamp_found}
 use Rattle.chrono_stamps.proofs.rfc2822_reader.stamp_of.Goals as goal
@@ -10,7 +10,7 @@ use Rattle.chrono_stamps.proofs.rfc2822_reader.stamp_of.Goals as goal
 pub returns-then-not-is_gap-clause-every : goal.returns-then-not-is_gap-clause-every
 returns-then-not-is_gap-clause-every c = λ m x is.
     let w = c.mail_words-words.ensures.every is.weekday is.day is.month is.year is.hour is.minute is.second is.zone is.end is.words in
-    let holds = c.is_gap.ensures.1 (subst (λ (l : List ℕ). IsGap l) (sym w.8) is.ends) in
+    let holds = c.is_gap.ensures.1 (subst (λ (l : List ℕ). IsMailGap l) (sym w.8) is.ends) in
     cc
 
 pub returns-in_err-date-clause-every : goal.returns-in_err-date-clause-every

@@ -3,14 +3,14 @@ use Rattle.std.proofs.lemmas.Str.{IsAscii-append}
 use Rattle.std.proofs.lemmas.Str.Ascii.{IsAscii-cons, IsAscii-nil}
 use Rattle.std.specs.Str.{IsAscii}
 use Rattle.chrono_datetime.specs.TimeText.{time_text}
-use Rattle.chrono_stamps.specs.WrittenStamps.{mail_date_text, whole_second, zone_text}
+use Rattle.chrono_stamps.specs.WrittenStamps.{mail_date_text, mail_zone_text, whole_second}
 use Rattle.chrono_stamps.proofs.rfc2822_writer.rfc2822_of.Goals as goal
 
 pub returns-clause-ascii : goal.returns-clause-ascii
 returns-clause-ascii c =
     let date = mail_date_text c.date.result in
     let time = time_text (whole_second c.time.result) in
-    let zone = zone_text c.args.offset in
+    let zone = mail_zone_text c.args.offset in
     let space = IsAscii-cons 32 [] (omega arith) IsAscii-nil in
     let front : c.put_mail_date.new.text ≡ date = c.put_mail_date.ensures.text ∙ ap (λ (l : List ℕ). l ++ date) c.new-text.ensures in
     let spaced : c.push.new.self ≡ date ++ 32 ∷ [] = c.push.ensures ∙ ap (λ (l : List ℕ). l ++ 32 ∷ []) front in

@@ -1,6 +1,6 @@
 use Rattle.std.proofs.Common.{◌∙◌, ◌-◌, List, ℕ, length, take, drop, ap, sym, subst}
 use Rattle.std.specs.Result.{result_ok}
-use Rattle.std.proofs.lemmas.Option.{same_Some}
+use Rattle.std.proofs.lemmas.Option.{same_Some, some_pair_parts}
 use Rattle.chrono_datetime.specs.Moment.{Moment}
 use Rattle.chrono_datetime.specs.Time.{TimeOfDay}
 use Rattle.chrono_reading.specs.DateTexts.{IsDateText}
@@ -9,7 +9,7 @@ use Rattle.chrono_stamps.specs.Rfc3339.{IsStampSeparator}
 use Rattle.chrono_text.proofs.TextLemmas.{end_is}
 use Rattle.chrono_stamps.proofs.CutLemmas.{joined, ten}
 use Rattle.chrono_stamps.proofs.OffsetLemmas.{offset_small}
-use Rattle.chrono_stamps.proofs.StampLemmas.{found, from_ok, same_end, stamp_cut}
+use Rattle.chrono_stamps.proofs.StampLemmas.{found, from_ok, stamp_cut}
 use Rattle.chrono_stamps.proofs.YearLemmas.{second_near, second_small, text_near}
 use Rattle.chrono_stamps.proofs.rfc3339_reader.parts_of.Goals as goal
 
@@ -35,7 +35,7 @@ returns-in_err-date-clause-every c = λ m x is.
 pub returns-in_err-time-clause-every : goal.returns-in_err-time-clause-every
 returns-in_err-time-clause-every c = λ m x is.
     let cut = stamp_cut _ _ _ _ _ m x is c.in_ok-front.ensures.cases.0 c.in_ok-front.ensures.cases.1 c.in_ok-separator.ensures.cases.0 in
-    let end = same_end _ x _ _ (c.in_ok-offset.ensures.every is.time is.offset x is.offset_written cut.2) in
+    let end = some_pair_parts _ x _ _ (c.in_ok-offset.ensures.every is.time is.offset x is.offset_written cut.2) in
     let piece = end_is c.in_ok-separator.rest.now is.time is.offset c.in_ok-offset.len (sym end.1) cut.2 in
     let time = c.read_time.ensures.every m.time (subst (λ (l : List ℕ). IsTimeText l m.time) (sym piece.0) is.time_written) in
     let none = c.in_err-time.ensures.value ∙ ap result_ok time in
@@ -63,7 +63,7 @@ returns-clause-read c =
 pub returns-clause-every : goal.returns-clause-every
 returns-clause-every c = λ m x is.
     let cut = stamp_cut _ _ _ _ _ m x is c.in_ok-front.ensures.cases.0 c.in_ok-front.ensures.cases.1 c.in_ok-separator.ensures.cases.0 in
-    let end = same_end _ x _ _ (c.in_ok-offset.ensures.every is.time is.offset x is.offset_written cut.2) in
+    let end = some_pair_parts _ x _ _ (c.in_ok-offset.ensures.every is.time is.offset x is.offset_written cut.2) in
     let piece = end_is c.in_ok-separator.rest.now is.time is.offset c.in_ok-offset.len (sym end.1) cut.2 in
     let time = c.read_time.ensures.every m.time (subst (λ (l : List ℕ). IsTimeText l m.time) (sym piece.0) is.time_written) in
     let date = c.read_date.ensures.every m.date (subst (λ (l : List ℕ). IsDateText l m.date) (sym cut.0) is.date_written) in

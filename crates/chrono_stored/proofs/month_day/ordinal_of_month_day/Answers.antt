@@ -2,7 +2,7 @@ use Rattle.std.proofs.Common.{◌≡◌, ◌+◌, ◌-◌, ◌≤◌, arith}
 use Rattle.std.specs.Int.{IsInRange}
 use Rattle.chrono_units.specs.Years.{month_length_in}
 use Rattle.chrono_calendar.specs.Days.{days_of_months_in}
-use Rattle.chrono_stored.proofs.MonthDay.{days_of_months_in-next}
+use Rattle.chrono_calendar.proofs.MonthOrder.{days_of_months_in-next}
 use Rattle.chrono_stored.proofs.month_day.ordinal_of_month_day.Goals as goal
 use Rattle.chrono_stored.proofs.month_day.ordinal_of_month_day.Goals.{then-day-lt1-via-then-day-lt1, then-day-lt1-via-else-day-lt1+then-place-from}
 

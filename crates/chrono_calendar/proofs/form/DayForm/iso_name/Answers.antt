@@ -4,7 +4,7 @@ use Rattle.chrono_units.specs.Years.{is_leap_year, year_length}
 use Rattle.chrono_units.specs.Weekday.{days_from_monday}
 use Rattle.chrono_calendar.specs.Days.{year_of, ordinal_of}
 use Rattle.chrono_calendar.specs.Weeks.{iso_year_of, iso_week_of}
-use Rattle.chrono_calendar.proofs.Signed.{casts}
+use Rattle.chrono_text.proofs.Signed.{casts}
 use Rattle.chrono_calendar.proofs.Names.{year_length_bounds}
 use Rattle.chrono_calendar.proofs.NamedDates.{number-ordinal_name, IsDate-year}
 use Rattle.chrono_calendar.proofs.IsoWeeks.{has_iso_name, iso_name-before, iso_name-inside, iso_name-after, iso_year_of-range}

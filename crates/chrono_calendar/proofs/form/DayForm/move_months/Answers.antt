@@ -1,9 +1,10 @@
 use Rattle.std.proofs.Common.{◌≡◌, ℕ, ℤ, ◌+ℤ◌, ap, ◌∙◌, arith, to_z, of_z, w32, w64, FitsSigned}
 use Rattle.std.specs.Option.{option_map}
 use Rattle.chrono_units.specs.Years.{IsYear}
+use Rattle.chrono_units.proofs.Years.{year_fits}
 use Rattle.chrono_calendar.specs.MonthMoves.{month_index, month_index_of, year_of_month_index, month_of_month_index}
 use Rattle.chrono_calendar.specs.Days.{year_of, month_of}
-use Rattle.chrono_calendar.proofs.Signed.{casts}
+use Rattle.chrono_text.proofs.Signed.{casts}
 use Rattle.chrono_calendar.proofs.Moves.{month_move-None, month_move-same_day, month_move-ymd}
 use Rattle.chrono_calendar.proofs.form.DayForm.move_months.Goals as goal
 
@@ -18,7 +19,7 @@ returns-in_err-year g c =
     ap (option_map g.Self.DayForm.number) c.from_residual.ensures ∙ month_move-None n c.args.k (λ h. c.in_err-year.ensures (rw same h))
 
 year_cast : (y z : ℤ) → y ≡ z → IsYear z → to_z w32 (of_z w32 y) ≡ z
-year_cast y z e h = omega (arith, casts)
+year_cast y z e h = ap (λ x. to_z w32 (of_z w32 x)) e ∙ year_fits z h
 
 pub returns-in-Some : goal.returns-in-Some
 returns-in-Some g c =

@@ -1,7 +1,7 @@
 use Rattle.std.proofs.Common.{arith, rules, to_z-of_z, FitsSigned, w64, ◌≡◌, ◌≤◌, ◌+◌, ◌*◌, ℤ, pos, ◌+ℤ◌, ap, ◌∙◌}
 use Rattle.chrono_clock.specs.Duration.{nanos_of}
 use Rattle.chrono_clock.specs.Time.{TimeOfDay, place, leap_landing}
-use Rattle.chrono_clock.specs.Signed.{signed}
+use Rattle.chrono_text.proofs.Signed.{signed}
 use Rattle.chrono_clock.proofs.naive_time.NaiveTime.moved_from_leap.Goals as goal
 use Rattle.chrono_clock.proofs.naive_time.NaiveTime.moved_from_leap.Goals.{After-landed_on_leap_line}
 

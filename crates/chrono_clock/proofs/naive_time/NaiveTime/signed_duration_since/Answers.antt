@@ -1,7 +1,7 @@
 use Rattle.std.proofs.Common.{◌≡◌, ℕ, ◌+◌, ◌*◌, ◌-◌, ◌<◌, ◌≤◌, ℤ, pos, ◌+ℤ◌, ◌-ℤ◌, ◌*ℤ◌, arith, ap, ◌∙◌, FitsSigned, w64, to_z, of_z}
 use Rattle.std.proofs.lemmas.Int.{to_z-of_z}
 use Rattle.chrono_clock.specs.Time.{TimeOfDay, distance, land}
-use Rattle.chrono_clock.specs.Signed.{signed}
+use Rattle.chrono_text.proofs.Signed.{signed}
 use Rattle.chrono_clock.proofs.DistanceLemmas.{land-distance, distance-later, distance-earlier, distance-same, distance-turned, distance-plain}
 use Rattle.chrono_clock.proofs.naive_time.NaiveTime.signed_duration_since.Goals as goal
 

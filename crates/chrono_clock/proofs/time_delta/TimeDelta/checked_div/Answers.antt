@@ -2,7 +2,7 @@ use Rattle.std.proofs.Common.{arith, rules, ℤ, pos, ◌≡◌, ◌≢◌, ◌+
 use mir.Syntax.{w128}
 use Rattle.std.proofs.lemmas.Int.{to_z_pos}
 use Rattle.chrono_clock.specs.Duration.{IsDuration}
-use Rattle.chrono_clock.specs.Signed.{signed}
+use Rattle.chrono_text.proofs.Signed.{signed}
 use Rattle.chrono_clock.proofs.DurationLemmas.{IsDuration-two_step_quotient, two_step_quotient-by_parts, SomeIff-same}
 use Rattle.chrono_clock.proofs.time_delta.TimeDelta.checked_div.Goals as goal
 

@@ -1,7 +1,7 @@
 use Rattle.std.proofs.Common.{arith, ◌≡◌, ◌^◌, ◌+ℤ◌, ◌*ℤ◌, to_z, to_z-of_z, FitsSigned, w32, w64, pos, ap, ◌∙◌, lit<}
 use Rattle.std.proofs.lemmas.Int.{to_z_pos, fits_signed_mul}
 use mir.Syntax.{w128}
-use Rattle.chrono_clock.specs.Signed.{signed}
+use Rattle.chrono_text.proofs.Signed.{signed}
 use Rattle.chrono_clock.proofs.DurationLemmas.{SomeIff-along, nanos_of-times}
 use Rattle.chrono_clock.proofs.time_delta.TimeDelta.checked_mul.Goals as goal
 

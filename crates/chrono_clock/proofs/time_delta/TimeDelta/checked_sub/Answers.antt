@@ -1,6 +1,6 @@
 use Rattle.std.proofs.Common.{arith, rules, to_z-of_z, FitsSigned, w64, ◌-ℤ◌, ◌∙◌}
 use Rattle.chrono_clock.specs.Duration.{nanos_of}
-use Rattle.chrono_clock.specs.Signed.{signed}
+use Rattle.chrono_text.proofs.Signed.{signed}
 use Rattle.chrono_clock.proofs.DurationLemmas.{SomeIff-along}
 use Rattle.chrono_clock.proofs.time_delta.TimeDelta.checked_sub.Goals as goal
 

@@ -1,6 +1,6 @@
 use Rattle.std.proofs.Common.{pos, arith}
 use Rattle.std.proofs.lemmas.Int.{quot-rem}
-use Rattle.chrono_clock.specs.Signed.{signed}
+use Rattle.chrono_text.proofs.Signed.{signed}
 use Rattle.chrono_clock.proofs.time_delta.TimeDelta.num_milliseconds.Goals as goal
 
 pub overflow_mul-result : goal.overflow_mul-result

@@ -1,7 +1,7 @@
 use Rattle.std.proofs.Common.{arith, rules, ◌+ℤ◌, ◌*ℤ◌, to_z-of_z, FitsSigned, w64, pos, unsigned_abs}
 use mir.Syntax.{w128}
 use Rattle.chrono_clock.specs.Duration.{nanos_of}
-use Rattle.chrono_clock.specs.Signed.{signed}
+use Rattle.chrono_text.proofs.Signed.{signed}
 use Rattle.chrono_clock.proofs.DurationLemmas.{SomeIff-along, nanos_of-carried}
 use Rattle.chrono_clock.proofs.time_delta.ops.from_parts.Goals as goal
 

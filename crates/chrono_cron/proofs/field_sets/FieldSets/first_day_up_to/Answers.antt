@@ -10,7 +10,7 @@ returns-in-Some-clause-least c = λ d low high.
 
 pub returns-in_default-next_month-clause-none : goal.returns-in_default-next_month-clause-none
 returns-in_default-next_month-clause-none c =
-    (λ d low date end.
+    (λ d low end date.
     later_passed c.args.self.now c.args.date c.loop-last.month d c.loop-last.invariant.1 (λ ge. c.in_default-next_month.ensures.none d ge date) (c.in_default.ensures.none d) low)
 
 pub loop-last-preserved : goal.loop-last-preserved

@@ -1,5 +1,5 @@
 use Rattle.std.proofs.Common.{◌/◌, ◌%◌, sym, ap, ◌∙◌, arith}
-use Rattle.chrono_sets.specs.Numbers.{has}
+use Rattle.chrono_sets.specs.FiniteSets.{has}
 use Rattle.chrono_cron.proofs.DueMinutes.{is_minute-at, no_hour, no_minute}
 use Rattle.chrono_cron.proofs.field_sets.FieldSets.first_in_hour.Goals as goal
 

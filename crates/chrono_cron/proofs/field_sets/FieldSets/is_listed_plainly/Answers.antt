@@ -2,7 +2,7 @@ use Rattle.std.proofs.Common.{◌≡◌, ◌∙◌, arith}
 use Rattle.chrono_datetime.specs.Days.{day_of}
 use Rattle.chrono_datetime.specs.Weekday.{days_from_sunday}
 use Rattle.chrono_datetime.specs.Weeks.{weekday_of}
-use Rattle.chrono_sets.specs.Numbers.{has}
+use Rattle.chrono_sets.specs.FiniteSets.{has}
 use Rattle.chrono_datetime.proofs.MonthPlaces.{place-bounds}
 use Rattle.chrono_cron.proofs.DueMonths.{listed-day}
 use Rattle.chrono_cron.proofs.field_sets.FieldSets.is_listed_plainly.Goals as goal

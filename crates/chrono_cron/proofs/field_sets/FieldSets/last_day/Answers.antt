@@ -10,11 +10,11 @@ returns-in-Some-clause-none c =
     let date = c.in-Some.ensures.exists.0 refl in
     if_none c.last_day_down_to.result _ _
     (λ none d high is. none_up_to c.args.self.now c.args.date d
-    (λ e from to. none e to (omega (arith, signed, from, first, date)) (omega (arith, signed, from, first))) high)
+    (λ e from to. none e (omega (arith, signed, from, first)) to (omega (arith, signed, from, first, date))) high)
     c.last_day_down_to.ensures.none
 
 pub returns-clause-none : goal.returns-clause-none
 returns-clause-none c =
     if_none c.last_day_down_to-2.result _ _
-    (λ none d high is. none d high is (omega (arith, signed, is, c.first_date-first.ensures.of_type)))
+    (λ none d high is. none d (omega (arith, signed, is, c.first_date-first.ensures.of_type)) high is)
     c.last_day_down_to-2.ensures.none

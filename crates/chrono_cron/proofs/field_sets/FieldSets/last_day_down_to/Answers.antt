@@ -10,7 +10,7 @@ returns-in-Some-clause-greatest c = λ d low high.
 
 pub returns-in_default-previous_month-clause-none : goal.returns-in_default-previous_month-clause-none
 returns-in_default-previous_month-clause-none c =
-    (λ d high date begin.
+    (λ d begin high date.
     earlier_passed c.args.self.now c.args.date c.loop-first.month d c.loop-first.invariant.1 (λ le. c.in_default-previous_month.ensures.none d le date) (c.in_default.ensures.none d) high)
 
 pub loop-first-preserved : goal.loop-first-preserved

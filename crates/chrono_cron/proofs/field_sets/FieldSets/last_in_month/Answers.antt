@@ -2,9 +2,10 @@ use Rattle.std.proofs.Common.{◌≡◌, refl, sym, ap, ◌∙◌, true, arith, 
 use Rattle.chrono_datetime.specs.Days.{year_of, month_of, day_of}
 use Rattle.chrono_datetime.specs.MonthMoves.{InSameMonth}
 use Rattle.chrono_datetime.proofs.Signed.{signed}
-use Rattle.chrono_sets.specs.Numbers.{has}
+use Rattle.chrono_sets.specs.FiniteSets.{has}
 use Rattle.chrono_datetime.proofs.MonthPlaces.{between_earlier, past_month, place-bounds, places}
-use Rattle.chrono_cron.proofs.DueMonths.{if_named, if_unnamed, listed_day, no_day, no_listed_day, year_fits}
+use Rattle.chrono_datetime.proofs.Years.{year_fits}
+use Rattle.chrono_cron.proofs.DueMonths.{if_named, if_unnamed, listed_day, no_day, no_listed_day}
 use Rattle.chrono_cron.proofs.field_sets.FieldSets.last_in_month.Goals as goal
 use Rattle.chrono_cron.proofs.field_sets.FieldSets.last_in_month.Goals.{After-from_ymd_opt}
 

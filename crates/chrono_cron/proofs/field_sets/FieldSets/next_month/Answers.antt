@@ -4,7 +4,8 @@ use Rattle.chrono_datetime.specs.Years.{IsYear}
 use Rattle.chrono_datetime.proofs.MonthOrder.{month_of-range}
 use Rattle.chrono_datetime.proofs.Signed.{signed}
 use Rattle.chrono_datetime.proofs.MonthPlaces.{first_day_exists, last_year, later_month}
-use Rattle.chrono_cron.proofs.DueMonths.{NoMonths, before_later_month, before_next_year, if_named, if_unnamed, later_in_year, next_year_fits, no_day_of_no_month, year_fits}
+use Rattle.chrono_datetime.proofs.Years.{year_fits}
+use Rattle.chrono_cron.proofs.DueMonths.{NoMonths, before_later_month, before_next_year, if_named, if_unnamed, later_in_year, next_year_fits, no_day_of_no_month}
 use Rattle.chrono_cron.proofs.field_sets.FieldSets.next_month.Goals as goal
 use Rattle.chrono_cron.proofs.field_sets.FieldSets.next_month.Goals.{After-from_ymd_opt-2}
 

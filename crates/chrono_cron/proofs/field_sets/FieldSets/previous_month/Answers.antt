@@ -4,7 +4,8 @@ use Rattle.chrono_datetime.specs.Years.{IsYear}
 use Rattle.chrono_datetime.proofs.MonthOrder.{month_of-range}
 use Rattle.chrono_datetime.proofs.Signed.{signed}
 use Rattle.chrono_datetime.proofs.MonthPlaces.{first_day_exists, first_year, last_place, month_before, year_before}
-use Rattle.chrono_cron.proofs.DueMonths.{after_earlier_month, after_previous_year, earlier_in_year, if_unnamed, no_day_of_no_month, previous_year_fits, year_fits}
+use Rattle.chrono_datetime.proofs.Years.{year_fits}
+use Rattle.chrono_cron.proofs.DueMonths.{after_earlier_month, after_previous_year, earlier_in_year, if_unnamed, no_day_of_no_month, previous_year_fits}
 use Rattle.chrono_cron.proofs.field_sets.FieldSets.previous_month.Goals as goal
 use Rattle.chrono_cron.proofs.field_sets.FieldSets.previous_month.Goals.{After-last_day_of_month, After-last_day_of_month-2}
 

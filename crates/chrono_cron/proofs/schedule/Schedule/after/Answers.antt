@@ -7,7 +7,7 @@ use Rattle.chrono_cron.proofs.schedule.Schedule.after.Goals as goal
 
 pub returns-clause-few : goal.returns-clause-few
 returns-clause-few c =
-    let is = c.lies_in_calendar.ensures in
+    let is = c.date_times_exist.ensures in
     omega (arith, signed, dues_after-few c.args.self.now.sets c.args.start, is.date.0, is.date.1, is.time.second)
 
 pub returns-clause-runs : goal.returns-clause-runs

@@ -1,6 +1,6 @@
 use Rattle.std.proofs.Common.{◌∙◌, Some, ap, sym}
 use Rattle.std.specs.Option.{option_map}
-use Rattle.chrono_sets.specs.Numbers.{has}
+use Rattle.chrono_sets.specs.FiniteSets.{has}
 use Rattle.chrono_cron.specs.declared.text.day_fields.DayItems.{DayItems}
 use Rattle.chrono_cron.proofs.DayItems.{weekdays_none, weekdays_some}
 use Rattle.chrono_cron.proofs.text.day_fields.read_weekdays.Goals as goal

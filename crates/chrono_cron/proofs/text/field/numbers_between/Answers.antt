@@ -1,7 +1,7 @@
 use Rattle.std.proofs.Common.{◌≡◌, ◌-◌, ◌%◌, ◌==◌, ◌<◌, ◌&&◌, ℕ, false, refl, ap, sym, ◌∙◌, arith, inl, inr}
 use Rattle.std.specs.Prelude.{nat_le}
 use Rattle.std.proofs.lemmas.Bool.{and_right, cases_lt, lt-leb}
-use Rattle.chrono_sets.specs.Numbers.{has}
+use Rattle.chrono_sets.specs.FiniteSets.{has}
 use Rattle.chrono_sets.specs.Steps.{is_by_steps}
 use Rattle.chrono_sets.proofs.Members.{has-no_numbers}
 use Rattle.chrono_cron.proofs.text.field.numbers_between.Goals as goal

@@ -1,6 +1,6 @@
 use Rattle.std.proofs.Common.{◌∙◌, Some, ap, sym}
 use Rattle.std.specs.Option.{option_map}
-use Rattle.chrono_sets.specs.Numbers.{has}
+use Rattle.chrono_sets.specs.FiniteSets.{has}
 use Rattle.chrono_cron.specs.FieldTexts.{field_lists, onto}
 use Rattle.chrono_cron.proofs.FieldTexts.{last_item, more_items, no_item, no_last_item, nothing_so_far}
 use Rattle.chrono_cron.proofs.text.field.read_field.Goals as goal

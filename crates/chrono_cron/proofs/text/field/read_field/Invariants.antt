@@ -1,6 +1,6 @@
 -- What the text lists is what the items so far list, and what the rest lists.
 use Rattle.std.proofs.Common.{◌≡◌, ℕ, length}
-use Rattle.chrono_sets.specs.Numbers.{has}
+use Rattle.chrono_sets.specs.FiniteSets.{has}
 use Rattle.chrono_cron.specs.FieldTexts.{field_lists, onto}
 use Rattle.chrono_cron.proofs.text.field.read_field.Given as goal
 

@@ -1,6 +1,6 @@
 use Rattle.std.proofs.Common.{◌∙◌, ap, sym}
 use Rattle.std.specs.Option.{option_map}
-use Rattle.chrono_sets.specs.Numbers.{has}
+use Rattle.chrono_sets.specs.FiniteSets.{has}
 use Rattle.chrono_cron.specs.declared.text.day_fields.DayItems.{DayItems}
 use Rattle.chrono_cron.proofs.FirstWrong.{wrong-day, wrong-hour, wrong-minute, wrong-month, wrong-weekday}
 use Rattle.chrono_cron.proofs.text.schedule_reader.read_fields.Goals as goal

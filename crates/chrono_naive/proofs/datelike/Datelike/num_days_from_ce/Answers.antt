@@ -1,5 +1,6 @@
-use Rattle.std.proofs.Common.{◌≡◌, Option, Some, refl, arith, sym, ◌∙◌, FitsSigned, w32, ℤ}
+use Rattle.std.proofs.Common.{◌≡◌, Some, refl, arith, sym, ◌∙◌, FitsSigned, w32}
 use Rattle.std.proofs.lemmas.Int.{to_z-of_z}
+use Rattle.chrono_text.proofs.AnswerLemmas.{the_one}
 use Rattle.chrono_calendar.proofs.NamedDates.{date_of_day-Some}
 use Rattle.chrono_calendar.proofs.Signed.{casts}
 use Rattle.chrono_naive.proofs.datelike.Datelike.num_days_from_ce.Goals as goal
@@ -13,14 +14,11 @@ named g c =
 pub unwrap-requires : goal.unwrap-requires
 unwrap-requires g c = rw (named g c) refl
 
-same_value : (o : Option ℤ) (a b : ℤ) → o ≡ Some a → o ≡ Some b → b ≡ a
-same_value o a b e f = cc
-
 pub returns-clause-value : goal.returns-clause-value
 returns-clause-value g c =
     let fits : FitsSigned w32 c.day_number.result = omega (arith, casts, c.day_number.ensures.in_range) in
     to_z-of_z w32 c.day_number.result fits ∙ c.day_number.ensures.value
-    ∙ same_value c.from_yo_opt.result (g.Self.Datelike.number c.args.self.now) c.unwrap.result (named g c.before.before.before) c.unwrap.ensures
+    ∙ the_one c.from_yo_opt.result c.unwrap.result (g.Self.Datelike.number c.args.self.now) (sym c.unwrap.ensures) (named g c.before.before.before)
 
 pub returns-clause-names : goal.returns-clause-names
 returns-clause-names g c =

@@ -5,7 +5,7 @@ use Rattle.chrono_datetime.specs.Recurrence.{count_between}
 use Rattle.chrono_datetime.proofs.CountBetween.{count_between-empty}
 use Rattle.chrono_datetime.proofs.Signed.{casts, signed}
 use Rattle.chrono_rules.specs.ByParts.{date_passes}
-use Rattle.chrono_sets.specs.Numbers.{has}
+use Rattle.chrono_sets.specs.FiniteSets.{has}
 use Rattle.chrono_rules.specs.Periods.{period_end}
 use Rattle.chrono_rules.proofs.PlacesFromEnd.{before_places, chosen, counted-back, from_chosen, off_day_back, same_end}
 use Rattle.chrono_rules.proofs.rule.Rule.days_to_place_from_end.Goals as goal

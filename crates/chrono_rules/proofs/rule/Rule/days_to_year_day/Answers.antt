@@ -1,5 +1,5 @@
 use Rattle.std.proofs.Common.{ℕ, ◌+◌, sym, ap, ◌∙◌, arith}
-use Rattle.chrono_sets.specs.Numbers.{has}
+use Rattle.chrono_sets.specs.FiniteSets.{has}
 use Rattle.chrono_rules.proofs.PlacesInPeriods.{off_year_day}
 use Rattle.chrono_rules.proofs.rule.Rule.days_to_year_day.Goals as goal
 

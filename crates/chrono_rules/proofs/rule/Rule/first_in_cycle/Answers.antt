@@ -15,25 +15,25 @@ returns-in_err-day-clause-none c =
     let near = c.num_days_from_ce.ensures in
     rw c.from_residual.ensures
     (λ d low less date.
-    by_lt_z d c.first_of_last_year-rest.result
+    by_lt_z d c.first_of_last_366_days-rest.result
     (λ lt.
     none_far c.args.self.now c.args.start c.args.date c.args.from c.args.near d given.begun given.order given.from given.date given.at given.early
     (λ e from under is. c.in_default.ensures.none e from (omega (arith, casts, under, near.value, near.in_range)) is)
-    low (omega (arith, signed, lt, c.first_of_last_year-rest.ensures)))
+    low (omega (arith, signed, lt, c.first_of_last_366_days-rest.ensures)))
     (λ ge. c.in_err-day.ensures.none d ge (omega (arith, casts, c.ranges.end, less)) date))
 
 pub returns-clause-not_before : goal.returns-clause-not_before
 returns-clause-not_before c =
-    omega (arith, signed, c.in_ok-day.ensures.not_before, c.first_of_last_year-rest.ensures, c.requires.order, c.requires.at, c.requires.early)
+    omega (arith, signed, c.in_ok-day.ensures.not_before, c.first_of_last_366_days-rest.ensures, c.requires.order, c.requires.at, c.requires.early)
 
 pub returns-clause-least : goal.returns-clause-least
 returns-clause-least c =
     let given = c.requires in
     let near = c.num_days_from_ce.ensures in
     λ d low less.
-    by_lt_z d c.first_of_last_year-rest.result
+    by_lt_z d c.first_of_last_366_days-rest.result
     (λ lt.
     none_far c.args.self.now c.args.start c.args.date c.args.from c.args.near d given.begun given.order given.from given.date given.at given.early
     (λ e from under is. c.in_default.ensures.none e from (omega (arith, casts, under, near.value, near.in_range)) is)
-    low (omega (arith, signed, lt, c.first_of_last_year-rest.ensures)))
+    low (omega (arith, signed, lt, c.first_of_last_366_days-rest.ensures)))
     (λ ge. c.in_ok-day.ensures.least d ge less)

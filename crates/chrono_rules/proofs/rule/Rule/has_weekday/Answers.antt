@@ -1,6 +1,6 @@
 use Rattle.std.proofs.Common.{sym, ap, ◌∙◌}
 use Rattle.std.proofs.lemmas.Bool.{not-false}
-use Rattle.chrono_sets.specs.Numbers.{is_empty}
+use Rattle.chrono_sets.specs.FiniteSets.{is_empty}
 use Rattle.chrono_rules.proofs.Skipped.{never_named}
 use Rattle.chrono_rules.proofs.rule.Rule.has_weekday.Goals as goal
 

@@ -1,5 +1,5 @@
 use Rattle.std.proofs.Common.{sym, ◌∙◌, ◌||◌}
-use Rattle.chrono_sets.specs.Numbers.{has}
+use Rattle.chrono_sets.specs.FiniteSets.{has}
 use Rattle.chrono_rules.specs.Instances.{in_interval, not_after}
 use Rattle.chrono_rules.proofs.PeriodMembers.{by_first, by_second, by_third, member_at}
 use Rattle.chrono_rules.proofs.rule.Rule.is_member_at.Goals as goal

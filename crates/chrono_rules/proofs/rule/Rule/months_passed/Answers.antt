@@ -1,9 +1,10 @@
 use Rattle.std.proofs.Common.{arith, of_z, to_z, w32}
+use Rattle.std.proofs.lemmas.Int.{to_z-of_z}
 use Rattle.std.specs.Int.{IsInRange}
 use Rattle.chrono_datetime.proofs.MonthOrder.{month_of-range}
 use Rattle.chrono_datetime.proofs.Signed.{casts, signed}
 use Rattle.chrono_rules.proofs.Months.{month_on}
-use Rattle.chrono_rules.proofs.Skipped.{months_on, year_fits}
+use Rattle.chrono_rules.proofs.Skipped.{months_on}
 use Rattle.chrono_rules.proofs.rule.Rule.months_passed.Goals as goal
 
 pub loop-gap-init : goal.loop-gap-init
@@ -13,7 +14,7 @@ loop-gap-init c =
     let range = c.year_month_day-year.ensures.in_range in
     let y = c.year_month_day-year.result.0 in
     let m = c.year_month_day-year.result.1 in
-    let fits = year_fits y (omega (arith, signed, range)) (omega (arith, signed, range)) in
+    let fits = to_z-of_z w32 y (omega (arith, signed, range)) in
     let named : IsInRange 1 12 m = (omega (arith, month, month_of-range c.args.day), omega (arith, month, month_of-range c.args.day)) in (
       named,
       omega (arith, signed, fits, month, year),

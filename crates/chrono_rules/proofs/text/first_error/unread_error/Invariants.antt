@@ -5,4 +5,4 @@ use Rattle.chrono_rules.specs.declared.text.rule_error.RulePart.TheVariants.{Wks
 use Rattle.chrono_rules.proofs.text.first_error.unread_error.Given as goal
 
 abbrev pub invariant-loop-part : goal.invariant-loop-part
-invariant-loop-part l = first_unread l.text parts_but_last Wkst ≡ first_unread l.text (drop l.part-index parts_but_last) Wkst
+invariant-loop-part l = first_unread l.parts parts_but_last Wkst ≡ first_unread l.parts (drop l.part-index parts_but_last) Wkst

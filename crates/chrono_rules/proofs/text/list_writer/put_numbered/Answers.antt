@@ -1,6 +1,6 @@
 use Rattle.std.proofs.Common.{◌≡◌, ◌+◌, ◌<◌, ◌++◌, ◌||◌, suc, drop, get_or, length, ap, sym, ◌∙◌, arith}
 use Rattle.chrono_rules.specs.declared.text.list_writer.Naming.TheVariants.{Numbered}
-use Rattle.chrono_sets.specs.Numbers.{no_numbers}
+use Rattle.chrono_sets.specs.FiniteSets.{no_numbers}
 use Rattle.chrono_rules.specs.WrittenRules.{items, listed_on, numbered_items, some_in}
 use Rattle.chrono_rules.proofs.ListLemmas.{begun_next, begun_none, numbered_end, numbered_next, put_next, put_none}
 use Rattle.chrono_rules.proofs.text.list_writer.put_numbered.Goals as goal

@@ -1,5 +1,5 @@
 use Rattle.std.proofs.Common.{ℕ, ◌-◌, ◌%◌, ◌==◌, ◌||◌, Bool, ap, sym, ◌∙◌, arith, eq-eqb, ne_eqb}
-use Rattle.chrono_sets.specs.Numbers.{has}
+use Rattle.chrono_sets.specs.FiniteSets.{has}
 use Rattle.chrono_sets.specs.Steps.{is_by_steps}
 use Rattle.chrono_sets.proofs.Members.{has-no_numbers}
 use Rattle.chrono_sets.proofs.Steps.{is_by_steps-true, none_yet, passed, is_by_steps-false, taken, all_passed}

@@ -1,7 +1,7 @@
 -- Of the numbers before `number`, those by steps are members, and no others.
 use Rattle.std.proofs.Common.{◌≡◌, ℕ, ◌-◌, ◌≤◌, ◌&&◌}
 use Rattle.std.specs.Prelude.{nat_lt}
-use Rattle.chrono_sets.specs.Numbers.{has}
+use Rattle.chrono_sets.specs.FiniteSets.{has}
 use Rattle.chrono_sets.specs.Steps.{is_by_steps}
 use Rattle.chrono_sets.proofs.number_set.NumberSet.by_steps.Given as goal
 

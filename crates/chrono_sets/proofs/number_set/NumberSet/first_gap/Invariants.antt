@@ -1,6 +1,6 @@
 -- All numbers so far are members.
 use Rattle.std.proofs.Common.{◌-◌, ◌≡◌, ◌<◌, ◌≤◌, ℕ, true}
-use Rattle.chrono_sets.specs.Numbers.{has}
+use Rattle.chrono_sets.specs.FiniteSets.{has}
 use Rattle.chrono_sets.proofs.number_set.NumberSet.first_gap.Given as goal
 
 abbrev pub invariant-loop-number : goal.invariant-loop-number

@@ -1,7 +1,7 @@
 use Rattle.std.proofs.Common.{◌≡◌, ◌+◌, ◌∷◌, suc, drop, get_or, sym, ap, ◌∙◌, arith}
 use Rattle.std.proofs.Math.Seq.{drop-cons}
 use Rattle.std.proofs.Math.ListN.{drop_of_length-le}
-use Rattle.chrono_sets.specs.Numbers.{Numbers, with_all}
+use Rattle.chrono_sets.specs.FiniteSets.{FiniteSet, with_all}
 use Rattle.chrono_sets.proofs.Members.{are_below-at}
 use Rattle.chrono_sets.proofs.number_set.NumberSet.from_array.Goals as goal
 
@@ -15,7 +15,7 @@ loop-number-preserved g c =
     let more : suc i ≡ i + 1 = omega arith in
     let next : drop i list ≡ get_or list i 0 ∷ drop (i + 1) list =
     drop-cons list i 0 (omega (arith, c.loop-number-test.true, c.well_formed.0.1.0.1)) ∙ ap (λ k. get_or list i 0 ∷ drop k list) more in
-    ap (λ (set : Numbers). with_all set (drop (i + 1) list)) c.with-set.ensures.set ∙ ap (with_all c.loop-number.set) (sym next) ∙ c.loop-number.invariant
+    ap (λ (set : FiniteSet). with_all set (drop (i + 1) list)) c.with-set.ensures.set ∙ ap (with_all c.loop-number.set) (sym next) ∙ c.loop-number.invariant
 
 pub returns : goal.returns
 returns g c =

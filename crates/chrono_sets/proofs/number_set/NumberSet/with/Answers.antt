@@ -1,6 +1,6 @@
 use Rattle.std.proofs.Common.{ap, ◌∙◌, bit_or}
 use Rattle.std.proofs.lemmas.Nat.{one_shl}
-use Rattle.chrono_sets.specs.Numbers.{has}
+use Rattle.chrono_sets.specs.FiniteSets.{has}
 use Rattle.chrono_sets.proofs.Members.{has-with_number}
 use Rattle.chrono_sets.proofs.number_set.NumberSet.with.Goals as goal
 

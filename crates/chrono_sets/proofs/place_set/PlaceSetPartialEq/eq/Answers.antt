@@ -1,6 +1,6 @@
 use Rattle.std.proofs.Common.{ap, sym, ◌∙◌}
 use Rattle.std.proofs.lemmas.Bool.{eq-eqb, eqb-true}
-use Rattle.chrono_sets.specs.Numbers.{code_of}
+use Rattle.chrono_sets.specs.FiniteSets.{code_of}
 use Rattle.chrono_sets.proofs.Members.{same_code}
 use Rattle.chrono_sets.proofs.WordDigits.{same_words}
 use Rattle.chrono_sets.proofs.place_set.PlaceSetPartialEq.eq.Goals as goal

@@ -1,5 +1,4 @@
-use Rattle.std.proofs.Common.{arith, refl}
-use Rattle.chrono_datetime.proofs.Signed.{casts}
+use Rattle.std.proofs.Common.{refl}
 use Rattle.zoned_cron.proofs.FiringLists.{given_in_order}
 use Rattle.zoned_cron.proofs.schedule.ZonedSchedule.after.Goals as goal
 

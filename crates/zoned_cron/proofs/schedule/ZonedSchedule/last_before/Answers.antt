@@ -38,7 +38,7 @@ pub loop-local-smaller : goal.loop-local-smaller
 loop-local-smaller g c =
     let local = c.loop-local.local in
     let next = c.in-Some-prev_before.earlier in
-    let exists = c.lies_in_dates-in-loop-local.ensures in
+    let exists = c.date_times_exist-in-loop-local.ensures in
     let whole = due_fraction c.args.self.now.schedule.sets local c.loop-local.invariant.1 in
     closer_back (epoch_second next) (epoch_second local) (later_second next local exists c.loop-local.invariant.0 c.in-Some-prev_before.ensures.earlier whole) (IsEpochSecond-moment next exists).0
 
@@ -54,9 +54,9 @@ loop-local-preserved g c =
     let fits : end ≡ c.args.end = to_z-of_z w64 c.args.end c.ranges.end in
     let last = last_of_all (TakesDated p ahead (epoch_second local)) c.taken.result end c.last_in.result c.taken.ensures.all c.last_in.ensures in
     let found = fires_last s ahead p end local c.last_in.result (omega (arith, ints, fits, c.requires.high)) inv.0 inv.1 last in (
-      c.lies_in_dates-in-loop-local.ensures,
+      c.date_times_exist-in-loop-local.ensures,
       c.in-Some-prev_before.ensures.member,
-      covers_previous s ahead p end local next c.loop-local.best c.last_in.result c.later-best.result inv.0 c.lies_in_dates-in-loop-local.ensures inv.2 last c.later-best.ensures.greatest c.in-Some-prev_before.ensures.greatest,
+      covers_previous s ahead p end local next c.loop-local.best c.last_in.result c.later-best.result inv.0 c.date_times_exist-in-loop-local.ensures inv.2 last c.later-best.ensures.greatest c.in-Some-prev_before.ensures.greatest,
       one_of (λ x. (x <ℤ end) × Fires s ahead p x) c.loop-local.best c.last_in.result c.later-best.result c.later-best.ensures.either inv.3 found,
     )
 

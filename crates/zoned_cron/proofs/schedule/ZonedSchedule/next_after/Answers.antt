@@ -16,7 +16,7 @@ returns-in_err-first_after-clause-none g c =
     let utc = c.naive_utc-utc.result in
     let same : utc ≡ c.args.start.utc = c.naive_utc-utc.ensures in
     let at : to_z w64 (of_z w64 c.timestamp.result) ≡ epoch_second utc = to_z-of_z w64 c.timestamp.result (record { sfits = c.timestamp.type_inv }) ∙ c.timestamp.ensures.value in
-    if_any c.from_residual.result (subst (λ (m : Moment). NotFiringAfter s ahead p m) same (not_after s ahead p utc c.in_err-first_after.ensures.least at c.lies_in_dates.ensures))
+    if_any c.from_residual.result (subst (λ (m : Moment). NotFiringAfter s ahead p m) same (not_after s ahead p utc c.in_err-first_after.ensures.least at c.date_times_exist.ensures))
 
 pub returns-clause-fires : goal.returns-clause-fires
 returns-clause-fires g c =
@@ -40,7 +40,7 @@ returns-clause-later g c =
     let ok = c.in_ok-first_after.ensures.fires in
     let is : to_z w64 (of_z w64 x) ≡ x = omega (arith, casts, ok.1.instant.utc) in
     IfSome_then c.timestamp_opt.result c.timestamp_opt.ensures.instant (λ d h.
-    subst (λ (m : Moment). IsBefore m d.utc) same (later_there utc d.utc x ok.0 at h is c.lies_in_dates.ensures))
+    subst (λ (m : Moment). IsBefore m d.utc) same (later_there utc d.utc x ok.0 at h is c.date_times_exist.ensures))
 
 pub returns-clause-least : goal.returns-clause-least
 returns-clause-least g c =
@@ -54,7 +54,7 @@ returns-clause-least g c =
     let ok = c.in_ok-first_after.ensures.fires in
     let is : to_z w64 (of_z w64 x) ≡ x = omega (arith, casts, ok.1.instant.utc) in
     IfSome_then c.timestamp_opt.result c.timestamp_opt.ensures.instant (λ d h.
-    subst (λ (m : Moment). NotFiringBetween s ahead p m d.utc) same (not_between s ahead p utc d.utc x c.in_ok-first_after.ensures.least at h is c.lies_in_dates.ensures))
+    subst (λ (m : Moment). NotFiringBetween s ahead p m d.utc) same (not_between s ahead p utc d.utc x c.in_ok-first_after.ensures.least at h is c.date_times_exist.ensures))
 
 pub returns-clause-none : goal.returns-clause-none
 returns-clause-none g c =

@@ -18,7 +18,7 @@ returns-in-Single-clause-all g c =
     let r = c.before-in-Single.result in
     let second : to_z w64 (of_z w64 c.timestamp-second.result) ≡ c.timestamp-second.result = to_z-of_z w64 c.timestamp-second.result (record { sfits = c.timestamp-second.type_inv }) in
     let fits : to_z w64 (of_z w64 r) ≡ r = to_z-of_z w64 r (record { sfits = c.before-in-Single.type_inv }) in
-    taken_single c.args.self.now.policy ahead l c.in-Single.offset (to_z w64 (of_z w64 r)) (IsEpochSecond-moment c.args.local c.lies_in_dates.ensures) c.before-in-Single.ensures.near c.in-Single.ensures
+    taken_single c.args.self.now.policy ahead l c.in-Single.offset (to_z w64 (of_z w64 r)) (IsEpochSecond-moment c.args.local c.date_times_exist.ensures) c.before-in-Single.ensures.near c.in-Single.ensures
     (omega (arith, ints, second, fits, c.before-in-Single.ensures.value, c.timestamp-second.ensures.value))
 
 pub returns-in-Earlier-clause-all : goal.returns-in-Earlier-clause-all
@@ -27,7 +27,7 @@ returns-in-Earlier-clause-all g c =
     let l = epoch_second c.args.local in
     let x = to_z w64 (of_z w64 c.before-earlier.result) in
     let y = to_z w64 (of_z w64 c.before-later.result) in
-    let date = IsEpochSecond-moment c.args.local c.lies_in_dates.ensures in
+    let date = IsEpochSecond-moment c.args.local c.date_times_exist.ensures in
     let second : to_z w64 (of_z w64 c.timestamp-second.result) ≡ c.timestamp-second.result = to_z-of_z w64 c.timestamp-second.result (record { sfits = c.timestamp-second.type_inv }) in
     let fits_x : x ≡ c.before-earlier.result = to_z-of_z w64 c.before-earlier.result (record { sfits = c.before-earlier.type_inv }) in
     let fits_y : y ≡ c.before-later.result = to_z-of_z w64 c.before-later.result (record { sfits = c.before-later.type_inv }) in
@@ -43,7 +43,7 @@ returns-in-Later-clause-all g c =
     let l = epoch_second c.args.local in
     let x = to_z w64 (of_z w64 c.before-earlier.result) in
     let y = to_z w64 (of_z w64 c.before-later.result) in
-    let date = IsEpochSecond-moment c.args.local c.lies_in_dates.ensures in
+    let date = IsEpochSecond-moment c.args.local c.date_times_exist.ensures in
     let second : to_z w64 (of_z w64 c.timestamp-second.result) ≡ c.timestamp-second.result = to_z-of_z w64 c.timestamp-second.result (record { sfits = c.timestamp-second.type_inv }) in
     let fits_x : x ≡ c.before-earlier.result = to_z-of_z w64 c.before-earlier.result (record { sfits = c.before-earlier.type_inv }) in
     let fits_y : y ≡ c.before-later.result = to_z-of_z w64 c.before-later.result (record { sfits = c.before-later.type_inv }) in
@@ -59,7 +59,7 @@ returns-in-Both-clause-all g c =
     let l = epoch_second c.args.local in
     let x = to_z w64 (of_z w64 c.before-earlier.result) in
     let y = to_z w64 (of_z w64 c.before-later.result) in
-    let date = IsEpochSecond-moment c.args.local c.lies_in_dates.ensures in
+    let date = IsEpochSecond-moment c.args.local c.date_times_exist.ensures in
     let second : to_z w64 (of_z w64 c.timestamp-second.result) ≡ c.timestamp-second.result = to_z-of_z w64 c.timestamp-second.result (record { sfits = c.timestamp-second.type_inv }) in
     let fits_x : x ≡ c.before-earlier.result = to_z-of_z w64 c.before-earlier.result (record { sfits = c.before-earlier.type_inv }) in
     let fits_y : y ≡ c.before-later.result = to_z-of_z w64 c.before-later.result (record { sfits = c.before-later.type_inv }) in

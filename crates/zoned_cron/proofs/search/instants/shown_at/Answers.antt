@@ -5,6 +5,7 @@ use Rattle.chrono_datetime.proofs.Signed.{casts}
 use Rattle.chrono_instant.specs.Instants.{epoch_second}
 use Rattle.chrono_instant.specs.Offsets.{IsOffset}
 use Rattle.chrono_instant.proofs.InstantLemmas.{IsEpochSecond-moment}
+use Rattle.zoned_cron.proofs.Windows.{none_then}
 use Rattle.zoned_cron.proofs.search.instants.shown_at.Goals as goal
 
 pub returns-clause-shown : goal.returns-clause-shown
@@ -25,3 +26,14 @@ returns-clause-near g c =
     let near : IsOffset c.offset_from_utc_datetime-offset.result = subst (λ (x : ℤ). IsOffset x) c.local_minus_utc.ensures.value c.local_minus_utc.ensures.in_range in
     IfSome_then c.from_timestamp-2.result c.from_timestamp-2.ensures.value (λ m h.
     subst (λ (x : ℤ). IsOffset x) there near)
+
+pub returns-clause-none : goal.returns-clause-none
+returns-clause-none g c =
+    let ahead = g.Z.TimeZone.ahead c.args.zone in
+    let here : epoch_second c.in_ok-utc.utc ≡ c.args.second = c.in_ok-utc.ensures.value.second ∙ to_z-of_z w64 c.args.second c.ranges.second in
+    let there : c.offset_from_utc_datetime-offset.result ≡ ahead c.args.second = c.offset_from_utc_datetime-offset.ensures ∙ ap ahead here in
+    none_then c.from_timestamp-2.result (λ no date local.
+    no (c.from_timestamp-2.ensures.exists.1 (
+      (omega (arith, casts, date, local.0, there, c.from.ensures, c.local_minus_utc.ensures.value, c.local_minus_utc.ensures.in_range), omega (arith, casts, date, local.1, there, c.from.ensures, c.local_minus_utc.ensures.value, c.local_minus_utc.ensures.in_range)),
+      (omega arith, λ leap. absurd (omega (arith, leap))),
+    )))

@@ -2,7 +2,7 @@
 use Rattle.std.proofs.Common.{◌≡◌, ◌≤◌, false, ℤ, ◌≤ℤ◌, ◌<ℤ◌}
 use Rattle.chrono_datetime.specs.Days.{IsDate}
 use Rattle.chrono_datetime.specs.Recurrence.{dates_before, dates_left}
-use Rattle.chrono_rules.specs.InstanceLists.{IsKept}
+use Rattle.chrono_rules.specs.InstanceWalks.{IsKept}
 use Rattle.chrono_rules.specs.RecurrenceSets.{is_in_recurrence}
 use Rattle.chrono_rules.proofs.search.recurrence.Recurrence.first_from.Given as goal
 

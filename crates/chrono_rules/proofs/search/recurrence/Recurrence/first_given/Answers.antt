@@ -1,9 +1,9 @@
 use Rattle.std.proofs.Common.{◌≡◌, true, false, subst, arith, pos, ◌+ℤ◌}
 use Rattle.chrono_datetime.proofs.Signed.{signed}
-use Rattle.chrono_rules.specs.InstanceLists.{IsKept}
+use Rattle.chrono_rules.specs.InstanceWalks.{IsKept}
 use Rattle.chrono_rules.specs.RecurrenceSets.{RecurrenceSet, is_instance_or_date}
 use Rattle.chrono_rules.proofs.GivenDays.{given-date, given-instance, not_given}
-use Rattle.chrono_rules.proofs.Walks.{seen_with-few}
+use Rattle.chrono_rules.proofs.Kept.{seen_with-few}
 use Rattle.chrono_rules.proofs.search.recurrence.Recurrence.first_given.Goals as goal
 
 pub returns-in_err-listed-clause-none : goal.returns-in_err-listed-clause-none

@@ -1,5 +1,5 @@
 use Rattle.std.proofs.Common.{subst}
-use Rattle.chrono_rules.specs.InstanceLists.{IsKept}
+use Rattle.chrono_rules.specs.InstanceWalks.{IsKept}
 use Rattle.chrono_rules.specs.RecurrenceSets.{RecurrenceSet}
 use Rattle.chrono_rules.proofs.search.recurrence.Recurrence.next_after.Goals as goal
 

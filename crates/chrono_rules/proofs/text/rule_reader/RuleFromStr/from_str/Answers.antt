@@ -1,10 +1,10 @@
 use Rattle.std.proofs.Common.{sym}
-use Rattle.chrono_rules.specs.RuleErrors.{IsChecked}
+use Rattle.chrono_rules.specs.RuleErrors.{IsRuleRead}
 use Rattle.chrono_rules.proofs.text.rule_reader.RuleFromStr.from_str.Goals as goal
 
 pub returns : goal.returns
 returns c =
-    let checked : IsChecked c.as_bytes.result.now c.read_rule.result = record {
+    let checked : IsRuleRead c.as_bytes.result.now c.read_rule.result = record {
       read = c.read_rule.ensures.read;
       every = c.read_rule.ensures.every;
       found = c.read_rule.ensures.found;

@@ -6,6 +6,6 @@ use Rattle.zoned_cron.proofs.search.firings.FiringsIterator.next.Goals as goal
 pub returns-clause-goes : goal.returns-clause-goes
 returns-clause-goes g c =
     let z = c.args.self.now.schedule in
-    let is = subst (λ (m : Moment). IsMoment m) c.naive_utc.ensures c.lies_in_dates.ensures in
+    let is = subst (λ (m : Moment). IsMoment m) c.naive_utc.ensures c.date_times_exist.ensures in
     let found = c.next_after-self.ensures in
     goes_on z.schedule.sets (g.Z.TimeZone.ahead z.zone) z.policy c.args.self.now c.in_ok-start.start c.next_after-self.result c.in_ok-start.was is found.fires found.later

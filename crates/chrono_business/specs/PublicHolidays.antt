@@ -1,0 +1,76 @@
+-- Public holidays: the rules of holidays that laws and notices name, one by one.
+use Rattle.std.specs.Prelude.{List, [], ◌∷◌, ℤ, pos, neg_ℤ}
+use Rattle.chrono_datetime.specs.declared.Month.TheVariants.{April, August, December, February, January, July, June, May, November, October, September}
+use Rattle.chrono_datetime.specs.declared.Weekday.TheVariants.{Mon, Thu}
+use Rattle.chrono_business.specs.declared.holiday_rule.HolidayDay.TheVariants.{Fixed, NthWeekday, LastWeekday, EasterPlus}
+use Rattle.chrono_business.specs.declared.holiday_rule.Moved.TheVariants.{Stays, ToMonday, ToNearer, TwoDaysOn}
+use Rattle.chrono_business.specs.declared.holiday_rule.HolidayRule.{HolidayRule}
+use Rattle.chrono_business.specs.HolidayRules.{rule_of}
+
+-- the last year of a rule that still holds, which is the calendar's
+abbrev still : ℤ
+still = pos 262_142
+
+-- the federal holidays of the United States from 1971 on: New Year's Day, the birthdays of King and of Washington,
+-- Memorial Day, Juneteenth, Independence Day and Labor Day. Then Columbus Day, Veterans Day on a Monday and again on its
+-- day, Thanksgiving and Christmas Day
+unfoldable pub us_federal_rules : List HolidayRule
+us_federal_rules =
+    rule_of (Fixed January 1) ToNearer (pos 1_971) still
+    ∷ rule_of (NthWeekday 3 Mon January) Stays (pos 1_986) still
+    ∷ rule_of (NthWeekday 3 Mon February) Stays (pos 1_971) still
+    ∷ rule_of (LastWeekday Mon May) Stays (pos 1_971) still
+    ∷ rule_of (Fixed June 19) ToNearer (pos 2_021) still
+    ∷ rule_of (Fixed July 4) ToNearer (pos 1_971) still
+    ∷ rule_of (NthWeekday 1 Mon September) Stays (pos 1_971) still
+    ∷ rule_of (NthWeekday 2 Mon October) Stays (pos 1_971) still
+    ∷ rule_of (NthWeekday 4 Mon October) Stays (pos 1_971) (pos 1_977)
+    ∷ rule_of (Fixed November 11) ToNearer (pos 1_978) still
+    ∷ rule_of (NthWeekday 4 Thu November) Stays (pos 1_971) still
+    ∷ rule_of (Fixed December 25) ToNearer (pos 1_971) still
+    ∷ []
+
+-- the closing days of TARGET from 1999 on: New Year's Day and Christmas Day, Good Friday and Easter Monday, 1 May and
+-- 26 December, and 31 December of two years
+unfoldable pub target_rules : List HolidayRule
+target_rules =
+    rule_of (Fixed January 1) Stays (pos 1_999) still
+    ∷ rule_of (Fixed December 25) Stays (pos 1_999) still
+    ∷ rule_of (EasterPlus (neg_ℤ (pos 2))) Stays (pos 2_000) still
+    ∷ rule_of (EasterPlus (pos 1)) Stays (pos 2_000) still
+    ∷ rule_of (Fixed May 1) Stays (pos 2_000) still
+    ∷ rule_of (Fixed December 26) Stays (pos 2_000) still
+    ∷ rule_of (Fixed December 31) Stays (pos 1_999) (pos 1_999)
+    ∷ rule_of (Fixed December 31) Stays (pos 2_001) (pos 2_001)
+    ∷ []
+
+-- the bank holidays of England and Wales from 1978 on, with Good Friday and Christmas Day, and days of single years
+unfoldable pub england_and_wales_rules : List HolidayRule
+england_and_wales_rules =
+    rule_of (Fixed January 1) ToMonday (pos 1_978) still
+    ∷ rule_of (EasterPlus (neg_ℤ (pos 2))) Stays (pos 1_978) still
+    ∷ rule_of (EasterPlus (pos 1)) Stays (pos 1_978) still
+    ∷ rule_of (NthWeekday 1 Mon May) Stays (pos 1_978) (pos 1_994)
+    ∷ rule_of (Fixed May 8) Stays (pos 1_995) (pos 1_995)
+    ∷ rule_of (NthWeekday 1 Mon May) Stays (pos 1_996) (pos 2_019)
+    ∷ rule_of (Fixed May 8) Stays (pos 2_020) (pos 2_020)
+    ∷ rule_of (NthWeekday 1 Mon May) Stays (pos 2_021) still
+    ∷ rule_of (LastWeekday Mon May) Stays (pos 1_978) (pos 2_001)
+    ∷ rule_of (Fixed June 3) Stays (pos 2_002) (pos 2_002)
+    ∷ rule_of (Fixed June 4) Stays (pos 2_002) (pos 2_002)
+    ∷ rule_of (LastWeekday Mon May) Stays (pos 2_003) (pos 2_011)
+    ∷ rule_of (Fixed June 4) Stays (pos 2_012) (pos 2_012)
+    ∷ rule_of (Fixed June 5) Stays (pos 2_012) (pos 2_012)
+    ∷ rule_of (LastWeekday Mon May) Stays (pos 2_013) (pos 2_021)
+    ∷ rule_of (Fixed June 2) Stays (pos 2_022) (pos 2_022)
+    ∷ rule_of (Fixed June 3) Stays (pos 2_022) (pos 2_022)
+    ∷ rule_of (LastWeekday Mon May) Stays (pos 2_023) still
+    ∷ rule_of (LastWeekday Mon August) Stays (pos 1_978) still
+    ∷ rule_of (Fixed December 25) TwoDaysOn (pos 1_978) still
+    ∷ rule_of (Fixed December 26) TwoDaysOn (pos 1_978) still
+    ∷ rule_of (Fixed July 29) Stays (pos 1_981) (pos 1_981)
+    ∷ rule_of (Fixed December 31) Stays (pos 1_999) (pos 1_999)
+    ∷ rule_of (Fixed April 29) Stays (pos 2_011) (pos 2_011)
+    ∷ rule_of (Fixed September 19) Stays (pos 2_022) (pos 2_022)
+    ∷ rule_of (Fixed May 8) Stays (pos 2_023) (pos 2_023)
+    ∷ []

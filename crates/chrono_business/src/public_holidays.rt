@@ -1,0 +1,178 @@
+//! Public holidays: those that laws and notices name, as rules.
+//!
+//! Each rule has its source next to it. A day that was proclaimed once is a rule of one year.
+ghost use Rattle.std.specs.Prelude.{◌≡◌, pos};
+ghost use Rattle.chrono_business.specs.PublicHolidays.{england_and_wales_rules, target_rules, us_federal_rules};
+ghost use Rattle.chrono_business.specs.HolidayRules.{rule_of};
+ghost use Rattle.chrono_business.specs.declared.holiday_rule.HolidayDay.TheVariants.{EasterPlus, Fixed, LastWeekday, NthWeekday};
+ghost use Rattle.chrono_business.specs.declared.holiday_rule.Moved.TheVariants.{Stays};
+
+use crate::holiday_rule::{HolidayDay, HolidayRule, Moved};
+use chrono_datetime::{MAX_YEAR, Month, Weekday};
+
+// The last year of a rule that still holds: that of the calendar.
+const STILL: i32 = MAX_YEAR;
+
+/// Returns the rules of the federal holidays of the United States, from 1971 on (5 U.S.C. 6103(a)).
+///
+/// A holiday on a Saturday is kept on Friday, and one on a Sunday on Monday.
+/// The sources are 5 U.S.C. 6103(b) and Executive Order 11582.
+///
+/// ```
+/// us_federal()[0].date_in(2022) // Some(2021-12-31)
+/// ```
+///
+/// So New Year's Day on a Saturday is kept in the year before.
+/// For a calendar of one year, find the holidays of the next year too.
+/// Inauguration Day is left out: it is a holiday in and about Washington alone (6103(c)).
+/// Single days on which an executive order closed offices, such as 24 December 2024, are left out too.
+#[tactic(auto, unfolding(crate::specs::PublicHolidays::us_federal_rules))]
+pub fn us_federal() -> [HolidayRule; 12]
+    ensures rules { result ≡ us_federal_rules }
+{
+    [
+        // New Year's Day, 1 January.
+        fixed(Month::January, 1, Moved::ToNearer, 1971, STILL),
+        // Birthday of Martin Luther King, Jr., the third Monday in January (Public Law 98-144, from 1986 on).
+        nth(3, Weekday::Mon, Month::January, 1986, STILL),
+        // Washington's Birthday, the third Monday in February.
+        nth(3, Weekday::Mon, Month::February, 1971, STILL),
+        // Memorial Day, the last Monday in May.
+        last(Weekday::Mon, Month::May, 1971, STILL),
+        // Juneteenth National Independence Day, 19 June (Public Law 117-17, from 2021 on).
+        fixed(Month::June, 19, Moved::ToNearer, 2021, STILL),
+        // Independence Day, 4 July.
+        fixed(Month::July, 4, Moved::ToNearer, 1971, STILL),
+        // Labor Day, the first Monday in September.
+        nth(1, Weekday::Mon, Month::September, 1971, STILL),
+        // Columbus Day, the second Monday in October.
+        nth(2, Weekday::Mon, Month::October, 1971, STILL),
+        // Veterans Day, the fourth Monday in October up to 1977 (Public Law 90-363), and from 1978 on 11 November
+        // again (Public Law 94-97).
+        nth(4, Weekday::Mon, Month::October, 1971, 1977),
+        fixed(Month::November, 11, Moved::ToNearer, 1978, STILL),
+        // Thanksgiving Day, the fourth Thursday in November.
+        nth(4, Weekday::Thu, Month::November, 1971, STILL),
+        // Christmas Day, 25 December.
+        fixed(Month::December, 25, Moved::ToNearer, 1971, STILL),
+    ]
+}
+
+/// Returns the rules of the days on which TARGET is closed, from 1999 on, besides Saturdays and Sundays.
+///
+/// The European Central Bank set the closing days for 1999, 2000 and 2001.
+/// From 2002 on its long-term calendar holds (ECB, 14 December 2000).
+///
+/// ```
+/// let good_friday = target()[2];
+/// good_friday.date_in(2024) // Some(2024-03-29)
+/// good_friday.date_in(1999) // None
+/// ```
+#[tactic(auto, unfolding(crate::specs::PublicHolidays::target_rules))]
+pub fn target() -> [HolidayRule; 8]
+    ensures rules { result ≡ target_rules }
+{
+    [
+        // New Year's Day and Christmas Day.
+        fixed(Month::January, 1, Moved::Stays, 1999, STILL),
+        fixed(Month::December, 25, Moved::Stays, 1999, STILL),
+        // Good Friday and Easter Monday, from 2000 on.
+        easter(-2, 2000),
+        easter(1, 2000),
+        // 1 May and 26 December, from 2000 on.
+        fixed(Month::May, 1, Moved::Stays, 2000, STILL),
+        fixed(Month::December, 26, Moved::Stays, 2000, STILL),
+        // 31 December of 1999 and of 2001.
+        fixed(Month::December, 31, Moved::Stays, 1999, 1999),
+        fixed(Month::December, 31, Moved::Stays, 2001, 2001),
+    ]
+}
+
+/// Returns the rules of the bank holidays of England and Wales, from 1978 on.
+///
+/// They include Good Friday and Christmas Day, which are holidays by common law. The others come from two sources.
+/// One is the Banking and Financial Dealings Act 1971, schedule 1.
+/// The other is royal proclamations under its section 1.
+///
+/// ```
+/// let christmas_day = england_and_wales()[19];
+/// christmas_day.date_in(2021) // Some(2021-12-27)
+/// ```
+#[tactic(auto, unfolding(crate::specs::PublicHolidays::england_and_wales_rules))]
+pub fn england_and_wales() -> [HolidayRule; 26]
+    ensures rules { result ≡ england_and_wales_rules }
+{
+    [
+        // New Year's Day, or the Monday after it: by proclamation, from 1974 on.
+        fixed(Month::January, 1, Moved::ToMonday, 1978, STILL),
+        // Good Friday, and Easter Monday of schedule 1.
+        easter(-2, 1978),
+        easter(1, 1978),
+        // The first Monday in May: by proclamation from 1978 on, and in 1995 and 2020 on 8 May instead.
+        nth(1, Weekday::Mon, Month::May, 1978, 1994),
+        fixed(Month::May, 8, Moved::Stays, 1995, 1995),
+        nth(1, Weekday::Mon, Month::May, 1996, 2019),
+        fixed(Month::May, 8, Moved::Stays, 2020, 2020),
+        nth(1, Weekday::Mon, Month::May, 2021, STILL),
+        // The last Monday in May of schedule 1, put off into June in 2002, 2012 and 2022, with a day for a jubilee.
+        last(Weekday::Mon, Month::May, 1978, 2001),
+        fixed(Month::June, 3, Moved::Stays, 2002, 2002),
+        fixed(Month::June, 4, Moved::Stays, 2002, 2002),
+        last(Weekday::Mon, Month::May, 2003, 2011),
+        fixed(Month::June, 4, Moved::Stays, 2012, 2012),
+        fixed(Month::June, 5, Moved::Stays, 2012, 2012),
+        last(Weekday::Mon, Month::May, 2013, 2021),
+        fixed(Month::June, 2, Moved::Stays, 2022, 2022),
+        fixed(Month::June, 3, Moved::Stays, 2022, 2022),
+        last(Weekday::Mon, Month::May, 2023, STILL),
+        // The last Monday in August of schedule 1.
+        last(Weekday::Mon, Month::August, 1978, STILL),
+        // Christmas Day and Boxing Day: on a weekend a substitute day each, two days on.
+        fixed(Month::December, 25, Moved::TwoDaysOn, 1978, STILL),
+        fixed(Month::December, 26, Moved::TwoDaysOn, 1978, STILL),
+        // Single days: 29 July 1981, 31 December 1999, 29 April 2011, 19 September 2022 and 8 May 2023.
+        fixed(Month::July, 29, Moved::Stays, 1981, 1981),
+        fixed(Month::December, 31, Moved::Stays, 1999, 1999),
+        fixed(Month::April, 29, Moved::Stays, 2011, 2011),
+        fixed(Month::September, 19, Moved::Stays, 2022, 2022),
+        fixed(Month::May, 8, Moved::Stays, 2023, 2023),
+    ]
+}
+
+fn fixed(month: Month, day: u32, moved: Moved, first_year: i32, last_year: i32) -> HolidayRule
+    ensures { result ≡ rule_of (Fixed month day) moved first_year last_year }
+{
+    rule(HolidayDay::Fixed(month, day), moved, first_year, last_year)
+}
+
+fn nth(n: u8, weekday: Weekday, month: Month, first_year: i32, last_year: i32) -> HolidayRule
+    ensures { result ≡ rule_of (NthWeekday n weekday month) Stays first_year last_year }
+{
+    let day = HolidayDay::NthWeekday(n, weekday, month);
+    rule(day, Moved::Stays, first_year, last_year)
+}
+
+fn last(weekday: Weekday, month: Month, first_year: i32, last_year: i32) -> HolidayRule
+    ensures { result ≡ rule_of (LastWeekday weekday month) Stays first_year last_year }
+{
+    let day = HolidayDay::LastWeekday(weekday, month);
+    rule(day, Moved::Stays, first_year, last_year)
+}
+
+fn easter(days: i32, first_year: i32) -> HolidayRule
+    ensures { result ≡ rule_of (EasterPlus days) Stays first_year (pos 262_142) }
+{
+    let day = HolidayDay::EasterPlus(days);
+    rule(day, Moved::Stays, first_year, STILL)
+}
+
+fn rule(day: HolidayDay, moved: Moved, first_year: i32, last_year: i32) -> HolidayRule
+    ensures { result ≡ rule_of day moved first_year last_year }
+{
+    HolidayRule {
+        day,
+        moved,
+        first_year,
+        last_year,
+    }
+}

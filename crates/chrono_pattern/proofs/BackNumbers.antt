@@ -1,0 +1,175 @@
+-- Numbers of two digits and of four are read back, whatever is behind them.
+use Rattle.std.proofs.Common.{◌≡◌, ℕ, suc, ◌+◌, ◌-◌, ◌/◌, ◌%◌, ◌<◌, ◌≤◌, ◌==◌, min, Bool, true, false, if◌then◌else◌, List, [], ◌∷◌, ◌++◌, drop, take, ℤ, pos, Option, Result, Ok, refl, ap, sym, ◌∙◌, arith}
+use Rattle.std.specs.Prelude.{unsigned_abs}
+use Rattle.std.proofs.lemmas.Bool.Decides.{nat_tests}
+use Rattle.std.proofs.lemmas.Int.{ints}
+use Rattle.std.specs.Char.{is_ascii_digit}
+use Rattle.std.specs.Int.RustNames.{int_lt}
+use Rattle.std.specs.List.{prefix_len}
+use Rattle.chrono_text.proofs.Decimals.{four_places}
+use Rattle.chrono_text.proofs.NaturalLemmas.{four_digits-read, two_digits-read}
+use Rattle.chrono_text.specs.Numbers.{digits_of}
+use Rattle.chrono_text.specs.Text.{two_digits}
+use Rattle.chrono_pattern.specs.NumberReads.{digits_in, digits_read, has_sign, most_digits, number_put, number_read, signed_read, value_read}
+use Rattle.chrono_pattern.specs.Numbers.{padded, year_sign}
+use Rattle.chrono_pattern.specs.Progress.{behind_blanks, class_len, is_of, is_pattern_blank, progress}
+use Rattle.chrono_pattern.specs.declared.class.Class.TheVariants.{Blank, Digit}
+use Rattle.chrono_pattern.specs.declared.error.ReadFault.{ReadFault}
+use Rattle.chrono_pattern.specs.declared.item.NumberField.{NumberField}
+use Rattle.chrono_pattern.specs.declared.item.NumberField.TheVariants.{Year}
+use Rattle.chrono_pattern.specs.declared.item.Padding.TheVariants.{Zeros}
+use Rattle.chrono_pattern.specs.declared.parsed.Parsed.{Parsed}
+use Rattle.chrono_pattern.proofs.WriteLemmas.{four_padded, two_padded}
+
+-- ---- bytes
+
+digit_is : (d : ℕ) → d ≤ 9 → is_ascii_digit (48 + d) ≡ true
+digit_is d small = grind (arith, nat_tests)
+
+not_blank : (d : ℕ) → d ≤ 9 → is_pattern_blank (48 + d) ≡ false
+not_blank d small = grind (arith, nat_tests)
+
+-- a byte that is no blank stays in front
+pub front_stays : (c : ℕ) (rest : List ℕ) → is_pattern_blank c ≡ false → behind_blanks (c ∷ rest) ≡ c ∷ rest
+unfolding class_len
+front_stays c rest not = ap (λ (b : Bool). drop (if b then 1 + prefix_len (is_of Blank) rest else 0) (c ∷ rest)) not
+
+-- and a blank goes, with those behind it
+pub blank_goes : (c : ℕ) (rest : List ℕ) → is_pattern_blank c ≡ true → behind_blanks (c ∷ rest) ≡ behind_blanks rest
+unfolding class_len
+blank_goes c rest is =
+    let more : 1 + prefix_len (is_of Blank) rest ≡ suc (prefix_len (is_of Blank) rest) = omega arith in
+    ap (λ (b : Bool). drop (if b then 1 + prefix_len (is_of Blank) rest else 0) (c ∷ rest)) is
+    ∙ ap (λ (k : ℕ). drop k (c ∷ rest)) more
+
+pub nothing_stays : behind_blanks [] ≡ []
+unfolding class_len
+nothing_stays = refl
+
+pub digit_stays : (d : ℕ) (rest : List ℕ) → d ≤ 9 → behind_blanks ((48 + d) ∷ rest) ≡ (48 + d) ∷ rest
+digit_stays d rest small = front_stays (48 + d) rest (not_blank d small)
+
+-- ---- two digits
+
+two_count : (a b : ℕ) (rest : List ℕ) → a ≤ 9 → b ≤ 9 → digits_in 2 ((48 + a) ∷ (48 + b) ∷ rest) ≡ 2
+unfolding class_len
+two_count a b rest first second =
+    let behind = prefix_len (is_of Digit) rest in
+    ap (λ (t : Bool). min (if t then 1 + (if is_ascii_digit (48 + b) then 1 + behind else 0) else 0) 2) (digit_is a first)
+    ∙ ap (λ (t : Bool). min (1 + (if t then 1 + behind else 0)) 2) (digit_is b second)
+    ∙ omega arith
+
+value_two : (field : NumberField) (n : ℕ) (rest : List ℕ) (p : Parsed) → n < 100 → digits_in 2 (two_digits n ++ rest) ≡ 2
+    → digits_read field 2 false (two_digits n ++ rest) p ≡ progress (number_put field (pos n) p) rest (two_digits n ++ rest)
+unfolding digits_read
+value_two field n rest p small count =
+    let text = two_digits n ++ rest in
+    ap (λ (o : Option ℕ). value_read o field 2 false text p) (ap (λ (j : ℕ). digits_of 2 (take j text)) count ∙ two_digits-read n small)
+    ∙ ap (λ (j : ℕ). progress (number_put field (pos n) p) (drop j text) text) count
+
+two_read : (field : NumberField) (n : ℕ) (rest : List ℕ) (p : Parsed) → n < 100
+    → digits_read field 2 false (two_digits n ++ rest) p ≡ progress (number_put field (pos n) p) rest (two_digits n ++ rest)
+two_read field n rest p small =
+    value_two field n rest p small (two_count (n / 10) (n % 10) rest (omega (arith, small)) (omega arith))
+
+pub number_two : (field : NumberField) (n : ℕ) (rest : List ℕ) (p q : Parsed) → has_sign field ≡ false → most_digits field ≡ 2 → n < 100
+    → number_put field (pos n) p ≡ Ok q
+    → number_read field (record { rest = padded Zeros 2 [] n ++ rest; parsed = p }) ≡ Ok (record { rest = rest; parsed = q })
+unfolding number_read
+number_two field n rest p q unsigned two small put =
+    let text = two_digits n ++ rest in
+    ap (λ (l : List ℕ). number_read field (record { rest = l ++ rest; parsed = p })) (two_padded n small)
+    ∙ ap (λ (b : Bool). if b then signed_read field (behind_blanks text) p else digits_read field (most_digits field) false (behind_blanks text) p) unsigned
+    ∙ ap (λ (k : ℕ). digits_read field k false (behind_blanks text) p) two
+    ∙ ap (λ (l : List ℕ). digits_read field 2 false l p) (digit_stays (n / 10) ((48 + n % 10) ∷ rest) (omega (arith, small)))
+    ∙ two_read field n rest p small
+    ∙ ap (λ (o : Result Parsed ReadFault). progress o rest text) put
+
+-- a number begins with a digit
+pub two_stays : (n : ℕ) (rest : List ℕ) → n < 100 → behind_blanks (padded Zeros 2 [] n ++ rest) ≡ padded Zeros 2 [] n ++ rest
+two_stays n rest small =
+    ap (λ (l : List ℕ). behind_blanks (l ++ rest)) (two_padded n small)
+    ∙ digit_stays (n / 10) ((48 + n % 10) ∷ rest) (omega (arith, small))
+    ∙ ap (λ (l : List ℕ). l ++ rest) (sym (two_padded n small))
+
+-- ---- four digits
+
+abbrev four_digits : ℕ → List ℕ
+four_digits n = two_digits (n / 100) ++ two_digits (n % 100)
+
+four_count : (a b c d : ℕ) (rest : List ℕ) → a ≤ 9 → b ≤ 9 → c ≤ 9 → d ≤ 9
+    → digits_in 4 ((48 + a) ∷ (48 + b) ∷ (48 + c) ∷ (48 + d) ∷ rest) ≡ 4
+unfolding class_len
+four_count a b c d rest first second third fourth =
+    let behind = prefix_len (is_of Digit) rest in
+    ap (λ (t : Bool). min (if t then 1 + (if is_ascii_digit (48 + b) then 1 + (if is_ascii_digit (48 + c) then 1 + (if is_ascii_digit (48 + d) then 1 + behind else 0) else 0) else 0) else 0) 4) (digit_is a first)
+    ∙ ap (λ (t : Bool). min (1 + (if t then 1 + (if is_ascii_digit (48 + c) then 1 + (if is_ascii_digit (48 + d) then 1 + behind else 0) else 0) else 0)) 4) (digit_is b second)
+    ∙ ap (λ (t : Bool). min (1 + (1 + (if t then 1 + (if is_ascii_digit (48 + d) then 1 + behind else 0) else 0))) 4) (digit_is c third)
+    ∙ ap (λ (t : Bool). min (1 + (1 + (1 + (if t then 1 + behind else 0)))) 4) (digit_is d fourth)
+    ∙ omega arith
+
+value_four : (field : NumberField) (n : ℕ) (rest : List ℕ) (p : Parsed) → n < 10_000 → digits_in 4 (four_digits n ++ rest) ≡ 4
+    → digits_read field 4 false (four_digits n ++ rest) p ≡ progress (number_put field (pos n) p) rest (four_digits n ++ rest)
+unfolding digits_read
+value_four field n rest p small count =
+    let text = four_digits n ++ rest in
+    ap (λ (o : Option ℕ). value_read o field 4 false text p) (ap (λ (j : ℕ). digits_of 4 (take j text)) count ∙ four_digits-read n (omega (arith, small)))
+    ∙ ap (λ (j : ℕ). progress (number_put field (pos n) p) (drop j text) text) count
+
+four_read : (field : NumberField) (n : ℕ) (rest : List ℕ) (p : Parsed) → n < 10_000
+    → digits_read field 4 false (four_digits n ++ rest) p ≡ progress (number_put field (pos n) p) rest (four_digits n ++ rest)
+four_read field n rest p small =
+    value_four field n rest p small
+    (four_count (n / 100 / 10) (n / 100 % 10) (n % 100 / 10) (n % 100 % 10) rest (omega (arith, small)) (omega arith) (omega arith) (omega arith))
+
+-- no sign is a digit
+no_sign : (d : ℕ) → ((48 + d) == 45) ≡ false
+no_sign d = grind (arith, nat_tests)
+
+no_plus : (d : ℕ) → ((48 + d) == 43) ≡ false
+no_plus d = grind (arith, nat_tests)
+
+unsigned_four : (n : ℕ) (rest : List ℕ) (p : Parsed) → signed_read Year (four_digits n ++ rest) p ≡ digits_read Year 4 false (four_digits n ++ rest) p
+unfolding signed_read
+unsigned_four n rest p =
+    let d = n / 100 / 10 in
+    let text = four_digits n ++ rest in
+    let digits = (48 + n / 100 % 10) ∷ (48 + n % 100 / 10) ∷ (48 + n % 100 % 10) ∷ rest in
+    ap (λ (b : Bool). if b then digits_read Year 9 true digits p else if (48 + d) == 43 then digits_read Year 9 false digits p else digits_read Year 4 false text p) (no_sign d)
+    ∙ ap (λ (b : Bool). if b then digits_read Year 9 false digits p else digits_read Year 4 false text p) (no_plus d)
+
+-- ---- the year
+
+pub not_below : (a b : ℕ) → b ≤ a → int_lt (pos a) (pos b) ≡ false
+not_below a b le = grind (arith, ints)
+
+year_unsigned : (n : ℕ) → n < 10_000 → year_sign (pos n) ≡ []
+year_unsigned n small =
+    ap (λ (b : Bool). if b then 45 ∷ [] else if int_lt (pos 9_999) (pos n) then 43 ∷ [] else []) (not_below n 0 (omega arith))
+    ∙ ap (λ (b : Bool). if b then 43 ∷ [] else []) (not_below 9_999 n (omega (arith, small)))
+
+year_digits : (y : ℤ) (n : ℕ) → y ≡ pos n → n < 10_000 → padded Zeros 4 (year_sign y) (unsigned_abs y) ≡ four_digits n
+year_digits y n is small =
+    ap (λ (z : ℤ). padded Zeros 4 (year_sign z) (unsigned_abs z)) is
+    ∙ ap (λ (l : List ℕ). padded Zeros 4 l n) (year_unsigned n small)
+    ∙ four_padded n small ∙ four_places n small
+
+pub year_back : (y : ℤ) (n : ℕ) (rest : List ℕ) (p q : Parsed) → y ≡ pos n → n < 10_000 → number_put Year y p ≡ Ok q
+    → number_read Year (record { rest = padded Zeros 4 (year_sign y) (unsigned_abs y) ++ rest; parsed = p }) ≡ Ok (record { rest = rest; parsed = q })
+unfolding number_read
+year_back y n rest p q is small put =
+    let text = four_digits n ++ rest in
+    ap (λ (l : List ℕ). number_read Year (record { rest = l ++ rest; parsed = p })) (year_digits y n is small)
+    ∙ ap (λ (l : List ℕ). signed_read Year l p)
+    (digit_stays (n / 100 / 10) ((48 + n / 100 % 10) ∷ (48 + n % 100 / 10) ∷ (48 + n % 100 % 10) ∷ rest) (omega (arith, small)))
+    ∙ unsigned_four n rest p
+    ∙ four_read Year n rest p small
+    ∙ ap (λ (z : ℤ). progress (number_put Year z p) rest text) (sym is)
+    ∙ ap (λ (o : Result Parsed ReadFault). progress o rest text) put
+
+pub year_stays : (y : ℤ) (n : ℕ) (rest : List ℕ) → y ≡ pos n → n < 10_000
+    → behind_blanks (padded Zeros 4 (year_sign y) (unsigned_abs y) ++ rest) ≡ padded Zeros 4 (year_sign y) (unsigned_abs y) ++ rest
+year_stays y n rest is small =
+    ap (λ (l : List ℕ). behind_blanks (l ++ rest)) (year_digits y n is small)
+    ∙ digit_stays (n / 100 / 10) ((48 + n / 100 % 10) ∷ (48 + n % 100 / 10) ∷ (48 + n % 100 % 10) ∷ rest) (omega (arith, small))
+    ∙ ap (λ (l : List ℕ). l ++ rest) (sym (year_digits y n is small))

@@ -1,0 +1,147 @@
+//! The first member of a rule from a day on: it looks at the days that no part skips, one after another.
+ghost use Rattle.std.specs.Prelude.{◌≡◌, ◌+◌, ◌*◌, ◌==◌, if◌then◌else◌, ◌≤ℤ◌, ◌<ℤ◌, ◌+ℤ◌, ℤ, pos, true, IfSome, IfNone};
+ghost use Rattle.chrono_datetime.specs.Days.{IsDate};
+ghost use Rattle.chrono_datetime.specs.Recurrence.{past_last_date};
+ghost use Rattle.chrono_datetime.specs.PassedOver.{NoDateAfter, NoDateFrom, NoneFrom, PassedBetween, PassedOver};
+ghost use Rattle.chrono_rules.specs.Instances.{is_member, not_after};
+
+use crate::rule::{End, Rule};
+use crate::search::repeats::{PAST_LAST_DAY, first_of_last_366_days, later_of};
+use chrono_datetime::{Datelike, NaiveDate};
+
+impl Rule {
+    // The number of the day before which the members before a day lie: of that day, or of the one after UNTIL.
+    #[inline]
+    pub(crate) fn end_before(&self, end: i32) -> i32
+        ensures not_behind { result ≤ℤ end }
+        ensures behind { (start : ℤ) → PassedOver (is_member self.now start) result end }
+        ensures inside { (d : ℤ) → d <ℤ result → not_after self.now.end d ≡ true }
+    {
+        match self.end {
+            End::Never => end,
+            End::Count(_) => end,
+            End::Until(last) => {
+                let behind = last.num_days_from_ce() + 1;
+                if behind < end { behind } else { end }
+            }
+        }
+    }
+
+    // The first date from this one on that no part passes over, before which none is a member; none from a day on.
+    fn candidate(&self, start: NaiveDate, date: NaiveDate, end: i32) -> Option<NaiveDate>
+        ensures in_range { IfSome result (λ e. IsDate e) }
+        ensures not_before { IfSome result (λ e. date ≤ℤ e) }
+        ensures before { IfSome result (λ e. e <ℤ end) }
+        ensures passed { IfSome result (λ e. PassedOver (is_member self.now start) date e) }
+        ensures none { IfNone result (NoDateFrom (is_member self.now start) date end) }
+    {
+        let mut day = date;
+        while day.num_days_from_ce() < end {
+            let days = self.days_passed(start, day);
+            if days == 0 {
+                return Some(day);
+            }
+            day = day.moved_by_days(days)?;
+        }
+        None
+    }
+
+    // A later date, between which and this one no member lies; none from a day on.
+    #[inline]
+    fn later(&self, start: NaiveDate, day: NaiveDate, end: i32) -> Option<NaiveDate>
+        ensures in_range { IfSome result (λ e. IsDate e) }
+        ensures later { IfSome result (λ e. day <ℤ e) }
+        ensures before { IfSome result (λ e. e <ℤ end) }
+        ensures passed { IfSome result (λ e. PassedBetween (is_member self.now start) day e) }
+        ensures none { IfNone result (NoDateAfter (is_member self.now start) day end) }
+    {
+        let next = day.succ_opt()?;
+        self.candidate(start, next, end)
+    }
+
+    // The first member from the date on that lies before a day. It looks at one candidate after another.
+    pub(crate) fn first_between(
+        &self,
+        start: NaiveDate,
+        date: NaiveDate,
+        end: i32,
+    ) -> Option<NaiveDate>
+        ensures member { IfSome result (λ e. is_member self.now start e ≡ true) }
+        ensures not_before { IfSome result (λ e. date ≤ℤ e) }
+        ensures before { IfSome result (λ e. e <ℤ end) }
+        ensures in_range { IfSome result (λ e. IsDate e) }
+        ensures least { IfSome result (λ e. PassedOver (is_member self.now start) date e) }
+        ensures none { IfNone result (NoDateFrom (is_member self.now start) date end) }
+    {
+        let last = self.end_before(end);
+        let first = self.candidate(start, date, last)?;
+        let mut day = first;
+        while !self.is_member(start, day) {
+            day = self.later(start, day, last)?;
+        }
+        Some(day)
+    }
+
+    // The first member from the date on that lies before a day. It looks at one cycle and at the calendar's last year.
+    pub(crate) fn first_member_before(
+        &self,
+        start: NaiveDate,
+        date: NaiveDate,
+        end: i32,
+    ) -> Option<NaiveDate>
+        ensures member { IfSome result (λ e. is_member self.now start e ≡ true) }
+        ensures not_before { IfSome result (λ e. date ≤ℤ e) }
+        ensures before { IfSome result (λ e. e <ℤ end) }
+        ensures in_range { IfSome result (λ e. IsDate e) }
+        ensures least { IfSome result (λ e. PassedOver (is_member self.now start) date e) }
+        ensures none { IfNone result (NoDateFrom (is_member self.now start) date end) }
+    {
+        let from = later_of(start, date);
+        match self.cycle_behind(from, end) {
+            Some(near) => self.first_in_cycle(start, date, from, near, end),
+            None => self.first_between(start, date, end),
+        }
+    }
+
+    // The first member from the date on that lies before a day. `near` lies 366 days and a cycle behind `from`.
+    fn first_in_cycle(
+        &self,
+        start: NaiveDate,
+        date: NaiveDate,
+        from: NaiveDate,
+        near: NaiveDate,
+        end: i32,
+    ) -> Option<NaiveDate>
+        requires begun { start ≤ℤ from }
+        requires order { date ≤ℤ from }
+        requires from { IsDate from }
+        requires date { IsDate date }
+        requires at { near ≡ from +ℤ pos (366 + 146_097 * (if self.now.interval == 0 then 1 else self.now.interval)) }
+        requires before { near <ℤ end }
+        requires early { (near +ℤ pos 366) ≤ℤ past_last_date }
+        ensures member { IfSome result (λ e. is_member self.now start e ≡ true) }
+        ensures not_before { IfSome result (λ e. date ≤ℤ e) }
+        ensures before { IfSome result (λ e. e <ℤ end) }
+        ensures in_range { IfSome result (λ e. IsDate e) }
+        ensures least { IfSome result (λ e. PassedOver (is_member self.now start) date e) }
+        ensures none { IfNone result (NoDateFrom (is_member self.now start) date end) }
+    {
+        if let Some(day) = self.first_between(start, date, near.num_days_from_ce()) {
+            return Some(day);
+        }
+        let rest = first_of_last_366_days();
+        let day = self.first_between(start, rest, end)?;
+        Some(day)
+    }
+
+    // The first member from the date on.
+    #[inline]
+    pub(crate) fn first_member(&self, start: NaiveDate, date: NaiveDate) -> Option<NaiveDate>
+        ensures member { IfSome result (λ e. is_member self.now start e ≡ true) }
+        ensures not_before { IfSome result (λ e. date ≤ℤ e) }
+        ensures least { IfSome result (λ e. PassedOver (is_member self.now start) date e) }
+        ensures none { IfNone result (NoneFrom (is_member self.now start) date) }
+    {
+        self.first_member_before(start, date, PAST_LAST_DAY)
+    }
+}
