@@ -122,9 +122,10 @@ def take_proved(room, libraries):
     kept = [f"{TOP}/crates/{name}/out/rlib" for name in libraries]
     parts = [f"{TOP}/crates/{name}/{part}" for name in libraries for part in ("src", "specs", "proofs")]
     is_kept = all(built[name] for name in libraries)
-    # (what the gate leaves has no stamp, and serves only as a whole)
+    # (what the gate leaves has no stamp, and serves only as a whole; its files may be older than the sources, as it keeps them
+    # from run to run, but it makes the folder anew)
     is_left = not any(os.path.exists(f"{it}/stamp") for it in kept) and all(os.path.isdir(it) for it in kept)
-    if not is_kept and not (is_left and time_of(kept, min) > time_of(parts, max)):
+    if not is_kept and not (is_left and min(map(os.path.getmtime, kept)) > time_of(parts, max)):
         return False
     for name, it in zip(libraries, kept):
         shutil.copytree(it, f"{room}/crates/{name}/out/rlib")

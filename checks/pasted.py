@@ -49,7 +49,8 @@ ELSEWHERE = {
     "cp -R dist/include dist/lib /usr/local/": "checks/from_c.py, in a folder of its own",
     "cp crates/dates/out/dates ~/.local/bin/": "it writes into the reader's home",
 }
-LONGEST = 1_200
+# A slow machine proves all that caltool uses in half an hour.
+LONGEST = 7_200
 BLOCK = re.compile(r"^```(\w*)\n(.*?)^```$", re.M | re.S)
 FILE = re.compile(r"`([\w/.]+)`:\s*\Z")
 SPAN = re.compile(r"`([^`\n]+)`")
