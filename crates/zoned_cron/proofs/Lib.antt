@@ -5,3 +5,4 @@ mod Carried
 mod Gaps
 mod Stretches
 mod Laws
+mod DayFirings

@@ -1,3 +1,4 @@
 pub mod Fires
 pub mod FiringLists
+pub mod DayFirings
 pub mod Private
