@@ -1,9 +1,10 @@
 -- Each planned minute of a day that the clock shows whole has an instant of its own.
-use Rattle.std.proofs.Common.{◌≡◌, inl, inr, true, false, Bool, cond, ℕ, zero, suc, ◌+◌, ◌*◌, ◌/◌, ◌%◌, ◌==◌, ◌&&◌, ◌<◌, ◌≤◌, ℤ, ◌+ℤ◌, List, [], ◌∷◌, map, arith, ap, refl, ◌∙◌}
-use Rattle.std.proofs.lemmas.Bool.{and_parts}
-use Rattle.std.proofs.lemmas.Bool.Decides.{nat_tests}
+use Rattle.std.proofs.Common.{◌≡◌, inl, inr, true, false, Bool, cond, ℕ, zero, suc, ◌+◌, ◌*◌, ◌/◌, ◌%◌, ◌==◌, ◌&&◌, ◌<◌, ◌≤◌, ℤ, ◌+ℤ◌, List, [], ◌∷◌, map, arith, ap, refl, ◌∙◌, sym, subst}
+use Rattle.std.proofs.lemmas.Bool.{and_parts, true≢false}
+use Rattle.std.proofs.lemmas.Bool.Decides.{leb_tells, nat_tests}
 use Rattle.std.proofs.lemmas.Int.{ints}
-use Rattle.std.specs.List.{filter, range_with_len}
+use Rattle.std.proofs.lemmas.List.Elements.{Contains-append_left, Contains-append_right, Contains-push}
+use Rattle.std.specs.List.{Contains, filter, range_with_len}
 use Rattle.chrono_datetime.specs.Moment.{IsMoment, Moment, moment}
 use Rattle.chrono_datetime.specs.Time.{TimeOfDay}
 use Rattle.chrono_instant.specs.Instants.{epoch_second}
@@ -72,9 +73,9 @@ day_fires s ahead offsets mapped n shown =
 
 -- ---- and a schedule is due at the beginning of minutes alone
 
-pub begins_minutes : (s : FieldSets) (m : Moment) → IsMoment m → is_due s m ≡ true → (k : ℕ) × (k < 1_440) × (m ≡ minute_of_day m.date k)
+whole_minute : (s : FieldSets) (m : Moment) → IsMoment m → is_due s m ≡ true → (k : ℕ) × (k < 1_440) × (m ≡ minute_of_day m.date k)
 unfolding is_due
-begins_minutes s m is due =
+whole_minute s m is due =
     let parts = and_parts (is_day s m.date) (is_minute s (m.time.second / 60) && (m.time.second % 60 == 0 && m.time.fraction == 0)) due in
     let begins = and_parts (is_minute s (m.time.second / 60)) (m.time.second % 60 == 0 && m.time.fraction == 0) parts.1 in
     let both = and_parts (m.time.second % 60 == 0) (m.time.fraction == 0) begins.1 in
@@ -87,3 +88,26 @@ begins_minutes s m is due =
       omega (arith, in_day),
       ap (λ a. moment m.date (time a m.time.fraction)) second ∙ ap (λ b. moment m.date (time (60 * (m.time.second / 60)) b)) none,
     )
+
+first_kept : (test : Bool) (a : ℕ) (ks : List ℕ) → test ≡ true → Contains (cond test (a ∷ ks) ks) a
+first_kept true a ks h = Contains-append_left (a ∷ []) ks a (Contains-push [] a)
+first_kept false a ks h = absurd (true≢false (sym h))
+
+rest_kept : (test : Bool) (a : ℕ) (ks : List ℕ) (x : ℕ) → Contains ks x → Contains (cond test (a ∷ ks) ks) x
+rest_kept true a ks x h = Contains-append_right (a ∷ []) ks x h
+rest_kept false a ks x h = h
+
+filter_keeps : (test : ℕ → Bool) (a m k : ℕ) → a ≤ k → k < a + m → test k ≡ true → Contains (filter test (range_with_len a m)) k
+filter_keeps test a zero k low high h = absurd (omega (arith, low, high))
+filter_keeps test a (suc m) k low high h = elim (leb_tells (a + 1) k) [
+  | inl later ↦ rest_kept (test a) a (filter test (range_with_len (a + 1) m)) k (filter_keeps test (a + 1) m k later.1 (omega (arith, high)) h)
+  | inr same ↦
+      let is : a ≡ k = omega (arith, low, same.1) in
+      subst (λ x. Contains (filter test (range_with_len a (suc m))) x) is (first_kept (test a) a (filter test (range_with_len (a + 1) m)) (ap test is ∙ h))
+]
+
+pub begins_minutes : (s : FieldSets) (m : Moment) → IsMoment m → is_due s m ≡ true → (k : ℕ) × (m ≡ minute_of_day m.date k) × Contains (planned_minutes s m.date) k
+unfolding planned_minutes
+begins_minutes s m is due =
+    let begun = whole_minute s m is due in
+    (begun.0, begun.2, filter_keeps (λ k. is_due s (minute_of_day m.date k)) 0 1_440 begun.0 (omega arith) begun.1 (subst (λ x. is_due s x ≡ true) begun.2 due))

@@ -6,3 +6,4 @@ mod Gaps
 mod Stretches
 mod Laws
 mod DayFirings
+mod ZonedTexts

@@ -1,5 +1,6 @@
 //! Laws of schedules in a zone, each as the contract of a function that does nothing.
-ghost use Rattle.std.specs.Prelude.{◌≡◌, ◌↔◌, ◌⊎◌, ◌<◌, ◌≤ℤ◌, true, ℕ, ℤ, pos, neg_ℤ, List};
+ghost use Rattle.std.specs.Prelude.{◌≡◌, ◌↔◌, ◌⊎◌, ◌≤ℤ◌, true, ℕ, ℤ, pos, neg_ℤ, List};
+ghost use Rattle.std.specs.List.{Contains};
 ghost use Rattle.chrono_datetime.specs.Moment.{IsMoment, Moment};
 ghost use Rattle.chrono_instant.specs.Instants.{epoch_second};
 ghost use Rattle.chrono_instant.specs.Offsets.{IsOffset, moment_ahead};
@@ -35,11 +36,12 @@ pub fn each_planned_time_fires_once()
 
 /// On a local day of which the clock skips no minute, a schedule with fixed times fires exactly as often as it plans minutes.
 ///
-/// Each planned minute fires at one instant, and no two at the same. A schedule is due at the beginnings of minutes alone.
+/// Each planned minute fires at one instant, and no two at the same. Each moment at which the schedule is due is the beginning of one of them.
 pub fn a_day_fires_as_often_as_planned()
     ensures day { (s : FieldSets) (ahead : ℤ → ℤ) → ((u : ℤ) → IsOffset (ahead u)) → ((k : ℤ) → (found : MappedLocalTime ℤ) × IsMapped ahead k found)
         → (n : ℤ) → ShowsMinutes ahead n → (fired : List ℤ) × FireOnceEach ahead n (planned_minutes s n) fired × AreDifferent fired }
-    ensures minutes { (s : FieldSets) (m : Moment) → IsMoment m → is_due s m ≡ true → (k : ℕ) × (k < 1_440) × (m ≡ minute_of_day m.date k) }
+    ensures minutes { (s : FieldSets) (m : Moment) → IsMoment m → is_due s m ≡ true
+        → (k : ℕ) × (m ≡ minute_of_day m.date k) × Contains (planned_minutes s m.date) k }
 {}
 
 /// Planned local times that one gap skips have their firing in common.
