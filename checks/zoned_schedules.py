@@ -1,32 +1,51 @@
 #!/usr/bin/env python3
-"""Holds zoned_cron to a cron that is run here, minute by minute over Python's zoneinfo.
+"""Holds zoned_cron to a cron that is run here, minute by minute over Python's zoneinfo, and to croniter where Debian has it.
 
-    checks/zoned_schedules.py [--zones N] [--years N]      (2 zones of six and 1 year of each, if left out)
+    checks/zoned_schedules.py [--zones N] [--years N]      (all of twenty zones, and the one or two years that are named below, if left out)
 
 The cron here keeps the last local minute that it has dealt with, as cronie does. If the clock has been set ahead, it runs the jobs of the
 minutes in between at once. If the clock has been set back, it runs no job again until the clock is past that minute. A job that
 follows the clock runs at each minute that the clock shows. The later instant of two is found by the same walk, from the end back.
-The zones have gaps and folds of half an hour, of one hour and of two, four changes in a year, and a day that the clock skips.
+The zones have gaps and folds of a quarter of an hour, of half an hour, of one hour and of two, at midnight too. Some have four changes in a year,
+one that stays, or a day that the clock skips.
 Some days around each change are gone through by `next_after` and by `prev_before`, and some hours by `is_due` at each half minute. For schedules
-with few times the whole year is gone through by `next_after`. `rt try` runs a small program unproved, in a copy of the crates.
+with few times the whole year is gone through by `next_after`: for each zone for a third of them, or for all if --years is given, which then counts
+from the first year of the zone. `rt try` runs a small program unproved, in a copy of the crates.
+
+croniter 1.3.5 is asked for the next instant after 20,000 starts that lie around the changes of all zones. It reckons with local time and sets the
+answer right by the offsets at the start and at its answer. Where it answers otherwise, the difference is counted as one of these:
+- `past`: its answer is no later than the start. It takes a start in the second hour of a fold for one in the first.
+- `unplanned`: at its answer the clock shows no planned minute. The answer lies too early or too late by as much as the clock was set. A time in a
+  gap goes by the offset before the gap, while cronie runs it at the first instant behind the gap. One that follows the clock runs there too.
+- `left out`: the clock shows a planned minute, but a firing before it is left out, such as the one for a gap.
+We go by cronie in all of them. Any other difference is a failure.
 """
 import argparse
+import collections
 import datetime
 import itertools
+import os
+import subprocess
 import sys
 import tempfile
 import zoneinfo
 
-from outside import answers_in_parts, put_program
+from outside import TOP, answers_in_parts, put_program
+
+sys.path.insert(0, os.path.join(TOP, "tools"))
+from debian import PYTHON  # noqa: E402
 
 # The lines of one run.
-LINES = 20
+LINES = 150
 HOUR = 3_600
 DAY = 86_400
 EPOCH = datetime.date(1970, 1, 1)
-# Zones, each with its first year here.
-ZONES = (("Australia/Lord_Howe", 2023), ("America/New_York", 2023), ("Antarctica/Troll", 2023), ("Europe/Berlin", 2023), ("Africa/Casablanca", 2012),
-         ("Pacific/Apia", 2011))
+# Zones, each with its years.
+ZONES = (("Australia/Lord_Howe", (2023,)), ("America/New_York", (2023,)), ("Antarctica/Troll", (2023,)), ("Europe/Berlin", (2023,)),
+         ("Africa/Casablanca", (2012,)), ("Pacific/Apia", (2011,)), ("Europe/Dublin", (2023,)), ("Asia/Tehran", (2021,)), ("Asia/Kathmandu", (1986,)),
+         ("America/St_Johns", (2006,)), ("America/Santiago", (2022,)), ("Asia/Gaza", (2023,)), ("America/Sao_Paulo", (2017,)), ("Pacific/Chatham", (2023,)),
+         ("Atlantic/Azores", (2023,)), ("America/Godthab", (2023,)), ("Europe/Moscow", (2011, 2014)), ("Asia/Pyongyang", (2015, 2018)),
+         ("America/Caracas", (2007, 2016)), ("Pacific/Kiritimati", (1994, 1995)))
 FIELDS = ((0, 59), (0, 23), (1, 31), (1, 12), (0, 6))
 # Schedules with fixed times, near the changes and at all times, and such as follow the clock.
 SPARSE = ("30 2 * * *", "0 2 * * *", "15 1,2 * * *", "0,30 0-3 * * *", "45 23 * * *", "0 3 * * 0", "59 1 31 * *", "30 12 30,31 12 *", "15 2 29 10,3 *")
@@ -34,6 +53,22 @@ DENSE = ("*/20 0-22 * * *", "0-58/7 1-3 * * *", "30 * * * *", "* 2 * * *")
 EACH_MINUTE = "* * * * *"
 # By each policy: a time of the gap or the fold, and a few.
 ALL_WAYS = SPARSE[:1] + SPARSE[2:3]
+CRONITER_CALLS = 20_000
+# The seconds from one start to the next, as the program has them.
+STEP = 2_713
+CRONITER = """
+import datetime
+import sys
+import zoneinfo
+from croniter import croniter
+
+step = int(sys.argv[1])
+for line in sys.stdin.read().splitlines():
+    name, _, _, _, start, end, text = line.split(" ", 6)
+    zone = zoneinfo.ZoneInfo(name)
+    starts = (datetime.datetime.fromtimestamp(it, datetime.timezone.utc).astimezone(zone) for it in range(int(start), int(end), step))
+    print(*(int(croniter(text, it).get_next(datetime.datetime).timestamp()) for it in starts))
+"""
 POLICIES = [(gap, fold) for gap in ("skip", "after") for fold in ("earlier", "later", "both")]
 PROGRAM = r'''//! Answers questions on schedules in a zone, a line each.
 #![tactic(auto)]
@@ -107,6 +142,17 @@ fn answer(rt: &HostRuntime, zone: &Zone, words: &str) -> io::Result<()> {
                 }
             }
         }
+        "first" => {
+            let mut second = start;
+            while second < end {
+                if let Some(instant) = zone.timestamp_opt(second, 0) {
+                    if let Some(next) = zoned.next_after(instant) {
+                        print!(rt; "{} ", next.timestamp())?;
+                    }
+                }
+                second += 2_713;
+            }
+        }
         _ => {
             let mut second = start;
             while second < end {
@@ -158,11 +204,17 @@ class Schedule:
         return minute % 1440 in self.times and self.has_day(minute // 1440)
 
 
+def offset_at(zone, second):
+    return int(datetime.datetime.fromtimestamp(second, datetime.timezone.utc).astimezone(zone).utcoffset().total_seconds())
+
+
 def walk(zone, start, end):
-    """Each minute from one second to another: its second, and the local minute that the clock shows."""
-    for second in range(start, end, 60):
-        local = datetime.datetime.fromtimestamp(second, datetime.timezone.utc).astimezone(zone)
-        yield second, (second + int(local.utcoffset().total_seconds())) // 60
+    """Each minute from one second to another: its second, and the local minute that the clock shows. No clock is set twice within an hour."""
+    after = offset_at(zone, start)
+    for hour in range(start, end, HOUR):
+        before, after = after, offset_at(zone, hour + HOUR)
+        for second in range(hour, hour + HOUR, 60):
+            yield second, (second + (before if before == after else offset_at(zone, second))) // 60
 
 
 def cron(minutes, schedule, gap, fold):
@@ -191,18 +243,16 @@ def policy_of(schedule, gap, fold):
     return ("skip", "both") if schedule.follows_clock else ("after", "earlier")
 
 
-def questions(name, first, years):
-    """Questions on a zone, each with what the program has to answer."""
-    zone = zoneinfo.ZoneInfo(name)
-    for year in range(first, first + years):
-        start, end = ((datetime.date(it, 1, 1) - EPOCH).days * DAY for it in (year, year + 1))
-        # (some days more on each side, so that the walk begins and ends with no change in sight)
-        minutes = list(walk(zone, start - 3 * DAY, end + 3 * DAY))
-        changes = [after[0] for before, after in itertools.pairwise(minutes) if after[1] != before[1] + 1]
-        for text in SPARSE:
-            yield from of_window("next", minutes, start, end, text, "-", "vixie")
-        for change in changes:
-            yield from of_change([it for it in minutes if abs(it[0] - change) <= 3 * DAY], change)
+def questions(zone, year, texts):
+    """Questions on a year of a zone, each with what the program has to answer; and the changes in the year."""
+    start, end = ((datetime.date(it, 1, 1) - EPOCH).days * DAY for it in (year, year + 1))
+    # (some days more on each side, so that the walk begins and ends with no change in sight)
+    minutes = list(walk(zone, start - 3 * DAY, end + 3 * DAY))
+    changes = [after[0] for before, after in itertools.pairwise(minutes) if after[1] != before[1] + 1]
+    asked = [row for text in texts for row in of_window("next", minutes, start, end, text, "-", "vixie")]
+    for change in changes:
+        asked += of_change([it for it in minutes if abs(it[0] - change) <= 3 * DAY], change)
+    return asked, changes
 
 
 def of_change(near, change):
@@ -221,38 +271,106 @@ def of_change(near, change):
 
 def of_window(call, minutes, start, end, text, gap, fold):
     """A question on the instants between two, and its answer."""
-    schedule = Schedule(text)
-    run = [it for it in cron(minutes, schedule, *policy_of(schedule, gap, fold)) if start <= it < end]
+    run = [it for it in runs_of(tuple(minutes[:1] + minutes[-1:]), minutes, text, gap, fold) if start <= it < end]
     yield f"{call} {gap} {fold} {start} {end} {text}", " ".join(map(str, run[::-1] if call == "prev" else run))
+
+
+KEPT = {}
+
+
+def runs_of(ends, minutes, text, gap, fold):
+    """The seconds at which jobs run, of minutes that are told by their ends; the last ones are kept."""
+    if KEPT.get("ends") != ends:
+        KEPT.clear()
+        KEPT["ends"] = ends
+    if (text, gap, fold) not in KEPT:
+        schedule = Schedule(text)
+        KEPT[text, gap, fold] = cron(minutes, schedule, *policy_of(schedule, gap, fold))
+    return KEPT[text, gap, fold]
 
 
 def differing(rows, answers):
     return [f"{it}: {a}, not {b}" for (it, b), a in zip(rows, answers) if a != b]
 
 
+def croniter_rows(changes, most):
+    """Questions to which croniter answers too: the next instants after starts around the changes, about so many."""
+    texts = [*SPARSE, *DENSE, EACH_MINUTE]
+    starts = most // (len(changes) * len(texts)) + 1
+    for name, change in changes:
+        for place, text in enumerate(texts):
+            start = change - starts * STEP // 2 + 97 * place
+            yield f"{name} first - vixie {start} {start + starts * STEP} {text}"
+
+
+def croniter_answers(rows):
+    """What Debian's croniter answers to them, or None if it is not there."""
+    asked = [PYTHON, "-c", CRONITER, str(STEP)]
+    ran = subprocess.run(asked, input="\n".join(rows), stdout=subprocess.PIPE, stderr=subprocess.DEVNULL, text=True) if os.path.exists(PYTHON) else None
+    return [it.split() for it in ran.stdout.splitlines()] if ran and ran.returncode == 0 else None
+
+
+def kind_of(zone, schedule, start, ours, theirs):
+    """How an answer of croniter differs, or None if for no reason that is listed."""
+    local = (theirs + offset_at(zone, theirs)) // 60
+    if theirs <= start:
+        return "past"
+    if not schedule.is_planned(local):
+        return "unplanned"
+    return "left out" if ours < theirs else None
+
+
+def beside_croniter(rows, answers):
+    """Counts how croniter answers otherwise; how many answers were compared, and the differences that are not listed."""
+    told = croniter_answers(rows)
+    if told is None:
+        print("not run: schedules in zones beside croniter, since there is no python3-croniter")
+        return 0, []
+    counts, others, compared = collections.Counter(), [], 0
+    for row, ours, theirs in zip(rows, answers, told):
+        name, _, _, _, start, _, text = row.split(" ", 6)
+        zone, schedule = zoneinfo.ZoneInfo(name), Schedule(text)
+        for place, pair in enumerate(zip(map(int, ours.split()), map(int, theirs))):
+            compared += 1
+            if pair[0] != pair[1]:
+                kind = kind_of(zone, schedule, int(start) + place * STEP, *pair)
+                counts[kind] += 1
+                others += [] if kind else [f"{row}: after {int(start) + place * STEP} {pair[0]}, and croniter {pair[1]}"]
+        if len(ours.split()) != len(theirs):
+            others.append(f"{row}: {len(ours.split())} answers, and {len(theirs)} of croniter")
+    print(f"croniter: {compared} answers, of which it has {sum(counts.values())} otherwise: " + ", ".join(f"{n} {it}" for it, n in sorted(counts.items(), key=str)))
+    return compared, others
+
+
 def main():
     parser = argparse.ArgumentParser(description=__doc__.partition("\n")[0])
-    parser.add_argument("--zones", type=int, default=2)
-    parser.add_argument("--years", type=int, default=1)
+    parser.add_argument("--zones", type=int, default=len(ZONES))
+    parser.add_argument("--years", type=int)
     options = parser.parse_args()
-    zones = ZONES[:options.zones]
     if not zoneinfo.available_timezones():
         print("not run: checks/zoned_schedules.py, which needs a database of time zones")
         return
-    rows = [(f"{name} {it}", run) for name, first in zones for it, run in questions(name, first, options.years)]
+    zones, rows, changes = ZONES[: options.zones], [], []
+    for place, (name, years) in enumerate(zones):
+        for year in range(years[0], years[0] + options.years) if options.years else years:
+            asked, found = questions(zoneinfo.ZoneInfo(name), year, SPARSE if options.years else SPARSE[place % 3 :: 3])
+            rows += [(f"{name} {it}", run) for it, run in asked]
+            changes += [(name, it) for it in found]
+    beside = list(croniter_rows(changes, CRONITER_CALLS))
     with tempfile.TemporaryDirectory(prefix="zoned_schedules-") as room:
         folder = put_program(room, "firings", ["chrono_datetime", "chrono_instant", "zone_database", "zoned_cron"], PROGRAM)
-        answers = [it.strip() for it in answers_in_parts(room, folder, [it for it, _ in rows], LINES)]
+        answers = [it.strip() for it in answers_in_parts(room, folder, [*(it for it, _ in rows), *beside], LINES)]
     for name, _ in zones:
-        asked = [pair for pair in zip(rows, answers) if pair[0][0].startswith(name)]
-        print(f"{name}: {len(asked)} lines, {sum(a != b for (_, b), a in asked)} answered otherwise")
-    wrong = differing(rows, answers)
+        pairs = [pair for pair in zip(rows, answers) if pair[0][0].startswith(name)]
+        print(f"{name}: {len(pairs)} lines, {sum(a != b for (_, b), a in pairs)} answered otherwise")
+    compared, others = beside_croniter(beside, answers[len(rows) :])
+    wrong = differing(rows, answers) + others
     for it in wrong[:20]:
         print(f"FAILED: {it[:300]}")
     changed = [(rows[0][0], f"{answers[0]} 0"), *rows[1:]]
-    if len(differing(changed, answers)) != len(wrong) + (answers[0] == rows[0][1]):
+    if len(differing(changed, answers)) != len(differing(rows, answers)) + (answers[0] == rows[0][1]):
         sys.exit("a changed answer is not found")
-    print(f"{len(rows) - len(wrong)} passed, {len(wrong)} failed")
+    print(f"{len(rows) + compared - len(wrong)} passed, {len(wrong)} failed")
     sys.exit(bool(wrong))
 
 

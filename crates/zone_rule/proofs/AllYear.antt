@@ -1,5 +1,5 @@
 -- Daylight time that ends at the second at which it begins again.
-use Rattle.std.proofs.Common.{◌≡◌, ◌+◌, ℤ, pos, neg_ℤ, ◌+ℤ◌, ◌≤ℤ◌, Bool, true, false, ◌&&◌, cond, nat_le, int_le, refl, sym, subst, arith}
+use Rattle.std.proofs.Common.{◌≡◌, ◌+◌, ℤ, pos, neg_ℤ, ◌+ℤ◌, ◌≤ℤ◌, Bool, true, false, ◌&&◌, cond, nat_le, refl, sym, subst, arith}
 use Rattle.chrono_units.specs.Years.{is_leap_year, year_length}
 use Rattle.chrono_clock.proofs.TimeLemmas.{int_le-below}
 use Rattle.chrono_calendar.proofs.Signed.{signed}

@@ -2,7 +2,7 @@
 use Rattle.std.proofs.Common.{◌≡◌, ◌<◌, ℤ, pos, negsuc, ◌+ℤ◌, ◌-ℤ◌, ◌*ℤ◌, ◌≤ℤ◌, unsigned_abs, to_z, of_z, w64, SFits, sym, ap, subst, ◌∙◌, arith}
 use Rattle.std.proofs.lemmas.Int.{ints, to_z-of_z}
 
-fits : (y : ℤ) → unsigned_abs y < 4_611_686_018_427_387_904 → SFits w64 y
+pub fits : (y : ℤ) → unsigned_abs y < 4_611_686_018_427_387_904 → SFits w64 y
 fits (pos n) h = record { sfits = omega (arith, h) }
 fits (negsuc n) h = record { sfits = omega (arith, h) }
 
@@ -27,6 +27,9 @@ sum_bound n s h i = omega (arith, ints, h, i)
 
 whole_bound : (n s o : ℤ) → unsigned_abs n < 96_000_000 → unsigned_abs s < 604_800 → unsigned_abs o < 86_400 → unsigned_abs ((n -ℤ pos 719_163) *ℤ pos 86_400 +ℤ s -ℤ o) < 4_611_686_018_427_387_904
 whole_bound n s o h i j = omega (arith, ints, h, i, j)
+
+pub seconds_bound : (n s o : ℤ) → unsigned_abs n < 96_000_000 → unsigned_abs s < 604_800 → unsigned_abs o < 86_400 → unsigned_abs ((n -ℤ pos 719_163) *ℤ pos 86_400 +ℤ s -ℤ o) < 8_400_000_000_000
+seconds_bound n s o h i j = omega (arith, ints, h, i, j)
 
 -- the sum of a day's seconds and of two numbers, without the last step
 before_last : (day second offset n s o : ℤ) → to_z w64 (of_z w64 day) ≡ n → to_z w64 (of_z w64 second) ≡ s → to_z w64 (of_z w64 offset) ≡ o → unsigned_abs n < 96_000_000 → unsigned_abs s < 604_800 → (to_z w64 (of_z w64 (to_z w64 (of_z w64 (to_z w64 (of_z w64 (to_z w64 (of_z w64 day) -ℤ pos 719_163)) *ℤ pos 86_400)) +ℤ to_z w64 (of_z w64 second))) -ℤ to_z w64 (of_z w64 offset)) ≡ ((n -ℤ pos 719_163) *ℤ pos 86_400 +ℤ s -ℤ o)

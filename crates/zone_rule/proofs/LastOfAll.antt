@@ -99,15 +99,31 @@ place-bounds y (FromZero n) h = (omega arith, omega arith, omega (arith, h))
 change_second-place : (offset : ℤ) (c : YearlyChange) (y : ℤ) → change_second offset c y ≡ ((days_before_year y +ℤ pos (place y c.day) -ℤ pos 719_163) *ℤ pos 86_400 +ℤ c.second -ℤ offset)
 change_second-place offset c y = ap (λ (n : ℤ). (n -ℤ pos 719_163) *ℤ pos 86_400 +ℤ c.second -ℤ offset) (day_in_year-place y c.day)
 
-later_days : (a b : ℤ) (p q low : ℕ) (len : ℕ) (s o x z : ℤ) → b ≡ a +ℤ pos len → 365 ≤ len → p ≤ low + 32 → low ≤ q → x ≡ ((a +ℤ pos p -ℤ pos 719_163) *ℤ pos 86_400 +ℤ s -ℤ o) → z ≡ ((b +ℤ pos q -ℤ pos 719_163) *ℤ pos 86_400 +ℤ s -ℤ o) → x <ℤ z
+later_days : (a b : ℤ) (p q low : ℕ) (len : ℕ) (s o x z : ℤ) → b ≡ a +ℤ pos len → 365 ≤ len → p ≤ low + 32 → low ≤ q → x ≡ ((a +ℤ pos p -ℤ pos 719_163) *ℤ pos 86_400 +ℤ s -ℤ o) → z ≡ ((b +ℤ pos q -ℤ pos 719_163) *ℤ pos 86_400 +ℤ s -ℤ o) → (x +ℤ pos 28_771_200) ≤ℤ z
 later_days a b p q low len s o x z next most near least is_x is_z = omega (arith, signed, next, most, near, least, is_x, is_z)
 
-pub change_second-later : (offset : ℤ) (c : YearlyChange) (y : ℤ) → IsRuleDay c.day → change_second offset c y <ℤ change_second offset c (y +ℤ pos 1)
-change_second-later offset c y h =
+-- by at least 333 days
+pub change_second-apart : (offset : ℤ) (c : YearlyChange) (y : ℤ) → IsRuleDay c.day → (change_second offset c y +ℤ pos 28_771_200) ≤ℤ change_second offset c (y +ℤ pos 1)
+change_second-apart offset c y h =
     later_days (days_before_year y) (days_before_year (y +ℤ pos 1)) (place y c.day) (place (y +ℤ pos 1) c.day) (least_place c.day) (year_length y) c.second offset
     (change_second offset c y) (change_second offset c (y +ℤ pos 1))
     (days_before_year-next y (y +ℤ pos 1) refl) (year_length_bounds y).0 (place-bounds y c.day h).1 (place-bounds (y +ℤ pos 1) c.day h).0
     (change_second-place offset c y) (change_second-place offset c (y +ℤ pos 1))
+
+pub change_second-later : (offset : ℤ) (c : YearlyChange) (y : ℤ) → IsRuleDay c.day → change_second offset c y <ℤ change_second offset c (y +ℤ pos 1)
+change_second-later offset c y h = let apart = change_second-apart offset c y h in omega (arith, signed, apart)
+
+ordered_days : (a b : ℤ) (p q low r t least : ℕ) (s o v m x z k l : ℤ) → p ≤ low + 32 → low ≤ p → q ≤ low + 32 → low ≤ q → r ≤ least + 32 → least ≤ r → t ≤ least + 32 → least ≤ t → x ≡ ((a +ℤ pos p -ℤ pos 719_163) *ℤ pos 86_400 +ℤ s -ℤ o) → z ≡ ((b +ℤ pos q -ℤ pos 719_163) *ℤ pos 86_400 +ℤ s -ℤ o) → k ≡ ((a +ℤ pos r -ℤ pos 719_163) *ℤ pos 86_400 +ℤ v -ℤ m) → l ≡ ((b +ℤ pos t -ℤ pos 719_163) *ℤ pos 86_400 +ℤ v -ℤ m) → (x +ℤ pos 5_529_600) <ℤ k → z <ℤ l
+ordered_days a b p q low r t least s o v m x z k l p_high p_low q_high q_low r_high r_low t_high t_low is_x is_z is_k is_l apart = omega (arith, signed, p_low, q_high, r_high, t_low, is_x, is_z, is_k, is_l, apart)
+
+-- two changes that lie more than 64 days apart come in one order each year
+pub changes_in_order : (offset other : ℤ) (c d : YearlyChange) (y z : ℤ) → IsRuleDay c.day → IsRuleDay d.day → (change_second offset c y +ℤ pos 5_529_600) <ℤ change_second other d y → change_second offset c z <ℤ change_second other d z
+changes_in_order offset other c d y z h i apart =
+    ordered_days (days_before_year y) (days_before_year z) (place y c.day) (place z c.day) (least_place c.day) (place y d.day) (place z d.day) (least_place d.day) c.second offset d.second other
+    (change_second offset c y) (change_second offset c z) (change_second other d y) (change_second other d z)
+    (place-bounds y c.day h).1 (place-bounds y c.day h).0 (place-bounds z c.day h).1 (place-bounds z c.day h).0
+    (place-bounds y d.day i).1 (place-bounds y d.day i).0 (place-bounds z d.day i).1 (place-bounds z d.day i).0
+    (change_second-place offset c y) (change_second-place offset c z) (change_second-place other d y) (change_second-place other d z) apart
 
 rises_by : (f : ℤ → ℤ) → ((y : ℤ) → f y <ℤ f (y +ℤ pos 1)) → (z : ℤ) (n : ℕ) → f z ≤ℤ f (z +ℤ pos n)
 rises_by f later z zero = let same : f z ≡ f (z +ℤ pos 0) = ap f (omega (arith, signed)) in omega (arith, signed, same)

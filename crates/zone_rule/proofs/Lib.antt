@@ -4,7 +4,9 @@ pub mod LastChanges
 mod AllYear
 mod Carried
 mod DaysInYears
+mod Holds
 mod LastOfAll
 mod NextChanges
 mod RuleCycles
 mod RuleDates
+mod Turns

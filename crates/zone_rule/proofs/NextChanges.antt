@@ -1,5 +1,5 @@
 -- The next second at which a rule sets the clock.
-use Rattle.std.proofs.Common.{◌≡◌, ℕ, zero, suc, ℤ, pos, negsuc, ◌+ℤ◌, ◌-ℤ◌, ◌*ℤ◌, ◌≤ℤ◌, ◌<ℤ◌, true, false, inl, inr, refl, sym, ap, subst, ◌∙◌, arith}
+use Rattle.std.proofs.Common.{◌≡◌, ℕ, zero, suc, Bool, cond, ℤ, pos, negsuc, ◌+ℤ◌, ◌-ℤ◌, ◌*ℤ◌, ◌≤ℤ◌, ◌<ℤ◌, true, false, inl, inr, refl, sym, ap, subst, ◌∙◌, arith}
 use Rattle.std.specs.Int.{int_min}
 use Rattle.std.specs.Prelude.{None, Option, Some, int_lt}
 use Rattle.std.proofs.lemmas.Bool.{cond_both}
@@ -16,7 +16,7 @@ use Rattle.zone_rule.proofs.LastOfAll.{change_second-later, last_change, rises}
 use Rattle.zone_rule.proofs.RuleCycles.{change_second-again}
 
 -- no change after u comes before that of the year after w, if that of w has come
-ahead : (f : ℤ → ℤ) → ((y : ℤ) → f y <ℤ f (y +ℤ pos 1)) → (w u : ℤ) → f w ≤ℤ u → (z : ℤ) → u <ℤ f z → f (w +ℤ pos 1) ≤ℤ f z
+pub ahead : (f : ℤ → ℤ) → ((y : ℤ) → f y <ℤ f (y +ℤ pos 1)) → (w u : ℤ) → f w ≤ℤ u → (z : ℤ) → u <ℤ f z → f (w +ℤ pos 1) ≤ℤ f z
 ahead f later w u come z next = by_lt_z w z
     (λ (lt : w <ℤ z). rises f later (w +ℤ pos 1) z (z -ℤ (w +ℤ pos 1)) refl (omega (arith, signed, lt)))
     (λ (le : z ≤ℤ w). let rise = rises f later z w (w -ℤ z) refl le in absurd (omega (arith, signed, rise, next, come)))
@@ -48,16 +48,28 @@ cycles_away offset c (negsuc n) y z e =
     let back = cycles_later offset c (suc n) z y (omega (arith, signed, e)) in
     omega (arith, signed, back)
 
-next_away : (offset : ℤ) (c : YearlyChange) (q s place t : ℤ) → s ≡ place +ℤ q *ℤ pos 12_622_780_800 → IsNextOf (change_second offset c) place t → IsNextOf (change_second offset c) s (t +ℤ q *ℤ pos 12_622_780_800)
-next_away offset c q s place t e at =
-    let later = at.later in
+set_away : (offset : ℤ) (d : Daylight) (q t r : ℤ) → r ≡ t +ℤ q *ℤ pos 12_622_780_800 → IsSetBy offset (Some d) t → IsSetBy offset (Some d) r
+set_away offset d q t r e (y, inl is) = (y +ℤ q *ℤ pos 400, inl (cycles_away offset d.begins q y (y +ℤ q *ℤ pos 400) refl ∙ ap (λ (x : ℤ). x +ℤ q *ℤ pos 12_622_780_800) is ∙ sym e))
+set_away offset d q t r e (y, inr is) = (y +ℤ q *ℤ pos 400, inr (cycles_away d.offset d.ends q y (y +ℤ q *ℤ pos 400) refl ∙ ap (λ (x : ℤ). x +ℤ q *ℤ pos 12_622_780_800) is ∙ sym e))
+
+set_back : (offset : ℤ) (d : Daylight) (q t r : ℤ) → r ≡ t -ℤ q *ℤ pos 12_622_780_800 → IsSetBy offset (Some d) t → IsSetBy offset (Some d) r
+set_back offset d q t r e (y, inl is) =
+    let far = cycles_away offset d.begins q (y -ℤ q *ℤ pos 400) y (omega (arith, signed)) in
+    (y -ℤ q *ℤ pos 400, inl (omega (arith, signed, far, is, e)))
+set_back offset d q t r e (y, inr is) =
+    let far = cycles_away d.offset d.ends q (y -ℤ q *ℤ pos 400) y (omega (arith, signed)) in
+    (y -ℤ q *ℤ pos 400, inr (omega (arith, signed, far, is, e)))
+
+-- the rule sets the clock next after a place in the cycle as it does q cycles later
+pub setting_away : (offset : ℤ) (d : Daylight) (q s place t r : ℤ) → s ≡ place +ℤ q *ℤ pos 12_622_780_800 → r ≡ t +ℤ q *ℤ pos 12_622_780_800 → IsNextSetting (record { standard = offset; daylight = Some d }) place t → IsNextSetting (record { standard = offset; daylight = Some d }) s r
+setting_away offset d q s place t r e is next =
+    let later = next.later in
     record {
-      later = omega (arith, signed, e, later);
-      comes = (at.comes.0 +ℤ q *ℤ pos 400, cycles_away offset c q at.comes.0 (at.comes.0 +ℤ q *ℤ pos 400) refl ∙ ap (λ (x : ℤ). x +ℤ q *ℤ pos 12_622_780_800) at.comes.1);
-      first = λ z next.
-          let back = cycles_away offset c q (z -ℤ q *ℤ pos 400) z (omega (arith, signed)) in
-          let first = at.first (z -ℤ q *ℤ pos 400) (omega (arith, signed, e, back, next)) in
-          omega (arith, signed, back, first);
+      later = omega (arith, signed, e, is, later);
+      sets = set_away offset d q t r is next.sets;
+      first = λ v after sets.
+          let least = next.first (v -ℤ q *ℤ pos 12_622_780_800) (omega (arith, signed, e, after)) (set_back offset d q v (v -ℤ q *ℤ pos 12_622_780_800) refl sets) in
+          omega (arith, signed, is, least);
     }
 
 -- ---- the sooner of two changes
@@ -76,7 +88,7 @@ min_second b e lt = let test : int_lt e b ≡ true = grind (arith, ints) in rw t
 min_first : (b e : ℤ) → b ≤ℤ e → int_min b e ≡ b
 min_first b e le = let test : int_lt e b ≡ false = grind (arith, ints) in rw test refl
 
-sooner : (offset : ℤ) (d : Daylight) (s b e : ℤ) → IsNextOf (change_second offset d.begins) s b → IsNextOf (change_second d.offset d.ends) s e → IsNextSetting (record { standard = offset; daylight = Some d }) s (int_min b e)
+pub sooner : (offset : ℤ) (d : Daylight) (s b e : ℤ) → IsNextOf (change_second offset d.begins) s b → IsNextOf (change_second d.offset d.ends) s e → IsNextSetting (record { standard = offset; daylight = Some d }) s (int_min b e)
 sooner offset d s b e begins ends = by_lt_z e b
     (λ (lt : e <ℤ b). rw (min_second b e lt) (record {
       later = ends.later;
@@ -88,19 +100,6 @@ sooner offset d s b e begins ends = by_lt_z e b
       sets = (begins.comes.0, inl begins.comes.1);
       first = earlier offset d s b e b begins ends (omega (arith, signed)) le;
     }))
-
-min_away : (b e k : ℤ) → int_min (b +ℤ k) (e +ℤ k) ≡ int_min b e +ℤ k
-min_away b e k = by_lt_z e b
-    (λ (lt : e <ℤ b). min_second (b +ℤ k) (e +ℤ k) (omega (arith, signed, lt)) ∙ ap (λ (x : ℤ). x +ℤ k) (sym (min_second b e lt)))
-    (λ (le : b ≤ℤ e). min_first (b +ℤ k) (e +ℤ k) (omega (arith, signed, le)) ∙ ap (λ (x : ℤ). x +ℤ k) (sym (min_first b e le)))
-
--- the next changes after a place in the cycle say when the clock is set after a second q cycles later
-pub next_setting : (offset : ℤ) (d : Daylight) (q s place b e m t : ℤ) → s ≡ place +ℤ q *ℤ pos 12_622_780_800 → IsNextOf (change_second offset d.begins) place b → IsNextOf (change_second d.offset d.ends) place e → m ≡ int_min b e → t ≡ m +ℤ q *ℤ pos 12_622_780_800 → IsNextSetting (record { standard = offset; daylight = Some d }) s t
-next_setting offset d q s place b e m t away begins ends least is =
-    let k : ℤ = q *ℤ pos 12_622_780_800 in
-    let same : int_min (b +ℤ k) (e +ℤ k) ≡ t = min_away b e k ∙ ap (λ (x : ℤ). x +ℤ k) (sym least) ∙ sym is in
-    subst (λ (x : ℤ). IsNextSetting (record { standard = offset; daylight = Some d }) s x) same
-    (sooner offset d s (b +ℤ k) (e +ℤ k) (next_away offset d.begins q s place b away begins) (next_away d.offset d.ends q s place e away ends))
 
 -- ---- until then the clock stays as it is
 
@@ -141,3 +140,8 @@ steady_holds r d s t until is steady le u from to =
 -- where there is no daylight time, standard time holds
 pub always_standard : (r : ZoneRule) → r.daylight ≡ None → (u : ℤ) → rule_offset r u ≡ r.standard
 always_standard r is u = ap (λ (o : Option Daylight). ahead_by r.standard o u) is
+
+-- the offset of the time that holds is the rule's
+pub offset_is : (r : ZoneRule) (d : Daylight) (s here : ℤ) (holds : Bool) (o : ℤ) → r.daylight ≡ Some d → here ≡ s → holds ≡ is_daylight r.standard d here → o ≡ cond holds d.offset r.standard → o ≡ rule_offset r s
+offset_is r d s here holds o is same told shown =
+    shown ∙ ap (λ (b : Bool). cond b d.offset r.standard) (told ∙ ap (is_daylight r.standard d) same) ∙ ap (λ (x : Option Daylight). ahead_by r.standard x s) (sym is)

@@ -93,6 +93,7 @@ impl Change {
     pub(crate) fn second_in(&self, year: i32, offset: FixedOffset) -> i64
         requires { IsYear year }
         ensures value { result ≡ change_second offset self.now year }
+        ensures in_range { unsigned_abs result < 8_400_000_000_000 }
         ensures change { IsChange self.now }
         ensures offset { IsOffset offset }
     {
@@ -109,7 +110,8 @@ fn second_of(day: i32, second: i32, offset: i32) -> i64
     requires day { unsigned_abs day < 96_000_000 }
     requires second { unsigned_abs second < 604_800 }
     requires offset { unsigned_abs offset < 86_400 }
-    ensures { result ≡ (day -ℤ unix_epoch_day) *ℤ pos seconds_per_day +ℤ second -ℤ offset }
+    ensures value { result ≡ (day -ℤ unix_epoch_day) *ℤ pos seconds_per_day +ℤ second -ℤ offset }
+    ensures in_range { unsigned_abs result < 8_400_000_000_000 }
 {
     let days = i64::from(day) - UNIX_EPOCH_DAY;
     days * SECS_PER_DAY + i64::from(second) - i64::from(offset)

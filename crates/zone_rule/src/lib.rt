@@ -28,6 +28,7 @@ pub mod law;
 mod rule;
 mod rule_day;
 mod time_zone;
+mod turn;
 
 pub use change::Change;
 pub use chrono_zoned::{FixedOffset, MappedLocalTime, Stretch};

@@ -4,9 +4,11 @@ ghost use Rattle.chrono_units.specs.Years.{IsYear};
 ghost use Rattle.chrono_zoned.specs.Offsets.{IsOffset};
 ghost use Rattle.chrono_zoned.specs.Zones.{HoldsUntil, IsMapped};
 ghost use Rattle.zone_rule.specs.Changes.{IsChange, IsNextOf, IsYearOfCycle, change_second, last_by, year_of_second};
+ghost use Rattle.zone_rule.specs.Private.{AreKnown};
 ghost use Rattle.zone_rule.specs.Rules.{IsNextSetting, IsSetAt, IsSteadyUntil, is_daylight, is_daylight_by, rule_offset};
 
 use crate::change::{Change, SECS_PER_DAY, UNIX_EPOCH_DAY};
+use crate::turn::turn_at;
 use chrono_datetime::{Datelike, NaiveDate};
 use chrono_zoned::{FixedOffset, MappedLocalTime, Stretch};
 
@@ -43,6 +45,13 @@ pub struct Daylight {
     pub begins: Change,
     /// When it ends: daylight time shows this time.
     pub ends: Change,
+}
+
+// Whether daylight time holds, and for how many seconds it then holds or does not.
+#[derive(Clone, Copy)]
+struct Hold {
+    is_daylight: bool,
+    wait: i64,
 }
 
 impl ZoneRule {
@@ -152,7 +161,7 @@ impl ZoneRule {
         ensures steady { IfSome result (λ wait. IsSteadyUntil self.now second (second +ℤ wait)) }
     {
         let daylight = self.daylight?;
-        Some(daylight.seconds_to_change(self.standard, second))
+        Some(daylight.hold_from(self.standard, second).wait)
     }
 
     /// Returns the offset at the instant `second`, and the next second at which the rule sets the clock, up to which it holds.
@@ -175,14 +184,14 @@ impl ZoneRule {
         let Some(daylight) = self.daylight else {
             return Stretch::without_end(self.standard);
         };
-        let offset = self.offset_of_instant(second);
-        let wait = daylight.seconds_to_change(self.standard, second);
+        let hold = daylight.hold_from(self.standard, second);
+        let offset = daylight.offset_if(self.standard, hold.is_daylight);
         // A proof knows the range of what is read. The compiler leaves it out.
         let _near = (
             self.standard.local_minus_utc(),
             daylight.offset.local_minus_utc(),
         );
-        let Some(until) = second.checked_add(wait) else {
+        let Some(until) = second.checked_add(hold.wait) else {
             return Stretch {
                 offset,
                 until: i64::MAX,
@@ -230,16 +239,69 @@ impl Daylight {
         )
     }
 
-    // How many seconds after the second daylight time begins or ends next, where standard time has the offset.
-    fn seconds_to_change(&self, standard: FixedOffset, second: i64) -> i64
-        ensures next { IsNextSetting (record { standard = standard; daylight = Some self.now }) second (second +ℤ result) }
-        ensures steady { IsSteadyUntil (record { standard = standard; daylight = Some self.now }) second (second +ℤ result) }
+    // How far the clock is ahead of UTC, where daylight time holds or does not.
+    #[inline]
+    fn offset_if(&self, standard: FixedOffset, holds: bool) -> FixedOffset
+        ensures { result ≡ if holds then self.now.offset else standard }
     {
-        let place = second.rem_euclid(SECS_PER_CYCLE);
-        let year = year_of_second(place);
-        let begins = next_of(&self.begins, standard, year, place);
-        let ends = next_of(&self.ends, self.offset, year, place);
-        begins.min(ends) - place
+        if holds { self.offset } else { standard }
+    }
+
+    // Whether daylight time holds at the second, and for how long, where standard time has the offset.
+    fn hold_from(&self, standard: FixedOffset, second: i64) -> Hold
+        ensures holds { result.is_daylight ≡ is_daylight standard self.now second }
+        ensures next { IsNextSetting (record { standard = standard; daylight = Some self.now }) second (second +ℤ result.wait) }
+        ensures steady { IsSteadyUntil (record { standard = standard; daylight = Some self.now }) second (second +ℤ result.wait) }
+    {
+        self.hold_in_cycle(standard, second.rem_euclid(SECS_PER_CYCLE))
+    }
+
+    // The same in the years 1970 to 2369.
+    fn hold_in_cycle(&self, standard: FixedOffset, second: i64) -> Hold
+        requires first { pos 0 ≤ℤ second }
+        requires last { second <ℤ pos 12_622_780_800 }
+        ensures holds { result.is_daylight ≡ is_daylight standard self.now second }
+        ensures next { IsNextSetting (record { standard = standard; daylight = Some self.now }) second (second +ℤ result.wait) }
+        ensures known { AreKnown standard self.now }
+    {
+        let year = year_of_second(second);
+        if let Some(hold) = self.hold_in_year(standard, year, second) {
+            return hold;
+        }
+        let begins = next_of(&self.begins, standard, year, second);
+        let ends = next_of(&self.ends, self.offset, year, second);
+        Hold {
+            is_daylight: self.is_last_begun(standard, year, second),
+            wait: begins.min(ends) - second,
+        }
+    }
+
+    // The same by the changes of the second's year, if they tell it.
+    #[inline(always)]
+    fn hold_in_year(&self, standard: FixedOffset, year: i32, second: i64) -> Option<Hold>
+        requires own { year ≡ year_of_second second }
+        requires cycle { IsYearOfCycle year }
+        requires first { neg_ℤ (pos 86_400) ≤ℤ second }
+        requires last { second ≤ℤ pos 12_622_867_200 }
+        ensures holds { IfSome result (λ h. h.is_daylight ≡ is_daylight standard self.now second) }
+        ensures next { IfSome result (λ h. IsNextSetting (record { standard = standard; daylight = Some self.now }) second (second +ℤ h.wait)) }
+        ensures known { AreKnown standard self.now }
+    {
+        let begins = self.begins.second_in(year, standard);
+        let ends = self.ends.second_in(year, self.offset);
+        if begins < ends {
+            let turn = turn_at(&self.begins, standard, year, begins, ends, second)?;
+            Some(Hold {
+                is_daylight: turn.is_first,
+                wait: turn.next - second,
+            })
+        } else {
+            let turn = turn_at(&self.ends, self.offset, year, ends, begins, second)?;
+            Some(Hold {
+                is_daylight: !turn.is_first,
+                wait: turn.next - second,
+            })
+        }
     }
 
     // Whether daylight time holds at the second, in or beside the years 1970 to 2369.
@@ -249,6 +311,18 @@ impl Daylight {
         ensures { result ≡ is_daylight standard self.now second }
     {
         let year = year_of_second(second);
+        if let Some(hold) = self.hold_in_year(standard, year, second) {
+            return hold.is_daylight;
+        }
+        self.is_last_begun(standard, year, second)
+    }
+
+    // Whether the last change up to the second began daylight time, by the changes of four years.
+    fn is_last_begun(&self, standard: FixedOffset, year: i32, second: i64) -> bool
+        requires own { year ≡ year_of_second second }
+        requires cycle { IsYearOfCycle year }
+        ensures { result ≡ is_daylight standard self.now second }
+    {
         last_by(&self.ends, self.offset, year, second)
             <= last_by(&self.begins, standard, year, second)
     }

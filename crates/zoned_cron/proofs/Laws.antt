@@ -66,6 +66,17 @@ fires_once ahead l u v (inr h) (inl k) = absurd (in_gap ahead l u h v k.0)
 fires_once ahead l u v (inr h) (inr k) =
     first_once ahead (v +ℤ ahead v) u v (subst (λ (s : ℤ). IsFirst ahead s u) (behind_once ahead l u v h k) h.first) k.first
 
+-- what one gap skips fires together
+pub fires_together : (ahead : ℤ → ℤ) (l k u : ℤ) → l ≤ℤ k → ((j : ℤ) → l ≤ℤ j → j ≤ℤ k → IsGap ahead j) → Takes once_each ahead l u → Takes once_each ahead k u
+fires_together ahead l k u le gaps (inl h) = absurd (gaps l (omega (arith, ints)) le u h.0)
+fires_together ahead l k u le gaps (inr h) =
+    let behind = h.later in
+    inr (record {
+      later = by_lt_z k (u +ℤ ahead u) (λ lt. lt) (λ ge. absurd (gaps (u +ℤ ahead u) (omega (arith, ints, behind)) ge u refl));
+      skipped = λ j low high. h.skipped j (omega (arith, ints, le, low)) high;
+      first = h.first;
+    })
+
 -- ---- and once at least
 
 first_found : (ahead : ℤ → ℤ) (k : ℤ) (found : MappedLocalTime ℤ) → IsMapped ahead k found → IsGap ahead k ⊎ ((u : ℤ) × IsFirst ahead k u)

@@ -5,3 +5,5 @@ mod Carried
 mod Gaps
 mod Stretches
 mod Laws
+mod DayFirings
+mod ZonedTexts

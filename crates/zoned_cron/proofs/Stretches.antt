@@ -188,3 +188,12 @@ pub settled_greatest : (s : FieldSets) (ahead : ℤ → ℤ) (p : Policy) (l c u
 settled_greatest s ahead p l c u settled shows f le =
     let less = no_more p ahead (epoch_second f.planned) c u (omega (arith, ints, le, shows)) f.takes in
     settled_most ahead l c u settled shows (omega (arith, ints, less, shows))
+
+-- while the clock keeps its offset nothing follows that it has shown
+pub none_follows : (p : Policy) (ahead : ℤ → ℤ) (best until end l u : ℤ) → HoldsUntil ahead best until → end ≤ℤ until → l ≤ℤ (best +ℤ ahead best) → Takes p ahead l u → u <ℤ end → u ≤ℤ best
+none_follows p ahead best until end l u holds long low takes before =
+    by_lt_z best u
+    (λ lt.
+    let same : ahead u ≡ ahead best = holds u (omega (arith, ints, lt)) (omega (arith, ints, before, long)) in
+    omega (arith, ints, same, no_more p ahead l best u low takes))
+    (λ ge. ge)

@@ -162,11 +162,11 @@ covers_all_behind s ahead p end local best found result i covers last join none 
     (λ ge. from_on s ahead p end local best found result covers last join f.planned u (fires_for s ahead p u f) ge before)
 
 -- the search may end where no earlier local time fires later than what it found
-pub covers_far_behind : (s : FieldSets) (ahead : ℤ → ℤ) (p : Policy) (end l : ℤ) (best : Option ℤ) → CoversBehind s ahead p end l best → IsSomeAnd best (λ c. (m : Moment) (u : ℤ) → FiresFor s ahead p m u → epoch_second m ≤ℤ l → u ≤ℤ c) → (u : ℤ) → u <ℤ end → Fires s ahead p u → IsAtMost best u
+pub covers_far_behind : (s : FieldSets) (ahead : ℤ → ℤ) (p : Policy) (end l : ℤ) (best : Option ℤ) → CoversBehind s ahead p end l best → IsSomeAnd best (λ c. (m : Moment) (u : ℤ) → FiresFor s ahead p m u → epoch_second m ≤ℤ l → u <ℤ end → u ≤ℤ c) → (u : ℤ) → u <ℤ end → Fires s ahead p u → IsAtMost best u
 covers_far_behind s ahead p end l None covers far u before f = absurd far
 covers_far_behind s ahead p end l (Some c) covers far u before f =
     by_lt_z l (epoch_second f.planned) (λ gt. covers f.planned u (fires_for s ahead p u f) gt before)
-    (λ le. far f.planned u (fires_for s ahead p u f) le)
+    (λ le. far f.planned u (fires_for s ahead p u f) le before)
 
 -- where it begins: a day behind the end, or at the end of the calendar
 pub none_behind : (s : FieldSets) (ahead : ℤ → ℤ) (p : Policy) (end : ℤ) (k last : Moment) → epoch_second k ≡ (end +ℤ pos 86_400) → IsMoment k → NotDueBetween s last k → (m : Moment) (u : ℤ) → FiresFor s ahead p m u → IsBefore last m → end ≤ℤ u

@@ -1,3 +1,5 @@
 pub mod Fires
 pub mod FiringLists
+pub mod DayFirings
+pub mod ZonedTexts
 pub mod Private

@@ -1,5 +1,6 @@
 //! Laws of schedules in a zone, each as the contract of a function that does nothing.
-ghost use Rattle.std.specs.Prelude.{◌≡◌, ◌↔◌, ◌⊎◌, true, ℤ, pos, neg_ℤ};
+ghost use Rattle.std.specs.Prelude.{◌≡◌, ◌↔◌, ◌⊎◌, ◌≤ℤ◌, true, ℕ, ℤ, pos, neg_ℤ, List};
+ghost use Rattle.std.specs.List.{Contains};
 ghost use Rattle.chrono_datetime.specs.Moment.{IsMoment, Moment};
 ghost use Rattle.chrono_instant.specs.Instants.{epoch_second};
 ghost use Rattle.chrono_instant.specs.Offsets.{IsOffset, moment_ahead};
@@ -8,6 +9,7 @@ ghost use Rattle.chrono_zoned.specs.Zones.{IsMapped, IsOnly};
 ghost use Rattle.chrono_zoned.specs.declared.mapped_local_time.MappedLocalTime.{MappedLocalTime};
 ghost use Rattle.chrono_cron.specs.Due.{is_due};
 ghost use Rattle.chrono_cron.specs.declared.field_sets.FieldSets.{FieldSets};
+ghost use Rattle.zoned_cron.specs.DayFirings.{AreDifferent, FireOnceEach, ShowsMinutes, minute_of_day, planned_minutes};
 ghost use Rattle.zoned_cron.specs.Fires.{FiresAt, IsGap, IsInstant, Takes, TakesShown, as_shown, once_each};
 ghost use Rattle.zoned_cron.specs.declared.policy.Fold.{Fold};
 ghost use Rattle.zoned_cron.specs.declared.policy.Policy.{Policy};
@@ -30,6 +32,22 @@ pub fn no_planned_time_fires_twice()
 pub fn each_planned_time_fires_once()
     ensures { (ahead : ℤ → ℤ) → ((u : ℤ) → IsOffset (ahead u)) → ((k : ℤ) → (found : MappedLocalTime ℤ) × IsMapped ahead k found)
         → (l : ℤ) → (u : ℤ) × IsOnly (Takes once_each ahead l) u }
+{}
+
+/// On a local day of which the clock skips no minute, a schedule with fixed times fires exactly as often as it plans minutes.
+///
+/// Each planned minute fires at one instant, and no two at the same. Each moment at which the schedule is due is the beginning of one of them.
+pub fn a_day_fires_as_often_as_planned()
+    ensures day { (s : FieldSets) (ahead : ℤ → ℤ) → ((u : ℤ) → IsOffset (ahead u)) → ((k : ℤ) → (found : MappedLocalTime ℤ) × IsMapped ahead k found)
+        → (n : ℤ) → ShowsMinutes ahead n → (fired : List ℤ) × FireOnceEach ahead n (planned_minutes s n) fired × AreDifferent fired }
+    ensures minutes { (s : FieldSets) (m : Moment) → IsMoment m → is_due s m ≡ true
+        → (k : ℕ) × (m ≡ minute_of_day m.date k) × Contains (planned_minutes s m.date) k }
+{}
+
+/// Planned local times that one gap skips have their firing in common.
+pub fn one_gap_fires_once()
+    ensures { (ahead : ℤ → ℤ) (l k u : ℤ) → l ≤ℤ k → ((j : ℤ) → l ≤ℤ j → j ≤ℤ k → IsGap ahead j) → Takes once_each ahead l u
+        → Takes once_each ahead k u }
 {}
 
 /// A planned local time that the clock shows fires, whatever the policy.

@@ -15,9 +15,11 @@ pub mod law;
 mod policy;
 mod schedule;
 mod search;
+mod zoned_text;
 
-pub use chrono_cron::{Schedule, read_schedule};
+pub use chrono_cron::{Schedule, ScheduleError, read_schedule};
 pub use chrono_zoned::{DateTime, FixedOffset, InZone, TimeZone};
 pub use policy::{Fold, Gap, Policy};
 pub use schedule::ZonedSchedule;
 pub use search::firings::Firings;
+pub use zoned_text::{ZonedText, read_zoned_text};

@@ -29,7 +29,7 @@ impl<Z: TimeZone> ZonedSchedule<Z> {
         };
         date_times_exist(local);
         let mut best: Option<i64> = None;
-        while self.may_follow(local, best) {
+        while self.may_follow(local, best, end) {
             best = later(best, last_in(self.taken(local), end));
             let Some(earlier) = self.schedule.prev_before(local) else {
                 return best;
@@ -77,14 +77,20 @@ impl<Z: TimeZone> ZonedSchedule<Z> {
         self.schedule.prev_before(last)
     }
 
-    // Whether a local time may fire after the best instant so far: none does that the clock showed or skipped two days earlier.
-    fn may_follow(&self, local: NaiveDateTime, best: Option<i64>) -> bool
+    // Whether a local time may fire after the best instant so far, and before the end. Where the clock keeps its offset from that instant until
+    // the end, none does that the clock has shown or skipped by then. Else none does that it had shown or skipped two days earlier.
+    fn may_follow(&self, local: NaiveDateTime, best: Option<i64>, end: i64) -> bool
         requires { IfSome best IsEpochSecond }
-        ensures { IsFalse result → IsSomeAnd best (λ c. (m : Moment) (u : ℤ) → FiresFor self.now.schedule.sets (Z.ahead self.now.zone) self.now.policy m u → epoch_second m ≤ℤ epoch_second local → u ≤ℤ c) }
+        ensures { IsFalse result → IsSomeAnd best (λ c. (m : Moment) (u : ℤ) → FiresFor self.now.schedule.sets (Z.ahead self.now.zone) self.now.policy m u → epoch_second m ≤ℤ epoch_second local → u <ℤ end → u ≤ℤ c) }
     {
         let Some(best) = best else {
             return true;
         };
+        let stretch = self.zone.stretch_from(best);
+        if end <= stretch.until {
+            let shown = best + i64::from(stretch.offset.local_minus_utc());
+            return shown < local.timestamp();
+        }
         match shown_at(self.zone, best - 2 * DAY) {
             Some(shown) => shown.timestamp() < local.timestamp(),
             None => true,

@@ -18,7 +18,7 @@ returns-clause-value c =
     let shown : to_z w32 (of_z w32 c.self.inside.second) ≡ c.args.self.now.second = to_z-of_z w32 c.self.inside.second (fits32 c.self.inside.second c.self.invariant.second) ∙ second in
     let offset : to_z w32 (of_z w32 c.local_minus_utc.result) ≡ c.args.offset = to_z-of_z w32 c.local_minus_utc.result (record { sfits = c.local_minus_utc.type_inv }) ∙ c.local_minus_utc.ensures.value in
     to_z-of_z w64 c.second_of.result (record { sfits = c.second_of.type_inv })
-    ∙ c.second_of.ensures
+    ∙ c.second_of.ensures.value
     ∙ ap (λ (n : ℤ). (n -ℤ pos 719_163) *ℤ pos 86_400 +ℤ to_z w32 (of_z w32 c.self.inside.second) -ℤ to_z w32 (of_z w32 c.local_minus_utc.result)) number
     ∙ ap (λ (s : ℤ). (day_in_year c.args.year c.args.self.now.day -ℤ pos 719_163) *ℤ pos 86_400 +ℤ s -ℤ to_z w32 (of_z w32 c.local_minus_utc.result)) shown
     ∙ ap (λ (o : ℤ). (day_in_year c.args.year c.args.self.now.day -ℤ pos 719_163) *ℤ pos 86_400 +ℤ c.args.self.now.second -ℤ o) offset

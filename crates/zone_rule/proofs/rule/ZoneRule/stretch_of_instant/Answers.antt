@@ -1,9 +1,9 @@
-use Rattle.std.proofs.Common.{◌≡◌, ◌∙◌, ℤ, pos, negsuc, SFits, ◌+ℤ◌, ◌≤ℤ◌, ◌<ℤ◌, ap, arith, subst, sym, to_z, of_z, w64}
+use Rattle.std.proofs.Common.{rules, ◌≡◌, ◌∙◌, ℤ, pos, negsuc, SFits, ◌+ℤ◌, ◌≤ℤ◌, ◌<ℤ◌, ap, arith, subst, sym, to_z, of_z, w64}
 use Rattle.std.specs.Prelude.{Some}
 use Rattle.std.proofs.lemmas.Int.{by_lt_z, ints, to_z-of_z}
 use Rattle.chrono_zoned.specs.Offsets.{IsOffset}
-use Rattle.zone_rule.specs.Rules.{IsSteadyUntil, rule_offset}
-use Rattle.zone_rule.proofs.NextChanges.{all_near, always_standard, steady_holds}
+use Rattle.zone_rule.specs.Rules.{IsSteadyUntil}
+use Rattle.zone_rule.proofs.NextChanges.{all_near, always_standard, offset_is, steady_holds}
 use Rattle.zone_rule.proofs.rule.ZoneRule.stretch_of_instant.Goals as goal
 
 pub returns-in_default-clause-offset : goal.returns-in_default-clause-offset
@@ -16,7 +16,7 @@ pub returns-in_default-clause-near : goal.returns-in_default-clause-near
 returns-in_default-clause-near c = λ u. subst (λ (x : ℤ). IsOffset x) (sym (always_standard c.args.self.now c.in_default.is u)) c.without_end.ensures.near
 
 pub returns-in_default-checked_add-clause-offset : goal.returns-in_default-checked_add-clause-offset
-returns-in_default-checked_add-clause-offset c = c.offset_of_instant-offset.ensures ∙ ap (rule_offset c.args.self.now) (to_z-of_z w64 c.args.second c.ranges.second)
+returns-in_default-checked_add-clause-offset c = offset_is c.args.self.now c.in-Some.daylight c.args.second _ c.hold_from-hold.result.is_daylight c.offset_if-offset.result c.in-Some.is (to_z-of_z w64 c.args.second c.ranges.second) c.hold_from-hold.ensures.holds c.offset_if-offset.ensures
 
 -- a sum that does not fit lies behind all that do
 fits_below : (y : ℤ) → pos 0 ≤ℤ y → y <ℤ pos 9_223_372_036_854_775_807 → SFits w64 y
@@ -34,11 +34,11 @@ returns-in_default-checked_add-clause-holds c =
     let d = c.in-Some.daylight in
     let second = c.args.second in
     let here : to_z w64 (of_z w64 second) ≡ second = to_z-of_z w64 second c.ranges.second in
-    let wait : ℤ = c.seconds_to_change-wait.result in
-    let kept : to_z w64 (of_z w64 wait) ≡ wait = to_z-of_z w64 wait (record { sfits = c.seconds_to_change-wait.type_inv }) in
+    let wait : ℤ = c.hold_from-hold.result.wait in
+    let kept : to_z w64 (of_z w64 wait) ≡ wait = to_z-of_z w64 wait (search rules) in
     let steady : IsSteadyUntil (record { standard = r.standard; daylight = Some d }) second (second +ℤ wait) =
-    subst (λ (x : ℤ). IsSteadyUntil (record { standard = r.standard; daylight = Some d }) x (x +ℤ wait)) here c.seconds_to_change-wait.ensures.steady in
-    let more : pos 0 <ℤ wait = let later = c.seconds_to_change-wait.ensures.next.later in omega (arith, ints, later) in
+    subst (λ (x : ℤ). IsSteadyUntil (record { standard = r.standard; daylight = Some d }) x (x +ℤ wait)) here c.hold_from-hold.ensures.steady in
+    let more : pos 0 <ℤ wait = let later = c.hold_from-hold.ensures.next.later in omega (arith, ints, later) in
     let past : pos 9_223_372_036_854_775_807 ≤ℤ (second +ℤ wait) = by_lt_z (second +ℤ wait) (pos 9_223_372_036_854_775_807)
     (λ lt. absurd (c.in_default-checked_add.ensures (fits_under second wait c.ranges.second more lt (to_z w64 (of_z w64 second) +ℤ to_z w64 (of_z w64 wait)) (omega (arith, ints, here, kept)))))
     (λ ge. ge) in
@@ -51,7 +51,7 @@ returns-in_default-checked_add-clause-near c =
     all_near c.args.self.now c.in-Some.daylight c.in-Some.is near far
 
 pub returns-clause-offset : goal.returns-clause-offset
-returns-clause-offset c = c.offset_of_instant-offset.ensures ∙ ap (rule_offset c.args.self.now) (to_z-of_z w64 c.args.second c.ranges.second)
+returns-clause-offset c = offset_is c.args.self.now c.in-Some.daylight c.args.second _ c.hold_from-hold.result.is_daylight c.offset_if-offset.result c.in-Some.is (to_z-of_z w64 c.args.second c.ranges.second) c.hold_from-hold.ensures.holds c.offset_if-offset.ensures
 
 pub returns-clause-holds : goal.returns-clause-holds
 returns-clause-holds c =
@@ -59,10 +59,10 @@ returns-clause-holds c =
     let d = c.in-Some.daylight in
     let second = c.args.second in
     let here : to_z w64 (of_z w64 second) ≡ second = to_z-of_z w64 second c.ranges.second in
-    let wait : ℤ = c.seconds_to_change-wait.result in
-    let kept : to_z w64 (of_z w64 wait) ≡ wait = to_z-of_z w64 wait (record { sfits = c.seconds_to_change-wait.type_inv }) in
+    let wait : ℤ = c.hold_from-hold.result.wait in
+    let kept : to_z w64 (of_z w64 wait) ≡ wait = to_z-of_z w64 wait (search rules) in
     let steady : IsSteadyUntil (record { standard = r.standard; daylight = Some d }) second (second +ℤ wait) =
-    subst (λ (x : ℤ). IsSteadyUntil (record { standard = r.standard; daylight = Some d }) x (x +ℤ wait)) here c.seconds_to_change-wait.ensures.steady in
+    subst (λ (x : ℤ). IsSteadyUntil (record { standard = r.standard; daylight = Some d }) x (x +ℤ wait)) here c.hold_from-hold.ensures.steady in
     let until = c.in-Some-checked_add.until in
     let sum : to_z w64 (of_z w64 until) ≡ (second +ℤ wait) =
     to_z-of_z w64 until (subst (λ (x : ℤ). SFits w64 x) (sym c.in-Some-checked_add.ensures.1) c.in-Some-checked_add.ensures.0) ∙ c.in-Some-checked_add.ensures.1 ∙ ap (λ (x : ℤ). x +ℤ to_z w64 (of_z w64 wait)) here ∙ ap (λ (x : ℤ). second +ℤ x) kept in
@@ -74,14 +74,14 @@ returns-clause-later c = λ _.
     let d = c.in-Some.daylight in
     let second = c.args.second in
     let here : to_z w64 (of_z w64 second) ≡ second = to_z-of_z w64 second c.ranges.second in
-    let wait : ℤ = c.seconds_to_change-wait.result in
-    let kept : to_z w64 (of_z w64 wait) ≡ wait = to_z-of_z w64 wait (record { sfits = c.seconds_to_change-wait.type_inv }) in
+    let wait : ℤ = c.hold_from-hold.result.wait in
+    let kept : to_z w64 (of_z w64 wait) ≡ wait = to_z-of_z w64 wait (search rules) in
     let steady : IsSteadyUntil (record { standard = r.standard; daylight = Some d }) second (second +ℤ wait) =
-    subst (λ (x : ℤ). IsSteadyUntil (record { standard = r.standard; daylight = Some d }) x (x +ℤ wait)) here c.seconds_to_change-wait.ensures.steady in
+    subst (λ (x : ℤ). IsSteadyUntil (record { standard = r.standard; daylight = Some d }) x (x +ℤ wait)) here c.hold_from-hold.ensures.steady in
     let until = c.in-Some-checked_add.until in
     let sum : to_z w64 (of_z w64 until) ≡ (second +ℤ wait) =
     to_z-of_z w64 until (subst (λ (x : ℤ). SFits w64 x) (sym c.in-Some-checked_add.ensures.1) c.in-Some-checked_add.ensures.0) ∙ c.in-Some-checked_add.ensures.1 ∙ ap (λ (x : ℤ). x +ℤ to_z w64 (of_z w64 wait)) here ∙ ap (λ (x : ℤ). second +ℤ x) kept in
-    let later = c.seconds_to_change-wait.ensures.next.later in
+    let later = c.hold_from-hold.ensures.next.later in
     omega (arith, ints, sum, later)
 
 pub returns-clause-near : goal.returns-clause-near
