@@ -1,5 +1,5 @@
 -- What a pattern writes and reads hangs on its items alone.
-use Rattle.std.proofs.Common.{◌≡◌, ℕ, List, [], ◌∷◌, ◌++◌, Option, None, Some, Result, Ok, Err, refl, ap, sym, ◌∙◌}
+use Rattle.std.proofs.Common.{◌≡◌, ℕ, List, [], ◌∷◌, ◌++◌, append_assoc, Option, None, Some, Result, Ok, Err, refl, ap, sym, ◌∙◌}
 use Rattle.chrono_datetime.specs.Moment.{Moment}
 use Rattle.chrono_pattern.specs.ItemReads.{item_read}
 use Rattle.chrono_pattern.specs.Parts.{no_parts}
@@ -16,18 +16,18 @@ use Rattle.chrono_pattern.specs.declared.stop.Stop.{Stop}
 use Rattle.chrono_pattern.proofs.PatternLemmas.{text_from-more, text_from-none, text_from-nothing}
 use Rattle.chrono_pattern.proofs.ReadLemmas.{behind_item, read_from-more, read_from-none, read_from-nothing}
 
-items_from-more : (s : State) (c : ℕ) (bytes : List ℕ) (next : State × Item) → pattern_step s c ≡ Some next
+pub items_from-more : (s : State) (c : ℕ) (bytes : List ℕ) (next : State × Item) → pattern_step s c ≡ Some next
     → items_from s (c ∷ bytes) ≡ item_before next.1 (items_from next.0 bytes)
 unfolding items_from
 items_from-more s c bytes next e =
     ap (λ (o : Option (State × Item)). elim o as (λ _. List Item) [ None ↦ [] | Some n ↦ item_before n.1 (items_from n.0 bytes) ]) e
 
-items_from-none : (s : State) (c : ℕ) (bytes : List ℕ) → pattern_step s c ≡ None → items_from s (c ∷ bytes) ≡ []
+pub items_from-none : (s : State) (c : ℕ) (bytes : List ℕ) → pattern_step s c ≡ None → items_from s (c ∷ bytes) ≡ []
 unfolding items_from
 items_from-none s c bytes e =
     ap (λ (o : Option (State × Item)). elim o as (λ _. List Item) [ None ↦ [] | Some n ↦ item_before n.1 (items_from n.0 bytes) ]) e
 
-items_from-nothing : (s : State) → items_from s [] ≡ []
+pub items_from-nothing : (s : State) → items_from s [] ≡ []
 unfolding items_from
 items_from-nothing s = refl
 
@@ -64,6 +64,25 @@ text_is (c ∷ bytes) m s = step_text c bytes m (text_is bytes m) s (pattern_ste
 
 pub same_text : (a b : List ℕ) (m : Moment) → pattern_items a ≡ pattern_items b → pattern_text a m ≡ pattern_text b m
 same_text a b m same = text_is a m Outside ∙ ap (λ (l : List Item). items_text l m) same ∙ sym (text_is b m Outside)
+
+-- the text of an item in front, and of what is behind it
+pub text_of_front : (bytes rest : List ℕ) (item : Item) (m : Moment) → items_from Outside bytes ≡ item_before item (items_from Outside rest)
+    → text_from Outside bytes m ≡ text_of_item item m ++ text_from Outside rest m
+text_of_front bytes rest item m front =
+    text_is bytes m Outside
+    ∙ ap (λ (l : List Item). items_text l m) front
+    ∙ before_text item (items_from Outside rest) m
+    ∙ ap (λ (l : List ℕ). text_of_item item m ++ l) (sym (text_is rest m Outside))
+
+pub front_grows : (text bytes behind : List ℕ) (item : Item) (m : Moment) (total : List ℕ) → text ++ text_from Outside bytes m ≡ total
+    → items_from Outside bytes ≡ item_before item (items_from Outside behind) → (text ++ text_of_item item m) ++ text_from Outside behind m ≡ total
+front_grows text bytes behind item m total whole front =
+    append_assoc text (text_of_item item m) (text_from Outside behind m)
+    ∙ ap (λ (l : List ℕ). text ++ l) (sym (text_of_front bytes behind item m front))
+    ∙ whole
+
+pub text_of_none : (bytes : List ℕ) (m : Moment) → items_from Outside bytes ≡ [] → text_from Outside bytes m ≡ []
+text_of_none bytes m none = text_is bytes m Outside ∙ ap (λ (l : List Item). items_text l m) none
 
 -- ---- what is read
 
@@ -113,3 +132,15 @@ pub same_read : (a b text : List ℕ) → pattern_items a ≡ pattern_items b �
 same_read a b text same =
     let start : Progress = record { rest = text; parsed = no_parts } in
     ap (λ (o : Result Progress Stop). end_read o) (read_is a Outside start ∙ ap (λ (l : List Item). items_read l start) same ∙ sym (read_is b Outside start))
+
+-- an item in front is read, and then what is behind it
+pub read_of_front : (bytes rest : List ℕ) (item : Item) (r : Progress) → items_from Outside bytes ≡ item_before item (items_from Outside rest)
+    → read_from Outside bytes r ≡ behind_item (item_read item r) Outside rest
+read_of_front bytes rest item r front =
+    read_is bytes Outside r
+    ∙ ap (λ (l : List Item). items_read l r) front
+    ∙ before_read item (items_from Outside rest) r
+    ∙ sym (item_then rest (read_is rest) Outside (item_read item r))
+
+pub read_of_none : (bytes : List ℕ) (r : Progress) → items_from Outside bytes ≡ [] → read_from Outside bytes r ≡ Ok r
+read_of_none bytes r none = read_is bytes Outside r ∙ ap (λ (l : List Item). items_read l r) none

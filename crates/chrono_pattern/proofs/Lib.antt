@@ -10,6 +10,7 @@ mod YearWeekLemmas
 mod WriteLemmas
 mod AsciiLemmas
 mod ItemLemmas
+mod FrontLemmas
 mod BackNumbers
 mod BackParts
 mod BackItems

@@ -1,5 +1,5 @@
 -- A pattern byte by byte: its text, and its first error.
-use Rattle.std.proofs.Common.{◌≡◌, ℕ, Bool, true, false, ◌||◌, ◌+◌, ◌≤◌, List, [], ◌∷◌, ◌++◌, length, length-append, append_assoc, append-nil, Option, None, Some, refl, ap, sym, ◌∙◌, arith}
+use Rattle.std.proofs.Common.{◌≡◌, ℕ, Bool, true, false, ◌||◌, ◌+◌, ◌≤◌, List, [], ◌∷◌, ◌++◌, length, length-append, append-nil, Option, None, Some, refl, ap, sym, ◌∙◌, arith}
 use Rattle.chrono_datetime.specs.Moment.{Moment}
 use Rattle.chrono_pattern.specs.Needs.{item_needs_time, needs_time_from}
 use Rattle.chrono_pattern.specs.Patterns.{begun_at, cut_error, error_from, text_of_item, text_from}
@@ -27,32 +27,9 @@ pub text_from-nothing : (s : State) (m : Moment) → text_from s [] m ≡ []
 unfolding text_from
 text_from-nothing s m = refl
 
--- the same of a text that begins with the byte
-pub text_from-goes_on : (s : State) (c : ℕ) (bytes behind : List ℕ) (m : Moment) (next : State × Item) → bytes ≡ c ∷ behind
-    → pattern_step s c ≡ Some next → text_from s bytes m ≡ text_of_item next.1 m ++ text_from next.0 behind m
-text_from-goes_on s c bytes behind m next is step = ap (λ (l : List ℕ). text_from s l m) is ∙ text_from-more s c behind m next step
-
-pub text_from-stops : (s : State) (c : ℕ) (bytes behind : List ℕ) (m : Moment) → bytes ≡ c ∷ behind
-    → pattern_step s c ≡ None → text_from s bytes m ≡ []
-text_from-stops s c bytes behind m is step = ap (λ (l : List ℕ). text_from s l m) is ∙ text_from-none s c behind m step
-
-pub text_from-ends : (s : State) (bytes : List ℕ) (m : Moment) → length bytes ≡ 0 → text_from s bytes m ≡ []
-text_from-ends s [] m none = text_from-nothing s m
-text_from-ends s (c ∷ bytes) m none = absurd (omega (arith, none))
-
 -- where nothing is left, all is written
 pub all_written : (text rest total : List ℕ) → text ++ rest ≡ total → rest ≡ [] → text ≡ total
 all_written text rest total whole none = sym (append-nil text) ∙ ap (λ (l : List ℕ). text ++ l) (sym none) ∙ whole
-
--- an item is put behind the text
-pub text_grows : (text piece : List ℕ) (s : State) (c : ℕ) (bytes behind : List ℕ) (m : Moment) (next : State × Item) (total : List ℕ)
-    → text ++ text_from s bytes m ≡ total → bytes ≡ c ∷ behind → pattern_step s c ≡ Some next → piece ≡ text_of_item next.1 m
-    → (text ++ piece) ++ text_from next.0 behind m ≡ total
-text_grows text piece s c bytes behind m next total whole is step put =
-    append_assoc text piece (text_from next.0 behind m)
-    ∙ ap (λ (l : List ℕ). text ++ (l ++ text_from next.0 behind m)) put
-    ∙ ap (λ (l : List ℕ). text ++ l) (sym (text_from-goes_on s c bytes behind m next is step))
-    ∙ whole
 
 -- the whole text is no shorter than what is put
 pub no_shorter : (text piece rest total : List ℕ) → (text ++ piece) ++ rest ≡ total → length text + length piece ≤ length total

@@ -15,6 +15,7 @@ pub mod SubsecondReads
 pub mod ItemReads
 pub mod Reads
 pub mod DateParts
+pub mod PlainParts
 pub mod TimeParts
 pub mod NamedParts
 pub mod Parses

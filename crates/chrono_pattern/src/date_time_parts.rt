@@ -6,10 +6,8 @@ ghost use Rattle.chrono_pattern.specs.DateParts.{date_fits, names_date};
 ghost use Rattle.chrono_pattern.specs.TimeParts.{IsClockTime, names_time, time_fits};
 ghost use Rattle.chrono_pattern.specs.declared.error.ReadFault.TheVariants.{NotEnough};
 
-use crate::date_parts::names_date;
 use crate::error::ReadFault;
 use crate::parsed::Parsed;
-use crate::time_parts::names_time;
 use chrono_datetime::NaiveDateTime;
 
 impl Parsed {
@@ -32,15 +30,12 @@ impl Parsed {
             → date_fits self.now m.date ≡ true → time_fits self.now m.time ≡ true → result ≡ Ok m }
         ensures not_enough { (result ≡ Err NotEnough) ↔ ((names_date self.now && names_time self.now) ≡ false) }
     {
-        if !(names_date(*self) && names_time(*self)) {
-            return Err(ReadFault::NotEnough);
-        }
-        match self.to_date() {
-            Ok(date) => match self.to_time() {
-                Ok(time) => Ok(NaiveDateTime::new(date, time)),
-                Err(_) => Err(ReadFault::Impossible),
-            },
-            Err(_) => Err(ReadFault::Impossible),
+        match (self.to_date(), self.to_time()) {
+            (Ok(date), Ok(time)) => Ok(NaiveDateTime::new(date, time)),
+            (Err(ReadFault::NotEnough), _) | (_, Err(ReadFault::NotEnough)) => {
+                Err(ReadFault::NotEnough)
+            }
+            _ => Err(ReadFault::Impossible),
         }
     }
 }

@@ -16,6 +16,7 @@ mod class;
 mod date_parts;
 mod date_time_parts;
 mod error;
+mod front_item;
 mod group;
 mod item;
 pub mod law;

@@ -7,7 +7,8 @@ ghost use Rattle.chrono_pattern.specs.Parses.{IsDateBy, IsDateInFront, IsTimeBy,
 ghost use Rattle.chrono_pattern.specs.TimeParts.{IsClockTime};
 
 use crate::error::PatternReadError;
-use crate::pattern::Pattern;
+use crate::pattern::{Pattern, read_error};
+use crate::reader::reader_of;
 use chrono_datetime::{NaiveDate, NaiveDateTime, NaiveTime};
 
 impl<'a> Pattern<'a> {
@@ -79,15 +80,16 @@ impl<'a> Pattern<'a> {
         ensures every { (m : Moment) → IsDate m.date → IsClockTime m.time → IsDateBy self.now text.now m.date
             → IsTimeBy self.now text.now m.time → result ≡ Ok m }
     {
-        match self.read_parts(text) {
-            Ok(parts) => match parts.to_date_time() {
+        let mut reader = reader_of(text);
+        match self.read_into(&mut reader) {
+            Ok(()) => match reader.parsed.to_date_time() {
                 Ok(moment) => Ok(moment),
                 Err(cause) => Err(PatternReadError {
                     byte: text.len(),
                     cause,
                 }),
             },
-            Err(error) => Err(error),
+            Err(stop) => Err(read_error(text, stop)),
         }
     }
 

@@ -5,8 +5,9 @@ ghost use Rattle.chrono_datetime.specs.Time.{TimeOfDay, time_at};
 ghost use Rattle.chrono_pattern.specs.DateParts.{names_date};
 ghost use Rattle.chrono_pattern.specs.NamedParts.{named_parts};
 ghost use Rattle.chrono_pattern.specs.Needs.{needs_time};
-ghost use Rattle.chrono_pattern.specs.Reads.{front_read, read_error, text_read};
+ghost use Rattle.chrono_pattern.specs.Reads.{end_read, front_read, read_error, read_from, text_read};
 ghost use Rattle.chrono_pattern.specs.TimeParts.{names_time};
+ghost use Rattle.chrono_pattern.specs.declared.item.State.TheVariants.{Outside};
 ghost use Rattle.chrono_pattern.specs.declared.stop.Stop.{Stop};
 ghost use Rattle.chrono_pattern.specs.Patterns.{IsPattern, begun_at, cut_error, pattern_error, pattern_text};
 
@@ -16,7 +17,7 @@ use crate::item::State;
 use crate::named_parts::named_parts;
 use crate::needs::needs_time;
 use crate::parsed::Parsed;
-use crate::reader::{read_front, read_text};
+use crate::reader::{Reader, read_front, read_text, reader_of};
 use crate::step::pattern_step;
 use crate::stop::Stop;
 use crate::time_parts::names_time;
@@ -181,8 +182,9 @@ impl<'a> Pattern<'a> {
         ensures parts { IfOk result (λ p. text_read self.now text.now ≡ Ok p) }
         ensures error { IfErr result (λ e. (stop : Stop) × (text_read self.now text.now ≡ Err stop) × (e ≡ read_error text.now stop)) }
     {
-        match read_text(self.bytes, text) {
-            Ok(parsed) => Ok(parsed),
+        let mut reader = reader_of(text);
+        match read_text(self.bytes, &mut reader) {
+            Ok(()) => Ok(reader.parsed),
             Err(stop) => Err(read_error(text, stop)),
         }
     }
@@ -205,10 +207,20 @@ impl<'a> Pattern<'a> {
         ensures parts { IfOk result (λ r. front_read self.now text.now ≡ Ok (record { rest = r.1.now; parsed = r.0 })) }
         ensures error { IfErr result (λ e. (stop : Stop) × (front_read self.now text.now ≡ Err stop) × (e ≡ read_error text.now stop)) }
     {
-        match read_front(self.bytes, text) {
-            Ok(reader) => Ok((reader.parsed, reader.rest)),
+        let mut reader = reader_of(text);
+        match read_front(self.bytes, &mut reader) {
+            Ok(()) => Ok((reader.parsed, reader.rest)),
             Err(stop) => Err(read_error(text, stop)),
         }
+    }
+
+    // Reads a whole text into the parts of a reader.
+    #[inline(always)]
+    pub(crate) fn read_into(&self, reader: &mut Reader<'_>) -> Result<(), Stop>
+        ensures read { IfOk result (λ u. end_read (read_from Outside self.now reader.old) ≡ Ok reader.new.parsed) }
+        ensures stop { IfErr result (λ e. end_read (read_from Outside self.now reader.old) ≡ Err e) }
+    {
+        read_text(self.bytes, reader)
     }
 
     /// Returns the text of `date`. Returns `None` if the pattern needs a time of day, or if the text has more than `N` bytes.
@@ -233,7 +245,7 @@ impl<'a> Pattern<'a> {
 }
 
 // The error of a text by where a reader stopped.
-fn read_error(text: &[u8], stop: Stop) -> PatternReadError
+pub(crate) fn read_error(text: &[u8], stop: Stop) -> PatternReadError
     ensures { result ≡ read_error text.now stop }
 {
     PatternReadError {

@@ -1,16 +1,17 @@
 //! Reads the items of a pattern from the front of a text.
 ghost use Rattle.std.specs.Prelude.{◌≡◌, ◌≤◌, Ok, Err, IfErr, IfOk, length};
 ghost use Rattle.chrono_pattern.specs.ItemReads.{behind_read, clock_year_read, day_read, group_read, half_clock_read, item_read, short_date_read, three_read, two_read, word_behind_read};
+ghost use Rattle.chrono_pattern.specs.Parts.{no_parts};
 ghost use Rattle.chrono_pattern.specs.Progress.{Progress, byte_read, literal_read, put_behind};
-ghost use Rattle.chrono_pattern.specs.Reads.{front_read, read_from, text_read};
+ghost use Rattle.chrono_pattern.specs.Reads.{end_read, read_from};
 ghost use Rattle.chrono_pattern.specs.declared.item.State.TheVariants.{Outside};
 
 use crate::class::{Class, is_of, skip_blanks};
 use crate::error::ReadFault;
-use crate::item::{GroupField, Item, NumberField, State, WordField};
+use crate::front_item::front_item;
+use crate::item::{GroupField, Item, NumberField, WordField};
 use crate::number_reader::read_number;
 use crate::parsed::{Parsed, Part};
-use crate::step::pattern_step;
 use crate::stop::{Stop, stopped};
 use crate::subsecond_reader::read_subsecond;
 use crate::word_reader::read_word;
@@ -182,6 +183,7 @@ fn read_clock_year(reader: &mut Reader<'_>) -> Result<(), Stop>
 }
 
 // Reads the numbers and the words of a group.
+#[inline(never)]
 #[tactic(auto, unfolding(crate::specs::ItemReads::group_read))]
 fn read_group(reader: &mut Reader<'_>, group: GroupField) -> Result<(), Stop>
     ensures read { IfOk result (λ u. group_read group reader.old ≡ Ok reader.new) }
@@ -220,6 +222,7 @@ fn read_group(reader: &mut Reader<'_>, group: GroupField) -> Result<(), Stop>
 }
 
 // Reads an item.
+#[inline(always)]
 fn read_item(reader: &mut Reader<'_>, item: Item) -> Result<(), Stop>
     ensures read { IfOk result (λ u. item_read item reader.old ≡ Ok reader.new) }
     ensures stop { IfErr result (λ e. item_read item reader.old ≡ Err e) }
@@ -234,46 +237,43 @@ fn read_item(reader: &mut Reader<'_>, item: Item) -> Result<(), Stop>
     }
 }
 
-// Reads the front of a text by the bytes of a pattern.
-pub(crate) fn read_front<'a>(bytes: &[u8], text: &'a [u8]) -> Result<Reader<'a>, Stop>
-    ensures { result ≡ front_read bytes.now text.now }
+// A reader in front of a text.
+#[inline(always)]
+pub(crate) fn reader_of(text: &[u8]) -> Reader<'_>
+    ensures { result ≡ record { rest = text.now; parsed = no_parts } }
 {
-    let start = Reader {
+    Reader {
         rest: text,
         parsed: Parsed::new(),
-    };
-    read_by(bytes, start)
+    }
 }
 
 // Reads a whole text by the bytes of a pattern.
-pub(crate) fn read_text(bytes: &[u8], text: &[u8]) -> Result<Parsed, Stop>
-    ensures { result ≡ text_read bytes.now text.now }
+#[inline(always)]
+pub(crate) fn read_text(bytes: &[u8], reader: &mut Reader<'_>) -> Result<(), Stop>
+    ensures read { IfOk result (λ u. end_read (read_from Outside bytes.now reader.old) ≡ Ok reader.new.parsed) }
+    ensures stop { IfErr result (λ e. end_read (read_from Outside bytes.now reader.old) ≡ Err e) }
 {
-    let reader = read_front(bytes, text)?;
+    read_front(bytes, reader)?;
     if reader.rest.is_empty() {
-        Ok(reader.parsed)
+        Ok(())
     } else {
         Err(stopped(ReadFault::TooLong, reader.rest))
     }
 }
 
-// Reads the items of a pattern.
-fn read_by<'a>(bytes: &[u8], start: Reader<'a>) -> Result<Reader<'a>, Stop>
-    ensures { result ≡ read_from Outside bytes.now start.entry }
+// Reads the front of a text by the bytes of a pattern.
+pub(crate) fn read_front(bytes: &[u8], reader: &mut Reader<'_>) -> Result<(), Stop>
+    ensures read { IfOk result (λ u. read_from Outside bytes.now reader.old ≡ Ok reader.new) }
+    ensures stop { IfErr result (λ e. read_from Outside bytes.now reader.old ≡ Err e) }
 {
-    let mut reader = start;
-    let mut state = State::Outside;
     let mut rest = bytes;
-    while let Some((byte, behind)) = rest.split_first() {
-        let Some(next) = pattern_step(state, *byte) else {
-            return Ok(reader);
-        };
-        match read_item(&mut reader, next.1) {
+    while let Some((item, behind)) = front_item(rest) {
+        match read_item(reader, item) {
             Ok(()) => {}
             Err(stop) => return Err(stop),
         }
-        state = next.0;
         rest = behind;
     }
-    Ok(reader)
+    Ok(())
 }

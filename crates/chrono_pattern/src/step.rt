@@ -24,7 +24,7 @@ pub(crate) fn pattern_step(state: State, byte: u8) -> Option<(State, Item)>
 // The same behind `%` and a padding or none.
 #[inline(always)]
 #[tactic(auto, unfolding(crate::specs::PatternSteps::opened_step))]
-fn opened_step(padding: Padding, byte: u8) -> Option<(State, Item)>
+pub(crate) fn opened_step(padding: Padding, byte: u8) -> Option<(State, Item)>
     ensures { result ≡ opened_step padding byte }
 {
     match date_number_at(byte) {

@@ -2,10 +2,10 @@
 ghost use Rattle.std.specs.Prelude.{◌≡◌, ◌↔◌, ◌+◌, ◌≤◌, ◌++◌, IfSome, IsSome, length, true};
 ghost use Rattle.chrono_pattern.specs.Patterns.{pattern_text, text_of_item};
 
+use crate::front_item::front_item;
 use crate::group::put_group;
-use crate::item::{Item, State};
+use crate::item::Item;
 use crate::number::put_number;
-use crate::step::pattern_step;
 use crate::subsecond::put_subsecond;
 use crate::word::put_word;
 use chrono_datetime::NaiveDateTime;
@@ -20,22 +20,18 @@ pub(crate) fn text_of<const N: usize>(bytes: &[u8], moment: NaiveDateTime) -> Op
     ensures exists { IsSome result ↔ (length (pattern_text bytes.now moment) ≤ N) }
 {
     let mut text = Text::new();
-    let mut state = State::Outside;
     let mut rest = bytes;
-    while let Some((byte, behind)) = rest.split_first() {
-        let Some(next) = pattern_step(state, *byte) else {
-            return Some(text);
-        };
-        if !put_if_fits(&mut text, next.1, moment) {
+    while let Some((item, behind)) = front_item(rest) {
+        if !put_if_fits(&mut text, item, moment) {
             return None;
         }
-        state = next.0;
         rest = behind;
     }
     Some(text)
 }
 
 // Puts an item if there is room for it, and tells whether there is.
+#[inline(always)]
 fn put_if_fits<const N: usize>(text: &mut Text<N>, item: Item, moment: NaiveDateTime) -> bool
     ensures text { result ≡ true → text.new ≡ text.old ++ text_of_item item moment }
     ensures exists { (result ≡ true) ↔ (length text.old + length (text_of_item item moment) ≤ N) }
@@ -44,6 +40,15 @@ fn put_if_fits<const N: usize>(text: &mut Text<N>, item: Item, moment: NaiveDate
         put_item(text, item, moment);
         return true;
     }
+    put_piece(text, item, moment)
+}
+
+// The same by a text of its own, where little room is left.
+#[inline(never)]
+fn put_piece<const N: usize>(text: &mut Text<N>, item: Item, moment: NaiveDateTime) -> bool
+    ensures text { result ≡ true → text.new ≡ text.old ++ text_of_item item moment }
+    ensures exists { (result ≡ true) ↔ (length text.old + length (text_of_item item moment) ≤ N) }
+{
     let mut piece = Text::<LONGEST>::new();
     put_item(&mut piece, item, moment);
     if text.room() < piece.as_bytes().len() {
@@ -54,6 +59,7 @@ fn put_if_fits<const N: usize>(text: &mut Text<N>, item: Item, moment: NaiveDate
 }
 
 // Puts an item.
+#[inline(always)]
 fn put_item<const N: usize>(text: &mut Text<N>, item: Item, moment: NaiveDateTime)
     requires room { length text.old + 31 ≤ N }
     ensures text { text.new ≡ text.old ++ text_of_item item moment }
