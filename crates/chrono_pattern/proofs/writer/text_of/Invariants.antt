@@ -5,7 +5,7 @@ use Rattle.chrono_pattern.proofs.writer.text_of.Given as goal
 
 abbrev pub invariant-loop-byte : goal.invariant-loop-byte
 invariant-loop-byte g l = record {
-  whole : l.text ++ text_from l.state l.rest l.fn.moment ≡ text_from l.initial.state l.initial.rest l.fn.moment;
+  whole : l.text ++ text_from l.state l.rest l.fn.moment l.fn.offset ≡ text_from l.initial.state l.initial.rest l.fn.moment l.fn.offset;
   fits : length l.text ≤ g.row.N;
 }
 
