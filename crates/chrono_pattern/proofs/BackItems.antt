@@ -19,7 +19,7 @@ use Rattle.chrono_pattern.specs.declared.error.ReadFault.TheVariants.{Invalid}
 use Rattle.chrono_pattern.specs.declared.item.GroupField.{GroupField}
 use Rattle.chrono_pattern.specs.declared.item.GroupField.TheVariants.{YearMonthDay, MonthDayYear, HourMinute, HourMinuteSecond, HalfClock, DayMonthYear, DateAndTime}
 use Rattle.chrono_pattern.specs.declared.item.Item.{Item}
-use Rattle.chrono_pattern.specs.declared.item.Item.TheVariants.{Empty, Byte, Number, Word, Group, Subsecond}
+use Rattle.chrono_pattern.specs.declared.item.Item.TheVariants.{Empty, Byte, Number, Word, Group, Subsecond, Zoned}
 use Rattle.chrono_pattern.specs.declared.item.NumberField.{NumberField}
 use Rattle.chrono_pattern.specs.declared.item.NumberField.TheVariants.{Year, Century, YearOfCentury, Quarter, Month, Day, SpacedDay, DayOfYear, FromMonday, FromSunday, IsoYear, IsoYearOfCentury, IsoWeek, WeekFromSunday, WeekFromMonday, Hour, SpacedHour, HalfHour, SpacedHalfHour, Minute, Second, Nanosecond}
 use Rattle.chrono_pattern.specs.declared.item.Padding.TheVariants.{Usual, Nothing, Spaces, Zeros}
@@ -200,7 +200,7 @@ group_stays DateAndTime rest m n h plain = absurd (false≢true h)
 
 pub item_back : (item : Item) (blank : Bool) (rest : List ℕ) (q : Parsed) (m : Moment) (n : ℕ) → is_fixed_item blank item ≡ true → IsPlain m n
     → (ends_blank blank item ≡ true → behind_blanks rest ≡ rest)
-    → item_read item (at (text_of_item item m ++ rest) (parts_of q m)) ≡ Ok (at rest (parts_of (with_item item q) m))
+    → item_read item (at (text_of_item item m (pos 0) ++ rest) (parts_of q m)) ≡ Ok (at rest (parts_of (with_item item q) m))
 item_back Empty blank rest q m n h plain stays = refl
 item_back (Byte c) blank rest q m n h plain stays = byte_back c rest (parts_of q m) (is_pattern_blank c) refl stays
 item_back (Number field Usual) blank rest q m n h plain stays =
@@ -211,13 +211,14 @@ item_back (Number field Zeros) blank rest q m n h plain stays = absurd (false≢
 item_back (Word w) blank rest q m n h plain stays = absurd (false≢true h)
 item_back (Group g) blank rest q m n h plain stays = group_back g rest q m n h plain
 item_back (Subsecond point count) blank rest q m n h plain stays = absurd (false≢true h)
+item_back (Zoned field) blank rest q m n h plain stays = absurd (false≢true h)
 
 not_so : (b : Bool) → (if b then false else true) ≡ true → b ≡ false
 not_so true h = absurd (false≢true h)
 not_so false h = refl
 
 pub item_stays : (item : Item) (rest : List ℕ) (m : Moment) (n : ℕ) → is_fixed_item true item ≡ true → IsPlain m n
-    → (ends_blank true item ≡ true → behind_blanks rest ≡ rest) → behind_blanks (text_of_item item m ++ rest) ≡ text_of_item item m ++ rest
+    → (ends_blank true item ≡ true → behind_blanks rest ≡ rest) → behind_blanks (text_of_item item m (pos 0) ++ rest) ≡ text_of_item item m (pos 0) ++ rest
 item_stays Empty rest m n h plain stays = stays refl
 item_stays (Byte c) rest m n h plain stays = front_stays c rest (not_so (is_pattern_blank c) h)
 item_stays (Number field Usual) rest m n h plain stays = number_stays field rest m n (and_parts (is_fixed_number field) true h).0 plain
@@ -227,6 +228,7 @@ item_stays (Number field Zeros) rest m n h plain stays = absurd (false≢true (a
 item_stays (Word w) rest m n h plain stays = absurd (false≢true h)
 item_stays (Group g) rest m n h plain stays = group_stays g rest m n h plain
 item_stays (Subsecond point count) rest m n h plain stays = absurd (false≢true h)
+item_stays (Zoned field) rest m n h plain stays = absurd (false≢true h)
 
 -- ---- no year of the century is named
 
@@ -271,3 +273,4 @@ item_no_place (Number field padding) blank q h = number_no_place field q (and_pa
 item_no_place (Word w) blank q h = absurd (false≢true h)
 item_no_place (Group g) blank q h = group_no_place g q h
 item_no_place (Subsecond point count) blank q h = absurd (false≢true h)
+item_no_place (Zoned field) blank q h = absurd (false≢true h)

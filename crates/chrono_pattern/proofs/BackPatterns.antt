@@ -47,46 +47,46 @@ fixed-none s blank c bytes e =
 -- ---- behind a blank stands no other
 
 abbrev Stays : List ℕ → Moment → Type 0
-Stays bytes m = (s : State) → is_fixed_from s true bytes ≡ true → behind_blanks (text_from s bytes m) ≡ text_from s bytes m
+Stays bytes m = (s : State) → is_fixed_from s true bytes ≡ true → behind_blanks (text_from s bytes m (pos 0)) ≡ text_from s bytes m (pos 0)
 
 step_stays : (c : ℕ) (bytes : List ℕ) (m : Moment) (n : ℕ) → IsPlain m n → Stays bytes m → (s : State) (o : Option (State × Item))
-    → pattern_step s c ≡ o → is_fixed_from s true (c ∷ bytes) ≡ true → behind_blanks (text_from s (c ∷ bytes) m) ≡ text_from s (c ∷ bytes) m
+    → pattern_step s c ≡ o → is_fixed_from s true (c ∷ bytes) ≡ true → behind_blanks (text_from s (c ∷ bytes) m (pos 0)) ≡ text_from s (c ∷ bytes) m (pos 0)
 step_stays c bytes m n plain rest s None e h = absurd (false≢true (sym (fixed-none s true c bytes e) ∙ h))
 step_stays c bytes m n plain rest s (Some next) e h =
     let both = and_parts (is_fixed_item true next.1) (is_fixed_from next.0 (ends_blank true next.1) bytes) (sym (fixed-more s true c bytes next e) ∙ h) in
-    let text = text_from-more s c bytes m next e in
+    let text = text_from-more s c bytes m (pos 0) next e in
     ap (λ (l : List ℕ). behind_blanks l) text
-    ∙ item_stays next.1 (text_from next.0 bytes m) m n both.0 plain (λ is. rest next.0 (ap (λ (b : Bool). is_fixed_from next.0 b bytes) (sym is) ∙ both.1))
+    ∙ item_stays next.1 (text_from next.0 bytes m (pos 0)) m n both.0 plain (λ is. rest next.0 (ap (λ (b : Bool). is_fixed_from next.0 b bytes) (sym is) ∙ both.1))
     ∙ sym text
 
 stays : (bytes : List ℕ) (m : Moment) (n : ℕ) → IsPlain m n → Stays bytes m
 stays [] m n plain s h =
-    let nothing = text_from-nothing s m in ap (λ (l : List ℕ). behind_blanks l) nothing ∙ nothing_stays ∙ sym nothing
+    let nothing = text_from-nothing s m (pos 0) in ap (λ (l : List ℕ). behind_blanks l) nothing ∙ nothing_stays ∙ sym nothing
 stays (c ∷ bytes) m n plain s h = step_stays c bytes m n plain (stays bytes m n plain) s (pattern_step s c) refl h
 
 -- ---- the parts
 
 abbrev Back : List ℕ → Moment → Type 0
 Back bytes m = (s : State) (blank : Bool) (q : Parsed) → is_fixed_from s blank bytes ≡ true
-    → read_from s bytes (at (text_from s bytes m) (parts_of q m)) ≡ Ok (at [] (parts_of (named_from s bytes q) m))
+    → read_from s bytes (at (text_from s bytes m (pos 0)) (parts_of q m)) ≡ Ok (at [] (parts_of (named_from s bytes q) m))
 
 step_back : (c : ℕ) (bytes : List ℕ) (m : Moment) (n : ℕ) → IsPlain m n → Back bytes m → (s : State) (blank : Bool) (q : Parsed)
     → (o : Option (State × Item)) → pattern_step s c ≡ o → is_fixed_from s blank (c ∷ bytes) ≡ true
-    → read_from s (c ∷ bytes) (at (text_from s (c ∷ bytes) m) (parts_of q m)) ≡ Ok (at [] (parts_of (named_from s (c ∷ bytes) q) m))
+    → read_from s (c ∷ bytes) (at (text_from s (c ∷ bytes) m (pos 0)) (parts_of q m)) ≡ Ok (at [] (parts_of (named_from s (c ∷ bytes) q) m))
 step_back c bytes m n plain rest s blank q None e h = absurd (false≢true (sym (fixed-none s blank c bytes e) ∙ h))
 step_back c bytes m n plain rest s blank q (Some next) e h =
     let both = and_parts (is_fixed_item blank next.1) (is_fixed_from next.0 (ends_blank blank next.1) bytes) (sym (fixed-more s blank c bytes next e) ∙ h) in
-    let behind = text_from next.0 bytes m in
+    let behind = text_from next.0 bytes m (pos 0) in
     let stay = λ (is : ends_blank blank next.1 ≡ true). stays bytes m n plain next.0 (ap (λ (b : Bool). is_fixed_from next.0 b bytes) (sym is) ∙ both.1) in
-    ap (λ (l : List ℕ). read_from s (c ∷ bytes) (at l (parts_of q m))) (text_from-more s c bytes m next e)
-    ∙ read_from-more s c bytes (at (text_of_item next.1 m ++ behind) (parts_of q m)) next e
+    ap (λ (l : List ℕ). read_from s (c ∷ bytes) (at l (parts_of q m))) (text_from-more s c bytes m (pos 0) next e)
+    ∙ read_from-more s c bytes (at (text_of_item next.1 m (pos 0) ++ behind) (parts_of q m)) next e
     ∙ ap (λ (o : Result Progress Stop). behind_item o next.0 bytes) (item_back next.1 blank behind q m n both.0 plain stay)
     ∙ rest next.0 (ends_blank blank next.1) (with_item next.1 q) both.1
     ∙ ap (λ (p : Parsed). Ok (at [] (parts_of p m))) (sym (named_from-more s c bytes q next e))
 
 back : (bytes : List ℕ) (m : Moment) (n : ℕ) → IsPlain m n → Back bytes m
 back [] m n plain s blank q h =
-    ap (λ (l : List ℕ). read_from s [] (at l (parts_of q m))) (text_from-nothing s m)
+    ap (λ (l : List ℕ). read_from s [] (at l (parts_of q m))) (text_from-nothing s m (pos 0))
     ∙ read_from-nothing s (at [] (parts_of q m))
     ∙ ap (λ (p : Parsed). Ok (at [] (parts_of p m))) (sym (named_from-nothing s q))
 back (c ∷ bytes) m n plain s blank q h = step_back c bytes m n plain (back bytes m n plain) s blank q (pattern_step s c) refl h

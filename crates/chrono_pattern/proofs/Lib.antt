@@ -8,6 +8,7 @@ mod DatePartLemmas
 mod TimePartLemmas
 mod YearWeekLemmas
 mod WriteLemmas
+mod ManyDigits
 mod AsciiLemmas
 mod ItemLemmas
 mod FrontLemmas

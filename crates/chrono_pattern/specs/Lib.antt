@@ -5,6 +5,7 @@ pub mod Words
 pub mod GroupParts
 pub mod Groups
 pub mod Subseconds
+pub mod ZonedPieces
 pub mod Patterns
 pub mod Needs
 pub mod Parts
@@ -12,6 +13,7 @@ pub mod Progress
 pub mod NumberReads
 pub mod WordReads
 pub mod SubsecondReads
+pub mod OffsetReads
 pub mod ItemReads
 pub mod Reads
 pub mod DateParts

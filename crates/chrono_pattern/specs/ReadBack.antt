@@ -49,6 +49,8 @@ parts_of p m = record {
   minute = if_named p.minute (pos (minute_of m.time));
   second = if_named p.second (pos (second_of m.time + m.time.fraction / nanos_per_second));
   nanosecond = if_named p.nanosecond (pos (m.time.fraction % nanos_per_second));
+  offset = None;
+  timestamp = None;
 }
 
 -- the number has a fixed number of digits, a year from 0 to 9999

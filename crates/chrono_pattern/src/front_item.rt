@@ -39,7 +39,9 @@ fn specifier(bytes: &[u8]) -> Option<(Item, &[u8])>
             None => None,
             Some((state, item)) => match state {
                 State::Outside => Some((item, rest)),
-                State::Opened(_) | State::Digits(_, _) => later_item(state, rest),
+                State::Opened(_) | State::Digits(_, _) | State::Marked(_) => later_item(
+                    state, rest,
+                ),
             },
         },
     }
@@ -59,7 +61,7 @@ fn later_item(state: State, bytes: &[u8]) -> Option<(Item, &[u8])>
             None => return None,
             Some((next, item)) => match next {
                 State::Outside => return Some((item, behind)),
-                State::Opened(_) | State::Digits(_, _) => stands = next,
+                State::Opened(_) | State::Digits(_, _) | State::Marked(_) => stands = next,
             },
         }
         rest = behind;

@@ -8,6 +8,7 @@ ghost use Rattle.chrono_datetime.specs.Time.{IsTime, time_at};
 ghost use Rattle.chrono_datetime.specs.Weekday.{days_from_monday, days_from_sunday};
 ghost use Rattle.chrono_datetime.specs.Weeks.{iso_week_of, iso_year_of, weekday_of};
 ghost use Rattle.chrono_datetime.specs.declared.Weekday.TheVariants.{Mon};
+ghost use Rattle.chrono_instant.specs.Offsets.{IsOffset};
 ghost use Rattle.chrono_pattern.specs.DateParts.{is_present, names_date};
 ghost use Rattle.chrono_pattern.specs.NamedParts.{named_parts};
 ghost use Rattle.chrono_pattern.specs.Parses.{IsDateBy, IsTimeBy};
@@ -18,7 +19,7 @@ ghost use Rattle.chrono_pattern.specs.Reads.{text_read};
 ghost use Rattle.chrono_pattern.specs.YearWeeks.{week_from_monday, week_from_sunday};
 ghost use Rattle.chrono_pattern.specs.declared.error.ReadFault.TheVariants.{Impossible, Invalid, OutOfRange, TooLong, TooShort};
 ghost use Rattle.chrono_pattern.specs.TimeParts.{names_second, names_time};
-ghost use Rattle.chrono_pattern.specs.Patterns.{IsPattern, pattern_error, pattern_text};
+ghost use Rattle.chrono_pattern.specs.Patterns.{IsPattern, pattern_error, pattern_text, text_at_offset};
 ghost use Rattle.chrono_pattern.specs.declared.error.PatternFault.TheVariants.{Cut, Unknown};
 ghost use Rattle.chrono_pattern.specs.declared.parsed.Parsed.{Parsed};
 
@@ -131,6 +132,7 @@ pub fn fixed_patterns_read_back()
 /// So `%x` is `%D`, `%X` is `%T`, and `%h` is `%b`.
 pub fn items_tell_the_pattern()
     ensures written { (a b : List ℕ) → (m : Moment) → pattern_items a ≡ pattern_items b → pattern_text a m ≡ pattern_text b m }
+    ensures zoned { (a b : List ℕ) → (m : Moment) → (x : ℤ) → pattern_items a ≡ pattern_items b → text_at_offset a m x ≡ text_at_offset b m x }
     ensures read { (a b text : List ℕ) → pattern_items a ≡ pattern_items b → text_read a text ≡ text_read b text }
     ensures short_date { pattern_items (codes "%x %h") ≡ pattern_items (codes "%D %b") }
     ensures short_time { pattern_items (codes "%X") ≡ pattern_items (codes "%T") }
@@ -144,5 +146,7 @@ pub fn weeks_are_found_by_places()
 
 /// States that a pattern of ASCII bytes writes ASCII. So its text is a string, as `as_str` of `Text` asks.
 pub fn ascii_patterns_write_ascii()
-    ensures { (bytes : List ℕ) → (m : Moment) → IsAscii bytes → IsDate m.date → IsTime m.time → IsAscii (pattern_text bytes m) }
+    ensures utc { (bytes : List ℕ) → (m : Moment) → IsAscii bytes → IsDate m.date → IsTime m.time → IsAscii (pattern_text bytes m) }
+    ensures zoned { (bytes : List ℕ) → (m : Moment) → (x : ℤ) → IsOffset x → IsAscii bytes → IsDate m.date → IsTime m.time
+        → IsAscii (text_at_offset bytes m x) }
 {}

@@ -4,7 +4,7 @@ ghost use Rattle.chrono_datetime.specs.Moment.{moment};
 ghost use Rattle.chrono_datetime.specs.Time.{TimeOfDay, time_at};
 ghost use Rattle.chrono_pattern.specs.DateParts.{names_date};
 ghost use Rattle.chrono_pattern.specs.NamedParts.{named_parts};
-ghost use Rattle.chrono_pattern.specs.Needs.{needs_time};
+ghost use Rattle.chrono_pattern.specs.Needs.{needs_offset, needs_time};
 ghost use Rattle.chrono_pattern.specs.Reads.{end_read, front_read, read_error, read_from, text_read};
 ghost use Rattle.chrono_pattern.specs.TimeParts.{names_time};
 ghost use Rattle.chrono_pattern.specs.declared.item.State.TheVariants.{Outside};
@@ -15,7 +15,7 @@ use crate::date_parts::names_date;
 use crate::error::{PatternError, PatternFault, PatternReadError};
 use crate::item::State;
 use crate::named_parts::named_parts;
-use crate::needs::needs_time;
+use crate::needs::{needs_offset, needs_time};
 use crate::parsed::Parsed;
 use crate::reader::{Reader, read_front, read_text, reader_of};
 use crate::step::pattern_step;
@@ -24,6 +24,7 @@ use crate::time_parts::names_time;
 use crate::writer::text_of;
 use chrono_datetime::{NaiveDate, NaiveDateTime, NaiveTime};
 use chrono_text::Text;
+use chrono_zoned::FixedOffset;
 use std::marker::Model;
 
 /// A pattern of texts: bytes that are written as they are, and specifiers, which begin with `%`.
@@ -38,7 +39,9 @@ use std::marker::Model;
 /// ```
 #[derive(Drop)]
 pub struct Pattern<'a> {
-    bytes: &'a [u8],
+    pub(crate) bytes: &'a [u8],
+    // Whether the pattern has a specifier of the offset from UTC.
+    is_zoned: bool,
 }
 
 impl<'a> Model for Pattern<'a> {
@@ -46,7 +49,7 @@ impl<'a> Model for Pattern<'a> {
 
     ghost view = { λ p. p.bytes.now };
 
-    ghost invariant = { λ p. IsPattern p.bytes.now };
+    ghost invariant = { λ p. IsPattern p.bytes.now × (p.is_zoned ≡ needs_offset p.bytes.now) };
 }
 
 impl<'a> Pattern<'a> {
@@ -78,33 +81,60 @@ impl<'a> Pattern<'a> {
     /// | `%F` `%D` `%T` `%R` | `%Y-%m-%d`, `%m/%d/%y`, `%H:%M:%S`, `%H:%M` |
     /// | `%x` `%X` `%r` | `%m/%d/%y`, `%H:%M:%S`, `%I:%M:%S %p` |
     /// | `%c` `%v` | `%a %b %e %H:%M:%S %Y`, `%e-%b-%Y` |
+    /// | `%z` `%:z` `%::z` `%:::z` | offset from UTC: `+0930`, `+09:30`, `+09:30:00`, `+09` |
+    /// | `%#z` `%Z` | as `%z`, but a text may leave the minutes out; the offset as `%:z`, with its seconds if there are any |
+    /// | `%s` | seconds from 1970-01-01T00:00:00 UTC, with a sign if they are below 0 |
+    /// | `%+` | `%Y-%m-%dT%H:%M:%S%.f%:z` (RFC 3339) |
     /// | `%n` `%t` `%%` | line feed, tab, `%` |
     ///
-    /// Before a number, `-` asks for no padding, `_` for spaces, and `0` for zeros: `%-d`.
+    /// Before a number, `-` asks for no padding, `_` for spaces, and `0` for zeros: `%-d`. They change nothing at `%s`.
+    ///
+    /// What is smaller than the last number of an offset is left out. Such an offset keeps its sign: half a minute behind UTC is `-0000`.
     pub fn new(bytes: &'a [u8]) -> Result<Pattern<'a>, PatternError>
         ensures bytes { IfOk result (λ p. p ≡ bytes.now) }
         ensures exists { IsOk result ↔ IsPattern bytes.now }
         ensures error { IfErr result (λ e. pattern_error bytes.now ≡ Some e) }
     {
         match pattern_error(bytes) {
-            None => Ok(Pattern { bytes }),
+            None => Ok(Pattern {
+                bytes,
+                is_zoned: needs_offset(bytes),
+            }),
             Some(error) => Err(error),
         }
     }
 
-    /// Returns the text of `moment`. Returns `None` if it has more than `N` bytes.
+    /// Returns the text of `moment`. Returns `None` if the pattern needs an offset, or if the text has more than `N` bytes.
+    ///
+    /// The seconds from 1970, `%s`, are those of UTC where the date-time is of UTC.
     ///
     /// ```
     /// use chrono_datetime::{AndTime, NaiveDate};
     /// let moment = NaiveDate::from_ymd_opt(2024, 2, 29)?.and_hms_opt(9, 30, 0)?;
     /// Pattern::new(b"%I%p").ok()?.format::<8>(moment)?.as_bytes() // [48, 57, 65, 77]
     /// Pattern::new(b"%F").ok()?.format::<8>(moment).is_none() // true
+    /// Pattern::new(b"%R%z").ok()?.format::<16>(moment).is_none() // true
     /// ```
     pub fn format<const N: usize>(&self, moment: NaiveDateTime) -> Option<Text<N>>
         ensures text { IfSome result (λ text. text ≡ pattern_text self.now moment) }
-        ensures exists { IsSome result ↔ (length (pattern_text self.now moment) ≤ N) }
+        ensures exists { IsSome result ↔ ((needs_offset self.now ≡ false) × (length (pattern_text self.now moment) ≤ N)) }
     {
-        text_of(self.bytes, moment)
+        if self.is_zoned {
+            return None;
+        }
+        text_of(self.bytes, moment, FixedOffset::east_opt(0).unwrap())
+    }
+
+    /// Returns whether the pattern has a specifier of the offset from UTC, such as `%z` or `%+`. Then only a zoned date-time has a text.
+    ///
+    /// ```
+    /// Pattern::new(b"%F %T %:z").ok()?.needs_offset() // true
+    /// Pattern::new(b"%s").ok()?.needs_offset() // false
+    /// ```
+    pub fn needs_offset(&self) -> bool
+        ensures { result ≡ needs_offset self.now }
+    {
+        self.is_zoned
     }
 
     /// Returns whether the pattern has a specifier of the time of day, such as `%H` or `%p`.
@@ -223,7 +253,7 @@ impl<'a> Pattern<'a> {
         read_text(self.bytes, reader)
     }
 
-    /// Returns the text of `date`. Returns `None` if the pattern needs a time of day, or if the text has more than `N` bytes.
+    /// Returns the text of `date`. Returns `None` if the pattern needs a time of day or an offset, or if the text has more than `N` bytes.
     ///
     /// ```
     /// use chrono_datetime::NaiveDate;
@@ -234,7 +264,7 @@ impl<'a> Pattern<'a> {
     pub fn format_date<const N: usize>(&self, date: NaiveDate) -> Option<Text<N>>
         // The text is the same at each time of the day.
         ensures text { IfSome result (λ text. (t : TimeOfDay) → text ≡ pattern_text self.now (moment date t)) }
-        ensures exists { IsSome result ↔ ((needs_time self.now ≡ false)
+        ensures exists { IsSome result ↔ ((needs_time self.now ≡ false) × (needs_offset self.now ≡ false)
             × (length (pattern_text self.now (moment date (time_at 0 0 0 0))) ≤ N)) }
     {
         if self.needs_time() {
@@ -283,7 +313,7 @@ fn cut_error(state: State, begun: usize) -> Option<PatternError>
 {
     match state {
         State::Outside => None,
-        State::Opened(_) | State::Digits(_, _) => Some(PatternError {
+        State::Opened(_) | State::Digits(_, _) | State::Marked(_) => Some(PatternError {
             byte: begun,
             cause: PatternFault::Cut,
         }),
@@ -296,6 +326,6 @@ fn begun_at(state: State, begun: usize, place: usize) -> usize
 {
     match state {
         State::Outside => place,
-        State::Opened(_) | State::Digits(_, _) => begun,
+        State::Opened(_) | State::Digits(_, _) | State::Marked(_) => begun,
     }
 }

@@ -10,8 +10,8 @@ pub returns-then-not-put_if_fits-clause-exists : goal.returns-then-not-put_if_fi
 returns-then-not-put_if_fits-clause-exists g c =
     let l = c.loop-item in
     let item = c.in-Some.item in
-    let grown = front_grows l.text _ _ item c.args.moment _ l.invariant.whole c.in-Some.ensures.item in
-    let short = no_shorter l.text (text_of_item item c.args.moment) _ _ grown in
+    let grown = front_grows l.text _ _ item c.args.moment c.args.offset _ l.invariant.whole c.in-Some.ensures.item in
+    let short = no_shorter l.text (text_of_item item c.args.moment c.args.offset) _ _ grown in
     (λ e. absurd (false≢true e), λ fits. absurd (false≢true (sym c.if-not-put_if_fits.true ∙ c.put_if_fits.ensures.exists.1 (omega (arith, short, fits)))))
 
 pub loop-item-preserved : goal.loop-item-preserved
@@ -20,18 +20,18 @@ loop-item-preserved g c =
     let item = c.in-Some.item in
     let put = c.put_if_fits.ensures.text c.if-not-put_if_fits.false in
     record {
-      whole = ap (λ (k : List ℕ). k ++ text_from Outside c.in-Some.behind.now c.args.moment) put
-          ∙ front_grows l.text _ _ item c.args.moment _ l.invariant.whole c.in-Some.ensures.item;
-      fits = omega (arith, ap (λ (k : List ℕ). length k) put, length-append l.text (text_of_item item c.args.moment), c.put_if_fits.ensures.exists.0 c.if-not-put_if_fits.false);
+      whole = ap (λ (k : List ℕ). k ++ text_from Outside c.in-Some.behind.now c.args.moment c.args.offset) put
+          ∙ front_grows l.text _ _ item c.args.moment c.args.offset _ l.invariant.whole c.in-Some.ensures.item;
+      fits = omega (arith, ap (λ (k : List ℕ). length k) put, length-append l.text (text_of_item item c.args.moment c.args.offset), c.put_if_fits.ensures.exists.0 c.if-not-put_if_fits.false);
     }
 
 pub returns-clause-text : goal.returns-clause-text
 returns-clause-text g c =
     let l = c.loop-item in
-    all_written l.text _ _ l.invariant.whole (text_of_none _ c.args.moment c.in_default.ensures.none)
+    all_written l.text _ _ l.invariant.whole (text_of_none _ c.args.moment c.args.offset c.in_default.ensures.none)
 
 pub returns-clause-exists : goal.returns-clause-exists
 returns-clause-exists g c =
     let l = c.loop-item in
-    let all = all_written l.text _ _ l.invariant.whole (text_of_none _ c.args.moment c.in_default.ensures.none) in
+    let all = all_written l.text _ _ l.invariant.whole (text_of_none _ c.args.moment c.args.offset c.in_default.ensures.none) in
     (λ _. omega (arith, l.invariant.fits, ap (λ (k : List ℕ). length k) all), λ _. refl)

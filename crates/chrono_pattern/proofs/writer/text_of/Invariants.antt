@@ -6,7 +6,7 @@ use Rattle.chrono_pattern.proofs.writer.text_of.Given as goal
 
 abbrev pub invariant-loop-item : goal.invariant-loop-item
 invariant-loop-item g l = record {
-  whole : l.text ++ text_from Outside l.rest l.fn.moment ≡ text_from Outside l.initial.rest l.fn.moment;
+  whole : l.text ++ text_from Outside l.rest l.fn.moment l.fn.offset ≡ text_from Outside l.initial.rest l.fn.moment l.fn.offset;
   fits : length l.text ≤ g.row.N;
 }
 
