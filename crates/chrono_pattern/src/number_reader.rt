@@ -75,8 +75,8 @@ fn front_four(text: &[u8]) -> Option<u32>
     }
 }
 
-// Reads a number of any form. It is apart, so that the usual ones take few instructions.
-#[inline(never)]
+// Reads a number of any form.
+#[inline(always)]
 #[tactic(auto, unfolding(crate::specs::NumberReads::number_read))]
 fn read_any_number(reader: &mut Reader<'_>, field: NumberField) -> Result<(), Stop>
     ensures read { IfOk result (λ u. number_read field reader.old ≡ Ok reader.new) }
