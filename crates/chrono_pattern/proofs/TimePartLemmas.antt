@@ -34,7 +34,7 @@ unfolding time_fits clock_fits
 minute_said p t v fits is = said p.minute v _ is (and_parts _ _ (and_parts _ _ fits).0).1
 
 -- a part that counts has that size
-counted : (o : Option ℤ) (k : ℕ) → counts o (pos k) ≡ true → size_or_zero o ≡ k
+pub counted : (o : Option ℤ) (k : ℕ) → counts o (pos k) ≡ true → size_or_zero o ≡ k
 counted None k fits = grind (arith, Decides-int_eq (pos 0) (pos k))
 counted (Some v) k fits = grind (arith, Decides-int_eq v (pos k))
 

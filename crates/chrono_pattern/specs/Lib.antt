@@ -18,6 +18,7 @@ pub mod ItemReads
 pub mod Reads
 pub mod DateParts
 pub mod TimeParts
+pub mod ZonedParts
 pub mod NamedParts
 pub mod Parses
 pub mod ReadBack

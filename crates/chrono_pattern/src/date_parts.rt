@@ -132,7 +132,7 @@ fn names_year_week(week: Option<i32>, parts: Parsed) -> bool
 
 // Whether a date fits all parts.
 #[tactic(auto, unfolding(crate::specs::DateParts::date_fits))]
-fn fits_date(parts: Parsed, date: NaiveDate) -> bool
+pub(crate) fn fits_date(parts: Parsed, date: NaiveDate) -> bool
     ensures { result ≡ date_fits parts date }
 {
     fits_year(parts, date.year())

@@ -73,7 +73,7 @@ fn names_second(parts: Parsed) -> bool
 }
 
 // Whether a part is this value, or is not given and the value is 0.
-fn counts(part: Option<i32>, value: i32) -> bool
+pub(crate) fn counts(part: Option<i32>, value: i32) -> bool
     ensures { result ≡ counts part value }
 {
     match part {
@@ -92,7 +92,7 @@ fn fits_time(parts: Parsed, time: NaiveTime) -> bool
 
 // Whether the hour and the minute fit.
 #[tactic(auto, unfolding(crate::specs::TimeParts::clock_fits))]
-fn fits_clock(parts: Parsed, time: NaiveTime) -> bool
+pub(crate) fn fits_clock(parts: Parsed, time: NaiveTime) -> bool
     ensures { result ≡ clock_fits parts time }
 {
     says(parts.hour_div_12, (time.hour() / 12) as i32)
@@ -128,7 +128,7 @@ fn named_time(parts: Parsed) -> Option<NaiveTime>
 }
 
 // The size of a part, and 0 if it is not given.
-fn size_or_zero(part: Option<i32>) -> u32
+pub(crate) fn size_or_zero(part: Option<i32>) -> u32
     ensures { result ≡ size_or_zero part }
 {
     match part {
