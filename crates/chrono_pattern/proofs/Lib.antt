@@ -6,6 +6,7 @@ mod ShapeLemmas
 mod ReadLemmas
 mod DatePartLemmas
 mod TimePartLemmas
+mod ZonedPartLemmas
 mod YearWeekLemmas
 mod WriteLemmas
 mod ManyDigits

@@ -24,6 +24,7 @@ use Rattle.chrono_pattern.specs.PatternSteps.{pattern_step}
 use Rattle.chrono_pattern.specs.SubsecondReads.{places_read, places_value, point_behind, subsecond_read}
 use Rattle.chrono_pattern.specs.TimeParts.{names_second, names_time}
 use Rattle.chrono_pattern.specs.WordReads.{half_behind, half_of, half_read, least_letters, letters_read, month_behind, month_read, weekday_behind, weekday_read, word_read}
+use Rattle.chrono_pattern.specs.ZonedParts.{names_moment, names_zoned}
 use Rattle.chrono_pattern.specs.declared.class.Class.TheVariants.{Digit}
 use Rattle.chrono_pattern.specs.declared.error.ReadFault.{ReadFault}
 use Rattle.chrono_pattern.specs.declared.error.ReadFault.TheVariants.{Impossible}
@@ -680,3 +681,31 @@ time_of_like p q e named =
 pub time_is_named : (bytes text : List ℕ) (p : Parsed) → names_second (named_parts bytes) ≡ true → text_read bytes text ≡ Ok p
     → names_time p ≡ names_time (named_parts bytes)
 time_is_named bytes text p named is = time_of_like p (named_parts bytes) (read_like bytes text p is) named
+
+stamp_of_like : (p q : Parsed) → Like p q → is_present p.timestamp ≡ is_present q.timestamp
+stamp_of_like p q e = same_given p.timestamp q.timestamp (ap (λ (t : Parsed). t.timestamp) e.same)
+
+offset_of_like : (p q : Parsed) → Like p q → is_present p.offset ≡ is_present q.offset
+offset_of_like p q e = same_given p.offset q.offset (ap (λ (t : Parsed). t.offset) e.same)
+
+moment_of_like : (p q : Parsed) → Like p q → names_date p ≡ names_date q → names_time p ≡ names_time q → names_moment p ≡ names_moment q
+unfolding names_moment
+moment_of_like p q e date time =
+    ap (λ (b : Bool). if b then true else names_date p && names_time p) (stamp_of_like p q e)
+    ∙ ap (λ (b : Bool). if is_present q.timestamp then true else b && names_time p) date
+    ∙ ap (λ (b : Bool). if is_present q.timestamp then true else names_date q && b) time
+
+pub moment_is_named : (bytes text : List ℕ) (p : Parsed) → names_second (named_parts bytes) ≡ true → text_read bytes text ≡ Ok p
+    → names_moment p ≡ names_moment (named_parts bytes)
+moment_is_named bytes text p named is =
+    moment_of_like p (named_parts bytes) (read_like bytes text p is) (date_is_named bytes text p is) (time_is_named bytes text p named is)
+
+pub zoned_is_named : (bytes text : List ℕ) (p : Parsed) → names_second (named_parts bytes) ≡ true → text_read bytes text ≡ Ok p
+    → names_zoned p ≡ names_zoned (named_parts bytes)
+unfolding names_zoned
+zoned_is_named bytes text p named is =
+    let q = named_parts bytes in
+    let like = read_like bytes text p is in
+    ap (λ (b : Bool). if b then true else names_moment p && is_present p.offset) (stamp_of_like p q like)
+    ∙ ap (λ (b : Bool). if is_present q.timestamp then true else b && is_present p.offset) (moment_is_named bytes text p named is)
+    ∙ ap (λ (b : Bool). if is_present q.timestamp then true else names_moment q && b) (offset_of_like p q like)

@@ -1,5 +1,5 @@
 -- The time of day that fits parts is the one that they name.
-use Rattle.std.proofs.Common.{◌≡◌, ℕ, true, ◌&&◌, ◌+◌, ◌/◌, ◌%◌, Option, None, Some, ℤ, pos, ap, sym, ◌∙◌}
+use Rattle.std.proofs.Common.{◌≡◌, ℕ, true, ◌&&◌, ◌+◌, ◌/◌, ◌%◌, Option, None, Some, ℤ, pos, ap, sym, ◌∙◌, arith}
 use Rattle.std.proofs.lemmas.Bool.{and_parts, false≢true}
 use Rattle.std.proofs.lemmas.Bool.Decides.{Decides-int_eq}
 use Rattle.std.specs.Cmp.Derive.{both_true}
@@ -7,7 +7,7 @@ use Rattle.std.specs.Prelude.{IfSome}
 use Rattle.chrono_datetime.specs.Duration.{nanos_per_second}
 use Rattle.chrono_datetime.specs.Time.{TimeOfDay, hour_of, minute_of, second_of}
 use Rattle.chrono_pattern.specs.DateParts.{is_present, says}
-use Rattle.chrono_pattern.specs.TimeParts.{clock_fits, counts, names_second, names_time, second_fits, time_fits}
+use Rattle.chrono_pattern.specs.TimeParts.{clock_fits, counts, names_second, names_time, second_fits, size_or_zero, time_fits}
 use Rattle.chrono_pattern.specs.declared.parsed.Parsed.{Parsed}
 use Rattle.chrono_pattern.proofs.DatePartLemmas.{is_said}
 
@@ -39,6 +39,11 @@ hour_is p t named fits = exactly p.hour_mod_12 _ (time_names p named).hour (and_
 pub minute_is : (p : Parsed) (t : TimeOfDay) → names_time p ≡ true → time_fits p t ≡ true → p.minute ≡ Some (pos (minute_of t))
 unfolding time_fits clock_fits
 minute_is p t named fits = exactly p.minute _ (time_names p named).minute (and_parts _ _ (and_parts _ _ fits).0).1
+
+-- a part that counts has that size
+pub counted : (o : Option ℤ) (k : ℕ) → counts o (pos k) ≡ true → size_or_zero o ≡ k
+counted None k fits = grind (arith, Decides-int_eq (pos 0) (pos k))
+counted (Some v) k fits = grind (arith, Decides-int_eq v (pos k))
 
 pub second_counts : (p : Parsed) (t : TimeOfDay) → time_fits p t ≡ true → counts p.second (pos (second_of t + t.fraction / nanos_per_second)) ≡ true
 unfolding time_fits second_fits

@@ -19,6 +19,7 @@ pub mod Reads
 pub mod DateParts
 pub mod PlainParts
 pub mod TimeParts
+pub mod ZonedParts
 pub mod NamedParts
 pub mod Parses
 pub mod ReadBack

@@ -1,5 +1,5 @@
 -- Which times of day fit the parts that a text gives, and which parts suffice for one.
-use Rattle.std.specs.Prelude.{◌+◌, ◌/◌, ◌%◌, Bool, true, false, ◌&&◌, if◌then◌else◌, ℤ, pos, Option, Some, None}
+use Rattle.std.specs.Prelude.{ℕ, ◌+◌, ◌/◌, ◌%◌, Bool, true, false, ◌&&◌, if◌then◌else◌, ℤ, pos, Option, Some, None, unsigned_abs}
 use Rattle.std.specs.Ordering.{int_eq}
 use Rattle.chrono_datetime.specs.Duration.{nanos_per_second}
 use Rattle.chrono_datetime.specs.Time.{FractionFits, IsTime, TimeOfDay, hour_of, minute_of, second_of}
@@ -39,3 +39,8 @@ names_second p = if is_present p.second then true else if is_present p.nanosecon
 -- the parts suffice for a time of day: its half day, its hour there and its minute
 unfoldable pub names_time : Parsed → Bool
 names_time p = (is_present p.hour_div_12 && is_present p.hour_mod_12) && (is_present p.minute && names_second p)
+
+-- the size of the part, and 0 if it is not given
+abbrev pub size_or_zero : Option ℤ → ℕ
+size_or_zero None = 0
+size_or_zero (Some v) = unsigned_abs v

@@ -141,7 +141,7 @@ fn any_date(parts: Parsed) -> Result<NaiveDate, ReadFault>
 }
 
 // Whether a part is this value, if it is given.
-fn says(part: Option<i32>, value: i32) -> bool
+pub(crate) fn says(part: Option<i32>, value: i32) -> bool
     ensures { result ≡ says part value }
 {
     match part {
@@ -213,7 +213,7 @@ fn names_year_week(week: Option<i32>, parts: Parsed) -> bool
 
 // Whether a date fits all parts.
 #[tactic(auto, unfolding(crate::specs::DateParts::date_fits))]
-fn fits_date(parts: Parsed, date: NaiveDate) -> bool
+pub(crate) fn fits_date(parts: Parsed, date: NaiveDate) -> bool
     ensures { result ≡ date_fits parts date }
 {
     fits_year(parts, date.year())

@@ -4,6 +4,7 @@ ghost use Rattle.std.specs.Str.{IsAscii};
 ghost use Rattle.chrono_datetime.specs.Days.{IsDate, day_of, month_of, ordinal_of, year_of};
 ghost use Rattle.chrono_datetime.specs.Moment.{Moment, moment};
 ghost use Rattle.chrono_datetime.specs.Duration.{nanos_per_second};
+ghost use Rattle.chrono_datetime.specs.Fields.{unix_epoch_day};
 ghost use Rattle.chrono_datetime.specs.Time.{IsTime, time_at};
 ghost use Rattle.chrono_datetime.specs.Weekday.{days_from_monday, days_from_sunday};
 ghost use Rattle.chrono_datetime.specs.Weeks.{iso_week_of, iso_year_of, weekday_of};
@@ -19,6 +20,7 @@ ghost use Rattle.chrono_pattern.specs.Reads.{text_read};
 ghost use Rattle.chrono_pattern.specs.YearWeeks.{week_from_monday, week_from_sunday};
 ghost use Rattle.chrono_pattern.specs.declared.error.ReadFault.TheVariants.{Impossible, Invalid, OutOfRange, TooLong, TooShort};
 ghost use Rattle.chrono_pattern.specs.TimeParts.{names_second, names_time};
+ghost use Rattle.chrono_pattern.specs.ZonedParts.{names_moment, names_zoned};
 ghost use Rattle.chrono_pattern.specs.Patterns.{IsPattern, pattern_error, pattern_text, text_at_offset};
 ghost use Rattle.chrono_pattern.specs.declared.error.PatternFault.TheVariants.{Cut, Unknown};
 ghost use Rattle.chrono_pattern.specs.declared.parsed.Parsed.{Parsed};
@@ -52,7 +54,7 @@ pub fn known_texts_of_dates()
         → pattern_text (codes "%G-W%V-%u %a") m ≡ codes "2025-W01-1 Mon" }
 {}
 
-/// States known errors: a specifier that is unknown, one that is cut, a padding before a word, and a second padding.
+/// States known errors: a specifier that is unknown, one that is cut, a padding before a word, a second padding, and a fourth colon.
 pub fn known_errors()
     ensures unknown { pattern_error (codes "%Y-%Q") ≡ Some (record { byte = 3; cause = Unknown }) }
     ensures cut { pattern_error (codes "100%") ≡ Some (record { byte = 3; cause = Cut }) }
@@ -60,7 +62,10 @@ pub fn known_errors()
     ensures word { pattern_error (codes "%-a") ≡ Some (record { byte = 0; cause = Unknown }) }
     ensures second_padding { pattern_error (codes "%%%--d") ≡ Some (record { byte = 2; cause = Unknown }) }
     ensures digits { pattern_error (codes "%.5f") ≡ Some (record { byte = 0; cause = Unknown }) }
+    ensures colons { pattern_error (codes "%::::z") ≡ Some (record { byte = 0; cause = Unknown }) }
+    ensures cut_colon { pattern_error (codes "%H%:") ≡ Some (record { byte = 2; cause = Cut }) }
     ensures none { IsPattern (codes "100%% %.3f %-d") }
+    ensures zoned { IsPattern (codes "%+ %:::z %#z %Z %-s") }
 {}
 
 /// States what known texts give:
@@ -95,14 +100,77 @@ pub fn known_reading_errors()
     ensures long { text_read (codes "%y") (codes "2024") ≡ Err (record { cause = TooLong; left = 2 }) }
 {}
 
+/// States known texts of offsets from UTC, of the seconds from 1970, and of a date-time with its offset:
+///
+/// - nine hours and a half, with each specifier;
+/// - five hours and fifteen seconds behind UTC, and half a minute behind it;
+/// - the first second of 1970 in UTC, and an hour ahead of it.
+pub fn known_texts_of_offsets()
+    ensures half_hour { (m : Moment) → text_at_offset (codes "%z %:z %::z %:::z %#z %Z") m (pos 34_200)
+        ≡ codes "+0930 +09:30 +09:30:00 +09 +0930 +09:30" }
+    ensures behind { (m : Moment) → text_at_offset (codes "%z %::z %Z") m (neg_ℤ (pos 18_015)) ≡ codes "-0500 -05:00:15 -05:00:15" }
+    ensures half_minute { (m : Moment) → text_at_offset (codes "%z %:z") m (neg_ℤ (pos 30)) ≡ codes "-0000 -00:00" }
+    ensures first_second { pattern_text (codes "%s") (moment unix_epoch_day (time_at 0 0 0 0)) ≡ codes "0" }
+    ensures hour_ahead { text_at_offset (codes "%-s") (moment unix_epoch_day (time_at 0 0 0 0)) (pos 3_600) ≡ codes "-3600" }
+    ensures all { (n : ℤ) → year_of n ≡ pos 2024 → month_of n ≡ 2 → day_of n ≡ 29
+        → text_at_offset (codes "%+") (moment n (time_at 9 30 5 250_000_000)) (pos 19_800) ≡ codes "2024-02-29T09:30:05.250+05:30" }
+{}
+
+/// States what known texts give of an offset and of the seconds from 1970:
+///
+/// - an offset with a colon or a blank where the pattern has none, and one with seconds;
+/// - hours alone, and UTC by its name;
+/// - a name of a zone, which gives nothing;
+/// - seconds before 1970, and a date-time with its offset.
+pub fn known_readings_of_offsets()
+    ensures colon { text_read (codes "%z") (codes "+09:30") ≡ Ok (record no_parts { offset = Some (pos 34_200) }) }
+    ensures blank { text_read (codes "%:z") (codes "-00 30") ≡ Ok (record no_parts { offset = Some (neg_ℤ (pos 1_800)) }) }
+    ensures seconds { text_read (codes "%::z") (codes "-05:00:15") ≡ Ok (record no_parts { offset = Some (neg_ℤ (pos 18_015)) }) }
+    ensures hours { text_read (codes "%:::z.") (codes "+09.") ≡ Ok (record no_parts { offset = Some (pos 32_400) }) }
+    ensures utc { text_read (codes "%#z") (codes "Z") ≡ Ok (record no_parts { offset = Some (pos 0) }) }
+    ensures zone { text_read (codes "%Z %M") (codes "Europe/Oslo 30") ≡ Ok (record no_parts { minute = Some (pos 30) }) }
+    ensures before { text_read (codes "%s") (codes "-86400") ≡ Ok (record no_parts { timestamp = Some (neg_ℤ (pos 86_400)) }) }
+    ensures all { text_read (codes "%+") (codes "2024-02-29 09:30:05.5utc")
+        ≡ Ok (record no_parts {
+          year = Some (pos 2024);
+          month = Some (pos 2);
+          day = Some (pos 29);
+          hour_div_12 = Some (pos 0);
+          hour_mod_12 = Some (pos 9);
+          minute = Some (pos 30);
+          second = Some (pos 5);
+          nanosecond = Some (pos 500_000_000);
+          offset = Some (pos 0);
+        }) }
+{}
+
+/// States where known texts of an offset and of the seconds from 1970 are wrong, by the bytes that are left:
+///
+/// - sixty minutes, a whole day, and minutes that are missing;
+/// - an offset with no sign, and one that contradicts another;
+/// - a second that no date has.
+pub fn known_reading_errors_of_offsets()
+    ensures sixty { text_read (codes "%z") (codes "+0960") ≡ Err (record { cause = OutOfRange; left = 2 }) }
+    ensures day { text_read (codes "%z") (codes "-2400") ≡ Err (record { cause = OutOfRange; left = 5 }) }
+    ensures short { text_read (codes "%:z") (codes "+09:") ≡ Err (record { cause = TooShort; left = 0 }) }
+    ensures sign { text_read (codes "%:::z") (codes "09") ≡ Err (record { cause = Invalid; left = 2 }) }
+    ensures twice { text_read (codes "%z%z") (codes "+0930-0930") ≡ Err (record { cause = Impossible; left = 5 }) }
+    ensures late { text_read (codes "%s") (codes "8210266876800") ≡ Err (record { cause = OutOfRange; left = 13 }) }
+{}
+
 /// States that the specifiers of a pattern tell what its texts name, before any text is read:
 ///
 /// - a date: all texts that it reads name one, or none does;
-/// - a time of day: the same, unless the pattern has a fraction and no second. A text may leave such a fraction out.
+/// - a time of day: the same, unless the pattern has a fraction and no second. A text may leave such a fraction out;
+/// - a date-time, and one with its offset: the same.
 pub fn fields_tell_what_is_named()
     ensures date { (bytes text : List ℕ) → (parts : Parsed) → text_read bytes text ≡ Ok parts → names_date parts ≡ names_date (named_parts bytes) }
     ensures time { (bytes text : List ℕ) → (parts : Parsed) → names_second (named_parts bytes) ≡ true → text_read bytes text ≡ Ok parts
         → names_time parts ≡ names_time (named_parts bytes) }
+    ensures date_time { (bytes text : List ℕ) → (parts : Parsed) → names_second (named_parts bytes) ≡ true → text_read bytes text ≡ Ok parts
+        → names_moment parts ≡ names_moment (named_parts bytes) }
+    ensures zoned { (bytes text : List ℕ) → (parts : Parsed) → names_second (named_parts bytes) ≡ true → text_read bytes text ≡ Ok parts
+        → names_zoned parts ≡ names_zoned (named_parts bytes) }
 {}
 
 /// States that a pattern of bytes and of numbers with a fixed number of digits reads back what it writes of the years 0 to 9999.

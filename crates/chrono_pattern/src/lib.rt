@@ -38,6 +38,8 @@ mod word;
 mod word_reader;
 mod writer;
 mod year_week;
+mod zoned;
+mod zoned_parts;
 mod zoned_piece;
 
 pub use error::{PatternError, PatternFault, PatternReadError, ReadFault};

@@ -1,5 +1,5 @@
 //! `Pattern`: a pattern of texts, which writes date-times and reads parts of them.
-ghost use Rattle.std.specs.Prelude.{◌≡◌, ◌↔◌, ◌&&◌, ◌≤◌, ℕ, List, false, Some, None, Ok, Err, IfErr, IfOk, IfSome, IsOk, IsSome, length};
+ghost use Rattle.std.specs.Prelude.{◌≡◌, ◌↔◌, ◌≤◌, ℕ, List, false, Some, None, Ok, Err, IfErr, IfOk, IfSome, IsOk, IsSome, length};
 ghost use Rattle.chrono_datetime.specs.Moment.{moment};
 ghost use Rattle.chrono_datetime.specs.Time.{TimeOfDay, time_at};
 ghost use Rattle.chrono_pattern.specs.DateParts.{names_date};
@@ -8,10 +8,12 @@ ghost use Rattle.chrono_pattern.specs.Needs.{needs_offset, needs_time};
 ghost use Rattle.chrono_pattern.specs.Reads.{end_read, front_read, read_error, read_from, text_read};
 ghost use Rattle.chrono_pattern.specs.TimeParts.{names_time};
 ghost use Rattle.chrono_pattern.specs.declared.item.State.TheVariants.{Outside};
+ghost use Rattle.chrono_pattern.specs.ZonedParts.{names_moment};
 ghost use Rattle.chrono_pattern.specs.declared.stop.Stop.{Stop};
 ghost use Rattle.chrono_pattern.specs.Patterns.{IsPattern, begun_at, cut_error, pattern_error, pattern_text};
 
 use crate::date_parts::names_date;
+use crate::date_time_parts::names_moment;
 use crate::error::{PatternError, PatternFault, PatternReadError};
 use crate::item::State;
 use crate::named_parts::named_parts;
@@ -176,17 +178,18 @@ impl<'a> Pattern<'a> {
         names_time(named_parts(self.bytes))
     }
 
-    /// Returns whether the specifiers of the pattern name both a date and a time of day.
+    /// Returns whether the specifiers of the pattern name a date-time, as [`Parsed::to_date_time`] says: both a date and a time of day, or
+    /// the seconds from 1970.
     ///
     /// ```
     /// Pattern::new(b"%F %R").ok()?.names_date_time() // true
     /// Pattern::new(b"%F %H").ok()?.names_date_time() // false
+    /// Pattern::new(b"%s").ok()?.names_date_time() // true
     /// ```
     pub fn names_date_time(&self) -> bool
-        ensures { result ≡ (names_date (named_parts self.now) && names_time (named_parts self.now)) }
+        ensures { result ≡ names_moment (named_parts self.now) }
     {
-        let parts = named_parts(self.bytes);
-        names_date(parts) && names_time(parts)
+        names_moment(named_parts(self.bytes))
     }
 
     /// Returns the parts that `text` gives.

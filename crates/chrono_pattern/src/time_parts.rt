@@ -2,13 +2,13 @@
 ghost use Rattle.std.specs.Prelude.{◌≡◌, ◌↔◌, ◌+◌, ◌/◌, ◌%◌, ℕ, pos, true, false, Ok, Err, Some, IfOk, IfSome};
 ghost use Rattle.chrono_datetime.specs.Duration.{nanos_per_second};
 ghost use Rattle.chrono_datetime.specs.Time.{TimeOfDay, hour_of, minute_of, second_of};
-ghost use Rattle.chrono_pattern.specs.TimeParts.{IsClockTime, counts, names_second, names_time, time_fits};
+ghost use Rattle.chrono_pattern.specs.TimeParts.{IsClockTime, clock_fits, counts, names_second, names_time, size_or_zero, time_fits};
 ghost use Rattle.chrono_pattern.specs.declared.error.ReadFault.TheVariants.{NotEnough};
 
-use crate::date_parts::natural;
+use crate::date_parts::{natural, says};
 use crate::error::ReadFault;
 use crate::parsed::Parsed;
-use chrono_datetime::NaiveTime;
+use chrono_datetime::{NaiveTime, Timelike};
 use chrono_text::NANOS_PER_SEC;
 
 impl Parsed {
@@ -65,6 +65,26 @@ fn names_second(parts: Parsed) -> bool
     }
 }
 
+// Whether a part is this value, or is not given and the value is 0.
+pub(crate) fn counts(part: Option<i32>, value: i32) -> bool
+    ensures { result ≡ counts part value }
+{
+    match part {
+        None => 0 == value,
+        Some(given) => given == value,
+    }
+}
+
+// Whether the hour and the minute fit.
+#[tactic(auto, unfolding(crate::specs::TimeParts::clock_fits))]
+pub(crate) fn fits_clock(parts: Parsed, time: NaiveTime) -> bool
+    ensures { result ≡ clock_fits parts time }
+{
+    says(parts.hour_div_12, (time.hour() / 12) as i32)
+        && says(parts.hour_mod_12, (time.hour() % 12) as i32)
+        && says(parts.minute, time.minute() as i32)
+}
+
 // The time of day that the parts name, if they name one. It fits them all.
 #[inline(always)]
 fn named_time(parts: Parsed) -> Option<NaiveTime>
@@ -88,6 +108,16 @@ fn natural_or_zero(part: Option<i32>) -> Option<u32>
     match part {
         None => Some(0),
         Some(_) => natural(part),
+    }
+}
+
+// The size of a part, and 0 if it is not given.
+pub(crate) fn size_or_zero(part: Option<i32>) -> u32
+    ensures { result ≡ size_or_zero part }
+{
+    match part {
+        None => 0,
+        Some(value) => value.unsigned_abs(),
     }
 }
 

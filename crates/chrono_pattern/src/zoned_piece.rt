@@ -80,7 +80,7 @@ pub(crate) fn put_stamp<const N: usize>(
 }
 
 // The seconds from 1970 of a local date-time.
-fn utc_second(local: NaiveDateTime, offset: FixedOffset) -> i64
+pub(crate) fn utc_second(local: NaiveDateTime, offset: FixedOffset) -> i64
     ensures value { result ≡ epoch_second local -ℤ offset }
     ensures small { unsigned_abs result < 10 ^ 13 }
 {
