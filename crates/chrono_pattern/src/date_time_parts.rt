@@ -50,21 +50,21 @@ impl Parsed {
             → moment_fits self.now m (pos 0) ≡ true → result ≡ Ok m }
         ensures not_enough { (result ≡ Err NotEnough) ↔ (names_moment self.now ≡ false) }
     {
-        named_moment(*self, FixedOffset::east_opt(0).unwrap())
+        named_moment(self, FixedOffset::east_opt(0).unwrap())
     }
 }
 
 // The local date-time that fits all parts, where the clock is ahead of UTC by the offset.
 #[tactic(auto, unfolding(crate::specs::ZonedParts::names_moment, crate::specs::ZonedParts::moment_fits))]
 #[inline(always)]
-pub(crate) fn named_moment(parts: Parsed, offset: FixedOffset) -> Result<NaiveDateTime, ReadFault>
-    ensures named { IfOk result (λ m. names_moment parts ≡ true) }
-    ensures fits { IfOk result (λ m. moment_fits parts m offset ≡ true) }
-    ensures every { (m : Moment) → IsDate m.date → IsClockTime m.time → names_moment parts ≡ true → moment_fits parts m offset ≡ true → result ≡ Ok m }
-    ensures not_enough { (result ≡ Err NotEnough) ↔ (names_moment parts ≡ false) }
+pub(crate) fn named_moment(parts: &Parsed, offset: FixedOffset) -> Result<NaiveDateTime, ReadFault>
+    ensures named { IfOk result (λ m. names_moment parts.now ≡ true) }
+    ensures fits { IfOk result (λ m. moment_fits parts.now m offset ≡ true) }
+    ensures every { (m : Moment) → IsDate m.date → IsClockTime m.time → names_moment parts.now ≡ true → moment_fits parts.now m offset ≡ true → result ≡ Ok m }
+    ensures not_enough { (result ≡ Err NotEnough) ↔ (names_moment parts.now ≡ false) }
 {
     match parts.timestamp {
-        Some(stamp) => stamped_moment(parts, stamp, offset),
+        Some(stamp) => stamped_moment(*parts, stamp, offset),
         None => usual_moment(parts),
     }
 }
@@ -83,13 +83,13 @@ pub(crate) fn names_moment(parts: Parsed) -> bool
 
 // The date-time by its date and its time of day.
 #[inline(always)]
-fn usual_moment(parts: Parsed) -> Result<NaiveDateTime, ReadFault>
-    ensures named { IfOk result (λ m. (names_date parts && names_time parts) ≡ true) }
-    ensures date { IfOk result (λ m. date_fits parts m.date ≡ true) }
-    ensures time { IfOk result (λ m. time_fits parts m.time ≡ true) }
-    ensures every { (m : Moment) → IsDate m.date → IsClockTime m.time → names_date parts ≡ true → names_time parts ≡ true
-        → date_fits parts m.date ≡ true → time_fits parts m.time ≡ true → result ≡ Ok m }
-    ensures not_enough { (result ≡ Err NotEnough) ↔ ((names_date parts && names_time parts) ≡ false) }
+fn usual_moment(parts: &Parsed) -> Result<NaiveDateTime, ReadFault>
+    ensures named { IfOk result (λ m. (names_date parts.now && names_time parts.now) ≡ true) }
+    ensures date { IfOk result (λ m. date_fits parts.now m.date ≡ true) }
+    ensures time { IfOk result (λ m. time_fits parts.now m.time ≡ true) }
+    ensures every { (m : Moment) → IsDate m.date → IsClockTime m.time → names_date parts.now ≡ true → names_time parts.now ≡ true
+        → date_fits parts.now m.date ≡ true → time_fits parts.now m.time ≡ true → result ≡ Ok m }
+    ensures not_enough { (result ≡ Err NotEnough) ↔ ((names_date parts.now && names_time parts.now) ≡ false) }
 {
     match (parts.to_date(), parts.to_time()) {
         (Ok(date), Ok(time)) => Ok(NaiveDateTime::new(date, time)),

@@ -77,7 +77,7 @@ fn zoned_by(parts: Parsed) -> Option<DateTime<FixedOffset>>
         → IsClockTime (moment_ahead d.utc d.zone).time → zoned_fits parts (moment_ahead d.utc d.zone) d.zone ≡ true → result ≡ Some d }
 {
     match named_offset(parts) {
-        Some(offset) => match named_moment(parts, offset) {
+        Some(offset) => match named_moment(&parts, offset) {
             Ok(local) => at_local(local, offset),
             Err(_) => None,
         },
