@@ -13,6 +13,7 @@ mod ManyDigits
 mod AsciiLemmas
 mod ItemLemmas
 mod BackNumbers
+mod BackOffsets
 mod BackParts
 mod BackItems
 mod BackPatterns
