@@ -14,6 +14,7 @@ mod AsciiLemmas
 mod ItemLemmas
 mod FrontLemmas
 mod BackNumbers
+mod BackOffsets
 mod BackParts
 mod BackItems
 mod BackPatterns

@@ -16,7 +16,7 @@ use Rattle.chrono_pattern.specs.DateParts.{is_present, names_calendar, names_dat
 use Rattle.chrono_pattern.specs.ItemReads.{behind_read, between_behind, between_read, iso_offset_read, iso_read, zoned_read, clock_year_read, day_read, group_read, half_clock_read, item_read, short_date_read, three_read, two_read, word_behind_read}
 use Rattle.chrono_pattern.specs.NamedParts.{named_from, named_parts, with_clock, with_group, with_half, with_item, with_named, with_number_field, with_zoned, word_part}
 use Rattle.chrono_pattern.specs.NumberReads.{digits_in, digits_read, half_put, has_sign, hour_of_clock, most_digits, number_part, number_put, number_read, part_put, signed_read, value_read, weekday_of_sunday}
-use Rattle.chrono_pattern.specs.OffsetReads.{Taken, at_rest, behind_gap, has_seconds, may_miss_minutes, minutes_taken, offset_read, seconds_behind, seconds_taken, signed_offset_read, signed_stamp, size_put, size_taken, stamp_digits, stamp_value, two_taken, utc_len, utc_or_offset, with_hours, with_minutes, with_seconds, within_two}
+use Rattle.chrono_pattern.specs.OffsetReads.{Taken, at_rest, behind_colons, has_seconds, may_miss_minutes, minutes_taken, offset_read, seconds_behind, seconds_taken, signed_offset_read, signed_stamp, size_put, size_taken, stamp_digits, stamp_value, two_taken, utc_len, utc_or_offset, with_hours, with_minutes, with_seconds, within_two}
 use Rattle.chrono_pattern.specs.Parts.{no_parts, part_of, put, put_stamp, part_range, with_part, with_stamp}
 use Rattle.chrono_pattern.specs.Progress.{Progress, behind_blanks, byte_behind, class_len, is_pattern_blank, literal_read, progress, then_read}
 use Rattle.chrono_pattern.specs.Reads.{end_read, front_read, read_from, text_read}
@@ -482,7 +482,7 @@ two_keep most r q e = if_keeps (nat_lt (length r.rest) 2) _ _ q tt (within_keeps
 minutes_keep : (missing : Bool) (r : Progress) (q : Parsed) → Like r.parsed q → Keeps_parts (minutes_taken missing r) q
 unfolding minutes_taken
 minutes_keep missing r q e =
-    if_keeps (missing && class_len Digit (behind_gap r.rest) == 0) _ _ q e (two_keep 59 (at_rest (behind_gap r.rest) r.parsed) q e)
+    if_keeps (missing && class_len Digit (behind_colons r.rest) == 0) _ _ q e (two_keep 59 (at_rest (behind_colons r.rest) r.parsed) q e)
 
 seconds_keep : (asked : Bool) (text : List ℕ) (p q : Parsed) → Like p q → Keeps_parts (seconds_behind asked text p) q
 seconds_keep asked [] p q e = e

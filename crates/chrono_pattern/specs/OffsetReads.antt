@@ -31,14 +31,14 @@ two_taken most r =
     if nat_lt (length r.rest) 2 then Err (stopped TooShort r.rest) else within_two (digits_of 2 (take 2 r.rest)) most r
 
 -- the text behind the colons and blanks in front
-abbrev pub behind_gap : List ℕ → List ℕ
-behind_gap text = drop (class_len Gap text) text
+abbrev pub behind_colons : List ℕ → List ℕ
+behind_colons text = drop (class_len Gap text) text
 
 -- minutes behind colons, blanks or nothing; these are left alone if the minutes may be missing, and no digit is there
 unfoldable pub minutes_taken : Bool → Progress → Taken
 minutes_taken missing r =
-    if missing && class_len Digit (behind_gap r.rest) == 0 then Ok (0, r)
-    else two_taken 59 (at_rest (behind_gap r.rest) r.parsed)
+    if missing && class_len Digit (behind_colons r.rest) == 0 then Ok (0, r)
+    else two_taken 59 (at_rest (behind_colons r.rest) r.parsed)
 
 -- seconds behind a colon, if they may stand there and a colon is there
 abbrev pub seconds_behind : Bool → List ℕ → Parsed → Taken

@@ -1,5 +1,5 @@
 //! Laws of patterns, each as the contract of a function.
-ghost use Rattle.std.specs.Prelude.{◌≡◌, ◌+◌, ◌-◌, ◌/◌, ◌%◌, ◌≤ℤ◌, ℕ, ℤ, List, true, Some, Ok, Err, codes, neg_ℤ, pos};
+ghost use Rattle.std.specs.Prelude.{◌≡◌, ◌+◌, ◌-◌, ◌/◌, ◌%◌, ◌≤ℤ◌, ℕ, ℤ, List, true, Some, Ok, Err, codes, neg_ℤ, pos, unsigned_abs};
 ghost use Rattle.std.specs.Str.{IsAscii};
 ghost use Rattle.chrono_datetime.specs.Days.{IsDate, day_of, month_of, ordinal_of, year_of};
 ghost use Rattle.chrono_datetime.specs.Moment.{Moment, moment};
@@ -12,7 +12,7 @@ ghost use Rattle.chrono_datetime.specs.declared.Weekday.TheVariants.{Mon};
 ghost use Rattle.chrono_instant.specs.Offsets.{IsOffset};
 ghost use Rattle.chrono_pattern.specs.DateParts.{is_present, names_date};
 ghost use Rattle.chrono_pattern.specs.NamedParts.{named_parts};
-ghost use Rattle.chrono_pattern.specs.Parses.{IsDateBy, IsTimeBy};
+ghost use Rattle.chrono_pattern.specs.Parses.{IsDateBy, IsTimeBy, IsZonedBy};
 ghost use Rattle.chrono_pattern.specs.Parts.{no_parts};
 ghost use Rattle.chrono_pattern.specs.PatternItems.{pattern_items};
 ghost use Rattle.chrono_pattern.specs.ReadBack.{is_fixed, parts_of};
@@ -175,20 +175,27 @@ pub fn fields_tell_what_is_named()
 
 /// States that a pattern of bytes and of numbers with a fixed number of digits reads back what it writes of the years 0 to 9999.
 ///
-/// Such a pattern has no specifiers but `%Y`, `%m`, `%d`, `%H`, `%M`, `%S`, `%F`, `%R` and `%T`, with no padding asked for. Its other bytes
-/// are any, and no blank is behind a blank. Such patterns are `%Y-%m-%d`, `%F %T`, `%Y%m%d` and `%d/%m/%Y`.
+/// Such a pattern has no specifiers but `%Y`, `%m`, `%d`, `%H`, `%M`, `%S`, `%F`, `%R`, `%T`, `%z`, `%:z` and `%::z`, with no padding asked
+/// for. Its other bytes are any, and no blank is behind a blank. Such patterns are `%Y-%m-%d`, `%F %T %:z`, `%Y%m%d` and `%d/%m/%Y`.
 ///
 /// - A text gives the parts that the pattern names, each as the date-time has it.
 /// - It is of the date, if the pattern names one.
 /// - It is of the time of day, if the pattern names one with its second, and the time is a whole second or a leap second.
+/// - It is of the date-time with its offset, if the pattern names all three so, and the offset is of whole minutes.
 pub fn fixed_patterns_read_back()
     ensures parts { (bytes : List ℕ) → (m : Moment) → is_fixed bytes ≡ true → IsTime m.time → pos 0 ≤ℤ year_of m.date → year_of m.date ≤ℤ pos 9999
-        → text_read bytes (pattern_text bytes m) ≡ Ok (parts_of (named_parts bytes) m) }
+        → text_read bytes (pattern_text bytes m) ≡ Ok (parts_of (named_parts bytes) m (pos 0)) }
     ensures date { (bytes : List ℕ) → (m : Moment) → is_fixed bytes ≡ true → names_date (named_parts bytes) ≡ true → IsTime m.time
         → pos 0 ≤ℤ year_of m.date → year_of m.date ≤ℤ pos 9999 → IsDateBy bytes (pattern_text bytes m) m.date }
     ensures time { (bytes : List ℕ) → (m : Moment) → is_fixed bytes ≡ true → names_time (named_parts bytes) ≡ true
         → is_present (named_parts bytes).second ≡ true → IsTime m.time → m.time.fraction % nanos_per_second ≡ 0
         → pos 0 ≤ℤ year_of m.date → year_of m.date ≤ℤ pos 9999 → IsTimeBy bytes (pattern_text bytes m) m.time }
+    ensures offset { (bytes : List ℕ) → (m : Moment) → (x : ℤ) → is_fixed bytes ≡ true → names_date (named_parts bytes) ≡ true
+        → names_time (named_parts bytes) ≡ true → is_present (named_parts bytes).second ≡ true → is_present (named_parts bytes).offset ≡ true → IsTime m.time
+        → m.time.fraction % nanos_per_second ≡ 0 → pos 0 ≤ℤ year_of m.date → year_of m.date ≤ℤ pos 9999 → IsOffset x → unsigned_abs x % 60 ≡ 0
+        → IsZonedBy bytes (text_at_offset bytes m x) m x }
+    ensures date_time_and_offset { is_fixed (codes "%F %T %:z") ≡ true }
+    ensures offset_with_seconds { is_fixed (codes "%Y%m%dT%H%M%S%z %::z") ≡ true }
     ensures dashes { is_fixed (codes "%Y-%m-%d") ≡ true }
     ensures date_and_time { is_fixed (codes "%F %T") ≡ true }
     ensures digits { is_fixed (codes "%Y%m%dT%H%M%S") ≡ true }

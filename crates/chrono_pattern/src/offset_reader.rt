@@ -1,7 +1,7 @@
 //! Reads an offset from UTC, the name of a zone and a number of seconds from 1970.
 ghost use Rattle.std.specs.Prelude.{◌≡◌, ◌≤◌, ◌<◌, ◌^◌, ◌*◌, ◌+◌, Ok, Err, IfErr, IfOk, IfSome, length};
 ghost use Rattle.chrono_text.specs.Numbers.{digits_of, signed};
-ghost use Rattle.chrono_pattern.specs.OffsetReads.{behind_gap, has_seconds, may_miss_minutes, minutes_taken, name_read, offset_read, seconds_taken, signed_offset_read, signed_stamp, size_put, size_taken, stamp_digits, stamp_fault, stamp_read, two_taken, utc_len, utc_or_offset};
+ghost use Rattle.chrono_pattern.specs.OffsetReads.{behind_colons, has_seconds, may_miss_minutes, minutes_taken, name_read, offset_read, seconds_taken, signed_offset_read, signed_stamp, size_put, size_taken, stamp_digits, stamp_fault, stamp_read, two_taken, utc_len, utc_or_offset};
 
 use crate::class::{Class, class_len, skip_blanks};
 use crate::error::ReadFault;
@@ -173,7 +173,7 @@ fn take_minutes(reader: &mut Reader<'_>, missing: bool) -> Result<u32, Stop>
 
 // The text behind the colons and blanks in front.
 fn skip_gap(text: &[u8]) -> &[u8]
-    ensures { result.now ≡ behind_gap text.now }
+    ensures { result.now ≡ behind_colons text.now }
 {
     &text[class_len(Class::Gap, text)..]
 }

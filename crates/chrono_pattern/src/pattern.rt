@@ -84,14 +84,15 @@ impl<'a> Pattern<'a> {
     /// | `%x` `%X` `%r` | `%m/%d/%y`, `%H:%M:%S`, `%I:%M:%S %p` |
     /// | `%c` `%v` | `%a %b %e %H:%M:%S %Y`, `%e-%b-%Y` |
     /// | `%z` `%:z` `%::z` `%:::z` | offset from UTC: `+0930`, `+09:30`, `+09:30:00`, `+09` |
-    /// | `%#z` `%Z` | as `%z`, but a text may leave the minutes out; the offset as `%:z`, with its seconds if there are any |
+    /// | `%#z` `%Z` | as `%z`, but a text may leave the minutes out; as `%:z`, with the seconds of the offset if there are any |
     /// | `%s` | seconds from 1970-01-01T00:00:00 UTC, with a sign if they are below 0 |
     /// | `%+` | `%Y-%m-%dT%H:%M:%S%.f%:z` (RFC 3339) |
     /// | `%n` `%t` `%%` | line feed, tab, `%` |
     ///
     /// Before a number, `-` asks for no padding, `_` for spaces, and `0` for zeros: `%-d`. They change nothing at `%s`.
     ///
-    /// What is smaller than the last number of an offset is left out. Such an offset keeps its sign: half a minute behind UTC is `-0000`.
+    /// What is smaller than the last number of an offset is left out, as GNU date does. Such an offset keeps its sign: half a minute behind
+    /// UTC is `-0000`. In chrono a pattern with `%#z` only reads. Here it writes too, so that each pattern writes each zoned date-time.
     pub fn new(bytes: &'a [u8]) -> Result<Pattern<'a>, PatternError>
         ensures bytes { IfOk result (λ p. p ≡ bytes.now) }
         ensures exists { IsOk result ↔ IsPattern bytes.now }
@@ -199,7 +200,15 @@ impl<'a> Pattern<'a> {
     ///   may have a sign, and then at most nine.
     /// - `%f` is a number of nanoseconds. `%.f` and its like are a point and any digits behind it, or nothing.
     /// - Names are in letters of any case. `%B` and `%A` read three letters too.
+    /// - `%z` and `%:z` are a sign, hours of two digits, and minutes below 60 of two digits. Any colons and blanks may be between them, and
+    ///   none have to be. `%::z` also reads a colon and seconds, if a colon is there. `%:::z` and `%#z` may have no minutes: if no digit is
+    ///   behind the colons and blanks, these are left alone. An offset is less than a day.
+    /// - `%#z` also reads `Z` or `z`, which is UTC. `%Z` reads all bytes up to a blank, and gives nothing.
+    /// - `%s` may have a sign. It has any digits, at most 18, and is a second of some date.
+    /// - `%+` is read as `%F`, then `T`, `t` or a space, then `%T%.f%:z`. `Z`, `z` or `UTC` in any case may be in place of the offset.
     /// - A field that stands twice has the same value in both places.
+    ///
+    /// chrono 0.4.23 writes more than it reads: it reads no seconds of `%::z`, no `%:::z` without minutes, and no `%s` below 0.
     ///
     /// # Errors
     ///

@@ -23,6 +23,7 @@ impl<'a> Pattern<'a> {
     /// has more than `N` bytes.
     ///
     /// ```
+    /// use chrono_zoned::{FixedOffset, InZone};
     /// let india = FixedOffset::east_opt(19_800)?;
     /// let moment = india.with_ymd_and_hms(2024, 2, 29, 9, 30, 0).single()?;
     /// Pattern::new(b"%+").ok()?.format_zoned::<64, FixedOffset>(moment)?.as_bytes().len() // 25
