@@ -3,11 +3,12 @@
 
     checks/patterns.py [--seed N] [--lines N]      (seed 1 and 20,000 lines, if left out)
 
-An answer is this file's own, from its own count of days. In the years 1000 to 9999, Python's strftime has to write the same of each
-specifier that it has, and GNU date of all its specifiers in one pattern. Where there is Debian's chrono, checks/chrono_patterns has to write
-the same too, and to refuse the same patterns: all that have none of `%q`, `%U` and `%W`. The first is newer. Of the other two Debian's
-chrono writes another number in some years, where GNU date and Python agree: how many lines differ is printed. Bytes that are no
-pattern are read by a regular expression. `rt try` runs a small program unproved, in a copy of the crates: it answers the lines, and what differs is printed. A second run
+A line has a local date-time and its offset from UTC. It is written with the offset and without it. An answer is this file's own, from
+its own count of days. In the years 1000 to 9999, Python's strftime has to write the same of each specifier that it has, and GNU date of
+all its specifiers in one pattern. Where there is Debian's chrono, checks/chrono_patterns has to write the same too, and to refuse the same
+patterns: all that have none of `%q`, `%U`, `%W` and `%#z`. The first is newer, and chrono only reads the last. Of the other two Debian's
+chrono writes another number in some years, where GNU date and Python agree: how many lines differ is printed. Python writes the seconds
+of an offset by `%z`, so it is asked at whole minutes alone. Bytes that are no pattern are read by a regular expression. `rt try` runs a small program unproved, in a copy of the crates: it answers the lines, and what differs is printed. A second run
 of the same lines with one answer changed has to find that answer. The table of patterns in docs/chrono.md is asked with them.
 """
 import argparse
@@ -33,19 +34,21 @@ EPOCH, NANOS = 719_163, 10**9
 PART = 10_000
 WEEKDAYS = "Monday Tuesday Wednesday Thursday Friday Saturday Sunday".split()
 MONTHS = "January February March April May June July August September October November December".split()
-NUMBERS, OTHERS = "YCyqmdejuwGgVUWHkIlMSf", "BbhAapPFDRTcxXrvt%"
-SPECIFIER = re.compile(rf"%(?:([-_0]?)([{NUMBERS}])|([{OTHERS}])|([.]?[369]?)f)")
+NUMBERS, OTHERS = "YCyqmdejuwGgVUWHkIlMSfs", "BbhAapPFDRTcxXrvt%Z+"
+SPECIFIER = re.compile(rf"%(?:([-_0]?)([{NUMBERS}])|([{OTHERS}]|(?::{{0,3}}|#)z)|([.]?[369]?)f)")
 # The specifiers that stand for others.
 GROUPS = {
     "F": "%Y-%m-%d", "D": "%m/%d/%y", "x": "%m/%d/%y", "R": "%H:%M", "T": "%H:%M:%S", "X": "%H:%M:%S", "r": "%I:%M:%S %p", "v": "%e-%b-%Y",
-    "c": "%a %b %e %H:%M:%S %Y",
+    "c": "%a %b %e %H:%M:%S %Y", "+": "%Y-%m-%dT%H:%M:%S%.f%:z",
 }
 # What a specifier may begin with where the bytes end.
-BEGUN = re.compile(r"%(?:[-_0]|[.]?[369]?)$")
+BEGUN = re.compile(r"%(?:[-_0]|[.]?[369]?|:{1,3}|#)$")
+# The specifiers that need an offset.
+ZONED = re.compile(r"(?::{0,3}|#)z|[Z+]")
 # The specifiers whose texts Python has with the same meaning.
-OF_PYTHON = set("YCymdejuwGgVUWHkIlMSBbhAapPFDRTcxXrt%")
+OF_PYTHON = {*"YCymdejuwGgVUWHkIlMSBbhAapPFDRTcxXrt%zs", ":z"}
 # The specifiers that GNU date has with the same meaning.
-OF_GNU = "|".join(f"%{it}" for it in [*"YCyqmdejuwGgVUWHkIlMSBbhAapPFDRTcxXr%", "-d", "_j", "-U", "_W", "-I"])
+OF_GNU = "|".join(f"%{it}" for it in [*"YCyqmdejuwGgVUWHkIlMSBbhAapPFDRTcxXr%", "-d", "_j", "-U", "_W", "-I", "s", "z", ":z", "::z"])
 # The page with a table of patterns and their texts, how many it has, and the date-time that they are of.
 PAGE, SHOWN, MOMENT = "docs/chrono.md", 10, (738_945, 32_707, 250_000_000)
 ROW = re.compile(r"`(%[^`]*)` \| `([^`]*)` \|")
@@ -54,6 +57,7 @@ PROGRAM = r'''//! Writes date-times by patterns, a line each.
 
 use chrono_datetime::{NaiveDate, NaiveDateTime, NaiveTime};
 use chrono_pattern::Pattern;
+use chrono_zoned::{FixedOffset, InZone};
 use std::io::{self, BufRead, BufReader};
 
 fn main(rt: HostRuntime) -> io::Result<()> {
@@ -61,14 +65,24 @@ fn main(rt: HostRuntime) -> io::Result<()> {
         let line = line?;
         let Some((day, rest)) = line.as_str().split_once(' ') else { return Ok(()); };
         let Some((second, rest)) = rest.split_once(' ') else { return Ok(()); };
-        let Some((fraction, pattern)) = rest.split_once(' ') else { return Ok(()); };
+        let Some((fraction, rest)) = rest.split_once(' ') else { return Ok(()); };
+        let Some((offset, pattern)) = rest.split_once(' ') else { return Ok(()); };
         let Some(date) = NaiveDate::from_num_days_from_ce_opt(day.parse().unwrap_or(0)) else { return Ok(()); };
         let Some(time) = NaiveTime::from_num_seconds_from_midnight_opt(second.parse().unwrap_or(0), fraction.parse().unwrap_or(0)) else { return Ok(()); };
+        let local = NaiveDateTime::new(date, time);
+        let Some(offset) = FixedOffset::east_opt(offset.parse().unwrap_or(0)) else { return Ok(()); };
+        let Some(zoned) = offset.from_local_datetime(&local).single() else { return Ok(()); };
         match Pattern::new(pattern.as_bytes()) {
-            Ok(pattern) => match pattern.format::<512>(NaiveDateTime::new(date, time)) {
-                Some(text) => println!(rt; "= {}", text.as_str())?,
-                None => println!(rt; "= too long")?,
-            },
+            Ok(pattern) => {
+                match pattern.format_zoned::<512, FixedOffset>(zoned) {
+                    Some(text) => print!(rt; "= {}", text.as_str())?,
+                    None => print!(rt; "= too long")?,
+                }
+                match pattern.format::<512>(local) {
+                    Some(text) => println!(rt; "|{}", text.as_str())?,
+                    None => println!(rt; "|none")?,
+                }
+            }
             Err(error) => println!(rt; "= {:?} {}", error.cause, error.byte)?,
         }
     }
@@ -78,10 +92,10 @@ fn main(rt: HostRuntime) -> io::Result<()> {
 
 
 class Moment:
-    """A date-time by its day number, second and fraction, and its names."""
+    """A date-time by its day number, second, fraction and offset, and its names."""
 
-    def __init__(self, day, second, fraction):
-        self.day, self.at, self.fraction = day, second, fraction
+    def __init__(self, day, second, fraction, offset=0):
+        self.day, self.at, self.fraction, self.offset = day, second, fraction, offset
         self.year, self.month, self.of_month = civil(day - EPOCH)
         self.weekday = (day - 1) % 7
         self.ordinal = day - Moment.new_year(self.year) + 1
@@ -102,6 +116,8 @@ class Moment:
 def number(moment, code, padding):
     """A number: its sign, its digits, and what is missing."""
     m, hour = moment, moment.at // 3600
+    if code == "s":
+        return str((m.day - EPOCH) * 86_400 + m.at - m.offset)
     value, least, usual = {
         "Y": (m.year, 4, "0"), "C": (m.year // 100, 2, "0"), "y": (m.year % 100, 2, "0"), "q": ((m.month + 2) // 3, 1, "0"),
         "m": (m.month, 2, "0"), "d": (m.of_month, 2, "0"), "e": (m.of_month, 2, "_"), "j": (m.ordinal, 3, "0"),
@@ -118,6 +134,15 @@ def number(moment, code, padding):
     return format(value, form + width)
 
 
+def offset_text(offset, form):
+    """An offset as `%z` writes it with so many colons."""
+    sign, size = "-" if offset < 0 else "+", abs(offset)
+    numbers = [f"{it:02}" for it in (size // 3600, size // 60 % 60, size % 60)]
+    if form == "Z":
+        return sign + ":".join(numbers if size % 60 else numbers[:2])
+    return sign + ("" if form in ("", "#") else ":").join(numbers[: {":::": 1, "::": 3}.get(form, 2)])
+
+
 def piece(moment, found):
     """What a specifier writes."""
     padding, code, other, digits = found.groups()
@@ -125,6 +150,8 @@ def piece(moment, found):
         return number(moment, code, padding)
     if other in GROUPS:
         return SPECIFIER.sub(lambda it: piece(moment, it), GROUPS[other])
+    if other and other[-1] in "zZ":
+        return offset_text(moment.offset, other.rstrip("z"))
     if other:
         half = "AP"[moment.at >= 43_200] + "M"
         month, weekday = MONTHS[moment.month - 1], WEEKDAYS[moment.weekday]
@@ -157,7 +184,13 @@ def as_python(moment, found, told):
     code = found[2] or found[3]
     if code in OF_PYTHON and 1000 <= moment.year <= 9999 and 1000 <= moment.iso_year <= 9999 and moment.fraction < NANOS:
         date = datetime.datetime.fromordinal(moment.day) + datetime.timedelta(seconds=moment.at)
-        assert date.strftime(found[0]) == told, (date, found[0], told)
+        date = date.replace(tzinfo=datetime.timezone(datetime.timedelta(seconds=moment.offset)))
+        if code == "s":
+            assert date.timestamp() == int(told), (date, told)
+        elif code == ":z":
+            assert moment.offset % 60 or date.isoformat().endswith(told), (date, told)
+        elif code != "z" or moment.offset % 60 == 0:
+            assert date.strftime(found[0]) == told, (date, found[0], told)
 
 
 def question(draw):
@@ -167,20 +200,25 @@ def question(draw):
     fraction = draw.choice((0, 500_000_000, 1_000, 120_000, draw.randrange(NANOS)))
     if second % 60 == 59 and draw.random() < 0.5:
         fraction += NANOS
-    return day, second, fraction, "".join(part(draw) for _ in range(draw.randrange(1, 8)))
+    offset = draw.choice((0, 34_200, -18_000, -12_600, 60 * draw.randrange(-1439, 1440), draw.randrange(-86_399, 86_400), -30, 1))
+    if day in (FIRST, LAST):
+        offset = 0
+    return day, second, fraction, offset, "".join(part(draw) for _ in range(draw.randrange(1, 8)))
 
 
 def part(draw):
     kind = draw.random()
     if kind < 0.5:
         return "%" + draw.choice(("", "", "", "-", "_", "0")) + draw.choice(NUMBERS)
-    if kind < 0.7:
+    if kind < 0.6:
         return "%" + draw.choice(OTHERS)
+    if kind < 0.7:
+        return draw.choice(("%z", "%:z", "%::z", "%:::z", "%#z", "%Z", "%s", "%+"))
     if kind < 0.78:
         return "%" + draw.choice(("", ".")) + draw.choice(("", "3", "6", "9")) + "f"
     if kind < 0.97:
         return draw.choice(("-", ":", " ", "T", "/", ", ", "W", "100", "%%"))
-    return draw.choice(("%", "%Q", "%-a", "%--d", "%.5f", "%.", "%3", "%.3", "%-", "%0F", "%33f", "%.-d", "%_%"))
+    return draw.choice(("%", "%Q", "%-a", "%--d", "%.5f", "%.", "%3", "%.3", "%-", "%0F", "%33f", "%.-d", "%_%", "%:", "%::", "%::::z", "%#", "%-z", "%:Z", "%_+", "%#:z", "%:::"))
 
 
 def of_page():
@@ -189,12 +227,26 @@ def of_page():
         rows = ROW.findall(it.read())
     if len(rows) != SHOWN:
         sys.exit(f"{PAGE}: {len(rows)} patterns with their texts, not {SHOWN}")
-    return [(*MOMENT, pattern) for pattern, _ in rows], [text for _, text in rows]
+    return [(*MOMENT, 0, pattern) for pattern, _ in rows], [text for _, text in rows]
 
 
 def draw_weeks(draw, count):
     """Random days of these centuries, to be written by their weeks of the year."""
-    return [(draw.randrange(700_000, 760_000), 0, 0, "%U %W") for _ in range(count)]
+    return [(draw.randrange(700_000, 760_000), 0, 0, 0, "%U %W") for _ in range(count)]
+
+
+def needs_offset(pattern):
+    """Whether a pattern has a specifier of the offset."""
+    return any(found[3] and ZONED.fullmatch(found[3]) for found in SPECIFIER.finditer(pattern))
+
+
+def both(question):
+    """The text with the offset and that without one, or the first specifier that is none."""
+    day, second, fraction, offset, pattern = question
+    told = answer(Moment(day, second, fraction, offset), pattern)
+    if told.startswith(("Cut ", "Unknown ")):
+        return told
+    return f"{told}|{'none' if needs_offset(pattern) else answer(Moment(day, second, fraction), pattern)}"
 
 
 def line_of(question):
@@ -203,14 +255,15 @@ def line_of(question):
 
 def answers_of(room, questions):
     """What the program answers."""
-    folder = put_program(room, "patterns", ["chrono_datetime", "chrono_pattern"], PROGRAM)
+    folder = put_program(room, "patterns", ["chrono_datetime", "chrono_zoned", "chrono_pattern"], PROGRAM)
     return answers_in_parts(room, folder, [line_of(it) for it in questions], PART)
 
 
 def by_chrono(room, questions):
     """What chrono writes, `!` where it refuses the pattern, and `-` for a day that it lacks."""
     program = build_over_chrono(room, "checks/chrono_patterns")
-    asked = "".join(f"{line_of(it)}\n" for it in questions)
+    # chrono panics where it has to write `%#z`, so it is asked for nothing there.
+    asked = "".join(f"{line_of((*it[:4], it[4] if '%#' not in it[4] else ''))}\n" for it in questions)
     return subprocess.run([program], input=asked, stdout=subprocess.PIPE, text=True, check=True).stdout.split("\n")[:-1]
 
 
@@ -242,7 +295,7 @@ def end(lines, told, wanted, wrong):
 
 def as_chrono(question, told):
     """Whether the answer is to be chrono's too."""
-    return told != "-" and not re.search("%[-_0]?[qUW]", question[3])
+    return told != "-" and not re.search("%[-_0]?[qUW]|%#", question[4])
 
 
 def main():
@@ -252,19 +305,19 @@ def main():
     options = parser.parse_args()
     draw = random.Random(options.seed)
     questions = [question(draw) for _ in range(options.lines)]
-    wanted = [answer(Moment(*it[:3]), it[3]) for it in questions]
+    wanted = [both(it) for it in questions]
     shown, texts = of_page()
-    wrong = [f"{PAGE}: {it}" for it in differing([line_of(it) for it in shown], texts, [answer(Moment(*it[:3]), it[3]) for it in shown])]
-    questions, wanted = questions + shown, wanted + texts
+    wrong = [f"{PAGE}: {it}" for it in differing([line_of(it) for it in shown], texts, [answer(Moment(*it[:3]), it[4]) for it in shown])]
+    questions, wanted = questions + shown, wanted + [f"{it}|{it}" for it in texts]
     with tempfile.TemporaryDirectory(prefix="patterns-") as room:
         if missing := why_no_chrono():
             print(f"chrono is not asked: {missing}")
         else:
-            others = [(line_of(it), a, b if not b.startswith(("Cut ", "Unknown ")) else "!") for it, a, b in zip(questions, by_chrono(room, questions), wanted) if as_chrono(it, a)]
+            others = [(line_of(it), a, b.rpartition("|")[0] if not b.startswith(("Cut ", "Unknown ")) else "!") for it, a, b in zip(questions, by_chrono(room, questions), wanted) if as_chrono(it, a)]
             wrong += ["chrono: " + it for it in differing(*zip(*others))]
             print(f"{len(others)} of {len(questions)} by chrono too")
             weeks = draw_weeks(draw, options.lines // 4)
-            other = [a != answer(Moment(*it[:3]), it[3]) for it, a in zip(weeks, by_chrono(room, weeks)) if a != "-"]
+            other = [a != answer(Moment(*it[:3]), it[4]) for it, a in zip(weeks, by_chrono(room, weeks)) if a != "-"]
             print(f"chrono differs in {sum(other)} of {len(other)} lines of %U and %W")
         gnu = by_gnu(room, questions)
         wrong += ["GNU date: " + it for it in differing(*gnu)]

@@ -3,10 +3,10 @@
 
     checks/patterns_read.py [--seed N] [--lines N]      (seed 1 and 20,000 lines, if left out)
 
-A text is one that its pattern writes, often with a byte changed, left out or put in. It is read whole, and its front alone. The wanted
-answer is this file's own. Where it is a date, its fields are compared with all dates that fit, by their names. Python's strptime has to
-read the same date wherever it has all specifiers of a pattern and reads the text. Debian's chrono has to read the same date, or none
-where none is wanted. It differs where the tables below say. `rt try` runs a small program unproved, in a copy of the crates. A second run
+A text is one that its pattern writes, often with a byte changed, left out or put in. It is read whole, and its front alone: as a date, as a
+date-time and as one with its offset. The wanted answer is this file's own. Where it is a date, its fields are compared with all dates that
+fit, by their names. Python's strptime has to read the same date, and the same date-time with its offset, wherever it has all specifiers of
+a pattern and reads the text. Debian's chrono has to read the same, or nothing where nothing is wanted. It differs where the tables below say. `rt try` runs a small program unproved, in a copy of the crates. A second run
 of the same lines with one answer changed has to find that answer.
 """
 import argparse
@@ -17,7 +17,7 @@ import subprocess
 import tempfile
 
 from outside import answers_in_parts, put_program
-from patterns import FIRST, GROUPS, LAST, MONTHS, NANOS, PART, SPECIFIER, WEEKDAYS, Moment, answer, build_over_chrono, differing, end, why_no_chrono
+from patterns import EPOCH, FIRST, GROUPS, LAST, MONTHS, NANOS, PART, SPECIFIER, WEEKDAYS, Moment, answer, build_over_chrono, differing, end, offset_text, why_no_chrono
 
 SINGLES = {"h": "%b", "n": "\n", "t": "\t"}
 # The part of a number, and its least and greatest value.
@@ -29,10 +29,13 @@ PARTS = {
 WIDTHS = {"Y": 4, "G": 4, "j": 3, "q": 1, "u": 1, "w": 1, "f": 9}
 BLANKS = " \t\n\v\f\r"
 # What Python's strptime reads as chrono's patterns do.
-OF_PYTHON = "YmdjbBaAHIMSpy"
-# Patterns whose dates Debian's chrono reads otherwise: it has no `%q`, reads a date by `%g`, takes no century of a year
-# below 0, and has other weeks of the year.
-NOT_OF_CHRONO = re.compile(r"%[-_0]?[qgCyUW]")
+OF_PYTHON = "YmdjbBaAHIMSpyz"
+# The seconds from 1970 that dates have.
+FIRST_SECOND, LAST_SECOND = (FIRST - EPOCH) * 86_400, (LAST - EPOCH) * 86_400 + 86_399
+# Patterns that Debian's chrono reads otherwise: it has no `%q`, reads a date by `%g`, takes no century of a year below 0, and has other weeks
+# of the year. It reads no seconds of an offset, asks for the minutes of `%:::z`, and reads no sign by `%s`, beside which it asks for an
+# offset. It does not leave the blank behind `%#z`. In `%+` it has no blank, no name of UTC but `Z` and no year but one of four digits.
+NOT_OF_CHRONO = re.compile(r"%[-_0]?[qgCyUWs]|%:::?z|%#z|%[+]")
 PROGRAM = r'''//! Reads dates by patterns, a line each.
 #![tactic(auto)]
 
@@ -53,7 +56,19 @@ fn main(rt: HostRuntime) -> io::Result<()> {
                     Err(error) => print!(rt; "= {:?} {}", error.cause, error.byte)?,
                 }
                 match pattern.parse_date_and_remainder(text.as_bytes()) {
-                    Ok((date, rest)) => println!(rt; "; {date} + {}", rest.len())?,
+                    Ok((date, rest)) => print!(rt; "; {date} + {}", rest.len())?,
+                    Err(error) => print!(rt; "; {:?} {}", error.cause, error.byte)?,
+                }
+                match pattern.parse_date_time(text.as_bytes()) {
+                    Ok(moment) => print!(rt; "; {moment:?}")?,
+                    Err(error) => print!(rt; "; {:?} {}", error.cause, error.byte)?,
+                }
+                match pattern.parse_zoned(text.as_bytes()) {
+                    Ok(moment) => print!(rt; "; {moment:?}")?,
+                    Err(error) => print!(rt; "; {:?} {}", error.cause, error.byte)?,
+                }
+                match pattern.parse_zoned_and_remainder(text.as_bytes()) {
+                    Ok((moment, rest)) => println!(rt; "; {moment:?} + {}", rest.len())?,
                     Err(error) => println!(rt; "; {:?} {}", error.cause, error.byte)?,
                 }
             }
@@ -162,10 +177,79 @@ class Reader:
         self.put("nanos", int(kept.ljust(9, "0")), 0, 999_999_999, self.at)
         self.at += len(found)
 
+    def two(self, most):
+        """Two digits, which write at most so much."""
+        found = self.text[self.at : self.at + 2]
+        if len(found) < 2:
+            self.fail("TooShort")
+        if not re.fullmatch("[0-9]{2}", found):
+            self.fail("Invalid")
+        if int(found) > most:
+            self.fail("OutOfRange")
+        self.at += 2
+        return int(found)
+
+    def offset(self, form, utc=""):
+        """An offset by `%z` with so many colons, or UTC by one of its names."""
+        self.blanks()
+        start = self.at
+        if named := utc and re.compile(utc, re.I).match(self.text, start):
+            self.put("offset", 0, 0, 0, start)
+            self.at += len(named[0])
+            return
+        if start == len(self.text):
+            self.fail("TooShort")
+        if self.text[start] not in "+-":
+            self.fail("Invalid")
+        self.at += 1
+        size = self.two(99) * 3600
+        gap = re.compile(r"[: \t-\r]*(?=([0-9])?)").match(self.text, self.at)
+        if form not in (":::", "#") or gap[1]:
+            self.at = gap.end()
+            size += self.two(59) * 60
+        if form == "::" and self.text[self.at : self.at + 1] == ":":
+            self.at += 1
+            size += self.two(59)
+        self.put("offset", -size if self.text[start] == "-" else size, -86_399, 86_399, start)
+
+    def stamp(self):
+        """The seconds from 1970."""
+        self.blanks()
+        if self.at == len(self.text):
+            self.fail("TooShort")
+        sign = self.text[self.at] if self.text[self.at] in "+-" else ""
+        self.at += len(sign)
+        found = re.compile("[0-9]*").match(self.text, self.at)[0]
+        if not found:
+            self.fail("TooShort" if self.at == len(self.text) else "Invalid")
+        if len(found) > 18:
+            self.fail("OutOfRange")
+        self.put("stamp", int(sign + found), FIRST_SECOND, LAST_SECOND, self.at)
+        self.at += len(found)
+
+    def whole(self):
+        """A date, a time of day and an offset."""
+        self.pattern("%Y-%m-%d")
+        if self.at == len(self.text):
+            self.fail("TooShort")
+        if self.text[self.at] not in "Tt ":
+            self.fail("Invalid")
+        self.at += 1
+        self.pattern("%H:%M:%S%.f")
+        self.offset(":", "z|utc")
+
     def item(self, found):
         _, code, other, form = found.groups()
-        if code:
+        if code == "s":
+            self.stamp()
+        elif code:
             self.number(code)
+        elif other == "+":
+            self.whole()
+        elif other == "Z":
+            self.at = re.compile(r"[^ \t-\r]*").match(self.text, self.at).end()
+        elif other and other[-1] == "z":
+            self.offset(other[:-1], "z" if other == "#z" else "")
         elif other in GROUPS or other in SINGLES:
             self.pattern(GROUPS.get(other) or SINGLES[other])
         elif other in ("B", "b"):
@@ -241,35 +325,88 @@ def date_of(parts):
     return written(right[0]) if right else "Impossible"
 
 
+def shown(second, fraction):
+    """A local date-time by its second from 1970 and its fraction."""
+    day, at = divmod(second, 86_400)
+    past = fraction % NANOS
+    places = next(it for it in (0, 3, 6, 9) if past % 10 ** (9 - it) == 0)
+    return f"{written(day + EPOCH)}T{at // 3600:02}:{at // 60 % 60:02}:{at % 60 + fraction // NANOS:02}" + (f".{past:09}"[: places + 1] if places else "")
+
+
+def moments_by(parts, offset):
+    """The local date-times that a set of parts that suffices names, as their second from 1970 and their fraction; none if no set does."""
+    nanos, second = parts.get("nanos", 0), parts.get("second")
+    if "stamp" in parts:
+        local = parts["stamp"] + offset
+        plain = [(local, nanos)] if second != 60 else []
+        return plain + [(it, NANOS + nanos) for it in (local, local - 1) if it % 60 == 59 and second == 60]
+    days = by_names(parts)
+    if days is None or not {"half", "hour", "minute"} <= parts.keys() or ("nanos" in parts and second is None):
+        return None
+    at = (parts["half"] * 12 + parts["hour"]) * 3600 + parts["minute"] * 60 + min(second or 0, 59)
+    return [((it - EPOCH) * 86_400 + at, nanos + NANOS * (second == 60)) for it in days]
+
+
+def moment_of(parts, offset):
+    """The second and the fraction of the local date-time that fits parts, or why there is none."""
+    moments = moments_by(parts, offset)
+    if moments is None:
+        return "NotEnough"
+    for second, fraction in moments:
+        day, at = divmod(second, 86_400)
+        told = {"half": at // 43_200, "hour": at // 3600 % 12, "minute": at // 60 % 60, "second": at % 60 + fraction // NANOS}
+        if fits(parts, day + EPOCH) and all(parts.get(name, value) == value for name, value in told.items()):
+            return second, fraction
+    return "Impossible"
+
+
+def zoned_of(parts):
+    """The date-time with its offset that fits parts, or why there is none."""
+    if not {"offset", "stamp"} & parts.keys():
+        return "NotEnough"
+    offset = parts.get("offset", 0)
+    found = moment_of(parts, offset)
+    if isinstance(found, str):
+        return found
+    return shown(*found) + offset_text(offset, "Z") if FIRST_SECOND <= found[0] - offset <= LAST_SECOND else "Impossible"
+
+
 def wanted_of(pattern, text):
-    """The date of a whole text, or what is wrong; and the date of its front with how many bytes are behind it, or what is wrong with that."""
+    """The date of a whole text, or what is wrong; and the date of its front with how many bytes are behind it, or what is wrong with that.
+
+    Then the same of the date-time and of the one with its offset, and the front of that.
+    """
     reader = Reader(text)
     try:
         reader.pattern(pattern)
     except Wrong as wrong:
-        return str(wrong), str(wrong)
-    date, left = date_of(reader.parts), len(text) - reader.at
-    front = f"{date} + {left}" if DATE.match(date) else f"{date} {reader.at}"
+        return (str(wrong),) * 5
+    found = moment_of(reader.parts, 0)
+    date, moment, zoned = date_of(reader.parts), found if isinstance(found, str) else shown(*found), zoned_of(reader.parts)
+    left = len(text) - reader.at
+    front, zoned_front = (f"{it} + {left}" if DATE.match(it) else f"{it} {reader.at}" for it in (date, zoned))
     if left:
-        return f"TooLong {reader.at}", front
-    as_python(pattern, text, date)
-    return date, front
+        late = f"TooLong {reader.at}"
+        return late, front, late, late, zoned_front
+    as_python(pattern, text, date, zoned)
+    return date, front, *(it if DATE.match(it) else f"{it} {reader.at}" for it in (moment, zoned)), zoned_front
 
 
 # What a date begins with.
 DATE = re.compile("[-+0-9]")
 
 
-def as_python(pattern, text, told):
-    """Stops if strptime reads another date. Where two numbers touch, it may read fewer digits of the first."""
+def as_python(pattern, text, told, zoned):
+    """Stops if strptime reads another date or another zoned date-time. Where two numbers touch, it may read fewer digits of the first."""
     codes = "".join(it[1] + it[2] + it[3] for it in re.findall(SPECIFIER.pattern, pattern))
     if not set(codes) <= set(OF_PYTHON) or re.search("%[-_0]|%[YmdjHIMSy]%", pattern) or not DATE.match(told) or ("y" in codes and int(told[:4]) > 2068):
         return
     try:
-        date = datetime.datetime.strptime(text, pattern).date()
+        moment = datetime.datetime.strptime(text, pattern)
     except (ValueError, re.error):
         return
-    assert date.isoformat() == told, (pattern, text, told, date)
+    assert moment.date().isoformat() == told, (pattern, text, told, moment)
+    assert "z" not in codes or not DATE.match(zoned) or ":60" in zoned or moment.isoformat() == zoned, (pattern, text, zoned, moment)
 
 
 PATTERNS = (
@@ -277,19 +414,27 @@ PATTERNS = (
     "%Y-%m-%dT%T%.f", "%F %I:%M %p", "%F %H%M%S%3f", "%q %F", "%F %w", "%B %d %Y %A", "%y%j", "%d%m%y %H", "%Y %b", "%g %V %u", "%b %d", "%F%n%T", "%Y %m %d %f",
     "%Y %U %a", "%Y-W%W-%u", "%y%W%w", "%U %F", "%c", "%v", "%x %X", "%F %r", "%r %v",
 )
+# Those of date-times with their offset, or with the seconds from 1970.
+ZONED_PATTERNS = (
+    "%F %T %z", "%F %R%:z", "%Y-%m-%d %H:%M:%S %z", "%FT%T%.f%:z", "%d.%m.%Y %H:%M %::z", "%F %T %Z", "%F %T %:::z", "%F %R %#z", "%+", "%s", "%s %z", "%s %F", "%s %S %:z", "%s%.f",
+    "%T %s", "%a %s %::z", "%z %Z %c", "%:z%#z %F %T", "%s %j %H", "%F %T%.3f %::z:%s", "%d %b %Y %T %z",
+)
 
 
 def question(draw):
     """A random line: a pattern, and a text that it writes, often spoilt."""
-    pattern = draw.choice(PATTERNS)
+    pattern = draw.choice(PATTERNS + ZONED_PATTERNS)
     if draw.random() < 0.3:
         pattern = "".join(draw.choice(("%Y", "%m", "%d", "%j", "%y", "%C", "%b", "%B", "%a", "%A", "%e", "%u", "%w", "%G", "%V", "%U", "%W", "%H", "%I", "%p", "%M", "%-d", "%_m", " ", "-", "/", "x")) for _ in range(draw.randrange(2, 9)))
     day = draw.choice((draw.randrange(719_163, 755_000), draw.randrange(600_000, 800_000), draw.randrange(FIRST, LAST + 1)))
-    fraction = draw.choice((0, 500_000_000, draw.randrange(NANOS)))
-    text = answer(Moment(day, draw.randrange(86_400), fraction), pattern)
+    fraction, second = draw.choice((0, 500_000_000, draw.randrange(NANOS))), draw.choice((draw.randrange(86_400), 60 * draw.randrange(1440) + 59))
+    if second % 60 == 59 and draw.random() < 0.5:
+        fraction += NANOS
+    offset = draw.choice((0, 34_200, -18_000, 60 * draw.randrange(-1439, 1440), draw.randrange(-86_399, 86_400)))
+    text = answer(Moment(day, second, fraction, offset), pattern)
     if draw.random() < 0.5:
         at = draw.randrange(len(text) + 1)
-        put = draw.choice(("", "0", "1", "9", " ", "-", "x", ":", "A"))
+        put = draw.choice(("", "0", "1", "9", " ", "-", "x", ":", "A", "Z", "+", "UTC"))
         text = text[:at] + put + text[at + draw.randrange(2) :]
     if draw.random() < 0.2:
         text = text.swapcase()
@@ -301,7 +446,7 @@ def line_of(question):
 
 
 def by_chrono(room, questions):
-    """The dates that chrono reads, and `!` for none."""
+    """The dates that chrono reads, and the zoned date-times, `!` for none."""
     program = build_over_chrono(room, "checks/chrono_patterns")
     asked = "".join(f"{line_of(it)}\n" for it in questions)
     return subprocess.run([program, "read"], input=asked, stdout=subprocess.PIPE, text=True, check=True).stdout.split("\n")[:-1]
@@ -321,10 +466,13 @@ def main():
             print(f"chrono is not asked: {missing}")
         else:
             # Debian's chrono does not look at the range of an hour or a minute where it reads a date.
-            others = [(line_of(it), a, b if DATE.match(b) else "!") for it, a, (b, _) in zip(questions, by_chrono(room, questions), answers) if not NOT_OF_CHRONO.search(it[0]) and not b.startswith("OutOfRange")]
-            wrong += ["chrono: " + it for it in differing(*zip(*others))]
-            print(f"{len(others)} of {len(questions)} by chrono too")
-        folder = put_program(room, "patterns_read", ["chrono_pattern"], PROGRAM)
+            read = [it.split(" ") for it in by_chrono(room, questions)]
+            for place, what in enumerate(("dates", "zoned date-times")):
+                rows = ((it, a[place], b[(0, 3)[place]]) for it, a, b in zip(questions, read, answers))
+                others = [(line_of(it), a, b if DATE.match(b) else "!") for it, a, b in rows if not NOT_OF_CHRONO.search(it[0]) and not b.startswith("OutOfRange")]
+                wrong += [f"chrono, {what}: {it}" for it in differing(*zip(*others))]
+                print(f"{len(others)} of {len(questions)} {what} by chrono too")
+        folder = put_program(room, "patterns_read", ["chrono_datetime", "chrono_zoned", "chrono_pattern"], PROGRAM)
         lines = [line_of(it) for it in questions]
         told = answers_in_parts(room, folder, lines, PART)
     end(lines, told, wanted, wrong)

@@ -1,12 +1,13 @@
 -- The text of a pattern of ASCII bytes is ASCII.
-use Rattle.std.proofs.Common.{◌≡◌, ℕ, suc, ◌+◌, ◌-◌, ◌/◌, ◌%◌, ◌^◌, ◌<◌, ◌==◌, nat_lt, Bool, true, false, ◌&&◌, if◌then◌else◌, List, [], ◌∷◌, ◌++◌, codes, take, length, Option, None, Some, ℤ, pos, refl, sym, subst, arith}
+use Rattle.std.proofs.Common.{◌≡◌, ℕ, suc, ◌-◌, ◌/◌, ◌%◌, ◌^◌, ◌<◌, ◌==◌, nat_lt, Bool, true, false, ◌&&◌, if◌then◌else◌, List, [], ◌∷◌, ◌++◌, codes, take, length, Option, None, Some, ℤ, pos, refl, sym, subst, arith}
 use Rattle.std.proofs.lemmas.Bool.{and_parts, ltb-true}
 use Rattle.std.proofs.lemmas.Fmt.{IsAscii-decimal}
 use Rattle.std.proofs.lemmas.Str.{IsAscii-append, IsAscii-take}
 use Rattle.std.proofs.lemmas.Str.Ascii.{IsAscii-cons, IsAscii-nil}
 use Rattle.std.specs.Fmt.{decimal}
 use Rattle.std.specs.Int.RustNames.{int_lt}
-use Rattle.std.specs.Prelude.{⊤}
+use Rattle.std.specs.Int.{is_negative}
+use Rattle.std.specs.Prelude.{⊤, ◌-ℤ◌, unsigned_abs}
 use Rattle.std.specs.Str.{IsAscii, byte}
 use Rattle.chrono_calendar.proofs.IsoDates.{before_monday-bound, iso_week_of-bounds}
 use Rattle.chrono_calendar.proofs.IsoWeeks.{iso_year_of-range}
@@ -15,8 +16,11 @@ use Rattle.chrono_calendar.proofs.NamedDates.{calendar_name-exists, day_of-small
 use Rattle.chrono_calendar.proofs.Names.{year_length_bounds}
 use Rattle.chrono_calendar.proofs.Signed.{signed}
 use Rattle.chrono_datetime.proofs.SetTexts.{IsAscii-weekday_text}
-use Rattle.chrono_text.proofs.AsciiTexts.{IsAscii-all_digits}
-use Rattle.chrono_text.specs.Text.{all_digits}
+use Rattle.chrono_text.proofs.AsciiTexts.{IsAscii-all_digits, IsAscii-two_digits}
+use Rattle.chrono_text.specs.Text.{all_digits, colon_seconds_text, two_digits}
+use Rattle.chrono_instant.specs.Instants.{epoch_second}
+use Rattle.chrono_instant.specs.OffsetText.{offset_size_text, offset_text}
+use Rattle.chrono_instant.specs.Offsets.{IsOffset}
 use Rattle.chrono_datetime.specs.Days.{IsDate, month_of, year_of}
 use Rattle.chrono_datetime.specs.Duration.{nanos_per_second}
 use Rattle.chrono_datetime.specs.Moment.{Moment}
@@ -30,20 +34,25 @@ use Rattle.chrono_datetime.specs.declared.Weekday.{Weekday}
 use Rattle.chrono_datetime.specs.declared.Weekday.TheVariants.{Mon, Tue, Wed, Thu, Fri, Sat, Sun}
 use Rattle.chrono_pattern.specs.Groups.{clock_with, group_text, usual_text}
 use Rattle.chrono_pattern.specs.Numbers.{field_text, least_digits, padded, padding_of, sign_of, size_of, year_sign}
-use Rattle.chrono_pattern.specs.Patterns.{pattern_text, text_from, text_of_item}
-use Rattle.chrono_pattern.specs.PatternSteps.{date_number_at, digits_at, group_at, grouped_step, named_step, opened_step, padding_at, pattern_step, single_step, time_number_at, timed_step, unless_padded, unpadded_step, word_at}
+use Rattle.chrono_pattern.specs.Patterns.{text_at_offset, text_from, text_of_item}
+use Rattle.chrono_pattern.specs.PatternSteps.{colon_step, date_number_at, digits_at, group_at, grouped_step, named_step, opened_step, padding_at, pattern_step, single_step, stamped_step, time_number_at, timed_step, unless_padded, unpadded_step, word_at, zoned_step}
 use Rattle.chrono_pattern.specs.Subseconds.{digit_count, fraction_with, nine_digits, subsecond_of}
 use Rattle.chrono_pattern.specs.Words.{word_text}
+use Rattle.chrono_pattern.specs.ZonedPieces.{colon_piece, hours_piece, iso_piece, minutes_piece, offset_piece, stamp_piece, zoned_piece}
 use Rattle.chrono_pattern.specs.declared.item.GroupField.{GroupField}
 use Rattle.chrono_pattern.specs.declared.item.GroupField.TheVariants.{YearMonthDay, MonthDayYear, HourMinute, HourMinuteSecond, HalfClock, DayMonthYear, DateAndTime}
 use Rattle.chrono_pattern.specs.declared.item.Item.{Item}
-use Rattle.chrono_pattern.specs.declared.item.Item.TheVariants.{Empty, Byte, Number, Word, Group, Subsecond}
+use Rattle.chrono_pattern.specs.declared.item.Item.TheVariants.{Empty, Byte, Number, Word, Group, Subsecond, Zoned}
 use Rattle.chrono_pattern.specs.declared.item.NumberField.{NumberField}
 use Rattle.chrono_pattern.specs.declared.item.NumberField.TheVariants.{Year, Century, YearOfCentury, Quarter, Month, Day, SpacedDay, DayOfYear, FromMonday, FromSunday, IsoYear, IsoYearOfCentury, IsoWeek, WeekFromSunday, WeekFromMonday, Hour, SpacedHour, HalfHour, SpacedHalfHour, Minute, Second, Nanosecond}
 use Rattle.chrono_pattern.specs.declared.item.Padding.{Padding}
 use Rattle.chrono_pattern.specs.declared.item.Padding.TheVariants.{Usual, Nothing, Spaces, Zeros}
+use Rattle.chrono_pattern.specs.declared.item.OffsetForm.{OffsetForm}
+use Rattle.chrono_pattern.specs.declared.item.OffsetForm.TheVariants.{Plain, Colon, Seconds, Hours, Loose}
+use Rattle.chrono_pattern.specs.declared.item.ZonedField.{ZonedField}
+use Rattle.chrono_pattern.specs.declared.item.ZonedField.TheVariants.{Offset, ZoneName, Stamp, Iso8601}
 use Rattle.chrono_pattern.specs.declared.item.State.{State}
-use Rattle.chrono_pattern.specs.declared.item.State.TheVariants.{Outside, Opened, Digits}
+use Rattle.chrono_pattern.specs.declared.item.State.TheVariants.{Outside, Opened, Digits, Marked}
 use Rattle.chrono_pattern.specs.declared.item.WordField.{WordField}
 use Rattle.chrono_pattern.specs.declared.item.WordField.TheVariants.{MonthName, MonthLetters, WeekdayName, WeekdayLetters, Half, SmallHalf}
 use Rattle.chrono_pattern.proofs.PatternLemmas.{text_from-more, text_from-none, text_from-nothing}
@@ -245,6 +254,7 @@ IsSmallItem (Number field p) = ⊤
 IsSmallItem (Word w) = ⊤
 IsSmallItem (Group g) = ⊤
 IsSmallItem (Subsecond point count) = ⊤
+IsSmallItem (Zoned field) = ⊤
 
 abbrev Steps : Option (State × Item) → Type 0
 Steps None = ⊤
@@ -258,10 +268,24 @@ digits_small : (point : Bool) (c : ℕ) → Steps (digits_at point c)
 digits_small point c =
     if_steps (c == byte "3") _ _ tt (if_steps (c == byte "6") _ _ tt (if_steps (c == byte "9") _ _ tt tt))
 
+zoned_small : (c : ℕ) → Steps (zoned_step c)
+zoned_small c =
+    if_steps (c == byte "z") _ _ tt
+    (if_steps (c == byte "Z") _ _ tt
+    (if_steps (c == byte "+") _ _ tt
+    (if_steps (c == byte ":") _ _ tt (if_steps (c == byte "#") _ _ tt (digits_small false c)))))
+
+colon_small : (form : OffsetForm) → Steps (colon_step form)
+colon_small Plain = tt
+colon_small Colon = tt
+colon_small Seconds = tt
+colon_small Hours = tt
+colon_small Loose = tt
+
 single_small : (c : ℕ) → Steps (single_step c)
 single_small c =
     if_steps (c == byte "%") _ _ (omega arith)
-    (if_steps (c == byte "n") _ _ (omega arith) (if_steps (c == byte "t") _ _ (omega arith) (if_steps (c == byte ".") _ _ tt (digits_small false c))))
+    (if_steps (c == byte "n") _ _ (omega arith) (if_steps (c == byte "t") _ _ (omega arith) (if_steps (c == byte ".") _ _ tt (zoned_small c))))
 
 grouped_small : (c : ℕ) (o : Option GroupField) → Steps (elim o as (λ _. Option (State × Item)) [ None ↦ single_step c | Some g ↦ Some (Outside, Group g) ])
 grouped_small c None = single_small c
@@ -282,9 +306,12 @@ padded_small Nothing c = tt
 padded_small Spaces c = tt
 padded_small Zeros c = tt
 
+stamped_small : (p : Padding) (c : ℕ) → Steps (stamped_step p c)
+stamped_small p c = if_steps (c == byte "s") _ _ tt (padded_small p c)
+
 timed_small : (p : Padding) (c : ℕ) (o : Option NumberField)
-    → Steps (elim o as (λ _. Option (State × Item)) [ None ↦ unless_padded p c | Some n ↦ Some (Outside, Number n p) ])
-timed_small p c None = padded_small p c
+    → Steps (elim o as (λ _. Option (State × Item)) [ None ↦ stamped_step p c | Some n ↦ Some (Outside, Number n p) ])
+timed_small p c None = stamped_small p c
 timed_small p c (Some n) = tt
 
 opened_small : (p : Padding) (c : ℕ) (o : Option NumberField)
@@ -298,32 +325,97 @@ step_small Outside c small = if_steps (c == byte "%") _ _ tt small
 step_small (Opened p) c small = opened_small p c (date_number_at c)
 step_small (Digits point count) c small =
     if_steps (c == byte "f") _ _ tt (if_steps (count == 0) _ _ (digits_small point c) tt)
+step_small (Marked form) c small = if_steps (c == byte "z") _ _ tt (if_steps (c == byte ":") _ _ (colon_small form) tt)
 
-item_ascii : (item : Item) (m : Moment) → IsSmallItem item → IsDate m.date → IsTime m.time → IsAscii (text_of_item item m)
-item_ascii Empty m small date time = IsAscii-nil
-item_ascii (Byte c) m small date time = IsAscii-cons c [] small IsAscii-nil
-item_ascii (Number field p) m small date time = number_ascii field p m date time
-item_ascii (Word w) m small date time = word_ascii w m
-item_ascii (Group g) m small date time = group_ascii g m date time
-item_ascii (Subsecond point count) m small date time = subsecond_ascii point count m.time
+-- ---- an offset and the seconds from 1970
+
+sign_piece_ascii : (x : ℤ) → IsAscii (if is_negative x then codes "-" else codes "+")
+sign_piece_ascii x = either (is_negative x) (codes "-") (codes "+") (ascii (codes "-") refl) (ascii (codes "+") refl)
+
+hours_ascii : (x : ℤ) → IsOffset x → IsAscii (hours_piece x)
+unfolding hours_piece
+hours_ascii x near =
+    IsAscii-append (if is_negative x then codes "-" else codes "+") (two_digits (unsigned_abs x / 3_600)) (sign_piece_ascii x)
+    (IsAscii-two_digits (unsigned_abs x / 3_600) (omega (arith, near)))
+
+colon_ascii : (x : ℤ) → IsOffset x → IsAscii (colon_piece x)
+colon_ascii x near = behind (hours_piece x) 58 (minutes_piece x) (hours_ascii x near) (omega arith) (IsAscii-two_digits (unsigned_abs x / 60 % 60) (omega arith))
+
+plain_ascii : (x : ℤ) → IsOffset x → IsAscii (hours_piece x ++ minutes_piece x)
+plain_ascii x near = IsAscii-append (hours_piece x) (minutes_piece x) (hours_ascii x near) (IsAscii-two_digits (unsigned_abs x / 60 % 60) (omega arith))
+
+offset_ascii : (form : OffsetForm) (x : ℤ) → IsOffset x → IsAscii (offset_piece form x)
+unfolding offset_piece
+offset_ascii Plain x near = plain_ascii x near
+offset_ascii Colon x near = colon_ascii x near
+offset_ascii Seconds x near = behind (colon_piece x) 58 (two_digits (unsigned_abs x % 60)) (colon_ascii x near) (omega arith) (IsAscii-two_digits (unsigned_abs x % 60) (omega arith))
+offset_ascii Hours x near = hours_ascii x near
+offset_ascii Loose x near = plain_ascii x near
+
+zone_ascii : (x : ℤ) → IsOffset x → IsAscii (offset_text x)
+zone_ascii x near =
+    let n = unsigned_abs x in
+    let sign = if is_negative x then codes "-" else codes "+" in
+    let hours = two_digits (n / 3_600) in
+    let minutes = two_digits (n / 60 % 60) in
+    let seconds = two_digits (n % 60) in
+    IsAscii-append sign (offset_size_text n) (sign_piece_ascii x)
+    (IsAscii-append (hours ++ codes ":" ++ minutes) (colon_seconds_text (n % 60))
+    (IsAscii-append (hours ++ codes ":") minutes
+    (IsAscii-append hours (codes ":") (IsAscii-two_digits (n / 3_600) (omega (arith, near))) (ascii (codes ":") refl)) (IsAscii-two_digits (n / 60 % 60) (omega arith)))
+    (either (n % 60 == 0) [] (codes ":" ++ seconds) IsAscii-nil (IsAscii-append (codes ":") seconds (ascii (codes ":") refl) (IsAscii-two_digits (n % 60) (omega arith)))))
+
+stamp_ascii : (s : ℤ) → unsigned_abs s < 2 ^ 64 → IsAscii (stamp_piece s)
+unfolding stamp_piece
+stamp_ascii s small =
+    IsAscii-append (if is_negative s then codes "-" else []) (decimal (unsigned_abs s))
+    (either (is_negative s) (codes "-") [] (ascii (codes "-") refl) IsAscii-nil) (IsAscii-decimal (unsigned_abs s) small)
+
+stamp_small : (m : Moment) (x : ℤ) → IsOffset x → IsDate m.date → IsTime m.time → unsigned_abs (epoch_second m -ℤ x) < 2 ^ 64
+stamp_small m x near date time = omega (arith, signed, near, date, time.second)
+
+iso_ascii : (m : Moment) (x : ℤ) → IsOffset x → IsDate m.date → IsTime m.time → IsAscii (iso_piece m x)
+unfolding iso_piece
+iso_ascii m x near date time =
+    let clock = group_text HourMinuteSecond m in
+    let fraction = subsecond_of true 0 m.time in
+    IsAscii-append (group_text YearMonthDay m ++ (84 ∷ clock) ++ fraction) (offset_piece Colon x)
+    (IsAscii-append (group_text YearMonthDay m ++ (84 ∷ clock)) fraction
+    (behind (group_text YearMonthDay m) 84 clock (group_ascii YearMonthDay m date time) (omega arith) (group_ascii HourMinuteSecond m date time))
+    (subsecond_ascii true 0 m.time)) (offset_ascii Colon x near)
+
+zoned_ascii : (field : ZonedField) (m : Moment) (x : ℤ) → IsOffset x → IsDate m.date → IsTime m.time → IsAscii (zoned_piece field m x)
+zoned_ascii (Offset form) m x near date time = offset_ascii form x near
+zoned_ascii ZoneName m x near date time = zone_ascii x near
+zoned_ascii Stamp m x near date time = stamp_ascii (epoch_second m -ℤ x) (stamp_small m x near date time)
+zoned_ascii Iso8601 m x near date time = iso_ascii m x near date time
+
+item_ascii : (item : Item) (m : Moment) (x : ℤ) → IsOffset x → IsSmallItem item → IsDate m.date → IsTime m.time → IsAscii (text_of_item item m x)
+item_ascii Empty m x near small date time = IsAscii-nil
+item_ascii (Byte c) m x near small date time = IsAscii-cons c [] small IsAscii-nil
+item_ascii (Number field p) m x near small date time = number_ascii field p m date time
+item_ascii (Word w) m x near small date time = word_ascii w m
+item_ascii (Group g) m x near small date time = group_ascii g m date time
+item_ascii (Subsecond point count) m x near small date time = subsecond_ascii point count m.time
+item_ascii (Zoned field) m x near small date time = zoned_ascii field m x near date time
 
 -- ---- a pattern
 
-abbrev WritesAscii : List ℕ → Moment → Type 0
-WritesAscii bytes m = (s : State) → IsAscii (text_from s bytes m)
+abbrev WritesAscii : List ℕ → Moment → ℤ → Type 0
+WritesAscii bytes m x = (s : State) → IsAscii (text_from s bytes m x)
 
-step_ascii : (c : ℕ) (bytes : List ℕ) (m : Moment) → c < 128 → IsDate m.date → IsTime m.time → WritesAscii bytes m → (s : State)
-    → (o : Option (State × Item)) → pattern_step s c ≡ o → IsAscii (text_from s (c ∷ bytes) m)
-step_ascii c bytes m small date time rest s None e = subst IsAscii (sym (text_from-none s c bytes m e)) IsAscii-nil
-step_ascii c bytes m small date time rest s (Some next) e =
+step_ascii : (c : ℕ) (bytes : List ℕ) (m : Moment) (x : ℤ) → IsOffset x → c < 128 → IsDate m.date → IsTime m.time → WritesAscii bytes m x → (s : State)
+    → (o : Option (State × Item)) → pattern_step s c ≡ o → IsAscii (text_from s (c ∷ bytes) m x)
+step_ascii c bytes m x near small date time rest s None e = subst IsAscii (sym (text_from-none s c bytes m x e)) IsAscii-nil
+step_ascii c bytes m x near small date time rest s (Some next) e =
     let item : IsSmallItem next.1 = subst Steps e (step_small s c small) in
-    subst IsAscii (sym (text_from-more s c bytes m next e))
-    (IsAscii-append (text_of_item next.1 m) (text_from next.0 bytes m) (item_ascii next.1 m item date time) (rest next.0))
+    subst IsAscii (sym (text_from-more s c bytes m x next e))
+    (IsAscii-append (text_of_item next.1 m x) (text_from next.0 bytes m x) (item_ascii next.1 m x near item date time) (rest next.0))
 
-text_ascii : (bytes : List ℕ) (m : Moment) → IsAscii bytes → IsDate m.date → IsTime m.time → WritesAscii bytes m
-text_ascii [] m are date time s = subst IsAscii (sym (text_from-nothing s m)) IsAscii-nil
-text_ascii (c ∷ bytes) m are date time s =
-    step_ascii c bytes m (are 0) date time (text_ascii bytes m (λ i. are (suc i)) date time) s (pattern_step s c) refl
+text_ascii : (bytes : List ℕ) (m : Moment) (x : ℤ) → IsOffset x → IsAscii bytes → IsDate m.date → IsTime m.time → WritesAscii bytes m x
+text_ascii [] m x near are date time s = subst IsAscii (sym (text_from-nothing s m x)) IsAscii-nil
+text_ascii (c ∷ bytes) m x near are date time s =
+    step_ascii c bytes m x near (are 0) date time (text_ascii bytes m x near (λ i. are (suc i)) date time) s (pattern_step s c) refl
 
-pub ascii_text : (bytes : List ℕ) (m : Moment) → IsAscii bytes → IsDate m.date → IsTime m.time → IsAscii (pattern_text bytes m)
-ascii_text bytes m are date time = text_ascii bytes m are date time Outside
+pub ascii_text : (bytes : List ℕ) (m : Moment) (x : ℤ) → IsOffset x → IsAscii bytes → IsDate m.date → IsTime m.time → IsAscii (text_at_offset bytes m x)
+ascii_text bytes m x near are date time = text_ascii bytes m x near are date time Outside

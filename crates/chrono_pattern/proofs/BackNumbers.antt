@@ -1,5 +1,5 @@
 -- Numbers of two digits and of four are read back, whatever is behind them.
-use Rattle.std.proofs.Common.{◌≡◌, ℕ, suc, ◌+◌, ◌-◌, ◌/◌, ◌%◌, ◌<◌, ◌≤◌, ◌==◌, min, Bool, true, false, if◌then◌else◌, List, [], ◌∷◌, ◌++◌, drop, take, ℤ, pos, Option, Result, Ok, refl, ap, sym, ◌∙◌, arith}
+use Rattle.std.proofs.Common.{◌≡◌, ℕ, suc, ◌+◌, ◌/◌, ◌%◌, ◌<◌, ◌≤◌, ◌==◌, min, Bool, true, false, if◌then◌else◌, List, [], ◌∷◌, ◌++◌, drop, take, ℤ, pos, Option, Result, Ok, refl, ap, sym, ◌∙◌, arith}
 use Rattle.std.specs.Prelude.{unsigned_abs}
 use Rattle.std.proofs.lemmas.Bool.Decides.{nat_tests}
 use Rattle.std.proofs.lemmas.Int.{ints}
@@ -9,7 +9,7 @@ use Rattle.std.specs.List.{prefix_len}
 use Rattle.chrono_text.proofs.Decimals.{four_places}
 use Rattle.chrono_text.proofs.NaturalLemmas.{four_digits-read, two_digits-read}
 use Rattle.chrono_text.specs.Numbers.{digits_of}
-use Rattle.chrono_text.specs.Text.{two_digits}
+use Rattle.chrono_text.specs.Text.{all_digits, two_digits}
 use Rattle.chrono_pattern.specs.NumberReads.{digits_in, digits_read, has_sign, most_digits, number_put, number_read, signed_read, value_read}
 use Rattle.chrono_pattern.specs.Numbers.{padded, year_sign}
 use Rattle.chrono_pattern.specs.Progress.{behind_blanks, class_len, is_of, is_pattern_blank, progress}
@@ -72,18 +72,39 @@ two_read : (field : NumberField) (n : ℕ) (rest : List ℕ) (p : Parsed) → n 
 two_read field n rest p small =
     value_two field n rest p small (two_count (n / 10) (n % 10) rest (omega (arith, small)) (omega arith))
 
-pub number_two : (field : NumberField) (n : ℕ) (rest : List ℕ) (p q : Parsed) → has_sign field ≡ false → most_digits field ≡ 2 → n < 100
-    → number_put field (pos n) p ≡ Ok q
-    → number_read field (record { rest = padded Zeros 2 [] n ++ rest; parsed = p }) ≡ Ok (record { rest = rest; parsed = q })
+two_in_front : (field : NumberField) (n : ℕ) (rest : List ℕ) (p : Parsed) → has_sign field ≡ false → most_digits field ≡ 2 → n < 100
+    → number_read field (record { rest = two_digits n ++ rest; parsed = p }) ≡ progress (number_put field (pos n) p) rest (two_digits n ++ rest)
 unfolding number_read
-number_two field n rest p q unsigned two small put =
+two_in_front field n rest p unsigned two small =
     let text = two_digits n ++ rest in
-    ap (λ (l : List ℕ). number_read field (record { rest = l ++ rest; parsed = p })) (two_padded n small)
-    ∙ ap (λ (b : Bool). if b then signed_read field (behind_blanks text) p else digits_read field (most_digits field) false (behind_blanks text) p) unsigned
+    ap (λ (b : Bool). if b then signed_read field (behind_blanks text) p else digits_read field (most_digits field) false (behind_blanks text) p) unsigned
     ∙ ap (λ (k : ℕ). digits_read field k false (behind_blanks text) p) two
     ∙ ap (λ (l : List ℕ). digits_read field 2 false l p) (digit_stays (n / 10) ((48 + n % 10) ∷ rest) (omega (arith, small)))
     ∙ two_read field n rest p small
-    ∙ ap (λ (o : Result Parsed ReadFault). progress o rest text) put
+
+-- a text that begins so
+in_front : (field : NumberField) (n most : ℕ) (digits text : List ℕ) (p : Parsed) → most_digits field ≡ most → text ≡ digits ++ drop most text
+    → number_read field (record { rest = digits ++ drop most text; parsed = p }) ≡ progress (number_put field (pos n) p) (drop most text) (digits ++ drop most text)
+    → number_read field (record { rest = text; parsed = p }) ≡ progress (number_put field (pos n) p) (drop (most_digits field) text) text
+in_front field n most digits text p is begins read =
+    ap (λ (l : List ℕ). number_read field (record { rest = l; parsed = p })) begins
+    ∙ read
+    ∙ ap (λ (l : List ℕ). progress (number_put field (pos n) p) (drop most text) l) (sym begins)
+    ∙ ap (λ (k : ℕ). progress (number_put field (pos n) p) (drop k text) text) (sym is)
+
+pub plain_two : (field : NumberField) (n : ℕ) (text : List ℕ) (p : Parsed) → has_sign field ≡ false → most_digits field ≡ 2 → n < 100
+    → text ≡ two_digits n ++ drop 2 text
+    → number_read field (record { rest = text; parsed = p }) ≡ progress (number_put field (pos n) p) (drop (most_digits field) text) text
+plain_two field n text p unsigned two small begins =
+    in_front field n 2 (two_digits n) text p two begins (two_in_front field n (drop 2 text) p unsigned two small)
+
+pub number_two : (field : NumberField) (n : ℕ) (rest : List ℕ) (p q : Parsed) → has_sign field ≡ false → most_digits field ≡ 2 → n < 100
+    → number_put field (pos n) p ≡ Ok q
+    → number_read field (record { rest = padded Zeros 2 [] n ++ rest; parsed = p }) ≡ Ok (record { rest = rest; parsed = q })
+number_two field n rest p q unsigned two small put =
+    ap (λ (l : List ℕ). number_read field (record { rest = l ++ rest; parsed = p })) (two_padded n small)
+    ∙ two_in_front field n rest p unsigned two small
+    ∙ ap (λ (o : Result Parsed ReadFault). progress o rest (two_digits n ++ rest)) put
 
 -- a number begins with a digit
 pub two_stays : (n : ℕ) (rest : List ℕ) → n < 100 → behind_blanks (padded Zeros 2 [] n ++ rest) ≡ padded Zeros 2 [] n ++ rest
@@ -129,14 +150,35 @@ no_sign d = grind (arith, nat_tests)
 no_plus : (d : ℕ) → ((48 + d) == 43) ≡ false
 no_plus d = grind (arith, nat_tests)
 
-unsigned_four : (n : ℕ) (rest : List ℕ) (p : Parsed) → signed_read Year (four_digits n ++ rest) p ≡ digits_read Year 4 false (four_digits n ++ rest) p
+unsigned_four : (field : NumberField) (n : ℕ) (rest : List ℕ) (p : Parsed)
+    → signed_read field (four_digits n ++ rest) p ≡ digits_read field (most_digits field) false (four_digits n ++ rest) p
 unfolding signed_read
-unsigned_four n rest p =
+unsigned_four field n rest p =
     let d = n / 100 / 10 in
     let text = four_digits n ++ rest in
     let digits = (48 + n / 100 % 10) ∷ (48 + n % 100 / 10) ∷ (48 + n % 100 % 10) ∷ rest in
-    ap (λ (b : Bool). if b then digits_read Year 9 true digits p else if (48 + d) == 43 then digits_read Year 9 false digits p else digits_read Year 4 false text p) (no_sign d)
-    ∙ ap (λ (b : Bool). if b then digits_read Year 9 false digits p else digits_read Year 4 false text p) (no_plus d)
+    let plain = digits_read field (most_digits field) false text p in
+    ap (λ (b : Bool). if b then digits_read field 9 true digits p else if (48 + d) == 43 then digits_read field 9 false digits p else plain) (no_sign d)
+    ∙ ap (λ (b : Bool). if b then digits_read field 9 false digits p else plain) (no_plus d)
+
+four_in_front : (field : NumberField) (n : ℕ) (rest : List ℕ) (p : Parsed) → has_sign field ≡ true → most_digits field ≡ 4 → n < 10_000
+    → number_read field (record { rest = four_digits n ++ rest; parsed = p }) ≡ progress (number_put field (pos n) p) rest (four_digits n ++ rest)
+unfolding number_read
+four_in_front field n rest p signed four small =
+    let text = four_digits n ++ rest in
+    ap (λ (b : Bool). if b then signed_read field (behind_blanks text) p else digits_read field (most_digits field) false (behind_blanks text) p) signed
+    ∙ ap (λ (l : List ℕ). signed_read field l p)
+    (digit_stays (n / 100 / 10) ((48 + n / 100 % 10) ∷ (48 + n % 100 / 10) ∷ (48 + n % 100 % 10) ∷ rest) (omega (arith, small)))
+    ∙ unsigned_four field n rest p
+    ∙ ap (λ (k : ℕ). digits_read field k false text p) four
+    ∙ four_read field n rest p small
+
+pub plain_four : (field : NumberField) (n : ℕ) (text : List ℕ) (p : Parsed) → has_sign field ≡ true → most_digits field ≡ 4 → n < 10_000
+    → text ≡ all_digits 4 n ++ drop 4 text
+    → number_read field (record { rest = text; parsed = p }) ≡ progress (number_put field (pos n) p) (drop (most_digits field) text) text
+plain_four field n text p signed four small begins =
+    let places = ap (λ (l : List ℕ). l ++ drop 4 text) (four_places n small) in
+    in_front field n 4 (four_digits n) text p four (begins ∙ places) (four_in_front field n (drop 4 text) p signed four small)
 
 -- ---- the year
 
@@ -156,14 +198,10 @@ year_digits y n is small =
 
 pub year_back : (y : ℤ) (n : ℕ) (rest : List ℕ) (p q : Parsed) → y ≡ pos n → n < 10_000 → number_put Year y p ≡ Ok q
     → number_read Year (record { rest = padded Zeros 4 (year_sign y) (unsigned_abs y) ++ rest; parsed = p }) ≡ Ok (record { rest = rest; parsed = q })
-unfolding number_read
 year_back y n rest p q is small put =
     let text = four_digits n ++ rest in
     ap (λ (l : List ℕ). number_read Year (record { rest = l ++ rest; parsed = p })) (year_digits y n is small)
-    ∙ ap (λ (l : List ℕ). signed_read Year l p)
-    (digit_stays (n / 100 / 10) ((48 + n / 100 % 10) ∷ (48 + n % 100 / 10) ∷ (48 + n % 100 % 10) ∷ rest) (omega (arith, small)))
-    ∙ unsigned_four n rest p
-    ∙ four_read Year n rest p small
+    ∙ four_in_front Year n rest p refl refl small
     ∙ ap (λ (z : ℤ). progress (number_put Year z p) rest text) (sym is)
     ∙ ap (λ (o : Result Parsed ReadFault). progress o rest text) put
 

@@ -1,5 +1,5 @@
 -- A pattern of fixed numbers reads back what it writes.
-use Rattle.std.proofs.Common.{◌≡◌, ℕ, ◌+◌, ◌%◌, Bool, true, false, ◌&&◌, List, [], ◌∷◌, ◌++◌, Option, Some, None, Result, Ok, ℤ, pos, unsigned_abs, refl, ap, sym, ◌∙◌, arith}
+use Rattle.std.proofs.Common.{◌≡◌, ℕ, ◌%◌, Bool, true, false, ◌&&◌, List, [], ◌∷◌, ◌++◌, Option, Some, None, Result, Ok, ℤ, pos, unsigned_abs, refl, ap, sym, ◌∙◌, arith}
 use Rattle.std.proofs.lemmas.Bool.{and_from, and_parts, false≢true}
 use Rattle.std.proofs.lemmas.Bool.Decides.{Decides-int_eq}
 use Rattle.std.specs.Int.{int_rem_euclid}
@@ -12,14 +12,16 @@ use Rattle.chrono_datetime.specs.Moment.{Moment}
 use Rattle.chrono_datetime.specs.Time.{IsTime}
 use Rattle.chrono_pattern.specs.DateParts.{date_fits, day_fits, in_window, is_present, names_calendar, names_date, names_ordinal, names_week, names_year_week, says, week_fits, year_fits, year_week_fits}
 use Rattle.chrono_pattern.specs.NamedParts.{named_from, named_parts, with_item}
-use Rattle.chrono_pattern.specs.Parses.{IsDateBy, IsTimeBy}
+use Rattle.chrono_pattern.specs.Parses.{IsDateBy, IsTimeBy, IsZonedBy}
 use Rattle.chrono_pattern.specs.Parts.{no_parts}
-use Rattle.chrono_pattern.specs.Patterns.{pattern_text, text_from, text_of_item}
+use Rattle.chrono_pattern.specs.Patterns.{pattern_text, text_at_offset, text_from, text_of_item}
 use Rattle.chrono_pattern.specs.PatternSteps.{pattern_step}
 use Rattle.chrono_pattern.specs.Progress.{Progress, behind_blanks}
 use Rattle.chrono_pattern.specs.ReadBack.{ends_blank, if_named, is_fixed, is_fixed_from, is_fixed_item, parts_of}
 use Rattle.chrono_pattern.specs.Reads.{end_read, read_from, text_read}
 use Rattle.chrono_pattern.specs.TimeParts.{clock_fits, counts, names_time, second_fits, time_fits}
+use Rattle.chrono_instant.specs.Offsets.{IsOffset}
+use Rattle.chrono_pattern.specs.ZonedParts.{moment_fits, names_moment, names_zoned, zoned_fits}
 use Rattle.chrono_pattern.specs.declared.item.Item.{Item}
 use Rattle.chrono_pattern.specs.declared.item.State.{State}
 use Rattle.chrono_pattern.specs.declared.item.State.TheVariants.{Outside}
@@ -46,59 +48,65 @@ fixed-none s blank c bytes e =
 
 -- ---- behind a blank stands no other
 
-abbrev Stays : List ℕ → Moment → Type 0
-Stays bytes m = (s : State) → is_fixed_from s true bytes ≡ true → behind_blanks (text_from s bytes m) ≡ text_from s bytes m
+abbrev Stays : List ℕ → Moment → ℤ → Type 0
+Stays bytes m x = (s : State) → is_fixed_from s true bytes ≡ true → behind_blanks (text_from s bytes m x) ≡ text_from s bytes m x
 
-step_stays : (c : ℕ) (bytes : List ℕ) (m : Moment) (n : ℕ) → IsPlain m n → Stays bytes m → (s : State) (o : Option (State × Item))
-    → pattern_step s c ≡ o → is_fixed_from s true (c ∷ bytes) ≡ true → behind_blanks (text_from s (c ∷ bytes) m) ≡ text_from s (c ∷ bytes) m
-step_stays c bytes m n plain rest s None e h = absurd (false≢true (sym (fixed-none s true c bytes e) ∙ h))
-step_stays c bytes m n plain rest s (Some next) e h =
+step_stays : (c : ℕ) (bytes : List ℕ) (m : Moment) (x : ℤ) (n : ℕ) → IsPlain m x n → Stays bytes m x → (s : State) (o : Option (State × Item))
+    → pattern_step s c ≡ o → is_fixed_from s true (c ∷ bytes) ≡ true → behind_blanks (text_from s (c ∷ bytes) m x) ≡ text_from s (c ∷ bytes) m x
+step_stays c bytes m x n plain rest s None e h = absurd (false≢true (sym (fixed-none s true c bytes e) ∙ h))
+step_stays c bytes m x n plain rest s (Some next) e h =
     let both = and_parts (is_fixed_item true next.1) (is_fixed_from next.0 (ends_blank true next.1) bytes) (sym (fixed-more s true c bytes next e) ∙ h) in
-    let text = text_from-more s c bytes m next e in
+    let text = text_from-more s c bytes m x next e in
     ap (λ (l : List ℕ). behind_blanks l) text
-    ∙ item_stays next.1 (text_from next.0 bytes m) m n both.0 plain (λ is. rest next.0 (ap (λ (b : Bool). is_fixed_from next.0 b bytes) (sym is) ∙ both.1))
+    ∙ item_stays next.1 (text_from next.0 bytes m x) m x n both.0 plain (λ is. rest next.0 (ap (λ (b : Bool). is_fixed_from next.0 b bytes) (sym is) ∙ both.1))
     ∙ sym text
 
-stays : (bytes : List ℕ) (m : Moment) (n : ℕ) → IsPlain m n → Stays bytes m
-stays [] m n plain s h =
-    let nothing = text_from-nothing s m in ap (λ (l : List ℕ). behind_blanks l) nothing ∙ nothing_stays ∙ sym nothing
-stays (c ∷ bytes) m n plain s h = step_stays c bytes m n plain (stays bytes m n plain) s (pattern_step s c) refl h
+stays : (bytes : List ℕ) (m : Moment) (x : ℤ) (n : ℕ) → IsPlain m x n → Stays bytes m x
+stays [] m x n plain s h =
+    let nothing = text_from-nothing s m x in ap (λ (l : List ℕ). behind_blanks l) nothing ∙ nothing_stays ∙ sym nothing
+stays (c ∷ bytes) m x n plain s h = step_stays c bytes m x n plain (stays bytes m x n plain) s (pattern_step s c) refl h
 
 -- ---- the parts
 
-abbrev Back : List ℕ → Moment → Type 0
-Back bytes m = (s : State) (blank : Bool) (q : Parsed) → is_fixed_from s blank bytes ≡ true
-    → read_from s bytes (at (text_from s bytes m) (parts_of q m)) ≡ Ok (at [] (parts_of (named_from s bytes q) m))
+abbrev Back : List ℕ → Moment → ℤ → Type 0
+Back bytes m x = (s : State) (blank : Bool) (q : Parsed) → is_fixed_from s blank bytes ≡ true
+    → read_from s bytes (at (text_from s bytes m x) (parts_of q m x)) ≡ Ok (at [] (parts_of (named_from s bytes q) m x))
 
-step_back : (c : ℕ) (bytes : List ℕ) (m : Moment) (n : ℕ) → IsPlain m n → Back bytes m → (s : State) (blank : Bool) (q : Parsed)
+step_back : (c : ℕ) (bytes : List ℕ) (m : Moment) (x : ℤ) (n : ℕ) → IsPlain m x n → Back bytes m x → (s : State) (blank : Bool) (q : Parsed)
     → (o : Option (State × Item)) → pattern_step s c ≡ o → is_fixed_from s blank (c ∷ bytes) ≡ true
-    → read_from s (c ∷ bytes) (at (text_from s (c ∷ bytes) m) (parts_of q m)) ≡ Ok (at [] (parts_of (named_from s (c ∷ bytes) q) m))
-step_back c bytes m n plain rest s blank q None e h = absurd (false≢true (sym (fixed-none s blank c bytes e) ∙ h))
-step_back c bytes m n plain rest s blank q (Some next) e h =
+    → read_from s (c ∷ bytes) (at (text_from s (c ∷ bytes) m x) (parts_of q m x)) ≡ Ok (at [] (parts_of (named_from s (c ∷ bytes) q) m x))
+step_back c bytes m x n plain rest s blank q None e h = absurd (false≢true (sym (fixed-none s blank c bytes e) ∙ h))
+step_back c bytes m x n plain rest s blank q (Some next) e h =
     let both = and_parts (is_fixed_item blank next.1) (is_fixed_from next.0 (ends_blank blank next.1) bytes) (sym (fixed-more s blank c bytes next e) ∙ h) in
-    let behind = text_from next.0 bytes m in
-    let stay = λ (is : ends_blank blank next.1 ≡ true). stays bytes m n plain next.0 (ap (λ (b : Bool). is_fixed_from next.0 b bytes) (sym is) ∙ both.1) in
-    ap (λ (l : List ℕ). read_from s (c ∷ bytes) (at l (parts_of q m))) (text_from-more s c bytes m next e)
-    ∙ read_from-more s c bytes (at (text_of_item next.1 m ++ behind) (parts_of q m)) next e
-    ∙ ap (λ (o : Result Progress Stop). behind_item o next.0 bytes) (item_back next.1 blank behind q m n both.0 plain stay)
+    let behind = text_from next.0 bytes m x in
+    let stay = λ (is : ends_blank blank next.1 ≡ true). stays bytes m x n plain next.0 (ap (λ (b : Bool). is_fixed_from next.0 b bytes) (sym is) ∙ both.1) in
+    ap (λ (l : List ℕ). read_from s (c ∷ bytes) (at l (parts_of q m x))) (text_from-more s c bytes m x next e)
+    ∙ read_from-more s c bytes (at (text_of_item next.1 m x ++ behind) (parts_of q m x)) next e
+    ∙ ap (λ (o : Result Progress Stop). behind_item o next.0 bytes) (item_back next.1 blank behind q m x n both.0 plain stay)
     ∙ rest next.0 (ends_blank blank next.1) (with_item next.1 q) both.1
-    ∙ ap (λ (p : Parsed). Ok (at [] (parts_of p m))) (sym (named_from-more s c bytes q next e))
+    ∙ ap (λ (p : Parsed). Ok (at [] (parts_of p m x))) (sym (named_from-more s c bytes q next e))
 
-back : (bytes : List ℕ) (m : Moment) (n : ℕ) → IsPlain m n → Back bytes m
-back [] m n plain s blank q h =
-    ap (λ (l : List ℕ). read_from s [] (at l (parts_of q m))) (text_from-nothing s m)
-    ∙ read_from-nothing s (at [] (parts_of q m))
-    ∙ ap (λ (p : Parsed). Ok (at [] (parts_of p m))) (sym (named_from-nothing s q))
-back (c ∷ bytes) m n plain s blank q h = step_back c bytes m n plain (back bytes m n plain) s blank q (pattern_step s c) refl h
+back : (bytes : List ℕ) (m : Moment) (x : ℤ) (n : ℕ) → IsPlain m x n → Back bytes m x
+back [] m x n plain s blank q h =
+    ap (λ (l : List ℕ). read_from s [] (at l (parts_of q m x))) (text_from-nothing s m x)
+    ∙ read_from-nothing s (at [] (parts_of q m x))
+    ∙ ap (λ (p : Parsed). Ok (at [] (parts_of p m x))) (sym (named_from-nothing s q))
+back (c ∷ bytes) m x n plain s blank q h = step_back c bytes m x n plain (back bytes m x n plain) s blank q (pattern_step s c) refl h
 
-pub plain_of : (m : Moment) → IsTime m.time → pos 0 ≤ℤ year_of m.date → year_of m.date ≤ℤ pos 9999 → IsPlain m (unsigned_abs (year_of m.date))
-plain_of m time least most =
-    record { year = omega (arith, signed, least); small = omega (arith, signed, least, most); time = time }
+pub plain_of : (m : Moment) (x : ℤ) → IsTime m.time → pos 0 ≤ℤ year_of m.date → year_of m.date ≤ℤ pos 9999 → IsOffset x → unsigned_abs x % 60 ≡ 0
+    → IsPlain m x (unsigned_abs (year_of m.date))
+plain_of m x time least most near minutes =
+    record { year = omega (arith, signed, least); small = omega (arith, signed, least, most); time = time; offset = near; minutes = minutes }
+
+pub zoned_parts_back : (bytes : List ℕ) (m : Moment) (x : ℤ) → is_fixed bytes ≡ true → IsTime m.time → pos 0 ≤ℤ year_of m.date → year_of m.date ≤ℤ pos 9999
+    → IsOffset x → unsigned_abs x % 60 ≡ 0 → text_read bytes (text_at_offset bytes m x) ≡ Ok (parts_of (named_parts bytes) m x)
+zoned_parts_back bytes m x fixed time least most near minutes =
+    ap (λ (o : Result Progress Stop). end_read o)
+    (back bytes m x (unsigned_abs (year_of m.date)) (plain_of m x time least most near minutes) Outside false no_parts fixed)
 
 pub parts_back : (bytes : List ℕ) (m : Moment) → is_fixed bytes ≡ true → IsTime m.time → pos 0 ≤ℤ year_of m.date → year_of m.date ≤ℤ pos 9999
-    → text_read bytes (pattern_text bytes m) ≡ Ok (parts_of (named_parts bytes) m)
-parts_back bytes m fixed time least most =
-    ap (λ (o : Result Progress Stop). end_read o) (back bytes m (unsigned_abs (year_of m.date)) (plain_of m time least most) Outside false no_parts fixed)
+    → text_read bytes (pattern_text bytes m) ≡ Ok (parts_of (named_parts bytes) m (pos 0))
+parts_back bytes m fixed time least most = zoned_parts_back bytes m (pos 0) fixed time least most (omega arith) refl
 
 -- ---- no year of the century
 
@@ -124,10 +132,10 @@ present : (o : Option ℤ) (v : ℤ) → is_present (if_named o v) ≡ is_presen
 present None v = refl
 present (Some w) v = refl
 
-date_still_named : (q : Parsed) (m : Moment) → names_date (parts_of q m) ≡ names_date q
+date_still_named : (q : Parsed) (m : Moment) (x : ℤ) → names_date (parts_of q m x) ≡ names_date q
 unfolding names_date names_calendar names_ordinal names_week names_year_week
-date_still_named q m =
-    let p = parts_of q m in
+date_still_named q m x =
+    let p = parts_of q m x in
     let year : is_present p.year ≡ is_present q.year = present q.year _ in
     let place : is_present p.year_mod_100 ≡ is_present q.year_mod_100 = present q.year_mod_100 _ in
     let month : is_present p.month ≡ is_present q.month = present q.month _ in
@@ -152,10 +160,10 @@ no_window None None y = refl
 no_window None (Some b) y = refl
 no_window (Some a) b y = refl
 
-own_date_fits : (q : Parsed) (m : Moment) → q.year_mod_100 ≡ None → date_fits (parts_of q m) m.date ≡ true
+own_date_fits : (q : Parsed) (m : Moment) (x : ℤ) → q.year_mod_100 ≡ None → date_fits (parts_of q m x) m.date ≡ true
 unfolding date_fits year_fits day_fits week_fits year_week_fits
-own_date_fits q m none =
-    let p = parts_of q m in
+own_date_fits q m x none =
+    let p = parts_of q m x in
     let window : in_window p.year p.year_div_100 p.year_mod_100 (year_of m.date) ≡ true =
     ap (λ (o : Option ℤ). in_window p.year p.year_div_100 (if_named o (int_rem_euclid (year_of m.date) (pos 100))) (year_of m.date)) none ∙ no_window p.year p.year_div_100 (year_of m.date) in
     let year = and_from _ _ (and_from _ _ (says_own q.year _) (says_own q.year_div_100 _)) (and_from _ _ (says_own q.year_mod_100 _) window) in
@@ -169,18 +177,18 @@ pub date_back : (bytes : List ℕ) (m : Moment) → is_fixed bytes ≡ true → 
 date_back bytes m fixed named time least most =
     let q = named_parts bytes in
     record {
-      parts = parts_of q m;
+      parts = parts_of q m (pos 0);
       read = parts_back bytes m fixed time least most;
-      named = date_still_named q m ∙ named;
-      fits = own_date_fits q m (no_place bytes Outside false no_parts fixed);
+      named = date_still_named q m (pos 0) ∙ named;
+      fits = own_date_fits q m (pos 0) (no_place bytes Outside false no_parts fixed);
     }
 
 -- ---- the time of day
 
-time_still_named : (q : Parsed) (m : Moment) → names_time (parts_of q m) ≡ names_time q
+time_still_named : (q : Parsed) (m : Moment) (x : ℤ) → names_time (parts_of q m x) ≡ names_time q
 unfolding names_time
-time_still_named q m =
-    let p = parts_of q m in
+time_still_named q m x =
+    let p = parts_of q m x in
     let half : is_present p.hour_div_12 ≡ is_present q.hour_div_12 = present q.hour_div_12 _ in
     let hour : is_present p.hour_mod_12 ≡ is_present q.hour_mod_12 = present q.hour_mod_12 _ in
     let minute : is_present p.minute ≡ is_present q.minute = present q.minute _ in
@@ -196,9 +204,9 @@ counts_zero : (o : Option ℤ) (v : ℤ) → v ≡ pos 0 → counts (if_named o 
 counts_zero None v none = ap (λ (z : ℤ). int_eq (pos 0) z) none
 counts_zero (Some w) v none = same_int v
 
-own_time_fits : (q : Parsed) (m : Moment) → is_present q.second ≡ true → m.time.fraction % nanos_per_second ≡ 0 → time_fits (parts_of q m) m.time ≡ true
+own_time_fits : (q : Parsed) (m : Moment) (x : ℤ) → is_present q.second ≡ true → m.time.fraction % nanos_per_second ≡ 0 → time_fits (parts_of q m x) m.time ≡ true
 unfolding time_fits clock_fits second_fits
-own_time_fits q m second whole =
+own_time_fits q m x second whole =
     and_from _ _ (and_from _ _ (and_from _ _ (says_own q.hour_div_12 _) (says_own q.hour_mod_12 _)) (says_own q.minute _))
     (and_from _ _ (counts_own q.second _ second) (counts_zero q.nanosecond _ (ap (λ (k : ℕ). pos k) whole)))
 
@@ -208,8 +216,24 @@ pub time_back : (bytes : List ℕ) (m : Moment) → is_fixed bytes ≡ true → 
 time_back bytes m fixed named second time whole least most =
     let q = named_parts bytes in
     record {
-      parts = parts_of q m;
+      parts = parts_of q m (pos 0);
       read = parts_back bytes m fixed time least most;
-      named = time_still_named q m ∙ named;
-      fits = own_time_fits q m second whole;
+      named = time_still_named q m (pos 0) ∙ named;
+      fits = own_time_fits q m (pos 0) second whole;
+    }
+
+-- ---- the date-time with its offset
+
+pub zoned_back : (bytes : List ℕ) (m : Moment) (x : ℤ) → is_fixed bytes ≡ true → names_date (named_parts bytes) ≡ true → names_time (named_parts bytes) ≡ true
+    → is_present (named_parts bytes).second ≡ true → is_present (named_parts bytes).offset ≡ true → IsTime m.time → m.time.fraction % nanos_per_second ≡ 0
+    → pos 0 ≤ℤ year_of m.date → year_of m.date ≤ℤ pos 9999 → IsOffset x → unsigned_abs x % 60 ≡ 0 → IsZonedBy bytes (text_at_offset bytes m x) m x
+unfolding names_zoned names_moment zoned_fits moment_fits
+zoned_back bytes m x fixed date time second offset is whole least most near minutes =
+    let q = named_parts bytes in
+    record {
+      parts = parts_of q m x;
+      read = zoned_parts_back bytes m x fixed is least most near minutes;
+      named = and_from _ _ (and_from _ _ (date_still_named q m x ∙ date) (time_still_named q m x ∙ time)) (present q.offset x ∙ offset);
+      fits = and_from _ _ (counts_own q.offset x offset)
+          (and_from _ _ (own_date_fits q m x (no_place bytes Outside false no_parts fixed)) (own_time_fits q m x second whole));
     }

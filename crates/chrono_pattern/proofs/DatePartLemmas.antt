@@ -3,8 +3,10 @@ use Rattle.std.proofs.Common.{◌≡◌, ℕ, Bool, true, false, ◌&&◌, Optio
 use Rattle.std.proofs.lemmas.Bool.{and_parts, false≢true}
 use Rattle.std.proofs.lemmas.Bool.Decides.{Decides-int_eq}
 use Rattle.std.proofs.lemmas.Int.{ints, to_z-of_z}
+use Rattle.std.specs.Cmp.Derive.{both_true}
 use Rattle.std.specs.Int.{int_div_euclid, int_rem_euclid}
-use Rattle.std.specs.Prelude.{◌≤ℤ◌, if◌then◌else◌, int_le}
+use Rattle.std.proofs.lemmas.Option.{same_Some}
+use Rattle.std.specs.Prelude.{◌≤ℤ◌, IfSome, if◌then◌else◌, int_le, unsigned_abs}
 use Rattle.chrono_calendar.proofs.IsoDates.{before_monday-bound, date_of_iso-again, iso_week_of-bounds}
 use Rattle.chrono_calendar.proofs.IsoWeeks.{iso_year_of-range}
 use Rattle.chrono_calendar.proofs.Signed.{signed}
@@ -17,6 +19,7 @@ use Rattle.chrono_datetime.specs.Weeks.{date_of_iso, iso_week_of, iso_year_of, w
 use Rattle.chrono_datetime.specs.declared.Weekday.{Weekday}
 use Rattle.chrono_datetime.specs.declared.Weekday.TheVariants.{Mon, Tue, Wed, Thu, Fri, Sat, Sun}
 use Rattle.chrono_pattern.specs.DateParts.{date_fits, day_fits, in_window, is_present, names_calendar, names_date, names_ordinal, names_week, names_year, names_year_week, says, week_fits, weekday_at_number, year_fits, year_week_fits}
+use Rattle.chrono_pattern.specs.PlainParts.{IsCalendarAlone}
 use Rattle.chrono_pattern.specs.YearWeeks.{week_from_monday, week_from_sunday}
 use Rattle.chrono_pattern.specs.declared.parsed.Parsed.{Parsed}
 
@@ -252,3 +255,81 @@ iso_found n y a k found date is year week day =
     ∙ ap (λ (z : ℕ). date_of_iso (iso_year_of n) z k) week
     ∙ ap (λ (z : Weekday). date_of_iso (iso_year_of n) (iso_week_of n) z) day
     ∙ date_of_iso-again n date
+
+-- ---- a year, a month and a day alone
+
+unsaid : (o : Option ℤ) (v : ℤ) → o ≡ None → says o v ≡ true
+unsaid o v none = ap (λ (x : Option ℤ). says x v) none
+
+pub is_said : (o : Option ℤ) (v : ℤ) → o ≡ Some v → says o v ≡ true
+is_said o v is = ap (λ (x : Option ℤ). says x v) is ∙ (Decides-int_eq v v).1 refl
+
+no_window : (year century : Option ℤ) (y : ℤ) → in_window year century None y ≡ true
+no_window None None y = refl
+no_window None (Some c) y = refl
+no_window (Some w) century y = refl
+
+year_alone : (p : Parsed) (y : ℤ) → IsCalendarAlone p → p.year ≡ Some y → year_fits p y ≡ true
+unfolding year_fits
+year_alone p y alone year =
+    let window = ap (λ (o : Option ℤ). in_window p.year p.year_div_100 o y) alone.place ∙ no_window p.year p.year_div_100 y in
+    both_true (both_true (is_said p.year y year) (unsaid p.year_div_100 _ alone.century)) (both_true (unsaid p.year_mod_100 _ alone.place) window)
+
+day_alone : (p : Parsed) (n : ℤ) → IsCalendarAlone p → p.month ≡ Some (pos (month_of n)) → p.day ≡ Some (pos (day_of n)) → day_fits p n ≡ true
+unfolding day_fits
+day_alone p n alone month day =
+    both_true (both_true (is_said p.month _ month) (is_said p.day _ day)) (both_true (unsaid p.ordinal _ alone.ordinal) (unsaid p.quarter _ alone.quarter))
+
+weeks_alone : (p : Parsed) (n : ℤ) → IsCalendarAlone p → (week_fits p n && year_week_fits p n) ≡ true
+unfolding week_fits year_week_fits
+weeks_alone p n alone =
+    both_true
+    (both_true (both_true (unsaid p.isoyear _ alone.iso_year) (unsaid p.isoyear_mod_100 _ alone.iso_place))
+    (both_true (unsaid p.isoweek _ alone.iso_week) (unsaid p.weekday _ alone.weekday)))
+    (both_true (unsaid p.week_from_sun _ alone.from_sunday) (unsaid p.week_from_mon _ alone.from_monday))
+
+alone_fits : (p : Parsed) (n : ℤ) → IsCalendarAlone p → p.year ≡ Some (year_of n) → p.month ≡ Some (pos (month_of n))
+    → p.day ≡ Some (pos (day_of n)) → date_fits p n ≡ true
+unfolding date_fits
+alone_fits p n alone year month day =
+    both_true (year_alone p (year_of n) alone year) (both_true (day_alone p n alone month day) (weeks_alone p n alone))
+
+pub calendar_fits : (p : Parsed) (found : Option ℤ) → IsCalendarAlone p → IfSome found (λ n. p.year ≡ Some (year_of n))
+    → IfSome found (λ n. p.month ≡ Some (pos (month_of n))) → IfSome found (λ n. p.day ≡ Some (pos (day_of n)))
+    → IfSome found (λ n. date_fits p n ≡ true)
+calendar_fits p None alone year month day = tt
+calendar_fits p (Some n) alone year month day = alone_fits p n alone year month day
+
+-- a year, a month and a day suffice
+given : (o : Option ℤ) (v : ℤ) → o ≡ Some v → is_present o ≡ true
+given o v is = ap (λ (x : Option ℤ). is_present x) is
+
+all_given : (p : Parsed) (y m d : ℤ) → p.year ≡ Some y → p.month ≡ Some m → p.day ≡ Some d → names_date p ≡ true
+unfolding names_date names_calendar
+all_given p y m d year month day =
+    let first = ap (λ (b : Bool). if b then true else is_present p.year_mod_100) (given p.year y year) in
+    let all = both_true first (both_true (given p.month m month) (given p.day d day)) in
+    ap (λ (b : Bool). if b then true else if names_ordinal p then true else if names_week p then true else if names_year_week p.week_from_sun p then true else names_year_week p.week_from_mon p) all
+
+pub calendar_named : (p : Parsed) (found : Option ℤ) → IfSome found (λ n. p.year ≡ Some (year_of n)) → IfSome found (λ n. p.month ≡ Some (pos (month_of n)))
+    → IfSome found (λ n. p.day ≡ Some (pos (day_of n))) → IfSome found (λ n. names_date p ≡ true)
+calendar_named p None year month day = tt
+calendar_named p (Some n) year month day = all_given p _ _ _ year month day
+
+-- a date that fits has the same year, month and day, and so is the same
+same_name : (p : Parsed) (n e : ℤ) → p.year ≡ Some (year_of n) → p.month ≡ Some (pos (month_of n)) → p.day ≡ Some (pos (day_of n))
+    → IsDate n → IsDate e → date_fits p e ≡ true → n ≡ e
+unfolding year_fits
+same_name p n e year month day date other fits =
+    let each = fits_each p e fits in
+    let same_year = said p.year (year_of n) (year_of e) year (and_parts _ _ (and_parts _ _ each.year).0).0 in
+    let same_month = month_said p e (pos (month_of n)) each.day month in
+    let same_day = day_said p e (pos (day_of n)) each.day day in
+    same_Some n e (sym (date_of_ymd-again n date)
+    ∙ ymd_found e (year_of n) (month_of n) (day_of n) (date_of_ymd (year_of n) (month_of n) (day_of n)) other refl same_year (ap unsigned_abs same_month) (ap unsigned_abs same_day))
+
+pub calendar_only : (p : Parsed) (found : Option ℤ) → IfSome found (λ n. p.year ≡ Some (year_of n)) → IfSome found (λ n. p.month ≡ Some (pos (month_of n)))
+    → IfSome found (λ n. p.day ≡ Some (pos (day_of n))) → IfSome found IsDate
+    → IfSome found (λ n. (e : ℤ) → IsDate e → date_fits p e ≡ true → n ≡ e)
+calendar_only p None year month day date = tt
+calendar_only p (Some n) year month day date = λ e other fits. same_name p n e year month day date other fits

@@ -6,11 +6,15 @@ mod ShapeLemmas
 mod ReadLemmas
 mod DatePartLemmas
 mod TimePartLemmas
+mod ZonedPartLemmas
 mod YearWeekLemmas
 mod WriteLemmas
+mod ManyDigits
 mod AsciiLemmas
 mod ItemLemmas
+mod FrontLemmas
 mod BackNumbers
+mod BackOffsets
 mod BackParts
 mod BackItems
 mod BackPatterns

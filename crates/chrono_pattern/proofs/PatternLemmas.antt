@@ -1,7 +1,7 @@
 -- A pattern byte by byte: its text, and its first error.
-use Rattle.std.proofs.Common.{◌≡◌, ℕ, Bool, true, false, ◌||◌, ◌+◌, ◌≤◌, List, [], ◌∷◌, ◌++◌, length, length-append, append_assoc, append-nil, Option, None, Some, refl, ap, sym, ◌∙◌, arith}
+use Rattle.std.proofs.Common.{◌≡◌, ℕ, Bool, true, false, ◌||◌, ◌+◌, ◌≤◌, List, [], ◌∷◌, ◌++◌, length, length-append, append-nil, Option, None, Some, ℤ, refl, ap, sym, ◌∙◌, arith}
 use Rattle.chrono_datetime.specs.Moment.{Moment}
-use Rattle.chrono_pattern.specs.Needs.{item_needs_time, needs_time_from}
+use Rattle.chrono_pattern.specs.Needs.{item_needs_offset, item_needs_time, needs_offset_from, needs_time_from}
 use Rattle.chrono_pattern.specs.Patterns.{begun_at, cut_error, error_from, text_of_item, text_from}
 use Rattle.chrono_pattern.specs.PatternSteps.{pattern_step}
 use Rattle.chrono_pattern.specs.declared.error.PatternError.{PatternError}
@@ -11,48 +11,25 @@ use Rattle.chrono_pattern.specs.declared.item.State.{State}
 
 -- ---- the text
 
-pub text_from-more : (s : State) (c : ℕ) (bytes : List ℕ) (m : Moment) (next : State × Item) → pattern_step s c ≡ Some next
-    → text_from s (c ∷ bytes) m ≡ text_of_item next.1 m ++ text_from next.0 bytes m
+pub text_from-more : (s : State) (c : ℕ) (bytes : List ℕ) (m : Moment) (x : ℤ) (next : State × Item) → pattern_step s c ≡ Some next
+    → text_from s (c ∷ bytes) m x ≡ text_of_item next.1 m x ++ text_from next.0 bytes m x
 unfolding text_from
-text_from-more s c bytes m next e =
-    ap (λ (o : Option (State × Item)). elim o as (λ _. List ℕ) [ None ↦ [] | Some n ↦ text_of_item n.1 m ++ text_from n.0 bytes m ]) e
+text_from-more s c bytes m x next e =
+    ap (λ (o : Option (State × Item)). elim o as (λ _. List ℕ) [ None ↦ [] | Some n ↦ text_of_item n.1 m x ++ text_from n.0 bytes m x ]) e
 
-pub text_from-none : (s : State) (c : ℕ) (bytes : List ℕ) (m : Moment) → pattern_step s c ≡ None
-    → text_from s (c ∷ bytes) m ≡ []
+pub text_from-none : (s : State) (c : ℕ) (bytes : List ℕ) (m : Moment) (x : ℤ) → pattern_step s c ≡ None
+    → text_from s (c ∷ bytes) m x ≡ []
 unfolding text_from
-text_from-none s c bytes m e =
-    ap (λ (o : Option (State × Item)). elim o as (λ _. List ℕ) [ None ↦ [] | Some n ↦ text_of_item n.1 m ++ text_from n.0 bytes m ]) e
+text_from-none s c bytes m x e =
+    ap (λ (o : Option (State × Item)). elim o as (λ _. List ℕ) [ None ↦ [] | Some n ↦ text_of_item n.1 m x ++ text_from n.0 bytes m x ]) e
 
-pub text_from-nothing : (s : State) (m : Moment) → text_from s [] m ≡ []
+pub text_from-nothing : (s : State) (m : Moment) (x : ℤ) → text_from s [] m x ≡ []
 unfolding text_from
-text_from-nothing s m = refl
-
--- the same of a text that begins with the byte
-pub text_from-goes_on : (s : State) (c : ℕ) (bytes behind : List ℕ) (m : Moment) (next : State × Item) → bytes ≡ c ∷ behind
-    → pattern_step s c ≡ Some next → text_from s bytes m ≡ text_of_item next.1 m ++ text_from next.0 behind m
-text_from-goes_on s c bytes behind m next is step = ap (λ (l : List ℕ). text_from s l m) is ∙ text_from-more s c behind m next step
-
-pub text_from-stops : (s : State) (c : ℕ) (bytes behind : List ℕ) (m : Moment) → bytes ≡ c ∷ behind
-    → pattern_step s c ≡ None → text_from s bytes m ≡ []
-text_from-stops s c bytes behind m is step = ap (λ (l : List ℕ). text_from s l m) is ∙ text_from-none s c behind m step
-
-pub text_from-ends : (s : State) (bytes : List ℕ) (m : Moment) → length bytes ≡ 0 → text_from s bytes m ≡ []
-text_from-ends s [] m none = text_from-nothing s m
-text_from-ends s (c ∷ bytes) m none = absurd (omega (arith, none))
+text_from-nothing s m x = refl
 
 -- where nothing is left, all is written
 pub all_written : (text rest total : List ℕ) → text ++ rest ≡ total → rest ≡ [] → text ≡ total
 all_written text rest total whole none = sym (append-nil text) ∙ ap (λ (l : List ℕ). text ++ l) (sym none) ∙ whole
-
--- an item is put behind the text
-pub text_grows : (text piece : List ℕ) (s : State) (c : ℕ) (bytes behind : List ℕ) (m : Moment) (next : State × Item) (total : List ℕ)
-    → text ++ text_from s bytes m ≡ total → bytes ≡ c ∷ behind → pattern_step s c ≡ Some next → piece ≡ text_of_item next.1 m
-    → (text ++ piece) ++ text_from next.0 behind m ≡ total
-text_grows text piece s c bytes behind m next total whole is step put =
-    append_assoc text piece (text_from next.0 behind m)
-    ∙ ap (λ (l : List ℕ). text ++ (l ++ text_from next.0 behind m)) put
-    ∙ ap (λ (l : List ℕ). text ++ l) (sym (text_from-goes_on s c bytes behind m next is step))
-    ∙ whole
 
 -- the whole text is no shorter than what is put
 pub no_shorter : (text piece rest total : List ℕ) → (text ++ piece) ++ rest ≡ total → length text + length piece ≤ length total
@@ -128,3 +105,39 @@ needs_time_from-stops s c bytes behind is step = ap (λ (l : List ℕ). needs_ti
 pub needs_time_from-ends : (s : State) (bytes : List ℕ) → length bytes ≡ 0 → needs_time_from s bytes ≡ false
 needs_time_from-ends s [] none = needs_time_from-nothing s
 needs_time_from-ends s (c ∷ bytes) none = absurd (omega (arith, none))
+
+-- ---- whether an offset is written
+
+pub needs_offset_from-more : (s : State) (c : ℕ) (bytes : List ℕ) (next : State × Item) → pattern_step s c ≡ Some next
+    → needs_offset_from s (c ∷ bytes) ≡ (item_needs_offset next.1 || needs_offset_from next.0 bytes)
+unfolding needs_offset_from
+needs_offset_from-more s c bytes next e =
+    ap (λ (o : Option (State × Item)). elim o as (λ _. Bool) [ None ↦ false | Some n ↦ item_needs_offset n.1 || needs_offset_from n.0 bytes ]) e
+
+needs_offset_from-none : (s : State) (c : ℕ) (bytes : List ℕ) → pattern_step s c ≡ None → needs_offset_from s (c ∷ bytes) ≡ false
+unfolding needs_offset_from
+needs_offset_from-none s c bytes e =
+    ap (λ (o : Option (State × Item)). elim o as (λ _. Bool) [ None ↦ false | Some n ↦ item_needs_offset n.1 || needs_offset_from n.0 bytes ]) e
+
+needs_offset_from-nothing : (s : State) → needs_offset_from s [] ≡ false
+unfolding needs_offset_from
+needs_offset_from-nothing s = refl
+
+-- the same of bytes that begin with one
+pub needs_offset_from-goes_on : (s : State) (c : ℕ) (bytes behind : List ℕ) (next : State × Item) → bytes ≡ c ∷ behind
+    → pattern_step s c ≡ Some next → item_needs_offset next.1 ≡ false → needs_offset_from s bytes ≡ needs_offset_from next.0 behind
+needs_offset_from-goes_on s c bytes behind next is step not =
+    ap (λ (l : List ℕ). needs_offset_from s l) is ∙ needs_offset_from-more s c behind next step ∙ ap (λ (b : Bool). b || needs_offset_from next.0 behind) not
+
+pub needs_offset_from-found : (s : State) (c : ℕ) (bytes behind : List ℕ) (next : State × Item) → bytes ≡ c ∷ behind
+    → pattern_step s c ≡ Some next → item_needs_offset next.1 ≡ true → needs_offset_from s bytes ≡ true
+needs_offset_from-found s c bytes behind next is step found =
+    ap (λ (l : List ℕ). needs_offset_from s l) is ∙ needs_offset_from-more s c behind next step ∙ ap (λ (b : Bool). b || needs_offset_from next.0 behind) found
+
+pub needs_offset_from-stops : (s : State) (c : ℕ) (bytes behind : List ℕ) → bytes ≡ c ∷ behind → pattern_step s c ≡ None
+    → needs_offset_from s bytes ≡ false
+needs_offset_from-stops s c bytes behind is step = ap (λ (l : List ℕ). needs_offset_from s l) is ∙ needs_offset_from-none s c behind step
+
+pub needs_offset_from-ends : (s : State) (bytes : List ℕ) → length bytes ≡ 0 → needs_offset_from s bytes ≡ false
+needs_offset_from-ends s [] none = needs_offset_from-nothing s
+needs_offset_from-ends s (c ∷ bytes) none = absurd (omega (arith, none))

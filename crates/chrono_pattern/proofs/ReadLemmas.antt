@@ -1,5 +1,5 @@
 -- A text that is read byte by byte of its pattern.
-use Rattle.std.proofs.Common.{◌≡◌, ℕ, List, [], ◌∷◌, length, Option, None, Some, Result, Ok, Err, refl, ap, ◌∙◌, arith}
+use Rattle.std.proofs.Common.{◌≡◌, ℕ, List, [], ◌∷◌, Option, None, Some, Result, Ok, Err, refl, ap, ◌∙◌}
 use Rattle.chrono_pattern.specs.ItemReads.{item_read}
 use Rattle.chrono_pattern.specs.Progress.{Progress}
 use Rattle.chrono_pattern.specs.Reads.{read_from}
@@ -28,27 +28,7 @@ pub read_from-nothing : (s : State) (r : Progress) → read_from s [] r ≡ Ok r
 unfolding read_from
 read_from-nothing s r = refl
 
-pub read_from-goes_on : (s : State) (c : ℕ) (bytes behind : List ℕ) (r q : Progress) (next : State × Item) → bytes ≡ c ∷ behind
-    → pattern_step s c ≡ Some next → item_read next.1 r ≡ Ok q → read_from s bytes r ≡ read_from next.0 behind q
-read_from-goes_on s c bytes behind r q next is step read =
-    ap (λ (l : List ℕ). read_from s l r) is ∙ read_from-more s c behind r next step
-    ∙ ap (λ (o : Result Progress Stop). behind_item o next.0 behind) read
-
-pub read_from-stops : (s : State) (c : ℕ) (bytes behind : List ℕ) (r : Progress) (e : Stop) (next : State × Item) → bytes ≡ c ∷ behind
-    → pattern_step s c ≡ Some next → item_read next.1 r ≡ Err e → read_from s bytes r ≡ Err e
-read_from-stops s c bytes behind r e next is step read =
-    ap (λ (l : List ℕ). read_from s l r) is ∙ read_from-more s c behind r next step
-    ∙ ap (λ (o : Result Progress Stop). behind_item o next.0 behind) read
-
 pub read_from-none : (s : State) (c : ℕ) (bytes : List ℕ) (r : Progress) → pattern_step s c ≡ None → read_from s (c ∷ bytes) r ≡ Ok r
 unfolding read_from
 read_from-none s c bytes r e =
     ap (λ (o : Option (State × Item)). elim o as (λ _. Result Progress Stop) [ None ↦ Ok r | Some n ↦ elim (item_read n.1 r) as (λ _. Result Progress Stop) [ Ok q ↦ read_from n.0 bytes q | Err k ↦ Err k ] ]) e
-
-pub read_from-ends_early : (s : State) (c : ℕ) (bytes behind : List ℕ) (r : Progress) → bytes ≡ c ∷ behind → pattern_step s c ≡ None
-    → read_from s bytes r ≡ Ok r
-read_from-ends_early s c bytes behind r is step = ap (λ (l : List ℕ). read_from s l r) is ∙ read_from-none s c behind r step
-
-pub read_from-ends : (s : State) (bytes : List ℕ) (r : Progress) → length bytes ≡ 0 → read_from s bytes r ≡ Ok r
-read_from-ends s [] r none = read_from-nothing s r
-read_from-ends s (c ∷ bytes) r none = absurd (omega (arith, none))

@@ -1,5 +1,5 @@
 -- A text that a pattern reads gives the parts that the pattern names, but for a fraction that it may leave out.
-use Rattle.std.proofs.Common.{◌≡◌, ℕ, Bool, true, false, ◌==◌, List, [], ◌∷◌, length, take, Option, None, Some, Result, Ok, Err, IfOk, ℤ, pos, refl, ap, sym, ◌∙◌, if◌then◌else◌}
+use Rattle.std.proofs.Common.{◌≡◌, ℕ, Bool, true, false, ◌&&◌, ◌||◌, ◌+◌, ◌*◌, neg_ℤ, ◌==◌, List, [], ◌∷◌, length, take, Option, None, Some, Result, Ok, Err, IfOk, ℤ, pos, refl, ap, sym, ◌∙◌, if◌then◌else◌}
 use Rattle.std.proofs.lemmas.Bool.{false≢true}
 use Rattle.std.specs.Int.{int_div_euclid, int_rem_euclid}
 use Rattle.std.specs.Int.RustNames.{int_lt}
@@ -13,32 +13,38 @@ use Rattle.chrono_datetime.specs.Weekday.{number_from_monday}
 use Rattle.chrono_datetime.specs.declared.Month.{Month as MonthOf}
 use Rattle.chrono_datetime.specs.declared.Weekday.{Weekday}
 use Rattle.chrono_pattern.specs.DateParts.{is_present, names_calendar, names_date, names_ordinal, names_week, names_year_week}
-use Rattle.chrono_pattern.specs.ItemReads.{behind_read, clock_year_read, day_read, group_read, half_clock_read, item_read, short_date_read, three_read, two_read, word_behind_read}
-use Rattle.chrono_pattern.specs.NamedParts.{named_from, named_parts, with_clock, with_group, with_half, with_item, with_named, with_number_field, word_part}
+use Rattle.chrono_pattern.specs.ItemReads.{behind_read, between_behind, between_read, iso_offset_read, iso_read, zoned_read, clock_year_read, day_read, group_read, half_clock_read, item_read, short_date_read, three_read, two_read, word_behind_read}
+use Rattle.chrono_pattern.specs.NamedParts.{named_from, named_parts, with_clock, with_group, with_half, with_item, with_named, with_number_field, with_zoned, word_part}
 use Rattle.chrono_pattern.specs.NumberReads.{digits_in, digits_read, half_put, has_sign, hour_of_clock, most_digits, number_part, number_put, number_read, part_put, signed_read, value_read, weekday_of_sunday}
-use Rattle.chrono_pattern.specs.Parts.{no_parts, part_of, put, part_range, with_part}
+use Rattle.chrono_pattern.specs.OffsetReads.{Taken, at_rest, behind_colons, has_seconds, may_miss_minutes, minutes_taken, offset_read, seconds_behind, seconds_taken, signed_offset_read, signed_stamp, size_put, size_taken, stamp_digits, stamp_value, two_taken, utc_len, utc_or_offset, with_hours, with_minutes, with_seconds, within_two}
+use Rattle.chrono_pattern.specs.Parts.{no_parts, part_of, put, put_stamp, part_range, with_part, with_stamp}
 use Rattle.chrono_pattern.specs.Progress.{Progress, behind_blanks, byte_behind, class_len, is_pattern_blank, literal_read, progress, then_read}
 use Rattle.chrono_pattern.specs.Reads.{end_read, front_read, read_from, text_read}
 use Rattle.chrono_pattern.specs.PatternSteps.{pattern_step}
 use Rattle.chrono_pattern.specs.SubsecondReads.{places_read, places_value, point_behind, subsecond_read}
 use Rattle.chrono_pattern.specs.TimeParts.{names_second, names_time}
 use Rattle.chrono_pattern.specs.WordReads.{half_behind, half_of, half_read, least_letters, letters_read, month_behind, month_read, weekday_behind, weekday_read, word_read}
+use Rattle.chrono_pattern.specs.ZonedParts.{names_moment, names_zoned}
 use Rattle.chrono_pattern.specs.declared.class.Class.TheVariants.{Digit}
 use Rattle.chrono_pattern.specs.declared.error.ReadFault.{ReadFault}
 use Rattle.chrono_pattern.specs.declared.error.ReadFault.TheVariants.{Impossible}
 use Rattle.chrono_pattern.specs.declared.item.GroupField.{GroupField}
 use Rattle.chrono_pattern.specs.declared.item.GroupField.TheVariants.{YearMonthDay, MonthDayYear, HourMinute, HourMinuteSecond, HalfClock, DayMonthYear, DateAndTime}
 use Rattle.chrono_pattern.specs.declared.item.Item.{Item}
-use Rattle.chrono_pattern.specs.declared.item.Item.TheVariants.{Empty, Byte, Number, Word, Group, Subsecond}
+use Rattle.chrono_pattern.specs.declared.item.Item.TheVariants.{Empty, Byte, Number, Word, Group, Subsecond, Zoned}
 use Rattle.chrono_pattern.specs.declared.item.NumberField.{NumberField}
 use Rattle.chrono_pattern.specs.declared.item.NumberField.TheVariants.{Year, Century, YearOfCentury, Quarter, Month, Day, SpacedDay, DayOfYear, FromMonday, FromSunday, IsoYear, IsoYearOfCentury, IsoWeek, WeekFromSunday, WeekFromMonday, Hour, SpacedHour, HalfHour, SpacedHalfHour, Minute, Second, Nanosecond}
+use Rattle.chrono_pattern.specs.declared.item.OffsetForm.{OffsetForm}
+use Rattle.chrono_pattern.specs.declared.item.OffsetForm.TheVariants.{Plain, Colon, Seconds, Hours, Loose}
+use Rattle.chrono_pattern.specs.declared.item.ZonedField.{ZonedField}
+use Rattle.chrono_pattern.specs.declared.item.ZonedField.TheVariants.{Offset, ZoneName, Stamp, Iso8601}
 use Rattle.chrono_pattern.specs.declared.item.State.{State}
 use Rattle.chrono_pattern.specs.declared.item.State.TheVariants.{Outside}
 use Rattle.chrono_pattern.specs.declared.item.WordField.{WordField}
 use Rattle.chrono_pattern.specs.declared.item.WordField.TheVariants.{MonthName, MonthLetters, WeekdayName, WeekdayLetters, Half, SmallHalf}
 use Rattle.chrono_pattern.specs.declared.parsed.Parsed.{Parsed}
 use Rattle.chrono_pattern.specs.declared.parsed.Part.{Part}
-use Rattle.chrono_pattern.specs.declared.parsed.Part.TheVariants.{FullYear, YearDiv100, YearMod100, FullIsoYear, IsoYearMod100, QuarterOfYear, MonthOfYear, WeekOfIsoYear, WeekFromSun, WeekFromMon, DayOfWeek, OrdinalDay, DayOfMonth, HourDiv12, HourMod12, MinuteOfHour, SecondOfMinute, NanosecondOfSecond}
+use Rattle.chrono_pattern.specs.declared.parsed.Part.TheVariants.{FullYear, YearDiv100, YearMod100, FullIsoYear, IsoYearMod100, QuarterOfYear, MonthOfYear, WeekOfIsoYear, WeekFromSun, WeekFromMon, DayOfWeek, OrdinalDay, DayOfMonth, HourDiv12, HourMod12, MinuteOfHour, SecondOfMinute, NanosecondOfSecond, OffsetFromUtc}
 use Rattle.chrono_pattern.specs.declared.stop.Stop.{Stop}
 
 -- ---- which parts are given
@@ -68,6 +74,8 @@ shape p = record {
   minute = mark p.minute;
   second = mark p.second;
   nanosecond = Some (pos 0);
+  offset = mark p.offset;
+  timestamp = mark p.timestamp;
 }
 
 with_shape : (part : Part) (v : ℤ) (p : Parsed) → shape (with_part part v p) ≡ with_named part (shape p)
@@ -89,6 +97,7 @@ with_shape HourMod12 v p = refl
 with_shape MinuteOfHour v p = refl
 with_shape SecondOfMinute v p = refl
 with_shape NanosecondOfSecond v p = refl
+with_shape OffsetFromUtc v p = refl
 
 kept_shape : (part : Part) (w : ℤ) (p : Parsed) → part_of part p ≡ Some w → with_named part (shape p) ≡ shape p
 kept_shape FullYear w p e = ap (λ (o : Option ℤ). record (shape p) { year = mark o }) (sym e)
@@ -109,6 +118,7 @@ kept_shape HourMod12 w p e = ap (λ (o : Option ℤ). record (shape p) { hour_mo
 kept_shape MinuteOfHour w p e = ap (λ (o : Option ℤ). record (shape p) { minute = mark o }) (sym e)
 kept_shape SecondOfMinute w p e = ap (λ (o : Option ℤ). record (shape p) { second = mark o }) (sym e)
 kept_shape NanosecondOfSecond w p e = refl
+kept_shape OffsetFromUtc w p e = ap (λ (o : Option ℤ). record (shape p) { offset = mark o }) (sym e)
 
 -- the same parts are given, and a fraction only if the other parts have one
 record Like (p q : Parsed) : Type 0 where
@@ -134,6 +144,7 @@ fraction_named HourMod12 p q e h = e.fraction h
 fraction_named MinuteOfHour p q e h = e.fraction h
 fraction_named SecondOfMinute p q e h = e.fraction h
 fraction_named NanosecondOfSecond p q e h = refl
+fraction_named OffsetFromUtc p q e h = e.fraction h
 
 fraction_put : (part : Part) (v : ℤ) (p q : Parsed) → Like p q → is_present (with_part part v p).nanosecond ≡ true
     → is_present (with_named part q).nanosecond ≡ true
@@ -155,6 +166,7 @@ fraction_put HourMod12 v p q e h = e.fraction h
 fraction_put MinuteOfHour v p q e h = e.fraction h
 fraction_put SecondOfMinute v p q e h = e.fraction h
 fraction_put NanosecondOfSecond v p q e h = refl
+fraction_put OffsetFromUtc v p q e h = e.fraction h
 
 abbrev Shaped : Result Parsed ReadFault → Parsed → Type 0
 Shaped o q = IfOk o (λ p. Like p q)
@@ -189,6 +201,26 @@ unfolding put
 put_shaped part v p q e =
     if_shaped (int_lt v (part_range part).0) _ _ (with_named part q) tt
     (if_shaped (int_lt (part_range part).1 v) _ _ (with_named part q) tt (put_found part v p q e (part_of part p) refl))
+
+-- the same of the seconds from 1970
+kept_stamp : (w : ℤ) (p : Parsed) → p.timestamp ≡ Some w → with_stamp (pos 0) (shape p) ≡ shape p
+kept_stamp w p e = ap (λ (o : Option ℤ). record (shape p) { timestamp = mark o }) (sym e)
+
+stamp_named : (p q : Parsed) → shape p ≡ shape q → with_stamp (pos 0) (shape p) ≡ shape (with_stamp (pos 0) q)
+stamp_named p q e = ap (λ (s : Parsed). with_stamp (pos 0) s) e
+
+stamp_found : (v : ℤ) (p q : Parsed) → Like p q → (o : Option ℤ) → p.timestamp ≡ o
+    → Shaped (elim o as (λ _. Result Parsed ReadFault) [ None ↦ Ok (with_stamp v p) | Some w ↦ if int_eq w v then Ok p else Err Impossible ]) (with_stamp (pos 0) q)
+stamp_found v p q e None is = record { same = stamp_named p q e.same; fraction = e.fraction }
+stamp_found v p q e (Some w) is =
+    if_shaped (int_eq w v) (Ok p) (Err Impossible) (with_stamp (pos 0) q)
+    (record { same = sym (kept_stamp w p is) ∙ stamp_named p q e.same; fraction = e.fraction }) tt
+
+stamp_shaped : (v : ℤ) (p q : Parsed) → Like p q → Shaped (put_stamp v p) (with_stamp (pos 0) q)
+unfolding put_stamp
+stamp_shaped v p q e =
+    if_shaped (int_lt v (neg_ℤ (pos 8_334_601_228_800))) _ _ (with_stamp (pos 0) q) tt
+    (if_shaped (int_lt (pos 8_210_266_876_799) v) _ _ (with_stamp (pos 0) q) tt (stamp_found v p q e p.timestamp refl))
 
 -- ---- a number
 
@@ -429,6 +461,121 @@ subsecond_gives point count r q e =
     (if_gives (nat_lt (length r.rest) (min count 9)) _ _ (with_named NanosecondOfSecond q) tt
     (places_give (min count 9) (min count 9) r.rest r.parsed q e))
 
+-- ---- an offset and the seconds from 1970
+
+-- a number that is read gives no part
+abbrev Keeps_parts : Taken → Parsed → Type 0
+Keeps_parts o q = IfOk o (λ t. Like t.1.parsed q)
+
+if_keeps : (b : Bool) (x y : Taken) (q : Parsed) → Keeps_parts x q → Keeps_parts y q → Keeps_parts (if b then x else y) q
+if_keeps true x y q hx hy = hx
+if_keeps false x y q hx hy = hy
+
+within_keeps : (o : Option ℕ) (most : ℕ) (r : Progress) (q : Parsed) → Like r.parsed q → Keeps_parts (within_two o most r) q
+within_keeps None most r q e = tt
+within_keeps (Some n) most r q e = if_keeps (nat_lt most n) _ _ q tt e
+
+two_keep : (most : ℕ) (r : Progress) (q : Parsed) → Like r.parsed q → Keeps_parts (two_taken most r) q
+unfolding two_taken
+two_keep most r q e = if_keeps (nat_lt (length r.rest) 2) _ _ q tt (within_keeps (digits_of 2 (take 2 r.rest)) most r q e)
+
+minutes_keep : (missing : Bool) (r : Progress) (q : Parsed) → Like r.parsed q → Keeps_parts (minutes_taken missing r) q
+unfolding minutes_taken
+minutes_keep missing r q e =
+    if_keeps (missing && class_len Digit (behind_colons r.rest) == 0) _ _ q e (two_keep 59 (at_rest (behind_colons r.rest) r.parsed) q e)
+
+seconds_keep : (asked : Bool) (text : List ℕ) (p q : Parsed) → Like p q → Keeps_parts (seconds_behind asked text p) q
+seconds_keep asked [] p q e = e
+seconds_keep asked (c ∷ text) p q e = if_keeps (asked && c == byte ":") _ _ q (two_keep 59 (at_rest text p) q e) e
+
+with_seconds_keep : (o : Taken) (minutes : ℕ) (q : Parsed) → Keeps_parts o q → Keeps_parts (with_seconds o minutes) q
+with_seconds_keep (Err k) minutes q h = tt
+with_seconds_keep (Ok t) minutes q h = h
+
+with_minutes_keep : (o : Taken) (form : OffsetForm) (hours : ℕ) (q : Parsed) → Keeps_parts o q → Keeps_parts (with_minutes o form hours) q
+with_minutes_keep (Err k) form hours q h = tt
+with_minutes_keep (Ok t) form hours q h =
+    with_seconds_keep (seconds_taken (has_seconds form) t.1) (hours * 60 + t.0) q (seconds_keep (has_seconds form) t.1.rest t.1.parsed q h)
+
+with_hours_keep : (o : Taken) (form : OffsetForm) (q : Parsed) → Keeps_parts o q → Keeps_parts (with_hours o form) q
+with_hours_keep (Err k) form q h = tt
+with_hours_keep (Ok t) form q h =
+    with_minutes_keep (minutes_taken (may_miss_minutes form) t.1) form t.0 q (minutes_keep (may_miss_minutes form) t.1 q h)
+
+size_keeps : (form : OffsetForm) (r : Progress) (q : Parsed) → Like r.parsed q → Keeps_parts (size_taken form r) q
+unfolding size_taken
+size_keeps form r q e = with_hours_keep (two_taken 99 r) form q (two_keep 99 r q e)
+
+size_gives : (o : Taken) (negative : Bool) (text : List ℕ) (q : Parsed) → Keeps_parts o q → Gives (size_put o negative text) (with_named OffsetFromUtc q)
+size_gives (Err k) negative text q h = tt
+size_gives (Ok t) negative text q h =
+    progress_gives (put OffsetFromUtc (signed negative t.0) t.1.parsed) t.1.rest text (with_named OffsetFromUtc q) (put_shaped OffsetFromUtc (signed negative t.0) t.1.parsed q h)
+
+signed_offset_gives : (form : OffsetForm) (text : List ℕ) (p q : Parsed) → Like p q → Gives (signed_offset_read form text p) (with_named OffsetFromUtc q)
+unfolding signed_offset_read
+signed_offset_gives form [] p q e = tt
+signed_offset_gives form (c ∷ digits) p q e =
+    let size = size_keeps form (at_rest digits p) q e in
+    if_gives (c == byte "-") _ _ (with_named OffsetFromUtc q) (size_gives (size_taken form (at_rest digits p)) true (c ∷ digits) q size)
+    (if_gives (c == byte "+") _ _ (with_named OffsetFromUtc q) (size_gives (size_taken form (at_rest digits p)) false (c ∷ digits) q size) tt)
+
+utc_or_offset_gives : (named : Bool) (form : OffsetForm) (text : List ℕ) (p q : Parsed) → Like p q
+    → Gives (utc_or_offset named form text p) (with_named OffsetFromUtc q)
+unfolding utc_or_offset
+utc_or_offset_gives named form text p q e =
+    if_gives (nat_lt 0 (utc_len named text)) _ _ (with_named OffsetFromUtc q)
+    (progress_gives (put OffsetFromUtc (pos 0) p) _ text (with_named OffsetFromUtc q) (put_shaped OffsetFromUtc (pos 0) p q e))
+    (signed_offset_gives form text p q e)
+
+offset_gives : (form : OffsetForm) (r : Progress) (q : Parsed) → Like r.parsed q → Gives (offset_read form r) (with_named OffsetFromUtc q)
+unfolding offset_read
+offset_gives Plain r q e = signed_offset_gives Plain (behind_blanks r.rest) r.parsed q e
+offset_gives Colon r q e = signed_offset_gives Colon (behind_blanks r.rest) r.parsed q e
+offset_gives Seconds r q e = signed_offset_gives Seconds (behind_blanks r.rest) r.parsed q e
+offset_gives Hours r q e = signed_offset_gives Hours (behind_blanks r.rest) r.parsed q e
+offset_gives Loose r q e = utc_or_offset_gives false Loose (behind_blanks r.rest) r.parsed q e
+
+value_of_stamp : (o : Option ℕ) (negative : Bool) (text : List ℕ) (p q : Parsed) → Like p q
+    → Gives (stamp_value o negative text p) (with_stamp (pos 0) q)
+value_of_stamp None negative text p q e = tt
+value_of_stamp (Some n) negative text p q e =
+    progress_gives (put_stamp (signed negative n) p) _ text (with_stamp (pos 0) q) (stamp_shaped (signed negative n) p q e)
+
+stamp_digits_give : (negative : Bool) (text : List ℕ) (p q : Parsed) → Like p q → Gives (stamp_digits negative text p) (with_stamp (pos 0) q)
+unfolding stamp_digits
+stamp_digits_give negative text p q e = value_of_stamp (digits_of 18 (take (class_len Digit text) text)) negative text p q e
+
+signed_stamp_gives : (text : List ℕ) (p q : Parsed) → Like p q → Gives (signed_stamp text p) (with_stamp (pos 0) q)
+unfolding signed_stamp
+signed_stamp_gives [] p q e = tt
+signed_stamp_gives (c ∷ digits) p q e =
+    if_gives (c == byte "-") _ _ (with_stamp (pos 0) q) (stamp_digits_give true digits p q e)
+    (if_gives (c == byte "+") _ _ (with_stamp (pos 0) q) (stamp_digits_give false digits p q e) (stamp_digits_give false (c ∷ digits) p q e))
+
+between_gives : (text : List ℕ) (p q : Parsed) → Like p q → Gives (between_behind text p) q
+between_gives [] p q e = tt
+between_gives (c ∷ rest) p q e = if_gives ((c == byte "T") || (c == byte "t") || (c == byte " ")) _ _ q e tt
+
+iso_gives : (r : Progress) (q : Parsed) → Like r.parsed q → Gives (iso_read r) (with_zoned Iso8601 q)
+unfolding iso_read
+iso_gives r q e =
+    let date = with_group YearMonthDay q in
+    let clock = with_group HourMinuteSecond date in
+    let fraction = with_named NanosecondOfSecond clock in
+    then_gives (then_read (then_read (then_read (group_read YearMonthDay r) between_read) (group_read HourMinuteSecond)) (subsecond_read true 0)) iso_offset_read fraction (with_named OffsetFromUtc fraction)
+    (then_gives (then_read (then_read (group_read YearMonthDay r) between_read) (group_read HourMinuteSecond)) (subsecond_read true 0) clock fraction
+    (then_gives (then_read (group_read YearMonthDay r) between_read) (group_read HourMinuteSecond) date clock
+    (then_gives (group_read YearMonthDay r) between_read date date (group_gives YearMonthDay r q e) (λ t h. between_gives t.rest t.parsed date h))
+    (λ t h. group_gives HourMinuteSecond t date h))
+    (λ t h. subsecond_gives true 0 t clock h))
+    (λ t h. utc_or_offset_gives true Colon (behind_blanks t.rest) t.parsed fraction h)
+
+zoned_gives : (field : ZonedField) (r : Progress) (q : Parsed) → Like r.parsed q → Gives (zoned_read field r) (with_zoned field q)
+zoned_gives (Offset form) r q e = offset_gives form r q e
+zoned_gives ZoneName r q e = e
+zoned_gives Stamp r q e = signed_stamp_gives (behind_blanks r.rest) r.parsed q e
+zoned_gives Iso8601 r q e = iso_gives r q e
+
 -- ---- all items
 
 item_gives : (item : Item) (r : Progress) (q : Parsed) → Like r.parsed q → Gives (item_read item r) (with_item item q)
@@ -438,6 +585,7 @@ item_gives (Number field padding) r q e = number_gives field r q e
 item_gives (Word word) r q e = word_gives word r q e
 item_gives (Group group) r q e = group_gives group r q e
 item_gives (Subsecond point count) r q e = subsecond_gives point count r q e
+item_gives (Zoned field) r q e = zoned_gives field r q e
 
 abbrev Keeps : List ℕ → Type 0
 Keeps bytes = (s : State) (r : Progress) (q : Parsed) → Like r.parsed q → Gives (read_from s bytes r) (named_from s bytes q)
@@ -533,3 +681,31 @@ time_of_like p q e named =
 pub time_is_named : (bytes text : List ℕ) (p : Parsed) → names_second (named_parts bytes) ≡ true → text_read bytes text ≡ Ok p
     → names_time p ≡ names_time (named_parts bytes)
 time_is_named bytes text p named is = time_of_like p (named_parts bytes) (read_like bytes text p is) named
+
+stamp_of_like : (p q : Parsed) → Like p q → is_present p.timestamp ≡ is_present q.timestamp
+stamp_of_like p q e = same_given p.timestamp q.timestamp (ap (λ (t : Parsed). t.timestamp) e.same)
+
+offset_of_like : (p q : Parsed) → Like p q → is_present p.offset ≡ is_present q.offset
+offset_of_like p q e = same_given p.offset q.offset (ap (λ (t : Parsed). t.offset) e.same)
+
+moment_of_like : (p q : Parsed) → Like p q → names_date p ≡ names_date q → names_time p ≡ names_time q → names_moment p ≡ names_moment q
+unfolding names_moment
+moment_of_like p q e date time =
+    ap (λ (b : Bool). if b then true else names_date p && names_time p) (stamp_of_like p q e)
+    ∙ ap (λ (b : Bool). if is_present q.timestamp then true else b && names_time p) date
+    ∙ ap (λ (b : Bool). if is_present q.timestamp then true else names_date q && b) time
+
+pub moment_is_named : (bytes text : List ℕ) (p : Parsed) → names_second (named_parts bytes) ≡ true → text_read bytes text ≡ Ok p
+    → names_moment p ≡ names_moment (named_parts bytes)
+moment_is_named bytes text p named is =
+    moment_of_like p (named_parts bytes) (read_like bytes text p is) (date_is_named bytes text p is) (time_is_named bytes text p named is)
+
+pub zoned_is_named : (bytes text : List ℕ) (p : Parsed) → names_second (named_parts bytes) ≡ true → text_read bytes text ≡ Ok p
+    → names_zoned p ≡ names_zoned (named_parts bytes)
+unfolding names_zoned
+zoned_is_named bytes text p named is =
+    let q = named_parts bytes in
+    let like = read_like bytes text p is in
+    ap (λ (b : Bool). if b then true else names_moment p && is_present p.offset) (stamp_of_like p q like)
+    ∙ ap (λ (b : Bool). if is_present q.timestamp then true else b && is_present p.offset) (moment_is_named bytes text p named is)
+    ∙ ap (λ (b : Bool). if is_present q.timestamp then true else names_moment q && b) (offset_of_like p q like)

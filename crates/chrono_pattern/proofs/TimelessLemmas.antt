@@ -1,14 +1,15 @@
 -- A pattern that needs no time of day writes the same at each time of a day.
-use Rattle.std.proofs.Common.{◌≡◌, ℕ, ℤ, Bool, true, false, ◌||◌, List, [], ◌∷◌, ◌++◌, Option, None, Some, refl, ap, sym, ◌∙◌}
+use Rattle.std.proofs.Common.{◌≡◌, ℕ, ℤ, false, List, [], ◌∷◌, ◌++◌, Option, None, Some, refl, ap, sym, ◌∙◌}
 use Rattle.std.proofs.lemmas.Bool.{or_parts, true≢false}
 use Rattle.chrono_datetime.specs.Moment.{moment}
 use Rattle.chrono_datetime.specs.Time.{TimeOfDay}
 use Rattle.chrono_pattern.specs.Groups.{group_text}
-use Rattle.chrono_pattern.specs.Needs.{group_needs_time, item_needs_time, needs_time_from, number_needs_time, word_needs_time}
+use Rattle.chrono_pattern.specs.Needs.{group_needs_time, item_needs_time, needs_time_from, number_needs_time, word_needs_time, zoned_needs_time}
 use Rattle.chrono_pattern.specs.Numbers.{field_text}
 use Rattle.chrono_pattern.specs.Patterns.{text_of_item, text_from}
 use Rattle.chrono_pattern.specs.PatternSteps.{pattern_step}
 use Rattle.chrono_pattern.specs.Words.{word_text}
+use Rattle.chrono_pattern.specs.ZonedPieces.{zoned_piece}
 use Rattle.chrono_pattern.specs.declared.item.Padding.{Padding}
 use Rattle.chrono_pattern.specs.declared.item.NumberField.{NumberField}
 use Rattle.chrono_pattern.specs.declared.item.NumberField.TheVariants.{Year, Century, YearOfCentury, Quarter, Month, Day, SpacedDay, DayOfYear, FromMonday, FromSunday, IsoYear, IsoYearOfCentury, IsoWeek, WeekFromSunday, WeekFromMonday, Hour, SpacedHour, HalfHour, SpacedHalfHour, Minute, Second, Nanosecond}
@@ -16,8 +17,10 @@ use Rattle.chrono_pattern.specs.declared.item.WordField.{WordField}
 use Rattle.chrono_pattern.specs.declared.item.WordField.TheVariants.{MonthName, MonthLetters, WeekdayName, WeekdayLetters, Half, SmallHalf}
 use Rattle.chrono_pattern.specs.declared.item.GroupField.{GroupField}
 use Rattle.chrono_pattern.specs.declared.item.GroupField.TheVariants.{YearMonthDay, MonthDayYear, HourMinute, HourMinuteSecond, HalfClock, DayMonthYear, DateAndTime}
+use Rattle.chrono_pattern.specs.declared.item.ZonedField.{ZonedField}
+use Rattle.chrono_pattern.specs.declared.item.ZonedField.TheVariants.{Offset, ZoneName, Stamp, Iso8601}
 use Rattle.chrono_pattern.specs.declared.item.Item.{Item}
-use Rattle.chrono_pattern.specs.declared.item.Item.TheVariants.{Empty, Byte, Number, Word, Group, Subsecond}
+use Rattle.chrono_pattern.specs.declared.item.Item.TheVariants.{Empty, Byte, Number, Word, Group, Subsecond, Zoned}
 use Rattle.chrono_pattern.specs.declared.item.State.{State}
 use Rattle.chrono_pattern.proofs.PatternLemmas.{needs_time_from-more, text_from-more, text_from-none, text_from-nothing}
 
@@ -68,31 +71,39 @@ group_timeless HalfClock n t u not = absurd (true≢false not)
 group_timeless DayMonthYear n t u not = refl
 group_timeless DateAndTime n t u not = absurd (true≢false not)
 
-item_timeless : (i : Item) (n : ℤ) (t u : TimeOfDay) → item_needs_time i ≡ false → text_of_item i (moment n t) ≡ text_of_item i (moment n u)
-item_timeless Empty n t u not = refl
-item_timeless (Byte c) n t u not = refl
-item_timeless (Number f p) n t u not = number_timeless f p n t u not
-item_timeless (Word w) n t u not = word_timeless w n t u not
-item_timeless (Group g) n t u not = group_timeless g n t u not
-item_timeless (Subsecond point count) n t u not = absurd (true≢false not)
+zoned_timeless : (field : ZonedField) (n : ℤ) (t u : TimeOfDay) (x : ℤ) → zoned_needs_time field ≡ false
+    → zoned_piece field (moment n t) x ≡ zoned_piece field (moment n u) x
+zoned_timeless (Offset form) n t u x not = refl
+zoned_timeless ZoneName n t u x not = refl
+zoned_timeless Stamp n t u x not = absurd (true≢false not)
+zoned_timeless Iso8601 n t u x not = absurd (true≢false not)
+
+item_timeless : (i : Item) (n : ℤ) (t u : TimeOfDay) (x : ℤ) → item_needs_time i ≡ false → text_of_item i (moment n t) x ≡ text_of_item i (moment n u) x
+item_timeless Empty n t u x not = refl
+item_timeless (Byte c) n t u x not = refl
+item_timeless (Number f p) n t u x not = number_timeless f p n t u not
+item_timeless (Word w) n t u x not = word_timeless w n t u not
+item_timeless (Group g) n t u x not = group_timeless g n t u not
+item_timeless (Subsecond point count) n t u x not = absurd (true≢false not)
+item_timeless (Zoned field) n t u x not = zoned_timeless field n t u x not
 
 -- ---- a pattern
 
 -- the bytes behind one are timeless from each state
-abbrev IsTimeless : List ℕ → ℤ → TimeOfDay → TimeOfDay → Type 0
-IsTimeless bytes n t u = (s : State) → needs_time_from s bytes ≡ false → text_from s bytes (moment n t) ≡ text_from s bytes (moment n u)
+abbrev IsTimeless : List ℕ → ℤ → TimeOfDay → TimeOfDay → ℤ → Type 0
+IsTimeless bytes n t u x = (s : State) → needs_time_from s bytes ≡ false → text_from s bytes (moment n t) x ≡ text_from s bytes (moment n u) x
 
-step_timeless : (s : State) (c : ℕ) (bytes : List ℕ) (n : ℤ) (t u : TimeOfDay) (o : Option (State × Item)) → pattern_step s c ≡ o
-    → IsTimeless bytes n t u → needs_time_from s (c ∷ bytes) ≡ false
-    → text_from s (c ∷ bytes) (moment n t) ≡ text_from s (c ∷ bytes) (moment n u)
-step_timeless s c bytes n t u None e rest not = text_from-none s c bytes (moment n t) e ∙ sym (text_from-none s c bytes (moment n u) e)
-step_timeless s c bytes n t u (Some next) e rest not =
+step_timeless : (s : State) (c : ℕ) (bytes : List ℕ) (n : ℤ) (t u : TimeOfDay) (x : ℤ) (o : Option (State × Item)) → pattern_step s c ≡ o
+    → IsTimeless bytes n t u x → needs_time_from s (c ∷ bytes) ≡ false
+    → text_from s (c ∷ bytes) (moment n t) x ≡ text_from s (c ∷ bytes) (moment n u) x
+step_timeless s c bytes n t u x None e rest not = text_from-none s c bytes (moment n t) x e ∙ sym (text_from-none s c bytes (moment n u) x e)
+step_timeless s c bytes n t u x (Some next) e rest not =
     let both = or_parts (item_needs_time next.1) (needs_time_from next.0 bytes) (sym (needs_time_from-more s c bytes next e) ∙ not) in
-    text_from-more s c bytes (moment n t) next e
-    ∙ ap (λ (l : List ℕ). l ++ text_from next.0 bytes (moment n t)) (item_timeless next.1 n t u both.0)
-    ∙ ap (λ (l : List ℕ). text_of_item next.1 (moment n u) ++ l) (rest next.0 both.1)
-    ∙ sym (text_from-more s c bytes (moment n u) next e)
+    text_from-more s c bytes (moment n t) x next e
+    ∙ ap (λ (l : List ℕ). l ++ text_from next.0 bytes (moment n t) x) (item_timeless next.1 n t u x both.0)
+    ∙ ap (λ (l : List ℕ). text_of_item next.1 (moment n u) x ++ l) (rest next.0 both.1)
+    ∙ sym (text_from-more s c bytes (moment n u) x next e)
 
-pub timeless : (bytes : List ℕ) (n : ℤ) (t u : TimeOfDay) → IsTimeless bytes n t u
-timeless [] n t u s not = text_from-nothing s (moment n t) ∙ sym (text_from-nothing s (moment n u))
-timeless (c ∷ bytes) n t u s not = step_timeless s c bytes n t u (pattern_step s c) refl (timeless bytes n t u) not
+pub timeless : (bytes : List ℕ) (n : ℤ) (t u : TimeOfDay) (x : ℤ) → IsTimeless bytes n t u x
+timeless [] n t u x s not = text_from-nothing s (moment n t) x ∙ sym (text_from-nothing s (moment n u) x)
+timeless (c ∷ bytes) n t u x s not = step_timeless s c bytes n t u x (pattern_step s c) refl (timeless bytes n t u x) not

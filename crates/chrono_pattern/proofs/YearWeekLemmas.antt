@@ -8,11 +8,11 @@ use Rattle.chrono_calendar.proofs.IsoWeeks.{days_from_monday-of, days_from_sunda
 use Rattle.chrono_calendar.proofs.NamedDates.{number-ordinal_name}
 use Rattle.chrono_calendar.proofs.Names.{ordinal_name_of-number, year_length_bounds}
 use Rattle.chrono_calendar.proofs.Signed.{signed}
-use Rattle.chrono_datetime.specs.Days.{date_of_yo, day_number_of_yo, is_ordinal_name, ordinal_of, year_of}
+use Rattle.chrono_datetime.specs.Days.{date_of_yo, day_number_of_yo, ordinal_of, year_of}
 use Rattle.chrono_datetime.specs.Recurrence.{count_where}
 use Rattle.chrono_datetime.specs.Weekday.{days_from_monday, days_from_sunday, number_from_monday}
 use Rattle.chrono_datetime.specs.Weeks.{days_from_sunday_of, weekday_of}
-use Rattle.chrono_datetime.specs.Years.{IsYear, is_year}
+use Rattle.chrono_datetime.specs.Years.{IsYear}
 use Rattle.chrono_pattern.specs.YearWeeks.{week_from_monday, week_from_sunday, weeks_begun}
 
 -- a day counts if it is the one that is looked for

@@ -1,11 +1,17 @@
 -- How the items of a pattern are read.
-use Rattle.std.specs.Prelude.{ℕ, Result, Ok}
+use Rattle.std.specs.Prelude.{ℕ, ◌==◌, ◌||◌, true, if◌then◌else◌, List, [], ◌∷◌, Result, Ok, Err}
 use Rattle.std.specs.Str.{byte}
 use Rattle.chrono_pattern.specs.NumberReads.{number_read}
-use Rattle.chrono_pattern.specs.Progress.{Progress, literal_read, then_read}
+use Rattle.chrono_pattern.specs.OffsetReads.{name_read, offset_read, stamp_read, utc_or_offset}
+use Rattle.chrono_pattern.specs.Progress.{Progress, behind_blanks, literal_read, stopped, then_read}
 use Rattle.chrono_pattern.specs.SubsecondReads.{subsecond_read}
 use Rattle.chrono_pattern.specs.WordReads.{word_read}
+use Rattle.chrono_pattern.specs.declared.error.ReadFault.TheVariants.{Invalid, TooShort}
+use Rattle.chrono_pattern.specs.declared.parsed.Parsed.{Parsed}
 use Rattle.chrono_pattern.specs.declared.stop.Stop.{Stop}
+use Rattle.chrono_pattern.specs.declared.item.OffsetForm.TheVariants.{Colon}
+use Rattle.chrono_pattern.specs.declared.item.ZonedField.{ZonedField}
+use Rattle.chrono_pattern.specs.declared.item.ZonedField.TheVariants.{Offset, ZoneName, Stamp, Iso8601}
 use Rattle.chrono_pattern.specs.declared.item.NumberField.{NumberField}
 use Rattle.chrono_pattern.specs.declared.item.NumberField.TheVariants.{Year, YearOfCentury, Month, Day, SpacedDay, Hour, HalfHour, Minute, Second}
 use Rattle.chrono_pattern.specs.declared.item.WordField.{WordField}
@@ -13,7 +19,7 @@ use Rattle.chrono_pattern.specs.declared.item.WordField.TheVariants.{MonthLetter
 use Rattle.chrono_pattern.specs.declared.item.GroupField.{GroupField}
 use Rattle.chrono_pattern.specs.declared.item.GroupField.TheVariants.{YearMonthDay, MonthDayYear, HourMinute, HourMinuteSecond, HalfClock, DayMonthYear, DateAndTime}
 use Rattle.chrono_pattern.specs.declared.item.Item.{Item}
-use Rattle.chrono_pattern.specs.declared.item.Item.TheVariants.{Empty, Byte, Number, Word, Group, Subsecond}
+use Rattle.chrono_pattern.specs.declared.item.Item.TheVariants.{Empty, Byte, Number, Word, Group, Subsecond, Zoned}
 
 -- a byte or blanks, and a number behind them
 abbrev pub behind_read : ℕ → NumberField → Progress → Result Progress Stop
@@ -58,6 +64,32 @@ group_read HalfClock r = half_clock_read r
 group_read DayMonthYear r = short_date_read r
 group_read DateAndTime r = then_read (day_read r) clock_year_read
 
+-- the byte between a date and a time of day (RFC 3339, 5.6)
+abbrev pub between_behind : List ℕ → Parsed → Result Progress Stop
+between_behind [] p = Err (stopped TooShort [])
+between_behind (c ∷ rest) p =
+    if (c == byte "T") || (c == byte "t") || (c == byte " ") then Ok (record { rest = rest; parsed = p })
+    else Err (stopped Invalid (c ∷ rest))
+
+abbrev pub between_read : Progress → Result Progress Stop
+between_read r = between_behind r.rest r.parsed
+
+-- an offset or a name of UTC, behind blanks or none
+abbrev pub iso_offset_read : Progress → Result Progress Stop
+iso_offset_read r = utc_or_offset true Colon (behind_blanks r.rest) r.parsed
+
+-- a date, a time of day, a fraction or none, and an offset
+unfoldable pub iso_read : Progress → Result Progress Stop
+iso_read r =
+    then_read (then_read (then_read (then_read (group_read YearMonthDay r) between_read) (group_read HourMinuteSecond)) (subsecond_read true 0)) iso_offset_read
+
+-- the piece
+abbrev pub zoned_read : ZonedField → Progress → Result Progress Stop
+zoned_read (Offset form) r = offset_read form r
+zoned_read ZoneName r = name_read r
+zoned_read Stamp r = stamp_read r
+zoned_read Iso8601 r = iso_read r
+
 -- the item
 abbrev pub item_read : Item → Progress → Result Progress Stop
 item_read Empty r = Ok r
@@ -66,3 +98,4 @@ item_read (Number field p) r = number_read field r
 item_read (Word word) r = word_read word r
 item_read (Group group) r = group_read group r
 item_read (Subsecond point count) r = subsecond_read point count r
+item_read (Zoned field) r = zoned_read field r

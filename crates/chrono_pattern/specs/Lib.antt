@@ -5,6 +5,7 @@ pub mod Words
 pub mod GroupParts
 pub mod Groups
 pub mod Subseconds
+pub mod ZonedPieces
 pub mod Patterns
 pub mod Needs
 pub mod Parts
@@ -12,10 +13,13 @@ pub mod Progress
 pub mod NumberReads
 pub mod WordReads
 pub mod SubsecondReads
+pub mod OffsetReads
 pub mod ItemReads
 pub mod Reads
 pub mod DateParts
+pub mod PlainParts
 pub mod TimeParts
+pub mod ZonedParts
 pub mod NamedParts
 pub mod Parses
 pub mod ReadBack

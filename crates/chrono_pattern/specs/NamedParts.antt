@@ -1,19 +1,21 @@
 -- Which parts the specifiers of a pattern read.
 use Rattle.std.specs.Prelude.{ℕ, List, [], ◌∷◌, pos, Some, None}
 use Rattle.chrono_pattern.specs.NumberReads.{number_part}
-use Rattle.chrono_pattern.specs.Parts.{no_parts, with_part}
+use Rattle.chrono_pattern.specs.Parts.{no_parts, with_part, with_stamp}
 use Rattle.chrono_pattern.specs.PatternSteps.{pattern_step}
 use Rattle.chrono_pattern.specs.declared.parsed.Parsed.{Parsed}
 use Rattle.chrono_pattern.specs.declared.parsed.Part.{Part}
-use Rattle.chrono_pattern.specs.declared.parsed.Part.TheVariants.{MonthOfYear, DayOfWeek, HourDiv12, NanosecondOfSecond}
+use Rattle.chrono_pattern.specs.declared.parsed.Part.TheVariants.{MonthOfYear, DayOfWeek, HourDiv12, NanosecondOfSecond, OffsetFromUtc}
 use Rattle.chrono_pattern.specs.declared.item.NumberField.{NumberField}
 use Rattle.chrono_pattern.specs.declared.item.NumberField.TheVariants.{Year, YearOfCentury, Month, Day, SpacedDay, Hour, SpacedHour, HalfHour, Minute, Second}
 use Rattle.chrono_pattern.specs.declared.item.WordField.{WordField}
 use Rattle.chrono_pattern.specs.declared.item.WordField.TheVariants.{MonthName, MonthLetters, WeekdayName, WeekdayLetters, Half, SmallHalf}
 use Rattle.chrono_pattern.specs.declared.item.GroupField.{GroupField}
 use Rattle.chrono_pattern.specs.declared.item.GroupField.TheVariants.{YearMonthDay, MonthDayYear, HourMinute, HourMinuteSecond, HalfClock, DayMonthYear, DateAndTime}
+use Rattle.chrono_pattern.specs.declared.item.ZonedField.{ZonedField}
+use Rattle.chrono_pattern.specs.declared.item.ZonedField.TheVariants.{Offset, ZoneName, Stamp, Iso8601}
 use Rattle.chrono_pattern.specs.declared.item.Item.{Item}
-use Rattle.chrono_pattern.specs.declared.item.Item.TheVariants.{Empty, Byte, Number, Word, Group, Subsecond}
+use Rattle.chrono_pattern.specs.declared.item.Item.TheVariants.{Empty, Byte, Number, Word, Group, Subsecond, Zoned}
 use Rattle.chrono_pattern.specs.declared.item.State.{State}
 use Rattle.chrono_pattern.specs.declared.item.State.TheVariants.{Outside}
 
@@ -55,6 +57,13 @@ with_group DayMonthYear p = with_number_field Year (with_named MonthOfYear (with
 with_group DateAndTime p =
     with_number_field Year (with_clock Hour (with_number_field SpacedDay (with_named MonthOfYear (with_named DayOfWeek p))))
 
+-- the parts with those of a piece
+abbrev pub with_zoned : ZonedField → Parsed → Parsed
+with_zoned (Offset form) p = with_named OffsetFromUtc p
+with_zoned ZoneName p = p
+with_zoned Stamp p = with_stamp (pos 0) p
+with_zoned Iso8601 p = with_named OffsetFromUtc (with_named NanosecondOfSecond (with_group HourMinuteSecond (with_group YearMonthDay p)))
+
 -- the parts with those of an item
 abbrev pub with_item : Item → Parsed → Parsed
 with_item Empty p = p
@@ -63,6 +72,7 @@ with_item (Number field padding) p = with_number_field field p
 with_item (Word word) p = with_named (word_part word) p
 with_item (Group group) p = with_group group p
 with_item (Subsecond point count) p = with_named NanosecondOfSecond p
+with_item (Zoned field) p = with_zoned field p
 
 -- the parts with those of the items of the bytes
 unfoldable pub named_from : State → List ℕ → Parsed → Parsed

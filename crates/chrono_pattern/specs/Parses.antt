@@ -1,9 +1,11 @@
 -- The values of a text by a pattern: its parts name one, and it fits them.
-use Rattle.std.specs.Prelude.{◌≡◌, ℕ, ℤ, List, true, Ok}
+use Rattle.std.specs.Prelude.{◌≡◌, ℕ, ℤ, pos, List, true, Ok}
+use Rattle.chrono_datetime.specs.Moment.{Moment}
 use Rattle.chrono_datetime.specs.Time.{TimeOfDay}
 use Rattle.chrono_pattern.specs.DateParts.{date_fits, names_date}
 use Rattle.chrono_pattern.specs.Reads.{front_read, text_read}
 use Rattle.chrono_pattern.specs.TimeParts.{names_time, time_fits}
+use Rattle.chrono_pattern.specs.ZonedParts.{moment_fits, names_moment, names_zoned, zoned_fits}
 use Rattle.chrono_pattern.specs.declared.parsed.Parsed.{Parsed}
 
 -- the text is of the date, by the pattern
@@ -33,3 +35,31 @@ pub record IsTimeInFront (bytes text : List ℕ) (t : TimeOfDay) (rest : List �
   pub read : front_read bytes text ≡ Ok (record { rest = rest; parsed = parts })
   pub named : names_time parts ≡ true
   pub fits : time_fits parts t ≡ true
+
+-- the text is of the date-time, by the pattern
+pub record IsMomentBy (bytes text : List ℕ) (m : Moment) : Type 0 where
+  pub parts : Parsed
+  pub read : text_read bytes text ≡ Ok parts
+  pub named : names_moment parts ≡ true
+  pub fits : moment_fits parts m (pos 0) ≡ true
+
+-- the front of the text is of the date-time, by the pattern, and this is behind it
+pub record IsMomentInFront (bytes text : List ℕ) (m : Moment) (rest : List ℕ) : Type 0 where
+  pub parts : Parsed
+  pub read : front_read bytes text ≡ Ok (record { rest = rest; parsed = parts })
+  pub named : names_moment parts ≡ true
+  pub fits : moment_fits parts m (pos 0) ≡ true
+
+-- the text is of the local date-time with an offset of x seconds, by the pattern
+pub record IsZonedBy (bytes text : List ℕ) (m : Moment) (x : ℤ) : Type 0 where
+  pub parts : Parsed
+  pub read : text_read bytes text ≡ Ok parts
+  pub named : names_zoned parts ≡ true
+  pub fits : zoned_fits parts m x ≡ true
+
+-- the front of the text is of the local date-time with that offset, by the pattern, and this is behind it
+pub record IsZonedInFront (bytes text : List ℕ) (m : Moment) (x : ℤ) (rest : List ℕ) : Type 0 where
+  pub parts : Parsed
+  pub read : front_read bytes text ≡ Ok (record { rest = rest; parsed = parts })
+  pub named : names_zoned parts ≡ true
+  pub fits : zoned_fits parts m x ≡ true

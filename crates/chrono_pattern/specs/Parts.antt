@@ -6,7 +6,7 @@ use Rattle.chrono_pattern.specs.declared.error.ReadFault.{ReadFault}
 use Rattle.chrono_pattern.specs.declared.error.ReadFault.TheVariants.{OutOfRange, Impossible}
 use Rattle.chrono_pattern.specs.declared.parsed.Parsed.{Parsed}
 use Rattle.chrono_pattern.specs.declared.parsed.Part.{Part}
-use Rattle.chrono_pattern.specs.declared.parsed.Part.TheVariants.{FullYear, YearDiv100, YearMod100, FullIsoYear, IsoYearMod100, QuarterOfYear, MonthOfYear, WeekOfIsoYear, WeekFromSun, WeekFromMon, DayOfWeek, OrdinalDay, DayOfMonth, HourDiv12, HourMod12, MinuteOfHour, SecondOfMinute, NanosecondOfSecond}
+use Rattle.chrono_pattern.specs.declared.parsed.Part.TheVariants.{FullYear, YearDiv100, YearMod100, FullIsoYear, IsoYearMod100, QuarterOfYear, MonthOfYear, WeekOfIsoYear, WeekFromSun, WeekFromMon, DayOfWeek, OrdinalDay, DayOfMonth, HourDiv12, HourMod12, MinuteOfHour, SecondOfMinute, NanosecondOfSecond, OffsetFromUtc}
 
 -- nothing is given
 abbrev pub no_parts : Parsed
@@ -29,6 +29,8 @@ no_parts = record {
   minute = None;
   second = None;
   nanosecond = None;
+  offset = None;
+  timestamp = None;
 }
 
 -- the part, if it is given
@@ -51,6 +53,7 @@ part_of HourMod12 p = p.hour_mod_12
 part_of MinuteOfHour p = p.minute
 part_of SecondOfMinute p = p.second
 part_of NanosecondOfSecond p = p.nanosecond
+part_of OffsetFromUtc p = p.offset
 
 -- the parts with another value of one
 abbrev pub with_part : Part → ℤ → Parsed → Parsed
@@ -72,6 +75,7 @@ with_part HourMod12 v p = record p { hour_mod_12 = Some v }
 with_part MinuteOfHour v p = record p { minute = Some v }
 with_part SecondOfMinute v p = record p { second = Some v }
 with_part NanosecondOfSecond v p = record p { nanosecond = Some v }
+with_part OffsetFromUtc v p = record p { offset = Some v }
 
 -- the least and the greatest value of the part that a text may give
 abbrev pub part_range : Part → ℤ × ℤ
@@ -93,6 +97,7 @@ part_range HourMod12 = (pos 0, pos 11)
 part_range MinuteOfHour = (pos 0, pos 59)
 part_range SecondOfMinute = (pos 0, pos 60)
 part_range NanosecondOfSecond = (pos 0, pos 999_999_999)
+part_range OffsetFromUtc = (neg_ℤ (pos 86_399), pos 86_399)
 
 -- the parts with one more, if its value is in its range and is the one that was given before
 unfoldable pub put : Part → ℤ → Parsed → Result Parsed ReadFault
@@ -100,3 +105,14 @@ put part v p =
     if int_lt v (part_range part).0 then Err OutOfRange
     else if int_lt (part_range part).1 v then Err OutOfRange
     else elim (part_of part p) [ None ↦ Ok (with_part part v p) | Some w ↦ if int_eq w v then Ok p else Err Impossible ]
+
+-- the parts with another number of seconds from 1970
+abbrev pub with_stamp : ℤ → Parsed → Parsed
+with_stamp v p = record p { timestamp = Some v }
+
+-- the parts with that number, if some date has the second and it is the one that was given before
+unfoldable pub put_stamp : ℤ → Parsed → Result Parsed ReadFault
+put_stamp v p =
+    if int_lt v (neg_ℤ (pos 8_334_601_228_800)) then Err OutOfRange
+    else if int_lt (pos 8_210_266_876_799) v then Err OutOfRange
+    else elim p.timestamp [ None ↦ Ok (with_stamp v p) | Some w ↦ if int_eq w v then Ok p else Err Impossible ]

@@ -2,7 +2,7 @@
 use Rattle.std.specs.Prelude.{ℕ, List, [], ◌∷◌, Some, None}
 use Rattle.chrono_pattern.specs.PatternSteps.{pattern_step}
 use Rattle.chrono_pattern.specs.declared.item.Item.{Item}
-use Rattle.chrono_pattern.specs.declared.item.Item.TheVariants.{Empty, Byte, Number, Word, Group, Subsecond}
+use Rattle.chrono_pattern.specs.declared.item.Item.TheVariants.{Empty, Byte, Number, Word, Group, Subsecond, Zoned}
 use Rattle.chrono_pattern.specs.declared.item.State.{State}
 use Rattle.chrono_pattern.specs.declared.item.State.TheVariants.{Outside}
 
@@ -14,6 +14,7 @@ item_before (Number field padding) items = Number field padding ∷ items
 item_before (Word word) items = Word word ∷ items
 item_before (Group group) items = Group group ∷ items
 item_before (Subsecond point count) items = Subsecond point count ∷ items
+item_before (Zoned field) items = Zoned field ∷ items
 
 -- the items of the bytes of a pattern
 unfoldable pub items_from : State → List ℕ → List Item

@@ -9,10 +9,13 @@ use Rattle.chrono_pattern.specs.declared.item.WordField.{WordField}
 use Rattle.chrono_pattern.specs.declared.item.WordField.TheVariants.{MonthName, MonthLetters, WeekdayName, WeekdayLetters, Half, SmallHalf}
 use Rattle.chrono_pattern.specs.declared.item.GroupField.{GroupField}
 use Rattle.chrono_pattern.specs.declared.item.GroupField.TheVariants.{YearMonthDay, MonthDayYear, HourMinute, HourMinuteSecond, HalfClock, DayMonthYear, DateAndTime}
+use Rattle.chrono_pattern.specs.declared.item.OffsetForm.{OffsetForm}
+use Rattle.chrono_pattern.specs.declared.item.OffsetForm.TheVariants.{Plain, Colon, Seconds, Hours, Loose}
+use Rattle.chrono_pattern.specs.declared.item.ZonedField.TheVariants.{Offset, ZoneName, Stamp, Iso8601}
 use Rattle.chrono_pattern.specs.declared.item.Item.{Item}
-use Rattle.chrono_pattern.specs.declared.item.Item.TheVariants.{Empty, Byte, Number, Word, Group, Subsecond}
+use Rattle.chrono_pattern.specs.declared.item.Item.TheVariants.{Empty, Byte, Number, Word, Group, Subsecond, Zoned}
 use Rattle.chrono_pattern.specs.declared.item.State.{State}
-use Rattle.chrono_pattern.specs.declared.item.State.TheVariants.{Outside, Opened, Digits}
+use Rattle.chrono_pattern.specs.declared.item.State.TheVariants.{Outside, Opened, Digits, Marked}
 
 -- the number of a date that a specifier's byte names
 unfoldable pub date_number_at : ℕ → Option NumberField
@@ -92,6 +95,34 @@ digits_step point count c =
     else if count == 0 then digits_at point c
     else None
 
+-- behind `%` alone, a byte that stands for an offset or a name of a zone, or is the first mark of an offset
+abbrev pub zoned_step : ℕ → Option (State × Item)
+zoned_step c =
+    if c == byte "z" then Some (Outside, Zoned (Offset Plain))
+    else if c == byte "Z" then Some (Outside, Zoned ZoneName)
+    else if c == byte "+" then Some (Outside, Zoned Iso8601)
+    else if c == byte ":" then Some (Marked Colon, Empty)
+    else if c == byte "#" then Some (Marked Loose, Empty)
+    else digits_at false c
+
+-- the marks of an offset with one more colon
+abbrev pub with_colon : OffsetForm → Option OffsetForm
+with_colon Plain = Some Colon
+with_colon Colon = Some Seconds
+with_colon Seconds = Some Hours
+with_colon Hours = None
+with_colon Loose = None
+
+abbrev pub colon_step : OffsetForm → Option (State × Item)
+colon_step form = elim (with_colon form) [ None ↦ None | Some f ↦ Some (Marked f, Empty) ]
+
+-- behind the marks of an offset stands `z`, or one colon more
+abbrev pub marked_step : OffsetForm → ℕ → Option (State × Item)
+marked_step form c =
+    if c == byte "z" then Some (Outside, Zoned (Offset form))
+    else if c == byte ":" then colon_step form
+    else None
+
 -- behind `%` alone, a byte that names no number, no word and no group, and asks for no padding
 abbrev pub single_step : ℕ → Option (State × Item)
 single_step c =
@@ -99,7 +130,7 @@ single_step c =
     else if c == byte "n" then Some (Outside, Byte 10)
     else if c == byte "t" then Some (Outside, Byte 9)
     else if c == byte "." then Some (Digits true 0, Empty)
-    else digits_at false c
+    else zoned_step c
 
 -- one that may name a group
 abbrev pub grouped_step : ℕ → Option (State × Item)
@@ -120,9 +151,13 @@ unless_padded Nothing c = None
 unless_padded Spaces c = None
 unless_padded Zeros c = None
 
+-- the same where the byte may stand for the seconds from 1970, which no padding changes
+abbrev pub stamped_step : Padding → ℕ → Option (State × Item)
+stamped_step p c = if c == byte "s" then Some (Outside, Zoned Stamp) else unless_padded p c
+
 -- the same where the byte may name a number of a time of day
 abbrev pub timed_step : Padding → ℕ → Option (State × Item)
-timed_step p c = elim (time_number_at c) [ None ↦ unless_padded p c | Some n ↦ Some (Outside, Number n p) ]
+timed_step p c = elim (time_number_at c) [ None ↦ stamped_step p c | Some n ↦ Some (Outside, Number n p) ]
 
 -- a byte behind `%` and a padding or none
 unfoldable pub opened_step : Padding → ℕ → Option (State × Item)
@@ -133,3 +168,4 @@ abbrev pub pattern_step : State → ℕ → Option (State × Item)
 pattern_step Outside c = if c == byte "%" then Some (Opened Usual, Empty) else Some (Outside, Byte c)
 pattern_step (Opened p) c = opened_step p c
 pattern_step (Digits point count) c = digits_step point count c
+pattern_step (Marked form) c = marked_step form c

@@ -1,5 +1,5 @@
 -- How far a text is read, and the fronts of texts that readers look at.
-use Rattle.std.specs.Prelude.{ℕ, ◌==◌, Bool, ◌&&◌, ◌||◌, if◌then◌else◌, nat_le, nat_lt, List, [], ◌∷◌, length, drop, ℤ, Result, Ok, Err}
+use Rattle.std.specs.Prelude.{ℕ, ◌==◌, Bool, true, false, ◌&&◌, ◌||◌, if◌then◌else◌, nat_le, nat_lt, List, [], ◌∷◌, length, drop, ℤ, Result, Ok, Err}
 use Rattle.std.specs.Char.{is_ascii_digit}
 use Rattle.std.specs.List.{prefix_len}
 use Rattle.std.specs.Str.{byte}
@@ -9,7 +9,7 @@ use Rattle.chrono_pattern.specs.declared.error.ReadFault.TheVariants.{TooShort, 
 use Rattle.chrono_pattern.specs.declared.parsed.Parsed.{Parsed}
 use Rattle.chrono_pattern.specs.declared.parsed.Part.{Part}
 use Rattle.chrono_pattern.specs.declared.class.Class.{Class}
-use Rattle.chrono_pattern.specs.declared.class.Class.TheVariants.{Blank, Digit}
+use Rattle.chrono_pattern.specs.declared.class.Class.TheVariants.{Blank, Digit, Gap, Shown}
 use Rattle.chrono_pattern.specs.declared.stop.Stop.{Stop}
 
 -- what is left of a text, and the parts that were read
@@ -25,6 +25,8 @@ is_pattern_blank c = (c == byte " ") || (nat_le 9 c && nat_le c 13)
 abbrev pub is_of : Class → ℕ → Bool
 is_of Blank c = is_pattern_blank c
 is_of Digit c = is_ascii_digit c
+is_of Gap c = (c == byte ":") || is_pattern_blank c
+is_of Shown c = if is_pattern_blank c then false else true
 
 -- how many bytes of the class a text begins with
 unfoldable pub class_len : Class → List ℕ → ℕ

@@ -1,4 +1,4 @@
--- Patterns whose texts are read back: those of bytes and of numbers with a fixed number of digits.
+-- Patterns whose texts are read back: those of bytes, of numbers with a fixed number of digits and of offsets.
 use Rattle.std.specs.Prelude.{ℕ, ◌+◌, ◌/◌, ◌%◌, Bool, true, false, ◌&&◌, if◌then◌else◌, List, [], ◌∷◌, ℤ, pos, Option, Some, None}
 use Rattle.std.specs.Int.{int_div_euclid, int_rem_euclid}
 use Rattle.chrono_datetime.specs.Days.{day_of, month_of, ordinal_of, year_of}
@@ -18,8 +18,11 @@ use Rattle.chrono_pattern.specs.declared.item.NumberField.{NumberField}
 use Rattle.chrono_pattern.specs.declared.item.NumberField.TheVariants.{Year, Month, Day, Hour, Minute, Second}
 use Rattle.chrono_pattern.specs.declared.item.GroupField.{GroupField}
 use Rattle.chrono_pattern.specs.declared.item.GroupField.TheVariants.{YearMonthDay, HourMinute, HourMinuteSecond}
+use Rattle.chrono_pattern.specs.declared.item.OffsetForm.{OffsetForm}
+use Rattle.chrono_pattern.specs.declared.item.OffsetForm.TheVariants.{Plain, Colon, Seconds}
+use Rattle.chrono_pattern.specs.declared.item.ZonedField.TheVariants.{Offset}
 use Rattle.chrono_pattern.specs.declared.item.Item.{Item}
-use Rattle.chrono_pattern.specs.declared.item.Item.TheVariants.{Empty, Byte, Number, Group}
+use Rattle.chrono_pattern.specs.declared.item.Item.TheVariants.{Empty, Byte, Number, Group, Zoned}
 use Rattle.chrono_pattern.specs.declared.item.State.{State}
 use Rattle.chrono_pattern.specs.declared.item.State.TheVariants.{Outside}
 
@@ -28,9 +31,9 @@ abbrev pub if_named : Option ℤ → ℤ → Option ℤ
 if_named None v = None
 if_named (Some w) v = Some v
 
--- the named parts, as the date-time has them
-abbrev pub parts_of : Parsed → Moment → Parsed
-parts_of p m = record {
+-- the named parts, as the local date-time and its offset of x seconds have them; no seconds from 1970 are among them
+abbrev pub parts_of : Parsed → Moment → ℤ → Parsed
+parts_of p m x = record {
   year = if_named p.year (year_of m.date);
   year_div_100 = if_named p.year_div_100 (int_div_euclid (year_of m.date) (pos 100));
   year_mod_100 = if_named p.year_mod_100 (int_rem_euclid (year_of m.date) (pos 100));
@@ -49,6 +52,8 @@ parts_of p m = record {
   minute = if_named p.minute (pos (minute_of m.time));
   second = if_named p.second (pos (second_of m.time + m.time.fraction / nanos_per_second));
   nanosecond = if_named p.nanosecond (pos (m.time.fraction % nanos_per_second));
+  offset = if_named p.offset x;
+  timestamp = None;
 }
 
 -- the number has a fixed number of digits, a year from 0 to 9999
@@ -73,12 +78,20 @@ is_fixed_group HourMinute = true
 is_fixed_group HourMinuteSecond = true
 is_fixed_group _ = false
 
--- the item is such a number, such a group or a byte; no blank is behind a blank
+-- the offset is written to the minute or to the second
+abbrev pub is_fixed_form : OffsetForm → Bool
+is_fixed_form Plain = true
+is_fixed_form Colon = true
+is_fixed_form Seconds = true
+is_fixed_form _ = false
+
+-- the item is such a number, such a group, such an offset or a byte; no blank is behind a blank
 abbrev pub is_fixed_item : Bool → Item → Bool
 is_fixed_item blank Empty = true
 is_fixed_item blank (Byte c) = if blank then (if is_pattern_blank c then false else true) else true
 is_fixed_item blank (Number field padding) = is_fixed_number field && is_usual padding
 is_fixed_item blank (Group group) = is_fixed_group group
+is_fixed_item blank (Zoned (Offset form)) = is_fixed_form form
 is_fixed_item blank _ = false
 
 -- a blank is in front of what is behind the item
@@ -92,6 +105,6 @@ unfoldable pub is_fixed_from : State → Bool → List ℕ → Bool
 is_fixed_from s blank [] = true
 is_fixed_from s blank (c ∷ bytes) = elim (pattern_step s c) [ None ↦ false | Some next ↦ is_fixed_item blank next.1 && is_fixed_from next.0 (ends_blank blank next.1) bytes ]
 
--- the pattern is of bytes and of numbers with a fixed number of digits
+-- the pattern is of bytes, of numbers with a fixed number of digits and of such offsets
 abbrev pub is_fixed : List ℕ → Bool
 is_fixed bytes = is_fixed_from Outside false bytes

@@ -7,6 +7,10 @@ ghost use Rattle.chrono_pattern.specs.Progress.{behind_blanks, class_len, is_of}
 pub(crate) enum Class {
     Blank,
     Digit,
+    // A colon or a blank.
+    Gap,
+    // All but blanks.
+    Shown,
 }
 
 // Whether a byte is of a class.
@@ -17,6 +21,8 @@ pub(crate) fn is_of(class: Class, byte: u8) -> bool
     match class {
         Class::Blank => matches!(byte, b' ' | b'\t'..=b'\r'),
         Class::Digit => byte.is_ascii_digit(),
+        Class::Gap => matches!(byte, b':' | b' ' | b'\t'..=b'\r'),
+        Class::Shown => !matches!(byte, b' ' | b'\t'..=b'\r'),
     }
 }
 

@@ -1,9 +1,10 @@
 //! The date that the parts of a text give.
-ghost use Rattle.std.specs.Prelude.{◌≡◌, ◌↔◌, ◌<◌, ◌≤ℤ◌, ℤ, pos, true, false, Ok, Err, Some, None, IfOk};
+ghost use Rattle.std.specs.Prelude.{◌≡◌, ◌↔◌, ◌<◌, ◌≤ℤ◌, ℕ, ℤ, pos, true, false, Ok, Err, Some, None, IfOk, IfSome};
 ghost use Rattle.std.specs.Int.{int_div_euclid, int_rem_euclid};
-ghost use Rattle.chrono_datetime.specs.Days.{IsDate};
+ghost use Rattle.chrono_datetime.specs.Days.{IsDate, day_of, month_of, year_of};
 ghost use Rattle.chrono_datetime.specs.Years.{IsYear};
 ghost use Rattle.chrono_pattern.specs.DateParts.{date_fits, day_fits, in_window, names_calendar, names_date, names_ordinal, names_week, names_year, names_year_week, says, week_fits, weekday_at_number, year_fits, year_week_fits};
+ghost use Rattle.chrono_pattern.specs.PlainParts.{IsCalendarAlone};
 ghost use Rattle.chrono_pattern.specs.YearWeeks.{weeks_begun};
 ghost use Rattle.chrono_pattern.specs.declared.error.ReadFault.TheVariants.{NotEnough};
 
@@ -42,20 +43,100 @@ impl Parsed {
         ensures every { (n : ℤ) → IsDate n → names_date self.now ≡ true → date_fits self.now n ≡ true → result ≡ Ok n }
         ensures not_enough { (result ≡ Err NotEnough) ↔ (names_date self.now ≡ false) }
     {
-        let parts = *self;
-        if !names_date(parts) {
-            return Err(ReadFault::NotEnough);
+        if let Some(date) = plain_date(self) {
+            return Ok(date);
         }
-        match named_date(parts) {
-            Some(date) => {
-                if fits_date(parts, date) {
-                    Ok(date)
-                } else {
-                    Err(ReadFault::Impossible)
-                }
+        any_date(*self)
+    }
+}
+
+// The date of a year, a month and a day, where no other part of a date is given.
+#[inline(always)]
+fn plain_date(parts: &Parsed) -> Option<NaiveDate>
+    ensures named { IfSome result (λ d. names_date parts.now ≡ true) }
+    ensures fits { IfSome result (λ d. date_fits parts.now d ≡ true) }
+    ensures only { IfSome result (λ d. (n : ℤ) → IsDate n → date_fits parts.now n ≡ true → d ≡ n) }
+{
+    if !is_calendar_alone(parts) {
+        return None;
+    }
+    date_named(parts.year, parts.month, parts.day)
+}
+
+// The date with this year, month and day.
+#[inline(always)]
+fn date_named(year: Option<i32>, month: Option<i32>, day: Option<i32>) -> Option<NaiveDate>
+    ensures date { IfSome result (λ d. IsDate d) }
+    ensures year { IfSome result (λ d. year ≡ Some (year_of d)) }
+    ensures month { IfSome result (λ d. month ≡ Some (pos (month_of d))) }
+    ensures day { IfSome result (λ d. day ≡ Some (pos (day_of d))) }
+{
+    let year = year?;
+    NaiveDate::from_ymd_opt(year, natural(month)?, natural(day)?)
+}
+
+// Whether no part of a date is given besides a year, a month and a day.
+#[inline(always)]
+fn is_calendar_alone(parts: &Parsed) -> bool
+    ensures { result ≡ true → IsCalendarAlone parts.now }
+{
+    is_absent(parts.year_div_100)
+        && is_absent(parts.year_mod_100)
+        && is_absent(parts.ordinal)
+        && is_absent(parts.quarter)
+        && is_absent(parts.isoyear)
+        && is_absent(parts.isoyear_mod_100)
+        && is_absent(parts.isoweek)
+        && is_absent(parts.weekday)
+        && is_absent(parts.week_from_sun)
+        && is_absent(parts.week_from_mon)
+}
+
+// Whether a part is not given.
+#[inline(always)]
+fn is_absent(part: Option<i32>) -> bool
+    ensures { result ≡ true → part ≡ None }
+{
+    match part {
+        None => true,
+        Some(_) => false,
+    }
+}
+
+// A part that is given and is no number below 0.
+#[inline(always)]
+pub(crate) fn natural(part: Option<i32>) -> Option<u32>
+    ensures value { IfSome result (λ n. part ≡ Some (pos n)) }
+    ensures every { (n : ℕ) → part ≡ Some (pos n) → result ≡ Some n }
+{
+    let value = part?;
+    if value < 0 {
+        None
+    } else {
+        Some(value.unsigned_abs())
+    }
+}
+
+// The date that fits all parts. It is apart, so that the usual ones take few instructions.
+#[inline(never)]
+fn any_date(parts: Parsed) -> Result<NaiveDate, ReadFault>
+    ensures named { IfOk result (λ n. names_date parts ≡ true) }
+    ensures fits { IfOk result (λ n. date_fits parts n ≡ true) }
+    ensures every { (n : ℤ) → IsDate n → names_date parts ≡ true → date_fits parts n ≡ true → result ≡ Ok n }
+    ensures not_enough { (result ≡ Err NotEnough) ↔ (names_date parts ≡ false) }
+{
+    if !names_date(parts) {
+        return Err(ReadFault::NotEnough);
+    }
+    match named_date(parts) {
+        Some(date) => {
+            if fits_date(parts, date) {
+                Ok(date)
+            } else {
+                Err(ReadFault::Impossible)
             }
-            None => Err(ReadFault::Impossible),
         }
+        None => Err(ReadFault::Impossible),
     }
 }
 
@@ -132,7 +213,7 @@ fn names_year_week(week: Option<i32>, parts: Parsed) -> bool
 
 // Whether a date fits all parts.
 #[tactic(auto, unfolding(crate::specs::DateParts::date_fits))]
-fn fits_date(parts: Parsed, date: NaiveDate) -> bool
+pub(crate) fn fits_date(parts: Parsed, date: NaiveDate) -> bool
     ensures { result ≡ date_fits parts date }
 {
     fits_year(parts, date.year())

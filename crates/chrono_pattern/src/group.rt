@@ -18,6 +18,7 @@ use chrono_text::{NANOS_PER_SEC, Text};
 
 // Puts the numbers and the words of a group.
 #[tactic(auto, unfolding(crate::specs::Groups::group_text, crate::specs::Numbers::field_text, crate::specs::Words::word_text, crate::specs::GroupParts::two, crate::specs::GroupParts::spaced, crate::specs::GroupParts::padded_year, crate::specs::GroupParts::clock_at, crate::specs::GroupParts::letters_of_month))]
+#[inline(never)]
 pub(crate) fn put_group<const N: usize>(
     text: &mut Text<N>,
     group: GroupField,

@@ -60,6 +60,30 @@ pub(crate) enum GroupField {
     DateAndTime,
 }
 
+// How an offset from UTC is written and read.
+#[derive(Clone, Copy)]
+pub(crate) enum OffsetForm {
+    // Hours and minutes.
+    Plain,
+    // Hours, a colon and minutes.
+    Colon,
+    // Hours, minutes and seconds, with colons.
+    Seconds,
+    // Hours alone.
+    Hours,
+    // As `Plain`. In reading the minutes may be missing.
+    Loose,
+}
+
+// A piece that needs the offset from UTC, or the seconds from 1970.
+#[derive(Clone, Copy)]
+pub(crate) enum ZonedField {
+    Offset(OffsetForm),
+    ZoneName,
+    Stamp,
+    Iso8601,
+}
+
 // What a pattern writes where one of its bytes stands.
 #[derive(Clone, Copy)]
 pub(crate) enum Item {
@@ -71,6 +95,7 @@ pub(crate) enum Item {
     Group(GroupField),
     // So many digits of the fraction of a second, or as few as hold it for 0, and whether a point is before them.
     Subsecond(bool, u8),
+    Zoned(ZonedField),
 }
 
 // Where a reader of a pattern stands.
@@ -82,4 +107,6 @@ pub(crate) enum State {
     Opened(Padding),
     // Behind `%`, a point or none, and a number of digits or 0 for none.
     Digits(bool, u8),
+    // Behind `%` and the marks of an offset.
+    Marked(OffsetForm),
 }

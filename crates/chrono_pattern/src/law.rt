@@ -1,16 +1,18 @@
 //! Laws of patterns, each as the contract of a function.
-ghost use Rattle.std.specs.Prelude.{◌≡◌, ◌+◌, ◌-◌, ◌/◌, ◌%◌, ◌≤ℤ◌, ℕ, ℤ, List, true, Some, Ok, Err, codes, neg_ℤ, pos};
+ghost use Rattle.std.specs.Prelude.{◌≡◌, ◌+◌, ◌-◌, ◌/◌, ◌%◌, ◌≤ℤ◌, ℕ, ℤ, List, true, Some, Ok, Err, codes, neg_ℤ, pos, unsigned_abs};
 ghost use Rattle.std.specs.Str.{IsAscii};
 ghost use Rattle.chrono_datetime.specs.Days.{IsDate, day_of, month_of, ordinal_of, year_of};
 ghost use Rattle.chrono_datetime.specs.Moment.{Moment, moment};
 ghost use Rattle.chrono_datetime.specs.Duration.{nanos_per_second};
+ghost use Rattle.chrono_datetime.specs.Fields.{unix_epoch_day};
 ghost use Rattle.chrono_datetime.specs.Time.{IsTime, time_at};
 ghost use Rattle.chrono_datetime.specs.Weekday.{days_from_monday, days_from_sunday};
 ghost use Rattle.chrono_datetime.specs.Weeks.{iso_week_of, iso_year_of, weekday_of};
 ghost use Rattle.chrono_datetime.specs.declared.Weekday.TheVariants.{Mon};
+ghost use Rattle.chrono_instant.specs.Offsets.{IsOffset};
 ghost use Rattle.chrono_pattern.specs.DateParts.{is_present, names_date};
 ghost use Rattle.chrono_pattern.specs.NamedParts.{named_parts};
-ghost use Rattle.chrono_pattern.specs.Parses.{IsDateBy, IsTimeBy};
+ghost use Rattle.chrono_pattern.specs.Parses.{IsDateBy, IsTimeBy, IsZonedBy};
 ghost use Rattle.chrono_pattern.specs.Parts.{no_parts};
 ghost use Rattle.chrono_pattern.specs.PatternItems.{pattern_items};
 ghost use Rattle.chrono_pattern.specs.ReadBack.{is_fixed, parts_of};
@@ -18,7 +20,8 @@ ghost use Rattle.chrono_pattern.specs.Reads.{text_read};
 ghost use Rattle.chrono_pattern.specs.YearWeeks.{week_from_monday, week_from_sunday};
 ghost use Rattle.chrono_pattern.specs.declared.error.ReadFault.TheVariants.{Impossible, Invalid, OutOfRange, TooLong, TooShort};
 ghost use Rattle.chrono_pattern.specs.TimeParts.{names_second, names_time};
-ghost use Rattle.chrono_pattern.specs.Patterns.{IsPattern, pattern_error, pattern_text};
+ghost use Rattle.chrono_pattern.specs.ZonedParts.{names_moment, names_zoned};
+ghost use Rattle.chrono_pattern.specs.Patterns.{IsPattern, pattern_error, pattern_text, text_at_offset};
 ghost use Rattle.chrono_pattern.specs.declared.error.PatternFault.TheVariants.{Cut, Unknown};
 ghost use Rattle.chrono_pattern.specs.declared.parsed.Parsed.{Parsed};
 
@@ -51,7 +54,7 @@ pub fn known_texts_of_dates()
         → pattern_text (codes "%G-W%V-%u %a") m ≡ codes "2025-W01-1 Mon" }
 {}
 
-/// States known errors: a specifier that is unknown, one that is cut, a padding before a word, and a second padding.
+/// States known errors: a specifier that is unknown, one that is cut, a padding before a word, a second padding, and a fourth colon.
 pub fn known_errors()
     ensures unknown { pattern_error (codes "%Y-%Q") ≡ Some (record { byte = 3; cause = Unknown }) }
     ensures cut { pattern_error (codes "100%") ≡ Some (record { byte = 3; cause = Cut }) }
@@ -59,7 +62,10 @@ pub fn known_errors()
     ensures word { pattern_error (codes "%-a") ≡ Some (record { byte = 0; cause = Unknown }) }
     ensures second_padding { pattern_error (codes "%%%--d") ≡ Some (record { byte = 2; cause = Unknown }) }
     ensures digits { pattern_error (codes "%.5f") ≡ Some (record { byte = 0; cause = Unknown }) }
+    ensures colons { pattern_error (codes "%::::z") ≡ Some (record { byte = 0; cause = Unknown }) }
+    ensures cut_colon { pattern_error (codes "%H%:") ≡ Some (record { byte = 2; cause = Cut }) }
     ensures none { IsPattern (codes "100%% %.3f %-d") }
+    ensures zoned { IsPattern (codes "%+ %:::z %#z %Z %-s") }
 {}
 
 /// States what known texts give:
@@ -94,32 +100,102 @@ pub fn known_reading_errors()
     ensures long { text_read (codes "%y") (codes "2024") ≡ Err (record { cause = TooLong; left = 2 }) }
 {}
 
+/// States known texts of offsets from UTC, of the seconds from 1970, and of a date-time with its offset:
+///
+/// - nine hours and a half, with each specifier;
+/// - five hours and fifteen seconds behind UTC, and half a minute behind it;
+/// - the first second of 1970 in UTC, and an hour ahead of it.
+pub fn known_texts_of_offsets()
+    ensures half_hour { (m : Moment) → text_at_offset (codes "%z %:z %::z %:::z %#z %Z") m (pos 34_200)
+        ≡ codes "+0930 +09:30 +09:30:00 +09 +0930 +09:30" }
+    ensures behind { (m : Moment) → text_at_offset (codes "%z %::z %Z") m (neg_ℤ (pos 18_015)) ≡ codes "-0500 -05:00:15 -05:00:15" }
+    ensures half_minute { (m : Moment) → text_at_offset (codes "%z %:z") m (neg_ℤ (pos 30)) ≡ codes "-0000 -00:00" }
+    ensures first_second { pattern_text (codes "%s") (moment unix_epoch_day (time_at 0 0 0 0)) ≡ codes "0" }
+    ensures hour_ahead { text_at_offset (codes "%-s") (moment unix_epoch_day (time_at 0 0 0 0)) (pos 3_600) ≡ codes "-3600" }
+    ensures all { (n : ℤ) → year_of n ≡ pos 2024 → month_of n ≡ 2 → day_of n ≡ 29
+        → text_at_offset (codes "%+") (moment n (time_at 9 30 5 250_000_000)) (pos 19_800) ≡ codes "2024-02-29T09:30:05.250+05:30" }
+{}
+
+/// States what known texts give of an offset and of the seconds from 1970:
+///
+/// - an offset with a colon or a blank where the pattern has none, and one with seconds;
+/// - hours alone, and UTC by its name;
+/// - a name of a zone, which gives nothing;
+/// - seconds before 1970, and a date-time with its offset.
+pub fn known_readings_of_offsets()
+    ensures colon { text_read (codes "%z") (codes "+09:30") ≡ Ok (record no_parts { offset = Some (pos 34_200) }) }
+    ensures blank { text_read (codes "%:z") (codes "-00 30") ≡ Ok (record no_parts { offset = Some (neg_ℤ (pos 1_800)) }) }
+    ensures seconds { text_read (codes "%::z") (codes "-05:00:15") ≡ Ok (record no_parts { offset = Some (neg_ℤ (pos 18_015)) }) }
+    ensures hours { text_read (codes "%:::z.") (codes "+09.") ≡ Ok (record no_parts { offset = Some (pos 32_400) }) }
+    ensures utc { text_read (codes "%#z") (codes "Z") ≡ Ok (record no_parts { offset = Some (pos 0) }) }
+    ensures zone { text_read (codes "%Z %M") (codes "Europe/Oslo 30") ≡ Ok (record no_parts { minute = Some (pos 30) }) }
+    ensures before { text_read (codes "%s") (codes "-86400") ≡ Ok (record no_parts { timestamp = Some (neg_ℤ (pos 86_400)) }) }
+    ensures all { text_read (codes "%+") (codes "2024-02-29 09:30:05.5utc")
+        ≡ Ok (record no_parts {
+          year = Some (pos 2024);
+          month = Some (pos 2);
+          day = Some (pos 29);
+          hour_div_12 = Some (pos 0);
+          hour_mod_12 = Some (pos 9);
+          minute = Some (pos 30);
+          second = Some (pos 5);
+          nanosecond = Some (pos 500_000_000);
+          offset = Some (pos 0);
+        }) }
+{}
+
+/// States where known texts of an offset and of the seconds from 1970 are wrong, by the bytes that are left:
+///
+/// - sixty minutes, a whole day, and minutes that are missing;
+/// - an offset with no sign, and one that contradicts another;
+/// - a second that no date has.
+pub fn known_reading_errors_of_offsets()
+    ensures sixty { text_read (codes "%z") (codes "+0960") ≡ Err (record { cause = OutOfRange; left = 2 }) }
+    ensures day { text_read (codes "%z") (codes "-2400") ≡ Err (record { cause = OutOfRange; left = 5 }) }
+    ensures short { text_read (codes "%:z") (codes "+09:") ≡ Err (record { cause = TooShort; left = 0 }) }
+    ensures sign { text_read (codes "%:::z") (codes "09") ≡ Err (record { cause = Invalid; left = 2 }) }
+    ensures twice { text_read (codes "%z%z") (codes "+0930-0930") ≡ Err (record { cause = Impossible; left = 5 }) }
+    ensures late { text_read (codes "%s") (codes "8210266876800") ≡ Err (record { cause = OutOfRange; left = 13 }) }
+{}
+
 /// States that the specifiers of a pattern tell what its texts name, before any text is read:
 ///
 /// - a date: all texts that it reads name one, or none does;
-/// - a time of day: the same, unless the pattern has a fraction and no second. A text may leave such a fraction out.
+/// - a time of day: the same, unless the pattern has a fraction and no second. A text may leave such a fraction out;
+/// - a date-time, and one with its offset: the same.
 pub fn fields_tell_what_is_named()
     ensures date { (bytes text : List ℕ) → (parts : Parsed) → text_read bytes text ≡ Ok parts → names_date parts ≡ names_date (named_parts bytes) }
     ensures time { (bytes text : List ℕ) → (parts : Parsed) → names_second (named_parts bytes) ≡ true → text_read bytes text ≡ Ok parts
         → names_time parts ≡ names_time (named_parts bytes) }
+    ensures date_time { (bytes text : List ℕ) → (parts : Parsed) → names_second (named_parts bytes) ≡ true → text_read bytes text ≡ Ok parts
+        → names_moment parts ≡ names_moment (named_parts bytes) }
+    ensures zoned { (bytes text : List ℕ) → (parts : Parsed) → names_second (named_parts bytes) ≡ true → text_read bytes text ≡ Ok parts
+        → names_zoned parts ≡ names_zoned (named_parts bytes) }
 {}
 
 /// States that a pattern of bytes and of numbers with a fixed number of digits reads back what it writes of the years 0 to 9999.
 ///
-/// Such a pattern has no specifiers but `%Y`, `%m`, `%d`, `%H`, `%M`, `%S`, `%F`, `%R` and `%T`, with no padding asked for. Its other bytes
-/// are any, and no blank is behind a blank. Such patterns are `%Y-%m-%d`, `%F %T`, `%Y%m%d` and `%d/%m/%Y`.
+/// Such a pattern has no specifiers but `%Y`, `%m`, `%d`, `%H`, `%M`, `%S`, `%F`, `%R`, `%T`, `%z`, `%:z` and `%::z`, with no padding asked
+/// for. Its other bytes are any, and no blank is behind a blank. Such patterns are `%Y-%m-%d`, `%F %T %:z`, `%Y%m%d` and `%d/%m/%Y`.
 ///
 /// - A text gives the parts that the pattern names, each as the date-time has it.
 /// - It is of the date, if the pattern names one.
 /// - It is of the time of day, if the pattern names one with its second, and the time is a whole second or a leap second.
+/// - It is of the date-time with its offset, if the pattern names all three so, and the offset is of whole minutes.
 pub fn fixed_patterns_read_back()
     ensures parts { (bytes : List ℕ) → (m : Moment) → is_fixed bytes ≡ true → IsTime m.time → pos 0 ≤ℤ year_of m.date → year_of m.date ≤ℤ pos 9999
-        → text_read bytes (pattern_text bytes m) ≡ Ok (parts_of (named_parts bytes) m) }
+        → text_read bytes (pattern_text bytes m) ≡ Ok (parts_of (named_parts bytes) m (pos 0)) }
     ensures date { (bytes : List ℕ) → (m : Moment) → is_fixed bytes ≡ true → names_date (named_parts bytes) ≡ true → IsTime m.time
         → pos 0 ≤ℤ year_of m.date → year_of m.date ≤ℤ pos 9999 → IsDateBy bytes (pattern_text bytes m) m.date }
     ensures time { (bytes : List ℕ) → (m : Moment) → is_fixed bytes ≡ true → names_time (named_parts bytes) ≡ true
         → is_present (named_parts bytes).second ≡ true → IsTime m.time → m.time.fraction % nanos_per_second ≡ 0
         → pos 0 ≤ℤ year_of m.date → year_of m.date ≤ℤ pos 9999 → IsTimeBy bytes (pattern_text bytes m) m.time }
+    ensures offset { (bytes : List ℕ) → (m : Moment) → (x : ℤ) → is_fixed bytes ≡ true → names_date (named_parts bytes) ≡ true
+        → names_time (named_parts bytes) ≡ true → is_present (named_parts bytes).second ≡ true → is_present (named_parts bytes).offset ≡ true → IsTime m.time
+        → m.time.fraction % nanos_per_second ≡ 0 → pos 0 ≤ℤ year_of m.date → year_of m.date ≤ℤ pos 9999 → IsOffset x → unsigned_abs x % 60 ≡ 0
+        → IsZonedBy bytes (text_at_offset bytes m x) m x }
+    ensures date_time_and_offset { is_fixed (codes "%F %T %:z") ≡ true }
+    ensures offset_with_seconds { is_fixed (codes "%Y%m%dT%H%M%S%z %::z") ≡ true }
     ensures dashes { is_fixed (codes "%Y-%m-%d") ≡ true }
     ensures date_and_time { is_fixed (codes "%F %T") ≡ true }
     ensures digits { is_fixed (codes "%Y%m%dT%H%M%S") ≡ true }
@@ -131,6 +207,7 @@ pub fn fixed_patterns_read_back()
 /// So `%x` is `%D`, `%X` is `%T`, and `%h` is `%b`.
 pub fn items_tell_the_pattern()
     ensures written { (a b : List ℕ) → (m : Moment) → pattern_items a ≡ pattern_items b → pattern_text a m ≡ pattern_text b m }
+    ensures zoned { (a b : List ℕ) → (m : Moment) → (x : ℤ) → pattern_items a ≡ pattern_items b → text_at_offset a m x ≡ text_at_offset b m x }
     ensures read { (a b text : List ℕ) → pattern_items a ≡ pattern_items b → text_read a text ≡ text_read b text }
     ensures short_date { pattern_items (codes "%x %h") ≡ pattern_items (codes "%D %b") }
     ensures short_time { pattern_items (codes "%X") ≡ pattern_items (codes "%T") }
@@ -144,5 +221,7 @@ pub fn weeks_are_found_by_places()
 
 /// States that a pattern of ASCII bytes writes ASCII. So its text is a string, as `as_str` of `Text` asks.
 pub fn ascii_patterns_write_ascii()
-    ensures { (bytes : List ℕ) → (m : Moment) → IsAscii bytes → IsDate m.date → IsTime m.time → IsAscii (pattern_text bytes m) }
+    ensures utc { (bytes : List ℕ) → (m : Moment) → IsAscii bytes → IsDate m.date → IsTime m.time → IsAscii (pattern_text bytes m) }
+    ensures zoned { (bytes : List ℕ) → (m : Moment) → (x : ℤ) → IsOffset x → IsAscii bytes → IsDate m.date → IsTime m.time
+        → IsAscii (text_at_offset bytes m x) }
 {}

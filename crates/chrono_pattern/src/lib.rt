@@ -8,14 +8,15 @@
 //! Pattern::new(b"%e %B %Y").ok()?.parse_date(b"29 february 2024").ok() // Some(2024-02-29)
 //! ```
 //!
-//! The specifiers, listed at [`Pattern::new`], are chrono's, except for `%s`, `%+` and those of zones. They have the same texts, with
-//! English names. A pattern borrows its bytes, and nothing here allocates.
+//! The specifiers, listed at [`Pattern::new`], are chrono's. They have the same texts, with English names. A pattern borrows its bytes, and
+//! nothing here allocates.
 #![tactic(auto)]
 
 mod class;
 mod date_parts;
 mod date_time_parts;
 mod error;
+mod front_item;
 mod group;
 mod item;
 pub mod law;
@@ -23,6 +24,7 @@ mod named_parts;
 mod needs;
 mod number;
 mod number_reader;
+mod offset_reader;
 mod parse;
 mod parsed;
 mod pattern;
@@ -36,6 +38,9 @@ mod word;
 mod word_reader;
 mod writer;
 mod year_week;
+mod zoned;
+mod zoned_parts;
+mod zoned_piece;
 
 pub use error::{PatternError, PatternFault, PatternReadError, ReadFault};
 pub use parsed::Parsed;

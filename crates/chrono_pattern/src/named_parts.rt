@@ -1,8 +1,8 @@
 //! Which parts the specifiers of a pattern read.
 ghost use Rattle.std.specs.Prelude.{◌≡◌};
-ghost use Rattle.chrono_pattern.specs.NamedParts.{named_parts, with_clock, with_group, with_half, with_item, with_named, with_number_field, word_part};
+ghost use Rattle.chrono_pattern.specs.NamedParts.{named_parts, with_clock, with_group, with_half, with_item, with_named, with_number_field, with_zoned, word_part};
 
-use crate::item::{GroupField, Item, NumberField, State, WordField};
+use crate::item::{GroupField, Item, NumberField, State, WordField, ZonedField};
 use crate::number_reader::number_part;
 use crate::parsed::{Parsed, Part};
 use crate::step::pattern_step;
@@ -35,6 +35,30 @@ fn with_item(parts: Parsed, item: Item) -> Parsed
         Item::Word(word) => with_named(parts, word_part(word)),
         Item::Group(group) => with_group(parts, group),
         Item::Subsecond(_, _) => with_named(parts, Part::NanosecondOfSecond),
+        Item::Zoned(field) => with_zoned(parts, field),
+    }
+}
+
+// The parts with those of a piece.
+fn with_zoned(parts: Parsed, field: ZonedField) -> Parsed
+    ensures { result ≡ with_zoned field parts }
+{
+    match field {
+        ZonedField::Offset(_) => with_named(parts, Part::OffsetFromUtc),
+        ZonedField::ZoneName => parts,
+        ZonedField::Stamp => {
+            let mut named = parts;
+            named.set_stamp(0);
+            named
+        }
+        ZonedField::Iso8601 => {
+            let parts = with_group(parts, GroupField::YearMonthDay);
+            let parts = with_group(parts, GroupField::HourMinuteSecond);
+            with_named(
+                with_named(parts, Part::NanosecondOfSecond),
+                Part::OffsetFromUtc,
+            )
+        }
     }
 }
 

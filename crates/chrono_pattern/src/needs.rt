@@ -1,8 +1,8 @@
-//! Which patterns write a part of the time of day.
+//! Which patterns write a part of the time of day, and which an offset from UTC.
 ghost use Rattle.std.specs.Prelude.{◌≡◌};
-ghost use Rattle.chrono_pattern.specs.Needs.{item_needs_time, needs_time, number_needs_time};
+ghost use Rattle.chrono_pattern.specs.Needs.{item_needs_offset, item_needs_time, needs_offset, needs_time, number_needs_time, zoned_needs_offset, zoned_needs_time};
 
-use crate::item::{GroupField, Item, NumberField, State, WordField};
+use crate::item::{GroupField, Item, NumberField, State, WordField, ZonedField};
 use crate::step::pattern_step;
 
 // Whether bytes have a specifier of the time of day.
@@ -39,7 +39,15 @@ fn item_needs_time(item: Item) -> bool
             )
         }
         Item::Subsecond(_, _) => true,
+        Item::Zoned(field) => zoned_needs_time(field),
     }
+}
+
+// Whether a piece has a part of the time of day. The seconds from 1970 count those of the day.
+fn zoned_needs_time(field: ZonedField) -> bool
+    ensures { result ≡ zoned_needs_time field }
+{
+    matches!(field, ZonedField::Stamp | ZonedField::Iso8601)
 }
 
 // Whether a number is of the time of day.
@@ -56,4 +64,40 @@ fn number_needs_time(field: NumberField) -> bool
         | NumberField::Nanosecond => true,
         _ => false,
     }
+}
+
+// Whether bytes have a specifier of the offset from UTC.
+pub(crate) fn needs_offset(bytes: &[u8]) -> bool
+    ensures { result ≡ needs_offset bytes.now }
+{
+    let mut state = State::Outside;
+    let mut rest = bytes;
+    while let Some((byte, behind)) = rest.split_first() {
+        let Some(next) = pattern_step(state, *byte) else {
+            return false;
+        };
+        if item_needs_offset(next.1) {
+            return true;
+        }
+        state = next.0;
+        rest = behind;
+    }
+    false
+}
+
+// Whether an item writes an offset.
+fn item_needs_offset(item: Item) -> bool
+    ensures { result ≡ item_needs_offset item }
+{
+    match item {
+        Item::Zoned(field) => zoned_needs_offset(field),
+        _ => false,
+    }
+}
+
+// Whether a piece is of an offset. The seconds from 1970 are those of UTC where there is none.
+fn zoned_needs_offset(field: ZonedField) -> bool
+    ensures { result ≡ zoned_needs_offset field }
+{
+    !matches!(field, ZonedField::Stamp)
 }

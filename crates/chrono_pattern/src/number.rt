@@ -12,6 +12,7 @@ use chrono_text::{NANOS_PER_SEC, Text};
 
 // Puts a number of a date-time.
 #[tactic(auto, unfolding(crate::specs::Numbers::field_text))]
+#[inline(never)]
 pub(crate) fn put_number<const N: usize>(
     text: &mut Text<N>,
     field: NumberField,

@@ -1,7 +1,9 @@
 //! Reads the numbers of a date-time.
-ghost use Rattle.std.specs.Prelude.{◌≡◌, ◌≤◌, ◌<◌, ◌^◌, Ok, Err, IfErr, IfOk, drop, length};
+ghost use Rattle.std.specs.Prelude.{◌≡◌, ◌≤◌, ◌<◌, ◌^◌, ◌++◌, Ok, Err, IfErr, IfOk, IfSome, drop, length, pos};
 ghost use Rattle.chrono_text.specs.Numbers.{signed};
+ghost use Rattle.chrono_text.specs.Text.{all_digits, two_digits};
 ghost use Rattle.chrono_pattern.specs.Progress.{progress};
+ghost use Rattle.chrono_pattern.specs.declared.parsed.Parsed.{Parsed};
 ghost use Rattle.chrono_pattern.specs.NumberReads.{digits_in, digits_read, half_put, has_sign, hour_of_clock, most_digits, number_part, number_put, number_read, signed_read, weekday_of_sunday};
 
 use crate::class::{Class, class_len, skip_blanks};
@@ -10,15 +12,73 @@ use crate::item::NumberField;
 use crate::parsed::{Parsed, Part};
 use crate::reader::Reader;
 use crate::stop::{Stop, fault_without, stopped};
-use chrono_text::read_digits;
+use chrono_text::{read_digits, read_four, read_two};
 
 // The most digits that are read behind a sign.
 const SIGNED_DIGITS: usize = 9;
 
-// Reads a number behind blanks or none.
+// Reads a number behind blanks or none. The usual case comes first.
+#[inline(always)]
+pub(crate) fn read_number(reader: &mut Reader<'_>, field: NumberField) -> Result<(), Stop>
+    ensures read { IfOk result (λ u. number_read field reader.old ≡ Ok reader.new) }
+    ensures stop { IfErr result (λ e. number_read field reader.old ≡ Err e) }
+{
+    let text = reader.rest;
+    match plain_number(field, text) {
+        None => read_any_number(reader, field),
+        Some(size) => {
+            let value = with_sign(false, size);
+            put_number_behind(reader, field, value, most_digits(field), text)
+        }
+    }
+}
+
+// The number of two or four digits in front of a text, for a field that has no more.
+#[inline(always)]
+fn plain_number(field: NumberField, text: &[u8]) -> Option<u32>
+    ensures value { IfSome result (λ n. (p : Parsed) → number_read field (record { rest = text.now; parsed = p })
+        ≡ progress (number_put field (pos n) p) (drop (most_digits field) text.now) text.now) }
+    ensures within { IfSome result (λ n. most_digits field ≤ length text.now) }
+    ensures small { IfSome result (λ n. n < 10 ^ 9) }
+{
+    let most = most_digits(field);
+    if has_sign(field) {
+        if most == 4 { front_four(text) } else { None }
+    } else if most == 2 {
+        front_two(text)
+    } else {
+        None
+    }
+}
+
+// The number of two digits in front of a text.
+#[inline(always)]
+fn front_two(text: &[u8]) -> Option<u32>
+    ensures { IfSome result (λ n. (n < 100) × (text.now ≡ two_digits n ++ drop 2 text.now)) }
+{
+    match text {
+        [tens, ones, ..] => read_two(*tens, *ones),
+        _ => None,
+    }
+}
+
+// The number of four digits in front of a text.
+#[inline(always)]
+fn front_four(text: &[u8]) -> Option<u32>
+    ensures { IfSome result (λ n. (n < 10_000) × (text.now ≡ all_digits 4 n ++ drop 4 text.now)) }
+{
+    match text {
+        [thousands, hundreds, tens, ones, ..] => {
+            read_four([*thousands, *hundreds, *tens, *ones])
+        }
+        _ => None,
+    }
+}
+
+// Reads a number of any form.
 #[inline(always)]
 #[tactic(auto, unfolding(crate::specs::NumberReads::number_read))]
-pub(crate) fn read_number(reader: &mut Reader<'_>, field: NumberField) -> Result<(), Stop>
+fn read_any_number(reader: &mut Reader<'_>, field: NumberField) -> Result<(), Stop>
     ensures read { IfOk result (λ u. number_read field reader.old ≡ Ok reader.new) }
     ensures stop { IfErr result (λ e. number_read field reader.old ≡ Err e) }
 {

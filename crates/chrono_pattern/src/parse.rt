@@ -3,11 +3,12 @@ ghost use Rattle.std.specs.Prelude.{◌≡◌, ℕ, ℤ, List, Ok, IfOk, IsOk};
 ghost use Rattle.chrono_datetime.specs.Days.{IsDate};
 ghost use Rattle.chrono_datetime.specs.Moment.{Moment};
 ghost use Rattle.chrono_datetime.specs.Time.{TimeOfDay};
-ghost use Rattle.chrono_pattern.specs.Parses.{IsDateBy, IsDateInFront, IsTimeBy, IsTimeInFront};
+ghost use Rattle.chrono_pattern.specs.Parses.{IsDateBy, IsDateInFront, IsMomentBy, IsMomentInFront, IsTimeBy, IsTimeInFront};
 ghost use Rattle.chrono_pattern.specs.TimeParts.{IsClockTime};
 
 use crate::error::PatternReadError;
-use crate::pattern::Pattern;
+use crate::pattern::{Pattern, read_error};
+use crate::reader::reader_of;
 use chrono_datetime::{NaiveDate, NaiveDateTime, NaiveTime};
 
 impl<'a> Pattern<'a> {
@@ -74,20 +75,19 @@ impl<'a> Pattern<'a> {
     /// Pattern::new(b"%F %H").ok()?.parse_date_time(b"2024-02-29 09").err() // Some(PatternReadError { byte: 13, cause: NotEnough })
     /// ```
     pub fn parse_date_time(&self, text: &[u8]) -> Result<NaiveDateTime, PatternReadError>
-        ensures date { IfOk result (λ m. IsDateBy self.now text.now m.date) }
-        ensures time { IfOk result (λ m. IsTimeBy self.now text.now m.time) }
-        ensures every { (m : Moment) → IsDate m.date → IsClockTime m.time → IsDateBy self.now text.now m.date
-            → IsTimeBy self.now text.now m.time → result ≡ Ok m }
+        ensures moment { IfOk result (λ m. IsMomentBy self.now text.now m) }
+        ensures every { (m : Moment) → IsDate m.date → IsClockTime m.time → IsMomentBy self.now text.now m → result ≡ Ok m }
     {
-        match self.read_parts(text) {
-            Ok(parts) => match parts.to_date_time() {
+        let mut reader = reader_of(text);
+        match self.read_into(&mut reader) {
+            Ok(()) => match reader.parsed.to_date_time() {
                 Ok(moment) => Ok(moment),
                 Err(cause) => Err(PatternReadError {
                     byte: text.len(),
                     cause,
                 }),
             },
-            Err(error) => Err(error),
+            Err(stop) => Err(read_error(text, stop)),
         }
     }
 
@@ -171,12 +171,11 @@ impl<'a> Pattern<'a> {
         &self,
         text: &'t [u8],
     ) -> Result<(NaiveDateTime, &'t [u8]), PatternReadError>
-        ensures date { IfOk result (λ r. IsDateInFront self.now text.now r.0.date r.1.now) }
-        ensures time { IfOk result (λ r. IsTimeInFront self.now text.now r.0.time r.1.now) }
-        ensures exists { (m : Moment) → (rest : List ℕ) → IsDate m.date → IsClockTime m.time → IsDateInFront self.now text.now m.date rest
-            → IsTimeInFront self.now text.now m.time rest → IsOk result }
-        ensures only { (m : Moment) → (rest : List ℕ) → IsDate m.date → IsClockTime m.time → IsDateInFront self.now text.now m.date rest
-            → IsTimeInFront self.now text.now m.time rest → IfOk result (λ r. (r.0 ≡ m) × (r.1.now ≡ rest)) }
+        ensures moment { IfOk result (λ r. IsMomentInFront self.now text.now r.0 r.1.now) }
+        ensures exists { (m : Moment) → (rest : List ℕ) → IsDate m.date → IsClockTime m.time → IsMomentInFront self.now text.now m rest
+            → IsOk result }
+        ensures only { (m : Moment) → (rest : List ℕ) → IsDate m.date → IsClockTime m.time → IsMomentInFront self.now text.now m rest
+            → IfOk result (λ r. (r.0 ≡ m) × (r.1.now ≡ rest)) }
     {
         match self.read_front(text) {
             Ok((parts, rest)) => match parts.to_date_time() {

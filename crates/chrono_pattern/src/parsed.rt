@@ -1,8 +1,13 @@
 //! `Parsed`: the numbers that a text gives, by the fields that they are of.
 ghost use Rattle.std.specs.Prelude.{◌≡◌, Ok, Err, IfErr, IfOk};
-ghost use Rattle.chrono_pattern.specs.Parts.{no_parts, part_of, put, part_range, with_part};
+ghost use Rattle.chrono_pattern.specs.Parts.{no_parts, part_of, put, put_stamp, part_range, with_part, with_stamp};
 
 use crate::error::ReadFault;
+
+// The first and the last second of the dates, from 1 January 1970.
+const FIRST_SECOND: i64 = -8_334_601_228_800;
+
+const LAST_SECOND: i64 = 8_210_266_876_799;
 
 // A field of a date-time.
 #[derive(Clone, Copy)]
@@ -25,6 +30,7 @@ pub(crate) enum Part {
     MinuteOfHour,
     SecondOfMinute,
     NanosecondOfSecond,
+    OffsetFromUtc,
 }
 
 /// The numbers that a text gives of a date-time. A field that it does not give is `None`.
@@ -71,6 +77,10 @@ pub struct Parsed {
     pub second: Option<i32>,
     /// The nanoseconds past the second.
     pub nanosecond: Option<i32>,
+    /// The seconds by which local time is ahead of UTC.
+    pub offset: Option<i32>,
+    /// The seconds from 1 January 1970, 00:00:00 UTC.
+    pub timestamp: Option<i64>,
 }
 
 impl Parsed {
@@ -101,6 +111,8 @@ impl Parsed {
             minute: None,
             second: None,
             nanosecond: None,
+            offset: None,
+            timestamp: None,
         }
     }
 
@@ -128,6 +140,7 @@ impl Parsed {
             Part::MinuteOfHour => self.minute,
             Part::SecondOfMinute => self.second,
             Part::NanosecondOfSecond => self.nanosecond,
+            Part::OffsetFromUtc => self.offset,
         }
     }
 
@@ -156,6 +169,7 @@ impl Parsed {
             Part::MinuteOfHour => self.minute = value,
             Part::SecondOfMinute => self.second = value,
             Part::NanosecondOfSecond => self.nanosecond = value,
+            Part::OffsetFromUtc => self.offset = value,
         }
     }
 
@@ -187,6 +201,40 @@ impl Parsed {
             }
         }
     }
+
+    // Gives the seconds from 1970 another value.
+    pub(crate) fn set_stamp(&mut self, value: i64)
+        ensures { self.new ≡ with_stamp value self.old }
+    {
+        self.timestamp = Some(value);
+    }
+
+    // Gives the seconds from 1970. Some date has the second, and all places give the same.
+    #[tactic(auto, unfolding(crate::specs::Parts::put_stamp))]
+    pub(crate) fn put_stamp(&mut self, value: i64) -> Result<(), ReadFault>
+        ensures put { IfOk result (λ u. put_stamp value self.old ≡ Ok self.new) }
+        ensures refused { IfErr result (λ cause. put_stamp value self.old ≡ Err cause) }
+    {
+        if value < FIRST_SECOND {
+            return Err(ReadFault::OutOfRange);
+        }
+        if LAST_SECOND < value {
+            return Err(ReadFault::OutOfRange);
+        }
+        match self.timestamp {
+            None => {
+                self.set_stamp(value);
+                Ok(())
+            }
+            Some(given) => {
+                if given == value {
+                    Ok(())
+                } else {
+                    Err(ReadFault::Impossible)
+                }
+            }
+        }
+    }
 }
 
 // The least and the greatest value of a part that a text may give.
@@ -209,5 +257,6 @@ fn part_range(part: Part) -> (i32, i32)
         Part::MinuteOfHour => (0, 59),
         Part::SecondOfMinute => (0, 60),
         Part::NanosecondOfSecond => (0, 999_999_999),
+        Part::OffsetFromUtc => (-86_399, 86_399),
     }
 }

@@ -1,28 +1,32 @@
 //! `Pattern`: a pattern of texts, which writes date-times and reads parts of them.
-ghost use Rattle.std.specs.Prelude.{◌≡◌, ◌↔◌, ◌&&◌, ◌≤◌, ℕ, List, false, Some, None, Ok, Err, IfErr, IfOk, IfSome, IsOk, IsSome, length};
+ghost use Rattle.std.specs.Prelude.{◌≡◌, ◌↔◌, ◌≤◌, ℕ, List, false, Some, None, Ok, Err, IfErr, IfOk, IfSome, IsOk, IsSome, length};
 ghost use Rattle.chrono_datetime.specs.Moment.{moment};
 ghost use Rattle.chrono_datetime.specs.Time.{TimeOfDay, time_at};
 ghost use Rattle.chrono_pattern.specs.DateParts.{names_date};
 ghost use Rattle.chrono_pattern.specs.NamedParts.{named_parts};
-ghost use Rattle.chrono_pattern.specs.Needs.{needs_time};
-ghost use Rattle.chrono_pattern.specs.Reads.{front_read, read_error, text_read};
+ghost use Rattle.chrono_pattern.specs.Needs.{needs_offset, needs_time};
+ghost use Rattle.chrono_pattern.specs.Reads.{end_read, front_read, read_error, read_from, text_read};
 ghost use Rattle.chrono_pattern.specs.TimeParts.{names_time};
+ghost use Rattle.chrono_pattern.specs.declared.item.State.TheVariants.{Outside};
+ghost use Rattle.chrono_pattern.specs.ZonedParts.{names_moment};
 ghost use Rattle.chrono_pattern.specs.declared.stop.Stop.{Stop};
 ghost use Rattle.chrono_pattern.specs.Patterns.{IsPattern, begun_at, cut_error, pattern_error, pattern_text};
 
 use crate::date_parts::names_date;
+use crate::date_time_parts::names_moment;
 use crate::error::{PatternError, PatternFault, PatternReadError};
 use crate::item::State;
 use crate::named_parts::named_parts;
-use crate::needs::needs_time;
+use crate::needs::{needs_offset, needs_time};
 use crate::parsed::Parsed;
-use crate::reader::{read_front, read_text};
+use crate::reader::{Reader, read_front, read_text, reader_of};
 use crate::step::pattern_step;
 use crate::stop::Stop;
 use crate::time_parts::names_time;
 use crate::writer::text_of;
 use chrono_datetime::{NaiveDate, NaiveDateTime, NaiveTime};
 use chrono_text::Text;
+use chrono_zoned::FixedOffset;
 use std::marker::Model;
 
 /// A pattern of texts: bytes that are written as they are, and specifiers, which begin with `%`.
@@ -37,7 +41,9 @@ use std::marker::Model;
 /// ```
 #[derive(Drop)]
 pub struct Pattern<'a> {
-    bytes: &'a [u8],
+    pub(crate) bytes: &'a [u8],
+    // Whether the pattern has a specifier of the offset from UTC.
+    is_zoned: bool,
 }
 
 impl<'a> Model for Pattern<'a> {
@@ -45,7 +51,7 @@ impl<'a> Model for Pattern<'a> {
 
     ghost view = { λ p. p.bytes.now };
 
-    ghost invariant = { λ p. IsPattern p.bytes.now };
+    ghost invariant = { λ p. IsPattern p.bytes.now × (p.is_zoned ≡ needs_offset p.bytes.now) };
 }
 
 impl<'a> Pattern<'a> {
@@ -77,33 +83,61 @@ impl<'a> Pattern<'a> {
     /// | `%F` `%D` `%T` `%R` | `%Y-%m-%d`, `%m/%d/%y`, `%H:%M:%S`, `%H:%M` |
     /// | `%x` `%X` `%r` | `%m/%d/%y`, `%H:%M:%S`, `%I:%M:%S %p` |
     /// | `%c` `%v` | `%a %b %e %H:%M:%S %Y`, `%e-%b-%Y` |
+    /// | `%z` `%:z` `%::z` `%:::z` | offset from UTC: `+0930`, `+09:30`, `+09:30:00`, `+09` |
+    /// | `%#z` `%Z` | as `%z`, but a text may leave the minutes out; as `%:z`, with the seconds of the offset if there are any |
+    /// | `%s` | seconds from 1970-01-01T00:00:00 UTC, with a sign if they are below 0 |
+    /// | `%+` | `%Y-%m-%dT%H:%M:%S%.f%:z` (RFC 3339) |
     /// | `%n` `%t` `%%` | line feed, tab, `%` |
     ///
-    /// Before a number, `-` asks for no padding, `_` for spaces, and `0` for zeros: `%-d`.
+    /// Before a number, `-` asks for no padding, `_` for spaces, and `0` for zeros: `%-d`. They change nothing at `%s`.
+    ///
+    /// What is smaller than the last number of an offset is left out, as GNU date does. Such an offset keeps its sign: half a minute behind
+    /// UTC is `-0000`. In chrono a pattern with `%#z` only reads. Here it writes too, so that each pattern writes each zoned date-time.
     pub fn new(bytes: &'a [u8]) -> Result<Pattern<'a>, PatternError>
         ensures bytes { IfOk result (λ p. p ≡ bytes.now) }
         ensures exists { IsOk result ↔ IsPattern bytes.now }
         ensures error { IfErr result (λ e. pattern_error bytes.now ≡ Some e) }
     {
         match pattern_error(bytes) {
-            None => Ok(Pattern { bytes }),
+            None => Ok(Pattern {
+                bytes,
+                is_zoned: needs_offset(bytes),
+            }),
             Some(error) => Err(error),
         }
     }
 
-    /// Returns the text of `moment`. Returns `None` if it has more than `N` bytes.
+    /// Returns the text of `moment`. Returns `None` if the pattern needs an offset, or if the text has more than `N` bytes.
+    ///
+    /// The seconds from 1970, `%s`, are those of UTC where the date-time is of UTC.
     ///
     /// ```
     /// use chrono_datetime::{AndTime, NaiveDate};
     /// let moment = NaiveDate::from_ymd_opt(2024, 2, 29)?.and_hms_opt(9, 30, 0)?;
     /// Pattern::new(b"%I%p").ok()?.format::<8>(moment)?.as_bytes() // [48, 57, 65, 77]
     /// Pattern::new(b"%F").ok()?.format::<8>(moment).is_none() // true
+    /// Pattern::new(b"%R%z").ok()?.format::<16>(moment).is_none() // true
     /// ```
     pub fn format<const N: usize>(&self, moment: NaiveDateTime) -> Option<Text<N>>
         ensures text { IfSome result (λ text. text ≡ pattern_text self.now moment) }
-        ensures exists { IsSome result ↔ (length (pattern_text self.now moment) ≤ N) }
+        ensures exists { IsSome result ↔ ((needs_offset self.now ≡ false) × (length (pattern_text self.now moment) ≤ N)) }
     {
-        text_of(self.bytes, moment)
+        if self.is_zoned {
+            return None;
+        }
+        text_of(self.bytes, moment, FixedOffset::east_opt(0).unwrap())
+    }
+
+    /// Returns whether the pattern has a specifier of the offset from UTC, such as `%z` or `%+`. Then only a zoned date-time has a text.
+    ///
+    /// ```
+    /// Pattern::new(b"%F %T %:z").ok()?.needs_offset() // true
+    /// Pattern::new(b"%s").ok()?.needs_offset() // false
+    /// ```
+    pub fn needs_offset(&self) -> bool
+        ensures { result ≡ needs_offset self.now }
+    {
+        self.is_zoned
     }
 
     /// Returns whether the pattern has a specifier of the time of day, such as `%H` or `%p`.
@@ -145,17 +179,18 @@ impl<'a> Pattern<'a> {
         names_time(named_parts(self.bytes))
     }
 
-    /// Returns whether the specifiers of the pattern name both a date and a time of day.
+    /// Returns whether the specifiers of the pattern name a date-time, as [`Parsed::to_date_time`] says: both a date and a time of day, or
+    /// the seconds from 1970.
     ///
     /// ```
     /// Pattern::new(b"%F %R").ok()?.names_date_time() // true
     /// Pattern::new(b"%F %H").ok()?.names_date_time() // false
+    /// Pattern::new(b"%s").ok()?.names_date_time() // true
     /// ```
     pub fn names_date_time(&self) -> bool
-        ensures { result ≡ (names_date (named_parts self.now) && names_time (named_parts self.now)) }
+        ensures { result ≡ names_moment (named_parts self.now) }
     {
-        let parts = named_parts(self.bytes);
-        names_date(parts) && names_time(parts)
+        names_moment(named_parts(self.bytes))
     }
 
     /// Returns the parts that `text` gives.
@@ -165,7 +200,15 @@ impl<'a> Pattern<'a> {
     ///   may have a sign, and then at most nine.
     /// - `%f` is a number of nanoseconds. `%.f` and its like are a point and any digits behind it, or nothing.
     /// - Names are in letters of any case. `%B` and `%A` read three letters too.
+    /// - `%z` and `%:z` are a sign, hours of two digits, and minutes below 60 of two digits. Any colons and blanks may be between them, and
+    ///   none have to be. `%::z` also reads a colon and seconds, if a colon is there. `%:::z` and `%#z` may have no minutes: if no digit is
+    ///   behind the colons and blanks, these are left alone. An offset is less than a day.
+    /// - `%#z` also reads `Z` or `z`, which is UTC. `%Z` reads all bytes up to a blank, and gives nothing.
+    /// - `%s` may have a sign. It has any digits, at most 18, and is a second of some date.
+    /// - `%+` is read as `%F`, then `T`, `t` or a space, then `%T%.f%:z`. `Z`, `z` or `UTC` in any case may be in place of the offset.
     /// - A field that stands twice has the same value in both places.
+    ///
+    /// chrono 0.4.23 writes more than it reads: it reads no seconds of `%::z`, no `%:::z` without minutes, and no `%s` below 0.
     ///
     /// # Errors
     ///
@@ -181,8 +224,9 @@ impl<'a> Pattern<'a> {
         ensures parts { IfOk result (λ p. text_read self.now text.now ≡ Ok p) }
         ensures error { IfErr result (λ e. (stop : Stop) × (text_read self.now text.now ≡ Err stop) × (e ≡ read_error text.now stop)) }
     {
-        match read_text(self.bytes, text) {
-            Ok(parsed) => Ok(parsed),
+        let mut reader = reader_of(text);
+        match read_text(self.bytes, &mut reader) {
+            Ok(()) => Ok(reader.parsed),
             Err(stop) => Err(read_error(text, stop)),
         }
     }
@@ -205,13 +249,23 @@ impl<'a> Pattern<'a> {
         ensures parts { IfOk result (λ r. front_read self.now text.now ≡ Ok (record { rest = r.1.now; parsed = r.0 })) }
         ensures error { IfErr result (λ e. (stop : Stop) × (front_read self.now text.now ≡ Err stop) × (e ≡ read_error text.now stop)) }
     {
-        match read_front(self.bytes, text) {
-            Ok(reader) => Ok((reader.parsed, reader.rest)),
+        let mut reader = reader_of(text);
+        match read_front(self.bytes, &mut reader) {
+            Ok(()) => Ok((reader.parsed, reader.rest)),
             Err(stop) => Err(read_error(text, stop)),
         }
     }
 
-    /// Returns the text of `date`. Returns `None` if the pattern needs a time of day, or if the text has more than `N` bytes.
+    // Reads a whole text into the parts of a reader.
+    #[inline(always)]
+    pub(crate) fn read_into(&self, reader: &mut Reader<'_>) -> Result<(), Stop>
+        ensures read { IfOk result (λ u. end_read (read_from Outside self.now reader.old) ≡ Ok reader.new.parsed) }
+        ensures stop { IfErr result (λ e. end_read (read_from Outside self.now reader.old) ≡ Err e) }
+    {
+        read_text(self.bytes, reader)
+    }
+
+    /// Returns the text of `date`. Returns `None` if the pattern needs a time of day or an offset, or if the text has more than `N` bytes.
     ///
     /// ```
     /// use chrono_datetime::NaiveDate;
@@ -222,7 +276,7 @@ impl<'a> Pattern<'a> {
     pub fn format_date<const N: usize>(&self, date: NaiveDate) -> Option<Text<N>>
         // The text is the same at each time of the day.
         ensures text { IfSome result (λ text. (t : TimeOfDay) → text ≡ pattern_text self.now (moment date t)) }
-        ensures exists { IsSome result ↔ ((needs_time self.now ≡ false)
+        ensures exists { IsSome result ↔ ((needs_time self.now ≡ false) × (needs_offset self.now ≡ false)
             × (length (pattern_text self.now (moment date (time_at 0 0 0 0))) ≤ N)) }
     {
         if self.needs_time() {
@@ -233,7 +287,7 @@ impl<'a> Pattern<'a> {
 }
 
 // The error of a text by where a reader stopped.
-fn read_error(text: &[u8], stop: Stop) -> PatternReadError
+pub(crate) fn read_error(text: &[u8], stop: Stop) -> PatternReadError
     ensures { result ≡ read_error text.now stop }
 {
     PatternReadError {
@@ -271,7 +325,7 @@ fn cut_error(state: State, begun: usize) -> Option<PatternError>
 {
     match state {
         State::Outside => None,
-        State::Opened(_) | State::Digits(_, _) => Some(PatternError {
+        State::Opened(_) | State::Digits(_, _) | State::Marked(_) => Some(PatternError {
             byte: begun,
             cause: PatternFault::Cut,
         }),
@@ -284,6 +338,6 @@ fn begun_at(state: State, begun: usize, place: usize) -> usize
 {
     match state {
         State::Outside => place,
-        State::Opened(_) | State::Digits(_, _) => begun,
+        State::Opened(_) | State::Digits(_, _) | State::Marked(_) => begun,
     }
 }

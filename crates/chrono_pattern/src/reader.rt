@@ -1,16 +1,18 @@
 //! Reads the items of a pattern from the front of a text.
 ghost use Rattle.std.specs.Prelude.{◌≡◌, ◌≤◌, Ok, Err, IfErr, IfOk, length};
-ghost use Rattle.chrono_pattern.specs.ItemReads.{behind_read, clock_year_read, day_read, group_read, half_clock_read, item_read, short_date_read, three_read, two_read, word_behind_read};
+ghost use Rattle.chrono_pattern.specs.ItemReads.{behind_read, between_read, clock_year_read, day_read, group_read, half_clock_read, iso_offset_read, iso_read, item_read, short_date_read, three_read, two_read, word_behind_read, zoned_read};
+ghost use Rattle.chrono_pattern.specs.Parts.{no_parts};
 ghost use Rattle.chrono_pattern.specs.Progress.{Progress, byte_read, literal_read, put_behind};
-ghost use Rattle.chrono_pattern.specs.Reads.{front_read, read_from, text_read};
+ghost use Rattle.chrono_pattern.specs.Reads.{end_read, read_from};
 ghost use Rattle.chrono_pattern.specs.declared.item.State.TheVariants.{Outside};
 
 use crate::class::{Class, is_of, skip_blanks};
 use crate::error::ReadFault;
-use crate::item::{GroupField, Item, NumberField, State, WordField};
+use crate::front_item::front_item;
+use crate::item::{GroupField, Item, NumberField, OffsetForm, WordField, ZonedField};
 use crate::number_reader::read_number;
+use crate::offset_reader::{read_name, read_offset, read_stamp, read_utc_or_offset};
 use crate::parsed::{Parsed, Part};
-use crate::step::pattern_step;
 use crate::stop::{Stop, stopped};
 use crate::subsecond_reader::read_subsecond;
 use crate::word_reader::read_word;
@@ -182,6 +184,7 @@ fn read_clock_year(reader: &mut Reader<'_>) -> Result<(), Stop>
 }
 
 // Reads the numbers and the words of a group.
+#[inline(never)]
 #[tactic(auto, unfolding(crate::specs::ItemReads::group_read))]
 fn read_group(reader: &mut Reader<'_>, group: GroupField) -> Result<(), Stop>
     ensures read { IfOk result (λ u. group_read group reader.old ≡ Ok reader.new) }
@@ -220,6 +223,7 @@ fn read_group(reader: &mut Reader<'_>, group: GroupField) -> Result<(), Stop>
 }
 
 // Reads an item.
+#[inline(always)]
 fn read_item(reader: &mut Reader<'_>, item: Item) -> Result<(), Stop>
     ensures read { IfOk result (λ u. item_read item reader.old ≡ Ok reader.new) }
     ensures stop { IfErr result (λ e. item_read item reader.old ≡ Err e) }
@@ -231,49 +235,101 @@ fn read_item(reader: &mut Reader<'_>, item: Item) -> Result<(), Stop>
         Item::Word(word) => read_word(reader, word),
         Item::Group(group) => read_group(reader, group),
         Item::Subsecond(point, count) => read_subsecond(reader, point, count),
+        Item::Zoned(field) => read_zoned(reader, field),
     }
 }
 
-// Reads the front of a text by the bytes of a pattern.
-pub(crate) fn read_front<'a>(bytes: &[u8], text: &'a [u8]) -> Result<Reader<'a>, Stop>
-    ensures { result ≡ front_read bytes.now text.now }
+// Reads an offset, a name of a zone, the seconds from 1970, or a date and a time of day with an offset.
+fn read_zoned(reader: &mut Reader<'_>, field: ZonedField) -> Result<(), Stop>
+    ensures read { IfOk result (λ u. zoned_read field reader.old ≡ Ok reader.new) }
+    ensures stop { IfErr result (λ e. zoned_read field reader.old ≡ Err e) }
 {
-    let start = Reader {
+    match field {
+        ZonedField::Offset(form) => read_offset(reader, form),
+        ZonedField::ZoneName => read_name(reader),
+        ZonedField::Stamp => read_stamp(reader),
+        ZonedField::Iso8601 => read_iso(reader),
+    }
+}
+
+// Reads a date, a time of day, a fraction or none, and an offset.
+#[tactic(auto, unfolding(crate::specs::ItemReads::iso_read))]
+fn read_iso(reader: &mut Reader<'_>) -> Result<(), Stop>
+    ensures read { IfOk result (λ u. iso_read reader.old ≡ Ok reader.new) }
+    ensures stop { IfErr result (λ e. iso_read reader.old ≡ Err e) }
+{
+    read_group(reader, GroupField::YearMonthDay)?;
+    read_between(reader)?;
+    read_group(reader, GroupField::HourMinuteSecond)?;
+    read_subsecond(reader, true, 0)?;
+    read_iso_offset(reader)
+}
+
+// Reads the byte between a date and a time of day.
+fn read_between(reader: &mut Reader<'_>) -> Result<(), Stop>
+    ensures read { IfOk result (λ u. between_read reader.old ≡ Ok reader.new) }
+    ensures stop { IfErr result (λ e. between_read reader.old ≡ Err e) }
+{
+    let text = reader.rest;
+    match text.split_first() {
+        None => Err(stopped(ReadFault::TooShort, text)),
+        Some((first, rest)) => {
+            if *first == b'T' || *first == b't' || *first == b' ' {
+                reader.rest = rest;
+                Ok(())
+            } else {
+                Err(stopped(ReadFault::Invalid, text))
+            }
+        }
+    }
+}
+
+// Reads an offset or a name of UTC, behind blanks or none.
+fn read_iso_offset(reader: &mut Reader<'_>) -> Result<(), Stop>
+    ensures read { IfOk result (λ u. iso_offset_read reader.old ≡ Ok reader.new) }
+    ensures stop { IfErr result (λ e. iso_offset_read reader.old ≡ Err e) }
+{
+    let text = skip_blanks(reader.rest);
+    read_utc_or_offset(reader, text, true, OffsetForm::Colon)
+}
+
+// A reader in front of a text.
+#[inline(always)]
+pub(crate) fn reader_of(text: &[u8]) -> Reader<'_>
+    ensures { result ≡ record { rest = text.now; parsed = no_parts } }
+{
+    Reader {
         rest: text,
         parsed: Parsed::new(),
-    };
-    read_by(bytes, start)
+    }
 }
 
 // Reads a whole text by the bytes of a pattern.
-pub(crate) fn read_text(bytes: &[u8], text: &[u8]) -> Result<Parsed, Stop>
-    ensures { result ≡ text_read bytes.now text.now }
+#[inline(always)]
+pub(crate) fn read_text(bytes: &[u8], reader: &mut Reader<'_>) -> Result<(), Stop>
+    ensures read { IfOk result (λ u. end_read (read_from Outside bytes.now reader.old) ≡ Ok reader.new.parsed) }
+    ensures stop { IfErr result (λ e. end_read (read_from Outside bytes.now reader.old) ≡ Err e) }
 {
-    let reader = read_front(bytes, text)?;
+    read_front(bytes, reader)?;
     if reader.rest.is_empty() {
-        Ok(reader.parsed)
+        Ok(())
     } else {
         Err(stopped(ReadFault::TooLong, reader.rest))
     }
 }
 
-// Reads the items of a pattern.
-fn read_by<'a>(bytes: &[u8], start: Reader<'a>) -> Result<Reader<'a>, Stop>
-    ensures { result ≡ read_from Outside bytes.now start.entry }
+// Reads the front of a text by the bytes of a pattern.
+pub(crate) fn read_front(bytes: &[u8], reader: &mut Reader<'_>) -> Result<(), Stop>
+    ensures read { IfOk result (λ u. read_from Outside bytes.now reader.old ≡ Ok reader.new) }
+    ensures stop { IfErr result (λ e. read_from Outside bytes.now reader.old ≡ Err e) }
 {
-    let mut reader = start;
-    let mut state = State::Outside;
     let mut rest = bytes;
-    while let Some((byte, behind)) = rest.split_first() {
-        let Some(next) = pattern_step(state, *byte) else {
-            return Ok(reader);
-        };
-        match read_item(&mut reader, next.1) {
+    while let Some((item, behind)) = front_item(rest) {
+        match read_item(reader, item) {
             Ok(()) => {}
             Err(stop) => return Err(stop),
         }
-        state = next.0;
         rest = behind;
     }
-    Ok(reader)
+    Ok(())
 }

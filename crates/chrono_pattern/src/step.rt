@@ -1,8 +1,10 @@
 //! Reads a pattern byte by byte.
 ghost use Rattle.std.specs.Prelude.{◌≡◌};
-ghost use Rattle.chrono_pattern.specs.PatternSteps.{date_number_at, digits_at, digits_step, group_at, grouped_step, named_step, opened_step, padding_at, pattern_step, single_step, time_number_at, timed_step, unless_padded, unpadded_step, word_at};
+ghost use Rattle.chrono_pattern.specs.PatternSteps.{date_number_at, colon_step, digits_at, digits_step, group_at, grouped_step, marked_step, named_step, opened_step, padding_at, pattern_step, single_step, stamped_step, time_number_at, timed_step, unless_padded, unpadded_step, with_colon, word_at, zoned_step};
 
-use crate::item::{GroupField, Item, NumberField, Padding, State, WordField};
+use crate::item::{
+    GroupField, Item, NumberField, OffsetForm, Padding, State, WordField, ZonedField,
+};
 
 // Where a reader stands behind a byte, and what the byte writes. Nothing if no pattern has the byte there.
 pub(crate) fn pattern_step(state: State, byte: u8) -> Option<(State, Item)>
@@ -18,13 +20,14 @@ pub(crate) fn pattern_step(state: State, byte: u8) -> Option<(State, Item)>
         }
         State::Opened(padding) => opened_step(padding, byte),
         State::Digits(point, count) => digits_step(point, count, byte),
+        State::Marked(form) => marked_step(form, byte),
     }
 }
 
 // The same behind `%` and a padding or none.
 #[inline(always)]
 #[tactic(auto, unfolding(crate::specs::PatternSteps::opened_step))]
-fn opened_step(padding: Padding, byte: u8) -> Option<(State, Item)>
+pub(crate) fn opened_step(padding: Padding, byte: u8) -> Option<(State, Item)>
     ensures { result ≡ opened_step padding byte }
 {
     match date_number_at(byte) {
@@ -40,7 +43,19 @@ fn timed_step(padding: Padding, byte: u8) -> Option<(State, Item)>
 {
     match time_number_at(byte) {
         Some(number) => Some((State::Outside, Item::Number(number, padding))),
-        None => unless_padded(padding, byte),
+        None => stamped_step(padding, byte),
+    }
+}
+
+// The same where the byte names no number of a time of day.
+#[inline(always)]
+fn stamped_step(padding: Padding, byte: u8) -> Option<(State, Item)>
+    ensures { result ≡ stamped_step padding byte }
+{
+    if byte == b's' {
+        Some((State::Outside, Item::Zoned(ZonedField::Stamp)))
+    } else {
+        unless_padded(padding, byte)
     }
 }
 
@@ -103,7 +118,68 @@ fn single_step(byte: u8) -> Option<(State, Item)>
     } else if byte == b'.' {
         Some((State::Digits(true, 0), Item::Empty))
     } else {
+        zoned_step(byte)
+    }
+}
+
+// The same where the byte may stand for an offset or a name of a zone, or be the first mark of an offset.
+#[inline(always)]
+fn zoned_step(byte: u8) -> Option<(State, Item)>
+    ensures { result ≡ zoned_step byte }
+{
+    if byte == b'z' {
+        Some((
+            State::Outside,
+            Item::Zoned(ZonedField::Offset(OffsetForm::Plain)),
+        ))
+    } else if byte == b'Z' {
+        Some((State::Outside, Item::Zoned(ZonedField::ZoneName)))
+    } else if byte == b'+' {
+        Some((State::Outside, Item::Zoned(ZonedField::Iso8601)))
+    } else if byte == b':' {
+        Some((State::Marked(OffsetForm::Colon), Item::Empty))
+    } else if byte == b'#' {
+        Some((State::Marked(OffsetForm::Loose), Item::Empty))
+    } else {
         digits_at(false, byte)
+    }
+}
+
+// The same behind the marks of an offset.
+#[inline(always)]
+fn marked_step(form: OffsetForm, byte: u8) -> Option<(State, Item)>
+    ensures { result ≡ marked_step form byte }
+{
+    if byte == b'z' {
+        Some((State::Outside, Item::Zoned(ZonedField::Offset(form))))
+    } else if byte == b':' {
+        colon_step(form)
+    } else {
+        None
+    }
+}
+
+// The same where the byte is a colon.
+#[inline(always)]
+fn colon_step(form: OffsetForm) -> Option<(State, Item)>
+    ensures { result ≡ colon_step form }
+{
+    match with_colon(form) {
+        Some(more) => Some((State::Marked(more), Item::Empty)),
+        None => None,
+    }
+}
+
+// The marks of an offset with one more colon.
+#[inline(always)]
+fn with_colon(form: OffsetForm) -> Option<OffsetForm>
+    ensures { result ≡ with_colon form }
+{
+    match form {
+        OffsetForm::Plain => Some(OffsetForm::Colon),
+        OffsetForm::Colon => Some(OffsetForm::Seconds),
+        OffsetForm::Seconds => Some(OffsetForm::Hours),
+        OffsetForm::Hours | OffsetForm::Loose => None,
     }
 }
 

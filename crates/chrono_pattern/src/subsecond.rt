@@ -8,6 +8,7 @@ use chrono_text::{NANOS_PER_MICRO, NANOS_PER_MILLI, NANOS_PER_SEC, Text};
 
 // Puts so many digits of the fraction of a second, or as few as hold it for 0. A point may be before them.
 #[tactic(auto, unfolding(crate::specs::Subseconds::subsecond_of))]
+#[inline(never)]
 pub(crate) fn put_subsecond<const N: usize>(
     text: &mut Text<N>,
     point: bool,

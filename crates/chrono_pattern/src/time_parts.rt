@@ -1,11 +1,11 @@
 //! The time of day, and the date-time, that the parts of a text give.
-ghost use Rattle.std.specs.Prelude.{◌≡◌, ◌↔◌, ◌+◌, ◌/◌, ◌%◌, true, false, Ok, Err, Some, IfOk};
+ghost use Rattle.std.specs.Prelude.{◌≡◌, ◌↔◌, ◌+◌, ◌/◌, ◌%◌, ℕ, pos, true, false, Ok, Err, Some, IfOk, IfSome};
 ghost use Rattle.chrono_datetime.specs.Duration.{nanos_per_second};
 ghost use Rattle.chrono_datetime.specs.Time.{TimeOfDay, hour_of, minute_of, second_of};
-ghost use Rattle.chrono_pattern.specs.TimeParts.{IsClockTime, clock_fits, counts, names_second, names_time, second_fits, size_or_zero, time_fits};
+ghost use Rattle.chrono_pattern.specs.TimeParts.{IsClockTime, clock_fits, counts, names_second, names_time, size_or_zero, time_fits};
 ghost use Rattle.chrono_pattern.specs.declared.error.ReadFault.TheVariants.{NotEnough};
 
-use crate::date_parts::says;
+use crate::date_parts::{natural, says};
 use crate::error::ReadFault;
 use crate::parsed::Parsed;
 use chrono_datetime::{NaiveTime, Timelike};
@@ -33,18 +33,11 @@ impl Parsed {
         ensures every { (t : TimeOfDay) → IsClockTime t → names_time self.now ≡ true → time_fits self.now t ≡ true → result ≡ Ok t }
         ensures not_enough { (result ≡ Err NotEnough) ↔ (names_time self.now ≡ false) }
     {
-        let parts = *self;
-        if !names_time(parts) {
+        if !names_time(*self) {
             return Err(ReadFault::NotEnough);
         }
-        match named_time(parts) {
-            Some(time) => {
-                if fits_time(parts, time) {
-                    Ok(time)
-                } else {
-                    Err(ReadFault::Impossible)
-                }
-            }
+        match named_time(*self) {
+            Some(time) => Ok(time),
             None => Err(ReadFault::Impossible),
         }
     }
@@ -73,7 +66,7 @@ fn names_second(parts: Parsed) -> bool
 }
 
 // Whether a part is this value, or is not given and the value is 0.
-fn counts(part: Option<i32>, value: i32) -> bool
+pub(crate) fn counts(part: Option<i32>, value: i32) -> bool
     ensures { result ≡ counts part value }
 {
     match part {
@@ -82,17 +75,9 @@ fn counts(part: Option<i32>, value: i32) -> bool
     }
 }
 
-// Whether a time of day fits all parts.
-#[tactic(auto, unfolding(crate::specs::TimeParts::time_fits))]
-fn fits_time(parts: Parsed, time: NaiveTime) -> bool
-    ensures { result ≡ time_fits parts time }
-{
-    fits_clock(parts, time) && fits_second(parts, time)
-}
-
 // Whether the hour and the minute fit.
 #[tactic(auto, unfolding(crate::specs::TimeParts::clock_fits))]
-fn fits_clock(parts: Parsed, time: NaiveTime) -> bool
+pub(crate) fn fits_clock(parts: Parsed, time: NaiveTime) -> bool
     ensures { result ≡ clock_fits parts time }
 {
     says(parts.hour_div_12, (time.hour() / 12) as i32)
@@ -100,35 +85,34 @@ fn fits_clock(parts: Parsed, time: NaiveTime) -> bool
         && says(parts.minute, time.minute() as i32)
 }
 
-// Whether the second and its fraction fit.
-#[tactic(auto, unfolding(crate::specs::TimeParts::second_fits))]
-fn fits_second(parts: Parsed, time: NaiveTime) -> bool
-    ensures { result ≡ second_fits parts time }
+// The time of day that the parts name, if they name one. It fits them all.
+#[inline(always)]
+fn named_time(parts: Parsed) -> Option<NaiveTime>
+    ensures fits { IfSome result (λ t. time_fits parts t ≡ true) }
+    ensures every { (t : TimeOfDay) → IsClockTime t → names_time parts ≡ true → time_fits parts t ≡ true → result ≡ Some t }
 {
-    counts(
-        parts.second,
-        (time.second() + time.nanosecond() / NANOS_PER_SEC) as i32,
-    ) && counts(parts.nanosecond, (time.nanosecond() % NANOS_PER_SEC) as i32)
+    let half = natural(parts.hour_div_12)?;
+    let hour = natural(parts.hour_mod_12)?;
+    let minute = natural(parts.minute)?;
+    let second = natural_or_zero(parts.second)?;
+    let nanos = natural_or_zero(parts.nanosecond)?;
+    clock_time(half, hour, minute, second, nanos)
 }
 
-// The time of day that the parts name, if they name one.
-fn named_time(parts: Parsed) -> Option<NaiveTime>
-    ensures { (t : TimeOfDay) → IsClockTime t → names_time parts ≡ true → time_fits parts t ≡ true → result ≡ Some t }
+// A part that is no number below 0, and 0 if it is not given.
+#[inline(always)]
+fn natural_or_zero(part: Option<i32>) -> Option<u32>
+    ensures value { IfSome result (λ n. counts part (pos n) ≡ true) }
+    ensures every { (n : ℕ) → counts part (pos n) ≡ true → result ≡ Some n }
 {
-    let half = parts.hour_div_12?;
-    let hour = parts.hour_mod_12?;
-    let minute = parts.minute?;
-    clock_time(
-        half.unsigned_abs(),
-        hour.unsigned_abs(),
-        minute.unsigned_abs(),
-        size_or_zero(parts.second),
-        size_or_zero(parts.nanosecond),
-    )
+    match part {
+        None => Some(0),
+        Some(_) => natural(part),
+    }
 }
 
 // The size of a part, and 0 if it is not given.
-fn size_or_zero(part: Option<i32>) -> u32
+pub(crate) fn size_or_zero(part: Option<i32>) -> u32
     ensures { result ≡ size_or_zero part }
 {
     match part {
@@ -138,9 +122,15 @@ fn size_or_zero(part: Option<i32>) -> u32
 }
 
 // The time of day that a clock shows so, second 60 in a leap second.
+#[inline(always)]
 fn clock_time(half: u32, hour: u32, minute: u32, second: u32, nanos: u32) -> Option<NaiveTime>
-    ensures { (t : TimeOfDay) → IsClockTime t → half ≡ hour_of t / 12 → hour ≡ hour_of t % 12 → minute ≡ minute_of t
+    ensures every { (t : TimeOfDay) → IsClockTime t → half ≡ hour_of t / 12 → hour ≡ hour_of t % 12 → minute ≡ minute_of t
         → second ≡ second_of t + t.fraction / nanos_per_second → nanos ≡ t.fraction % nanos_per_second → result ≡ Some t }
+    ensures half { IfSome result (λ t. half ≡ hour_of t / 12) }
+    ensures hour { IfSome result (λ t. hour ≡ hour_of t % 12) }
+    ensures minute { IfSome result (λ t. minute ≡ minute_of t) }
+    ensures second { IfSome result (λ t. second ≡ second_of t + t.fraction / nanos_per_second) }
+    ensures nanos { IfSome result (λ t. nanos ≡ t.fraction % nanos_per_second) }
 {
     if half > 1 || hour > 11 || second > 60 || nanos >= NANOS_PER_SEC {
         return None;

@@ -12,6 +12,7 @@ use chrono_text::Text;
 
 // Puts a word of a date-time.
 #[tactic(auto, unfolding(crate::specs::Words::word_text))]
+#[inline(never)]
 pub(crate) fn put_word<const N: usize>(text: &mut Text<N>, word: WordField, moment: NaiveDateTime)
     requires room { length text.old + 9 ≤ N }
     ensures text { text.new ≡ text.old ++ word_text word moment }

@@ -1,5 +1,9 @@
+use Rattle.std.proofs.Common.{pos, arith}
 use Rattle.chrono_pattern.proofs.AsciiLemmas.{ascii_text}
 use Rattle.chrono_pattern.proofs.law.ascii_patterns_write_ascii.Goals as goal
 
-pub returns : goal.returns
-returns c = ascii_text
+pub returns-clause-utc : goal.returns-clause-utc
+returns-clause-utc c bytes m are date time = ascii_text bytes m (pos 0) (omega arith) are date time
+
+pub returns-clause-zoned : goal.returns-clause-zoned
+returns-clause-zoned c bytes m x near are date time = ascii_text bytes m x near are date time

@@ -30,3 +30,15 @@ returns-clause-digits c = refl
 pub returns-clause-none : goal.returns-clause-none
 unfolding error_from opened_step unpadded_step date_number_at time_number_at word_at group_at
 returns-clause-none c = refl
+
+pub returns-clause-colons : goal.returns-clause-colons
+unfolding error_from opened_step unpadded_step date_number_at time_number_at word_at group_at
+returns-clause-colons c = refl
+
+pub returns-clause-cut_colon : goal.returns-clause-cut_colon
+unfolding error_from opened_step unpadded_step date_number_at time_number_at word_at group_at
+returns-clause-cut_colon c = refl
+
+pub returns-clause-zoned : goal.returns-clause-zoned
+unfolding error_from opened_step unpadded_step date_number_at time_number_at word_at group_at
+returns-clause-zoned c = refl

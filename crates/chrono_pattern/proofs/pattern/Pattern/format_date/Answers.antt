@@ -1,4 +1,4 @@
-use Rattle.std.proofs.Common.{ap, sym, ◌∙◌}
+use Rattle.std.proofs.Common.{ap, pos, sym, ◌∙◌}
 use Rattle.std.proofs.lemmas.Option.{IfSome_then}
 use Rattle.chrono_datetime.specs.Moment.{Moment}
 use Rattle.chrono_pattern.specs.Patterns.{pattern_text}
@@ -11,4 +11,4 @@ returns-clause-text g c =
     let bytes = c.args.self.now in
     let none = sym c.needs_time.ensures ∙ c.if-needs_time.false in
     IfSome_then c.format.result c.format.ensures.text (λ text is t.
-    is ∙ ap (λ (m : Moment). pattern_text bytes m) c.new.ensures ∙ timeless bytes c.args.date _ t Outside none)
+    is ∙ ap (λ (m : Moment). pattern_text bytes m) c.new.ensures ∙ timeless bytes c.args.date _ t (pos 0) Outside none)
