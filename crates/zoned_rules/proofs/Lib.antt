@@ -1,0 +1,7 @@
+mod Standing
+mod Fitting
+mod ListedTimes
+mod Reached
+mod Numbered
+mod PublicCalls
+mod Laws

@@ -1,0 +1,4 @@
+pub mod LocalTimes
+pub mod LocalInstants
+pub mod Recurs
+pub mod Private
