@@ -5,3 +5,4 @@ mod Reached
 mod Numbered
 mod PublicCalls
 mod Laws
+mod GivenInstances

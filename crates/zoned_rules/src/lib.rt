@@ -27,4 +27,5 @@ pub use chrono_zoned::{DateTime, FixedOffset, InZone, TimeZone};
 pub use day_times::DayTimes;
 pub use local_instant::instant_of;
 pub use local_rule::LocalRule;
+pub use search::zoned_instances::ZonedInstances;
 pub use zoned_rule::ZonedRule;

@@ -3,3 +3,4 @@
 pub(crate) mod days;
 pub(crate) mod instants;
 mod times;
+pub(crate) mod zoned_instances;

@@ -1,11 +1,15 @@
 //! `ZonedRule`: a rule in a zone, and the instants at which it recurs.
-ghost use Rattle.std.specs.Prelude.{◌≡◌, ◌↔◌, ◌<◌, pos, neg_ℤ, ◌+ℤ◌, ◌≤ℤ◌, IfNone, IfSome, IsTrue};
+ghost use Rattle.std.specs.Prelude.{◌≡◌, ◌↔◌, ◌<◌, ◌≤◌, pos, neg_ℤ, ◌+ℤ◌, ◌≤ℤ◌, IfNone, IfSome, IsTrue, List, Some};
+ghost use Rattle.std.specs.Iterator.{Drains};
 ghost use Rattle.chrono_datetime.specs.Moment.{IsBefore, IsMoment};
 ghost use Rattle.chrono_instant.specs.Instants.{epoch_second};
+ghost use Rattle.chrono_zoned.specs.Zoned.{Zoned};
+ghost use Rattle.zoned_rules.specs.ZonedInstanceLists.{AreZonedInstances, GivesInstance, seconds_behind};
 ghost use Rattle.zoned_rules.specs.Recurs.{IsInstanceAt, NoInstanceAfter, NoInstanceBefore, NoInstanceBetween};
 
 use crate::bound::Bound;
 use crate::local_rule::LocalRule;
+use crate::search::zoned_instances::ZonedInstances;
 use chrono_datetime::law::date_times_exist;
 use chrono_datetime::{NaiveDateTime, Timelike};
 use chrono_instant::Timestamp;
@@ -103,6 +107,34 @@ impl<Z: TimeZone> ZonedRule<Z> {
     {
         let end = first_second_from(start.naive_utc());
         self.zone.timestamp_opt(self.previous_second(end)?, 0)
+    }
+
+    /// Returns an iterator over the instances after `start`.
+    ///
+    /// They come in order, as far as UTC and the clock have dates.
+    ///
+    /// ```
+    /// use chrono_datetime::{AndTime, NaiveDate};
+    /// let start = NaiveDate::from_ymd_opt(2024, 1, 1)?.and_hms_opt(9, 30, 0)?;
+    /// let daily = LocalRule::new(Rule::new(Frequency::Daily), DayTimes::of_start(), start)?;
+    /// let zone = FixedOffset::east_opt(3_600)?;
+    /// let mut days = ZonedRule::new(daily, zone, Bound::Count(2)).after(instant_of(zone, start)?);
+    /// (days.next(), days.next()) // (Some(2024-01-02T09:30:00+01:00), None)
+    /// ```
+    ///
+    /// Every step counts the instances of a rule with COUNT from the rule's start on.
+    pub fn after(&self, start: DateTime<Z>) -> ZonedInstances<Z>
+        ensures value { result ≡ record { rule = self.now; last = Some start } }
+        // No more seconds are left than that.
+        ensures few { seconds_behind result.last ≤ 16_544_868_105_599 }
+        // What calls of `next` give, up to the first `None`, is the instances in order.
+        ensures runs { (given : List (Zoned Z)) → Drains (GivesInstance Z.ahead) result given → AreZonedInstances Z.ahead self.now start.utc given }
+    {
+        date_times_exist(start.naive_utc());
+        ZonedInstances {
+            rule: *self,
+            last: Some(start),
+        }
     }
 }
 
