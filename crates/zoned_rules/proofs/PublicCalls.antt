@@ -5,9 +5,8 @@ use Rattle.chrono_datetime.specs.Moment.{IsBefore, IsMoment, Moment}
 use Rattle.chrono_datetime.specs.Time.{FractionFits}
 use Rattle.chrono_instant.specs.Instants.{IsEpochSecond, LiesIn, epoch_second, second_of_minute}
 use Rattle.chrono_instant.proofs.InstantLemmas.{IsBefore-by_second}
-use Rattle.zoned_rules.specs.LocalTimes.{LocalParts}
-use Rattle.zoned_rules.specs.Recurs.{IsInstanceAt, NoInstanceAfter, NoInstanceBefore, NoInstanceBetween, RecursWithin}
-use Rattle.zoned_rules.specs.declared.bound.Bound.{Bound}
+use Rattle.zoned_rules.specs.LocalInstants.{HasDates}
+use Rattle.zoned_rules.specs.Recurs.{HoldsAt, HoldsNotAfter, HoldsNotBefore, HoldsNotBetween}
 
 pub decided : (b : Bool) (P : Type 0) → (IsTrue b → P) → (IsFalse b → ¬ P) → IsTrue b ↔ P
 decided true P f g = (f, λ p. refl)
@@ -48,35 +47,35 @@ comes_before E m end h i j lt none =
 
 -- ---- what the calls find
 
-module _ (r : LocalParts) (ahead : ℤ → ℤ) (bound : Bound) where
-  pub instance_there : {X : ℤ} (x : ℤ) (d : Moment) → LiesIn X 0 d → X ≡ x → RecursWithin r ahead bound x → IsInstanceAt r ahead bound d
-  instance_there {X} x d h is f = (h.past, subst (λ (u : ℤ). RecursWithin r ahead bound u) (sym (h.second ∙ is)) f)
+module _ (P : ℤ → Type 0) where
+  pub instance_there : {X : ℤ} (x : ℤ) (d : Moment) → LiesIn X 0 d → X ≡ x → P x → HoldsAt P d
+  instance_there {X} x d h is f = (h.past, subst P (sym (h.second ∙ is)) f)
 
-  pub none_between : (start d : Moment) {S X : ℤ} (x : ℤ) → ((u : ℤ) → S <ℤ u → RecursWithin r ahead bound u → x ≤ℤ u) → S ≡ epoch_second start → LiesIn X 0 d → X ≡ x → IsMoment start → NoInstanceBetween r ahead bound start d
+  pub none_between : (start d : Moment) {S X : ℤ} (x : ℤ) → ((u : ℤ) → S <ℤ u → P u → x ≤ℤ u) → S ≡ epoch_second start → LiesIn X 0 d → X ≡ x → IsMoment start → HoldsNotBetween P start d
   none_between start d {S} {X} x least is_s h is i = λ m j after before f.
       let from : S <ℤ epoch_second m = omega (arith, ints, is_s, in_later_second start m i j after f.0) in
       let low : x ≤ℤ epoch_second m = least (epoch_second m) from f.1 in
       let high : epoch_second m <ℤ epoch_second d = in_later_second m d j h.exists before h.past in
       absurd (omega (arith, ints, low, high, h.second, is))
 
-  pub none_after : (start : Moment) {S : ℤ} → ((u : ℤ) → S <ℤ u → RecursWithin r ahead bound u → ⊥) → S ≡ epoch_second start → IsMoment start → NoInstanceAfter r ahead bound start
+  pub none_after : (start : Moment) {S : ℤ} → ((u : ℤ) → S <ℤ u → P u → ⊥) → S ≡ epoch_second start → IsMoment start → HoldsNotAfter P start
   none_after start {S} least is_s i = λ m j after f. least (epoch_second m) (omega (arith, ints, is_s, in_later_second start m i j after f.0)) f.1
 
-  pub none_between_back : (end d : Moment) {E X : ℤ} (x : ℤ) → ((u : ℤ) → u <ℤ E → RecursWithin r ahead bound u → u ≤ℤ x) → LiesIn X 0 d → IsFirstFrom E end → X ≡ x → IsMoment end → NoInstanceBetween r ahead bound d end
+  pub none_between_back : (end d : Moment) {E X : ℤ} (x : ℤ) → ((u : ℤ) → u <ℤ E → P u → u ≤ℤ x) → LiesIn X 0 d → IsFirstFrom E end → X ≡ x → IsMoment end → HoldsNotBetween P d end
   none_between_back end d {E} {X} x greatest h begun is i = λ m j after before f.
       let to : epoch_second m <ℤ E = begins_before E m end begun j i before f.0 in
       let high : epoch_second m ≤ℤ x = greatest (epoch_second m) to f.1 in
       let low : epoch_second d <ℤ epoch_second m = in_later_second d m h.exists j after f.0 in
       absurd (omega (arith, ints, low, high, h.second, is))
 
-  pub none_before : (end : Moment) {E : ℤ} → ((u : ℤ) → u <ℤ E → RecursWithin r ahead bound u → ⊥) → IsFirstFrom E end → IsMoment end → NoInstanceBefore r ahead bound end
+  pub none_before : (end : Moment) {E : ℤ} → ((u : ℤ) → u <ℤ E → P u → ⊥) → IsFirstFrom E end → IsMoment end → HoldsNotBefore P end
   none_before end {E} greatest begun i = λ m j before f. greatest (epoch_second m) (begins_before E m end begun j i before f.0) f.1
 
-  -- a date-time of the zone is at each instant at which the rule recurs
-  pub exists_there : (X x : ℤ) → X ≡ x → RecursWithin r ahead bound x → IsEpochSecond X × FractionFits (second_of_minute X) 0 × IsEpochSecond (X +ℤ ahead X)
-  exists_there X x is f =
-      subst (λ (y : ℤ). IsEpochSecond y × FractionFits (second_of_minute y) 0 × IsEpochSecond (y +ℤ ahead y)) (sym is)
-      (f.recurs.recurs.dates.utc, (omega arith, λ leap. absurd (omega (arith, leap))), f.recurs.recurs.dates.local)
+-- a date-time of the zone is at each instant at which UTC and the clock have dates
+pub exists_there : (ahead : ℤ → ℤ) (X x : ℤ) → X ≡ x → HasDates ahead x → IsEpochSecond X × FractionFits (second_of_minute X) 0 × IsEpochSecond (X +ℤ ahead X)
+exists_there ahead X x is dates =
+    subst (λ (y : ℤ). IsEpochSecond y × FractionFits (second_of_minute y) 0 × IsEpochSecond (y +ℤ ahead y)) (sym is)
+    (dates.utc, (omega arith, λ leap. absurd (omega (arith, leap))), dates.local)
 
 pub later_there : (start d : Moment) {S X : ℤ} (x : ℤ) → S <ℤ x → S ≡ epoch_second start → LiesIn X 0 d → X ≡ x → IsMoment start → IsBefore start d
 later_there start d {S} {X} x lt is_s h is i = sooner start d i h.exists (omega (arith, ints, lt, is_s, h.second, is))

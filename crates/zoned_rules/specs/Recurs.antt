@@ -58,18 +58,34 @@ pub record RecursWithin (r : LocalParts) (ahead : ℤ → ℤ) (bound : Bound) (
   pub recurs : Recurs r ahead u
   pub within : IsWithin bound (Recurs r ahead) u
 
--- the instant at which UTC shows m is an instance, at the beginning of a second
+-- P holds of the second at whose beginning UTC shows m
+abbrev pub HoldsAt : (ℤ → Type 0) → Moment → Type 0
+HoldsAt P m = (m.time.fraction ≡ 0) × P (epoch_second m)
+
+-- it does so at no instant between two
+abbrev pub HoldsNotBetween : (ℤ → Type 0) → Moment → Moment → Type 0
+HoldsNotBetween P start end = (m : Moment) → IsMoment m → IsBefore start m → IsBefore m end → ¬ HoldsAt P m
+
+-- at none after one
+abbrev pub HoldsNotAfter : (ℤ → Type 0) → Moment → Type 0
+HoldsNotAfter P start = (m : Moment) → IsMoment m → IsBefore start m → ¬ HoldsAt P m
+
+-- at none before one
+abbrev pub HoldsNotBefore : (ℤ → Type 0) → Moment → Type 0
+HoldsNotBefore P end = (m : Moment) → IsMoment m → IsBefore m end → ¬ HoldsAt P m
+
+-- the instant at which UTC shows m is an instance
 abbrev pub IsInstanceAt : LocalParts → (ℤ → ℤ) → Bound → Moment → Type 0
-IsInstanceAt r ahead bound m = (m.time.fraction ≡ 0) × RecursWithin r ahead bound (epoch_second m)
+IsInstanceAt r ahead bound m = HoldsAt (RecursWithin r ahead bound) m
 
 -- there is no instance between two instants
 abbrev pub NoInstanceBetween : LocalParts → (ℤ → ℤ) → Bound → Moment → Moment → Type 0
-NoInstanceBetween r ahead bound start end = (m : Moment) → IsMoment m → IsBefore start m → IsBefore m end → ¬ IsInstanceAt r ahead bound m
+NoInstanceBetween r ahead bound start end = HoldsNotBetween (RecursWithin r ahead bound) start end
 
 -- there is none after one
 abbrev pub NoInstanceAfter : LocalParts → (ℤ → ℤ) → Bound → Moment → Type 0
-NoInstanceAfter r ahead bound start = (m : Moment) → IsMoment m → IsBefore start m → ¬ IsInstanceAt r ahead bound m
+NoInstanceAfter r ahead bound start = HoldsNotAfter (RecursWithin r ahead bound) start
 
 -- there is none before one
 abbrev pub NoInstanceBefore : LocalParts → (ℤ → ℤ) → Bound → Moment → Type 0
-NoInstanceBefore r ahead bound end = (m : Moment) → IsMoment m → IsBefore m end → ¬ IsInstanceAt r ahead bound m
+NoInstanceBefore r ahead bound end = HoldsNotBefore (RecursWithin r ahead bound) end

@@ -4,7 +4,7 @@ use Rattle.std.proofs.lemmas.Option.{IfSome_then}
 use Rattle.chrono_datetime.specs.Moment.{IsBefore, Moment}
 use Rattle.chrono_datetime.proofs.Signed.{casts}
 use Rattle.chrono_instant.specs.Instants.{epoch_second}
-use Rattle.zoned_rules.specs.Recurs.{NoInstanceAfter, NoInstanceBetween}
+use Rattle.zoned_rules.specs.Recurs.{NoInstanceAfter, NoInstanceBetween, RecursWithin}
 use Rattle.zoned_rules.proofs.PublicCalls.{exists_there, if_never, instance_there, later_there, none_after, none_between}
 use Rattle.zoned_rules.proofs.Standing.{if_any}
 use Rattle.zoned_rules.proofs.zoned_rule.ZonedRule.next_after.Goals as goal
@@ -17,7 +17,7 @@ returns-in_err-next_second-clause-none g c =
     let utc = c.naive_utc-utc.result in
     let same : utc ≡ c.args.start.utc = c.naive_utc-utc.ensures in
     let at : to_z w64 (of_z w64 c.timestamp.result) ≡ epoch_second utc = to_z-of_z w64 c.timestamp.result (record { sfits = c.timestamp.type_inv }) ∙ c.timestamp.ensures.value in
-    if_any c.from_residual.result (subst (λ (m : Moment). NoInstanceAfter r ahead bound m) same (none_after r ahead bound utc c.in_err-next_second.ensures.least at c.date_times_exist.ensures))
+    if_any c.from_residual.result (subst (λ (m : Moment). NoInstanceAfter r ahead bound m) same (none_after (RecursWithin r ahead bound) utc c.in_err-next_second.ensures.least at c.date_times_exist.ensures))
 
 pub returns-clause-instance : goal.returns-clause-instance
 returns-clause-instance g c =
@@ -27,7 +27,7 @@ returns-clause-instance g c =
     let x = c.in_ok-next_second.field-0 in
     let ok = c.in_ok-next_second.ensures.recurs in
     let is : to_z w64 (of_z w64 x) ≡ x = omega (arith, casts, ok.1.recurs.recurs.dates.utc) in
-    IfSome_then c.timestamp_opt.result c.timestamp_opt.ensures.instant (λ d h. instance_there r ahead bound x d.utc h is ok.1)
+    IfSome_then c.timestamp_opt.result c.timestamp_opt.ensures.instant (λ d h. instance_there (RecursWithin r ahead bound) x d.utc h is ok.1)
 
 pub returns-clause-later : goal.returns-clause-later
 returns-clause-later g c =
@@ -52,7 +52,7 @@ returns-clause-least g c =
     let ok = c.in_ok-next_second.ensures.recurs in
     let is : to_z w64 (of_z w64 x) ≡ x = omega (arith, casts, ok.1.recurs.recurs.dates.utc) in
     IfSome_then c.timestamp_opt.result c.timestamp_opt.ensures.instant (λ d h.
-    subst (λ (m : Moment). NoInstanceBetween r ahead bound m d.utc) same (none_between r ahead bound utc d.utc x c.in_ok-next_second.ensures.least at h is c.date_times_exist.ensures))
+    subst (λ (m : Moment). NoInstanceBetween r ahead bound m d.utc) same (none_between (RecursWithin r ahead bound) utc d.utc x c.in_ok-next_second.ensures.least at h is c.date_times_exist.ensures))
 
 pub returns-clause-none : goal.returns-clause-none
 returns-clause-none g c =
@@ -62,4 +62,4 @@ returns-clause-none g c =
     let x = c.in_ok-next_second.field-0 in
     let ok = c.in_ok-next_second.ensures.recurs in
     let is : to_z w64 (of_z w64 x) ≡ x = omega (arith, casts, ok.1.recurs.recurs.dates.utc) in
-    if_never (NoInstanceAfter r ahead bound c.args.start.utc) c.timestamp_opt.result (c.timestamp_opt.ensures.exists.1 (exists_there r ahead bound (to_z w64 (of_z w64 x)) x is ok.1))
+    if_never (NoInstanceAfter r ahead bound c.args.start.utc) c.timestamp_opt.result (c.timestamp_opt.ensures.exists.1 (exists_there ahead (to_z w64 (of_z w64 x)) x is ok.1.recurs.recurs.dates))

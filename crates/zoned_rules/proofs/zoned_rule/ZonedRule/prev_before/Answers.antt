@@ -3,7 +3,7 @@ use Rattle.std.proofs.lemmas.Int.{to_z-of_z}
 use Rattle.std.proofs.lemmas.Option.{IfSome_then}
 use Rattle.chrono_datetime.specs.Moment.{IsBefore, Moment}
 use Rattle.chrono_datetime.proofs.Signed.{casts}
-use Rattle.zoned_rules.specs.Recurs.{NoInstanceBefore, NoInstanceBetween}
+use Rattle.zoned_rules.specs.Recurs.{NoInstanceBefore, NoInstanceBetween, RecursWithin}
 use Rattle.zoned_rules.proofs.PublicCalls.{IsFirstFrom, earlier_there, exists_there, if_never, instance_there, none_before, none_between_back}
 use Rattle.zoned_rules.proofs.Standing.{if_any}
 use Rattle.zoned_rules.proofs.zoned_rule.ZonedRule.prev_before.Goals as goal
@@ -18,7 +18,7 @@ returns-in_err-previous_second-clause-none g c =
     let from = c.first_second_from-end in
     let fits : to_z w64 (of_z w64 from.result) ≡ from.result = to_z-of_z w64 from.result (record { sfits = from.type_inv }) in
     let begun : IsFirstFrom (to_z w64 (of_z w64 from.result)) utc = record { whole = λ e. fits ∙ from.ensures.whole e; within = λ e. fits ∙ from.ensures.within e } in
-    if_any c.from_residual.result (subst (λ (m : Moment). NoInstanceBefore r ahead bound m) same (none_before r ahead bound utc c.in_err-previous_second.ensures.greatest begun from.ensures.exists))
+    if_any c.from_residual.result (subst (λ (m : Moment). NoInstanceBefore r ahead bound m) same (none_before (RecursWithin r ahead bound) utc c.in_err-previous_second.ensures.greatest begun from.ensures.exists))
 
 pub returns-clause-instance : goal.returns-clause-instance
 returns-clause-instance g c =
@@ -28,7 +28,7 @@ returns-clause-instance g c =
     let x = c.in_ok-previous_second.field-0 in
     let ok = c.in_ok-previous_second.ensures.recurs in
     let is : to_z w64 (of_z w64 x) ≡ x = omega (arith, casts, ok.1.recurs.recurs.dates.utc) in
-    IfSome_then c.timestamp_opt.result c.timestamp_opt.ensures.instant (λ d h. instance_there r ahead bound x d.utc h is ok.1)
+    IfSome_then c.timestamp_opt.result c.timestamp_opt.ensures.instant (λ d h. instance_there (RecursWithin r ahead bound) x d.utc h is ok.1)
 
 pub returns-clause-earlier : goal.returns-clause-earlier
 returns-clause-earlier g c =
@@ -57,7 +57,7 @@ returns-clause-greatest g c =
     let ok = c.in_ok-previous_second.ensures.recurs in
     let is : to_z w64 (of_z w64 x) ≡ x = omega (arith, casts, ok.1.recurs.recurs.dates.utc) in
     IfSome_then c.timestamp_opt.result c.timestamp_opt.ensures.instant (λ d h.
-    subst (λ (m : Moment). NoInstanceBetween r ahead bound d.utc m) same (none_between_back r ahead bound utc d.utc x c.in_ok-previous_second.ensures.greatest h begun is from.ensures.exists))
+    subst (λ (m : Moment). NoInstanceBetween r ahead bound d.utc m) same (none_between_back (RecursWithin r ahead bound) utc d.utc x c.in_ok-previous_second.ensures.greatest h begun is from.ensures.exists))
 
 pub returns-clause-none : goal.returns-clause-none
 returns-clause-none g c =
@@ -67,4 +67,4 @@ returns-clause-none g c =
     let x = c.in_ok-previous_second.field-0 in
     let ok = c.in_ok-previous_second.ensures.recurs in
     let is : to_z w64 (of_z w64 x) ≡ x = omega (arith, casts, ok.1.recurs.recurs.dates.utc) in
-    if_never (NoInstanceBefore r ahead bound c.args.start.utc) c.timestamp_opt.result (c.timestamp_opt.ensures.exists.1 (exists_there r ahead bound (to_z w64 (of_z w64 x)) x is ok.1))
+    if_never (NoInstanceBefore r ahead bound c.args.start.utc) c.timestamp_opt.result (c.timestamp_opt.ensures.exists.1 (exists_there ahead (to_z w64 (of_z w64 x)) x is ok.1.recurs.recurs.dates))
