@@ -1,0 +1,302 @@
+#!/usr/bin/env python3
+"""Holds zoned_rules to dateutil's rules over local times, which two sentences of RFC 5545 lead to instants by Python's zoneinfo.
+
+    checks/zoned_rules.py [--zones N] [--years N]      (6 zones and 1 year of each, if left out)
+
+dateutil's `rrule` gives the local times of a rule, with no zone. Each stands for an instant by RFC 5545, 3.3.5: the first at which the clock
+shows it, or by the offset before the gap. Instants that are one count once, and those before the start's instant do not count.
+COUNT and UNTIL are held to the instants here, not to the local times. The zones have gaps and folds of half an hour, of one hour and of two, four
+changes in a year, and a day that the clock skips. Some days around each change are gone through by `next_after` and by `prev_before`, and
+some hours by `is_instance` at each quarter of an hour. `rt try` runs a small program unproved, in a copy of the crates.
+"""
+import argparse
+import datetime
+import itertools
+import sys
+import tempfile
+import zoneinfo
+
+from outside import answers_in_parts, put_program
+
+# The lines of one run.
+LINES = 12
+QUARTER = 900
+HOUR = 3_600
+DAY = 86_400
+EPOCH = datetime.datetime(1970, 1, 1)
+# Zones, each with its first year here.
+ZONES = (("Australia/Lord_Howe", 2023), ("America/New_York", 2023), ("Antarctica/Troll", 2023), ("Europe/Berlin", 2023), ("Africa/Casablanca", 2012),
+         ("Pacific/Apia", 2011))
+# Rules of days, each with the hours, the minutes and the seconds that it lists.
+RULES = (
+    ("FREQ=DAILY", "", "", ""),
+    ("FREQ=DAILY", "2", "30", "0"),
+    ("FREQ=DAILY", "0,1,2,3,23", "0,15,30,59", ""),
+    ("FREQ=DAILY;INTERVAL=2", "2,3", "30", "0,59"),
+    ("FREQ=WEEKLY;BYDAY=SU", "1,2", "0,30", ""),
+    ("FREQ=MONTHLY;BYDAY=-1SU", "2", "", "30"),
+    ("FREQ=MONTHLY;BYMONTHDAY=29,30,31", "", "0,45", ""),
+    ("FREQ=MONTHLY;BYDAY=SA,SU;BYSETPOS=-1,-2", "", "", ""),
+    ("FREQ=YEARLY;BYMONTH=3,4,9,10,11,12", "2", "15", ""),
+)
+# The starts, as hours, minutes and seconds.
+STARTS = ((2, 30, 0), (0, 0, 0), (3, 0, 1), (1, 45, 59), (23, 15, 0))
+PROGRAM = r'''//! Answers questions on rules in a zone, a line each.
+#![tactic(auto)]
+
+use chrono_datetime::NaiveDateTime;
+use chrono_instant::{FromTimestamp, Timestamp};
+use chrono_sets::NumberSet;
+use std::io::{self, BufRead, BufReader};
+use zone_database::{Zone, system_database};
+use zoned_rules::{Bound, DateTime, DayTimes, InZone, LocalRule, ZonedRule, instant_of, read_rule};
+
+fn main(rt: HostRuntime) -> io::Result<()> {
+    let Ok(database) = system_database(&rt) else {
+        return Ok(());
+    };
+    for line in BufReader::new(rt.alloc(), rt.reader())?.lines(rt.alloc()) {
+        let line = line?;
+        let (name, words) = line.as_str().split_once(' ').unwrap_or((line.as_str(), ""));
+        match database.zone(&rt, name) {
+            Ok(zone) => answer(&rt, &zone.zone(), words)?,
+            Err(error) => println!(rt; "= {error}")?,
+        }
+    }
+    Ok(())
+}
+
+// The numbers that commas separate.
+fn listed(text: &str) -> NumberSet {
+    let mut set = NumberSet::none();
+    let mut rest = text;
+    while rest.len() > 1 {
+        let (first, others) = rest.split_once(',').unwrap_or((rest, ""));
+        let number: u32 = first.parse().unwrap_or(63);
+        if number < 64 {
+            set = set.with(number);
+        }
+        rest = others;
+    }
+    set
+}
+
+// Answers `CALL START END DTSTART BOUND NUMBER HOURS MINUTES SECONDS RULE`.
+fn answer(rt: &HostRuntime, zone: &Zone, words: &str) -> io::Result<()> {
+    let (call, words) = words.split_once(' ').unwrap_or((words, ""));
+    let (start, words) = words.split_once(' ').unwrap_or((words, ""));
+    let (end, words) = words.split_once(' ').unwrap_or((words, ""));
+    let (local, words) = words.split_once(' ').unwrap_or((words, ""));
+    let (bound, words) = words.split_once(' ').unwrap_or((words, ""));
+    let (number, words) = words.split_once(' ').unwrap_or((words, ""));
+    let (hours, words) = words.split_once(' ').unwrap_or((words, ""));
+    let (minutes, words) = words.split_once(' ').unwrap_or((words, ""));
+    let (seconds, text) = words.split_once(' ').unwrap_or((words, ""));
+    let Ok(days) = read_rule(text.as_bytes()) else {
+        return println!(rt; "= no rule");
+    };
+    let (start, end): (i64, i64) = (start.parse().unwrap_or(0), end.parse().unwrap_or(0));
+    let Some(local) = NaiveDateTime::from_timestamp(local.parse().unwrap_or(0), 0) else {
+        return println!(rt; "= no start");
+    };
+    let bound = match bound {
+        "count" => Bound::Count(number.parse().unwrap_or(0)),
+        "until" => match NaiveDateTime::from_timestamp(number.parse().unwrap_or(0), 0) {
+            Some(last) => Bound::Until(last),
+            None => Bound::Never,
+        },
+        _ => Bound::Never,
+    };
+    let times = DayTimes {
+        hours: listed(hours),
+        minutes: listed(minutes),
+        seconds: listed(seconds),
+    };
+    let Some(plan) = LocalRule::new(days, times, local) else {
+        return println!(rt; "= refused");
+    };
+    let rule = ZonedRule::new(plan, zone, bound);
+    print!(rt; "= ")?;
+    match call {
+        "next" => {
+            let mut from = zone.timestamp_opt(start - 1, 999_999_999);
+            while let Some(instant) = from {
+                from = None;
+                if let Some(next) = rule.next_after(instant) {
+                    if next.timestamp() < end {
+                        print!(rt; "{} ", next.timestamp())?;
+                        from = Some(next);
+                    }
+                }
+            }
+        }
+        "prev" => {
+            let mut from = zone.timestamp_opt(end - 1, 1);
+            while let Some(instant) = from {
+                from = None;
+                if let Some(prev) = rule.prev_before(instant) {
+                    if start <= prev.timestamp() {
+                        print!(rt; "{} ", prev.timestamp())?;
+                        from = Some(prev);
+                    }
+                }
+            }
+        }
+        "local" => {
+            let mut second = start;
+            while second < end {
+                if let Some(shown) = NaiveDateTime::from_timestamp(second, 0) {
+                    if let Some(instant) = instant_of(zone, shown) {
+                        print!(rt; "{} ", instant.timestamp())?;
+                    }
+                }
+                second += 900;
+            }
+        }
+        _ => {
+            let mut second = start;
+            while second < end {
+                if let Some(instant) = zone.timestamp_opt(second, 0) {
+                    if rule.is_instance(instant) {
+                        print!(rt; "{second} ")?;
+                    }
+                }
+                second += 900;
+            }
+        }
+    }
+    println!(rt; "")
+}
+'''
+
+
+def seconds_of(naive):
+    """The seconds from 1970 of a date-time with no zone."""
+    return int((naive - EPOCH).total_seconds())
+
+
+def ahead(zone, second):
+    """How far the clock is ahead of UTC at a second."""
+    return int(datetime.datetime.fromtimestamp(second, zone).utcoffset().total_seconds())
+
+
+def stands_for(zone, local):
+    """The instant that a local second stands for: the first one that shows it, or else by the offset before the gap."""
+    offsets = {ahead(zone, it) for it in (local - DAY, local + DAY)} | {ahead(zone, local - it) for it in range(-14 * HOUR, 14 * HOUR, QUARTER)}
+    shown = [local - it for it in offsets if ahead(zone, local - it) == it]
+    if shown:
+        return min(shown)
+    low, high = local - DAY, local + DAY
+    while high - low > 1:
+        middle = (low + high) // 2
+        low, high = (middle, high) if middle + ahead(zone, middle) < local else (low, middle)
+    return local - ahead(zone, low)
+
+
+class Known:
+    """The instants of local seconds of a zone, each found once."""
+
+    def __init__(self, zone):
+        self.zone, self.found = zone, {}
+
+    def __getitem__(self, local):
+        if local not in self.found:
+            self.found[local] = stands_for(self.zone, local)
+        return self.found[local]
+
+
+def instances(known, rule, start, end):
+    """The instants of a rule from a local start on, in order, up to one at least."""
+    from dateutil.rrule import rrulestr
+    text, hours, minutes, seconds = rule
+    parts = [f"{name}={numbers}" for name, numbers in (("BYHOUR", hours), ("BYMINUTE", minutes), ("BYSECOND", seconds)) if numbers]
+    # (from midnight on, since a gap may move a local time before the start's behind the start's instant)
+    own = (f"BYHOUR={start.hour}", f"BYMINUTE={start.minute}", f"BYSECOND={start.second}")
+    missing = [it for it, numbers in zip(own, (hours, minutes, seconds)) if not numbers]
+    rrule = rrulestr(";".join([text, *parts, *missing]), dtstart=start.replace(hour=0, minute=0, second=0))
+    begun = known[seconds_of(start)]
+    last = EPOCH + datetime.timedelta(seconds=end + 2 * DAY)
+    found = {known[seconds_of(it)] for it in itertools.takewhile(lambda it: it <= last, rrule)}
+    return sorted(it for it in found if begun <= it)
+
+
+def questions(name, first, years):
+    """Questions on a zone, each with what the program has to answer."""
+    zone = zoneinfo.ZoneInfo(name)
+    known = Known(zone)
+    for year in range(first, first + years):
+        start, end = (seconds_of(datetime.datetime(it, 1, 1)) for it in (year, year + 1))
+        walked = [(it, ahead(zone, it)) for it in range(start, end + 1, QUARTER)]
+        for before, after in itertools.pairwise(walked):
+            if before[1] != after[1]:
+                yield from of_change(known, after[0])
+
+
+def of_change(known, change):
+    """Questions on the days and the hours around a change."""
+    near = change + ahead(known.zone, change)
+    shown = [known[it] for it in range(near - 4 * HOUR, near + 4 * HOUR, QUARTER)]
+    yield f"local {near - 4 * HOUR} {near + 4 * HOUR} 0 - 0 - - - FREQ=DAILY", " ".join(map(str, shown))
+    day = EPOCH + datetime.timedelta(days=near // DAY)
+    for number, rule in enumerate(RULES):
+        for back, clock in zip((0, 1, 9), STARTS[number % 3:]):
+            start = (day - datetime.timedelta(days=back)).replace(hour=clock[0], minute=clock[1], second=clock[2])
+            yield from of_rule(known, rule, start, change)
+
+
+def of_rule(known, rule, start, change):
+    """Questions on a rule around a change, with no end, with COUNT and with UNTIL."""
+    found = instances(known, rule, start, change + 4 * DAY)
+    some = [it for it in found if it < change + DAY]
+    bounds = [("-", 0, found), ("count", len(some), some)]
+    if some:
+        bounds.append(("until", some[-1], some))
+        bounds.append(("until", some[-1] - 1, some[:-1]))
+    for bound, number, within in bounds:
+        for call, before, behind in (("next", 2 * DAY, 3 * DAY), ("prev", 2 * DAY, 3 * DAY), ("is", 3 * HOUR, 3 * HOUR)):
+            low, high = change - before, change + behind
+            listed = [it for it in within if low <= it < high and (call != "is" or (it - low) % QUARTER == 0)]
+            parts = " ".join(f"{it}," if it else "-" for it in rule[1:])
+            line = f"{call} {low} {high} {seconds_of(start)} {bound} {number} {parts} {rule[0]}"
+            yield line, " ".join(map(str, listed[::-1] if call == "prev" else listed))
+
+
+def differing(rows, answers):
+    return [f"{it}: {a}, not {b}" for (it, b), a in zip(rows, answers) if a != b]
+
+
+def main():
+    parser = argparse.ArgumentParser(description=__doc__.partition("\n")[0])
+    parser.add_argument("--zones", type=int, default=len(ZONES))
+    parser.add_argument("--years", type=int, default=1)
+    options = parser.parse_args()
+    zones = ZONES[:options.zones]
+    try:
+        import dateutil.rrule  # noqa: F401
+    except ImportError:
+        print("not run: checks/zoned_rules.py, which needs dateutil")
+        return
+    if not zoneinfo.available_timezones():
+        print("not run: checks/zoned_rules.py, which needs a database of time zones")
+        return
+    rows = [(f"{name} {it}", run) for name, first in zones for it, run in questions(name, first, options.years)]
+    with tempfile.TemporaryDirectory(prefix="zoned_rules-") as room:
+        uses = ["chrono_sets", "chrono_datetime", "chrono_instant", "zone_database", "zoned_rules"]
+        folder = put_program(room, "instants", uses, PROGRAM)
+        answers = [it.strip() for it in answers_in_parts(room, folder, [it for it, _ in rows], LINES)]
+    for name, _ in zones:
+        asked = [pair for pair in zip(rows, answers) if pair[0][0].startswith(name)]
+        calls = sum(len(run.split()) + 1 if " is " not in it else 24 for (it, run), _ in asked)
+        print(f"{name}: {len(asked)} lines, {calls} questions, {sum(a != b for (_, b), a in asked)} lines answered otherwise")
+    wrong = differing(rows, answers)
+    for it in wrong[:20]:
+        print(f"FAILED: {it[:300]}")
+    changed = [(rows[0][0], f"{answers[0]} 0"), *rows[1:]]
+    if len(differing(changed, answers)) != len(wrong) + (answers[0] == rows[0][1]):
+        sys.exit("a changed answer is not found")
+    print(f"{len(rows) - len(wrong)} passed, {len(wrong)} failed")
+    sys.exit(bool(wrong))
+
+
+if __name__ == "__main__":
+    main()

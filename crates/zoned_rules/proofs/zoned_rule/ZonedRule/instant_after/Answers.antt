@@ -1,0 +1,30 @@
+use Rattle.std.proofs.Common.{◌≡◌, ℤ, of_z, to_z, w64, arith, subst, sym}
+use Rattle.std.proofs.lemmas.Bool.{both_ways}
+use Rattle.std.proofs.lemmas.Int.{ints, to_z-of_z}
+use Rattle.chrono_instant.specs.Instants.{epoch_second}
+use Rattle.zoned_rules.specs.LocalInstants.{HasDates}
+use Rattle.zoned_rules.proofs.Reached.{at_none, at_one, renamed_reach}
+use Rattle.zoned_rules.proofs.zoned_rule.ZonedRule.instant_after.Goals.{else-after-second-via-then-after-second+else-has_dates, else-after-second-via-else-after-second}
+use Rattle.zoned_rules.proofs.zoned_rule.ZonedRule.instant_after.Goals as goal
+
+pub returns-then-has_dates-clause-only : goal.returns-then-has_dates-clause-only
+returns-then-has_dates-clause-only g c =
+    let r = c.args.self.now.local in
+    let ahead = g.Z.TimeZone.ahead c.args.self.now.zone in
+    let x = c.second_of-second.result in
+    let back : to_z w64 (of_z w64 x) ≡ x = to_z-of_z w64 x (record { sfits = c.second_of-second.type_inv }) in
+    renamed_reach r ahead c.args.after (epoch_second c.args.local) x (to_z w64 (of_z w64 x)) (sym back) (at_one r ahead c.args.after (epoch_second c.args.local) x c.second_of-second.ensures.stands)
+
+pub returns-else-after-second-clause-only : goal.returns-else-after-second-clause-only
+returns-else-after-second-clause-only g c =
+    let r = c.args.self.now.local in
+    let ahead = g.Z.TimeZone.ahead c.args.self.now.zone in
+    let x = c.second_of-second.result in
+    let back : to_z w64 (of_z w64 x) ≡ x = to_z-of_z w64 x (record { sfits = c.second_of-second.type_inv }) in
+    let after : to_z w64 (of_z w64 c.args.after) ≡ c.args.after = to_z-of_z w64 c.args.after c.ranges.after in
+    at_none r ahead c.args.after (epoch_second c.args.local) x c.second_of-second.ensures.stands (λ lt dates.
+    elim c.else-after-second.branch [
+      | else-after-second-via-then-after-second+else-has_dates w ↦
+          absurd (both_ways w.has_dates.result w.if-has_dates.false (w.has_dates.ensures.1 (subst (λ (k : ℤ). HasDates ahead k) (sym back) dates)))
+      | else-after-second-via-else-after-second w ↦ absurd (omega (arith, ints, lt, back, after, w.if-after-second.false))
+    ])

@@ -1,0 +1,45 @@
+use Rattle.std.proofs.Common.{◌≡◌, pos, ◌+ℤ◌, ◌<ℤ◌, of_z, to_z, w64, arith, refl}
+use Rattle.std.proofs.lemmas.Int.{ints, to_z-of_z}
+use Rattle.chrono_instant.specs.Instants.{epoch_second}
+use Rattle.zoned_rules.specs.Private.{IsStoodFor}
+use Rattle.zoned_rules.proofs.Fitting.{carried}
+use Rattle.zoned_rules.proofs.Reached.{nothing_yet_back, one_of, reaches_all_back, reaches_far_back, reaches_previous}
+use Rattle.zoned_rules.proofs.zoned_rule.ZonedRule.last_planned.Goals as goal
+
+pub loop-local-init : goal.loop-local-init
+loop-local-init g c =
+    let r = c.args.self.now.local in
+    let ahead = g.Z.TimeZone.ahead c.args.self.now.zone in
+    let end = to_z w64 (of_z w64 c.args.end) in
+    let fits : end ≡ c.args.end = to_z-of_z w64 c.args.end c.ranges.end in
+    let from = to_z w64 (of_z w64 (end +ℤ pos 86_400)) in
+    let is : from ≡ (end +ℤ pos 86_400) = carried (end +ℤ pos 86_400) (end +ℤ pos 86_400) refl (omega (arith, ints, fits, c.requires.low), omega (arith, ints, fits, c.requires.high)) in
+    (c.in-Some.ensures.listed, nothing_yet_back r ahead end (epoch_second c.in-Some.local) from c.offsets_are_small.ensures is c.in-Some.ensures.greatest, tt)
+
+pub returns-in_default-last_in_front-clause-greatest : goal.returns-in_default-last_in_front-clause-greatest
+returns-in_default-last_in_front-clause-greatest g c = λ m u h earlier.
+    let r = c.args.self.now.local in
+    let ahead = g.Z.TimeZone.ahead c.args.self.now.zone in
+    let end = to_z w64 (of_z w64 c.args.end) in
+    let fits : end ≡ c.args.end = to_z-of_z w64 c.args.end c.ranges.end in
+    reaches_all_back r ahead end (epoch_second c.loop-local.local) c.loop-local.best c.instant_before.result c.later-best.result c.loop-local.invariant.1 c.instant_before.ensures.only c.later-best.ensures.greatest
+    c.in_default-last_in_front.ensures.none m u h (omega (arith, ints, fits, earlier))
+
+pub loop-local-preserved : goal.loop-local-preserved
+loop-local-preserved g c =
+    let r = c.args.self.now.local in
+    let ahead = g.Z.TimeZone.ahead c.args.self.now.zone in
+    let end = to_z w64 (of_z w64 c.args.end) in (
+      c.in-Some-last_in_front.ensures.listed,
+      reaches_previous r ahead end (epoch_second c.loop-local.local) (epoch_second c.in-Some-last_in_front.previous) c.loop-local.best c.instant_before.result c.later-best.result c.loop-local.invariant.1 c.instant_before.ensures.only
+          c.later-best.ensures.greatest c.in-Some-last_in_front.ensures.greatest,
+      one_of (λ x. (x <ℤ end) × IsStoodFor r ahead x) c.loop-local.best c.instant_before.result c.later-best.result c.later-best.ensures.either c.loop-local.invariant.2 c.instant_before.ensures.recurs,
+    )
+
+pub returns-clause-greatest : goal.returns-clause-greatest
+returns-clause-greatest g c = λ m u h earlier.
+    let r = c.args.self.now.local in
+    let ahead = g.Z.TimeZone.ahead c.args.self.now.zone in
+    let end = to_z w64 (of_z w64 c.args.end) in
+    let fits : end ≡ c.args.end = to_z-of_z w64 c.args.end c.ranges.end in
+    reaches_far_back r ahead end (epoch_second c.loop-local.local) c.loop-local.best c.offsets_are_small.ensures c.loop-local.invariant.1 (c.may_follow.ensures c.loop-local-test.false) m u h (omega (arith, ints, fits, earlier))

@@ -1,0 +1,45 @@
+-- Words of functions that are not public.
+use Rattle.std.specs.Prelude.{◌≡◌, ℕ, true, ℤ, pos, ◌+ℤ◌, ◌-ℤ◌, ◌*ℤ◌, ◌≤ℤ◌, ◌<ℤ◌, Option, Some, None}
+use Rattle.chrono_datetime.specs.Fields.{unix_epoch_day}
+use Rattle.chrono_datetime.specs.Moment.{IsMoment, Moment}
+use Rattle.chrono_instant.specs.Instants.{epoch_second}
+use Rattle.zoned_rules.specs.LocalInstants.{IsSetPast}
+use Rattle.zoned_rules.specs.Recurs.{RecursFor}
+use Rattle.zoned_rules.specs.LocalTimes.{LocalParts, is_planned}
+
+-- the second k of the day n, counted from 1 January 1970
+abbrev pub second_on : ℤ → ℕ → ℤ
+second_on n k = (n -ℤ unix_epoch_day) *ℤ pos 86_400 +ℤ pos k
+
+-- what was found is a local time of the rule
+pub record IsListed (r : LocalParts) (m : Moment) : Type 0 where
+  pub exists : IsMoment m
+  pub listed : is_planned r m ≡ true
+
+-- a local time of the rule stands for u
+abbrev pub IsStoodFor : LocalParts → (ℤ → ℤ) → ℤ → Type 0
+IsStoodFor r ahead u = (m : Moment) × RecursFor r ahead m u
+
+-- o is the clock's offset before it is set past l
+pub record IsOffsetBefore (ahead : ℤ → ℤ) (l o : ℤ) : Type 0 where
+  pub change : ℤ
+  pub past : IsSetPast ahead l change
+  pub offset : o ≡ ahead (change -ℤ pos 1)
+
+-- u is no earlier than what was found, and if nothing was found there is no such u
+abbrev pub IsReached : Option ℤ → ℤ → Type 0
+IsReached None u = ⊥
+IsReached (Some x) u = x ≤ℤ u
+
+-- and no later
+abbrev pub IsReachedBack : Option ℤ → ℤ → Type 0
+IsReachedBack None u = ⊥
+IsReachedBack (Some x) u = u ≤ℤ x
+
+-- what was found is no later than each instant after a second that a local time of the rule before l stands for
+abbrev pub ReachesAhead : LocalParts → (ℤ → ℤ) → ℤ → ℤ → Option ℤ → Type 0
+ReachesAhead r ahead start l found = (m : Moment) (u : ℤ) → RecursFor r ahead m u → epoch_second m <ℤ l → start <ℤ u → IsReached found u
+
+-- what was found is no earlier than each instant before a second that a local time of the rule after l stands for
+abbrev pub ReachesBehind : LocalParts → (ℤ → ℤ) → ℤ → ℤ → Option ℤ → Type 0
+ReachesBehind r ahead end l found = (m : Moment) (u : ℤ) → RecursFor r ahead m u → l <ℤ epoch_second m → u <ℤ end → IsReachedBack found u
