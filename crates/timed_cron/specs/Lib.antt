@@ -1,0 +1,2 @@
+pub mod DueSeconds
+pub mod Private
