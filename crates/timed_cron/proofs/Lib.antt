@@ -1,1 +1,3 @@
 mod MinuteOrder
+mod TextWords
+mod SixFields

@@ -9,8 +9,15 @@
 //! A [`TimedSchedule`] is a schedule of `chrono_cron` and the seconds of a minute at which it is due. As there, date-times are naive.
 #![tactic(auto)]
 
+mod dialect;
+mod timed_error;
+mod timed_reader;
 mod timed_schedule;
+mod words;
 
 pub use chrono_cron::{Schedule, read_schedule};
 pub use chrono_sets::NumberSet;
+pub use dialect::Dialect;
+pub use timed_error::TimedError;
+pub use timed_reader::read_timed_schedule;
 pub use timed_schedule::TimedSchedule;
