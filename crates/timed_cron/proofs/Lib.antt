@@ -1,0 +1,3 @@
+mod MinuteOrder
+mod TextWords
+mod SixFields

@@ -1,0 +1,167 @@
+-- The words of a text, by the places at which they begin and end.
+use Rattle.std.proofs.Common.{◌≡◌, ℕ, zero, suc, ◌+◌, ◌-◌, ◌<◌, ◌≤◌, Bool, true, false, cond, List, [], ◌∷◌, length, get_or, take, drop, refl, ap, sym, ◌∙◌, arith, length-take, inl, inr}
+use Rattle.std.specs.List.{All, filter, slice_split, position_or_len}
+use Rattle.std.proofs.lemmas.Bool.{cases_lt}
+use Rattle.std.proofs.lemmas.List.{at_drop_more, drop-drop, drop-take, drop_all, drop_more, get_or-drop, get_or-take, length-drop, take_all, take-take}
+use Rattle.std.proofs.lemmas.List.Sums.{fails_before_first, passes_at_first, position_or_len_is}
+use Rattle.std.proofs.lemmas.List.Splits.{slice_split-cons_yes, slice_split_none, slice_split_first}
+use Rattle.chrono_text.specs.Lists.{is_blank, is_some_text}
+use Rattle.chrono_cron.specs.PlacedWords.{placed, placed_words}
+use Rattle.timed_cron.specs.Private.{AreBlank, HasFourWords, IsWordAt, bytes_of}
+
+abbrev some_piece : ℕ × List ℕ → Bool
+some_piece word = is_some_text word.1
+
+abbrev pub piece_of : ℕ × List ℕ → List ℕ
+piece_of word = word.1
+
+is_some_length : (text : List ℕ) → 0 < length text → is_some_text text ≡ true
+is_some_length [] less = absurd (omega (arith, less))
+is_some_length (x ∷ rest) less = refl
+
+-- ---- blanks in front
+
+blank_first : (at x : ℕ) (rest : List ℕ) → is_blank x ≡ true → placed_words at (x ∷ rest) ≡ placed_words (at + 1) rest
+unfolding placed_words
+blank_first at x rest e =
+    ap (λ pieces. filter some_piece (placed at pieces)) (slice_split-cons_yes is_blank x rest e)
+    ∙ ap (λ p. filter some_piece (placed p (slice_split is_blank rest))) (omega arith)
+
+blank_at : (place : ℕ) (text : List ℕ) → place < length text → is_blank (get_or text place 0) ≡ true
+    → placed_words place (drop place text) ≡ placed_words (place + 1) (drop (place + 1) text)
+blank_at place text less e =
+    at_drop_more (placed_words place) text place 0 less ∙ blank_first place (get_or text place 0) (drop (place + 1) text) e
+
+blanks_before : (n from place : ℕ) (text : List ℕ) → from + n ≡ place → place ≤ length text → AreBlank text from place
+    → placed_words from (drop from text) ≡ placed_words place (drop place text)
+blanks_before zero from place text e within blanks = ap (λ k. placed_words k (drop k text)) (omega (arith, e))
+blanks_before (suc n) from place text e within blanks =
+    blank_at from text (omega (arith, e, within)) (blanks from (omega arith) (omega (arith, e)))
+    ∙ blanks_before n (from + 1) place text (omega (arith, e)) within (λ k low high. blanks k (omega (arith, low)) high)
+
+nothing_left : (at : ℕ) → placed_words at [] ≡ []
+unfolding placed_words
+nothing_left at = refl
+
+-- no word, where blanks are all that is left
+pub none_at : (text : List ℕ) (from : ℕ) → from ≤ length text → AreBlank text from (length text) → placed_words from (drop from text) ≡ []
+none_at text from within blanks =
+    blanks_before (length text - from) from (length text) text (omega (arith, within)) (omega arith) blanks
+    ∙ ap (placed_words (length text)) (drop_all (length text) text (omega arith)) ∙ nothing_left (length text)
+
+-- ---- the word in front
+
+word_in_front : (at len : ℕ) (text : List ℕ) → position_or_len is_blank text ≡ len → 0 < len → len < length text
+    → placed_words at text ≡ (at, take len text) ∷ placed_words (at + len + 1) (drop (len + 1) text)
+unfolding placed_words
+word_in_front at len text e some less =
+    let rest = λ (n : ℕ). filter some_piece (placed (at + n + 1) (slice_split is_blank (drop (len + 1) text))) in
+    ap (λ pieces. filter some_piece (placed at pieces)) (slice_split_first is_blank text 0 (omega (arith, e, less)))
+    ∙ ap (λ p. filter some_piece (placed at (take p text ∷ slice_split is_blank (drop (p + 1) text)))) e
+    ∙ ap (λ t. cond t ((at, take len text) ∷ rest (length (take len text))) (rest (length (take len text)))) (is_some_length (take len text) (omega (arith, length-take len text)))
+    ∙ ap (λ n. (at, take len text) ∷ rest n) (omega (arith, length-take len text))
+
+word_alone : (at len : ℕ) (text : List ℕ) → position_or_len is_blank text ≡ len → 0 < len → length text ≤ len → len ≤ length text
+    → placed_words at text ≡ (at, text) ∷ []
+unfolding placed_words
+word_alone at len text e some end within =
+    let lacks : All (λ x. is_blank x ≡ false) text = λ k x m. fails_before_first is_blank text k x (omega (arith, e, end, m)) in
+    ap (λ pieces. filter some_piece (placed at pieces)) (slice_split_none is_blank text lacks)
+    ∙ ap (λ t. cond t ((at, text) ∷ []) []) (is_some_length text (omega (arith, some, within)))
+
+word_here : (at len : ℕ) (text : List ℕ) → position_or_len is_blank text ≡ len → 0 < len → len ≤ length text
+    → placed_words at text ≡ (at, take len text) ∷ placed_words (at + len) (drop len text)
+word_here at len text e some within =
+    elim (cases_lt len (length text)) [
+      | inl less ↦
+          let blank = ap (λ n. is_blank (get_or text n 0)) (sym e) ∙ passes_at_first is_blank text 0 (omega (arith, e, less)) in
+          word_in_front at len text e some less
+          ∙ ap (λ words. (at, take len text) ∷ words) (sym (ap (placed_words (at + len)) (drop_more text len 0 less) ∙ blank_first (at + len) (get_or text len 0) (drop (len + 1) text) blank))
+      | inr end ↦
+          word_alone at len text e some end within
+          ∙ ap (λ t. (at, t) ∷ []) (sym (take_all len text end))
+          ∙ ap (λ words. (at, take len text) ∷ words) (sym (ap (placed_words (at + len)) (drop_all len text end) ∙ nothing_left (at + len)))
+    ]
+
+word_length : (text : List ℕ) (from place end : ℕ) → IsWordAt text from place end → position_or_len is_blank (drop place text) ≡ end - place
+word_length text from place end is =
+    let some = is.some in
+    let within = is.within in
+    position_or_len_is is_blank (drop place text) (end - place) 0 (omega (arith, within, length-drop place text))
+    (λ k less. ap is_blank (get_or-drop place text k 0) ∙ is.word (place + k) (omega arith) (omega (arith, less)))
+    (λ less. ap is_blank (get_or-drop place text (end - place) 0) ∙ ap (λ n. is_blank (get_or text n 0)) (omega (arith, some)) ∙ is.behind (omega (arith, some, less, length-drop place text)))
+
+pub word_at : (text : List ℕ) (from place end : ℕ) → IsWordAt text from place end
+    → placed_words from (drop from text) ≡ (place, bytes_of text place end) ∷ placed_words end (drop end text)
+word_at text from place end is =
+    let some = is.some in
+    let within = is.within in
+    let here = place + (end - place) in
+    let same : here ≡ end = omega (arith, some) in
+    blanks_before (place - from) from place text (omega (arith, is.order)) (omega (arith, some, within)) is.blanks
+    ∙ word_here place (end - place) (drop place text) (word_length text from place end is) (omega (arith, some)) (omega (arith, within, length-drop place text))
+    ∙ ap (λ t. (place, bytes_of text place end) ∷ placed_words here t) (drop-drop (end - place) place text)
+    ∙ ap (λ n. (place, bytes_of text place end) ∷ placed_words n (drop n text)) same
+
+-- ---- the same words in a text that ends behind them
+
+cut_word : (text : List ℕ) (from place end n : ℕ) → end ≤ n → n ≤ length text → IsWordAt text from place end → IsWordAt (take n text) from place end
+cut_word text from place end n before within is =
+    let some = is.some in
+    let len = length-take n text in
+    record {
+      order = is.order;
+      blanks = λ k low high. ap is_blank (get_or-take n text k 0 (omega (arith, before, some, high))) ∙ is.blanks k low high;
+      some = some;
+      word = λ k low high. ap is_blank (get_or-take n text k 0 (omega (arith, before, high))) ∙ is.word k low high;
+      within = omega (arith, before, within, len);
+      behind = λ less. ap is_blank (get_or-take n text end 0 (omega (arith, less, len))) ∙ is.behind (omega (arith, before, within, less, len));
+    }
+
+cut_bytes : (text : List ℕ) (place end n : ℕ) → place ≤ end → end ≤ n → bytes_of (take n text) place end ≡ bytes_of text place end
+cut_bytes text place end n order before =
+    ap (λ k. take (end - place) (drop place (take k text))) (omega (arith, order, before))
+    ∙ ap (take (end - place)) (drop-take place (n - place) text)
+    ∙ take-take (end - place) (n - place) (drop place text) (omega (arith, before))
+
+pub cut_at : (text : List ℕ) (from place end n : ℕ) → end ≤ n → n ≤ length text → IsWordAt text from place end
+    → placed_words from (drop from (take n text)) ≡ (place, bytes_of text place end) ∷ placed_words end (drop end (take n text))
+cut_at text from place end n before within is =
+    word_at (take n text) from place end (cut_word text from place end n before within is)
+    ∙ ap (λ bytes. (place, bytes) ∷ placed_words end (drop end (take n text))) (cut_bytes text place end n (omega (arith, is.some)) before)
+
+pub cut_end : (text : List ℕ) (n : ℕ) → placed_words n (drop n (take n text)) ≡ []
+cut_end text n = ap (placed_words n) (drop_all n (take n text) (omega (arith, length-take n text))) ∙ nothing_left n
+
+-- ---- words in a row
+
+-- one word more in front
+pub in_front : {words rest more : List (ℕ × List ℕ)} (a : ℕ × List ℕ) → words ≡ a ∷ rest → rest ≡ more → words ≡ a ∷ more
+in_front a e f = e ∙ ap (λ l. a ∷ l) f
+
+pub four_at : (text : List ℕ) (from p q r s first second third fourth : ℕ) → IsWordAt text from p first → IsWordAt text first q second → IsWordAt text second r third → IsWordAt text third s fourth
+    → fourth ≤ length text → AreBlank text fourth (length text) → HasFourWords text from third
+four_at text from p q r s first second third fourth a b c d within blanks =
+    let third_within = c.within in
+    let word : ℕ → ℕ → ℕ × List ℕ = λ place end. (place, bytes_of text place end) in
+    let second_end : second ≤ third = omega (arith, c.order, c.some) in
+    let first_end : first ≤ third = omega (arith, b.order, b.some, second_end) in
+    record {
+      c = word p first;
+      d = word q second;
+      e = word r third;
+      f = word s fourth;
+      all = in_front (word p first) (word_at text from p first a)
+          (in_front (word q second) (word_at text first q second b)
+          (in_front (word r third) (word_at text second r third c)
+          (in_front (word s fourth) (word_at text third s fourth d) (none_at text fourth within blanks))));
+      front = in_front (word p first) (cut_at text from p first third first_end third_within a)
+          (in_front (word q second) (cut_at text first q second third second_end third_within b)
+          (in_front (word r third) (cut_at text second r third third (omega arith) third_within c) (cut_end text third)));
+      order = omega (arith, a.order, a.some, first_end);
+      within = third_within;
+    }
+
+-- words of another number are not four
+pub no_four : (words others : List (ℕ × List ℕ)) → words ≡ others → (length others ≡ 4 → ⊥) → (c d e f : ℕ × List ℕ) → words ≡ c ∷ d ∷ e ∷ f ∷ [] → ⊥
+no_four words others same other c d e f four = other (ap length (sym same ∙ four))

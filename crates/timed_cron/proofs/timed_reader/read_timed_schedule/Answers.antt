@@ -1,0 +1,29 @@
+use Rattle.timed_cron.specs.TimedErrors.{timed_error}
+use Rattle.timed_cron.specs.TimedTexts.{IsAtSecondZero, IsTimedText}
+use Rattle.timed_cron.specs.declared.dialect.Dialect.TheVariants.{Seconds}
+use Rattle.timed_cron.proofs.SixFields.{err_iff, is_ok_of}
+use Rattle.timed_cron.proofs.timed_reader.read_timed_schedule.Goals as goal
+
+pub returns-in-Crontab-clause-every : goal.returns-in-Crontab-clause-every
+returns-in-Crontab-clause-every c =
+    let read = c.read_at_second_zero in
+    rw c.in-Crontab.is (λ s is. is_ok_of (IsAtSecondZero c.args.text.now) read.result s read.ensures.only read.ensures.found is)
+
+pub returns-in-Crontab-clause-found : goal.returns-in-Crontab-clause-found
+returns-in-Crontab-clause-found c =
+    let read = c.read_at_second_zero in
+    rw c.in-Crontab.is (err_iff (IsAtSecondZero c.args.text.now) read.result read.ensures.read read.ensures.found)
+
+pub returns-in-Crontab-clause-error : goal.returns-in-Crontab-clause-error
+unfolding timed_error
+returns-in-Crontab-clause-error c = rw c.in-Crontab.is c.read_at_second_zero.ensures.error
+
+pub returns-in-Seconds-clause-found : goal.returns-in-Seconds-clause-found
+returns-in-Seconds-clause-found c =
+    let read = c.read_with_seconds in
+    rw c.in-Seconds.is (err_iff (IsTimedText Seconds c.args.text.now) read.result read.ensures.read read.ensures.found)
+
+pub returns-in-Seconds-clause-every : goal.returns-in-Seconds-clause-every
+returns-in-Seconds-clause-every c =
+    let read = c.read_with_seconds in
+    rw c.in-Seconds.is (λ s is. is_ok_of (IsTimedText Seconds c.args.text.now) read.result s read.ensures.only read.ensures.found is)

@@ -1,0 +1,10 @@
+-- No byte so far is a blank.
+use Rattle.std.proofs.Common.{◌≤◌, ◌-◌, length}
+use Rattle.timed_cron.specs.Private.{AreOfWord}
+use Rattle.timed_cron.proofs.words.word_end.Given as goal
+
+abbrev pub invariant-loop-place : goal.invariant-loop-place
+invariant-loop-place l = (l.fn.from ≤ l.place) × (l.place ≤ length l.text) × AreOfWord l.text l.fn.from l.place
+
+abbrev pub decreases-loop-place : goal.decreases-loop-place
+decreases-loop-place l = length l.text - l.place

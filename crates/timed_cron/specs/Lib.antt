@@ -1,0 +1,4 @@
+pub mod DueSeconds
+pub mod Private
+pub mod TimedErrors
+pub mod TimedTexts

@@ -1,0 +1,57 @@
+-- Words of functions that are not public.
+use Rattle.std.specs.Prelude.{◌≡◌, ℕ, ◌-◌, ◌<◌, ◌≤◌, true, false, ◌&&◌, List, [], ◌∷◌, length, take, drop, slice_index, None}
+use Rattle.chrono_text.specs.Lists.{is_blank}
+use Rattle.chrono_datetime.specs.Moment.{Moment}
+use Rattle.chrono_datetime.specs.PassedOver.{PassedNumbers}
+use Rattle.chrono_sets.specs.FiniteSets.{has}
+use Rattle.chrono_cron.specs.Due.{is_due}
+use Rattle.chrono_cron.specs.FieldTexts.{field_lists}
+use Rattle.chrono_cron.specs.PlacedWords.{placed_words}
+use Rattle.chrono_cron.specs.declared.text.number_names.Names.TheVariants.{Numbers}
+use Rattle.timed_cron.specs.declared.timed_schedule.TimedSchedule.{TimedSchedule}
+
+-- the schedule is due at none of the seconds, from one up to before another, of the minute that begins at a moment
+abbrev pub NoSecondIn : TimedSchedule → Moment → ℕ → ℕ → Type 0
+NoSecondIn s minute from end = PassedNumbers (λ k. is_due s.schedule.sets minute && has s.seconds k) from end
+
+-- the bytes from one place up to before another are blanks
+abbrev pub AreBlank : List ℕ → ℕ → ℕ → Type 0
+AreBlank text from end = (k : ℕ) → from ≤ k → k < end → is_blank (slice_index text k) ≡ true
+
+-- and here none is
+abbrev pub AreOfWord : List ℕ → ℕ → ℕ → Type 0
+AreOfWord text from end = (k : ℕ) → from ≤ k → k < end → is_blank (slice_index text k) ≡ false
+
+-- the first word that begins at a place or after it has these two ends
+pub record IsWordAt (text : List ℕ) (from place end : ℕ) : Type 0 where
+  pub order : from ≤ place
+  pub blanks : AreBlank text from place
+  pub some : place < end
+  pub word : AreOfWord text place end
+  pub within : end ≤ length text
+  pub behind : end < length text → is_blank (slice_index text end) ≡ true
+
+-- from a place on there are four words, and the third of them ends at another
+pub record HasFourWords (text : List ℕ) (from third : ℕ) : Type 0 where
+  pub c : ℕ × List ℕ
+  pub d : ℕ × List ℕ
+  pub e : ℕ × List ℕ
+  pub f : ℕ × List ℕ
+  pub all : placed_words from (drop from text) ≡ c ∷ d ∷ e ∷ f ∷ []
+  pub front : placed_words from (drop from (take third text)) ≡ c ∷ d ∷ e ∷ []
+  pub order : from ≤ third
+  pub within : third ≤ length text
+
+-- the bytes of a word with these two ends
+abbrev pub bytes_of : List ℕ → ℕ → ℕ → List ℕ
+bytes_of text place end = take (end - place) (drop place text)
+
+-- the text has five words, of which the first is no field of minutes
+pub record IsUnreadFirst (text : List ℕ) : Type 0 where
+  pub a : ℕ × List ℕ
+  pub b : ℕ × List ℕ
+  pub c : ℕ × List ℕ
+  pub d : ℕ × List ℕ
+  pub e : ℕ × List ℕ
+  pub words : placed_words 0 text ≡ a ∷ b ∷ c ∷ d ∷ e ∷ []
+  pub unread : (k : ℕ) → field_lists Numbers 0 59 a.1 k ≡ None
