@@ -1,13 +1,7 @@
 //! Where closed days go.
 
-use crate::closed::years_of;
-use crate::holidays::{Holidays, holidays_of};
 use crate::prelude::*;
-use crate::texts::{Start, read_day};
-use crate::values::{begins_as_day, day_of};
 use chrono_business::Roll;
-use chrono_datetime::NaiveDate;
-use std::io;
 
 const CONVENTIONS: &[&str] = &[
     "following",
@@ -52,8 +46,7 @@ struct Rolls {
 // Where the day, or that of each line, goes; the exit status.
 pub(crate) fn answer<'a>(rt: &HostRuntime, asked: &mut Asked<'a>) -> Answered<'a> {
     let (date, roll) = value!(read(asked.word(0), asked.words.operand(1)));
-    let form = asked.form;
-    let holidays = value!(holidays_of(rt, asked));
+    let (form, holidays) = (asked.form, value!(holidays_of(rt, asked)));
     let mut rolls = Rolls {
         form,
         roll,
@@ -74,7 +67,7 @@ fn read<'a>(
         Some(second) if first.text == "-" => Ok((None, value!(roll_of(second)))),
         Some(second) => Ok((Some(value!(day_of(first))), value!(roll_of(second)))),
         None if begins_as_day(first) => match day_of(first) {
-            Ok(_) => Err(Fault::Missing("CONVENTION")),
+            Ok(_) => Err(Fault::Missing("CONVENTION", "")),
             Err(fault) => Err(fault),
         },
         None => Ok((None, value!(roll_of(first)))),
@@ -100,15 +93,10 @@ impl Rolls {
         let calendar = self.holidays.calendar(years_of(date, date))?;
         match calendar.roll(date, self.roll) {
             Some(day) => print_reply(rt, self.form, Reply::Date(day)),
-            None => print_nowhere(
-                rt,
-                self.form,
-                NONE,
-                place,
-                &Start::Day(date),
-                "",
-                Nowhere::Past,
-            ),
+            None => {
+                let (form, from) = (self.form, Start::Day(date));
+                print_nowhere(rt, form, NONE, place, &from, "", Nowhere::Past)
+            }
         }
     }
 }
