@@ -66,7 +66,7 @@ pub(crate) fn answer<'a>(rt: &HostRuntime, asked: &mut Asked<'a>) -> Answered<'a
         timed,
     };
     match start {
-        Some(start) => Ok(add.answer_start(rt, Place::Alone, start)?),
+        Some(start) => Ok(add.answer_start(rt, ALONE, start)?),
         None => take_input(rt, &mut add),
     }
 }
@@ -124,7 +124,7 @@ fn put_move<A: Allocator>(moves: &mut Vec<Move, A>, by: Move) -> io::Result<()> 
 
 impl<'a> Add<'a> {
     // What is moved, by each move in turn, or `none` where one leads nowhere; the exit status.
-    fn answer_start(&mut self, rt: &HostRuntime, place: Place, start: Start) -> io::Result<u8> {
+    fn answer_start(&mut self, rt: &HostRuntime, number: u64, start: Start) -> io::Result<u8> {
         let mut last = start;
         let mut step: usize = 0;
         for by in self.moves.as_slice() {
@@ -133,7 +133,7 @@ impl<'a> Add<'a> {
                 Err(why) => {
                     let by = text_at(self.texts.as_slice(), step);
                     let none = self.instants.form.none_of(last);
-                    return print_nowhere(rt, self.form, none, place, &last, by, why);
+                    return print_nowhere(rt, self.form, none, number, &last, by, why);
                 }
             }
             step = step.saturating_add(1);
@@ -142,23 +142,22 @@ impl<'a> Add<'a> {
     }
 
     // What a date-time of a line comes to, which no `m` moves; the exit status.
-    fn answer_moment(&mut self, rt: &HostRuntime, place: Place, start: Start) -> io::Result<u8> {
+    fn answer_moment(&mut self, rt: &HostRuntime, number: u64, start: Start) -> io::Result<u8> {
         let Some(Word { text, .. }) = self.short else {
-            return self.answer_start(rt, place, start);
+            return self.answer_start(rt, number, start);
         };
         let none = self.instants.form.no_moment();
-        print_nowhere(rt, self.form, none, place, &start, text, Nowhere::Months)
+        print_nowhere(rt, self.form, none, number, &start, text, Nowhere::Months)
     }
 }
 
 impl<'a> EachLine for Add<'a> {
     fn take_line(&mut self, rt: &HostRuntime, number: u64, line: &[u8]) -> io::Result<u8> {
-        let place = Place::Line(number);
         let form = self.instants.form;
         match self.instants.read(line) {
             Some(Start::Day(_)) if self.timed => print_reply(rt, self.form, form.no_moment()),
-            Some(start @ Start::Day(_)) => self.answer_start(rt, place, start),
-            Some(start) => self.answer_moment(rt, place, start),
+            Some(start @ Start::Day(_)) => self.answer_start(rt, number, start),
+            Some(start) => self.answer_moment(rt, number, start),
             None if self.timed => print_reply(rt, self.form, form.no_moment()),
             None => print_reply(rt, self.form, form.none_of_text(line)),
         }

@@ -67,9 +67,8 @@ pub(crate) fn holidays_of<'a>(rt: &HostRuntime, asked: &Asked<'a>) -> Result<Hol
         days: Vec::new(rt.alloc()),
         years: None,
     };
-    match asked.value("--holidays") {
-        Some(word) => value!(put_listed(rt, word, &mut holidays.listed)),
-        None => {}
+    if let Some(word) = asked.value("--holidays") {
+        value!(put_listed(rt, word, &mut holidays.listed));
     }
     Ok(holidays)
 }

@@ -29,7 +29,7 @@ pub(crate) fn answer<'a>(rt: &HostRuntime, asked: &mut Asked<'a>) -> Answered<'a
     match instants_of(from.as_ref().unwrap_or(&zone), start) {
         MappedLocalTime::None => {
             let (form, none) = (asked.form, asked.none);
-            Ok(print_nowhere(rt, form, none, Place::Alone, &start, "", Nowhere::Never)?)
+            Ok(print_nowhere(rt, form, none, ALONE, &start, "", Nowhere::Never)?)
         }
         MappedLocalTime::Single(only) => print_in(rt, asked, &zone, only),
         MappedLocalTime::Ambiguous(earlier, later) => {

@@ -55,14 +55,8 @@ pub(crate) fn take_input<'a>(rt: &HostRuntime, command: &mut impl EachLine) -> A
     take_lines(rt, INPUT, rt.reader(), command)
 }
 
-/// Which line of the input is answered.
-#[derive(Clone, Copy)]
-pub(crate) enum Place {
-    /// The words ask for one answer alone.
-    Alone,
-    /// The line of this number, from 1 on.
-    Line(u64),
-}
+/// In place of a line's number, where the words ask for one answer alone.
+pub(crate) const ALONE: u64 = 0;
 
 /// Why a move leads nowhere.
 #[derive(Clone, Copy)]
@@ -82,14 +76,14 @@ pub(crate) fn print_nowhere(
     rt: &HostRuntime,
     form: OutputForm,
     none: Reply,
-    place: Place,
+    number: u64,
     from: &Start,
     by: &str,
     why: Nowhere,
 ) -> io::Result<u8> {
     let status = print_reply(rt, form, none)?;
     let mut text = String::new(rt.alloc());
-    if let Place::Line(number) = place {
+    if number != ALONE {
         text.push_str("line ")?;
         show(&mut text, &number)?;
         text.push_str(": ")?;

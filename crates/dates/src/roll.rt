@@ -53,7 +53,7 @@ pub(crate) fn answer<'a>(rt: &HostRuntime, asked: &mut Asked<'a>) -> Answered<'a
         holidays,
     };
     match date {
-        Some(date) => Ok(rolls.answer_day(rt, Place::Alone, date)?),
+        Some(date) => Ok(rolls.answer_day(rt, ALONE, date)?),
         None => take_input(rt, &mut rolls),
     }
 }
@@ -89,13 +89,13 @@ fn roll_of<'a>(word: Word<'a>) -> Result<Roll, Fault<'a>> {
 
 impl Rolls {
     // The day that a day rolls to, or `none` where the calendar ends before; the exit status.
-    fn answer_day(&mut self, rt: &HostRuntime, place: Place, date: NaiveDate) -> io::Result<u8> {
+    fn answer_day(&mut self, rt: &HostRuntime, number: u64, date: NaiveDate) -> io::Result<u8> {
         let calendar = self.holidays.calendar(years_of(date, date))?;
         match calendar.roll(date, self.roll) {
             Some(day) => print_reply(rt, self.form, Reply::Date(day)),
             None => {
                 let (form, from) = (self.form, Start::Day(date));
-                print_nowhere(rt, form, NONE, place, &from, "", Nowhere::Past)
+                print_nowhere(rt, form, NONE, number, &from, "", Nowhere::Past)
             }
         }
     }
@@ -104,7 +104,7 @@ impl Rolls {
 impl EachLine for Rolls {
     fn take_line(&mut self, rt: &HostRuntime, number: u64, line: &[u8]) -> io::Result<u8> {
         match read_day(line) {
-            Ok(date) => self.answer_day(rt, Place::Line(number), date),
+            Ok(date) => self.answer_day(rt, number, date),
             Err(_) => print_reply(rt, self.form, NONE),
         }
     }

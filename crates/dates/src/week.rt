@@ -22,7 +22,7 @@ pub(crate) fn answer<'a>(rt: &HostRuntime, asked: &mut Asked<'a>) -> Answered<'a
         Some(last) => asked.print(rt, Reply::Week(first, last)),
         None => {
             let (form, none, from) = (asked.form, Reply::NoWeek(Some(first)), Start::Day(first));
-            Ok(print_nowhere(rt, form, none, Place::Alone, &from, "6d", Nowhere::Past)?)
+            Ok(print_nowhere(rt, form, none, ALONE, &from, "6d", Nowhere::Past)?)
         }
     }
 }

@@ -72,8 +72,8 @@ impl Instants {
     // The day, the date-time or the instant as the zone's clock shows it, if it shows it once.
     pub(crate) fn placed(&self, start: Start) -> Option<Start> {
         match (&self.zone, start) {
-            (Some(zone), Start::DateTime(local)) => {
-                Some(Start::Stamp(instants_of_local(zone, local).single()?))
+            (Some(zone), Start::DateTime(_)) => {
+                Some(Start::Stamp(instants_of(zone, start).single()?))
             }
             (Some(zone), Start::Stamp(stamp)) => Some(Start::Stamp(shown_in(zone, stamp)?)),
             _ => Some(start),
@@ -85,10 +85,14 @@ impl Instants {
         self.once(word, value!(start_of(self.form, word)))
     }
 
-    // What a word names, as the zone's clock shows it, if it shows it once.
+    // What a word names, as the zone's clock shows it, if it shows it once. A day is nothing to a zone.
     pub(crate) fn once<'a>(&self, word: Word<'a>, start: Start) -> Result<Start, Fault<'a>> {
-        self.placed(start)
-            .ok_or(Fault::NoSuch(word, Cause::NotOnce))
+        match start {
+            Start::Day(_) if self.zone.is_some() => Err(Fault::expected(word, MOMENTS)),
+            _ => self
+                .placed(start)
+                .ok_or(Fault::NoSuch(word, Cause::NotOnce)),
+        }
     }
 
     // Another day at the same time of day, where there is one; the same day stays the same instant.
@@ -120,18 +124,11 @@ pub(crate) fn instants_of(
     zone: &OwnedZone,
     start: Start,
 ) -> MappedLocalTime<DateTime<FixedOffset>> {
-    match start {
-        Start::Stamp(stamp) => MappedLocalTime::Single(stamp),
-        _ => instants_of_local(zone, start.local()),
+    if let Start::Stamp(stamp) = start {
+        return MappedLocalTime::Single(stamp);
     }
-}
-
-fn instants_of_local(
-    zone: &OwnedZone,
-    local: NaiveDateTime,
-) -> MappedLocalTime<DateTime<FixedOffset>> {
     let lent = zone.zone();
-    match (&lent).from_local_datetime(&local) {
+    match (&lent).from_local_datetime(&start.local()) {
         MappedLocalTime::None => MappedLocalTime::None,
         MappedLocalTime::Single(only) => MappedLocalTime::Single(only.fixed_offset()),
         MappedLocalTime::Ambiguous(earlier, later) => {
@@ -159,7 +156,7 @@ pub(crate) fn print_in<'a>(
     let form = asked.form;
     let Some(shown) = shown_in(zone, stamp) else {
         let from = Start::Stamp(stamp);
-        return Ok(print_nowhere(rt, form, asked.none, Place::Alone, &from, "", Nowhere::Past)?);
+        return Ok(print_nowhere(rt, form, asked.none, ALONE, &from, "", Nowhere::Past)?);
     };
     let name = zone.abbreviation(stamp.timestamp()).unwrap_or("");
     println!(rt; "{}", ZonedLine { form, shown, name })?;
