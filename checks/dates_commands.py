@@ -381,9 +381,7 @@ def of_zoned_add(chance, _):
 
     found = instants_at(local, zone)
     if len(found) != 1:
-        asked = no_answer(word)
-        asked.objects = [{"date": None}]
-        return asked
+        return no_answer(word)
     for text, move in moves:
         last = found[0].astimezone(zone)
         if text.lstrip("-0123456789") in ("d", "w", "mo", "y"):

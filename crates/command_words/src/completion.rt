@@ -1,7 +1,7 @@
 //! Completion of a program's words by bash, zsh and fish.
 
+use crate::pieces::{Put, put, put_each};
 use crate::table::{CommandRow, Opt, Program};
-use std::fmt;
 
 /// A shell.
 #[derive(Clone, Copy)]
@@ -14,129 +14,128 @@ pub enum Shell {
     Fish,
 }
 
-/// The completion of a program for a shell: a command, then its options and the words that its operands and values may be.
-#[derive(Clone, Copy)]
-pub struct Completion<'a, 'b> {
-    /// The program.
-    pub program: &'a Program<'b>,
-    /// The shell.
-    pub shell: Shell,
-}
-
-impl fmt::Display for Completion<'_, '_> {
-    /// Writes what the shell reads.
-    fn fmt<W: fmt::Write>(&self, f: &mut fmt::Formatter<W>) -> fmt::Result {
-        match self.shell {
-            Shell::Bash => write_bash(f, self.program),
-            Shell::Zsh => {
-                writeln!(f, "#compdef {}", self.program.name)?;
-                f.write_str("autoload -U +X bashcompinit && bashcompinit\n")?;
-                write_bash(f, self.program)
-            }
-            Shell::Fish => write_fish(f, self.program),
+/// Puts the completion for a shell behind a text: a command, then its options and the words that its operands and values may be.
+pub fn put_completion(out: &mut String, program: &Program<'_>, shell: Shell) -> Put {
+    match shell {
+        Shell::Bash => put_bash(out, program),
+        Shell::Zsh => {
+            put(out, &["#compdef ", program.name, ZSH])?;
+            put_bash(out, program)
         }
+        Shell::Fish => put_fish(out, program),
     }
 }
+
+// How zsh takes the completion of bash.
+const ZSH: &str = "\nautoload -U +X bashcompinit && bashcompinit\n";
+
+// What the function for bash does first.
+const BEGIN: &str = "()\n{\n    local IFS=$'\\n' word=${COMP_WORDS[COMP_CWORD]}\n    \
+    local command=$((COMP_CWORD > 1)); command=${COMP_WORDS[command]}\n    \
+    case $command:${COMP_WORDS[COMP_CWORD - 1]} in\n";
+
+// How bash offers words: what stands in front of them, and what behind.
+const OFFER: &str = "COMPREPLY=($(compgen -W $'";
+
+const OFFERED: &str = "' -- \"$word\"))";
+
+// How bash offers the names of files.
+const FILES: &str = "COMPREPLY+=($(compgen -f -- \"$word\")); compopt -o filenames 2>/dev/null";
+
+// What ends a case of bash, and a word that is offered.
+const CASE: &str = " ;;\n";
+
+const WORD: &str = "\\n";
 
 // The function that bash calls.
-fn write_bash<W: fmt::Write>(f: &mut fmt::Formatter<W>, program: &Program<'_>) -> fmt::Result {
+fn put_bash(out: &mut String, program: &Program<'_>) -> Put {
     let name = program.name;
-    writeln!(f, "# Completion of {name}.\n_{name}()\n{{")?;
-    f.write_str("    local IFS=$'\\n' word=${COMP_WORDS[COMP_CWORD]}\n")?;
-    f.write_str("    local command=$((COMP_CWORD > 1)); command=${COMP_WORDS[command]}\n")?;
-    f.write_str("    case $command:${COMP_WORDS[COMP_CWORD - 1]} in\n")?;
+    put(out, &["# Completion of ", name, ".\n_", name, BEGIN])?;
     for command in program.commands {
-        for option in command.options {
-            write_value(f, command.name, option)?;
-        }
-        for operand in command.operands {
-            if !operand.keyword.is_empty() {
-                write!(f, "    {}:{}) ", command.name, operand.keyword)?;
-                write_offer(f, operand.values)?;
-            }
-        }
-        if !command.name.is_empty() {
-            write!(f, "    {}:*) ", command.name)?;
-            write_words(f, command)?;
-        }
+        put_cases(out, command)?;
     }
-    f.write_str("    *) COMPREPLY=($(compgen -W $'")?;
+    put(out, &["    *) ", OFFER])?;
     for command in program.commands {
-        write!(f, "{}\\n", command.name)?;
+        put(out, &[command.name, WORD])?;
     }
-    for option in program.alone {
-        write!(f, "{}\\n", option.name)?;
-    }
-    writeln!(
-        f,
-        "' -- \"$word\")) ;;\n    esac\n}}\ncomplete -o default -F _{name} {name}"
-    )
+    put_names(out, program.alone)?;
+    put(
+        out,
+        &[OFFERED, CASE, "    esac\n}\ncomplete -o default -F _"],
+    )?;
+    put(out, &[name, " ", name, "\n"])
 }
 
-// What bash offers behind an option: a few values, or the names of files.
-fn write_value<W: fmt::Write>(
-    f: &mut fmt::Formatter<W>,
-    command: &str,
-    option: &Opt,
-) -> fmt::Result {
-    if option.value == "FILE" {
-        writeln!(f, "    {command}:{}) {FILES} ;;", option.name)?;
-    } else if !option.value.is_empty() {
-        write!(f, "    {command}:{}) ", option.name)?;
-        write_offer(f, option.values)?;
+// What bash offers behind a command.
+fn put_cases(out: &mut String, command: &CommandRow) -> Put {
+    let name = command.name;
+    for option in command.options {
+        if option.value == "FILE" {
+            put(out, &["    ", name, ":", option.name, ") ", FILES, CASE])?;
+        } else if !option.value.is_empty() {
+            put_case(out, name, option.name, option.values)?;
+        }
+    }
+    for operand in command.operands {
+        if !operand.keyword.is_empty() {
+            put_case(out, name, operand.keyword, operand.values)?;
+        }
+    }
+    if name.is_empty() {
+        return Ok(());
+    }
+    put(out, &["    ", name, ":*) "])?;
+    put_words(out, command)
+}
+
+// That bash offers these words behind another of a command.
+fn put_case(out: &mut String, command: &str, word: &str, values: &'static [&'static str]) -> Put {
+    put(out, &["    ", command, ":", word, ") ", OFFER])?;
+    put_each(out, values, WORD)?;
+    put(out, &[OFFERED, CASE])
+}
+
+// What bash offers where a command has an operand or an option.
+fn put_words(out: &mut String, command: &CommandRow) -> Put {
+    out.push_str(OFFER)?;
+    let mut files = "";
+    for operand in command.operands {
+        if operand.name == "FILE" {
+            files = "; ";
+        }
+        if operand.keyword.is_empty() {
+            put_each(out, operand.values, WORD)?;
+        }
+    }
+    put_names(out, command.options)?;
+    out.push_str(OFFERED)?;
+    if !files.is_empty() {
+        put(out, &[files, FILES])?;
+    }
+    out.push_str(CASE)
+}
+
+// The names of options, as bash offers them.
+fn put_names(out: &mut String, options: &'static [Opt]) -> Put {
+    for option in options {
+        put(out, &[option.name, WORD])?;
     }
     Ok(())
 }
 
-// What bash does to offer the names of files.
-const FILES: &str = "COMPREPLY+=($(compgen -f -- \"$word\")); compopt -o filenames 2>/dev/null";
-
-// What bash does to offer words.
-fn write_offer<W: fmt::Write>(
-    f: &mut fmt::Formatter<W>,
-    words: &'static [&'static str],
-) -> fmt::Result {
-    f.write_str("COMPREPLY=($(compgen -W $'")?;
-    for word in words {
-        write!(f, "{word}\\n")?;
-    }
-    f.write_str("' -- \"$word\")) ;;\n")
-}
-
-// What bash offers where a command has an operand or an option.
-fn write_words<W: fmt::Write>(f: &mut fmt::Formatter<W>, command: &CommandRow) -> fmt::Result {
-    f.write_str("COMPREPLY=($(compgen -W $'")?;
-    let mut files = false;
-    for operand in command.operands {
-        files = files || operand.name == "FILE";
-        if operand.keyword.is_empty() {
-            for word in operand.values {
-                write!(f, "{word}\\n")?;
-            }
-        }
-    }
-    for option in command.options {
-        write!(f, "{}\\n", option.name)?;
-    }
-    f.write_str("' -- \"$word\"))")?;
-    if files {
-        write!(f, "; {FILES}")?;
-    }
-    f.write_str(" ;;\n")
-}
-
 // A line for each command and for each of its options.
-fn write_fish<W: fmt::Write>(f: &mut fmt::Formatter<W>, program: &Program<'_>) -> fmt::Result {
+fn put_fish(out: &mut String, program: &Program<'_>) -> Put {
     let name = program.name;
     for command in program.commands {
-        let (word, help) = (command.name, command.help);
+        let word = command.name;
         if !word.is_empty() {
-            writeln!(
-                f,
-                "complete -c {name} -n __fish_use_subcommand -a {word} -d '{help}'"
+            put(
+                out,
+                &["complete -c ", name, " -n __fish_use_subcommand -a ", word],
             )?;
+            put(out, &[" -d '", command.help, "'\n"])?;
             for option in command.options {
-                write_fish_option(f, name, word, option)?;
+                put_fish_option(out, name, word, option)?;
             }
         }
     }
@@ -144,23 +143,22 @@ fn write_fish<W: fmt::Write>(f: &mut fmt::Formatter<W>, program: &Program<'_>) -
 }
 
 // The line of an option of a command.
-fn write_fish_option<W: fmt::Write>(
-    f: &mut fmt::Formatter<W>,
-    name: &str,
-    word: &str,
-    option: &Opt,
-) -> fmt::Result {
-    let (_, long) = option.name.split_at_checked(2).unwrap_or(("", ""));
-    write!(
-        f,
-        "complete -c {name} -n '__fish_seen_subcommand_from {word}' -l {long}"
+fn put_fish_option(out: &mut String, name: &'static str, word: &'static str, option: &Opt) -> Put {
+    let long = option.name.strip_prefix("--").unwrap_or("");
+    put(
+        out,
+        &[
+            "complete -c ",
+            name,
+            " -n '__fish_seen_subcommand_from ",
+            word,
+        ],
     )?;
-    if option.value.is_empty() {
-        return f.write_str("\n");
+    put(out, &["' -l ", long])?;
+    if !option.value.is_empty() {
+        out.push_str(" -r -a '")?;
+        put_each(out, option.values, " ")?;
+        out.push_str("'")?;
     }
-    f.write_str(" -r -a '")?;
-    for value in option.values {
-        write!(f, "{value} ")?;
-    }
-    f.write_str("'\n")
+    out.push_str("\n")
 }

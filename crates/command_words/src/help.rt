@@ -1,191 +1,134 @@
 //! Help, as a terminal of 80 columns shows it.
 
+use crate::pieces::{Put, put};
 use crate::table::{CommandRow, Operand, Opt, Program};
-use std::fmt;
 
-/// How a command is called, as `dates add [DAY] SPAN... [OPTION]...`.
-#[derive(Clone, Copy)]
-pub struct Usage<'a> {
-    /// The name of the program.
-    pub program: &'a str,
-    /// The command.
-    pub command: &'a CommandRow,
-}
-
-impl fmt::Display for Usage<'_> {
-    /// Writes the program, the command, its operands and its options that have to be given.
-    fn fmt<W: fmt::Write>(&self, f: &mut fmt::Formatter<W>) -> fmt::Result {
-        let Usage { program, command } = *self;
-        f.write_str(program)?;
-        if !command.name.is_empty() {
-            write!(f, " {}", command.name)?;
-        }
-        for operand in command.operands {
-            write_operand(f, operand)?;
-        }
-        for option in command.options {
-            if option.required {
-                write!(f, " {} {}", option.name, option.value)?;
-            }
-        }
-        f.write_str(" [OPTION]...")
+/// Puts behind a text how a command is called, as `dates add [DAY] SPAN... [OPTION]...`: with its options that have to be given.
+pub fn put_usage(out: &mut String, program: &str, command: &CommandRow) -> Put {
+    out.push_str(program)?;
+    if !command.name.is_empty() {
+        put(out, &[" ", command.name])?;
     }
+    for operand in command.operands {
+        put_operand(out, operand)?;
+    }
+    for option in command.options {
+        if option.required {
+            put(out, &[" ", option.name, " ", option.value])?;
+        }
+    }
+    out.push_str(" [OPTION]...")
 }
 
 // An operand with a space in front of it.
-fn write_operand<W: fmt::Write>(f: &mut fmt::Formatter<W>, operand: &Operand) -> fmt::Result {
-    let (word, name) = (operand.keyword, operand.name);
-    let gap = text_if(!word.is_empty(), " ");
-    let more = text_if(operand.many, "...");
-    if operand.required {
-        write!(f, " {word}{gap}{name}{more}")
+fn put_operand(out: &mut String, operand: &Operand) -> Put {
+    let (open, close) = if operand.required {
+        ("", "")
     } else {
-        write!(f, " [{word}{gap}{name}{more}]")
-    }
+        ("[", "]")
+    };
+    let gap = if operand.keyword.is_empty() { "" } else { " " };
+    let more = if operand.many { "..." } else { "" };
+    put(
+        out,
+        &[" ", open, operand.keyword, gap, operand.name, more, close],
+    )
 }
 
-// The text where that holds, and else nothing.
-fn text_if(holds: bool, text: &'static str) -> &'static str {
-    if holds { text } else { "" }
-}
-
-/// The words that a value may be, as `a, b or c`.
-#[derive(Clone, Copy)]
-pub struct Choices {
-    /// The words.
-    pub values: &'static [&'static str],
-}
-
-impl fmt::Display for Choices {
-    /// Writes the words with commas between them, and `or` before the last.
-    fn fmt<W: fmt::Write>(&self, f: &mut fmt::Formatter<W>) -> fmt::Result {
-        let mut left = self.values.len();
-        for value in self.values {
-            f.write_str(value)?;
-            left = left.saturating_sub(1);
-            f.write_str(match left {
-                0 => "",
-                1 => " or ",
-                _ => ", ",
-            })?;
-        }
-        Ok(())
-    }
-}
-
-/// What there is to know of a command.
-#[derive(Clone, Copy)]
-pub struct CommandHelp<'a, 'b, 'c> {
-    /// The program.
-    pub program: &'a Program<'b>,
-    /// The command.
-    pub command: &'c CommandRow,
-}
-
-impl fmt::Display for CommandHelp<'_, '_, '_> {
-    /// Writes how the command is called, what it does, its options and an example.
-    fn fmt<W: fmt::Write>(&self, f: &mut fmt::Formatter<W>) -> fmt::Result {
-        let CommandHelp { program, command } = *self;
-        let usage = Usage {
-            program: program.name,
-            command,
+/// Puts behind a text the words that a value may be, as `a, b or c`.
+pub fn put_choices(out: &mut String, values: &'static [&'static str]) -> Put {
+    let mut left = values.len();
+    for value in values {
+        left = left.saturating_sub(1);
+        let end = match left {
+            0 => "",
+            1 => " or ",
+            _ => ", ",
         };
-        writeln!(f, "Usage: {usage}")?;
-        write_sentence(f, command.help)?;
-        if !command.more.is_empty() {
-            writeln!(f, "\n{}", command.more)?;
-        }
-        f.write_str("\nOptions:\n")?;
-        for option in command.options {
-            write_option(f, option)?;
-        }
-        if command.example.is_empty() {
-            return Ok(());
-        }
-        f.write_str("\nExample:\n")?;
-        for line in command.example.split('\n') {
-            writeln!(f, "  {line}")?;
-        }
-        Ok(())
+        put(out, &[value, end])?;
     }
+    Ok(())
 }
 
-/// What there is to know of a program.
-#[derive(Clone, Copy)]
-pub struct ProgramHelp<'a, 'b> {
-    /// The program.
-    pub program: &'a Program<'b>,
+/// Puts behind a text what there is to know of a command: how it is called, what it does, its options and an example.
+pub fn put_command_help(out: &mut String, program: &Program<'_>, command: &CommandRow) -> Put {
+    out.push_str("Usage: ")?;
+    put_usage(out, program.name, command)?;
+    put_sentence(out, command.help)?;
+    if !command.more.is_empty() {
+        put(out, &["\n", command.more, "\n"])?;
+    }
+    put_options(out, command.options)?;
+    if command.example.is_empty() {
+        return Ok(());
+    }
+    out.push_str("\nExample:\n")?;
+    for line in command.example.split('\n') {
+        put(out, &["  ", line, "\n"])?;
+    }
+    Ok(())
 }
 
-impl fmt::Display for ProgramHelp<'_, '_> {
-    /// Writes how the program is called, its commands and its options.
-    fn fmt<W: fmt::Write>(&self, f: &mut fmt::Formatter<W>) -> fmt::Result {
-        let program = self.program;
-        f.write_str("Usage:")?;
-        for command in program.commands {
-            if command.name.is_empty() {
-                let usage = Usage {
-                    program: program.name,
-                    command,
-                };
-                write!(f, " {usage}\n   or:")?;
-            }
+/// Puts behind a text what there is to know of a program: how it is called, its commands and its options.
+pub fn put_program_help(out: &mut String, program: &Program<'_>) -> Put {
+    out.push_str("Usage:")?;
+    for command in program.commands {
+        if command.name.is_empty() {
+            out.push_str(" ")?;
+            put_usage(out, program.name, command)?;
+            out.push_str("\n   or:")?;
         }
-        writeln!(f, " {} COMMAND [ARGUMENT]... [OPTION]...", program.name)?;
-        write_sentence(f, program.help)?;
-        f.write_str("\nCommands:\n")?;
-        for command in program.commands {
-            if !command.name.is_empty() {
-                write!(f, "  {}", command.name)?;
-                write_spaces(f, command.name.len(), 9)?;
-                writeln!(f, "{}", command.help)?;
-            }
-        }
-        f.write_str("\nOptions:\n")?;
-        for option in program.alone {
-            write_option(f, option)?;
-        }
-        writeln!(f, "\n{}", program.more)
     }
+    put(
+        out,
+        &[" ", program.name, " COMMAND [ARGUMENT]... [OPTION]..."],
+    )?;
+    put_sentence(out, program.help)?;
+    out.push_str("\nCommands:\n")?;
+    for command in program.commands {
+        if !command.name.is_empty() {
+            put(out, &["  ", command.name])?;
+            put_spaces(out, command.name.len(), 9)?;
+            put(out, &[command.help, "\n"])?;
+        }
+    }
+    put_options(out, program.alone)?;
+    put(out, &["\n", program.more, "\n"])
 }
 
 // So many columns are in front of what an option is for.
 const COLUMN: usize = 22;
 
-// An option, and what it is for behind it.
-fn write_option<W: fmt::Write>(f: &mut fmt::Formatter<W>, option: &Opt) -> fmt::Result {
-    write!(f, "  {}", option.name)?;
-    let mut used = option.name.len().saturating_add(2);
-    if !option.value.is_empty() {
-        write!(f, " {}", option.value)?;
-        used = used.saturating_add(option.value.len()).saturating_add(1);
-    }
-    for line in option.help.split('\n') {
-        write_spaces(f, used, COLUMN)?;
-        writeln!(f, "{line}")?;
-        used = 0;
+// Options, and what each is for behind it.
+fn put_options(out: &mut String, options: &'static [Opt]) -> Put {
+    out.push_str("\nOptions:\n")?;
+    for option in options {
+        let gap = if option.value.is_empty() { "" } else { " " };
+        let mut from = out.len();
+        put(out, &["  ", option.name, gap, option.value])?;
+        for line in option.help.split('\n') {
+            put_spaces(out, out.len().saturating_sub(from), COLUMN)?;
+            put(out, &[line, "\n"])?;
+            from = out.len();
+        }
     }
     Ok(())
 }
 
 // Spaces from one column to another.
-fn write_spaces<W: fmt::Write>(
-    f: &mut fmt::Formatter<W>,
-    used: usize,
-    column: usize,
-) -> fmt::Result {
+fn put_spaces(out: &mut String, used: usize, column: usize) -> Put {
     for _ in used..column {
-        f.write_str(" ")?;
+        out.push_str(" ")?;
     }
     Ok(())
 }
 
-// A text as a sentence of its own line: with a capital letter and a full stop.
-fn write_sentence<W: fmt::Write>(f: &mut fmt::Formatter<W>, text: &str) -> fmt::Result {
-    let (first, rest) = text.split_at_checked(1).unwrap_or(("", text));
-    match first.as_bytes() {
-        [letter, ..] => f.write_char(letter.to_ascii_uppercase() as char)?,
-        [] => {}
+// A text as a sentence of a line of its own: with a capital letter and a full stop.
+fn put_sentence(out: &mut String, text: &str) -> Put {
+    let mut letters = text.chars();
+    out.push_str("\n")?;
+    if let Some(first) = letters.next() {
+        out.push(first.to_ascii_uppercase())?;
     }
-    writeln!(f, "{rest}.")
+    put(out, &[letters.as_str(), ".\n"])
 }

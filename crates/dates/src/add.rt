@@ -1,15 +1,8 @@
 //! Days and date-times, moved by spans, open days and times.
 
-use crate::closed::years_of_open_days;
-use crate::holidays::{Holidays, holidays_of};
 use crate::prelude::*;
-use crate::texts::{Move, Start, read_move};
-use crate::values::InstantForm;
-use crate::zoned::{Instants, instants_by};
-use chrono_datetime::NaiveDate;
 use dates_answer::moved;
-use std::alloc::{Allocator, Global};
-use std::io;
+use std::alloc::Allocator;
 
 const SPAN: Operand = Operand {
     name: "SPAN",
@@ -37,108 +30,53 @@ pub(crate) fn command() -> CommandRow {
     }
 }
 
-// Steps, one after another: moves, and the words that write them.
-#[derive(Drop)]
-struct Steps<'a, A: Allocator> {
-    moves: Vec<Move, A>,
-    words: Vec<Word<'a>, A>,
-    // The first word that writes months by `m`.
-    short: Option<Word<'a>>,
-    // Whether a step is a time.
-    timed: bool,
-}
-
-impl<'a, A: Allocator> Steps<'a, A> {
-    // Puts a step behind the others.
-    fn push(&mut self, by: Move, word: Word<'a>) -> io::Result<()> {
-        match by {
-            Move::ShortMonths(_) if self.short.is_none() => self.short = Some(word),
-            Move::Time(_) => self.timed = true,
-            _ => {}
-        }
-        self.moves.push(by)?;
-        self.words.push(word)?;
-        Ok(())
-    }
-}
-
-// Steps, and the holidays among them.
+// What moves days and date-times: moves, and the texts that write them.
 #[derive(Drop)]
 struct Add<'a> {
     form: OutputForm,
     instants: Instants,
-    steps: Steps<'a, Global>,
     holidays: Holidays,
+    moves: Vec<Move>,
+    texts: Vec<&'a str>,
+    short: Option<Word<'a>>,
+    timed: bool,
 }
 
 // The day or the date-time, or that of each line, moved; the exit status.
 pub(crate) fn answer<'a>(rt: &HostRuntime, asked: &mut Asked<'a>) -> Answered<'a> {
     let instants = value!(instants_by(rt, asked));
-    let mut steps: Steps<'a, Global> = Steps {
-        moves: Vec::new(rt.alloc()),
-        words: Vec::new(rt.alloc()),
-        short: None,
-        timed: false,
+    let (first, words) = parted(asked.words.operands.as_slice());
+    let start = match first {
+        Some(word) => {
+            asked.none = instants.form.none_of_text(word.text.as_bytes());
+            Some(value!(instants.start_of(word)))
+        }
+        None => None,
     };
-    let start = value!(read(&instants, asked.words.operands.as_slice(), &mut steps));
-    answer_steps(rt, asked, instants, steps, start)
-}
-
-// What is moved by the steps; each line is, where it is `None`. The exit status.
-fn answer_steps<'a>(
-    rt: &HostRuntime,
-    asked: &Asked<'a>,
-    instants: Instants,
-    steps: Steps<'a, Global>,
-    start: Option<Start>,
-) -> Answered<'a> {
+    let mut moves: Vec<Move> = Vec::new(rt.alloc());
+    let mut texts: Vec<&'a str> = Vec::new(rt.alloc());
+    let (short, timed) = value!(read_moves(start, words, &mut moves, &mut texts));
     let mut add = Add {
         form: asked.form,
-        holidays: value!(holidays_of(rt, asked)),
         instants,
-        steps,
+        holidays: value!(holidays_of(rt, asked)),
+        moves,
+        texts,
+        short,
+        timed,
     };
     match start {
-        Some(start) => Ok(add.answer_start(rt, Place::Alone, start)?),
+        Some(start) => Ok(add.answer_start(rt, ALONE, start)?),
         None => take_input(rt, &mut add),
     }
 }
 
-// Reads what is moved, and puts at least one step into the list. Each line of the input is moved, as `None`, where the first word is
-// `-` or writes a step.
-fn read<'a>(
-    instants: &Instants,
-    words: &[Word<'a>],
-    steps: &mut Steps<'a, Global>,
-) -> Result<Option<Start>, Fault<'a>> {
-    let [first, rest @ ..] = words else {
-        return Err(Fault::Missing("SPAN"));
-    };
-    let start = match read_move(first.text.as_bytes()) {
-        _ if first.text == "-" => None,
-        None => Some(value!(instants.start_of(*first))),
-        Some(by) => {
-            steps.push(by, *first)?;
-            None
-        }
-    };
-    for word in rest {
-        value!(put_step(*word, start, steps));
-    }
-    value!(check_steps(start, steps));
-    Ok(start)
-}
-
-// Puts the step that a word writes into the list; no time moves a day.
-fn put_step<'a>(
-    word: Word<'a>,
-    start: Option<Start>,
-    steps: &mut Steps<'a, Global>,
-) -> Result<(), Fault<'a>> {
-    match (read_move(word.text.as_bytes()), start) {
-        (None, _) => Err(Fault::expected(word, MOVES)),
-        (Some(Move::Time(_)), Some(Start::Day(_))) => Err(Fault::expected(word, DAY_MOVES)),
-        (Some(by), _) => Ok(steps.push(by, word)?),
+// The word that is moved, and those of the moves. Each line of the input is moved where the first is `-` or writes a move.
+fn parted<'b, 'a>(words: &'b [Word<'a>]) -> (Option<Word<'a>>, &'b [Word<'a>]) {
+    match words {
+        [first, rest @ ..] if first.text == "-" => (None, rest),
+        [first, rest @ ..] if read_move(first.text.as_bytes()).is_none() => (Some(*first), rest),
+        _ => (None, words),
     }
 }
 
@@ -146,28 +84,56 @@ const MOVES: &str = "a span as 3d, -2w, 1mo, 4y, 5b, 36h, 90min, 15s or PT1.5S";
 
 const DAY_MOVES: &str = "a span of days, or a date-time before it as 2024-02-29T00:00";
 
-// There is a step, and none by `m`, which was meant for minutes, beside a time of day.
-fn check_steps<'a>(start: Option<Start>, steps: &Steps<'a, Global>) -> Result<(), Fault<'a>> {
-    match (steps.short, start) {
-        _ if steps.moves.is_empty() => Err(Fault::Missing("SPAN")),
-        (None, _) => Ok(()),
-        (Some(_), None | Some(Start::Day(_))) if !steps.timed => Ok(()),
-        (Some(word), _) => Err(Fault::Word(word, Cause::Months(word.text))),
+// Puts the moves that words write, and their texts, into lists; the first word that writes months by `m`, and whether a move is a time. No time moves a
+// day, and no `m`, which was meant for minutes, stands beside a time of day.
+fn read_moves<'a>(
+    start: Option<Start>,
+    words: &[Word<'a>],
+    moves: &mut Vec<Move>,
+    texts: &mut Vec<&'a str>,
+) -> Result<(Option<Word<'a>>, bool), Fault<'a>> {
+    let mut short = None;
+    let mut timed = false;
+    let of_day = matches!(start, Some(Start::Day(_)));
+    for word in words {
+        let Some(by) = read_move(word.text.as_bytes()) else {
+            return Err(Fault::expected(*word, MOVES));
+        };
+        match by {
+            Move::Time(_) if of_day => return Err(Fault::expected(*word, DAY_MOVES)),
+            Move::Time(_) => timed = true,
+            Move::ShortMonths(_) if short.is_none() => short = Some(*word),
+            _ => {}
+        }
+        put_move(moves, by)?;
+        texts.push(word.text)?;
+    }
+    match short {
+        _ if words.is_empty() => Err(Fault::Missing("SPAN", "")),
+        Some(word) if timed || start.is_some() && !of_day => {
+            Err(Fault::Word(word, Cause::Months(word.text)))
+        }
+        _ => Ok((short, timed)),
     }
 }
 
+// Puts a move behind others.
+fn put_move<A: Allocator>(moves: &mut Vec<Move, A>, by: Move) -> io::Result<()> {
+    Ok(moves.push(by)?)
+}
+
 impl<'a> Add<'a> {
-    // What is moved, by each step in turn, or `none` where one leads out of the calendar; the exit status.
-    fn answer_start(&mut self, rt: &HostRuntime, place: Place, start: Start) -> io::Result<u8> {
+    // What is moved, by each move in turn, or `none` where one leads nowhere; the exit status.
+    fn answer_start(&mut self, rt: &HostRuntime, number: u64, start: Start) -> io::Result<u8> {
         let mut last = start;
         let mut step: usize = 0;
-        for by in self.steps.moves.as_slice() {
+        for by in self.moves.as_slice() {
             match moved_by(&self.instants, last, *by, &mut self.holidays)? {
                 Ok(reached) => last = reached,
                 Err(why) => {
-                    let text = text_at(self.steps.words.as_slice(), step);
-                    let none = self.none_of(last);
-                    return print_nowhere(rt, self.form, none, place, &last, text, why);
+                    let by = text_at(self.texts.as_slice(), step);
+                    let none = self.instants.form.none_of(last);
+                    return print_nowhere(rt, self.form, none, number, &last, by, why);
                 }
             }
             step = step.saturating_add(1);
@@ -175,47 +141,33 @@ impl<'a> Add<'a> {
         print_reply(rt, self.form, self.instants.form.reply(last))
     }
 
-    // That there is no day, or no date-time, as is the start.
-    fn none_of(&self, start: Start) -> Reply {
-        match start {
-            Start::Day(_) => Reply::Nothing(Key::Date),
-            Start::DateTime(_) | Start::Stamp(_) => self.instants.form.no_moment(),
-        }
-    }
-
     // What a date-time of a line comes to, which no `m` moves; the exit status.
-    fn answer_moment(&mut self, rt: &HostRuntime, place: Place, start: Start) -> io::Result<u8> {
-        let Some(Word { text, .. }) = self.steps.short else {
-            return self.answer_start(rt, place, start);
+    fn answer_moment(&mut self, rt: &HostRuntime, number: u64, start: Start) -> io::Result<u8> {
+        let Some(Word { text, .. }) = self.short else {
+            return self.answer_start(rt, number, start);
         };
-        print_reply(rt, self.form, self.instants.form.no_moment())?;
-        let _ = eprintln!(rt; "{place}{start} {text}: months; minutes are {text}in");
-        Ok(NONE)
+        let none = self.instants.form.no_moment();
+        print_nowhere(rt, self.form, none, number, &start, text, Nowhere::Months)
     }
 }
 
 impl<'a> EachLine for Add<'a> {
     fn take_line(&mut self, rt: &HostRuntime, number: u64, line: &[u8]) -> io::Result<u8> {
-        let place = Place::Line(number);
-        let none = match self.instants.form {
-            InstantForm::Text if !self.steps.timed && !line.contains(&b'T') => {
-                Reply::Nothing(Key::Date)
-            }
-            form => form.no_moment(),
-        };
+        let form = self.instants.form;
         match self.instants.read(line) {
-            Ok(Start::Day(_)) if self.steps.timed => print_reply(rt, self.form, none),
-            Ok(start @ Start::Day(_)) => self.answer_start(rt, place, start),
-            Ok(start) => self.answer_moment(rt, place, start),
-            Err(_) => print_reply(rt, self.form, none),
+            Some(Start::Day(_)) if self.timed => print_reply(rt, self.form, form.no_moment()),
+            Some(start @ Start::Day(_)) => self.answer_start(rt, number, start),
+            Some(start) => self.answer_moment(rt, number, start),
+            None if self.timed => print_reply(rt, self.form, form.no_moment()),
+            None => print_reply(rt, self.form, form.none_of_text(line)),
         }
     }
 }
 
-// The text of the step at a place, or none.
-fn text_at<'a>(words: &[Word<'a>], place: usize) -> &'a str {
-    match words.get(place) {
-        Some(word) => word.text,
+// The text at a place, or none.
+fn text_at<'a>(texts: &[&'a str], place: usize) -> &'a str {
+    match texts.get(place) {
+        Some(text) => *text,
         None => "",
     }
 }
@@ -227,9 +179,10 @@ fn moved_by(
     by: Move,
     holidays: &mut Holidays,
 ) -> io::Result<Result<Start, Nowhere>> {
+    let date = start.local().date();
     let reached = match by {
-        Move::Calendar(span) | Move::ShortMonths(span) => moved(start.local().date(), span),
-        Move::OpenDays(count) => open_days_later(start.local().date(), count, holidays)?,
+        Move::Calendar(span) | Move::ShortMonths(span) => moved(date, span),
+        Move::OpenDays(count) => open_days_later(date, count, holidays)?,
         Move::Time(time) => return Ok(instants.later(start, time).ok_or(Nowhere::Past)),
     };
     match reached {

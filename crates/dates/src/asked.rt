@@ -1,9 +1,8 @@
 //! What a command is asked, and its answer printed.
 
-use crate::fault::{ANSWERED, Fault, NONE};
-use command_words::{Arguments, Opt, Word};
-use dates_answer::{OutputForm, Reply, ReplyLine};
-use std::io;
+use crate::prelude::*;
+use command_words::Arguments;
+use dates_answer::ReplyLine;
 
 /// The exit status of a command, or why it has no answer.
 pub(crate) type Answered<'a> = Result<u8, Fault<'a>>;
@@ -11,14 +10,12 @@ pub(crate) type Answered<'a> = Result<u8, Fault<'a>>;
 /// What a command is asked.
 #[derive(Drop)]
 pub(crate) struct Asked<'a> {
-    /// The name of the command.
-    pub command: &'static str,
+    /// The command.
+    pub command: CommandRow,
     /// In which form the answer is written.
     pub form: OutputForm,
     /// What is printed where there is no answer, by the key of the command.
     pub none: Reply,
-    /// The options that it may have.
-    pub options: &'static [Opt],
     /// The operands and the options.
     pub words: Arguments<'a>,
 }
@@ -36,7 +33,7 @@ impl<'a> Asked<'a> {
 
     // The value of an option, or its default.
     pub(crate) fn value(&self, name: &str) -> Option<Word<'a>> {
-        self.words.value(self.options, name)
+        self.words.value(self.command.options, name)
     }
 
     // The first operand, unless it is `-` or left out, which stand for the lines of the input.
@@ -51,21 +48,24 @@ impl<'a> Asked<'a> {
     pub(crate) fn print(&self, rt: &HostRuntime, reply: Reply) -> Answered<'a> {
         Ok(print_reply(rt, self.form, reply)?)
     }
+
+    // The status of answers so far, or, where there is none, that of the line that says so.
+    pub(crate) fn finish(&self, rt: &HostRuntime, status: u8) -> Answered<'a> {
+        if status == NONE {
+            return self.print(rt, self.none);
+        }
+        Ok(status)
+    }
 }
 
 const NO_WORD: Word<'static> = Word { place: 0, text: "" };
 
 // Prints the line of a reply; the exit status.
 pub(crate) fn print_reply(rt: &HostRuntime, form: OutputForm, reply: Reply) -> io::Result<u8> {
-    let status = status_of(&reply);
-    println!(rt; "{}", ReplyLine { form, reply })?;
-    Ok(status)
-}
-
-// The exit status of a reply.
-fn status_of(reply: &Reply) -> u8 {
-    match reply {
+    let status = match reply {
         Reply::Nothing(_) | Reply::NoParts | Reply::NoWeek(_) => NONE,
         _ => ANSWERED,
-    }
+    };
+    println!(rt; "{}", ReplyLine { form, reply })?;
+    Ok(status)
 }

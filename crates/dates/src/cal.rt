@@ -1,20 +1,10 @@
 //! A month or a year as a sheet.
 
-use crate::closed::years_of;
-use crate::holidays::holidays_of;
 use crate::prelude::*;
-use crate::texts::read_month;
-use crate::values::{Year, start_of_year, weekday_of};
 use chrono_business::Calendar;
-use chrono_datetime::{Datelike, Month, NaiveDate, Weekday};
+use chrono_datetime::Month;
 use chrono_text::read_year;
 use dates_answer::{DayObject, MonthSheet};
-use std::io;
-
-const TIME: Operand = Operand {
-    name: "MONTH|YEAR",
-    ..OPERAND
-};
 
 const FIRST: Opt = Opt {
     name: "--first",
@@ -28,7 +18,7 @@ const FIRST: Opt = Opt {
 pub(crate) fn command() -> CommandRow {
     CommandRow {
         name: "cal",
-        operands: &[TIME],
+        operands: &[operand!("MONTH|YEAR")],
         options: &[FIRST, WEEKEND, CALENDAR, HOLIDAYS, JSON, HELP],
         help: "print a month or a year as a sheet",
         more: "A MONTH is written as 2024-02, a YEAR as 2024.\n\
@@ -64,19 +54,12 @@ pub(crate) fn answer<'a>(rt: &HostRuntime, asked: &mut Asked<'a>) -> Answered<'a
 fn time_of<'a>(word: Word<'a>) -> Result<Time, Fault<'a>> {
     let what = "a month as 2024-02 or a year as 2024";
     let text = word.text.as_bytes();
-    match read_month(text) {
-        Ok(first) => {
-            let is_year = false;
-            Ok(Time { first, is_year })
-        }
-        Err(error) => match read_year(text) {
-            Some(year) => {
-                let (first, is_year) = (value!(start_of_year(year)), true);
-                Ok(Time { first, is_year })
-            }
-            None => Err(Fault::Word(word, Cause::Unread(error, what))),
-        },
-    }
+    let (first, is_year) = match read_month(text) {
+        Ok(first) => (first, false),
+        Err(_) if read_year(text).is_some() => (value!(start_of_year(word)), true),
+        Err(error) => return Err(unread(word, error, what)),
+    };
+    Ok(Time { first, is_year })
 }
 
 // A month or a year in a form.

@@ -1,11 +1,7 @@
 //! The lines of a file, or of standard input, that are no days.
 
-use crate::holidays::open_file;
-use crate::lines::{Reason, day_of_line, take_lines};
 use crate::prelude::*;
-use crate::source::Source;
 use dates_answer::WrongLine;
-use std::io;
 
 const FILE: Operand = Operand {
     name: "FILE",
@@ -39,40 +35,32 @@ pub(crate) fn answer<'a>(rt: &HostRuntime, asked: &mut Asked<'a>) -> Answered<'a
     match asked.word_or_lines() {
         Some(word) => {
             let file = value!(open_file(rt, word));
-            take_lines(rt, Source::Word(word), file, &mut lines)
+            take_lines(rt, word, file, &mut lines)
         }
         None => take_input(rt, &mut lines),
     }
 }
 
 impl EachLine for CheckedLines {
+    // The line's number, and why it is no day; the exit status.
     fn take_line(&mut self, rt: &HostRuntime, number: u64, line: &[u8]) -> io::Result<u8> {
-        match day_of_line(line) {
-            Ok(_) => Ok(ANSWERED),
-            Err(reason) => print_wrong(rt, self.form, number, line, reason),
-        }
+        let Err(why) = day_of_line(line) else {
+            return Ok(ANSWERED);
+        };
+        let form = self.form;
+        let text = String::from_utf8_lossy(rt.alloc(), line)?;
+        let mut reason = String::new(rt.alloc());
+        put_reason(&mut reason, why)?;
+        let (text, reason) = (text.as_str(), reason.as_str());
+        println!(rt;
+            "{}",
+            WrongLine {
+                form,
+                number,
+                text,
+                reason
+            }
+        )?;
+        Ok(NONE)
     }
-}
-
-// The line's number, and why it is no day; the exit status.
-fn print_wrong(
-    rt: &HostRuntime,
-    form: OutputForm,
-    number: u64,
-    line: &[u8],
-    reason: Reason,
-) -> io::Result<u8> {
-    let text = String::from_utf8_lossy(rt.alloc(), line)?;
-    let reason = format!(in rt.alloc(); "{reason}")?;
-    let (text, reason) = (text.as_str(), reason.as_str());
-    println!(rt;
-        "{}",
-        WrongLine {
-            form,
-            number,
-            text,
-            reason
-        }
-    )?;
-    Ok(NONE)
 }

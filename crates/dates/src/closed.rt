@@ -1,10 +1,8 @@
 //! The weekend, the rules of a calendar, and the years in which its holidays are wanted.
 
 use crate::prelude::*;
-use crate::texts::weekday_named;
 use chrono_business::{HolidayRule, england_and_wales, target, us_federal};
-use chrono_datetime::{Datelike, NaiveDate, WeekdaySet};
-use std::io;
+use chrono_datetime::WeekdaySet;
 
 // The weekend that a word names.
 pub(crate) fn weekend_of<'a>(word: Word<'a>) -> Result<WeekdaySet, Fault<'a>> {

@@ -1,31 +1,13 @@
 //! A day by all its names, and what the program says of itself.
 
 use crate::prelude::*;
-use crate::table::{commands, program};
-use crate::texts::read_day;
-use crate::values::{DAYS, begins_as_day, day_of};
-use chrono_datetime::NaiveDate;
-use chrono_reading::ReadCause;
-use command_words::{Completion, ManPage, ReferencePage, Shell};
-use std::io;
+use command_words::{Program, Shell, put_completion, put_man_page, put_reference};
 
-const VERSION: Opt = Opt {
-    name: "--version",
-    help: "print the version",
-    ..OPTION
-};
+const VERSION: Opt = flag!("--version", "print the version");
 
-const MAN: Opt = Opt {
-    name: "--man",
-    help: "print the man page",
-    ..OPTION
-};
+const MAN: Opt = flag!("--man", "print the man page");
 
-const REFERENCE: Opt = Opt {
-    name: "--reference",
-    help: "print the help of every command as Markdown",
-    ..OPTION
-};
+const REFERENCE: Opt = flag!("--reference", "print the help of every command as Markdown");
 
 const COMPLETION: Opt = Opt {
     name: "--completion",
@@ -54,8 +36,15 @@ pub(crate) fn command() -> CommandRow {
 
 // The day by all its names, or that of each line, or a page of the program; the exit status.
 pub(crate) fn answer<'a>(rt: &HostRuntime, asked: &mut Asked<'a>) -> Answered<'a> {
-    if let Some(page) = page_of(asked) {
-        return Ok(print_page(rt, asked.form, page)?);
+    if asked.words.has("--version") {
+        return asked.print(rt, Reply::Version);
+    }
+    let rows = commands();
+    let mut page = String::new(rt.alloc());
+    put_page(&mut page, asked, &program(&rows))?;
+    if !page.is_empty() {
+        print!(rt; "{page}")?;
+        return Ok(ANSWERED);
     }
     let form = asked.form;
     match asked.word_or_lines() {
@@ -67,61 +56,28 @@ pub(crate) fn answer<'a>(rt: &HostRuntime, asked: &mut Asked<'a>) -> Answered<'a
 // The day that a word names, which else may have been meant for a command.
 pub(crate) fn first_of<'a>(word: Word<'a>) -> Result<NaiveDate, Fault<'a>> {
     match day_of(word) {
-        Err(Fault::Word(word, Cause::Unread(error, _)))
-            if error.cause != ReadCause::NotThisForm && begins_as_day(word) => {
-            Err(Fault::Word(word, Cause::Unread(error, DAYS)))
-        }
         Err(Fault::Word(word, _)) => Err(Fault::Word(word, Cause::NoCommand)),
         other => other,
     }
 }
 
-// A page of the program.
-#[derive(Clone, Copy)]
-enum DayPage {
-    Version,
-    Man,
-    Reference,
-    Completion(Shell),
-}
-
-// The page that an option asks for.
-fn page_of(asked: &Asked<'_>) -> Option<DayPage> {
-    if asked.words.has("--version") {
-        return Some(DayPage::Version);
-    }
+// Puts the page that an option asks for behind a text, if one does.
+fn put_page(out: &mut String, asked: &Asked<'_>, program: &Program<'_>) -> Put {
     if asked.words.has("--man") {
-        return Some(DayPage::Man);
+        return put_man_page(out, program);
     }
     if asked.words.has("--reference") {
-        return Some(DayPage::Reference);
+        return put_reference(out, program);
     }
-    match asked.value("--completion") {
-        Some(word) => Some(DayPage::Completion(shell_named(word.text))),
-        None => None,
-    }
-}
-
-// Prints a page; the exit status.
-fn print_page(rt: &HostRuntime, form: OutputForm, page: DayPage) -> io::Result<u8> {
-    let rows = commands();
-    let program = &program(&rows);
-    match page {
-        DayPage::Version => return print_reply(rt, form, Reply::Version),
-        DayPage::Man => print!(rt; "{}", ManPage { program })?,
-        DayPage::Reference => print!(rt; "{}", ReferencePage { program })?,
-        DayPage::Completion(shell) => print!(rt; "{}", Completion { program, shell })?,
-    }
-    Ok(ANSWERED)
-}
-
-// The shell with that name.
-fn shell_named(name: &str) -> Shell {
-    match name {
+    let Some(word) = asked.value("--completion") else {
+        return Ok(());
+    };
+    let shell = match word.text {
         "bash" => Shell::Bash,
         "zsh" => Shell::Zsh,
         _ => Shell::Fish,
-    }
+    };
+    put_completion(out, program, shell)
 }
 
 // Each line by all names of its day.

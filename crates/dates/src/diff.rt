@@ -1,15 +1,8 @@
 //! How far it is from one day to another.
 
-use crate::closed::years_of;
-use crate::holidays::{Holidays, holidays_of};
 use crate::prelude::*;
-use crate::texts::{Start, unit_named};
-use crate::values::{DAYS, MOMENTS, STAMPS, begins_as_day};
-use crate::zoned::{Instants, ZONED, instants_by};
-use chrono_datetime::NaiveDate;
 use command_words::Arguments;
-use dates_answer::{Unit, distance, parts_between};
-use std::io;
+use dates_answer::{distance, parts_between};
 
 const UNITS: &[&str] = &["d", "w", "m", "mo", "y", "b", "ymd"];
 
@@ -69,32 +62,41 @@ struct Diff {
 // How far it is from one day to another, or to that of each line; the exit status.
 pub(crate) fn answer<'a>(rt: &HostRuntime, asked: &mut Asked<'a>) -> Answered<'a> {
     let instants = value!(instants_by(rt, asked));
+    let (ends, measure) = value!(read(&instants, asked));
+    let mut diff = Diff {
+        form: asked.form,
+        instants,
+        none: asked.none,
+        ends,
+        measure,
+        holidays: value!(holidays_of(rt, asked)),
+    };
+    match ends {
+        (Some(from), Some(to)) => Ok(diff.answer_ends(rt, from, to)?),
+        _ => take_input(rt, &mut diff),
+    }
+}
+
+// Reads from where to where, and in what.
+fn read<'a>(instants: &Instants, asked: &mut Asked<'a>) -> Result<(Ends, Measure), Fault<'a>> {
     let (words, unit) = cut(asked.words.operands.as_slice());
     let measure = value!(measure_of(unit));
     asked.none = none_of(measure);
-    let (from, to) = value!(read(&instants, words));
-    if let Some(Start::DateTime(_) | Start::Stamp(_)) = from.or(to) {
+    if let [first, ..] = words {
+        if first.text.as_bytes().contains(&b'T') {
+            asked.none = Reply::Nothing(Key::Duration);
+        }
+    }
+    let ends = value!(ends_of(instants, words));
+    if let Some(Start::DateTime(_) | Start::Stamp(_)) = ends.0.or(ends.1) {
         asked.none = Reply::Nothing(Key::Duration);
         if let [word, ..] = unit {
             return Err(Fault::expected(*word, NO_MORE));
         }
     }
     value!(check_options(&asked.words, measure));
-    let mut diff = Diff {
-        form: asked.form,
-        instants,
-        none: asked.none,
-        ends: (from, to),
-        measure,
-        holidays: value!(holidays_of(rt, asked)),
-    };
-    match (from, to) {
-        (Some(from), Some(to)) => Ok(diff.answer_ends(rt, from, to)?),
-        _ => take_input(rt, &mut diff),
-    }
+    Ok((ends, measure))
 }
-
-const NO_MORE: &str = "no further argument";
 
 // The words of the days, and those from `in` on.
 fn cut<'b, 'a>(words: &'b [Word<'a>]) -> (&'b [Word<'a>], &'b [Word<'a>]) {
@@ -112,7 +114,7 @@ fn cut<'b, 'a>(words: &'b [Word<'a>]) -> (&'b [Word<'a>], &'b [Word<'a>]) {
 fn measure_of<'a>(words: &[Word<'a>]) -> Result<Measure, Fault<'a>> {
     match words {
         [] => Ok(Measure::Whole(Unit::Days)),
-        [_] => Err(Fault::Missing("UNIT")),
+        [_] => Err(Fault::Missing("UNIT", "")),
         [_, unit] if unit.text == "b" => Ok(Measure::OpenDays),
         [_, unit] if unit.text == "ymd" => Ok(Measure::Parts),
         [_, unit] => match unit_named(unit.text.as_bytes()) {
@@ -123,12 +125,22 @@ fn measure_of<'a>(words: &[Word<'a>]) -> Result<Measure, Fault<'a>> {
     }
 }
 
-// Reads the days or date-times, of which `-` or none at the end stands for the lines of the input.
-fn read<'a>(instants: &Instants, words: &[Word<'a>]) -> Result<Ends, Fault<'a>> {
+// Reads two days or two date-times, of which `-` or none at the end stands for the lines of the input.
+fn ends_of<'a>(instants: &Instants, words: &[Word<'a>]) -> Result<Ends, Fault<'a>> {
     match words {
-        [] => Err(Fault::Missing("DAY")),
-        [first] => ends_of(instants, *first, None),
-        [first, second] => ends_of(instants, *first, Some(*second)),
+        [] => Err(Fault::Missing("DAY", "")),
+        [first] if first.text == "-" => Err(Fault::Missing("DAY", "")),
+        [first] => Ok((Some(value!(instants.start_of(*first))), None)),
+        [first, second] if first.text == "-" => {
+            Ok((None, Some(value!(instants.start_of(*second)))))
+        }
+        [first, second] => {
+            let from = value!(instants.start_of(*first));
+            if second.text == "-" {
+                return Ok((Some(from), None));
+            }
+            Ok((Some(from), Some(value!(like(instants, from, *second)))))
+        }
         [first, second, third, ..] => Err(third_word(instants, *first, *second, *third)),
     }
 }
@@ -150,28 +162,6 @@ fn third_word<'a>(
 
 const IN: &str = "in and a unit, as 'in w'";
 
-// Two days or two date-times, or one beside each line.
-fn ends_of<'a>(
-    instants: &Instants,
-    first: Word<'a>,
-    second: Option<Word<'a>>,
-) -> Result<Ends, Fault<'a>> {
-    if first.text == "-" {
-        return match second {
-            Some(word) => Ok((None, Some(value!(instants.start_of(word))))),
-            None => Err(Fault::Missing("DAY")),
-        };
-    }
-    let from = value!(instants.start_of(first));
-    match second {
-        Some(word) if word.text != "-" => Ok((
-            Some(from),
-            Some(value!(like(instants, from, word))),
-        )),
-        _ => Ok((Some(from), None)),
-    }
-}
-
 // The day, the date-time or the instant that a word names, of the kind of the first.
 fn like<'a>(instants: &Instants, first: Start, word: Word<'a>) -> Result<Start, Fault<'a>> {
     let what = match first {
@@ -179,11 +169,11 @@ fn like<'a>(instants: &Instants, first: Start, word: Word<'a>) -> Result<Start, 
         Start::DateTime(_) => MOMENTS,
         Start::Stamp(_) => STAMPS,
     };
-    match (first, value!(instants.start_as(word, what))) {
-        (Start::Day(_), other @ Start::Day(_)) => Ok(other),
-        (Start::DateTime(_), other @ Start::DateTime(_)) => Ok(other),
-        (Start::Stamp(_), other @ Start::Stamp(_)) => Ok(other),
+    let second = value!(instants.once(word, value!(start_as(instants.form, word, what))));
+    match (first, second) {
+        (Start::Day(_), Start::Day(_)) => Ok(second),
         (Start::Day(_), _) | (_, Start::Day(_)) => Err(Fault::expected(word, ONE_KIND)),
+        _ if first.has_offset() == second.has_offset() => Ok(second),
         _ => Err(Fault::expected(word, "an offset of both date-times, or of none")),
     }
 }
@@ -193,9 +183,10 @@ const ONE_KIND: &str = "two days or two date-times, not one of each";
 // Only open days take options.
 fn check_options<'a>(words: &Arguments<'a>, measure: Measure) -> Result<(), Fault<'a>> {
     for given in words.options.as_slice() {
+        let name = given.option.name;
         match measure {
             Measure::OpenDays => {}
-            _ if ["--json", "--unix", "--zone"].contains(&given.option.name) => {}
+            _ if name == "--json" || name == "--unix" || name == "--zone" => {}
             _ => return Err(Fault::expected(given.value, "no such option without 'in b'")),
         }
     }
@@ -257,8 +248,8 @@ impl Diff {
 impl EachLine for Diff {
     fn take_line(&mut self, rt: &HostRuntime, _number: u64, line: &[u8]) -> io::Result<u8> {
         match (self.ends, self.instants.read(line)) {
-            ((Some(from), _), Ok(to)) => self.answer_ends(rt, from, to),
-            ((None, Some(to)), Ok(from)) => self.answer_ends(rt, from, to),
+            ((Some(from), _), Some(to)) => self.answer_ends(rt, from, to),
+            ((None, Some(to)), Some(from)) => self.answer_ends(rt, from, to),
             _ => print_reply(rt, self.form, self.none),
         }
     }

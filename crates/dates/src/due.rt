@@ -1,16 +1,7 @@
 //! When a schedule is due.
 
 use crate::prelude::*;
-use crate::texts::Start;
-use crate::values::{InstantForm, amount_of, moment_of};
 use chrono_cron::{Schedule, read_schedule};
-use chrono_datetime::NaiveDateTime;
-use std::io;
-
-const CRON: Operand = Operand {
-    name: "CRON",
-    ..OPERAND
-};
 
 const AFTER: Opt = Opt {
     name: "--from",
@@ -26,9 +17,11 @@ const BEFORE: Opt = Opt {
 };
 
 const HOW_MANY: Opt = Opt {
+    name: "--count",
+    value: "N",
     default: "1",
     help: "how many are printed, a line each (default: 1)",
-    ..COUNT
+    ..OPTION
 };
 
 const MORE: &str = "A CRON is a nickname as @daily, or five fields in one word, blanks between\n\
@@ -47,7 +40,7 @@ const PREV: &str = "prev";
 pub(crate) fn next() -> CommandRow {
     CommandRow {
         name: "next",
-        operands: &[CRON],
+        operands: &[operand!("CRON")],
         options: &[AFTER, HOW_MANY, UNIX, JSON, HELP],
         help: "print when a schedule is due next",
         more: MORE,
@@ -59,7 +52,7 @@ pub(crate) fn next() -> CommandRow {
 pub(crate) fn prev() -> CommandRow {
     CommandRow {
         name: PREV,
-        operands: &[CRON],
+        operands: &[operand!("CRON")],
         options: &[BEFORE, HOW_MANY, UNIX, JSON, HELP],
         help: "print when a schedule was due before",
         more: MORE,
@@ -75,52 +68,26 @@ pub(crate) fn answer<'a>(rt: &HostRuntime, asked: &mut Asked<'a>) -> Answered<'a
     let schedule = value!(schedule_of(asked.word(0)));
     let from = value!(moment_of(instants, asked.option("--from")));
     let count = value!(amount_of(asked.option("--count")));
-    let dues = Dues {
-        schedule,
-        from,
-        goes_back: asked.command == PREV,
-    };
-    Ok(dues.print(rt, asked.form, instants, count)?)
-}
-
-// When a schedule is due behind a start, or before it.
-#[derive(Clone, Copy)]
-struct Dues {
-    schedule: Schedule,
-    from: Start,
-    goes_back: bool,
-}
-
-impl Dues {
-    // Prints so many date-times, or `none` where there are fewer; the exit status.
-    fn print(
-        &self,
-        rt: &HostRuntime,
-        form: OutputForm,
-        instants: InstantForm,
-        count: u64,
-    ) -> io::Result<u8> {
-        let mut last = self.from.local();
-        for _ in 0..count {
-            let Some(moment) = self.next(last) else {
-                return print_reply(rt, form, instants.no_moment());
-            };
-            match self.from.at(moment) {
-                Some(due) => print_reply(rt, form, instants.reply(due))?,
-                None => return print_reply(rt, form, instants.no_moment()),
-            };
-            last = moment;
+    let mut last = from.local();
+    for _ in 0..count {
+        match next_of(&schedule, last, asked.command.name == PREV) {
+            Some(moment) => last = moment,
+            None => return asked.print(rt, asked.none),
         }
-        Ok(ANSWERED)
+        match from.at(last) {
+            Some(due) => value!(asked.print(rt, instants.reply(due))),
+            None => return asked.print(rt, asked.none),
+        };
     }
+    Ok(ANSWERED)
+}
 
-    // The next date-time from another on.
-    fn next(&self, last: NaiveDateTime) -> Option<NaiveDateTime> {
-        if self.goes_back {
-            self.schedule.prev_before(last)
-        } else {
-            self.schedule.next_after(last)
-        }
+// The next moment at which a schedule is due, or the last before.
+fn next_of(schedule: &Schedule, last: NaiveDateTime, goes_back: bool) -> Option<NaiveDateTime> {
+    if goes_back {
+        schedule.prev_before(last)
+    } else {
+        schedule.next_after(last)
     }
 }
 

@@ -1,7 +1,6 @@
 //! Easter Sunday.
 
 use crate::prelude::*;
-use crate::values::year_of;
 
 pub(crate) fn command() -> CommandRow {
     CommandRow {
@@ -17,7 +16,8 @@ pub(crate) fn command() -> CommandRow {
 
 // Easter Sunday of the year; the exit status.
 pub(crate) fn answer<'a>(rt: &HostRuntime, asked: &mut Asked<'a>) -> Answered<'a> {
-    let year = value!(year_of(asked.word(0)));
-    let sunday = value!(chrono_business::easter(year).ok_or(Fault::Outside(year)));
+    let word = asked.word(0);
+    let sunday = chrono_business::easter(value!(year_of(word)));
+    let sunday = value!(sunday.ok_or(Fault::NoSuch(word, Cause::Outside)));
     asked.print(rt, Reply::Date(sunday))
 }

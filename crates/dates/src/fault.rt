@@ -1,19 +1,14 @@
-//! Faults: why a command has no answer, and the exit statuses.
+//! Faults: why a command has no answer, how that is said, and the exit statuses.
 
-use crate::asked::print_reply;
-use crate::lines::{NOT_ONCE, Reason};
-use crate::source::{Shown, Source};
-use crate::table::{NAME, commands};
-use crate::values::Year;
+use crate::prelude::*;
 use chrono_cron::ScheduleError;
-use chrono_reading::{ReadCause, ReadError};
 use chrono_rules::RuleError;
-use command_words::{Choices, CommandRow, Usage, Why, Word, Wrong, nearest};
-use dates_answer::{OutputForm, Reply};
-use std::alloc::{AllocError, AllocFailed};
+use command_words::{Why, Wrong, nearest, put_choices, put_usage};
+use std::alloc::AllocFailed;
 use std::env::{Env, FillError};
-use std::io::{self, ErrorKind};
-use std::{fmt, str};
+use std::fmt::Write;
+use std::io::ErrorKind;
+use std::str;
 use zone_database::ZoneError;
 
 /// The exit status of an answer.
@@ -28,24 +23,16 @@ pub(crate) const WRONG: u8 = 2;
 /// Why a command has no answer.
 #[derive(Clone, Copy)]
 pub(crate) enum Fault<'a> {
-    /// The word is written as a day is, and there is no such day.
-    NoDay(Word<'a>, ReadError),
-    /// The zone's clock shows the date-time of the word twice, or skips it.
-    NotOnce(Word<'a>),
-    /// The calendar has no such year.
-    Outside(i32),
+    /// There is no such day or year, or no such local time.
+    NoSuch(Word<'a>, Cause<'a>),
     /// The word is wrong.
     Word(Word<'a>, Cause<'a>),
-    /// The operand is missing.
-    Missing(&'static str),
-    /// The option has to be given, with its value.
-    MissingOption(&'static str, &'static str),
-    /// The word names no time zone.
-    Zone(Word<'a>, ZoneError),
+    /// The operand, or the option with its value, is missing.
+    Missing(&'static str, &'static str),
     /// Lines cannot be read.
-    Input(Source<'a>, io::Error),
+    Input(Word<'a>, io::Error),
     /// The line of holidays with that number is no day.
-    NoHoliday(Source<'a>, u64, Reason),
+    NoHoliday(Word<'a>, u64, Reason),
     /// No answer can be written, or memory is short.
     Failed(io::Error),
 }
@@ -59,9 +46,13 @@ impl<'a> Fault<'a> {
 
 /// What is wrong with a word.
 #[derive(Clone, Copy)]
-pub enum Cause<'a> {
-    /// It cannot be read; that was expected in its place.
-    Unread(ReadError, &'static str),
+pub(crate) enum Cause<'a> {
+    /// It is written as a day or a time is, and there is none such.
+    NoDay(ReadError),
+    /// The zone's clock shows the date-time twice, or skips it.
+    NotOnce,
+    /// The calendar has no such year.
+    Outside,
     /// That was expected in its place.
     Expected(&'static str),
     /// One of these was expected in its place.
@@ -78,36 +69,12 @@ pub enum Cause<'a> {
     NoOption,
     /// The value of the option is missing.
     NoValue,
+    /// It names no time zone.
+    Zone(ZoneError),
 }
 
-impl fmt::Display for Cause<'_> {
-    fn fmt<W: fmt::Write>(&self, f: &mut fmt::Formatter<W>) -> fmt::Result {
-        match *self {
-            Cause::Unread(
-                ReadError {
-                    cause: ReadCause::NotThisForm,
-                    ..
-                },
-                what,
-            ) => { write!(f, "expected {what}") }
-            Cause::Unread(error, what) => write!(f, "{error}; expected {what}"),
-            Cause::Expected(what) => write!(f, "expected {what}"),
-            Cause::Choice(values) => write!(f, "expected {}", Choices { values }),
-            Cause::NoCommand => f.write_str(COMMAND),
-            Cause::Schedule(fault) => write!(f, "{fault}; expected {SCHEDULE}"),
-            Cause::Rule(fault) => write!(f, "{fault}; expected {RULE}"),
-            Cause::Months(text) => write!(f, "months; minutes are {text}in"),
-            Cause::NoOption => f.write_str("no such option"),
-            Cause::NoValue => f.write_str("its value is missing"),
-        }
-    }
-}
-
-const COMMAND: &str = "expected a day as 2024-02-29 or a command; dates --help lists them";
-
-const SCHEDULE: &str = "a schedule as '30 4 1,15 * 5'";
-
-const RULE: &str = "a rule as FREQ=MONTHLY;BYDAY=-1FR";
+/// Standard input, in place of the word that names a file.
+pub(crate) const INPUT: Word<'static> = Word { place: 0, text: "" };
 
 impl From<io::Error> for Fault<'_> {
     fn from(error: io::Error) -> Self {
@@ -127,17 +94,16 @@ impl<T: Drop> From<AllocFailed<T>> for Fault<'_> {
     }
 }
 
-impl<'a> From<Wrong<'a>> for Fault<'a> {
-    fn from(wrong: Wrong<'a>) -> Self {
-        let cause = match wrong.why {
-            Why::Unknown => Cause::NoOption,
-            Why::Twice => Cause::Expected("each option once"),
-            Why::NoValue => Cause::NoValue,
-            Why::Flag => Cause::Expected("no value"),
-            Why::Choice(values) => Cause::Choice(values),
-        };
-        Fault::Word(wrong.word, cause)
-    }
+// Why a word breaks the table, as a fault.
+pub(crate) fn fault_of<'a>(wrong: Wrong<'a>) -> Fault<'a> {
+    let cause = match wrong.why {
+        Why::Unknown => Cause::NoOption,
+        Why::Twice => Cause::Expected("each option once"),
+        Why::NoValue => Cause::NoValue,
+        Why::Flag => Cause::Expected("no value"),
+        Why::Choice(values) => Cause::Choice(values),
+    };
+    Fault::Word(wrong.word, cause)
 }
 
 // Says why a command has no answer; the exit status. That there is no such day or year is an answer too.
@@ -148,81 +114,159 @@ pub(crate) fn refuse(
     none: Reply,
     fault: Fault<'_>,
 ) -> io::Result<u8> {
-    let near = match fault {
-        Fault::Failed(error) => return Err(error),
-        Fault::Word(word, cause) => near_name(rt, command, word.text, cause)?,
-        _ => None,
-    };
+    let mut text = String::new(rt.alloc());
     let status = match fault {
-        Fault::NoDay(_, _) | Fault::NotOnce(_) | Fault::Outside(_) => print_reply(rt, form, none)?,
-        _ => WRONG,
+        Fault::Failed(error) => return Err(error),
+        Fault::NoSuch(_, _) => print_reply(rt, form, none)?,
+        _ => {
+            text.push_str("dates: ")?;
+            WRONG
+        }
     };
-    let _ = eprintln!(rt;
-        "{}",
-        FaultLine {
-            command,
-            fault,
-            near
+    put_fault(&mut text, command, fault)?;
+    if let Fault::Word(word, cause) = fault {
+        if let Some(name) = near_name(rt, command, word.text, cause)? {
+            put(&mut text, &["; did you mean ", name, "?"])?;
         }
-    );
-    Ok(status)
+    }
+    Ok(tell(rt, text.as_str(), status))
 }
 
-/// A line that says why a command has no answer.
-#[derive(Clone, Copy)]
-pub(crate) struct FaultLine<'a, 'b> {
-    command: &'b CommandRow,
-    fault: Fault<'a>,
-    // The name that is most like a wrong one, if one is like it.
-    near: Option<&'static str>,
+// Prints a line among the errors; the exit status.
+pub(crate) fn tell(rt: &HostRuntime, text: &str, status: u8) -> u8 {
+    let _ = eprintln!(rt; "{text}");
+    status
 }
 
-impl fmt::Display for FaultLine<'_, '_> {
-    fn fmt<W: fmt::Write>(&self, f: &mut fmt::Formatter<W>) -> fmt::Result {
-        let program = NAME;
-        let usage = Usage {
-            program,
-            command: self.command,
-        };
-        match self.fault {
-            Fault::NoDay(word, error) => write!(f, "{}: {error}", word.text),
-            Fault::NotOnce(word) => write!(f, "{}: {NOT_ONCE}", word.text),
-            Fault::Outside(year) => {
-                write!(
-                    f,
-                    "{}: expected a year from -262143 to +262142",
-                    Year { year }
-                )
-            }
-            Fault::Word(word, cause) => {
-                write!(
-                    f,
-                    "dates: {}: {cause}{}",
-                    Source::Word(word),
-                    Near(self.near)
-                )
-            }
-            Fault::Missing(name) => write!(f, "dates: {name} is missing; usage: {usage}"),
-            Fault::MissingOption(name, value) => {
-                write!(f, "dates: {name} {value} is missing; usage: {usage}")
-            }
-            Fault::Zone(word, error) => write!(f, "dates: {}: {error}", Source::Word(word)),
-            Fault::Input(source, error) => write!(f, "dates: {source}: {error}"),
-            Fault::NoHoliday(source, number, Reason::Form) => {
-                write!(f, "dates: {source}, line {number}: expected {HOLIDAY}")
-            }
-            Fault::NoHoliday(source, number, reason) => {
-                write!(
-                    f,
-                    "dates: {source}, line {number}: {reason}; expected {HOLIDAY}"
-                )
-            }
-            Fault::Failed(error) => write!(f, "dates: {error}"),
+// Puts why a command has no answer behind a text.
+fn put_fault(out: &mut String, command: &CommandRow, fault: Fault<'_>) -> Put {
+    match fault {
+        Fault::NoSuch(word, cause) => {
+            put(out, &[word.text, ": "])?;
+            put_cause(out, cause)
         }
+        Fault::Word(word, cause) => {
+            put_source(out, word)?;
+            out.push_str(": ")?;
+            put_cause(out, cause)
+        }
+        Fault::Missing(name, value) => {
+            put(
+                out,
+                &[name, gap_before(value), value, " is missing; usage: "],
+            )?;
+            put_usage(out, NAME, command)
+        }
+        Fault::Input(source, error) => {
+            put_source(out, source)?;
+            out.push_str(": ")?;
+            show(out, &error)
+        }
+        Fault::NoHoliday(source, number, reason) => {
+            put_source(out, source)?;
+            out.push_str(", line ")?;
+            show(out, &number)?;
+            out.push_str(": ")?;
+            put_holiday(out, reason)
+        }
+        Fault::Failed(error) => show(out, &error),
     }
 }
 
-const HOLIDAY: &str = "a day as 2024-02-29";
+// A space, if a text stands behind it.
+pub(crate) fn gap_before(text: &str) -> &'static str {
+    if text.is_empty() { "" } else { " " }
+}
+
+// Puts what is wrong with a word behind a text.
+pub(crate) fn put_cause(out: &mut String, cause: Cause<'_>) -> Put {
+    match cause {
+        Cause::NoDay(error) => show(out, &error),
+        Cause::NotOnce => out.push_str(NOT_ONCE),
+        Cause::Outside => out.push_str("expected a year from -262143 to +262142"),
+        Cause::Expected(what) => put(out, &["expected ", what]),
+        Cause::Choice(values) => {
+            out.push_str("expected ")?;
+            put_choices(out, values)
+        }
+        Cause::NoCommand => out.push_str(COMMAND),
+        Cause::Schedule(error) => put_expected(out, &error, SCHEDULE),
+        Cause::Rule(error) => put_expected(out, &error, RULE),
+        Cause::Months(text) => put(out, &["months; minutes are ", text, "in"]),
+        Cause::NoOption => out.push_str("no such option"),
+        Cause::NoValue => out.push_str("its value is missing"),
+        Cause::Zone(error) => show(out, &error),
+    }
+}
+
+const COMMAND: &str = "expected a day as 2024-02-29 or a command; dates --help lists them";
+
+const SCHEDULE: &str = "a schedule as '30 4 1,15 * 5'";
+
+const RULE: &str = "a rule as FREQ=MONTHLY;BYDAY=-1FR";
+
+// Puts why a line of holidays is no day behind a text.
+fn put_holiday(out: &mut String, reason: Reason) -> Put {
+    match reason {
+        Reason::Form => {}
+        _ => {
+            put_reason(out, reason)?;
+            out.push_str("; ")?;
+        }
+    }
+    out.push_str("expected a day as 2024-02-29")
+}
+
+// Puts an error, and what was expected, behind a text.
+fn put_expected<T: fmt::Display>(out: &mut String, error: &T, what: &'static str) -> Put {
+    show(out, error)?;
+    put(out, &["; expected ", what])
+}
+
+// Puts a value behind a text.
+pub(crate) fn show<T: fmt::Display>(out: &mut String, value: &T) -> Put {
+    match write!(out, "{value}") {
+        Ok(()) => Ok(()),
+        Err(_) => Err(AllocError),
+    }
+}
+
+// Puts where words and lines come from behind a text: standard input, or an argument as `argument 2, FILE`.
+fn put_source(out: &mut String, word: Word<'_>) -> Put {
+    if word.place == 0 {
+        return out.push_str("standard input");
+    }
+    put_argument(out, word.place, word.text.as_bytes())
+}
+
+// Puts an argument on one line behind a text, of its bytes: control characters, of which some break a line and some steer a terminal,
+// stand there as JSON writes them by their number, no byte as `''`, and what is no UTF-8 as U+FFFD.
+fn put_argument(out: &mut String, place: usize, bytes: &[u8]) -> Put {
+    out.push_str("argument ")?;
+    show(out, &place)?;
+    out.push_str(if bytes.is_empty() { ", ''" } else { ", " })?;
+    for chunk in bytes.utf8_chunks() {
+        for character in chunk.valid().chars() {
+            if character.is_control() {
+                put_escaped(out, character as u32)?;
+            } else {
+                out.push(character)?;
+            }
+        }
+        if !chunk.invalid().is_empty() {
+            out.push('\u{fffd}')?;
+        }
+    }
+    Ok(())
+}
+
+// Puts a character behind a text by its number.
+fn put_escaped(out: &mut String, number: u32) -> Put {
+    match write!(out, "\\u{number:04x}") {
+        Ok(()) => Ok(()),
+        Err(_) => Err(AllocError),
+    }
+}
 
 // The name that is most like a wrong one, if one is like it.
 fn near_name(
@@ -231,48 +275,23 @@ fn near_name(
     text: &str,
     cause: Cause<'_>,
 ) -> Result<Option<&'static str>, AllocError> {
+    let mut names: Vec<&'static str> = Vec::new(rt.alloc());
     match cause {
-        Cause::Choice(values) => nearest(rt.alloc(), text, values),
-        Cause::NoCommand => near_command(rt, text),
-        Cause::NoOption => near_option(rt, text, command),
-        _ => Ok(None),
-    }
-}
-
-// The name of a command that is like a word.
-fn near_command(rt: &HostRuntime, text: &str) -> Result<Option<&'static str>, AllocError> {
-    let mut names: Vec<&'static str> = Vec::new(rt.alloc());
-    for command in &commands() {
-        names.push(command.name)?;
-    }
-    nearest(rt.alloc(), text, names.as_slice())
-}
-
-// The name of an option that is like a word, up to its `=`.
-fn near_option(
-    rt: &HostRuntime,
-    text: &str,
-    command: &CommandRow,
-) -> Result<Option<&'static str>, AllocError> {
-    let mut names: Vec<&'static str> = Vec::new(rt.alloc());
-    for option in command.options {
-        names.push(option.name)?;
+        Cause::Choice(values) => return nearest(rt.alloc(), text, values),
+        Cause::NoCommand => {
+            for command in &commands() {
+                names.push(command.name)?;
+            }
+        }
+        Cause::NoOption => {
+            for option in command.options {
+                names.push(option.name)?;
+            }
+        }
+        _ => return Ok(None),
     }
     let (name, _) = text.split_once('=').unwrap_or((text, ""));
     nearest(rt.alloc(), name, names.as_slice())
-}
-
-/// The name that is most like a word, if there is one, as a question behind what is said of it.
-#[derive(Clone, Copy)]
-pub struct Near(pub Option<&'static str>);
-
-impl fmt::Display for Near {
-    fn fmt<W: fmt::Write>(&self, f: &mut fmt::Formatter<W>) -> fmt::Result {
-        match self.0 {
-            Some(name) => write!(f, "; did you mean {name}?"),
-            None => Ok(()),
-        }
-    }
 }
 
 // Says that the arguments cannot be read: which of them is no UTF-8, where one is not; the exit status.
@@ -287,11 +306,11 @@ pub(crate) fn refuse_arguments(rt: &HostRuntime, fault: io::Error) -> io::Result
             Ok(length) => {
                 let bytes = &room[..length];
                 if str::from_utf8(bytes).is_err() {
-                    let _ = eprintln!(rt;
-                        "dates: argument {place}, {}: expected UTF-8",
-                        Shown { bytes }
-                    );
-                    return Ok(WRONG);
+                    let mut text = String::new(rt.alloc());
+                    text.push_str("dates: ")?;
+                    put_argument(&mut text, place, bytes)?;
+                    text.push_str(": expected UTF-8")?;
+                    return Ok(tell(rt, text.as_str(), WRONG));
                 }
             }
             Err(FillError::TooLong) => {}

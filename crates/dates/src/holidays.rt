@@ -1,13 +1,10 @@
 //! The holidays of a command: read once, and put together once for the lines that touch the same years.
 
-use crate::closed::{Rules, Years, both_years, put_holidays, rules_named, weekend_of};
-use crate::lines::{day_of_line, read_line};
 use crate::prelude::*;
-use crate::source::Source;
 use chrono_business::{Calendar, without_weekends};
-use chrono_datetime::{NaiveDate, WeekdaySet};
+use chrono_datetime::WeekdaySet;
 use std::fs::{self, File};
-use std::io::{self, BufReader, ErrorKind};
+use std::io::{BufReader, ErrorKind};
 
 /// The holidays by the options of a command.
 #[derive(Drop)]
@@ -70,9 +67,8 @@ pub(crate) fn holidays_of<'a>(rt: &HostRuntime, asked: &Asked<'a>) -> Result<Hol
         days: Vec::new(rt.alloc()),
         years: None,
     };
-    match asked.value("--holidays") {
-        Some(word) => value!(put_listed(rt, word, &mut holidays.listed)),
-        None => {}
+    if let Some(word) = asked.value("--holidays") {
+        value!(put_listed(rt, word, &mut holidays.listed));
     }
     Ok(holidays)
 }
@@ -83,17 +79,16 @@ fn put_listed<'a>(
     word: Word<'a>,
     days: &mut Vec<NaiveDate>,
 ) -> Result<(), Fault<'a>> {
-    let source = Source::Word(word);
     let mut line = Vec::new(rt.alloc());
     let mut reader = BufReader::new(rt.alloc(), value!(open_file(rt, word)))?;
     for number in 1..u64::MAX {
         match read_line(&mut reader, &mut line) {
             Ok(true) => match day_of_line(line.as_slice()) {
                 Ok(day) => days.push(day)?,
-                Err(reason) => return Err(Fault::NoHoliday(source, number, reason)),
+                Err(reason) => return Err(Fault::NoHoliday(word, number, reason)),
             },
             Ok(false) => break,
-            Err(error) => return Err(Fault::Input(source, error)),
+            Err(error) => return Err(Fault::Input(word, error)),
         }
     }
     Ok(())
@@ -106,6 +101,6 @@ pub(crate) fn open_file<'a>(rt: &HostRuntime, word: Word<'a>) -> Result<File, Fa
     }
     match fs::open(rt, word.text) {
         Ok(file) => Ok(file),
-        Err(error) => Err(Fault::Input(Source::Word(word), error)),
+        Err(error) => Err(Fault::Input(word, error)),
     }
 }

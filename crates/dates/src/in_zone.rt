@@ -1,27 +1,17 @@
 //! Date-times in time zones.
 
 use crate::prelude::*;
-use crate::texts::Start;
-use crate::values::{InstantForm, MOMENTS, moment_of};
-use crate::zoned::{OwnedZone, ZONE, ZONES, instants_of, print_in, zone_of};
-use chrono_zoned::{DateTime, FixedOffset, MappedLocalTime};
 
-const MOMENT: Operand = Operand {
-    name: "TIME",
-    ..OPERAND
-};
-
-const FROM_ZONE: Opt = Opt {
-    name: "--from-zone",
-    value: "ZONE",
-    help: "whose local time a date-time without offset is\n(default: that of the first ZONE)",
-    ..OPTION
-};
+const FROM_ZONE: Opt = option!(
+    "--from-zone",
+    "ZONE",
+    "whose local time a date-time without offset is\n(default: that of the first ZONE)"
+);
 
 pub(crate) fn command() -> CommandRow {
     CommandRow {
         name: "in",
-        operands: &[ZONE, MOMENT],
+        operands: &[ZONE, operand!("TIME")],
         options: &[FROM_ZONE, UNIX, JSON, HELP],
         help: "print what a time zone's clock shows",
         more: ZONES,
@@ -35,32 +25,16 @@ pub(crate) fn answer<'a>(rt: &HostRuntime, asked: &mut Asked<'a>) -> Answered<'a
     asked.none = Reply::Nothing(Key::Moment);
     let zone = value!(zone_of(rt, asked.word(0)));
     let start = value!(moment_of(InstantForm::of(&asked.words), asked.word(1)));
-    match value!(found_in(rt, asked, &zone, start)) {
+    let from = given!(asked.value("--from-zone"), word, zone_of(rt, word));
+    match instants_of(from.as_ref().unwrap_or(&zone), start) {
         MappedLocalTime::None => {
-            value!(asked.print(rt, asked.none));
-            let _ = eprintln!(rt; "{start}: the zone's clock never shows it");
-            Ok(NONE)
+            let (form, none) = (asked.form, asked.none);
+            Ok(print_nowhere(rt, form, none, ALONE, &start, "", Nowhere::Never)?)
         }
         MappedLocalTime::Single(only) => print_in(rt, asked, &zone, only),
         MappedLocalTime::Ambiguous(earlier, later) => {
             value!(print_in(rt, asked, &zone, earlier));
             print_in(rt, asked, &zone, later)
         }
-    }
-}
-
-// The instants at which the clock of the zone, or of another that is asked for, shows a date-time.
-fn found_in<'a>(
-    rt: &HostRuntime,
-    asked: &Asked<'a>,
-    zone: &OwnedZone,
-    start: Start,
-) -> Result<MappedLocalTime<DateTime<FixedOffset>>, Fault<'a>> {
-    match asked.value("--from-zone") {
-        Some(word) => {
-            let from = value!(zone_of(rt, word));
-            Ok(instants_of(&from, start))
-        }
-        None => Ok(instants_of(zone, start)),
     }
 }

@@ -1,7 +1,6 @@
 //! Leap years.
 
 use crate::prelude::*;
-use crate::values::{start_of_year, year_of};
 
 pub(crate) fn command() -> CommandRow {
     CommandRow {
@@ -18,7 +17,6 @@ pub(crate) fn command() -> CommandRow {
 // `yes` where the year is a leap year, and else `no`; the exit status.
 pub(crate) fn answer<'a>(rt: &HostRuntime, asked: &mut Asked<'a>) -> Answered<'a> {
     asked.none = Reply::Nothing(Key::Leap);
-    let year = value!(year_of(asked.word(0)));
-    let first = value!(start_of_year(year));
+    let first = value!(start_of_year(asked.word(0)));
     asked.print(rt, Reply::Whether(Key::Leap, first.leap_year()))
 }

@@ -1,14 +1,7 @@
 //! Lines of input, of each of which only so many bytes are kept, and commands that take each of them.
 
-use crate::asked::{Answered, print_reply};
-use crate::fault::{ANSWERED, Fault, NONE};
-use crate::source::Source;
-use crate::texts::{Start, StartError, read_day, read_start};
-use chrono_datetime::NaiveDate;
-use chrono_reading::ReadError;
-use dates_answer::{OutputForm, Reply};
-use std::fmt;
-use std::io::{self, BufRead, BufReader, Read};
+use crate::prelude::*;
+use std::io::{BufRead, BufReader, Read};
 
 /// So many bytes of a line are kept; no text of as many names a day or a date-time.
 const MOST_BYTES: usize = 65_536;
@@ -40,7 +33,7 @@ pub(crate) trait EachLine {
 // Takes each line of a source; the greatest exit status.
 pub(crate) fn take_lines<'a>(
     rt: &HostRuntime,
-    source: Source<'a>,
+    source: Word<'a>,
     reader: impl Read + Drop,
     command: &mut impl EachLine,
 ) -> Answered<'a> {
@@ -59,26 +52,11 @@ pub(crate) fn take_lines<'a>(
 
 // Takes each line of the input; the greatest exit status.
 pub(crate) fn take_input<'a>(rt: &HostRuntime, command: &mut impl EachLine) -> Answered<'a> {
-    take_lines(rt, Source::Input, rt.reader(), command)
+    take_lines(rt, INPUT, rt.reader(), command)
 }
 
-/// Which line of the input is answered, as `line 3: `; nothing where the words ask for one answer alone.
-#[derive(Clone, Copy)]
-pub enum Place {
-    /// One answer.
-    Alone,
-    /// The line of this number, from 1 on.
-    Line(u64),
-}
-
-impl fmt::Display for Place {
-    fn fmt<W: fmt::Write>(&self, f: &mut fmt::Formatter<W>) -> fmt::Result {
-        match self {
-            Place::Alone => Ok(()),
-            Place::Line(number) => write!(f, "line {number}: "),
-        }
-    }
-}
+/// In place of a line's number, where the words ask for one answer alone.
+pub(crate) const ALONE: u64 = 0;
 
 /// Why a move leads nowhere.
 #[derive(Clone, Copy)]
@@ -87,6 +65,10 @@ pub(crate) enum Nowhere {
     Past,
     /// It leads to a local time that the zone's clock shows twice, or never.
     NotOnce,
+    /// It leads to a local time that the zone's clock never shows.
+    Never,
+    /// Its months by `m`, so written, were meant for minutes.
+    Months,
 }
 
 // Prints that there is no answer, since a move from there leads nowhere; the exit status.
@@ -94,19 +76,29 @@ pub(crate) fn print_nowhere(
     rt: &HostRuntime,
     form: OutputForm,
     none: Reply,
-    place: Place,
+    number: u64,
     from: &Start,
     by: &str,
     why: Nowhere,
 ) -> io::Result<u8> {
-    print_reply(rt, form, none)?;
-    let gap = if by.is_empty() { "" } else { " " };
-    let why = match why {
-        Nowhere::Past => "past the calendar's end",
-        Nowhere::NotOnce => NOT_ONCE,
-    };
-    let _ = eprintln!(rt; "{place}{from}{gap}{by}: {why}");
-    Ok(NONE)
+    let status = print_reply(rt, form, none)?;
+    let mut text = String::new(rt.alloc());
+    if number != ALONE {
+        text.push_str("line ")?;
+        show(&mut text, &number)?;
+        text.push_str(": ")?;
+    }
+    show(&mut text, from)?;
+    text.push_str(gap_before(by))?;
+    text.push_str(by)?;
+    text.push_str(": ")?;
+    match why {
+        Nowhere::Past => text.push_str("past the calendar's end")?,
+        Nowhere::NotOnce => text.push_str(NOT_ONCE)?,
+        Nowhere::Never => text.push_str("the zone's clock never shows it")?,
+        Nowhere::Months => put_cause(&mut text, Cause::Months(by))?,
+    }
+    Ok(tell(rt, text.as_str(), status))
 }
 
 /// That a zone's clock shows no single instant.
@@ -114,7 +106,7 @@ pub(crate) const NOT_ONCE: &str = "a local time that the zone's clock shows twic
 
 /// Why a line names no day; `Form` is that it is not written as one, and `Mark` a byte order mark.
 #[derive(Clone, Copy)]
-pub enum Reason {
+pub(crate) enum Reason {
     Day(ReadError),
     Moment,
     Spaces,
@@ -125,19 +117,18 @@ pub enum Reason {
     Form,
 }
 
-impl fmt::Display for Reason {
-    fn fmt<W: fmt::Write>(&self, f: &mut fmt::Formatter<W>) -> fmt::Result {
-        match self {
-            Reason::Day(error) => write!(f, "{error}"),
-            Reason::Moment => f.write_str("a date-time, and no day"),
-            Reason::Spaces => f.write_str("begins or ends with white space"),
-            Reason::Mark => f.write_str("begins with a byte order mark"),
-            Reason::CarriageReturn => f.write_str("ends in a carriage return"),
-            Reason::Empty => f.write_str("nothing stands there"),
-            Reason::Length => write!(f, "has {MOST_BYTES} bytes or more"),
-            Reason::Form => f.write_str("not written as 2024-02-29, 2024-060 or 2024-W09-4"),
-        }
-    }
+// Puts why a line names no day behind a text.
+pub(crate) fn put_reason(out: &mut String, reason: Reason) -> Put {
+    out.push_str(match reason {
+        Reason::Day(error) => return show(out, &error),
+        Reason::Moment => "a date-time, and no day",
+        Reason::Spaces => "begins or ends with white space",
+        Reason::Mark => "begins with a byte order mark",
+        Reason::CarriageReturn => "ends in a carriage return",
+        Reason::Empty => "nothing stands there",
+        Reason::Length => "has 65536 bytes or more",
+        Reason::Form => "not written as 2024-02-29, 2024-060 or 2024-W09-4",
+    })
 }
 
 // The day that a line names, or why it names none.
@@ -148,12 +139,12 @@ pub(crate) fn day_of_line(line: &[u8]) -> Result<NaiveDate, Reason> {
     match read_start(line) {
         Ok(start) => match start {
             Start::Day(date) => Ok(date),
-            Start::DateTime(_) | Start::Stamp(_) => Err(Reason::Moment),
+            _ => Err(Reason::Moment),
         },
-        Err(error) => match error {
-            StartError::NoDay(error) => Err(Reason::Day(error)),
-            _ => Err(beside_day(line)),
-        },
+        Err(error) if error.cause != ReadCause::NotThisForm && parted(line).is_none() => {
+            Err(Reason::Day(error))
+        }
+        Err(_) => Err(beside_day(line)),
     }
 }
 

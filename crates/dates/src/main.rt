@@ -11,6 +11,37 @@ macro_rules! value {
     };
 }
 
+// What a word that may be given has by a reading of it; its fault is returned.
+macro_rules! given {
+    ($given:expr, $word:ident, $read:expr) => {
+        match $given {
+            Some($word) => Some(value!($read)),
+            None => None,
+        }
+    };
+}
+
+// A flag.
+macro_rules! flag {
+    ($name:expr, $help:expr) => {
+        Opt { name: $name, help: $help, ..OPTION }
+    };
+}
+
+// An option that takes any value.
+macro_rules! option {
+    ($name:expr, $value:expr, $help:expr) => {
+        Opt { name: $name, value: $value, help: $help, ..OPTION }
+    };
+}
+
+// An operand that has to be there.
+macro_rules! operand {
+    ($name:expr) => {
+        Operand { name: $name, ..OPERAND }
+    };
+}
+
 mod add;
 mod asked;
 mod cal;
@@ -32,7 +63,6 @@ mod prelude;
 mod roll;
 mod rule;
 mod seq;
-mod source;
 mod table;
 mod texts;
 mod values;
@@ -41,11 +71,10 @@ mod weekday;
 mod zone_changes;
 mod zoned;
 
-use fault::{WRONG, refuse_arguments};
+use prelude::*;
 use std::env;
-use std::io::{self, ErrorKind};
+use std::io::ErrorKind;
 use std::process::ExitCode;
-use table::answer_arguments;
 
 fn main(rt: HostRuntime) -> ExitCode {
     match run(&rt) {

@@ -1,10 +1,6 @@
 //! What time it is.
 
 use crate::prelude::*;
-use crate::texts::{Start, instant_at};
-use crate::values::InstantForm;
-use crate::zoned::{IN_ZONE, ZONES, shown_in, zone_of};
-use chrono_zoned::{DateTime, FixedOffset, Timestamp};
 use std::time::SystemTime;
 
 // The command that prints the day alone.
@@ -43,7 +39,7 @@ pub(crate) fn answer<'a>(rt: &HostRuntime, asked: &mut Asked<'a>) -> Answered<'a
     };
     let instants = InstantForm::of(&asked.words);
     match shown {
-        Some(stamp) if asked.command == TODAY => {
+        Some(stamp) if asked.command.name == TODAY => {
             asked.print(rt, Reply::Date(stamp.naive_local().date()))
         }
         Some(stamp) => asked.print(rt, instants.reply(Start::Stamp(stamp))),

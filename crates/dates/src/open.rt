@@ -1,12 +1,6 @@
 //! Whether a day is open.
 
-use crate::closed::years_of;
-use crate::holidays::{Holidays, holidays_of};
 use crate::prelude::*;
-use crate::texts::read_day;
-use crate::values::day_of;
-use chrono_datetime::NaiveDate;
-use std::io;
 
 pub(crate) fn command() -> CommandRow {
     CommandRow {
@@ -34,12 +28,8 @@ struct Open {
 // Whether the day, or that of each line, is open; the exit status.
 pub(crate) fn answer<'a>(rt: &HostRuntime, asked: &mut Asked<'a>) -> Answered<'a> {
     asked.none = NONE;
-    let date = match asked.word_or_lines() {
-        Some(word) => Some(value!(day_of(word))),
-        None => None,
-    };
-    let form = asked.form;
-    let holidays = value!(holidays_of(rt, asked));
+    let date = given!(asked.word_or_lines(), word, day_of(word));
+    let (form, holidays) = (asked.form, value!(holidays_of(rt, asked)));
     let mut open = Open { form, holidays };
     match date {
         Some(date) => Ok(open.answer_day(rt, date)?),

@@ -1,16 +1,12 @@
 //! Rows that several commands share.
 
-use crate::zoned::ZONED;
-use command_words::{OPERAND, OPTION, Operand, Opt};
+use crate::prelude::*;
 
 /// The weekdays by their names.
 pub(crate) const WEEKDAYS: &[&str] = &["mon", "tue", "wed", "thu", "fri", "sat", "sun"];
 
 /// A day.
-pub(crate) const DAY: Operand = Operand {
-    name: "DAY",
-    ..OPERAND
-};
+pub(crate) const DAY: Operand = operand!("DAY");
 
 /// A day, or `-` for the lines of the input, which may be left out.
 pub(crate) const DAY_OR_LINES: Operand = Operand {
@@ -19,42 +15,19 @@ pub(crate) const DAY_OR_LINES: Operand = Operand {
 };
 
 /// A year.
-pub(crate) const YEAR: Operand = Operand {
-    name: "YEAR",
-    ..OPERAND
-};
+pub(crate) const YEAR: Operand = operand!("YEAR");
 
 /// `--json`.
-pub(crate) const JSON: Opt = Opt {
-    name: "--json",
-    help: "print JSON, an object a line",
-    ..OPTION
-};
+pub(crate) const JSON: Opt = flag!("--json", "print JSON, an object a line");
 
 /// `--help`.
-pub(crate) const HELP: Opt = Opt {
-    name: "--help",
-    help: "print this help",
-    ..OPTION
-};
-
-/// The options of a command that has no others.
-pub(crate) const PLAIN: &[Opt] = &[JSON, HELP];
-
-/// The options of a command that knows open days.
-pub(crate) const OPEN_DAYS: &[Opt] = &[WEEKEND, CALENDAR, HOLIDAYS, JSON, HELP];
-
-/// The options of a command that knows open days and instants.
-pub(crate) const OPEN_DAYS_AND_INSTANTS: &[Opt] = &[
-    WEEKEND, CALENDAR, HOLIDAYS, ZONED, UNIX, JSON, HELP,
-];
+pub(crate) const HELP: Opt = flag!("--help", "print this help");
 
 /// `--unix`.
-pub(crate) const UNIX: Opt = Opt {
-    name: "--unix",
-    help: "read and print instants as seconds since 1970 in UTC",
-    ..OPTION
-};
+pub(crate) const UNIX: Opt = flag!(
+    "--unix",
+    "read and print instants as seconds since 1970 in UTC"
+);
 
 /// `--weekend`.
 pub(crate) const WEEKEND: Opt = Opt {
@@ -77,16 +50,19 @@ pub(crate) const CALENDAR: Opt = Opt {
 };
 
 /// `--holidays`.
-pub(crate) const HOLIDAYS: Opt = Opt {
-    name: "--holidays",
-    value: "FILE",
-    help: "holidays of a file, of which each line is a day",
-    ..OPTION
-};
+pub(crate) const HOLIDAYS: Opt = option!(
+    "--holidays",
+    "FILE",
+    "holidays of a file, of which each line is a day"
+);
 
-/// `--count`.
-pub(crate) const COUNT: Opt = Opt {
-    name: "--count",
-    value: "N",
-    ..OPTION
-};
+/// The options of a command that has no others.
+pub(crate) const PLAIN: &[Opt] = &[JSON, HELP];
+
+/// The options of a command that knows open days.
+pub(crate) const OPEN_DAYS: &[Opt] = &[WEEKEND, CALENDAR, HOLIDAYS, JSON, HELP];
+
+/// The options of a command that knows open days and instants.
+pub(crate) const OPEN_DAYS_AND_INSTANTS: &[Opt] = &[
+    WEEKEND, CALENDAR, HOLIDAYS, ZONED, UNIX, JSON, HELP,
+];

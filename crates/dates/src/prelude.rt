@@ -1,8 +1,21 @@
-//! The names that most commands use.
+//! The names that the modules of the program use.
 
-pub(crate) use crate::asked::{Answered, Asked, print_reply};
-pub(crate) use crate::fault::{ANSWERED, Cause, Fault, NONE};
-pub(crate) use crate::lines::{EachLine, Nowhere, Place, print_nowhere, take_input};
+pub(crate) use crate::asked::*;
+pub(crate) use crate::closed::*;
+pub(crate) use crate::fault::*;
+pub(crate) use crate::holidays::*;
+pub(crate) use crate::lines::*;
 pub(crate) use crate::options::*;
-pub(crate) use command_words::{CommandRow, OPERAND, OPTION, Operand, Opt, Word};
-pub(crate) use dates_answer::{Key, OutputForm, Reply};
+pub(crate) use crate::table::*;
+pub(crate) use crate::texts::*;
+pub(crate) use crate::values::*;
+pub(crate) use crate::zoned::*;
+pub(crate) use chrono_datetime::{
+    Datelike, NaiveDate, NaiveDateTime, NaiveTime, TimeDelta, Weekday,
+};
+pub(crate) use chrono_reading::{ReadCause, ReadError};
+pub(crate) use chrono_zoned::{DateTime, FixedOffset, InZone, MappedLocalTime, Timestamp};
+pub(crate) use command_words::{CommandRow, OPERAND, OPTION, Operand, Opt, Put, Word, put};
+pub(crate) use dates_answer::{Key, OutputForm, Quoted, Reply, Span, Unit};
+pub(crate) use std::alloc::{AllocError, Global};
+pub(crate) use std::{fmt, io};

@@ -1,13 +1,7 @@
 //! Where closed days go.
 
-use crate::closed::years_of;
-use crate::holidays::{Holidays, holidays_of};
 use crate::prelude::*;
-use crate::texts::{Start, read_day};
-use crate::values::{begins_as_day, day_of};
 use chrono_business::Roll;
-use chrono_datetime::NaiveDate;
-use std::io;
 
 const CONVENTIONS: &[&str] = &[
     "following",
@@ -52,15 +46,14 @@ struct Rolls {
 // Where the day, or that of each line, goes; the exit status.
 pub(crate) fn answer<'a>(rt: &HostRuntime, asked: &mut Asked<'a>) -> Answered<'a> {
     let (date, roll) = value!(read(asked.word(0), asked.words.operand(1)));
-    let form = asked.form;
-    let holidays = value!(holidays_of(rt, asked));
+    let (form, holidays) = (asked.form, value!(holidays_of(rt, asked)));
     let mut rolls = Rolls {
         form,
         roll,
         holidays,
     };
     match date {
-        Some(date) => Ok(rolls.answer_day(rt, Place::Alone, date)?),
+        Some(date) => Ok(rolls.answer_day(rt, ALONE, date)?),
         None => take_input(rt, &mut rolls),
     }
 }
@@ -74,7 +67,7 @@ fn read<'a>(
         Some(second) if first.text == "-" => Ok((None, value!(roll_of(second)))),
         Some(second) => Ok((Some(value!(day_of(first))), value!(roll_of(second)))),
         None if begins_as_day(first) => match day_of(first) {
-            Ok(_) => Err(Fault::Missing("CONVENTION")),
+            Ok(_) => Err(Fault::Missing("CONVENTION", "")),
             Err(fault) => Err(fault),
         },
         None => Ok((None, value!(roll_of(first)))),
@@ -96,19 +89,14 @@ fn roll_of<'a>(word: Word<'a>) -> Result<Roll, Fault<'a>> {
 
 impl Rolls {
     // The day that a day rolls to, or `none` where the calendar ends before; the exit status.
-    fn answer_day(&mut self, rt: &HostRuntime, place: Place, date: NaiveDate) -> io::Result<u8> {
+    fn answer_day(&mut self, rt: &HostRuntime, number: u64, date: NaiveDate) -> io::Result<u8> {
         let calendar = self.holidays.calendar(years_of(date, date))?;
         match calendar.roll(date, self.roll) {
             Some(day) => print_reply(rt, self.form, Reply::Date(day)),
-            None => print_nowhere(
-                rt,
-                self.form,
-                NONE,
-                place,
-                &Start::Day(date),
-                "",
-                Nowhere::Past,
-            ),
+            None => {
+                let (form, from) = (self.form, Start::Day(date));
+                print_nowhere(rt, form, NONE, number, &from, "", Nowhere::Past)
+            }
         }
     }
 }
@@ -116,7 +104,7 @@ impl Rolls {
 impl EachLine for Rolls {
     fn take_line(&mut self, rt: &HostRuntime, number: u64, line: &[u8]) -> io::Result<u8> {
         match read_day(line) {
-            Ok(date) => self.answer_day(rt, Place::Line(number), date),
+            Ok(date) => self.answer_day(rt, number, date),
             Err(_) => print_reply(rt, self.form, NONE),
         }
     }

@@ -1,13 +1,7 @@
 //! The instances of a recurrence rule.
 
 use crate::prelude::*;
-use crate::values::{amount_of, day_of};
-use chrono_rules::{Instances, Rule, read_rule};
-
-const RRULE: Operand = Operand {
-    name: "RRULE",
-    ..OPERAND
-};
+use chrono_rules::{Rule, read_rule};
 
 const START: Opt = Opt {
     name: "--start",
@@ -17,22 +11,22 @@ const START: Opt = Opt {
     ..OPTION
 };
 
-const FROM: Opt = Opt {
-    name: "--from",
-    value: "DAY",
-    help: "from which day on they are wanted\n(default: that of --start)",
-    ..OPTION
-};
+const FROM: Opt = option!(
+    "--from",
+    "DAY",
+    "from which day on they are wanted\n(default: that of --start)"
+);
 
-const HOW_MANY: Opt = Opt {
-    help: "how many at most\n(default: all, to the end of the rule or the calendar)",
-    ..COUNT
-};
+const HOW_MANY: Opt = option!(
+    "--count",
+    "N",
+    "how many at most\n(default: all, to the end of the rule or the calendar)"
+);
 
 pub(crate) fn command() -> CommandRow {
     CommandRow {
         name: "rule",
-        operands: &[RRULE],
+        operands: &[operand!("RRULE")],
         options: &[START, FROM, HOW_MANY, JSON, HELP],
         help: "print the instances of a recurrence rule",
         more: "An RRULE is written as RFC 5545 writes it, in parts with ; between them:\n\
@@ -58,7 +52,11 @@ pub(crate) fn answer<'a>(rt: &HostRuntime, asked: &mut Asked<'a>) -> Answered<'a
         Some(word) => value!(amount_of(word)),
         None => u64::MAX,
     };
-    print_instances(rt, asked, rule.instances_from(start, from), most)
+    let mut status = NONE;
+    for day in rule.instances_from(start, from).take(most as usize) {
+        status = value!(asked.print(rt, Reply::Date(day)));
+    }
+    asked.finish(rt, status)
 }
 
 // The rule that a word writes.
@@ -67,21 +65,4 @@ fn rule_of<'a>(word: Word<'a>) -> Result<Rule, Fault<'a>> {
         Ok(rule) => Ok(rule),
         Err(error) => Err(Fault::Word(word, Cause::Rule(error))),
     }
-}
-
-// So many instances at most, or `none` where there is none; the exit status.
-fn print_instances<'a>(
-    rt: &HostRuntime,
-    asked: &Asked<'a>,
-    instances: Instances,
-    most: u64,
-) -> Answered<'a> {
-    let mut status = NONE;
-    for day in instances.take(most as usize) {
-        status = value!(asked.print(rt, Reply::Date(day)));
-    }
-    if status == NONE {
-        return asked.print(rt, asked.none);
-    }
-    Ok(status)
 }

@@ -1,10 +1,7 @@
 //! The days from one to another.
 
 use crate::prelude::*;
-use crate::texts::read_span;
-use crate::values::day_of;
-use chrono_datetime::{Datelike, NaiveDate};
-use dates_answer::{Span, Unit, sequence_day};
+use dates_answer::sequence_day;
 
 const SPAN: Operand = Operand {
     name: "SPAN",
@@ -37,17 +34,6 @@ pub(crate) fn answer<'a>(rt: &HostRuntime, asked: &mut Asked<'a>) -> Answered<'a
         Some(word) => value!(step_of(word)),
         None => day_by_day(from, to),
     };
-    print_sequence(rt, asked, from, to, step)
-}
-
-// The days of a sequence, or `none` where there is none; the exit status.
-fn print_sequence<'a>(
-    rt: &HostRuntime,
-    asked: &Asked<'a>,
-    from: NaiveDate,
-    to: NaiveDate,
-    step: Span,
-) -> Answered<'a> {
     let mut status = NONE;
     for place in 0..u32::MAX {
         match sequence_day(from, to, step, place) {
@@ -55,10 +41,7 @@ fn print_sequence<'a>(
             None => break,
         }
     }
-    if status == NONE {
-        return asked.print(rt, asked.none);
-    }
-    Ok(status)
+    asked.finish(rt, status)
 }
 
 // The span that a word writes, which is not 0.

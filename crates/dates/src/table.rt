@@ -1,12 +1,7 @@
 //! The commands of `dates`: a row each. Help, the man page, completion and messages come from these rows.
 
-use crate::asked::{Answered, Asked};
-use crate::day;
-use crate::fault::{ANSWERED, Fault, refuse};
-use crate::options::{HELP, JSON};
-use command_words::{Arguments, CommandHelp, CommandRow, Program, ProgramHelp, Word, read_words};
-use dates_answer::{Key, OutputForm, Reply};
-use std::io;
+use crate::prelude::*;
+use command_words::{Arguments, Program, put_command_help, put_program_help, read_words};
 
 // The rows: the module of each command and its function there, in the order in which the help lists them.
 macro_rules! each_command {
@@ -51,17 +46,17 @@ macro_rules! list_rows {
 macro_rules! answer_named {
     ($rt:ident, $asked:ident, $($module:ident::$command:ident,)*) => {
         $(
-            if $asked.command == crate::$module::$command().name {
+            if $asked.command.name == crate::$module::$command().name {
                 return crate::$module::answer($rt, $asked);
             }
         )*
     };
 }
 
-const COUNT: usize = each_command!(count_rows);
+const ROWS: usize = each_command!(count_rows);
 
 // The rows of all commands. Each comes from a function, so that no proof reads all of them at once.
-pub(crate) fn commands() -> [CommandRow; COUNT] {
+pub(crate) fn commands() -> [CommandRow; ROWS] {
     each_command!(list_rows)
 }
 
@@ -81,7 +76,7 @@ pub(crate) fn program(commands: &[CommandRow]) -> Program<'_> {
         help: "answer what one asks of dates",
         more: MORE,
         commands,
-        alone: day::OPTIONS,
+        alone: crate::day::OPTIONS,
     }
 }
 
@@ -118,7 +113,11 @@ pub(crate) fn answer_arguments(rt: &HostRuntime, arguments: &[String]) -> io::Re
         }
         words.push(Word { place, text })?;
     }
-    answer_command(rt, &command.unwrap_or(day::command()), words.as_slice())
+    answer_command(
+        rt,
+        command.unwrap_or(crate::day::command()),
+        words.as_slice(),
+    )
 }
 
 // The command with that name, and a day where there is none.
@@ -128,49 +127,43 @@ fn command_named(name: &str) -> CommandRow {
             return command;
         }
     }
-    day::command()
+    crate::day::command()
 }
 
 // Reads the words by the row of a command and answers it; the exit status.
-fn answer_command(rt: &HostRuntime, command: &CommandRow, words: &[Word<'_>]) -> io::Result<u8> {
-    let mut asked = Asked {
-        command: command.name,
-        options: command.options,
-        form: OutputForm::Text,
-        none: Reply::Nothing(Key::Date),
-        words: match read_words(rt.alloc(), command.options, words)? {
-            Ok(words) => words,
-            Err(wrong) => {
-                let none = Reply::Nothing(Key::Date);
-                let fault = match wrong_first(command, words.first().copied()) {
-                    Some(fault) => fault,
-                    None => Fault::from(wrong),
-                };
-                return refuse(rt, command, OutputForm::Text, none, fault);
-            }
-        },
+fn answer_command(rt: &HostRuntime, command: CommandRow, words: &[Word<'_>]) -> io::Result<u8> {
+    let (form, none) = (OutputForm::Text, Reply::Nothing(Key::Date));
+    let words = match read_words(rt.alloc(), command.options, words)? {
+        Ok(words) => words,
+        Err(wrong) => {
+            let fault = match wrong_first(&command, words.first().copied()) {
+                Some(fault) => fault,
+                None => fault_of(wrong),
+            };
+            return refuse(rt, &command, form, none, fault);
+        }
     };
-    if asked.words.has("--help") {
-        return print_help(rt, command);
+    if words.has("--help") {
+        return print_help(rt, &command);
     }
-    if asked.words.has("--json") {
-        asked.form = OutputForm::Json;
-    }
-    match answer_counted(rt, command, &mut asked) {
-        Ok(status) => Ok(status),
-        Err(fault) => refuse(rt, command, asked.form, asked.none, fault),
-    }
-}
-
-// Answers a command that has the operands and the options that its row wants; the exit status.
-fn answer_counted<'a>(
-    rt: &HostRuntime,
-    command: &CommandRow,
-    asked: &mut Asked<'a>,
-) -> Answered<'a> {
-    match wrong_count(command, &asked.words) {
+    let form = if words.has("--json") {
+        OutputForm::Json
+    } else {
+        form
+    };
+    let mut asked = Asked {
+        command,
+        form,
+        none,
+        words,
+    };
+    let answered = match wrong_count(&asked) {
         Some(fault) => Err(fault),
-        None => answer(rt, asked),
+        None => answer(rt, &mut asked),
+    };
+    match answered {
+        Ok(status) => Ok(status),
+        Err(fault) => refuse(rt, &command, form, asked.none, fault),
     }
 }
 
@@ -180,35 +173,40 @@ fn wrong_first<'a>(command: &CommandRow, first: Option<Word<'a>>) -> Option<Faul
     if !command.name.is_empty() || first.text.starts_with("--") {
         return None;
     }
-    match day::first_of(first) {
+    match crate::day::first_of(first) {
         Ok(_) => None,
         Err(fault) => Some(fault),
     }
 }
 
 // What is missing, or which operand is one too many.
-fn wrong_count<'a>(command: &CommandRow, words: &Arguments<'a>) -> Option<Fault<'a>> {
+fn wrong_count<'a>(asked: &Asked<'a>) -> Option<Fault<'a>> {
+    let (command, words) = (&asked.command, &asked.words);
     if let Some(operand) = words.missing_operand(command) {
-        return Some(Fault::Missing(operand.name));
+        return Some(Fault::Missing(operand.name, ""));
     }
     if let Some(option) = words.missing(command.options) {
-        return Some(Fault::MissingOption(option.name, option.value));
+        return Some(Fault::Missing(option.name, option.value));
     }
     let extra = words.extra_operand(command)?;
     match wrong_first(command, words.operand(0)) {
         Some(fault) => Some(fault),
-        None => Some(Fault::expected(extra, "no further argument")),
+        None => Some(Fault::expected(extra, NO_MORE)),
     }
 }
+
+/// What is expected in place of an operand that is one too many.
+pub(crate) const NO_MORE: &str = "no further argument";
 
 // Prints how a command, or the program, is used; the exit status.
 fn print_help(rt: &HostRuntime, command: &CommandRow) -> io::Result<u8> {
     let rows = commands();
-    let program = &program(&rows);
+    let mut text = String::new(rt.alloc());
     if command.name.is_empty() {
-        print!(rt; "{}", ProgramHelp { program })?;
+        put_program_help(&mut text, &program(&rows))?;
     } else {
-        print!(rt; "{}", CommandHelp { program, command })?;
+        put_command_help(&mut text, &program(&rows), command)?;
     }
+    print!(rt; "{text}")?;
     Ok(ANSWERED)
 }

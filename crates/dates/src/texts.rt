@@ -1,16 +1,11 @@
 //! Texts of days, date-times, spans, weeks and months.
 
-use crate::options::WEEKDAYS;
-use chrono_datetime::{NaiveDate, NaiveDateTime, NaiveTime, TimeDelta, Weekday};
+use crate::prelude::*;
 use chrono_reading::{
-    ReadCause, ReadError, read_date, read_duration, read_ordinal_date, read_time, read_week_date,
-    read_weekday,
+    read_date, read_duration, read_ordinal_date, read_time, read_week_date, read_weekday,
 };
 use chrono_stamps::parse_from_iso8601;
 use chrono_text::{Text, read_decimal};
-use chrono_zoned::{DateTime, FixedOffset, InZone};
-use dates_answer::{Span, Unit};
-use std::fmt;
 
 // The day that a text names by its calendar date, its ordinal date or its week date; else what is wrong by the form that it has.
 pub(crate) fn read_day(text: &[u8]) -> Result<NaiveDate, ReadError> {
@@ -82,44 +77,34 @@ impl fmt::Display for Start {
     }
 }
 
-/// Why a text names neither a day nor a date-time.
-#[derive(Clone, Copy)]
-pub enum StartError {
-    /// It is written as a day is, and there is no such day.
-    NoDay(ReadError),
-    /// It cannot be read.
-    Unread(ReadError),
-    /// The zone's clock shows it twice, or skips it.
-    NotOnce,
+// The day or the date-time that a text names: a date-time where a time of day stands behind the day.
+pub(crate) fn read_start(text: &[u8]) -> Result<Start, ReadError> {
+    match parted(text) {
+        Some((day, time)) => moment_at(day, time),
+        None => Ok(Start::Day(read_day(text)?)),
+    }
 }
 
-// The day or the date-time that a text names: a date-time where a time of day stands behind the day.
-pub(crate) fn read_start(text: &[u8]) -> Result<Start, StartError> {
-    if let Some((day, time)) = parted(text) {
-        return match moment_at(day, time) {
-            Ok(start) => Ok(start),
-            Err(error) => Err(StartError::Unread(error)),
-        };
-    }
-    match read_day(text) {
-        Ok(date) => Ok(Start::Day(date)),
-        Err(error) if error.cause == ReadCause::NotThisForm => Err(StartError::Unread(error)),
-        Err(error) => Err(StartError::NoDay(error)),
+// The date-time that a text names by its day and its time of day, and by its offset where it has one.
+pub(crate) fn read_moment(text: &[u8]) -> Result<Start, ReadError> {
+    match parted(text) {
+        Some((day, time)) => moment_at(day, time),
+        None => Err(no_form(text.len())),
     }
 }
 
 // The instant that a text names by the seconds since 1970 in UTC, or by a date-time with its offset.
-pub(crate) fn read_instant(text: &[u8]) -> Result<Start, StartError> {
+pub(crate) fn read_instant(text: &[u8]) -> Result<Start, ReadError> {
     if let Some(seconds) = read_number(text) {
+        let cause = ReadCause::DateOutOfRange;
         return match instant_at(seconds) {
             Some(stamp) => Ok(Start::Stamp(stamp)),
-            None => Err(StartError::NoDay(date_out_of_range())),
+            None => Err(ReadError { cause, byte: 0 }),
         };
     }
-    match read_start(text) {
-        Ok(start @ Start::Stamp(_)) => Ok(start),
-        Ok(_) => Err(StartError::Unread(no_form(0))),
-        Err(error) => Err(error),
+    match read_start(text)? {
+        start @ Start::Stamp(_) => Ok(start),
+        _ => Err(no_form(0)),
     }
 }
 
@@ -129,22 +114,11 @@ pub(crate) fn instant_at(seconds: i64) -> Option<DateTime<FixedOffset>> {
 }
 
 // What stands in front of the first `T` or blank, behind which a time of day stands, and behind it.
-fn parted(text: &[u8]) -> Option<(&[u8], &[u8])> {
+pub(crate) fn parted(text: &[u8]) -> Option<(&[u8], &[u8])> {
     let at = text.iter().position(|byte| *byte == b'T' || *byte == b' ')?;
     match text.split_at(at) {
         (day, [_, time @ ..]) => Some((day, time)),
         _ => None,
-    }
-}
-
-// The date-time that a text names by its day and its time of day, and by its offset where it has one.
-pub(crate) fn read_moment(text: &[u8]) -> Result<Start, ReadError> {
-    match parted(text) {
-        Some((day, time)) => moment_at(day, time),
-        None => match read_day(text) {
-            Ok(_) => Err(no_form(text.len())),
-            Err(error) => Err(error),
-        },
     }
 }
 
@@ -192,12 +166,6 @@ fn stamp_at(day: &[u8], time: &[u8]) -> Result<Start, ReadError> {
 fn no_form(byte: usize) -> ReadError {
     let cause = ReadCause::NotThisForm;
     ReadError { cause, byte }
-}
-
-// That a text names a time before the calendar's first date or behind its last.
-fn date_out_of_range() -> ReadError {
-    let cause = ReadCause::DateOutOfRange;
-    ReadError { cause, byte: 0 }
 }
 
 // No name of a day has more bytes.

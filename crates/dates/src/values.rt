@@ -1,17 +1,8 @@
 //! The values of words.
 
-use crate::fault::{Cause, Fault};
-use crate::options::UNIX;
-use crate::texts::{
-    Start, StartError, read_instant, read_moment, read_start, read_week, weekday_named,
-};
-use chrono_datetime::{NaiveDate, Weekday};
-use chrono_reading::ReadError;
+use crate::prelude::*;
 use chrono_text::{read_decimal, read_year};
-use chrono_zoned::Timestamp;
-use command_words::{Arguments, Word};
-use dates_answer::{Key, Reply};
-use std::fmt;
+use command_words::Arguments;
 
 /// What is expected in place of a day.
 pub(crate) const DAYS: &str = "a day as 2024-02-29, 2024-060 or 2024-W09-4";
@@ -42,7 +33,7 @@ impl InstantForm {
     }
 
     // The day, the date-time or the instant that a text names; by seconds an instant alone.
-    pub(crate) fn read(self, text: &[u8]) -> Result<Start, StartError> {
+    pub(crate) fn read(self, text: &[u8]) -> Result<Start, ReadError> {
         match self {
             InstantForm::Text => read_start(text),
             InstantForm::Seconds => read_instant(text),
@@ -61,6 +52,22 @@ impl InstantForm {
         }
     }
 
+    // That there is no day, or no date-time, as is the start.
+    pub(crate) fn none_of(self, start: Start) -> Reply {
+        match start {
+            Start::Day(_) => Reply::Nothing(Key::Date),
+            _ => self.no_moment(),
+        }
+    }
+
+    // That there is no such day, or no such date-time where the text has a `T`.
+    pub(crate) fn none_of_text(self, text: &[u8]) -> Reply {
+        match self {
+            InstantForm::Text if !text.contains(&b'T') => Reply::Nothing(Key::Date),
+            form => form.no_moment(),
+        }
+    }
+
     // That there is no date-time.
     pub(crate) fn no_moment(self) -> Reply {
         match self {
@@ -70,9 +77,13 @@ impl InstantForm {
     }
 }
 
-// That a word cannot be read where something was expected.
-fn unread<'a>(word: Word<'a>, error: ReadError, what: &'static str) -> Fault<'a> {
-    Fault::Word(word, Cause::Unread(error, what))
+// What is wrong with a word that cannot be read: that something else was expected, or that there is no such day or time.
+pub(crate) fn unread<'a>(word: Word<'a>, error: ReadError, what: &'static str) -> Fault<'a> {
+    if error.cause == ReadCause::NotThisForm {
+        Fault::expected(word, what)
+    } else {
+        Fault::NoSuch(word, Cause::NoDay(error))
+    }
 }
 
 // The day, the date-time or the instant that a word names, where that is expected.
@@ -83,11 +94,7 @@ pub(crate) fn start_as<'a>(
 ) -> Result<Start, Fault<'a>> {
     match form.read(word.text.as_bytes()) {
         Ok(start) => Ok(start),
-        Err(error) => match error {
-            StartError::NoDay(error) => Err(Fault::NoDay(word, error)),
-            StartError::Unread(error) => Err(unread(word, error, what)),
-            StartError::NotOnce => Err(Fault::NotOnce(word)),
-        },
+        Err(error) => Err(unread(word, error, what)),
     }
 }
 
@@ -132,9 +139,10 @@ pub(crate) fn year_of<'a>(word: Word<'a>) -> Result<i32, Fault<'a>> {
     read_year(word.text.as_bytes()).ok_or(Fault::expected(word, "a year as 2024"))
 }
 
-// The first day of a year.
-pub(crate) fn start_of_year<'a>(year: i32) -> Result<NaiveDate, Fault<'a>> {
-    NaiveDate::from_ymd_opt(year, 1, 1).ok_or(Fault::Outside(year))
+// The first day of a year that a word writes.
+pub(crate) fn start_of_year<'a>(word: Word<'a>) -> Result<NaiveDate, Fault<'a>> {
+    let year = value!(year_of(word));
+    NaiveDate::from_ymd_opt(year, 1, 1).ok_or(Fault::NoSuch(word, Cause::Outside))
 }
 
 // The number from 1 on that a word writes.

@@ -1,18 +1,11 @@
 //! The first and the last day of a week.
 
 use crate::prelude::*;
-use crate::texts::Start;
-use crate::values::week_of;
-
-const WEEK: Operand = Operand {
-    name: "WEEK",
-    ..OPERAND
-};
 
 pub(crate) fn command() -> CommandRow {
     CommandRow {
         name: "week",
-        operands: &[WEEK],
+        operands: &[operand!("WEEK")],
         options: PLAIN,
         help: "print the first and the last day of a week",
         more: "A WEEK is an ISO week, from Monday on, as 2024-W09.",
@@ -23,20 +16,13 @@ pub(crate) fn command() -> CommandRow {
 
 // The Monday and the Sunday of the week; the exit status.
 pub(crate) fn answer<'a>(rt: &HostRuntime, asked: &mut Asked<'a>) -> Answered<'a> {
+    asked.none = Reply::NoWeek(None);
     let first = value!(week_of(asked.word(0)));
     match first.moved_by_days(6) {
         Some(last) => asked.print(rt, Reply::Week(first, last)),
         None => {
-            let (none, from) = (Reply::NoWeek(first), Start::Day(first));
-            Ok(print_nowhere(
-                rt,
-                asked.form,
-                none,
-                Place::Alone,
-                &from,
-                "6d",
-                Nowhere::Past,
-            )?)
+            let (form, none, from) = (asked.form, Reply::NoWeek(Some(first)), Start::Day(first));
+            Ok(print_nowhere(rt, form, none, ALONE, &from, "6d", Nowhere::Past)?)
         }
     }
 }

@@ -1,8 +1,6 @@
 //! The weekday of a day.
 
 use crate::prelude::*;
-use crate::values::day_of;
-use chrono_datetime::Datelike;
 
 pub(crate) fn command() -> CommandRow {
     CommandRow {

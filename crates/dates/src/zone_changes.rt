@@ -1,20 +1,13 @@
 //! When a time zone's clock is set.
 
 use crate::prelude::*;
-use crate::texts::instant_at;
-use crate::values::year_of;
-use crate::zoned::{OwnedZone, ZONE, ZONES, print_in, shown_in, zone_of};
-use chrono_datetime::Datelike;
-use dates_answer::Quoted;
 use std::alloc::Allocator;
-use std::fmt;
 
-const OF_YEAR: Opt = Opt {
-    name: "--year",
-    value: "YEAR",
-    help: "of which year (default: all, and the rule behind them)",
-    ..OPTION
-};
+const OF_YEAR: Opt = option!(
+    "--year",
+    "YEAR",
+    "of which year (default: all, and the rule behind them)"
+);
 
 pub(crate) fn command() -> CommandRow {
     CommandRow {
@@ -32,31 +25,36 @@ pub(crate) fn command() -> CommandRow {
 // What the clock shows whenever it is set, a line each, and its rule behind them; the exit status.
 pub(crate) fn answer<'a>(rt: &HostRuntime, asked: &mut Asked<'a>) -> Answered<'a> {
     asked.none = Reply::Nothing(Key::Moment);
-    let year = match asked.value("--year") {
-        Some(word) => Some(value!(year_of(word))),
-        None => None,
-    };
+    let year = given!(asked.value("--year"), word, year_of(word));
     let zone = value!(zone_of(rt, asked.word(0)));
+    print_zone(rt, asked, &zone, year)
+}
+
+// Prints when a zone's clock is set, in a year or in all, and its rule; the exit status.
+fn print_zone<'a>(
+    rt: &HostRuntime,
+    asked: &Asked<'a>,
+    zone: &OwnedZone,
+    year: Option<i32>,
+) -> Answered<'a> {
     let mut status = NONE;
     for row in zone.rows() {
-        status = status.min(value!(print_set(rt, asked, &zone, row.second, year)));
+        status = status.min(value!(print_set(rt, asked, zone, row.second, year)));
     }
-    match year {
-        Some(year) => {
-            status = status.min(value!(print_by_rule(rt, asked, &zone, year)));
-        }
-        None => {
-            let (form, rule) = (asked.form, zone.rule_text());
-            if !rule.is_empty() {
-                println!(rt; "{}", RuleLine { form, rule })?;
-                status = ANSWERED;
-            }
-        }
+    status = status.min(match year {
+        Some(year) => value!(print_by_rule(rt, asked, zone, year)),
+        None => print_rule(rt, asked.form, zone.rule_text())?,
+    });
+    asked.finish(rt, status)
+}
+
+// Prints the rule by which the clock is set in the years to come, if there is one; the exit status.
+fn print_rule(rt: &HostRuntime, form: OutputForm, rule: &str) -> io::Result<u8> {
+    if rule.is_empty() {
+        return Ok(NONE);
     }
-    if status == NONE {
-        return asked.print(rt, asked.none);
-    }
-    Ok(status)
+    println!(rt; "{}", RuleLine { form, rule })?;
+    Ok(ANSWERED)
 }
 
 // Prints what the clock shows when it is set at that second, unless that lies in another year than is asked for; the exit status.

@@ -1,23 +1,13 @@
 //! Time zones, and date-times as their clocks show them.
 
 use crate::prelude::*;
-use crate::texts::{Start, StartError};
-use crate::values::{InstantForm, start_as, start_of};
-use chrono_datetime::{NaiveDate, NaiveDateTime, TimeDelta};
-use chrono_zoned::{DateTime, FixedOffset, InZone, MappedLocalTime, Timestamp};
-use dates_answer::Quoted;
-use std::alloc::Global;
-use std::fmt;
 use zone_database::{ZoneError, local_zone, system_database};
 
 /// A time zone that the program read.
 pub(crate) type OwnedZone = zone_database::OwnedZone<Global>;
 
 /// The name of a time zone.
-pub(crate) const ZONE: Operand = Operand {
-    name: "ZONE",
-    ..OPERAND
-};
+pub(crate) const ZONE: Operand = operand!("ZONE");
 
 /// `--zone`.
 pub(crate) const IN_ZONE: Opt = Opt {
@@ -47,7 +37,7 @@ const LOCAL: &str = "local";
 pub(crate) fn zone_of<'a>(rt: &HostRuntime, word: Word<'a>) -> Result<OwnedZone, Fault<'a>> {
     match read_zone(rt, word.text) {
         Ok(zone) => Ok(zone),
-        Err(error) => Err(Fault::Zone(word, error)),
+        Err(error) => Err(Fault::Word(word, Cause::Zone(error))),
     }
 }
 
@@ -69,45 +59,40 @@ pub(crate) struct Instants {
 // How a command takes instants, by its options.
 pub(crate) fn instants_by<'a>(rt: &HostRuntime, asked: &Asked<'a>) -> Result<Instants, Fault<'a>> {
     let form = InstantForm::of(&asked.words);
-    let zone = match asked.value("--zone") {
-        Some(word) => Some(value!(zone_of(rt, word))),
-        None => None,
-    };
+    let zone = given!(asked.value("--zone"), word, zone_of(rt, word));
     Ok(Instants { form, zone })
 }
 
 impl Instants {
     // What a text names: a date-time without offset is an instant of the zone.
-    pub(crate) fn read(&self, text: &[u8]) -> Result<Start, StartError> {
-        let start = self.form.read(text)?;
-        self.placed(start).ok_or(StartError::NotOnce)
+    pub(crate) fn read(&self, text: &[u8]) -> Option<Start> {
+        self.placed(self.form.read(text).ok()?)
     }
 
     // The day, the date-time or the instant as the zone's clock shows it, if it shows it once.
     pub(crate) fn placed(&self, start: Start) -> Option<Start> {
         match (&self.zone, start) {
-            (Some(zone), Start::DateTime(local)) => {
-                Some(Start::Stamp(instants_of_local(zone, local).single()?))
+            (Some(zone), Start::DateTime(_)) => {
+                Some(Start::Stamp(instants_of(zone, start).single()?))
             }
             (Some(zone), Start::Stamp(stamp)) => Some(Start::Stamp(shown_in(zone, stamp)?)),
             _ => Some(start),
         }
     }
 
-    // What a word names, where that is expected.
-    pub(crate) fn start_as<'a>(
-        &self,
-        word: Word<'a>,
-        what: &'static str,
-    ) -> Result<Start, Fault<'a>> {
-        let start = value!(start_as(self.form, word, what));
-        self.placed(start).ok_or(Fault::NotOnce(word))
-    }
-
     // What a word names.
     pub(crate) fn start_of<'a>(&self, word: Word<'a>) -> Result<Start, Fault<'a>> {
-        let start = value!(start_of(self.form, word));
-        self.placed(start).ok_or(Fault::NotOnce(word))
+        self.once(word, value!(start_of(self.form, word)))
+    }
+
+    // What a word names, as the zone's clock shows it, if it shows it once. A day is nothing to a zone.
+    pub(crate) fn once<'a>(&self, word: Word<'a>, start: Start) -> Result<Start, Fault<'a>> {
+        match start {
+            Start::Day(_) if self.zone.is_some() => Err(Fault::expected(word, MOMENTS)),
+            _ => self
+                .placed(start)
+                .ok_or(Fault::NoSuch(word, Cause::NotOnce)),
+        }
     }
 
     // Another day at the same time of day, where there is one; the same day stays the same instant.
@@ -139,18 +124,11 @@ pub(crate) fn instants_of(
     zone: &OwnedZone,
     start: Start,
 ) -> MappedLocalTime<DateTime<FixedOffset>> {
-    match start {
-        Start::Stamp(stamp) => MappedLocalTime::Single(stamp),
-        _ => instants_of_local(zone, start.local()),
+    if let Start::Stamp(stamp) = start {
+        return MappedLocalTime::Single(stamp);
     }
-}
-
-fn instants_of_local(
-    zone: &OwnedZone,
-    local: NaiveDateTime,
-) -> MappedLocalTime<DateTime<FixedOffset>> {
     let lent = zone.zone();
-    match (&lent).from_local_datetime(&local) {
+    match (&lent).from_local_datetime(&start.local()) {
         MappedLocalTime::None => MappedLocalTime::None,
         MappedLocalTime::Single(only) => MappedLocalTime::Single(only.fixed_offset()),
         MappedLocalTime::Ambiguous(earlier, later) => {
@@ -175,10 +153,11 @@ pub(crate) fn print_in<'a>(
     zone: &OwnedZone,
     stamp: DateTime<FixedOffset>,
 ) -> Answered<'a> {
-    let Some(shown) = shown_in(zone, stamp) else {
-        return asked.print(rt, asked.none);
-    };
     let form = asked.form;
+    let Some(shown) = shown_in(zone, stamp) else {
+        let from = Start::Stamp(stamp);
+        return Ok(print_nowhere(rt, form, asked.none, ALONE, &from, "", Nowhere::Past)?);
+    };
     let name = zone.abbreviation(stamp.timestamp()).unwrap_or("");
     println!(rt; "{}", ZonedLine { form, shown, name })?;
     Ok(ANSWERED)

@@ -1,5 +1,5 @@
 -- The lines of answers: as texts, and as objects of JSON (RFC 8259). Each is put together from the last piece on.
-use Rattle.std.specs.Prelude.{Bool, ℕ, List, ◌++◌, codes, ℤ, pos, ◌-ℤ◌, ◌&&◌, if◌then◌else◌}
+use Rattle.std.specs.Prelude.{Bool, ℕ, List, ◌++◌, codes, ℤ, pos, ◌-ℤ◌, ◌&&◌, if◌then◌else◌, Some, None}
 use Rattle.std.specs.Fmt.{signed_decimal}
 use Rattle.std.specs.Ordering.{int_eq}
 use Rattle.std.specs.Str.{byte}
@@ -92,7 +92,8 @@ reply_object (replies.Parts p) = parts_object p
 reply_object (replies.Week first last) = codes "{\"first\":\"" ++ (date_text first ++ (codes "\",\"last\":\"" ++ (date_text last ++ codes "\"}")))
 reply_object (replies.Nothing key) = codes "{\"" ++ (key_text key ++ codes "\":null}")
 reply_object replies.NoParts = codes "{\"years\":null,\"months\":null,\"days\":null}"
-reply_object (replies.NoWeek first) = codes "{\"first\":\"" ++ (date_text first ++ codes "\",\"last\":null}")
+reply_object (replies.NoWeek None) = codes "{\"first\":null,\"last\":null}"
+reply_object (replies.NoWeek (Some first)) = codes "{\"first\":\"" ++ (date_text first ++ codes "\",\"last\":null}")
 reply_object replies.Version = codes "{\"version\":\"0.1.0\"}"
 
 -- the line of an answer in a form

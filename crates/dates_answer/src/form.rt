@@ -1,7 +1,7 @@
 //! The forms of answers.
 
 /// The form of answers.
-#[derive(Clone, Copy, Debug, PartialEq, Eq)]
+#[derive(Clone, Copy)]
 pub enum OutputForm {
     /// A text.
     Text,

@@ -11,7 +11,7 @@ use chrono_zoned::{DateTime, FixedOffset};
 use std::fmt;
 
 /// The key under which an object of JSON has an answer.
-#[derive(Clone, Copy, Debug, PartialEq, Eq)]
+#[derive(Clone, Copy)]
 pub enum Key {
     /// A day.
     Date,
@@ -66,8 +66,8 @@ pub enum Reply {
     Nothing(Key),
     /// That there are no years, months and days.
     NoParts,
-    /// The first day of a week whose last is no date.
-    NoWeek(NaiveDate),
+    /// That there is no such week, or its first day if its last is no date.
+    NoWeek(Option<NaiveDate>),
     /// The name of the program and its version.
     Version,
 }
@@ -114,15 +114,6 @@ impl fmt::Display for DayObject {
             f,
             "{{\"date\":\"{date}\",\"week\":\"{week}\",\"weekday\":\"{weekday}\",\"open\":{is_open}}}"
         )
-    }
-}
-
-impl fmt::Display for Key {
-    ghost output = { λ key. Some (key_text key) };
-
-    /// Writes the key.
-    fn fmt<W: fmt::Write>(&self, f: &mut fmt::Formatter<W>) -> fmt::Result {
-        f.write_str(key_name(*self))
     }
 }
 
@@ -210,13 +201,14 @@ fn write_object<W: fmt::Write>(reply: &Reply, f: &mut fmt::Formatter<W>) -> fmt:
         Reply::Moment(moment) => write!(f, "{{\"moment\":\"{moment:?}\"}}"),
         Reply::Stamp(stamp) => write!(f, "{{\"moment\":\"{stamp:?}\"}}"),
         Reply::Duration(duration) => write!(f, "{{\"duration\":\"{duration}\"}}"),
-        Reply::Number(key, number) => write!(f, "{{\"{key}\":{number}}}"),
-        Reply::Whether(key, yes) => write!(f, "{{\"{key}\":{yes}}}"),
+        Reply::Number(key, number) => write!(f, "{{\"{}\":{number}}}", key_name(key)),
+        Reply::Whether(key, yes) => write!(f, "{{\"{}\":{yes}}}", key_name(key)),
         Reply::Parts(parts) => write_parts(parts, f),
         Reply::Week(first, last) => { write!(f, "{{\"first\":\"{first}\",\"last\":\"{last}\"}}") }
-        Reply::Nothing(key) => write!(f, "{{\"{key}\":null}}"),
+        Reply::Nothing(key) => write!(f, "{{\"{}\":null}}", key_name(key)),
         Reply::NoParts => f.write_str("{\"years\":null,\"months\":null,\"days\":null}"),
-        Reply::NoWeek(first) => write!(f, "{{\"first\":\"{first}\",\"last\":null}}"),
+        Reply::NoWeek(None) => f.write_str("{\"first\":null,\"last\":null}"),
+        Reply::NoWeek(Some(first)) => write!(f, "{{\"first\":\"{first}\",\"last\":null}}"),
         Reply::Version => f.write_str("{\"version\":\"0.1.0\"}"),
     }
 }

@@ -1,7 +1,7 @@
 //! Spans: whole numbers of days, weeks, months or years.
 
 /// What a span counts.
-#[derive(Clone, Copy, Debug, PartialEq, Eq)]
+#[derive(Clone, Copy)]
 pub enum Unit {
     /// Days, `d`.
     Days,
@@ -14,7 +14,7 @@ pub enum Unit {
 }
 
 /// A whole number of a unit, below 0 where it goes back.
-#[derive(Clone, Copy, Debug, PartialEq, Eq)]
+#[derive(Clone, Copy)]
 pub struct Span {
     /// How many.
     pub count: i64,
