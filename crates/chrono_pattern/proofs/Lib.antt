@@ -17,3 +17,4 @@ mod BackOffsets
 mod BackParts
 mod BackItems
 mod BackPatterns
+mod BackStamps
