@@ -25,7 +25,7 @@ pub(crate) fn read_number(reader: &mut Reader<'_>, field: NumberField) -> Result
 {
     let text = reader.rest;
     match plain_number(field, text) {
-        None => read_any_number(reader, field),
+        None => read_slowly(reader, field),
         Some(size) => {
             let value = with_sign(false, size);
             put_number_behind(reader, field, value, most_digits(field), text)
@@ -75,8 +75,20 @@ fn front_four(text: &[u8]) -> Option<u32>
     }
 }
 
-// Reads a number of any form.
+// Reads a number of any form, into a result of its own: so that of the usual ones needs no memory.
 #[inline(always)]
+fn read_slowly(reader: &mut Reader<'_>, field: NumberField) -> Result<(), Stop>
+    ensures read { IfOk result (λ u. number_read field reader.old ≡ Ok reader.new) }
+    ensures stop { IfErr result (λ e. number_read field reader.old ≡ Err e) }
+{
+    match read_any_number(reader, field) {
+        Ok(()) => Ok(()),
+        Err(stop) => Err(stop),
+    }
+}
+
+// Reads a number of any form. It is apart, so that the usual ones take few instructions.
+#[inline(never)]
 #[tactic(auto, unfolding(crate::specs::NumberReads::number_read))]
 fn read_any_number(reader: &mut Reader<'_>, field: NumberField) -> Result<(), Stop>
     ensures read { IfOk result (λ u. number_read field reader.old ≡ Ok reader.new) }
