@@ -267,9 +267,9 @@ def by_chrono(room, questions):
     return subprocess.run([program], input=asked, stdout=subprocess.PIPE, text=True, check=True).stdout.split("\n")[:-1]
 
 
-def by_gnu(room, questions):
-    """What GNU date writes of the date-times of the years 1000 to 9999, and what it should."""
-    moments = [it for it in (Moment(*it[:3]) for it in questions) if 1000 <= it.year <= 9999 and 1000 <= it.iso_year <= 9999 and it.fraction < NANOS]
+def by_gnu(room, draw, count):
+    """What GNU date writes of random date-times of the years 1000 to 9999, and what it should."""
+    moments = [Moment(draw.randrange(364_900, 3_652_000), draw.randrange(86_400), 0) for _ in range(count)]
     with open(f"{room}/dates", "w", encoding="ascii") as it:
         it.writelines(f"@{(moment.day - EPOCH) * 86_400 + moment.at}\n" for moment in moments)
     env = {"PATH": os.environ["PATH"], "LC_ALL": "C"}
@@ -319,7 +319,7 @@ def main():
             weeks = draw_weeks(draw, options.lines // 4)
             other = [a != answer(Moment(*it[:3]), it[4]) for it, a in zip(weeks, by_chrono(room, weeks)) if a != "-"]
             print(f"chrono differs in {sum(other)} of {len(other)} lines of %U and %W")
-        gnu = by_gnu(room, questions)
+        gnu = by_gnu(room, draw, options.lines)
         wrong += ["GNU date: " + it for it in differing(*gnu)]
         print(f"{len(gnu[0])} lines by GNU date too")
         told = answers_of(room, questions)
