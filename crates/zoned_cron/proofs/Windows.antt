@@ -9,7 +9,7 @@ use Rattle.chrono_instant.specs.Instants.{IsEpochSecond, LiesIn, epoch_second, s
 use Rattle.chrono_instant.specs.Offsets.{IsOffset}
 use Rattle.chrono_instant.proofs.InstantLemmas.{IsBefore-by_second, one_moment}
 use Rattle.chrono_zoned.specs.declared.mapped_local_time.MappedLocalTime.{MappedLocalTime}
-use Rattle.chrono_zoned.specs.Zones.{AreAll, IsAmong}
+use Rattle.chrono_zoned.specs.Zones.{AreAll, HoldsUntil, IsAmong}
 use Rattle.chrono_cron.specs.declared.field_sets.FieldSets.{FieldSets}
 use Rattle.chrono_cron.specs.Due.{NotDueBefore, NotDueBetween, is_day, is_due, is_minute}
 use Rattle.zoned_cron.specs.declared.policy.Gap.{Gap}
@@ -29,10 +29,6 @@ near x h = (omega (arith, casts, h), omega (arith, casts, h))
 pub reached : (p : Policy) (ahead : ℤ → ℤ) (l u : ℤ) → Takes p ahead l u → l ≤ℤ (u +ℤ ahead u)
 reached p ahead l u (inl h) = omega (arith, ints, shown p.fold ahead l u h)
 reached p ahead l u (inr h) = omega (arith, ints, (behind p.gap ahead l u h).later)
-
--- so it does not fire a day or more before l
-pub too_late : (p : Policy) (ahead : ℤ → ℤ) (l c u : ℤ) → (c +ℤ pos 86_400) ≤ℤ l → IsOffset (ahead u) → Takes p ahead l u → c <ℤ u
-too_late p ahead l c u far offset takes = omega (arith, ints, far, near (ahead u) offset, reached p ahead l u takes)
 
 -- and it does not fire after a start, if the clock showed l or more two days before that
 pub too_early : (p : Policy) (ahead : ℤ → ℤ) (l start v k u : ℤ) → v ≡ (start -ℤ pos 172_800) → k ≡ (v +ℤ ahead v) → IsOffset (ahead v) → l ≤ℤ k → IsOffset (ahead u) → Takes p ahead l u → u ≤ℤ start
@@ -168,22 +164,30 @@ covers_far_behind s ahead p end l (Some c) covers far u before f =
     by_lt_z l (epoch_second f.planned) (λ gt. covers f.planned u (fires_for s ahead p u f) gt before)
     (λ le. far f.planned u (fires_for s ahead p u f) le before)
 
--- where it begins: a day behind the end, or at the end of the calendar
-pub none_behind : (s : FieldSets) (ahead : ℤ → ℤ) (p : Policy) (end : ℤ) (k last : Moment) → epoch_second k ≡ (end +ℤ pos 86_400) → IsMoment k → NotDueBetween s last k → (m : Moment) (u : ℤ) → FiresFor s ahead p m u → IsBefore last m → end ≤ℤ u
-none_behind s ahead p end k last is_k i none m u f behind =
+-- where it begins: behind all that the clock shows before the end, or at the end of the calendar
+pub none_behind : (s : FieldSets) (ahead : ℤ → ℤ) (p : Policy) (end : ℤ) (k last : Moment) → ((u : ℤ) → u <ℤ end → (u +ℤ ahead u) <ℤ epoch_second k) → IsMoment k → NotDueBetween s last k → (m : Moment) (u : ℤ) → FiresFor s ahead p m u → IsBefore last m → end ≤ℤ u
+none_behind s ahead p end k last unshown i none m u f behind =
     by_lt_z (epoch_second m) (epoch_second k)
     (λ lt. absurd (both_ways (is_due s m) (none m f.exists behind (earlier_second m k f.exists i lt)) f.due))
-    (λ ge.
-    let after = too_late p ahead (epoch_second m) end u (omega (arith, ints, is_k, ge)) f.instant.near f.takes in
-    omega (arith, ints, after))
+    (λ ge. by_lt_z u end (λ before. absurd (omega (arith, ints, ge, unshown u before, reached p ahead (epoch_second m) u f.takes))) (λ past. past))
 
-pub none_up_to : (s : FieldSets) (ahead : ℤ → ℤ) (p : Policy) (end : ℤ) (k : Moment) → epoch_second k ≡ (end +ℤ pos 86_400) → IsMoment k → NotDueBefore s k → (m : Moment) (u : ℤ) → FiresFor s ahead p m u → end ≤ℤ u
-none_up_to s ahead p end k is_k i none m u f =
+pub none_up_to : (s : FieldSets) (ahead : ℤ → ℤ) (p : Policy) (end : ℤ) (k : Moment) → ((u : ℤ) → u <ℤ end → (u +ℤ ahead u) <ℤ epoch_second k) → IsMoment k → NotDueBefore s k → (m : Moment) (u : ℤ) → FiresFor s ahead p m u → end ≤ℤ u
+none_up_to s ahead p end k unshown i none m u f =
     by_lt_z (epoch_second m) (epoch_second k)
     (λ lt. absurd (both_ways (is_due s m) (none m f.exists (earlier_second m k f.exists i lt)) f.due))
-    (λ ge.
-    let after = too_late p ahead (epoch_second m) end u (omega (arith, ints, is_k, ge)) f.instant.near f.takes in
-    omega (arith, ints, after))
+    (λ ge. by_lt_z u end (λ before. absurd (omega (arith, ints, ge, unshown u before, reached p ahead (epoch_second m) u f.takes))) (λ past. past))
+
+-- in the two days before an end the clock has two offsets at most, up to its last second
+pub two_offsets : (ahead : ℤ → ℤ) (end from change until bound : ℤ) → ((v : ℤ) → IsOffset (ahead v)) → from ≡ (end -ℤ pos 172_800) → HoldsUntil ahead from change → HoldsUntil ahead change until → end ≤ℤ until → (end +ℤ ahead from) ≤ℤ bound → (end +ℤ ahead change) ≤ℤ bound → (u : ℤ) → u <ℤ end → (u +ℤ ahead u) <ℤ bound
+two_offsets ahead end from change until bound offsets begun holds then long one other u before =
+    by_lt_z u from
+    (λ early. omega (arith, ints, early, begun, one, near (ahead u) (offsets u), near (ahead from) (offsets from)))
+    (λ late. by_lt_z u change
+    (λ lt. omega (arith, ints, before, one, holds u late lt))
+    (λ ge. omega (arith, ints, before, other, then u ge (omega (arith, ints, before, long)))))
+
+pub within_day : (ahead : ℤ → ℤ) (end bound : ℤ) → ((v : ℤ) → IsOffset (ahead v)) → bound ≡ (end +ℤ pos 86_400) → (u : ℤ) → u <ℤ end → (u +ℤ ahead u) <ℤ bound
+within_day ahead end bound offsets is u before = omega (arith, ints, is, before, near (ahead u) (offsets u))
 
 -- each local time that is planned comes before the end of the calendar
 pub before_last : (s : FieldSets) (m last : Moment) → last ≡ moment (pos 95_745_399) (time_at 23 59 59 999_999_999) → IsMoment m → is_due s m ≡ true → IsBefore m last

@@ -15,7 +15,7 @@ use chrono_instant::{FixedOffset, FromTimestamp, Timestamp};
 use chrono_zoned::{MappedLocalTime, TimeZone};
 
 // The first second of the first date, and the last of the last date, in UTC.
-const FIRST_SECOND: i64 = -8_334_601_228_800;
+pub(crate) const FIRST_SECOND: i64 = -8_334_601_228_800;
 
 pub(crate) const LAST_SECOND: i64 = 8_210_266_876_799;
 

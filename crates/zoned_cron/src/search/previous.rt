@@ -1,5 +1,5 @@
 //! The last instant before an end at which a schedule fires.
-ghost use Rattle.std.specs.Prelude.{◌≡◌, ◌⊎◌, ℤ, pos, neg_ℤ, ◌≤ℤ◌, ◌<ℤ◌, IfNone, IfSome, IsFalse, IsSomeAnd, IsTrue};
+ghost use Rattle.std.specs.Prelude.{◌≡◌, ◌⊎◌, ℤ, pos, neg_ℤ, ◌+ℤ◌, ◌≤ℤ◌, ◌<ℤ◌, IfNone, IfSome, IsFalse, IsSomeAnd, IsTrue};
 ghost use Rattle.chrono_datetime.specs.Moment.{IsBefore, Moment};
 ghost use Rattle.chrono_instant.specs.Instants.{IsEpochSecond, epoch_second};
 ghost use Rattle.chrono_cron.specs.Due.{is_due};
@@ -7,7 +7,7 @@ ghost use Rattle.zoned_cron.specs.Fires.{Fires};
 ghost use Rattle.zoned_cron.specs.Private.{FiresFor, IsAtMost};
 
 use crate::schedule::ZonedSchedule;
-use crate::search::instants::{DAY, last_in, settled_instant, shown_at};
+use crate::search::instants::{DAY, FIRST_SECOND, last_in, settled_instant, shown_at};
 use chrono_datetime::NaiveDateTime;
 use chrono_datetime::law::{date_times_exist, last_date_time};
 use chrono_instant::{FromTimestamp, Timestamp};
@@ -70,7 +70,7 @@ impl<Z: TimeZone> ZonedSchedule<Z> {
         ensures later { IfSome result (λ q. (m : Moment) (u : ℤ) → FiresFor self.now.schedule.sets (Z.ahead self.now.zone) self.now.policy m u → IsBefore q m → end ≤ℤ u) }
         ensures none { IfNone result ((m : Moment) (u : ℤ) → FiresFor self.now.schedule.sets (Z.ahead self.now.zone) self.now.policy m u → end ≤ℤ u) }
     {
-        if let Some(past) = NaiveDateTime::from_timestamp(end + DAY, 0) {
+        if let Some(past) = NaiveDateTime::from_timestamp(unshown_before(self.zone, end), 0) {
             return self.schedule.prev_before(past);
         }
         let (last, _) = last_date_time();
@@ -96,6 +96,23 @@ impl<Z: TimeZone> ZonedSchedule<Z> {
             None => true,
         }
     }
+}
+
+// A local second that the clock shows at no instant before the end, and neither any later one. It is that of the end, by the greater of two
+// offsets, or a day behind the end if there are more offsets in the two days before.
+fn unshown_before<Z: TimeZone>(zone: Z, end: i64) -> i64
+    requires low { neg_ℤ (pos 8_334_601_228_800) ≤ℤ end }
+    requires high { end ≤ℤ pos 8_210_266_876_800 }
+    ensures { (u : ℤ) → u <ℤ end → (u +ℤ Z.ahead zone u) <ℤ result }
+{
+    let first = zone.stretch_from(end - 2 * DAY);
+    let next = zone.stretch_from(first.until);
+    if next.until < end {
+        return end + DAY;
+    }
+    let before = i64::from(first.offset.local_minus_utc());
+    let after = i64::from(next.offset.local_minus_utc());
+    (end + before.max(after)).max(FIRST_SECOND)
 }
 
 // The later of two instants, if there is one.
