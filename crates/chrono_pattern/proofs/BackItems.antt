@@ -169,7 +169,7 @@ three_fixed c first second third rest q m x n not one two three plain =
 three_joined : (a b c rest : List ℕ) (x y : ℕ) → ((a ++ (x ∷ b)) ++ (y ∷ c)) ++ rest ≡ a ++ (x ∷ (b ++ (y ∷ (c ++ rest))))
 three_joined a b c rest x y = append_assoc (a ++ (x ∷ b)) (y ∷ c) rest ∙ append_assoc a (x ∷ b) (y ∷ (c ++ rest))
 
-group_back : (g : GroupField) (rest : List ℕ) (q : Parsed) (m : Moment) (x : ℤ) (n : ℕ) → is_fixed_group g ≡ true → IsPlain m x n
+pub group_back : (g : GroupField) (rest : List ℕ) (q : Parsed) (m : Moment) (x : ℤ) (n : ℕ) → is_fixed_group g ≡ true → IsPlain m x n
     → group_read g (at (group_text g m ++ rest) (parts_of q m x)) ≡ Ok (at rest (parts_of (with_group g q) m x))
 unfolding group_read group_text with_group
 group_back YearMonthDay rest q m x n h plain =

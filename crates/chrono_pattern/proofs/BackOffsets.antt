@@ -63,10 +63,10 @@ no_seconds (c ∷ rest) p = refl
 
 -- ---- the size
 
-abbrev hours_of : ℕ → ℕ
+abbrev pub hours_of : ℕ → ℕ
 hours_of n = n / 3_600
 
-abbrev minutes_of : ℕ → ℕ
+abbrev pub minutes_of : ℕ → ℕ
 minutes_of n = n / 60 % 60
 
 whole : (n : ℕ) → n % 60 ≡ 0 → (hours_of n * 60 + minutes_of n) * 60 + 0 ≡ n
@@ -115,7 +115,7 @@ given x t n negative text rest p q is done =
     ap (λ (s : Taken). size_put s negative text) is ∙ ap (λ (o : Result Parsed ReadFault). progress o rest text) done
 
 -- what stands behind the sign of an offset of n seconds
-abbrev digits_text : OffsetForm → ℕ → List ℕ → List ℕ
+abbrev pub digits_text : OffsetForm → ℕ → List ℕ → List ℕ
 digits_text Colon n rest = two_digits (hours_of n) ++ (58 ∷ (two_digits (minutes_of n) ++ rest))
 digits_text Seconds n rest = two_digits (hours_of n) ++ (58 ∷ (two_digits (minutes_of n) ++ (58 ∷ (two_digits (n % 60) ++ rest))))
 digits_text _ n rest = two_digits (hours_of n) ++ (two_digits (minutes_of n) ++ rest)
@@ -128,16 +128,16 @@ size_back Seconds n rest p fixed near minutes = size_seconds n rest p near minut
 size_back Hours n rest p fixed near minutes = absurd (false≢true fixed)
 size_back Loose n rest p fixed near minutes = absurd (false≢true fixed)
 
-ahead : (n : ℕ) → hours_piece (pos n) ≡ 43 ∷ two_digits (hours_of n)
+pub ahead : (n : ℕ) → hours_piece (pos n) ≡ 43 ∷ two_digits (hours_of n)
 unfolding hours_piece
 ahead n = ap (λ (b : Bool). (if b then codes "-" else codes "+") ++ two_digits (hours_of n)) (is_negative-pos n)
 
-behind : (n : ℕ) → hours_piece (negsuc n) ≡ 45 ∷ two_digits (hours_of (suc n))
+pub behind : (n : ℕ) → hours_piece (negsuc n) ≡ 45 ∷ two_digits (hours_of (suc n))
 unfolding hours_piece
 behind n = refl
 
 -- the text of an offset by the text of its hours
-piece_by : (form : OffsetForm) (x : ℤ) (c n : ℕ) (rest : List ℕ) → is_fixed_form form ≡ true → unsigned_abs x ≡ n → hours_piece x ≡ c ∷ two_digits (hours_of n)
+pub piece_by : (form : OffsetForm) (x : ℤ) (c n : ℕ) (rest : List ℕ) → is_fixed_form form ≡ true → unsigned_abs x ≡ n → hours_piece x ≡ c ∷ two_digits (hours_of n)
     → offset_piece form x ++ rest ≡ c ∷ digits_text form n rest
 unfolding offset_piece
 piece_by Plain x c n rest fixed size hours =
@@ -152,7 +152,7 @@ piece_by Seconds x c n rest fixed size hours =
 piece_by Hours x c n rest fixed size hours = absurd (false≢true fixed)
 piece_by Loose x c n rest fixed size hours = absurd (false≢true fixed)
 
-by_form : (form : OffsetForm) (text : List ℕ) (p : Parsed) → is_fixed_form form ≡ true → offset_read form (at_rest text p) ≡ signed_offset_read form (behind_blanks text) p
+pub by_form : (form : OffsetForm) (text : List ℕ) (p : Parsed) → is_fixed_form form ≡ true → offset_read form (at_rest text p) ≡ signed_offset_read form (behind_blanks text) p
 unfolding offset_read
 by_form Plain text p fixed = refl
 by_form Colon text p fixed = refl

@@ -160,7 +160,7 @@ no_window None None y = refl
 no_window None (Some b) y = refl
 no_window (Some a) b y = refl
 
-own_date_fits : (q : Parsed) (m : Moment) (x : ℤ) → q.year_mod_100 ≡ None → date_fits (parts_of q m x) m.date ≡ true
+pub own_date_fits : (q : Parsed) (m : Moment) (x : ℤ) → q.year_mod_100 ≡ None → date_fits (parts_of q m x) m.date ≡ true
 unfolding date_fits year_fits day_fits week_fits year_week_fits
 own_date_fits q m x none =
     let p = parts_of q m x in
@@ -196,7 +196,7 @@ time_still_named q m x =
     let fraction : is_present p.nanosecond ≡ is_present q.nanosecond = present q.nanosecond _ in
     cc
 
-counts_own : (o : Option ℤ) (v : ℤ) → is_present o ≡ true → counts (if_named o v) v ≡ true
+pub counts_own : (o : Option ℤ) (v : ℤ) → is_present o ≡ true → counts (if_named o v) v ≡ true
 counts_own None v given = absurd (false≢true given)
 counts_own (Some w) v given = same_int v
 
@@ -204,7 +204,7 @@ counts_zero : (o : Option ℤ) (v : ℤ) → v ≡ pos 0 → counts (if_named o 
 counts_zero None v none = ap (λ (z : ℤ). int_eq (pos 0) z) none
 counts_zero (Some w) v none = same_int v
 
-own_time_fits : (q : Parsed) (m : Moment) (x : ℤ) → is_present q.second ≡ true → m.time.fraction % nanos_per_second ≡ 0 → time_fits (parts_of q m x) m.time ≡ true
+pub own_time_fits : (q : Parsed) (m : Moment) (x : ℤ) → is_present q.second ≡ true → m.time.fraction % nanos_per_second ≡ 0 → time_fits (parts_of q m x) m.time ≡ true
 unfolding time_fits clock_fits second_fits
 own_time_fits q m x second whole =
     and_from _ _ (and_from _ _ (and_from _ _ (says_own q.hour_div_12 _) (says_own q.hour_mod_12 _)) (says_own q.minute _))

@@ -18,3 +18,4 @@ mod BackOffsets
 mod BackParts
 mod BackItems
 mod BackPatterns
+mod BackStamps

@@ -182,6 +182,8 @@ pub fn fields_tell_what_is_named()
 /// - It is of the date, if the pattern names one.
 /// - It is of the time of day, if the pattern names one with its second, and the time is a whole second or a leap second.
 /// - It is of the date-time with its offset, if the pattern names all three so, and the offset is of whole minutes.
+///
+/// `%+` reads back such a date-time too.
 pub fn fixed_patterns_read_back()
     ensures parts { (bytes : List ℕ) → (m : Moment) → is_fixed bytes ≡ true → IsTime m.time → pos 0 ≤ℤ year_of m.date → year_of m.date ≤ℤ pos 9999
         → text_read bytes (pattern_text bytes m) ≡ Ok (parts_of (named_parts bytes) m (pos 0)) }
@@ -196,6 +198,8 @@ pub fn fixed_patterns_read_back()
         → IsZonedBy bytes (text_at_offset bytes m x) m x }
     ensures date_time_and_offset { is_fixed (codes "%F %T %:z") ≡ true }
     ensures offset_with_seconds { is_fixed (codes "%Y%m%dT%H%M%S%z %::z") ≡ true }
+    ensures whole { (m : Moment) → (x : ℤ) → IsTime m.time → m.time.fraction % nanos_per_second ≡ 0 → pos 0 ≤ℤ year_of m.date
+        → year_of m.date ≤ℤ pos 9999 → IsOffset x → unsigned_abs x % 60 ≡ 0 → IsZonedBy (codes "%+") (text_at_offset (codes "%+") m x) m x }
     ensures dashes { is_fixed (codes "%Y-%m-%d") ≡ true }
     ensures date_and_time { is_fixed (codes "%F %T") ≡ true }
     ensures digits { is_fixed (codes "%Y%m%dT%H%M%S") ≡ true }

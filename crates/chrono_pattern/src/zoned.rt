@@ -4,6 +4,7 @@ ghost use Rattle.chrono_datetime.specs.Days.{IsDate};
 ghost use Rattle.chrono_datetime.specs.Moment.{IsMoment};
 ghost use Rattle.chrono_instant.specs.Offsets.{IsOffset, moment_ahead};
 ghost use Rattle.chrono_zoned.specs.Zoned.{Zoned, local_at, offset_at};
+ghost use Rattle.chrono_pattern.specs.DateParts.{is_present};
 ghost use Rattle.chrono_pattern.specs.NamedParts.{named_parts};
 ghost use Rattle.chrono_pattern.specs.Parses.{IsZonedBy, IsZonedInFront};
 ghost use Rattle.chrono_pattern.specs.Patterns.{text_at_offset};
@@ -36,6 +37,18 @@ impl<'a> Pattern<'a> {
             ↔ (length (text_at_offset self.now (local_at (Z.ahead moment.zone) moment.utc) (offset_at (Z.ahead moment.zone) moment.utc)) ≤ N) }
     {
         text_of(self.bytes, moment.naive_local(), moment.offset())
+    }
+
+    /// Returns whether the pattern reads an offset from UTC, such as by `%z` or `%+`. `%Z` reads a name alone.
+    ///
+    /// ```
+    /// Pattern::new(b"%T %:z").ok()?.names_offset() // true
+    /// Pattern::new(b"%T %Z").ok()?.names_offset() // false
+    /// ```
+    pub fn names_offset(&self) -> bool
+        ensures { result ≡ is_present (named_parts self.now).offset }
+    {
+        named_parts(self.bytes).offset.is_some()
     }
 
     /// Returns whether the specifiers of the pattern name a date-time with its offset, as [`Parsed::to_zoned`](crate::Parsed::to_zoned)

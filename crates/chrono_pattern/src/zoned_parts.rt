@@ -1,5 +1,5 @@
 //! The date-time with its offset that the parts of a text give.
-ghost use Rattle.std.specs.Prelude.{◌≡◌, ◌↔◌, ◌-ℤ◌, ℤ, true, false, Ok, Err, Some, IfOk, IfSome};
+ghost use Rattle.std.specs.Prelude.{◌≡◌, ◌↔◌, ◌-ℤ◌, ℤ, true, false, Ok, Err, Some, None, IfOk, IfSome};
 ghost use Rattle.chrono_datetime.specs.Days.{IsDate};
 ghost use Rattle.chrono_datetime.specs.Moment.{Moment, IsMoment};
 ghost use Rattle.chrono_instant.specs.Instants.{IsEpochSecond, epoch_second};
@@ -16,6 +16,27 @@ use chrono_datetime::NaiveDateTime;
 use chrono_zoned::{AddOffset, DateTime, FixedOffset, InZone};
 
 impl Parsed {
+    /// Returns the offset from UTC.
+    ///
+    /// # Errors
+    ///
+    /// Returns `NotEnough` if no offset is given. Returns `OutOfRange` if it is a day or more, which no text gives.
+    ///
+    /// ```
+    /// Pattern::new(b"%z").ok()?.read_parts(b"-0330").ok()?.to_fixed_offset().ok() // Some(-03:30)
+    /// Parsed::new().to_fixed_offset().err() // Some(NotEnough)
+    /// ```
+    pub fn to_fixed_offset(&self) -> Result<FixedOffset, ReadFault>
+        ensures given { IfOk result (λ x. self.now.offset ≡ Some x) }
+        ensures every { (x : ℤ) → IsOffset x → self.now.offset ≡ Some x → result ≡ Ok x }
+        ensures not_enough { (result ≡ Err NotEnough) ↔ (self.now.offset ≡ None) }
+    {
+        match self.offset {
+            Some(seconds) => FixedOffset::east_opt(seconds).ok_or(ReadFault::OutOfRange),
+            None => Err(ReadFault::NotEnough),
+        }
+    }
+
     /// Returns the date-time with its offset that fits all parts.
     ///
     /// It has to be named in one of these ways:

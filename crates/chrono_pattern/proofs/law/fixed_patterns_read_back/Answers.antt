@@ -2,6 +2,7 @@ use Rattle.std.proofs.Common.{refl}
 use Rattle.chrono_pattern.specs.PatternSteps.{date_number_at, group_at, opened_step, time_number_at, unpadded_step, word_at}
 use Rattle.chrono_pattern.specs.ReadBack.{is_fixed_from}
 use Rattle.chrono_pattern.proofs.BackPatterns.{date_back, parts_back, time_back, zoned_back}
+use Rattle.chrono_pattern.proofs.BackStamps.{plus_back}
 use Rattle.chrono_pattern.proofs.law.fixed_patterns_read_back.Goals as goal
 
 pub returns-clause-parts : goal.returns-clause-parts
@@ -39,3 +40,6 @@ returns-clause-date_time_and_offset c = refl
 pub returns-clause-offset_with_seconds : goal.returns-clause-offset_with_seconds
 unfolding is_fixed_from opened_step unpadded_step date_number_at time_number_at word_at group_at
 returns-clause-offset_with_seconds c = refl
+
+pub returns-clause-whole : goal.returns-clause-whole
+returns-clause-whole c = plus_back
