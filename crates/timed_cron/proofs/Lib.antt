@@ -1,3 +1,4 @@
 mod MinuteOrder
 mod TextWords
 mod SixFields
+mod Laws

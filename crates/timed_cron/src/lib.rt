@@ -10,6 +10,7 @@
 #![tactic(auto)]
 
 mod dialect;
+pub mod law;
 mod timed_error;
 mod timed_reader;
 mod timed_schedule;
