@@ -159,11 +159,10 @@ impl TimedSchedule {
         ensures greatest { IfSome result (λ k. NoSecondIn self.now minute (k + 1) end) }
         ensures none { IfNone result (NoSecondIn self.now minute 0 end) }
     {
-        if self.schedule.is_due(minute) {
-            self.seconds.last_in(0, end)
-        } else {
-            None
+        if !self.schedule.is_due(minute) {
+            return None;
         }
+        self.seconds.last_in(0, end)
     }
 }
 
