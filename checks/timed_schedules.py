@@ -11,10 +11,13 @@ another one. Three habits of croniter are known, and no case has what they are a
   - It takes a field of days that lists all its numbers, such as `0,1-6`, for `*`. Here only `*` is one, as in cronie.
   - It looks 50 years ahead at most. A schedule that is due on no day is asked of the library alone, which has to say `none`.
 
+A fourth is decided case by case: its `get_prev` can pass over the 29th of February, though its own `match` says that the schedule is due there.
+
 `rt try` runs a small program unproved, in a copy of the crates.
 """
 import argparse
 import calendar
+import datetime
 import random
 import subprocess
 import sys
@@ -133,8 +136,19 @@ def cases(count, random_):
             count -= 1
 
 
+def is_leap_day(question, answer):
+    """Whether an answer to `prev` is on a 29th of February, and due by croniter's own test."""
+    call, _, text = question.split(" ", 2)
+    second, _, rest = text.partition(" ")
+    if call != "prev" or not answer.endswith(" true"):
+        return False
+    at = datetime.datetime.fromtimestamp(int(answer.split()[0]), datetime.timezone.utc)
+    return (at.month, at.day) == (2, 29) and croniter.match(f"{rest} {second}", at)
+
+
 def differing(rows, answers):
-    return [f"{it}: {a}, not {b}" for (it, b), a in zip(rows, answers) if a != b]
+    """What is answered otherwise, and is not decided for the library."""
+    return [f"{it}: {a}, not {b}" for (it, b), a in zip(rows, answers) if a != b and not is_leap_day(it, a)]
 
 
 def main():
@@ -157,6 +171,7 @@ def main():
     changed = [(rows[0][0], f"{answers[0]} 0"), *rows[1:]]
     if len(differing(changed, answers)) != len(wrong) + (answers[0] == rows[0][1]):
         sys.exit("a changed answer is not found")
+    print(f"{sum(a != b for (_, b), a in zip(rows, answers)) - len(wrong)} answers on a 29th of February that croniter passes over")
     print(f"{len(rows) - len(wrong)} passed, {len(wrong)} failed")
     sys.exit(bool(wrong))
 
