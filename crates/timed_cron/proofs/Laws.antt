@@ -1,6 +1,7 @@
 -- Laws of schedules with seconds.
 use Rattle.std.proofs.Common.{◌≡◌, ℕ, ◌+◌, ◌*◌, ◌/◌, ◌%◌, ◌<◌, ◌==◌, Bool, true, false, ◌&&◌, [], ◌∷◌, refl, ap, ap₂, ◌∙◌, arith}
 use Rattle.std.proofs.Math.Bool.{or-false}
+use Rattle.std.proofs.lemmas.Bool.{and_right, ne_eqb}
 use Rattle.chrono_datetime.specs.Moment.{Moment}
 use Rattle.chrono_sets.specs.FiniteSets.{has, numbers}
 use Rattle.chrono_sets.proofs.Members.{has-numbers}
@@ -44,3 +45,10 @@ listed_alone s m k small due =
 pub idle_minute : (s : TimedSchedule) (m : Moment) → is_due s.schedule.sets (begun m) ≡ false → is_due_at_second s m ≡ false
 unfolding is_due_at_second
 idle_minute s m idle = ap (λ b. b && (has s.seconds (m.time.second % 60) && m.time.fraction == 0)) idle
+
+pub within_second : (s : TimedSchedule) (m : Moment) → 0 < m.time.fraction → is_due_at_second s m ≡ false
+unfolding is_due_at_second
+within_second s m some =
+    let idle = ne_eqb m.time.fraction 0 (λ zero. absurd (omega (arith, some, zero))) in
+    ap (λ b. is_due s.schedule.sets (begun m) && (has s.seconds (m.time.second % 60) && b)) idle
+    ∙ and_right (is_due s.schedule.sets (begun m)) (has s.seconds (m.time.second % 60) && false) (and_right (has s.seconds (m.time.second % 60)) false refl)

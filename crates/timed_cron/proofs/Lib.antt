@@ -2,3 +2,4 @@ mod MinuteOrder
 mod TextWords
 mod SixFields
 mod Laws
+mod TimedDueLists

@@ -11,6 +11,7 @@
 
 mod dialect;
 pub mod law;
+mod timed_dues;
 mod timed_error;
 mod timed_reader;
 mod timed_schedule;
@@ -19,6 +20,7 @@ mod words;
 pub use chrono_cron::{Schedule, read_schedule};
 pub use chrono_sets::NumberSet;
 pub use dialect::Dialect;
+pub use timed_dues::TimedDues;
 pub use timed_error::TimedError;
 pub use timed_reader::read_timed_schedule;
 pub use timed_schedule::TimedSchedule;
