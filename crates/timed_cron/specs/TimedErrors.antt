@@ -27,8 +27,8 @@ error_byte (InSeconds e) = e.byte
 error_byte (InFields e) = e.byte
 
 -- where a placed word ends
-abbrev pub end_of : ℕ × List ℕ → ℕ
-end_of word = word.0 + length word.1
+abbrev pub placed_word_end : ℕ × List ℕ → ℕ
+placed_word_end word = word.0 + length word.1
 
 -- what is wrong with the number of words behind the first two, which are not four
 abbrev pub four_fault : ℕ → List (ℕ × List ℕ) → ℕ × ScheduleFault
@@ -38,7 +38,7 @@ four_fault end others = (end, TooFewFields)
 -- the error of six fields: if the first is no field of minutes, what is wrong with it as such, and else the error of the text behind it
 abbrev pub unless_seconds : Option Bool → List ℕ → ℕ × List ℕ → TimedError
 unless_seconds None text word = InSeconds (schedule_error_at None (field_fault Minute word))
-unless_seconds (Some listed) text word = InFields (moved_error (end_of word) (schedule_error (drop (end_of word) text)))
+unless_seconds (Some listed) text word = InFields (moved_error (placed_word_end word) (schedule_error (drop (placed_word_end word) text)))
 
 -- the error of words in which seconds stand in front. With fewer words than two it is that of crontab(5)'s fields
 abbrev pub error_with_seconds : List ℕ → List (ℕ × List ℕ) → TimedError

@@ -2,10 +2,11 @@
 //!
 //! ```
 //! use chrono_datetime::{AndTime, NaiveDate};
-//! let schedule = TimedSchedule::new(read_schedule(b"30 4 * * *").ok()?, NumberSet::from_array([0, 30]));
-//! schedule.next_after(NaiveDate::from_ymd_opt(2024, 3, 1)?.and_hms_opt(4, 30, 0)?) // Some(2024-03-01T04:30:30)
+//! let schedule = read_timed_schedule(Dialect::Seconds, b"*/15 30 4 * * *").ok()?;
+//! schedule.next_after(NaiveDate::from_ymd_opt(2024, 3, 1)?.and_hms_opt(4, 30, 0)?) // Some(2024-03-01T04:30:15)
 //! ```
 //!
+//! [`read_timed_schedule`] parses a schedule in a [`Dialect`], with five fields or with six.
 //! A [`TimedSchedule`] is a schedule of `chrono_cron` and the seconds of a minute at which it is due. As there, date-times are naive.
 #![tactic(auto)]
 
