@@ -15,6 +15,7 @@
 mod class;
 mod date_parts;
 mod date_time_parts;
+mod delayed_format;
 mod error;
 mod front_item;
 mod group;
@@ -42,6 +43,7 @@ mod zoned;
 mod zoned_parts;
 mod zoned_piece;
 
+pub use delayed_format::DelayedFormat;
 pub use error::{PatternError, PatternFault, PatternReadError, ReadFault};
 pub use parsed::Parsed;
 pub use pattern::Pattern;
